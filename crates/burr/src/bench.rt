@@ -1,0 +1,8 @@
+mod motion;
+mod place;
+mod plain;
+mod trap;
+
+pub use motion::Motion;
+pub use plain::{MOST_CODE, PlainBench};
+pub use trap::Trap;

@@ -1,0 +1,2 @@
+pub mod Operands
+pub mod Places

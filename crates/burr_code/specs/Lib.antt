@@ -1,0 +1,3 @@
+pub mod Instruction
+pub mod Laws
+pub mod Meaning

@@ -1,0 +1,53 @@
+ghost use Rattle.std.specs.Prelude.{◌≡◌, ◌≤◌, ◌+◌, length, IfSome, MatchOption};
+ghost use Rattle.burr_code.specs.Instruction.{Instruction, StandsAt, spelled};
+ghost use Rattle.burr_code.specs.Meaning.{meaning, IsGripAt, IsAsideAt, NoneStandsAt};
+
+use crate::instr::Instr;
+use burr_voxels::Direction;
+use byteorder::{BigEndian, ByteOrder};
+
+/// The trays are numbered from 0 to one below this.
+const TRAYS: u8 = 32;
+
+/// The instruction at a position of the code, and the number of its bytes; None exactly where no
+/// instruction's bytes stand there.
+pub fn fetch(code: &[u8], pc: usize) -> Option<(Instr, usize)>
+    ensures stands { MatchOption result
+        (NoneStandsAt code.now pc)
+        (λ found. StandsAt code.now pc (meaning found.0) × (found.1 ≡ length (spelled (meaning found.0)))) }
+    ensures within { IfSome result (λ found. pc + found.1 ≤ length code.now) }
+{
+    let (first, operands) = code.get(pc..)?.split_first()?;
+    match *first {
+        0x00 => Some((Instr::Halt, 1)),
+        0x10 => Some((grip(operands)?, 5)),
+        0x12 => Some((aside(operands)?, 3)),
+        _ => None,
+    }
+}
+
+/// The `grip` with these operands: four bytes of a set that is not empty.
+fn grip(operands: &[u8]) -> Option<Instr>
+    ensures { IsGripAt operands.now result }
+{
+    if operands.len() < 4 {
+        return None;
+    }
+    match BigEndian::read_u32(operands) {
+        0 => None,
+        set => Some(Instr::Grip(set)),
+    }
+}
+
+/// The `aside` with these operands: a direction's number and a tray.
+fn aside(operands: &[u8]) -> Option<Instr>
+    ensures { IsAsideAt operands.now result }
+{
+    match operands {
+        [number, tray, ..] if *tray < TRAYS => {
+            let direction = Direction::of(*number)?;
+            Some(Instr::Aside(direction, *tray))
+        }
+        _ => None,
+    }
+}

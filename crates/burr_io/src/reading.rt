@@ -1,0 +1,48 @@
+use crate::fault::IoFailed;
+use crate::source::Source;
+use std::io::Read;
+
+/// Any reader as a source: an error of the reader is the source's failure.
+#[derive(Debug, Drop)]
+pub struct Reading<R> {
+    reader: R,
+    failed: bool,
+}
+
+impl<R: Read> Reading<R> {
+    ghost use Rattle.std.specs.Prelude.{◌≡◌, false};
+
+    /// A source over a reader, which it keeps.
+    pub fn new(reader: R) -> Reading<R>
+        ensures left { ⟦<Reading<R> as Source>⟧.left result ≡ R.remaining reader }
+        ensures fresh { ⟦<Reading<R> as Source>⟧.has_failed result ≡ false }
+    {
+        Reading {
+            reader,
+            failed: false,
+        }
+    }
+}
+
+impl<R: Read> Source for Reading<R> {
+    ghost left = { λ s. R.remaining s.reader };
+
+    ghost has_failed = { λ s. s.failed };
+
+    fn pull(&mut self, buffer: &mut [u8]) -> Result<usize, IoFailed> {
+        if self.failed {
+            return Err(IoFailed);
+        }
+        match self.reader.read(buffer) {
+            Ok(count) => Ok(count),
+            Err(_) => {
+                self.failed = true;
+                Err(IoFailed)
+            }
+        }
+    }
+
+    fn failed(&self) -> bool {
+        self.failed
+    }
+}

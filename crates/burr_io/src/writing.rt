@@ -1,0 +1,48 @@
+use crate::fault::IoFailed;
+use crate::sink::Sink;
+use std::io::Write;
+
+/// Any writer as a sink: an error of the writer, or no byte taken of some, is the sink's failure.
+#[derive(Debug, Drop)]
+pub struct Writing<W> {
+    writer: W,
+    failed: bool,
+}
+
+impl<W: Write> Writing<W> {
+    ghost use Rattle.std.specs.Prelude.{◌≡◌, false};
+
+    /// A sink over a writer, which it keeps. It never flushes the writer.
+    pub fn new(writer: W) -> Writing<W>
+        ensures taken { ⟦<Writing<W> as Sink>⟧.taken result ≡ W.contents writer }
+        ensures fresh { ⟦<Writing<W> as Sink>⟧.has_failed result ≡ false }
+    {
+        Writing {
+            writer,
+            failed: false,
+        }
+    }
+}
+
+impl<W: Write> Sink for Writing<W> {
+    ghost taken = { λ s. W.contents s.writer };
+
+    ghost has_failed = { λ s. s.failed };
+
+    fn put(&mut self, bytes: &[u8]) -> Result<usize, IoFailed> {
+        if self.failed {
+            return Err(IoFailed);
+        }
+        match self.writer.write(bytes) {
+            Ok(count) if count > 0 || bytes.is_empty() => Ok(count),
+            _ => {
+                self.failed = true;
+                Err(IoFailed)
+            }
+        }
+    }
+
+    fn failed(&self) -> bool {
+        self.failed
+    }
+}

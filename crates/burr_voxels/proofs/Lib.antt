@@ -1,0 +1,4 @@
+pub mod Ahead
+pub mod Naming
+pub mod Near
+pub mod Turning

@@ -1,0 +1,4 @@
+pub mod Grid
+pub mod Turns
+pub mod Near
+pub mod Blocks

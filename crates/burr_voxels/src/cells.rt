@@ -1,0 +1,42 @@
+ghost use Rattle.std.specs.Prelude.{◌≡◌};
+
+use crate::cell::Cell;
+use std::marker::Model;
+
+/// A list of cells, in its order.
+#[derive(Debug, Drop)]
+pub struct Cells {
+    cells: Vec<Cell>,
+}
+
+impl Model for Cells {
+    ghost use Rattle.std.specs.Prelude.{List};
+    ghost use Rattle.burr_voxels.specs.declared.cell.Cell.{Cell};
+
+    ghost Value = { List Cell };
+
+    ghost view = { λ c. c.cells.items };
+}
+
+impl Cells {
+    /// These cells. Takes no memory.
+    pub fn new(cells: Vec<Cell>) -> Cells
+        ensures { result ≡ cells.items }
+    {
+        Cells { cells }
+    }
+
+    /// The cells, in their order.
+    pub fn as_slice(&self) -> &[Cell]
+        ensures { result.now ≡ self.now }
+    {
+        self.cells.as_slice()
+    }
+
+    /// The list that was given.
+    pub fn into_vec(self) -> Vec<Cell>
+        ensures { result.items ≡ self }
+    {
+        self.cells
+    }
+}
