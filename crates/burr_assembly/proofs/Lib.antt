@@ -1,2 +1,3 @@
 pub mod NameBytes
 pub mod HomeLemmas
+pub mod WorkedRows

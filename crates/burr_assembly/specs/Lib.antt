@@ -1,1 +1,4 @@
 pub mod Names
+pub mod Text
+pub mod Lines
+pub mod Faults

@@ -2,3 +2,4 @@ pub mod Grid
 pub mod Turns
 pub mod Near
 pub mod Blocks
+pub mod Checks

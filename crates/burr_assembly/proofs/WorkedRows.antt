@@ -1,0 +1,32 @@
+-- Worked rows of the definitions.
+use Rattle.std.proofs.Common.{◌≡◌, ◌+◌, List, [], ◌∷◌, codes, refl, pos}
+use Rattle.std.specs.Fmt.{digits}
+use Rattle.burr_voxels.specs.Grid.{at}
+use Rattle.burr_voxels.specs.declared.direction.Direction.TheVariants.{PlusX, MinusX, PlusY, MinusY, PlusZ}
+use Rattle.burr_assembly.specs.Text.{Drawing, Piece, Assembly, Turn, text_of, drawn_cells, home_cells}
+use Rattle.burr_assembly.specs.Faults.{Front, Blank, Rule}
+
+abbrev upright : Turn
+upright = record { x = PlusX; y = PlusY; z = PlusZ }
+
+abbrev cube : Drawing
+cube = record { name = codes "cube"; layers = ((codes "#" ∷ []) ∷ []) }
+
+abbrev duo : Assembly
+duo = record {
+  name = codes "duo";
+  shapes = cube ∷ [];
+  pieces =
+    record { name = codes "A"; shape = codes "cube"; turn = upright; position = at (pos 0) (pos 0) (pos 0) }
+    ∷ record { name = codes "B"; shape = codes "cube"; turn = upright; position = at (pos 1) (pos 0) (pos 0) }
+    ∷ [];
+}
+
+duo_text : text_of duo ≡ codes "assembly duo\nshape cube\nlayer\n#\nend\npiece A cube +x+y+z 0 0 0\npiece B cube +x+y+z 1 0 0\n"
+unfolding digits
+duo_text = refl
+
+-- the shape with the one layer `##`, `#.`, turned and moved
+ell_cells : home_cells (record { x = MinusY; y = PlusX; z = PlusZ }) (at (pos 5) (pos 5) (pos 0)) (drawn_cells (((codes "##") ∷ (codes "#.") ∷ []) ∷ []))
+    ≡ at (pos 5) (pos 5) (pos 0) ∷ at (pos 5) (pos 4) (pos 0) ∷ at (pos 6) (pos 5) (pos 0) ∷ []
+ell_cells = refl
