@@ -1,12 +1,12 @@
 -- The first fault of an assembly text: what the lines so far have been, and what is wrong with the next.
 use Rattle.std.specs.Prelude.{◌≡◌, ◌≢◌, ℕ, ◌+◌, ◌<◌, ◌≤◌, List, [], ◌∷◌, ◌++◌, length, Contains, Option, Some, None, Result, Ok, Err, slice_get, slice_index_or, IfSome, ◌⊎◌}
 use Rattle.std.specs.List.{flat_map}
-use Rattle.burr_voxels.specs.Grid.{at}
+use Rattle.burr_voxels.specs.declared.cell.Cell.{Cell}
 use Rattle.burr_voxels.specs.Checks.{needs, looks_for}
 use Rattle.burr_assembly.specs.declared.fault.AssemblyFault.{AssemblyFault}
 use Rattle.burr_assembly.specs.declared.fault.AssemblyFault.TheVariants.{A1, A2, A3, A4, A5, A6, A7, A8}
 use Rattle.burr_assembly.specs.Names.{IsName}
-use Rattle.burr_assembly.specs.Text.{Drawing, Turn, Piece, Assembly, turn_name, drawn_cells, IsTurn, IsPosition, IsShapeName, IsPieceName, Shares}
+use Rattle.burr_assembly.specs.Text.{Drawing, Turn, Piece, Assembly, turn_name, drawn_cells, IsTurn, IsPositionText, IsShapeName, IsPieceName, Shares}
 use Rattle.burr_assembly.specs.Lines.{Form, PieceWords, AssemblyLine, ShapeLine, LayerLine, RowLine, EndLine, PieceLine, IsLine}
 
 -- what the lines so far have been
@@ -49,6 +49,10 @@ pub record IsFirstSharing (shapes : List Drawing) (pieces : List Piece) (p : Pie
   pub shares : Shares shapes (slice_index_or pieces q p) p
   pub first : (r : ℕ) → r < q → ¬ Shares shapes (slice_index_or pieces r p) p
 
+-- the numbers of the line are the coordinates of this position
+abbrev pub IsPositionOf : PieceWords → Cell → Type 0
+IsPositionOf w c = IsPositionText w.x w.y w.z c
+
 -- a piece behind these; no piece yet among them is one that may stand first
 abbrev pub PieceRule : ℕ → List ℕ → List Drawing → List Piece → PieceWords → Answer → Type 0
 PieceRule n name shapes pieces w =
@@ -56,11 +60,11 @@ PieceRule n name shapes pieces w =
     (needs (IsName w.name × (¬ IsPieceName pieces w.name)) (Err (A2 n))
     (needs (IsShapeName shapes w.shape) (Err (A6 n))
     (looks_for (λ (t : Turn). IsTurn t × (w.orientation ≡ turn_name t)) (Err (A4 n)) λ t.
-    needs (IsPosition (at w.x w.y w.z)) (Err (A5 n))
-    (λ answer.
-        let p : Piece = record { name = w.name; shape = w.shape; turn = t; position = at w.x w.y w.z } in
-        ((q : ℕ) × IsFirstSharing shapes pieces p q × (answer ≡ Err (A8 n q (length pieces))))
-        ⊎ (((q : ℕ) → ¬ IsFirstSharing shapes pieces p q) × gives (Pieces name shapes (pieces ++ p ∷ [])) answer)))))
+    looks_for (IsPositionOf w) (Err (A5 n)) λ position.
+    λ answer.
+    let p : Piece = record { name = w.name; shape = w.shape; turn = t; position = position } in
+    ((q : ℕ) × IsFirstSharing shapes pieces p q × (answer ≡ Err (A8 n q (length pieces))))
+    ⊎ (((q : ℕ) → ¬ IsFirstSharing shapes pieces p q) × gives (Pieces name shapes (pieces ++ p ∷ [])) answer))))
 
 -- What a line of a form gives behind a front: the faults in their order, and then the front with it.
 abbrev pub Rule : ℕ → Front → Form → Answer → Type 0

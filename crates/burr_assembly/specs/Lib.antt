@@ -2,3 +2,9 @@ pub mod Names
 pub mod Text
 pub mod Lines
 pub mod Faults
+pub mod Read
+pub mod Views
+pub mod LineViews
+pub mod FrontViews
+pub mod Readers
+pub mod Laws

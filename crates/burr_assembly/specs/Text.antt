@@ -106,6 +106,10 @@ IsTurn t = IsRotation t.x t.y t.z
 abbrev pub IsPosition : Cell → Type 0
 IsPosition c = IsCoordinate c.x × IsCoordinate c.y × IsCoordinate c.z
 
+-- the words are the coordinates of the position
+abbrev pub IsPositionText : List ℕ → List ℕ → List ℕ → Cell → Type 0
+IsPositionText x y z c = IsPosition c × (x ≡ signed_decimal c.x) × (y ≡ signed_decimal c.y) × (z ≡ signed_decimal c.z)
+
 -- one of the shapes has the name
 abbrev pub IsShapeName : List Drawing → List ℕ → Type 0
 IsShapeName shapes name = Any (λ (s : Drawing). s.name ≡ name) shapes

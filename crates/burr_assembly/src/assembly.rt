@@ -1,15 +1,18 @@
-ghost use Rattle.std.specs.Prelude.{◌≡◌, ◌≤◌, ◌<◌, vec_len};
+ghost use Rattle.std.specs.Prelude.{◌≡◌, ◌≤◌, ◌<◌, length, IfOk, IfErr, IfSome, slice_get};
 ghost use Rattle.std.specs.List.{All};
 ghost use Rattle.burr_voxels.specs.Near.{IsWithin};
-ghost use Rattle.burr_assembly.specs.declared.assembly.TheConstants.{FEWEST_PIECES, MOST_PIECES};
+ghost use Rattle.burr_assembly.specs.Text.{IsText, IsAssembly, HasCells, text_of};
+ghost use Rattle.burr_assembly.specs.Faults.{FirstFault};
+ghost use Rattle.burr_assembly.specs.FrontViews.{pieces_of, IsDue, AreAtHome};
 
-use crate::drawing::DrawnShape;
 use crate::fault::AssemblyFault;
 use crate::name::Name;
 use crate::piece::Piece;
+use crate::shape::DrawnShape;
 use crate::text::{read_text, write_text};
 use burr_voxels::Cell;
 use std::alloc::{AllocError, Global};
+use std::marker::Model;
 
 /// The fewest and the most pieces of an assembly.
 pub const FEWEST_PIECES: usize = 2;
@@ -23,35 +26,61 @@ pub struct Assembly {
     name: Name,
     shapes: Vec<DrawnShape>,
     pieces: Vec<Piece>,
-    pub ghost several: { FEWEST_PIECES ≤ vec_len pieces },
-    pub ghost few: { vec_len pieces ≤ MOST_PIECES },
+}
+
+impl Model for Assembly {
+    ghost use Rattle.burr_assembly.specs.Text.{Assembly as AssemblyOf, IsAssembly};
+    ghost use Rattle.burr_assembly.specs.FrontViews.{pieces_of, AreAtHome};
+
+    ghost Value = { AssemblyOf };
+
+    ghost view = { λ a. record { name = a.name; shapes = a.shapes.items; pieces = pieces_of a.pieces.items } };
+
+    ghost invariant = { λ a.
+        IsAssembly (record { name = a.name; shapes = a.shapes.items; pieces = pieces_of a.pieces.items })
+        × AreAtHome a.shapes.items a.pieces.items };
 }
 
 impl Assembly {
-    /// The assembly of a text, or the text's first fault, or `Memory` where a request for memory
-    /// was refused.
-    pub fn read(alloc: Global, text: &[u8]) -> Result<Assembly, AssemblyFault> {
-        let (name, shapes, pieces) = read_text(alloc, text)?;
-        Ok(Assembly {
+    /// The assembly of these parts.
+    pub(crate) fn new(name: Name, shapes: Vec<DrawnShape>, pieces: Vec<Piece>) -> Assembly
+        requires assembly { IsAssembly (record { name = name; shapes = shapes.items; pieces = pieces_of pieces.items }) }
+        requires homes { AreAtHome shapes.items pieces.items }
+        ensures { result ≡ record { name = name; shapes = shapes.items; pieces = pieces_of pieces.items } }
+    {
+        Assembly {
             name,
             shapes,
             pieces,
-        })
+        }
+    }
+
+    /// The assembly of a text, or the text's first fault, or `Memory` where a request for memory
+    /// was refused.
+    pub fn read(alloc: Global, text: &[u8]) -> Result<Assembly, AssemblyFault>
+        ensures ok { IfOk result (λ a. IsText text.now a) }
+        ensures err { IfErr result (λ e. IsDue e (FirstFault text.now e)) }
+    {
+        read_text(alloc, text)
     }
 
     /// The assembly's text, the one that `read` gives it back from.
-    pub fn write(&self, alloc: Global) -> Result<Vec<u8>, AllocError> {
+    pub fn write(&self, alloc: Global) -> Result<Vec<u8>, AllocError>
+        ensures { IfOk result (λ text. text.items ≡ text_of self.now) }
+    {
         write_text(alloc, &self.name, &self.shapes, &self.pieces)
     }
 
     /// The assembly's name.
-    pub fn name(&self) -> &str {
+    pub fn name(&self) -> &str
+        ensures { result.now ≡ self.now.name }
+    {
         self.name.as_str()
     }
 
     /// The number of its pieces, 2 to 32.
     pub fn piece_count(&self) -> u8
-        ensures count { result ≡ vec_len self.now.pieces }
+        ensures count { result ≡ length self.now.pieces }
         ensures several { 2 ≤ result }
         ensures few { result ≤ 32 }
     {
@@ -60,18 +89,19 @@ impl Assembly {
 
     /// The name of a piece; its number is below the count, the caller's condition.
     pub fn piece_name(&self, piece: u8) -> &str
-        requires { piece < vec_len self.now.pieces }
+        requires { piece < length self.now.pieces }
+        ensures { IfSome (slice_get self.now.pieces piece) (λ p. result.now ≡ p.name) }
     {
-        self.pieces[usize::from(piece)].name.as_str()
+        self.pieces[usize::from(piece)].name().as_str()
     }
 
     /// The home cells of a piece, in the order in which its shape is drawn: layers upwards, in each
     /// its rows, in each x rising. Each coordinate lies in -79..79.
     pub fn cells(&self, piece: u8) -> &[Cell]
-        requires { piece < vec_len self.now.pieces }
+        requires { piece < length self.now.pieces }
+        ensures cells { IfSome (slice_get self.now.pieces piece) (λ p. HasCells self.now.shapes p result.now) }
         ensures near { All (IsWithin 79) result.now }
     {
-        let piece = &self.pieces[usize::from(piece)];
-        piece.cells.as_slice()
+        self.pieces[usize::from(piece)].cells()
     }
 }

@@ -5,12 +5,15 @@
 mod assembly;
 mod drawing;
 mod fault;
+mod laws;
 mod name;
 mod piece;
+mod shape;
 mod text;
 
 pub use assembly::Assembly;
 pub use fault::AssemblyFault;
-
-#[cfg(test)]
-mod tests;
+pub use laws::{
+    a_text_has_a_fault_or_an_assembly, a_text_has_one_assembly,
+    texts_and_assemblies_give_each_other_back,
+};

@@ -2,21 +2,89 @@ ghost use Rattle.std.specs.Prelude.{◌≡◌, ◌↔◌, IsTrue, IfOk};
 ghost use Rattle.std.specs.List.{All};
 ghost use Rattle.burr_voxels.specs.Near.{IsWithin};
 ghost use Rattle.burr_voxels.specs.Blocks.{Overlap};
+ghost use Rattle.burr_assembly.specs.Text.{home_cells as homes_of};
+ghost use Rattle.burr_assembly.specs.Views.{turn_of, placed};
 
 use crate::name::Name;
 use burr_voxels::{Cell, Orientation};
 use std::alloc::{AllocError, Global};
+use std::marker::Model;
 
-/// A piece: a shape, turned and put in its place.
+/// A piece: a shape, turned and put in its place, with its cells at home.
 #[derive(Debug, Drop)]
 pub struct Piece {
-    pub name: Name,
-    pub shape: Name,
-    pub orientation: Orientation,
-    pub position: Cell,
+    name: Name,
+    shape: Name,
+    orientation: Orientation,
+    position: Cell,
+    cells: Vec<Cell>,
+}
+
+impl Model for Piece {
+    ghost use Rattle.std.specs.List.{All};
+    ghost use Rattle.burr_voxels.specs.Near.{IsWithin};
+    ghost use Rattle.burr_assembly.specs.Read.{Placed};
+    ghost use Rattle.burr_assembly.specs.Views.{placed};
+
+    ghost Value = { Placed };
+
+    ghost view = { λ p. placed p.name p.shape p.orientation p.position p.cells.items };
+
+    ghost invariant = { λ p. All (IsWithin 79) p.cells.items };
+}
+
+impl Piece {
+    /// The piece with these parts; its cells are those of its shape, turned and moved.
+    pub fn new(
+        name: Name,
+        shape: Name,
+        orientation: Orientation,
+        position: Cell,
+        cells: Vec<Cell>,
+    ) -> Piece
+        requires { All (IsWithin 79) cells.items }
+        ensures { result ≡ placed name shape orientation position cells.items }
+    {
+        Piece {
+            name,
+            shape,
+            orientation,
+            position,
+            cells,
+        }
+    }
+
+    pub fn name(&self) -> &Name
+        ensures { result.now ≡ self.now.piece.name }
+    {
+        &self.name
+    }
+
+    pub fn shape(&self) -> &Name
+        ensures { result.now ≡ self.now.piece.shape }
+    {
+        &self.shape
+    }
+
+    pub fn orientation(&self) -> Orientation
+        ensures { turn_of result ≡ self.now.piece.turn }
+    {
+        self.orientation
+    }
+
+    pub fn position(&self) -> Cell
+        ensures { result ≡ self.now.piece.position }
+    {
+        self.position
+    }
+
     /// Its cells at home: the shape's in their order, each turned and moved.
-    pub cells: Vec<Cell>,
-    ghost near: { All (IsWithin 79) cells.items },
+    pub fn cells(&self) -> &[Cell]
+        ensures cells { result.now ≡ self.now.cells }
+        ensures near { All (IsWithin 79) result.now }
+    {
+        self.cells.as_slice()
+    }
 }
 
 /// The cells of a shape, each turned, and then moved to a position.
@@ -28,6 +96,7 @@ pub fn home_cells(
 ) -> Result<Vec<Cell>, AllocError>
     requires cells { All (IsWithin 15) cells.now }
     requires position { IsWithin 64 position }
+    ensures homes { IfOk result (λ homes. homes.items ≡ homes_of (turn_of orientation.now) position cells.now) }
     ensures near { IfOk result (λ homes. All (IsWithin 79) homes.items) }
 {
     let mut homes = Vec::with_capacity(alloc, cells.len())?;
@@ -38,6 +107,8 @@ pub fn home_cells(
 }
 
 /// Whether a cell is in both lists.
-pub fn overlap(cells: &[Cell], others: &[Cell]) -> bool {
+pub fn overlap(cells: &[Cell], others: &[Cell]) -> bool
+    ensures { IsTrue result ↔ Overlap cells.now others.now }
+{
     cells.iter().any(|cell| others.contains(cell))
 }

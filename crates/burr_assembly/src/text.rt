@@ -1,3 +1,5 @@
+mod front;
+mod header;
 mod line;
 mod reader;
 mod sketch;

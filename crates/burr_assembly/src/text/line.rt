@@ -1,4 +1,8 @@
-use crate::text::words::{cut_at_space, is_number, is_word};
+ghost use Rattle.std.specs.Prelude.{◌≡◌, ◌↔◌, ◌∷◌, [], IsTrue, MatchOption};
+ghost use Rattle.burr_assembly.specs.Lines.{Form, IsLine, IsMarks, IsPieceWords, PieceWords, piece_words_text};
+ghost use Rattle.burr_assembly.specs.LineViews.{HasWords, form_of, words_of};
+
+use crate::text::words::{cut_at, is_number, is_word};
 
 /// A line of an assembly text by its form alone: its words are not judged yet, and whether it may
 /// stand where it stands isn't either.
@@ -31,51 +35,74 @@ pub struct PieceLine<'a> {
 
 impl Line<'_> {
     /// The line with these bytes, which are without its end; None where it is of no form.
-    pub fn parse(bytes: &[u8]) -> Option<Line<'_>> {
+    pub fn parse(bytes: &[u8]) -> Option<Line<'_>>
+        ensures { MatchOption result ((form : Form) → ¬ IsLine bytes.now form) (λ line. IsLine bytes.now (form_of line)) }
+    {
         match bytes {
-            b"layer" => return Some(Line::Layer),
-            b"end" => return Some(Line::End),
-            _ => {}
+            b"layer" => Some(Line::Layer),
+            b"end" => Some(Line::End),
+            _ if is_row(bytes) => Some(Line::Row(bytes)),
+            _ => Line::with_words(bytes),
         }
-        if is_row(bytes) {
-            return Some(Line::Row(bytes));
-        }
-        let (keyword, rest) = cut_at_space(bytes)?;
-        match keyword {
-            b"assembly" if is_word(rest) => Some(Line::Assembly(rest)),
-            b"shape" if is_word(rest) => Some(Line::Shape(rest)),
-            b"piece" => Some(Line::Piece(PieceLine::parse(rest)?)),
-            _ => None,
+    }
+
+    /// The line of several words with these bytes.
+    fn with_words(bytes: &[u8]) -> Option<Line<'_>>
+        ensures { MatchOption result
+            ((form : Form) → HasWords form → ¬ IsLine bytes.now form)
+            (λ line. IsLine bytes.now (form_of line)) }
+    {
+        if let Some(name) = bytes.strip_prefix(b"assembly ") {
+            is_word(name).then_some(Line::Assembly(name))
+        } else if let Some(name) = bytes.strip_prefix(b"shape ") {
+            is_word(name).then_some(Line::Shape(name))
+        } else {
+            let words = bytes.strip_prefix(b"piece ")?;
+            Some(Line::Piece(PieceLine::parse(words)?))
         }
     }
 }
 
 /// Whether the bytes are one or more marks.
-fn is_row(bytes: &[u8]) -> bool {
-    !bytes.is_empty() && bytes.iter().all(|byte| matches!(byte, b'#' | b'.'))
+fn is_row(bytes: &[u8]) -> bool
+    ensures { IsTrue result ↔ IsMarks bytes.now }
+{
+    !bytes.is_empty() && bytes.iter().all(|byte| *byte == b'#' || *byte == b'.')
 }
 
 impl PieceLine<'_> {
     /// The words behind `piece `; None where they are not six words of which the last three are
     /// numbers.
-    fn parse(words: &[u8]) -> Option<PieceLine<'_>> {
-        let (name, rest) = cut_at_space(words)?;
-        let (shape, rest) = cut_at_space(rest)?;
-        let (orientation, rest) = cut_at_space(rest)?;
-        let (x, rest) = cut_at_space(rest)?;
-        let (y, z) = cut_at_space(rest)?;
-        let are_words = is_word(name) && is_word(shape) && is_word(orientation);
-        if are_words && is_number(x) && is_number(y) && is_number(z) {
-            Some(PieceLine {
-                name,
-                shape,
-                orientation,
-                x,
-                y,
-                z,
-            })
-        } else {
-            None
-        }
+    fn parse(bytes: &[u8]) -> Option<PieceLine<'_>>
+        ensures { MatchOption result
+            ((w : PieceWords) → IsPieceWords w → ¬ (bytes.now ≡ piece_words_text w))
+            (λ line. IsPieceWords (words_of line) × (bytes.now ≡ piece_words_text (words_of line))) }
+    {
+        let (name, rest) = cut_at(bytes, b' ')?;
+        let (shape, rest) = cut_at(rest, b' ')?;
+        let (orientation, rest) = cut_at(rest, b' ')?;
+        let (x, rest) = cut_at(rest, b' ')?;
+        let (y, z) = cut_at(rest, b' ')?;
+        let line = PieceLine {
+            name,
+            shape,
+            orientation,
+            x,
+            y,
+            z,
+        };
+        line.is_right().then_some(line)
+    }
+
+    /// Whether the words are words, and the last three numbers.
+    fn is_right(&self) -> bool
+        ensures { IsTrue result ↔ IsPieceWords (words_of self.now) }
+    {
+        is_word(self.name)
+            && is_word(self.shape)
+            && is_word(self.orientation)
+            && is_number(self.x)
+            && is_number(self.y)
+            && is_number(self.z)
     }
 }

@@ -1,28 +1,44 @@
-ghost use Rattle.std.specs.Prelude.{◌≤◌, ◌<◌, IsSome, vec_len};
-ghost use Rattle.burr_assembly.specs.declared.drawing.TheConstants.{SIDE};
+ghost use Rattle.std.specs.Prelude.{◌≡◌, ◌≤◌, ◌<◌, ◌↔◌, ◌++◌, ◌∷◌, [], ℕ, List, None, Ok, Err, length, IsTrue, IfOk, IfErr, All};
+ghost use Rattle.burr_assembly.specs.Lines.{LayerLine, RowLine, EndLine};
+ghost use Rattle.burr_assembly.specs.Faults.{IsWhole, IsRow, Shapes};
+ghost use Rattle.burr_assembly.specs.FrontViews.{sketched, SketchGives, IsDue};
 
-use crate::drawing::{DrawnShape, Layer, Row, SIDE, cells_of};
+use crate::drawing::{Layer, Row, SIDE, cells_of};
 use crate::fault::AssemblyFault;
 use crate::name::Name;
+use crate::shape::DrawnShape;
 use burr_voxels::{Cell, Cells, Shape};
 use std::alloc::Global;
+use std::marker::Model;
 
 /// The most cells of a shape.
 const MOST_CELLS: usize = 512;
 
-/// A shape while it is drawn: the layers that are finished, and the one that has begun behind them.
+/// A shape that has not ended: the layers that are finished, fewer than 16 and none without rows,
+/// and the layer that has begun behind them.
 #[derive(Debug, Drop)]
 pub struct Sketch {
     name: Name,
     layers: Vec<Layer>,
     begun: Option<Layer>,
-    ghost flat: { vec_len layers ≤ SIDE },
-    ghost room: { IsSome begun → vec_len layers < SIDE },
+}
+
+impl Model for Sketch {
+    ghost use Rattle.std.specs.Prelude.{◌<◌, List, ℕ, length, vec_len, All};
+    ghost use Rattle.burr_assembly.specs.Read.{Sketched};
+
+    ghost Value = { Sketched };
+
+    ghost view = { λ s. record { drawing = record { name = s.name; layers = s.layers.items }; begun = s.begun } };
+
+    ghost invariant = { λ s. (vec_len s.layers < 16) × All (λ (rows : List (List ℕ)). 0 < length rows) s.layers.items };
 }
 
 impl Sketch {
     /// A shape of which nothing is drawn yet.
-    pub fn new(alloc: Global, name: Name) -> Sketch {
+    pub fn new(alloc: Global, name: Name) -> Sketch
+        ensures { result ≡ record { drawing = record { name = name; layers = [] }; begun = None } }
+    {
         Sketch {
             name,
             layers: Vec::new(alloc),
@@ -30,93 +46,135 @@ impl Sketch {
         }
     }
 
-    /// Finishes the layer that has begun, and begins the next.
-    pub fn begin_layer(&mut self, alloc: Global, line: usize) -> Result<(), AssemblyFault> {
-        self.finish_layer(line)?;
-        if self.layers.len() == SIDE {
-            return Err(AssemblyFault::A3 { line });
+    /// A line `layer`: finishes the layer that has begun, and begins the next.
+    pub fn begin_layer(self, alloc: Global, line: usize) -> Result<Sketch, AssemblyFault>
+        ensures ok { IfOk result (λ s. SketchGives line self LayerLine (λ name shapes. Ok (sketched name shapes s))) }
+        ensures err { IfErr result (λ e. IsDue e (SketchGives line self LayerLine (λ _ _. Err e))) }
+    {
+        let Sketch {
+            name,
+            mut layers,
+            begun,
+        } = self;
+        let next = Some(Layer::new(alloc));
+        match begun {
+            None => Ok(Sketch {
+                name,
+                layers,
+                begun: next,
+            }),
+            Some(layer) => {
+                if !is_whole(&layers, &layer) || layers.len() + 1 >= SIDE {
+                    return Err(AssemblyFault::A3 { line });
+                }
+                layers.push(layer)?;
+                Ok(Sketch {
+                    name,
+                    layers,
+                    begun: next,
+                })
+            }
         }
-        self.begun = Some(Layer {
-            rows: Vec::new(alloc),
-        });
-        Ok(())
     }
 
-    /// Adds a row to the layer that has begun; where none has, no row may stand here.
-    pub fn add_row(
-        &mut self,
-        alloc: Global,
-        marks: &[u8],
-        line: usize,
-    ) -> Result<(), AssemblyFault> {
-        let width = match self.layers.first() {
-            Some(layer) => layer.width(),
-            None => None,
-        };
-        let Some(layer) = &mut self.begun else {
+    /// A row of the layer that has begun; where none has, no row may stand here.
+    pub fn add_row(self, alloc: Global, marks: &[u8], line: usize) -> Result<Sketch, AssemblyFault>
+        ensures ok { IfOk result (λ s. SketchGives line self (RowLine marks.now) (λ name shapes. Ok (sketched name shapes s))) }
+        ensures err { IfErr result (λ e. IsDue e (SketchGives line self (RowLine marks.now) (λ _ _. Err e))) }
+    {
+        let Sketch {
+            name,
+            layers,
+            begun,
+        } = self;
+        let Some(mut layer) = begun else {
             return Err(AssemblyFault::A1 { line });
         };
-        let width = width.or(layer.width()).unwrap_or(marks.len());
-        if marks.len() > SIDE || marks.len() != width || layer.rows.len() == SIDE {
+        if !is_row_of(&layers, &layer, marks) {
             return Err(AssemblyFault::A3 { line });
         }
-        let marks = Vec::from_slice(alloc, marks)?;
-        layer.rows.push(Row { marks })?;
-        Ok(())
+        layer.push(Row::new(Vec::from_slice(alloc, marks)?))?;
+        Ok(Sketch {
+            name,
+            layers,
+            begun: Some(layer),
+        })
     }
 
-    /// The shape, with its last layer finished; where no layer has begun, it may not end here.
-    pub fn finish(mut self, alloc: Global, line: usize) -> Result<DrawnShape, AssemblyFault> {
-        if self.begun.is_none() {
+    /// A line `end`: the shape, with its last layer finished; where no layer has begun, it may not
+    /// end here.
+    pub fn finish(self, alloc: Global, line: usize) -> Result<DrawnShape, AssemblyFault>
+        ensures ok { IfOk result (λ s. SketchGives line self EndLine (λ name shapes. Ok (Shapes name (shapes ++ s ∷ [])))) }
+        ensures err { IfErr result (λ e. IsDue e (SketchGives line self EndLine (λ _ _. Err e))) }
+    {
+        let Sketch {
+            name,
+            mut layers,
+            begun,
+        } = self;
+        let Some(layer) = begun else {
             return Err(AssemblyFault::A1 { line });
+        };
+        if !is_whole(&layers, &layer) {
+            return Err(AssemblyFault::A3 { line });
         }
-        self.finish_layer(line)?;
-        let cells = cells_of(alloc, &self.layers)?;
+        layers.push(layer)?;
+        let cells = cells_of(alloc, &layers)?;
         if cells.is_empty() || cells.len() > MOST_CELLS {
             return Err(AssemblyFault::A3 { line });
         }
         let shape = Shape {
-            sides: self.sides(),
+            sides: sides_of(&layers),
             cells: Cells::new(cells),
         };
-        let Sketch {
-            name,
-            layers,
-            begun: _,
-        } = self;
-        Ok(DrawnShape {
-            name,
-            layers,
-            shape,
-        })
+        Ok(DrawnShape::new(name, layers, shape))
     }
+}
 
-    /// Finishes the layer that has begun, if one has: it has rows, as many as the first layer.
-    fn finish_layer(&mut self, line: usize) -> Result<(), AssemblyFault> {
-        let Some(layer) = self.begun.take() else {
-            return Ok(());
-        };
-        let height = match self.layers.first() {
-            Some(first) => first.rows.len(),
-            None => layer.rows.len(),
-        };
-        if layer.rows.is_empty() || layer.rows.len() != height {
-            return Err(AssemblyFault::A3 { line });
-        }
-        self.layers.push(layer)?;
-        Ok(())
-    }
+/// Whether a layer may be finished behind others: it has rows, as many as the first.
+fn is_whole(layers: &[Layer], layer: &Layer) -> bool
+    ensures { IsTrue result ↔ IsWhole layers.now layer.now }
+{
+    let height = layer.rows().len();
+    let is_like_first = match layers.first() {
+        Some(first) => first.rows().len() == height,
+        None => true,
+    };
+    height >= 1 && is_like_first
+}
 
-    /// The sides of the box of the layers that are finished.
-    fn sides(&self) -> Cell {
-        let (width, height) = match self.layers.first() {
-            Some(layer) => (layer.width().unwrap_or(0), layer.rows.len()),
-            None => (0, 0),
-        };
-        Cell {
-            x: width as i32,
-            y: height as i32,
-            z: self.layers.len() as i32,
-        }
+/// Whether a row may stand behind those of a layer: there is room, and it is as wide as the shape's
+/// first row.
+fn is_row_of(layers: &[Layer], layer: &Layer, marks: &[u8]) -> bool
+    requires { All (λ (rows : List (List ℕ)). 0 < length rows) layers.now }
+    ensures { IsTrue result ↔ IsRow layers.now layer.now marks.now }
+{
+    let first_layer = match layers.first() {
+        Some(first) => first.rows(),
+        None => layer.rows(),
+    };
+    let is_like_first = match first_layer.first() {
+        Some(row) => row.marks().len() == marks.len(),
+        None => true,
+    };
+    marks.len() <= SIDE && layer.rows().len() < SIDE && is_like_first
+}
+
+/// The sides of the box of a drawing.
+fn sides_of(layers: &[Layer]) -> Cell
+    requires { length layers.now ≤ SIDE }
+{
+    let rows = match layers.first() {
+        Some(layer) => layer.rows(),
+        None => &[],
+    };
+    let width = match rows.first() {
+        Some(row) => row.marks().len(),
+        None => 0,
+    };
+    Cell {
+        x: width as i32,
+        y: rows.len() as i32,
+        z: layers.len() as i32,
     }
 }

@@ -1,56 +1,68 @@
-ghost use Rattle.std.specs.Prelude.{◌≡◌, IfSome};
-ghost use Rattle.burr_voxels.specs.Near.{IsWithin};
-ghost use Rattle.burr_assembly.specs.Names.{IsCoordinate};
+ghost use Rattle.std.specs.Prelude.{◌≡◌, ◌↔◌, ◌++◌, ◌∷◌, Contains, IsTrue, MatchOption};
+ghost use Rattle.burr_voxels.specs.declared.cell.Cell.{Cell as CellOf};
+ghost use Rattle.burr_assembly.specs.Lines.{IsWord, IsCount, IsNumber};
+ghost use Rattle.burr_assembly.specs.Text.{IsPositionText};
+ghost use Rattle.burr_assembly.specs.Views.{IsCutAt, IsCoordinateText};
 
 use burr_voxels::Cell;
 
 /// A coordinate of a position is at most this, either way.
 const REACH: i32 = 64;
 
-/// What stands before the first space, and what behind it.
-pub fn cut_at_space(bytes: &[u8]) -> Option<(&[u8], &[u8])> {
-    let space = bytes.iter().position(|byte| *byte == b' ')?;
-    Some((&bytes[..space], &bytes[space + 1..]))
+/// What stands before the first of a byte, and what behind it; None where it is not there.
+pub fn cut_at(bytes: &[u8], separator: u8) -> Option<(&[u8], &[u8])>
+    ensures { MatchOption result (¬ Contains bytes.now separator) (λ parts. IsCutAt separator bytes.now parts.0.now parts.1.now) }
+{
+    let at = bytes.iter().position(|byte| *byte == separator)?;
+    Some((&bytes[..at], &bytes[at + 1..]))
 }
 
 /// Whether the bytes are a word: one or more printable bytes, 33 to 126.
-pub fn is_word(bytes: &[u8]) -> bool {
-    !bytes.is_empty() && bytes.iter().all(|byte| matches!(byte, 33..=126))
+pub fn is_word(bytes: &[u8]) -> bool
+    ensures { IsTrue result ↔ IsWord bytes.now }
+{
+    !bytes.is_empty() && bytes.iter().all(|byte| 33 <= *byte && *byte <= 126)
 }
 
 /// Whether the bytes are a number: `0`, or digits of which the first isn't `0`, perhaps behind a
-/// `-`. A number may be of any size.
-pub fn is_number(bytes: &[u8]) -> bool {
+/// `-`. A number may be of any length.
+pub fn is_number(bytes: &[u8]) -> bool
+    ensures { IsTrue result ↔ IsNumber bytes.now }
+{
     match bytes {
         b"0" => true,
-        [b'-', digits @ ..] => is_count(digits),
-        digits => is_count(digits),
+        [b'-', rest @ ..] => is_count(rest),
+        _ => is_count(bytes),
     }
 }
 
 /// Whether the bytes are digits of which the first isn't `0`.
-fn is_count(bytes: &[u8]) -> bool {
-    match bytes {
-        [b'1'..=b'9', rest @ ..] => rest.iter().all(|byte| byte.is_ascii_digit()),
-        _ => false,
-    }
+fn is_count(bytes: &[u8]) -> bool
+    ensures { IsTrue result ↔ IsCount bytes.now }
+{
+    let starts_right = bytes.first().is_some_and(|byte| 49 <= *byte);
+    starts_right && bytes.iter().all(|byte| 48 <= *byte && *byte <= 57)
 }
 
-/// The number that the bytes are, if it lies in -64..64.
+/// The coordinate that a number is, if it lies in -64..64.
 fn coordinate(number: &[u8]) -> Option<i32>
-    ensures { IfSome result IsCoordinate }
+    requires { IsNumber number.now }
+    ensures { IsCoordinateText number.now result }
 {
-    let number: i32 = str::from_utf8(number).ok()?.parse().ok()?;
-    if (-REACH..=REACH).contains(&number) {
-        Some(number)
+    let value: i32 = str::from_utf8(number).ok()?.parse().ok()?;
+    if -REACH <= value && value <= REACH {
+        Some(value)
     } else {
         None
     }
 }
 
-/// The cell with these numbers as coordinates, if each lies in -64..64.
+/// The position whose coordinates these numbers are, if each lies in -64..64.
 pub fn position(x: &[u8], y: &[u8], z: &[u8]) -> Option<Cell>
-    ensures { IfSome result (IsWithin 64) }
+    requires x { IsNumber x.now }
+    requires y { IsNumber y.now }
+    requires z { IsNumber z.now }
+    ensures { MatchOption result ((c : CellOf) → ¬ IsPositionText x.now y.now z.now c) (IsPositionText x.now y.now z.now) }
 {
     let (x, y, z) = (coordinate(x)?, coordinate(y)?, coordinate(z)?);
     Some(Cell { x, y, z })

@@ -1,6 +1,12 @@
-use crate::drawing::DrawnShape;
+ghost use Rattle.std.specs.Prelude.{◌≡◌, ◌++◌, ◌∷◌, IfOk, OnOk};
+ghost use Rattle.std.specs.Fmt.{signed_decimal};
+ghost use Rattle.burr_assembly.specs.Text.{text_of, shape_text, layer_text, piece_text};
+ghost use Rattle.burr_assembly.specs.FrontViews.{pieces_of};
+
+use crate::drawing::Layer;
 use crate::name::Name;
 use crate::piece::Piece;
+use crate::shape::DrawnShape;
 use itoa::Buffer;
 use std::alloc::{AllocError, Global};
 
@@ -10,7 +16,9 @@ pub fn write_text(
     name: &Name,
     shapes: &[DrawnShape],
     pieces: &[Piece],
-) -> Result<Vec<u8>, AllocError> {
+) -> Result<Vec<u8>, AllocError>
+    ensures { IfOk result (λ text. text.items ≡ text_of (record { name = name.now; shapes = shapes.now; pieces = pieces_of pieces.now })) }
+{
     let mut text = Vec::from_slice(alloc, b"assembly ")?;
     text.extend_from_slice(name.as_bytes())?;
     text.push(b'\n')?;
@@ -23,31 +31,50 @@ pub fn write_text(
     Ok(text)
 }
 
-fn add_shape(text: &mut Vec<u8>, shape: &DrawnShape) -> Result<(), AllocError> {
+fn add_shape(text: &mut Vec<u8>, shape: &DrawnShape) -> Result<(), AllocError>
+    ensures { OnOk result (text.new.items ≡ text.old.items ++ shape_text shape.now) }
+{
     text.extend_from_slice(b"shape ")?;
-    text.extend_from_slice(shape.name.as_bytes())?;
+    text.extend_from_slice(shape.name().as_bytes())?;
     text.push(b'\n')?;
-    for layer in &shape.layers {
-        text.extend_from_slice(b"layer\n")?;
-        for row in &layer.rows {
-            text.extend_from_slice(&row.marks)?;
-            text.push(b'\n')?;
-        }
+    for layer in shape.layers() {
+        add_layer(text, layer)?;
     }
     text.extend_from_slice(b"end\n")
 }
 
-fn add_piece(text: &mut Vec<u8>, piece: &Piece) -> Result<(), AllocError> {
-    text.extend_from_slice(b"piece ")?;
-    text.extend_from_slice(piece.name.as_bytes())?;
-    text.push(b' ')?;
-    text.extend_from_slice(piece.shape.as_bytes())?;
-    text.push(b' ')?;
-    text.extend_from_slice(&piece.orientation.name())?;
-    for coordinate in [piece.position.x, piece.position.y, piece.position.z] {
-        text.push(b' ')?;
-        text.extend_from_slice(Buffer::new().format(coordinate).as_bytes())?;
+fn add_layer(text: &mut Vec<u8>, layer: &Layer) -> Result<(), AllocError>
+    ensures { OnOk result (text.new.items ≡ text.old.items ++ layer_text layer.now) }
+{
+    text.extend_from_slice(b"layer\n")?;
+    for row in layer.rows() {
+        text.extend_from_slice(row.marks())?;
+        text.push(b'\n')?;
     }
+    Ok(())
+}
+
+fn add_piece(text: &mut Vec<u8>, piece: &Piece) -> Result<(), AllocError>
+    ensures { OnOk result (text.new.items ≡ text.old.items ++ piece_text piece.now.piece) }
+{
+    let position = piece.position();
+    text.extend_from_slice(b"piece ")?;
+    text.extend_from_slice(piece.name().as_bytes())?;
+    text.push(b' ')?;
+    text.extend_from_slice(piece.shape().as_bytes())?;
+    text.push(b' ')?;
+    text.extend_from_slice(&piece.orientation().name())?;
+    add_number(text, position.x)?;
+    add_number(text, position.y)?;
+    add_number(text, position.z)?;
     text.push(b'\n')?;
     Ok(())
+}
+
+/// Adds a blank and a number.
+fn add_number(text: &mut Vec<u8>, number: i32) -> Result<(), AllocError>
+    ensures { OnOk result (text.new.items ≡ text.old.items ++ 32 ∷ signed_decimal number) }
+{
+    text.push(b' ')?;
+    text.extend_from_slice(Buffer::new().format(number).as_bytes())
 }

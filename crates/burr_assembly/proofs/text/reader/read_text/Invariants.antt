@@ -1,9 +1,11 @@
-use Rattle.std.proofs.Common.{◌≤◌, ◌+◌, length}
+use Rattle.std.proofs.Common.{length}
+use Rattle.burr_assembly.specs.Readers.{front_of, IsHome}
+use Rattle.burr_assembly.proofs.LineByLine.{IsReadTo}
 use Rattle.burr_assembly.proofs.text.reader.read_text.Given as goal
 
--- each line took a byte at least
+-- the lines so far are a beginning, and what the rest gives behind it the text gives
 abbrev pub invariant-loop-rest : goal.invariant-loop-rest
-invariant-loop-rest l = l.line + length l.rest ≤ length l.fn.text + 1
+invariant-loop-rest l = IsReadTo l.fn.text l.line (front_of l.front) l.rest × IsHome l.front
 
 abbrev pub decreases-loop-rest : goal.decreases-loop-rest
 decreases-loop-rest l = length l.rest

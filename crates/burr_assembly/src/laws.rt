@@ -1,0 +1,20 @@
+ghost use Rattle.burr_assembly.specs.Laws.{OneAssembly, FaultOrAssembly, NoFault, OneFault, ReadsBack, WritesBack};
+
+/// No text is that of two assemblies.
+pub fn a_text_has_one_assembly()
+    ensures { OneAssembly }
+{}
+
+/// A text has a fault exactly where it is no assembly's, and then only one.
+pub fn a_text_has_a_fault_or_an_assembly()
+    ensures some { FaultOrAssembly }
+    ensures not_both { NoFault }
+    ensures one { OneFault }
+{}
+
+/// The text that is written for an assembly is one that is read as this assembly, and the assembly
+/// that a text is read as is written as this text.
+pub fn texts_and_assemblies_give_each_other_back()
+    ensures reads { ReadsBack }
+    ensures writes { WritesBack }
+{}

@@ -1,0 +1,128 @@
+ghost use Rattle.std.specs.Prelude.{◌≡◌, ◌↔◌, ◌++◌, ◌∷◌, [], Ok, Err, IsTrue, IfOk, IfErr, Any, option_copied};
+ghost use Rattle.burr_assembly.specs.Text.{IsShapeName, HasCells};
+ghost use Rattle.burr_assembly.specs.Read.{Placed};
+ghost use Rattle.burr_assembly.specs.Lines.{ShapeLine, IsPieceWords};
+ghost use Rattle.burr_assembly.specs.LineViews.{words_of};
+ghost use Rattle.burr_assembly.specs.Faults.{Rule, PieceRule, Shapes, Pieces};
+ghost use Rattle.burr_assembly.specs.FrontViews.{sketched, pieces_of, IsDue, IsShapeOf, IsFirstMeeting, AreAtHome, AreDistinct};
+
+use crate::assembly::MOST_PIECES;
+use crate::fault::AssemblyFault;
+use crate::name::{Name, is_name};
+use crate::piece::{Piece, home_cells, overlap};
+use crate::shape::DrawnShape;
+use crate::text::line::PieceLine;
+use crate::text::sketch::Sketch;
+use crate::text::words::position;
+use burr_voxels::{Cell, Orientation};
+use std::alloc::Global;
+
+/// The most shapes of an assembly.
+const MOST_SHAPES: usize = 32;
+
+/// What stands before the pieces: the assembly's name and its shapes.
+#[derive(Debug, Drop)]
+pub struct Header {
+    pub name: Name,
+    pub shapes: Vec<DrawnShape>,
+}
+
+impl Header {
+    /// A line `shape NAME` behind the shapes so far.
+    pub fn begin_shape(
+        &self,
+        alloc: Global,
+        name: &[u8],
+        line: usize,
+    ) -> Result<Sketch, AssemblyFault>
+        ensures ok { IfOk result (λ s. Rule line (Shapes self.now.name self.now.shapes.items) (ShapeLine name.now) (Ok (sketched self.now.name self.now.shapes.items s))) }
+        ensures err { IfErr result (λ e. IsDue e (Rule line (Shapes self.now.name self.now.shapes.items) (ShapeLine name.now) (Err e))) }
+    {
+        if self.shapes.len() >= MOST_SHAPES {
+            return Err(AssemblyFault::A7 { line });
+        }
+        if !is_name(name) || self.has_shape(name) {
+            return Err(AssemblyFault::A2 { line });
+        }
+        Ok(Sketch::new(alloc, Name::new(alloc, name)?))
+    }
+
+    /// Whether a shape has this name.
+    fn has_shape(&self, name: &[u8]) -> bool
+        ensures { IsTrue result ↔ IsShapeName self.now.shapes.items name.now }
+    {
+        self.shapes
+            .iter()
+            .any(|shape| shape.name().as_bytes() == name)
+    }
+
+    /// The shape with this name.
+    fn shape(&self, name: &[u8]) -> Option<&DrawnShape>
+        ensures { IsShapeOf self.now.shapes.items name.now (option_copied result) }
+    {
+        self.shapes
+            .iter()
+            .find(|shape| shape.name().as_bytes() == name)
+    }
+
+    /// A piece's line behind the pieces so far: the piece, if its words are right and it shares no
+    /// cell with an earlier one.
+    pub fn piece(
+        &self,
+        alloc: Global,
+        pieces: &[Piece],
+        words: PieceLine<'_>,
+        line: usize,
+    ) -> Result<Piece, AssemblyFault>
+        requires words { IsPieceWords (words_of words) }
+        requires distinct { AreDistinct self.now.shapes.items }
+        requires homes { AreAtHome self.now.shapes.items pieces.now }
+        ensures ok { IfOk result (λ p. PieceRule line self.now.name self.now.shapes.items (pieces_of pieces.now) (words_of words.entry)
+            (Ok (Pieces self.now.name self.now.shapes.items (pieces_of pieces.now ++ p.piece ∷ [])))) }
+        ensures home { IfOk result (λ p. HasCells self.now.shapes.items p.piece p.cells) }
+        ensures err { IfErr result (λ e. IsDue e (PieceRule line self.now.name self.now.shapes.items (pieces_of pieces.now) (words_of words.entry) (Err e))) }
+    {
+        if pieces.len() >= MOST_PIECES {
+            return Err(AssemblyFault::A7 { line });
+        }
+        if !is_name(words.name) || is_taken(pieces, words.name) {
+            return Err(AssemblyFault::A2 { line });
+        }
+        let Some(shape) = self.shape(words.shape) else {
+            return Err(AssemblyFault::A6 { line });
+        };
+        let Some(orientation) = Orientation::parse(words.orientation) else {
+            return Err(AssemblyFault::A4 { line });
+        };
+        let Some(position) = position(words.x, words.y, words.z) else {
+            return Err(AssemblyFault::A5 { line });
+        };
+        let cells = home_cells(alloc, shape.cells(), &orientation, position)?;
+        if let Some(earlier) = first_meeting(pieces, &cells) {
+            return Err(AssemblyFault::A8 {
+                line,
+                earlier: earlier as u8,
+                piece: pieces.len() as u8,
+            });
+        }
+        let name = Name::new(alloc, words.name)?;
+        let shape = Name::new(alloc, shape.name().as_bytes())?;
+        Ok(Piece::new(name, shape, orientation, position, cells))
+    }
+}
+
+/// Whether a piece has this name.
+fn is_taken(pieces: &[Piece], name: &[u8]) -> bool
+    ensures { IsTrue result ↔ Any (λ (p : Placed). p.piece.name ≡ name.now) pieces.now }
+{
+    pieces.iter().any(|piece| piece.name().as_bytes() == name)
+}
+
+/// The first piece that has one of these cells.
+fn first_meeting(pieces: &[Piece], cells: &[Cell]) -> Option<usize>
+    ensures { IsFirstMeeting pieces.now cells.now result }
+{
+    pieces
+        .iter()
+        .position(|piece| overlap(piece.cells(), cells))
+}
