@@ -15,9 +15,12 @@ IsWithin-home a b p q =
     let px' = p.x_below in let py' = p.y_below in let pz' = p.z_below in
     let qx' = q.x_below in let qy' = q.y_below in let qz' = q.z_below in
     record {
-      x_above = omega (arith, ints); x_below = omega (arith, ints);
-      y_above = omega (arith, ints); y_below = omega (arith, ints);
-      z_above = omega (arith, ints); z_below = omega (arith, ints);
+      x_above = omega (arith, ints);
+      x_below = omega (arith, ints);
+      y_above = omega (arith, ints);
+      y_below = omega (arith, ints);
+      z_above = omega (arith, ints);
+      z_below = omega (arith, ints);
     }
 
 -- one home cell more

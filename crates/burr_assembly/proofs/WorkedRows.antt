@@ -17,9 +17,9 @@ duo = record {
   name = codes "duo";
   shapes = cube ∷ [];
   pieces =
-    record { name = codes "A"; shape = codes "cube"; turn = upright; position = at (pos 0) (pos 0) (pos 0) }
-    ∷ record { name = codes "B"; shape = codes "cube"; turn = upright; position = at (pos 1) (pos 0) (pos 0) }
-    ∷ [];
+      record { name = codes "A"; shape = codes "cube"; turn = upright; position = at (pos 0) (pos 0) (pos 0) }
+      ∷ record { name = codes "B"; shape = codes "cube"; turn = upright; position = at (pos 1) (pos 0) (pos 0) }
+      ∷ [];
 }
 
 duo_text : text_of duo ≡ codes "assembly duo\nshape cube\nlayer\n#\nend\npiece A cube +x+y+z 0 0 0\npiece B cube +x+y+z 1 0 0\n"

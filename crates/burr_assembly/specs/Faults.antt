@@ -58,9 +58,9 @@ PieceRule n name shapes pieces w =
     (looks_for (λ (t : Turn). IsTurn t × (w.orientation ≡ turn_name t)) (Err (A4 n)) λ t.
     needs (IsPosition (at w.x w.y w.z)) (Err (A5 n))
     (λ answer.
-        let p : Piece = record { name = w.name; shape = w.shape; turn = t; position = at w.x w.y w.z } in
-        ((q : ℕ) × IsFirstSharing shapes pieces p q × (answer ≡ Err (A8 n q (length pieces))))
-        ⊎ (((q : ℕ) → ¬ IsFirstSharing shapes pieces p q) × gives (Pieces name shapes (pieces ++ p ∷ [])) answer)))))
+    let p : Piece = record { name = w.name; shape = w.shape; turn = t; position = at w.x w.y w.z } in
+    ((q : ℕ) × IsFirstSharing shapes pieces p q × (answer ≡ Err (A8 n q (length pieces))))
+    ⊎ (((q : ℕ) → ¬ IsFirstSharing shapes pieces p q) × gives (Pieces name shapes (pieces ++ p ∷ [])) answer)))))
 
 -- What a line of a form gives behind a front: the faults in their order, and then the front with it.
 abbrev pub Rule : ℕ → Front → Form → Answer → Type 0
