@@ -1,7 +1,9 @@
 -- How far a text has been put.
-use Rattle.std.proofs.Common.{◌≡◌, ◌<◌, ◌≤◌, ℕ, Bool, false, List, [], ◌++◌, length, Option, take, drop, arith, ap, sym, ◌∙◌, append_assoc, length-append}
-use Rattle.std.proofs.KnownBytes.{Appends-trans}
-use Rattle.std.specs.Io.KnownBytes.{Appends}
+use Rattle.std.proofs.Common.{◌≡◌, ◌<◌, ℕ, Bool, false, List, [], ◌++◌, length, Option, take, drop, arith, ap, sym, subst, ◌∙◌, length-append}
+use lib.Seq.{take-append_seam}
+use Rattle.std.proofs.KnownBytes.{Appends-trans, Appends-kept}
+use Rattle.std.specs.Io.KnownBytes.{Appends, Keeps}
+use Rattle.burr_io.specs.Sink.{TakesShort}
 use Rattle.std.proofs.lemmas.Grind.{common_steps}
 
 -- of the whole text all but the rest was taken, and then nothing had failed
@@ -29,3 +31,11 @@ HasPut-some whole rest old new failed put some none =
     let same : length whole ≡ length (put.front ++ rest) = ap length split in
     let empty : length whole ≡ 0 = ap length none in
     absurd (omega arith)
+
+-- where a rest is left, and the sink takes no more, not all was taken
+pub HasPut-short : (whole rest : List ℕ) (old mid new : Option (List ℕ)) (failed : Bool) → HasPut whole rest old mid failed → 0 < length rest → Keeps mid new → TakesShort old new whole
+HasPut-short whole rest old mid new failed put some kept =
+    let count = length-append put.front rest in
+    let same : length whole ≡ length (put.front ++ rest) = ap length put.parts in
+    let front : take (length put.front) whole ≡ put.front = ap (take (length put.front)) put.parts ∙ take-append_seam put.front rest in
+    (length put.front, omega arith, subst (Appends old new) (sym front) (Appends-kept old mid new put.front put.taken kept))

@@ -25,11 +25,22 @@ impl<R: Read> Reading<R> {
 }
 
 impl<R: Read> Source for Reading<R> {
+    ghost use Rattle.std.specs.Prelude.{◌≡◌, ◌≤◌, length, is_err, IsErr, IsTrue, IfOk};
+    ghost use Rattle.std.specs.Io.KnownBytes.{ReadConsumes};
+
     ghost left = { λ s. R.remaining s.reader };
 
     ghost has_failed = { λ s. s.failed };
 
-    fn pull(&mut self, buffer: &mut [u8]) -> Result<usize, IoFailed> {
+    // The clauses of the trait, and that a source that has failed leaves its reader alone.
+    fn pull(&mut self, buffer: &mut [u8]) -> Result<usize, IoFailed>
+        ensures bound { IfOk result (λ n. n ≤ length buffer.new) }
+        ensures bytes { ReadConsumes (⟦<Reading<R> as Source>⟧.left self.old) (⟦<Reading<R> as Source>⟧.left self.new) result buffer.new }
+        ensures fails { ⟦<Reading<R> as Source>⟧.has_failed self.new ≡ is_err result }
+        ensures for_good { IsTrue (⟦<Reading<R> as Source>⟧.has_failed self.old) → IsErr result }
+        ensures stays { IsTrue (⟦<Reading<R> as Source>⟧.has_failed self.old) → self.new ≡ self.old }
+        ensures untouched { IsTrue (⟦<Reading<R> as Source>⟧.has_failed self.old) → buffer.new ≡ buffer.old }
+    {
         if self.failed {
             return Err(IoFailed);
         }

@@ -1,6 +1,6 @@
 ghost use Rattle.std.specs.Prelude.{◌≡◌, ◌≤◌, ◌<◌, ℕ, Bool, List, length, [], Option, is_err, IsErr, IsTrue, IfOk, OnOk, OnErr, false};
-ghost use Rattle.std.specs.Io.KnownBytes.{Appends, WriteAppends};
-ghost use Rattle.burr_io.specs.Sink.{TakesFront};
+ghost use Rattle.std.specs.Io.KnownBytes.{Appends, Keeps, WriteAppends};
+ghost use Rattle.burr_io.specs.Sink.{TakesFront, TakesShort};
 
 use crate::fault::{IoFailed, WriteFault};
 
@@ -27,13 +27,19 @@ pub trait Sink {
 }
 
 /// Puts all of the bytes, by as many calls of `put` as it takes; no bytes take none. A fault comes
-/// only where one of these calls failed, and then the sink has taken a front of the bytes.
+/// only where one of these calls failed, and then the sink has taken a front of the bytes, and not
+/// all. A sink that had failed before takes none.
 pub fn put_all<W: Sink>(bytes: &[u8], sink: &mut W) -> Result<(), WriteFault>
     ensures ok { OnOk result (Appends (W.taken sink.old) (W.taken sink.new) bytes.now) }
     ensures err { OnErr result (TakesFront (W.taken sink.old) (W.taken sink.new) bytes.now) }
+    ensures short { OnErr result (TakesShort (W.taken sink.old) (W.taken sink.new) bytes.now) }
     ensures fails { OnErr result (IsTrue (W.has_failed sink.new)) }
     ensures goes_on { OnOk result (0 < length bytes.now → W.has_failed sink.new ≡ false) }
     ensures nothing { bytes.now ≡ [] → sink.new ≡ sink.old }
+
+    // A sink that had failed before.
+    ensures for_good { IsTrue (W.has_failed sink.old) → 0 < length bytes.now → IsErr result }
+    ensures kept { IsTrue (W.has_failed sink.old) → Keeps (W.taken sink.old) (W.taken sink.new) }
 {
     let mut rest = bytes;
     while !rest.is_empty() {

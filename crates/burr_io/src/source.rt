@@ -12,7 +12,8 @@ pub trait Source {
     ghost has_failed: { Self → Bool };
 
     /// Moves bytes into the front of the buffer and tells how many: at least one, save at the
-    /// source's end or where the buffer is empty. After a failure every call fails.
+    /// source's end or where the buffer is empty. Where it fails it gives none, and after a failure
+    /// every call fails. What the buffer holds past the bytes given is left open.
     fn pull(&mut self, buffer: &mut [u8]) -> Result<usize, IoFailed>
         ensures bound { IfOk result (λ n. n ≤ length buffer.new) }
         ensures bytes { ReadConsumes (left self.old) (left self.new) result buffer.new }

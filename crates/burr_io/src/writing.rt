@@ -25,11 +25,22 @@ impl<W: Write> Writing<W> {
 }
 
 impl<W: Write> Sink for Writing<W> {
+    ghost use Rattle.std.specs.Prelude.{◌≡◌, ◌≤◌, ◌<◌, length, is_err, IsErr, IsTrue, IfOk};
+    ghost use Rattle.std.specs.Io.KnownBytes.{WriteAppends};
+
     ghost taken = { λ s. W.contents s.writer };
 
     ghost has_failed = { λ s. s.failed };
 
-    fn put(&mut self, bytes: &[u8]) -> Result<usize, IoFailed> {
+    // The clauses of the trait, and that a sink that has failed leaves its writer alone.
+    fn put(&mut self, bytes: &[u8]) -> Result<usize, IoFailed>
+        ensures bound { IfOk result (λ n. n ≤ length bytes.now) }
+        ensures some { IfOk result (λ n. 0 < length bytes.now → 0 < n) }
+        ensures bytes { WriteAppends (⟦<Writing<W> as Sink>⟧.taken self.old) (⟦<Writing<W> as Sink>⟧.taken self.new) result bytes.now }
+        ensures fails { ⟦<Writing<W> as Sink>⟧.has_failed self.new ≡ is_err result }
+        ensures for_good { IsTrue (⟦<Writing<W> as Sink>⟧.has_failed self.old) → IsErr result }
+        ensures stays { IsTrue (⟦<Writing<W> as Sink>⟧.has_failed self.old) → self.new ≡ self.old }
+    {
         if self.failed {
             return Err(IoFailed);
         }
