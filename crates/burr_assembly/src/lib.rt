@@ -17,3 +17,6 @@ pub use laws::{
     a_text_has_a_fault_or_an_assembly, a_text_has_one_assembly,
     texts_and_assemblies_give_each_other_back,
 };
+
+#[cfg(test)]
+mod tests;

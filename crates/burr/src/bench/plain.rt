@@ -1,4 +1,4 @@
-ghost use Rattle.std.specs.Prelude.{◌≡◌, ◌<◌, ◌≤◌, length, vec_len};
+ghost use Rattle.std.specs.Prelude.{◌≡◌, ◌<◌, ◌≤◌, length};
 ghost use Rattle.std.specs.List.{All};
 ghost use Rattle.arrayvec.specs.ArrayVec.{array_vec_len};
 ghost use Rattle.burr_voxels.specs.Near.{IsWithin};
@@ -47,7 +47,7 @@ pub struct PlainBench<'a> {
     ghost near: { AreNear places.items },
     ghost short: { length code.now ≤ MOST_CODE },
     ghost within: { pc ≤ length code.now },
-    ghost as_many: { array_vec_len places ≡ vec_len assembly.now.pieces },
+    ghost as_many: { array_vec_len places ≡ length assembly.now.pieces },
 }
 
 impl<'a> PlainBench<'a> {
@@ -199,7 +199,7 @@ impl<'a> PlainBench<'a> {
 
     /// Whether a piece meets none of the rest of the current tray on its way along a direction.
     fn is_piece_free(&self, piece: u8, direction: Direction) -> bool
-        requires { piece < vec_len self.now.assembly.now.pieces }
+        requires { piece < length self.now.assembly.now.pieces }
     {
         let offset = self.places[usize::from(piece)].offset();
         let cells = self.assembly.cells(piece);
