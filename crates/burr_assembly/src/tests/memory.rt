@@ -41,6 +41,7 @@ fn reports_a_want_of_memory(rt: HostRuntime) -> Result<(), Fail> {
     // with each block that is freed, an answer is the want of memory or the right one
     let mut other = None;
     let (mut reads, mut reads_crowded, mut writes) = (false, false, false);
+    let mut is_wrong = false;
     for _ in 0..60_000 {
         match Assembly::read(alloc, DUO.as_bytes()) {
             Ok(_) => reads = true,
@@ -53,13 +54,15 @@ fn reports_a_want_of_memory(rt: HostRuntime) -> Result<(), Fail> {
             fault => other = fault.or(Some(crowd)),
         }
         if let Ok(text) = duo.write(alloc) {
-            writes = text.as_slice() == DUO.as_bytes();
+            writes = true;
+            is_wrong |= text.as_slice() != DUO.as_bytes();
         }
         if (reads && reads_crowded && writes) || blocks.pop().is_none() {
             break;
         }
     }
     drop(blocks);
+    assert!(rt; !is_wrong);
     assert_eq!(rt; refused, Some(AssemblyFault::Memory));
     assert_eq!(rt; crowded_refused, Some(AssemblyFault::Memory));
     assert!(rt; is_write_refused);
@@ -67,4 +70,3 @@ fn reports_a_want_of_memory(rt: HostRuntime) -> Result<(), Fail> {
     assert!(rt; reads && reads_crowded && writes);
     Ok(())
 }
-// x
