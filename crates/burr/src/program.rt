@@ -42,12 +42,21 @@ fn ended<R: Eprint>(rt: &R, fault: BenchFault) -> u8 {
     status_of(Err(fault))
 }
 
+/// Ends where the words of the command line can't be had.
+fn no_words<R: Eprint>(rt: &R, kind: io::ErrorKind) -> u8 {
+    if kind == io::ErrorKind::OutOfMemory {
+        return ended(rt, BenchFault::Memory);
+    }
+    let _ = rt.eprintln("error: a word of the command line is not UTF-8");
+    COMMAND_LINE
+}
+
 /// Does what the words of the command line ask for, and gives the status to end with.
 pub fn status<R: Env + Print + Eprint + Input + AllocGlobal>(rt: &R) -> u8 {
     let alloc = rt.alloc();
-    let Ok(list) = env::args(rt) else {
-        let _ = rt.eprintln("error: a word of the command line is not UTF-8");
-        return COMMAND_LINE;
+    let list = match env::args(rt) {
+        Ok(list) => list,
+        Err(error) => return no_words(rt, error.kind()),
     };
     let words: Vec<String> = match list.collect(alloc) {
         Ok(words) => words,
