@@ -1,1 +1,2 @@
 pub mod OffsetLemmas
+pub mod WorkedRows

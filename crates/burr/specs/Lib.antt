@@ -1,1 +1,11 @@
 pub mod Offsets
+pub mod Bench
+pub mod Step
+pub mod Run
+pub mod RunLaws
+pub mod Parts
+pub mod TrapNames
+pub mod SheetText
+pub mod SheetUnderWay
+pub mod ReadWhole
+pub mod Answering

@@ -1,3 +1,4 @@
+mod mode;
 mod motion;
 mod place;
 mod plain;

@@ -3,3 +3,4 @@ pub mod Turns
 pub mod Near
 pub mod Blocks
 pub mod Checks
+pub mod Places

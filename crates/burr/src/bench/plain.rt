@@ -5,6 +5,7 @@ ghost use Rattle.burr_voxels.specs.Near.{IsWithin};
 ghost use Rattle.burr.specs.Offsets.{AreNear};
 ghost use Rattle.burr.specs.declared.bench.plain.TheConstants.{MOST_CODE};
 
+use crate::bench::mode::Mode;
 use crate::bench::motion::Motion;
 use crate::bench::place::Place;
 use crate::bench::trap::Trap;
@@ -18,14 +19,6 @@ const MOST_PIECES: usize = 32;
 
 /// The most bytes of a procedure's code.
 pub const MOST_CODE: usize = 4096;
-
-/// Whether a run goes on, and how not.
-#[derive(Clone, Copy, Debug, PartialEq, Eq)]
-enum Mode {
-    Running,
-    Ended,
-    Stuck(Trap),
-}
 
 /// The bench at work on bare code: one procedure without labels. It is plain: it compares lists of
 /// cells, so that it can serve as the measure of every faster one.

@@ -1,0 +1,9 @@
+use crate::bench::trap::Trap;
+
+/// Whether a run goes on, and how not.
+#[derive(Clone, Copy, Debug, PartialEq, Eq)]
+pub enum Mode {
+    Running,
+    Ended,
+    Stuck(Trap),
+}
