@@ -1,5 +1,5 @@
 -- What reading a source to its end gives.
-use Rattle.std.specs.Prelude.{◌≡◌, ℕ, ◌≤◌, ◌<◌, List, length, Bool, true, false, Option, Result, Ok, Err}
+use Rattle.std.specs.Prelude.{◌≡◌, ℕ, ◌≤◌, ◌<◌, List, length, Bool, true, false, Option}
 use Rattle.std.specs.Io.KnownBytes.{Consumes, IsAtEnd}
 use Rattle.burr.specs.declared.fault.BenchFault.{BenchFault}
 use Rattle.burr.specs.declared.fault.BenchFault.TheVariants.{Read, TooLong, Write, Memory}

@@ -1,12 +1,13 @@
 -- A sheet under way: its motions come one at a time, and what they close is written at once.
-use Rattle.std.specs.Prelude.{◌≡◌, ℕ, ◌+◌, ◌<◌, ◌≤◌, ◌==◌, ◌&&◌, List, [], ◌∷◌, ◌++◌, length, Bool, true, false, Option, Some, None, MatchOption, if◌then◌else◌, codes}
+use Rattle.std.specs.Prelude.{◌≡◌, ℕ, ◌+◌, ◌≤◌, ◌==◌, ◌&&◌, List, [], ◌∷◌, ◌++◌, Bool, Option, Some, None, MatchOption, if◌then◌else◌, codes}
 use Rattle.std.specs.Io.KnownBytes.{Appends}
 use Rattle.burr_voxels.specs.Grid.{number_of}
 use Rattle.burr.specs.declared.bench.motion.Motion.{Motion}
+use Rattle.burr.specs.declared.sheet.line.Line.{Line as CodeLine}
 use Rattle.burr.specs.declared.sheet.Closing.{Closing as CodeClosing}
 use Rattle.burr.specs.declared.sheet.Closing.TheVariants as closings
 use Rattle.burr.specs.Run.{Closing, IsApart, IsTrapped, IsStopped}
-use Rattle.burr.specs.SheetText.{Line, lines_of, levels_from, move_lines, levels_word, closing_line, text_line}
+use Rattle.burr.specs.SheetText.{Line, in_front, lines_of, levels_from, move_lines, levels_word, closing_line, text_line}
 
 -- how far a sheet is
 pub record UnderWay : Type 0 where
@@ -36,12 +37,20 @@ with_growing None lines = lines
 with_growing (Some l) [] = l ∷ []
 with_growing (Some l) (m ∷ lines) = if is_one l m then (record m { units = l.units + m.units } ∷ lines) else (l ∷ m ∷ lines)
 
+-- what is still to be written, if these lines follow the growing one and the run closes so
+abbrev pub to_come : UnderWay → List Line → ℕ → Closing → List ℕ
+to_come u lines steps closing =
+    move_lines u.names (u.lines + 1) (with_growing u.growing lines)
+    ++ text_line (codes "levels" ∷ levels_word (u.levels ++ levels_from u.level (with_growing u.growing lines)) ∷ [])
+    ++ closing_line closing steps
+
+-- the growing line as it stands
+abbrev pub growing_text : UnderWay → List ℕ
+growing_text u = move_lines u.names (u.lines + 1) (with_growing u.growing [])
+
 -- What is still to be written, if these motions follow and the run closes so.
 abbrev pub still : UnderWay → List Motion → ℕ → Closing → List ℕ
-still u motions steps closing =
-    move_lines u.names (u.lines + 1) (with_growing u.growing (lines_of motions))
-    ++ text_line (codes "levels" ∷ levels_word (u.levels ++ levels_from u.level (with_growing u.growing (lines_of motions))) ∷ [])
-    ++ closing_line closing steps
+still u motions steps closing = to_come u (lines_of motions) steps closing
 
 -- Whatever follows, these bytes are what the motion closes: behind them comes what is then still to be written.
 abbrev pub Closes : UnderWay → Motion → UnderWay → List ℕ → Type 0
@@ -61,6 +70,12 @@ abbrev pub PutsFront : Option (List ℕ) → Option (List ℕ) → UnderWay → 
 PutsFront taken_old taken_new old motion =
     (bytes : List ℕ) × Appends taken_old taken_new bytes
     × ((motions : List Motion) (steps : ℕ) (closing : Closing) → BeginsWith (still old (motion ∷ motions) steps closing) bytes)
+
+-- a sink took what is closed before the motion goes on the growing line
+abbrev pub PutsBefore : Option (List ℕ) → Option (List ℕ) → UnderWay → Motion → UnderWay → Type 0
+PutsBefore taken_old taken_new old motion new =
+    (bytes : List ℕ) × Appends taken_old taken_new bytes
+    × ((lines : List Line) (steps : ℕ) (closing : Closing) → to_come old (in_front motion lines) steps closing ≡ bytes ++ to_come new (in_front motion lines) steps closing)
 
 -- a growing line is a line, so lines are never more than motions
 abbrev pub growing_lines : Option Line → ℕ
@@ -82,3 +97,7 @@ abbrev pub closing_of : CodeClosing → Closing
 closing_of closings.Apart = IsApart
 closing_of (closings.Trapped trap procedure pc) = IsTrapped trap procedure pc
 closing_of closings.Stopped = IsStopped
+
+-- the line of the code, which an aside ends or not
+abbrev pub line_of : CodeLine → Bool → Line
+line_of l out = record { group = l.group; tray = l.tray; direction = l.direction; units = l.units; out = out }

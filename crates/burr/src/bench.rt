@@ -1,6 +1,8 @@
+mod meeting;
 mod mode;
 mod motion;
 mod place;
+mod places;
 mod plain;
 mod trap;
 

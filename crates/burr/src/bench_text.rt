@@ -1,17 +1,19 @@
-ghost use Rattle.std.specs.Prelude.{◌≡◌, ◌≤◌, ◌<◌, length, IfSome, IfOk, vec_len};
+ghost use Rattle.std.specs.Prelude.{◌≡◌, ◌≤◌, length, IfErr, IfOk, OnErr, OnOk, IsTrue, codes};
+ghost use Rattle.std.specs.Io.KnownBytes.{Appends};
+ghost use Rattle.burr_io.specs.Sink.{TakesFront};
+ghost use Rattle.burr.specs.declared.bench_text.Outcome.TheVariants.{Refused};
+ghost use Rattle.burr.specs.Answering.{refusal, Answers, TextAnswers};
+ghost use Rattle.burr.specs.declared.bench.plain.TheConstants.{MOST_CODE};
+ghost use Rattle.burr.specs.BenchText.{PutsAnswer, AnswerFails, Answered, NotAnswered};
 
-use crate::bench::{MOST_CODE, PlainBench};
 use crate::fault::BenchFault;
+use crate::input::parse_input;
 use crate::reading::read_whole;
 use crate::refusal::put_refusal;
-use crate::sheet::{Closing, Sheet};
+use crate::running::run_bare;
 use burr_assembly::{Assembly, AssemblyFault};
 use burr_io::{Sink, Source, WriteFault, put_all};
-use hex::FromHexError;
-use std::alloc::{AllocError, Global};
-
-/// The most steps of a run of bare code.
-const BUDGET: u64 = 1_000_000;
+use std::alloc::Global;
 
 /// How an input was answered.
 #[derive(Clone, Copy, Debug, PartialEq, Eq)]
@@ -40,87 +42,65 @@ pub fn bench_text<R: Source, W: Sink>(
     alloc: Global,
     source: &mut R,
     sink: &mut W,
-) -> Result<Outcome, BenchFault> {
+) -> Result<Outcome, BenchFault>
+    ensures ok { IfOk result (λ outcome. Answered (record {
+        left_old = R.left source.old; left_new = R.left source.new; read_failed = R.has_failed source.new;
+        taken_old = W.taken sink.old; taken_new = W.taken sink.new; write_failed = W.has_failed sink.new }) outcome) }
+    ensures err { IfErr result (λ fault. NotAnswered (record {
+        left_old = R.left source.old; left_new = R.left source.new; read_failed = R.has_failed source.new;
+        taken_old = W.taken sink.old; taken_new = W.taken sink.new; write_failed = W.has_failed sink.new }) fault) }
+{
     let input = read_whole(alloc, source)?;
-    let Some((text, line)) = split_last_line(&input) else {
-        return refused_input(sink);
-    };
-    let Some(code) = code_of(alloc, line)? else {
-        return refused_input(sink);
-    };
-    match Assembly::read(alloc, text) {
-        Ok(assembly) => Ok(run_bare(&assembly, &code, sink)?),
-        Err(AssemblyFault::Memory) => Err(BenchFault::Memory),
-        Err(fault) => {
-            put_refusal(text, fault, sink)?;
-            Ok(Outcome::Refused)
-        }
+    answer(alloc, &input, sink)
+}
+
+/// Writes the answer to a whole input.
+fn answer<W: Sink>(alloc: Global, input: &[u8], sink: &mut W) -> Result<Outcome, BenchFault>
+    ensures ok { IfOk result (λ outcome. PutsAnswer (Answers input.now) (W.taken sink.old) (W.taken sink.new) outcome) }
+    ensures err { IfErr result (λ fault. AnswerFails (Answers input.now) (W.taken sink.old) (W.taken sink.new) (W.has_failed sink.new) fault) }
+{
+    match parse_input(alloc, input)? {
+        Some((text, code)) => answer_text(alloc, text, &code, sink),
+        None => Ok(refuse_input(sink)?),
     }
 }
 
-fn refused_input<W: Sink>(sink: &mut W) -> Result<Outcome, BenchFault> {
-    put_all(b"refused input\n", sink)?;
+/// Writes the answer to an assembly's text with code behind it.
+fn answer_text<W: Sink>(
+    alloc: Global,
+    text: &[u8],
+    code: &[u8],
+    sink: &mut W,
+) -> Result<Outcome, BenchFault>
+    requires { length code.now ≤ MOST_CODE }
+    ensures ok { IfOk result (λ outcome. PutsAnswer (TextAnswers text.now code.now) (W.taken sink.old) (W.taken sink.new) outcome) }
+    ensures err { IfErr result (λ fault. AnswerFails (TextAnswers text.now code.now) (W.taken sink.old) (W.taken sink.new) (W.has_failed sink.new) fault) }
+{
+    match Assembly::read(alloc, text) {
+        Ok(assembly) => Ok(run_bare(&assembly, code, sink)?),
+        Err(AssemblyFault::Memory) => Err(BenchFault::Memory),
+        Err(fault) => Ok(refuse_text(text, fault, sink)?),
+    }
+}
+
+/// Refuses an input whose text has a fault.
+fn refuse_text<W: Sink>(text: &[u8], fault: AssemblyFault, sink: &mut W) -> Result<Outcome, WriteFault>
+    ensures ok { OnOk result (Appends (W.taken sink.old) (W.taken sink.new) (refusal text.now fault)) }
+    ensures refused { IfOk result (λ outcome. outcome ≡ Refused) }
+    ensures err { OnErr result (TakesFront (W.taken sink.old) (W.taken sink.new) (refusal text.now fault)) }
+    ensures fails { OnErr result (IsTrue (W.has_failed sink.new)) }
+{
+    put_refusal(text, fault, sink)?;
     Ok(Outcome::Refused)
 }
 
-/// The last line of the input without its end, and what stands before it; None where the last line
-/// has no end.
-fn split_last_line(input: &[u8]) -> Option<(&[u8], &[u8])> {
-    let (end, lines) = input.split_last()?;
-    if *end != b'\n' {
-        return None;
-    }
-    match lines.iter().rposition(|byte| *byte == b'\n') {
-        Some(last) => Some((&lines[..last + 1], &lines[last + 1..])),
-        None => Some((b"", lines)),
-    }
-}
-
-/// The code of a line `code` with its hexadecimal digits; None where the line isn't of this form.
-fn code_of(alloc: Global, line: &[u8]) -> Result<Option<Vec<u8>>, AllocError>
-    ensures { IfOk result (λ found. IfSome found (λ code. vec_len code ≤ MOST_CODE)) }
+/// Refuses an input whose last line is none with code.
+fn refuse_input<W: Sink>(sink: &mut W) -> Result<Outcome, WriteFault>
+    ensures ok { OnOk result (Appends (W.taken sink.old) (W.taken sink.new) (codes "refused input\n")) }
+    ensures refused { IfOk result (λ outcome. outcome ≡ Refused) }
+    ensures err { OnErr result (TakesFront (W.taken sink.old) (W.taken sink.new) (codes "refused input\n")) }
+    ensures fails { OnErr result (IsTrue (W.has_failed sink.new)) }
 {
-    let Some(digits) = line.strip_prefix(b"code ") else {
-        return Ok(None);
-    };
-    let are_digits = digits
-        .iter()
-        .all(|byte| matches!(byte, b'0'..=b'9' | b'a'..=b'f'));
-    if !are_digits || digits.is_empty() || digits.len() > 2 * MOST_CODE {
-        return Ok(None);
-    }
-    match hex::decode(alloc, digits) {
-        Ok(code) => Ok(Some(code)),
-        Err(FromHexError::OutOfMemory) => Err(AllocError),
-        Err(_) => Ok(None),
-    }
-}
-
-/// Runs bare code on the bench, and writes the run's sheet.
-fn run_bare<W: Sink>(assembly: &Assembly, code: &[u8], sink: &mut W) -> Result<Outcome, WriteFault>
-    requires { length code.now ≤ MOST_CODE }
-{
-    let mut bench = PlainBench::start(assembly, code);
-    let mut sheet = Sheet::new(assembly);
-    for _ in 0..BUDGET {
-        if bench.ended() {
-            break;
-        }
-        match bench.step() {
-            Ok(Some(motion)) => sheet.motion(motion, sink)?,
-            Ok(None) => {}
-            Err(trap) => {
-                let closing = Closing::Trapped(trap, 0, bench.pc());
-                sheet.close(closing, bench.steps(), sink)?;
-                return Ok(Outcome::Trapped);
-            }
-        }
-    }
-    let (closing, outcome) = if bench.ended() {
-        (Closing::Apart, Outcome::Apart)
-    } else {
-        (Closing::Stopped, Outcome::Stopped)
-    };
-    sheet.close(closing, bench.steps(), sink)?;
-    Ok(outcome)
+    put_all(b"refused input\n", sink)?;
+    Ok(Outcome::Refused)
 }

@@ -4,9 +4,12 @@
 mod bench;
 mod bench_text;
 mod fault;
+mod input;
+mod laws;
 mod program;
 mod reading;
 mod refusal;
+mod running;
 mod sheet;
 
 use std::process::ExitCode;

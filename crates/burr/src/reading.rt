@@ -1,5 +1,5 @@
-ghost use Rattle.std.specs.Prelude.{◌≤◌, IfOk, vec_len};
-ghost use Rattle.std.specs.Io.KnownBytes.{Consumes, IsAtEnd};
+ghost use Rattle.std.specs.Prelude.{IfErr, IfOk};
+ghost use Rattle.burr.specs.ReadWhole.{IsWhole, ReadFails};
 
 use crate::fault::BenchFault;
 use burr_io::Source;
@@ -11,9 +11,8 @@ pub const LIMIT: usize = 16_777_216;
 /// The bytes of a source to its end. `Read` comes only where a call of the source failed, and
 /// `TooLong` where it gave more than the most bytes of an input.
 pub fn read_whole<R: Source>(alloc: Global, source: &mut R) -> Result<Vec<u8>, BenchFault>
-    ensures bound { IfOk result (λ v. vec_len v ≤ LIMIT) }
-    ensures bytes { IfOk result (λ v. Consumes (R.left source.old) (R.left source.new) v.items) }
-    ensures end { IfOk result (λ v. IsAtEnd (R.left source.new)) }
+    ensures ok { IfOk result (λ v. IsWhole (R.left source.old) (R.left source.new) (R.has_failed source.new) v.items) }
+    ensures err { IfErr result (λ e. ReadFails (R.left source.old) (R.left source.new) (R.has_failed source.new) e) }
 {
     let mut bytes = Vec::new(alloc);
     let mut buffer = [0u8; 8192];

@@ -1,3 +1,11 @@
+ghost use Rattle.std.specs.Prelude.{◌≡◌, ◌<◌, ◌==◌, [], ◌∷◌, ◌++◌, false, length, take, IsTrue, MatchOption, OnErr, OnOk, slice_get, slice_index, slice_index_or};
+ghost use Rattle.std.specs.List.{All, slice_split};
+ghost use Rattle.std.specs.Option.{option_map};
+ghost use Rattle.std.specs.Io.KnownBytes.{Appends};
+ghost use Rattle.burr_io.specs.Sink.{TakesFront};
+ghost use Rattle.burr.specs.Answering.{name_at, piece_lines, refusal};
+ghost use Rattle.burr.specs.RefusalText.{clash, place};
+
 use burr_assembly::AssemblyFault;
 use burr_io::{Sink, WriteFault, put_all};
 use itoa::Buffer;
@@ -9,53 +17,123 @@ pub fn put_refusal<W: Sink>(
     text: &[u8],
     fault: AssemblyFault,
     sink: &mut W,
-) -> Result<(), WriteFault> {
+) -> Result<(), WriteFault>
+    ensures ok { OnOk result (Appends (W.taken sink.old) (W.taken sink.new) (refusal text.now fault)) }
+    ensures err { OnErr result (TakesFront (W.taken sink.old) (W.taken sink.new) (refusal text.now fault)) }
+    ensures fails { OnErr result (IsTrue (W.has_failed sink.new)) }
+{
     match fault {
-        AssemblyFault::A1 { line } => put_fault(b"A1", line, sink)?,
-        AssemblyFault::A2 { line } => put_fault(b"A2", line, sink)?,
-        AssemblyFault::A3 { line } => put_fault(b"A3", line, sink)?,
-        AssemblyFault::A4 { line } => put_fault(b"A4", line, sink)?,
-        AssemblyFault::A5 { line } => put_fault(b"A5", line, sink)?,
-        AssemblyFault::A6 { line } => put_fault(b"A6", line, sink)?,
-        AssemblyFault::A7 { line } => put_fault(b"A7", line, sink)?,
+        AssemblyFault::A1 { line } => put_fault(b"A1", line, sink),
+        AssemblyFault::A2 { line } => put_fault(b"A2", line, sink),
+        AssemblyFault::A3 { line } => put_fault(b"A3", line, sink),
+        AssemblyFault::A4 { line } => put_fault(b"A4", line, sink),
+        AssemblyFault::A5 { line } => put_fault(b"A5", line, sink),
+        AssemblyFault::A6 { line } => put_fault(b"A6", line, sink),
+        AssemblyFault::A7 { line } => put_fault(b"A7", line, sink),
         AssemblyFault::A8 {
             line,
             earlier,
             piece,
-        } => {
-            put_fault(b"A8", line, sink)?;
-            put_name(text, earlier, sink)?;
-            put_name(text, piece, sink)?;
-        }
-        AssemblyFault::Memory => return Ok(()),
+        } => put_clash(
+            line,
+            piece_name(text, earlier),
+            piece_name(text, piece),
+            sink,
+        ),
+        AssemblyFault::Memory => Ok(()),
     }
+}
+
+/// Puts a line with a rule and the line that breaks it.
+fn put_fault<W: Sink>(rule: &[u8], line: usize, sink: &mut W) -> Result<(), WriteFault>
+    ensures ok { OnOk result (Appends (W.taken sink.old) (W.taken sink.new) (place rule.now line ++ 10 ∷ [])) }
+    ensures err { OnErr result (TakesFront (W.taken sink.old) (W.taken sink.new) (place rule.now line ++ 10 ∷ [])) }
+    ensures fails { OnErr result (IsTrue (W.has_failed sink.new)) }
+{
+    put_place(rule, line, sink)?;
     put_all(b"\n", sink)
 }
 
-fn put_fault<W: Sink>(rule: &[u8], line: usize, sink: &mut W) -> Result<(), WriteFault> {
-    put_all(b"refused ", sink)?;
-    put_all(rule, sink)?;
-    put_all(b" line ", sink)?;
-    put_all(Buffer::new().format(line).as_bytes(), sink)
+/// Puts a line with the names of two pieces of which the second shares a cell with the first.
+fn put_clash<W: Sink>(
+    line: usize,
+    first: &[u8],
+    second: &[u8],
+    sink: &mut W,
+) -> Result<(), WriteFault>
+    ensures ok { OnOk result (Appends (W.taken sink.old) (W.taken sink.new) (clash line first.now second.now)) }
+    ensures err { OnErr result (TakesFront (W.taken sink.old) (W.taken sink.new) (clash line first.now second.now)) }
+    ensures fails { OnErr result (IsTrue (W.has_failed sink.new)) }
+{
+    put_place(b"A8", line, sink)?;
+    put_word(first, sink)?;
+    put_word(second, sink)?;
+    put_all(b"\n", sink)
 }
 
-fn put_name<W: Sink>(text: &[u8], piece: u8, sink: &mut W) -> Result<(), WriteFault> {
+/// Puts a rule and the line that breaks it.
+fn put_place<W: Sink>(rule: &[u8], line: usize, sink: &mut W) -> Result<(), WriteFault>
+    ensures ok { OnOk result (Appends (W.taken sink.old) (W.taken sink.new) (place rule.now line)) }
+    ensures err { OnErr result (TakesFront (W.taken sink.old) (W.taken sink.new) (place rule.now line)) }
+    ensures fails { OnErr result (IsTrue (W.has_failed sink.new)) }
+{
+    put_all(b"refused", sink)?;
+    put_word(rule, sink)?;
+    put_word(b"line", sink)?;
+    put_word(Buffer::new().format(line).as_bytes(), sink)
+}
+
+/// Puts one more word of a line.
+fn put_word<W: Sink>(word: &[u8], sink: &mut W) -> Result<(), WriteFault>
+    ensures ok { OnOk result (Appends (W.taken sink.old) (W.taken sink.new) (32 ∷ word.now)) }
+    ensures err { OnErr result (TakesFront (W.taken sink.old) (W.taken sink.new) (32 ∷ word.now)) }
+    ensures fails { OnErr result (IsTrue (W.has_failed sink.new)) }
+{
     put_all(b" ", sink)?;
-    put_all(piece_name(text, piece), sink)
+    put_all(word, sink)
 }
 
 /// The name of a piece in a text whose lines are well formed as far as that piece: the second word
 /// of its line.
-fn piece_name(text: &[u8], piece: u8) -> &[u8] {
-    let lines = text.split(|byte| *byte == b'\n');
-    let mut count = 0u8;
-    for line in lines {
+fn piece_name(text: &[u8], piece: u8) -> &[u8]
+    ensures { result.now ≡ name_at text.now piece }
+{
+    match piece_words(text, piece) {
+        Some(words) => first_word(words),
+        None => b"",
+    }
+}
+
+/// What stands behind the first word in the line of a piece.
+fn piece_words(text: &[u8], piece: u8) -> Option<&[u8]>
+    ensures { option_map (λ words. words.now) result ≡ slice_get (piece_lines text.now) piece }
+{
+    let mut left = piece;
+    for line in text.split(|byte| *byte == b'\n') {
         if let Some(words) = line.strip_prefix(b"piece ") {
-            if count == piece {
-                return words.split(|byte| *byte == b' ').next().unwrap_or(b"");
+            if left == 0 {
+                return Some(words);
             }
-            count = count.saturating_add(1);
+            left -= 1;
         }
     }
-    b""
+    None
+}
+
+/// The bytes as far as the first blank.
+fn first_word(bytes: &[u8]) -> &[u8]
+    ensures { result.now ≡ slice_index_or (slice_split (λ b. b == 32) bytes.now) 0 [] }
+{
+    match first_blank(bytes) {
+        Some(end) => &bytes[..end],
+        None => bytes,
+    }
+}
+
+fn first_blank(bytes: &[u8]) -> Option<usize>
+    ensures { MatchOption result
+        (All (λ b. (b == 32) ≡ false) bytes.now)
+        (λ n. (n < length bytes.now) × (slice_index bytes.now n ≡ 32) × All (λ b. (b == 32) ≡ false) (take n bytes.now)) }
+{
+    bytes.iter().position(|byte| *byte == b' ')
 }

@@ -1,3 +1,6 @@
+ghost use Rattle.std.specs.Prelude.{◌≡◌};
+ghost use Rattle.burr.specs.TrapNames.{trap_number, trap_name};
+
 /// Why an instruction could not be carried out. It changed nothing then.
 #[derive(Clone, Copy, Debug, PartialEq, Eq)]
 pub enum Trap {
@@ -22,7 +25,9 @@ pub enum Trap {
 
 impl Trap {
     /// The trap's number, 1 to 17.
-    pub fn number(self) -> u8 {
+    pub fn number(self) -> u8
+        ensures { result ≡ trap_number self }
+    {
         match self {
             Trap::Collision => 1,
             Trap::GripOff => 2,
@@ -45,7 +50,9 @@ impl Trap {
     }
 
     /// The trap's name, as sheets print it.
-    pub fn name(self) -> &'static str {
+    pub fn name(self) -> &'static str
+        ensures { result.now ≡ trap_name self }
+    {
         match self {
             Trap::Collision => "Collision",
             Trap::GripOff => "GripOff",

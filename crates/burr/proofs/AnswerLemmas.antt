@@ -1,0 +1,86 @@
+-- What is written for a whole input.
+use Rattle.std.proofs.Common.{◌≡◌, ◌⊎◌, List, ℕ, refl, sym, subst, inl, inr, true}
+use Rattle.std.specs.Prelude.{Option, Result, Ok, Err, Bool, IfOk, IfErr, codes}
+use Rattle.std.specs.Result.{IsErrAnd}
+use Rattle.std.specs.Io.KnownBytes.{Appends}
+use Rattle.std.proofs.lemmas.Result.{err_from_is_err_and}
+use Rattle.burr_io.specs.Sink.{TakesFront}
+use Rattle.burr_assembly.specs.declared.fault.AssemblyFault.{AssemblyFault}
+use Rattle.burr_assembly.specs.Text.{Assembly, IsText}
+use Rattle.burr_assembly.specs.Faults.{FirstFault}
+use Rattle.burr.specs.declared.bench_text.Outcome.{Outcome}
+use Rattle.burr.specs.declared.bench_text.Outcome.TheVariants.{Refused}
+use Rattle.burr.specs.declared.fault.BenchFault.{BenchFault}
+use Rattle.burr.specs.declared.fault.BenchFault.TheVariants.{Read, TooLong, Write, Memory}
+use Rattle.burr.specs.Answering.{IsInput, refusal, Answers, TextAnswers}
+use Rattle.burr.specs.Running.{PutsSheet, PutsSheetFront}
+use Rattle.burr.specs.ReadWhole.{IsWhole}
+use Rattle.burr.specs.BenchText.{PutsAnswer, PutsFrontOfAnswer, AnswerFails, Streams, Answered, NotAnswered}
+
+-- a fault of the sink is answered as `Write`
+pub write_fails : {A : Type 0} (IsAnswer : List ℕ → Outcome → Type 0) (r : Result A BenchFault) (old new : Option (List ℕ)) (failed : Bool)
+    → IsErrAnd r (λ e. e ≡ Write) → PutsFrontOfAnswer IsAnswer old new failed → IfErr r (λ fault. AnswerFails IsAnswer old new failed fault)
+write_fails IsAnswer r old new failed err front = let p = err_from_is_err_and r err in rw (p.1, p.2) front
+
+-- an input that is none
+
+pub puts_refused : (old new : Option (List ℕ)) (input : List ℕ) (outcome : Outcome)
+    → ((text code : List ℕ) → ¬ IsInput input text code) → Appends old new (codes "refused input\n") → outcome ≡ Refused → PutsAnswer (Answers input) old new outcome
+puts_refused old new input outcome none puts is = (codes "refused input\n", inl (none, refl, is), puts)
+
+pub front_of_refused : (old new : Option (List ℕ)) (failed : Bool) (input : List ℕ)
+    → ((text code : List ℕ) → ¬ IsInput input text code) → TakesFront old new (codes "refused input\n") → failed ≡ true → PutsFrontOfAnswer (Answers input) old new failed
+front_of_refused old new failed input none front fails = (codes "refused input\n", Refused, inl (none, refl, refl), front, fails)
+
+-- an input that is a text and code
+
+pub text_puts : (old new : Option (List ℕ)) (input text code : List ℕ) (r : Result Outcome BenchFault)
+    → IsInput input text code → IfOk r (λ outcome. PutsAnswer (TextAnswers text code) old new outcome) → IfOk r (λ outcome. PutsAnswer (Answers input) old new outcome)
+text_puts old new input text code (Ok outcome) parts (output, is, puts) = (output, inr (text, code, parts, is), puts)
+text_puts old new input text code (Err fault) parts puts = tt
+
+pub text_fails : (old new : Option (List ℕ)) (failed : Bool) (input text code : List ℕ) (r : Result Outcome BenchFault)
+    → IsInput input text code → IfErr r (λ fault. AnswerFails (TextAnswers text code) old new failed fault) → IfErr r (λ fault. AnswerFails (Answers input) old new failed fault)
+text_fails old new failed input text code (Ok outcome) parts fails = tt
+text_fails old new failed input text code (Err Read) parts fails = fails
+text_fails old new failed input text code (Err TooLong) parts fails = fails
+text_fails old new failed input text code (Err Write) parts (output, outcome, is, front, broke) = (output, outcome, inr (text, code, parts, is), front, broke)
+text_fails old new failed input text code (Err Memory) parts fails = fails
+
+-- a text with a fault
+
+pub puts_fault : (old new : Option (List ℕ)) (text code : List ℕ) (fault : AssemblyFault) (outcome : Outcome)
+    → FirstFault text fault → Appends old new (refusal text fault) → outcome ≡ Refused → PutsAnswer (TextAnswers text code) old new outcome
+puts_fault old new text code fault outcome first puts is = (refusal text fault, inl (fault, first, refl, is), puts)
+
+pub front_of_fault : (old new : Option (List ℕ)) (failed : Bool) (text code : List ℕ) (fault : AssemblyFault)
+    → FirstFault text fault → TakesFront old new (refusal text fault) → failed ≡ true → PutsFrontOfAnswer (TextAnswers text code) old new failed
+front_of_fault old new failed text code fault first front fails = (refusal text fault, Refused, inl (fault, first, refl, refl), front, fails)
+
+-- an assembly's text
+
+pub puts_run : (old new : Option (List ℕ)) (text code : List ℕ) (a : Assembly) (outcome : Outcome) → IsText text a → PutsSheet old new a code outcome → PutsAnswer (TextAnswers text code) old new outcome
+puts_run old new text code a outcome reads (output, is, puts) = (output, inr (a, reads, is), puts)
+
+pub front_of_run : (old new : Option (List ℕ)) (failed : Bool) (text code : List ℕ) (a : Assembly)
+    → IsText text a → PutsSheetFront old new a code → failed ≡ true → PutsFrontOfAnswer (TextAnswers text code) old new failed
+front_of_run old new failed text code a reads (output, outcome, is, front) fails = (output, outcome, inr (a, reads, is), front, fails)
+
+-- a result that is a fault is no answer
+pub no_answer : {A E : Type 0} (P : A → Type 0) (Q : E → Type 0) (r : Result A E) → IsErrAnd r Q → IfOk r P
+no_answer P Q r err = let p = err_from_is_err_and r err in rw p.1 tt
+
+-- The whole input was read
+
+pub whole_answered : (s : Streams) (input : List ℕ) (r : Result Outcome BenchFault)
+    → IsWhole s.left_old s.left_new s.read_failed input → IfOk r (λ outcome. PutsAnswer (Answers input) s.taken_old s.taken_new outcome) → IfOk r (λ outcome. Answered s outcome)
+whole_answered s input (Ok outcome) whole puts = (input, whole, puts)
+whole_answered s input (Err fault) whole puts = tt
+
+pub whole_fails : (s : Streams) (input : List ℕ) (r : Result Outcome BenchFault)
+    → IsWhole s.left_old s.left_new s.read_failed input → IfErr r (λ fault. AnswerFails (Answers input) s.taken_old s.taken_new s.write_failed fault) → IfErr r (λ fault. NotAnswered s fault)
+whole_fails s input (Ok outcome) whole fails = tt
+whole_fails s input (Err Read) whole fails = absurd fails
+whole_fails s input (Err TooLong) whole fails = absurd fails
+whole_fails s input (Err Write) whole fails = (input, whole, fails)
+whole_fails s input (Err Memory) whole fails = (whole.went, fails)

@@ -1,0 +1,112 @@
+-- One thing stands next at a state, and a call of the bench has one result.
+use Rattle.std.proofs.Common.{◌≡◌, ℕ, Option, Some, None, sym, ap, subst, ◌∙◌, inl, inr}
+use Rattle.std.specs.Prelude.{ℤ, pos, slice_get}
+use Rattle.std.proofs.lemmas.Option.{same_Some}
+use Rattle.burr_voxels.specs.Checks.{needs, finds}
+use Rattle.burr_code.specs.Instruction.{Instruction, Halt, Push, Load, Store, Add, Sub, Drop, Grip, Step, Aside, Tray, Jump, Down, Ask, Pick, Call, Ret, StandsAt}
+use Rattle.burr_code.proofs.Places.{one_stands_at}
+use Rattle.burr.specs.declared.bench.mode.Mode.{Mode}
+use Rattle.burr.specs.declared.bench.mode.Mode.TheVariants.{Running, Ended, Stuck}
+use Rattle.burr.specs.Bench.{State, Setup, Procedure}
+use Rattle.burr.specs.Step.{Rule, Takes, IsAt, AsksFor, Answers, Fits, Went, at_label, outcome_of, CallIn}
+use Rattle.burr.specs.RunLaws.{OneNext, OneOutcome}
+
+-- one value at most is so
+abbrev pub IsOne : {A : Type 0} → (A → Type 0) → Type 0
+IsOne {A} IsSo = (x y : A) → IsSo x → IsSo y → x ≡ y
+
+-- a value that is given is one
+pub one_given : {A : Type 0} (v : A) → IsOne (λ x. x ≡ v)
+one_given v x y p q = p ∙ sym q
+
+-- a check gives one answer where what follows does
+pub one_needed : {A : Type 0} (C : Type 0) (v : A) (rest : A → Type 0) → IsOne rest → IsOne (needs C v rest)
+one_needed C v rest one x y (inl p) (inl q) = p.1 ∙ sym q.1
+one_needed C v rest one x y (inl p) (inr q) = absurd (p.0 q.0)
+one_needed C v rest one x y (inr p) (inl q) = absurd (q.0 p.0)
+one_needed C v rest one x y (inr p) (inr q) = one x y p.1 q.1
+
+-- nothing is found that is not there
+none_is_not_some : {B : Type 0} (found : Option B) (b : B) → found ≡ None → found ≡ Some b → ⊥
+none_is_not_some found b e k = cc
+
+-- a look for a value gives one answer where what follows from it does
+pub one_found : {A B : Type 0} (found : Option B) (v : A) (rest : B → A → Type 0) → ((b : B) → IsOne (rest b)) → IsOne (finds found v rest)
+one_found found v rest one x y (inl p) (inl q) = p.1 ∙ sym q.1
+one_found found v rest one x y (inl p) (inr q) = absurd (none_is_not_some found q.0 p.0 q.1)
+one_found found v rest one x y (inr p) (inl q) = absurd (none_is_not_some found p.0 q.0 p.1)
+one_found found v rest one x y (inr p) (inr q) = one p.0 x y p.2 (subst (λ b. rest b y) (same_Some q.0 p.0 (sym q.1 ∙ p.1)) q.2)
+
+-- one thing stands next, by the instruction
+one_rule : (setup : Setup) (here : Procedure) (s : State) (i : Instruction) → IsOne (Rule setup here s i)
+one_rule setup here s Halt = one_needed _ _ _ (one_needed _ _ _ (one_given _))
+one_rule setup here s (Push n) = one_needed _ _ _ (one_given _)
+one_rule setup here s (Load v) = one_found _ _ _ λ x. one_needed _ _ _ (one_given _)
+one_rule setup here s (Store v) = one_needed _ _ _ (one_found _ _ _ λ found. one_given _)
+one_rule setup here s Add = one_found _ _ _ λ found. one_needed _ _ _ (one_given _)
+one_rule setup here s Sub = one_found _ _ _ λ found. one_needed _ _ _ (one_given _)
+one_rule setup here s Drop = one_found _ _ _ λ found. one_given _
+one_rule setup here s (Grip set) = one_needed _ _ _ (one_given _)
+one_rule setup here s (Step direction) = one_needed _ _ _ (one_needed _ _ _ (one_needed _ _ _ (one_given _)))
+one_rule setup here s (Aside direction tray) = one_needed _ _ _ (one_needed _ _ _ (one_needed _ _ _ (one_given _)))
+one_rule setup here s (Tray tray) = one_given _
+one_rule setup here s (Jump label) = one_found _ _ _ λ to. one_given _
+one_rule setup here s (Down v label) = one_found _ _ _ λ to. one_needed _ _ _ (one_found _ _ _ λ x. one_needed _ _ _ (one_given _))
+one_rule setup here s (Ask low high) = one_needed _ _ _ (one_given _)
+one_rule setup here s (Pick labels) = one_found _ _ _ λ to. one_given _
+one_rule setup here s (Call callee) = one_found _ _ _ λ there. one_found _ _ _ λ found. one_needed _ _ _ (one_given _)
+one_rule setup here s Ret = one_found _ _ _ λ up. one_found _ _ _ λ found. one_given _
+
+-- what holds at a procedure and an instruction at which a state stands holds at any others at which it stands
+at_others : (setup : Setup) (s : State) (IsSo : Procedure → Instruction → Type 0) (here there : Procedure) (i j : Instruction) → IsAt setup s here i → IsAt setup s there j → IsSo there j → IsSo here i
+at_others setup s IsSo here there i j at also_at holds =
+    let runs : there ≡ here = same_Some there here (sym also_at.0 ∙ at.0) in
+    let stands = subst (λ (p : Procedure). StandsAt p.code s.running.pc j) runs also_at.1 in
+    subst (λ (k : Instruction). IsSo here k) (one_stands_at here.code s.running.pc j i stands at.1) (subst (λ (p : Procedure). IsSo p j) runs holds)
+
+pub one_next : OneNext
+one_next setup s next other (inl p) (inl q) = one_rule setup p.0 s p.1 next other p.3 (at_others setup s (λ here i. Rule setup here s i other) p.0 q.0 p.1 q.1 p.2 q.2 q.3)
+one_next setup s next other (inl p) (inr q) = absurd (q.0 p.0 p.1 p.2)
+one_next setup s next other (inr p) (inl q) = absurd (p.0 q.0 q.1 q.2)
+one_next setup s next other (inr p) (inr q) = p.1 ∙ sym q.1
+
+same_number : (m n : ℕ) → pos m ≡ pos n → m ≡ n
+same_number m n e = cc
+
+-- an answer leads to one state
+one_taken : (here : Procedure) (s : State) (i : Instruction) (answer : ℤ) → IsOne (Takes here s i answer)
+one_taken here s (Ask low high) answer = one_given _
+one_taken here s (Pick labels) answer = λ new other p q.
+    let n : q.0 ≡ p.0 = same_number q.0 p.0 (sym q.3 ∙ p.3) in
+    let label : q.1 ≡ p.1 = same_Some q.1 p.1 (sym q.4 ∙ ap (slice_get labels) n ∙ p.4) in
+    let to : q.2 ≡ p.2 = same_Some q.2 p.2 (sym q.5 ∙ ap (slice_get here.labels) label ∙ p.5) in
+    p.6 ∙ ap (λ (pc : ℕ). at_label pc s.running s) (sym to) ∙ sym q.6
+one_taken here s i answer = λ new other p q. absurd p
+
+-- an answer is taken in one way
+pub one_way_on : (setup : Setup) (s : State) (answer : ℤ) → IsOne (Answers setup s answer)
+one_way_on setup s answer new other p q =
+    one_taken p.0 s p.1 answer new other p.7 (at_others setup s (λ here i. Takes here s i answer other) p.0 q.0 p.1 q.1 p.4 q.4 q.7)
+
+-- an answer that is taken is one that the state asks for
+pub asks_where_taken : (setup : Setup) (s new : State) (answer : ℤ) → Answers setup s answer new → (low high : ℤ) × AsksFor setup s low high × Fits low high answer
+asks_where_taken setup s new answer p = (p.2, p.3, inl (p.0, p.1, p.4, p.5), p.6)
+
+-- a call has one result, by what the bench does
+one_call : (setup : Setup) (s : State) (answer : Option ℤ) (mode : Mode) → IsOne (CallIn mode setup s answer)
+one_call setup s None Running = λ outcome other p q. p.2 ∙ ap outcome_of (one_next setup s p.0 q.0 p.1 q.1) ∙ sym q.2
+one_call setup s (Some answer) Running = either
+  where
+    unfit : (new : State) → Answers setup s answer new → ¬ ((low high : ℤ) → AsksFor setup s low high → ¬ Fits low high answer)
+    unfit new taken none = let asked = asks_where_taken setup s new answer taken in none asked.0 asked.1 asked.2 asked.3
+
+    either : IsOne (CallIn Running setup s (Some answer))
+    either outcome other (inl p) (inl q) = p.2 ∙ ap (λ (new : State). Went new None) (one_way_on setup s answer p.0 q.0 p.1 q.1) ∙ sym q.2
+    either outcome other (inl p) (inr q) = absurd (unfit p.0 p.1 q.0)
+    either outcome other (inr p) (inl q) = absurd (unfit q.0 q.1 p.0)
+    either outcome other (inr p) (inr q) = p.1 ∙ sym q.1
+one_call setup s answer Ended = one_given _
+one_call setup s answer (Stuck trap) = one_given _
+
+pub one_outcome : OneOutcome
+one_outcome setup s answer = one_call setup s answer s.mode

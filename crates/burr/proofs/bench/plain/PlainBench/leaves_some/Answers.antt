@@ -1,0 +1,7 @@
+use Rattle.std.proofs.Common.{rules, arith}
+use Rattle.burr.proofs.BenchLemmas.{none_left}
+use Rattle.burr.proofs.Deciders.{no_iff}
+use Rattle.burr.proofs.bench.plain.PlainBench.leaves_some.Goals as goal
+
+pub returns : goal.returns
+returns c = no_iff (none_left c.args.self.now.state.places c.args.self.now.state.tray c.args.self.now.state.grip c.loop-piece.piece (search rules) c.loop-piece.invariant)

@@ -1,0 +1,19 @@
+use Rattle.std.proofs.Common.{rules, arith, ◌∙◌, ◌≡◌, replicate, length, sym, refl}
+use Rattle.std.proofs.lemmas.List.{length-map}
+use Rattle.burr_voxels.specs.Places.{On}
+use Rattle.burr.specs.Bench.{origin}
+use Rattle.burr.specs.Homes.{home_of, homes_of}
+use Rattle.burr.proofs.StepLemmas.{start_places, start_parts}
+use Rattle.burr.proofs.bench.plain.PlainBench.start.Goals as goal
+
+-- so many homes as pieces were placed
+all_placed : (c : goal.After-loop-piece) → c.loop-piece._piece ≡ length (homes_of c.args.assembly.now)
+all_placed c =
+    let count : c.loop-piece._piece ≡ length c.args.assembly.now.pieces = search rules in
+    count ∙ sym (length-map c.args.assembly.now.pieces (home_of c.args.assembly.now.shapes))
+
+pub returns-clause-state : goal.returns-clause-state
+returns-clause-state c = rw (c.loop-piece.invariant ∙ start_places (On 0 origin) (homes_of c.args.assembly.now) c.loop-piece._piece (all_placed c)) refl
+
+pub returns-clause-parts : goal.returns-clause-parts
+returns-clause-parts c = rw c.loop-piece.invariant (start_parts c.loop-piece._piece origin (search rules))

@@ -1,0 +1,109 @@
+ghost use Rattle.std.specs.Prelude.{◌≡◌, ◌+◌, ◌≤◌, length, OnErr, OnOk};
+ghost use Rattle.burr_code.specs.Instruction.{Halt, Grip, Aside, spelled};
+ghost use Rattle.burr.specs.Step.{NextIs};
+ghost use Rattle.burr.specs.BenchViews.{setup_of, next_of, Steps, Follows, GoesOn};
+ghost use Rattle.burr.specs.declared.bench.mode.Mode.TheVariants.{Running};
+
+use crate::bench::mode::Mode;
+use crate::bench::motion::Motion;
+use crate::bench::places::{are_all_apart, take_aside};
+use crate::bench::plain::PlainBench;
+use crate::bench::trap::Trap;
+use burr_code::{Instr, fetch};
+use burr_voxels::Direction;
+
+impl PlainBench<'_> {
+    /// Carries out the next instruction and tells its motion, if it makes one. A trap changes
+    /// nothing, is no step, and is answered by every later call. After `halt` nothing happens.
+    pub fn step(&mut self) -> Result<Option<Motion>, Trap>
+        requires { self.old.state.mode ≡ Running }
+        ensures steps { Steps self.old self.new result }
+        ensures goes_on { OnOk result (GoesOn self.old self.new result) }
+    {
+        match self.carry_out() {
+            Ok(motion) => Ok(motion),
+            Err(trap) => {
+                self.mode = Mode::Stuck(trap);
+                Err(trap)
+            }
+        }
+    }
+
+    /// Carries out the next instruction; a trap changes nothing.
+    fn carry_out(&mut self) -> Result<Option<Motion>, Trap>
+        ensures next { NextIs (setup_of self.old) self.old.state (next_of result self.new.state) }
+        ensures trapped { OnErr result (self.new ≡ self.old) }
+        ensures goes_on { OnOk result (GoesOn self.old self.new result) }
+    {
+        match fetch(self.code, self.pc) {
+            None => Err(Trap::BadCode),
+            Some((Instr::Halt, _)) => self.halt(),
+            Some((Instr::Grip(set), size)) => self.grip(set, self.pc + size),
+            Some((Instr::Aside(direction, tray), size)) => {
+                self.aside(direction, tray, self.pc + size)
+            }
+        }
+    }
+
+    /// `halt`: ends the run where all pieces are apart; pc stays.
+    fn halt(&mut self) -> Result<Option<Motion>, Trap>
+        ensures follows { Follows self.old self.new Halt result }
+        ensures trapped { OnErr result (self.new ≡ self.old) }
+        ensures goes_on { OnOk result (GoesOn self.old self.new result) }
+    {
+        if !are_all_apart(self.places.as_slice()) {
+            return Err(Trap::NotApart);
+        }
+        self.mode = Mode::Ended;
+        self.steps = self.steps.saturating_add(1);
+        Ok(None)
+    }
+
+    /// `grip`: the grip becomes a set of pieces of the current tray.
+    fn grip(&mut self, set: u32, next: usize) -> Result<Option<Motion>, Trap>
+        requires within { next ≤ length self.old.code }
+        requires next { next ≡ self.old.state.running.pc + length (spelled (Grip set)) }
+        ensures follows { Follows self.old self.new (Grip set) result }
+        ensures trapped { OnErr result (self.new ≡ self.old) }
+        ensures goes_on { OnOk result (GoesOn self.old self.new result) }
+    {
+        if !self.all_lie_here(set) {
+            return Err(Trap::GripOff);
+        }
+        self.grip = set;
+        self.pc = next;
+        self.steps = self.steps.saturating_add(1);
+        Ok(None)
+    }
+
+    /// `aside`: takes the grip out along a direction, to an empty tray, where no cell of the rest of
+    /// the current tray lies ahead of one of the grip's. A group of one piece is apart.
+    fn aside(&mut self, direction: Direction, tray: u8, next: usize) -> Result<Option<Motion>, Trap>
+        requires within { next ≤ length self.old.code }
+        requires next { next ≡ self.old.state.running.pc + length (spelled (Aside direction tray)) }
+        ensures follows { Follows self.old self.new (Aside direction tray) result }
+        ensures trapped { OnErr result (self.new ≡ self.old) }
+        ensures goes_on { OnOk result (GoesOn self.old self.new result) }
+    {
+        if !self.is_part_of_tray() {
+            return Err(Trap::BadGroup);
+        }
+        if !self.is_empty(tray) {
+            return Err(Trap::TrayInUse);
+        }
+        if !self.is_free(direction) {
+            return Err(Trap::NotFree);
+        }
+        let motion = Motion {
+            group: self.grip,
+            tray: self.tray,
+            dir: direction,
+            out: true,
+        };
+        take_aside(self.places.as_mut_slice(), self.grip, self.tray, tray);
+        self.grip = 0;
+        self.pc = next;
+        self.steps = self.steps.saturating_add(1);
+        Ok(Some(motion))
+    }
+}
