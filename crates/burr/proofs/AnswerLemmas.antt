@@ -1,21 +1,27 @@
 -- What is written for a whole input.
-use Rattle.std.proofs.Common.{◌≡◌, ◌⊎◌, List, ℕ, refl, sym, subst, inl, inr, true}
+use Rattle.std.proofs.Common.{◌≡◌, List, ℕ, refl, inl, inr, true}
 use Rattle.std.specs.Prelude.{Option, Result, Ok, Err, Bool, IfOk, IfErr, codes}
 use Rattle.std.specs.Result.{IsErrAnd}
 use Rattle.std.specs.Io.KnownBytes.{Appends}
 use Rattle.std.proofs.lemmas.Result.{err_from_is_err_and}
 use Rattle.burr_io.specs.Sink.{TakesFront}
 use Rattle.burr_assembly.specs.declared.fault.AssemblyFault.{AssemblyFault}
-use Rattle.burr_assembly.specs.Text.{Assembly, IsText}
+use Rattle.burr_assembly.specs.Text.{Assembly, IsAssembly, IsText}
 use Rattle.burr_assembly.specs.Faults.{FirstFault}
 use Rattle.burr.specs.declared.bench_text.Outcome.{Outcome}
 use Rattle.burr.specs.declared.bench_text.Outcome.TheVariants.{Refused}
 use Rattle.burr.specs.declared.fault.BenchFault.{BenchFault}
 use Rattle.burr.specs.declared.fault.BenchFault.TheVariants.{Read, TooLong, Write, Memory}
-use Rattle.burr.specs.Answering.{IsInput, refusal, Answers, TextAnswers}
-use Rattle.burr.specs.Running.{PutsSheet, PutsSheetFront}
+use Rattle.burr.specs.declared.bench.motion.Motion.{Motion}
+use Rattle.burr.specs.Bench.{start}
+use Rattle.burr.specs.Homes.{homes_of}
+use Rattle.burr.specs.Run.{Closing}
+use Rattle.burr.specs.SheetText.{sheet}
+use Rattle.burr.specs.Answering.{IsInput, IsSheet, refusal, names_of, bare, outcome_of, Answers, TextAnswers}
+use Rattle.burr.specs.Running.{BareRun, PutsSheet, PutsSheetFront}
 use Rattle.burr.specs.ReadWhole.{IsWhole}
 use Rattle.burr.specs.BenchText.{PutsAnswer, PutsFrontOfAnswer, AnswerFails, Streams, Answered, NotAnswered}
+use Rattle.burr.proofs.HomesLemmas.{have_homes}
 
 -- a fault of the sink is answered as `Write`
 pub write_fails : {A : Type 0} (IsAnswer : List ℕ → Outcome → Type 0) (r : Result A BenchFault) (old new : Option (List ℕ)) (failed : Bool)
@@ -65,6 +71,12 @@ puts_run old new text code a outcome reads (output, is, puts) = (output, inr (a,
 pub front_of_run : (old new : Option (List ℕ)) (failed : Bool) (text code : List ℕ) (a : Assembly)
     → IsText text a → PutsSheetFront old new a code → failed ≡ true → PutsFrontOfAnswer (TextAnswers text code) old new failed
 front_of_run old new failed text code a reads (output, outcome, is, front) fails = (output, outcome, inr (a, reads, is), front, fails)
+
+-- what is written of a run is its sheet
+pub sheet_of_run : (a : Assembly) (code output : List ℕ) (motions : List Motion) (steps : ℕ) (closing : Closing) → IsAssembly a → BareRun (bare (homes_of a) code) (start (bare (homes_of a) code)) motions steps closing
+    → output ≡ sheet (names_of a) motions steps closing → IsSheet a code output (outcome_of closing)
+sheet_of_run a code output motions steps closing whole run text =
+    record { homes = homes_of a; cells = have_homes a whole; motions = motions; steps = steps; closing = closing; run = run; text = text; closes = refl }
 
 -- a result that is a fault is no answer
 pub no_answer : {A E : Type 0} (P : A → Type 0) (Q : E → Type 0) (r : Result A E) → IsErrAnd r Q → IfOk r P

@@ -1,40 +1,33 @@
 -- What the plain bench's tests come to.
-use Rattle.std.proofs.Common.{◌≡◌, ◌↔◌, ◌<◌, ◌≤◌, ◌+◌, ◌*◌, ◌^◌, ◌∙◌, ℕ, List, length, map, sym, ap, subst, inl, inr, arith, refl, IsTrue, IsBitSet, Bool, true, false, nat_eq, bit_and}
-use Rattle.std.specs.Prelude.{Some, None, slice_get, Contains}
-use Rattle.std.specs.Int.{bit_at}
+use Rattle.std.proofs.Common.{◌≡◌, ◌↔◌, ◌<◌, ◌≤◌, ◌^◌, ℕ, List, length, subst, inl, inr, arith, IsTrue, IsBitSet, Bool, nat_eq}
 use Rattle.std.proofs.lemmas.Option.{slice_get_within}
 use Rattle.std.proofs.lemmas.List.{length-map}
-use Rattle.std.proofs.lemmas.Nat.Bits.{bit_at_above, and_pow}
 use Rattle.std.proofs.lemmas.Bool.Decides.{nat_tests}
 use Rattle.burr_voxels.specs.declared.cell.Cell.{Cell}
 use Rattle.burr_voxels.specs.declared.direction.Direction.{Direction}
 use Rattle.burr_voxels.specs.Grid.{shifted}
-use Rattle.burr_voxels.specs.Places.{Placed, On, LiesAt, LiesIn, AllLieIn, count_in, IsEmptyTray}
+use Rattle.burr_voxels.specs.Places.{Placed, LiesAt, LiesIn, AllLieIn, count_in, IsEmptyTray}
 use Rattle.burr_assembly.specs.Text.{Assembly}
 use Rattle.burr.specs.Bench.{HasHome}
 use Rattle.burr.specs.Homes.{home_of, homes_of}
 use Rattle.burr.specs.Step.{IsFreeGroup}
-use Rattle.burr.specs.BenchViews.{Meets, StandsInWay, IsClear, IsPieceClear}
+use Rattle.burr.specs.BenchViews.{Meets, StandsInWay, IsPieceClear}
 use Rattle.burr_assembly.proofs.Decisions.{decide_below}
 use Rattle.burr.proofs.Ahead.{free_where_none_ahead, none_ahead_where_free}
 use Rattle.burr.proofs.CountLemmas.{count_in-empty, count_in-some}
-use Rattle.burr.proofs.Deciders.{yes_iff, no_iff}
-use Rattle.burr.proofs.Deciding.{one_in_list, one_position, lies_within}
+use Rattle.burr.proofs.Deciding.{no_bit_above, one_in_list, one_position, lies_within}
 
 -- a tray is empty where it is counted so
 pub counts_empty : {Position : Type 0} (places : List (Placed Position)) (tray count : ℕ) → count ≡ count_in tray places → IsTrue (nat_eq count 0) ↔ IsEmptyTray places tray
 counts_empty places tray count is =
     (λ zero p lies. let some = count_in-some tray p places lies in grind (arith, nat_tests), λ empty. let none = count_in-empty tray places empty in grind (arith, nat_tests))
 
-no_bit_at : (set p : ℕ) → bit_at set p ≡ 0 → ¬ IsBitSet set p
-no_bit_at set p none bit = let is : bit_and set (2 ^ p) ≡ 0 * 2 ^ p = and_pow set p ∙ ap (λ b. b * 2 ^ p) none in bit (omega (arith, is))
-
 -- a set of 32 bits has no other
 pub bit_below : (set p : ℕ) → set < 2 ^ 32 → IsBitSet set p → p < 32
 bit_below set p small bit = elim (decide_below p 32) [
-      | inl below ↦ below
-      | inr above ↦ absurd (no_bit_at set p (bit_at_above set 32 p small (omega (arith, above))) bit)
-    ]
+  | inl below ↦ below
+  | inr above ↦ absurd (no_bit_above set 32 p small (omega (arith, above)) bit)
+]
 
 -- the set lies here where each of its first 32 pieces does
 pub all_lie_of : {Position : Type 0} (places : List (Placed Position)) (tray set : ℕ) → set < 2 ^ 32 → ((p : ℕ) → p < 32 → IsBitSet set p → LiesIn places p tray) → AllLieIn places tray set

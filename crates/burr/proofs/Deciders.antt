@@ -1,5 +1,6 @@
 -- What a test of a fact answers.
-use Rattle.std.proofs.Common.{◌≡◌, ◌↔◌, ◌<◌, ◌+◌, ℕ, zero, suc, List, [], ◌∷◌, length, get_or, Bool, true, false, IsTrue, refl, subst, arith}
+use Rattle.std.proofs.Common.{◌↔◌, ◌<◌, ◌+◌, ℕ, List, length, get_or, true, false, IsTrue, refl, subst, arith}
+use Rattle.std.proofs.lemmas.List.{get_or_default}
 use Rattle.std.specs.Prelude.{Result, Ok, Err, OnErr}
 use native.Mathlib.Decide.{ℕ_discrete}
 
@@ -19,26 +20,17 @@ no_of iff x = let e = iff.1 x in grind arith
 pub yes_of : {X : Type 0} → IsTrue true ↔ X → X
 yes_of iff = iff.0 refl
 
--- inside a list the default is not read
-get_or-default : {A : Type 0} (xs : List A) (n : ℕ) (d e : A) → n < length xs → get_or xs n d ≡ get_or xs n e
-get_or-default [] n d e inside = absurd (omega arith)
-get_or-default (x ∷ xs) zero d e inside = refl
-get_or-default (x ∷ xs) (suc n) d e inside = get_or-default xs n d e (omega arith)
-
--- what holds of the first n and of the next holds of one more
-pub one_more : {A : Type 0} (P : A → Type 0) (xs : List A) (n : ℕ) (e : A)
-    → n < length xs → ((k : ℕ) (d : A) → k < n → P (get_or xs k d)) → P (get_or xs n e) → (k : ℕ) (d : A) → k < n + 1 → P (get_or xs k d)
-one_more P xs n e inside so_far next k d below = elim (ℕ_discrete k n) [
-      | yes same ↦ rw same (subst P (get_or-default xs n e d inside) next)
-      | no other ↦ so_far k d (omega arith)
-    ]
-
--- the same of numbers
+-- what holds of the numbers below n and of n holds of one more
 pub one_more_number : (P : ℕ → Type 0) (n : ℕ) → ((k : ℕ) → k < n → P k) → P n → (k : ℕ) → k < n + 1 → P k
 one_more_number P n so_far next k below = elim (ℕ_discrete k n) [
-      | yes same ↦ rw same next
-      | no other ↦ so_far k (omega arith)
-    ]
+  | yes same ↦ rw same next
+  | no other ↦ so_far k (omega arith)
+]
+
+-- the same of the first n of a list
+pub one_more : {A : Type 0} (P : A → Type 0) (xs : List A) (n : ℕ) (e : A)
+    → n < length xs → ((k : ℕ) (d : A) → k < n → P (get_or xs k d)) → P (get_or xs n e) → (k : ℕ) (d : A) → k < n + 1 → P (get_or xs k d)
+one_more P xs n e inside so_far next k d below = one_more_number (λ j. P (get_or xs j d)) n (λ j. so_far j d) (subst P (get_or_default xs n e d inside) next) k below
 
 -- what holds anyway holds of a failure
 pub on_err : {A E : Type 0} {X : Type 0} (r : Result A E) → X → OnErr r X

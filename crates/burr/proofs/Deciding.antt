@@ -51,11 +51,15 @@ below_power : (n : ℕ) → n < 2 ^ n
 below_power zero = omega arith
 below_power (suc n) = let below = below_power n in omega arith
 
--- a set has no bit from its own number on
-pub no_bit_from_set : (set p : ℕ) → set ≤ p → ¬ IsBitSet set p
-no_bit_from_set set p far bit =
-    let none : bit_and set (2 ^ p) ≡ 0 * 2 ^ p = and_pow set p ∙ ap (λ b. b * 2 ^ p) (bit_at_above set set p (below_power set) far) in
+-- a set below a power of two has no bit from there on
+pub no_bit_above : (set n p : ℕ) → set < 2 ^ n → n ≤ p → ¬ IsBitSet set p
+no_bit_above set n p small far bit =
+    let none : bit_and set (2 ^ p) ≡ 0 * 2 ^ p = and_pow set p ∙ ap (λ b. b * 2 ^ p) (bit_at_above set n p small far) in
     bit (omega arith)
+
+-- and so none from its own number on
+no_bit_from_set : (set p : ℕ) → set ≤ p → ¬ IsBitSet set p
+no_bit_from_set set p far = no_bit_above set set p (below_power set) far
 
 pub decide_bit : (set p : ℕ) → Decided (IsBitSet set p)
 decide_bit set p = decided_not (decide_same (bit_and set (2 ^ p)) 0)

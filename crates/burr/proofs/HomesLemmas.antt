@@ -1,27 +1,22 @@
 -- The cells at home that an assembly's pieces have.
-use Rattle.std.proofs.Common.{◌≡◌, ◌<◌, ◌≤◌, ◌+◌, ◌∙◌, ℕ, zero, suc, List, [], ◌∷◌, length, map, get_or, refl, sym, ap, subst, inl, inr, arith, Bool, true, false, if◌then◌else◌}
-use Rattle.std.specs.Prelude.{Some, None, Option, slice_get, slice_index_or, IfSome, Contains, bytes_eq, All}
-use Rattle.std.specs.List.{Any}
-use Rattle.std.specs.Option.{option_map}
+use Rattle.std.proofs.Common.{◌≡◌, ◌<◌, ◌∙◌, ℕ, zero, suc, List, [], ◌∷◌, length, map, get_or, refl, sym, ap, subst, inl, inr, arith, Bool, true, false}
+use Rattle.std.specs.Prelude.{Some, Option, slice_get, IfSome, bytes_eq, All}
 use Rattle.std.proofs.lemmas.Option.{slice_get-map, slice_get_cases}
-use Rattle.std.proofs.lemmas.List.Elements.{All-head, All-tail}
+use Rattle.std.proofs.lemmas.List.Elements.{All-head, All-tail, Contains-append_right}
 use Rattle.std.proofs.lemmas.Slice.Eq.{bytes_eq-Decides}
 use Rattle.burr_voxels.specs.declared.cell.Cell.{Cell}
-use Rattle.burr_assembly.specs.Text.{Assembly, IsAssembly, Drawing, Piece, IsPiece, IsShapeName, HasCells, home_cells, drawn_cells}
+use Rattle.burr_assembly.specs.Text.{Assembly, IsAssembly, Drawing, Piece, IsPiece, HasCells}
 use Rattle.burr_assembly.proofs.Sharing.{one_cells}
 use Rattle.burr.specs.Bench.{HasHome}
 use Rattle.burr.specs.Answering.{HaveCells}
 use Rattle.burr.specs.Homes.{home_of, homes_of}
-
-contains_behind : {A : Type 0} (x y : A) (xs : List A) → Contains xs y → Contains (x ∷ xs) y
-contains_behind x y xs (k, lt, is) = (suc k, omega arith, is)
 
 -- the cells of the first shape of this name
 home_of_named : (s : Drawing) (shapes : List Drawing) (p : Piece) → s.name ≡ p.shape → HasCells (s ∷ shapes) p (home_of (s ∷ shapes) p)
 home_of_named s shapes p named = (s, (0, omega arith, refl), named, rw ((bytes_eq-Decides s.name p.shape).1 named) refl)
 
 home_of_behind : (s : Drawing) (shapes : List Drawing) (p : Piece) → bytes_eq s.name p.shape ≡ false → HasCells shapes p (home_of shapes p) → HasCells (s ∷ shapes) p (home_of (s ∷ shapes) p)
-home_of_behind s shapes p other (t, has, named, cells) = (t, contains_behind s t shapes has, named, rw other cells)
+home_of_behind s shapes p other (t, has, named, cells) = (t, Contains-append_right (s ∷ []) shapes t has, named, rw other cells)
 
 home_of_first : (test : Bool) (s : Drawing) (shapes : List Drawing) (p : Piece) → bytes_eq s.name p.shape ≡ test → HasCells shapes p (home_of shapes p) → HasCells (s ∷ shapes) p (home_of (s ∷ shapes) p)
 home_of_first true s shapes p same home = home_of_named s shapes p ((bytes_eq-Decides s.name p.shape).0 same)
@@ -40,11 +35,11 @@ home_is a p cells whole (t, (k, inside, is), named, cells_are) =
 
 pub has_home : (a : Assembly) (p : ℕ) (cells : List Cell) → IsAssembly a → p < length a.pieces → IfSome (slice_get a.pieces p) (λ piece. HasCells a.shapes piece cells) → HasHome (homes_of a) p cells
 has_home a p cells whole inside has = elim (slice_get_cases a.pieces p).1 [
-      | inl found ↦
-          let is : HasCells a.shapes found.0 cells = subst (λ (o : Option Piece). IfSome o (λ piece. HasCells a.shapes piece cells)) found.2 has in
-          rw (slice_get-map (home_of a.shapes) a.pieces p, found.2) (ap Some (sym (home_is a found.0 cells whole is)))
-      | inr past ↦ absurd (omega (arith, past.0, inside))
-    ]
+  | inl found ↦
+      let is : HasCells a.shapes found.0 cells = subst (λ (o : Option Piece). IfSome o (λ piece. HasCells a.shapes piece cells)) found.2 has in
+      rw (slice_get-map (home_of a.shapes) a.pieces p, found.2) (ap Some (sym (home_is a found.0 cells whole is)))
+  | inr past ↦ absurd (omega (arith, past.0, inside))
+]
 
 -- each piece has its cells
 pub have_homes : (a : Assembly) → IsAssembly a → HaveCells a a.pieces (homes_of a)

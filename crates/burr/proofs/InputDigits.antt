@@ -30,7 +30,7 @@ same_pair : (a b c d : ℕ) (r s : List ℕ) → a ≡ c → b ≡ d → r ≡ s
 same_pair a b c d r s p q e = cc
 
 -- digits, two and two, spell bytes
-bytes_of_digits : (digits : List ℕ) → list_all is_digit digits ≡ true → length digits % 2 ≡ 0 → (code : List ℕ) × All IsByte code × (hex code ≡ digits)
+pub bytes_of_digits : (digits : List ℕ) → list_all is_digit digits ≡ true → length digits % 2 ≡ 0 → (code : List ℕ) × All IsByte code × (hex code ≡ digits)
 bytes_of_digits [] are even = ([], All-nil IsByte, refl)
 bytes_of_digits (a ∷ []) are even = absurd (omega arith)
 bytes_of_digits (a ∷ b ∷ rest) are even =
@@ -46,7 +46,7 @@ bytes_of_digits (a ∷ b ∷ rest) are even =
       same_pair _ _ a b (hex more.0) rest (ap hex_digit upper ∙ high.2) (ap hex_digit lower ∙ low.2) more.2,
     )
 
-length-hex : (code : List ℕ) → length (hex code) ≡ 2 * length code
+pub length-hex : (code : List ℕ) → length (hex code) ≡ 2 * length code
 length-hex [] = refl
 length-hex (b ∷ code) = let more = length-hex code in omega (arith, more)
 
@@ -90,7 +90,7 @@ all_bytes code are k = elim (cases_lt k (length code)) [
   | inr past ↦ rw (get_or_past code k 0 past) (omega arith)
 ]
 
-decode_of-hex : (code : List ℕ) → All IsByte code → decode_of (hex code) ≡ Ok code
+pub decode_of-hex : (code : List ℕ) → All IsByte code → decode_of (hex code) ≡ Ok code
 decode_of-hex code are = ap decode_of (hex-lower code are) ∙ decode_of-encode_lower code (all_bytes code are)
 
 -- digits that decode, in lower case, spell what they decode to

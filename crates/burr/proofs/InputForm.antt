@@ -1,39 +1,31 @@
 -- An input has one text and one line of code.
-use Rattle.std.proofs.Common.{◌≡◌, ◌≢◌, ℕ, ◌==◌, Bool, not, IsTrue, List, [], ◌∷◌, ◌++◌, Contains, refl, sym, subst, ◌∙◌, arith, codes}
+use Rattle.std.proofs.Common.{◌≡◌, ◌≢◌, ℕ, ◌/◌, ◌%◌, List, [], ◌∷◌, ◌++◌, Contains, refl, sym, subst, ◌∙◌, arith, codes}
 use Rattle.std.proofs.lemmas.Bool.Decides.{nat_tests}
 use Rattle.std.proofs.lemmas.List.{append_cancel_right}
-use Rattle.std.proofs.lemmas.List.Elements.{All-append, All-contains}
-use Rattle.burr_assembly.proofs.Clear.{each_passes}
-use Rattle.burr.specs.Answering.{IsLines, IsCodeLine, IsInput, hex}
-use Rattle.burr.specs.InputText.{is_digit}
-use Rattle.burr.proofs.InputDigits.{list_all-hex}
-use Rattle.burr.proofs.InputLines.{IsCutAt-same}
+use Rattle.burr_assembly.proofs.Cuts.{Lacks, lacks}
+use Rattle.burr.specs.Answering.{IsLines, IsCodeLine, IsInput, hex, hex_digit}
+use Rattle.burr.proofs.Unended.{lacks_append, lacks_clear}
+use Rattle.burr.proofs.LastLines.{one_last_line}
 
-abbrev IsClear : ℕ → Type 0
-IsClear b = b ≢ 10
+digit_is_no_end : (n : ℕ) → hex_digit n ≢ 10
+digit_is_no_end n e = grind (arith, nat_tests)
 
-abbrev is_clear : ℕ → Bool
-is_clear b = not (b == 10)
+lacks_hex : (bytes : List ℕ) → Lacks 10 (hex bytes)
+lacks_hex [] = tt
+lacks_hex (b ∷ bytes) = (digit_is_no_end (b / 16), (digit_is_no_end (b % 16), lacks_hex bytes))
 
-clear_byte : (b : ℕ) → IsTrue (is_clear b) → IsClear b
-clear_byte b h e = grind (arith, nat_tests)
+-- a line with code holds no end of a line
+pub lacks_code : (line code : List ℕ) → IsCodeLine line code → Lacks 10 line
+lacks_code line code is = subst (Lacks 10) (sym is.1) (lacks_append 10 (codes "code ") (hex code) (lacks_clear (codes "code ") refl) (lacks_hex code))
 
-clear_digit : (b : ℕ) → IsTrue (is_digit b) → IsClear b
-clear_digit b h e = grind (arith, nat_tests, h)
+-- an input that is cut into lines and a line has no other text, and no other line of code
+pub IsInput-line : (input front line text code : List ℕ) → input ≡ front ++ line ++ 10 ∷ [] → IsLines front → Lacks 10 line → IsInput input text code → (text ≡ front) × IsCodeLine line code
+IsInput-line input front line text code parts lines unended (also_lines, (last, is, also_parts)) =
+    let whole : text ++ last ≡ front ++ line = append_cancel_right (text ++ last) (front ++ line) (10 ∷ []) (sym also_parts ∙ parts) in
+    let same = one_last_line text last front line also_lines lines (lacks_code last code is) unended whole in
+    (same.0, subst (λ (bytes : List ℕ). IsCodeLine bytes code) same.1 is)
 
-unended_code : (line code : List ℕ) → IsCodeLine line code → ¬ Contains line 10
-unended_code line code is =
-    let clear = All-append IsClear (codes "code ") (hex code) (each_passes is_clear IsClear clear_byte (codes "code ") refl)
-    (each_passes is_digit IsClear clear_digit (hex code) (list_all-hex code is.0.bytes)) in
-    λ found. All-contains IsClear (codes "code " ++ hex code) 10 clear (subst (λ (bytes : List ℕ). Contains bytes 10) is.1 found) refl
-
--- an input that is cut into lines and a last line has no other text, and no other line of code
+-- the same of a cut at the last line
 pub IsInput-cut : (input front line text code : List ℕ) → (input ≡ front ++ line ++ 10 ∷ []) × IsLines front × (¬ Contains line 10) → IsInput input text code
     → (text ≡ front) × IsCodeLine line code
-IsInput-cut input front line text code cut is =
-    let last = is.1 in
-    let whole : text ++ last.0 ≡ front ++ line = append_cancel_right (text ++ last.0) (front ++ line) (10 ∷ []) (sym last.2 ∙ cut.0) in
-    let same = IsCutAt-same (front ++ line) text last.0 front line
-    (record { parts = sym whole; lines = is.0; unended = unended_code last.0 code last.1 })
-    (record { parts = refl; lines = cut.1; unended = cut.2 }) in
-    (same.0, subst (λ (bytes : List ℕ). IsCodeLine bytes code) same.1 last.1)
+IsInput-cut input front line text code (parts, lines, unended) is = IsInput-line input front line text code parts lines (lacks 10 line unended) is

@@ -6,6 +6,7 @@ pub mod CountLemmas
 pub mod Deciders
 pub mod Deciding
 pub mod DecidingFree
+pub mod DecidingInput
 pub mod HomesLemmas
 pub mod InputDigits
 pub mod InputForm
@@ -22,13 +23,13 @@ pub mod OneStep
 pub mod Overlapping
 pub mod PartsLemmas
 pub mod RefusalNames
-pub mod RefusalPuts
 pub mod RunningLemmas
 pub mod SheetEnd
 pub mod SheetLines
 pub mod SheetPuts
 pub mod SheetSteps
 pub mod SheetWords
+pub mod SomeAnswer
 pub mod SomeRun
 pub mod SomeStep
 pub mod Standing

@@ -2,6 +2,7 @@
 use Rattle.std.proofs.Common.{◌≡◌, ℕ, List, [], sym, ap, subst, ◌∙◌, inl, inr}
 use Rattle.burr_voxels.specs.declared.cell.Cell.{Cell}
 use Rattle.burr_assembly.specs.Text.{Assembly}
+use Rattle.burr_assembly.specs.FrontViews.{AreDistinct}
 use Rattle.burr_assembly.proofs.TextLaws.{one_assembly, no_fault_of_assembly, one_fault}
 use Rattle.burr.specs.declared.bench_text.Outcome.{Outcome}
 use Rattle.burr.specs.Bench.{start}
@@ -11,16 +12,16 @@ use Rattle.burr.specs.Answering.{IsSheet, TextAnswers, refusal, names_of, bare, 
 use Rattle.burr.specs.AnswerLaws.{OneAnswer}
 use Rattle.burr.proofs.OneRun.{one_result}
 use Rattle.burr.proofs.OneInput.{one_input}
-use Rattle.burr.proofs.OneHomes.{AreNamedApart, one_homes}
+use Rattle.burr.proofs.OneHomes.{one_homes}
 
 -- two answers are the same
 abbrev Same : List ℕ → List ℕ → Outcome → Outcome → Type 0
 Same output other outcome ending = (output ≡ other) × (outcome ≡ ending)
 
 -- code on an assembly has one sheet
-one_sheet : (a : Assembly) (code output other : List ℕ) (outcome ending : Outcome) → AreNamedApart a.shapes → IsSheet a code output outcome → IsSheet a code other ending → Same output other outcome ending
-one_sheet a code output other outcome ending apart s t =
-    let homes : t.homes ≡ s.homes = one_homes a a.pieces t.homes s.homes apart t.cells s.cells in
+one_sheet : (a : Assembly) (code output other : List ℕ) (outcome ending : Outcome) → AreDistinct a.shapes → IsSheet a code output outcome → IsSheet a code other ending → Same output other outcome ending
+one_sheet a code output other outcome ending distinct s t =
+    let homes : t.homes ≡ s.homes = one_homes a a.pieces t.homes s.homes distinct t.cells s.cells in
     let run = subst (λ (h : List (List Cell)). Run (bare h code) 1000000 (start (bare h code)) [] t.motions t.steps t.closing) homes t.run in
     let same = one_result (bare s.homes code) 1000000 (start (bare s.homes code)) [] s.motions t.motions s.steps t.steps s.closing t.closing s.run run in
     (s.text ∙ (λ i. sheet (names_of a) (same.0 i) (same.1 i) (same.2 i)) ∙ sym t.text, s.closes ∙ ap outcome_of same.2 ∙ sym t.closes)

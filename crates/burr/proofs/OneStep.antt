@@ -1,7 +1,7 @@
 -- One thing stands next at a state, and a call of the bench has one result.
 use Rattle.std.proofs.Common.{◌≡◌, ℕ, Option, Some, None, sym, ap, subst, ◌∙◌, inl, inr}
 use Rattle.std.specs.Prelude.{ℤ, pos, slice_get}
-use Rattle.std.proofs.lemmas.Option.{same_Some}
+use Rattle.std.proofs.lemmas.Option.{none-some, same_Some}
 use Rattle.burr_voxels.specs.Checks.{needs, finds}
 use Rattle.burr_code.specs.Instruction.{Instruction, Halt, Push, Load, Store, Add, Sub, Drop, Grip, Step, Aside, Tray, Jump, Down, Ask, Pick, Call, Ret, StandsAt}
 use Rattle.burr_code.proofs.Places.{one_stands_at}
@@ -26,15 +26,11 @@ one_needed C v rest one x y (inl p) (inr q) = absurd (p.0 q.0)
 one_needed C v rest one x y (inr p) (inl q) = absurd (q.0 p.0)
 one_needed C v rest one x y (inr p) (inr q) = one x y p.1 q.1
 
--- nothing is found that is not there
-none_is_not_some : {B : Type 0} (found : Option B) (b : B) → found ≡ None → found ≡ Some b → ⊥
-none_is_not_some found b e k = cc
-
 -- a look for a value gives one answer where what follows from it does
 pub one_found : {A B : Type 0} (found : Option B) (v : A) (rest : B → A → Type 0) → ((b : B) → IsOne (rest b)) → IsOne (finds found v rest)
 one_found found v rest one x y (inl p) (inl q) = p.1 ∙ sym q.1
-one_found found v rest one x y (inl p) (inr q) = absurd (none_is_not_some found q.0 p.0 q.1)
-one_found found v rest one x y (inr p) (inl q) = absurd (none_is_not_some found p.0 q.0 p.1)
+one_found found v rest one x y (inl p) (inr q) = absurd (none-some q.0 (sym p.0 ∙ q.1))
+one_found found v rest one x y (inr p) (inl q) = absurd (none-some p.0 (sym q.0 ∙ p.1))
 one_found found v rest one x y (inr p) (inr q) = one p.0 x y p.2 (subst (λ b. rest b y) (same_Some q.0 p.0 (sym q.1 ∙ p.1)) q.2)
 
 -- one thing stands next, by the instruction

@@ -1,6 +1,6 @@
 -- How many parts the pieces are in, and what a group that goes aside does to the places.
 use Rattle.std.proofs.Common.{◌≡◌, ◌≢◌, ℕ, zero, suc, ◌+◌, ◌≤◌, min, ◌==◌, if◌then◌else◌}
-use Rattle.std.proofs.Common.{List, [], ◌∷◌, length, map, replicate, All, refl, sym, ap, subst, ◌∙◌, inl, inr, arith}
+use Rattle.std.proofs.Common.{List, [], ◌∷◌, length, replicate, refl, sym, ap, subst, ◌∙◌, inl, inr, arith}
 use Rattle.std.proofs.lemmas.Bool.{cond_both}
 use Rattle.std.proofs.lemmas.Bool.Decides.{nat_tests}
 use Rattle.std.proofs.lemmas.List.Elements.{All-nil, All-cons, All-head, All-tail}
@@ -30,11 +30,6 @@ parts_at_most (On tray position ∷ places) = omega (arith, parts-on tray positi
 pub parts_at_start : {Position : Type 0} (n : ℕ) (position : Position) → parts (replicate (suc n) (On 0 position)) ≡ 1
 parts_at_start zero position = refl
 parts_at_start (suc n) position = omega (arith, parts_at_start n position, parts-on 0 position (replicate (suc n) (On 0 position)))
-
-pub parts_at_start-map : {Position A : Type 0} (position : Position) (x : A) (xs : List A) → parts (map (λ _. On 0 position) (x ∷ xs)) ≡ 1
-parts_at_start-map position x [] = refl
-parts_at_start-map position x (y ∷ xs) =
-    omega (arith, parts_at_start-map position y xs, parts-on 0 position (map (λ _. On 0 position) (y ∷ xs)))
 
 -- A group goes from one tray to an empty one
 

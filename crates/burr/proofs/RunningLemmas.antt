@@ -1,28 +1,28 @@
 -- A run and its sheet, taken step by step.
-use Rattle.std.proofs.Common.{◌≡◌, ◌≢◌, ◌≤◌, ◌<◌, ◌+◌, ◌-◌, ◌^◌, ◌++◌, ◌∷◌, ◌∙◌, ◌⊎◌, ℕ, List, [], length, min, refl, sym, ap, subst, inl, inr, append_assoc, lit<, arith}
-use Rattle.std.specs.Prelude.{Option, Some, None, Ok, Err}
+use Rattle.std.proofs.Common.{◌≡◌, ◌≢◌, ◌≤◌, ◌<◌, ◌+◌, ◌-◌, ◌++◌, ◌∷◌, ◌∙◌, ◌⊎◌, ℕ, List, [], length, refl, sym, ap, subst, inl, inr, append_assoc, lit<, arith}
+use Rattle.std.specs.Prelude.{Option, Some, None, Ok}
 use Rattle.std.specs.Io.KnownBytes.{Appends}
 use Rattle.std.proofs.KnownBytes.{Appends-nil, Appends-trans}
-
 use Rattle.burr_io.specs.Sink.{TakesFront}
 use Rattle.burr_assembly.specs.Text.{Assembly, IsAssembly}
-use Rattle.burr.specs.declared.bench.mode.Mode.TheVariants.{Running, Ended, Stuck}
+use Rattle.burr.specs.declared.bench.mode.Mode.TheVariants.{Running, Ended}
 use Rattle.burr.specs.declared.bench.motion.Motion.{Motion}
 use Rattle.burr.specs.declared.bench.trap.Trap.{Trap}
 use Rattle.burr.specs.declared.bench_text.Outcome.{Outcome}
 use Rattle.burr.specs.Bench.{Setup, State, start}
-use Rattle.burr.specs.Step.{NextIs, Goes, Traps}
-use Rattle.burr.specs.Run.{Run, Closing, IsApart, IsStopped, IsTrapped, IsGoing, ends, stops, traps, goes}
+use Rattle.burr.specs.Step.{NextIs, Goes}
+use Rattle.burr.specs.Run.{Closing, IsTrapped, IsGoing, traps, goes}
 use Rattle.burr.specs.RunLaws.{RunOf, IsUnderWay}
 use Rattle.burr.specs.Parts.{parts}
 use Rattle.burr.specs.Homes.{homes_of}
-use Rattle.burr.specs.SheetUnderWay.{UnderWay, blank, still, outs_of, Closes, PutsMotion, PutsFront}
+use Rattle.burr.specs.SheetUnderWay.{UnderWay, blank, still, outs_of, Closes, PutsFront}
 use Rattle.burr.specs.BenchViews.{Benched, GoesOn, setup_of}
-use Rattle.burr.specs.Answering.{bare, names_of, outcome_of, IsSheet}
+use Rattle.burr.specs.Answering.{bare, names_of, outcome_of}
 use Rattle.burr.specs.Running.{BareRun, Leads, PutsPart, PutsFrontOfRun, ClosesPart, IsInStep, IsSameRun, StepOrTrap, PutsSheet, PutsSheetFront}
-use Rattle.burr.proofs.HomesLemmas.{have_homes}
+use Rattle.burr.proofs.AnswerLemmas.{sheet_of_run}
 use Rattle.burr.proofs.Leading.{IsStepFrom, leads_from}
-use Rattle.burr.proofs.SomeRun.{some_result}
+use Rattle.burr.proofs.SomeRun.{counted_step, under_way_on, some_result}
+use Rattle.burr.proofs.SheetPuts.{HasPut-fails}
 
 -- One step
 
@@ -39,11 +39,9 @@ pub under_way : (setup : Setup) (s new : State) (motion : Option Motion) → s.m
     → IsUnderWay 1000000 new × (new.steps ≡ s.steps + 1)
 under_way setup s new motion running within some next =
     let step : IsStepFrom s new = leads_from setup s (Goes new motion) running next in
-    let counted : new.steps ≡ s.steps + 1 = step.steps ∙ one_more s.steps within in
-    (record { mode = step.mode; within = omega (arith, counted, within, some) }, counted)
-  where
-    one_more : (n : ℕ) → n ≤ 1000000 → min (n + 1) (2 ^ 64 - 1) ≡ n + 1
-    one_more n small = omega (arith, small)
+    let under : IsUnderWay 1000000 s = record { mode = inl running; within = within } in
+    let going : IsGoing 1000000 s = record { running = running; within = some } in
+    (under_way_on 1000000 s new (lit< tt) under going step, counted_step 1000000 s new (lit< tt) under going step)
 
 -- the rest of a run, from a state that did not trap
 pub rest_of_run : (setup : Setup) (s : State) → IsUnderWay 1000000 s → RunOf setup 1000000 s []
@@ -63,17 +61,19 @@ pub no_part : (setup : Setup) (s : State) (u : UnderWay) (taken : Option (List �
 no_part setup s u taken = ([], Appends-nil taken, λ motions steps closing run. (motions, run, refl))
 
 pub parts_join : (setup : Setup) (s t new : State) (u v more : UnderWay) (old mid now : Option (List ℕ)) → PutsPart old mid setup s u t v → PutsPart mid now setup t v new more → PutsPart old now setup s u new more
-parts_join setup s t new u v more old mid now (a, puts_a, leads_a) (b, puts_b, leads_b) =
-    (a ++ b, Appends-trans _ _ _ _ _ puts_a puts_b,
-    λ motions steps closing run.
-    let first = leads_b motions steps closing run in
-    let whole = leads_a first.0 steps closing first.1 in
-    (whole.0, whole.1, whole.2 ∙ ap (λ text. a ++ text) first.2 ∙ sym (append_assoc a b (still more motions steps closing))))
+parts_join setup s t new u v more old mid now (a, puts_a, leads_a) (b, puts_b, leads_b) = (
+  a ++ b,
+  Appends-trans _ _ _ _ _ puts_a puts_b,
+  λ motions steps closing run.
+      let first = leads_b motions steps closing run in
+      let whole = leads_a first.0 steps closing first.1 in
+      (whole.0, whole.1, whole.2 ∙ ap (λ text. a ++ text) first.2 ∙ sym (append_assoc a b (still more motions steps closing))),
+)
 
 pub fails_behind : (setup : Setup) (s t : State) (u v : UnderWay) (old mid now : Option (List ℕ)) → PutsPart old mid setup s u t v → PutsFrontOfRun mid now setup t v → PutsFrontOfRun old now setup s u
-fails_behind setup s t u v old mid now (a, puts_a, leads_a) (motions, steps, closing, run, (front, rest, is, puts)) =
-    let whole = leads_a motions steps closing run in
-    (whole.0, steps, closing, whole.1, (a ++ front, rest, whole.2 ∙ ap (λ text. a ++ text) is ∙ sym (append_assoc a front rest), Appends-trans _ _ _ _ _ puts_a puts))
+fails_behind setup s t u v old mid now (a, puts, leads) (motions, steps, closing, run, front) =
+    let whole = leads motions steps closing run in
+    (whole.0, steps, closing, whole.1, HasPut-fails now (record { front = a; parts = whole.2; taken = puts }) front)
 
 pub closes_behind : (setup : Setup) (s t new : State) (u v : UnderWay) (old now : Option (List ℕ)) (closing : Closing)
     → PutsPart old now setup s u t v → BareRun setup t [] new.steps closing → ClosesPart old now setup s u new v closing
@@ -85,41 +85,23 @@ pub sheet_of : (a : Assembly) (code : List ℕ) (s new : State) (u more : UnderW
     → IsAssembly a → s ≡ start (bare (homes_of a) code) → u ≡ blank (names_of a)
     → ClosesPart old mid (bare (homes_of a) code) s u new more closing → Appends mid now (still more [] new.steps closing) → PutsSheet old now a code (outcome_of closing)
 sheet_of a code s new u more old mid now closing whole at_start at_blank (bytes, puts, (all, run, is)) closes =
-    (still u all new.steps closing,
-    record {
-      homes = homes_of a;
-      cells = have_homes a whole;
-      motions = all;
-      steps = new.steps;
-      closing = closing;
-      run = subst (λ (t : State). BareRun (bare (homes_of a) code) t all new.steps closing) at_start run;
-      text = ap (λ (v : UnderWay). still v all new.steps closing) at_blank;
-      closes = refl;
-    },
-    rw is (Appends-trans _ _ _ _ _ puts closes))
+    let started = subst (λ (t : State). BareRun (bare (homes_of a) code) t all new.steps closing) at_start run in
+    let text = ap (λ (v : UnderWay). still v all new.steps closing) at_blank in
+    (still u all new.steps closing, sheet_of_run a code _ all new.steps closing whole started text, rw is (Appends-trans _ _ _ _ _ puts closes))
 
 pub front_of_sheet : (a : Assembly) (code : List ℕ) (s : State) (u : UnderWay) (old now : Option (List ℕ))
     → IsAssembly a → s ≡ start (bare (homes_of a) code) → u ≡ blank (names_of a)
     → PutsFrontOfRun old now (bare (homes_of a) code) s u → PutsSheetFront old now a code
 front_of_sheet a code s u old now whole at_start at_blank (motions, steps, closing, run, front) =
-    (still u motions steps closing, outcome_of closing,
-    record {
-      homes = homes_of a;
-      cells = have_homes a whole;
-      motions = motions;
-      steps = steps;
-      closing = closing;
-      run = subst (λ (t : State). BareRun (bare (homes_of a) code) t motions steps closing) at_start run;
-      text = ap (λ (v : UnderWay). still v motions steps closing) at_blank;
-      closes = refl;
-    },
-    front)
+    let started = subst (λ (t : State). BareRun (bare (homes_of a) code) t motions steps closing) at_start run in
+    let text = ap (λ (v : UnderWay). still v motions steps closing) at_blank in
+    (still u motions steps closing, outcome_of closing, sheet_of_run a code _ motions steps closing whole started text, front)
 
 -- where closing the sheet fails, a front of it was put
 pub fails_at_close : (setup : Setup) (s new : State) (u more : UnderWay) (old mid now : Option (List ℕ)) (closing : Closing)
     → ClosesPart old mid setup s u new more closing → TakesFront mid now (still more [] new.steps closing) → PutsFrontOfRun old now setup s u
-fails_at_close setup s new u more old mid now closing (bytes, puts, (all, run, is)) (front, rest, cut, took) =
-    (all, new.steps, closing, run, (bytes ++ front, rest, is ∙ ap (λ text. bytes ++ text) cut ∙ sym (append_assoc bytes front rest), Appends-trans _ _ _ _ _ puts took))
+fails_at_close setup s new u more old mid now closing (bytes, puts, (all, run, is)) front =
+    (all, new.steps, closing, run, HasPut-fails now (record { front = bytes; parts = is; taken = puts }) front)
 
 -- The bench and the sheet in step
 
@@ -173,10 +155,12 @@ closes_trapped b now new u v more old mid taken trap pc same puts running some (
 pub step_joins : (b now new : Benched) (u v more : UnderWay) (old mid taken : Option (List ℕ))
     → IsSameRun b now → PutsPart old mid (setup_of b) b.state u now.state v → StepOrTrap now v new more mid taken None
     → IsInStep new more × IsSameRun b new × PutsPart old taken (setup_of b) b.state u new.state more
-step_joins b now new u v more old mid taken same puts (in_step, on, steps, next) =
-    (in_step, same_run_on b now new same on,
-    parts_join (setup_of b) b.state now.state new.state u v more old mid taken puts
-    (subst (λ (setup : Setup). PutsPart mid taken setup now.state v new.state more) (same_setup b now same) next))
+step_joins b now new u v more old mid taken same puts (in_step, on, steps, next) = (
+  in_step,
+  same_run_on b now new same on,
+  parts_join (setup_of b) b.state now.state new.state u v more old mid taken puts
+      (subst (λ (setup : Setup). PutsPart mid taken setup now.state v new.state more) (same_setup b now same) next),
+)
 
 -- where a step's sink fails, a front of the run's sheet was put
 pub step_fails : (b now : Benched) (u v : UnderWay) (old mid taken : Option (List ℕ))

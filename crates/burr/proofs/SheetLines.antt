@@ -1,6 +1,6 @@
 -- How a growing line and a motion come together.
 use Rattle.std.proofs.Common.{◌≡◌, ◌+◌, ◌==◌, ◌&&◌, not, List, [], ◌∷◌, Bool, true, false, Some, refl, sym, ap, ◌∙◌, zero-add, add-zero, add_comm, add_assoc, arith}
-use Rattle.std.proofs.lemmas.Bool.{eqb-true}
+use Rattle.std.proofs.lemmas.Bool.{and_parts, eqb-true}
 use Rattle.burr_voxels.specs.declared.direction.Direction.{Direction}
 use Rattle.burr_voxels.specs.Grid.{number_of}
 use Rattle.burr.specs.declared.bench.motion.Motion.{Motion}
@@ -11,10 +11,6 @@ use Rattle.burr.specs.SheetUnderWay.{is_one, with_growing}
 same_direction : (d e : Direction) → number_of d ≡ number_of e → d ≡ e
 same_direction d e same = grind arith
 
-both_true : (a b : Bool) → (a && b) ≡ true → (a ≡ true) × (b ≡ true)
-both_true true b is = (refl, is)
-both_true false b is = cc
-
 -- one group in one tray along one direction
 pub record Alike (g h : Line) : Type 0 where
   pub group : g.group ≡ h.group
@@ -23,8 +19,8 @@ pub record Alike (g h : Line) : Type 0 where
 
 pub Alike-from_one : (g h : Line) → is_one g h ≡ true → Alike g h
 Alike-from_one g h is =
-    let direction = both_true ((g.group == h.group) && (g.tray == h.tray)) (number_of g.direction == number_of h.direction) is in
-    let place = both_true (g.group == h.group) (g.tray == h.tray) direction.0 in
+    let direction = and_parts ((g.group == h.group) && (g.tray == h.tray)) (number_of g.direction == number_of h.direction) is in
+    let place = and_parts (g.group == h.group) (g.tray == h.tray) direction.0 in
     record {
       group = eqb-true _ _ place.0;
       tray = eqb-true _ _ place.1;
@@ -46,10 +42,10 @@ goes_onto-out m l out = rw out
 
 goes_onto-alike : (m : Motion) (l : Line) → goes_onto m l ≡ true → Alike (alone m) l
 goes_onto-alike m l is =
-    let direction = both_true (not m.out && (m.group == l.group) && (m.tray == l.tray)) (number_of m.dir == number_of l.direction) is in
-    let tray = both_true (not m.out && (m.group == l.group)) (m.tray == l.tray) direction.0 in
+    let direction = and_parts (not m.out && (m.group == l.group) && (m.tray == l.tray)) (number_of m.dir == number_of l.direction) is in
+    let tray = and_parts (not m.out && (m.group == l.group)) (m.tray == l.tray) direction.0 in
     record {
-      group = eqb-true _ _ (both_true (not m.out) (m.group == l.group) tray.0).1;
+      group = eqb-true _ _ (and_parts (not m.out) (m.group == l.group) tray.0).1;
       tray = eqb-true _ _ tray.1;
       direction = same_direction _ _ (eqb-true _ _ direction.1);
     }

@@ -24,16 +24,20 @@ HasPut-more part {rest} {old} {mid} {new} put went = record {
   taken = Appends-trans old mid new put.front part put.taken went;
 }
 
+-- the sink fails within the rest
+pub HasPut-fails : {whole rest : List ℕ} {old mid : Option (List ℕ)} (new : Option (List ℕ)) → HasPut whole rest old mid → TakesFront mid new rest → TakesFront old new whole
+HasPut-fails {old} {mid} new put short = (
+  put.front ++ short.0,
+  short.1,
+  put.parts ∙ ap (λ t. put.front ++ t) short.2 ∙ sym (append_assoc put.front short.0 short.1),
+  Appends-trans old mid new put.front short.0 put.taken short.3,
+)
+
 -- the sink fails within the next part
 pub HasPut-front : (part rest : List ℕ) {whole : List ℕ} {old mid : Option (List ℕ)} (new : Option (List ℕ))
     → HasPut whole (part ++ rest) old mid → TakesFront mid new part → TakesFront old new whole
-HasPut-front part rest {old} {mid} new put short = (
-  put.front ++ short.0,
-  short.1 ++ rest,
-  put.parts ∙ ap (λ t. put.front ++ (t ++ rest)) short.2 ∙ ap (λ t. put.front ++ t) (append_assoc short.0 short.1 rest)
-      ∙ sym (append_assoc put.front short.0 (short.1 ++ rest)),
-  Appends-trans old mid new put.front short.0 put.taken short.3,
-)
+HasPut-front part rest new put short =
+    HasPut-fails new put (short.0, short.1 ++ rest, ap (λ t. t ++ rest) short.2 ∙ append_assoc short.0 short.1 rest, short.3)
 
 -- parts with a byte between each two, where before the first stands another text
 abbrev pub joined_behind : List ℕ → ℕ → List (List ℕ) → List ℕ
@@ -82,11 +86,6 @@ module _ (separator : List ℕ) (byte : ℕ) (part : List ℕ) (parts more : Lis
   pub joined-more : (then new : Option (List ℕ)) → Appends mid then separator → Appends then new part → HasPut whole (joined_rest (byte ∷ []) byte more last) old new
   joined-more then new went goes = HasPut-more part (HasPut-more separator unfolded went) goes
 
--- what holds holds at an error too
-pub OnErr-always : {T E P : Type 0} (r : Result T E) → P → OnErr r P
-OnErr-always (Ok x) p = tt
-OnErr-always (Err e) p = p
-
 -- the parts from an item on
 pub map-drop-cons : {X : Type 0} (f : X → List ℕ) (items : List X) (i : ℕ) (d : X) → i < length items
     → map f (drop i items) ≡ f (get_or items i d) ∷ map f (drop (i + 1) items)
@@ -101,5 +100,4 @@ HasPut-last part (Err e) new put went = tt
 pub HasPut-last_front : (part : List ℕ) {T E : Type 0} (r : Result T E) (new : Option (List ℕ)) {whole : List ℕ} {old mid : Option (List ℕ)}
     → HasPut whole part old mid → OnErr r (TakesFront mid new part) → OnErr r (TakesFront old new whole)
 HasPut-last_front part (Ok x) new put short = tt
-HasPut-last_front part (Err e) new {whole} {old} {mid} put short =
-    HasPut-front part [] new (subst (λ t. HasPut whole t old mid) (sym (append-nil part)) put) short
+HasPut-last_front part (Err e) new put short = HasPut-fails new put short

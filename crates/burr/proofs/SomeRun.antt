@@ -69,7 +69,7 @@ run_under_way setup budget s answers under_way on = by_mode under_way.mode (deci
         going_run setup budget s answers going (on going) next.0 next.1
 
 -- a step within a budget that can be counted is counted
-counted_step : (budget : ℕ) (s new : State) → budget < 2 ^ 64 → IsUnderWay budget s → IsGoing budget s → IsStepFrom s new → new.steps ≡ s.steps + 1
+pub counted_step : (budget : ℕ) (s new : State) → budget < 2 ^ 64 → IsUnderWay budget s → IsGoing budget s → IsStepFrom s new → new.steps ≡ s.steps + 1
 counted_step budget s new countable under_way going step =
     let within = under_way.within in
     let unspent = going.within in
@@ -77,7 +77,7 @@ counted_step budget s new countable under_way going step =
     omega arith
 
 -- a step within the budget leaves a state under way
-under_way_on : (budget : ℕ) (s new : State) → budget < 2 ^ 64 → IsUnderWay budget s → IsGoing budget s → IsStepFrom s new → IsUnderWay budget new
+pub under_way_on : (budget : ℕ) (s new : State) → budget < 2 ^ 64 → IsUnderWay budget s → IsGoing budget s → IsStepFrom s new → IsUnderWay budget new
 under_way_on budget s new countable under_way going step =
     let steps = counted_step budget s new countable under_way going step in
     let within = under_way.within in

@@ -3,6 +3,7 @@ use Rattle.std.proofs.Common.{◌≡◌, ◌≢◌, ℕ, zero, suc, ◌<◌, ◌
 use Rattle.std.specs.Prelude.{slice_index}
 use Rattle.std.specs.Int.{w32, bytes_high_first, from_be_bytes}
 use Rattle.std.proofs.lemmas.Nat.{from_be_bytes-to_be_bytes_4}
+use Rattle.burr_assembly.proofs.Cuts.{same_head, same_tail}
 use Rattle.burr_assembly.proofs.Decisions.{Decided, decided_like, decided_and, decided_and_three, decided_not, decide_same, decide_below, decide_same_bytes}
 use Rattle.burr_voxels.specs.declared.direction.Direction.{Direction}
 use Rattle.burr_voxels.specs.declared.direction.Direction.TheVariants.{PlusX, MinusX, PlusY, MinusY, PlusZ, MinusZ}
@@ -18,12 +19,6 @@ code_of i = slice_index (spelled i) 0
 
 no_byte_first : (byte : ℕ) (bytes : List ℕ) → ¬ ([] ≡ byte ∷ bytes)
 no_byte_first byte bytes e = cc
-
-same_behind : (a b : ℕ) (xs ys : List ℕ) → a ∷ xs ≡ b ∷ ys → xs ≡ ys
-same_behind a b xs ys e = cc
-
-same_first : (a b : ℕ) (xs ys : List ℕ) → a ∷ xs ≡ b ∷ ys → a ≡ b
-same_first a b xs ys e = cc
 
 begins_with_code : (first : ℕ) (operands : List ℕ) (i : Instruction) → Begins (first ∷ operands) i → first ≡ code_of i
 begins_with_code first operands Halt begins = ap (λ (bytes : List ℕ). slice_index bytes 0) begins.1
@@ -95,7 +90,7 @@ decide_direction (suc (suc (suc (suc (suc (suc n)))))) = inr (λ found. past fou
 
 decide_aside : (operands : List ℕ) → Decided (SomeAside operands)
 decide_aside [] = inr (λ aside. no_byte_first _ _ aside.3.parts)
-decide_aside (first ∷ []) = inr (λ aside. no_byte_first _ _ (same_behind _ _ _ _ aside.3.parts))
+decide_aside (first ∷ []) = inr (λ aside. no_byte_first _ _ (same_tail _ _ _ _ aside.3.parts))
 decide_aside (first ∷ second ∷ rest) = decided_like there back (decided_and (decide_direction first) (decide_below second 32))
   where
     there : ((direction : Direction) × (number_of direction ≡ first)) × (second < 32) → SomeAside (first ∷ second ∷ rest)
@@ -103,8 +98,8 @@ decide_aside (first ∷ second ∷ rest) = decided_like there back (decided_and 
 
     back : SomeAside (first ∷ second ∷ rest) → ((direction : Direction) × (number_of direction ≡ first)) × (second < 32)
     back aside =
-        let direction : first ≡ number_of aside.0 = same_first _ _ _ _ aside.3.parts in
-        let tray : second ≡ aside.1 = same_first _ _ _ _ (same_behind _ _ _ _ aside.3.parts) in
+        let direction : first ≡ number_of aside.0 = same_head _ _ _ _ aside.3.parts in
+        let tray : second ≡ aside.1 = same_head _ _ _ _ (same_tail _ _ _ _ aside.3.parts) in
         ((aside.0, sym direction), subst (λ n. n < 32) (sym tray) aside.2)
 
 -- Instructions
@@ -114,11 +109,11 @@ abbrev SomeBegins : List ℕ → Type 0
 SomeBegins bytes = (i : Instruction) × IsInRange i × Begins bytes i
 
 grip_of : (operands : List ℕ) (i : Instruction) → IsInRange i → Begins (0x10 ∷ operands) i → SomeGrip operands
-grip_of operands (Grip set) in_range begins = (set, in_range.0, in_range.1, record { rest = begins.0; parts = same_behind _ _ _ _ begins.1 })
+grip_of operands (Grip set) in_range begins = (set, in_range.0, in_range.1, record { rest = begins.0; parts = same_tail _ _ _ _ begins.1 })
 grip_of operands i in_range begins = absurd (other_code 0x10 operands i (omega arith) begins)
 
 aside_of : (operands : List ℕ) (i : Instruction) → IsInRange i → Begins (0x12 ∷ operands) i → SomeAside operands
-aside_of operands (Aside direction tray) in_range begins = (direction, tray, in_range, record { rest = begins.0; parts = same_behind _ _ _ _ begins.1 })
+aside_of operands (Aside direction tray) in_range begins = (direction, tray, in_range, record { rest = begins.0; parts = same_tail _ _ _ _ begins.1 })
 aside_of operands i in_range begins = absurd (other_code 0x12 operands i (omega arith) begins)
 
 decide_grip_begins : (operands : List ℕ) → Decided (SomeBegins (0x10 ∷ operands))

@@ -1,15 +1,15 @@
 -- What the plain bench's instructions come to.
-use Rattle.std.proofs.Common.{◌≡◌, ◌≤◌, ◌+◌, ◌-◌, ◌^◌, ℕ, zero, suc, List, [], length, map, min, take, drop, ◌++◌, ◌∷◌, ◌∙◌, refl, sym, ap, subst, inl, inr, arith, true, false}
-use Rattle.std.specs.Prelude.{Some, None, Option, replicate, Result, Ok, Err}
+use Rattle.std.proofs.Common.{◌≡◌, ◌≤◌, ◌+◌, ◌-◌, ◌^◌, ℕ, zero, suc, List, length, min, drop, ◌∙◌, refl, sym, ap, inl, inr, arith, true}
+use Rattle.std.specs.Prelude.{Some, None, replicate, Ok}
 use Rattle.std.specs.List.{refill}
+use lib.Seq.{take-append_seam}
 use Rattle.burr_voxels.specs.declared.cell.Cell.{Cell}
 use Rattle.burr_voxels.specs.declared.direction.Direction.{Direction}
 use Rattle.burr_voxels.specs.Near.{IsWithin}
-use Rattle.burr_voxels.specs.Places.{Placed, On, AllLieIn, IsPartOfTray, IsEmptyTray, aside_places}
+use Rattle.burr_voxels.specs.Places.{Placed, On, IsPartOfTray, IsEmptyTray, aside_places}
 use Rattle.burr_code.specs.Instruction.{Instruction, Aside, spelled, StandsAt}
 use Rattle.burr.specs.declared.bench.trap.Trap.TheVariants as traps
 use Rattle.burr.specs.declared.bench.motion.Motion.{Motion}
-use Rattle.burr.specs.declared.bench.trap.Trap.{Trap}
 use Rattle.burr.specs.declared.bench.mode.Mode.{Mode}
 use Rattle.burr_assembly.specs.Text.{Assembly}
 use Rattle.burr.specs.Bench.{Setup, Procedure, State}
@@ -17,7 +17,7 @@ use Rattle.burr.specs.Step.{Rule, Next, NextIs, Goes, Traps, IsFreeGroup, motion
 use Rattle.burr.specs.Parts.{parts}
 use Rattle.burr.specs.Homes.{homes_of}
 use Rattle.burr.specs.Answering.{bare}
-use Rattle.burr.specs.BenchViews.{Benched, benched, setup_of, bare_procedure, IsSound, GoesOn, outs_of}
+use Rattle.burr.specs.BenchViews.{Benched, benched, setup_of, bare_procedure, IsSound, GoesOn}
 use Rattle.burr.proofs.PartsLemmas.{parts_at_most, parts_at_start, parts_after_aside, all_lie_in_nothing, length-aside_places, PositionsHold-aside_places}
 
 -- the traps of `aside`, and what it does
@@ -61,15 +61,11 @@ goes_on_aside old new motion there sound kept assembly code out part empty place
   few = few_parts new kept;
 }
 
-take_front : {A : Type 0} (xs rest : List A) → take (length xs) (xs ++ rest) ≡ xs
-take_front [] rest = refl
-take_front (x ∷ xs) rest = ap (λ ys. x ∷ ys) (take_front xs rest)
-
 -- places that are written back whole are those that were written
 pub refilled : (places moved : List (Placed Cell)) (group here there : ℕ) → moved ≡ aside_places group here there places → refill (length places) places moved ≡ aside_places group here there places
 refilled places moved group here there is =
     let same : length places ≡ length moved = sym (length-aside_places group here there places) ∙ sym (ap length is) in
-    rw same (take_front moved (drop (length moved) places) ∙ is)
+    rw same (take-append_seam moved (drop (length moved) places) ∙ is)
 
 -- what stays true behind an `aside`
 pub sound_aside : (old : Benched) (there next steps : ℕ) (mode : Mode) → IsSound old → next ≤ length old.code
@@ -87,14 +83,6 @@ sound_aside old there next steps mode sound within = record {
 pub next_at : (b : Benched) (i : Instruction) (next : Next) → b.state.running.procedure ≡ 0 → StandsAt b.code b.state.running.pc i
     → Rule (setup_of b) (bare_procedure b.code) b.state i next → NextIs (setup_of b) b.state next
 next_at b i next main stands rule = inl (bare_procedure b.code, i, (rw main refl, stands), rule)
-
-copies : {A B : Type 0} (x : B) (xs : List A) → replicate (length xs) x ≡ map (λ _. x) xs
-copies x [] = refl
-copies x (y ∷ ys) = ap (λ zs. x ∷ zs) (copies x ys)
-
--- all pieces at home
-pub start_places : {A B : Type 0} (x : B) (xs : List A) (n : ℕ) → n ≡ length xs → replicate n x ≡ map (λ _. x) xs
-start_places x xs n is = rw is (copies x xs)
 
 pub start_parts : {Position : Type 0} (n : ℕ) (position : Position) → 2 ≤ n → parts (replicate n (On 0 position)) ≡ 1
 start_parts zero position several = absurd (omega arith)

@@ -10,3 +10,7 @@ OneInput = (input text other code bytes : List ℕ) → IsInput input text code 
 -- one thing is written for an input, and it ends in one way
 abbrev pub OneAnswer : Type 0
 OneAnswer = (input output other : List ℕ) (outcome ending : Outcome) → Answers input output outcome → Answers input other ending → (output ≡ other) × (outcome ≡ ending)
+
+-- each input has an answer
+abbrev pub SomeAnswer : Type 0
+SomeAnswer = (input : List ℕ) → (output : List ℕ) × (outcome : Outcome) × Answers input output outcome

@@ -8,7 +8,6 @@ pub mod InputText
 pub mod Offsets
 pub mod Parts
 pub mod ReadWhole
-pub mod RefusalText
 pub mod Run
 pub mod RunLaws
 pub mod Running

@@ -1,7 +1,7 @@
 ghost use Rattle.burr.specs.RunLaws.{OneNext, SomeNext, OneOutcome, OneResult, SomeResult};
 ghost use Rattle.burr.specs.SheetLaws.{EndsInClosing, ClosesInOneLine, ClosesOnce};
 ghost use Rattle.burr.specs.SpaceLaws.{OverlappingIsNotFree};
-ghost use Rattle.burr.specs.AnswerLaws.{OneInput, OneAnswer};
+ghost use Rattle.burr.specs.AnswerLaws.{OneInput, SomeAnswer, OneAnswer};
 
 /// One thing stands next at a state of the bench, and a call of it has one result.
 pub fn a_step_has_one_result()
@@ -28,8 +28,9 @@ pub fn a_group_that_overlaps_is_not_free()
     ensures { OverlappingIsNotFree }
 {}
 
-/// An input is a text and code in one way, and it has one answer.
+/// An input is a text and code in one way at most; it has an answer, and only one.
 pub fn an_input_has_one_answer()
     ensures input { OneInput }
+    ensures some { SomeAnswer }
     ensures answer { OneAnswer }
 {}

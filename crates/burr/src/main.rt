@@ -11,6 +11,7 @@ mod reading;
 mod refusal;
 mod running;
 mod sheet;
+mod words;
 
 use std::process::ExitCode;
 

@@ -1,13 +1,14 @@
-ghost use Rattle.std.specs.Prelude.{◌≡◌, ◌<◌, ◌==◌, [], ◌∷◌, ◌++◌, false, length, take, IsTrue, MatchOption, OnErr, OnOk, slice_get, slice_index, slice_index_or};
+ghost use Rattle.std.specs.Prelude.{◌≡◌, ◌<◌, ◌==◌, [], ◌∷◌, false, codes, decimal, length, take, IsTrue, MatchOption, OnErr, OnOk, slice_get, slice_index, slice_index_or};
 ghost use Rattle.std.specs.List.{All, slice_split};
 ghost use Rattle.std.specs.Option.{option_map};
 ghost use Rattle.std.specs.Io.KnownBytes.{Appends};
 ghost use Rattle.burr_io.specs.Sink.{TakesFront};
 ghost use Rattle.burr.specs.Answering.{name_at, piece_lines, refusal};
-ghost use Rattle.burr.specs.RefusalText.{clash, place};
+ghost use Rattle.burr.specs.SheetText.{text_line};
 
+use crate::words::put_words;
 use burr_assembly::AssemblyFault;
-use burr_io::{Sink, WriteFault, put_all};
+use burr_io::{Sink, WriteFault};
 use itoa::Buffer;
 
 /// Puts the line of a text's fault, as `refused A4 line 7`, or `refused A8 line 7 A B` with the
@@ -46,12 +47,13 @@ pub fn put_refusal<W: Sink>(
 
 /// Puts a line with a rule and the line that breaks it.
 fn put_fault<W: Sink>(rule: &[u8], line: usize, sink: &mut W) -> Result<(), WriteFault>
-    ensures ok { OnOk result (Appends (W.taken sink.old) (W.taken sink.new) (place rule.now line ++ 10 ∷ [])) }
-    ensures err { OnErr result (TakesFront (W.taken sink.old) (W.taken sink.new) (place rule.now line ++ 10 ∷ [])) }
+    ensures ok { OnOk result (Appends (W.taken sink.old) (W.taken sink.new) (text_line (codes "refused" ∷ rule.now ∷ codes "line" ∷ decimal line ∷ []))) }
+    ensures err { OnErr result (TakesFront (W.taken sink.old) (W.taken sink.new) (text_line (codes "refused" ∷ rule.now ∷ codes "line" ∷ decimal line ∷ []))) }
     ensures fails { OnErr result (IsTrue (W.has_failed sink.new)) }
 {
-    put_place(rule, line, sink)?;
-    put_all(b"\n", sink)
+    let mut buffer = Buffer::new();
+    let line = buffer.format(line).as_bytes();
+    put_words(&[b"refused", rule, b"line", line], sink)
 }
 
 /// Puts a line with the names of two pieces of which the second shares a cell with the first.
@@ -61,36 +63,13 @@ fn put_clash<W: Sink>(
     second: &[u8],
     sink: &mut W,
 ) -> Result<(), WriteFault>
-    ensures ok { OnOk result (Appends (W.taken sink.old) (W.taken sink.new) (clash line first.now second.now)) }
-    ensures err { OnErr result (TakesFront (W.taken sink.old) (W.taken sink.new) (clash line first.now second.now)) }
+    ensures ok { OnOk result (Appends (W.taken sink.old) (W.taken sink.new) (text_line (codes "refused" ∷ codes "A8" ∷ codes "line" ∷ decimal line ∷ first.now ∷ second.now ∷ []))) }
+    ensures err { OnErr result (TakesFront (W.taken sink.old) (W.taken sink.new) (text_line (codes "refused" ∷ codes "A8" ∷ codes "line" ∷ decimal line ∷ first.now ∷ second.now ∷ []))) }
     ensures fails { OnErr result (IsTrue (W.has_failed sink.new)) }
 {
-    put_place(b"A8", line, sink)?;
-    put_word(first, sink)?;
-    put_word(second, sink)?;
-    put_all(b"\n", sink)
-}
-
-/// Puts a rule and the line that breaks it.
-fn put_place<W: Sink>(rule: &[u8], line: usize, sink: &mut W) -> Result<(), WriteFault>
-    ensures ok { OnOk result (Appends (W.taken sink.old) (W.taken sink.new) (place rule.now line)) }
-    ensures err { OnErr result (TakesFront (W.taken sink.old) (W.taken sink.new) (place rule.now line)) }
-    ensures fails { OnErr result (IsTrue (W.has_failed sink.new)) }
-{
-    put_all(b"refused", sink)?;
-    put_word(rule, sink)?;
-    put_word(b"line", sink)?;
-    put_word(Buffer::new().format(line).as_bytes(), sink)
-}
-
-/// Puts one more word of a line.
-fn put_word<W: Sink>(word: &[u8], sink: &mut W) -> Result<(), WriteFault>
-    ensures ok { OnOk result (Appends (W.taken sink.old) (W.taken sink.new) (32 ∷ word.now)) }
-    ensures err { OnErr result (TakesFront (W.taken sink.old) (W.taken sink.new) (32 ∷ word.now)) }
-    ensures fails { OnErr result (IsTrue (W.has_failed sink.new)) }
-{
-    put_all(b" ", sink)?;
-    put_all(word, sink)
+    let mut buffer = Buffer::new();
+    let line = buffer.format(line).as_bytes();
+    put_words(&[b"refused", b"A8", b"line", line, first, second], sink)
 }
 
 /// The name of a piece in a text whose lines are well formed as far as that piece: the second word

@@ -5,12 +5,12 @@ ghost use Rattle.burr.specs.Answering.{names_of};
 ghost use Rattle.burr.specs.SheetText.{alone};
 ghost use Rattle.burr.specs.SheetUnderWay.{blank, still, closing_of, outs_of, growing_text, line_of, is_one, PutsBefore, PutsMotion, PutsFront};
 
+mod ending;
 mod line;
-mod words;
 
 use crate::bench::{Motion, Trap};
 use crate::sheet::line::{Line, put_line};
-use crate::sheet::words::{put_closing, put_levels};
+use crate::sheet::ending::{put_closing, put_levels};
 use arrayvec::ArrayVec;
 use burr_assembly::Assembly;
 use burr_io::{Sink, WriteFault};

@@ -92,6 +92,8 @@ impl Place {
 }
 
 impl Default for Place {
+    ghost is_default = { λ place. place ≡ Apart };
+
     fn default() -> Place {
         Place::apart()
     }

@@ -9,7 +9,7 @@ ghost use Rattle.burr.specs.SheetText.{alone, move_line, names_from, text_line};
 ghost use Rattle.burr.specs.SheetUnderWay.{line_of, is_one};
 
 use crate::bench::Motion;
-use crate::sheet::words::{put_number, put_words};
+use crate::words::{put_number, put_words};
 use burr_assembly::Assembly;
 use burr_io::{Sink, WriteFault, put_all};
 use burr_voxels::Direction;

@@ -1,6 +1,7 @@
 use Rattle.burr.proofs.OneAnswer.{one_answer}
 use Rattle.burr.proofs.OneInput.{one_input}
+use Rattle.burr.proofs.SomeAnswer.{some_answer}
 use Rattle.burr.proofs.laws.an_input_has_one_answer.Goals as goal
 
 pub returns : goal.returns
-returns c = record { input = one_input; answer = one_answer }
+returns c = record { input = one_input; some = some_answer; answer = one_answer }

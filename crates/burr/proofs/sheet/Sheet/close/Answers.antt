@@ -1,21 +1,22 @@
 use Rattle.std.proofs.Common.{◌∷◌, [], codes}
 use Rattle.burr.specs.SheetText.{levels_word, closing_line, text_line}
 use Rattle.burr.specs.SheetUnderWay.{closing_of, growing_text}
-use Rattle.burr.proofs.SheetPuts.{HasPut-none, HasPut-more, HasPut-front, HasPut-last, HasPut-last_front, OnErr-always}
+use Rattle.burr.proofs.Deciders.{on_err}
+use Rattle.burr.proofs.SheetPuts.{HasPut-none, HasPut-more, HasPut-front, HasPut-last, HasPut-last_front}
 use Rattle.burr.proofs.SheetEnd.{still-end}
 use Rattle.burr.proofs.sheet.Sheet.close.Goals as goal
 
 pub returns-in_err-put_growing-clause-err : goal.returns-in_err-put_growing-clause-err
 returns-in_err-put_growing-clause-err g c =
     let none = HasPut-none _ _ (g.W.Sink.taken c.args.sink.now) (still-end c.self.inside c.args.self c.args.steps (closing_of c.args.closing) c.self.view_is) in
-    OnErr-always _ (HasPut-front (growing_text c.args.self) _ _ none c.in_err-put_growing.ensures.err)
+    on_err _ (HasPut-front (growing_text c.args.self) _ _ none c.in_err-put_growing.ensures.err)
 
 pub returns-in_err-put_levels-clause-err : goal.returns-in_err-put_levels-clause-err
 returns-in_err-put_levels-clause-err g c =
     let none = HasPut-none _ _ (g.W.Sink.taken c.args.sink.now) (still-end c.self.inside c.args.self c.args.steps (closing_of c.args.closing) c.self.view_is) in
     let growing = HasPut-more (growing_text c.args.self) none c.in_ok-put_growing.ensures.ok in
     let short = rw c.as_slice.ensures.value at c.in_err-put_levels.ensures.err in
-    OnErr-always _ (HasPut-front (text_line (codes "levels" ∷ levels_word c.self.inside.levels.items ∷ [])) _ _ growing short)
+    on_err _ (HasPut-front (text_line (codes "levels" ∷ levels_word c.self.inside.levels.items ∷ [])) _ _ growing short)
 
 pub returns-clause-ok : goal.returns-clause-ok
 returns-clause-ok g c =

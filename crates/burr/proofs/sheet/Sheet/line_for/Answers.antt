@@ -2,7 +2,7 @@ use Rattle.std.proofs.Common.{◌≡◌, true, false, refl, ap, sym, ◌∙◌, 
 use Rattle.burr.specs.SheetText.{alone}
 use Rattle.burr.specs.SheetUnderWay.{line_of, is_one}
 use Rattle.burr.specs.SheetView.{growing_of, under_way}
-use Rattle.burr.proofs.SheetPuts.{OnErr-always}
+use Rattle.burr.proofs.Deciders.{on_err}
 use Rattle.burr.proofs.SheetSteps.{PutsBefore-fresh, PutsBefore-other, PutsFront-other}
 use Rattle.burr.proofs.sheet.Sheet.line_for.Goals as goal
 
@@ -16,7 +16,7 @@ pub returns-in_err-put_line-clause-err : goal.returns-in_err-put_line-clause-err
 returns-in_err-put_line-clause-err g c =
     let other = sym c.is_of.ensures ∙ c.if-is_of.false in
     rw (← c.self.view_is)
-    (OnErr-always _ (PutsFront-other _ (under_way c.self.inside) c.args.motion (line_of c.in-Some.line false) (ap growing_of c.in-Some.is) refl other _ c.in_err-put_line.ensures.err))
+    (on_err _ (PutsFront-other _ (under_way c.self.inside) c.args.motion (line_of c.in-Some.line false) (ap growing_of c.in-Some.is) refl other _ c.in_err-put_line.ensures.err))
 
 pub returns-clause-ok : goal.returns-clause-ok
 returns-clause-ok g c =

@@ -1,7 +1,7 @@
 use Rattle.std.proofs.Common.{Some, false, refl}
 use Rattle.burr.specs.SheetUnderWay.{UnderWay, line_of}
 use Rattle.burr.specs.SheetView.{under_way}
-use Rattle.burr.proofs.SheetPuts.{OnErr-always}
+use Rattle.burr.proofs.Deciders.{on_err}
 use Rattle.burr.proofs.SheetSteps.{PutsMotion-step, PutsMotion-out, PutsFront-out}
 use Rattle.burr.proofs.sheet.Sheet.motion.Goals as goal
 use Rattle.burr.proofs.sheet.Sheet.motion.Goals.{then-motion+in_ok-put_line, else-motion}
@@ -11,7 +11,7 @@ returns-in_err-put_line-clause-err g c =
     let line = line_of c.in_ok-line.line false in
     let before = rw (← c.self.view_is) at c.in_ok-line.ensures.ok in
     let v : UnderWay = record (under_way c.self.inside) { growing = Some line } in
-    OnErr-always _ (PutsFront-out _ _ c.args.self.now v c.args.motion line before refl c.in_ok-line.ensures.one _ c.if-motion.true c.in_err-put_line.ensures.err)
+    on_err _ (PutsFront-out _ _ c.args.self.now v c.args.motion line before refl c.in_ok-line.ensures.one _ c.if-motion.true c.in_err-put_line.ensures.err)
 
 pub returns-clause-ok : goal.returns-clause-ok
 returns-clause-ok g c =

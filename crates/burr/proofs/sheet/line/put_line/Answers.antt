@@ -4,27 +4,28 @@ use Rattle.burr_voxels.specs.Grid.{name_of}
 use Rattle.burr.specs.Answering.{names_of}
 use Rattle.burr.specs.SheetText.{names_from, text_line}
 use Rattle.burr.specs.SheetUnderWay.{line_of}
-use Rattle.burr.proofs.SheetPuts.{HasPut-none, HasPut-more, HasPut-front, HasPut-last, HasPut-last_front, OnErr-always}
+use Rattle.burr.proofs.Deciders.{on_err}
+use Rattle.burr.proofs.SheetPuts.{HasPut-none, HasPut-more, HasPut-front, HasPut-last, HasPut-last_front}
 use Rattle.burr.proofs.SheetWords.{move_line-parts}
 use Rattle.burr.proofs.sheet.line.put_line.Goals as goal
 
 pub returns-in_err-put_number-clause-err : goal.returns-in_err-put_number-clause-err
 returns-in_err-put_number-clause-err g c =
     let none = HasPut-none _ _ (g.W.Sink.taken c.args.sink.now) (move_line-parts (names_of c.args.assembly.now) c.args.number (line_of c.args.line c.args.out)) in
-    OnErr-always _ (HasPut-front (decimal c.args.number) _ _ none c.in_err-put_number.ensures.err)
+    on_err _ (HasPut-front (decimal c.args.number) _ _ none c.in_err-put_number.ensures.err)
 
 pub returns-in_err-put_all-clause-err : goal.returns-in_err-put_all-clause-err
 returns-in_err-put_all-clause-err g c =
     let none = HasPut-none _ _ (g.W.Sink.taken c.args.sink.now) (move_line-parts (names_of c.args.assembly.now) c.args.number (line_of c.args.line c.args.out)) in
     let number = HasPut-more (decimal c.args.number) none c.in_ok-put_number.ensures.ok in
-    OnErr-always _ (HasPut-front (codes " t") _ _ number c.in_err-put_all.ensures.err)
+    on_err _ (HasPut-front (codes " t") _ _ number c.in_err-put_all.ensures.err)
 
 pub returns-in_err-put_number-2-clause-err : goal.returns-in_err-put_number-2-clause-err
 returns-in_err-put_number-2-clause-err g c =
     let none = HasPut-none _ _ (g.W.Sink.taken c.args.sink.now) (move_line-parts (names_of c.args.assembly.now) c.args.number (line_of c.args.line c.args.out)) in
     let number = HasPut-more (decimal c.args.number) none c.in_ok-put_number.ensures.ok in
     let mark = HasPut-more (codes " t") number c.in_ok-put_all.ensures.ok in
-    OnErr-always _ (HasPut-front (decimal c.args.line.tray) _ _ mark c.in_err-put_number-2.ensures.err)
+    on_err _ (HasPut-front (decimal c.args.line.tray) _ _ mark c.in_err-put_number-2.ensures.err)
 
 pub returns-in_err-put_all-2-clause-err : goal.returns-in_err-put_all-2-clause-err
 returns-in_err-put_all-2-clause-err g c =
@@ -32,7 +33,7 @@ returns-in_err-put_all-2-clause-err g c =
     let number = HasPut-more (decimal c.args.number) none c.in_ok-put_number.ensures.ok in
     let mark = HasPut-more (codes " t") number c.in_ok-put_all.ensures.ok in
     let tray = HasPut-more (decimal c.args.line.tray) mark c.in_ok-put_number-2.ensures.ok in
-    OnErr-always _ (HasPut-front (codes " ") _ _ tray c.in_err-put_all-2.ensures.err)
+    on_err _ (HasPut-front (codes " ") _ _ tray c.in_err-put_all-2.ensures.err)
 
 pub returns-in_err-put_names-clause-err : goal.returns-in_err-put_names-clause-err
 returns-in_err-put_names-clause-err g c =
@@ -41,7 +42,7 @@ returns-in_err-put_names-clause-err g c =
     let mark = HasPut-more (codes " t") number c.in_ok-put_all.ensures.ok in
     let tray = HasPut-more (decimal c.args.line.tray) mark c.in_ok-put_number-2.ensures.ok in
     let space = HasPut-more (codes " ") tray c.in_ok-put_all-2.ensures.ok in
-    OnErr-always _ (HasPut-front (join_with_byte 44 (names_from 0 c.args.line.group (names_of c.args.assembly.now))) _ _ space c.in_err-put_names.ensures.err)
+    on_err _ (HasPut-front (join_with_byte 44 (names_from 0 c.args.line.group (names_of c.args.assembly.now))) _ _ space c.in_err-put_names.ensures.err)
 
 pub returns-in_err-put_all-3-clause-err : goal.returns-in_err-put_all-3-clause-err
 returns-in_err-put_all-3-clause-err g c =
@@ -51,7 +52,7 @@ returns-in_err-put_all-3-clause-err g c =
     let tray = HasPut-more (decimal c.args.line.tray) mark c.in_ok-put_number-2.ensures.ok in
     let space = HasPut-more (codes " ") tray c.in_ok-put_all-2.ensures.ok in
     let names = HasPut-more (join_with_byte 44 (names_from 0 c.args.line.group (names_of c.args.assembly.now))) space c.in_ok-put_names.ensures.ok in
-    OnErr-always _ (HasPut-front (codes " ") _ _ names c.in_err-put_all-3.ensures.err)
+    on_err _ (HasPut-front (codes " ") _ _ names c.in_err-put_all-3.ensures.err)
 
 pub returns-clause-ok : goal.returns-clause-ok
 returns-clause-ok g c =

@@ -1,7 +1,8 @@
 use Rattle.std.proofs.Common.{◌<◌, length, append-nil, ◌∙◌, sym, arith}
 use Rattle.burr.specs.Answering.{names_of}
 use Rattle.burr.specs.SheetText.{names_from}
-use Rattle.burr.proofs.SheetPuts.{HasPut-none, joined_behind-join, joined-separator_front, joined-part_front, joined-more, joined-same, OnErr-always}
+use Rattle.burr.proofs.Deciders.{on_err}
+use Rattle.burr.proofs.SheetPuts.{HasPut-none, joined_behind-join, joined-separator_front, joined-part_front, joined-more, joined-same}
 use Rattle.burr.proofs.SheetWords.{names_from-in, names_from-out}
 use Rattle.burr.proofs.sheet.line.put_names.Goals as goal
 use Rattle.burr.proofs.sheet.line.put_names.Goals.{then-is_in+in_ok-put_all+in_ok-put_all-2, else-is_in}
@@ -14,14 +15,14 @@ pub returns-in_err-put_all-clause-err : goal.returns-in_err-put_all-clause-err
 returns-in_err-put_all-clause-err g c =
     let inside : c.loop-piece.piece < length c.args.assembly.now.pieces = omega arith in
     let next = names_from-in c.args.assembly.now.pieces c.loop-piece.piece c.args.group inside _ (sym c.is_in.ensures ∙ c.if-is_in.true) c.piece_name.ensures in
-    OnErr-always _ (joined-separator_front _ 44 _ _ _ _ next c.loop-piece.invariant _ c.in_err-put_all.ensures.err)
+    on_err _ (joined-separator_front _ 44 _ _ _ _ next c.loop-piece.invariant _ c.in_err-put_all.ensures.err)
 
 pub returns-in_err-put_all-2-clause-err : goal.returns-in_err-put_all-2-clause-err
 returns-in_err-put_all-2-clause-err g c =
     let inside : c.loop-piece.piece < length c.args.assembly.now.pieces = omega arith in
     let next = names_from-in c.args.assembly.now.pieces c.loop-piece.piece c.args.group inside _ (sym c.is_in.ensures ∙ c.if-is_in.true) c.piece_name.ensures in
     let goes = rw c.as_bytes-name.ensures.value at c.in_err-put_all-2.ensures.err in
-    OnErr-always _ (joined-part_front _ 44 _ _ _ _ next c.loop-piece.invariant _ _ c.in_ok-put_all.ensures.ok goes)
+    on_err _ (joined-part_front _ 44 _ _ _ _ next c.loop-piece.invariant _ _ c.in_ok-put_all.ensures.ok goes)
 
 pub loop-piece-preserved : goal.loop-piece-preserved
 loop-piece-preserved g c =

@@ -1,9 +1,10 @@
-use Rattle.std.proofs.Common.{rules, arith, ◌∙◌, ◌≡◌, replicate, length, sym, refl}
+use Rattle.std.proofs.Common.{rules, ◌∙◌, ◌≡◌, length, sym, refl}
 use Rattle.std.proofs.lemmas.List.{length-map}
+use Rattle.std.proofs.lemmas.Simd.{splat_is_map}
 use Rattle.burr_voxels.specs.Places.{On}
 use Rattle.burr.specs.Bench.{origin}
 use Rattle.burr.specs.Homes.{home_of, homes_of}
-use Rattle.burr.proofs.StepLemmas.{start_places, start_parts}
+use Rattle.burr.proofs.StepLemmas.{start_parts}
 use Rattle.burr.proofs.bench.plain.PlainBench.start.Goals as goal
 
 -- so many homes as pieces were placed
@@ -13,7 +14,7 @@ all_placed c =
     count ∙ sym (length-map c.args.assembly.now.pieces (home_of c.args.assembly.now.shapes))
 
 pub returns-clause-state : goal.returns-clause-state
-returns-clause-state c = rw (c.loop-piece.invariant ∙ start_places (On 0 origin) (homes_of c.args.assembly.now) c.loop-piece._piece (all_placed c)) refl
+returns-clause-state c = rw (c.loop-piece.invariant ∙ splat_is_map (homes_of c.args.assembly.now) c.loop-piece._piece (On 0 origin) (sym (all_placed c))) refl
 
 pub returns-clause-parts : goal.returns-clause-parts
 returns-clause-parts c = rw c.loop-piece.invariant (start_parts c.loop-piece._piece origin (search rules))

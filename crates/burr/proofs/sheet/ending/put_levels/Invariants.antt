@@ -1,7 +1,7 @@
 use Rattle.std.proofs.Common.{◌∷◌, [], map, drop, codes, decimal}
 use Rattle.burr.specs.SheetText.{text_line, levels_word}
 use Rattle.burr.proofs.SheetPuts.{HasPut, joined_rest}
-use Rattle.burr.proofs.sheet.words.put_levels.Given as goal
+use Rattle.burr.proofs.sheet.ending.put_levels.Given as goal
 
 -- the levels to come, each behind its separator, are to be put
 abbrev pub invariant-loop-level : goal.invariant-loop-level

@@ -1,11 +1,12 @@
 use Rattle.std.proofs.Common.{◌<◌, ◌++◌, ◌∷◌, [], length, refl, ap, codes, decimal, rules}
-use Rattle.burr.proofs.SheetPuts.{HasPut-none, HasPut-more, HasPut-front, joined-separator_front, joined-part_front, joined-more, OnErr-always, map-drop-cons}
+use Rattle.burr.proofs.Deciders.{on_err}
+use Rattle.burr.proofs.SheetPuts.{HasPut-none, HasPut-more, HasPut-front, joined-separator_front, joined-part_front, joined-more, map-drop-cons}
 use Rattle.burr.proofs.SheetWords.{levels_word-some}
-use Rattle.burr.proofs.sheet.words.put_levels.Goals as goal
+use Rattle.burr.proofs.sheet.ending.put_levels.Goals as goal
 
 pub returns-in_err-put_all-clause-err : goal.returns-in_err-put_all-clause-err
 returns-in_err-put_all-clause-err g c =
-    OnErr-always _ (HasPut-front (codes "levels ") _ _ (HasPut-none _ _ _ refl) c.in_err-put_all.ensures.err)
+    on_err _ (HasPut-front (codes "levels ") _ _ (HasPut-none _ _ _ refl) c.in_err-put_all.ensures.err)
 
 pub loop-level-init : goal.loop-level-init
 loop-level-init g c =
@@ -15,12 +16,12 @@ loop-level-init g c =
 pub returns-in_err-put_all-2-clause-err : goal.returns-in_err-put_all-2-clause-err
 returns-in_err-put_all-2-clause-err g c =
     let next = map-drop-cons decimal c.args.levels.now c.loop-level.level-index 0 c.loop-level-test.true in
-    OnErr-always _ (joined-separator_front _ 46 _ _ _ _ next c.loop-level.invariant _ c.in_err-put_all-2.ensures.err)
+    on_err _ (joined-separator_front _ 46 _ _ _ _ next c.loop-level.invariant _ c.in_err-put_all-2.ensures.err)
 
 pub returns-in_err-put_number-clause-err : goal.returns-in_err-put_number-clause-err
 returns-in_err-put_number-clause-err g c =
     let next = map-drop-cons decimal c.args.levels.now c.loop-level.level-index 0 c.loop-level-test.true in
-    OnErr-always _ (joined-part_front _ 46 _ _ _ _ next c.loop-level.invariant _ _ c.in_ok-put_all-2.ensures.ok c.in_err-put_number.ensures.err)
+    on_err _ (joined-part_front _ 46 _ _ _ _ next c.loop-level.invariant _ _ c.in_ok-put_all-2.ensures.ok c.in_err-put_number.ensures.err)
 
 pub loop-level-preserved : goal.loop-level-preserved
 loop-level-preserved g c =

@@ -1,6 +1,7 @@
 use Rattle.std.proofs.Common.{◌++◌, ◌∷◌, [], map, ap}
-use Rattle.burr.proofs.SheetPuts.{HasPut-none, joined_behind-join, joined-separator_front, joined-part_front, joined-more, OnErr-always, map-drop-cons}
-use Rattle.burr.proofs.sheet.words.put_words.Goals as goal
+use Rattle.burr.proofs.Deciders.{on_err}
+use Rattle.burr.proofs.SheetPuts.{HasPut-none, joined_behind-join, joined-separator_front, joined-part_front, joined-more, map-drop-cons}
+use Rattle.burr.proofs.words.put_words.Goals as goal
 
 pub loop-word-init : goal.loop-word-init
 loop-word-init g c = HasPut-none _ _ _ (ap (λ t. t ++ 10 ∷ []) (joined_behind-join 32 (map (λ w. w.now) c.args.words.now)))
@@ -8,12 +9,12 @@ loop-word-init g c = HasPut-none _ _ _ (ap (λ t. t ++ 10 ∷ []) (joined_behind
 pub returns-in_err-put_all-clause-err : goal.returns-in_err-put_all-clause-err
 returns-in_err-put_all-clause-err g c =
     let next = map-drop-cons (λ w. w.now) c.args.words.now c.loop-word.word-index c.loop-word.separator c.loop-word-test.true in
-    OnErr-always _ (joined-separator_front _ 32 _ _ _ _ next c.loop-word.invariant _ c.in_err-put_all.ensures.err)
+    on_err _ (joined-separator_front _ 32 _ _ _ _ next c.loop-word.invariant _ c.in_err-put_all.ensures.err)
 
 pub returns-in_err-put_all-2-clause-err : goal.returns-in_err-put_all-2-clause-err
 returns-in_err-put_all-2-clause-err g c =
     let next = map-drop-cons (λ w. w.now) c.args.words.now c.loop-word.word-index _ c.loop-word-test.true in
-    OnErr-always _ (joined-part_front _ 32 _ _ _ _ next c.loop-word.invariant _ _ c.in_ok-put_all.ensures.ok c.in_err-put_all-2.ensures.err)
+    on_err _ (joined-part_front _ 32 _ _ _ _ next c.loop-word.invariant _ _ c.in_ok-put_all.ensures.ok c.in_err-put_all-2.ensures.err)
 
 pub loop-word-preserved : goal.loop-word-preserved
 loop-word-preserved g c =
