@@ -1,14 +1,16 @@
 -- Worked rows of the definitions.
-use Rattle.std.specs.Prelude.{◌≡◌, ℕ, List, [], ◌∷◌, codes, true, false, refl, pos}
+use Rattle.std.specs.Prelude.{◌≡◌, ℕ, List, [], ◌∷◌, codes, true, false, refl}
 use Rattle.std.specs.Fmt.{digits}
 use Rattle.burr_voxels.specs.declared.direction.Direction.TheVariants.{PlusX, MinusX, PlusY, PlusZ}
 use Rattle.burr_voxels.specs.declared.cell.Cell.{Cell}
-use Rattle.burr_voxels.specs.Places.{Placed, On, Apart, aside_places}
+use Rattle.burr_voxels.specs.Places.{On, Apart, aside_places}
 use Rattle.burr_assembly.specs.declared.fault.AssemblyFault.TheVariants.{A4, A8}
-use Rattle.burr.specs.declared.bench.trap.Trap.TheVariants.{NotFree, GripOff, TrayInUse}
+use Rattle.burr.specs.declared.bench.trap.Trap.TheVariants.{NotFree, TrayInUse}
 use Rattle.burr.specs.Bench.{origin}
 use Rattle.burr.specs.Step.{motion_of}
-use Rattle.burr.specs.Run.{IsApart, IsTrapped, IsStopped}
+use Rattle.burr.specs.declared.bench.motion.Motion.{Motion}
+use Rattle.burr.specs.Run.{Closing, IsApart, IsTrapped, IsStopped}
+use Rattle.burr.specs.SheetUnderWay.{blank, still}
 use Rattle.burr.specs.SheetText.{sheet}
 use Rattle.burr.specs.Parts.{parts}
 use Rattle.burr.specs.Answering.{hex, refusal}
@@ -77,3 +79,7 @@ refused = refl
 pub refused_names : refusal (codes "assembly duo\npiece A cube +x+y+z 0 0 0\npiece B cube +x+y+z 0 0 0\n") (A8 7 0 1) ≡ codes "refused A8 line 7 A B\n"
 unfolding digits
 refused_names = refl
+
+-- of a sheet that no motion has come to, all is still to be written
+pub blank_sheet : (names : List (List ℕ)) (motions : List Motion) (steps : ℕ) (closing : Closing) → still (blank names) motions steps closing ≡ sheet names motions steps closing
+blank_sheet names motions steps closing = refl

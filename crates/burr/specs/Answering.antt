@@ -1,5 +1,5 @@
 -- What the program writes for its input.
-use Rattle.std.specs.Prelude.{◌≡◌, ℕ, ◌+◌, suc, ◌/◌, ◌%◌, ◌≤◌, ◌<◌, ◌==◌, List, [], ◌∷◌, ◌++◌, length, take, drop, map, codes, decimal, ◌⊎◌, if◌then◌else◌, nat_lt, slice_index_or, bytes_eq}
+use Rattle.std.specs.Prelude.{◌≡◌, ℕ, ◌+◌, ◌/◌, ◌%◌, ◌≤◌, ◌<◌, ◌==◌, List, [], ◌∷◌, ◌++◌, length, take, drop, map, codes, decimal, ◌⊎◌, if◌then◌else◌, nat_lt, slice_index_or, bytes_eq}
 use Rattle.std.specs.List.{All, flat_map, slice_split}
 use Rattle.burr_voxels.specs.declared.cell.Cell.{Cell}
 use Rattle.burr_assembly.specs.declared.fault.AssemblyFault.{AssemblyFault}

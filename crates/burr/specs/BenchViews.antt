@@ -1,5 +1,5 @@
 -- What the plain bench stands for.
-use Rattle.std.specs.Prelude.{◌≡◌, ◌≤◌, ◌+◌, ℕ, if◌then◌else◌, length, List, [], Option, Some, None, replicate, Contains, MatchOption, Result, Ok, Err, IsBitSet}
+use Rattle.std.specs.Prelude.{◌≡◌, ◌≤◌, ◌+◌, ℕ, if◌then◌else◌, length, List, [], Option, Some, None, replicate, Contains, Result, Ok, Err, IsBitSet}
 use Rattle.burr_voxels.specs.declared.cell.Cell.{Cell}
 use Rattle.burr_voxels.specs.declared.direction.Direction.{Direction}
 use Rattle.burr_voxels.specs.Grid.{IsAhead, shifted}

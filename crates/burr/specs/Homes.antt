@@ -1,5 +1,5 @@
 -- The cells of an assembly's pieces at home, as a function of the assembly.
-use Rattle.std.specs.Prelude.{◌≡◌, ℕ, List, [], ◌∷◌, map, if◌then◌else◌, bytes_eq}
+use Rattle.std.specs.Prelude.{List, [], ◌∷◌, map, if◌then◌else◌, bytes_eq}
 use Rattle.burr_voxels.specs.declared.cell.Cell.{Cell}
 use Rattle.burr_assembly.specs.Text.{Assembly, Drawing, Piece, home_cells, drawn_cells}
 

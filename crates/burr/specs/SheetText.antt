@@ -1,11 +1,10 @@
 -- The sheet of a run: its motions in lines, the levels, and how it closed.
-use Rattle.std.specs.Prelude.{◌≡◌, ℕ, suc, ◌+◌, List, [], ◌∷◌, ◌++◌, Bool, true, false, ◌&&◌, not, ◌==◌, if◌then◌else◌, codes, map, decimal}
-use Rattle.std.specs.List.{join_with_byte, flat_map}
+use Rattle.std.specs.Prelude.{ℕ, suc, ◌+◌, List, [], ◌∷◌, ◌++◌, Bool, ◌&&◌, not, ◌==◌, if◌then◌else◌, codes, map, decimal}
+use Rattle.std.specs.List.{join_with_byte}
 use Rattle.std.specs.Int.{bit_at}
 use Rattle.std.specs.Fmt.{signed_decimal}
 use Rattle.burr_voxels.specs.declared.direction.Direction.{Direction}
 use Rattle.burr_voxels.specs.Grid.{number_of, name_of}
-use Rattle.burr.specs.declared.bench.trap.Trap.{Trap}
 use Rattle.burr.specs.declared.bench.motion.Motion.{Motion}
 use Rattle.burr.specs.TrapNames.{trap_number, trap_name}
 use Rattle.burr.specs.Run.{Closing, IsApart, Waits, IsTrapped, IsStopped}

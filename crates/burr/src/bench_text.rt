@@ -44,11 +44,21 @@ pub fn bench_text<R: Source, W: Sink>(
     sink: &mut W,
 ) -> Result<Outcome, BenchFault>
     ensures ok { IfOk result (λ outcome. Answered (record {
-        left_old = R.left source.old; left_new = R.left source.new; read_failed = R.has_failed source.new;
-        taken_old = W.taken sink.old; taken_new = W.taken sink.new; write_failed = W.has_failed sink.new }) outcome) }
+      left_old = R.left source.old;
+      left_new = R.left source.new;
+      read_failed = R.has_failed source.new;
+      taken_old = W.taken sink.old;
+      taken_new = W.taken sink.new;
+      write_failed = W.has_failed sink.new;
+    }) outcome) }
     ensures err { IfErr result (λ fault. NotAnswered (record {
-        left_old = R.left source.old; left_new = R.left source.new; read_failed = R.has_failed source.new;
-        taken_old = W.taken sink.old; taken_new = W.taken sink.new; write_failed = W.has_failed sink.new }) fault) }
+      left_old = R.left source.old;
+      left_new = R.left source.new;
+      read_failed = R.has_failed source.new;
+      taken_old = W.taken sink.old;
+      taken_new = W.taken sink.new;
+      write_failed = W.has_failed sink.new;
+    }) fault) }
 {
     let input = read_whole(alloc, source)?;
     answer(alloc, &input, sink)
@@ -84,7 +94,11 @@ fn answer_text<W: Sink>(
 }
 
 /// Refuses an input whose text has a fault.
-fn refuse_text<W: Sink>(text: &[u8], fault: AssemblyFault, sink: &mut W) -> Result<Outcome, WriteFault>
+fn refuse_text<W: Sink>(
+    text: &[u8],
+    fault: AssemblyFault,
+    sink: &mut W,
+) -> Result<Outcome, WriteFault>
     ensures ok { OnOk result (Appends (W.taken sink.old) (W.taken sink.new) (refusal text.now fault)) }
     ensures refused { IfOk result (λ outcome. outcome ≡ Refused) }
     ensures err { OnErr result (TakesFront (W.taken sink.old) (W.taken sink.new) (refusal text.now fault)) }

@@ -9,8 +9,8 @@ mod ending;
 mod line;
 
 use crate::bench::{Motion, Trap};
-use crate::sheet::line::{Line, put_line};
 use crate::sheet::ending::{put_closing, put_levels};
+use crate::sheet::line::{Line, put_line};
 use arrayvec::ArrayVec;
 use burr_assembly::Assembly;
 use burr_io::{Sink, WriteFault};

@@ -7,8 +7,8 @@ ghost use Rattle.burr.specs.SheetUnderWay.{closing_of};
 
 use crate::bench::Trap;
 use crate::sheet::Closing;
-use burr_io::{Sink, WriteFault, put_all};
 use crate::words::{put_number, put_words};
+use burr_io::{Sink, WriteFault, put_all};
 use itoa::Buffer;
 
 /// Puts how a run closed, as `apart in 3 steps`.

@@ -1,6 +1,6 @@
-use Rattle.std.proofs.Common.{rules, refl, subst}
-use Rattle.burr.specs.Answering.{Answers, IsInput}
-use Rattle.burr.proofs.AnswerLemmas.{write_fails, front_of_refused, text_puts, text_fails}
+use Rattle.std.proofs.Common.{rules}
+use Rattle.burr.specs.Answering.{Answers}
+use Rattle.burr.proofs.Runs.WholeInput.{write_fails, front_of_refused, text_puts, text_fails}
 use Rattle.burr.proofs.bench_text.answer.Goals as goal
 
 pub returns-in_err-refuse_input-in-None-clause-err : goal.returns-in_err-refuse_input-in-None-clause-err

@@ -1,6 +1,6 @@
-use Rattle.std.proofs.Common.{rules, refl}
+use Rattle.std.proofs.Common.{rules}
 use Rattle.burr.specs.Answering.{TextAnswers}
-use Rattle.burr.proofs.AnswerLemmas.{write_fails, front_of_fault, no_answer}
+use Rattle.burr.proofs.Runs.WholeInput.{write_fails, front_of_fault, no_answer}
 use Rattle.burr.proofs.bench_text.answer_text.Goals as goal
 
 pub returns-in_err-refuse_text-in-Err : goal.returns-in_err-refuse_text-in-Err

@@ -1,6 +1,5 @@
-use Rattle.std.proofs.Common.{rules}
 use Rattle.burr.specs.BenchText.{Streams}
-use Rattle.burr.proofs.AnswerLemmas.{whole_answered, whole_fails}
+use Rattle.burr.proofs.Runs.WholeInput.{whole_answered, whole_fails}
 use Rattle.burr.proofs.bench_text.bench_text.Given as given
 use Rattle.burr.proofs.bench_text.bench_text.Goals as goal
 

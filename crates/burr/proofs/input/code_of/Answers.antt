@@ -1,6 +1,6 @@
 use Rattle.std.proofs.Common.{arith, inl, inr, sym}
 use Rattle.std.proofs.lemmas.Bool.Decides.{nat_tests}
-use Rattle.burr.proofs.InputDigits.{IsCodeLine-decoded, IsDigits-line, decodes_line}
+use Rattle.burr.proofs.Inputs.Digits.{IsCodeLine-decoded, IsDigits-line, decodes_line}
 use Rattle.burr.proofs.input.code_of.Goals as goal
 use Rattle.burr.proofs.input.code_of.Goals.{then-is_empty-via-then-is_empty, then-is_empty-via-else-is_empty+then-digits, then-is_empty-via-else-is_empty+else-digits+then-not-are_digits}
 

@@ -1,4 +1,4 @@
-use Rattle.burr.proofs.InputForm.{IsInput-cut}
+use Rattle.burr.proofs.Inputs.Form.{IsInput-cut}
 use Rattle.burr.proofs.input.parse_input.Goals as goal
 
 pub returns-in-None : goal.returns-in-None

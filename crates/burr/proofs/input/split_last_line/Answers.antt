@@ -1,4 +1,4 @@
-use Rattle.burr.proofs.InputLines.{IsCutAt-behind, IsCutAt-with_end}
+use Rattle.burr.proofs.Inputs.Cuts.{IsCutAt-behind, IsCutAt-with_end}
 use Rattle.burr.proofs.input.split_last_line.Goals as goal
 
 pub returns-in-Some : goal.returns-in-Some

@@ -1,6 +1,6 @@
-use Rattle.burr.proofs.OneAnswer.{one_answer}
-use Rattle.burr.proofs.OneInput.{one_input}
-use Rattle.burr.proofs.SomeAnswer.{some_answer}
+use Rattle.burr.proofs.Uniqueness.OneAnswer.{one_answer}
+use Rattle.burr.proofs.Uniqueness.OneInput.{one_input}
+use Rattle.burr.proofs.Existence.SomeAnswer.{some_answer}
 use Rattle.burr.proofs.laws.an_input_has_one_answer.Goals as goal
 
 pub returns : goal.returns

@@ -1,4 +1,4 @@
-use Rattle.burr.proofs.RefusalNames.{first_word-all, first_word-at}
+use Rattle.burr.proofs.Inputs.PieceNames.{first_word-all, first_word-at}
 use Rattle.burr.proofs.refusal.first_word.Goals as goal
 
 pub returns-in-Some : goal.returns-in-Some

@@ -1,4 +1,4 @@
-use Rattle.burr.proofs.RefusalNames.{name_at-none}
+use Rattle.burr.proofs.Inputs.PieceNames.{name_at-none}
 use Rattle.burr.proofs.refusal.piece_name.Goals as goal
 
 pub returns-in-None : goal.returns-in-None

@@ -2,7 +2,7 @@ use Rattle.std.proofs.Common.{rules, tests, ◌==◌, ◌∷◌, [], length}
 use Rattle.std.proofs.lemmas.List.{length-append}
 use Rattle.std.proofs.lemmas.Iterator.Consumers.{YieldsList-at, YieldsList-end, YieldsList-turn}
 use Rattle.std.proofs.lemmas.Iterator.Splits.{YieldsList-from_slice_split}
-use Rattle.burr.proofs.RefusalNames.{IsAhead-here, IsAhead-none, IsAhead-other, IsAhead-piece}
+use Rattle.burr.proofs.Inputs.PieceNames.{IsAhead-here, IsAhead-none, IsAhead-other, IsAhead-piece}
 use Rattle.burr.proofs.refusal.piece_words.Goals as goal
 
 pub returns-then-left-eq0 : goal.returns-then-left-eq0

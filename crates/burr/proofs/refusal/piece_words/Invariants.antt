@@ -1,7 +1,7 @@
 use Rattle.std.proofs.Common.{length}
 use Rattle.std.specs.Prelude.{slice_get}
 use Rattle.burr.specs.Answering.{lines_of, piece_lines}
-use Rattle.burr.proofs.RefusalNames.{IsAhead}
+use Rattle.burr.proofs.Inputs.PieceNames.{IsAhead}
 use Rattle.burr.proofs.refusal.piece_words.Given as goal
 
 -- the piece's line is among the lines that are left

@@ -1,19 +1,18 @@
-use Rattle.std.proofs.Common.{rules, refl, ◌∙◌}
 use Rattle.burr.specs.SheetUnderWay.{closing_of}
-use Rattle.burr.proofs.Deciders.{on_err}
-use Rattle.burr.proofs.RunningLemmas.{IsFresh, in_step_fresh, run_written, run_failed, close_failed}
+use Rattle.burr.proofs.Stepping.Tests.{on_err}
+use Rattle.burr.proofs.Runs.StepByStep.{IsFresh, run_written, run_failed, close_failed}
 use Rattle.burr.proofs.running.run_bare.Goals as goal
 
 pub returns-in_err-closing-clause-err : goal.returns-in_err-closing-clause-err
 returns-in_err-closing-clause-err g c =
     let fresh : IsFresh c.start-bench.result c.new-sheet.result c.args.assembly.now c.args.code.now =
-        record { assembly = c.start-bench.ensures.assembly; code_is = c.start-bench.ensures.code; state = c.start-bench.ensures.state; sheet = c.new-sheet.ensures } in
+    record { assembly = c.start-bench.ensures.assembly; code_is = c.start-bench.ensures.code; state = c.start-bench.ensures.state; sheet = c.new-sheet.ensures } in
     on_err c.from_residual.result (run_failed c.start-bench.result c.new-sheet.result c.args.assembly.now c.args.code.now _ _ c.requires.whole fresh c.in_err-closing.ensures.err)
 
 pub returns-in_err-close-clause-err : goal.returns-in_err-close-clause-err
 returns-in_err-close-clause-err g c =
     let fresh : IsFresh c.start-bench.result c.new-sheet.result c.args.assembly.now c.args.code.now =
-        record { assembly = c.start-bench.ensures.assembly; code_is = c.start-bench.ensures.code; state = c.start-bench.ensures.state; sheet = c.new-sheet.ensures } in
+    record { assembly = c.start-bench.ensures.assembly; code_is = c.start-bench.ensures.code; state = c.start-bench.ensures.state; sheet = c.new-sheet.ensures } in
     on_err c.from_residual-in_err-close.result
     (close_failed c.start-bench.result c.run_to_close.new.bench c.new-sheet.result c.run_to_close.new.sheet c.args.assembly.now c.args.code.now _ _ _ (closing_of c.in_ok-closing.closing) c.steps.result
     c.requires.whole fresh c.in_ok-closing.ensures.ok c.steps.ensures c.in_err-close.ensures.err)
@@ -21,6 +20,6 @@ returns-in_err-close-clause-err g c =
 pub returns-clause-ok : goal.returns-clause-ok
 returns-clause-ok g c =
     let fresh : IsFresh c.start-bench.result c.new-sheet.result c.args.assembly.now c.args.code.now =
-        record { assembly = c.start-bench.ensures.assembly; code_is = c.start-bench.ensures.code; state = c.start-bench.ensures.state; sheet = c.new-sheet.ensures } in
+    record { assembly = c.start-bench.ensures.assembly; code_is = c.start-bench.ensures.code; state = c.start-bench.ensures.state; sheet = c.new-sheet.ensures } in
     run_written c.start-bench.result c.run_to_close.new.bench c.new-sheet.result c.run_to_close.new.sheet c.args.assembly.now c.args.code.now _ _ _ (closing_of c.in_ok-closing.closing) c.steps.result
     c.outcome.result c.requires.whole fresh c.in_ok-closing.ensures.ok c.steps.ensures c.in_ok-close.ensures.ok c.outcome.ensures

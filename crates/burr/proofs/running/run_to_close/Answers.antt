@@ -1,13 +1,11 @@
-use Rattle.std.proofs.Common.{rules, refl, subst, sym, ap, [], arith, ◌≡◌}
-use Rattle.burr.specs.declared.bench.mode.Mode.TheVariants.{Running}
-use Rattle.burr.specs.Bench.{Setup}
-use Rattle.burr.specs.Run.{IsApart, IsStopped, IsTrapped, ends, stops, traps}
+use Rattle.std.proofs.Common.{subst, sym, []}
+use Rattle.burr.specs.Run.{IsApart, IsStopped, ends, stops}
 use Rattle.std.specs.Prelude.{Option}
 use Rattle.burr.specs.declared.bench.trap.Trap.{Trap}
 use Rattle.burr.specs.Running.{StepOrTrap}
-use Rattle.burr.specs.BenchViews.{Benched, setup_of}
-use Rattle.burr.proofs.Deciders.{on_err, yes_of, no_of}
-use Rattle.burr.proofs.RunningLemmas.{still_running, closes_behind, closes_trapped, step_joins, step_fails}
+use Rattle.burr.specs.BenchViews.{setup_of}
+use Rattle.burr.proofs.Stepping.Tests.{on_err, yes_of, no_of}
+use Rattle.burr.proofs.Runs.StepByStep.{still_running, closes_behind, closes_trapped, step_joins, step_fails}
 use Rattle.burr.proofs.running.run_to_close.Goals as goal
 
 pub returns-then-ended-clause-ok : goal.returns-then-ended-clause-ok

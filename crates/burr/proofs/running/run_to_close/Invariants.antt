@@ -1,4 +1,4 @@
-use Rattle.std.proofs.Common.{◌≡◌, ◌-◌}
+use Rattle.std.proofs.Common.{◌-◌}
 use Rattle.burr.specs.BenchViews.{setup_of}
 use Rattle.burr.specs.Running.{IsInStep, IsSameRun, PutsPart}
 use Rattle.burr.proofs.running.run_to_close.Given as goal

@@ -1,6 +1,6 @@
 use Rattle.std.proofs.Common.{◌++◌, ◌∷◌, [], map, ap}
-use Rattle.burr.proofs.Deciders.{on_err}
-use Rattle.burr.proofs.SheetPuts.{HasPut-none, joined_behind-join, joined-separator_front, joined-part_front, joined-more, map-drop-cons}
+use Rattle.burr.proofs.Stepping.Tests.{on_err}
+use Rattle.burr.proofs.Sheets.Puts.{HasPut-none, joined_behind-join, joined-separator_front, joined-part_front, joined-more, map-drop-cons}
 use Rattle.burr.proofs.words.put_words.Goals as goal
 
 pub loop-word-init : goal.loop-word-init

@@ -1,6 +1,6 @@
 use Rattle.std.proofs.Common.{◌∷◌, [], map, drop}
 use Rattle.burr.specs.SheetText.{text_line}
-use Rattle.burr.proofs.SheetPuts.{HasPut, joined_rest}
+use Rattle.burr.proofs.Sheets.Puts.{HasPut, joined_rest}
 use Rattle.burr.proofs.words.put_words.Given as goal
 
 -- the words to come, each behind its separator, are to be put

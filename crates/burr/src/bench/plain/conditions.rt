@@ -90,7 +90,13 @@ impl PlainBench<'_> {
 
     /// Whether a piece is of the rest of the current tray, and has a cell ahead of one of the cells,
     /// at an offset, along a direction.
-    pub fn stands_in_way(&self, piece: u8, cells: &[Cell], offset: Cell, direction: Direction) -> bool
+    pub fn stands_in_way(
+        &self,
+        piece: u8,
+        cells: &[Cell],
+        offset: Cell,
+        direction: Direction,
+    ) -> bool
         requires piece { piece < 32 }
         requires cells { All (IsWithin 79) cells.now }
         requires offset { IsWithin 256 offset }

@@ -1,8 +1,8 @@
-use Rattle.std.proofs.Common.{rules, arith}
+use Rattle.std.proofs.Common.{arith}
 use Rattle.burr_voxels.specs.declared.cell.Cell.{Cell}
 use Rattle.burr_voxels.specs.Grid.{plus, IsAhead}
-use Rattle.burr.proofs.Deciders.{no_of, no_iff, one_more}
-use Rattle.burr.proofs.Meeting.{meets_none}
+use Rattle.burr.proofs.Stepping.Tests.{no_of, no_iff, one_more}
+use Rattle.burr.proofs.Space.Meeting.{meets_none}
 use Rattle.burr.proofs.bench.meeting.is_met.Goals as goal
 
 pub loop-cell-preserved : goal.loop-cell-preserved

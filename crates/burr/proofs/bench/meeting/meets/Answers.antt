@@ -1,9 +1,9 @@
-use Rattle.std.proofs.Common.{rules, arith, [], ◌∷◌}
+use Rattle.std.proofs.Common.{arith, [], ◌∷◌}
 use Rattle.burr_voxels.specs.declared.cell.Cell.{Cell}
 use Rattle.burr_voxels.specs.Grid.{plus, shifted}
 use Rattle.burr.specs.BenchViews.{Meets}
-use Rattle.burr.proofs.Deciders.{no_of, no_iff, one_more}
-use Rattle.burr.proofs.Meeting.{group_meets_none}
+use Rattle.burr.proofs.Stepping.Tests.{no_of, no_iff, one_more}
+use Rattle.burr.proofs.Space.Meeting.{group_meets_none}
 use Rattle.burr.proofs.bench.meeting.meets.Goals as goal
 
 pub loop-cell-preserved : goal.loop-cell-preserved

@@ -1,4 +1,4 @@
-use Rattle.burr.proofs.BenchLemmas.{counts_empty}
+use Rattle.burr.proofs.Stepping.Conditions.{counts_empty}
 use Rattle.burr.proofs.bench.places.is_empty_tray.Goals as goal
 
 pub returns : goal.returns

@@ -1,9 +1,9 @@
 use Rattle.std.proofs.Common.{◌∷◌, [], codes}
 use Rattle.burr.specs.SheetText.{levels_word, closing_line, text_line}
 use Rattle.burr.specs.SheetUnderWay.{closing_of, growing_text}
-use Rattle.burr.proofs.Deciders.{on_err}
-use Rattle.burr.proofs.SheetPuts.{HasPut-none, HasPut-more, HasPut-front, HasPut-last, HasPut-last_front}
-use Rattle.burr.proofs.SheetEnd.{still-end}
+use Rattle.burr.proofs.Stepping.Tests.{on_err}
+use Rattle.burr.proofs.Sheets.Puts.{HasPut-none, HasPut-more, HasPut-front, HasPut-last, HasPut-last_front}
+use Rattle.burr.proofs.Sheets.End.{still-end}
 use Rattle.burr.proofs.sheet.Sheet.close.Goals as goal
 
 pub returns-in_err-put_growing-clause-err : goal.returns-in_err-put_growing-clause-err

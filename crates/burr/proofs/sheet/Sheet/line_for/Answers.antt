@@ -2,8 +2,8 @@ use Rattle.std.proofs.Common.{◌≡◌, true, false, refl, ap, sym, ◌∙◌, 
 use Rattle.burr.specs.SheetText.{alone}
 use Rattle.burr.specs.SheetUnderWay.{line_of, is_one}
 use Rattle.burr.specs.SheetView.{growing_of, under_way}
-use Rattle.burr.proofs.Deciders.{on_err}
-use Rattle.burr.proofs.SheetSteps.{PutsBefore-fresh, PutsBefore-other, PutsFront-other}
+use Rattle.burr.proofs.Stepping.Tests.{on_err}
+use Rattle.burr.proofs.Sheets.Motions.{PutsBefore-fresh, PutsBefore-other, PutsFront-other}
 use Rattle.burr.proofs.sheet.Sheet.line_for.Goals as goal
 
 pub returns-in_default-clause-ok : goal.returns-in_default-clause-ok

@@ -1,8 +1,8 @@
 use Rattle.std.proofs.Common.{Some, false, refl}
 use Rattle.burr.specs.SheetUnderWay.{UnderWay, line_of}
 use Rattle.burr.specs.SheetView.{under_way}
-use Rattle.burr.proofs.Deciders.{on_err}
-use Rattle.burr.proofs.SheetSteps.{PutsMotion-step, PutsMotion-out, PutsFront-out}
+use Rattle.burr.proofs.Stepping.Tests.{on_err}
+use Rattle.burr.proofs.Sheets.Motions.{PutsMotion-step, PutsMotion-out, PutsFront-out}
 use Rattle.burr.proofs.sheet.Sheet.motion.Goals as goal
 use Rattle.burr.proofs.sheet.Sheet.motion.Goals.{then-motion+in_ok-put_line, else-motion}
 

@@ -1,7 +1,7 @@
 use Rattle.std.proofs.Common.{◌<◌, ◌++◌, ◌∷◌, [], length, refl, ap, codes, decimal, rules}
-use Rattle.burr.proofs.Deciders.{on_err}
-use Rattle.burr.proofs.SheetPuts.{HasPut-none, HasPut-more, HasPut-front, joined-separator_front, joined-part_front, joined-more, map-drop-cons}
-use Rattle.burr.proofs.SheetWords.{levels_word-some}
+use Rattle.burr.proofs.Stepping.Tests.{on_err}
+use Rattle.burr.proofs.Sheets.Puts.{HasPut-none, HasPut-more, HasPut-front, joined-separator_front, joined-part_front, joined-more, map-drop-cons}
+use Rattle.burr.proofs.Sheets.Words.{levels_word-some}
 use Rattle.burr.proofs.sheet.ending.put_levels.Goals as goal
 
 pub returns-in_err-put_all-clause-err : goal.returns-in_err-put_all-clause-err

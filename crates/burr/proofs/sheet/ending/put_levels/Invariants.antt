@@ -1,6 +1,6 @@
 use Rattle.std.proofs.Common.{◌∷◌, [], map, drop, codes, decimal}
 use Rattle.burr.specs.SheetText.{text_line, levels_word}
-use Rattle.burr.proofs.SheetPuts.{HasPut, joined_rest}
+use Rattle.burr.proofs.Sheets.Puts.{HasPut, joined_rest}
 use Rattle.burr.proofs.sheet.ending.put_levels.Given as goal
 
 -- the levels to come, each behind its separator, are to be put

@@ -4,9 +4,9 @@ use Rattle.burr_voxels.specs.Grid.{name_of}
 use Rattle.burr.specs.Answering.{names_of}
 use Rattle.burr.specs.SheetText.{names_from, text_line}
 use Rattle.burr.specs.SheetUnderWay.{line_of}
-use Rattle.burr.proofs.Deciders.{on_err}
-use Rattle.burr.proofs.SheetPuts.{HasPut-none, HasPut-more, HasPut-front, HasPut-last, HasPut-last_front}
-use Rattle.burr.proofs.SheetWords.{move_line-parts}
+use Rattle.burr.proofs.Stepping.Tests.{on_err}
+use Rattle.burr.proofs.Sheets.Puts.{HasPut-none, HasPut-more, HasPut-front, HasPut-last, HasPut-last_front}
+use Rattle.burr.proofs.Sheets.Words.{move_line-parts}
 use Rattle.burr.proofs.sheet.line.put_line.Goals as goal
 
 pub returns-in_err-put_number-clause-err : goal.returns-in_err-put_number-clause-err

@@ -1,9 +1,9 @@
 use Rattle.std.proofs.Common.{◌<◌, length, append-nil, ◌∙◌, sym, arith}
 use Rattle.burr.specs.Answering.{names_of}
 use Rattle.burr.specs.SheetText.{names_from}
-use Rattle.burr.proofs.Deciders.{on_err}
-use Rattle.burr.proofs.SheetPuts.{HasPut-none, joined_behind-join, joined-separator_front, joined-part_front, joined-more, joined-same}
-use Rattle.burr.proofs.SheetWords.{names_from-in, names_from-out}
+use Rattle.burr.proofs.Stepping.Tests.{on_err}
+use Rattle.burr.proofs.Sheets.Puts.{HasPut-none, joined_behind-join, joined-separator_front, joined-part_front, joined-more, joined-same}
+use Rattle.burr.proofs.Sheets.Words.{names_from-in, names_from-out}
 use Rattle.burr.proofs.sheet.line.put_names.Goals as goal
 use Rattle.burr.proofs.sheet.line.put_names.Goals.{then-is_in+in_ok-put_all+in_ok-put_all-2, else-is_in}
 

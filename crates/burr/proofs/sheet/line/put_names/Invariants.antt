@@ -2,7 +2,7 @@ use Rattle.std.proofs.Common.{[], drop}
 use Rattle.std.specs.List.{join_with_byte}
 use Rattle.burr.specs.Answering.{names_of}
 use Rattle.burr.specs.SheetText.{names_from}
-use Rattle.burr.proofs.SheetPuts.{HasPut, joined_rest}
+use Rattle.burr.proofs.Sheets.Puts.{HasPut, joined_rest}
 use Rattle.burr.proofs.sheet.line.put_names.Given as goal
 
 -- the names to come, each behind its separator, are to be put

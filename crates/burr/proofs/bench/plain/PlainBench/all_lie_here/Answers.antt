@@ -1,7 +1,7 @@
 use Rattle.std.proofs.Common.{rules, arith, IsBitSet}
 use Rattle.burr_voxels.specs.Places.{LiesIn}
-use Rattle.burr.proofs.BenchLemmas.{all_lie_of}
-use Rattle.burr.proofs.Deciders.{yes_of, no_of, yes_iff, no_iff, one_more_number}
+use Rattle.burr.proofs.Stepping.Conditions.{all_lie_of}
+use Rattle.burr.proofs.Stepping.Tests.{yes_of, no_of, yes_iff, one_more_number}
 use Rattle.burr.proofs.bench.plain.PlainBench.all_lie_here.Goals as goal
 use Rattle.burr.proofs.bench.plain.PlainBench.all_lie_here.Goals.{else-has-via-then-has+else-not-lies_here, else-has-via-else-has}
 

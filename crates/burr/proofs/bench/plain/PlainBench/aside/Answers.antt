@@ -1,12 +1,12 @@
-use Rattle.std.proofs.Common.{rules, sym, subst, refl, ◌≡◌, ◌≤◌, ◌+◌}
+use Rattle.std.proofs.Common.{sym, subst, refl, ◌≡◌, ◌≤◌, ◌+◌}
 use Rattle.std.specs.List.{refill}
 use Rattle.std.specs.Prelude.{length}
 use Rattle.burr_voxels.specs.Places.{IsPartOfTray, IsEmptyTray, aside_places}
 use Rattle.burr.specs.Homes.{homes_of}
 use Rattle.burr.specs.Step.{IsFreeGroup}
-use Rattle.burr.specs.BenchViews.{Benched, setup_of, bare_procedure, benched, IsSound}
-use Rattle.burr.proofs.Deciders.{yes_of, no_of}
-use Rattle.burr.proofs.StepLemmas.{aside_not_free, aside_goes, goes_on_aside, sound_aside, refilled}
+use Rattle.burr.specs.BenchViews.{Benched, setup_of, bare_procedure}
+use Rattle.burr.proofs.Stepping.Tests.{yes_of, no_of}
+use Rattle.burr.proofs.Stepping.Steps.{aside_not_free, aside_goes, goes_on_aside, sound_aside, refilled}
 use Rattle.burr.proofs.bench.plain.PlainBench.aside.Goals as goal
 
 pub returns-then-not-is_free-clause-follows : goal.returns-then-not-is_free-clause-follows

@@ -1,5 +1,5 @@
-use Rattle.std.proofs.Common.{rules, sym, refl}
-use Rattle.burr.proofs.StepLemmas.{goes_on_still}
+use Rattle.std.proofs.Common.{sym, refl}
+use Rattle.burr.proofs.Stepping.Steps.{goes_on_still}
 use Rattle.burr.proofs.bench.plain.PlainBench.grip.Goals as goal
 
 pub returns-clause-goes_on : goal.returns-clause-goes_on

@@ -1,8 +1,8 @@
-use Rattle.std.proofs.Common.{rules, subst, sym, ◌<◌, length}
+use Rattle.std.proofs.Common.{rules, subst}
 use Rattle.burr.specs.Bench.{HasHome}
 use Rattle.burr.specs.BenchViews.{Benched}
 use Rattle.burr.specs.Homes.{homes_of}
-use Rattle.burr.proofs.HomesLemmas.{has_home}
+use Rattle.burr.proofs.Stepping.HomeCells.{has_home}
 use Rattle.burr.proofs.bench.plain.PlainBench.home.Goals as goal
 
 pub returns-clause-home : goal.returns-clause-home

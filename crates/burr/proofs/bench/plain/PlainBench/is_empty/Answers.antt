@@ -1,4 +1,4 @@
-use Rattle.std.proofs.Common.{rules, sym, subst, IsTrue, ◌↔◌}
+use Rattle.std.proofs.Common.{sym, subst, IsTrue, ◌↔◌}
 use Rattle.burr_voxels.specs.Places.{IsEmptyTray}
 use Rattle.burr.specs.BenchViews.{Benched}
 use Rattle.burr.proofs.bench.plain.PlainBench.is_empty.Goals as goal

@@ -1,8 +1,8 @@
 use Rattle.std.proofs.Common.{rules, arith, IsBitSet, sym}
 use Rattle.burr.specs.Homes.{homes_of}
 use Rattle.burr.specs.BenchViews.{IsPieceClear}
-use Rattle.burr.proofs.BenchLemmas.{clear_in_free, free_of_clear}
-use Rattle.burr.proofs.Deciders.{yes_of, no_of, yes_iff, no_iff, one_more_number}
+use Rattle.burr.proofs.Stepping.Conditions.{clear_in_free, free_of_clear}
+use Rattle.burr.proofs.Stepping.Tests.{yes_of, no_of, yes_iff, no_iff, one_more_number}
 use Rattle.burr.proofs.bench.plain.PlainBench.is_free.Goals as goal
 use Rattle.burr.proofs.bench.plain.PlainBench.is_free.Goals.{else-has-via-then-has+else-not-is_piece_free, else-has-via-else-has}
 

@@ -1,9 +1,9 @@
-use Rattle.std.proofs.Common.{rules, arith}
+use Rattle.std.proofs.Common.{rules}
 use Rattle.burr.specs.Homes.{homes_of}
 use Rattle.burr_voxels.specs.Grid.{shifted}
 use Rattle.burr.specs.BenchViews.{StandsInWay}
-use Rattle.burr.proofs.BenchLemmas.{not_clear, clear_of}
-use Rattle.burr.proofs.Deciders.{yes_of, no_of, yes_iff, no_iff, one_more_number}
+use Rattle.burr.proofs.Stepping.Conditions.{not_clear, clear_of}
+use Rattle.burr.proofs.Stepping.Tests.{yes_of, no_of, yes_iff, no_iff, one_more_number}
 use Rattle.burr.proofs.bench.plain.PlainBench.is_piece_free.Goals as goal
 
 pub returns-then-stands_in_way : goal.returns-then-stands_in_way

@@ -1,6 +1,6 @@
-use Rattle.std.proofs.Common.{rules, arith}
-use Rattle.burr.proofs.BenchLemmas.{none_left}
-use Rattle.burr.proofs.Deciders.{no_iff}
+use Rattle.std.proofs.Common.{rules}
+use Rattle.burr.proofs.Stepping.Conditions.{none_left}
+use Rattle.burr.proofs.Stepping.Tests.{no_iff}
 use Rattle.burr.proofs.bench.plain.PlainBench.leaves_some.Goals as goal
 
 pub returns : goal.returns

@@ -1,8 +1,8 @@
-use Rattle.std.proofs.Common.{rules, sym}
+use Rattle.std.proofs.Common.{sym}
 use Rattle.burr.specs.Homes.{homes_of}
 use Rattle.burr_voxels.specs.Grid.{shifted}
-use Rattle.burr.proofs.BenchLemmas.{stands_where_met}
-use Rattle.burr.proofs.Deciders.{no_of}
+use Rattle.burr.proofs.Stepping.Conditions.{stands_where_met}
+use Rattle.burr.proofs.Stepping.Tests.{no_of}
 use Rattle.burr.proofs.bench.plain.PlainBench.stands_in_way.Goals as goal
 
 pub returns-in-Some : goal.returns-in-Some

@@ -4,7 +4,7 @@ use Rattle.std.proofs.lemmas.Simd.{splat_is_map}
 use Rattle.burr_voxels.specs.Places.{On}
 use Rattle.burr.specs.Bench.{origin}
 use Rattle.burr.specs.Homes.{home_of, homes_of}
-use Rattle.burr.proofs.StepLemmas.{start_parts}
+use Rattle.burr.proofs.Stepping.Steps.{start_parts}
 use Rattle.burr.proofs.bench.plain.PlainBench.start.Goals as goal
 
 -- so many homes as pieces were placed

@@ -4,8 +4,8 @@ use Rattle.burr_assembly.proofs.Cuts.{Lacks, cut}
 use Rattle.burr.specs.SheetText.{closing_line}
 use Rattle.burr.specs.Answering.{IsLines}
 use Rattle.burr.specs.SheetLaws.{ClosesOnce}
-use Rattle.burr.proofs.LastLines.{empty_behind}
-use Rattle.burr.proofs.ClosingLines.{IsPlain, ArePlain, in_lines, closing_is_line, closing_is_not_plain, sheet_front, sheet_in_lines}
+use Rattle.burr.proofs.Inputs.LastLines.{empty_behind}
+use Rattle.burr.proofs.Sheets.ClosingLines.{IsPlain, ArePlain, in_lines, closing_is_line, closing_is_not_plain, sheet_front, sheet_in_lines}
 use native.Mathlib.Decide.{ℕ_discrete}
 
 -- the bytes begin with a line, and go on with lines

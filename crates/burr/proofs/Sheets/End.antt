@@ -1,11 +1,10 @@
 -- What is to come of a sheet at its end, and of one at its start.
-use Rattle.std.proofs.Common.{◌≡◌, ℕ, ◌+◌, List, [], ◌∷◌, ◌++◌, Option, Some, None, codes, refl, ap, ◌∙◌, append_assoc, append-nil}
-use Rattle.burr.specs.declared.bench.motion.Motion.{Motion}
+use Rattle.std.proofs.Common.{◌≡◌, ℕ, [], ◌∷◌, ◌++◌, Option, Some, None, codes, refl, ap, ◌∙◌, append_assoc, append-nil}
 use Rattle.burr.specs.declared.sheet.line.Line.{Line as CodeLine}
 use Rattle.burr.specs.declared.sheet.Sheet.TheInside.{Inside}
 use Rattle.burr.specs.Run.{Closing}
-use Rattle.burr.specs.SheetText.{levels_from, levels_word, closing_line, text_line, sheet}
-use Rattle.burr.specs.SheetUnderWay.{UnderWay, blank, still, with_growing, growing_text}
+use Rattle.burr.specs.SheetText.{levels_from, levels_word, closing_line, text_line}
+use Rattle.burr.specs.SheetUnderWay.{UnderWay, still, with_growing, growing_text}
 use Rattle.burr.specs.SheetView.{under_way, growing_of}
 
 -- the growing line ends no level
@@ -21,7 +20,3 @@ still-end s u steps closing is =
     (append_assoc (growing_text (under_way s)) _ (closing_line closing steps)
     ∙ ap (λ levels. growing_text (under_way s) ++ (text_line (codes "levels" ∷ levels_word levels ∷ []) ++ closing_line closing steps))
     (ap (λ ns. s.levels.items ++ ns) (no_level s.level s.growing) ∙ append-nil s.levels.items))
-
--- of a blank sheet all is to come
-pub still-blank : (names : List (List ℕ)) (motions : List Motion) (steps : ℕ) (closing : Closing) → still (blank names) motions steps closing ≡ sheet names motions steps closing
-still-blank names motions steps closing = refl

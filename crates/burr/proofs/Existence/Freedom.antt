@@ -13,8 +13,8 @@ use Rattle.burr_voxels.specs.Places.{Placed, LiesAt}
 use Rattle.burr_voxels.proofs.Ahead.{ahead_plus_x, ahead_minus_x, ahead_plus_y, ahead_minus_y, ahead_plus_z, ahead_minus_z}
 use Rattle.burr.specs.Bench.{HasHome}
 use Rattle.burr.specs.Step.{IsFreeGroup}
-use Rattle.burr.proofs.Ahead.{free_where_none_ahead, none_ahead_where_free}
-use Rattle.burr.proofs.Deciding.{decided_implies, decide_all_numbers, decide_of_the_one, decide_found, one_in_list, decide_bit, decide_lies, one_position}
+use Rattle.burr.proofs.Space.Ahead.{free_where_none_ahead, none_ahead_where_free}
+use Rattle.burr.proofs.Existence.Conditions.{decided_implies, decide_all_numbers, decide_of_the_one, decide_found, one_in_list, decide_bit, decide_lies, one_position}
 
 -- Cells ahead
 

@@ -4,7 +4,7 @@ use Rattle.std.specs.List.{list_all}
 use Rattle.burr_assembly.proofs.Decisions.{Decided, decided_like, decided_and, decided_and_three, decided_or, decide_test, decide_same, decide_at_most, decide_same_bytes, decide_empty, decide_parts}
 use Rattle.burr.specs.Answering.{IsLines, IsCode, IsCodeLine, IsInput, hex}
 use Rattle.burr.specs.InputText.{is_digit}
-use Rattle.burr.proofs.InputDigits.{IsDigits, bytes_of_digits, length-hex, list_all-hex}
+use Rattle.burr.proofs.Inputs.Digits.{IsDigits, bytes_of_digits, length-hex, list_all-hex}
 
 -- whether bytes that are so stand before this end
 decide_before : (P : List ℕ → Type 0) → ((front : List ℕ) → Decided (P front)) → (end bytes : List ℕ) → Decided ((front : List ℕ) × P front × (bytes ≡ front ++ end))

@@ -10,7 +10,7 @@ use Rattle.burr.specs.Bench.{State, Setup}
 use Rattle.burr.specs.Step.{Next, Goes, Asks, Traps, NextIs, Answers, Fits}
 use Rattle.burr.specs.Run.{Run, ends, stops, traps, waits, passes, takes, goes, Closing, IsApart, Waits, IsTrapped, IsStopped, IsGoing}
 use Rattle.burr.specs.RunLaws.{OneResult}
-use Rattle.burr.proofs.OneStep.{IsOne, one_given, one_needed, one_next, one_way_on, asks_where_taken}
+use Rattle.burr.proofs.Uniqueness.OneStep.{IsOne, one_given, one_needed, one_next, one_way_on, asks_where_taken}
 
 -- what a run does first: it closes, or goes on at a state with the answers that are left and makes these motions
 data Turn : Type 0 where

@@ -9,8 +9,8 @@ use Rattle.burr.specs.Offsets.{PositionHolds, PositionsHold}
 use native.Mathlib.Decide.{ℕ_discrete}
 use Rattle.burr_voxels.specs.Places.{Placed, Apart, On, LiesIn, AllLieIn, IsPartOfTray, IsEmptyTray, changed, to_tray, is_in, count_in, parted_in, parted, aside_places}
 use Rattle.burr.specs.Parts.{parts}
-use Rattle.burr.proofs.CountLemmas.{no_bit, set_bit, length-changed, All-changed, lies_still, lies_there}
-use Rattle.burr.proofs.CountLemmas.{count_in-same, count_in-other, count_in-empty, count_in-some, IsTaken, group_taken, count_in-third, parted_in-same, parted_in-other, count_in-parted_in}
+use Rattle.burr.proofs.Trays.Counts.{no_bit, set_bit, length-changed, All-changed, lies_still, lies_there}
+use Rattle.burr.proofs.Trays.Counts.{count_in-same, count_in-other, count_in-empty, count_in-some, IsTaken, group_taken, count_in-third, parted_in-same, parted_in-other, count_in-parted_in}
 
 last_or_more : (n : ℕ) → (if n == 0 then 1 else 0) + min n 1 ≡ 1
 last_or_more n = grind (arith, nat_tests)

@@ -13,9 +13,9 @@ use Rattle.burr.specs.Homes.{home_of, homes_of}
 use Rattle.burr.specs.Step.{IsFreeGroup}
 use Rattle.burr.specs.BenchViews.{Meets, StandsInWay, IsPieceClear}
 use Rattle.burr_assembly.proofs.Decisions.{decide_below}
-use Rattle.burr.proofs.Ahead.{free_where_none_ahead, none_ahead_where_free}
-use Rattle.burr.proofs.CountLemmas.{count_in-empty, count_in-some}
-use Rattle.burr.proofs.Deciding.{no_bit_above, one_in_list, one_position, lies_within}
+use Rattle.burr.proofs.Space.Ahead.{free_where_none_ahead, none_ahead_where_free}
+use Rattle.burr.proofs.Trays.Counts.{count_in-empty, count_in-some}
+use Rattle.burr.proofs.Existence.Conditions.{no_bit_above, one_in_list, one_position, lies_within}
 
 -- a tray is empty where it is counted so
 pub counts_empty : {Position : Type 0} (places : List (Placed Position)) (tray count : ℕ) → count ≡ count_in tray places → IsTrue (nat_eq count 0) ↔ IsEmptyTray places tray

@@ -9,8 +9,8 @@ use Rattle.burr.specs.Bench.{State, Setup}
 use Rattle.burr.specs.Step.{Next, Goes, Asks, Traps, NextIs, Fits}
 use Rattle.burr.specs.Run.{IsGoing, IsApart, Waits, IsTrapped, IsStopped, ends, stops, traps, waits, passes, takes, goes}
 use Rattle.burr.specs.RunLaws.{IsUnderWay, RunOf, SomeResult}
-use Rattle.burr.proofs.SomeStep.{some_next}
-use Rattle.burr.proofs.Leading.{IsStepFrom, leads_from}
+use Rattle.burr.proofs.Existence.SomeStep.{some_next}
+use Rattle.burr.proofs.Existence.Leading.{IsStepFrom, leads_from}
 
 pub decide_fits : (low high answer : ℤ) → Decided (Fits low high answer)
 decide_fits low high answer =

@@ -18,7 +18,7 @@ use Rattle.burr.specs.TrapNames.{trap_number, trap_name}
 use Rattle.burr.specs.Run.{Closing, IsApart, Waits, IsTrapped, IsStopped}
 use Rattle.burr.specs.SheetText.{Line, lines_of, levels_from, names_from, text_line, move_line, move_lines, levels_word, closing_line}
 use Rattle.burr.specs.SheetLaws.{ClosesInOneLine, EndsInClosing}
-use Rattle.burr.proofs.Unended.{unended, lacks_append, is_clear, lacks_clear, EachLacks, lacks_join, AreDigits, decimal_is_digits, lacks_decimal, lacks_signed_decimal}
+use Rattle.burr.proofs.Sheets.Unended.{unended, lacks_append, is_clear, lacks_clear, EachLacks, lacks_join, AreDigits, decimal_is_digits, lacks_decimal, lacks_signed_decimal}
 
 -- The closing line
 

@@ -6,7 +6,7 @@ use Rattle.std.specs.Int.{bit_at}
 use Rattle.burr_assembly.specs.Text.{Piece}
 use Rattle.burr_voxels.specs.Grid.{name_of}
 use Rattle.burr.specs.SheetText.{Line, levels_word, names_from, text_line, move_line}
-use Rattle.burr.proofs.SheetPuts.{joined_rest, joined_behind-join}
+use Rattle.burr.proofs.Sheets.Puts.{joined_rest, joined_behind-join}
 
 -- levels, of which there are some, with a dot between each two
 pub levels_word-some : (levels : List ℕ) (last : List ℕ) → 0 < length levels → levels_word levels ++ last ≡ joined_rest [] 46 (map decimal levels) last

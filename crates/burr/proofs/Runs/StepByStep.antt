@@ -1,8 +1,8 @@
 -- A run and its sheet, taken step by step.
-use Rattle.std.proofs.Common.{◌≡◌, ◌≢◌, ◌≤◌, ◌<◌, ◌+◌, ◌-◌, ◌++◌, ◌∷◌, ◌∙◌, ◌⊎◌, ℕ, List, [], length, refl, sym, ap, subst, inl, inr, append_assoc, lit<, arith}
+use Rattle.std.proofs.Common.{◌≡◌, ◌≢◌, ◌≤◌, ◌+◌, ◌++◌, ◌∷◌, ◌∙◌, ◌⊎◌, ℕ, List, [], length, refl, sym, ap, subst, inl, inr, append_assoc, lit<, arith}
 use Rattle.std.specs.Prelude.{Option, Some, None, Ok}
 use Rattle.std.specs.Io.KnownBytes.{Appends}
-use Rattle.std.proofs.KnownBytes.{Appends-nil, Appends-trans}
+use Rattle.std.proofs.KnownBytes.{Appends-trans}
 use Rattle.burr_io.specs.Sink.{TakesFront}
 use Rattle.burr_assembly.specs.Text.{Assembly, IsAssembly}
 use Rattle.burr.specs.declared.bench.mode.Mode.TheVariants.{Running, Ended}
@@ -13,16 +13,15 @@ use Rattle.burr.specs.Bench.{Setup, State, start}
 use Rattle.burr.specs.Step.{NextIs, Goes}
 use Rattle.burr.specs.Run.{Closing, IsTrapped, IsGoing, traps, goes}
 use Rattle.burr.specs.RunLaws.{RunOf, IsUnderWay}
-use Rattle.burr.specs.Parts.{parts}
 use Rattle.burr.specs.Homes.{homes_of}
 use Rattle.burr.specs.SheetUnderWay.{UnderWay, blank, still, outs_of, Closes, PutsFront}
 use Rattle.burr.specs.BenchViews.{Benched, GoesOn, setup_of}
 use Rattle.burr.specs.Answering.{bare, names_of, outcome_of}
 use Rattle.burr.specs.Running.{BareRun, Leads, PutsPart, PutsFrontOfRun, ClosesPart, IsInStep, IsSameRun, StepOrTrap, PutsSheet, PutsSheetFront}
-use Rattle.burr.proofs.AnswerLemmas.{sheet_of_run}
-use Rattle.burr.proofs.Leading.{IsStepFrom, leads_from}
-use Rattle.burr.proofs.SomeRun.{counted_step, under_way_on, some_result}
-use Rattle.burr.proofs.SheetPuts.{HasPut-fails}
+use Rattle.burr.proofs.Runs.WholeInput.{sheet_of_run}
+use Rattle.burr.proofs.Existence.Leading.{IsStepFrom, leads_from}
+use Rattle.burr.proofs.Existence.SomeRun.{counted_step, under_way_on, some_result}
+use Rattle.burr.proofs.Sheets.Puts.{HasPut-fails}
 
 -- One step
 
@@ -56,9 +55,6 @@ fails_at_motion setup s new u motion taken_old taken_new going next under (bytes
     (motion ∷ rest.motions, rest.steps, rest.closing, goes s new (Some motion) [] rest.motions rest.steps rest.closing going next rest.run, (bytes, text.0, text.1, appends))
 
 -- Many steps
-
-pub no_part : (setup : Setup) (s : State) (u : UnderWay) (taken : Option (List ℕ)) → PutsPart taken taken setup s u s u
-no_part setup s u taken = ([], Appends-nil taken, λ motions steps closing run. (motions, run, refl))
 
 pub parts_join : (setup : Setup) (s t new : State) (u v more : UnderWay) (old mid now : Option (List ℕ)) → PutsPart old mid setup s u t v → PutsPart mid now setup t v new more → PutsPart old now setup s u new more
 parts_join setup s t new u v more old mid now (a, puts_a, leads_a) (b, puts_b, leads_b) = (
@@ -180,14 +176,6 @@ fresh_setup b u a code fresh = rw (fresh.assembly, fresh.code_is) refl
 
 fresh_state : (b : Benched) (u : UnderWay) (a : Assembly) (code : List ℕ) → IsFresh b u a code → b.state ≡ start (bare (homes_of a) code)
 fresh_state b u a code fresh = fresh.state ∙ ap start (fresh_setup b u a code fresh)
-
-pub in_step_fresh : (b : Benched) (u : UnderWay) (a : Assembly) (code : List ℕ) → IsFresh b u a code → parts b.state.places ≡ 1 → IsInStep b u
-in_step_fresh b u a code fresh one = record {
-  mode = inl (ap (λ (s : State). s.mode) fresh.state);
-  within = let zero = ap (λ (s : State). s.steps) fresh.state in omega (arith, zero);
-  motions = let none = ap (λ (v : UnderWay). v.motions) fresh.sheet in omega (arith, none);
-  outs = let none = ap (λ (v : UnderWay). length v.levels) fresh.sheet in omega (arith, none, one);
-}
 
 -- the sheet of the whole run
 pub run_written : (b new : Benched) (u more : UnderWay) (a : Assembly) (code : List ℕ) (old mid now : Option (List ℕ)) (closing : Closing) (steps : ℕ) (outcome : Outcome)

@@ -2,11 +2,10 @@
 use Rattle.std.proofs.Common.{◌≡◌, List, ℕ, refl, inl, inr, true}
 use Rattle.std.specs.Prelude.{Option, Result, Ok, Err, Bool, IfOk, IfErr, codes}
 use Rattle.std.specs.Result.{IsErrAnd}
-use Rattle.std.specs.Io.KnownBytes.{Appends}
 use Rattle.std.proofs.lemmas.Result.{err_from_is_err_and}
 use Rattle.burr_io.specs.Sink.{TakesFront}
 use Rattle.burr_assembly.specs.declared.fault.AssemblyFault.{AssemblyFault}
-use Rattle.burr_assembly.specs.Text.{Assembly, IsAssembly, IsText}
+use Rattle.burr_assembly.specs.Text.{Assembly, IsAssembly}
 use Rattle.burr_assembly.specs.Faults.{FirstFault}
 use Rattle.burr.specs.declared.bench_text.Outcome.{Outcome}
 use Rattle.burr.specs.declared.bench_text.Outcome.TheVariants.{Refused}
@@ -18,10 +17,10 @@ use Rattle.burr.specs.Homes.{homes_of}
 use Rattle.burr.specs.Run.{Closing}
 use Rattle.burr.specs.SheetText.{sheet}
 use Rattle.burr.specs.Answering.{IsInput, IsSheet, refusal, names_of, bare, outcome_of, Answers, TextAnswers}
-use Rattle.burr.specs.Running.{BareRun, PutsSheet, PutsSheetFront}
+use Rattle.burr.specs.Running.{BareRun}
 use Rattle.burr.specs.ReadWhole.{IsWhole}
 use Rattle.burr.specs.BenchText.{PutsAnswer, PutsFrontOfAnswer, AnswerFails, Streams, Answered, NotAnswered}
-use Rattle.burr.proofs.HomesLemmas.{have_homes}
+use Rattle.burr.proofs.Stepping.HomeCells.{have_homes}
 
 -- a fault of the sink is answered as `Write`
 pub write_fails : {A : Type 0} (IsAnswer : List ℕ → Outcome → Type 0) (r : Result A BenchFault) (old new : Option (List ℕ)) (failed : Bool)
@@ -29,10 +28,6 @@ pub write_fails : {A : Type 0} (IsAnswer : List ℕ → Outcome → Type 0) (r :
 write_fails IsAnswer r old new failed err front = let p = err_from_is_err_and r err in rw (p.1, p.2) front
 
 -- an input that is none
-
-pub puts_refused : (old new : Option (List ℕ)) (input : List ℕ) (outcome : Outcome)
-    → ((text code : List ℕ) → ¬ IsInput input text code) → Appends old new (codes "refused input\n") → outcome ≡ Refused → PutsAnswer (Answers input) old new outcome
-puts_refused old new input outcome none puts is = (codes "refused input\n", inl (none, refl, is), puts)
 
 pub front_of_refused : (old new : Option (List ℕ)) (failed : Bool) (input : List ℕ)
     → ((text code : List ℕ) → ¬ IsInput input text code) → TakesFront old new (codes "refused input\n") → failed ≡ true → PutsFrontOfAnswer (Answers input) old new failed
@@ -55,22 +50,11 @@ text_fails old new failed input text code (Err Memory) parts fails = fails
 
 -- a text with a fault
 
-pub puts_fault : (old new : Option (List ℕ)) (text code : List ℕ) (fault : AssemblyFault) (outcome : Outcome)
-    → FirstFault text fault → Appends old new (refusal text fault) → outcome ≡ Refused → PutsAnswer (TextAnswers text code) old new outcome
-puts_fault old new text code fault outcome first puts is = (refusal text fault, inl (fault, first, refl, is), puts)
-
 pub front_of_fault : (old new : Option (List ℕ)) (failed : Bool) (text code : List ℕ) (fault : AssemblyFault)
     → FirstFault text fault → TakesFront old new (refusal text fault) → failed ≡ true → PutsFrontOfAnswer (TextAnswers text code) old new failed
 front_of_fault old new failed text code fault first front fails = (refusal text fault, Refused, inl (fault, first, refl, refl), front, fails)
 
 -- an assembly's text
-
-pub puts_run : (old new : Option (List ℕ)) (text code : List ℕ) (a : Assembly) (outcome : Outcome) → IsText text a → PutsSheet old new a code outcome → PutsAnswer (TextAnswers text code) old new outcome
-puts_run old new text code a outcome reads (output, is, puts) = (output, inr (a, reads, is), puts)
-
-pub front_of_run : (old new : Option (List ℕ)) (failed : Bool) (text code : List ℕ) (a : Assembly)
-    → IsText text a → PutsSheetFront old new a code → failed ≡ true → PutsFrontOfAnswer (TextAnswers text code) old new failed
-front_of_run old new failed text code a reads (output, outcome, is, front) fails = (output, outcome, inr (a, reads, is), front, fails)
 
 -- what is written of a run is its sheet
 pub sheet_of_run : (a : Assembly) (code output : List ℕ) (motions : List Motion) (steps : ℕ) (closing : Closing) → IsAssembly a → BareRun (bare (homes_of a) code) (start (bare (homes_of a) code)) motions steps closing

@@ -4,8 +4,8 @@ use Rattle.std.proofs.lemmas.Bool.Decides.{nat_tests}
 use Rattle.std.proofs.lemmas.List.{append_cancel_right}
 use Rattle.burr_assembly.proofs.Cuts.{Lacks, lacks}
 use Rattle.burr.specs.Answering.{IsLines, IsCodeLine, IsInput, hex, hex_digit}
-use Rattle.burr.proofs.Unended.{lacks_append, lacks_clear}
-use Rattle.burr.proofs.LastLines.{one_last_line}
+use Rattle.burr.proofs.Sheets.Unended.{lacks_append, lacks_clear}
+use Rattle.burr.proofs.Inputs.LastLines.{one_last_line}
 
 digit_is_no_end : (n : ℕ) → hex_digit n ≢ 10
 digit_is_no_end n e = grind (arith, nat_tests)

@@ -10,9 +10,9 @@ use Rattle.burr.specs.Run.{Run}
 use Rattle.burr.specs.SheetText.{sheet}
 use Rattle.burr.specs.Answering.{IsSheet, TextAnswers, refusal, names_of, bare, outcome_of}
 use Rattle.burr.specs.AnswerLaws.{OneAnswer}
-use Rattle.burr.proofs.OneRun.{one_result}
-use Rattle.burr.proofs.OneInput.{one_input}
-use Rattle.burr.proofs.OneHomes.{one_homes}
+use Rattle.burr.proofs.Uniqueness.OneRun.{one_result}
+use Rattle.burr.proofs.Uniqueness.OneInput.{one_input}
+use Rattle.burr.proofs.Uniqueness.OneHomes.{one_homes}
 
 -- two answers are the same
 abbrev Same : List ℕ → List ℕ → Outcome → Outcome → Type 0

@@ -18,12 +18,9 @@ use Rattle.burr.specs.Parts.{parts}
 use Rattle.burr.specs.Homes.{homes_of}
 use Rattle.burr.specs.Answering.{bare}
 use Rattle.burr.specs.BenchViews.{Benched, benched, setup_of, bare_procedure, IsSound, GoesOn}
-use Rattle.burr.proofs.PartsLemmas.{parts_at_most, parts_at_start, parts_after_aside, all_lie_in_nothing, length-aside_places, PositionsHold-aside_places}
+use Rattle.burr.proofs.Trays.Parts.{parts_at_most, parts_at_start, parts_after_aside, all_lie_in_nothing, length-aside_places, PositionsHold-aside_places}
 
 -- the traps of `aside`, and what it does
-
-pub aside_in_use : (setup : Setup) (here : Procedure) (s : State) (direction : Direction) (tray : ℕ) → IsPartOfTray s.grip s.places s.tray → (¬ IsEmptyTray s.places tray) → Rule setup here s (Aside direction tray) (Traps traps.TrayInUse)
-aside_in_use setup here s direction tray part used = inr (part, inl (used, refl))
 
 pub aside_not_free : (setup : Setup) (here : Procedure) (s : State) (direction : Direction) (tray : ℕ) → IsPartOfTray s.grip s.places s.tray → IsEmptyTray s.places tray
     → (¬ IsFreeGroup setup.homes s.places s.tray s.grip direction) → Rule setup here s (Aside direction tray) (Traps traps.NotFree)

@@ -5,8 +5,8 @@ use Rattle.hex.specs.Hex.{decode_of}
 use Rattle.hex.proofs.HexLemmas.{decode_of-same}
 use Rattle.burr.specs.Answering.{IsCodeLine, hex}
 use Rattle.burr.specs.AnswerLaws.{OneInput}
-use Rattle.burr.proofs.InputDigits.{IsByte, decode_of-hex}
-use Rattle.burr.proofs.InputForm.{lacks_code, IsInput-line}
+use Rattle.burr.proofs.Inputs.Digits.{IsByte, decode_of-hex}
+use Rattle.burr.proofs.Inputs.Form.{lacks_code, IsInput-line}
 
 -- bytes of one spelling are one
 hex_injective : (a b : List ℕ) → All IsByte a → All IsByte b → hex a ≡ hex b → a ≡ b

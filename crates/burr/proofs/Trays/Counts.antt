@@ -1,10 +1,9 @@
 -- Places of which those of a set are changed, and how many pieces are counted in a tray.
-use Rattle.std.proofs.Common.{◌≡◌, ◌≢◌, ◌⊎◌, ℕ, zero, suc, ◌+◌, ◌/◌, ◌%◌, ◌^◌, ◌<◌, ◌≤◌, ◌==◌, if◌then◌else◌, bit_and, IsBitSet}
-use Rattle.std.proofs.Common.{List, [], ◌∷◌, ◌++◌, length, get_or, take, drop, set, slice_get, Some, All}
-use Rattle.std.proofs.Common.{refl, sym, ap, subst, ◌∙◌, inl, inr, arith, add-one, append_assoc, take-suc-set, drop-cons}
+use Rattle.std.proofs.Common.{◌≡◌, ◌≢◌, ◌⊎◌, ℕ, zero, suc, ◌+◌, ◌/◌, ◌%◌, ◌^◌, ◌≤◌, ◌==◌, if◌then◌else◌, bit_and, IsBitSet}
+use Rattle.std.proofs.Common.{List, [], ◌∷◌, length, slice_get, Some, All}
+use Rattle.std.proofs.Common.{refl, sym, ap, subst, ◌∙◌, inl, inr, arith}
 use Rattle.std.proofs.lemmas.Bool.{cond_both}
 use Rattle.std.proofs.lemmas.Bool.Decides.{nat_tests}
-use Rattle.std.proofs.lemmas.List.{drop-set-lt}
 use Rattle.std.proofs.lemmas.List.Elements.{All-nil, All-cons, All-head, All-tail}
 use Rattle.std.proofs.lemmas.Nat.{bit_set_by_shift}
 use Rattle.std.proofs.lemmas.Nat.Bits.{bit_at_lowest, bit_at-suc, shr_and_one}
@@ -48,19 +47,6 @@ is_changed f group p place bit = grind (arith, nat_tests)
 is_kept : {Place : Type 0} (f : Place → Place) (group p : ℕ) (place : Place)
     → ¬ IsBitSet group p → changed_place f group p place ≡ place
 is_kept f group p place none = grind (arith, nat_tests)
-
--- a set without pieces changes no place
-pub changed-0 : {Place : Type 0} (f : Place → Place) (p : ℕ) (places : List Place) → changed f 0 p places ≡ places
-changed-0 f p [] = refl
-changed-0 f p (place ∷ places) = ap (λ rest. place ∷ rest) (changed-0 f (suc p) places)
-
--- place i is written: what is done and what is still to come make the same places as before
-pub changed-at : {Place : Type 0} (f : Place → Place) (group i : ℕ) (places more : List Place) (d : Place)
-    → i < length places → more ≡ set places i (changed_place f group i (get_or places i d))
-    → take (i + 1) more ++ changed f group (i + 1) (drop (i + 1) more) ≡ take i places ++ changed f group i (drop i places)
-changed-at f group i places more d inside written =
-    let below : i < suc i = omega arith in
-    rw (written, add-one, take-suc-set, drop-set-lt (suc i) places i, drop-cons places i d, append_assoc) refl
 
 pub length-changed : {Place : Type 0} (f : Place → Place) (group p : ℕ) (places : List Place)
     → length (changed f group p places) ≡ length places

@@ -9,9 +9,9 @@ use Rattle.burr.specs.declared.bench.mode.Mode.TheVariants.{Ended}
 use Rattle.burr.specs.Bench.{State, Setup, Procedure}
 use Rattle.burr.specs.Step.{Next, Goes, Traps, NextIs, Rule, IsAt, Runs, after, stepped, motion_of}
 use Rattle.burr.specs.RunLaws.{SomeNext}
-use Rattle.burr.proofs.Deciding.{decide_found, one_in_list, decide_all_lie, decide_all_apart, decide_part_of_tray, decide_empty_tray}
-use Rattle.burr.proofs.DecidingFree.{decide_free_group}
-use Rattle.burr.proofs.Standing.{stands_or_none}
+use Rattle.burr.proofs.Existence.Conditions.{decide_found, one_in_list, decide_all_lie, decide_all_apart, decide_part_of_tray, decide_empty_tray}
+use Rattle.burr.proofs.Existence.Freedom.{decide_free_group}
+use Rattle.burr.proofs.Existence.Instructions.{stands_or_none}
 
 -- where a decided condition holds there is an answer, and so there is one in any case
 some_needs : {A C : Type 0} (failure : A) (P : A → Type 0) → Decided C → (C → (x : A) × P x) → (x : A) × (((¬ C) × (x ≡ failure)) ⊎ (C × P x))

@@ -7,7 +7,7 @@ use Rattle.burr.specs.declared.bench.motion.Motion.{Motion}
 use Rattle.burr.specs.Run.{Closing}
 use Rattle.burr.specs.SheetText.{Line, alone, in_front, lines_of, levels_from, move_line, move_lines, levels_word, closing_line, text_line}
 use Rattle.burr.specs.SheetUnderWay.{UnderWay, is_one, with_growing, to_come, PutsBefore, PutsMotion, PutsFront}
-use Rattle.burr.proofs.SheetLines.{with_growing-other, with_growing-fresh, with_growing-longer, with_growing-ended}
+use Rattle.burr.proofs.Sheets.Lines.{with_growing-other, with_growing-fresh, with_growing-longer, with_growing-ended}
 
 -- a line is closed
 abbrev pub with_line : UnderWay → UnderWay

@@ -13,9 +13,9 @@ use Rattle.burr.specs.RunLaws.{IsUnderWay}
 use Rattle.burr.specs.SheetText.{sheet}
 use Rattle.burr.specs.Answering.{IsInput, IsSheet, TextAnswers, Answers, refusal, names_of, bare, outcome_of}
 use Rattle.burr.specs.AnswerLaws.{SomeAnswer}
-use Rattle.burr.proofs.AnswerLemmas.{sheet_of_run}
-use Rattle.burr.proofs.SomeRun.{some_result}
-use Rattle.burr.proofs.DecidingInput.{decide_input}
+use Rattle.burr.proofs.Runs.WholeInput.{sheet_of_run}
+use Rattle.burr.proofs.Existence.SomeRun.{some_result}
+use Rattle.burr.proofs.Existence.Inputs.{decide_input}
 
 -- something is written, and it ends so
 abbrev HasAnswer : (List ℕ → Outcome → Type 0) → Type 0

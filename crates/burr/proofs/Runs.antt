@@ -1,0 +1,2 @@
+pub mod StepByStep
+pub mod WholeInput

@@ -1,0 +1,4 @@
+pub mod Conditions
+pub mod HomeCells
+pub mod Steps
+pub mod Tests

@@ -1,0 +1,5 @@
+pub mod OneAnswer
+pub mod OneHomes
+pub mod OneInput
+pub mod OneRun
+pub mod OneStep
