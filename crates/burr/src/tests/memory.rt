@@ -1,0 +1,160 @@
+//! What a want of memory gives.
+use super::refusals::CROWD;
+use super::rows::row_of_32;
+use super::*;
+use std::io::Cursor;
+use std::ops::Range;
+
+/// What was seen of an input's answers while memory was wanting.
+#[derive(Clone, Copy, Debug, Default, PartialEq, Eq)]
+struct Seen {
+    /// `Memory` before the source had told its end, and nothing written.
+    memory_before: bool,
+    /// `Memory` behind that, and nothing written.
+    memory_behind: bool,
+    /// Neither this nor the right answer.
+    wrong: bool,
+}
+
+impl Seen {
+    /// Answers an input, given in portions, with a source and a sink that need no memory. Tells
+    /// whether the answer is the right one, with the whole text.
+    fn answer(
+        &mut self,
+        alloc: Global,
+        input: &str,
+        portion: usize,
+        outcome: Outcome,
+        output: &str,
+    ) -> bool {
+        let mut portions = Portions::new(input, portion, usize::MAX);
+        let mut room = [0; 1024];
+        let mut written = Cursor::new(room.as_mut_slice());
+        let mut source = Reading::new(&mut portions);
+        let answer = bench_text(alloc, &mut source, &mut Writing::new(&mut written));
+        let count = written.position() as usize;
+        let is_right = answer == Ok(outcome) && room.get(..count) == Some(output.as_bytes());
+        if answer == Err(BenchFault::Memory) && count == 0 {
+            self.memory_before |= !portions.has_ended;
+            self.memory_behind |= portions.has_ended;
+        } else {
+            self.wrong |= !is_right;
+        }
+        is_right
+    }
+}
+
+/// The most blocks of memory that are taken.
+const MOST_BLOCKS: usize = 60_000;
+
+/// Sizes of small blocks, each 16 bytes above the one before. The C library keeps free blocks of
+/// each of these sizes for requests of that size alone.
+const SMALL: Range<usize> = 24..1040;
+
+/// How many it keeps so of each small size.
+const KEPT: usize = 7;
+
+/// Takes blocks of a size, so many or as many as can be had.
+fn take(alloc: Global, size: usize, count: usize, blocks: &mut Vec<Vec<u8>>) {
+    for _ in 0..count {
+        if blocks.len() >= MOST_BLOCKS {
+            break;
+        }
+        let Ok(block) = Vec::with_capacity(alloc, size) else {
+            break;
+        };
+        if blocks.push(block).is_err() {
+            break;
+        }
+    }
+}
+
+/// Takes all memory that can be had, in blocks of halving sizes, and then of each small size.
+fn take_all_memory(alloc: Global, blocks: &mut Vec<Vec<u8>>) {
+    let mut size = 1usize << 46;
+    for _ in 0..47 {
+        take(alloc, size, MOST_BLOCKS, blocks);
+        size = (size / 2).max(1);
+    }
+    for size in SMALL.step_by(16).rev() {
+        take(alloc, size, MOST_BLOCKS, blocks);
+    }
+}
+
+/// Answers an input while no memory can be had; then, for each small size, while a few blocks of
+/// the others can be had, and of this one none, and one more each time; then with each other block
+/// that is given back, up to the right answer. So most requests are refused at a time when those
+/// before them are met.
+fn answer_in_want(
+    seen: &mut Seen,
+    alloc: Global,
+    input: &str,
+    portion: usize,
+    outcome: Outcome,
+    output: &str,
+) -> Result<(), AllocError> {
+    let mut blocks: Vec<Vec<u8>> = Vec::with_capacity(alloc, MOST_BLOCKS)?;
+    let mut small: Vec<Vec<u8>> = Vec::with_capacity(alloc, MOST_BLOCKS)?;
+    for _ in 0..KEPT {
+        for size in SMALL.step_by(16) {
+            take(alloc, size, 1, &mut small);
+        }
+    }
+    take_all_memory(alloc, &mut blocks);
+    if seen.answer(alloc, input, portion, outcome, output) {
+        // an allocator that still has memory
+        return Ok(());
+    }
+    small.clear();
+    for size in SMALL.step_by(16) {
+        take(alloc, size, MOST_BLOCKS, &mut small);
+        for _ in 0..=MOST_BLOCKS {
+            seen.answer(alloc, input, portion, outcome, output);
+            if small.pop().is_none() {
+                break;
+            }
+        }
+    }
+    for _ in 0..MOST_BLOCKS {
+        let is_right = seen.answer(alloc, input, portion, outcome, output);
+        if is_right || blocks.pop().is_none() {
+            break;
+        }
+    }
+    Ok(())
+}
+
+/// Asserts that want of memory is told, both while an input is read and behind that, with nothing
+/// written; that there is no other answer than this and the right one; and that the right one comes
+/// with ample memory.
+fn assert_wants_memory(
+    rt: &impl Abort,
+    alloc: Global,
+    input: &str,
+    outcome: Outcome,
+    output: &str,
+) -> Result<(), AllocError> {
+    let mut seen = Seen::default();
+    answer_in_want(&mut seen, alloc, input, usize::MAX, outcome, output)?;
+    answer_in_want(&mut seen, alloc, input, 1, outcome, output)?;
+    let wanted = Seen {
+        memory_before: true,
+        memory_behind: true,
+        wrong: false,
+    };
+    assert_eq!(rt; seen, wanted, "{input}");
+    assert_answer(rt, alloc, input, outcome, output);
+    Ok(())
+}
+
+#[test]
+fn tells_a_want_of_memory(rt: HostRuntime) -> Result<(), Fail> {
+    let alloc = rt.alloc();
+    let duo = input_of(alloc, DUO, APART)?;
+    assert_wants_memory(&rt, alloc, duo.as_str(), Outcome::Apart, SHEET)?;
+    let (row, sheet) = row_of_32(alloc)?;
+    assert_wants_memory(&rt, alloc, row.as_str(), Outcome::Apart, sheet.as_str())?;
+    let (crowd, refusal) = CROWD;
+    assert_wants_memory(&rt, alloc, crowd, Outcome::Refused, refusal)?;
+    Ok(())
+}
