@@ -7,3 +7,4 @@ pub mod Stepping
 pub mod Trays
 pub mod Uniqueness
 pub mod WorkedRows
+pub mod WorkedRuns
