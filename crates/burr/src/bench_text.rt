@@ -1,7 +1,8 @@
-ghost use Rattle.std.specs.Prelude.{◌≡◌, ◌≤◌, length, IfErr, IfOk, OnErr, OnOk, IsTrue, codes};
+ghost use Rattle.std.specs.Prelude.{◌≡◌, ◌≢◌, ◌≤◌, length, IfErr, IfOk, OnErr, OnOk, IsTrue, codes};
 ghost use Rattle.std.specs.Io.KnownBytes.{Appends};
 ghost use Rattle.burr_io.specs.Sink.{TakesFront};
 ghost use Rattle.burr.specs.declared.bench_text.Outcome.TheVariants.{Refused};
+ghost use Rattle.burr.specs.declared.fault.BenchFault.TheVariants.{Write};
 ghost use Rattle.burr.specs.Answering.{refusal, Answers, TextAnswers};
 ghost use Rattle.burr.specs.declared.bench.plain.TheConstants.{MOST_CODE};
 ghost use Rattle.burr.specs.BenchText.{PutsAnswer, AnswerFails, Answered, NotAnswered};
@@ -59,6 +60,7 @@ pub fn bench_text<R: Source, W: Sink>(
       taken_new = W.taken sink.new;
       write_failed = W.has_failed sink.new;
     }) fault) }
+    ensures untouched { IfErr result (λ fault. fault ≢ Write → sink.new ≡ sink.old) }
 {
     let input = read_whole(alloc, source)?;
     answer(alloc, &input, sink)
@@ -68,6 +70,7 @@ pub fn bench_text<R: Source, W: Sink>(
 fn answer<W: Sink>(alloc: Global, input: &[u8], sink: &mut W) -> Result<Outcome, BenchFault>
     ensures ok { IfOk result (λ outcome. PutsAnswer (Answers input.now) (W.taken sink.old) (W.taken sink.new) outcome) }
     ensures err { IfErr result (λ fault. AnswerFails (Answers input.now) (W.taken sink.old) (W.taken sink.new) (W.has_failed sink.new) fault) }
+    ensures untouched { IfErr result (λ fault. fault ≢ Write → sink.new ≡ sink.old) }
 {
     match parse_input(alloc, input)? {
         Some((text, code)) => answer_text(alloc, text, &code, sink),
@@ -85,6 +88,7 @@ fn answer_text<W: Sink>(
     requires { length code.now ≤ MOST_CODE }
     ensures ok { IfOk result (λ outcome. PutsAnswer (TextAnswers text.now code.now) (W.taken sink.old) (W.taken sink.new) outcome) }
     ensures err { IfErr result (λ fault. AnswerFails (TextAnswers text.now code.now) (W.taken sink.old) (W.taken sink.new) (W.has_failed sink.new) fault) }
+    ensures untouched { IfErr result (λ fault. fault ≢ Write → sink.new ≡ sink.old) }
 {
     match Assembly::read(alloc, text) {
         Ok(assembly) => Ok(run_bare(&assembly, code, sink)?),

@@ -1,5 +1,5 @@
 -- What is written for a whole input.
-use Rattle.std.proofs.Common.{◌≡◌, List, ℕ, refl, inl, inr, true}
+use Rattle.std.proofs.Common.{◌≡◌, ◌≢◌, List, ℕ, refl, inl, inr, true}
 use Rattle.std.specs.Prelude.{Option, Result, Ok, Err, Bool, IfOk, IfErr, codes}
 use Rattle.std.specs.Result.{IsErrAnd}
 use Rattle.std.proofs.lemmas.Result.{err_from_is_err_and}
@@ -26,6 +26,10 @@ use Rattle.burr.proofs.Stepping.HomeCells.{have_homes}
 pub write_fails : {A : Type 0} (IsAnswer : List ℕ → Outcome → Type 0) (r : Result A BenchFault) (old new : Option (List ℕ)) (failed : Bool)
     → IsErrAnd r (λ e. e ≡ Write) → PutsFrontOfAnswer IsAnswer old new failed → IfErr r (λ fault. AnswerFails IsAnswer old new failed fault)
 write_fails IsAnswer r old new failed err front = let p = err_from_is_err_and r err in rw (p.1, p.2) front
+
+-- only another fault would leave the sink as it was
+pub write_touches : {A : Type 0} (r : Result A BenchFault) (Same : Type 0) → IsErrAnd r (λ e. e ≡ Write) → IfErr r (λ fault. fault ≢ Write → Same)
+write_touches r Same err = let p = err_from_is_err_and r err in rw (p.1, p.2) (λ other. absurd (other refl))
 
 -- an input that is none
 

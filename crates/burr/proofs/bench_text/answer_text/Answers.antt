@@ -1,6 +1,6 @@
 use Rattle.std.proofs.Common.{rules}
 use Rattle.burr.specs.Answering.{TextAnswers}
-use Rattle.burr.proofs.Runs.WholeInput.{write_fails, front_of_fault, no_answer}
+use Rattle.burr.proofs.Runs.WholeInput.{write_fails, write_touches, front_of_fault, no_answer}
 use Rattle.burr.proofs.bench_text.answer_text.Goals as goal
 
 pub returns-in_err-refuse_text-in-Err : goal.returns-in_err-refuse_text-in-Err
@@ -9,4 +9,5 @@ returns-in_err-refuse_text-in-Err g c =
     record {
       ok = no_answer _ _ c.from_residual-in_err-refuse_text-in-Err.result failed;
       err = write_fails (TextAnswers c.args.text.now c.args.code.now) c.from_residual-in_err-refuse_text-in-Err.result _ _ _ failed (front_of_fault _ _ _ c.args.text.now c.args.code.now c.in-Err.fault (search rules) c.in_err-refuse_text-in-Err.ensures.err c.in_err-refuse_text-in-Err.ensures.fails);
+      untouched = write_touches c.from_residual-in_err-refuse_text-in-Err.result _ failed;
     }
