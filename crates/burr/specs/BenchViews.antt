@@ -8,7 +8,7 @@ use Rattle.burr_code.specs.Instruction.{Instruction}
 use Rattle.burr.specs.declared.bench.trap.Trap.{Trap}
 use Rattle.burr.specs.declared.bench.motion.Motion.{Motion}
 use Rattle.burr.specs.declared.bench.mode.Mode.{Mode}
-use Rattle.burr.specs.declared.bench.mode.Mode.TheVariants.{Stuck}
+use Rattle.burr.specs.declared.bench.mode.Mode.TheVariants.{Running, Ended, Stuck}
 use Rattle.burr.specs.Bench.{State, Setup, Procedure, activation, HasHome}
 use Rattle.burr.specs.Step.{Next, Goes, Traps, Rule, NextIs}
 use Rattle.burr.specs.Answering.{bare}
@@ -79,6 +79,12 @@ IsPieceClear homes places tray group direction p =
 abbrev pub Steps : Benched → Benched → Result (Option Motion) Trap → Type 0
 Steps old new (Ok motion) = NextIs (setup_of old) old.state (Goes new.state motion)
 Steps old new (Err trap) = NextIs (setup_of old) old.state (Traps trap) × (new.state ≡ record old.state { mode = Stuck trap })
+
+-- One call without an answer: a step of a running state; an end or a trap is answered again, and nothing changes.
+abbrev pub CalledIn : Mode → Benched → Benched → Result (Option Motion) Trap → Type 0
+CalledIn Running old new result = Steps old new result
+CalledIn Ended old new result = (result ≡ Ok None) × (new ≡ old)
+CalledIn (Stuck trap) old new result = (result ≡ Err trap) × (new ≡ old)
 
 -- so many outs
 abbrev pub outs_of : Result (Option Motion) Trap → ℕ

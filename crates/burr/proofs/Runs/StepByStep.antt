@@ -1,6 +1,6 @@
 -- A run and its sheet, taken step by step.
 use Rattle.std.proofs.Common.{◌≡◌, ◌≢◌, ◌≤◌, ◌+◌, ◌++◌, ◌∷◌, ◌∙◌, ◌⊎◌, ℕ, List, [], length, refl, sym, ap, subst, inl, inr, append_assoc, lit<, arith}
-use Rattle.std.specs.Prelude.{Option, Some, None, Ok}
+use Rattle.std.specs.Prelude.{Option, Some, None, Result, Ok}
 use Rattle.std.specs.Io.KnownBytes.{Appends}
 use Rattle.std.proofs.KnownBytes.{Appends-trans}
 use Rattle.burr_io.specs.Sink.{TakesFront}
@@ -15,7 +15,8 @@ use Rattle.burr.specs.Run.{Closing, IsTrapped, IsGoing, traps, goes}
 use Rattle.burr.specs.RunLaws.{RunOf, IsUnderWay}
 use Rattle.burr.specs.Homes.{homes_of}
 use Rattle.burr.specs.SheetUnderWay.{UnderWay, blank, still, outs_of, Closes, PutsFront}
-use Rattle.burr.specs.BenchViews.{Benched, GoesOn, setup_of}
+use Rattle.burr.specs.declared.bench.mode.Mode.{Mode}
+use Rattle.burr.specs.BenchViews.{Benched, CalledIn, GoesOn, Steps, setup_of}
 use Rattle.burr.specs.Answering.{bare, names_of, outcome_of}
 use Rattle.burr.specs.Running.{BareRun, Leads, PutsPart, PutsFrontOfRun, ClosesPart, IsInStep, IsSameRun, StepOrTrap, PutsSheet, PutsSheetFront}
 use Rattle.burr.proofs.Runs.WholeInput.{sheet_of_run}
@@ -24,6 +25,10 @@ use Rattle.burr.proofs.Existence.SomeRun.{counted_step, under_way_on, some_resul
 use Rattle.burr.proofs.Sheets.Puts.{HasPut-fails}
 
 -- One step
+
+-- a call of a running bench is a step
+pub called_running : (b new : Benched) (result : Result (Option Motion) Trap) → b.state.mode ≡ Running → CalledIn b.state.mode b new result → Steps b new result
+called_running b new result running called = subst (λ (m : Mode). CalledIn m b new result) running called
 
 pub leads_motion : (setup : Setup) (s new : State) (u more : UnderWay) (motion : Motion) (bytes : List ℕ)
     → IsGoing 1000000 s → NextIs setup s (Goes new (Some motion)) → Closes u motion more bytes → Leads setup s u bytes new more

@@ -1,8 +1,7 @@
 ghost use Rattle.std.specs.Prelude.{◌≡◌, ◌+◌, ◌≤◌, length, OnErr, OnOk};
 ghost use Rattle.burr_code.specs.Instruction.{Halt, Grip, Aside, spelled};
 ghost use Rattle.burr.specs.Step.{NextIs};
-ghost use Rattle.burr.specs.BenchViews.{setup_of, next_of, Steps, Follows, GoesOn};
-ghost use Rattle.burr.specs.declared.bench.mode.Mode.TheVariants.{Running};
+ghost use Rattle.burr.specs.BenchViews.{setup_of, next_of, CalledIn, Steps, Follows, GoesOn};
 
 use crate::bench::mode::Mode;
 use crate::bench::motion::Motion;
@@ -16,7 +15,18 @@ impl PlainBench<'_> {
     /// Carries out the next instruction and tells its motion, if it makes one. A trap changes
     /// nothing, is no step, and is answered by every later call. After `halt` nothing happens.
     pub fn step(&mut self) -> Result<Option<Motion>, Trap>
-        requires { self.old.state.mode ≡ Running }
+        ensures called { CalledIn self.old.state.mode self.old self.new result }
+        ensures goes_on { OnOk result (GoesOn self.old self.new result) }
+    {
+        match self.mode {
+            Mode::Running => self.step_on(),
+            Mode::Ended => Ok(None),
+            Mode::Stuck(trap) => Err(trap),
+        }
+    }
+
+    /// Carries out the next instruction, and keeps its trap.
+    fn step_on(&mut self) -> Result<Option<Motion>, Trap>
         ensures steps { Steps self.old self.new result }
         ensures goes_on { OnOk result (GoesOn self.old self.new result) }
     {
