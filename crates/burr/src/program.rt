@@ -1,6 +1,5 @@
-use crate::bench_text::{Outcome, bench_text};
-use crate::fault::BenchFault;
-use burr_io::{Reading, Sink, Source, Writing};
+use burr_io::{Reading, Writing};
+use burr_runs::{BenchFault, Outcome, bench_text};
 use clap::Command;
 use clap::error::ErrorKind;
 use std::alloc::{AllocError, Global};

@@ -1,74 +1,53 @@
-use crate::bench_text::{Outcome, bench_text};
-use crate::fault::BenchFault;
-use burr_io::{Reading, Writing};
-use std::alloc::{AllocError, Global};
-use std::io::{self, Read};
-use std::process::Abort;
+//! Statuses, lines of standard error, and words of the command line.
+use crate::program::{command, complaint, status_of};
+use burr_runs::{BenchFault, Outcome};
+use clap::error::ErrorKind;
 use std::test::Fail;
 
-mod memory;
-mod program;
-mod refusals;
-mod rows;
-mod sinks;
-mod sources;
-
-/// Two cubes side by side.
-const DUO: &str =
-    "assembly duo\nshape cube\nlayer\n#\nend\npiece A cube +x+y+z 0 0 0\npiece B cube +x+y+z 1 0 0\n";
-
-/// Code that takes the duo apart.
-const APART: &str = "100000000112010100";
-
-/// The sheet of the duo that is taken apart so.
-const SHEET: &str = "1 t0 A -x 0 out\nlevels 1\napart in 3 steps\n";
-
-/// An assembly's text with a last line `code`.
-fn input_of(alloc: Global, text: &str, code: &str) -> Result<String, AllocError> {
-    format!(in alloc; "{text}code {code}\n")
+#[test]
+fn ends_with_the_statuses_of_the_rules(rt: HostRuntime) {
+    let statuses = [
+        (Ok(Outcome::Apart), 0),
+        (Ok(Outcome::Refused), 1),
+        (Ok(Outcome::Trapped), 1),
+        (Ok(Outcome::Stopped), 1),
+        (Ok(Outcome::Waiting), 5),
+        (Err(BenchFault::Read), 3),
+        (Err(BenchFault::TooLong), 3),
+        (Err(BenchFault::Write), 3),
+        (Err(BenchFault::Memory), 4),
+    ];
+    for (answer, status) in statuses {
+        assert_eq!(rt; status_of(answer), status, "{answer:?}");
+    }
+    assert_eq!(rt; complaint(BenchFault::Read), "cannot read -");
+    assert_eq!(rt; complaint(BenchFault::TooLong), "cannot read -");
+    assert_eq!(rt; complaint(BenchFault::Write), "cannot write -");
+    assert_eq!(rt; complaint(BenchFault::Memory), "no memory");
 }
 
-/// Asserts that an input is answered so.
-fn assert_answer(rt: &impl Abort, alloc: Global, input: &str, outcome: Outcome, output: &str) {
-    let mut source = Reading::new(input.as_bytes());
-    let mut written = Vec::new(alloc);
-    let answer = bench_text(alloc, &mut source, &mut Writing::new(&mut written));
-    assert_eq!(rt; answer, Ok(outcome), "{input}");
-    assert_eq!(rt; written.as_slice(), output.as_bytes(), "{input}");
-}
-
-/// A reader that gives so many bytes a call, and fails where so many calls have been made.
-#[derive(Drop)]
-struct Portions<'a> {
-    left: &'a [u8],
-    each: usize,
-    calls: usize,
-    /// Whether it has told its end.
-    has_ended: bool,
-}
-
-impl<'a> Portions<'a> {
-    fn new(text: &'a str, each: usize, calls: usize) -> Portions<'a> {
-        Portions {
-            left: text.as_bytes(),
-            each,
-            calls,
-            has_ended: false,
+#[test]
+fn knows_no_words(rt: HostRuntime) -> Result<(), Fail> {
+    let alloc = rt.alloc();
+    let wrong = ["burr", "run"];
+    match command(alloc)?.try_get_matches_from(wrong.as_slice()) {
+        Ok(_) => return Err(Fail::from("a word is taken")),
+        Err(error) => {
+            let text = format!(in alloc; "{error}")?;
+            assert!(rt; error.use_stderr());
+            assert_eq!(rt;
+                text.as_str(),
+                "error: unexpected argument 'run' found\n\nUsage: burr\n\nFor more information, try '--help'.\n"
+            );
         }
     }
-}
-
-impl Read for Portions<'_> {
-    fn read(&mut self, buffer: &mut [u8]) -> io::Result<usize> {
-        if self.calls == 0 {
-            return Err(io::Error::from(io::ErrorKind::Other));
+    let help = ["burr", "--help"];
+    match command(alloc)?.try_get_matches_from(help.as_slice()) {
+        Ok(_) => Err(Fail::from("help is taken for a run")),
+        Err(error) => {
+            assert!(rt; !error.use_stderr());
+            assert!(rt; error.kind() == ErrorKind::DisplayHelp);
+            Ok(())
         }
-        self.calls -= 1;
-        let count = self.left.len().min(self.each).min(buffer.len());
-        let (portion, rest) = self.left.split_at(count);
-        buffer[..count].copy_from_slice(portion);
-        self.left = rest;
-        self.has_ended = count == 0;
-        Ok(count)
     }
 }

@@ -5,9 +5,10 @@ use Rattle.std.specs.List.{flat_map}
 use Rattle.std.proofs.lemmas.List.{append-nil, flat_map_more}
 use Rattle.std.proofs.lemmas.List.Elements.{All-nil}
 use Rattle.burr_assembly.specs.declared.fault.AssemblyFault.{AssemblyFault}
-use Rattle.burr_assembly.specs.Text.{Drawing, Piece, Assembly, line, layer_text, shape_text, piece_text, text_of, IsPiece, Shares, IsAssembly, IsText}
-use Rattle.burr_assembly.specs.Lines.{Form, PieceWords, AssemblyLine, ShapeLine, LayerLine, RowLine, EndLine, PieceLine, form_text, IsForm}
-use Rattle.burr_assembly.specs.Faults.{Front, Blank, Shapes, Drawn, Pieces, Rule, PieceRule, LineGives, EndGives, TextGives, ends, breaks_off, fails, goes_on, with_layer, gives}
+use Rattle.burr_assembly.specs.Text.{Drawing, Piece, Assembly, layer_text, shape_text, piece_text, text_of, IsPiece, Shares, IsAssembly, IsText}
+use Rattle.burr_text.specs.Words.{text_line}
+use Rattle.burr_assembly.specs.Lines.{LineForm, PieceWords, AssemblyLine, ShapeLine, LayerLine, RowLine, EndLine, PieceLine, form_text, IsLineForm}
+use Rattle.burr_assembly.specs.Faults.{Front, Blank, Shapes, Drawn, Pieces, FormGives, PieceRule, LineGives, EndGives, TextGives, ends, breaks_off, fails, goes_on, with_layer, gives}
 use Rattle.burr_assembly.proofs.Taken.{no_fault, same_ok, needs_ok, looks_ok}
 use Rattle.burr_assembly.proofs.Drawings.{row_kept, layer_kept, layer_begins, no_layers, drawn}
 use Rattle.burr_assembly.proofs.Fronts.{AreShapes, IsDrawn, ArePieces, shape_kept, piece_kept}
@@ -17,7 +18,7 @@ use Rattle.burr_assembly.proofs.FrontTexts.{shapes_text, begun_text, more_text, 
 abbrev pub front_text : Front → List ℕ
 front_text Blank = []
 front_text (Shapes name shapes) = shapes_text name shapes
-front_text (Drawn name shapes d begun) = shapes_text name shapes ++ line (codes "shape" ∷ d.name ∷ []) ++ flat_map layer_text d.layers ++ begun_text begun
+front_text (Drawn name shapes d begun) = shapes_text name shapes ++ text_line (codes "shape" ∷ d.name ∷ []) ++ flat_map layer_text d.layers ++ begun_text begun
 front_text (Pieces name shapes pieces) = shapes_text name shapes ++ flat_map piece_text pieces
 
 -- what is known of a front that was reached
@@ -27,30 +28,30 @@ IsBeginning (Shapes name shapes) = AreShapes name shapes
 IsBeginning (Drawn name shapes d begun) = IsDrawn name shapes d begun
 IsBeginning (Pieces name shapes pieces) = ArePieces name shapes pieces
 
--- no line yet
+-- no text_line yet
 pub begins_blank : IsBeginning Blank
 begins_blank = tt
 
--- What a line does to the front
+-- What a text_line does to the front
 
--- the front behind a line is this one
+-- the front behind a text_line is this one
 kept : (next front : Front) (text : List ℕ) → gives front (Ok next) → IsBeginning front → front_text front ≡ text → IsBeginning next × (front_text next ≡ text)
 kept next front text e b same = subst (λ (f : Front). IsBeginning f × (front_text f ≡ text)) (sym (same_ok (Ok next) refl e)) (b, same)
 
--- the front behind a line of a form is a beginning, and its text that of the front before it and the line
-abbrev Kept : Front → Form → Front → Type 0
+-- the front behind a text_line of a form is a beginning, and its text that of the front before it and the text_line
+abbrev Kept : Front → LineForm → Front → Type 0
 Kept front form next = IsBeginning next × (front_text next ≡ front_text front ++ form_text form ++ 10 ∷ [])
 
 -- the name of the assembly
-title_keeps : (n : ℕ) (name : List ℕ) (next : Front) → Rule n Blank (AssemblyLine name) (Ok next) → Kept Blank (AssemblyLine name) next
+title_keeps : (n : ℕ) (name : List ℕ) (next : Front) → FormGives n Blank (AssemblyLine name) (Ok next) → Kept Blank (AssemblyLine name) next
 title_keeps n name next rule =
     let r = needs_ok rule in
     kept next (Shapes name []) _ r.1
     (record { title_is = r.0; few = omega arith; each = All-nil _; names = λ i j d before inside. absurd (omega arith) })
-    (append-nil (line (codes "assembly" ∷ name ∷ [])))
+    (append-nil (text_line (codes "assembly" ∷ name ∷ [])))
 
 -- a shape begins
-shape_keeps : (n : ℕ) (name : List ℕ) (shapes : List Drawing) (shape : List ℕ) (next : Front) → AreShapes name shapes → Rule n (Shapes name shapes) (ShapeLine shape) (Ok next) → Kept (Shapes name shapes) (ShapeLine shape) next
+shape_keeps : (n : ℕ) (name : List ℕ) (shapes : List Drawing) (shape : List ℕ) (next : Front) → AreShapes name shapes → FormGives n (Shapes name shapes) (ShapeLine shape) (Ok next) → Kept (Shapes name shapes) (ShapeLine shape) next
 shape_keeps n name shapes shape next b rule =
     let room = needs_ok rule in
     let r = needs_ok room.1 in
@@ -59,33 +60,33 @@ shape_keeps n name shapes shape next b rule =
     (shape_text_begins (shapes_text name shapes) (form_text (ShapeLine shape)))
 
 -- the first layer begins
-first_layer_keeps : (n : ℕ) (name : List ℕ) (shapes : List Drawing) (d : Drawing) (next : Front) → IsDrawn name shapes d None → Rule n (Drawn name shapes d None) LayerLine (Ok next) → Kept (Drawn name shapes d None) LayerLine next
+first_layer_keeps : (n : ℕ) (name : List ℕ) (shapes : List Drawing) (d : Drawing) (next : Front) → IsDrawn name shapes d None → FormGives n (Drawn name shapes d None) LayerLine (Ok next) → Kept (Drawn name shapes d None) LayerLine next
 first_layer_keeps n name shapes d next b rule =
     kept next (Drawn name shapes d (Some [])) _ rule
     (record { before = b.before; room = b.room; name = b.name; new = b.new; rows = b.rows })
-    (first_layer_text (shapes_text name shapes ++ line (codes "shape" ∷ d.name ∷ []) ++ flat_map layer_text d.layers) (codes "layer"))
+    (first_layer_text (shapes_text name shapes ++ text_line (codes "shape" ∷ d.name ∷ []) ++ flat_map layer_text d.layers) (codes "layer"))
 
 -- one more layer begins
-next_layer_keeps : (n : ℕ) (name : List ℕ) (shapes : List Drawing) (d : Drawing) (rows : List (List ℕ)) (next : Front) → IsDrawn name shapes d (Some rows) → Rule n (Drawn name shapes d (Some rows)) LayerLine (Ok next)
+next_layer_keeps : (n : ℕ) (name : List ℕ) (shapes : List Drawing) (d : Drawing) (rows : List (List ℕ)) (next : Front) → IsDrawn name shapes d (Some rows) → FormGives n (Drawn name shapes d (Some rows)) LayerLine (Ok next)
     → Kept (Drawn name shapes d (Some rows)) LayerLine next
 next_layer_keeps n name shapes d rows next b rule =
     let r = needs_ok rule in
     let room : length d.layers + 1 < 16 = r.0.1 in
     kept next (Drawn name shapes (with_layer d rows) (Some [])) _ r.1
     (record { before = b.before; room = b.room; name = b.name; new = b.new; rows = layer_begins (d.layers ++ rows ∷ []) (layer_kept d.layers rows b.rows r.0.0) (omega (arith, length-append d.layers (rows ∷ []))) })
-    (next_layer_text (shapes_text name shapes ++ line (codes "shape" ∷ d.name ∷ [])) (codes "layer") d.layers rows)
+    (next_layer_text (shapes_text name shapes ++ text_line (codes "shape" ∷ d.name ∷ [])) (codes "layer") d.layers rows)
 
 -- one more row
-row_keeps : (n : ℕ) (name : List ℕ) (shapes : List Drawing) (d : Drawing) (rows : List (List ℕ)) (marks : List ℕ) (next : Front) → IsForm (RowLine marks) → IsDrawn name shapes d (Some rows)
-    → Rule n (Drawn name shapes d (Some rows)) (RowLine marks) (Ok next) → Kept (Drawn name shapes d (Some rows)) (RowLine marks) next
+row_keeps : (n : ℕ) (name : List ℕ) (shapes : List Drawing) (d : Drawing) (rows : List (List ℕ)) (marks : List ℕ) (next : Front) → IsLineForm (RowLine marks) → IsDrawn name shapes d (Some rows)
+    → FormGives n (Drawn name shapes d (Some rows)) (RowLine marks) (Ok next) → Kept (Drawn name shapes d (Some rows)) (RowLine marks) next
 row_keeps n name shapes d rows marks next form b rule =
     let r = needs_ok rule in
     kept next (Drawn name shapes d (Some (rows ++ marks ∷ []))) _ r.1
     (record { before = b.before; room = b.room; name = b.name; new = b.new; rows = row_kept d.layers rows marks b.rows r.0 form.0 form.1 })
-    (row_text_more (shapes_text name shapes ++ line (codes "shape" ∷ d.name ∷ []) ++ flat_map layer_text d.layers) rows marks)
+    (row_text_more (shapes_text name shapes ++ text_line (codes "shape" ∷ d.name ∷ []) ++ flat_map layer_text d.layers) rows marks)
 
 -- a shape ends
-end_keeps : (n : ℕ) (name : List ℕ) (shapes : List Drawing) (d : Drawing) (rows : List (List ℕ)) (next : Front) → IsDrawn name shapes d (Some rows) → Rule n (Drawn name shapes d (Some rows)) EndLine (Ok next)
+end_keeps : (n : ℕ) (name : List ℕ) (shapes : List Drawing) (d : Drawing) (rows : List (List ℕ)) (next : Front) → IsDrawn name shapes d (Some rows) → FormGives n (Drawn name shapes d (Some rows)) EndLine (Ok next)
     → Kept (Drawn name shapes d (Some rows)) EndLine next
 end_keeps n name shapes d rows next b rule =
     let r = needs_ok rule in
@@ -94,8 +95,8 @@ end_keeps n name shapes d rows next b rule =
     (shape_kept name shapes (with_layer d rows) b.before b.room
     (drawn (with_layer d rows) b.name (layer_kept d.layers rows b.rows r.0.0) (omega (arith, length-append d.layers (rows ∷ []))) (omega (arith, length-append d.layers (rows ∷ []))) r.0.1)
     b.new)
-    (sym (flat_map_more shape_text (line (codes "assembly" ∷ name ∷ [])) shapes (with_layer d rows))
-    ∙ shape_text_ends (shapes_text name shapes) (line (codes "shape" ∷ d.name ∷ [])) (codes "end") d.layers rows)
+    (sym (flat_map_more shape_text (text_line (codes "assembly" ∷ name ∷ [])) shapes (with_layer d rows))
+    ∙ shape_text_ends (shapes_text name shapes) (text_line (codes "shape" ∷ d.name ∷ [])) (codes "end") d.layers rows)
 
 -- a piece behind these
 piece_rule_keeps : (n : ℕ) (name : List ℕ) (shapes : List Drawing) (pieces : List Piece) (w : PieceWords) (next : Front) → AreShapes name shapes → 1 ≤ length shapes
@@ -118,7 +119,7 @@ piece_rule_keeps n name shapes pieces w next b some each names disjoint rule =
     ]
 
 -- the first piece
-first_piece_keeps : (n : ℕ) (name : List ℕ) (s : Drawing) (shapes : List Drawing) (w : PieceWords) (next : Front) → AreShapes name (s ∷ shapes) → Rule n (Shapes name (s ∷ shapes)) (PieceLine w) (Ok next)
+first_piece_keeps : (n : ℕ) (name : List ℕ) (s : Drawing) (shapes : List Drawing) (w : PieceWords) (next : Front) → AreShapes name (s ∷ shapes) → FormGives n (Shapes name (s ∷ shapes)) (PieceLine w) (Ok next)
     → Kept (Shapes name (s ∷ shapes)) (PieceLine w) next
 first_piece_keeps n name s shapes w next b rule =
     let k = piece_rule_keeps n name (s ∷ shapes) [] w next b (omega arith) (All-nil _) (λ i j d before inside. absurd (omega arith)) (λ i j d before inside. absurd (omega arith)) rule in
@@ -127,8 +128,8 @@ first_piece_keeps n name s shapes w next b rule =
     first_text : (before words : List ℕ) → before ++ [] ++ words ++ 10 ∷ [] ≡ before ++ words ++ 10 ∷ []
     first_text before words = simp append-nil
 
--- A line of a form that is taken leaves a beginning, with the line behind the text.
-pub rule_keeps : (n : ℕ) (front next : Front) (form : Form) → IsForm form → IsBeginning front → Rule n front form (Ok next) → IsBeginning next × (front_text next ≡ front_text front ++ form_text form ++ 10 ∷ [])
+-- A text_line of a form that is taken leaves a beginning, with the text_line behind the text.
+pub rule_keeps : (n : ℕ) (front next : Front) (form : LineForm) → IsLineForm form → IsBeginning front → FormGives n front form (Ok next) → IsBeginning next × (front_text next ≡ front_text front ++ form_text form ++ 10 ∷ [])
 rule_keeps n Blank next (AssemblyLine name) is b rule = title_keeps n name next rule
 rule_keeps n (Shapes name shapes) next (ShapeLine shape) is b rule = shape_keeps n name shapes shape next b rule
 rule_keeps n (Shapes name (s ∷ shapes)) next (PieceLine w) is b rule = first_piece_keeps n name s shapes w next b rule
@@ -139,7 +140,7 @@ rule_keeps n (Drawn name shapes d (Some rows)) next EndLine is b rule = end_keep
 rule_keeps n (Pieces name shapes pieces) next (PieceLine w) is b rule = piece_rule_keeps n name shapes pieces w next b.before b.shape b.each b.names b.disjoint rule
 rule_keeps n front next form is b rule = no_fault rule
 
--- A line of bytes that is taken leaves a beginning, with the bytes behind the text.
+-- A text_line of bytes that is taken leaves a beginning, with the bytes behind the text.
 pub line_keeps : (n : ℕ) (front next : Front) (bytes : List ℕ) → IsBeginning front → LineGives n front bytes (Ok next) → IsBeginning next × (front_text next ≡ front_text front ++ bytes ++ 10 ∷ [])
 line_keeps n front next bytes b gives_next =
     let l = looks_ok gives_next in
@@ -175,7 +176,7 @@ end_is_text n (Pieces name shapes pieces) a b given =
 pub end_is_whole : (n : ℕ) (front : Front) (a : Assembly) → IsBeginning front → EndGives n front (Ok a) → IsText (front_text front) a
 end_is_whole n front a b given = let whole = end_is_text n front a b given in (whole.0, sym whole.1)
 
--- the text of a line and of the rest behind it
+-- the text of a text_line and of the rest behind it
 text_goes_on : (before next bytes rest text : List ℕ) → next ≡ before ++ bytes ++ 10 ∷ [] → next ++ rest ≡ text → before ++ (bytes ++ 10 ∷ rest) ≡ text
 text_goes_on before next bytes rest text e is = regroup before bytes rest ∙ ap (λ t. t ++ rest) (sym e) ∙ is
   where

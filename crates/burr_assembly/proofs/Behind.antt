@@ -3,11 +3,11 @@ use Rattle.std.proofs.Common.{◌<◌, ℕ, List, [], ◌∷◌, length, Result,
 use Rattle.std.specs.Result.{IfOk, IfErr}
 use Rattle.burr_assembly.specs.Text.{Drawing}
 use Rattle.burr_assembly.specs.Lines.{PieceWords, PieceLine}
-use Rattle.burr_assembly.specs.Faults.{Answer, Shapes, Rule, PieceRule}
+use Rattle.burr_assembly.specs.Faults.{LineResult, Shapes, FormGives, PieceRule}
 
 -- where a shape has ended, a piece may come
-pub first_piece : (n : ℕ) (name : List ℕ) (shapes : List Drawing) (w : PieceWords) (answer : Answer)
-    → 0 < length shapes → PieceRule n name shapes [] w answer → Rule n (Shapes name shapes) (PieceLine w) answer
+pub first_piece : (n : ℕ) (name : List ℕ) (shapes : List Drawing) (w : PieceWords) (answer : LineResult)
+    → 0 < length shapes → PieceRule n name shapes [] w answer → FormGives n (Shapes name shapes) (PieceLine w) answer
 first_piece n name [] w answer some rule = absurd (omega arith)
 first_piece n name (s ∷ shapes) w answer some rule = rule
 

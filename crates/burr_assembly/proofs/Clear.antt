@@ -9,10 +9,13 @@ use Rattle.std.proofs.lemmas.Bool.Decides.{nat_tests}
 use Rattle.burr_voxels.specs.declared.direction.Direction.{Direction}
 use Rattle.burr_voxels.specs.declared.direction.Direction.TheVariants.{PlusX, MinusX, PlusY, MinusY, PlusZ, MinusZ}
 use Rattle.burr_voxels.specs.Grid.{name_of}
-use Rattle.burr_assembly.specs.Names.{IsName, IsCoordinate, is_name_byte, is_letter}
+use Rattle.burr_text.specs.Names.{IsName, is_name_byte, is_letter}
+use Rattle.burr_assembly.specs.Positions.{IsCoordinate}
 use Rattle.burr_assembly.specs.Text.{IsMark, Turn, turn_name}
-use Rattle.burr_assembly.specs.Lines.{Form, AssemblyLine, ShapeLine, LayerLine, RowLine, EndLine, PieceLine, form_text, IsForm, IsWord, IsCount, IsNumber}
-use Rattle.burr_assembly.specs.Faults.{IsUnended}
+use Rattle.burr_assembly.specs.Lines.{LineForm, AssemblyLine, ShapeLine, LayerLine, RowLine, EndLine, PieceLine, form_text, IsLineForm}
+use Rattle.burr_text.specs.Words.{IsWord}
+use Rattle.burr_text.specs.Numbers.{IsCount, IsNumber}
+use Rattle.burr_text.specs.Lines.{IsUnended}
 
 -- a byte that is no end of a line
 abbrev pub IsClear : ℕ → Type 0
@@ -114,7 +117,7 @@ clear_joined word [] clear rest = clear
 clear_joined word (next ∷ words) clear rest = All-append IsClear word (32 ∷ join_with_byte 32 (next ∷ words)) clear (All-cons IsClear 32 (join_with_byte 32 (next ∷ words)) (λ e. omega arith) rest)
 
 -- no byte of a line of a form ends a line
-clear_form : (form : Form) → IsForm form → All IsClear (form_text form)
+clear_form : (form : LineForm) → IsLineForm form → All IsClear (form_text form)
 clear_form (AssemblyLine name) is = clear_joined (codes "assembly") (name ∷ []) (clear_word (codes "assembly") refl) (clear_ink name is.1)
 clear_form (ShapeLine name) is = clear_joined (codes "shape") (name ∷ []) (clear_word (codes "shape") refl) (clear_ink name is.1)
 clear_form LayerLine is = clear_word (codes "layer") refl
@@ -129,7 +132,7 @@ clear_form (PieceLine w) is =
     (clear_joined w.y (w.z ∷ []) (clear_number w.y is.y) (clear_number w.z is.z))))))
 
 -- a line of a form holds no end of a line
-pub unended_form : (form : Form) → IsForm form → IsUnended (form_text form)
+pub unended_form : (form : LineForm) → IsLineForm form → IsUnended (form_text form)
 unended_form form is = unended (form_text form) (clear_form form is)
 
 -- Names

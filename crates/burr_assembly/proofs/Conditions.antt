@@ -2,11 +2,11 @@
 use Rattle.std.proofs.Common.{◌≡◌, ℕ, ◌<◌, List, ◌++◌, length, slice_index, slice_index_or, slice_get, Contains, ◌⊎◌, inl, inr, refl, ap, subst}
 use Rattle.std.specs.List.{list_all, flat_map}
 use Rattle.burr_voxels.specs.declared.cell.Cell.{Cell}
-use Rattle.burr_voxels.specs.Blocks.{Overlap}
-use Rattle.burr_assembly.specs.Names.{IsName, is_letter, is_name_byte}
+use Rattle.burr_voxels.specs.CellSets.{Overlap}
+use Rattle.burr_text.specs.Names.{IsName, is_letter, is_name_byte}
 use Rattle.burr_assembly.specs.Text.{Drawing, Piece, IsShapeName, IsPieceName, HasCells, Shares, home_cells, drawn_cells}
-use Rattle.burr_assembly.specs.Faults.{IsWhole, IsRow, HasCellCount, IsFirstSharing}
-use Rattle.burr_assembly.proofs.Decisions.{Decided, decided_like, decided_and, decided_and_three, decide_test, decide_same, decide_below, decide_at_most, decide_same_whole, decide_same_bytes, decide_if_some, decide_contains, decide_any, decide_first_below}
+use Rattle.burr_assembly.specs.Faults.{IsFinishedLayer, IsRow, HasCellCount, IsFirstSharing}
+use Rattle.burr_text.proofs.Common.Decisions.{Decided, decided_like, decided_and, decided_and_three, decide_test, decide_same, decide_below, decide_at_most, decide_same_whole, decide_same_bytes, decide_if_some, decide_contains, decide_any, decide_first_below}
 
 -- whether bytes are a name
 pub decide_name : (bytes : List ℕ) → Decided (IsName bytes)
@@ -22,7 +22,7 @@ pub decide_piece_name : (pieces : List Piece) (name : List ℕ) → Decided (IsP
 decide_piece_name pieces name = decide_any (λ (p : Piece). p.name ≡ name) (λ p. decide_same_bytes p.name name) pieces
 
 -- whether a layer may be finished
-pub decide_whole : (layers : List (List (List ℕ))) (rows : List (List ℕ)) → Decided (IsWhole layers rows)
+pub decide_whole : (layers : List (List (List ℕ))) (rows : List (List ℕ)) → Decided (IsFinishedLayer layers rows)
 decide_whole layers rows =
     decided_and (decide_at_most 1 (length rows)) (decide_if_some (λ first. length rows ≡ length first) (λ first. decide_same (length rows) (length first)) (slice_get layers 0))
 

@@ -2,9 +2,9 @@
 use Rattle.std.proofs.Common.{◌≡◌, ◌≢◌, ℕ, ◌<◌, ◌≤◌, List, [], ◌∷◌, ◌++◌, length, refl, ◌∙◌, arith, length-append}
 use Rattle.std.specs.Prelude.{All}
 use Rattle.std.proofs.lemmas.List.Elements.{All-nil, All-push, All-head}
-use Rattle.burr_assembly.specs.Names.{IsName}
+use Rattle.burr_text.specs.Names.{IsName}
 use Rattle.burr_assembly.specs.Text.{Drawing, IsMark, IsDrawing}
-use Rattle.burr_assembly.specs.Faults.{IsWhole, IsRow, HasCellCount}
+use Rattle.burr_assembly.specs.Faults.{IsFinishedLayer, IsRow, HasCellCount}
 
 -- finished layers: as many rows in each, each row as wide, and only marks
 pub record AreLayers (layers : List (List (List ℕ))) : Type 0 where
@@ -39,7 +39,7 @@ like_first ((row ∷ layer) ∷ layers) rows marks b r some =
     )
 
 -- a layer behind these has as many rows as those before it
-pub as_high : (layers : List (List (List ℕ))) (rows : List (List ℕ)) → AreRows layers rows → IsWhole layers rows
+pub as_high : (layers : List (List (List ℕ))) (rows : List (List ℕ)) → AreRows layers rows → IsFinishedLayer layers rows
     → (height : ℕ) × (1 ≤ height) × (height ≤ 16) × All (λ layer. length layer ≡ height) (layers ++ rows ∷ [])
 as_high [] rows b whole = (length rows, whole.0, b.few, All-push (λ (layer : List (List ℕ)). length layer ≡ length rows) [] rows (All-nil _) refl)
 as_high (layer ∷ layers) rows b whole =
@@ -63,7 +63,7 @@ row_kept layers rows marks b r some each = record {
 }
 
 -- a layer that may be finished
-pub layer_kept : (layers : List (List (List ℕ))) (rows : List (List ℕ)) → AreRows layers rows → IsWhole layers rows → AreLayers (layers ++ rows ∷ [])
+pub layer_kept : (layers : List (List (List ℕ))) (rows : List (List ℕ)) → AreRows layers rows → IsFinishedLayer layers rows → AreLayers (layers ++ rows ∷ [])
 layer_kept layers rows b whole = record {
   rows = as_high layers rows b whole;
   width = (b.width.0, b.width.1, b.width.2, All-push (All (λ (row : List ℕ). length row ≡ b.width.0)) layers rows b.width.3 b.width.4);

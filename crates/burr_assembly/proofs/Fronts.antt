@@ -4,7 +4,7 @@ use Rattle.std.specs.Prelude.{All, AllPairs, Any, Option, Some, None, slice_inde
 use Rattle.std.proofs.lemmas.List.{get_or_default}
 use Rattle.std.proofs.lemmas.List.Elements.{All-push}
 use Rattle.std.proofs.lemmas.List.Quantifiers.{all_pairs_push}
-use Rattle.burr_assembly.specs.Names.{IsName}
+use Rattle.burr_text.specs.Names.{IsName}
 use Rattle.burr_assembly.specs.Text.{Drawing, Piece, IsDrawing, IsShapeName, IsPieceName, IsPiece, Shares}
 use Rattle.burr_assembly.specs.Faults.{IsFirstSharing}
 use Rattle.burr_assembly.proofs.Drawings.{AreRows}

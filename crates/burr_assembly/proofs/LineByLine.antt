@@ -2,8 +2,9 @@
 use Rattle.std.proofs.Common.{◌≡◌, ◌≢◌, ◌<◌, ◌≤◌, ◌+◌, ℕ, suc, List, [], ◌∷◌, ◌++◌, length, Result, Ok, Err, sym, ◌∙◌, ap, subst, append_assoc, append-nil, length-append, arith}
 use Rattle.burr_assembly.specs.declared.fault.AssemblyFault.{AssemblyFault}
 use Rattle.burr_assembly.specs.declared.fault.AssemblyFault.TheVariants.{A1}
-use Rattle.burr_assembly.specs.Text.{Assembly, IsText, IsAssembly, text_of}
-use Rattle.burr_assembly.specs.Faults.{Front, Blank, LineGives, EndGives, IsUnended, TextGives, ends, breaks_off, fails, goes_on, FirstFault}
+use Rattle.burr_assembly.specs.Text.{Assembly, IsText}
+use Rattle.burr_assembly.specs.Faults.{Front, Blank, LineGives, EndGives, TextGives, ends, breaks_off, fails, goes_on, FirstFault}
+use Rattle.burr_text.specs.Lines.{IsUnended}
 use Rattle.burr_assembly.proofs.Beginnings.{IsBeginning, front_text, line_keeps, end_is_text}
 
 -- how far a text is read: the lines so far are a beginning, and what the rest gives the text gives

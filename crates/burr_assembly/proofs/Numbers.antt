@@ -5,10 +5,11 @@ use Rattle.std.proofs.lemmas.Int.{ints}
 use Rattle.std.proofs.lemmas.Fmt.{signed_decimal_injective}
 use lib.Signed.{mag}
 use Rattle.burr_voxels.specs.declared.cell.Cell.{Cell}
-use Rattle.burr_assembly.specs.Names.{IsCoordinate}
-use Rattle.burr_assembly.specs.Lines.{PieceWords, IsNumber}
+use Rattle.burr_assembly.specs.Positions.{IsCoordinate}
+use Rattle.burr_assembly.specs.Lines.{PieceWords}
+use Rattle.burr_text.specs.Numbers.{IsNumber}
 use Rattle.burr_assembly.specs.Faults.{IsPositionOf}
-use Rattle.burr_assembly.proofs.Cuts.{Lacks}
+use Rattle.burr_text.proofs.Common.Cuts.{Lacks}
 
 -- digits are no blanks
 digits_lack : (bytes : List ℕ) → All (λ b. (48 ≤ b) × (b ≤ 57)) bytes → Lacks 32 bytes

@@ -5,11 +5,12 @@ use Rattle.burr_voxels.specs.declared.cell.Cell.{Cell}
 use Rattle.burr_voxels.proofs.Naming.{same_axes}
 use Rattle.burr_assembly.specs.declared.fault.AssemblyFault.{AssemblyFault}
 use Rattle.burr_assembly.specs.declared.fault.AssemblyFault.TheVariants.{A1, A2, A3, A4, A5, A6, A7, A8}
-use Rattle.burr_assembly.specs.Names.{IsName}
+use Rattle.burr_text.specs.Names.{IsName}
 use Rattle.burr_assembly.specs.Text.{Drawing, Turn, Piece, Assembly, turn_name, IsTurn, IsShapeName, IsPieceName}
-use Rattle.burr_assembly.specs.Lines.{Form, PieceWords, AssemblyLine, ShapeLine, LayerLine, RowLine, EndLine, PieceLine, IsLine}
-use Rattle.burr_assembly.specs.Faults.{Front, Blank, Shapes, Drawn, Pieces, Answer, gives, IsWhole, IsRow, with_layer, HasCellCount, IsFirstSharing, IsPositionOf, PieceRule, Rule, LineGives, EndGives, IsUnended, TextGives, ends, breaks_off, fails, goes_on}
-use Rattle.burr_assembly.proofs.Cuts.{cut, lacks, contains_cut}
+use Rattle.burr_assembly.specs.Lines.{LineForm, PieceWords, AssemblyLine, ShapeLine, LayerLine, RowLine, EndLine, PieceLine, IsLine}
+use Rattle.burr_assembly.specs.Faults.{Front, Blank, Shapes, Drawn, Pieces, LineResult, gives, IsFinishedLayer, IsRow, with_layer, HasCellCount, IsFirstSharing, IsPositionOf, PieceRule, FormGives, LineGives, EndGives, TextGives, ends, breaks_off, fails, goes_on}
+use Rattle.burr_text.specs.Lines.{IsUnended}
+use Rattle.burr_text.proofs.Common.Cuts.{cut, lacks, contains_cut}
 use Rattle.burr_assembly.proofs.Numbers.{one_position}
 use Rattle.burr_assembly.proofs.OneForm.{one_form}
 
@@ -41,13 +42,13 @@ one_first : (shapes : List Drawing) (pieces : List Piece) (p : Piece) (q r : ℕ
 one_first shapes pieces p q r f g = elim (cases_order q r) [ inl e ↦ e | inr (inl l) ↦ absurd (g.first q l f.shares) | inr (inr l) ↦ absurd (f.first r l g.shares) ]
 
 -- what a piece gives that may stand but for the cells of the others
-abbrev Stands : ℕ → List ℕ → List Drawing → List Piece → Piece → Answer → Type 0
+abbrev Stands : ℕ → List ℕ → List Drawing → List Piece → Piece → LineResult → Type 0
 Stands n name shapes pieces p answer =
     ((q : ℕ) × IsFirstSharing shapes pieces p q × (answer ≡ Err (A8 n q (length pieces))))
     ⊎ (((q : ℕ) → ¬ IsFirstSharing shapes pieces p q) × gives (Pieces name shapes (pieces ++ p ∷ [])) answer)
 
 -- which gives one answer
-one_stands : (n : ℕ) (name : List ℕ) (shapes : List Drawing) (pieces : List Piece) (p : Piece) (x y : Answer) → Stands n name shapes pieces p x → Stands n name shapes pieces p y → x ≡ y
+one_stands : (n : ℕ) (name : List ℕ) (shapes : List Drawing) (pieces : List Piece) (p : Piece) (x y : LineResult) → Stands n name shapes pieces p x → Stands n name shapes pieces p y → x ≡ y
 one_stands n name shapes pieces p x y (inl h) (inl k) = h.2 ∙ ap (λ (q : ℕ). Err (A8 n q (length pieces))) (one_first shapes pieces p h.0 k.0 h.1 k.1) ∙ sym k.2
 one_stands n name shapes pieces p x y (inl h) (inr k) = absurd (k.0 h.0 h.1)
 one_stands n name shapes pieces p x y (inr h) (inl k) = absurd (h.0 k.0 k.1)
@@ -58,7 +59,7 @@ abbrev piece_at : PieceWords → Turn → Cell → Piece
 piece_at w turn position = record { name = w.name; shape = w.shape; turn = turn; position = position }
 
 -- a line of a piece gives one answer
-one_piece : (n : ℕ) (name : List ℕ) (shapes : List Drawing) (pieces : List Piece) (w : PieceWords) (x y : Answer) → PieceRule n name shapes pieces w x → PieceRule n name shapes pieces w y → x ≡ y
+one_piece : (n : ℕ) (name : List ℕ) (shapes : List Drawing) (pieces : List Piece) (w : PieceWords) (x y : LineResult) → PieceRule n name shapes pieces w x → PieceRule n name shapes pieces w y → x ≡ y
 one_piece n name shapes pieces w x y p q =
     one_needs (length pieces < 32) (Err (A7 n)) _ x y p q λ x y p q.
     one_needs (IsName w.name × (¬ IsPieceName pieces w.name)) (Err (A2 n)) _ x y p q λ x y p q.
@@ -68,22 +69,22 @@ one_piece n name shapes pieces w x y p q =
     one_stands n name shapes pieces (piece_at w t position) x y p q
 
 -- a line of a form gives one answer
-pub one_rule_answer : (n : ℕ) (front : Front) (form : Form) (x y : Answer) → Rule n front form x → Rule n front form y → x ≡ y
+pub one_rule_answer : (n : ℕ) (front : Front) (form : LineForm) (x y : LineResult) → FormGives n front form x → FormGives n front form y → x ≡ y
 one_rule_answer n Blank (AssemblyLine name) x y p q = one_check (IsName name) (Err (A2 n)) _ x y p q
 one_rule_answer n (Shapes name shapes) (ShapeLine shape) x y p q =
     one_needs (length shapes < 32) (Err (A7 n)) _ x y p q λ x y p q.
     one_check (IsName shape × (¬ IsShapeName shapes shape)) (Err (A2 n)) (Ok (Drawn name shapes (record { name = shape; layers = [] }) None)) x y p q
 one_rule_answer n (Drawn name shapes d None) LayerLine x y p q = p ∙ sym q
-one_rule_answer n (Drawn name shapes d (Some rows)) LayerLine x y p q = one_check (IsWhole d.layers rows × (length d.layers + 1 < 16)) (Err (A3 n)) _ x y p q
+one_rule_answer n (Drawn name shapes d (Some rows)) LayerLine x y p q = one_check (IsFinishedLayer d.layers rows × (length d.layers + 1 < 16)) (Err (A3 n)) _ x y p q
 one_rule_answer n (Drawn name shapes d (Some rows)) (RowLine marks) x y p q = one_check (IsRow d.layers rows marks) (Err (A3 n)) _ x y p q
-one_rule_answer n (Drawn name shapes d (Some rows)) EndLine x y p q = one_check (IsWhole d.layers rows × HasCellCount (with_layer d rows)) (Err (A3 n)) _ x y p q
+one_rule_answer n (Drawn name shapes d (Some rows)) EndLine x y p q = one_check (IsFinishedLayer d.layers rows × HasCellCount (with_layer d rows)) (Err (A3 n)) _ x y p q
 one_rule_answer n (Shapes name (s ∷ shapes)) (PieceLine w) x y p q = one_piece n name (s ∷ shapes) [] w x y p q
 one_rule_answer n (Pieces name shapes pieces) (PieceLine w) x y p q = one_piece n name shapes pieces w x y p q
 one_rule_answer n front form x y p q = p ∙ sym q
 
 -- a line gives one answer
-pub one_line_answer : (n : ℕ) (front : Front) (bytes : List ℕ) (x y : Answer) → LineGives n front bytes x → LineGives n front bytes y → x ≡ y
-one_line_answer n front bytes x y p q = one_search (IsLine bytes) (Err (A1 n)) (one_form bytes) (λ form. Rule n front form) x y p q (one_rule_answer n front)
+pub one_line_answer : (n : ℕ) (front : Front) (bytes : List ℕ) (x y : LineResult) → LineGives n front bytes x → LineGives n front bytes y → x ≡ y
+one_line_answer n front bytes x y p q = one_search (IsLine bytes) (Err (A1 n)) (one_form bytes) (λ form. FormGives n front form) x y p q (one_rule_answer n front)
 
 -- so does the end of a text
 pub one_end_answer : (n : ℕ) (front : Front) (x y : Result Assembly AssemblyFault) → EndGives n front x → EndGives n front y → x ≡ y
@@ -108,19 +109,19 @@ first_line : (a b r s : List ℕ) → IsUnended a → IsUnended b → a ++ 10 �
 first_line a b r s h k e = cut 10 a b r s (lacks 10 a h) (lacks 10 b k) e
 
 -- the first lines of a text give one answer
-same_line : (n : ℕ) (front : Front) (a b r s : List ℕ) (x y : Answer) → IsUnended a → IsUnended b → a ++ 10 ∷ r ≡ b ++ 10 ∷ s → LineGives n front a x → LineGives n front b y → x ≡ y
+same_line : (n : ℕ) (front : Front) (a b r s : List ℕ) (x y : LineResult) → IsUnended a → IsUnended b → a ++ 10 ∷ r ≡ b ++ 10 ∷ s → LineGives n front a x → LineGives n front b y → x ≡ y
 same_line n front a b r s x y h k e p q = one_line_answer n front a x y p (subst (λ (l : List ℕ). LineGives n front l y) (sym (first_line a b r s h k e).0) q)
 
 -- a fault is no front
-err_ok : (fault : AssemblyFault) (next : Front) → ◌≢◌ {A = Answer} (Err fault) (Ok next)
+err_ok : (fault : AssemblyFault) (next : Front) → ◌≢◌ {A = LineResult} (Err fault) (Ok next)
 err_ok fault next e = cc
 
 -- the faults of one answer are one
-same_fault : (f g : AssemblyFault) → ◌≡◌ {A = Answer} (Err f) (Err g) → f ≡ g
+same_fault : (f g : AssemblyFault) → ◌≡◌ {A = LineResult} (Err f) (Err g) → f ≡ g
 same_fault f g e = cc
 
 -- and so are the fronts
-same_front : (f g : Front) → ◌≡◌ {A = Answer} (Ok f) (Ok g) → f ≡ g
+same_front : (f g : Front) → ◌≡◌ {A = LineResult} (Ok f) (Ok g) → f ≡ g
 same_front f g e = cc
 
 -- texts that are equal give one answer: by the lines of the first

@@ -4,8 +4,8 @@ use Rattle.std.specs.Bool.{then_some}
 use Rattle.burr_assembly.specs.declared.text.line.PieceLine.{PieceLine}
 use Rattle.burr_assembly.specs.LineViews.{words_of}
 use Rattle.burr_assembly.specs.Lines.{PieceWords, IsPieceWords, piece_words_text}
-use Rattle.burr_assembly.specs.Views.{IsCutAt}
-use Rattle.burr_assembly.proofs.Cuts.{Lacks, cut, lacks, lacks_blank, contains_cut}
+use Rattle.burr_text.specs.Words.{IsCutAt}
+use Rattle.burr_text.proofs.Common.Cuts.{Lacks, cut, lacks, lacks_blank, contains_cut}
 use Rattle.burr_assembly.proofs.Numbers.{number_lacks}
 
 -- the bytes were cut at blanks: the words before them, in turn, and what is left behind the last

@@ -8,10 +8,12 @@ use Rattle.burr_voxels.specs.declared.direction.Direction.{Direction}
 use Rattle.burr_voxels.specs.declared.direction.Direction.TheVariants.{PlusX, MinusX, PlusY, MinusY, PlusZ, MinusZ}
 use Rattle.burr_voxels.specs.Grid.{at, along}
 use Rattle.burr_voxels.specs.Turns.{determinant}
-use Rattle.burr_assembly.specs.Names.{IsCoordinate}
+use Rattle.burr_assembly.specs.Positions.{IsCoordinate}
 use Rattle.burr_assembly.specs.Text.{Turn, IsTurn, IsMark, IsPositionText, turn_name}
-use Rattle.burr_assembly.specs.Lines.{Form, PieceWords, AssemblyLine, ShapeLine, LayerLine, RowLine, EndLine, PieceLine, IsWord, IsCount, IsNumber, IsMarks, IsPieceWords, IsLine, piece_words_text}
-use Rattle.burr_assembly.proofs.Decisions.{Decided, decided_like, decided_and, decided_and_three, decided_or, decided_not, decide_same, decide_at_most, decide_same_whole, decide_same_bytes, decide_empty, decide_all, decide_some_below, decide_parts}
+use Rattle.burr_assembly.specs.Lines.{LineForm, PieceWords, AssemblyLine, ShapeLine, LayerLine, RowLine, EndLine, PieceLine, IsMarks, IsPieceWords, IsLine, piece_words_text}
+use Rattle.burr_text.specs.Words.{IsWord}
+use Rattle.burr_text.specs.Numbers.{IsCount, IsNumber}
+use Rattle.burr_text.proofs.Common.Decisions.{Decided, decided_like, decided_and, decided_and_three, decided_or, decided_not, decide_same, decide_at_most, decide_same_whole, decide_same_bytes, decide_empty, decide_all, decide_some_below, decide_parts}
 
 -- whether some direction is so
 decide_direction : (P : Direction → Type 0) → ((d : Direction) → Decided (P d)) → Decided ((d : Direction) × P d)
@@ -197,11 +199,11 @@ IsSomeLine bytes =
     ⊎ IsPieceLine bytes
 
 -- whether the bytes are a line of some form
-pub decide_line : (bytes : List ℕ) → Decided ((form : Form) × IsLine bytes form)
+pub decide_line : (bytes : List ℕ) → Decided ((form : LineForm) × IsLine bytes form)
 decide_line bytes =
     decided_like to (λ t. from t.0 t.1) (decided_or (decide_headed (codes "assembly") IsWord decide_word bytes) (decided_or (decide_headed (codes "shape") IsWord decide_word bytes) (decided_or (decide_same_bytes bytes (codes "layer")) (decided_or (decided_and (decided_not (decide_empty bytes)) (decide_all IsMark decide_mark bytes)) (decided_or (decide_same_bytes bytes (codes "end")) (decide_piece_line bytes))))))
   where
-    to : IsSomeLine bytes → (form : Form) × IsLine bytes form
+    to : IsSomeLine bytes → (form : LineForm) × IsLine bytes form
     to (inl t) = (AssemblyLine t.0, (t.1, t.2))
     to (inr (inl t)) = (ShapeLine t.0, (t.1, t.2))
     to (inr (inr (inl e))) = (LayerLine, (tt, e))
@@ -209,7 +211,7 @@ decide_line bytes =
     to (inr (inr (inr (inr (inl e))))) = (EndLine, (tt, e))
     to (inr (inr (inr (inr (inr t))))) = (PieceLine t.0, t.1)
 
-    from : (form : Form) → IsLine bytes form → IsSomeLine bytes
+    from : (form : LineForm) → IsLine bytes form → IsSomeLine bytes
     from (AssemblyLine name) h = inl (name, h.0, h.1)
     from (ShapeLine name) h = inr (inl (name, h.0, h.1))
     from LayerLine h = inr (inr (inl h.1))

@@ -3,9 +3,10 @@ use Rattle.std.proofs.Common.{◌≡◌, ◌≢◌, ℕ, zero, suc, ◌+◌, ◌
 use Rattle.burr_assembly.specs.declared.fault.AssemblyFault.{AssemblyFault}
 use Rattle.burr_assembly.specs.declared.fault.AssemblyFault.TheVariants.{A1, A7, A8}
 use Rattle.burr_assembly.specs.Text.{Drawing, Piece, Assembly}
-use Rattle.burr_assembly.specs.Lines.{Form, PieceWords, AssemblyLine, ShapeLine, LayerLine, RowLine, EndLine, PieceLine, IsLine}
-use Rattle.burr_assembly.specs.Faults.{Front, Blank, Shapes, Drawn, Pieces, Answer, gives, PieceRule, Rule, LineGives, EndGives, IsUnended, TextGives, ends, breaks_off, fails, goes_on, IsFirstSharing, IsPositionOf, with_layer}
-use Rattle.burr_assembly.proofs.Decisions.{Decided, decided_and, decided_not, decide_same, decide_below, decide_at_most}
+use Rattle.burr_assembly.specs.Lines.{LineForm, PieceWords, AssemblyLine, ShapeLine, LayerLine, RowLine, EndLine, PieceLine, IsLine}
+use Rattle.burr_assembly.specs.Faults.{Front, Blank, Shapes, Drawn, Pieces, LineResult, gives, PieceRule, FormGives, LineGives, EndGives, TextGives, ends, breaks_off, fails, goes_on, IsFirstSharing, IsPositionOf, with_layer}
+use Rattle.burr_text.specs.Lines.{IsUnended}
+use Rattle.burr_text.proofs.Common.Decisions.{Decided, decided_and, decided_not, decide_same, decide_below, decide_at_most}
 use Rattle.burr_assembly.proofs.Readings.{IsNameOf, decide_turn_name, decide_position_text, decide_line}
 use Rattle.burr_assembly.proofs.Conditions.{decide_name, decide_shape_name, decide_piece_name, decide_whole, decide_row, decide_cell_count, decide_first_sharing}
 
@@ -25,7 +26,7 @@ some_found IsSo v P (inl found) f = (v found.0, inl (found.0, found.1, refl))
 some_found IsSo v P (inr h) f = (f.0, inr ((λ b so. h (b, so)), f.1))
 
 -- a piece behind these gives an answer
-some_piece_answer : (n : ℕ) (name : List ℕ) (shapes : List Drawing) (pieces : List Piece) (w : PieceWords) → (answer : Answer) × PieceRule n name shapes pieces w answer
+some_piece_answer : (n : ℕ) (name : List ℕ) (shapes : List Drawing) (pieces : List Piece) (w : PieceWords) → (answer : LineResult) × PieceRule n name shapes pieces w answer
 some_piece_answer n name shapes pieces w =
     some_needs _ _ (decide_below (length pieces) 32) λ room.
     some_needs _ _ (decided_and (decide_name w.name) (decided_not (decide_piece_name pieces w.name))) λ named.
@@ -36,7 +37,7 @@ some_piece_answer n name shapes pieces w =
     some_found (IsFirstSharing shapes pieces p) (λ q. Err (A8 n q (length pieces))) (gives (Pieces name shapes (pieces ++ p ∷ []))) (decide_first_sharing shapes pieces p) (Ok (Pieces name shapes (pieces ++ p ∷ [])), refl)
 
 -- a line of a form gives an answer behind a front
-some_form_answer : (n : ℕ) (front : Front) (form : Form) → (answer : Answer) × Rule n front form answer
+some_form_answer : (n : ℕ) (front : Front) (form : LineForm) → (answer : LineResult) × FormGives n front form answer
 some_form_answer n Blank (AssemblyLine name) = some_needs _ _ (decide_name name) (λ h. (Ok (Shapes name []), refl))
 some_form_answer n (Shapes name shapes) (ShapeLine shape) =
     some_needs _ _ (decide_below (length shapes) 32) λ room.
@@ -54,8 +55,8 @@ some_form_answer n (Pieces name shapes pieces) (PieceLine w) = some_piece_answer
 some_form_answer n front form = (Err (A1 n), refl)
 
 -- a line gives an answer behind a front
-some_line_answer : (n : ℕ) (front : Front) (bytes : List ℕ) → (answer : Answer) × LineGives n front bytes answer
-some_line_answer n front bytes = some_looks (IsLine bytes) (Err (A1 n)) (λ form. Rule n front form) (decide_line bytes) (λ form. some_form_answer n front form)
+some_line_answer : (n : ℕ) (front : Front) (bytes : List ℕ) → (answer : LineResult) × LineGives n front bytes answer
+some_line_answer n front bytes = some_looks (IsLine bytes) (Err (A1 n)) (λ form. FormGives n front form) (decide_line bytes) (λ form. some_form_answer n front form)
 
 -- the end of a text gives an answer behind a front
 some_end_answer : (n : ℕ) (front : Front) → (answer : Result Assembly AssemblyFault) × EndGives n front answer
@@ -112,7 +113,7 @@ shorter_rest size text bytes rest e small =
     omega arith
 
 -- a line with its end, whose rest gives an answer behind any front, gives an answer with it
-some_more_answer : (n : ℕ) (front : Front) (bytes rest : List ℕ) → IsUnended bytes → ((next : Front) → (answer : Result Assembly AssemblyFault) × TextGives (n + 1) next rest answer) → (given : Answer) → LineGives n front bytes given
+some_more_answer : (n : ℕ) (front : Front) (bytes rest : List ℕ) → IsUnended bytes → ((next : Front) → (answer : Result Assembly AssemblyFault) × TextGives (n + 1) next rest answer) → (given : LineResult) → LineGives n front bytes given
     → (answer : Result Assembly AssemblyFault) × TextGives n front (bytes ++ 10 ∷ rest) answer
 some_more_answer n front bytes rest unended more (Err fault) line = (Err fault, fails n front bytes rest fault unended line)
 some_more_answer n front bytes rest unended more (Ok next) line = ((more next).0, goes_on n front next bytes rest (more next).0 unended line (more next).1)

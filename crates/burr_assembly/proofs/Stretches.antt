@@ -3,8 +3,8 @@ use Rattle.std.proofs.Common.{◌≡◌, ℕ, ◌+◌, ◌<◌, List, [], ◌∷
 use Rattle.std.proofs.lemmas.List.{get_or_append_left, get_or_at, length-append}
 use Rattle.burr_assembly.specs.declared.fault.AssemblyFault.{AssemblyFault}
 use Rattle.burr_assembly.specs.Text.{Assembly}
-use Rattle.burr_assembly.specs.Lines.{Form, form_text, IsForm}
-use Rattle.burr_assembly.specs.Faults.{Front, Rule, TextGives, goes_on}
+use Rattle.burr_assembly.specs.Lines.{LineForm, form_text, IsLineForm}
+use Rattle.burr_assembly.specs.Faults.{Front, FormGives, TextGives, goes_on}
 use Rattle.burr_assembly.proofs.Clear.{unended_form}
 
 -- the lines take the front to the next
@@ -20,7 +20,7 @@ pub goes_further : (front middle next : Front) (first second : List ℕ) → Goe
 goes_further front middle next first second f g = record { on = λ rest answer more n. rw append_assoc (f.on (second ++ rest) answer (g.on rest answer more) n) }
 
 -- one line
-pub goes_line : (front next : Front) (form : Form) → IsForm form → ((n : ℕ) → Rule n front form (Ok next)) → Goes front (form_text form ++ 10 ∷ []) next
+pub goes_line : (front next : Front) (form : LineForm) → IsLineForm form → ((n : ℕ) → FormGives n front form (Ok next)) → Goes front (form_text form ++ 10 ∷ []) next
 goes_line front next form is rule = record {
   on = λ rest answer more n.
       subst (λ (text : List ℕ). TextGives n front text answer) (sym (append_assoc (form_text form) (10 ∷ []) rest))

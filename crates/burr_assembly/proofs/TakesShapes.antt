@@ -2,9 +2,10 @@
 use Rattle.std.proofs.Common.{◌≡◌, ◌≢◌, ℕ, suc, ◌+◌, ◌<◌, ◌≤◌, List, [], ◌∷◌, ◌++◌, length, All, AllPairs, slice_get, IfSome, Some, None, Ok, codes, flat_map, refl, sym, subst, ap, ◌∙◌, arith, inr, append_assoc, append-nil}
 use Rattle.std.proofs.lemmas.List.{length-append}
 use Rattle.std.proofs.lemmas.List.Elements.{All-nil, All-head, All-tail, All-append, All-push}
-use Rattle.burr_assembly.specs.Text.{Drawing, layer_text, shape_text, IsMark, IsDrawing, IsShapeName, line}
+use Rattle.burr_assembly.specs.Text.{Drawing, layer_text, shape_text, IsMark, IsDrawing, IsShapeName}
+use Rattle.burr_text.specs.Words.{text_line}
 use Rattle.burr_assembly.specs.Lines.{ShapeLine, LayerLine, RowLine, EndLine}
-use Rattle.burr_assembly.specs.Faults.{Front, Shapes, Drawn, Rule, IsWhole, IsRow, with_layer, HasCellCount}
+use Rattle.burr_assembly.specs.Faults.{Front, Shapes, Drawn, FormGives, IsFinishedLayer, IsRow, with_layer, HasCellCount}
 use Rattle.burr_assembly.proofs.Clear.{word_of_name}
 use Rattle.burr_assembly.proofs.Stretches.{Goes, goes_nowhere, goes_further, goes_line, goes_to, goes_regrouped, pair_before}
 
@@ -49,10 +50,10 @@ goes_rows width low high name shapes d before [] rows here wide marks room =
 goes_rows width low high name shapes d before (row ∷ more) rows here wide marks room =
     let width_of = All-head (IsWide width) row more wide in
     goes_to (Drawn name shapes d (Some rows)) (Drawn name shapes d (Some ((rows ++ row ∷ []) ++ more))) (Drawn name shapes d (Some (rows ++ row ∷ more)))
-    ((row ++ 10 ∷ []) ++ flat_map (λ (line : List ℕ). line ++ 10 ∷ []) more)
+    ((row ++ 10 ∷ []) ++ flat_map (λ (text_line : List ℕ). text_line ++ 10 ∷ []) more)
     (ap (λ (all : List (List ℕ)). Drawn name shapes d (Some all)) (append_assoc rows (row ∷ []) more))
     (goes_further (Drawn name shapes d (Some rows)) (Drawn name shapes d (Some (rows ++ row ∷ []))) (Drawn name shapes d (Some ((rows ++ row ∷ []) ++ more)))
-    (row ++ 10 ∷ []) (flat_map (λ (line : List ℕ). line ++ 10 ∷ []) more)
+    (row ++ 10 ∷ []) (flat_map (λ (text_line : List ℕ). text_line ++ 10 ∷ []) more)
     (goes_line (Drawn name shapes d (Some rows)) (Drawn name shapes d (Some (rows ++ row ∷ []))) (RowLine row) (some_length width row low width_of, All-head (All IsMark) row more marks)
     (λ n. inr (is_row width high d.layers rows row before here width_of (room_for (length rows) (length more) room), refl)))
     (goes_rows width low high name shapes d before more (rows ++ row ∷ []) (All-push (IsWide width) rows row here width_of) (All-tail (IsWide width) row more wide) (All-tail (All IsMark) row more marks)
@@ -79,7 +80,7 @@ other_layers : (width height : ℕ) (layer : List (List ℕ)) (layers : List (Li
 other_layers width height layer layers are = record { wide = All-tail (All (IsWide width)) layer layers are.wide; high = All-tail (IsHigh height) layer layers are.high; marks = All-tail (All (All IsMark)) layer layers are.marks }
 
 -- a layer as high as all before it may be finished
-is_whole : (height : ℕ) → 1 ≤ height → (layers : List (List (List ℕ))) (rows : List (List ℕ)) → All (IsHigh height) layers → IsHigh height rows → IsWhole layers rows
+is_whole : (height : ℕ) → 1 ≤ height → (layers : List (List (List ℕ))) (rows : List (List ℕ)) → All (IsHigh height) layers → IsHigh height rows → IsFinishedLayer layers rows
 is_whole height low layers rows before here = (omega arith, of_first (λ (first : List (List ℕ)). length rows ≡ length first) layers (λ k d lt. here ∙ sym (before k d lt)))
 
 -- the bounds on a drawing's sizes
@@ -89,13 +90,13 @@ record AreSizes (width height : ℕ) : Type 0 where
   low : 1 ≤ height
   tall : height ≤ 16
 
--- a layer, from its first line on
+-- a layer, from its first text_line on
 goes_layer : (width height : ℕ) → AreSizes width height → (name : List ℕ) (shapes : List Drawing) (d : Drawing) → All (All (IsWide width)) d.layers
     → (from : Front) (layer : List (List ℕ)) → All (IsWide width) layer × IsHigh height layer × All (All IsMark) layer
-    → ((n : ℕ) → Rule n from LayerLine (Ok (Drawn name shapes d (Some []))))
+    → ((n : ℕ) → FormGives n from LayerLine (Ok (Drawn name shapes d (Some []))))
     → Goes from (layer_text layer) (Drawn name shapes d (Some layer))
 goes_layer width height sizes name shapes d before from layer is rule =
-    goes_further from (Drawn name shapes d (Some [])) (Drawn name shapes d (Some layer)) (line (codes "layer" ∷ [])) (flat_map (λ (row : List ℕ). row ++ 10 ∷ []) layer)
+    goes_further from (Drawn name shapes d (Some [])) (Drawn name shapes d (Some layer)) (text_line (codes "layer" ∷ [])) (flat_map (λ (row : List ℕ). row ++ 10 ∷ []) layer)
     (goes_line from (Drawn name shapes d (Some [])) LayerLine tt rule)
     (goes_rows width sizes.thin sizes.broad name shapes d before layer [] (All-nil (IsWide width)) is.0 is.2 (in_room (length layer) is.1))
   where
@@ -110,7 +111,7 @@ with_layers d layers = record d { layers = d.layers ++ layers }
 goes_layers : (width height : ℕ) → AreSizes width height → (name : List ℕ) (shapes : List Drawing) (more : List (List (List ℕ))) (d : Drawing) (rows : List (List ℕ))
     → AreLayers width height more → All (All (IsWide width)) d.layers → All (IsHigh height) d.layers → All (IsWide width) rows → IsHigh height rows
     → length d.layers + 1 + length more ≤ 16 → HasCellCount (with_layers d (rows ∷ more))
-    → Goes (Drawn name shapes d (Some rows)) (flat_map layer_text more ++ line (codes "end" ∷ [])) (Shapes name (shapes ++ with_layers d (rows ∷ more) ∷ []))
+    → Goes (Drawn name shapes d (Some rows)) (flat_map layer_text more ++ text_line (codes "end" ∷ [])) (Shapes name (shapes ++ with_layers d (rows ∷ more) ∷ []))
 goes_layers width height sizes name shapes [] d rows are before before_high wide high room cells =
     goes_line (Drawn name shapes d (Some rows)) (Shapes name (shapes ++ with_layer d rows ∷ [])) EndLine tt
     (λ n. inr ((is_whole height sizes.low d.layers rows before_high high, cells), refl))
@@ -118,11 +119,11 @@ goes_layers width height sizes name shapes (layer ∷ more) d rows are before be
     let this = first_layer width height layer more are in
     let e : with_layers (with_layer d rows) (layer ∷ more) ≡ with_layers d (rows ∷ layer ∷ more) = same_layers d rows (layer ∷ more) in
     let from = Drawn name shapes d (Some rows) in
-    goes_to from (Shapes name (shapes ++ with_layers (with_layer d rows) (layer ∷ more) ∷ [])) (Shapes name (shapes ++ with_layers d (rows ∷ layer ∷ more) ∷ [])) (flat_map layer_text (layer ∷ more) ++ line (codes "end" ∷ []))
+    goes_to from (Shapes name (shapes ++ with_layers (with_layer d rows) (layer ∷ more) ∷ [])) (Shapes name (shapes ++ with_layers d (rows ∷ layer ∷ more) ∷ [])) (flat_map layer_text (layer ∷ more) ++ text_line (codes "end" ∷ []))
     (ap (λ (s : Drawing). Shapes name (shapes ++ s ∷ [])) e)
-    (goes_regrouped from (Shapes name (shapes ++ with_layers (with_layer d rows) (layer ∷ more) ∷ [])) (layer_text layer) (flat_map layer_text more) (line (codes "end" ∷ []))
+    (goes_regrouped from (Shapes name (shapes ++ with_layers (with_layer d rows) (layer ∷ more) ∷ [])) (layer_text layer) (flat_map layer_text more) (text_line (codes "end" ∷ []))
     (goes_further from (Drawn name shapes (with_layer d rows) (Some layer)) (Shapes name (shapes ++ with_layers (with_layer d rows) (layer ∷ more) ∷ []))
-    (layer_text layer) (flat_map layer_text more ++ line (codes "end" ∷ []))
+    (layer_text layer) (flat_map layer_text more ++ text_line (codes "end" ∷ []))
     (goes_layer width height sizes name shapes (with_layer d rows) (All-push (All (IsWide width)) d.layers rows before wide) from layer this
     (λ n. inr ((is_whole height sizes.low d.layers rows before_high high, room_for (length d.layers) (length more) room), refl)))
     (goes_layers width height sizes name shapes more (with_layer d rows) layer (other_layers width height layer more are)
@@ -141,15 +142,15 @@ goes_layers width height sizes name shapes (layer ∷ more) d rows are before be
 -- the layers of a shape that has begun, and its end
 goes_drawing : (width height : ℕ) → AreSizes width height → (name : List ℕ) (shapes : List Drawing) (shape : List ℕ) (layers : List (List (List ℕ))) → AreLayers width height layers
     → 1 ≤ length layers → length layers ≤ 16 → HasCellCount (record { name = shape; layers = layers })
-    → Goes (Drawn name shapes (record { name = shape; layers = [] }) None) (flat_map layer_text layers ++ line (codes "end" ∷ [])) (Shapes name (shapes ++ record { name = shape; layers = layers } ∷ []))
+    → Goes (Drawn name shapes (record { name = shape; layers = [] }) None) (flat_map layer_text layers ++ text_line (codes "end" ∷ [])) (Shapes name (shapes ++ record { name = shape; layers = layers } ∷ []))
 goes_drawing width height sizes name shapes shape [] are some few cells = absurd (omega arith)
 goes_drawing width height sizes name shapes shape (layer ∷ more) are some few cells =
     let this = first_layer width height layer more are in
     let d : Drawing = record { name = shape; layers = [] } in
     let from = Drawn name shapes d None in
     let to = Shapes name (shapes ++ record { name = shape; layers = layer ∷ more } ∷ []) in
-    goes_regrouped from to (layer_text layer) (flat_map layer_text more) (line (codes "end" ∷ []))
-    (goes_further from (Drawn name shapes d (Some layer)) to (layer_text layer) (flat_map layer_text more ++ line (codes "end" ∷ []))
+    goes_regrouped from to (layer_text layer) (flat_map layer_text more) (text_line (codes "end" ∷ []))
+    (goes_further from (Drawn name shapes d (Some layer)) to (layer_text layer) (flat_map layer_text more ++ text_line (codes "end" ∷ []))
     (goes_layer width height sizes name shapes d (All-nil (All (IsWide width))) from layer this (λ n. refl))
     (goes_layers width height sizes name shapes more d layer (other_layers width height layer more are) (All-nil (All (IsWide width))) (All-nil (IsHigh height)) this.0 this.1 (room_for (length more) few) cells))
   where
@@ -160,12 +161,12 @@ goes_drawing width height sizes name shapes shape (layer ∷ more) are some few 
 is_new_shape : (shapes : List Drawing) (s : Drawing) (more : List Drawing) → AllPairs (λ (s t : Drawing). s.name ≢ t.name) (shapes ++ s ∷ more) → ¬ IsShapeName shapes s.name
 is_new_shape shapes s more pairs (k, x, lt, at, same) = pair_before (λ (s t : Drawing). s.name ≢ t.name) shapes s more pairs k x lt (ap (λ (t : Drawing). t.name) at ∙ same)
 
--- a shape, from its first line to its end
+-- a shape, from its first text_line to its end
 goes_shape : (name : List ℕ) (shapes : List Drawing) (s : Drawing) → IsDrawing s → length shapes < 32 → ¬ IsShapeName shapes s.name → Goes (Shapes name shapes) (shape_text s) (Shapes name (shapes ++ s ∷ []))
 goes_shape name shapes s is room new =
     let begun : Drawing = record { name = s.name; layers = [] } in
-    goes_regrouped (Shapes name shapes) (Shapes name (shapes ++ s ∷ [])) (line (codes "shape" ∷ s.name ∷ [])) (flat_map layer_text s.layers) (line (codes "end" ∷ []))
-    (goes_further (Shapes name shapes) (Drawn name shapes begun None) (Shapes name (shapes ++ s ∷ [])) (line (codes "shape" ∷ s.name ∷ [])) (flat_map layer_text s.layers ++ line (codes "end" ∷ []))
+    goes_regrouped (Shapes name shapes) (Shapes name (shapes ++ s ∷ [])) (text_line (codes "shape" ∷ s.name ∷ [])) (flat_map layer_text s.layers) (text_line (codes "end" ∷ []))
+    (goes_further (Shapes name shapes) (Drawn name shapes begun None) (Shapes name (shapes ++ s ∷ [])) (text_line (codes "shape" ∷ s.name ∷ [])) (flat_map layer_text s.layers ++ text_line (codes "end" ∷ []))
     (goes_line (Shapes name shapes) (Drawn name shapes begun None) (ShapeLine s.name) (word_of_name s.name is.name) (λ n. inr (room, inr ((is.name, new), refl))))
     (goes_drawing is.width.0 is.rows.0 (record { thin = is.width.1; broad = is.width.2; low = is.rows.1; tall = is.rows.2 }) name shapes s.name s.layers
     (record { wide = is.width.3; high = is.rows.3; marks = is.marks }) is.layers.0 is.layers.1 is.cells))

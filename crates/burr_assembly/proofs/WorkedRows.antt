@@ -1,10 +1,9 @@
 -- Worked rows of the definitions.
-use Rattle.std.proofs.Common.{◌≡◌, ◌+◌, List, [], ◌∷◌, codes, refl, pos}
+use Rattle.std.proofs.Common.{◌≡◌, [], ◌∷◌, codes, refl, pos}
 use Rattle.std.specs.Fmt.{digits}
 use Rattle.burr_voxels.specs.Grid.{at}
-use Rattle.burr_voxels.specs.declared.direction.Direction.TheVariants.{PlusX, MinusX, PlusY, MinusY, PlusZ}
-use Rattle.burr_assembly.specs.Text.{Drawing, Piece, Assembly, Turn, text_of, drawn_cells, home_cells}
-use Rattle.burr_assembly.specs.Faults.{Front, Blank, Rule}
+use Rattle.burr_voxels.specs.declared.direction.Direction.TheVariants.{PlusX, PlusY, MinusY, PlusZ}
+use Rattle.burr_assembly.specs.Text.{Drawing, Assembly, Turn, text_of, drawn_cells, home_cells}
 
 abbrev upright : Turn
 upright = record { x = PlusX; y = PlusY; z = PlusZ }

@@ -1,13 +1,14 @@
 -- The first fault of an assembly text: what the lines so far have been, and what is wrong with the next.
-use Rattle.std.specs.Prelude.{◌≡◌, ◌≢◌, ℕ, ◌+◌, ◌<◌, ◌≤◌, List, [], ◌∷◌, ◌++◌, length, Contains, Option, Some, None, Result, Ok, Err, slice_get, slice_index_or, IfSome, ◌⊎◌}
+use Rattle.burr_text.specs.Lines.{IsUnended}
+use Rattle.std.specs.Prelude.{◌≡◌, ◌≢◌, ℕ, ◌+◌, ◌<◌, ◌≤◌, List, [], ◌∷◌, ◌++◌, length, Option, Some, None, Result, Ok, Err, slice_get, slice_index_or, IfSome, ◌⊎◌}
 use Rattle.std.specs.List.{flat_map}
 use Rattle.burr_voxels.specs.declared.cell.Cell.{Cell}
-use Rattle.burr_voxels.specs.Checks.{needs, looks_for}
+use Rattle.burr_text.specs.Checks.{needs, looks_for}
 use Rattle.burr_assembly.specs.declared.fault.AssemblyFault.{AssemblyFault}
 use Rattle.burr_assembly.specs.declared.fault.AssemblyFault.TheVariants.{A1, A2, A3, A4, A5, A6, A7, A8}
-use Rattle.burr_assembly.specs.Names.{IsName}
+use Rattle.burr_text.specs.Names.{IsName}
 use Rattle.burr_assembly.specs.Text.{Drawing, Turn, Piece, Assembly, turn_name, drawn_cells, IsTurn, IsPositionText, IsShapeName, IsPieceName, Shares}
-use Rattle.burr_assembly.specs.Lines.{Form, PieceWords, AssemblyLine, ShapeLine, LayerLine, RowLine, EndLine, PieceLine, IsLine}
+use Rattle.burr_assembly.specs.Lines.{LineForm, PieceWords, AssemblyLine, ShapeLine, LayerLine, RowLine, EndLine, PieceLine, IsLine}
 
 -- what the lines so far have been
 pub data Front : Type 0 where
@@ -21,15 +22,15 @@ pub data Front : Type 0 where
   Pieces : (name : List ℕ) (shapes : List Drawing) (pieces : List Piece) → Front
 
 -- what a line gives: the front with it, or its first fault
-abbrev pub Answer : Type 0
-Answer = Result Front AssemblyFault
+abbrev pub LineResult : Type 0
+LineResult = Result Front AssemblyFault
 
-abbrev pub gives : Front → Answer → Type 0
+abbrev pub gives : Front → LineResult → Type 0
 gives front answer = answer ≡ Ok front
 
 -- a layer may be finished: it has rows, as many as the first
-abbrev pub IsWhole : List (List (List ℕ)) → List (List ℕ) → Type 0
-IsWhole layers rows = (1 ≤ length rows) × IfSome (slice_get layers 0) (λ first. length rows ≡ length first)
+abbrev pub IsFinishedLayer : List (List (List ℕ)) → List (List ℕ) → Type 0
+IsFinishedLayer layers rows = (1 ≤ length rows) × IfSome (slice_get layers 0) (λ first. length rows ≡ length first)
 
 -- a row may stand behind these: it is as wide as the shape's first, and there is room
 pub record IsRow (layers : List (List (List ℕ))) (rows : List (List ℕ)) (marks : List ℕ) : Type 0 where
@@ -54,7 +55,7 @@ abbrev pub IsPositionOf : PieceWords → Cell → Type 0
 IsPositionOf w c = IsPositionText w.x w.y w.z c
 
 -- a piece behind these; no piece yet among them is one that may stand first
-abbrev pub PieceRule : ℕ → List ℕ → List Drawing → List Piece → PieceWords → Answer → Type 0
+abbrev pub PieceRule : ℕ → List ℕ → List Drawing → List Piece → PieceWords → LineResult → Type 0
 PieceRule n name shapes pieces w =
     needs (length pieces < 32) (Err (A7 n))
     (needs (IsName w.name × (¬ IsPieceName pieces w.name)) (Err (A2 n))
@@ -67,26 +68,26 @@ PieceRule n name shapes pieces w =
     ⊎ (((q : ℕ) → ¬ IsFirstSharing shapes pieces p q) × gives (Pieces name shapes (pieces ++ p ∷ [])) answer))))
 
 -- What a line of a form gives behind a front: the faults in their order, and then the front with it.
-abbrev pub Rule : ℕ → Front → Form → Answer → Type 0
-Rule n Blank (AssemblyLine name) = needs (IsName name) (Err (A2 n)) (gives (Shapes name []))
-Rule n (Shapes name shapes) (ShapeLine shape) =
+abbrev pub FormGives : ℕ → Front → LineForm → LineResult → Type 0
+FormGives n Blank (AssemblyLine name) = needs (IsName name) (Err (A2 n)) (gives (Shapes name []))
+FormGives n (Shapes name shapes) (ShapeLine shape) =
     needs (length shapes < 32) (Err (A7 n))
     (needs (IsName shape × (¬ IsShapeName shapes shape)) (Err (A2 n))
     (gives (Drawn name shapes (record { name = shape; layers = [] }) None)))
-Rule n (Drawn name shapes d None) LayerLine = gives (Drawn name shapes d (Some []))
-Rule n (Drawn name shapes d (Some rows)) LayerLine =
-    needs (IsWhole d.layers rows × (length d.layers + 1 < 16)) (Err (A3 n)) (gives (Drawn name shapes (with_layer d rows) (Some [])))
-Rule n (Drawn name shapes d (Some rows)) (RowLine marks) =
+FormGives n (Drawn name shapes d None) LayerLine = gives (Drawn name shapes d (Some []))
+FormGives n (Drawn name shapes d (Some rows)) LayerLine =
+    needs (IsFinishedLayer d.layers rows × (length d.layers + 1 < 16)) (Err (A3 n)) (gives (Drawn name shapes (with_layer d rows) (Some [])))
+FormGives n (Drawn name shapes d (Some rows)) (RowLine marks) =
     needs (IsRow d.layers rows marks) (Err (A3 n)) (gives (Drawn name shapes d (Some (rows ++ marks ∷ []))))
-Rule n (Drawn name shapes d (Some rows)) EndLine =
-    needs (IsWhole d.layers rows × HasCellCount (with_layer d rows)) (Err (A3 n)) (gives (Shapes name (shapes ++ with_layer d rows ∷ [])))
-Rule n (Shapes name (s ∷ shapes)) (PieceLine w) = PieceRule n name (s ∷ shapes) [] w
-Rule n (Pieces name shapes pieces) (PieceLine w) = PieceRule n name shapes pieces w
-Rule n front form = λ answer. answer ≡ Err (A1 n)
+FormGives n (Drawn name shapes d (Some rows)) EndLine =
+    needs (IsFinishedLayer d.layers rows × HasCellCount (with_layer d rows)) (Err (A3 n)) (gives (Shapes name (shapes ++ with_layer d rows ∷ [])))
+FormGives n (Shapes name (s ∷ shapes)) (PieceLine w) = PieceRule n name (s ∷ shapes) [] w
+FormGives n (Pieces name shapes pieces) (PieceLine w) = PieceRule n name shapes pieces w
+FormGives n front form = λ answer. answer ≡ Err (A1 n)
 
 -- the n-th line behind a front, without its end
-abbrev pub LineGives : ℕ → Front → List ℕ → Answer → Type 0
-LineGives n front bytes = looks_for (IsLine bytes) (Err (A1 n)) (λ form. Rule n front form)
+abbrev pub LineGives : ℕ → Front → List ℕ → LineResult → Type 0
+LineGives n front bytes = looks_for (IsLine bytes) (Err (A1 n)) (λ form. FormGives n front form)
 
 -- the text ends behind a front; n is the line after the last
 abbrev pub EndGives : ℕ → Front → Result Assembly AssemblyFault → Type 0
@@ -96,10 +97,6 @@ EndGives n (Shapes name (s ∷ shapes)) answer = answer ≡ Err (A7 n)
 EndGives n (Drawn name shapes d begun) answer = answer ≡ Err (A1 n)
 EndGives n (Pieces name shapes pieces) answer =
     needs (2 ≤ length pieces) (Err (A7 n)) (λ (given : Result Assembly AssemblyFault). given ≡ Ok (record { name = name; shapes = shapes; pieces = pieces })) answer
-
--- the bytes hold no end of a line
-abbrev pub IsUnended : List ℕ → Type 0
-IsUnended bytes = ¬ Contains bytes 10
 
 -- What the rest of a text gives, from the n-th line on, behind a front.
 pub data TextGives : ℕ → Front → List ℕ → Result Assembly AssemblyFault → Type 0 where

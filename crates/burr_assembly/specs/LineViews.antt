@@ -2,12 +2,12 @@
 use Rattle.burr_assembly.specs.declared.text.line.Line.{Line}
 use Rattle.burr_assembly.specs.declared.text.line.Line.TheVariants as lines
 use Rattle.burr_assembly.specs.declared.text.line.PieceLine.{PieceLine}
-use Rattle.burr_assembly.specs.Lines.{Form, PieceWords, AssemblyLine, ShapeLine, LayerLine, RowLine, EndLine, PieceLine as PieceForm}
+use Rattle.burr_assembly.specs.Lines.{LineForm, PieceWords, AssemblyLine, ShapeLine, LayerLine, RowLine, EndLine, PieceLine as PieceForm}
 
 abbrev pub words_of : PieceLine → PieceWords
 words_of l = record { name = l.name.now; shape = l.shape.now; orientation = l.orientation.now; x = l.x.now; y = l.y.now; z = l.z.now }
 
-abbrev pub form_of : Line → Form
+abbrev pub form_of : Line → LineForm
 form_of (lines.Assembly name) = AssemblyLine name.now
 form_of (lines.Shape name) = ShapeLine name.now
 form_of lines.Layer = LayerLine
@@ -16,7 +16,7 @@ form_of lines.End = EndLine
 form_of (lines.Piece words) = PieceForm (words_of words)
 
 -- words stand behind the first
-abbrev pub HasWords : Form → Type 0
+abbrev pub HasWords : LineForm → Type 0
 HasWords (AssemblyLine name) = Unit {0}
 HasWords (ShapeLine name) = Unit {0}
 HasWords LayerLine = ⊥

@@ -1,5 +1,7 @@
 -- The lines of an assembly text by their form alone.
-use Rattle.std.specs.Prelude.{◌≡◌, ◌≢◌, ℕ, ◌≤◌, List, [], ◌∷◌, ◌++◌, codes, All, slice_index, ◌⊎◌}
+use Rattle.burr_text.specs.Numbers.{IsNumber}
+use Rattle.burr_text.specs.Words.{IsWord}
+use Rattle.std.specs.Prelude.{◌≡◌, ◌≢◌, ℕ, List, [], ◌∷◌, ◌++◌, codes, All}
 use Rattle.std.specs.List.{join_with_byte}
 use Rattle.burr_assembly.specs.Text.{IsMark}
 
@@ -12,39 +14,26 @@ pub record PieceWords : Type 0 where
   pub y : List ℕ
   pub z : List ℕ
 
-pub data Form : Type 0 where
-  AssemblyLine : (name : List ℕ) → Form
-  ShapeLine : (name : List ℕ) → Form
-  LayerLine : Form
-  RowLine : (marks : List ℕ) → Form
-  EndLine : Form
-  PieceLine : (words : PieceWords) → Form
+pub data LineForm : Type 0 where
+  AssemblyLine : (name : List ℕ) → LineForm
+  ShapeLine : (name : List ℕ) → LineForm
+  LayerLine : LineForm
+  RowLine : (marks : List ℕ) → LineForm
+  EndLine : LineForm
+  PieceLine : (words : PieceWords) → LineForm
 
 -- the words of a piece's line, behind the first
 abbrev pub piece_words_text : PieceWords → List ℕ
 piece_words_text w = join_with_byte 32 (w.name ∷ w.shape ∷ w.orientation ∷ w.x ∷ w.y ∷ w.z ∷ [])
 
 -- the bytes of a line, without its end
-abbrev pub form_text : Form → List ℕ
+abbrev pub form_text : LineForm → List ℕ
 form_text (AssemblyLine name) = join_with_byte 32 (codes "assembly" ∷ name ∷ [])
 form_text (ShapeLine name) = join_with_byte 32 (codes "shape" ∷ name ∷ [])
 form_text LayerLine = codes "layer"
 form_text (RowLine marks) = marks
 form_text EndLine = codes "end"
 form_text (PieceLine w) = codes "piece" ++ 32 ∷ piece_words_text w
-
--- one or more printable bytes that are no blank
-abbrev pub IsWord : List ℕ → Type 0
-IsWord bytes = (bytes ≢ []) × All (λ b. (33 ≤ b) × (b ≤ 126)) bytes
-
--- digits of which the first isn't `0`
-pub record IsCount (bytes : List ℕ) : Type 0 where
-  pub first : 49 ≤ slice_index bytes 0
-  pub digits : All (λ b. (48 ≤ b) × (b ≤ 57)) bytes
-
--- `0`, or a count, perhaps behind a `-`; std's text of a number is no definition here, since it holds for 64 digits at most
-abbrev pub IsNumber : List ℕ → Type 0
-IsNumber bytes = (bytes ≡ codes "0") ⊎ (IsCount bytes ⊎ ((rest : List ℕ) × (bytes ≡ 45 ∷ rest) × IsCount rest))
 
 -- a row has a mark at least
 abbrev pub IsMarks : List ℕ → Type 0
@@ -59,14 +48,14 @@ pub record IsPieceWords (w : PieceWords) : Type 0 where
   pub y : IsNumber w.y
   pub z : IsNumber w.z
 
-abbrev pub IsForm : Form → Type 0
-IsForm (AssemblyLine name) = IsWord name
-IsForm (ShapeLine name) = IsWord name
-IsForm LayerLine = Unit {0}
-IsForm (RowLine marks) = IsMarks marks
-IsForm EndLine = Unit {0}
-IsForm (PieceLine w) = IsPieceWords w
+abbrev pub IsLineForm : LineForm → Type 0
+IsLineForm (AssemblyLine name) = IsWord name
+IsLineForm (ShapeLine name) = IsWord name
+IsLineForm LayerLine = Unit {0}
+IsLineForm (RowLine marks) = IsMarks marks
+IsLineForm EndLine = Unit {0}
+IsLineForm (PieceLine w) = IsPieceWords w
 
 -- the bytes are a line of this form
-abbrev pub IsLine : List ℕ → Form → Type 0
-IsLine bytes form = IsForm form × (bytes ≡ form_text form)
+abbrev pub IsLine : List ℕ → LineForm → Type 0
+IsLine bytes form = IsLineForm form × (bytes ≡ form_text form)

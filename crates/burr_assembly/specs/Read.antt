@@ -4,7 +4,7 @@ use Rattle.burr_voxels.specs.declared.cell.Cell.{Cell}
 use Rattle.burr_assembly.specs.Text.{Drawing, Piece}
 
 -- a piece with its cells at home
-pub record Placed : Type 0 where
+pub record HomedPiece : Type 0 where
   pub piece : Piece
   pub cells : List Cell
 

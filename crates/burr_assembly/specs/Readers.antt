@@ -3,7 +3,7 @@ use Rattle.std.specs.Prelude.{ℕ, List}
 use Rattle.burr_assembly.specs.declared.text.front.Front.{Front as FrontOf}
 use Rattle.burr_assembly.specs.declared.text.front.Front.TheVariants as fronts
 use Rattle.burr_assembly.specs.Text.{Assembly, Drawing}
-use Rattle.burr_assembly.specs.Read.{Placed}
+use Rattle.burr_assembly.specs.Read.{HomedPiece}
 use Rattle.burr_assembly.specs.Faults.{Front, Blank, Shapes, Pieces}
 use Rattle.burr_assembly.specs.FrontViews.{sketched, pieces_of, AreAtHome, AreDistinct}
 
@@ -27,5 +27,5 @@ IsReady (fronts.Shapes header) = AreDistinct header.shapes.items
 IsReady (fronts.Drawing header sketch) = Unit {0}
 IsReady (fronts.Pieces header pieces) = AreDistinct header.shapes.items × AreAtHome header.shapes.items pieces.items
 
-abbrev pub assembly_of : List ℕ → List Drawing → List Placed → Assembly
+abbrev pub assembly_of : List ℕ → List Drawing → List HomedPiece → Assembly
 assembly_of name shapes placed = record { name = name; shapes = shapes; pieces = pieces_of placed }

@@ -1,13 +1,15 @@
 -- Assemblies and their texts: this project's own.
+use Rattle.burr_text.specs.Words.{text_line}
 use Rattle.std.specs.Prelude.{◌≡◌, ◌≢◌, ℕ, suc, ◌≤◌, pos, List, [], ◌∷◌, ◌++◌, length, map, codes, All, AllPairs, Any, Contains, ◌==◌, if◌then◌else◌, ◌⊎◌}
 use Rattle.std.specs.Fmt.{signed_decimal}
-use Rattle.std.specs.List.{join_with_byte, flat_map}
+use Rattle.std.specs.List.{flat_map}
 use Rattle.burr_voxels.specs.declared.cell.Cell.{Cell}
 use Rattle.burr_voxels.specs.declared.direction.Direction.{Direction}
 use Rattle.burr_voxels.specs.Grid.{at, plus}
 use Rattle.burr_voxels.specs.Turns.{turned, axes_name, IsRotation}
-use Rattle.burr_voxels.specs.Blocks.{Overlap}
-use Rattle.burr_assembly.specs.Names.{IsName, IsCoordinate}
+use Rattle.burr_voxels.specs.CellSets.{Overlap}
+use Rattle.burr_text.specs.Names.{IsName}
+use Rattle.burr_assembly.specs.Positions.{IsCoordinate}
 
 -- a shape as it is drawn: layers upwards, in each its rows, in each a mark a cell
 pub record Drawing : Type 0 where
@@ -33,15 +35,11 @@ pub record Assembly : Type 0 where
 
 -- The text
 
--- words with a blank between each two, and the end of the line
-abbrev pub line : List (List ℕ) → List ℕ
-line words = join_with_byte 32 words ++ 10 ∷ []
-
 abbrev pub layer_text : List (List ℕ) → List ℕ
-layer_text rows = line (codes "layer" ∷ []) ++ flat_map (λ row. row ++ 10 ∷ []) rows
+layer_text rows = text_line (codes "layer" ∷ []) ++ flat_map (λ row. row ++ 10 ∷ []) rows
 
 abbrev pub shape_text : Drawing → List ℕ
-shape_text s = line (codes "shape" ∷ s.name ∷ []) ++ flat_map layer_text s.layers ++ line (codes "end" ∷ [])
+shape_text s = text_line (codes "shape" ∷ s.name ∷ []) ++ flat_map layer_text s.layers ++ text_line (codes "end" ∷ [])
 
 abbrev pub turn_name : Turn → List ℕ
 turn_name t = axes_name t.x t.y t.z
@@ -51,11 +49,11 @@ piece_words p =
     codes "piece" ∷ p.name ∷ p.shape ∷ turn_name p.turn ∷ signed_decimal p.position.x ∷ signed_decimal p.position.y ∷ signed_decimal p.position.z ∷ []
 
 abbrev pub piece_text : Piece → List ℕ
-piece_text p = line (piece_words p)
+piece_text p = text_line (piece_words p)
 
 -- The one text of an assembly.
 abbrev pub text_of : Assembly → List ℕ
-text_of a = line (codes "assembly" ∷ a.name ∷ []) ++ flat_map shape_text a.shapes ++ flat_map piece_text a.pieces
+text_of a = text_line (codes "assembly" ∷ a.name ∷ []) ++ flat_map shape_text a.shapes ++ flat_map piece_text a.pieces
 
 -- The cells
 

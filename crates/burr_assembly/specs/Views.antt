@@ -1,24 +1,19 @@
 -- What values of the code stand for.
-use Rattle.std.specs.Prelude.{◌≡◌, ◌≢◌, ◌++◌, ◌∷◌, ℕ, ℤ, List, Contains, Option, MatchOption}
+use Rattle.std.specs.Prelude.{◌≡◌, ◌≢◌, ℕ, ℤ, List, Option, MatchOption}
 use Rattle.std.specs.Fmt.{signed_decimal}
-use Rattle.burr_assembly.specs.Names.{IsCoordinate}
+use Rattle.burr_assembly.specs.Positions.{IsCoordinate}
 use Rattle.burr_voxels.specs.declared.cell.Cell.{Cell}
 use Rattle.burr_voxels.specs.declared.orientation.Orientation.{Orientation}
 use Rattle.burr_assembly.specs.Text.{Turn}
-use Rattle.burr_assembly.specs.Read.{Placed}
+use Rattle.burr_assembly.specs.Read.{HomedPiece}
 
 abbrev pub turn_of : Orientation → Turn
 turn_of o = record { x = o.x; y = o.y; z = o.z }
 
 -- the piece with these parts
-abbrev pub placed : List ℕ → List ℕ → Orientation → Cell → List Cell → Placed
-placed name shape orientation position cells =
+abbrev pub homed_piece : List ℕ → List ℕ → Orientation → Cell → List Cell → HomedPiece
+homed_piece name shape orientation position cells =
     record { piece = record { name = name; shape = shape; turn = turn_of orientation; position = position }; cells = cells }
-
--- the bytes are cut at the first separator
-pub record IsCutAt (separator : ℕ) (bytes front rest : List ℕ) : Type 0 where
-  pub parts : bytes ≡ front ++ separator ∷ rest
-  pub first : ¬ Contains front separator
 
 -- the coordinate that a number is, if it is one
 abbrev pub IsCoordinateText : List ℕ → Option ℤ → Type 0

@@ -6,7 +6,7 @@ ghost use Rattle.burr_assembly.specs.Faults.{FirstFault};
 ghost use Rattle.burr_assembly.specs.FrontViews.{pieces_of, IsDue, AreAtHome};
 
 use crate::fault::AssemblyFault;
-use crate::name::Name;
+use burr_text::Name;
 use crate::piece::Piece;
 use crate::shape::DrawnShape;
 use crate::text::{read_text, write_text};

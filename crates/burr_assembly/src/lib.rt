@@ -6,7 +6,6 @@ mod assembly;
 mod drawing;
 mod fault;
 mod laws;
-mod name;
 mod piece;
 mod shape;
 mod text;
@@ -17,6 +16,7 @@ pub use laws::{
     a_text_has_a_fault_or_an_assembly, a_text_has_one_assembly,
     texts_and_assemblies_give_each_other_back,
 };
+pub use text::piece_name;
 
 #[cfg(test)]
 mod tests;

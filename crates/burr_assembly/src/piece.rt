@@ -1,11 +1,10 @@
-ghost use Rattle.std.specs.Prelude.{◌≡◌, ◌↔◌, IsTrue, IfOk};
+ghost use Rattle.std.specs.Prelude.{◌≡◌, IfOk};
 ghost use Rattle.std.specs.List.{All};
 ghost use Rattle.burr_voxels.specs.Near.{IsWithin};
-ghost use Rattle.burr_voxels.specs.Blocks.{Overlap};
 ghost use Rattle.burr_assembly.specs.Text.{home_cells as homes_of};
-ghost use Rattle.burr_assembly.specs.Views.{turn_of, placed};
+ghost use Rattle.burr_assembly.specs.Views.{turn_of, homed_piece};
 
-use crate::name::Name;
+use burr_text::Name;
 use burr_voxels::{Cell, Orientation};
 use std::alloc::{AllocError, Global};
 use std::marker::Model;
@@ -23,12 +22,12 @@ pub struct Piece {
 impl Model for Piece {
     ghost use Rattle.std.specs.List.{All};
     ghost use Rattle.burr_voxels.specs.Near.{IsWithin};
-    ghost use Rattle.burr_assembly.specs.Read.{Placed};
-    ghost use Rattle.burr_assembly.specs.Views.{placed};
+    ghost use Rattle.burr_assembly.specs.Read.{HomedPiece};
+    ghost use Rattle.burr_assembly.specs.Views.{homed_piece};
 
-    ghost Value = { Placed };
+    ghost Value = { HomedPiece };
 
-    ghost view = { λ p. placed p.name p.shape p.orientation p.position p.cells.items };
+    ghost view = { λ p. homed_piece p.name p.shape p.orientation p.position p.cells.items };
 
     ghost invariant = { λ p. All (IsWithin 79) p.cells.items };
 }
@@ -43,7 +42,7 @@ impl Piece {
         cells: Vec<Cell>,
     ) -> Piece
         requires { All (IsWithin 79) cells.items }
-        ensures { result ≡ placed name shape orientation position cells.items }
+        ensures { result ≡ homed_piece name shape orientation position cells.items }
     {
         Piece {
             name,
@@ -104,11 +103,4 @@ pub fn home_cells(
         homes.push(orientation.turn(*cell) + position)?;
     }
     Ok(homes)
-}
-
-/// Whether a cell is in both lists.
-pub fn overlap(cells: &[Cell], others: &[Cell]) -> bool
-    ensures { IsTrue result ↔ Overlap cells.now others.now }
-{
-    cells.iter().any(|cell| others.contains(cell))
 }

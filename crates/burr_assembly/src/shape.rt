@@ -4,7 +4,7 @@ ghost use Rattle.burr_voxels.specs.Near.{IsWithin};
 ghost use Rattle.burr_assembly.specs.Text.{drawn_cells};
 
 use crate::drawing::Layer;
-use crate::name::Name;
+use burr_text::Name;
 use burr_voxels::{Cell, Shape};
 use std::marker::Model;
 

@@ -1,2 +1,3 @@
+pub mod Common
 pub mod Operands
-pub mod Places
+mod WorkedRows

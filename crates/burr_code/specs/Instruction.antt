@@ -1,11 +1,13 @@
 -- Instructions and their bytes.
-use Rattle.std.specs.Prelude.{◌≡◌, ◌≢◌, ℕ, ◌<◌, ◌^◌, ℤ, pos, neg_ℤ, ◌≤ℤ◌, List, [], ◌∷◌, ◌++◌, length, drop}
-use Rattle.std.specs.List.{flat_map}
+use Rattle.std.specs.Prelude.{◌≡◌, ◌≢◌, ℕ, ◌<◌, ◌≤◌, ◌^◌, ℤ, pos, neg_ℤ, ◌≤ℤ◌, List, [], ◌∷◌, ◌++◌, length, drop}
+use Rattle.std.specs.List.{flat_map, All}
 use Rattle.std.specs.Int.{w16, cast_unsigned}
 use Rattle.byteorder.specs.Endian.{big_bytes}
 use Rattle.burr_voxels.specs.declared.direction.Direction.{Direction}
 use Rattle.burr_voxels.specs.Grid.{number_of}
+use Rattle.burr_code.specs.declared.limits.TheConstants.{SLOTS, TRAYS}
 
+-- the seventeen instructions, with their operands
 pub data Instruction : Type 0 where
   Halt : Instruction
   Push : (n : ℤ) → Instruction
@@ -29,7 +31,7 @@ pub data Instruction : Type 0 where
 abbrev pub signed_word : ℤ → List ℕ
 signed_word n = big_bytes 2 (cast_unsigned w16 n)
 
--- the bytes of an instruction: its code, and its operands
+-- the bytes of an instruction: the first tells which it is, and its operands follow
 abbrev pub spelled : Instruction → List ℕ
 spelled Halt = 0x00 ∷ []
 spelled (Push n) = 0x01 ∷ signed_word n
@@ -50,34 +52,43 @@ spelled (Call callee) = 0x24 ∷ callee ∷ []
 spelled Ret = 0x25 ∷ []
 
 -- a number that an operand or a slot may be
-abbrev pub IsNumber : ℤ → Type 0
-IsNumber n = (neg_ℤ (pos 32767) ≤ℤ n) × (n ≤ℤ pos 32767)
+abbrev pub IsInNumberRange : ℤ → Type 0
+IsInNumberRange n = (neg_ℤ (pos 32767) ≤ℤ n) × (n ≤ℤ pos 32767)
 
--- The operands are in their ranges. An instruction that is not there yet has none, so it stands nowhere.
+-- the operands are in their ranges
 abbrev pub IsInRange : Instruction → Type 0
 IsInRange Halt = Unit {0}
-IsInRange (Push n) = ⊥
-IsInRange (Load slot) = ⊥
-IsInRange (Store slot) = ⊥
-IsInRange Add = ⊥
-IsInRange Sub = ⊥
-IsInRange Drop = ⊥
+IsInRange (Push n) = IsInNumberRange n
+IsInRange (Load slot) = slot < SLOTS
+IsInRange (Store slot) = slot < SLOTS
+IsInRange Add = Unit {0}
+IsInRange Sub = Unit {0}
+IsInRange Drop = Unit {0}
 IsInRange (Grip set) = (set ≢ 0) × (set < 2 ^ 32)
-IsInRange (Step direction) = ⊥
-IsInRange (Aside direction tray) = tray < 32
-IsInRange (Tray tray) = ⊥
-IsInRange (Jump label) = ⊥
-IsInRange (Down slot label) = ⊥
-IsInRange (Ask low high) = ⊥
-IsInRange (Pick labels) = ⊥
-IsInRange (Call callee) = ⊥
-IsInRange Ret = ⊥
+IsInRange (Step direction) = Unit {0}
+IsInRange (Aside direction tray) = tray < TRAYS
+IsInRange (Tray tray) = tray < TRAYS
+IsInRange (Jump label) = label < 2 ^ 16
+IsInRange (Down slot label) = (slot < SLOTS) × (label < 2 ^ 16)
+IsInRange (Ask low high) = IsInNumberRange low × IsInNumberRange high × (low ≤ℤ high)
+IsInRange (Pick labels) =
+    (2 ≤ length labels) × (length labels ≤ 8) × All (λ label. label < 2 ^ 16) labels
+IsInRange (Call callee) = callee < 256
+IsInRange Ret = Unit {0}
+
+-- the instructions that are built so far; the others stand nowhere yet
+abbrev pub IsBuilt : Instruction → Type 0
+IsBuilt Halt = Unit {0}
+IsBuilt (Grip set) = Unit {0}
+IsBuilt (Aside direction tray) = Unit {0}
+IsBuilt i = ⊥
 
 -- the bytes begin with the instruction's
 abbrev pub Begins : List ℕ → Instruction → Type 0
 Begins bytes i = (rest : List ℕ) × (bytes ≡ spelled i ++ rest)
 
--- An instruction stands at pc where its bytes begin the code at pc.
+-- An instruction stands at pc where its operands are in range and its bytes begin the code at pc.
 pub record StandsAt (code : List ℕ) (pc : ℕ) (i : Instruction) : Type 0 where
+  pub built : IsBuilt i
   pub in_range : IsInRange i
   pub begins : Begins (drop pc code) i

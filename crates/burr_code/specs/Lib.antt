@@ -1,3 +1,7 @@
 pub mod Instruction
+pub mod Labels
 pub mod Laws
 pub mod Meaning
+pub mod PieceSets
+pub mod Places
+pub mod Stacks

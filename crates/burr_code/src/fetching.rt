@@ -1,20 +1,15 @@
 ghost use Rattle.std.specs.Prelude.{◌≡◌, ◌≤◌, ◌+◌, length, IfSome, MatchOption};
-ghost use Rattle.burr_code.specs.Instruction.{Instruction, StandsAt, spelled};
-ghost use Rattle.burr_code.specs.Meaning.{meaning, IsGripAt, IsAsideAt, NoneStandsAt};
+ghost use Rattle.burr_code.specs.Meaning.{IsGripAt, IsAsideAt, IsFoundAt, NoneStandsAt};
 
 use crate::instr::Instr;
+use crate::limits::TRAYS;
 use burr_voxels::Direction;
 use byteorder::{BigEndian, ByteOrder};
 
-/// The trays are numbered from 0 to one below this.
-const TRAYS: u8 = 32;
-
 /// The instruction at a position of the code, and the number of its bytes; None exactly where no
-/// instruction's bytes stand there.
+/// instruction stands there.
 pub fn fetch(code: &[u8], pc: usize) -> Option<(Instr, usize)>
-    ensures stands { MatchOption result
-        (NoneStandsAt code.now pc)
-        (λ found. StandsAt code.now pc (meaning found.0) × (found.1 ≡ length (spelled (meaning found.0)))) }
+    ensures stands { MatchOption result (NoneStandsAt code.now pc) (IsFoundAt code.now pc) }
     ensures within { IfSome result (λ found. pc + found.1 ≤ length code.now) }
 {
     let (first, operands) = code.get(pc..)?.split_first()?;

@@ -1,6 +1,8 @@
-ghost use Rattle.burr_code.specs.Laws.{OneStandsAt};
+ghost use Rattle.burr_code.specs.Laws.{OneBegins, OneStandsAt};
 
-/// One instruction at most stands at a place of the code, so what `fetch` finds is the only one.
+/// Bytes begin with one instruction at most, and one at most stands at a place of the code: so what
+/// `fetch` finds is the only one.
 pub fn instructions_are_unique()
-    ensures { OneStandsAt }
+    ensures begins { OneBegins }
+    ensures stands { OneStandsAt }
 {}

@@ -1,13 +1,16 @@
-//! The instructions of a plan and their bytes.
+//! The instructions of a plan and their bytes, sets of pieces, and the limits of plans.
 #![tactic(auto)]
 
 mod fetching;
 mod instr;
 mod laws;
+pub mod limits;
+mod piece_set;
 
 pub use fetching::fetch;
 pub use instr::Instr;
 pub use laws::instructions_are_unique;
+pub use piece_set::is_in_set;
 
 #[cfg(test)]
 mod tests;

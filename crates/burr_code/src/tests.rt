@@ -64,3 +64,15 @@ fn finds_nothing_with_operands_that_are_short_or_out_of_range(rt: HostRuntime) {
         assert_eq!(rt; fetch(code, 0), None, "at {which}");
     }
 }
+
+#[test]
+fn bits_are_pieces(rt: HostRuntime) {
+    let set = 0x8000_0002;
+    for piece in 0..32u8 {
+        assert_eq!(rt;
+            is_in_set(set, piece),
+            piece == 1 || piece == 31,
+            "at {piece}"
+        );
+    }
+}

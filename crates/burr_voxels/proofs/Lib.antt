@@ -1,4 +1,6 @@
-pub mod Ahead
+pub mod Common
+pub mod MeetingCells
 pub mod Naming
 pub mod Near
+pub mod Overlapping
 pub mod Turning

@@ -9,6 +9,9 @@ use Rattle.burr_voxels.specs.declared.direction.Direction.TheVariants.{PlusX, Mi
 abbrev pub at : ℤ → ℤ → ℤ → Cell
 at x y z = record { x = x; y = y; z = z }
 
+abbrev pub origin : Cell
+origin = at (pos 0) (pos 0) (pos 0)
+
 abbrev pub plus : Cell → Cell → Cell
 plus a b = at (a.x +ℤ b.x) (a.y +ℤ b.y) (a.z +ℤ b.z)
 

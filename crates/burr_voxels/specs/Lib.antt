@@ -1,6 +1,5 @@
 pub mod Grid
 pub mod Turns
 pub mod Near
-pub mod Blocks
-pub mod Checks
-pub mod Places
+pub mod CellSets
+pub mod SpaceLaws

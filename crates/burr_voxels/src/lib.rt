@@ -4,12 +4,16 @@
 mod cell;
 mod cells;
 mod direction;
+mod laws;
+mod meeting;
 mod orientation;
 mod shape;
 
 pub use cell::Cell;
 pub use cells::Cells;
 pub use direction::Direction;
+pub use laws::a_group_that_overlaps_is_not_free;
+pub use meeting::{meets, overlap};
 pub use orientation::Orientation;
 pub use shape::Shape;
 

@@ -1,13 +1,13 @@
 ghost use Rattle.std.specs.Prelude.{◌≡◌, Ok, Err, IfOk, IfErr};
-ghost use Rattle.burr_assembly.specs.Lines.{IsForm, IsPieceWords};
+ghost use Rattle.burr_assembly.specs.Lines.{IsLineForm, IsPieceWords};
 ghost use Rattle.burr_assembly.specs.LineViews.{form_of, words_of};
-ghost use Rattle.burr_assembly.specs.Faults.{Rule, PieceRule, LineGives, EndGives, Blank, Shapes};
+ghost use Rattle.burr_assembly.specs.Faults.{FormGives, PieceRule, LineGives, EndGives, Blank, Shapes};
 ghost use Rattle.burr_assembly.specs.FrontViews.{sketched, pieces_of, IsDue, AreAtHome, AreDistinct};
 ghost use Rattle.burr_assembly.specs.Readers.{front_of, assembly_of, IsReady, IsHome};
 
 use crate::assembly::FEWEST_PIECES;
 use crate::fault::AssemblyFault;
-use crate::name::{Name, is_name};
+use burr_text::{Name, is_name};
 use crate::piece::Piece;
 use crate::shape::DrawnShape;
 use crate::text::header::Header;
@@ -47,11 +47,11 @@ impl Front {
 
     /// The front with a line of this form, or the line's first fault.
     fn with(self, alloc: Global, form: Line<'_>, line: usize) -> Result<Front, AssemblyFault>
-        requires form { IsForm (form_of form) }
+        requires form { IsLineForm (form_of form) }
         requires ready { IsReady self }
-        ensures ok { IfOk result (λ next. Rule line (front_of self) (form_of form.entry) (Ok (front_of next))) }
+        ensures ok { IfOk result (λ next. FormGives line (front_of self) (form_of form.entry) (Ok (front_of next))) }
         ensures home { IfOk result IsHome }
-        ensures err { IfErr result (λ e. IsDue e (Rule line (front_of self) (form_of form.entry) (Err e))) }
+        ensures err { IfErr result (λ e. IsDue e (FormGives line (front_of self) (form_of form.entry) (Err e))) }
     {
         match self {
             Front::Blank => begin(alloc, form, line),
@@ -95,9 +95,9 @@ impl Front {
 
 /// The first line of the text: the assembly's name.
 fn begin(alloc: Global, form: Line<'_>, line: usize) -> Result<Front, AssemblyFault>
-    ensures ok { IfOk result (λ next. Rule line Blank (form_of form.entry) (Ok (front_of next))) }
+    ensures ok { IfOk result (λ next. FormGives line Blank (form_of form.entry) (Ok (front_of next))) }
     ensures home { IfOk result IsHome }
-    ensures err { IfErr result (λ e. IsDue e (Rule line Blank (form_of form.entry) (Err e))) }
+    ensures err { IfErr result (λ e. IsDue e (FormGives line Blank (form_of form.entry) (Err e))) }
 {
     match form {
         Line::Assembly(name) => {
@@ -122,11 +122,11 @@ fn behind_shapes(
     form: Line<'_>,
     line: usize,
 ) -> Result<Front, AssemblyFault>
-    requires form { IsForm (form_of form) }
+    requires form { IsLineForm (form_of form) }
     requires distinct { AreDistinct header.shapes.items }
-    ensures ok { IfOk result (λ next. Rule line (Shapes header.name header.shapes.items) (form_of form.entry) (Ok (front_of next))) }
+    ensures ok { IfOk result (λ next. FormGives line (Shapes header.name header.shapes.items) (form_of form.entry) (Ok (front_of next))) }
     ensures home { IfOk result IsHome }
-    ensures err { IfErr result (λ e. IsDue e (Rule line (Shapes header.name header.shapes.items) (form_of form.entry) (Err e))) }
+    ensures err { IfErr result (λ e. IsDue e (FormGives line (Shapes header.name header.shapes.items) (form_of form.entry) (Err e))) }
 {
     match form {
         Line::Shape(name) => {
@@ -153,9 +153,9 @@ fn in_shape(
     form: Line<'_>,
     line: usize,
 ) -> Result<Front, AssemblyFault>
-    ensures ok { IfOk result (λ next. Rule line (sketched header.name header.shapes.items sketch) (form_of form.entry) (Ok (front_of next))) }
+    ensures ok { IfOk result (λ next. FormGives line (sketched header.name header.shapes.items sketch) (form_of form.entry) (Ok (front_of next))) }
     ensures home { IfOk result IsHome }
-    ensures err { IfErr result (λ e. IsDue e (Rule line (sketched header.name header.shapes.items sketch) (form_of form.entry) (Err e))) }
+    ensures err { IfErr result (λ e. IsDue e (FormGives line (sketched header.name header.shapes.items sketch) (form_of form.entry) (Err e))) }
 {
     match form {
         Line::Layer => {

@@ -1,20 +1,20 @@
 ghost use Rattle.std.specs.Prelude.{◌≡◌, ◌↔◌, ◌++◌, ◌∷◌, [], Ok, Err, IsTrue, IfOk, IfErr, Any, option_copied};
 ghost use Rattle.burr_assembly.specs.Text.{IsShapeName, HasCells};
-ghost use Rattle.burr_assembly.specs.Read.{Placed};
+ghost use Rattle.burr_assembly.specs.Read.{HomedPiece};
 ghost use Rattle.burr_assembly.specs.Lines.{ShapeLine, IsPieceWords};
 ghost use Rattle.burr_assembly.specs.LineViews.{words_of};
-ghost use Rattle.burr_assembly.specs.Faults.{Rule, PieceRule, Shapes, Pieces};
+ghost use Rattle.burr_assembly.specs.Faults.{FormGives, PieceRule, Shapes, Pieces};
 ghost use Rattle.burr_assembly.specs.FrontViews.{sketched, pieces_of, IsDue, IsShapeOf, IsFirstMeeting, AreAtHome, AreDistinct};
 
 use crate::assembly::MOST_PIECES;
 use crate::fault::AssemblyFault;
-use crate::name::{Name, is_name};
-use crate::piece::{Piece, home_cells, overlap};
+use burr_text::{Name, is_name};
+use crate::piece::{Piece, home_cells};
 use crate::shape::DrawnShape;
 use crate::text::line::PieceLine;
 use crate::text::sketch::Sketch;
 use crate::text::words::position;
-use burr_voxels::{Cell, Orientation};
+use burr_voxels::{Cell, Orientation, overlap};
 use std::alloc::Global;
 
 /// The most shapes of an assembly.
@@ -35,8 +35,8 @@ impl Header {
         name: &[u8],
         line: usize,
     ) -> Result<Sketch, AssemblyFault>
-        ensures ok { IfOk result (λ s. Rule line (Shapes self.now.name self.now.shapes.items) (ShapeLine name.now) (Ok (sketched self.now.name self.now.shapes.items s))) }
-        ensures err { IfErr result (λ e. IsDue e (Rule line (Shapes self.now.name self.now.shapes.items) (ShapeLine name.now) (Err e))) }
+        ensures ok { IfOk result (λ s. FormGives line (Shapes self.now.name self.now.shapes.items) (ShapeLine name.now) (Ok (sketched self.now.name self.now.shapes.items s))) }
+        ensures err { IfErr result (λ e. IsDue e (FormGives line (Shapes self.now.name self.now.shapes.items) (ShapeLine name.now) (Err e))) }
     {
         if self.shapes.len() >= MOST_SHAPES {
             return Err(AssemblyFault::A7 { line });
@@ -113,7 +113,7 @@ impl Header {
 
 /// Whether a piece has this name.
 fn is_taken(pieces: &[Piece], name: &[u8]) -> bool
-    ensures { IsTrue result ↔ Any (λ (p : Placed). p.piece.name ≡ name.now) pieces.now }
+    ensures { IsTrue result ↔ Any (λ (p : HomedPiece). p.piece.name ≡ name.now) pieces.now }
 {
     pieces.iter().any(|piece| piece.name().as_bytes() == name)
 }

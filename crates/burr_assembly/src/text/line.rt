@@ -1,8 +1,8 @@
 ghost use Rattle.std.specs.Prelude.{◌≡◌, ◌↔◌, ◌∷◌, [], IsTrue, MatchOption};
-ghost use Rattle.burr_assembly.specs.Lines.{Form, IsLine, IsMarks, IsPieceWords, PieceWords, piece_words_text};
+ghost use Rattle.burr_assembly.specs.Lines.{LineForm, IsLine, IsMarks, IsPieceWords, PieceWords, piece_words_text};
 ghost use Rattle.burr_assembly.specs.LineViews.{HasWords, form_of, words_of};
 
-use crate::text::words::{cut_at, is_number, is_word};
+use burr_text::{cut_at, is_number, is_word};
 
 /// A line of an assembly text by its form alone: its words are not judged yet, and whether it may
 /// stand where it stands isn't either.
@@ -36,7 +36,7 @@ pub struct PieceLine<'a> {
 impl Line<'_> {
     /// The line with these bytes, which are without its end; None where it is of no form.
     pub fn parse(bytes: &[u8]) -> Option<Line<'_>>
-        ensures { MatchOption result ((form : Form) → ¬ IsLine bytes.now form) (λ line. IsLine bytes.now (form_of line)) }
+        ensures { MatchOption result ((form : LineForm) → ¬ IsLine bytes.now form) (λ line. IsLine bytes.now (form_of line)) }
     {
         match bytes {
             b"layer" => Some(Line::Layer),
@@ -49,7 +49,7 @@ impl Line<'_> {
     /// The line of several words with these bytes.
     fn with_words(bytes: &[u8]) -> Option<Line<'_>>
         ensures { MatchOption result
-            ((form : Form) → HasWords form → ¬ IsLine bytes.now form)
+            ((form : LineForm) → HasWords form → ¬ IsLine bytes.now form)
             (λ line. IsLine bytes.now (form_of line)) }
     {
         if let Some(name) = bytes.strip_prefix(b"assembly ") {

@@ -6,7 +6,7 @@ ghost use Rattle.burr_assembly.specs.FrontViews.{IsDue};
 use crate::assembly::Assembly;
 use crate::fault::AssemblyFault;
 use crate::text::front::Front;
-use crate::text::words::cut_at;
+use burr_text::cut_at;
 use std::alloc::Global;
 
 /// The assembly of a text, or the text's first fault.

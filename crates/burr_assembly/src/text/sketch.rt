@@ -1,11 +1,11 @@
 ghost use Rattle.std.specs.Prelude.{◌≡◌, ◌≤◌, ◌<◌, ◌↔◌, ◌++◌, ◌∷◌, [], ℕ, List, None, Ok, Err, length, IsTrue, IfOk, IfErr, All};
 ghost use Rattle.burr_assembly.specs.Lines.{LayerLine, RowLine, EndLine};
-ghost use Rattle.burr_assembly.specs.Faults.{IsWhole, IsRow, Shapes};
+ghost use Rattle.burr_assembly.specs.Faults.{IsFinishedLayer, IsRow, Shapes};
 ghost use Rattle.burr_assembly.specs.FrontViews.{sketched, SketchGives, IsDue};
 
 use crate::drawing::{Layer, Row, SIDE, cells_of};
 use crate::fault::AssemblyFault;
-use crate::name::Name;
+use burr_text::Name;
 use crate::shape::DrawnShape;
 use burr_voxels::{Cell, Cells, Shape};
 use std::alloc::Global;
@@ -133,7 +133,7 @@ impl Sketch {
 
 /// Whether a layer may be finished behind others: it has rows, as many as the first.
 fn is_whole(layers: &[Layer], layer: &Layer) -> bool
-    ensures { IsTrue result ↔ IsWhole layers.now layer.now }
+    ensures { IsTrue result ↔ IsFinishedLayer layers.now layer.now }
 {
     let height = layer.rows().len();
     let is_like_first = match layers.first() {

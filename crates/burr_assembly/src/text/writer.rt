@@ -4,7 +4,7 @@ ghost use Rattle.burr_assembly.specs.Text.{text_of, shape_text, layer_text, piec
 ghost use Rattle.burr_assembly.specs.FrontViews.{pieces_of};
 
 use crate::drawing::Layer;
-use crate::name::Name;
+use burr_text::Name;
 use crate::piece::Piece;
 use crate::shape::DrawnShape;
 use itoa::Buffer;

@@ -1,4 +1,4 @@
-use Rattle.burr_assembly.proofs.TextLaws.{reads_back, writes_back}
+use Rattle.burr_assembly.proofs.Common.TextLaws.{reads_back, writes_back}
 use Rattle.burr_assembly.proofs.laws.texts_and_assemblies_give_each_other_back.Goals as goal
 
 pub returns : goal.returns

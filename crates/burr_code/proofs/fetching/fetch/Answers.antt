@@ -1,5 +1,5 @@
 -- Where the operands make no `aside`, no instruction stands there.
-use Rattle.burr_code.proofs.Places.{none_stands_where_no_aside, rest_from}
+use Rattle.burr_code.proofs.Operands.{none_stands_where_no_aside, rest_from}
 use Rattle.burr_code.proofs.fetching.fetch.Goals as goal
 
 pub returns-in_err-aside-in-18-clause-stands : goal.returns-in_err-aside-in-18-clause-stands

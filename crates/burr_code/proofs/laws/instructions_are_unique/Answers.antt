@@ -1,6 +1,9 @@
--- Two instructions that stand at one place are the same.
-use Rattle.burr_code.proofs.Places.{one_stands_at}
+-- What bytes begin with, and what stands at a place, is one instruction at most.
+use Rattle.burr_code.proofs.Common.Reading.{one_begins, one_stands_at}
 use Rattle.burr_code.proofs.laws.instructions_are_unique.Goals as goal
 
-pub returns : goal.returns
-returns c = one_stands_at
+pub returns-clause-begins : goal.returns-clause-begins
+returns-clause-begins c = one_begins
+
+pub returns-clause-stands : goal.returns-clause-stands
+returns-clause-stands c = one_stands_at

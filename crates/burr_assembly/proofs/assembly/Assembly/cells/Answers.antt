@@ -1,4 +1,4 @@
-use Rattle.std.proofs.Common.{◌≡◌, ◌<◌, length, get_or, rules, sym, ◌∙◌}
+use Rattle.std.proofs.Common.{rules}
 use Rattle.burr_assembly.proofs.Sharing.{cells_at, length-pieces_of}
 use Rattle.burr_assembly.proofs.assembly.Assembly.cells.Goals as goal
 

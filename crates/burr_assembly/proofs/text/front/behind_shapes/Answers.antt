@@ -2,7 +2,6 @@ use Rattle.std.proofs.Common.{◌<◌, length, rules, Ok, Err, inl, inr}
 use Rattle.burr_assembly.specs.declared.fault.AssemblyFault.{AssemblyFault}
 use Rattle.burr_assembly.specs.declared.text.front.Front.{Front}
 use Rattle.burr_assembly.specs.LineViews.{words_of}
-use Rattle.burr_assembly.specs.FrontViews.{IsDue}
 use Rattle.burr_assembly.specs.Readers.{front_of}
 use Rattle.burr_assembly.proofs.Behind.{first_piece, ok_with, err_with}
 use Rattle.burr_assembly.proofs.text.front.behind_shapes.Goals as goal

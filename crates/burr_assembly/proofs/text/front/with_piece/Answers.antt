@@ -1,7 +1,7 @@
 use Rattle.std.proofs.lemmas.Result.{err_from_is_err_and}
 use Rattle.std.proofs.lemmas.List.Elements.{All-push}
 use Rattle.burr_assembly.specs.Text.{HasCells}
-use Rattle.burr_assembly.specs.Read.{Placed}
+use Rattle.burr_assembly.specs.Read.{HomedPiece}
 use Rattle.burr_assembly.proofs.Sharing.{pieces_of-push}
 use Rattle.burr_assembly.proofs.text.front.with_piece.Goals as goal
 
@@ -15,4 +15,4 @@ returns-clause-ok c =
 
 pub returns-clause-home : goal.returns-clause-home
 returns-clause-home c =
-    rw c.in_ok-push.ensures.items (All-push (λ (p : Placed). HasCells c.args.header.shapes.items p.piece p.cells) c.args.pieces.items c.in_ok-piece.piece c.requires.homes c.in_ok-piece.ensures.home)
+    rw c.in_ok-push.ensures.items (All-push (λ (p : HomedPiece). HasCells c.args.header.shapes.items p.piece p.cells) c.args.pieces.items c.in_ok-piece.piece c.requires.homes c.in_ok-piece.ensures.home)

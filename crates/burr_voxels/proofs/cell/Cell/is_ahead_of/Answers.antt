@@ -1,6 +1,6 @@
 -- In each direction, the other two coordinates agree and the one along it is compared.
 use Rattle.std.proofs.Common.{rules, FitsSigned, to_z-of_z, w32}
-use Rattle.burr_voxels.proofs.Ahead.{ahead_plus_x, ahead_minus_x, ahead_plus_y, ahead_minus_y, ahead_plus_z, ahead_minus_z}
+use Rattle.burr_voxels.proofs.Common.Ahead.{ahead_plus_x, ahead_minus_x, ahead_plus_y, ahead_minus_y, ahead_plus_z, ahead_minus_z}
 use Rattle.burr_voxels.proofs.cell.Cell.is_ahead_of.Goals as goal
 
 pub returns-then-in_row : goal.returns-then-in_row

@@ -1,5 +1,0 @@
-pub mod Cuts
-pub mod Digits
-pub mod Form
-pub mod LastLines
-pub mod PieceNames

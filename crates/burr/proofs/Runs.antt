@@ -1,2 +1,0 @@
-pub mod StepByStep
-pub mod WholeInput

@@ -1,8 +1,0 @@
-pub mod ClosingLines
-pub mod End
-pub mod Lines
-pub mod Motions
-pub mod OneClosing
-pub mod Puts
-pub mod Unended
-pub mod Words

@@ -1,3 +1,0 @@
-pub mod Ahead
-pub mod Meeting
-pub mod Overlapping

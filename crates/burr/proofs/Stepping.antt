@@ -1,4 +1,0 @@
-pub mod Conditions
-pub mod HomeCells
-pub mod Steps
-pub mod Tests

@@ -1,9 +1,0 @@
-use crate::bench::trap::Trap;
-
-/// Whether a run goes on, and how not.
-#[derive(Clone, Copy, Debug, PartialEq, Eq)]
-pub enum Mode {
-    Running,
-    Ended,
-    Stuck(Trap),
-}

@@ -1,0 +1,3 @@
+pub mod HomeCells
+pub mod OneHomes
+pub mod TextLaws

@@ -1,0 +1,4 @@
+pub mod Calls
+pub mod Leading
+pub mod OneRun
+pub mod SomeRun

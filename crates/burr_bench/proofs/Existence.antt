@@ -1,0 +1,4 @@
+pub mod Conditions
+pub mod Freedom
+pub mod SomeCall
+pub mod SomeStep

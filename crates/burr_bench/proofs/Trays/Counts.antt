@@ -1,0 +1,175 @@
+-- Places of which those of a set are changed, and how many pieces are counted in a tray.
+use Rattle.std.proofs.Common.{◌≡◌, ◌≢◌, ◌⊎◌, ℕ, zero, suc, ◌+◌, ◌/◌, ◌%◌, ◌^◌, ◌≤◌, ◌==◌, if◌then◌else◌, bit_and, IsBitSet}
+use Rattle.std.proofs.Common.{List, [], ◌∷◌, length, slice_get, Some, All}
+use Rattle.std.proofs.Common.{refl, sym, ap, subst, ◌∙◌, inl, inr, arith}
+use Rattle.std.proofs.lemmas.Bool.{cond_both}
+use Rattle.std.proofs.lemmas.Bool.Decides.{nat_tests}
+use Rattle.std.proofs.lemmas.List.Elements.{All-nil, All-cons, All-head, All-tail}
+use Rattle.std.proofs.lemmas.Nat.{bit_set_by_shift}
+use Rattle.std.proofs.lemmas.Nat.Bits.{bit_at_lowest, bit_at-suc, shr_and_one}
+use Rattle.std.proofs.lemmas.Option.{none-some, same_Some}
+use Rattle.std.specs.Int.{bit_at}
+use Rattle.std.specs.Int.Bits.{and_zero_l}
+use Rattle.std.specs.List.{AllZip}
+use native.Mathlib.Decide.{ℕ_discrete}
+use Rattle.burr_code.specs.Places.{Placement, Apart, On, LiesIn, AllLieIn, IsEmptyTray, changed, to_tray, is_in, count_in, parted_in}
+
+-- Sets of pieces
+
+pub no_bit : (p : ℕ) → ¬ IsBitSet 0 p
+no_bit p bit = bit (and_zero_l (2 ^ p))
+
+set_bit_below : (bound group : ℕ) → group ≤ bound → group ≢ 0 → (p : ℕ) × (bit_at group p ≡ 1)
+set_bit_below zero group small some = absurd (some (omega arith))
+set_bit_below (suc bound) group small some = elim (ℕ_discrete (group % 2) 1) [
+  | yes odd ↦ (0, bit_at_lowest group ∙ odd)
+  | no even ↦
+      let half = set_bit_below bound (group / 2) (omega arith) (λ e. some (omega arith)) in
+      (suc half.0, bit_at-suc group half.0 ∙ half.1)
+]
+
+-- a set that is not 0 has a piece
+pub set_bit : (group : ℕ) → group ≢ 0 → (p : ℕ) × IsBitSet group p
+set_bit group some =
+    let found = set_bit_below group group (omega arith) some in
+    (found.0, (bit_set_by_shift group found.0).0 (shr_and_one group found.0 ∙ found.1))
+
+-- The places of a set are changed
+
+-- the place of piece p afterwards
+abbrev pub changed_place : {Place : Type 0} → (Place → Place) → ℕ → ℕ → Place → Place
+changed_place f group p place = if bit_and group (2 ^ p) == 0 then place else f place
+
+is_changed : {Place : Type 0} (f : Place → Place) (group p : ℕ) (place : Place)
+    → IsBitSet group p → changed_place f group p place ≡ f place
+is_changed f group p place bit = grind (arith, nat_tests)
+
+is_kept : {Place : Type 0} (f : Place → Place) (group p : ℕ) (place : Place)
+    → ¬ IsBitSet group p → changed_place f group p place ≡ place
+is_kept f group p place none = grind (arith, nat_tests)
+
+pub length-changed : {Place : Type 0} (f : Place → Place) (group p : ℕ) (places : List Place)
+    → length (changed f group p places) ≡ length places
+length-changed f group p [] = refl
+length-changed f group p (place ∷ places) = ap suc (length-changed f group (suc p) places)
+
+-- what the change keeps holds of all places afterwards
+pub All-changed : {Place : Type 0} (P : Place → Type 0) (f : Place → Place) (group p : ℕ) (places : List Place)
+    → ((place : Place) → P place → P (f place)) → All P places → All P (changed f group p places)
+All-changed P f group p [] keeps all = All-nil P
+All-changed P f group p (place ∷ places) keeps all =
+    let holds = All-head P place places all in
+    All-cons P (changed_place f group p place) (changed f group (suc p) places)
+    (cond_both (bit_and group (2 ^ p) == 0) place (f place) P (λ none. holds) (λ bit. keeps place holds))
+    (All-changed P f group (suc p) places keeps (All-tail P place places all))
+
+slice_get-changed_from : {Place : Type 0} (f : Place → Place) (group p k i : ℕ) (places : List Place) (place : Place)
+    → p + k ≡ i → slice_get places k ≡ Some place → slice_get (changed f group p places) k ≡ Some (changed_place f group i place)
+slice_get-changed_from f group p k i [] place e at = absurd (none-some _ at)
+slice_get-changed_from f group p zero i (first ∷ places) place e at =
+    ap (λ x. Some (changed_place f group p x)) (same_Some _ _ at) ∙ ap (λ j. Some (changed_place f group j place)) (omega arith)
+slice_get-changed_from f group p (suc k) i (first ∷ places) place e at =
+    slice_get-changed_from f group (suc p) k i places place (omega arith) at
+
+slice_get-changed : {Place : Type 0} (f : Place → Place) (group p : ℕ) (places : List Place) (place : Place)
+    → slice_get places p ≡ Some place → slice_get (changed f group 0 places) p ≡ Some (changed_place f group p place)
+slice_get-changed f group p places place at = slice_get-changed_from f group 0 p p places place (omega arith) at
+
+-- a piece that is not of the set stays where it is
+pub lies_still : {Position : Type 0} (f : Placement Position → Placement Position) (group p tray : ℕ) (places : List (Placement Position))
+    → ¬ IsBitSet group p → LiesIn places p tray → LiesIn (changed f group 0 places) p tray
+lies_still f group p tray places out lies =
+    let place = On tray lies.0 in
+    (lies.0, slice_get-changed f group p places place lies.1 ∙ ap Some (is_kept f group p place out))
+
+-- a piece of the group goes to the other tray
+pub lies_there : {Position : Type 0} (group p here there : ℕ) (places : List (Placement Position))
+    → IsBitSet group p → LiesIn places p here → LiesIn (changed (to_tray there) group 0 places) p there
+lies_there group p here there places bit lies =
+    let place = On here lies.0 in
+    (lies.0, slice_get-changed (to_tray there) group p places place lies.1 ∙ ap Some (is_changed (to_tray there) group p place bit))
+
+-- How many pieces are in a tray
+
+pub count_in-same : {Position : Type 0} (t : ℕ) (position : Position) (places : List (Placement Position))
+    → count_in t (On t position ∷ places) ≡ suc (count_in t places)
+count_in-same t position places = grind (arith, nat_tests)
+
+pub count_in-other : {Position : Type 0} (t u : ℕ) (position : Position) (places : List (Placement Position))
+    → u ≢ t → count_in t (On u position ∷ places) ≡ count_in t places
+count_in-other t u position places other = grind (arith, nat_tests)
+
+pub count_in-empty : {Position : Type 0} (t : ℕ) (places : List (Placement Position)) → IsEmptyTray places t → count_in t places ≡ 0
+count_in-empty t [] empty = refl
+count_in-empty t (Apart ∷ places) empty = omega (arith, count_in-empty t places (λ p. empty (suc p)))
+count_in-empty t (On u position ∷ places) empty =
+    let other : u ≢ t = λ e. empty 0 (position, ap (λ v. Some (On v position)) e) in
+    count_in-other t u position places other ∙ count_in-empty t places (λ p. empty (suc p))
+
+pub count_in-some : {Position : Type 0} (t p : ℕ) (places : List (Placement Position)) → LiesIn places p t → 1 ≤ count_in t places
+count_in-some t p [] lies = absurd (none-some _ lies.1)
+count_in-some t zero (place ∷ places) lies = rw (same_Some _ _ lies.1) (omega (arith, count_in-same t lies.0 places))
+count_in-some t (suc p) (place ∷ places) lies = omega (arith, count_in-some t p places lies)
+
+-- Pieces go from one tray to another
+
+-- a piece of the one tray is in the other afterwards, or a piece has stayed
+abbrev pub IsTaken : {Position : Type 0} → ℕ → ℕ → Placement Position → Placement Position → Type 0
+IsTaken {Position} here there old new = ((position : Position) × (old ≡ On here position) × (new ≡ On there position)) ⊎ (new ≡ old)
+
+one_taken : {Position : Type 0} (group here there p : ℕ) (place : Placement Position)
+    → (IsBitSet group p → (position : Position) × (place ≡ On here position)) → IsTaken here there place (changed_place (to_tray there) group p place)
+one_taken group here there p place lies = elim (ℕ_discrete (bit_and group (2 ^ p)) 0) [
+  | yes none ↦ inr (is_kept (to_tray there) group p place (λ bit. bit none))
+  | no bit ↦ let is = lies bit in inl (is.0, is.1, is_changed (to_tray there) group p place bit ∙ ap (to_tray there) is.1)
+]
+
+all_taken : {Position : Type 0} (group here there p : ℕ) (places : List (Placement Position))
+    → ((k i : ℕ) → p + k ≡ i → IsBitSet group i → LiesIn places k here)
+    → AllZip (IsTaken here there) places (changed (to_tray there) group p places)
+all_taken group here there p [] lie = tt
+all_taken group here there p (place ∷ places) lie = (
+  one_taken group here there p place (λ bit. let lies = lie 0 p (omega arith) bit in (lies.0, same_Some _ _ lies.1)),
+  all_taken group here there (suc p) places (λ k i e bit. lie (suc k) i (omega arith) bit),
+)
+
+pub group_taken : {Position : Type 0} (group here there : ℕ) (places : List (Placement Position))
+    → AllLieIn places here group → AllZip (IsTaken here there) places (changed (to_tray there) group 0 places)
+group_taken group here there places lie =
+    all_taken group here there 0 places (λ k i e bit. subst (λ j. LiesIn places j here) (omega arith) (lie i bit))
+
+third_alike : {Position : Type 0} (here there t : ℕ) (old new : Placement Position)
+    → t ≢ here → t ≢ there → IsTaken here there old new → is_in t new ≡ is_in t old
+third_alike here there t old new far near (inl moved) = rw (moved.1, moved.2) (grind (arith, nat_tests))
+third_alike here there t old new far near (inr e) = ap (is_in t) e
+
+-- a third tray has as many pieces as before
+pub count_in-third : {Position : Type 0} (here there t : ℕ) (old new : List (Placement Position))
+    → t ≢ here → t ≢ there → AllZip (IsTaken here there) old new → count_in t new ≡ count_in t old
+count_in-third here there t [] [] far near taken = refl
+count_in-third here there t [] (y ∷ new) far near taken = absurd taken
+count_in-third here there t (x ∷ old) [] far near taken = absurd taken
+count_in-third here there t (x ∷ old) (y ∷ new) far near taken =
+    rw (third_alike here there t x y far near taken.0, count_in-third here there t old new far near taken.1) refl
+
+-- The pieces of a tray are apart afterwards
+
+pub parted_in-same : {Position : Type 0} (t : ℕ) (position : Position) (places : List (Placement Position))
+    → parted_in t (On t position ∷ places) ≡ Apart ∷ parted_in t places
+parted_in-same t position places = grind (arith, nat_tests)
+
+pub parted_in-other : {Position : Type 0} (t u : ℕ) (position : Position) (places : List (Placement Position))
+    → u ≢ t → parted_in t (On u position ∷ places) ≡ On u position ∷ parted_in t places
+parted_in-other t u position places other = grind (arith, nat_tests)
+
+-- another tray has as many pieces as before
+pub count_in-parted_in : {Position : Type 0} (t u : ℕ) (places : List (Placement Position))
+    → t ≢ u → count_in t (parted_in u places) ≡ count_in t places
+count_in-parted_in t u [] other = refl
+count_in-parted_in t u (Apart ∷ places) other = omega (arith, count_in-parted_in t u places other)
+count_in-parted_in t u (On v position ∷ places) other =
+    let rest = count_in-parted_in t u places other in
+    elim (ℕ_discrete v u) [
+      | yes e ↦ rw e (omega (arith, ap (count_in t) (parted_in-same u position places), rest, count_in-other t u position places (λ is. other (sym is))))
+      | no far ↦ ap (count_in t) (parted_in-other u v position places far) ∙ ap (λ n. (if v == t then 1 else 0) + n) rest
+    ]

@@ -1,0 +1,14 @@
+pub mod Bench
+pub mod BenchViews
+pub mod Control
+pub mod Next
+pub mod Numbers
+pub mod Offsets
+pub mod Parts
+pub mod Questions
+pub mod Run
+pub mod RunLaws
+pub mod Space
+pub mod Spots
+pub mod Step
+pub mod TrapNames

@@ -1,0 +1,4 @@
+pub mod Labels
+pub mod Orders
+pub mod PieceSets
+pub mod Reading

@@ -1,0 +1,5 @@
+pub mod Inputs
+pub mod OneOutput
+pub mod SomeOutput
+pub mod StepByStep
+pub mod WholeInput

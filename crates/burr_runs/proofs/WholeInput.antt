@@ -1,0 +1,90 @@
+-- What is written for a whole input.
+use Rattle.std.proofs.Common.{◌≡◌, ◌≢◌, List, ℕ, refl, inl, inr, true}
+use Rattle.std.specs.Prelude.{Option, Result, Ok, Err, Bool, IfOk, IfErr, codes}
+use Rattle.std.specs.Result.{IsErrAnd}
+use Rattle.std.proofs.lemmas.Result.{err_from_is_err_and}
+use Rattle.burr_io.specs.Sink.{TakesFront}
+use Rattle.burr_assembly.specs.declared.fault.AssemblyFault.{AssemblyFault}
+use Rattle.burr_assembly.specs.Text.{Assembly, IsAssembly}
+use Rattle.burr_assembly.specs.Faults.{FirstFault}
+use Rattle.burr_runs.specs.declared.outcome.Outcome.{Outcome}
+use Rattle.burr_runs.specs.declared.outcome.Outcome.TheVariants.{Refused}
+use Rattle.burr_runs.specs.declared.fault.BenchFault.{BenchFault}
+use Rattle.burr_runs.specs.declared.fault.BenchFault.TheVariants.{Read, TooLong, Write, Memory}
+use Rattle.burr_bench.specs.declared.motion.Motion.{Motion}
+use Rattle.burr_bench.specs.Bench.{start}
+use Rattle.burr_assembly.specs.Homes.{homes_of}
+use Rattle.burr_bench.specs.declared.closing.Closing.{Closing}
+use Rattle.burr_sheet.specs.SheetText.{sheet}
+use Rattle.burr_runs.specs.Input.{IsInput}
+use Rattle.burr_runs.specs.Output.{IsSheet, outcome_of, IsOutput, IsTextOutput}
+use Rattle.burr_runs.specs.Refusals.{refusal}
+use Rattle.burr_assembly.specs.Homes.{names_of}
+use Rattle.burr_bench.specs.Bench.{bare}
+use Rattle.burr_runs.specs.Running.{BareRun}
+use Rattle.burr_runs.specs.ReadWhole.{IsWholeInput}
+use Rattle.burr_runs.specs.BenchText.{PutsOutput, PutsFrontOfOutput, OutputFails, Streams, Succeeds, Fails}
+use Rattle.burr_assembly.proofs.Common.HomeCells.{have_homes}
+
+-- a fault of the sink is answered as `Write`
+pub write_fails : {A : Type 0} (IsAnswer : List ℕ → Outcome → Type 0) (r : Result A BenchFault) (old new : Option (List ℕ)) (failed : Bool)
+    → IsErrAnd r (λ e. e ≡ Write) → PutsFrontOfOutput IsAnswer old new failed → IfErr r (λ fault. OutputFails IsAnswer old new failed fault)
+write_fails IsAnswer r old new failed err front = let p = err_from_is_err_and r err in rw (p.1, p.2) front
+
+-- only another fault would leave the sink as it was
+pub write_touches : {A : Type 0} (r : Result A BenchFault) (Same : Type 0) → IsErrAnd r (λ e. e ≡ Write) → IfErr r (λ fault. fault ≢ Write → Same)
+write_touches r Same err = let p = err_from_is_err_and r err in rw (p.1, p.2) (λ other. absurd (other refl))
+
+-- an input that is none
+
+pub front_of_refused : (old new : Option (List ℕ)) (failed : Bool) (input : List ℕ)
+    → ((text code : List ℕ) → ¬ IsInput input text code) → TakesFront old new (codes "refused input\n") → failed ≡ true → PutsFrontOfOutput (IsOutput input) old new failed
+front_of_refused old new failed input none front fails = (codes "refused input\n", Refused, inl (none, refl, refl), front, fails)
+
+-- an input that is a text and code
+
+pub text_puts : (old new : Option (List ℕ)) (input text code : List ℕ) (r : Result Outcome BenchFault)
+    → IsInput input text code → IfOk r (λ outcome. PutsOutput (IsTextOutput text code) old new outcome) → IfOk r (λ outcome. PutsOutput (IsOutput input) old new outcome)
+text_puts old new input text code (Ok outcome) parts (output, is, puts) = (output, inr (text, code, parts, is), puts)
+text_puts old new input text code (Err fault) parts puts = tt
+
+pub text_fails : (old new : Option (List ℕ)) (failed : Bool) (input text code : List ℕ) (r : Result Outcome BenchFault)
+    → IsInput input text code → IfErr r (λ fault. OutputFails (IsTextOutput text code) old new failed fault) → IfErr r (λ fault. OutputFails (IsOutput input) old new failed fault)
+text_fails old new failed input text code (Ok outcome) parts fails = tt
+text_fails old new failed input text code (Err Read) parts fails = fails
+text_fails old new failed input text code (Err TooLong) parts fails = fails
+text_fails old new failed input text code (Err Write) parts (output, outcome, is, front, broke) = (output, outcome, inr (text, code, parts, is), front, broke)
+text_fails old new failed input text code (Err Memory) parts fails = fails
+
+-- a text with a fault
+
+pub front_of_fault : (old new : Option (List ℕ)) (failed : Bool) (text code : List ℕ) (fault : AssemblyFault)
+    → FirstFault text fault → TakesFront old new (refusal text fault) → failed ≡ true → PutsFrontOfOutput (IsTextOutput text code) old new failed
+front_of_fault old new failed text code fault first front fails = (refusal text fault, Refused, inl (fault, first, refl, refl), front, fails)
+
+-- an assembly's text
+
+-- what is written of a run is its sheet
+pub sheet_of_run : (a : Assembly) (code output : List ℕ) (motions : List Motion) (steps : ℕ) (closing : Closing) → IsAssembly a → BareRun (bare (homes_of a) code) (start (bare (homes_of a) code)) motions steps closing
+    → output ≡ sheet (names_of a) motions steps closing → IsSheet a code output (outcome_of closing)
+sheet_of_run a code output motions steps closing whole run text =
+    record { homes = homes_of a; cells = have_homes a whole; motions = motions; steps = steps; closing = closing; run = run; text = text; closes = refl }
+
+-- a result that is a fault is no answer
+pub no_answer : {A E : Type 0} (P : A → Type 0) (Q : E → Type 0) (r : Result A E) → IsErrAnd r Q → IfOk r P
+no_answer P Q r err = let p = err_from_is_err_and r err in rw p.1 tt
+
+-- The whole input was read
+
+pub whole_answered : (s : Streams) (input : List ℕ) (r : Result Outcome BenchFault)
+    → IsWholeInput s.left_old s.left_new s.read_failed input → IfOk r (λ outcome. PutsOutput (IsOutput input) s.taken_old s.taken_new outcome) → IfOk r (λ outcome. Succeeds s outcome)
+whole_answered s input (Ok outcome) whole puts = (input, whole, puts)
+whole_answered s input (Err fault) whole puts = tt
+
+pub whole_fails : (s : Streams) (input : List ℕ) (r : Result Outcome BenchFault)
+    → IsWholeInput s.left_old s.left_new s.read_failed input → IfErr r (λ fault. OutputFails (IsOutput input) s.taken_old s.taken_new s.write_failed fault) → IfErr r (λ fault. Fails s fault)
+whole_fails s input (Ok outcome) whole fails = tt
+whole_fails s input (Err Read) whole fails = absurd fails
+whole_fails s input (Err TooLong) whole fails = absurd fails
+whole_fails s input (Err Write) whole fails = (input, whole, fails)
+whole_fails s input (Err Memory) whole fails = (whole.went, fails)

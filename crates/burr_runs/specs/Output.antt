@@ -1,0 +1,46 @@
+-- What is written for an input, and how it ends.
+use Rattle.std.specs.Prelude.{◌≡◌, ℕ, List, [], codes, ◌⊎◌}
+use Rattle.burr_voxels.specs.declared.cell.Cell.{Cell}
+use Rattle.burr_assembly.specs.declared.fault.AssemblyFault.{AssemblyFault}
+use Rattle.burr_assembly.specs.Text.{Assembly, IsText}
+use Rattle.burr_assembly.specs.Faults.{FirstFault}
+use Rattle.burr_assembly.specs.Homes.{names_of, HaveCells}
+use Rattle.burr_bench.specs.declared.motion.Motion.{Motion}
+use Rattle.burr_bench.specs.declared.closing.Closing.{Closing}
+use Rattle.burr_bench.specs.declared.closing.Closing.TheVariants as closings
+use Rattle.burr_bench.specs.Bench.{bare, start}
+use Rattle.burr_bench.specs.Run.{Run}
+use Rattle.burr_sheet.specs.SheetText.{sheet}
+use Rattle.burr_runs.specs.declared.outcome.Outcome.{Outcome}
+use Rattle.burr_runs.specs.declared.outcome.Outcome.TheVariants as outcomes
+use Rattle.burr_runs.specs.Input.{IsInput}
+use Rattle.burr_runs.specs.Refusals.{refusal}
+
+abbrev pub outcome_of : Closing → Outcome
+outcome_of closings.Apart = outcomes.Apart
+outcome_of (closings.Waiting low high) = outcomes.Waiting
+outcome_of (closings.Trapped trap procedure pc) = outcomes.Trapped
+outcome_of closings.Stopped = outcomes.Stopped
+
+-- the sheet of the run of this code on this assembly, without answers and with a budget of 1,000,000 steps
+pub record IsSheet (a : Assembly) (code output : List ℕ) (outcome : Outcome) : Type 0 where
+  pub homes : List (List Cell)
+  pub cells : HaveCells a a.pieces homes
+  pub motions : List Motion
+  pub steps : ℕ
+  pub closing : Closing
+  pub run : Run (bare homes code) 1000000 (start (bare homes code)) [] motions steps closing
+  pub text : output ≡ sheet (names_of a) motions steps closing
+  pub closes : outcome ≡ outcome_of closing
+
+-- what is written for an assembly's text with code behind it
+abbrev pub IsTextOutput : List ℕ → List ℕ → List ℕ → Outcome → Type 0
+IsTextOutput text code output outcome =
+    ((fault : AssemblyFault) × FirstFault text fault × (output ≡ refusal text fault) × (outcome ≡ outcomes.Refused))
+    ⊎ ((a : Assembly) × IsText text a × IsSheet a code output outcome)
+
+-- What is written for an input, and how it ends.
+abbrev pub IsOutput : List ℕ → List ℕ → Outcome → Type 0
+IsOutput input output outcome =
+    (((text code : List ℕ) → ¬ IsInput input text code) × (output ≡ codes "refused input\n") × (outcome ≡ outcomes.Refused))
+    ⊎ ((text : List ℕ) × (code : List ℕ) × IsInput input text code × IsTextOutput text code output outcome)

@@ -1,0 +1,23 @@
+-- What reading a source to its end gives.
+use Rattle.std.specs.Prelude.{◌≡◌, ℕ, ◌≤◌, ◌<◌, List, length, Bool, true, false, Option}
+use Rattle.std.specs.Io.KnownBytes.{Consumes, IsAtEnd}
+use Rattle.burr_runs.specs.declared.fault.BenchFault.{BenchFault}
+use Rattle.burr_runs.specs.declared.fault.BenchFault.TheVariants.{Read, TooLong, Write, Memory}
+
+-- the source gave these bytes, no call failed, and nothing is left
+pub record IsWholeInput (old new : Option (List ℕ)) (failed : Bool) (bytes : List ℕ) : Type 0 where
+  pub short : length bytes ≤ 16777216
+  pub gave : Consumes old new bytes
+  pub end : IsAtEnd new
+  pub went : failed ≡ false
+
+-- the source gave more bytes than an input may have, and no call failed
+abbrev pub IsTooLong : Option (List ℕ) → Option (List ℕ) → Bool → Type 0
+IsTooLong old new failed = (bytes : List ℕ) × (16777216 < length bytes) × Consumes old new bytes × (failed ≡ false)
+
+-- why a source was not read to its end
+abbrev pub ReadFails : Option (List ℕ) → Option (List ℕ) → Bool → BenchFault → Type 0
+ReadFails old new failed Read = failed ≡ true
+ReadFails old new failed TooLong = IsTooLong old new failed
+ReadFails old new failed Memory = failed ≡ false
+ReadFails old new failed Write = ⊥

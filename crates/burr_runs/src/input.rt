@@ -1,0 +1,85 @@
+//! The input: an assembly's text, and behind it a last line with code.
+
+ghost use Rattle.std.specs.Prelude.{◌≡◌, ◌≢◌, ℕ, ◌<◌, List, [], ◌∷◌, ◌++◌, length, slice_index, Contains, IfOk, MatchOption};
+ghost use Rattle.std.specs.List.{list_all};
+ghost use Rattle.burr_text.specs.Lines.{IsLines};
+ghost use Rattle.burr_runs.specs.Input.{IsCodeLine, IsInput};
+ghost use Rattle.burr_runs.specs.Input.{is_hex_digit};
+
+use burr_bench::MOST_CODE;
+use hex::FromHexError;
+use std::alloc::{AllocError, Global};
+
+/// The text of an input, and the code of its last line; None where the input isn't of this form.
+pub fn parse_input<'a>(
+    alloc: Global,
+    input: &'a [u8],
+) -> Result<Option<(&'a [u8], Vec<u8>)>, AllocError>
+    ensures { IfOk result (λ found. MatchOption found
+        ((text code : List ℕ) → ¬ IsInput input.now text code)
+        (λ parts. IsInput input.now parts.0.now parts.1.items)) }
+{
+    let Some((text, line)) = split_last_line(input) else {
+        return Ok(None);
+    };
+    match code_of(alloc, line)? {
+        Some(code) => Ok(Some((text, code))),
+        None => Ok(None),
+    }
+}
+
+/// The last line of the input without its end, and what stands before it; None where the last line
+/// has no end.
+fn split_last_line(input: &[u8]) -> Option<(&[u8], &[u8])>
+    ensures { MatchOption result
+        ((front : List ℕ) → input.now ≢ front ++ 10 ∷ [])
+        (λ parts. (input.now ≡ parts.0.now ++ parts.1.now ++ 10 ∷ []) × IsLines parts.0.now × (¬ Contains parts.1.now 10)) }
+{
+    let (end, lines) = input.split_last()?;
+    if *end != b'\n' {
+        return None;
+    }
+    match last_end(lines) {
+        Some(last) => Some(lines.split_at(last + 1)),
+        None => Some((b"", lines)),
+    }
+}
+
+/// Where the last end of a line stands.
+fn last_end(bytes: &[u8]) -> Option<usize>
+    ensures { MatchOption result
+        (¬ Contains bytes.now 10)
+        (λ i. (i < length bytes.now) × (slice_index bytes.now i ≡ 10) × ((k : ℕ) → i < k → k < length bytes.now → slice_index bytes.now k ≢ 10)) }
+{
+    bytes.iter().rposition(|byte| *byte == b'\n')
+}
+
+/// The code of a line `code` with its hexadecimal digits; None where the line isn't of this form.
+fn code_of(alloc: Global, line: &[u8]) -> Result<Option<Vec<u8>>, AllocError>
+    ensures { IfOk result (λ found. MatchOption found
+        ((code : List ℕ) → ¬ IsCodeLine line.now code)
+        (λ code. IsCodeLine line.now code.items)) }
+{
+    let Some(digits) = line.strip_prefix(b"code ") else {
+        return Ok(None);
+    };
+    if digits.is_empty() || digits.len() > 2 * MOST_CODE || !are_digits(digits) {
+        return Ok(None);
+    }
+    match hex::decode(alloc, digits) {
+        Ok(code) => Ok(Some(code)),
+        Err(fault) => match fault {
+            FromHexError::OutOfMemory => Err(AllocError),
+            _ => Ok(None),
+        },
+    }
+}
+
+/// Whether all bytes are lower case hexadecimal digits.
+fn are_digits(bytes: &[u8]) -> bool
+    ensures { result ≡ list_all is_hex_digit bytes.now }
+{
+    bytes
+        .iter()
+        .all(|byte| matches!(byte, b'0'..=b'9' | b'a'..=b'f'))
+}

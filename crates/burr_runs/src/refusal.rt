@@ -1,0 +1,73 @@
+ghost use Rattle.std.specs.Prelude.{◌≡◌, ◌<◌, ◌==◌, [], ◌∷◌, false, codes, decimal, length, take, IsTrue, MatchOption, OnErr, OnOk, slice_get, slice_index, slice_index_or};
+ghost use Rattle.std.specs.List.{All, slice_split};
+ghost use Rattle.std.specs.Option.{option_map};
+ghost use Rattle.std.specs.Io.KnownBytes.{Appends};
+ghost use Rattle.burr_io.specs.Sink.{TakesFront};
+ghost use Rattle.burr_assembly.specs.PieceNames.{name_at, piece_lines};
+ghost use Rattle.burr_runs.specs.Refusals.{refusal};
+ghost use Rattle.burr_text.specs.Words.{text_line};
+
+use burr_assembly::{AssemblyFault, piece_name};
+use burr_io::{Sink, WriteFault, put_words};
+use itoa::Buffer;
+
+/// Puts the line of a text's fault, as `refused A4 line 7`, or `refused A8 line 7 A B` with the
+/// names of the pieces, which are found in the text. Want of memory is no fault of a text: of it
+/// nothing is put.
+pub fn put_refusal<W: Sink>(
+    text: &[u8],
+    fault: AssemblyFault,
+    sink: &mut W,
+) -> Result<(), WriteFault>
+    ensures ok { OnOk result (Appends (W.taken sink.old) (W.taken sink.new) (refusal text.now fault)) }
+    ensures err { OnErr result (TakesFront (W.taken sink.old) (W.taken sink.new) (refusal text.now fault)) }
+    ensures fails { OnErr result (IsTrue (W.has_failed sink.new)) }
+{
+    match fault {
+        AssemblyFault::A1 { line } => put_fault(b"A1", line, sink),
+        AssemblyFault::A2 { line } => put_fault(b"A2", line, sink),
+        AssemblyFault::A3 { line } => put_fault(b"A3", line, sink),
+        AssemblyFault::A4 { line } => put_fault(b"A4", line, sink),
+        AssemblyFault::A5 { line } => put_fault(b"A5", line, sink),
+        AssemblyFault::A6 { line } => put_fault(b"A6", line, sink),
+        AssemblyFault::A7 { line } => put_fault(b"A7", line, sink),
+        AssemblyFault::A8 {
+            line,
+            earlier,
+            piece,
+        } => put_clash(
+            line,
+            piece_name(text, earlier),
+            piece_name(text, piece),
+            sink,
+        ),
+        AssemblyFault::Memory => Ok(()),
+    }
+}
+
+/// Puts a line with a rule and the line that breaks it.
+fn put_fault<W: Sink>(rule: &[u8], line: usize, sink: &mut W) -> Result<(), WriteFault>
+    ensures ok { OnOk result (Appends (W.taken sink.old) (W.taken sink.new) (text_line (codes "refused" ∷ rule.now ∷ codes "line" ∷ decimal line ∷ []))) }
+    ensures err { OnErr result (TakesFront (W.taken sink.old) (W.taken sink.new) (text_line (codes "refused" ∷ rule.now ∷ codes "line" ∷ decimal line ∷ []))) }
+    ensures fails { OnErr result (IsTrue (W.has_failed sink.new)) }
+{
+    let mut buffer = Buffer::new();
+    let line = buffer.format(line).as_bytes();
+    put_words(&[b"refused", rule, b"line", line], sink)
+}
+
+/// Puts a line with the names of two pieces of which the second shares a cell with the first.
+fn put_clash<W: Sink>(
+    line: usize,
+    first: &[u8],
+    second: &[u8],
+    sink: &mut W,
+) -> Result<(), WriteFault>
+    ensures ok { OnOk result (Appends (W.taken sink.old) (W.taken sink.new) (text_line (codes "refused" ∷ codes "A8" ∷ codes "line" ∷ decimal line ∷ first.now ∷ second.now ∷ []))) }
+    ensures err { OnErr result (TakesFront (W.taken sink.old) (W.taken sink.new) (text_line (codes "refused" ∷ codes "A8" ∷ codes "line" ∷ decimal line ∷ first.now ∷ second.now ∷ []))) }
+    ensures fails { OnErr result (IsTrue (W.has_failed sink.new)) }
+{
+    let mut buffer = Buffer::new();
+    let line = buffer.format(line).as_bytes();
+    put_words(&[b"refused", b"A8", b"line", line, first, second], sink)
+}

@@ -1,0 +1,111 @@
+ghost use Rattle.std.specs.Prelude.{◌≡◌, ◌≢◌, ◌≤◌, length, IfErr, IfOk, OnErr, OnOk, IsTrue, codes};
+ghost use Rattle.std.specs.Io.KnownBytes.{Appends};
+ghost use Rattle.burr_io.specs.Sink.{TakesFront};
+ghost use Rattle.burr_runs.specs.declared.outcome.Outcome.TheVariants.{Refused};
+ghost use Rattle.burr_runs.specs.declared.fault.BenchFault.TheVariants.{Write};
+ghost use Rattle.burr_runs.specs.Refusals.{refusal};
+ghost use Rattle.burr_runs.specs.Output.{IsOutput, IsTextOutput};
+ghost use Rattle.burr_bench.specs.declared.checked.TheConstants.{MOST_CODE};
+ghost use Rattle.burr_runs.specs.BenchText.{PutsOutput, OutputFails, Succeeds, Fails};
+
+use crate::fault::BenchFault;
+use crate::input::parse_input;
+use crate::outcome::Outcome;
+use crate::reading::read_whole;
+use crate::refusal::put_refusal;
+use crate::running::run_bare;
+use burr_assembly::{Assembly, AssemblyFault};
+use burr_io::{Sink, Source, WriteFault, put_all};
+use std::alloc::Global;
+
+/// Reads an assembly's text and behind it a last line `code` with 1 to 4,096 bytes as lower case
+/// hexadecimal digits, runs this bare code on the bench, without answers and with a budget of
+/// 1,000,000 steps, and writes the run's sheet. Another last line is answered by `refused input`,
+/// and a faulty text by its first fault's line.
+///
+/// Nothing is written before the source has ended. `Read` comes where a call of the source failed,
+/// `TooLong` where it gave more than 16,777,216 bytes, `Write` where a call of the sink failed, and
+/// `Memory` where a request for memory was refused.
+pub fn bench_text<R: Source, W: Sink>(
+    alloc: Global,
+    source: &mut R,
+    sink: &mut W,
+) -> Result<Outcome, BenchFault>
+    ensures ok { IfOk result (λ outcome. Succeeds (record {
+      left_old = R.left source.old;
+      left_new = R.left source.new;
+      read_failed = R.has_failed source.new;
+      taken_old = W.taken sink.old;
+      taken_new = W.taken sink.new;
+      write_failed = W.has_failed sink.new;
+    }) outcome) }
+    ensures err { IfErr result (λ fault. Fails (record {
+      left_old = R.left source.old;
+      left_new = R.left source.new;
+      read_failed = R.has_failed source.new;
+      taken_old = W.taken sink.old;
+      taken_new = W.taken sink.new;
+      write_failed = W.has_failed sink.new;
+    }) fault) }
+    ensures untouched { IfErr result (λ fault. fault ≢ Write → sink.new ≡ sink.old) }
+{
+    let input = read_whole(alloc, source)?;
+    write_output(alloc, &input, sink)
+}
+
+/// Writes what is due for a whole input.
+fn write_output<W: Sink>(alloc: Global, input: &[u8], sink: &mut W) -> Result<Outcome, BenchFault>
+    ensures ok { IfOk result (λ outcome. PutsOutput (IsOutput input.now) (W.taken sink.old) (W.taken sink.new) outcome) }
+    ensures err { IfErr result (λ fault. OutputFails (IsOutput input.now) (W.taken sink.old) (W.taken sink.new) (W.has_failed sink.new) fault) }
+    ensures untouched { IfErr result (λ fault. fault ≢ Write → sink.new ≡ sink.old) }
+{
+    match parse_input(alloc, input)? {
+        Some((text, code)) => write_text_output(alloc, text, &code, sink),
+        None => Ok(refuse_input(sink)?),
+    }
+}
+
+/// Writes what is due for an assembly's text with code behind it.
+fn write_text_output<W: Sink>(
+    alloc: Global,
+    text: &[u8],
+    code: &[u8],
+    sink: &mut W,
+) -> Result<Outcome, BenchFault>
+    requires { length code.now ≤ MOST_CODE }
+    ensures ok { IfOk result (λ outcome. PutsOutput (IsTextOutput text.now code.now) (W.taken sink.old) (W.taken sink.new) outcome) }
+    ensures err { IfErr result (λ fault. OutputFails (IsTextOutput text.now code.now) (W.taken sink.old) (W.taken sink.new) (W.has_failed sink.new) fault) }
+    ensures untouched { IfErr result (λ fault. fault ≢ Write → sink.new ≡ sink.old) }
+{
+    match Assembly::read(alloc, text) {
+        Ok(assembly) => Ok(run_bare(&assembly, code, sink)?),
+        Err(AssemblyFault::Memory) => Err(BenchFault::Memory),
+        Err(fault) => Ok(refuse_text(text, fault, sink)?),
+    }
+}
+
+/// Refuses an input whose text has a fault.
+fn refuse_text<W: Sink>(
+    text: &[u8],
+    fault: AssemblyFault,
+    sink: &mut W,
+) -> Result<Outcome, WriteFault>
+    ensures ok { OnOk result (Appends (W.taken sink.old) (W.taken sink.new) (refusal text.now fault)) }
+    ensures refused { IfOk result (λ outcome. outcome ≡ Refused) }
+    ensures err { OnErr result (TakesFront (W.taken sink.old) (W.taken sink.new) (refusal text.now fault)) }
+    ensures fails { OnErr result (IsTrue (W.has_failed sink.new)) }
+{
+    put_refusal(text, fault, sink)?;
+    Ok(Outcome::Refused)
+}
+
+/// Refuses an input whose last line is none with code.
+fn refuse_input<W: Sink>(sink: &mut W) -> Result<Outcome, WriteFault>
+    ensures ok { OnOk result (Appends (W.taken sink.old) (W.taken sink.new) (codes "refused input\n")) }
+    ensures refused { IfOk result (λ outcome. outcome ≡ Refused) }
+    ensures err { OnErr result (TakesFront (W.taken sink.old) (W.taken sink.new) (codes "refused input\n")) }
+    ensures fails { OnErr result (IsTrue (W.has_failed sink.new)) }
+{
+    put_all(b"refused input\n", sink)?;
+    Ok(Outcome::Refused)
+}

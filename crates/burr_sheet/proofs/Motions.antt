@@ -1,0 +1,141 @@
+-- What a motion closes of what is to come.
+use Rattle.std.proofs.Common.{◌≡◌, ℕ, suc, ◌+◌, List, [], ◌∷◌, ◌++◌, true, false, Option, Some, None, codes, refl, sym, ap, ◌∙◌, arith, append_assoc}
+use Rattle.std.proofs.KnownBytes.{Appends-nil, Appends-trans}
+use Rattle.std.specs.Io.KnownBytes.{Appends}
+use Rattle.burr_io.specs.Sink.{TakesFront}
+use Rattle.burr_bench.specs.declared.motion.Motion.{Motion}
+use Rattle.burr_bench.specs.declared.closing.Closing.{Closing}
+use Rattle.burr_sheet.specs.SheetText.{MoveLine, alone, with_motion, longest_lines, levels_from, move_line, move_lines, levels_word, closing_line}
+use Rattle.burr_text.specs.Words.{text_line}
+use Rattle.burr_sheet.specs.SheetUnderWay.{UnderWay, is_one, with_growing, to_come, PutsBefore, PutsMotion, PutsFront}
+use Rattle.burr_sheet.proofs.GrowingLines.{with_growing-other, with_growing-fresh, with_growing-longer, with_growing-ended}
+
+-- a line is closed
+abbrev pub with_line : UnderWay → UnderWay
+with_line u = record u { growing = None; lines = u.lines + 1; level = u.level + 1 }
+
+-- a line is closed by an aside
+abbrev pub with_out : UnderWay → UnderWay
+with_out u = record u { growing = None; lines = u.lines + 1; level = 0; levels = u.levels ++ (u.level + 1) ∷ [] }
+
+levels_from-line : (n : ℕ) (l : MoveLine) (ls : List MoveLine) → l.out ≡ false → levels_from n (l ∷ ls) ≡ levels_from (n + 1) ls
+levels_from-line n l ls goes = rw goes
+
+levels_from-out : (n : ℕ) (l : MoveLine) (ls : List MoveLine) → l.out ≡ true → levels_from n (l ∷ ls) ≡ (n + 1) ∷ levels_from 0 ls
+levels_from-out n l ls out = rw out
+
+-- what is to come of these lines
+abbrev come : UnderWay → List MoveLine → ℕ → Closing → List ℕ
+come u lines steps closing =
+    move_lines u.names (u.lines + 1) lines ++ text_line (codes "levels" ∷ levels_word (u.levels ++ levels_from u.level lines) ∷ []) ++ closing_line closing steps
+
+regroup : (a b c d e f : List ℕ) → b ≡ c → d ≡ e → ((a ++ b) ++ d) ++ f ≡ a ++ ((c ++ e) ++ f)
+regroup a b c d e f same too = rw (same, too) (simp append_assoc)
+
+-- the levels' line of these levels
+abbrev levels_line : List ℕ → List ℕ
+levels_line levels = text_line (codes "levels" ∷ levels_word levels ∷ [])
+
+-- the first line, and what is to come behind it
+module _ (u : UnderWay) (lines : List MoveLine) (l : MoveLine) (ls : List MoveLine) (parts : with_growing u.growing lines ≡ l ∷ ls) (steps : ℕ) (closing : Closing) where
+  numbered : move_lines u.names (suc (u.lines + 1)) ls ≡ move_lines u.names ((u.lines + 1) + 1) ls
+  numbered = let same : suc (u.lines + 1) ≡ (u.lines + 1) + 1 = omega arith in ap (λ n. move_lines u.names n ls) same
+
+  pub to_come-line : l.out ≡ false → to_come u lines steps closing ≡ move_line u.names (u.lines + 1) l ++ to_come (with_line u) ls steps closing
+  to_come-line goes =
+      ap (λ xs. come u xs steps closing) parts
+      ∙ regroup (move_line u.names (u.lines + 1) l) _ _ _ _ (closing_line closing steps) numbered (ap (λ ns. levels_line (u.levels ++ ns)) (levels_from-line u.level l ls goes))
+
+  pub to_come-out : l.out ≡ true → to_come u lines steps closing ≡ move_line u.names (u.lines + 1) l ++ to_come (with_out u) ls steps closing
+  to_come-out out =
+      ap (λ xs. come u xs steps closing) parts
+      ∙ regroup (move_line u.names (u.lines + 1) l) _ _ _ _ (closing_line closing steps) numbered
+      (ap levels_line (ap (λ ns. u.levels ++ ns) (levels_from-out u.level l ls out) ∙ sym (append_assoc u.levels ((u.level + 1) ∷ []) (levels_from 0 ls))))
+
+-- the same lines are to come with another growing line
+to_come-same : (u : UnderWay) (growing : Option MoveLine) (lines others : List MoveLine) → with_growing u.growing lines ≡ with_growing growing others → (steps : ℕ) (closing : Closing)
+    → to_come u lines steps closing ≡ to_come (record u { growing = growing }) others steps closing
+to_come-same u growing lines others same steps closing = ap (λ xs. come u xs steps closing) same
+
+-- The line that a motion goes on
+
+-- it is the first, or the first behind an aside
+pub PutsBefore-fresh : (taken : Option (List ℕ)) (u : UnderWay) (m : Motion) (g : MoveLine) → u.growing ≡ None → is_one g (alone m) ≡ true → g.units ≡ 0
+    → PutsBefore taken taken u m (record u { growing = Some g })
+PutsBefore-fresh taken u m g is one none = (
+  [],
+  Appends-nil taken,
+  λ lines steps closing.
+      to_come-same u (Some g) (with_motion m lines) (with_motion m lines) (ap (λ growing. with_growing growing (with_motion m lines)) is ∙ sym (with_growing-fresh g m lines one none)) steps closing,
+)
+
+-- the growing line is another
+module _ (old : Option (List ℕ)) (u : UnderWay) (m : Motion) (l : MoveLine) (is : u.growing ≡ Some l) (goes : l.out ≡ false) (other : is_one l (alone m) ≡ false) where
+  first : (lines : List MoveLine) (steps : ℕ) (closing : Closing) → to_come u (with_motion m lines) steps closing ≡ move_line u.names (u.lines + 1) l ++ to_come (with_line u) (with_motion m lines) steps closing
+  first lines steps closing =
+      to_come-line u (with_motion m lines) l (with_motion m lines) (ap (λ growing. with_growing growing (with_motion m lines)) is ∙ with_growing-other l m lines other) steps closing goes
+
+  pub PutsBefore-other : (new : Option (List ℕ)) (g : MoveLine) → Appends old new (move_line u.names (u.lines + 1) l) → is_one g (alone m) ≡ true → g.units ≡ 0
+      → PutsBefore old new u m (record (with_line u) { growing = Some g })
+  PutsBefore-other new g went one none = (
+    move_line u.names (u.lines + 1) l,
+    went,
+    λ lines steps closing.
+        first lines steps closing
+        ∙ ap (λ t. move_line u.names (u.lines + 1) l ++ t)
+        (to_come-same (with_line u) (Some g) (with_motion m lines) (with_motion m lines) (sym (with_growing-fresh g m lines one none)) steps closing),
+  )
+
+  pub PutsFront-other : (new : Option (List ℕ)) → TakesFront old new (move_line u.names (u.lines + 1) l) → PutsFront old new u m
+  PutsFront-other new short = (
+    short.0,
+    short.3,
+    λ ms steps closing. (
+      short.1 ++ to_come (with_line u) (with_motion m (longest_lines ms)) steps closing,
+      first (longest_lines ms) steps closing ∙ ap (λ t. t ++ to_come (with_line u) (with_motion m (longest_lines ms)) steps closing) short.2
+          ∙ append_assoc short.0 short.1 (to_come (with_line u) (with_motion m (longest_lines ms)) steps closing),
+    ),
+  )
+
+-- What the motion does to it
+
+module _ (old mid : Option (List ℕ)) (u v : UnderWay) (m : Motion) (g : MoveLine) (before : PutsBefore old mid u m v) (is : v.growing ≡ Some g) (one : is_one g (alone m) ≡ true) where
+  -- a step makes it longer
+  pub PutsMotion-step : m.out ≡ false → g.out ≡ false → PutsMotion old mid u m (record v { growing = Some (record g { units = g.units + 1 }) })
+  PutsMotion-step step goes = (
+    before.0,
+    before.1,
+    λ ms steps closing.
+        before.2 (longest_lines ms) steps closing
+        ∙ ap (λ t. before.0 ++ t)
+        (to_come-same v (Some (record g { units = g.units + 1 })) (with_motion m (longest_lines ms)) (longest_lines ms)
+        (ap (λ growing. with_growing growing (with_motion m (longest_lines ms))) is ∙ with_growing-longer g m (longest_lines ms) one step goes) steps closing),
+  )
+
+  closes : m.out ≡ true → (lines : List MoveLine) (steps : ℕ) (closing : Closing)
+      → to_come v (with_motion m lines) steps closing ≡ move_line v.names (v.lines + 1) (record g { out = true }) ++ to_come (with_out v) lines steps closing
+  closes out lines steps closing =
+      to_come-out v (with_motion m lines) (record g { out = true }) lines (ap (λ growing. with_growing growing (with_motion m lines)) is ∙ with_growing-ended g m lines one out) steps closing refl
+
+  -- an aside closes it
+  pub PutsMotion-out : (new : Option (List ℕ)) → m.out ≡ true → Appends mid new (move_line v.names (v.lines + 1) (record g { out = true })) → PutsMotion old new u m (with_out v)
+  PutsMotion-out new out went = (
+    before.0 ++ move_line v.names (v.lines + 1) (record g { out = true }),
+    Appends-trans old mid new before.0 (move_line v.names (v.lines + 1) (record g { out = true })) before.1 went,
+    λ ms steps closing.
+        before.2 (longest_lines ms) steps closing ∙ ap (λ t. before.0 ++ t) (closes out (longest_lines ms) steps closing)
+        ∙ sym (append_assoc before.0 (move_line v.names (v.lines + 1) (record g { out = true })) (to_come (with_out v) (longest_lines ms) steps closing)),
+  )
+
+  -- the sink fails within the line that an aside closes
+  pub PutsFront-out : (new : Option (List ℕ)) → m.out ≡ true → TakesFront mid new (move_line v.names (v.lines + 1) (record g { out = true })) → PutsFront old new u m
+  PutsFront-out new out short = (
+    before.0 ++ short.0,
+    Appends-trans old mid new before.0 short.0 before.1 short.3,
+    λ ms steps closing. (
+      short.1 ++ to_come (with_out v) (longest_lines ms) steps closing,
+      before.2 (longest_lines ms) steps closing ∙ ap (λ t. before.0 ++ t) (closes out (longest_lines ms) steps closing)
+          ∙ ap (λ t. before.0 ++ (t ++ to_come (with_out v) (longest_lines ms) steps closing)) short.2
+          ∙ simp append_assoc,
+    ),
+  )

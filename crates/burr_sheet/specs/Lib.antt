@@ -1,0 +1,4 @@
+pub mod SheetLaws
+pub mod SheetText
+pub mod SheetUnderWay
+pub mod SheetView

@@ -1,0 +1,138 @@
+ghost use Rattle.std.specs.Prelude.{◌≡◌, ◌+◌, ◌<◌, ◌≤◌, [], true, false, Some, length, IfOk, OnOk, OnErr, IsTrue};
+ghost use Rattle.std.specs.Io.KnownBytes.{Appends};
+ghost use Rattle.burr_io.specs.Sink.{TakesFront};
+ghost use Rattle.burr_assembly.specs.Homes.{names_of};
+ghost use Rattle.burr_sheet.specs.SheetText.{alone};
+ghost use Rattle.burr_sheet.specs.SheetUnderWay.{blank, still, outs_of, growing_text, move_line_of, is_one, PutsBefore, PutsMotion, PutsFront};
+
+mod ending;
+mod line;
+
+use crate::sheet::ending::{put_closing, put_levels};
+use crate::sheet::line::{GrowingLine, put_line};
+use arrayvec::ArrayVec;
+use burr_assembly::Assembly;
+use burr_bench::{Closing, Motion};
+use burr_io::{Sink, WriteFault};
+use std::marker::Model;
+
+/// The most outs of a run: each makes one group of pieces two, and there are at most 32 pieces.
+const MOST_OUTS: usize = 31;
+
+/// The sheet of a run, written as its motions come. It keeps nothing but the growing line and counts.
+#[derive(Debug, Drop)]
+pub struct Sheet<'a> {
+    assembly: &'a Assembly,
+    /// The line that the next motion may go on.
+    growing: Option<GrowingLine>,
+    /// The lines that are closed.
+    lines: u32,
+    /// The lines that are closed since the last out.
+    level: u32,
+    /// For each out, the number of lines since the out before it, its own line included.
+    levels: ArrayVec<u32, MOST_OUTS>,
+    /// The motions so far.
+    motions: u32,
+}
+
+impl<'a> Model for Sheet<'a> {
+    ghost use Rattle.burr_sheet.specs.SheetUnderWay.{UnderWay, IsCounted};
+
+    ghost Value = { UnderWay };
+
+    ghost use Rattle.burr_sheet.specs.SheetView.{under_way};
+
+    ghost view = { under_way };
+
+    ghost invariant = { λ s. IsCounted (under_way s) };
+}
+
+impl<'a> Sheet<'a> {
+    /// The sheet of a run that has made no motion.
+    pub fn new(assembly: &'a Assembly) -> Sheet<'a>
+        ensures { result ≡ blank (names_of assembly.now) }
+    {
+        Sheet {
+            assembly,
+            growing: None,
+            lines: 0,
+            level: 0,
+            levels: ArrayVec::new(),
+            motions: 0,
+        }
+    }
+
+    /// Takes the next motion, and puts the lines that it closes.
+    pub fn motion<W: Sink>(&mut self, motion: Motion, sink: &mut W) -> Result<(), WriteFault>
+        requires few { self.old.motions < 1000000 }
+        requires outs { length self.old.levels + outs_of motion ≤ 31 }
+        ensures ok { OnOk result (PutsMotion (W.taken sink.old) (W.taken sink.new) self.old motion self.new) }
+        ensures counts { OnOk result ((self.new.motions ≡ self.old.motions + 1) × (length self.new.levels ≡ length self.old.levels + outs_of motion)) }
+        ensures err { OnErr result (PutsFront (W.taken sink.old) (W.taken sink.new) self.old motion) }
+        ensures fails { OnErr result (IsTrue (W.has_failed sink.new)) }
+    {
+        let line = self.line_for(motion, sink)?;
+        if motion.out {
+            put_line(self.assembly, self.lines + 1, line, true, sink)?;
+            self.levels.push(self.level + 1);
+            self.growing = None;
+            self.lines += 1;
+            self.level = 0;
+        } else {
+            self.growing = Some(line.with_step());
+        }
+        self.motions += 1;
+        Ok(())
+    }
+
+    /// The line that a motion goes on: the growing one, where group, tray and direction are equal;
+    /// else a new one, and the growing one is put.
+    fn line_for<W: Sink>(&mut self, motion: Motion, sink: &mut W) -> Result<GrowingLine, WriteFault>
+        ensures one { IfOk result (λ line. is_one (move_line_of line false) (alone motion) ≡ true) }
+        ensures ok { IfOk result (λ line. PutsBefore (W.taken sink.old) (W.taken sink.new) self.old motion (record self.new { growing = Some (move_line_of line false) })) }
+        ensures units { IfOk result (λ line. line.units ≤ self.old.motions) }
+        ensures counts { OnOk result ((self.new.motions ≡ self.old.motions) × (self.new.levels ≡ self.old.levels)) }
+        ensures err { OnErr result (PutsFront (W.taken sink.old) (W.taken sink.new) self.old motion) }
+        ensures fails { OnErr result (IsTrue (W.has_failed sink.new)) }
+    {
+        let Some(line) = self.growing else {
+            return Ok(GrowingLine::before(motion));
+        };
+        if line.is_of(motion) {
+            return Ok(line);
+        }
+        put_line(self.assembly, self.lines + 1, line, false, sink)?;
+        self.growing = None;
+        self.lines += 1;
+        self.level += 1;
+        Ok(GrowingLine::before(motion))
+    }
+
+    /// Closes the sheet: puts the growing line, the levels and how the run closed.
+    pub fn close<W: Sink>(
+        self,
+        closing: Closing,
+        steps: u64,
+        sink: &mut W,
+    ) -> Result<(), WriteFault>
+        ensures ok { OnOk result (Appends (W.taken sink.old) (W.taken sink.new) (still self.entry [] steps closing)) }
+        ensures err { OnErr result (TakesFront (W.taken sink.old) (W.taken sink.new) (still self.entry [] steps closing)) }
+        ensures fails { OnErr result (IsTrue (W.has_failed sink.new)) }
+    {
+        self.put_growing(sink)?;
+        put_levels(self.levels.as_slice(), sink)?;
+        put_closing(closing, steps, sink)
+    }
+
+    /// Puts the growing line, if there is one.
+    fn put_growing<W: Sink>(&self, sink: &mut W) -> Result<(), WriteFault>
+        ensures ok { OnOk result (Appends (W.taken sink.old) (W.taken sink.new) (growing_text self.now)) }
+        ensures err { OnErr result (TakesFront (W.taken sink.old) (W.taken sink.new) (growing_text self.now)) }
+        ensures fails { OnErr result (IsTrue (W.has_failed sink.new)) }
+    {
+        match self.growing {
+            Some(line) => put_line(self.assembly, self.lines + 1, line, false, sink),
+            None => Ok(()),
+        }
+    }
+}
