@@ -1,5 +1,5 @@
 -- The names of an assembly's pieces, and their cells at home.
-use Rattle.std.specs.Prelude.{◌≡◌, ℕ, Some, slice_get, List, [], ◌∷◌, map, if◌then◌else◌, bytes_eq}
+use Rattle.std.specs.Prelude.{◌≡◌, ℕ, Some, slice_get, slice_index_or, List, [], ◌∷◌, map, if◌then◌else◌, bytes_eq}
 use Rattle.burr_voxels.specs.declared.cell.Cell.{Cell}
 use Rattle.burr_assembly.specs.Text.{HasCells, Assembly, Drawing, Piece, home_cells, drawn_cells}
 
@@ -14,6 +14,10 @@ homes_of a = map (home_of a.shapes) a.pieces
 -- the home cells of piece p
 abbrev pub HasHome : List (List Cell) → ℕ → List Cell → Type 0
 HasHome homes p cells = slice_get homes p ≡ Some cells
+
+-- the same as a function of the homes: no cells where there is no such piece
+abbrev pub home_at : List (List Cell) → ℕ → List Cell
+home_at homes p = slice_index_or homes p []
 
 abbrev pub names_of : Assembly → List (List ℕ)
 names_of a = map (λ (p : Piece). p.name) a.pieces

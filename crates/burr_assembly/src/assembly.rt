@@ -3,13 +3,14 @@ ghost use Rattle.std.specs.List.{All};
 ghost use Rattle.burr_voxels.specs.Near.{IsWithin};
 ghost use Rattle.burr_assembly.specs.Text.{IsText, IsAssembly, HasCells, text_of};
 ghost use Rattle.burr_assembly.specs.Faults.{FirstFault};
+ghost use Rattle.burr_assembly.specs.Homes.{HasHome, homes_of};
 ghost use Rattle.burr_assembly.specs.FrontViews.{pieces_of, IsDue, AreAtHome};
 
 use crate::fault::AssemblyFault;
-use burr_text::Name;
 use crate::piece::Piece;
 use crate::shape::DrawnShape;
 use crate::text::{read_text, write_text};
+use burr_text::Name;
 use burr_voxels::Cell;
 use std::alloc::{AllocError, Global};
 use std::marker::Model;
@@ -100,6 +101,7 @@ impl Assembly {
     pub fn cells(&self, piece: u8) -> &[Cell]
         requires { piece < length self.now.pieces }
         ensures cells { IfSome (slice_get self.now.pieces piece) (λ p. HasCells self.now.shapes p result.now) }
+        ensures home { HasHome (homes_of self.now) piece result.now }
         ensures near { All (IsWithin 79) result.now }
     {
         self.pieces[usize::from(piece)].cells()

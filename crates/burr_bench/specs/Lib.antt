@@ -1,6 +1,7 @@
 pub mod Bench
 pub mod BenchViews
 pub mod Control
+pub mod Freedom
 pub mod Next
 pub mod Numbers
 pub mod Offsets
@@ -10,5 +11,6 @@ pub mod Run
 pub mod RunLaws
 pub mod Space
 pub mod Spots
+pub mod StateViews
 pub mod Step
 pub mod TrapNames

@@ -1,36 +1,18 @@
-mod conditions;
+mod freedom;
 mod readers;
 mod stepping;
 
-use crate::mode::Mode;
-use crate::placement::Placement;
-use arrayvec::ArrayVec;
-use burr_assembly::Assembly;
+use crate::state::BenchState;
+use burr_blocking::PlainCells;
 use std::marker::Model;
 
-/// The most pieces of an assembly, and as many trays.
-const MOST_PIECES: usize = 32;
-
-/// The most bytes of a procedure's code.
-pub const MOST_CODE: usize = 4096;
-
-/// The bench at work on bare code: one procedure without labels. It is plain: it compares lists of
-/// cells, so that it can serve as the measure of every faster one.
+/// The bench at work on bare code: one procedure without labels. Whether pieces meet is asked of
+/// the assembly's cells.
 #[derive(Debug, Drop)]
 pub struct Checked<'a> {
-    assembly: &'a Assembly,
     code: &'a [u8],
-    /// Where each piece is.
-    places: ArrayVec<Placement, MOST_PIECES>,
-    /// The current tray.
-    tray: u8,
-    /// The pieces of the current tray that are gripped: bit p is piece p.
-    grip: u32,
-    /// Where the next instruction stands in the code.
-    pc: usize,
-    /// The steps made.
-    steps: u64,
-    mode: Mode,
+    blocking: &'a PlainCells<'a>,
+    state: BenchState,
 }
 
 impl<'a> Model for Checked<'a> {
@@ -38,7 +20,7 @@ impl<'a> Model for Checked<'a> {
 
     ghost Value = { Benched };
 
-    ghost view = { λ b. benched b.assembly.now b.code.now b.places.items b.tray b.grip b.pc b.steps b.mode };
+    ghost view = { λ b. benched b.blocking.now b.code.now b.state };
 
-    ghost invariant = { λ b. IsSound (benched b.assembly.now b.code.now b.places.items b.tray b.grip b.pc b.steps b.mode) };
+    ghost invariant = { λ b. IsSound (benched b.blocking.now b.code.now b.state) };
 }

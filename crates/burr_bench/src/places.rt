@@ -1,15 +1,8 @@
-ghost use Rattle.std.specs.Prelude.{◌≡◌, ◌<◌, ◌≤◌, ◌↔◌, length, IsTrue, IsBitSet};
+ghost use Rattle.std.specs.Prelude.{◌≡◌, ◌≤◌, ◌↔◌, length, IsTrue};
 ghost use Rattle.burr_code.specs.Places.{AllApart, IsEmptyTray, count_in, aside_places, parted, parted_in, changed, to_tray};
 
 use crate::placement::Placement;
-
-/// Whether a piece is in a set of pieces, in which bit p is piece p.
-pub fn has(set: u32, piece: u8) -> bool
-    requires { piece < 32 }
-    ensures { IsTrue result ↔ IsBitSet set piece }
-{
-    set & (1 << piece) != 0
-}
+use burr_code::is_in_set;
 
 /// Whether all pieces are apart.
 pub fn are_all_apart(places: &[Placement]) -> bool
@@ -42,7 +35,7 @@ fn move_group(places: &mut [Placement], group: u32, tray: u8)
     ensures { places.new ≡ changed (to_tray tray) group 0 places.old }
 {
     for (piece, place) in places.iter_mut().enumerate() {
-        if has(group, piece as u8) {
+        if is_in_set(group, piece as u8) {
             *place = place.moved_to(tray);
         }
     }

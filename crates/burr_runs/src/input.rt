@@ -6,7 +6,7 @@ ghost use Rattle.burr_text.specs.Lines.{IsLines};
 ghost use Rattle.burr_runs.specs.Input.{IsCodeLine, IsInput};
 ghost use Rattle.burr_runs.specs.Input.{is_hex_digit};
 
-use burr_bench::MOST_CODE;
+use burr_code::limits::MOST_CODE;
 use hex::FromHexError;
 use std::alloc::{AllocError, Global};
 

@@ -1,7 +1,7 @@
 ghost use Rattle.std.specs.Prelude.{◌≡◌, ◌≢◌, ◌≤◌, [], length, IfOk, OnErr, IsTrue};
 ghost use Rattle.burr_assembly.specs.Text.{IsAssembly};
 ghost use Rattle.burr_bench.specs.declared.mode.Mode.TheVariants.{Running};
-ghost use Rattle.burr_bench.specs.declared.checked.TheConstants.{MOST_CODE};
+ghost use Rattle.burr_code.specs.declared.limits.TheConstants.{MOST_CODE};
 ghost use Rattle.burr_bench.specs.BenchViews.{setup_of};
 ghost use Rattle.burr_runs.specs.Output.{outcome_of};
 ghost use Rattle.burr_runs.specs.Running.{PutsSheet, PutsSheetFront, PutsFrontOfRun, StepOrClose, IsInStep, ClosesPart};
@@ -9,6 +9,7 @@ ghost use Rattle.burr_runs.specs.Running.{PutsSheet, PutsSheetFront, PutsFrontOf
 use crate::outcome::Outcome;
 use burr_assembly::Assembly;
 use burr_bench::{Checked, Closing, Progress};
+use burr_blocking::PlainCells;
 use burr_io::{Sink, WriteFault};
 use burr_sheet::Sheet;
 
@@ -27,7 +28,8 @@ pub fn run_bare<W: Sink>(
     ensures err { OnErr result (PutsSheetFront (W.taken sink.old) (W.taken sink.new) assembly.now code.now) }
     ensures fails { OnErr result (IsTrue (W.has_failed sink.new)) }
 {
-    let mut bench = Checked::start(assembly, code);
+    let cells = PlainCells::new(assembly);
+    let mut bench = Checked::bare(code, &cells);
     let mut sheet = Sheet::new(assembly);
     let closing = run_to_close(&mut bench, &mut sheet, sink)?;
     sheet.close(closing, bench.steps(), sink)?;

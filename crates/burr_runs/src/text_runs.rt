@@ -5,7 +5,7 @@ ghost use Rattle.burr_runs.specs.declared.outcome.Outcome.TheVariants.{Refused};
 ghost use Rattle.burr_runs.specs.declared.fault.BenchFault.TheVariants.{Write};
 ghost use Rattle.burr_runs.specs.Refusals.{refusal};
 ghost use Rattle.burr_runs.specs.Output.{IsOutput, IsTextOutput};
-ghost use Rattle.burr_bench.specs.declared.checked.TheConstants.{MOST_CODE};
+ghost use Rattle.burr_code.specs.declared.limits.TheConstants.{MOST_CODE};
 ghost use Rattle.burr_runs.specs.BenchText.{PutsOutput, OutputFails, Succeeds, Fails};
 
 use crate::fault::BenchFault;

@@ -16,7 +16,6 @@ use Rattle.burr_bench.specs.declared.trap.Trap.{Trap}
 use Rattle.burr_bench.specs.declared.trap.Trap.TheVariants.{Collision, GripOff, NotFree, BadGroup, TrayInUse, MissingOperand, StackFull, EmptySlot, BadJump, BadCode, BadCall, BadCount, NumberRange, OffBench, NotApart, Misplaced, ParamWritten}
 use Rattle.burr_bench.specs.TrapNames.{trap_number, trap_name}
 use Rattle.burr_bench.specs.declared.closing.Closing.{Closing}
-
 use Rattle.burr_sheet.specs.SheetText.{MoveLine, longest_lines, levels_from, names_from, move_line, move_lines, levels_word, closing_line}
 use Rattle.burr_text.specs.Words.{text_line}
 use Rattle.burr_sheet.specs.SheetLaws.{ClosesInOneLine, EndsInClosing}

@@ -11,7 +11,6 @@ use Rattle.burr_bench.specs.TrapNames.{trap_number, trap_name}
 use Rattle.burr_bench.specs.declared.closing.Closing.TheVariants as closings
 use Rattle.burr_bench.specs.declared.closing.Closing.{Closing}
 
-
 -- a line of a sheet: unit steps of one group in one tray along one direction, and whether an aside ends them
 pub record MoveLine : Type 0 where
   pub group : ℕ

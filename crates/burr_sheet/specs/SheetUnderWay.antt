@@ -5,7 +5,6 @@ use Rattle.burr_voxels.specs.Grid.{number_of}
 use Rattle.burr_bench.specs.declared.motion.Motion.{Motion}
 use Rattle.burr_sheet.specs.declared.sheet.line.GrowingLine.{GrowingLine}
 use Rattle.burr_bench.specs.declared.closing.Closing.{Closing}
-
 use Rattle.burr_sheet.specs.SheetText.{MoveLine, with_motion, longest_lines, levels_from, move_lines, levels_word, closing_line}
 use Rattle.burr_text.specs.Words.{text_line}
 

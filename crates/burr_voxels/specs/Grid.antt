@@ -1,5 +1,5 @@
 -- Cells of the cubic grid, by the coordinates of their centres.
-use Rattle.std.specs.Prelude.{◌≡◌, ◌≤◌, ℕ, ℤ, pos, ◌+ℤ◌, neg_ℤ, List, map, ◌∷◌, [], FitsSigned}
+use Rattle.std.specs.Prelude.{◌≡◌, ◌≤◌, ℕ, ℤ, pos, ◌+ℤ◌, ◌-ℤ◌, neg_ℤ, List, map, ◌∷◌, [], FitsSigned}
 use Rattle.std.specs.Int.{w32}
 use Rattle.burr_voxels.specs.declared.cell.Cell.{Cell}
 use Rattle.burr_voxels.specs.declared.direction.Direction.{Direction}
@@ -14,6 +14,9 @@ origin = at (pos 0) (pos 0) (pos 0)
 
 abbrev pub plus : Cell → Cell → Cell
 plus a b = at (a.x +ℤ b.x) (a.y +ℤ b.y) (a.z +ℤ b.z)
+
+abbrev pub minus : Cell → Cell → Cell
+minus a b = at (a.x -ℤ b.x) (a.y -ℤ b.y) (a.z -ℤ b.z)
 
 -- k units along a direction, from the origin
 abbrev pub along : Direction → ℤ → Cell

@@ -1,7 +1,7 @@
 ghost use Rattle.std.specs.Prelude.{◌≡◌, ◌↔◌, ◌+ℤ◌, IsTrue};
 
 use crate::direction::Direction;
-use std::ops::Add;
+use std::ops::{Add, Sub};
 
 /// A cell of the cubic grid, named by the whole coordinates of its centre; also the way from one
 /// cell to another.
@@ -54,6 +54,26 @@ impl Add for Cell {
             x: self.x + other.x,
             y: self.y + other.y,
             z: self.z + other.z,
+        }
+    }
+}
+
+impl Sub for Cell {
+    type Output = Cell;
+
+    ghost use Rattle.burr_voxels.specs.Grid.{minus, FitsCell};
+
+    ghost can_sub = { λ a b. FitsCell (minus a b) };
+
+    ghost sub_gives = { λ a b r. r ≡ minus a b };
+
+    /// The way from the other cell to this one; the coordinates have to fit an `i32`, the caller's
+    /// condition.
+    fn sub(self, other: Cell) -> Cell {
+        Cell {
+            x: self.x - other.x,
+            y: self.y - other.y,
+            z: self.z - other.z,
         }
     }
 }

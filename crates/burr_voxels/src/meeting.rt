@@ -1,4 +1,4 @@
-ghost use Rattle.std.specs.Prelude.{◌≡◌, ◌↔◌, ◌∷◌, [], IsTrue};
+ghost use Rattle.std.specs.Prelude.{◌≡◌, ◌↔◌, ◌∷◌, [], Contains, IsTrue};
 ghost use Rattle.std.specs.List.{All};
 ghost use Rattle.burr_voxels.specs.Grid.{shifted};
 ghost use Rattle.burr_voxels.specs.Near.{IsWithin};
@@ -7,41 +7,51 @@ ghost use Rattle.burr_voxels.specs.CellSets.{Meets, Overlap};
 use crate::cell::Cell;
 use crate::direction::Direction;
 
-/// Whether one of the cells, at an offset, has one of the others, at theirs, ahead of it along a
-/// direction.
-pub fn meets(
-    cells: &[Cell],
-    offset: Cell,
-    others: &[Cell],
-    other_offset: Cell,
-    direction: Direction,
-) -> bool
+/// Whether one of the cells, displaced, has one of the others ahead of it along a direction.
+pub fn meets(cells: &[Cell], displacement: Cell, others: &[Cell], direction: Direction) -> bool
     requires cells { All (IsWithin 79) cells.now }
-    requires offset { IsWithin 256 offset }
-    requires others { All (IsWithin 79) others.now }
-    requires other_offset { IsWithin 256 other_offset }
-    ensures { IsTrue result ↔ Meets (shifted offset cells.now) (shifted other_offset others.now) direction }
+    requires displacement { IsWithin 512 displacement }
+    ensures { IsTrue result ↔ Meets (shifted displacement cells.now) others.now direction }
 {
     for cell in cells {
-        if is_met(*cell + offset, others, other_offset, direction) {
+        if is_met(*cell + displacement, others, direction) {
             return true;
         }
     }
     false
 }
 
-/// Whether one of the cells, at an offset, lies ahead of a cell along a direction.
-fn is_met(from: Cell, cells: &[Cell], offset: Cell, direction: Direction) -> bool
-    requires cells { All (IsWithin 79) cells.now }
-    requires offset { IsWithin 256 offset }
-    ensures { IsTrue result ↔ Meets (from ∷ []) (shifted offset cells.now) direction }
+/// Whether one of the cells lies ahead of a cell along a direction.
+fn is_met(from: Cell, cells: &[Cell], direction: Direction) -> bool
+    ensures { IsTrue result ↔ Meets (from ∷ []) cells.now direction }
 {
     for cell in cells {
-        if (*cell + offset).is_ahead_of(from, direction) {
+        if cell.is_ahead_of(from, direction) {
             return true;
         }
     }
     false
+}
+
+/// Whether one of the cells, displaced, is one of the others.
+pub fn overlap_at(cells: &[Cell], displacement: Cell, others: &[Cell]) -> bool
+    requires cells { All (IsWithin 79) cells.now }
+    requires displacement { IsWithin 512 displacement }
+    ensures { IsTrue result ↔ Overlap (shifted displacement cells.now) others.now }
+{
+    for cell in cells {
+        if has_cell(others, *cell + displacement) {
+            return true;
+        }
+    }
+    false
+}
+
+/// Whether a cell is in the list.
+fn has_cell(cells: &[Cell], cell: Cell) -> bool
+    ensures { IsTrue result ↔ Contains cells.now cell }
+{
+    cells.contains(&cell)
 }
 
 /// Whether a cell is in both lists.

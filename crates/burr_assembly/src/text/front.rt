@@ -7,12 +7,12 @@ ghost use Rattle.burr_assembly.specs.Readers.{front_of, assembly_of, IsReady, Is
 
 use crate::assembly::FEWEST_PIECES;
 use crate::fault::AssemblyFault;
-use burr_text::{Name, is_name};
 use crate::piece::Piece;
 use crate::shape::DrawnShape;
 use crate::text::header::Header;
 use crate::text::line::{Line, PieceLine};
 use crate::text::sketch::Sketch;
+use burr_text::{Name, is_name};
 use std::alloc::Global;
 
 /// The parts of an assembly: its name, its shapes and its pieces.

@@ -8,12 +8,12 @@ ghost use Rattle.burr_assembly.specs.FrontViews.{sketched, pieces_of, IsDue, IsS
 
 use crate::assembly::MOST_PIECES;
 use crate::fault::AssemblyFault;
-use burr_text::{Name, is_name};
 use crate::piece::{Piece, home_cells};
 use crate::shape::DrawnShape;
 use crate::text::line::PieceLine;
 use crate::text::sketch::Sketch;
 use crate::text::words::position;
+use burr_text::{Name, is_name};
 use burr_voxels::{Cell, Orientation, overlap};
 use std::alloc::Global;
 

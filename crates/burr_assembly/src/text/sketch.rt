@@ -5,8 +5,8 @@ ghost use Rattle.burr_assembly.specs.FrontViews.{sketched, SketchGives, IsDue};
 
 use crate::drawing::{Layer, Row, SIDE, cells_of};
 use crate::fault::AssemblyFault;
-use burr_text::Name;
 use crate::shape::DrawnShape;
+use burr_text::Name;
 use burr_voxels::{Cell, Cells, Shape};
 use std::alloc::Global;
 use std::marker::Model;

@@ -4,9 +4,9 @@ ghost use Rattle.burr_assembly.specs.Text.{text_of, shape_text, layer_text, piec
 ghost use Rattle.burr_assembly.specs.FrontViews.{pieces_of};
 
 use crate::drawing::Layer;
-use burr_text::Name;
 use crate::piece::Piece;
 use crate::shape::DrawnShape;
+use burr_text::Name;
 use itoa::Buffer;
 use std::alloc::{AllocError, Global};
 

@@ -4,10 +4,9 @@ ghost use Rattle.burr_bench.specs.declared.mode.Mode.TheVariants.{Running};
 ghost use Rattle.burr_bench.specs.Step.{NextIs, CallIn, Called};
 ghost use Rattle.burr_bench.specs.BenchViews.{setup_of, next_of, motion_in, motion_made, Follows, GoesOn};
 
+use crate::checked::Checked;
 use crate::mode::Mode;
 use crate::motion::Motion;
-use crate::places::{are_all_apart, take_aside};
-use crate::checked::Checked;
 use crate::progress::Progress;
 use crate::trap::Trap;
 use burr_code::{Instr, fetch};
@@ -21,7 +20,7 @@ impl Checked<'_> {
         ensures called { Called (setup_of self.old) self.old.state answer result self.new.state }
         ensures goes_on { OnOk result (GoesOn self.old self.new (motion_in result)) }
     {
-        match (self.mode, answer) {
+        match (self.state.mode(), answer) {
             (Mode::Running, None) => self.go_on(),
             // No instruction that is built asks, so each answer is passed over.
             (Mode::Running, Some(_)) => Ok(Progress::Again),
@@ -38,7 +37,7 @@ impl Checked<'_> {
         match self.carry_out() {
             Ok(motion) => Ok(Progress::Went(motion)),
             Err(trap) => {
-                self.mode = Mode::Trapped(trap);
+                self.state.trap(trap);
                 Err(trap)
             }
         }
@@ -50,13 +49,11 @@ impl Checked<'_> {
         ensures trapped { OnErr result (self.new ≡ self.old) }
         ensures goes_on { OnOk result (GoesOn self.old self.new (motion_made result)) }
     {
-        match fetch(self.code, self.pc) {
+        match fetch(self.code, self.state.pc()) {
             None => Err(Trap::BadCode),
             Some((Instr::Halt, _)) => self.halt(),
-            Some((Instr::Grip(set), size)) => self.grip(set, self.pc + size),
-            Some((Instr::Aside(direction, tray), size)) => {
-                self.aside(direction, tray, self.pc + size)
-            }
+            Some((Instr::Grip(set), size)) => self.make_grip(set, size),
+            Some((Instr::Aside(direction, tray), size)) => self.aside(direction, tray, size),
         }
     }
 
@@ -66,59 +63,53 @@ impl Checked<'_> {
         ensures trapped { OnErr result (self.new ≡ self.old) }
         ensures goes_on { OnOk result (GoesOn self.old self.new (motion_made result)) }
     {
-        if !are_all_apart(self.places.as_slice()) {
+        if !self.state.are_all_apart() {
             return Err(Trap::NotApart);
         }
-        self.mode = Mode::Ended;
-        self.steps = self.steps.saturating_add(1);
+        self.state.end();
         Ok(None)
     }
 
     /// `grip`: the grip becomes a set of pieces of the current tray.
-    fn grip(&mut self, set: u32, next: usize) -> Result<Option<Motion>, Trap>
-        requires within { next ≤ length self.old.code }
-        requires next { next ≡ self.old.state.running.pc + length (spelled (Grip set)) }
+    fn make_grip(&mut self, set: u32, size: usize) -> Result<Option<Motion>, Trap>
+        requires within { self.old.state.running.pc + size ≤ length self.old.code }
+        requires size { size ≡ length (spelled (Grip set)) }
         ensures follows { Follows self.old self.new (Grip set) result }
         ensures trapped { OnErr result (self.new ≡ self.old) }
         ensures goes_on { OnOk result (GoesOn self.old self.new (motion_made result)) }
     {
-        if !self.all_lie_here(set) {
+        if !self.state.all_lie_here(set) {
             return Err(Trap::GripOff);
         }
-        self.grip = set;
-        self.pc = next;
-        self.steps = self.steps.saturating_add(1);
+        self.state.make_grip(set, size);
         Ok(None)
     }
 
-    /// `aside`: takes the grip out along a direction, to an empty tray, where no cell of the rest of
-    /// the current tray lies ahead of one of the grip's. A group of one piece is apart.
-    fn aside(&mut self, direction: Direction, tray: u8, next: usize) -> Result<Option<Motion>, Trap>
-        requires within { next ≤ length self.old.code }
-        requires next { next ≡ self.old.state.running.pc + length (spelled (Aside direction tray)) }
+    /// `aside`: takes the grip out along a direction, to an empty tray, where it is free of the rest
+    /// of the current tray. A group of one piece is apart.
+    fn aside(&mut self, direction: Direction, tray: u8, size: usize) -> Result<Option<Motion>, Trap>
+        requires within { self.old.state.running.pc + size ≤ length self.old.code }
+        requires size { size ≡ length (spelled (Aside direction tray)) }
         ensures follows { Follows self.old self.new (Aside direction tray) result }
         ensures trapped { OnErr result (self.new ≡ self.old) }
         ensures goes_on { OnOk result (GoesOn self.old self.new (motion_made result)) }
     {
-        if !self.is_part_of_tray() {
+        if !self.state.is_part_gripped() {
             return Err(Trap::BadGroup);
         }
-        if !self.is_empty(tray) {
+        if !self.state.is_empty(tray) {
             return Err(Trap::TrayInUse);
         }
         if !self.is_free(direction) {
             return Err(Trap::NotFree);
         }
         let motion = Motion {
-            group: self.grip,
-            tray: self.tray,
+            group: self.state.grip(),
+            tray: self.state.tray(),
             dir: direction,
             out: true,
         };
-        take_aside(self.places.as_mut_slice(), self.grip, self.tray, tray);
-        self.grip = 0;
-        self.pc = next;
-        self.steps = self.steps.saturating_add(1);
+        self.state.go_aside(tray, size);
         Ok(Some(motion))
     }
 }

@@ -2,7 +2,6 @@ ghost use Rattle.burr_bench.specs.declared.closing.Closing.TheVariants as closin
 ghost use Rattle.std.specs.Prelude.{◌∷◌, [], codes, map, OnOk, OnErr, IsTrue};
 ghost use Rattle.std.specs.Io.KnownBytes.{Appends};
 ghost use Rattle.burr_io.specs.Sink.{TakesFront};
-
 ghost use Rattle.burr_sheet.specs.SheetText.{closing_line, levels_word};
 ghost use Rattle.burr_text.specs.Words.{text_line};
 

@@ -1,6 +1,0 @@
-use Rattle.std.proofs.Common.{sym, refl}
-use Rattle.burr_bench.proofs.Stepping.Steps.{goes_on_still}
-use Rattle.burr_bench.proofs.checked.Checked.grip.Goals as goal
-
-pub returns-clause-goes_on : goal.returns-clause-goes_on
-returns-clause-goes_on c = rw (sym c.self.view_is) (goes_on_still _ _ c.self.invariant refl refl refl)

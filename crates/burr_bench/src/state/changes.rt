@@ -1,0 +1,58 @@
+ghost use Rattle.std.specs.Prelude.{◌≡◌, ◌+◌, ◌≤◌};
+ghost use Rattle.burr_code.specs.Places.{AllLieIn, aside_places};
+ghost use Rattle.burr_code.specs.declared.limits.TheConstants.{MOST_CODE};
+ghost use Rattle.burr_bench.specs.declared.mode.Mode.TheVariants.{Ended, Trapped};
+ghost use Rattle.burr_bench.specs.Next.{stepped};
+ghost use Rattle.burr_bench.specs.StateViews.{behind};
+
+use crate::mode::Mode;
+use crate::places::take_aside;
+use crate::state::BenchState;
+use crate::trap::Trap;
+
+impl BenchState {
+    /// The step of `halt`: the run has ended.
+    pub fn end(&mut self)
+        ensures { self.new ≡ stepped (record self.old { mode = Ended }) }
+    {
+        self.mode = Mode::Ended;
+        self.steps = self.steps.saturating_add(1);
+    }
+
+    /// A trap: nothing but the mode changes.
+    pub fn trap(&mut self, trap: Trap)
+        ensures { self.new ≡ record self.old { mode = Trapped trap } }
+    {
+        self.mode = Mode::Trapped(trap);
+    }
+
+    /// The step of a `grip` of so many bytes: pieces of the current tray are gripped.
+    pub fn make_grip(&mut self, set: u32, size: usize)
+        requires here { AllLieIn self.old.places self.old.tray set }
+        requires within { self.old.running.pc + size ≤ MOST_CODE }
+        ensures { self.new ≡ record (behind size self.old) { grip = set } }
+    {
+        self.grip = set;
+        self.go_behind(size);
+    }
+
+    /// The step of an `aside` of so many bytes: the grip goes to an empty tray, whoever is alone in
+    /// one of the two trays then is apart, and nothing is gripped.
+    pub fn go_aside(&mut self, tray: u8, size: usize)
+        requires within { self.old.running.pc + size ≤ MOST_CODE }
+        ensures { self.new ≡ record (behind size self.old) { places = aside_places self.old.grip self.old.tray tray self.old.places; grip = 0 } }
+    {
+        take_aside(self.places.as_mut_slice(), self.grip, self.tray, tray);
+        self.grip = 0;
+        self.go_behind(size);
+    }
+
+    /// A step that goes on so many bytes further.
+    fn go_behind(&mut self, size: usize)
+        requires within { self.old.running.pc + size ≤ MOST_CODE }
+        ensures { self.new ≡ behind size self.old }
+    {
+        self.running.go_to(self.running.pc() + size);
+        self.steps = self.steps.saturating_add(1);
+    }
+}

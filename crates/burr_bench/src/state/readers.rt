@@ -1,0 +1,85 @@
+ghost use Rattle.std.specs.Prelude.{◌≡◌, ◌≤◌, length, MatchOption, IfSome};
+ghost use Rattle.burr_voxels.specs.Near.{IsWithin};
+ghost use Rattle.burr_code.specs.Places.{LiesAt, LiesIn};
+ghost use Rattle.burr_bench.specs.StateViews.{at_start};
+ghost use Rattle.burr_bench.specs.Parts.{parts};
+
+use crate::activation::Activation;
+use crate::mode::Mode;
+use crate::placement::Placement;
+use crate::state::BenchState;
+use arrayvec::ArrayVec;
+use burr_voxels::Cell;
+
+impl BenchState {
+    /// The start of a run with so many pieces: all in tray 0 at home, nothing gripped.
+    pub fn start(pieces: u8) -> BenchState
+        requires { pieces ≤ 32 }
+        ensures { result ≡ at_start pieces }
+    {
+        let mut places = ArrayVec::new();
+        for _piece in 0..pieces {
+            places.push(Placement::home(0));
+        }
+        BenchState {
+            places,
+            tray: 0,
+            grip: 0,
+            running: Activation::main(),
+            steps: 0,
+            mode: Mode::Running,
+        }
+    }
+
+    /// Whether the run goes on.
+    pub fn mode(&self) -> Mode
+        ensures { result ≡ self.now.mode }
+    {
+        self.mode
+    }
+
+    /// The steps made so far; the count stays at its greatest value.
+    pub fn steps(&self) -> u64
+        ensures { result ≡ self.now.steps }
+    {
+        self.steps
+    }
+
+    /// The current tray.
+    pub fn tray(&self) -> u8
+        ensures { result ≡ self.now.tray }
+    {
+        self.tray
+    }
+
+    /// The pieces that are gripped: bit p is piece p.
+    pub fn grip(&self) -> u32
+        ensures { result ≡ self.now.grip }
+    {
+        self.grip
+    }
+
+    /// Where the next instruction stands in the running procedure's code, at most 4,096.
+    pub fn pc(&self) -> usize
+        ensures pc { result ≡ self.now.running.pc }
+        ensures within { result ≤ 4096 }
+    {
+        self.running.pc()
+    }
+
+    /// The number of pieces.
+    pub fn piece_count(&self) -> u8
+        ensures places { result ≡ length self.now.places }
+        ensures few { result ≤ 32 }
+    {
+        self.places.len() as u8
+    }
+
+    /// How far from home a piece lies in the current tray; None where it isn't there.
+    pub fn offset_here(&self, piece: u8) -> Option<Cell>
+        ensures offset { MatchOption result (¬ LiesIn self.now.places piece self.now.tray) (λ offset. LiesAt self.now.places piece self.now.tray offset) }
+        ensures near { IfSome result (IsWithin 256) }
+    {
+        self.places.get(usize::from(piece))?.offset_in(self.tray)
+    }
+}
