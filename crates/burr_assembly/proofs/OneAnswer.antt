@@ -2,7 +2,7 @@
 use Rattle.std.proofs.Common.{◌≡◌, ◌≢◌, ℕ, ◌+◌, ◌<◌, ◌≤◌, ◌⊎◌, List, [], ◌∷◌, ◌++◌, length, Contains, Result, Ok, Err, Some, None, refl, sym, ap, subst, ◌∙◌, arith, inl, inr, length-append}
 use Rattle.std.proofs.lemmas.Bool.{cases_order}
 use Rattle.burr_voxels.specs.declared.cell.Cell.{Cell}
-use Rattle.burr_voxels.proofs.Naming.{same_axes}
+use Rattle.burr_voxels.proofs.Common.Naming.{same_axes}
 use Rattle.burr_assembly.specs.declared.fault.AssemblyFault.{AssemblyFault}
 use Rattle.burr_assembly.specs.declared.fault.AssemblyFault.TheVariants.{A1, A2, A3, A4, A5, A6, A7, A8}
 use Rattle.burr_text.specs.Names.{IsName}

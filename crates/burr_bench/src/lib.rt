@@ -20,3 +20,6 @@ pub use motion::Motion;
 pub use progress::Progress;
 pub use state::BenchState;
 pub use trap::Trap;
+
+#[cfg(test)]
+mod tests;

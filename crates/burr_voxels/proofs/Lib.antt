@@ -1,6 +1,5 @@
 pub mod Common
 pub mod MeetingCells
-pub mod Naming
 pub mod Near
 pub mod Overlapping
 pub mod Turning

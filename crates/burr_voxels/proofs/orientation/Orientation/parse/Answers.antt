@@ -1,6 +1,6 @@
 -- The three names together are the text, and no other three are.
 use Rattle.std.proofs.Common.{◌∙◌}
-use Rattle.burr_voxels.proofs.Naming.{axes_read, named_by}
+use Rattle.burr_voxels.proofs.Common.Naming.{axes_read, named_by}
 use Rattle.burr_voxels.proofs.orientation.Orientation.parse.Goals as goal
 
 pub returns : goal.returns
