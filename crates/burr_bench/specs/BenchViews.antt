@@ -1,5 +1,6 @@
 -- What a bench at work stands for, and what its instructions did.
 use Rattle.std.specs.Prelude.{◌≡◌, ◌≤◌, ◌+◌, ℕ, if◌then◌else◌, length, List, Option, Some, None, Result, Ok, Err}
+use Rattle.burr_voxels.specs.declared.direction.Direction.{Direction}
 use Rattle.burr_code.specs.Places.{AllLieIn}
 use Rattle.burr_code.specs.Instruction.{Instruction}
 use Rattle.burr_code.specs.declared.limits.TheConstants.{MOST_CODE}
@@ -11,6 +12,7 @@ use Rattle.burr_bench.specs.declared.progress.Progress.{Progress}
 use Rattle.burr_bench.specs.declared.progress.Progress.TheVariants as progress
 use Rattle.burr_bench.specs.Bench.{bare, bare_procedure, BenchState, Setup}
 use Rattle.burr_bench.specs.Next.{Next, Goes, Traps}
+use Rattle.burr_bench.specs.Space.{IsFreeGroup}
 use Rattle.burr_bench.specs.Step.{Executes}
 use Rattle.burr_bench.specs.Parts.{parts}
 
@@ -36,6 +38,11 @@ pub record IsSound (b : Benched) : Type 0 where
   pub here : AllLieIn b.state.places b.state.tray b.state.grip
   pub main : b.state.running.procedure ≡ 0
 
+-- the grip is free of the rest of its tray along a direction
+abbrev pub IsGripFree : Benched → Direction → Type 0
+IsGripFree b direction =
+    IsFreeGroup (homes_of b.assembly) b.state.places b.state.tray b.state.grip direction
+
 -- what an instruction did
 abbrev pub next_of : Result (Option Motion) Trap → BenchState → Next
 next_of (Ok motion) new = Goes new motion
@@ -43,7 +50,8 @@ next_of (Err trap) new = Traps trap
 
 -- what the rule of an instruction asks for, and no more
 abbrev pub Follows : Benched → Benched → Instruction → Result (Option Motion) Trap → Type 0
-Follows old new i result = Executes (setup_of old) (bare_procedure old.code) old.state i (next_of result new.state)
+Follows old new i result =
+    Executes (setup_of old) (bare_procedure old.code) old.state i (next_of result new.state)
 
 -- so many outs
 abbrev pub outs_of : Option Motion → ℕ

@@ -1,8 +1,9 @@
 -- What the code's state of the bench stands for, and what holds of each.
-use Rattle.std.specs.Prelude.{ℕ, ◌+◌, ◌≤◌, List, [], None, length, replicate}
+use Rattle.std.specs.Prelude.{Option, MatchOption, ℕ, ◌+◌, ◌≤◌, List, [], None, length, replicate}
 use Rattle.burr_voxels.specs.declared.cell.Cell.{Cell}
 use Rattle.burr_voxels.specs.Grid.{origin}
-use Rattle.burr_code.specs.Places.{Placement, On, AllLieIn}
+use Rattle.burr_code.specs.PieceSets.{IsInSet}
+use Rattle.burr_code.specs.Places.{Placement, On, LiesAt, LiesIn, AllLieIn, aside_places}
 use Rattle.burr_code.specs.declared.limits.TheConstants.{MOST_CODE}
 use Rattle.burr_bench.specs.declared.mode.Mode.{Mode}
 use Rattle.burr_bench.specs.declared.mode.Mode.TheVariants.{Running}
@@ -37,3 +38,19 @@ pub record IsOrderly (s : BenchState) : Type 0 where
 -- the step is made, and the run goes on so many bytes further
 abbrev pub behind : ℕ → BenchState → BenchState
 behind size s = stepped (record s { running = record s.running { pc = s.running.pc + size } })
+
+-- how far from home piece p lies in the current tray, if it lies there
+abbrev pub IsOffsetHere : BenchState → ℕ → Option Cell → Type 0
+IsOffsetHere s p found =
+    MatchOption found (¬ LiesIn s.places p s.tray) (λ offset. LiesAt s.places p s.tray offset)
+
+-- the current tray has a piece that is not gripped
+abbrev pub LeavesSome : BenchState → Type 0
+LeavesSome s = (p : ℕ) × LiesIn s.places p s.tray × (¬ IsInSet s.grip p)
+
+-- the step of an `aside` of so many bytes to this tray
+abbrev pub gone_aside : ℕ → ℕ → BenchState → BenchState
+gone_aside tray size s = record (behind size s) {
+  places = aside_places s.grip s.tray tray s.places;
+  grip = 0;
+}

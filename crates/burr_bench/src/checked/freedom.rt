@@ -1,10 +1,10 @@
-ghost use Rattle.std.specs.Prelude.{◌≡◌, ◌≢◌, ◌<◌, ◌≤◌, ◌↔◌, length, IfSome, IsTrue, MatchOption};
+ghost use Rattle.std.specs.Prelude.{◌≡◌, ◌≢◌, ◌<◌, ◌≤◌, ◌↔◌, length, IfSome, IsTrue};
 ghost use Rattle.burr_voxels.specs.Near.{IsWithin};
-ghost use Rattle.burr_code.specs.Places.{LiesAt, LiesIn};
 ghost use Rattle.burr_code.specs.PieceSets.{IsInSet};
 ghost use Rattle.burr_assembly.specs.Homes.{homes_of};
-ghost use Rattle.burr_bench.specs.Space.{IsFreeGroup};
+ghost use Rattle.burr_bench.specs.BenchViews.{IsGripFree};
 ghost use Rattle.burr_bench.specs.Freedom.{IsFreeOf, IsFreePiece};
+ghost use Rattle.burr_bench.specs.StateViews.{IsOffsetHere};
 
 use crate::checked::Checked;
 use burr_code::is_in_set;
@@ -13,7 +13,7 @@ use burr_voxels::{Cell, Direction};
 impl Checked<'_> {
     /// Whether the grip is free of the rest of its tray along a direction.
     pub fn is_free(&self, direction: Direction) -> bool
-        ensures { IsTrue result ↔ IsFreeGroup (homes_of self.now.assembly) self.now.state.places self.now.state.tray self.now.state.grip direction }
+        ensures { IsTrue result ↔ IsGripFree self.now direction }
     {
         for piece in 0..self.piece_count() {
             if is_in_set(self.grip(), piece) && !self.is_piece_free(piece, direction) {
@@ -57,7 +57,7 @@ impl Checked<'_> {
 
     /// How far from home a piece lies in the current tray; None where it isn't there.
     fn offset_here(&self, piece: u8) -> Option<Cell>
-        ensures offset { MatchOption result (¬ LiesIn self.now.state.places piece self.now.state.tray) (λ offset. LiesAt self.now.state.places piece self.now.state.tray offset) }
+        ensures offset { IsOffsetHere self.now.state piece result }
         ensures near { IfSome result (IsWithin 256) }
     {
         self.state.offset_here(piece)

@@ -1,9 +1,9 @@
 ghost use Rattle.std.specs.Prelude.{◌≡◌, ◌+◌, ◌≤◌};
-ghost use Rattle.burr_code.specs.Places.{AllLieIn, aside_places};
+ghost use Rattle.burr_code.specs.Places.{AllLieIn};
 ghost use Rattle.burr_code.specs.declared.limits.TheConstants.{MOST_CODE};
 ghost use Rattle.burr_bench.specs.declared.mode.Mode.TheVariants.{Ended, Trapped};
 ghost use Rattle.burr_bench.specs.Next.{stepped};
-ghost use Rattle.burr_bench.specs.StateViews.{behind};
+ghost use Rattle.burr_bench.specs.StateViews.{behind, gone_aside};
 
 use crate::mode::Mode;
 use crate::places::take_aside;
@@ -40,7 +40,7 @@ impl BenchState {
     /// one of the two trays then is apart, and nothing is gripped.
     pub fn go_aside(&mut self, tray: u8, size: usize)
         requires within { self.old.running.pc + size ≤ MOST_CODE }
-        ensures { self.new ≡ record (behind size self.old) { places = aside_places self.old.grip self.old.tray tray self.old.places; grip = 0 } }
+        ensures { self.new ≡ gone_aside tray size self.old }
     {
         take_aside(self.places.as_mut_slice(), self.grip, self.tray, tray);
         self.grip = 0;

@@ -1,6 +1,6 @@
-ghost use Rattle.std.specs.Prelude.{◌↔◌, ℕ, IsTrue};
-ghost use Rattle.burr_code.specs.PieceSets.{IsInSet};
+ghost use Rattle.std.specs.Prelude.{◌↔◌, IsTrue};
 ghost use Rattle.burr_code.specs.Places.{LiesIn, AllLieIn, AllApart, IsPartOfTray, IsEmptyTray};
+ghost use Rattle.burr_bench.specs.StateViews.{LeavesSome};
 
 use crate::places::{are_all_apart, is_empty_tray};
 use crate::state::BenchState;
@@ -35,7 +35,7 @@ impl BenchState {
 
     /// Whether the current tray has a piece that is not gripped.
     fn leaves_some(&self) -> bool
-        ensures { IsTrue result ↔ (p : ℕ) × LiesIn self.now.places p self.now.tray × (¬ IsInSet self.now.grip p) }
+        ensures { IsTrue result ↔ LeavesSome self.now }
     {
         for piece in 0..self.piece_count() {
             if self.lies_here(piece) && !is_in_set(self.grip(), piece) {

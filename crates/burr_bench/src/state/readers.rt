@@ -1,7 +1,6 @@
-ghost use Rattle.std.specs.Prelude.{◌≡◌, ◌≤◌, length, MatchOption, IfSome};
+ghost use Rattle.std.specs.Prelude.{◌≡◌, ◌≤◌, length, IfSome};
 ghost use Rattle.burr_voxels.specs.Near.{IsWithin};
-ghost use Rattle.burr_code.specs.Places.{LiesAt, LiesIn};
-ghost use Rattle.burr_bench.specs.StateViews.{at_start};
+ghost use Rattle.burr_bench.specs.StateViews.{at_start, IsOffsetHere};
 ghost use Rattle.burr_bench.specs.Parts.{parts};
 
 use crate::activation::Activation;
@@ -77,7 +76,7 @@ impl BenchState {
 
     /// How far from home a piece lies in the current tray; None where it isn't there.
     pub fn offset_here(&self, piece: u8) -> Option<Cell>
-        ensures offset { MatchOption result (¬ LiesIn self.now.places piece self.now.tray) (λ offset. LiesAt self.now.places piece self.now.tray offset) }
+        ensures offset { IsOffsetHere self.now piece result }
         ensures near { IfSome result (IsWithin 256) }
     {
         self.places.get(usize::from(piece))?.offset_in(self.tray)
