@@ -1,4 +1,4 @@
--- The cells at home that an assembly's pieces have.
+-- For crates above: the cells at home that an assembly's pieces have.
 use Rattle.std.proofs.Common.{◌≡◌, ◌<◌, ◌∙◌, ℕ, zero, suc, List, [], ◌∷◌, length, map, get_or, refl, sym, ap, subst, inl, inr, arith, Bool, true, false}
 use Rattle.std.specs.Prelude.{Some, Option, slice_get, IfSome, bytes_eq, All}
 use Rattle.std.proofs.lemmas.Option.{slice_get-map, slice_get_cases}

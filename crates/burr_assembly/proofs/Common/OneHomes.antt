@@ -1,4 +1,4 @@
--- The pieces of an assembly have their cells at home in one way.
+-- For crates above: the pieces of an assembly have their cells at home in one way.
 use Rattle.std.proofs.Common.{◌≡◌, List, [], ◌∷◌, refl}
 use Rattle.burr_voxels.specs.declared.cell.Cell.{Cell}
 use Rattle.burr_assembly.specs.Text.{Assembly, Piece}

@@ -1,4 +1,4 @@
--- The laws of assembly texts, from what is known of their answers.
+-- For crates above: the laws of assembly texts, from what is known of their answers.
 use Rattle.std.proofs.Common.{◌≡◌, ◌⊎◌, ℕ, List, Result, Ok, Err, refl, sym, inl, inr}
 use Rattle.burr_assembly.specs.declared.fault.AssemblyFault.{AssemblyFault}
 use Rattle.burr_assembly.specs.Text.{Assembly, IsText}

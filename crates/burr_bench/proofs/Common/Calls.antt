@@ -1,4 +1,4 @@
--- What a call without an answer tells of a running bench.
+-- For crates above: what a call without an answer tells of a running bench.
 use Rattle.std.proofs.Common.{◌≡◌, None, Result, Ok, Err, sym, subst}
 use Rattle.burr_bench.specs.declared.mode.Mode.{Mode}
 use Rattle.burr_bench.specs.declared.mode.Mode.TheVariants.{Running, Trapped}

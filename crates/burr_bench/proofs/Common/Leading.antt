@@ -1,4 +1,4 @@
--- Where what stands next leads: the steps that are made, and an answer to each fitting number.
+-- For crates above: where what stands next leads: the steps that are made, and an answer to each fitting number.
 use Rattle.std.proofs.Common.{◌≡◌, ◌⊎◌, ℕ, zero, suc, ◌+◌, ◌-◌, ◌<◌, ◌^◌, min, List, [], ◌∷◌, length, Option, None, Some, inl, inr, refl, sym, subst, ap, ◌∙◌, arith}
 use Rattle.std.specs.Prelude.{ℤ, pos, negsuc, ◌-ℤ◌, slice_get}
 use Rattle.std.proofs.lemmas.Int.{ints}

@@ -1,4 +1,4 @@
--- A run has a result.
+-- For crates above: a run has a result.
 use Rattle.std.proofs.Common.{◌≡◌, ◌⊎◌, ℕ, zero, suc, ◌+◌, ◌<◌, ◌≤◌, ◌^◌, List, [], ◌∷◌, ◌++◌, inl, inr, arith}
 use Rattle.std.specs.Prelude.{ℤ}
 use Rattle.std.specs.Option.{option_to_list}

@@ -1,4 +1,4 @@
--- Two pieces at offsets, and one displaced against the other by the difference.
+-- For crates above: two pieces at offsets, and one displaced against the other by the difference.
 use Rattle.std.proofs.Common.{◌≡◌, ◌↔◌, ℕ, List, [], ◌∷◌, Contains, refl, sym, ap, subst, ◌∙◌, arith}
 use Rattle.std.specs.Prelude.{ℤ, pos, ◌+ℤ◌, ◌-ℤ◌}
 use Rattle.std.proofs.lemmas.Int.{ints}

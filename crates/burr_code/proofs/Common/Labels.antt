@@ -1,4 +1,4 @@
--- Labels that are all there: each label picked from them stands somewhere.
+-- For crates above: labels that are all there: each label picked from them stands somewhere.
 use Rattle.std.proofs.Common.{◌≡◌, ℕ, zero, suc, ◌<◌, List, [], ◌∷◌, length, Option, Some, None, refl, ap, arith}
 use Rattle.std.specs.Prelude.{slice_get}
 use Rattle.std.proofs.lemmas.Option.{none-some, same_Some}

@@ -1,4 +1,4 @@
--- Whole numbers in their order.
+-- For crates above: whole numbers in their order.
 use Rattle.std.proofs.Common.{◌≡◌, ◌⊎◌, ℤ, ap, inl, inr, arith}
 use Rattle.std.specs.Prelude.{pos, negsuc, ◌<ℤ◌, ◌≤ℤ◌}
 use Rattle.std.proofs.lemmas.Int.{ints}

@@ -1,4 +1,4 @@
--- Sets of pieces: both spellings of what is in them, and which pieces can be.
+-- For crates above: sets of pieces: both spellings of what is in them, and which pieces can be.
 use Rattle.std.proofs.Common.{◌≡◌, ◌≢◌, ℕ, zero, suc, ◌*◌, ◌/◌, ◌%◌, ◌^◌, ◌<◌, ◌≤◌, Bool, true, false, IsTrue, ◌↔◌, bit_and, refl, ap, ◌∙◌, arith}
 use Rattle.std.specs.Prelude.{not}
 use Rattle.std.proofs.lemmas.Bool.Decides.{nat_tests}

@@ -1,4 +1,4 @@
--- The instruction with which bytes begin, and the one that stands at a place of the code: one at most, and whether there is one.
+-- For crates above: the instruction with which bytes begin, and the one that stands at a place of the code: one at most, and whether there is one.
 use Rattle.std.proofs.Common.{◌≡◌, ℕ, zero, suc, ◌<◌, ◌^◌, List, [], ◌∷◌, ◌++◌, length, drop, ◌⊎◌, inl, inr, refl, sym, ap, subst, ◌∙◌, arith, All}
 use Rattle.std.specs.Prelude.{slice_index, ℤ, pos, negsuc, FitsSigned, if◌then◌else◌, ◌==◌}
 use Rattle.std.specs.List.{flat_map}

@@ -1,4 +1,4 @@
--- What a row of puts has put of a text.
+-- For crates above: what a row of puts has put of a text.
 use Rattle.std.proofs.Common.{◌≡◌, ℕ, ◌+◌, ◌<◌, List, [], ◌∷◌, ◌++◌, length, map, drop, get_or, Option, Result, Ok, Err, OnOk, OnErr, refl, sym, ap, ◌∙◌, subst, add-one, drop-cons, append_assoc, append-nil}
 use Rattle.std.proofs.KnownBytes.{Appends-nil, Appends-trans}
 use Rattle.std.specs.Io.KnownBytes.{Appends}

@@ -1,4 +1,4 @@
--- A list of bytes is cut at the first of one byte in one way.
+-- For crates above: a list of bytes is cut at the first of one byte in one way.
 use Rattle.std.proofs.Common.{◌≡◌, ◌≢◌, ℕ, suc, ◌≤◌, List, [], ◌∷◌, ◌++◌, length, get_or, drop, All, Contains, refl, sym, ap, arith}
 use Rattle.std.proofs.lemmas.List.{get_or_at, length-append}
 

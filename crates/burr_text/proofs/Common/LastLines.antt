@@ -1,4 +1,4 @@
--- Lines and behind them a line without its end make one list in one way.
+-- For crates above: lines and behind them a line without its end make one list in one way.
 use Rattle.std.proofs.Common.{◌≡◌, ℕ, ◌⊎◌, List, [], ◌∷◌, ◌++◌, refl, sym, ap, subst, ◌∙◌, inl, inr}
 use Rattle.std.proofs.lemmas.List.{append-nil}
 use Rattle.burr_text.proofs.Common.Cuts.{Lacks, same_head, same_tail}

@@ -1,4 +1,4 @@
--- What a test of a fact answers.
+-- For crates above: what a test of a fact answers.
 use Rattle.std.proofs.Common.{◌↔◌, ◌<◌, ◌+◌, ℕ, List, length, get_or, true, false, IsTrue, refl, subst, arith}
 use Rattle.std.proofs.lemmas.List.{get_or_default}
 use Rattle.std.specs.Prelude.{Result, Ok, Err, OnErr}

@@ -1,4 +1,4 @@
--- Bytes that hold no end of a line.
+-- For crates above: bytes that hold no end of a line.
 use Rattle.std.proofs.Common.{◌≡◌, ◌≢◌, ℕ, zero, suc, ◌≤◌, ◌<◌, ◌/◌, ◌%◌, List, [], ◌∷◌, ◌++◌, length, arith}
 use Rattle.std.specs.Prelude.{ℤ, pos, negsuc, decimal, Bool, true, false, not, ◌==◌, if◌then◌else◌, slice_index_or}
 use Rattle.std.specs.List.{list_all, join_with_byte, AllByRecursion}

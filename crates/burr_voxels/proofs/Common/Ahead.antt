@@ -1,4 +1,4 @@
--- One cell ahead of another along an axis.
+-- For crates above: one cell ahead of another along an axis.
 use Rattle.std.proofs.Common.{◌≡◌, ℕ, ◌≤◌, ap, ◌∙◌, arith}
 use Rattle.std.specs.Prelude.{ℤ, pos, negsuc, ◌+ℤ◌, IsTrue, ◌↔◌, int_lt}
 use Rattle.std.specs.Int.{int_gap}

@@ -1,4 +1,4 @@
--- A group is free of others exactly where no cell of the others lies ahead of a cell of the group.
+-- For crates above: a group is free of others exactly where no cell of the others lies ahead of a cell of the group.
 use Rattle.std.proofs.Common.{◌≡◌, ℕ, zero, suc, ◌<◌, List, [], ◌∷◌, length, get_or, map, Contains, refl, sym, subst, ap, ◌∙◌, arith}
 use Rattle.std.specs.Prelude.{pos}
 use Rattle.std.proofs.lemmas.List.{length-map, get_or-map}

@@ -1,4 +1,4 @@
--- What the names of directions and of orientations stand for.
+-- For crates above: what the names of directions and of orientations stand for.
 use Rattle.std.proofs.Common.{◌≡◌, ◌≢◌, ℕ, List, ◌++◌, take, drop, Option, Some, None, MatchOption, refl, ap, sym, ◌∙◌, arith}
 use Rattle.std.proofs.lemmas.List.{take-append-drop}
 use Rattle.burr_voxels.specs.declared.direction.Direction.{Direction}
