@@ -2,4 +2,7 @@ pub mod Common
 pub mod Existence
 pub mod Stepping
 pub mod Trays
+mod TwoCubes
 pub mod Uniqueness
+mod WorkedRuns
+mod WorkedSteps

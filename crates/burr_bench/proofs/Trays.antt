@@ -1,2 +1,5 @@
+pub mod Asides
 pub mod Counts
+pub mod Lone
 pub mod Parts
+pub mod Shifts

@@ -1,3 +1,4 @@
+pub mod AsideLaws
 pub mod Bench
 pub mod BenchViews
 pub mod Control
@@ -10,7 +11,9 @@ pub mod Questions
 pub mod Run
 pub mod RunLaws
 pub mod Space
+pub mod SpaceLaws
 pub mod Spots
 pub mod StateViews
 pub mod Step
+pub mod StepLaws
 pub mod TrapNames

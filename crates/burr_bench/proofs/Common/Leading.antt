@@ -1,25 +1,17 @@
 -- For crates above: where what stands next leads: the steps that are made, and an answer to each fitting number.
-use Rattle.std.proofs.Common.{◌≡◌, ◌⊎◌, ℕ, zero, suc, ◌+◌, ◌-◌, ◌<◌, ◌^◌, min, List, [], ◌∷◌, length, Option, None, Some, inl, inr, refl, sym, subst, ap, ◌∙◌, arith}
-use Rattle.std.specs.Prelude.{ℤ, pos, negsuc, ◌-ℤ◌, slice_get}
+use Rattle.std.proofs.Common.{◌≡◌, ℕ, zero, suc, ◌+◌, ◌-◌, ◌<◌, ◌^◌, min, List, length, inl, inr, refl, sym, subst, ◌∙◌, arith}
+use Rattle.std.specs.Prelude.{ℤ, pos, negsuc, ◌-ℤ◌}
 use Rattle.std.proofs.lemmas.Int.{ints}
-use Rattle.std.proofs.lemmas.Option.{none-some, same_Some}
 use Rattle.burr_code.specs.Instruction.{Instruction, Halt, Push, Load, Store, Add, Sub, Drop, Grip, Step, Aside, Tray, Jump, Down, Ask, Pick, Call, Ret}
-use Rattle.burr_bench.specs.declared.trap.Trap.{Trap}
-use Rattle.burr_bench.specs.declared.motion.Motion.{Motion}
-use Rattle.burr_bench.specs.declared.mode.Mode.TheVariants.{Running, Ended}
+use Rattle.burr_code.proofs.Common.Labels.{picked}
+use Rattle.burr_bench.specs.declared.mode.Mode.TheVariants.{Running}
 use Rattle.burr_bench.specs.Bench.{BenchState, Setup, BenchProcedure}
-use Rattle.burr_bench.specs.Next.{Next, Goes, Asks, Traps}
-use Rattle.burr_bench.specs.Step.{Executes, IsAt, NextIs, TakesAnswer}
-use Rattle.burr_bench.specs.Questions.{Takes}
-use Rattle.burr_bench.specs.Questions.{Fits}
-use Rattle.burr_code.specs.Labels.{labelled, with_first}
+use Rattle.burr_bench.specs.Next.{Next, Goes, Asks, Traps, at_label}
 use Rattle.burr_bench.specs.Control.{by_count}
-use Rattle.burr_bench.specs.Next.{at_label}
-
--- a step was made, and no trap
-pub record IsStepFrom (s new : BenchState) : Type 0 where
-  pub mode : (new.mode ≡ Running) ⊎ (new.mode ≡ Ended)
-  pub steps : new.steps ≡ min (s.steps + 1) (2 ^ 64 - 1)
+use Rattle.burr_bench.specs.Questions.{Takes, Fits}
+use Rattle.burr_bench.specs.Step.{Executes, IsAt, NextIs, TakesAnswer}
+use Rattle.burr_bench.proofs.Common.Outcomes.{TrapsOr, past_check, past_search, comes}
+pub use Rattle.burr_bench.specs.StepLaws.{IsStepFrom}
 
 -- what stands next leads on by a step, or by one for each fitting answer, or to a trap
 abbrev Leads : BenchProcedure → BenchState → Instruction → Next → Type 0
@@ -27,28 +19,11 @@ Leads here s i (Goes new motion) = IsStepFrom s new
 Leads here s i (Asks low high) = (answer : ℤ) → Fits low high answer → (new : BenchState) × Takes here s i answer new × IsStepFrom s new
 Leads here s i (Traps trap) = Unit {0}
 
--- the same as a record, from whose type its arguments are found
-record IsLed (here : BenchProcedure) (s : BenchState) (i : Instruction) (next : Next) : Type 0 where
-  leads : Leads here s i next
+abbrev IsLed : BenchProcedure → BenchState → Instruction → Next → Type 0
+IsLed here s i next = TrapsOr (Leads here s i) next
 
--- The parts of a rule
-
-past_check : {C Rest : Type 0} {here : BenchProcedure} {s : BenchState} {i : Instruction} {next : Next} {trap : Trap}
-    → ((¬ C) × (next ≡ Traps trap)) ⊎ (C × Rest) → (Rest → IsLed here s i next) → IsLed here s i next
-past_check {here = here} {s = s} {i = i} (inl h) f = record { leads = subst (Leads here s i) (sym h.1) tt }
-past_check (inr h) f = f h.1
-
-past_search : {A : Type 0} {Rest : A → Type 0} {found : Option A} {here : BenchProcedure} {s : BenchState} {i : Instruction} {next : Next} {trap : Trap}
-    → ((found ≡ None) × (next ≡ Traps trap)) ⊎ ((x : A) × (found ≡ Some x) × Rest x) → ((x : A) → found ≡ Some x → Rest x → IsLed here s i next) → IsLed here s i next
-past_search {here = here} {s = s} {i = i} (inl h) f = record { leads = subst (Leads here s i) (sym h.1) tt }
-past_search (inr h) f = f h.0 h.1 h.2
-
-steps_to : {here : BenchProcedure} {s : BenchState} {i : Instruction} {next : Next} {new : BenchState} {motion : Option Motion} → IsStepFrom s new → next ≡ Goes new motion → IsLed here s i next
-steps_to {here} {s} {i} step e = record { leads = subst (Leads here s i) (sym e) step }
-
-asks : {here : BenchProcedure} {s : BenchState} {i : Instruction} {next : Next} {low high : ℤ}
-    → ((answer : ℤ) → Fits low high answer → (new : BenchState) × Takes here s i answer new × IsStepFrom s new) → next ≡ Asks low high → IsLed here s i next
-asks {here} {s} {i} answered e = record { leads = subst (Leads here s i) (sym e) answered }
+led : (here : BenchProcedure) (s : BenchState) (i : Instruction) (next : Next) → IsLed here s i next → Leads here s i next
+led here s i next is = elim is.cases [ inl trapped ↦ subst (Leads here s i) (sym trapped.1) tt | inr leads ↦ leads ]
 
 -- a step that keeps the mode of a running state
 still_running : (s new : BenchState) → s.mode ≡ Running → new.mode ≡ s.mode → new.steps ≡ min (s.steps + 1) (2 ^ 64 - 1) → IsStepFrom s new
@@ -57,7 +32,7 @@ still_running s new running mode steps = record { mode = inl (mode ∙ running);
 -- Numbers and labels
 
 -- what is so at both is so at either count
-at_either : {A : Type 0} (P : A → Type 0) (x : ℤ) (at_zero above : A) → P at_zero → P above → P (by_count x at_zero above)
+pub at_either : {A : Type 0} (P : A → Type 0) (x : ℤ) (at_zero above : A) → P at_zero → P above → P (by_count x at_zero above)
 at_either P (pos zero) at_zero above p q = p
 at_either P (pos (suc n)) at_zero above p q = q
 at_either P (negsuc n) at_zero above p q = q
@@ -67,68 +42,45 @@ answer_number : (count : ℕ) (answer : ℤ) → Fits (pos 0) (pos count -ℤ po
 answer_number count (pos n) fits = (n, refl, omega (arith, ints, fits.1))
 answer_number count (negsuc n) fits = absurd (omega (arith, ints, fits.0))
 
--- what is found for labels is found for each
-abbrev FoundAt : {A : Type 0} → List A → List ℕ → ℕ → Type 0
-FoundAt {A} all labels n = (label : ℕ) × (to : A) × (slice_get labels n ≡ Some label) × (slice_get all label ≡ Some to)
-
--- the first label's find, and those of the rest
-found_first : {A : Type 0} (all : List A) (label : ℕ) (labels : List ℕ) (found : List A) → with_first (slice_get all label) (labelled all labels) ≡ Some found
-    → (x : A) × (xs : List A) × (slice_get all label ≡ Some x) × (labelled all labels ≡ Some xs) × (x ∷ xs ≡ found)
-found_first {A} all label labels found e = by_parts (slice_get all label) (labelled all labels) refl refl e
-  where
-    by_parts : (x : Option A) (xs : Option (List A)) → slice_get all label ≡ x → labelled all labels ≡ xs → with_first x xs ≡ Some found
-        → (x : A) × (xs : List A) × (slice_get all label ≡ Some x) × (labelled all labels ≡ Some xs) × (x ∷ xs ≡ found)
-    by_parts None xs first rest is = absurd (none-some _ is)
-    by_parts (Some x) None first rest is = absurd (none-some _ is)
-    by_parts (Some x) (Some xs) first rest is = (x, xs, first, rest, same_Some _ _ is)
-
-labelled_at : {A : Type 0} (all : List A) (labels : List ℕ) (found : List A) → labelled all labels ≡ Some found → (n : ℕ) → n < length found → FoundAt all labels n
-labelled_at all [] found e n below = let size : 0 ≡ length found = ap length (same_Some _ _ e) in absurd (omega arith)
-labelled_at all (label ∷ labels) found e zero below = let parts = found_first all label labels found e in (label, parts.0, refl, parts.2)
-labelled_at all (label ∷ labels) found e (suc n) below =
-    let parts = found_first all label labels found e in
-    let size : length (parts.0 ∷ parts.1) ≡ length found = ap length parts.4 in
-    labelled_at all labels parts.1 parts.3 n (omega arith)
-
 -- Rules
 
 leads_down : (setup : Setup) (here : BenchProcedure) (s : BenchState) (v label : ℕ) (next : Next) → s.mode ≡ Running → Executes setup here s (Down v label) next → IsLed here s (Down v label) next
 leads_down setup here s v label next running rule =
     past_search rule λ to is writable.
-    past_check writable λ full.
+    past_check writable λ may full.
     past_search full λ x has count.
-    past_check count λ gone.
-    steps_to (at_either (IsStepFrom s) x _ _ (still_running s _ running refl refl) (still_running s _ running refl refl)) gone
+    past_check count λ some gone.
+    comes gone (at_either (IsStepFrom s) x _ _ (still_running s _ running refl refl) (still_running s _ running refl refl))
 
 leads_pick : (setup : Setup) (here : BenchProcedure) (s : BenchState) (labels : List ℕ) (next : Next) → s.mode ≡ Running → Executes setup here s (Pick labels) next → IsLed here s (Pick labels) next
 leads_pick setup here s labels next running rule =
     past_search rule λ found is asked.
-    asks (λ answer fits.
+    comes asked (λ answer fits.
     let number = answer_number (length found) answer fits in
-    let at = labelled_at here.labels labels found is number.0 number.2 in
-    (at_label at.1 s.running s, (number.0, at.0, at.1, number.1, at.2, at.3, refl), still_running s _ running refl refl)) asked
+    let at = picked here.labels labels found number.0 is number.2 in
+    (at_label at.1 s.running s, (number.0, at.0, at.1, number.1, at.2, at.3, refl), still_running s _ running refl refl))
 
 leads_by_rule : (setup : Setup) (here : BenchProcedure) (s : BenchState) (i : Instruction) (next : Next) → s.mode ≡ Running → Executes setup here s i next → IsLed here s i next
-leads_by_rule setup here s Halt next running rule = past_check rule λ apart. past_check apart λ gone. steps_to (record { mode = inr refl; steps = refl }) gone
-leads_by_rule setup here s (Push n) next running rule = past_check rule λ gone. steps_to (still_running s _ running refl refl) gone
-leads_by_rule setup here s (Load v) next running rule = past_search rule λ x is room. past_check room λ gone. steps_to (still_running s _ running refl refl) gone
-leads_by_rule setup here s (Store v) next running rule = past_check rule λ top. past_search top λ x is gone. steps_to (still_running s _ running refl refl) gone
-leads_by_rule setup here s Add next running rule = past_search rule λ x is number. past_check number λ gone. steps_to (still_running s _ running refl refl) gone
-leads_by_rule setup here s Sub next running rule = past_search rule λ x is number. past_check number λ gone. steps_to (still_running s _ running refl refl) gone
-leads_by_rule setup here s Drop next running rule = past_search rule λ x is gone. steps_to (still_running s _ running refl refl) gone
-leads_by_rule setup here s (Grip set) next running rule = past_check rule λ gone. steps_to (still_running s _ running refl refl) gone
+leads_by_rule setup here s Halt next running rule = past_check rule λ main apart. past_check apart λ all gone. comes gone (record { mode = inr refl; steps = refl })
+leads_by_rule setup here s (Push n) next running rule = past_check rule λ room gone. comes gone (still_running s _ running refl refl)
+leads_by_rule setup here s (Load v) next running rule = past_search rule λ x is room. past_check room λ some gone. comes gone (still_running s _ running refl refl)
+leads_by_rule setup here s (Store v) next running rule = past_check rule λ may top. past_search top λ x is gone. comes gone (still_running s _ running refl refl)
+leads_by_rule setup here s Add next running rule = past_search rule λ x is number. past_check number λ small gone. comes gone (still_running s _ running refl refl)
+leads_by_rule setup here s Sub next running rule = past_search rule λ x is number. past_check number λ small gone. comes gone (still_running s _ running refl refl)
+leads_by_rule setup here s Drop next running rule = past_search rule λ x is gone. comes gone (still_running s _ running refl refl)
+leads_by_rule setup here s (Grip set) next running rule = past_check rule λ lie gone. comes gone (still_running s _ running refl refl)
 leads_by_rule setup here s (Step direction) next running rule =
-    past_check rule λ on_bench. past_check on_bench λ apart. past_check apart λ gone. steps_to (still_running s _ running refl refl) gone
+    past_check rule λ some on_bench. past_check on_bench λ all apart. past_check apart λ none gone. comes gone (still_running s _ running refl refl)
 leads_by_rule setup here s (Aside direction tray) next running rule =
-    past_check rule λ empty. past_check empty λ free. past_check free λ gone. steps_to (still_running s _ running refl refl) gone
-leads_by_rule setup here s (Tray tray) next running rule = steps_to (still_running s _ running refl refl) rule
-leads_by_rule setup here s (Jump label) next running rule = past_search rule λ to is gone. steps_to (still_running s _ running refl refl) gone
+    past_check rule λ part empty. past_check empty λ none free. past_check free λ way gone. comes gone (still_running s _ running refl refl)
+leads_by_rule setup here s (Tray tray) next running rule = comes rule (still_running s _ running refl refl)
+leads_by_rule setup here s (Jump label) next running rule = past_search rule λ to is gone. comes gone (still_running s _ running refl refl)
 leads_by_rule setup here s (Down v label) next running rule = leads_down setup here s v label next running rule
-leads_by_rule setup here s (Ask low high) next running rule = past_check rule λ asked. asks (λ answer fits. (_, refl, still_running s _ running refl refl)) asked
+leads_by_rule setup here s (Ask low high) next running rule = past_check rule λ room asked. comes asked (λ answer fits. (_, refl, still_running s _ running refl refl))
 leads_by_rule setup here s (Pick labels) next running rule = leads_pick setup here s labels next running rule
 leads_by_rule setup here s (Call callee) next running rule =
-    past_search rule λ there is arguments. past_search arguments λ found has room. past_check room λ gone. steps_to (still_running s _ running refl refl) gone
-leads_by_rule setup here s Ret next running rule = past_search rule λ up is results. past_search results λ found has gone. steps_to (still_running s _ running refl refl) gone
+    past_search rule λ there is arguments. past_search arguments λ found has room. past_check room λ small gone. comes gone (still_running s _ running refl refl)
+leads_by_rule setup here s Ret next running rule = past_search rule λ up is results. past_search results λ found has gone. comes gone (still_running s _ running refl refl)
 
 -- Where a state leads
 
@@ -144,5 +96,5 @@ leads_at setup s here i (Asks low high) at rule taken = λ answer fits. let new 
 leads_at setup s here i (Traps trap) at rule none = tt
 
 pub leads_from : (setup : Setup) (s : BenchState) (next : Next) → s.mode ≡ Running → NextIs setup s next → LeadsFrom setup s next
-leads_from setup s next running (inl at) = leads_at setup s at.0 at.1 next at.2 at.3 (leads_by_rule setup at.0 s at.1 next running at.3).leads
+leads_from setup s next running (inl at) = leads_at setup s at.0 at.1 next at.2 at.3 (led at.0 s at.1 next (leads_by_rule setup at.0 s at.1 next running at.3))
 leads_from setup s next running (inr none) = subst (LeadsFrom setup s) (sym none.1) tt

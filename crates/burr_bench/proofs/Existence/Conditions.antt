@@ -1,10 +1,11 @@
 -- Whether the conditions on places hold.
-use Rattle.std.proofs.Common.{◌≡◌, ℕ, zero, suc, ◌*◌, ◌^◌, ◌<◌, ◌≤◌, List, length, Option, Some, None, inl, inr, refl, sym, subst, ap, ◌∙◌, arith}
-use Rattle.std.specs.Prelude.{slice_get, IsBitSet, bit_and}
-use Rattle.std.proofs.lemmas.Nat.Bits.{and_pow, bit_at_above}
+use Rattle.std.proofs.Common.{◌≡◌, ℕ, ◌<◌, ◌≤◌, List, length, Option, Some, None, inl, inr, refl, sym, subst, ap, ◌∙◌, arith}
+use Rattle.std.specs.Prelude.{slice_get}
 use Rattle.std.proofs.lemmas.Option.{none-some, same_Some, slice_get_within}
 use Rattle.burr_text.proofs.Common.Decisions.{Decided, decided_like, decided_and, decided_not, decide_same, decide_below, decide_some_below}
+use Rattle.burr_code.specs.PieceSets.{IsInSet}
 use Rattle.burr_code.specs.Places.{Placement, Apart, On, LiesAt, LiesIn, AllLieIn, AllApart, IsPartOfTray, IsEmptyTray}
+use Rattle.burr_code.proofs.Common.PieceSets.{decide_bit, no_bit_from_set}
 
 -- Conditions on all numbers and all values
 
@@ -45,25 +46,6 @@ decide_found (Some x) = inl (x, refl)
 pub one_in_list : {A : Type 0} (xs : List A) (p : ℕ) (x y : A) → slice_get xs p ≡ Some x → slice_get xs p ≡ Some y → x ≡ y
 one_in_list xs p x y e f = same_Some _ _ (sym e ∙ f)
 
--- Sets of pieces
-
-below_power : (n : ℕ) → n < 2 ^ n
-below_power zero = omega arith
-below_power (suc n) = let below = below_power n in omega arith
-
--- a set below a power of two has no bit from there on
-pub no_bit_above : (set n p : ℕ) → set < 2 ^ n → n ≤ p → ¬ IsBitSet set p
-no_bit_above set n p small far bit =
-    let none : bit_and set (2 ^ p) ≡ 0 * 2 ^ p = and_pow set p ∙ ap (λ b. b * 2 ^ p) (bit_at_above set n p small far) in
-    bit (omega arith)
-
--- and so none from its own number on
-no_bit_from_set : (set p : ℕ) → set ≤ p → ¬ IsBitSet set p
-no_bit_from_set set p far = no_bit_above set set p (below_power set) far
-
-pub decide_bit : (set p : ℕ) → Decided (IsBitSet set p)
-decide_bit set p = decided_not (decide_same (bit_and set (2 ^ p)) 0)
-
 -- Pieces in a tray
 
 pub same_tray : {Position : Type 0} (t u : ℕ) (x y : Position) → On t x ≡ On u y → t ≡ u
@@ -95,7 +77,7 @@ lies_within places p tray lies = slice_get_within places p (On tray lies.0) lies
 
 pub decide_all_lie : {Position : Type 0} (places : List (Placement Position)) (tray set : ℕ) → Decided (AllLieIn places tray set)
 decide_all_lie places tray set =
-    decide_all_numbers (λ p. IsBitSet set p → LiesIn places p tray) (λ p. decided_implies (decide_bit set p) (decide_lies places p tray)) set (λ p far bit. absurd (no_bit_from_set set p far bit))
+    decide_all_numbers (λ p. IsInSet set p → LiesIn places p tray) (λ p. decided_implies (decide_bit set p) (decide_lies places p tray)) set (λ p far bit. absurd (no_bit_from_set set p far bit))
 
 pub decide_all_apart : {Position : Type 0} (places : List (Placement Position)) → Decided (AllApart places)
 decide_all_apart {Position} places =
@@ -114,7 +96,7 @@ decide_all_apart {Position} places =
 pub decide_part_of_tray : {Position : Type 0} (group : ℕ) (places : List (Placement Position)) (tray : ℕ) → Decided (IsPartOfTray group places tray)
 decide_part_of_tray group places tray =
     decided_like (λ both. (both.0, both.1.0, both.1.2.0, both.1.2.1)) (λ part. (part.0, (part.1, lies_within places part.1 tray part.2, (part.2, part.3))))
-    (decided_and (decided_not (decide_same group 0)) (decide_some_below (λ p. LiesIn places p tray × (¬ IsBitSet group p)) (λ p. decided_and (decide_lies places p tray) (decided_not (decide_bit group p))) (length places)))
+    (decided_and (decided_not (decide_same group 0)) (decide_some_below (λ p. LiesIn places p tray × (¬ IsInSet group p)) (λ p. decided_and (decide_lies places p tray) (decided_not (decide_bit group p))) (length places)))
 
 pub decide_empty_tray : {Position : Type 0} (places : List (Placement Position)) (tray : ℕ) → Decided (IsEmptyTray places tray)
 decide_empty_tray places tray =

@@ -41,7 +41,7 @@ unfit_elsewhere : (setup : Setup) (s : BenchState) (next : Next) (answer : ℤ) 
 unfit_elsewhere setup s next answer is none low high asks fits = none (subst IsQuestion (one_next setup s (Asks low high) next asks is) tt)
 
 -- an answer that does not fit the question that stands next fits none
-unfit_there : (setup : Setup) (s : BenchState) (low high answer : ℤ) → NextIs setup s (Asks low high) → ¬ Fits low high answer → IsUnfit setup s answer
+pub unfit_there : (setup : Setup) (s : BenchState) (low high answer : ℤ) → NextIs setup s (Asks low high) → ¬ Fits low high answer → IsUnfit setup s answer
 unfit_there setup s low high answer is unfit l h asks fits =
     let same = one_next setup s (Asks l h) (Asks low high) asks is in
     let lows : l ≡ low = ap (λ (n : Next). low_of n l) same in

@@ -1,41 +1,16 @@
 -- Something stands next at each state.
-use Rattle.std.proofs.Common.{◌≡◌, ◌⊎◌, None, Some, true, inl, inr, refl, subst}
+use Rattle.std.proofs.Common.{◌⊎◌, inl, inr, refl, subst}
 use Rattle.std.specs.Prelude.{slice_get}
-use Rattle.burr_text.proofs.Common.Decisions.{Decided, decide_same}
-use Rattle.burr_code.specs.Places.{aside_places}
-use Rattle.burr_code.specs.Instruction.{Instruction, Halt, Grip, Aside, IsBuilt, StandsAt}
-use Rattle.burr_bench.specs.declared.trap.Trap.TheVariants.{BadCode}
-use Rattle.burr_bench.specs.declared.mode.Mode.TheVariants.{Ended}
-use Rattle.burr_bench.specs.Bench.{BenchState, Setup, BenchProcedure}
-use Rattle.burr_bench.specs.Next.{Next, Goes, Traps}
-use Rattle.burr_bench.specs.Step.{NextIs, Executes, IsAt, Runs}
-use Rattle.burr_bench.specs.Next.{after, stepped}
-use Rattle.burr_bench.specs.Space.{motion_of}
-use Rattle.burr_bench.specs.RunLaws.{SomeNext}
-use Rattle.burr_bench.proofs.Existence.Conditions.{decide_found, one_in_list, decide_all_lie, decide_all_apart, decide_part_of_tray, decide_empty_tray}
-use Rattle.burr_bench.proofs.Existence.Freedom.{decide_free_group}
+use Rattle.burr_text.proofs.Common.Decisions.{Decided}
+use Rattle.burr_code.specs.Instruction.{Instruction, StandsAt}
 use Rattle.burr_code.proofs.Common.Reading.{stands_or_none}
-
--- where a decided condition holds there is an answer, and so there is one in any case
-some_needs : {A C : Type 0} (failure : A) (P : A → Type 0) → Decided C → (C → (x : A) × P x) → (x : A) × (((¬ C) × (x ≡ failure)) ⊎ (C × P x))
-some_needs failure P (inr h) f = (failure, inl (h, refl))
-some_needs failure P (inl c) f = ((f c).0, inr (c, (f c).1))
-
-some_rule : (setup : Setup) (here : BenchProcedure) (s : BenchState) (i : Instruction) → IsBuilt i → (next : Next) × Executes setup here s i next
-some_rule setup here s Halt built =
-    some_needs _ _ (decide_same s.running.procedure 0) λ is_main.
-    some_needs _ _ (decide_all_apart s.places) λ apart.
-    (Goes (stepped (record s { mode = Ended })) None, refl)
-some_rule setup here s (Grip set) built =
-    some_needs _ _ (decide_all_lie s.places s.tray set) λ lie.
-    (Goes (record (after (Grip set) s.running s) { grip = set }) None, refl)
-some_rule setup here s (Aside direction tray) built =
-    some_needs _ _ (decide_part_of_tray s.grip s.places s.tray) λ part.
-    some_needs _ _ (decide_empty_tray s.places tray) λ empty.
-    some_needs _ _ (decide_free_group setup.homes s.places s.tray s.grip direction) λ free.
-    (Goes (record (after (Aside direction tray) s.running s) { places = aside_places s.grip s.tray tray s.places; grip = 0 }) (Some (motion_of s.grip s.tray direction true)), refl)
--- an instruction that is not built yet stands nowhere
-some_rule setup here s i built = absurd built
+use Rattle.burr_bench.specs.declared.trap.Trap.TheVariants.{BadCode}
+use Rattle.burr_bench.specs.Bench.{BenchState, Setup, BenchProcedure}
+use Rattle.burr_bench.specs.Next.{Next, Traps}
+use Rattle.burr_bench.specs.Step.{NextIs, IsAt, Runs}
+use Rattle.burr_bench.specs.RunLaws.{SomeNext}
+use Rattle.burr_bench.proofs.Existence.Conditions.{decide_found, one_in_list}
+use Rattle.burr_bench.proofs.Existence.Executions.{some_execution}
 
 -- a state stands at an instruction, or at none
 at_some_or_none : (setup : Setup) (s : BenchState) → ((here : BenchProcedure) × (i : Instruction) × IsAt setup s here i) ⊎ ((here : BenchProcedure) (i : Instruction) → ¬ IsAt setup s here i)
@@ -55,5 +30,5 @@ pub some_next : SomeNext
 some_next setup s = by_place (at_some_or_none setup s)
   where
     by_place : ((here : BenchProcedure) × (i : Instruction) × IsAt setup s here i) ⊎ ((here : BenchProcedure) (i : Instruction) → ¬ IsAt setup s here i) → (next : Next) × NextIs setup s next
-    by_place (inl at) = let rule = some_rule setup at.0 s at.1 at.2.1.built in (rule.0, inl (at.0, at.1, at.2, rule.1))
+    by_place (inl at) = let next = some_execution setup at.0 s at.1 in (next.0, inl (at.0, at.1, at.2, next.1))
     by_place (inr none) = (Traps BadCode, inr (none, refl))

@@ -16,11 +16,12 @@ use Rattle.burr_assembly.specs.Text.{Assembly}
 use Rattle.burr_assembly.specs.Homes.{HasHome, home_at, home_of, homes_of}
 use Rattle.burr_blocking.specs.Pairs.{IsFreeFrom}
 use Rattle.burr_blocking.proofs.Common.Displaced.{free_of_difference, difference_of_free}
+use Rattle.burr_code.proofs.Common.PieceSets.{no_bit_above}
 use Rattle.burr_text.proofs.Common.Decisions.{decide_below}
 use Rattle.burr_bench.specs.Space.{IsFreeGroup}
 use Rattle.burr_bench.specs.Freedom.{IsFreeOf, IsFreePiece}
 use Rattle.burr_bench.proofs.Trays.Counts.{count_in-empty, count_in-some}
-use Rattle.burr_bench.proofs.Existence.Conditions.{no_bit_above, one_position, lies_within}
+use Rattle.burr_bench.proofs.Existence.Conditions.{one_position, lies_within}
 
 -- a tray is empty where it is counted so
 pub counts_empty : {Position : Type 0} (places : List (Placement Position)) (tray count : ℕ) → count ≡ count_in tray places → IsTrue (nat_eq count 0) ↔ IsEmptyTray places tray

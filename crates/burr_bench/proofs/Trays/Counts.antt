@@ -1,52 +1,30 @@
 -- Places of which those of a set are changed, and how many pieces are counted in a tray.
-use Rattle.std.proofs.Common.{◌≡◌, ◌≢◌, ◌⊎◌, ℕ, zero, suc, ◌+◌, ◌/◌, ◌%◌, ◌^◌, ◌≤◌, ◌==◌, if◌then◌else◌, bit_and, IsBitSet}
+use Rattle.std.proofs.Common.{◌≡◌, ◌≢◌, ◌⊎◌, ℕ, zero, suc, ◌+◌, ◌≤◌, ◌==◌, if◌then◌else◌}
 use Rattle.std.proofs.Common.{List, [], ◌∷◌, length, slice_get, Some, All}
 use Rattle.std.proofs.Common.{refl, sym, ap, subst, ◌∙◌, inl, inr, arith}
 use Rattle.std.proofs.lemmas.Bool.{cond_both}
 use Rattle.std.proofs.lemmas.Bool.Decides.{nat_tests}
 use Rattle.std.proofs.lemmas.List.Elements.{All-nil, All-cons, All-head, All-tail}
-use Rattle.std.proofs.lemmas.Nat.{bit_set_by_shift}
-use Rattle.std.proofs.lemmas.Nat.Bits.{bit_at_lowest, bit_at-suc, shr_and_one}
 use Rattle.std.proofs.lemmas.Option.{none-some, same_Some}
-use Rattle.std.specs.Int.{bit_at}
-use Rattle.std.specs.Int.Bits.{and_zero_l}
 use Rattle.std.specs.List.{AllZip}
 use native.Mathlib.Decide.{ℕ_discrete}
-use Rattle.burr_code.specs.Places.{Placement, Apart, On, LiesIn, AllLieIn, IsEmptyTray, changed, to_tray, is_in, count_in, parted_in}
-
--- Sets of pieces
-
-pub no_bit : (p : ℕ) → ¬ IsBitSet 0 p
-no_bit p bit = bit (and_zero_l (2 ^ p))
-
-set_bit_below : (bound group : ℕ) → group ≤ bound → group ≢ 0 → (p : ℕ) × (bit_at group p ≡ 1)
-set_bit_below zero group small some = absurd (some (omega arith))
-set_bit_below (suc bound) group small some = elim (ℕ_discrete (group % 2) 1) [
-  | yes odd ↦ (0, bit_at_lowest group ∙ odd)
-  | no even ↦
-      let half = set_bit_below bound (group / 2) (omega arith) (λ e. some (omega arith)) in
-      (suc half.0, bit_at-suc group half.0 ∙ half.1)
-]
-
--- a set that is not 0 has a piece
-pub set_bit : (group : ℕ) → group ≢ 0 → (p : ℕ) × IsBitSet group p
-set_bit group some =
-    let found = set_bit_below group group (omega arith) some in
-    (found.0, (bit_set_by_shift group found.0).0 (shr_and_one group found.0 ∙ found.1))
+use Rattle.burr_code.specs.PieceSets.{IsInSet, is_left_out}
+use Rattle.burr_code.proofs.Common.PieceSets.{not_left_out, left_out, decide_bit}
+use Rattle.burr_code.specs.Places.{Placement, Apart, On, LiesAt, LiesIn, AllLieIn, IsEmptyTray, changed, to_tray, is_in, count_in, parted_in}
 
 -- The places of a set are changed
 
 -- the place of piece p afterwards
 abbrev pub changed_place : {Place : Type 0} → (Place → Place) → ℕ → ℕ → Place → Place
-changed_place f group p place = if bit_and group (2 ^ p) == 0 then place else f place
+changed_place f group p place = if is_left_out group p then place else f place
 
-is_changed : {Place : Type 0} (f : Place → Place) (group p : ℕ) (place : Place)
-    → IsBitSet group p → changed_place f group p place ≡ f place
-is_changed f group p place bit = grind (arith, nat_tests)
+pub is_changed : {Place : Type 0} (f : Place → Place) (group p : ℕ) (place : Place)
+    → IsInSet group p → changed_place f group p place ≡ f place
+is_changed f group p place bit = ap (λ b. if b then place else f place) (not_left_out group p bit)
 
-is_kept : {Place : Type 0} (f : Place → Place) (group p : ℕ) (place : Place)
-    → ¬ IsBitSet group p → changed_place f group p place ≡ place
-is_kept f group p place none = grind (arith, nat_tests)
+pub is_kept : {Place : Type 0} (f : Place → Place) (group p : ℕ) (place : Place)
+    → ¬ IsInSet group p → changed_place f group p place ≡ place
+is_kept f group p place none = ap (λ b. if b then place else f place) (left_out group p none)
 
 pub length-changed : {Place : Type 0} (f : Place → Place) (group p : ℕ) (places : List Place)
     → length (changed f group p places) ≡ length places
@@ -60,7 +38,7 @@ All-changed P f group p [] keeps all = All-nil P
 All-changed P f group p (place ∷ places) keeps all =
     let holds = All-head P place places all in
     All-cons P (changed_place f group p place) (changed f group (suc p) places)
-    (cond_both (bit_and group (2 ^ p) == 0) place (f place) P (λ none. holds) (λ bit. keeps place holds))
+    (cond_both (is_left_out group p) place (f place) P (λ none. holds) (λ bit. keeps place holds))
     (All-changed P f group (suc p) places keeps (All-tail P place places all))
 
 slice_get-changed_from : {Place : Type 0} (f : Place → Place) (group p k i : ℕ) (places : List Place) (place : Place)
@@ -71,23 +49,47 @@ slice_get-changed_from f group p zero i (first ∷ places) place e at =
 slice_get-changed_from f group p (suc k) i (first ∷ places) place e at =
     slice_get-changed_from f group (suc p) k i places place (omega arith) at
 
-slice_get-changed : {Place : Type 0} (f : Place → Place) (group p : ℕ) (places : List Place) (place : Place)
+pub slice_get-changed : {Place : Type 0} (f : Place → Place) (group p : ℕ) (places : List Place) (place : Place)
     → slice_get places p ≡ Some place → slice_get (changed f group 0 places) p ≡ Some (changed_place f group p place)
 slice_get-changed f group p places place at = slice_get-changed_from f group 0 p p places place (omega arith) at
 
+changed_back_from : {Place : Type 0} (f : Place → Place) (group p k i : ℕ) (places : List Place) (new : Place)
+    → p + k ≡ i → slice_get (changed f group p places) k ≡ Some new → (old : Place) × (slice_get places k ≡ Some old) × (changed_place f group i old ≡ new)
+changed_back_from f group p k i [] new e at = absurd (none-some _ at)
+changed_back_from f group p zero i (first ∷ places) new e at =
+    (first, refl, ap (λ j. changed_place f group j first) (omega arith) ∙ same_Some (changed_place f group p first) new at)
+changed_back_from f group p (suc k) i (first ∷ places) new e at = changed_back_from f group (suc p) k i places new (omega arith) at
+
+-- the place of a piece before
+pub changed_back : {Place : Type 0} (f : Place → Place) (group p : ℕ) (places : List Place) (new : Place)
+    → slice_get (changed f group 0 places) p ≡ Some new → (old : Place) × (slice_get places p ≡ Some old) × (changed_place f group p old ≡ new)
+changed_back f group p places new at = changed_back_from f group 0 p p places new (omega arith) at
+
 -- a piece that is not of the set stays where it is
+pub lies_still_at : {Position : Type 0} (f : Placement Position → Placement Position) (group p tray : ℕ) (position : Position) (places : List (Placement Position))
+    → ¬ IsInSet group p → LiesAt places p tray position → LiesAt (changed f group 0 places) p tray position
+lies_still_at f group p tray position places out lies =
+    slice_get-changed f group p places (On tray position) lies ∙ ap Some (is_kept f group p (On tray position) out)
+
 pub lies_still : {Position : Type 0} (f : Placement Position → Placement Position) (group p tray : ℕ) (places : List (Placement Position))
-    → ¬ IsBitSet group p → LiesIn places p tray → LiesIn (changed f group 0 places) p tray
-lies_still f group p tray places out lies =
-    let place = On tray lies.0 in
-    (lies.0, slice_get-changed f group p places place lies.1 ∙ ap Some (is_kept f group p place out))
+    → ¬ IsInSet group p → LiesIn places p tray → LiesIn (changed f group 0 places) p tray
+lies_still f group p tray places out lies = (lies.0, lies_still_at f group p tray lies.0 places out lies.1)
 
 -- a piece of the group goes to the other tray
+pub lies_there_at : {Position : Type 0} (group p here there : ℕ) (position : Position) (places : List (Placement Position))
+    → IsInSet group p → LiesAt places p here position → LiesAt (changed (to_tray there) group 0 places) p there position
+lies_there_at group p here there position places bit lies =
+    slice_get-changed (to_tray there) group p places (On here position) lies ∙ ap Some (is_changed (to_tray there) group p (On here position) bit)
+
 pub lies_there : {Position : Type 0} (group p here there : ℕ) (places : List (Placement Position))
-    → IsBitSet group p → LiesIn places p here → LiesIn (changed (to_tray there) group 0 places) p there
-lies_there group p here there places bit lies =
-    let place = On here lies.0 in
-    (lies.0, slice_get-changed (to_tray there) group p places place lies.1 ∙ ap Some (is_changed (to_tray there) group p place bit))
+    → IsInSet group p → LiesIn places p here → LiesIn (changed (to_tray there) group 0 places) p there
+lies_there group p here there places bit lies = (lies.0, lies_there_at group p here there lies.0 places bit lies.1)
+
+-- a piece that is apart is so wherever the set goes
+pub apart_still : {Position : Type 0} (group p there : ℕ) (places : List (Placement Position))
+    → slice_get places p ≡ Some Apart → slice_get (changed (to_tray there) group 0 places) p ≡ Some Apart
+apart_still group p there places apart =
+    slice_get-changed (to_tray there) group p places Apart apart ∙ ap Some (cond_both (is_left_out group p) Apart (to_tray there Apart) (λ place. place ≡ Apart) (λ out. refl) (λ bit. refl))
 
 -- How many pieces are in a tray
 
@@ -118,14 +120,14 @@ abbrev pub IsTaken : {Position : Type 0} → ℕ → ℕ → Placement Position 
 IsTaken {Position} here there old new = ((position : Position) × (old ≡ On here position) × (new ≡ On there position)) ⊎ (new ≡ old)
 
 one_taken : {Position : Type 0} (group here there p : ℕ) (place : Placement Position)
-    → (IsBitSet group p → (position : Position) × (place ≡ On here position)) → IsTaken here there place (changed_place (to_tray there) group p place)
-one_taken group here there p place lies = elim (ℕ_discrete (bit_and group (2 ^ p)) 0) [
-  | yes none ↦ inr (is_kept (to_tray there) group p place (λ bit. bit none))
-  | no bit ↦ let is = lies bit in inl (is.0, is.1, is_changed (to_tray there) group p place bit ∙ ap (to_tray there) is.1)
+    → (IsInSet group p → (position : Position) × (place ≡ On here position)) → IsTaken here there place (changed_place (to_tray there) group p place)
+one_taken group here there p place lies = elim (decide_bit group p) [
+  | inl bit ↦ let is = lies bit in inl (is.0, is.1, is_changed (to_tray there) group p place bit ∙ ap (to_tray there) is.1)
+  | inr out ↦ inr (is_kept (to_tray there) group p place out)
 ]
 
 all_taken : {Position : Type 0} (group here there p : ℕ) (places : List (Placement Position))
-    → ((k i : ℕ) → p + k ≡ i → IsBitSet group i → LiesIn places k here)
+    → ((k i : ℕ) → p + k ≡ i → IsInSet group i → LiesIn places k here)
     → AllZip (IsTaken here there) places (changed (to_tray there) group p places)
 all_taken group here there p [] lie = tt
 all_taken group here there p (place ∷ places) lie = (

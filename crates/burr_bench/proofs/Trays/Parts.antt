@@ -9,7 +9,8 @@ use Rattle.burr_bench.specs.Offsets.{PositionHolds, PositionsHold}
 use native.Mathlib.Decide.{ℕ_discrete}
 use Rattle.burr_code.specs.Places.{Placement, Apart, On, LiesIn, AllLieIn, IsPartOfTray, IsEmptyTray, changed, to_tray, is_in, count_in, parted_in, parted, aside_places}
 use Rattle.burr_bench.specs.Parts.{parts}
-use Rattle.burr_bench.proofs.Trays.Counts.{no_bit, set_bit, length-changed, All-changed, lies_still, lies_there}
+use Rattle.burr_code.proofs.Common.PieceSets.{no_bit, set_bit}
+use Rattle.burr_bench.proofs.Trays.Counts.{length-changed, All-changed, lies_still, lies_there}
 use Rattle.burr_bench.proofs.Trays.Counts.{count_in-same, count_in-other, count_in-empty, count_in-some, IsTaken, group_taken, count_in-third, parted_in-same, parted_in-other, count_in-parted_in}
 
 last_or_more : (n : ℕ) → (if n == 0 then 1 else 0) + min n 1 ≡ 1

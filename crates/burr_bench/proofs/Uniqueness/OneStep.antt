@@ -12,8 +12,8 @@ use Rattle.burr_bench.specs.Step.{Executes, IsAt, AsksFor, TakesAnswer, IsUnfit,
 use Rattle.burr_bench.specs.Questions.{Takes, Fits}
 use Rattle.burr_bench.specs.declared.progress.Progress.{Progress}
 use Rattle.burr_bench.specs.declared.trap.Trap.{Trap}
-use Rattle.burr_bench.specs.Questions.{Fits}
 use Rattle.burr_bench.specs.Next.{at_label}
+use Rattle.burr_bench.specs.StepLaws.{OneExecution}
 use Rattle.burr_bench.specs.RunLaws.{OneNext, OneCall}
 
 -- one value at most is so
@@ -38,25 +38,25 @@ one_found found v rest one x y (inl p) (inr q) = absurd (none-some q.0 (sym p.0 
 one_found found v rest one x y (inr p) (inl q) = absurd (none-some p.0 (sym q.0 ∙ p.1))
 one_found found v rest one x y (inr p) (inr q) = one p.0 x y p.2 (subst (λ b. rest b y) (same_Some q.0 p.0 (sym q.1 ∙ p.1)) q.2)
 
--- one thing stands next, by the instruction
-one_rule : (setup : Setup) (here : BenchProcedure) (s : BenchState) (i : Instruction) → IsOne (Executes setup here s i)
-one_rule setup here s Halt = one_needed _ _ _ (one_needed _ _ _ (one_given _))
-one_rule setup here s (Push n) = one_needed _ _ _ (one_given _)
-one_rule setup here s (Load v) = one_found _ _ _ λ x. one_needed _ _ _ (one_given _)
-one_rule setup here s (Store v) = one_needed _ _ _ (one_found _ _ _ λ found. one_given _)
-one_rule setup here s Add = one_found _ _ _ λ found. one_needed _ _ _ (one_given _)
-one_rule setup here s Sub = one_found _ _ _ λ found. one_needed _ _ _ (one_given _)
-one_rule setup here s Drop = one_found _ _ _ λ found. one_given _
-one_rule setup here s (Grip set) = one_needed _ _ _ (one_given _)
-one_rule setup here s (Step direction) = one_needed _ _ _ (one_needed _ _ _ (one_needed _ _ _ (one_given _)))
-one_rule setup here s (Aside direction tray) = one_needed _ _ _ (one_needed _ _ _ (one_needed _ _ _ (one_given _)))
-one_rule setup here s (Tray tray) = one_given _
-one_rule setup here s (Jump label) = one_found _ _ _ λ to. one_given _
-one_rule setup here s (Down v label) = one_found _ _ _ λ to. one_needed _ _ _ (one_found _ _ _ λ x. one_needed _ _ _ (one_given _))
-one_rule setup here s (Ask low high) = one_needed _ _ _ (one_given _)
-one_rule setup here s (Pick labels) = one_found _ _ _ λ to. one_given _
-one_rule setup here s (Call callee) = one_found _ _ _ λ there. one_found _ _ _ λ found. one_needed _ _ _ (one_given _)
-one_rule setup here s Ret = one_found _ _ _ λ up. one_found _ _ _ λ found. one_given _
+-- one thing stands next where an instruction is carried out
+pub one_execution : OneExecution
+one_execution setup here s Halt = one_needed _ _ _ (one_needed _ _ _ (one_given _))
+one_execution setup here s (Push n) = one_needed _ _ _ (one_given _)
+one_execution setup here s (Load v) = one_found _ _ _ λ x. one_needed _ _ _ (one_given _)
+one_execution setup here s (Store v) = one_needed _ _ _ (one_found _ _ _ λ found. one_given _)
+one_execution setup here s Add = one_found _ _ _ λ found. one_needed _ _ _ (one_given _)
+one_execution setup here s Sub = one_found _ _ _ λ found. one_needed _ _ _ (one_given _)
+one_execution setup here s Drop = one_found _ _ _ λ found. one_given _
+one_execution setup here s (Grip set) = one_needed _ _ _ (one_given _)
+one_execution setup here s (Step direction) = one_needed _ _ _ (one_needed _ _ _ (one_needed _ _ _ (one_given _)))
+one_execution setup here s (Aside direction tray) = one_needed _ _ _ (one_needed _ _ _ (one_needed _ _ _ (one_given _)))
+one_execution setup here s (Tray tray) = one_given _
+one_execution setup here s (Jump label) = one_found _ _ _ λ to. one_given _
+one_execution setup here s (Down v label) = one_found _ _ _ λ to. one_needed _ _ _ (one_found _ _ _ λ x. one_needed _ _ _ (one_given _))
+one_execution setup here s (Ask low high) = one_needed _ _ _ (one_given _)
+one_execution setup here s (Pick labels) = one_found _ _ _ λ to. one_given _
+one_execution setup here s (Call callee) = one_found _ _ _ λ there. one_found _ _ _ λ found. one_needed _ _ _ (one_given _)
+one_execution setup here s Ret = one_found _ _ _ λ up. one_found _ _ _ λ found. one_given _
 
 -- what holds at a procedure and an instruction at which a state stands holds at any others at which it stands
 at_others : (setup : Setup) (s : BenchState) (IsSo : BenchProcedure → Instruction → Type 0) (here there : BenchProcedure) (i j : Instruction) → IsAt setup s here i → IsAt setup s there j → IsSo there j → IsSo here i
@@ -66,7 +66,7 @@ at_others setup s IsSo here there i j at also_at holds =
     subst (λ (k : Instruction). IsSo here k) (one_stands_at here.code s.running.pc j i stands at.1) (subst (λ (p : BenchProcedure). IsSo p j) runs holds)
 
 pub one_next : OneNext
-one_next setup s next other (inl p) (inl q) = one_rule setup p.0 s p.1 next other p.3 (at_others setup s (λ here i. Executes setup here s i other) p.0 q.0 p.1 q.1 p.2 q.2 q.3)
+one_next setup s next other (inl p) (inl q) = one_execution setup p.0 s p.1 next other p.3 (at_others setup s (λ here i. Executes setup here s i other) p.0 q.0 p.1 q.1 p.2 q.2 q.3)
 one_next setup s next other (inl p) (inr q) = absurd (q.0 p.0 p.1 p.2)
 one_next setup s next other (inr p) (inl q) = absurd (p.0 q.0 q.1 q.2)
 one_next setup s next other (inr p) (inr q) = p.1 ∙ sym q.1
