@@ -12,7 +12,7 @@ use Rattle.std.proofs.lemmas.Str.{IsUtf8-from_ascii}
 use Rattle.std.proofs.lemmas.Str.Parse.{IsNumeralModel, numerals_by_value, tells_by_index, parse_signed_digits, parse_signed_minus}
 use lib.Signed.{mag}
 use denote.Bor.{Bor}
-use Rattle.burr_assembly.specs.Positions.{IsCoordinate}
+use Rattle.burr_assembly.specs.Text.{IsCoordinate}
 use Rattle.burr_text.specs.Numbers.{IsCount, IsNumber}
 
 -- each byte is a digit

@@ -5,7 +5,7 @@ use Rattle.std.proofs.lemmas.Int.{ints}
 use Rattle.std.proofs.lemmas.Fmt.{signed_decimal_injective}
 use lib.Signed.{mag}
 use Rattle.burr_voxels.specs.declared.cell.Cell.{Cell}
-use Rattle.burr_assembly.specs.Positions.{IsCoordinate}
+use Rattle.burr_assembly.specs.Text.{IsCoordinate}
 use Rattle.burr_assembly.specs.Lines.{PieceWords}
 use Rattle.burr_text.specs.Numbers.{IsNumber}
 use Rattle.burr_assembly.specs.Faults.{IsPositionOf}

@@ -8,7 +8,7 @@ use Rattle.burr_assembly.specs.declared.fault.AssemblyFault.TheVariants.{A1, A2,
 use Rattle.burr_text.specs.Names.{IsName}
 use Rattle.burr_assembly.specs.Text.{Drawing, Turn, Piece, Assembly, turn_name, IsTurn, IsShapeName, IsPieceName}
 use Rattle.burr_assembly.specs.Lines.{LineForm, PieceWords, AssemblyLine, ShapeLine, LayerLine, RowLine, EndLine, PieceLine, IsLine}
-use Rattle.burr_assembly.specs.Faults.{Front, Blank, Shapes, Drawn, Pieces, LineResult, gives, IsFinishedLayer, IsRow, with_layer, HasCellCount, IsFirstSharing, IsPositionOf, PieceRule, FormGives, LineGives, EndGives, TextGives, ends, breaks_off, fails, goes_on}
+use Rattle.burr_assembly.specs.Faults.{Beginning, Blank, Shapes, Drawn, Pieces, LineResult, gives, IsFinishedLayer, IsRow, with_layer, HasCellCount, IsFirstSharing, IsPositionOf, PieceRule, FormGives, LineGives, EndGives, TextGives, ends, breaks_off, fails, goes_on}
 use Rattle.burr_text.specs.Lines.{IsUnended}
 use Rattle.burr_text.proofs.Common.Cuts.{cut, lacks, contains_cut}
 use Rattle.burr_assembly.proofs.Numbers.{one_position}
@@ -69,7 +69,7 @@ one_piece n name shapes pieces w x y p q =
     one_stands n name shapes pieces (piece_at w t position) x y p q
 
 -- a line of a form gives one answer
-pub one_rule_answer : (n : ℕ) (front : Front) (form : LineForm) (x y : LineResult) → FormGives n front form x → FormGives n front form y → x ≡ y
+pub one_rule_answer : (n : ℕ) (so_far : Beginning) (form : LineForm) (x y : LineResult) → FormGives n so_far form x → FormGives n so_far form y → x ≡ y
 one_rule_answer n Blank (AssemblyLine name) x y p q = one_check (IsName name) (Err (A2 n)) _ x y p q
 one_rule_answer n (Shapes name shapes) (ShapeLine shape) x y p q =
     one_needs (length shapes < 32) (Err (A7 n)) _ x y p q λ x y p q.
@@ -80,14 +80,14 @@ one_rule_answer n (Drawn name shapes d (Some rows)) (RowLine marks) x y p q = on
 one_rule_answer n (Drawn name shapes d (Some rows)) EndLine x y p q = one_check (IsFinishedLayer d.layers rows × HasCellCount (with_layer d rows)) (Err (A3 n)) _ x y p q
 one_rule_answer n (Shapes name (s ∷ shapes)) (PieceLine w) x y p q = one_piece n name (s ∷ shapes) [] w x y p q
 one_rule_answer n (Pieces name shapes pieces) (PieceLine w) x y p q = one_piece n name shapes pieces w x y p q
-one_rule_answer n front form x y p q = p ∙ sym q
+one_rule_answer n so_far form x y p q = p ∙ sym q
 
 -- a line gives one answer
-pub one_line_answer : (n : ℕ) (front : Front) (bytes : List ℕ) (x y : LineResult) → LineGives n front bytes x → LineGives n front bytes y → x ≡ y
-one_line_answer n front bytes x y p q = one_search (IsLine bytes) (Err (A1 n)) (one_form bytes) (λ form. FormGives n front form) x y p q (one_rule_answer n front)
+pub one_line_answer : (n : ℕ) (so_far : Beginning) (bytes : List ℕ) (x y : LineResult) → LineGives n so_far bytes x → LineGives n so_far bytes y → x ≡ y
+one_line_answer n so_far bytes x y p q = one_search (IsLine bytes) (Err (A1 n)) (one_form bytes) (λ form. FormGives n so_far form) x y p q (one_rule_answer n so_far)
 
 -- so does the end of a text
-pub one_end_answer : (n : ℕ) (front : Front) (x y : Result Assembly AssemblyFault) → EndGives n front x → EndGives n front y → x ≡ y
+pub one_end_answer : (n : ℕ) (so_far : Beginning) (x y : Result Assembly AssemblyFault) → EndGives n so_far x → EndGives n so_far y → x ≡ y
 one_end_answer n Blank x y p q = p ∙ sym q
 one_end_answer n (Shapes name []) x y p q = p ∙ sym q
 one_end_answer n (Shapes name (s ∷ shapes)) x y p q = p ∙ sym q
@@ -109,42 +109,42 @@ first_line : (a b r s : List ℕ) → IsUnended a → IsUnended b → a ++ 10 �
 first_line a b r s h k e = cut 10 a b r s (lacks 10 a h) (lacks 10 b k) e
 
 -- the first lines of a text give one answer
-same_line : (n : ℕ) (front : Front) (a b r s : List ℕ) (x y : LineResult) → IsUnended a → IsUnended b → a ++ 10 ∷ r ≡ b ++ 10 ∷ s → LineGives n front a x → LineGives n front b y → x ≡ y
-same_line n front a b r s x y h k e p q = one_line_answer n front a x y p (subst (λ (l : List ℕ). LineGives n front l y) (sym (first_line a b r s h k e).0) q)
+same_line : (n : ℕ) (so_far : Beginning) (a b r s : List ℕ) (x y : LineResult) → IsUnended a → IsUnended b → a ++ 10 ∷ r ≡ b ++ 10 ∷ s → LineGives n so_far a x → LineGives n so_far b y → x ≡ y
+same_line n so_far a b r s x y h k e p q = one_line_answer n so_far a x y p (subst (λ (l : List ℕ). LineGives n so_far l y) (sym (first_line a b r s h k e).0) q)
 
--- a fault is no front
-err_ok : (fault : AssemblyFault) (next : Front) → ◌≢◌ {A = LineResult} (Err fault) (Ok next)
+-- a fault is no beginning
+err_ok : (fault : AssemblyFault) (next : Beginning) → ◌≢◌ {A = LineResult} (Err fault) (Ok next)
 err_ok fault next e = cc
 
 -- the faults of one answer are one
 same_fault : (f g : AssemblyFault) → ◌≡◌ {A = LineResult} (Err f) (Err g) → f ≡ g
 same_fault f g e = cc
 
--- and so are the fronts
-same_front : (f g : Front) → ◌≡◌ {A = LineResult} (Ok f) (Ok g) → f ≡ g
-same_front f g e = cc
+-- and so are the beginnings
+same_beginning : (f g : Beginning) → ◌≡◌ {A = LineResult} (Ok f) (Ok g) → f ≡ g
+same_beginning f g e = cc
 
 -- texts that are equal give one answer: by the lines of the first
-one_answer : (n : ℕ) (front : Front) (text : List ℕ) (x : Result Assembly AssemblyFault) → TextGives n front text x → (other : List ℕ) (y : Result Assembly AssemblyFault) → text ≡ other → TextGives n front other y → x ≡ y
-one_answer n front _ x (ends _ _ _ p) _ y e (ends _ _ _ q) = one_end_answer n front x y p q
-one_answer n front _ x (ends _ _ _ p) _ _ e (breaks_off _ _ rest some h) = absurd (some (sym e))
-one_answer n front _ x (ends _ _ _ p) _ _ e (fails _ _ b s g k q) = absurd (never_empty b s e)
-one_answer n front _ x (ends _ _ _ p) _ y e (goes_on _ _ next b s _ k q u) = absurd (never_empty b s e)
-one_answer n front _ _ (breaks_off _ _ rest some h) _ y e (ends _ _ _ q) = absurd (some e)
-one_answer n front _ _ (breaks_off _ _ rest some h) _ _ e (breaks_off _ _ rest' some' h') = refl
-one_answer n front _ _ (breaks_off _ _ rest some h) _ _ e (fails _ _ b s g k q) = absurd (never_unended b s rest h e)
-one_answer n front _ _ (breaks_off _ _ rest some h) _ y e (goes_on _ _ next b s _ k q u) = absurd (never_unended b s rest h e)
-one_answer n front _ _ (fails _ _ a r f h p) _ y e (ends _ _ _ q) = absurd (never_empty a r (sym e))
-one_answer n front _ _ (fails _ _ a r f h p) _ _ e (breaks_off _ _ rest some k) = absurd (never_unended a r rest k (sym e))
-one_answer n front _ _ (fails _ _ a r f h p) _ _ e (fails _ _ b s g k q) = ap Err (same_fault f g (same_line n front a b r s (Err f) (Err g) h k e p q))
-one_answer n front _ _ (fails _ _ a r f h p) _ y e (goes_on _ _ next b s _ k q u) = absurd (err_ok f next (same_line n front a b r s (Err f) (Ok next) h k e p q))
-one_answer n front _ x (goes_on _ _ next a r _ h p t) _ y e (ends _ _ _ q) = absurd (never_empty a r (sym e))
-one_answer n front _ x (goes_on _ _ next a r _ h p t) _ _ e (breaks_off _ _ rest some k) = absurd (never_unended a r rest k (sym e))
-one_answer n front _ x (goes_on _ _ next a r _ h p t) _ _ e (fails _ _ b s g k q) = absurd (err_ok g next (sym (same_line n front a b r s (Ok next) (Err g) h k e p q)))
-one_answer n front _ x (goes_on _ _ next a r _ h p t) _ y e (goes_on _ _ after b s _ k q u) =
-    let same = same_front next after (same_line n front a b r s (Ok next) (Ok after) h k e p q) in
-    one_answer (n + 1) next r x t s y (first_line a b r s h k e).1 (subst (λ (f : Front). TextGives (n + 1) f s y) (sym same) u)
+one_answer : (n : ℕ) (so_far : Beginning) (text : List ℕ) (x : Result Assembly AssemblyFault) → TextGives n so_far text x → (other : List ℕ) (y : Result Assembly AssemblyFault) → text ≡ other → TextGives n so_far other y → x ≡ y
+one_answer n so_far _ x (ends _ _ _ p) _ y e (ends _ _ _ q) = one_end_answer n so_far x y p q
+one_answer n so_far _ x (ends _ _ _ p) _ _ e (breaks_off _ _ rest some h) = absurd (some (sym e))
+one_answer n so_far _ x (ends _ _ _ p) _ _ e (fails _ _ b s g k q) = absurd (never_empty b s e)
+one_answer n so_far _ x (ends _ _ _ p) _ y e (goes_on _ _ next b s _ k q u) = absurd (never_empty b s e)
+one_answer n so_far _ _ (breaks_off _ _ rest some h) _ y e (ends _ _ _ q) = absurd (some e)
+one_answer n so_far _ _ (breaks_off _ _ rest some h) _ _ e (breaks_off _ _ rest' some' h') = refl
+one_answer n so_far _ _ (breaks_off _ _ rest some h) _ _ e (fails _ _ b s g k q) = absurd (never_unended b s rest h e)
+one_answer n so_far _ _ (breaks_off _ _ rest some h) _ y e (goes_on _ _ next b s _ k q u) = absurd (never_unended b s rest h e)
+one_answer n so_far _ _ (fails _ _ a r f h p) _ y e (ends _ _ _ q) = absurd (never_empty a r (sym e))
+one_answer n so_far _ _ (fails _ _ a r f h p) _ _ e (breaks_off _ _ rest some k) = absurd (never_unended a r rest k (sym e))
+one_answer n so_far _ _ (fails _ _ a r f h p) _ _ e (fails _ _ b s g k q) = ap Err (same_fault f g (same_line n so_far a b r s (Err f) (Err g) h k e p q))
+one_answer n so_far _ _ (fails _ _ a r f h p) _ y e (goes_on _ _ next b s _ k q u) = absurd (err_ok f next (same_line n so_far a b r s (Err f) (Ok next) h k e p q))
+one_answer n so_far _ x (goes_on _ _ next a r _ h p t) _ y e (ends _ _ _ q) = absurd (never_empty a r (sym e))
+one_answer n so_far _ x (goes_on _ _ next a r _ h p t) _ _ e (breaks_off _ _ rest some k) = absurd (never_unended a r rest k (sym e))
+one_answer n so_far _ x (goes_on _ _ next a r _ h p t) _ _ e (fails _ _ b s g k q) = absurd (err_ok g next (sym (same_line n so_far a b r s (Ok next) (Err g) h k e p q)))
+one_answer n so_far _ x (goes_on _ _ next a r _ h p t) _ y e (goes_on _ _ after b s _ k q u) =
+    let same = same_beginning next after (same_line n so_far a b r s (Ok next) (Ok after) h k e p q) in
+    one_answer (n + 1) next r x t s y (first_line a b r s h k e).1 (subst (λ (f : Beginning). TextGives (n + 1) f s y) (sym same) u)
 
 -- a text gives one answer
-pub one_text_answer : (n : ℕ) (front : Front) (text : List ℕ) (x y : Result Assembly AssemblyFault) → TextGives n front text x → TextGives n front text y → x ≡ y
-one_text_answer n front text x y p q = one_answer n front text x p text y refl q
+pub one_text_answer : (n : ℕ) (so_far : Beginning) (text : List ℕ) (x y : Result Assembly AssemblyFault) → TextGives n so_far text x → TextGives n so_far text y → x ≡ y
+one_text_answer n so_far text x y p q = one_answer n so_far text x p text y refl q

@@ -8,8 +8,7 @@ use Rattle.burr_voxels.specs.declared.direction.Direction.{Direction}
 use Rattle.burr_voxels.specs.declared.direction.Direction.TheVariants.{PlusX, MinusX, PlusY, MinusY, PlusZ, MinusZ}
 use Rattle.burr_voxels.specs.Grid.{at, along}
 use Rattle.burr_voxels.specs.Turns.{determinant}
-use Rattle.burr_assembly.specs.Positions.{IsCoordinate}
-use Rattle.burr_assembly.specs.Text.{Turn, IsTurn, IsMark, IsPositionText, turn_name}
+use Rattle.burr_assembly.specs.Text.{IsCoordinate, Turn, IsTurn, IsMark, IsPositionText, turn_name}
 use Rattle.burr_assembly.specs.Lines.{LineForm, PieceWords, AssemblyLine, ShapeLine, LayerLine, RowLine, EndLine, PieceLine, IsMarks, IsPieceWords, IsLine, piece_words_text}
 use Rattle.burr_text.specs.Words.{IsWord}
 use Rattle.burr_text.specs.Numbers.{IsCount, IsNumber}

@@ -9,9 +9,9 @@ use native.Mathlib.Decide.{ℕ_discrete}
 use Rattle.burr_voxels.specs.declared.cell.Cell.{Cell}
 use Rattle.burr_voxels.specs.CellSets.{Overlap}
 use Rattle.burr_assembly.specs.Text.{Drawing, Piece, HasCells, Shares, IsPieceName, home_cells, drawn_cells}
-use Rattle.burr_assembly.specs.Read.{HomedPiece}
+use Rattle.burr_assembly.specs.HomedPieces.{HomedPiece, pieces_of, AreAtHome, IsFirstMeeting}
 use Rattle.burr_assembly.specs.Faults.{IsFirstSharing}
-use Rattle.burr_assembly.specs.FrontViews.{pieces_of, AreAtHome, AreDistinct, IsFirstMeeting}
+use Rattle.burr_assembly.specs.Drawings.{AreDistinct}
 
 -- of two numbers that differ one is below the other
 below_or : (i j : ℕ) → i ≢ j → (i < j) ⊎ (j < i)

@@ -4,7 +4,7 @@ use Rattle.burr_assembly.specs.declared.fault.AssemblyFault.{AssemblyFault}
 use Rattle.burr_assembly.specs.declared.fault.AssemblyFault.TheVariants.{A1, A7, A8}
 use Rattle.burr_assembly.specs.Text.{Drawing, Piece, Assembly}
 use Rattle.burr_assembly.specs.Lines.{LineForm, PieceWords, AssemblyLine, ShapeLine, LayerLine, RowLine, EndLine, PieceLine, IsLine}
-use Rattle.burr_assembly.specs.Faults.{Front, Blank, Shapes, Drawn, Pieces, LineResult, gives, PieceRule, FormGives, LineGives, EndGives, TextGives, ends, breaks_off, fails, goes_on, IsFirstSharing, IsPositionOf, with_layer}
+use Rattle.burr_assembly.specs.Faults.{Beginning, Blank, Shapes, Drawn, Pieces, LineResult, gives, PieceRule, FormGives, LineGives, EndGives, TextGives, ends, breaks_off, fails, goes_on, IsFirstSharing, IsPositionOf, with_layer}
 use Rattle.burr_text.specs.Lines.{IsUnended}
 use Rattle.burr_text.proofs.Common.Decisions.{Decided, decided_and, decided_not, decide_same, decide_below, decide_at_most}
 use Rattle.burr_assembly.proofs.Readings.{IsNameOf, decide_turn_name, decide_position_text, decide_line}
@@ -36,8 +36,8 @@ some_piece_answer n name shapes pieces w =
     let p : Piece = record { name = w.name; shape = w.shape; turn = t; position = position } in
     some_found (IsFirstSharing shapes pieces p) (λ q. Err (A8 n q (length pieces))) (gives (Pieces name shapes (pieces ++ p ∷ []))) (decide_first_sharing shapes pieces p) (Ok (Pieces name shapes (pieces ++ p ∷ [])), refl)
 
--- a line of a form gives an answer behind a front
-some_form_answer : (n : ℕ) (front : Front) (form : LineForm) → (answer : LineResult) × FormGives n front form answer
+-- a line of a form gives an answer behind a beginning
+some_form_answer : (n : ℕ) (so_far : Beginning) (form : LineForm) → (answer : LineResult) × FormGives n so_far form answer
 some_form_answer n Blank (AssemblyLine name) = some_needs _ _ (decide_name name) (λ h. (Ok (Shapes name []), refl))
 some_form_answer n (Shapes name shapes) (ShapeLine shape) =
     some_needs _ _ (decide_below (length shapes) 32) λ room.
@@ -52,14 +52,14 @@ some_form_answer n (Drawn name shapes d (Some rows)) EndLine =
     some_needs _ _ (decided_and (decide_whole d.layers rows) (decide_cell_count (with_layer d rows))) (λ h. (Ok (Shapes name (shapes ++ with_layer d rows ∷ [])), refl))
 some_form_answer n (Shapes name (s ∷ shapes)) (PieceLine w) = some_piece_answer n name (s ∷ shapes) [] w
 some_form_answer n (Pieces name shapes pieces) (PieceLine w) = some_piece_answer n name shapes pieces w
-some_form_answer n front form = (Err (A1 n), refl)
+some_form_answer n so_far form = (Err (A1 n), refl)
 
--- a line gives an answer behind a front
-some_line_answer : (n : ℕ) (front : Front) (bytes : List ℕ) → (answer : LineResult) × LineGives n front bytes answer
-some_line_answer n front bytes = some_looks (IsLine bytes) (Err (A1 n)) (λ form. FormGives n front form) (decide_line bytes) (λ form. some_form_answer n front form)
+-- a line gives an answer behind a beginning
+some_line_answer : (n : ℕ) (so_far : Beginning) (bytes : List ℕ) → (answer : LineResult) × LineGives n so_far bytes answer
+some_line_answer n so_far bytes = some_looks (IsLine bytes) (Err (A1 n)) (λ form. FormGives n so_far form) (decide_line bytes) (λ form. some_form_answer n so_far form)
 
--- the end of a text gives an answer behind a front
-some_end_answer : (n : ℕ) (front : Front) → (answer : Result Assembly AssemblyFault) × EndGives n front answer
+-- the end of a text gives an answer behind a beginning
+some_end_answer : (n : ℕ) (so_far : Beginning) → (answer : Result Assembly AssemblyFault) × EndGives n so_far answer
 some_end_answer n Blank = (Err (A1 n), refl)
 some_end_answer n (Shapes name []) = (Err (A1 n), refl)
 some_end_answer n (Shapes name (s ∷ shapes)) = (Err (A7 n), refl)
@@ -97,11 +97,11 @@ cut_line (b ∷ text) = join (decide_same b 10) (cut_line text)
     join (inr other) (inr t) = inr (b ∷ t.0, t.1, unended_more b t.0 other t.2, ap (λ s. b ∷ s) t.3)
 
 -- an unended text gives an answer
-some_unended_answer : (n : ℕ) (front : Front) (text : List ℕ) → IsUnended text → (answer : Result Assembly AssemblyFault) × TextGives n front text answer
-some_unended_answer n front [] unended =
-    let end = some_end_answer n front in
-    (end.0, ends n front end.0 end.1)
-some_unended_answer n front (b ∷ text) unended = (Err (A1 n), breaks_off n front (b ∷ text) some unended)
+some_unended_answer : (n : ℕ) (so_far : Beginning) (text : List ℕ) → IsUnended text → (answer : Result Assembly AssemblyFault) × TextGives n so_far text answer
+some_unended_answer n so_far [] unended =
+    let end = some_end_answer n so_far in
+    (end.0, ends n so_far end.0 end.1)
+some_unended_answer n so_far (b ∷ text) unended = (Err (A1 n), breaks_off n so_far (b ∷ text) some unended)
   where
     some : b ∷ text ≢ []
     some e = cc
@@ -112,27 +112,27 @@ shorter_rest size text bytes rest e small =
     let all : length text ≡ length bytes + length (10 ∷ rest) = ap length e ∙ length-append bytes (10 ∷ rest) in
     omega arith
 
--- a line with its end, whose rest gives an answer behind any front, gives an answer with it
-some_more_answer : (n : ℕ) (front : Front) (bytes rest : List ℕ) → IsUnended bytes → ((next : Front) → (answer : Result Assembly AssemblyFault) × TextGives (n + 1) next rest answer) → (given : LineResult) → LineGives n front bytes given
-    → (answer : Result Assembly AssemblyFault) × TextGives n front (bytes ++ 10 ∷ rest) answer
-some_more_answer n front bytes rest unended more (Err fault) line = (Err fault, fails n front bytes rest fault unended line)
-some_more_answer n front bytes rest unended more (Ok next) line = ((more next).0, goes_on n front next bytes rest (more next).0 unended line (more next).1)
+-- a line with its end, whose rest gives an answer behind any beginning, gives an answer with it
+some_more_answer : (n : ℕ) (so_far : Beginning) (bytes rest : List ℕ) → IsUnended bytes → ((next : Beginning) → (answer : Result Assembly AssemblyFault) × TextGives (n + 1) next rest answer) → (given : LineResult) → LineGives n so_far bytes given
+    → (answer : Result Assembly AssemblyFault) × TextGives n so_far (bytes ++ 10 ∷ rest) answer
+some_more_answer n so_far bytes rest unended more (Err fault) line = (Err fault, fails n so_far bytes rest fault unended line)
+some_more_answer n so_far bytes rest unended more (Ok next) line = ((more next).0, goes_on n so_far next bytes rest (more next).0 unended line (more next).1)
 
 -- every text below a size gives an answer
-some_sized_answer : (size n : ℕ) (front : Front) (text : List ℕ) → length text < size → (answer : Result Assembly AssemblyFault) × TextGives n front text answer
-some_sized_answer zero n front text small =
+some_sized_answer : (size n : ℕ) (so_far : Beginning) (text : List ℕ) → length text < size → (answer : Result Assembly AssemblyFault) × TextGives n so_far text answer
+some_sized_answer zero n so_far text small =
     let none : ⊥ = omega arith in
     absurd none
-some_sized_answer (suc size) n front text small = by_line (some_sized_answer size (n + 1)) (cut_line text)
+some_sized_answer (suc size) n so_far text small = by_line (some_sized_answer size (n + 1)) (cut_line text)
   where
-    by_line : ((next : Front) (rest : List ℕ) → length rest < size → (answer : Result Assembly AssemblyFault) × TextGives (n + 1) next rest answer) → IsUnended text ⊎ IsLineAndRest text
-        → (answer : Result Assembly AssemblyFault) × TextGives n front text answer
-    by_line more (inl unended) = some_unended_answer n front text unended
+    by_line : ((next : Beginning) (rest : List ℕ) → length rest < size → (answer : Result Assembly AssemblyFault) × TextGives (n + 1) next rest answer) → IsUnended text ⊎ IsLineAndRest text
+        → (answer : Result Assembly AssemblyFault) × TextGives n so_far text answer
+    by_line more (inl unended) = some_unended_answer n so_far text unended
     by_line more (inr t) =
-        let line = some_line_answer n front t.0 in
-        let with_line = some_more_answer n front t.0 t.1 t.2 (λ next. more next t.1 (shorter_rest size text t.0 t.1 t.3 small)) line.0 line.1 in
-        (with_line.0, subst (λ s. TextGives n front s with_line.0) (sym t.3) with_line.1)
+        let line = some_line_answer n so_far t.0 in
+        let with_line = some_more_answer n so_far t.0 t.1 t.2 (λ next. more next t.1 (shorter_rest size text t.0 t.1 t.3 small)) line.0 line.1 in
+        (with_line.0, subst (λ s. TextGives n so_far s with_line.0) (sym t.3) with_line.1)
 
 -- every text gives an answer
-pub some_text_answer : (n : ℕ) (front : Front) (text : List ℕ) → (answer : Result Assembly AssemblyFault) × TextGives n front text answer
-some_text_answer n front text = some_sized_answer (length text + 1) n front text (omega arith)
+pub some_text_answer : (n : ℕ) (so_far : Beginning) (text : List ℕ) → (answer : Result Assembly AssemblyFault) × TextGives n so_far text answer
+some_text_answer n so_far text = some_sized_answer (length text + 1) n so_far text (omega arith)

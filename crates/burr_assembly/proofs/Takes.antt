@@ -9,9 +9,9 @@ use Rattle.burr_assembly.proofs.Stretches.{Goes, goes_further, goes_line}
 use Rattle.burr_assembly.proofs.TakesShapes.{goes_shapes}
 use Rattle.burr_assembly.proofs.TakesPieces.{goes_pieces}
 
--- the first text_line and the shapes
-goes_front : (a : Assembly) → IsAssembly a → Goes Blank (text_line (codes "assembly" ∷ a.name ∷ []) ++ flat_map shape_text a.shapes) (Shapes a.name a.shapes)
-goes_front a is =
+-- the first line and the shapes
+goes_name_and_shapes : (a : Assembly) → IsAssembly a → Goes Blank (text_line (codes "assembly" ∷ a.name ∷ []) ++ flat_map shape_text a.shapes) (Shapes a.name a.shapes)
+goes_name_and_shapes a is =
     goes_further Blank (Shapes a.name []) (Shapes a.name a.shapes) (text_line (codes "assembly" ∷ a.name ∷ [])) (flat_map shape_text a.shapes)
     (goes_line Blank (Shapes a.name []) (AssemblyLine a.name) (word_of_name a.name is.name) (λ n. inr (is.name, refl)))
     (goes_shapes a.name a.shapes [] is.each_shape is.shape_names (few (length a.shapes) is.shapes.1))
@@ -23,7 +23,7 @@ goes_front a is =
 goes_text : (a : Assembly) → IsAssembly a → Goes Blank (text_of a) (Pieces a.name a.shapes a.pieces)
 goes_text a is =
     goes_further Blank (Shapes a.name a.shapes) (Pieces a.name a.shapes a.pieces) (text_line (codes "assembly" ∷ a.name ∷ []) ++ flat_map shape_text a.shapes) (flat_map piece_text a.pieces)
-    (goes_front a is)
+    (goes_name_and_shapes a is)
     (goes_pieces a.name a.shapes is.shapes.0 (λ k d lt. (is.each_shape k d lt).name) a.pieces (some (length a.pieces) is.pieces.0) is.each_piece is.piece_names is.disjoint is.pieces.1)
   where
     some : (n : ℕ) → 2 ≤ n → 1 ≤ n

@@ -6,7 +6,7 @@ use Rattle.std.specs.Fmt.{signed_decimal}
 use Rattle.burr_text.specs.Names.{IsName}
 use Rattle.burr_assembly.specs.Text.{Drawing, Piece, turn_name, piece_text, IsPiece, IsShapeName, IsPieceName, Shares}
 use Rattle.burr_assembly.specs.Lines.{PieceWords, PieceLine}
-use Rattle.burr_assembly.specs.Faults.{Front, Shapes, Pieces, FormGives, PieceRule, IsFirstSharing}
+use Rattle.burr_assembly.specs.Faults.{Beginning, Shapes, Pieces, FormGives, PieceRule, IsFirstSharing}
 use Rattle.burr_assembly.proofs.Clear.{word_of_name, word_of_turn, number_of_coordinate}
 use Rattle.burr_assembly.proofs.Stretches.{Goes, goes_nowhere, goes_further, goes_line, goes_to, pair_before}
 
@@ -42,7 +42,7 @@ piece_rule n name shapes pieces p more is room names apart =
 
 -- a piece, behind shapes or pieces
 goes_piece : (name : List ℕ) (shapes : List Drawing) (pieces : List Piece) (p : Piece) → All (λ (s : Drawing). IsName s.name) shapes → IsPiece shapes p
-    → (from : Front) → ((n : ℕ) → FormGives n from (PieceLine (words_of p)) (Ok (Pieces name shapes (pieces ++ p ∷ []))))
+    → (from : Beginning) → ((n : ℕ) → FormGives n from (PieceLine (words_of p)) (Ok (Pieces name shapes (pieces ++ p ∷ []))))
     → Goes from (piece_text p) (Pieces name shapes (pieces ++ p ∷ []))
 goes_piece name shapes pieces p names is from rule =
     goes_line from (Pieces name shapes (pieces ++ p ∷ [])) (PieceLine (words_of p)) (record {

@@ -5,7 +5,7 @@ use Rattle.std.proofs.lemmas.List.Elements.{All-nil, All-head, All-tail, All-app
 use Rattle.burr_assembly.specs.Text.{Drawing, layer_text, shape_text, IsMark, IsDrawing, IsShapeName}
 use Rattle.burr_text.specs.Words.{text_line}
 use Rattle.burr_assembly.specs.Lines.{ShapeLine, LayerLine, RowLine, EndLine}
-use Rattle.burr_assembly.specs.Faults.{Front, Shapes, Drawn, FormGives, IsFinishedLayer, IsRow, with_layer, HasCellCount}
+use Rattle.burr_assembly.specs.Faults.{Beginning, Shapes, Drawn, FormGives, IsFinishedLayer, IsRow, with_layer, HasCellCount}
 use Rattle.burr_assembly.proofs.Clear.{word_of_name}
 use Rattle.burr_assembly.proofs.Stretches.{Goes, goes_nowhere, goes_further, goes_line, goes_to, goes_regrouped, pair_before}
 
@@ -50,10 +50,10 @@ goes_rows width low high name shapes d before [] rows here wide marks room =
 goes_rows width low high name shapes d before (row ∷ more) rows here wide marks room =
     let width_of = All-head (IsWide width) row more wide in
     goes_to (Drawn name shapes d (Some rows)) (Drawn name shapes d (Some ((rows ++ row ∷ []) ++ more))) (Drawn name shapes d (Some (rows ++ row ∷ more)))
-    ((row ++ 10 ∷ []) ++ flat_map (λ (text_line : List ℕ). text_line ++ 10 ∷ []) more)
+    ((row ++ 10 ∷ []) ++ flat_map (λ (line : List ℕ). line ++ 10 ∷ []) more)
     (ap (λ (all : List (List ℕ)). Drawn name shapes d (Some all)) (append_assoc rows (row ∷ []) more))
     (goes_further (Drawn name shapes d (Some rows)) (Drawn name shapes d (Some (rows ++ row ∷ []))) (Drawn name shapes d (Some ((rows ++ row ∷ []) ++ more)))
-    (row ++ 10 ∷ []) (flat_map (λ (text_line : List ℕ). text_line ++ 10 ∷ []) more)
+    (row ++ 10 ∷ []) (flat_map (λ (line : List ℕ). line ++ 10 ∷ []) more)
     (goes_line (Drawn name shapes d (Some rows)) (Drawn name shapes d (Some (rows ++ row ∷ []))) (RowLine row) (some_length width row low width_of, All-head (All IsMark) row more marks)
     (λ n. inr (is_row width high d.layers rows row before here width_of (room_for (length rows) (length more) room), refl)))
     (goes_rows width low high name shapes d before more (rows ++ row ∷ []) (All-push (IsWide width) rows row here width_of) (All-tail (IsWide width) row more wide) (All-tail (All IsMark) row more marks)
@@ -90,9 +90,9 @@ record AreSizes (width height : ℕ) : Type 0 where
   low : 1 ≤ height
   tall : height ≤ 16
 
--- a layer, from its first text_line on
+-- a layer, from its first line on
 goes_layer : (width height : ℕ) → AreSizes width height → (name : List ℕ) (shapes : List Drawing) (d : Drawing) → All (All (IsWide width)) d.layers
-    → (from : Front) (layer : List (List ℕ)) → All (IsWide width) layer × IsHigh height layer × All (All IsMark) layer
+    → (from : Beginning) (layer : List (List ℕ)) → All (IsWide width) layer × IsHigh height layer × All (All IsMark) layer
     → ((n : ℕ) → FormGives n from LayerLine (Ok (Drawn name shapes d (Some []))))
     → Goes from (layer_text layer) (Drawn name shapes d (Some layer))
 goes_layer width height sizes name shapes d before from layer is rule =
@@ -161,7 +161,7 @@ goes_drawing width height sizes name shapes shape (layer ∷ more) are some few 
 is_new_shape : (shapes : List Drawing) (s : Drawing) (more : List Drawing) → AllPairs (λ (s t : Drawing). s.name ≢ t.name) (shapes ++ s ∷ more) → ¬ IsShapeName shapes s.name
 is_new_shape shapes s more pairs (k, x, lt, at, same) = pair_before (λ (s t : Drawing). s.name ≢ t.name) shapes s more pairs k x lt (ap (λ (t : Drawing). t.name) at ∙ same)
 
--- a shape, from its first text_line to its end
+-- a shape, from its first line to its end
 goes_shape : (name : List ℕ) (shapes : List Drawing) (s : Drawing) → IsDrawing s → length shapes < 32 → ¬ IsShapeName shapes s.name → Goes (Shapes name shapes) (shape_text s) (Shapes name (shapes ++ s ∷ []))
 goes_shape name shapes s is room new =
     let begun : Drawing = record { name = s.name; layers = [] } in

@@ -3,7 +3,8 @@ use Rattle.std.proofs.Common.{◌≡◌, [], ◌∷◌, codes, refl, pos}
 use Rattle.std.specs.Fmt.{digits}
 use Rattle.burr_voxels.specs.Grid.{at}
 use Rattle.burr_voxels.specs.declared.direction.Direction.TheVariants.{PlusX, PlusY, MinusY, PlusZ}
-use Rattle.burr_assembly.specs.Text.{Drawing, Assembly, Turn, text_of, drawn_cells, home_cells}
+use Rattle.burr_assembly.specs.Text.{Drawing, Assembly, Turn, text_of, drawn_cells, drawn_sides, home_cells}
+use Rattle.burr_assembly.specs.PieceNames.{name_at}
 
 abbrev upright : Turn
 upright = record { x = PlusX; y = PlusY; z = PlusZ }
@@ -29,3 +30,15 @@ duo_text = refl
 ell_cells : home_cells (record { x = MinusY; y = PlusX; z = PlusZ }) (at (pos 5) (pos 5) (pos 0)) (drawn_cells (((codes "##") ∷ (codes "#.") ∷ []) ∷ []))
     ≡ at (pos 5) (pos 5) (pos 0) ∷ at (pos 5) (pos 4) (pos 0) ∷ at (pos 6) (pos 5) (pos 0) ∷ []
 ell_cells = refl
+
+-- a layer of three rows of two places
+sides : drawn_sides (((codes "##") ∷ (codes "#.") ∷ (codes "..") ∷ []) ∷ []) ≡ at (pos 2) (pos 3) (pos 1)
+sides = refl
+
+-- the second piece of the duo, and the first behind lines that are not of a piece's form
+second_name : name_at (text_of duo) 1 ≡ codes "B"
+unfolding digits
+second_name = refl
+
+first_name : name_at (codes "piece\npiece A a 0\npiece B b +x 0 -0 0\npiece C c +x 0 -10 0\npiece D") 0 ≡ codes "C"
+first_name = refl

@@ -11,22 +11,23 @@ use Rattle.burr_assembly.specs.Text.{Drawing, Turn, Piece, Assembly, turn_name, 
 use Rattle.burr_assembly.specs.Lines.{LineForm, PieceWords, AssemblyLine, ShapeLine, LayerLine, RowLine, EndLine, PieceLine, IsLine}
 
 -- what the lines so far have been
-pub data Front : Type 0 where
+pub data Beginning : Type 0 where
   -- no line yet
-  Blank : Front
+  Blank : Beginning
   -- the assembly's name, and shapes that have ended
-  Shapes : (name : List ℕ) (shapes : List Drawing) → Front
+  Shapes : (name : List ℕ) (shapes : List Drawing) → Beginning
   -- behind them a shape that has not: its finished layers, and the rows of a layer that has begun
-  Drawn : (name : List ℕ) (shapes : List Drawing) (drawing : Drawing) (begun : Option (List (List ℕ))) → Front
+  Drawn : (name : List ℕ) (shapes : List Drawing) (drawing : Drawing) (begun : Option (List (List ℕ))) → Beginning
   -- the shapes, and behind them a piece at least
-  Pieces : (name : List ℕ) (shapes : List Drawing) (pieces : List Piece) → Front
+  Pieces : (name : List ℕ) (shapes : List Drawing) (pieces : List Piece) → Beginning
 
--- what a line gives: the front with it, or its first fault
+-- what a line gives: the beginning with it, or its first fault
 abbrev pub LineResult : Type 0
-LineResult = Result Front AssemblyFault
+LineResult = Result Beginning AssemblyFault
 
-abbrev pub gives : Front → LineResult → Type 0
-gives front answer = answer ≡ Ok front
+-- it is this beginning
+abbrev pub gives : Beginning → LineResult → Type 0
+gives next answer = answer ≡ Ok next
 
 -- a layer may be finished: it has rows, as many as the first
 abbrev pub IsFinishedLayer : List (List (List ℕ)) → List (List ℕ) → Type 0
@@ -67,8 +68,8 @@ PieceRule n name shapes pieces w =
     ((q : ℕ) × IsFirstSharing shapes pieces p q × (answer ≡ Err (A8 n q (length pieces))))
     ⊎ (((q : ℕ) → ¬ IsFirstSharing shapes pieces p q) × gives (Pieces name shapes (pieces ++ p ∷ [])) answer))))
 
--- What a line of a form gives behind a front: the faults in their order, and then the front with it.
-abbrev pub FormGives : ℕ → Front → LineForm → LineResult → Type 0
+-- What a line of a form gives behind a beginning: the faults in their order, and then the beginning with it.
+abbrev pub FormGives : ℕ → Beginning → LineForm → LineResult → Type 0
 FormGives n Blank (AssemblyLine name) = needs (IsName name) (Err (A2 n)) (gives (Shapes name []))
 FormGives n (Shapes name shapes) (ShapeLine shape) =
     needs (length shapes < 32) (Err (A7 n))
@@ -76,35 +77,45 @@ FormGives n (Shapes name shapes) (ShapeLine shape) =
     (gives (Drawn name shapes (record { name = shape; layers = [] }) None)))
 FormGives n (Drawn name shapes d None) LayerLine = gives (Drawn name shapes d (Some []))
 FormGives n (Drawn name shapes d (Some rows)) LayerLine =
-    needs (IsFinishedLayer d.layers rows × (length d.layers + 1 < 16)) (Err (A3 n)) (gives (Drawn name shapes (with_layer d rows) (Some [])))
+    needs (IsFinishedLayer d.layers rows × (length d.layers + 1 < 16)) (Err (A3 n))
+    (gives (Drawn name shapes (with_layer d rows) (Some [])))
 FormGives n (Drawn name shapes d (Some rows)) (RowLine marks) =
-    needs (IsRow d.layers rows marks) (Err (A3 n)) (gives (Drawn name shapes d (Some (rows ++ marks ∷ []))))
+    needs (IsRow d.layers rows marks) (Err (A3 n))
+    (gives (Drawn name shapes d (Some (rows ++ marks ∷ []))))
 FormGives n (Drawn name shapes d (Some rows)) EndLine =
-    needs (IsFinishedLayer d.layers rows × HasCellCount (with_layer d rows)) (Err (A3 n)) (gives (Shapes name (shapes ++ with_layer d rows ∷ [])))
+    needs (IsFinishedLayer d.layers rows × HasCellCount (with_layer d rows)) (Err (A3 n))
+    (gives (Shapes name (shapes ++ with_layer d rows ∷ [])))
 FormGives n (Shapes name (s ∷ shapes)) (PieceLine w) = PieceRule n name (s ∷ shapes) [] w
 FormGives n (Pieces name shapes pieces) (PieceLine w) = PieceRule n name shapes pieces w
-FormGives n front form = λ answer. answer ≡ Err (A1 n)
+FormGives n so_far form = λ answer. answer ≡ Err (A1 n)
 
--- the n-th line behind a front, without its end
-abbrev pub LineGives : ℕ → Front → List ℕ → LineResult → Type 0
-LineGives n front bytes = looks_for (IsLine bytes) (Err (A1 n)) (λ form. FormGives n front form)
+-- the n-th line behind a beginning, without its end
+abbrev pub LineGives : ℕ → Beginning → List ℕ → LineResult → Type 0
+LineGives n so_far bytes = looks_for (IsLine bytes) (Err (A1 n)) (λ form. FormGives n so_far form)
 
--- the text ends behind a front; n is the line after the last
-abbrev pub EndGives : ℕ → Front → Result Assembly AssemblyFault → Type 0
+-- the text ends behind a beginning; n is the line after the last
+abbrev pub EndGives : ℕ → Beginning → Result Assembly AssemblyFault → Type 0
 EndGives n Blank answer = answer ≡ Err (A1 n)
 EndGives n (Shapes name []) answer = answer ≡ Err (A1 n)
 EndGives n (Shapes name (s ∷ shapes)) answer = answer ≡ Err (A7 n)
 EndGives n (Drawn name shapes d begun) answer = answer ≡ Err (A1 n)
 EndGives n (Pieces name shapes pieces) answer =
-    needs (2 ≤ length pieces) (Err (A7 n)) (λ (given : Result Assembly AssemblyFault). given ≡ Ok (record { name = name; shapes = shapes; pieces = pieces })) answer
+    needs (2 ≤ length pieces) (Err (A7 n))
+    (λ (given : Result Assembly AssemblyFault). given ≡ Ok (record { name = name; shapes = shapes; pieces = pieces }))
+    answer
 
--- What the rest of a text gives, from the n-th line on, behind a front.
-pub data TextGives : ℕ → Front → List ℕ → Result Assembly AssemblyFault → Type 0 where
-  ends : (n : ℕ) (front : Front) (answer : Result Assembly AssemblyFault) → EndGives n front answer → TextGives n front [] answer
-  breaks_off : (n : ℕ) (front : Front) (rest : List ℕ) → rest ≢ [] → IsUnended rest → TextGives n front rest (Err (A1 n))
-  fails : (n : ℕ) (front : Front) (bytes rest : List ℕ) (fault : AssemblyFault) → IsUnended bytes → LineGives n front bytes (Err fault) → TextGives n front (bytes ++ 10 ∷ rest) (Err fault)
-  goes_on : (n : ℕ) (front next : Front) (bytes rest : List ℕ) (answer : Result Assembly AssemblyFault) → IsUnended bytes → LineGives n front bytes (Ok next)
-      → TextGives (n + 1) next rest answer → TextGives n front (bytes ++ 10 ∷ rest) answer
+-- What the rest of a text gives, from the n-th line on, behind a beginning.
+pub data TextGives : ℕ → Beginning → List ℕ → Result Assembly AssemblyFault → Type 0 where
+  ends : (n : ℕ) (so_far : Beginning) (answer : Result Assembly AssemblyFault)
+      → EndGives n so_far answer → TextGives n so_far [] answer
+  breaks_off : (n : ℕ) (so_far : Beginning) (rest : List ℕ)
+      → rest ≢ [] → IsUnended rest → TextGives n so_far rest (Err (A1 n))
+  fails : (n : ℕ) (so_far : Beginning) (bytes rest : List ℕ) (fault : AssemblyFault)
+      → IsUnended bytes → LineGives n so_far bytes (Err fault)
+      → TextGives n so_far (bytes ++ 10 ∷ rest) (Err fault)
+  goes_on : (n : ℕ) (so_far next : Beginning) (bytes rest : List ℕ) (answer : Result Assembly AssemblyFault)
+      → IsUnended bytes → LineGives n so_far bytes (Ok next)
+      → TextGives (n + 1) next rest answer → TextGives n so_far (bytes ++ 10 ∷ rest) answer
 
 -- The first fault of a text.
 abbrev pub FirstFault : List ℕ → AssemblyFault → Type 0

@@ -1,12 +1,10 @@
+pub mod Drawings
 pub mod Faults
-pub mod FrontViews
+pub mod HomedPieces
 pub mod Homes
 pub mod Laws
 pub mod LineViews
 pub mod Lines
 pub mod PieceNames
-pub mod Positions
-pub mod Read
-pub mod Readers
+pub mod ReaderViews
 pub mod Text
-pub mod Views

@@ -1,13 +1,16 @@
--- What lines of the code stand for.
-use Rattle.burr_assembly.specs.declared.text.line.Line.{Line}
-use Rattle.burr_assembly.specs.declared.text.line.Line.TheVariants as lines
+-- What the lines of the code and their words stand for.
+use Rattle.std.specs.Prelude.{◌≡◌, ◌≢◌, ℤ, ℕ, List, Option, MatchOption}
+use Rattle.std.specs.Fmt.{signed_decimal}
+use Rattle.burr_assembly.specs.declared.text.line.TextLine.{TextLine}
+use Rattle.burr_assembly.specs.declared.text.line.TextLine.TheVariants as lines
 use Rattle.burr_assembly.specs.declared.text.line.PieceLine.{PieceLine}
+use Rattle.burr_assembly.specs.Text.{IsCoordinate}
 use Rattle.burr_assembly.specs.Lines.{LineForm, PieceWords, AssemblyLine, ShapeLine, LayerLine, RowLine, EndLine, PieceLine as PieceForm}
 
 abbrev pub words_of : PieceLine → PieceWords
 words_of l = record { name = l.name.now; shape = l.shape.now; orientation = l.orientation.now; x = l.x.now; y = l.y.now; z = l.z.now }
 
-abbrev pub form_of : Line → LineForm
+abbrev pub form_of : TextLine → LineForm
 form_of (lines.Assembly name) = AssemblyLine name.now
 form_of (lines.Shape name) = ShapeLine name.now
 form_of lines.Layer = LayerLine
@@ -23,3 +26,8 @@ HasWords LayerLine = ⊥
 HasWords (RowLine marks) = ⊥
 HasWords EndLine = ⊥
 HasWords (PieceForm words) = Unit {0}
+
+-- the coordinate that a number is, if it is one
+abbrev pub IsCoordinateText : List ℕ → Option ℤ → Type 0
+IsCoordinateText number found =
+    MatchOption found ((z : ℤ) → IsCoordinate z → number ≢ signed_decimal z) (λ z. IsCoordinate z × (number ≡ signed_decimal z))

@@ -1,6 +1,6 @@
 -- Assemblies and their texts: this project's own.
 use Rattle.burr_text.specs.Words.{text_line}
-use Rattle.std.specs.Prelude.{◌≡◌, ◌≢◌, ℕ, suc, ◌≤◌, pos, List, [], ◌∷◌, ◌++◌, length, map, codes, All, AllPairs, Any, Contains, ◌==◌, if◌then◌else◌, ◌⊎◌}
+use Rattle.std.specs.Prelude.{◌≡◌, ◌≢◌, ℕ, suc, ◌≤◌, ℤ, pos, neg_ℤ, ◌≤ℤ◌, List, [], ◌∷◌, ◌++◌, length, map, codes, All, AllPairs, Any, Contains, ◌==◌, if◌then◌else◌, ◌⊎◌, slice_index_or}
 use Rattle.std.specs.Fmt.{signed_decimal}
 use Rattle.std.specs.List.{flat_map}
 use Rattle.burr_voxels.specs.declared.cell.Cell.{Cell}
@@ -9,7 +9,6 @@ use Rattle.burr_voxels.specs.Grid.{at, plus}
 use Rattle.burr_voxels.specs.Turns.{turned, axes_name, IsRotation}
 use Rattle.burr_voxels.specs.CellSets.{Overlap}
 use Rattle.burr_text.specs.Names.{IsName}
-use Rattle.burr_assembly.specs.Positions.{IsCoordinate}
 
 -- a shape as it is drawn: layers upwards, in each its rows, in each a mark a cell
 pub record Drawing : Type 0 where
@@ -76,6 +75,12 @@ cells_from z (layer ∷ layers) = layer_cells 0 z layer ++ cells_from (suc z) la
 abbrev pub drawn_cells : List (List (List ℕ)) → List Cell
 drawn_cells layers = cells_from 0 layers
 
+-- the sides of a drawing's box: the width of its first row, the number of rows of its first layer, and that of its layers
+abbrev pub drawn_sides : List (List (List ℕ)) → Cell
+drawn_sides layers =
+    let rows = slice_index_or layers 0 [] in
+    at (pos (length (slice_index_or rows 0 []))) (pos (length rows)) (pos (length layers))
+
 -- a piece's cells at home: its shape's, turned and moved
 abbrev pub home_cells : Turn → Cell → List Cell → List Cell
 home_cells t position cells = map (λ c. plus (turned t.x t.y t.z c) position) cells
@@ -100,6 +105,11 @@ pub record IsDrawing (s : Drawing) : Type 0 where
 
 abbrev pub IsTurn : Turn → Type 0
 IsTurn t = IsRotation t.x t.y t.z
+
+-- a coordinate of a position
+pub record IsCoordinate (z : ℤ) : Type 0 where
+  pub low : neg_ℤ (pos 64) ≤ℤ z
+  pub high : z ≤ℤ pos 64
 
 abbrev pub IsPosition : Cell → Type 0
 IsPosition c = IsCoordinate c.x × IsCoordinate c.y × IsCoordinate c.z

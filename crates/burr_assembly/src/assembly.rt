@@ -4,7 +4,8 @@ ghost use Rattle.burr_voxels.specs.Near.{IsWithin};
 ghost use Rattle.burr_assembly.specs.Text.{IsText, IsAssembly, HasCells, text_of};
 ghost use Rattle.burr_assembly.specs.Faults.{FirstFault};
 ghost use Rattle.burr_assembly.specs.Homes.{HasHome, homes_of};
-ghost use Rattle.burr_assembly.specs.FrontViews.{pieces_of, IsDue, AreAtHome};
+ghost use Rattle.burr_assembly.specs.HomedPieces.{pieces_of, AreAtHome};
+ghost use Rattle.burr_assembly.specs.ReaderViews.{IsDue};
 
 use crate::fault::AssemblyFault;
 use crate::piece::Piece;
@@ -15,10 +16,8 @@ use burr_voxels::Cell;
 use std::alloc::{AllocError, Global};
 use std::marker::Model;
 
-/// The fewest and the most pieces of an assembly.
+/// The fewest pieces of an assembly.
 pub const FEWEST_PIECES: usize = 2;
-
-pub const MOST_PIECES: usize = 32;
 
 /// An assembly: a name, 1 to 32 shapes, and 2 to 32 pieces that are made of them, of which no two
 /// share a cell. Pieces are numbered from 0 in their order.
@@ -31,7 +30,7 @@ pub struct Assembly {
 
 impl Model for Assembly {
     ghost use Rattle.burr_assembly.specs.Text.{Assembly as AssemblyOf, IsAssembly};
-    ghost use Rattle.burr_assembly.specs.FrontViews.{pieces_of, AreAtHome};
+    ghost use Rattle.burr_assembly.specs.HomedPieces.{pieces_of, AreAtHome};
 
     ghost Value = { AssemblyOf };
 

@@ -1,4 +1,4 @@
-ghost use Rattle.burr_assembly.specs.Laws.{OneAssembly, FaultOrAssembly, NoFault, OneFault, ReadsBack, WritesBack};
+ghost use Rattle.burr_assembly.specs.Laws.{OneAssembly, FaultOrAssembly, NoFault, OneFault, ReadsBack, WritesBack, PieceLineIsTold, PieceLineIsNamed, SharingPiecesAreNamed, DrawnInBox};
 
 /// No text is that of two assemblies.
 pub fn a_text_has_one_assembly()
@@ -17,4 +17,17 @@ pub fn a_text_has_a_fault_or_an_assembly()
 pub fn texts_and_assemblies_give_each_other_back()
     ensures reads { ReadsBack }
     ensures writes { WritesBack }
+{}
+
+/// The names that are found in a text are those in its lines of a piece's form, and where the
+/// text's first fault is a piece that shares a cell with an earlier one, they are those of the two.
+pub fn a_piece_is_named_in_its_text()
+    ensures told { PieceLineIsTold }
+    ensures named { PieceLineIsNamed }
+    ensures both { SharingPiecesAreNamed }
+{}
+
+/// Each cell of a drawing lies in its box.
+pub fn a_drawing_lies_in_its_box()
+    ensures { DrawnInBox }
 {}

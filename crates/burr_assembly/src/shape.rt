@@ -1,7 +1,7 @@
 ghost use Rattle.std.specs.Prelude.{◌≡◌, ◌≤◌, vec_len};
 ghost use Rattle.std.specs.List.{All};
 ghost use Rattle.burr_voxels.specs.Near.{IsWithin};
-ghost use Rattle.burr_assembly.specs.Text.{drawn_cells};
+ghost use Rattle.burr_assembly.specs.Text.{drawn_cells, drawn_sides};
 
 use crate::drawing::Layer;
 use burr_text::Name;
@@ -20,18 +20,22 @@ impl Model for DrawnShape {
     ghost use Rattle.std.specs.Prelude.{◌≡◌};
     ghost use Rattle.std.specs.List.{All};
     ghost use Rattle.burr_voxels.specs.Near.{IsWithin};
-    ghost use Rattle.burr_assembly.specs.Text.{Drawing, drawn_cells};
+    ghost use Rattle.burr_assembly.specs.Text.{Drawing, drawn_cells, drawn_sides};
 
     ghost Value = { Drawing };
 
     ghost view = { λ s. record { name = s.name; layers = s.layers.items } };
 
-    ghost invariant = { λ s. (s.shape.cells ≡ drawn_cells s.layers.items) × All (IsWithin 15) s.shape.cells };
+    ghost invariant = { λ s.
+        (s.shape.sides ≡ drawn_sides s.layers.items)
+        × (s.shape.cells ≡ drawn_cells s.layers.items)
+        × All (IsWithin 15) s.shape.cells };
 }
 
 impl DrawnShape {
-    /// The shape of a drawing, of which these are the cells.
+    /// The shape of a drawing, of which these are the sides and the cells.
     pub fn new(name: Name, layers: Vec<Layer>, shape: Shape) -> DrawnShape
+        requires sides { shape.sides ≡ drawn_sides layers.items }
         requires cells { shape.cells ≡ drawn_cells layers.items }
         requires near { All (IsWithin 15) shape.cells }
         ensures { result ≡ record { name = name; layers = layers.items } }

@@ -7,6 +7,7 @@ mod damage;
 mod faults;
 mod limits;
 mod memory;
+mod naming;
 mod words;
 
 /// Two cubes side by side.

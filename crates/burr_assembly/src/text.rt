@@ -1,4 +1,4 @@
-mod front;
+mod beginning;
 mod header;
 mod line;
 mod naming;

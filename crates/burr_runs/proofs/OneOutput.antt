@@ -2,7 +2,7 @@
 use Rattle.std.proofs.Common.{◌≡◌, ℕ, List, [], sym, ap, subst, ◌∙◌, inl, inr}
 use Rattle.burr_voxels.specs.declared.cell.Cell.{Cell}
 use Rattle.burr_assembly.specs.Text.{Assembly}
-use Rattle.burr_assembly.specs.FrontViews.{AreDistinct}
+use Rattle.burr_assembly.specs.Drawings.{AreDistinct}
 use Rattle.burr_assembly.proofs.Common.TextLaws.{one_assembly, no_fault_of_assembly, one_fault}
 use Rattle.burr_runs.specs.declared.outcome.Outcome.{Outcome}
 use Rattle.burr_bench.specs.Bench.{start}

@@ -23,7 +23,8 @@ use Rattle.burr_assembly.specs.Homes.{names_of}
 use Rattle.burr_runs.specs.Output.{outcome_of}
 use Rattle.burr_runs.specs.Running.{BareRun, Leads, PutsPart, PutsFrontOfRun, ClosesPart, IsInStep, IsSameRun, StepOrClose, PutsSheet, PutsSheetFront}
 use Rattle.burr_runs.proofs.WholeInput.{sheet_of_run}
-use Rattle.burr_bench.proofs.Common.Leading.{IsStepFrom, leads_from}
+use Rattle.burr_bench.specs.StepLaws.{IsStepFrom}
+use Rattle.burr_bench.proofs.Common.Leading.{leads_from}
 use Rattle.burr_bench.proofs.Common.SomeRun.{counted_step, under_way_on, some_result}
 use Rattle.burr_bench.specs.declared.closing.Closing.TheVariants as closings
 use Rattle.burr_io.proofs.Common.Puts.{HasPut-fails}

@@ -6,3 +6,6 @@ mod words;
 
 pub use name::{Name, is_name};
 pub use words::{cut_at, is_number, is_word};
+
+#[cfg(test)]
+mod tests;

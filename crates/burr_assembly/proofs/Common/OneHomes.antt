@@ -2,7 +2,7 @@
 use Rattle.std.proofs.Common.{◌≡◌, List, [], ◌∷◌, refl}
 use Rattle.burr_voxels.specs.declared.cell.Cell.{Cell}
 use Rattle.burr_assembly.specs.Text.{Assembly, Piece}
-use Rattle.burr_assembly.specs.FrontViews.{AreDistinct}
+use Rattle.burr_assembly.specs.Drawings.{AreDistinct}
 use Rattle.burr_assembly.proofs.Sharing.{one_cells}
 use Rattle.burr_assembly.specs.Homes.{HaveCells}
 

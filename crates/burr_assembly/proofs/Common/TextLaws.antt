@@ -4,7 +4,7 @@ use Rattle.burr_assembly.specs.declared.fault.AssemblyFault.{AssemblyFault}
 use Rattle.burr_assembly.specs.Text.{Assembly, IsText}
 use Rattle.burr_assembly.specs.Faults.{Blank, TextGives, FirstFault}
 use Rattle.burr_assembly.specs.Laws.{OneAssembly, FaultOrAssembly, NoFault, OneFault, ReadsBack, WritesBack}
-use Rattle.burr_assembly.proofs.Beginnings.{begins_blank, text_sound}
+use Rattle.burr_assembly.proofs.Beginnings.{reached_blank, text_sound}
 use Rattle.burr_assembly.proofs.Takes.{text_complete}
 use Rattle.burr_assembly.proofs.OneAnswer.{one_text_answer}
 use Rattle.burr_assembly.proofs.SomeAnswer.{some_text_answer}
@@ -23,7 +23,7 @@ one_assembly text a b of_a of_b = same_ok a b (one_text_answer 1 Blank text (Ok 
 
 -- an answer is an assembly or a fault
 told : (text : List ℕ) (answer : Result Assembly AssemblyFault) → TextGives 1 Blank text answer → ((a : Assembly) × IsText text a) ⊎ ((fault : AssemblyFault) × FirstFault text fault)
-told text (Ok a) gives = inl (a, text_sound 1 Blank text a begins_blank gives)
+told text (Ok a) gives = inl (a, text_sound 1 Blank text a reached_blank gives)
 told text (Err fault) gives = inr (fault, gives)
 
 pub fault_or_assembly : FaultOrAssembly

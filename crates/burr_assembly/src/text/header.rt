@@ -1,20 +1,21 @@
-ghost use Rattle.std.specs.Prelude.{◌≡◌, ◌↔◌, ◌++◌, ◌∷◌, [], Ok, Err, IsTrue, IfOk, IfErr, Any, option_copied};
+ghost use Rattle.std.specs.Prelude.{◌≡◌, ◌↔◌, ◌++◌, ◌∷◌, [], Ok, Err, IsTrue, IfOk, IfErr, Any, None, length, ◌<◌, option_copied};
 ghost use Rattle.burr_assembly.specs.Text.{IsShapeName, HasCells};
-ghost use Rattle.burr_assembly.specs.Read.{HomedPiece};
+ghost use Rattle.burr_assembly.specs.HomedPieces.{HomedPiece, IsFirstMeeting, pieces_of, AreAtHome};
 ghost use Rattle.burr_assembly.specs.Lines.{ShapeLine, IsPieceWords};
 ghost use Rattle.burr_assembly.specs.LineViews.{words_of};
 ghost use Rattle.burr_assembly.specs.Faults.{FormGives, PieceRule, Shapes, Pieces};
-ghost use Rattle.burr_assembly.specs.FrontViews.{sketched, pieces_of, IsDue, IsShapeOf, IsFirstMeeting, AreAtHome, AreDistinct};
+ghost use Rattle.burr_assembly.specs.ReaderViews.{sketched, IsDue};
+ghost use Rattle.burr_assembly.specs.Drawings.{IsShapeOf, AreDistinct};
 
-use crate::assembly::MOST_PIECES;
 use crate::fault::AssemblyFault;
+use crate::occupancy::{MOST_PIECES, Occupancy};
 use crate::piece::{Piece, home_cells};
 use crate::shape::DrawnShape;
 use crate::text::line::PieceLine;
 use crate::text::sketch::Sketch;
 use crate::text::words::position;
 use burr_text::{Name, is_name};
-use burr_voxels::{Cell, Orientation, overlap};
+use burr_voxels::Orientation;
 use std::alloc::Global;
 
 /// The most shapes of an assembly.
@@ -70,18 +71,21 @@ impl Header {
     pub fn piece(
         &self,
         alloc: Global,
-        pieces: &[Piece],
+        occupancy: &Occupancy,
         words: PieceLine<'_>,
         line: usize,
     ) -> Result<Piece, AssemblyFault>
         requires words { IsPieceWords (words_of words) }
         requires distinct { AreDistinct self.now.shapes.items }
-        requires homes { AreAtHome self.now.shapes.items pieces.now }
-        ensures ok { IfOk result (λ p. PieceRule line self.now.name self.now.shapes.items (pieces_of pieces.now) (words_of words.entry)
-            (Ok (Pieces self.now.name self.now.shapes.items (pieces_of pieces.now ++ p.piece ∷ [])))) }
+        requires homes { AreAtHome self.now.shapes.items occupancy.now }
+        ensures ok { IfOk result (λ p. PieceRule line self.now.name self.now.shapes.items (pieces_of occupancy.now) (words_of words.entry)
+            (Ok (Pieces self.now.name self.now.shapes.items (pieces_of occupancy.now ++ p.piece ∷ [])))) }
         ensures home { IfOk result (λ p. HasCells self.now.shapes.items p.piece p.cells) }
-        ensures err { IfErr result (λ e. IsDue e (PieceRule line self.now.name self.now.shapes.items (pieces_of pieces.now) (words_of words.entry) (Err e))) }
+        ensures room { IfOk result (λ p. length occupancy.now < MOST_PIECES) }
+        ensures free { IfOk result (λ p. IsFirstMeeting occupancy.now p.cells None) }
+        ensures err { IfErr result (λ e. IsDue e (PieceRule line self.now.name self.now.shapes.items (pieces_of occupancy.now) (words_of words.entry) (Err e))) }
     {
+        let pieces = occupancy.pieces();
         if pieces.len() >= MOST_PIECES {
             return Err(AssemblyFault::A7 { line });
         }
@@ -98,10 +102,10 @@ impl Header {
             return Err(AssemblyFault::A5 { line });
         };
         let cells = home_cells(alloc, shape.cells(), &orientation, position)?;
-        if let Some(earlier) = first_meeting(pieces, &cells) {
+        if let Some(earlier) = occupancy.first_with(&cells) {
             return Err(AssemblyFault::A8 {
                 line,
-                earlier: earlier as u8,
+                earlier,
                 piece: pieces.len() as u8,
             });
         }
@@ -116,13 +120,4 @@ fn is_taken(pieces: &[Piece], name: &[u8]) -> bool
     ensures { IsTrue result ↔ Any (λ (p : HomedPiece). p.piece.name ≡ name.now) pieces.now }
 {
     pieces.iter().any(|piece| piece.name().as_bytes() == name)
-}
-
-/// The first piece that has one of these cells.
-fn first_meeting(pieces: &[Piece], cells: &[Cell]) -> Option<usize>
-    ensures { IsFirstMeeting pieces.now cells.now result }
-{
-    pieces
-        .iter()
-        .position(|piece| overlap(piece.cells(), cells))
 }

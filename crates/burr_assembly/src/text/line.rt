@@ -7,7 +7,7 @@ use burr_text::{cut_at, is_number, is_word};
 /// A line of an assembly text by its form alone: its words are not judged yet, and whether it may
 /// stand where it stands isn't either.
 #[derive(Clone, Copy, Debug)]
-pub enum Line<'a> {
+pub enum TextLine<'a> {
     /// `assembly NAME`
     Assembly(&'a [u8]),
     /// `shape NAME`
@@ -33,32 +33,32 @@ pub struct PieceLine<'a> {
     pub z: &'a [u8],
 }
 
-impl Line<'_> {
+impl TextLine<'_> {
     /// The line with these bytes, which are without its end; None where it is of no form.
-    pub fn parse(bytes: &[u8]) -> Option<Line<'_>>
+    pub fn parse(bytes: &[u8]) -> Option<TextLine<'_>>
         ensures { MatchOption result ((form : LineForm) → ¬ IsLine bytes.now form) (λ line. IsLine bytes.now (form_of line)) }
     {
         match bytes {
-            b"layer" => Some(Line::Layer),
-            b"end" => Some(Line::End),
-            _ if is_row(bytes) => Some(Line::Row(bytes)),
-            _ => Line::with_words(bytes),
+            b"layer" => Some(TextLine::Layer),
+            b"end" => Some(TextLine::End),
+            _ if is_row(bytes) => Some(TextLine::Row(bytes)),
+            _ => TextLine::with_words(bytes),
         }
     }
 
     /// The line of several words with these bytes.
-    fn with_words(bytes: &[u8]) -> Option<Line<'_>>
+    fn with_words(bytes: &[u8]) -> Option<TextLine<'_>>
         ensures { MatchOption result
             ((form : LineForm) → HasWords form → ¬ IsLine bytes.now form)
             (λ line. IsLine bytes.now (form_of line)) }
     {
         if let Some(name) = bytes.strip_prefix(b"assembly ") {
-            is_word(name).then_some(Line::Assembly(name))
+            is_word(name).then_some(TextLine::Assembly(name))
         } else if let Some(name) = bytes.strip_prefix(b"shape ") {
-            is_word(name).then_some(Line::Shape(name))
+            is_word(name).then_some(TextLine::Shape(name))
         } else {
             let words = bytes.strip_prefix(b"piece ")?;
-            Some(Line::Piece(PieceLine::parse(words)?))
+            Some(TextLine::Piece(PieceLine::parse(words)?))
         }
     }
 }

@@ -1,49 +1,42 @@
-ghost use Rattle.std.specs.Prelude.{◌≡◌, ◌<◌, ◌==◌, [], false, length, take, MatchOption, slice_get, slice_index, slice_index_or};
-ghost use Rattle.std.specs.List.{All, slice_split};
-ghost use Rattle.std.specs.Option.{option_map};
-ghost use Rattle.burr_assembly.specs.PieceNames.{name_at, piece_lines};
+ghost use Rattle.std.specs.Prelude.{◌≡◌, MatchOption};
+ghost use Rattle.burr_assembly.specs.Lines.{IsLine, PieceLine as PieceForm, PieceWords};
+ghost use Rattle.burr_assembly.specs.LineViews.{words_of};
+ghost use Rattle.burr_assembly.specs.PieceNames.{name_at};
 
-/// The name of a piece in a text whose lines are well formed as far as that piece: the second word
-/// of its line.
+use crate::text::line::{PieceLine, TextLine};
+use burr_text::cut_at;
+
+/// The name of a piece in a text whose lines are well formed as far as that piece: the name in the
+/// line that is the piece's by its number, counted from 0; empty where there is none.
 pub fn piece_name(text: &[u8], piece: u8) -> &[u8]
     ensures { result.now ≡ name_at text.now piece }
 {
-    match piece_words(text, piece) {
-        Some(words) => first_word(words),
-        None => b"",
-    }
-}
-
-/// What stands behind the first word in the line of a piece.
-fn piece_words(text: &[u8], piece: u8) -> Option<&[u8]>
-    ensures { option_map (λ words. words.now) result ≡ slice_get (piece_lines text.now) piece }
-{
     let mut left = piece;
-    for line in text.split(|byte| *byte == b'\n') {
-        if let Some(words) = line.strip_prefix(b"piece ") {
+    let mut rest = text;
+    while let Some((line, more)) = cut_at(rest, b'\n') {
+        if let Some(words) = piece_line(line) {
             if left == 0 {
-                return Some(words);
+                return words.name;
             }
             left -= 1;
         }
+        rest = more;
     }
-    None
+    b""
 }
 
-/// The bytes as far as the first blank.
-fn first_word(bytes: &[u8]) -> &[u8]
-    ensures { result.now ≡ slice_index_or (slice_split (λ b. b == 32) bytes.now) 0 [] }
-{
-    match first_blank(bytes) {
-        Some(end) => &bytes[..end],
-        None => bytes,
-    }
-}
-
-fn first_blank(bytes: &[u8]) -> Option<usize>
+/// The words of a line that is of a piece's form.
+fn piece_line(bytes: &[u8]) -> Option<PieceLine<'_>>
     ensures { MatchOption result
-        (All (λ b. (b == 32) ≡ false) bytes.now)
-        (λ n. (n < length bytes.now) × (slice_index bytes.now n ≡ 32) × All (λ b. (b == 32) ≡ false) (take n bytes.now)) }
+        ((w : PieceWords) → ¬ IsLine bytes.now (PieceForm w))
+        (λ words. IsLine bytes.now (PieceForm (words_of words))) }
 {
-    bytes.iter().position(|byte| *byte == b' ')
+    match TextLine::parse(bytes)? {
+        TextLine::Piece(words) => Some(words),
+        TextLine::Assembly(_)
+        | TextLine::Shape(_)
+        | TextLine::Layer
+        | TextLine::Row(_)
+        | TextLine::End => None,
+    }
 }

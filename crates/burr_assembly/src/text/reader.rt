@@ -1,11 +1,11 @@
 ghost use Rattle.std.specs.Prelude.{◌≡◌, Ok, Err, IfOk, IfErr};
 ghost use Rattle.burr_assembly.specs.Text.{IsText};
 ghost use Rattle.burr_assembly.specs.Faults.{FirstFault};
-ghost use Rattle.burr_assembly.specs.FrontViews.{IsDue};
+ghost use Rattle.burr_assembly.specs.ReaderViews.{IsDue};
 
 use crate::assembly::Assembly;
 use crate::fault::AssemblyFault;
-use crate::text::front::Front;
+use crate::text::beginning::Beginning;
 use burr_text::cut_at;
 use std::alloc::Global;
 
@@ -14,17 +14,17 @@ pub fn read_text(alloc: Global, text: &[u8]) -> Result<Assembly, AssemblyFault>
     ensures ok { IfOk result (λ a. IsText text.now a) }
     ensures err { IfErr result (λ e. IsDue e (FirstFault text.now e)) }
 {
-    let mut front = Front::Blank;
+    let mut beginning = Beginning::Blank;
     let mut rest = text;
     let mut line = 1;
     while !rest.is_empty() {
         let Some((bytes, more)) = cut_at(rest, b'\n') else {
             return Err(AssemblyFault::A1 { line });
         };
-        front = front.next(alloc, bytes, line)?;
+        beginning = beginning.next(alloc, bytes, line)?;
         rest = more;
         line += 1;
     }
-    let (name, shapes, pieces) = front.finish(line)?;
+    let (name, shapes, pieces) = beginning.finish(line)?;
     Ok(Assembly::new(name, shapes, pieces))
 }

@@ -1,7 +1,8 @@
 ghost use Rattle.std.specs.Prelude.{◌≡◌, ◌≤◌, ◌<◌, ◌↔◌, ◌++◌, ◌∷◌, [], ℕ, List, None, Ok, Err, length, IsTrue, IfOk, IfErr, All};
+ghost use Rattle.burr_assembly.specs.Text.{drawn_sides};
 ghost use Rattle.burr_assembly.specs.Lines.{LayerLine, RowLine, EndLine};
 ghost use Rattle.burr_assembly.specs.Faults.{IsFinishedLayer, IsRow, Shapes};
-ghost use Rattle.burr_assembly.specs.FrontViews.{sketched, SketchGives, IsDue};
+ghost use Rattle.burr_assembly.specs.ReaderViews.{sketched, SketchGives, IsDue};
 
 use crate::drawing::{Layer, Row, SIDE, cells_of};
 use crate::fault::AssemblyFault;
@@ -25,7 +26,7 @@ pub struct Sketch {
 
 impl Model for Sketch {
     ghost use Rattle.std.specs.Prelude.{◌<◌, List, ℕ, length, vec_len, All};
-    ghost use Rattle.burr_assembly.specs.Read.{Sketched};
+    ghost use Rattle.burr_assembly.specs.Drawings.{Sketched};
 
     ghost Value = { Sketched };
 
@@ -163,6 +164,7 @@ fn is_row_of(layers: &[Layer], layer: &Layer, marks: &[u8]) -> bool
 /// The sides of the box of a drawing.
 fn sides_of(layers: &[Layer]) -> Cell
     requires { length layers.now ≤ SIDE }
+    ensures { result ≡ drawn_sides layers.now }
 {
     let rows = match layers.first() {
         Some(layer) => layer.rows(),

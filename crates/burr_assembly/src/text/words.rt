@@ -1,10 +1,8 @@
-ghost use Rattle.std.specs.Prelude.{◌≡◌, ◌↔◌, ◌++◌, ◌∷◌, Contains, IsTrue, MatchOption};
+ghost use Rattle.std.specs.Prelude.{MatchOption};
+ghost use Rattle.burr_text.specs.Numbers.{IsNumber};
 ghost use Rattle.burr_voxels.specs.declared.cell.Cell.{Cell as CellOf};
-ghost use Rattle.burr_text.specs.Words.{IsWord};
-ghost use Rattle.burr_text.specs.Numbers.{IsCount, IsNumber};
 ghost use Rattle.burr_assembly.specs.Text.{IsPositionText};
-ghost use Rattle.burr_text.specs.Words.{IsCutAt};
-ghost use Rattle.burr_assembly.specs.Views.{IsCoordinateText};
+ghost use Rattle.burr_assembly.specs.LineViews.{IsCoordinateText};
 
 use burr_voxels::Cell;
 

@@ -1,7 +1,7 @@
 ghost use Rattle.std.specs.Prelude.{◌≡◌, ◌++◌, ◌∷◌, IfOk, OnOk};
 ghost use Rattle.std.specs.Fmt.{signed_decimal};
 ghost use Rattle.burr_assembly.specs.Text.{text_of, shape_text, layer_text, piece_text};
-ghost use Rattle.burr_assembly.specs.FrontViews.{pieces_of};
+ghost use Rattle.burr_assembly.specs.HomedPieces.{pieces_of};
 
 use crate::drawing::Layer;
 use crate::piece::Piece;

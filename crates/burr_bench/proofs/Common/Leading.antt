@@ -11,7 +11,7 @@ use Rattle.burr_bench.specs.Control.{by_count}
 use Rattle.burr_bench.specs.Questions.{Takes, Fits}
 use Rattle.burr_bench.specs.Step.{Executes, IsAt, NextIs, TakesAnswer}
 use Rattle.burr_bench.proofs.Common.Outcomes.{TrapsOr, past_check, past_search, comes}
-pub use Rattle.burr_bench.specs.StepLaws.{IsStepFrom}
+use Rattle.burr_bench.specs.StepLaws.{IsStepFrom}
 
 -- what stands next leads on by a step, or by one for each fitting answer, or to a trap
 abbrev Leads : BenchProcedure → BenchState → Instruction → Next → Type 0

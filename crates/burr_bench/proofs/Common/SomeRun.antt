@@ -11,9 +11,10 @@ use Rattle.burr_bench.specs.Step.{NextIs}
 use Rattle.burr_bench.specs.Questions.{Fits}
 use Rattle.burr_bench.specs.Run.{IsGoing, ends, stops, traps, waits, passes, takes, goes}
 use Rattle.burr_bench.specs.RunLaws.{IsUnderWay, RunOf, SomeResult}
+use Rattle.burr_bench.specs.StepLaws.{IsStepFrom}
 use Rattle.burr_bench.proofs.Existence.SomeStep.{some_next}
 use Rattle.burr_bench.specs.declared.closing.Closing.TheVariants as closings
-use Rattle.burr_bench.proofs.Common.Leading.{IsStepFrom, leads_from}
+use Rattle.burr_bench.proofs.Common.Leading.{leads_from}
 
 pub decide_fits : (low high answer : ℤ) → Decided (Fits low high answer)
 decide_fits low high answer =

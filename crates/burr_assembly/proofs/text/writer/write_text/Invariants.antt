@@ -1,7 +1,7 @@
 use Rattle.std.proofs.Common.{◌≡◌, ◌++◌, drop}
 use Rattle.std.specs.List.{flat_map}
 use Rattle.burr_assembly.specs.Text.{shape_text, piece_text}
-use Rattle.burr_assembly.specs.FrontViews.{pieces_of}
+use Rattle.burr_assembly.specs.HomedPieces.{pieces_of}
 use Rattle.burr_assembly.proofs.text.writer.write_text.Given as goal
 
 -- the shapes so far, and those to come, are the assembly's

@@ -1,4 +1,4 @@
--- The text of the lines so far, and how a text_line makes it longer.
+-- The text of the lines so far, and how a line makes it longer.
 use Rattle.std.proofs.Common.{◌≡◌, List, [], ◌∷◌, ◌++◌, codes, refl, sym, ap, ◌∙◌, append_assoc, ℕ}
 use Rattle.std.specs.Prelude.{Option, Some, None}
 use Rattle.std.specs.Fmt.{signed_decimal}
@@ -57,11 +57,11 @@ shape_text_ends before head words layers rows = rw (flat_map-append layer_text l
     regroup : (before head layers rows words : List ℕ) → before ++ (head ++ (layers ++ (rows ++ [])) ++ (words ++ 10 ∷ [])) ≡ before ++ head ++ layers ++ rows ++ words ++ 10 ∷ []
     regroup before head layers rows words = simp (append_assoc, append-nil)
 
--- the piece of a text_line's words, its turn and its position
+-- the piece of a line's words, its turn and its position
 abbrev pub piece_of : PieceWords → Turn → Cell → Piece
 piece_of w t position = record { name = w.name; shape = w.shape; turn = t; position = position }
 
--- its text_line is that of the words
+-- its line is that of the words
 pub piece_line : (w : PieceWords) (t : Turn) (position : Cell) → w.orientation ≡ turn_name t → IsPositionOf w position → piece_text (piece_of w t position) ≡ form_text (PieceLine w) ++ 10 ∷ []
 piece_line w t position e is = words (w.name) (w.shape) (turn_name t) w.orientation (signed_decimal position.x) w.x (signed_decimal position.y) w.y (signed_decimal position.z) w.z e is.1 is.2 is.3
   where
