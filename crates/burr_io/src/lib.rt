@@ -2,17 +2,17 @@
 #![tactic(auto)]
 
 mod fault;
+mod puts;
 mod reading;
 mod sink;
 mod source;
-mod words;
 mod writing;
 
 pub use fault::{IoFailed, WriteFault};
+pub use puts::{put_all, put_number, put_words};
 pub use reading::Reading;
-pub use sink::{Sink, put_all};
+pub use sink::Sink;
 pub use source::Source;
-pub use words::{put_number, put_words};
 pub use writing::Writing;
 
 #[cfg(test)]

@@ -35,11 +35,14 @@ impl<R: Read> Source for Reading<R> {
     // The clauses of the trait, and that a source that has failed leaves its reader alone.
     fn pull(&mut self, buffer: &mut [u8]) -> Result<usize, IoFailed>
         ensures bound { IfOk result (λ n. n ≤ length buffer.new) }
-        ensures bytes { ReadConsumes (⟦<Reading<R> as Source>⟧.left self.old) (⟦<Reading<R> as Source>⟧.left self.new) result buffer.new }
+        ensures bytes { let left = ⟦<Reading<R> as Source>⟧.left in
+            ReadConsumes (left self.old) (left self.new) result buffer.new }
         ensures fails { ⟦<Reading<R> as Source>⟧.has_failed self.new ≡ is_err result }
         ensures for_good { IsTrue (⟦<Reading<R> as Source>⟧.has_failed self.old) → IsErr result }
-        ensures stays { IsTrue (⟦<Reading<R> as Source>⟧.has_failed self.old) → self.new ≡ self.old }
-        ensures untouched { IsTrue (⟦<Reading<R> as Source>⟧.has_failed self.old) → buffer.new ≡ buffer.old }
+        ensures stays { IsTrue (⟦<Reading<R> as Source>⟧.has_failed self.old)
+            → self.new ≡ self.old }
+        ensures untouched { IsTrue (⟦<Reading<R> as Source>⟧.has_failed self.old)
+            → buffer.new ≡ buffer.old }
     {
         if self.failed {
             return Err(IoFailed);

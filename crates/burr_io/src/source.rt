@@ -11,7 +11,7 @@ pub trait Source {
     /// Whether it has failed.
     ghost has_failed: { Self → Bool };
 
-    /// Moves bytes into the front of the buffer and tells how many: at least one, save at the
+    /// Moves bytes to the start of the buffer and tells how many: at least one, save at the
     /// source's end or where the buffer is empty. Where it fails it gives none, and after a failure
     /// every call fails. What the buffer holds past the bytes given is left open.
     fn pull(&mut self, buffer: &mut [u8]) -> Result<usize, IoFailed>

@@ -107,7 +107,7 @@ impl Write for Narrow {
     }
 }
 
-/// Where the writer takes so many bytes, the text's front went, and a sink that failed stays failed.
+/// Where the writer takes so many bytes, they went, and a sink that failed stays failed.
 #[test]
 fn puts_the_front_that_the_writer_takes(rt: HostRuntime) {
     let text = b"burrs";
@@ -120,8 +120,8 @@ fn puts_the_front_that_the_writer_takes(rt: HostRuntime) {
                 fault,
             };
             let mut sink = Writing::new(&mut writer);
-            let answer = if room < 5 { Err(WriteFault) } else { Ok(()) };
-            assert_eq!(rt; put_all(text, &mut sink), answer, "{room}");
+            let wanted = if room < 5 { Err(WriteFault) } else { Ok(()) };
+            assert_eq!(rt; put_all(text, &mut sink), wanted, "{room}");
             assert_eq!(rt; sink.failed(), room < 5, "{room}");
             assert_eq!(rt; put_all(b"more", &mut sink), Err(WriteFault), "{room}");
             assert_eq!(rt; sink.put(b"more"), Err(IoFailed), "{room}");
@@ -144,15 +144,15 @@ fn fails_at_a_call_for_no_bytes(rt: HostRuntime) {
     });
     assert_eq!(rt; source.pull(&mut []), Err(IoFailed));
     assert!(rt; source.failed());
-    for (fault, answer) in [(Some(ErrorKind::Other), Err(IoFailed)), (None, Ok(0))] {
+    for (fault, wanted) in [(Some(ErrorKind::Other), Err(IoFailed)), (None, Ok(0))] {
         let mut sink = Writing::new(Narrow {
             taken: Vec::new(rt.alloc()),
             calls: 0,
             refuses_at: 0,
             fault,
         });
-        assert_eq!(rt; sink.put(b""), answer);
-        assert_eq!(rt; sink.failed(), answer.is_err());
+        assert_eq!(rt; sink.put(b""), wanted);
+        assert_eq!(rt; sink.failed(), wanted.is_err());
     }
 }
 

@@ -36,7 +36,8 @@ impl<W: Write> Sink for Writing<W> {
     fn put(&mut self, bytes: &[u8]) -> Result<usize, IoFailed>
         ensures bound { IfOk result (λ n. n ≤ length bytes.now) }
         ensures some { IfOk result (λ n. 0 < length bytes.now → 0 < n) }
-        ensures bytes { WriteAppends (⟦<Writing<W> as Sink>⟧.taken self.old) (⟦<Writing<W> as Sink>⟧.taken self.new) result bytes.now }
+        ensures bytes { let taken = ⟦<Writing<W> as Sink>⟧.taken in
+            WriteAppends (taken self.old) (taken self.new) result bytes.now }
         ensures fails { ⟦<Writing<W> as Sink>⟧.has_failed self.new ≡ is_err result }
         ensures for_good { IsTrue (⟦<Writing<W> as Sink>⟧.has_failed self.old) → IsErr result }
         ensures stays { IsTrue (⟦<Writing<W> as Sink>⟧.has_failed self.old) → self.new ≡ self.old }

@@ -3,3 +3,4 @@ pub mod OneOutput
 pub mod SomeOutput
 pub mod StepByStep
 pub mod WholeInput
+pub mod WorkedRows

@@ -17,7 +17,7 @@ use Rattle.burr_bench.proofs.Common.OneRun.{one_result}
 use Rattle.burr_runs.proofs.Inputs.OneInput.{one_input}
 use Rattle.burr_assembly.proofs.Common.OneHomes.{one_homes}
 
--- two answers are the same
+-- two outputs are the same, and so are their outcomes
 abbrev Same : List ℕ → List ℕ → Outcome → Outcome → Type 0
 Same output other outcome ending = (output ≡ other) × (outcome ≡ ending)
 
@@ -29,12 +29,12 @@ one_sheet a code output other outcome ending distinct s t =
     let same = one_result (bare s.homes code) 1000000 (start (bare s.homes code)) [] s.motions t.motions s.steps t.steps s.closing t.closing s.run run in
     (s.text ∙ (λ i. sheet (names_of a) (same.0 i) (same.1 i) (same.2 i)) ∙ sym t.text, s.closes ∙ ap outcome_of same.2 ∙ sym t.closes)
 
--- and so has a text with code behind it one answer
-one_text_answer : (text code output other : List ℕ) (outcome ending : Outcome) → IsTextOutput text code output outcome → IsTextOutput text code other ending → Same output other outcome ending
-one_text_answer text code output other outcome ending (inl p) (inl q) = (p.2 ∙ ap (refusal text) (one_fault text p.0 q.0 p.1 q.1) ∙ sym q.2, p.3 ∙ sym q.3)
-one_text_answer text code output other outcome ending (inl p) (inr q) = absurd (no_fault_of_assembly text q.0 p.0 q.1 p.1)
-one_text_answer text code output other outcome ending (inr p) (inl q) = absurd (no_fault_of_assembly text p.0 q.0 p.1 q.1)
-one_text_answer text code output other outcome ending (inr p) (inr q) =
+-- and a text with code behind it one output
+one_text_output : (text code output other : List ℕ) (outcome ending : Outcome) → IsTextOutput text code output outcome → IsTextOutput text code other ending → Same output other outcome ending
+one_text_output text code output other outcome ending (inl p) (inl q) = (p.2 ∙ ap (refusal text) (one_fault text p.0 q.0 p.1 q.1) ∙ sym q.2, p.3 ∙ sym q.3)
+one_text_output text code output other outcome ending (inl p) (inr q) = absurd (no_fault_of_assembly text q.0 p.0 q.1 p.1)
+one_text_output text code output other outcome ending (inr p) (inl q) = absurd (no_fault_of_assembly text p.0 q.0 p.1 q.1)
+one_text_output text code output other outcome ending (inr p) (inr q) =
     one_sheet p.0 code output other outcome ending p.1.0.shape_names p.2 (subst (λ (a : Assembly). IsSheet a code other ending) (one_assembly text q.0 p.0 q.1 p.1) q.2)
 
 pub one_output : OneOutput
@@ -43,5 +43,5 @@ one_output input output other outcome ending (inl p) (inr q) = absurd (p.0 q.0 q
 one_output input output other outcome ending (inr p) (inl q) = absurd (q.0 p.0 p.1 p.2)
 one_output input output other outcome ending (inr p) (inr q) =
     let same = one_input input q.0 p.0 q.1 p.1 q.2 p.2 in
-    let answers = subst (λ (code : List ℕ). IsTextOutput p.0 code other ending) same.1 (subst (λ (text : List ℕ). IsTextOutput text q.1 other ending) same.0 q.3) in
-    one_text_answer p.0 p.1 output other outcome ending p.3 answers
+    let also = subst (λ (code : List ℕ). IsTextOutput p.0 code other ending) same.1 (subst (λ (text : List ℕ). IsTextOutput text q.1 other ending) same.0 q.3) in
+    one_text_output p.0 p.1 output other outcome ending p.3 also

@@ -1,4 +1,4 @@
--- Each input has an answer.
+-- For each input a text is written.
 use Rattle.std.proofs.Common.{◌⊎◌, ℕ, List, [], refl, inl, inr, arith, codes, lit≤}
 use Rattle.burr_assembly.specs.declared.fault.AssemblyFault.{AssemblyFault}
 use Rattle.burr_assembly.specs.Text.{Assembly, IsText}
@@ -22,28 +22,28 @@ use Rattle.burr_bench.proofs.Common.SomeRun.{some_result}
 use Rattle.burr_runs.proofs.Inputs.Deciding.{decide_input}
 
 -- something is written, and it ends so
-abbrev HasAnswer : (List ℕ → Outcome → Type 0) → Type 0
-HasAnswer P = (output : List ℕ) × (outcome : Outcome) × P output outcome
+abbrev HasOutput : (List ℕ → Outcome → Type 0) → Type 0
+HasOutput P = (output : List ℕ) × (outcome : Outcome) × P output outcome
 
 start_under_way : (setup : Setup) (budget : ℕ) → IsUnderWay budget (start setup)
 start_under_way setup budget = record { mode = inl refl; within = omega arith }
 
-some_sheet : (text code : List ℕ) (a : Assembly) → IsText text a → HasAnswer (IsSheet a code)
+some_sheet : (text code : List ℕ) (a : Assembly) → IsText text a → HasOutput (IsSheet a code)
 some_sheet text code a is =
     let setup : Setup = bare (homes_of a) code in
     let ran = some_result setup 1000000 (start setup) [] (lit≤ tt) (start_under_way setup 1000000) in
     (sheet (names_of a) ran.motions ran.steps ran.closing, outcome_of ran.closing, sheet_of_run a code _ ran.motions ran.steps ran.closing is.0 ran.run refl)
 
-some_text_answer : (text code : List ℕ) → HasAnswer (IsTextOutput text code)
-some_text_answer text code = by_text (fault_or_assembly text)
+some_text_output : (text code : List ℕ) → HasOutput (IsTextOutput text code)
+some_text_output text code = by_text (fault_or_assembly text)
   where
-    by_text : ((a : Assembly) × IsText text a) ⊎ ((fault : AssemblyFault) × FirstFault text fault) → HasAnswer (IsTextOutput text code)
+    by_text : ((a : Assembly) × IsText text a) ⊎ ((fault : AssemblyFault) × FirstFault text fault) → HasOutput (IsTextOutput text code)
     by_text (inl (a, is)) = let given = some_sheet text code a is in (given.0, given.1, inr (a, is, given.2))
     by_text (inr (fault, first)) = (refusal text fault, Refused, inl (fault, first, refl, refl))
 
 pub some_output : SomeOutput
 some_output input = by_input (decide_input input)
   where
-    by_input : Decided ((text code : List ℕ) × IsInput input text code) → HasAnswer (IsOutput input)
-    by_input (inl (text, code, is)) = let given = some_text_answer text code in (given.0, given.1, inr (text, code, is, given.2))
+    by_input : Decided ((text code : List ℕ) × IsInput input text code) → HasOutput (IsOutput input)
+    by_input (inl (text, code, is)) = let given = some_text_output text code in (given.0, given.1, inr (text, code, is, given.2))
     by_input (inr none) = (codes "refused input\n", Refused, inl ((λ text code is. none (text, code, is)), refl, refl))

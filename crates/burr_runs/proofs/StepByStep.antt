@@ -3,7 +3,7 @@ use Rattle.std.proofs.Common.{◌≡◌, ◌≢◌, ◌≤◌, ◌+◌, ◌++◌
 use Rattle.std.specs.Prelude.{Option, Some, None}
 use Rattle.std.specs.Io.KnownBytes.{Appends}
 use Rattle.std.proofs.KnownBytes.{Appends-trans}
-use Rattle.burr_io.specs.Sink.{TakesFront}
+use Rattle.burr_io.specs.Sink.{SinkView, FailsWithin}
 use Rattle.burr_assembly.specs.Text.{Assembly, IsAssembly}
 use Rattle.burr_bench.specs.declared.mode.Mode.TheVariants.{Running, Ended, Trapped}
 use Rattle.burr_bench.specs.declared.motion.Motion.{Motion}
@@ -16,18 +16,18 @@ use Rattle.burr_bench.specs.declared.closing.Closing.{Closing}
 use Rattle.burr_bench.specs.Run.{IsGoing, traps, goes}
 use Rattle.burr_bench.specs.RunLaws.{RunOf, IsUnderWay}
 use Rattle.burr_assembly.specs.Homes.{homes_of}
-use Rattle.burr_sheet.specs.SheetUnderWay.{UnderWay, blank, still, outs_of, Closes, PutsFront}
+use Rattle.burr_sheet.specs.SheetUnderWay.{UnderWay, blank, still, outs_of, Closes, FailsInMotion}
 use Rattle.burr_bench.specs.BenchViews.{Benched, GoesOn, setup_of}
 use Rattle.burr_bench.specs.Bench.{bare}
 use Rattle.burr_assembly.specs.Homes.{names_of}
 use Rattle.burr_runs.specs.Output.{outcome_of}
-use Rattle.burr_runs.specs.Running.{BareRun, Leads, PutsPart, PutsFrontOfRun, ClosesPart, IsInStep, IsSameRun, StepOrClose, PutsSheet, PutsSheetFront}
+use Rattle.burr_runs.specs.Running.{BareRun, Leads, PutsPart, FailsInRun, ClosesPart, IsInStep, IsSameRun, StepOrClose, PutsSheet, FailsInSheet}
 use Rattle.burr_runs.proofs.WholeInput.{sheet_of_run}
 use Rattle.burr_bench.specs.StepLaws.{IsStepFrom}
 use Rattle.burr_bench.proofs.Common.Leading.{leads_from}
 use Rattle.burr_bench.proofs.Common.SomeRun.{counted_step, under_way_on, some_result}
 use Rattle.burr_bench.specs.declared.closing.Closing.TheVariants as closings
-use Rattle.burr_io.proofs.Common.Puts.{HasPut-fails}
+use Rattle.burr_io.proofs.Common.Puts.{FailsWithin-more}
 
 -- One step
 
@@ -52,58 +52,63 @@ under_way setup s new motion running within some next =
 pub rest_of_run : (setup : Setup) (s : BenchState) → IsUnderWay 1000000 s → RunOf setup 1000000 s []
 rest_of_run setup s under = some_result setup 1000000 s [] (lit< tt) under
 
--- where the sink fails at a motion, a front of the run's sheet was put
-pub fails_at_motion : (setup : Setup) (s new : BenchState) (u : UnderWay) (motion : Motion) (taken_old taken_new : Option (List ℕ))
-    → IsGoing 1000000 s → NextIs setup s (Goes new (Some motion)) → IsUnderWay 1000000 new → PutsFront taken_old taken_new u motion → PutsFrontOfRun taken_old taken_new setup s u
-fails_at_motion setup s new u motion taken_old taken_new going next under (bytes, appends, begins) =
-    let rest : RunOf setup 1000000 new [] = rest_of_run setup new under in
-    let text = begins rest.motions rest.steps rest.closing in
-    (motion ∷ rest.motions, rest.steps, rest.closing, goes s new (Some motion) [] rest.motions rest.steps rest.closing going next rest.run, (bytes, text.0, text.1, appends))
+module _ {S : Type 0} (sink : SinkView S) where
+  -- where the sink fails at a motion, a front of the run's sheet was put
+  pub fails_at_motion : (setup : Setup) (s new : BenchState) (u : UnderWay) (motion : Motion) (before behind : S)
+      → IsGoing 1000000 s → NextIs setup s (Goes new (Some motion)) → IsUnderWay 1000000 new → FailsInMotion sink before behind u motion → FailsInRun sink before behind setup s u
+  fails_at_motion setup s new u motion before behind going next under fails =
+      let rest : RunOf setup 1000000 new [] = rest_of_run setup new under in (
+        motion ∷ rest.motions,
+        rest.steps,
+        rest.closing,
+        goes s new (Some motion) [] rest.motions rest.steps rest.closing going next rest.run,
+        fails rest.motions rest.steps rest.closing,
+      )
 
--- Many steps
+  -- Many steps
 
-pub parts_join : (setup : Setup) (s t new : BenchState) (u v more : UnderWay) (old mid now : Option (List ℕ)) → PutsPart old mid setup s u t v → PutsPart mid now setup t v new more → PutsPart old now setup s u new more
-parts_join setup s t new u v more old mid now (a, puts_a, leads_a) (b, puts_b, leads_b) = (
-  a ++ b,
-  Appends-trans _ _ _ _ _ puts_a puts_b,
-  λ motions steps closing run.
-      let first = leads_b motions steps closing run in
-      let whole = leads_a first.0 steps closing first.1 in
-      (whole.0, whole.1, whole.2 ∙ ap (λ text. a ++ text) first.2 ∙ sym (append_assoc a b (still more motions steps closing))),
-)
+  pub parts_join : (setup : Setup) (s t new : BenchState) (u v more : UnderWay) (old mid now : S) → PutsPart sink old mid setup s u t v → PutsPart sink mid now setup t v new more → PutsPart sink old now setup s u new more
+  parts_join setup s t new u v more old mid now (a, puts_a, leads_a) (b, puts_b, leads_b) = (
+    a ++ b,
+    Appends-trans _ _ _ _ _ puts_a puts_b,
+    λ motions steps closing run.
+        let first = leads_b motions steps closing run in
+        let whole = leads_a first.0 steps closing first.1 in
+        (whole.0, whole.1, whole.2 ∙ ap (λ text. a ++ text) first.2 ∙ sym (append_assoc a b (still more motions steps closing))),
+  )
 
-pub fails_behind : (setup : Setup) (s t : BenchState) (u v : UnderWay) (old mid now : Option (List ℕ)) → PutsPart old mid setup s u t v → PutsFrontOfRun mid now setup t v → PutsFrontOfRun old now setup s u
-fails_behind setup s t u v old mid now (a, puts, leads) (motions, steps, closing, run, front) =
-    let whole = leads motions steps closing run in
-    (whole.0, steps, closing, whole.1, HasPut-fails now (record { front = a; parts = whole.2; taken = puts }) front)
+  pub fails_behind : (setup : Setup) (s t : BenchState) (u v : UnderWay) (old mid now : S) → PutsPart sink old mid setup s u t v → FailsInRun sink mid now setup t v → FailsInRun sink old now setup s u
+  fails_behind setup s t u v old mid now (a, puts, leads) (motions, steps, closing, run, fails) =
+      let whole = leads motions steps closing run in
+      (whole.0, steps, closing, whole.1, rw whole.2 (FailsWithin-more a puts fails))
 
-pub closes_behind : (setup : Setup) (s t new : BenchState) (u v : UnderWay) (old now : Option (List ℕ)) (closing : Closing)
-    → PutsPart old now setup s u t v → BareRun setup t [] new.steps closing → ClosesPart old now setup s u new v closing
-closes_behind setup s t new u v old now closing (a, puts, leads) run = let whole = leads [] new.steps closing run in (a, puts, (whole.0, whole.1, whole.2))
+  pub closes_behind : (setup : Setup) (s t new : BenchState) (u v : UnderWay) (old now : S) (closing : Closing)
+      → PutsPart sink old now setup s u t v → BareRun setup t [] new.steps closing → ClosesPart sink old now setup s u new v closing
+  closes_behind setup s t new u v old now closing (a, puts, leads) run = let whole = leads [] new.steps closing run in (a, puts, (whole.0, whole.1, whole.2))
 
--- The whole run
+  -- The whole run
 
-pub sheet_of : (a : Assembly) (code : List ℕ) (s new : BenchState) (u more : UnderWay) (old mid now : Option (List ℕ)) (closing : Closing)
-    → IsAssembly a → s ≡ start (bare (homes_of a) code) → u ≡ blank (names_of a)
-    → ClosesPart old mid (bare (homes_of a) code) s u new more closing → Appends mid now (still more [] new.steps closing) → PutsSheet old now a code (outcome_of closing)
-sheet_of a code s new u more old mid now closing whole at_start at_blank (bytes, puts, (all, run, is)) closes =
-    let started = subst (λ (t : BenchState). BareRun (bare (homes_of a) code) t all new.steps closing) at_start run in
-    let text = ap (λ (v : UnderWay). still v all new.steps closing) at_blank in
-    (still u all new.steps closing, sheet_of_run a code _ all new.steps closing whole started text, rw is (Appends-trans _ _ _ _ _ puts closes))
+  pub sheet_of : (a : Assembly) (code : List ℕ) (s new : BenchState) (u more : UnderWay) (old mid now : S) (closing : Closing)
+      → IsAssembly a → s ≡ start (bare (homes_of a) code) → u ≡ blank (names_of a)
+      → ClosesPart sink old mid (bare (homes_of a) code) s u new more closing → Appends (sink.taken mid) (sink.taken now) (still more [] new.steps closing) → PutsSheet sink old now a code (outcome_of closing)
+  sheet_of a code s new u more old mid now closing whole at_start at_blank (bytes, puts, (all, run, is)) closes =
+      let started = subst (λ (t : BenchState). BareRun (bare (homes_of a) code) t all new.steps closing) at_start run in
+      let text = ap (λ (v : UnderWay). still v all new.steps closing) at_blank in
+      (still u all new.steps closing, sheet_of_run a code _ all new.steps closing whole started text, rw is (Appends-trans _ _ _ _ _ puts closes))
 
-pub front_of_sheet : (a : Assembly) (code : List ℕ) (s : BenchState) (u : UnderWay) (old now : Option (List ℕ))
-    → IsAssembly a → s ≡ start (bare (homes_of a) code) → u ≡ blank (names_of a)
-    → PutsFrontOfRun old now (bare (homes_of a) code) s u → PutsSheetFront old now a code
-front_of_sheet a code s u old now whole at_start at_blank (motions, steps, closing, run, front) =
-    let started = subst (λ (t : BenchState). BareRun (bare (homes_of a) code) t motions steps closing) at_start run in
-    let text = ap (λ (v : UnderWay). still v motions steps closing) at_blank in
-    (still u motions steps closing, outcome_of closing, sheet_of_run a code _ motions steps closing whole started text, front)
+  pub fails_in_sheet : (a : Assembly) (code : List ℕ) (s : BenchState) (u : UnderWay) (old now : S)
+      → IsAssembly a → s ≡ start (bare (homes_of a) code) → u ≡ blank (names_of a)
+      → FailsInRun sink old now (bare (homes_of a) code) s u → FailsInSheet sink old now a code
+  fails_in_sheet a code s u old now whole at_start at_blank (motions, steps, closing, run, fails) =
+      let started = subst (λ (t : BenchState). BareRun (bare (homes_of a) code) t motions steps closing) at_start run in
+      let text = ap (λ (v : UnderWay). still v motions steps closing) at_blank in
+      (still u motions steps closing, outcome_of closing, sheet_of_run a code _ motions steps closing whole started text, fails)
 
--- where closing the sheet fails, a front of it was put
-pub fails_at_close : (setup : Setup) (s new : BenchState) (u more : UnderWay) (old mid now : Option (List ℕ)) (closing : Closing)
-    → ClosesPart old mid setup s u new more closing → TakesFront mid now (still more [] new.steps closing) → PutsFrontOfRun old now setup s u
-fails_at_close setup s new u more old mid now closing (bytes, puts, (all, run, is)) front =
-    (all, new.steps, closing, run, HasPut-fails now (record { front = bytes; parts = is; taken = puts }) front)
+  -- where closing the sheet fails, a front of it was put
+  pub fails_at_close : (setup : Setup) (s new : BenchState) (u more : UnderWay) (old mid now : S) (closing : Closing)
+      → ClosesPart sink old mid setup s u new more closing → FailsWithin sink mid now (still more [] new.steps closing) → FailsInRun sink old now setup s u
+  fails_at_close setup s new u more old mid now closing (bytes, puts, (all, run, is)) fails =
+      (all, new.steps, closing, run, rw is (FailsWithin-more bytes puts fails))
 
 -- The bench and the sheet in step
 
@@ -150,30 +155,31 @@ trapped_run b new trap pc running some next state main at =
     let run_at = subst (λ (p : ℕ). BareRun (setup_of b) b.state [] b.state.steps (closings.Trapped trap 0 p)) place run_main in
     subst (λ (n : ℕ). BareRun (setup_of b) b.state [] n (closings.Trapped trap 0 pc)) steps run_at
 
--- where no step is to be made, the run closes behind the steps before
-pub step_closes : (b now new : Benched) (u v more : UnderWay) (old mid taken : Option (List ℕ)) (closing : Closing)
-    → IsSameRun b now → PutsPart old mid (setup_of b) b.state u now.state v → StepOrClose now v new more mid taken (Some closing)
-    → ClosesPart old taken (setup_of b) b.state u new.state more closing
-step_closes b now new u v more old mid taken closing same puts (run, sheet_same, sink_same) =
-    let run_same = subst (λ (setup : Setup). BareRun setup now.state [] new.state.steps closing) (same_setup b now same) run in
-    rw (sheet_same, sink_same) (closes_behind (setup_of b) b.state now.state new.state u v old mid closing puts run_same)
+module _ {S : Type 0} (sink : SinkView S) where
+  -- where no step is to be made, the run closes behind the steps before
+  pub step_closes : (b now new : Benched) (u v more : UnderWay) (old mid behind : S) (closing : Closing)
+      → IsSameRun b now → PutsPart sink old mid (setup_of b) b.state u now.state v → StepOrClose sink mid behind now v new more (Some closing)
+      → ClosesPart sink old behind (setup_of b) b.state u new.state more closing
+  step_closes b now new u v more old mid behind closing same puts (run, sheet_same, sink_same) =
+      let run_same = subst (λ (setup : Setup). BareRun setup now.state [] new.state.steps closing) (same_setup b now same) run in
+      rw (sheet_same, sink_same) (closes_behind sink (setup_of b) b.state now.state new.state u v old mid closing puts run_same)
 
--- a step goes on from those before it
-pub step_joins : (b now new : Benched) (u v more : UnderWay) (old mid taken : Option (List ℕ))
-    → IsSameRun b now → PutsPart old mid (setup_of b) b.state u now.state v → StepOrClose now v new more mid taken None
-    → IsInStep new more × IsSameRun b new × PutsPart old taken (setup_of b) b.state u new.state more
-step_joins b now new u v more old mid taken same puts (in_step, on, steps, next) = (
-  in_step,
-  same_run_on b now new same on,
-  parts_join (setup_of b) b.state now.state new.state u v more old mid taken puts
-      (subst (λ (setup : Setup). PutsPart mid taken setup now.state v new.state more) (same_setup b now same) next),
-)
+  -- a step goes on from those before it
+  pub step_joins : (b now new : Benched) (u v more : UnderWay) (old mid behind : S)
+      → IsSameRun b now → PutsPart sink old mid (setup_of b) b.state u now.state v → StepOrClose sink mid behind now v new more None
+      → IsInStep new more × IsSameRun b new × PutsPart sink old behind (setup_of b) b.state u new.state more
+  step_joins b now new u v more old mid behind same puts (in_step, on, steps, next) = (
+    in_step,
+    same_run_on b now new same on,
+    parts_join sink (setup_of b) b.state now.state new.state u v more old mid behind puts
+        (subst (λ (setup : Setup). PutsPart sink mid behind setup now.state v new.state more) (same_setup b now same) next),
+  )
 
--- where a step's sink fails, a front of the run's sheet was put
-pub step_fails : (b now : Benched) (u v : UnderWay) (old mid taken : Option (List ℕ))
-    → IsSameRun b now → PutsPart old mid (setup_of b) b.state u now.state v → PutsFrontOfRun mid taken (setup_of now) now.state v → PutsFrontOfRun old taken (setup_of b) b.state u
-step_fails b now u v old mid taken same puts fails =
-    fails_behind (setup_of b) b.state now.state u v old mid taken puts (subst (λ (setup : Setup). PutsFrontOfRun mid taken setup now.state v) (same_setup b now same) fails)
+  -- where a step's sink fails, a front of the run's sheet was put
+  pub step_fails : (b now : Benched) (u v : UnderWay) (old mid behind : S)
+      → IsSameRun b now → PutsPart sink old mid (setup_of b) b.state u now.state v → FailsInRun sink mid behind (setup_of now) now.state v → FailsInRun sink old behind (setup_of b) b.state u
+  step_fails b now u v old mid behind same puts fails =
+      fails_behind sink (setup_of b) b.state now.state u v old mid behind puts (subst (λ (setup : Setup). FailsInRun sink mid behind setup now.state v) (same_setup b now same) fails)
 
 -- a bench at its start, on this code and this assembly
 pub record IsFresh (b : Benched) (u : UnderWay) (a : Assembly) (code : List ℕ) : Type 0 where
@@ -188,25 +194,26 @@ fresh_setup b u a code fresh = rw (fresh.assembly, fresh.code_is) refl
 fresh_state : (b : Benched) (u : UnderWay) (a : Assembly) (code : List ℕ) → IsFresh b u a code → b.state ≡ start (bare (homes_of a) code)
 fresh_state b u a code fresh = fresh.state ∙ ap start (fresh_setup b u a code fresh)
 
--- the sheet of the whole run
-pub run_written : (b new : Benched) (u more : UnderWay) (a : Assembly) (code : List ℕ) (old mid now : Option (List ℕ)) (closing : Closing) (steps : ℕ) (outcome : Outcome)
-    → IsAssembly a → IsFresh b u a code → ClosesPart old mid (setup_of b) b.state u new.state more closing → steps ≡ new.state.steps → Appends mid now (still more [] steps closing)
-    → outcome ≡ outcome_of closing → PutsSheet old now a code outcome
-run_written b new u more a code old mid now closing steps outcome whole fresh part counted closes is =
-    let closes_counted = subst (λ (n : ℕ). Appends mid now (still more [] n closing)) counted closes in
-    let part_bare = subst (λ (setup : Setup). ClosesPart old mid setup b.state u new.state more closing) (fresh_setup b u a code fresh) part in
-    subst (λ (o : Outcome). PutsSheet old now a code o) (sym is) (sheet_of a code b.state new.state u more old mid now closing whole (fresh_state b u a code fresh) fresh.sheet part_bare closes_counted)
+module _ {S : Type 0} (sink : SinkView S) where
+  -- the sheet of the whole run
+  pub run_written : (b new : Benched) (u more : UnderWay) (a : Assembly) (code : List ℕ) (old mid now : S) (closing : Closing) (steps : ℕ) (outcome : Outcome)
+      → IsAssembly a → IsFresh b u a code → ClosesPart sink old mid (setup_of b) b.state u new.state more closing → steps ≡ new.state.steps → Appends (sink.taken mid) (sink.taken now) (still more [] steps closing)
+      → outcome ≡ outcome_of closing → PutsSheet sink old now a code outcome
+  run_written b new u more a code old mid now closing steps outcome whole fresh part counted closes is =
+      let closes_counted = subst (λ (n : ℕ). Appends (sink.taken mid) (sink.taken now) (still more [] n closing)) counted closes in
+      let part_bare = subst (λ (setup : Setup). ClosesPart sink old mid setup b.state u new.state more closing) (fresh_setup b u a code fresh) part in
+      subst (λ (o : Outcome). PutsSheet sink old now a code o) (sym is) (sheet_of sink a code b.state new.state u more old mid now closing whole (fresh_state b u a code fresh) fresh.sheet part_bare closes_counted)
 
--- a front of it
-pub run_failed : (b : Benched) (u : UnderWay) (a : Assembly) (code : List ℕ) (old now : Option (List ℕ))
-    → IsAssembly a → IsFresh b u a code → PutsFrontOfRun old now (setup_of b) b.state u → PutsSheetFront old now a code
-run_failed b u a code old now whole fresh front =
-    front_of_sheet a code b.state u old now whole (fresh_state b u a code fresh) fresh.sheet (subst (λ (setup : Setup). PutsFrontOfRun old now setup b.state u) (fresh_setup b u a code fresh) front)
+  -- the sink fails before the sheet is closed
+  pub run_failed : (b : Benched) (u : UnderWay) (a : Assembly) (code : List ℕ) (old now : S)
+      → IsAssembly a → IsFresh b u a code → FailsInRun sink old now (setup_of b) b.state u → FailsInSheet sink old now a code
+  run_failed b u a code old now whole fresh fails =
+      fails_in_sheet sink a code b.state u old now whole (fresh_state b u a code fresh) fresh.sheet (subst (λ (setup : Setup). FailsInRun sink old now setup b.state u) (fresh_setup b u a code fresh) fails)
 
--- a front of it, where its last lines failed
-pub close_failed : (b new : Benched) (u more : UnderWay) (a : Assembly) (code : List ℕ) (old mid now : Option (List ℕ)) (closing : Closing) (steps : ℕ)
-    → IsAssembly a → IsFresh b u a code → ClosesPart old mid (setup_of b) b.state u new.state more closing → steps ≡ new.state.steps → TakesFront mid now (still more [] steps closing)
-    → PutsSheetFront old now a code
-close_failed b new u more a code old mid now closing steps whole fresh part counted front =
-    run_failed b u a code old now whole fresh
-    (fails_at_close (setup_of b) b.state new.state u more old mid now closing part (subst (λ (n : ℕ). TakesFront mid now (still more [] n closing)) counted front))
+  -- it fails within what closes the sheet
+  pub close_failed : (b new : Benched) (u more : UnderWay) (a : Assembly) (code : List ℕ) (old mid now : S) (closing : Closing) (steps : ℕ)
+      → IsAssembly a → IsFresh b u a code → ClosesPart sink old mid (setup_of b) b.state u new.state more closing → steps ≡ new.state.steps → FailsWithin sink mid now (still more [] steps closing)
+      → FailsInSheet sink old now a code
+  close_failed b new u more a code old mid now closing steps whole fresh part counted fails =
+      run_failed b u a code old now whole fresh
+      (fails_at_close sink (setup_of b) b.state new.state u more old mid now closing part (subst (λ (n : ℕ). FailsWithin sink mid now (still more [] n closing)) counted fails))

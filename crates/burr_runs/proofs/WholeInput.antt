@@ -23,13 +23,13 @@ use Rattle.burr_assembly.specs.Homes.{names_of}
 use Rattle.burr_bench.specs.Bench.{bare}
 use Rattle.burr_runs.specs.Running.{BareRun}
 use Rattle.burr_runs.specs.ReadWhole.{IsWholeInput}
-use Rattle.burr_runs.specs.BenchText.{PutsOutput, PutsFrontOfOutput, OutputFails, Streams, Succeeds, Fails}
+use Rattle.burr_runs.specs.BenchText.{Outputs, PutsOutput, PutsFrontOfOutput, OutputFails, Streams, Succeeds, Fails}
 use Rattle.burr_assembly.proofs.Common.HomeCells.{have_homes}
 
--- a fault of the sink is answered as `Write`
-pub write_fails : {A : Type 0} (IsAnswer : List ℕ → Outcome → Type 0) (r : Result A BenchFault) (old new : Option (List ℕ)) (failed : Bool)
-    → IsErrAnd r (λ e. e ≡ Write) → PutsFrontOfOutput IsAnswer old new failed → IfErr r (λ fault. OutputFails IsAnswer old new failed fault)
-write_fails IsAnswer r old new failed err front = let p = err_from_is_err_and r err in rw (p.1, p.2) front
+-- a fault of the sink is the fault `Write`
+pub write_fails : {A : Type 0} (IsDue : Outputs) (r : Result A BenchFault) (old new : Option (List ℕ)) (failed : Bool)
+    → IsErrAnd r (λ e. e ≡ Write) → PutsFrontOfOutput IsDue old new failed → IfErr r (λ fault. OutputFails IsDue old new failed fault)
+write_fails IsDue r old new failed err front = let p = err_from_is_err_and r err in rw (p.1, p.2) front
 
 -- only another fault would leave the sink as it was
 pub write_touches : {A : Type 0} (r : Result A BenchFault) (Same : Type 0) → IsErrAnd r (λ e. e ≡ Write) → IfErr r (λ fault. fault ≢ Write → Same)
@@ -70,16 +70,16 @@ pub sheet_of_run : (a : Assembly) (code output : List ℕ) (motions : List Motio
 sheet_of_run a code output motions steps closing whole run text =
     record { homes = homes_of a; cells = have_homes a whole; motions = motions; steps = steps; closing = closing; run = run; text = text; closes = refl }
 
--- a result that is a fault is no answer
-pub no_answer : {A E : Type 0} (P : A → Type 0) (Q : E → Type 0) (r : Result A E) → IsErrAnd r Q → IfOk r P
-no_answer P Q r err = let p = err_from_is_err_and r err in rw p.1 tt
+-- a fault is no outcome
+pub no_outcome : {A E : Type 0} (P : A → Type 0) (Q : E → Type 0) (r : Result A E) → IsErrAnd r Q → IfOk r P
+no_outcome P Q r err = let p = err_from_is_err_and r err in rw p.1 tt
 
 -- The whole input was read
 
-pub whole_answered : (s : Streams) (input : List ℕ) (r : Result Outcome BenchFault)
+pub whole_succeeds : (s : Streams) (input : List ℕ) (r : Result Outcome BenchFault)
     → IsWholeInput s.left_old s.left_new s.read_failed input → IfOk r (λ outcome. PutsOutput (IsOutput input) s.taken_old s.taken_new outcome) → IfOk r (λ outcome. Succeeds s outcome)
-whole_answered s input (Ok outcome) whole puts = (input, whole, puts)
-whole_answered s input (Err fault) whole puts = tt
+whole_succeeds s input (Ok outcome) whole puts = (input, whole, puts)
+whole_succeeds s input (Err fault) whole puts = tt
 
 pub whole_fails : (s : Streams) (input : List ℕ) (r : Result Outcome BenchFault)
     → IsWholeInput s.left_old s.left_new s.read_failed input → IfErr r (λ fault. OutputFails (IsOutput input) s.taken_old s.taken_new s.write_failed fault) → IfErr r (λ fault. Fails s fault)

@@ -16,13 +16,15 @@ use Rattle.burr_runs.specs.declared.outcome.Outcome.TheVariants as outcomes
 use Rattle.burr_runs.specs.Input.{IsInput}
 use Rattle.burr_runs.specs.Refusals.{refusal}
 
+-- the outcome of a run that closed so
 abbrev pub outcome_of : Closing → Outcome
 outcome_of closings.Apart = outcomes.Apart
 outcome_of (closings.Waiting low high) = outcomes.Waiting
 outcome_of (closings.Trapped trap procedure pc) = outcomes.Trapped
 outcome_of closings.Stopped = outcomes.Stopped
 
--- the sheet of the run of this code on this assembly, without answers and with a budget of 1,000,000 steps
+-- the sheet of the run of this code on this assembly, without answers and with a budget of
+-- 1,000,000 steps
 pub record IsSheet (a : Assembly) (code output : List ℕ) (outcome : Outcome) : Type 0 where
   pub homes : List (List Cell)
   pub cells : HaveCells a a.pieces homes
@@ -33,14 +35,19 @@ pub record IsSheet (a : Assembly) (code output : List ℕ) (outcome : Outcome) :
   pub text : output ≡ sheet (names_of a) motions steps closing
   pub closes : outcome ≡ outcome_of closing
 
--- what is written for an assembly's text with code behind it
+-- What is written for an assembly's text with code behind it, and how it ends: the line of the
+-- text's first fault, or the sheet of the run on its assembly.
 abbrev pub IsTextOutput : List ℕ → List ℕ → List ℕ → Outcome → Type 0
 IsTextOutput text code output outcome =
-    ((fault : AssemblyFault) × FirstFault text fault × (output ≡ refusal text fault) × (outcome ≡ outcomes.Refused))
+    ((fault : AssemblyFault) × FirstFault text fault
+    × (output ≡ refusal text fault) × (outcome ≡ outcomes.Refused))
     ⊎ ((a : Assembly) × IsText text a × IsSheet a code output outcome)
 
--- What is written for an input, and how it ends.
+-- What is written for an input, and how it ends: `refused input` where it is no text with code
+-- behind it.
 abbrev pub IsOutput : List ℕ → List ℕ → Outcome → Type 0
 IsOutput input output outcome =
-    (((text code : List ℕ) → ¬ IsInput input text code) × (output ≡ codes "refused input\n") × (outcome ≡ outcomes.Refused))
-    ⊎ ((text : List ℕ) × (code : List ℕ) × IsInput input text code × IsTextOutput text code output outcome)
+    (((text code : List ℕ) → ¬ IsInput input text code)
+    × (output ≡ codes "refused input\n") × (outcome ≡ outcomes.Refused))
+    ⊎ ((text : List ℕ) × (code : List ℕ) × IsInput input text code
+    × IsTextOutput text code output outcome)

@@ -4,7 +4,7 @@ use Rattle.std.specs.Io.KnownBytes.{Consumes, IsAtEnd}
 use Rattle.burr_runs.specs.declared.fault.BenchFault.{BenchFault}
 use Rattle.burr_runs.specs.declared.fault.BenchFault.TheVariants.{Read, TooLong, Write, Memory}
 
--- the source gave these bytes, no call failed, and nothing is left
+-- the source gave these bytes, no more than an input may have; no call failed, and nothing is left
 pub record IsWholeInput (old new : Option (List ℕ)) (failed : Bool) (bytes : List ℕ) : Type 0 where
   pub short : length bytes ≤ 16777216
   pub gave : Consumes old new bytes
@@ -13,7 +13,8 @@ pub record IsWholeInput (old new : Option (List ℕ)) (failed : Bool) (bytes : L
 
 -- the source gave more bytes than an input may have, and no call failed
 abbrev pub IsTooLong : Option (List ℕ) → Option (List ℕ) → Bool → Type 0
-IsTooLong old new failed = (bytes : List ℕ) × (16777216 < length bytes) × Consumes old new bytes × (failed ≡ false)
+IsTooLong old new failed =
+    (bytes : List ℕ) × (16777216 < length bytes) × Consumes old new bytes × (failed ≡ false)
 
 -- why a source was not read to its end
 abbrev pub ReadFails : Option (List ℕ) → Option (List ℕ) → Bool → BenchFault → Type 0

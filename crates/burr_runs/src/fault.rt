@@ -2,7 +2,7 @@ use burr_io::{IoFailed, WriteFault};
 use std::alloc::{AllocError, AllocFailed};
 use thiserror::Error;
 
-/// Why an input was not answered.
+/// Why an input has no outcome.
 #[derive(Clone, Copy, Debug, PartialEq, Eq, Error)]
 pub enum BenchFault {
     #[error("the input cannot be read")]

@@ -33,7 +33,8 @@ pub fn parse_input<'a>(
 fn split_last_line(input: &[u8]) -> Option<(&[u8], &[u8])>
     ensures { MatchOption result
         ((front : List ℕ) → input.now ≢ front ++ 10 ∷ [])
-        (λ parts. (input.now ≡ parts.0.now ++ parts.1.now ++ 10 ∷ []) × IsLines parts.0.now × (¬ Contains parts.1.now 10)) }
+        (λ parts. (input.now ≡ parts.0.now ++ parts.1.now ++ 10 ∷ []) × IsLines parts.0.now
+        × (¬ Contains parts.1.now 10)) }
 {
     let (end, lines) = input.split_last()?;
     if *end != b'\n' {
@@ -49,7 +50,8 @@ fn split_last_line(input: &[u8]) -> Option<(&[u8], &[u8])>
 fn last_end(bytes: &[u8]) -> Option<usize>
     ensures { MatchOption result
         (¬ Contains bytes.now 10)
-        (λ i. (i < length bytes.now) × (slice_index bytes.now i ≡ 10) × ((k : ℕ) → i < k → k < length bytes.now → slice_index bytes.now k ≢ 10)) }
+        (λ i. (i < length bytes.now) × (slice_index bytes.now i ≡ 10)
+        × ((k : ℕ) → i < k → k < length bytes.now → slice_index bytes.now k ≢ 10)) }
 {
     bytes.iter().rposition(|byte| *byte == b'\n')
 }

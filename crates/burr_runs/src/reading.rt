@@ -11,8 +11,10 @@ pub const LIMIT: usize = 16_777_216;
 /// The bytes of a source to its end. `Read` comes only where a call of the source failed, and
 /// `TooLong` where it gave more than the most bytes of an input.
 pub fn read_whole<R: Source>(alloc: Global, source: &mut R) -> Result<Vec<u8>, BenchFault>
-    ensures ok { IfOk result (λ v. IsWholeInput (R.left source.old) (R.left source.new) (R.has_failed source.new) v.items) }
-    ensures err { IfErr result (λ e. ReadFails (R.left source.old) (R.left source.new) (R.has_failed source.new) e) }
+    ensures ok { IfOk result (λ bytes. IsWholeInput
+        (R.left source.old) (R.left source.new) (R.has_failed source.new) bytes.items) }
+    ensures err { IfErr result (λ fault. ReadFails
+        (R.left source.old) (R.left source.new) (R.has_failed source.new) fault) }
 {
     let mut bytes = Vec::new(alloc);
     let mut buffer = [0u8; 8192];

@@ -1,11 +1,9 @@
-ghost use Rattle.std.specs.Prelude.{◌≡◌, ◌<◌, ◌==◌, [], ◌∷◌, false, codes, decimal, length, take, IsTrue, MatchOption, OnErr, OnOk, slice_get, slice_index, slice_index_or};
+ghost use Rattle.std.specs.Prelude.{◌≡◌, ◌<◌, ◌==◌, [], ◌∷◌, false, codes, decimal, length, take, IsTrue, MatchOption, slice_get, slice_index, slice_index_or};
 ghost use Rattle.std.specs.List.{All, slice_split};
 ghost use Rattle.std.specs.Option.{option_map};
-ghost use Rattle.std.specs.Io.KnownBytes.{Appends};
-ghost use Rattle.burr_io.specs.Sink.{TakesFront};
-ghost use Rattle.burr_assembly.specs.PieceNames.{name_at, piece_lines};
-ghost use Rattle.burr_runs.specs.Refusals.{refusal};
-ghost use Rattle.burr_text.specs.Words.{text_line};
+ghost use Rattle.burr_io.specs.Sink.{Puts};
+ghost use Rattle.burr_assembly.specs.PieceNames.{name_at};
+ghost use Rattle.burr_runs.specs.Refusals.{refusal, rule_line, clash_line};
 
 use burr_assembly::{AssemblyFault, piece_name};
 use burr_io::{Sink, WriteFault, put_words};
@@ -19,9 +17,7 @@ pub fn put_refusal<W: Sink>(
     fault: AssemblyFault,
     sink: &mut W,
 ) -> Result<(), WriteFault>
-    ensures ok { OnOk result (Appends (W.taken sink.old) (W.taken sink.new) (refusal text.now fault)) }
-    ensures err { OnErr result (TakesFront (W.taken sink.old) (W.taken sink.new) (refusal text.now fault)) }
-    ensures fails { OnErr result (IsTrue (W.has_failed sink.new)) }
+    ensures { Puts W.Sink sink.old sink.new (refusal text.now fault) result }
 {
     match fault {
         AssemblyFault::A1 { line } => put_fault(b"A1", line, sink),
@@ -47,9 +43,7 @@ pub fn put_refusal<W: Sink>(
 
 /// Puts a line with a rule and the line that breaks it.
 fn put_fault<W: Sink>(rule: &[u8], line: usize, sink: &mut W) -> Result<(), WriteFault>
-    ensures ok { OnOk result (Appends (W.taken sink.old) (W.taken sink.new) (text_line (codes "refused" ∷ rule.now ∷ codes "line" ∷ decimal line ∷ []))) }
-    ensures err { OnErr result (TakesFront (W.taken sink.old) (W.taken sink.new) (text_line (codes "refused" ∷ rule.now ∷ codes "line" ∷ decimal line ∷ []))) }
-    ensures fails { OnErr result (IsTrue (W.has_failed sink.new)) }
+    ensures { Puts W.Sink sink.old sink.new (rule_line rule.now line) result }
 {
     let mut buffer = Buffer::new();
     let line = buffer.format(line).as_bytes();
@@ -63,9 +57,7 @@ fn put_clash<W: Sink>(
     second: &[u8],
     sink: &mut W,
 ) -> Result<(), WriteFault>
-    ensures ok { OnOk result (Appends (W.taken sink.old) (W.taken sink.new) (text_line (codes "refused" ∷ codes "A8" ∷ codes "line" ∷ decimal line ∷ first.now ∷ second.now ∷ []))) }
-    ensures err { OnErr result (TakesFront (W.taken sink.old) (W.taken sink.new) (text_line (codes "refused" ∷ codes "A8" ∷ codes "line" ∷ decimal line ∷ first.now ∷ second.now ∷ []))) }
-    ensures fails { OnErr result (IsTrue (W.has_failed sink.new)) }
+    ensures { Puts W.Sink sink.old sink.new (clash_line line first.now second.now) result }
 {
     let mut buffer = Buffer::new();
     let line = buffer.format(line).as_bytes();

@@ -1,15 +1,15 @@
-ghost use Rattle.std.specs.Prelude.{◌≡◌, ◌≢◌, ◌≤◌, [], length, IfOk, OnErr, IsTrue};
+ghost use Rattle.std.specs.Prelude.{◌≡◌, ◌≢◌, ◌≤◌, [], length, IfOk, OnErr};
 ghost use Rattle.burr_assembly.specs.Text.{IsAssembly};
 ghost use Rattle.burr_bench.specs.declared.mode.Mode.TheVariants.{Running};
 ghost use Rattle.burr_code.specs.declared.limits.TheConstants.{MOST_CODE};
 ghost use Rattle.burr_bench.specs.BenchViews.{setup_of};
 ghost use Rattle.burr_runs.specs.Output.{outcome_of};
-ghost use Rattle.burr_runs.specs.Running.{PutsSheet, PutsSheetFront, PutsFrontOfRun, StepOrClose, IsInStep, ClosesPart};
+ghost use Rattle.burr_runs.specs.Running.{PutsSheet, FailsInSheet, FailsInRun, StepOrClose, IsInStep, ClosesPart};
 
 use crate::outcome::Outcome;
 use burr_assembly::Assembly;
-use burr_bench::{Checked, Closing, Progress};
 use burr_blocking::PlainCells;
+use burr_bench::{Checked, Closing, Progress};
 use burr_io::{Sink, WriteFault};
 use burr_sheet::Sheet;
 
@@ -24,9 +24,9 @@ pub fn run_bare<W: Sink>(
 ) -> Result<Outcome, WriteFault>
     requires whole { IsAssembly assembly.now }
     requires short { length code.now ≤ MOST_CODE }
-    ensures ok { IfOk result (λ outcome. PutsSheet (W.taken sink.old) (W.taken sink.new) assembly.now code.now outcome) }
-    ensures err { OnErr result (PutsSheetFront (W.taken sink.old) (W.taken sink.new) assembly.now code.now) }
-    ensures fails { OnErr result (IsTrue (W.has_failed sink.new)) }
+    ensures ok { IfOk result (λ outcome.
+        PutsSheet W.Sink sink.old sink.new assembly.now code.now outcome) }
+    ensures err { OnErr result (FailsInSheet W.Sink sink.old sink.new assembly.now code.now) }
 {
     let cells = PlainCells::new(assembly);
     let mut bench = Checked::bare(code, &cells);
@@ -36,7 +36,7 @@ pub fn run_bare<W: Sink>(
     Ok(outcome(closing))
 }
 
-/// How a run that closed so is answered.
+/// The outcome of a run that closed so.
 fn outcome(closing: Closing) -> Outcome
     ensures { result ≡ outcome_of closing }
 {
@@ -55,9 +55,10 @@ fn run_to_close<W: Sink>(
     sink: &mut W,
 ) -> Result<Closing, WriteFault>
     requires { IsInStep bench.old sheet.old }
-    ensures ok { IfOk result (λ closing. ClosesPart (W.taken sink.old) (W.taken sink.new) (setup_of bench.old) bench.old.state sheet.old bench.new.state sheet.new closing) }
-    ensures err { OnErr result (PutsFrontOfRun (W.taken sink.old) (W.taken sink.new) (setup_of bench.old) bench.old.state sheet.old) }
-    ensures fails { OnErr result (IsTrue (W.has_failed sink.new)) }
+    ensures ok { IfOk result (λ closing. ClosesPart W.Sink sink.old sink.new
+        (setup_of bench.old) bench.old.state sheet.old bench.new.state sheet.new closing) }
+    ensures err { OnErr result (FailsInRun W.Sink sink.old sink.new
+        (setup_of bench.old) bench.old.state sheet.old) }
 {
     loop {
         if bench.ended() {
@@ -83,9 +84,10 @@ fn take_step<W: Sink>(
     requires in_step { IsInStep bench.old sheet.old }
     requires running { bench.old.state.mode ≡ Running }
     requires within { bench.old.state.steps ≢ 1000000 }
-    ensures ok { IfOk result (λ closing. StepOrClose bench.old sheet.old bench.new sheet.new (W.taken sink.old) (W.taken sink.new) closing) }
-    ensures err { OnErr result (PutsFrontOfRun (W.taken sink.old) (W.taken sink.new) (setup_of bench.old) bench.old.state sheet.old) }
-    ensures fails { OnErr result (IsTrue (W.has_failed sink.new)) }
+    ensures ok { IfOk result (λ closing. StepOrClose W.Sink sink.old sink.new
+        bench.old sheet.old bench.new sheet.new closing) }
+    ensures err { OnErr result (FailsInRun W.Sink sink.old sink.new
+        (setup_of bench.old) bench.old.state sheet.old) }
 {
     match bench.step(None) {
         Ok(Progress::Went(Some(motion))) => {

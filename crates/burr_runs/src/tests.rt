@@ -26,12 +26,12 @@ fn input_of(alloc: Global, text: &str, code: &str) -> Result<String, AllocError>
     format!(in alloc; "{text}code {code}\n")
 }
 
-/// Asserts that an input is answered so.
-fn assert_answer(rt: &impl Abort, alloc: Global, input: &str, outcome: Outcome, output: &str) {
+/// Asserts that an input ends so, with this output.
+fn assert_output(rt: &impl Abort, alloc: Global, input: &str, outcome: Outcome, output: &str) {
     let mut source = Reading::new(input.as_bytes());
     let mut written = Vec::new(alloc);
-    let answer = bench_text(alloc, &mut source, &mut Writing::new(&mut written));
-    assert_eq!(rt; answer, Ok(outcome), "{input}");
+    let result = bench_text(alloc, &mut source, &mut Writing::new(&mut written));
+    assert_eq!(rt; result, Ok(outcome), "{input}");
     assert_eq!(rt; written.as_slice(), output.as_bytes(), "{input}");
 }
 

@@ -1,12 +1,11 @@
-ghost use Rattle.std.specs.Prelude.{◌≡◌, ◌≢◌, ◌≤◌, length, IfErr, IfOk, OnErr, OnOk, IsTrue, codes};
-ghost use Rattle.std.specs.Io.KnownBytes.{Appends};
-ghost use Rattle.burr_io.specs.Sink.{TakesFront};
+ghost use Rattle.std.specs.Prelude.{◌≡◌, ◌≢◌, ◌≤◌, length, IfErr, IfOk, codes};
+ghost use Rattle.burr_io.specs.Sink.{Puts};
 ghost use Rattle.burr_runs.specs.declared.outcome.Outcome.TheVariants.{Refused};
 ghost use Rattle.burr_runs.specs.declared.fault.BenchFault.TheVariants.{Write};
 ghost use Rattle.burr_runs.specs.Refusals.{refusal};
 ghost use Rattle.burr_runs.specs.Output.{IsOutput, IsTextOutput};
 ghost use Rattle.burr_code.specs.declared.limits.TheConstants.{MOST_CODE};
-ghost use Rattle.burr_runs.specs.BenchText.{PutsOutput, OutputFails, Succeeds, Fails};
+ghost use Rattle.burr_runs.specs.BenchText.{PutsOutput, OutputFails, streams, Succeeds, Fails};
 
 use crate::fault::BenchFault;
 use crate::input::parse_input;
@@ -20,8 +19,8 @@ use std::alloc::Global;
 
 /// Reads an assembly's text and behind it a last line `code` with 1 to 4,096 bytes as lower case
 /// hexadecimal digits, runs this bare code on the bench, without answers and with a budget of
-/// 1,000,000 steps, and writes the run's sheet. Another last line is answered by `refused input`,
-/// and a faulty text by its first fault's line.
+/// 1,000,000 steps, and writes the run's sheet. For another last line it writes `refused input`,
+/// and for a faulty text its first fault's line.
 ///
 /// Nothing is written before the source has ended. `Read` comes where a call of the source failed,
 /// `TooLong` where it gave more than 16,777,216 bytes, `Write` where a call of the sink failed, and
@@ -31,22 +30,10 @@ pub fn bench_text<R: Source, W: Sink>(
     source: &mut R,
     sink: &mut W,
 ) -> Result<Outcome, BenchFault>
-    ensures ok { IfOk result (λ outcome. Succeeds (record {
-      left_old = R.left source.old;
-      left_new = R.left source.new;
-      read_failed = R.has_failed source.new;
-      taken_old = W.taken sink.old;
-      taken_new = W.taken sink.new;
-      write_failed = W.has_failed sink.new;
-    }) outcome) }
-    ensures err { IfErr result (λ fault. Fails (record {
-      left_old = R.left source.old;
-      left_new = R.left source.new;
-      read_failed = R.has_failed source.new;
-      taken_old = W.taken sink.old;
-      taken_new = W.taken sink.new;
-      write_failed = W.has_failed sink.new;
-    }) fault) }
+    ensures ok { IfOk result (λ outcome. Succeeds
+        (streams R.Source source.old source.new W.Sink sink.old sink.new) outcome) }
+    ensures err { IfErr result (λ fault. Fails
+        (streams R.Source source.old source.new W.Sink sink.old sink.new) fault) }
     ensures untouched { IfErr result (λ fault. fault ≢ Write → sink.new ≡ sink.old) }
 {
     let input = read_whole(alloc, source)?;
@@ -55,8 +42,10 @@ pub fn bench_text<R: Source, W: Sink>(
 
 /// Writes what is due for a whole input.
 fn write_output<W: Sink>(alloc: Global, input: &[u8], sink: &mut W) -> Result<Outcome, BenchFault>
-    ensures ok { IfOk result (λ outcome. PutsOutput (IsOutput input.now) (W.taken sink.old) (W.taken sink.new) outcome) }
-    ensures err { IfErr result (λ fault. OutputFails (IsOutput input.now) (W.taken sink.old) (W.taken sink.new) (W.has_failed sink.new) fault) }
+    ensures ok { IfOk result (λ outcome. PutsOutput (IsOutput input.now)
+        (W.taken sink.old) (W.taken sink.new) outcome) }
+    ensures err { IfErr result (λ fault. OutputFails (IsOutput input.now)
+        (W.taken sink.old) (W.taken sink.new) (W.has_failed sink.new) fault) }
     ensures untouched { IfErr result (λ fault. fault ≢ Write → sink.new ≡ sink.old) }
 {
     match parse_input(alloc, input)? {
@@ -73,8 +62,10 @@ fn write_text_output<W: Sink>(
     sink: &mut W,
 ) -> Result<Outcome, BenchFault>
     requires { length code.now ≤ MOST_CODE }
-    ensures ok { IfOk result (λ outcome. PutsOutput (IsTextOutput text.now code.now) (W.taken sink.old) (W.taken sink.new) outcome) }
-    ensures err { IfErr result (λ fault. OutputFails (IsTextOutput text.now code.now) (W.taken sink.old) (W.taken sink.new) (W.has_failed sink.new) fault) }
+    ensures ok { IfOk result (λ outcome. PutsOutput (IsTextOutput text.now code.now)
+        (W.taken sink.old) (W.taken sink.new) outcome) }
+    ensures err { IfErr result (λ fault. OutputFails (IsTextOutput text.now code.now)
+        (W.taken sink.old) (W.taken sink.new) (W.has_failed sink.new) fault) }
     ensures untouched { IfErr result (λ fault. fault ≢ Write → sink.new ≡ sink.old) }
 {
     match Assembly::read(alloc, text) {
@@ -90,10 +81,8 @@ fn refuse_text<W: Sink>(
     fault: AssemblyFault,
     sink: &mut W,
 ) -> Result<Outcome, WriteFault>
-    ensures ok { OnOk result (Appends (W.taken sink.old) (W.taken sink.new) (refusal text.now fault)) }
+    ensures puts { Puts W.Sink sink.old sink.new (refusal text.now fault) result }
     ensures refused { IfOk result (λ outcome. outcome ≡ Refused) }
-    ensures err { OnErr result (TakesFront (W.taken sink.old) (W.taken sink.new) (refusal text.now fault)) }
-    ensures fails { OnErr result (IsTrue (W.has_failed sink.new)) }
 {
     put_refusal(text, fault, sink)?;
     Ok(Outcome::Refused)
@@ -101,10 +90,8 @@ fn refuse_text<W: Sink>(
 
 /// Refuses an input whose last line is none with code.
 fn refuse_input<W: Sink>(sink: &mut W) -> Result<Outcome, WriteFault>
-    ensures ok { OnOk result (Appends (W.taken sink.old) (W.taken sink.new) (codes "refused input\n")) }
+    ensures puts { Puts W.Sink sink.old sink.new (codes "refused input\n") result }
     ensures refused { IfOk result (λ outcome. outcome ≡ Refused) }
-    ensures err { OnErr result (TakesFront (W.taken sink.old) (W.taken sink.new) (codes "refused input\n")) }
-    ensures fails { OnErr result (IsTrue (W.has_failed sink.new)) }
 {
     put_all(b"refused input\n", sink)?;
     Ok(Outcome::Refused)

@@ -2,8 +2,8 @@
 use Rattle.std.proofs.Common.{◌≡◌, ◌≢◌, ℕ, suc, ◌≤◌, ◌<◌, ◌⊎◌, List, [], ◌∷◌, ◌++◌, refl, sym, ap, ◌∙◌, arith, inl, inr, append_assoc}
 use Rattle.std.proofs.lemmas.List.{append-nil}
 use Rattle.std.proofs.lemmas.List.Elements.{All-head, All-tail}
-use Rattle.std.specs.Prelude.{decimal, codes, Bool, true, false, ◌==◌, if◌then◌else◌, slice_index, map}
-use Rattle.std.specs.Int.{bit_at}
+use Rattle.std.specs.Prelude.{decimal, codes, Bool, true, false, if◌then◌else◌, slice_index, map}
+use Rattle.burr_code.specs.PieceSets.{is_left_out}
 use Rattle.std.specs.Fmt.{signed_decimal}
 use Rattle.std.specs.List.{All, flat_map, join_with_byte}
 use Rattle.burr_voxels.specs.declared.direction.Direction.{Direction}
@@ -16,7 +16,7 @@ use Rattle.burr_bench.specs.declared.trap.Trap.{Trap}
 use Rattle.burr_bench.specs.declared.trap.Trap.TheVariants.{Collision, GripOff, NotFree, BadGroup, TrayInUse, MissingOperand, StackFull, EmptySlot, BadJump, BadCode, BadCall, BadCount, NumberRange, OffBench, NotApart, Misplaced, ParamWritten}
 use Rattle.burr_bench.specs.TrapNames.{trap_number, trap_name}
 use Rattle.burr_bench.specs.declared.closing.Closing.{Closing}
-use Rattle.burr_sheet.specs.SheetText.{MoveLine, longest_lines, levels_from, names_from, move_line, move_lines, levels_word, closing_line}
+use Rattle.burr_sheet.specs.SheetText.{MoveLine, longest_lines, levels_from, names_from, out_word, move_words, move_line, move_lines, levels_word, levels_line, after_words, trap_words, closing_line}
 use Rattle.burr_text.specs.Words.{text_line}
 use Rattle.burr_sheet.specs.SheetLaws.{ClosesInOneLine, EndsInClosing}
 use Rattle.burr_bench.specs.declared.closing.Closing.TheVariants as closings
@@ -52,20 +52,20 @@ pub record IsOneLine (text : List ℕ) : Type 0 where
 words_line : (words : List (List ℕ)) → EachLacks 10 words → IsOneLine (text_line words)
 words_line words each = record { body = join_with_byte 32 words; lacks = lacks_join 10 32 words (λ e. omega arith) each; is = refl }
 
-after_words : (steps : ℕ) → EachLacks 10 (codes "after" ∷ decimal steps ∷ codes "steps" ∷ [])
-after_words steps = (lacks_clear (codes "after") refl, (lacks_decimal steps, (lacks_clear (codes "steps") refl, tt)))
+lacks_after : (steps : ℕ) → EachLacks 10 (after_words steps)
+lacks_after steps = (lacks_clear (codes "after") refl, (lacks_decimal steps, (lacks_clear (codes "steps") refl, tt)))
 
 pub closing_is_line : (closing : Closing) (steps : ℕ) → IsOneLine (closing_line closing steps)
 closing_is_line closings.Apart steps =
     words_line (codes "apart" ∷ codes "in" ∷ decimal steps ∷ codes "steps" ∷ [])
     (lacks_clear (codes "apart") refl, (lacks_clear (codes "in") refl, (lacks_decimal steps, (lacks_clear (codes "steps") refl, tt))))
 closing_is_line (closings.Waiting low high) steps =
-    words_line (codes "waiting" ∷ signed_decimal low ∷ signed_decimal high ∷ codes "after" ∷ decimal steps ∷ codes "steps" ∷ [])
-    (lacks_clear (codes "waiting") refl, (lacks_signed_decimal low, (lacks_signed_decimal high, after_words steps)))
+    words_line (codes "waiting" ∷ signed_decimal low ∷ signed_decimal high ∷ after_words steps)
+    (lacks_clear (codes "waiting") refl, (lacks_signed_decimal low, (lacks_signed_decimal high, lacks_after steps)))
 closing_is_line (closings.Trapped trap procedure pc) steps =
-    words_line (codes "trap" ∷ decimal (trap_number trap) ∷ trap_name trap ∷ codes "proc" ∷ decimal procedure ∷ codes "pc" ∷ decimal pc ∷ codes "after" ∷ decimal steps ∷ codes "steps" ∷ [])
-    (lacks_clear (codes "trap") refl, (lacks_decimal (trap_number trap), (lacks_clear (trap_name trap) (clear_trap_name trap), (lacks_clear (codes "proc") refl, (lacks_decimal procedure, (lacks_clear (codes "pc") refl, (lacks_decimal pc, after_words steps)))))))
-closing_is_line closings.Stopped steps = words_line (codes "stopped" ∷ codes "after" ∷ decimal steps ∷ codes "steps" ∷ []) (lacks_clear (codes "stopped") refl, after_words steps)
+    words_line (trap_words trap procedure pc ++ after_words steps)
+    (lacks_clear (codes "trap") refl, (lacks_decimal (trap_number trap), (lacks_clear (trap_name trap) (clear_trap_name trap), (lacks_clear (codes "proc") refl, (lacks_decimal procedure, (lacks_clear (codes "pc") refl, (lacks_decimal pc, lacks_after steps)))))))
+closing_is_line closings.Stopped steps = words_line (codes "stopped" ∷ after_words steps) (lacks_clear (codes "stopped") refl, lacks_after steps)
 
 pub closes_in_one_line : ClosesInOneLine
 closes_in_one_line closing steps = let line = closing_is_line closing steps in (line.body, unended line.body line.lacks, line.is)
@@ -115,7 +115,7 @@ clear_direction MinusY = refl
 clear_direction PlusZ = refl
 clear_direction MinusZ = refl
 
-lacks_out : (out : Bool) → EachLacks 10 (if out then (codes "out" ∷ []) else [])
+lacks_out : (out : Bool) → EachLacks 10 (out_word out)
 lacks_out true = (lacks_clear (codes "out") refl, tt)
 lacks_out false = tt
 
@@ -125,11 +125,11 @@ lacks_names (name ∷ names) h = (lacks 10 name (All-head IsUnended name names h
 
 lacks_group : (p group : ℕ) (names : List (List ℕ)) → EachLacks 10 names → EachLacks 10 (names_from p group names)
 lacks_group p group [] h = tt
-lacks_group p group (name ∷ names) h = either (bit_at group p == 1) (lacks_group (suc p) group names h.1)
+lacks_group p group (name ∷ names) h = either (is_left_out group p) (lacks_group (suc p) group names h.1)
   where
-    either : (t : Bool) → EachLacks 10 (names_from (suc p) group names) → EachLacks 10 (if t then (name ∷ names_from (suc p) group names) else names_from (suc p) group names)
-    either true rest = (h.0, rest)
-    either false rest = rest
+    either : (t : Bool) → EachLacks 10 (names_from (suc p) group names) → EachLacks 10 (if t then names_from (suc p) group names else (name ∷ names_from (suc p) group names))
+    either true rest = rest
+    either false rest = (h.0, rest)
 
 lacks_numbers : (ns : List ℕ) → EachLacks 10 (map decimal ns)
 lacks_numbers [] = tt
@@ -138,11 +138,6 @@ lacks_numbers (n ∷ ns) = (lacks_decimal n, lacks_numbers ns)
 lacks_levels : (levels : List ℕ) → Lacks 10 (levels_word levels)
 lacks_levels [] = lacks_clear (codes "-") refl
 lacks_levels (n ∷ ns) = lacks_join 10 46 (map decimal (n ∷ ns)) (λ e. omega arith) (lacks_numbers (n ∷ ns))
-
--- the words of a line of motions
-abbrev move_words : List (List ℕ) → ℕ → MoveLine → List (List ℕ)
-move_words names n l =
-    decimal n ∷ (codes "t" ++ decimal l.tray) ∷ join_with_byte 44 (names_from 0 l.group names) ∷ name_of l.direction ∷ decimal l.units ∷ (if l.out then (codes "out" ∷ []) else [])
 
 lacks_move : (names : List (List ℕ)) (n : ℕ) (l : MoveLine) → EachLacks 10 names → Lacks 10 (join_with_byte 32 (move_words names n l))
 lacks_move names n l h =
@@ -164,7 +159,7 @@ pub record IsInLines (text : List ℕ) : Type 0 where
   pub is : text ≡ in_lines lines
 
 -- the lines of the motions, and behind them that of the levels
-front_in_lines : (names : List (List ℕ)) (n : ℕ) (ls : List MoveLine) (levels : List ℕ) → EachLacks 10 names → IsInLines (move_lines names n ls ++ text_line (codes "levels" ∷ levels_word levels ∷ []))
+front_in_lines : (names : List (List ℕ)) (n : ℕ) (ls : List MoveLine) (levels : List ℕ) → EachLacks 10 names → IsInLines (move_lines names n ls ++ levels_line levels)
 front_in_lines names n [] levels h =
     let words : List (List ℕ) = codes "levels" ∷ levels_word levels ∷ [] in
     record {
@@ -177,12 +172,12 @@ front_in_lines names n (l ∷ ls) levels h =
     record {
       lines = join_with_byte 32 (move_words names n l) ∷ rest.lines;
       plain = (lacks_move names n l h, inl (number_first (decimal n) _ (decimal_is_digits n)), rest.plain);
-      is = append_assoc (move_line names n l) (move_lines names (suc n) ls) (text_line (codes "levels" ∷ levels_word levels ∷ [])) ∙ ap (λ (bytes : List ℕ). move_line names n l ++ bytes) rest.is;
+      is = append_assoc (move_line names n l) (move_lines names (suc n) ls) (levels_line levels) ∙ ap (λ (bytes : List ℕ). move_line names n l ++ bytes) rest.is;
     }
 
 -- what stands before the closing line
 abbrev pub sheet_front : List (List ℕ) → List Motion → List ℕ
-sheet_front names motions = move_lines names 1 (longest_lines motions) ++ text_line (codes "levels" ∷ levels_word (levels_from 0 (longest_lines motions)) ∷ [])
+sheet_front names motions = move_lines names 1 (longest_lines motions) ++ levels_line (levels_from 0 (longest_lines motions))
 
 pub sheet_in_lines : (names : List (List ℕ)) (motions : List Motion) → All IsUnended names → IsInLines (sheet_front names motions)
 sheet_in_lines names motions h = front_in_lines names 1 (longest_lines motions) (levels_from 0 (longest_lines motions)) (lacks_names names h)

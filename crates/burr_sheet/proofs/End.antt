@@ -1,10 +1,9 @@
 -- What is to come of a sheet at its end, and of one at its start.
-use Rattle.std.proofs.Common.{◌≡◌, ℕ, [], ◌∷◌, ◌++◌, Option, Some, None, codes, refl, ap, ◌∙◌, append_assoc, append-nil}
+use Rattle.std.proofs.Common.{◌≡◌, ℕ, [], ◌++◌, Option, Some, None, refl, ap, ◌∙◌, append_assoc, append-nil}
 use Rattle.burr_sheet.specs.declared.sheet.line.GrowingLine.{GrowingLine}
 use Rattle.burr_sheet.specs.declared.sheet.Sheet.TheInside.{Inside}
 use Rattle.burr_bench.specs.declared.closing.Closing.{Closing}
-use Rattle.burr_sheet.specs.SheetText.{levels_from, levels_word, closing_line}
-use Rattle.burr_text.specs.Words.{text_line}
+use Rattle.burr_sheet.specs.SheetText.{levels_from, levels_line, closing_line}
 use Rattle.burr_sheet.specs.SheetUnderWay.{UnderWay, still, with_growing, growing_text}
 use Rattle.burr_sheet.specs.SheetView.{under_way, growing_of}
 
@@ -15,9 +14,9 @@ no_level n (Some l) = refl
 
 -- the growing line, the levels and the closing are to come
 pub still-end : (s : Inside) (u : UnderWay) (steps : ℕ) (closing : Closing) → under_way s ≡ u
-    → still u [] steps closing ≡ growing_text u ++ (text_line (codes "levels" ∷ levels_word s.levels.items ∷ []) ++ closing_line closing steps)
+    → still u [] steps closing ≡ growing_text u ++ (levels_line s.levels.items ++ closing_line closing steps)
 still-end s u steps closing is =
     rw (← is)
     (append_assoc (growing_text (under_way s)) _ (closing_line closing steps)
-    ∙ ap (λ levels. growing_text (under_way s) ++ (text_line (codes "levels" ∷ levels_word levels ∷ []) ++ closing_line closing steps))
+    ∙ ap (λ levels. growing_text (under_way s) ++ (levels_line levels ++ closing_line closing steps))
     (ap (λ ns. s.levels.items ++ ns) (no_level s.level s.growing) ∙ append-nil s.levels.items))

@@ -50,7 +50,7 @@ goes_onto-alike m l is =
       direction = same_direction _ _ (eqb-true _ _ direction.1);
     }
 
--- the first line of those that a motion is in front of
+-- the first of these lines is of the motion's group, tray and direction
 record Begins (m : Motion) (lines : List MoveLine) : Type 0 where
   head : MoveLine
   tail : List MoveLine
@@ -60,11 +60,11 @@ record Begins (m : Motion) (lines : List MoveLine) : Type 0 where
 Alike-refl : (g : MoveLine) → Alike g g
 Alike-refl g = record { group = refl; tray = refl; direction = refl }
 
-in_front-joined : (m : Motion) (l : MoveLine) (ls : List MoveLine) → goes_onto m l ≡ true → with_motion m (l ∷ ls) ≡ record l { units = l.units + 1 } ∷ ls
-in_front-joined m l ls is = rw is
+with_motion-joined : (m : Motion) (l : MoveLine) (ls : List MoveLine) → goes_onto m l ≡ true → with_motion m (l ∷ ls) ≡ record l { units = l.units + 1 } ∷ ls
+with_motion-joined m l ls is = rw is
 
-in_front-apart : (m : Motion) (l : MoveLine) (ls : List MoveLine) → goes_onto m l ≡ false → with_motion m (l ∷ ls) ≡ alone m ∷ l ∷ ls
-in_front-apart m l ls is = rw is
+with_motion-apart : (m : Motion) (l : MoveLine) (ls : List MoveLine) → goes_onto m l ≡ false → with_motion m (l ∷ ls) ≡ alone m ∷ l ∷ ls
+with_motion-apart m l ls is = rw is
 
 begins_by : (m : Motion) (l : MoveLine) (ls : List MoveLine) (test : Bool) → goes_onto m l ≡ test → Begins m (with_motion m (l ∷ ls))
 begins_by m l ls true is =
@@ -72,10 +72,10 @@ begins_by m l ls true is =
     record {
       head = record l { units = l.units + 1 };
       tail = ls;
-      parts = in_front-joined m l ls is;
+      parts = with_motion-joined m l ls is;
       alike = record { group = alike.group; tray = alike.tray; direction = alike.direction };
     }
-begins_by m l ls false is = record { head = alone m; tail = l ∷ ls; parts = in_front-apart m l ls is; alike = Alike-refl (alone m) }
+begins_by m l ls false is = record { head = alone m; tail = l ∷ ls; parts = with_motion-apart m l ls is; alike = Alike-refl (alone m) }
 
 begins : (m : Motion) (lines : List MoveLine) → Begins m (with_motion m lines)
 begins m [] = record { head = alone m; tail = []; parts = refl; alike = Alike-refl (alone m) }
@@ -105,10 +105,10 @@ longer_by : (g : MoveLine) (m : Motion) (l : MoveLine) (ls : List MoveLine) (tes
     → with_growing (Some g) (with_motion m (l ∷ ls)) ≡ with_growing (Some (record g { units = g.units + 1 })) (l ∷ ls)
 longer_by g m l ls true is one step goes =
     let same : is_one g l ≡ true = is_one-alike g (alone m) l (Alike-from_one g (alone m) one) ∙ sym (goes_onto-step m l step) ∙ is in
-    rw (in_front-joined m l ls is, same, ap (λ n. g.units + n) (add_comm l.units 1), sym (add_assoc g.units 1 l.units))
+    rw (with_motion-joined m l ls is, same, ap (λ n. g.units + n) (add_comm l.units 1), sym (add_assoc g.units 1 l.units))
 longer_by g m l ls false is one step goes =
     let same : is_one g l ≡ false = is_one-alike g (alone m) l (Alike-from_one g (alone m) one) ∙ sym (goes_onto-step m l step) ∙ is in
-    rw (in_front-apart m l ls is, one, same) (ap (λ h. h ∷ l ∷ ls) (longer g m one step goes))
+    rw (with_motion-apart m l ls is, one, same) (ap (λ h. h ∷ l ∷ ls) (longer g m one step goes))
 
 -- a step that goes on the growing line makes it longer
 pub with_growing-longer : (g : MoveLine) (m : Motion) (lines : List MoveLine) → is_one g (alone m) ≡ true → m.out ≡ false → g.out ≡ false
@@ -116,11 +116,11 @@ pub with_growing-longer : (g : MoveLine) (m : Motion) (lines : List MoveLine) �
 with_growing-longer g m [] one step goes = rw one (ap (λ h. h ∷ []) (longer g m one step goes))
 with_growing-longer g m (l ∷ ls) one step goes = longer_by g m l ls (goes_onto m l) refl one step goes
 
-in_front-out : (m : Motion) (lines : List MoveLine) → m.out ≡ true → with_motion m lines ≡ alone m ∷ lines
-in_front-out m [] out = refl
-in_front-out m (l ∷ ls) out = in_front-apart m l ls (goes_onto-out m l out)
+with_motion-out : (m : Motion) (lines : List MoveLine) → m.out ≡ true → with_motion m lines ≡ alone m ∷ lines
+with_motion-out m [] out = refl
+with_motion-out m (l ∷ ls) out = with_motion-apart m l ls (goes_onto-out m l out)
 
 -- an aside that goes on the growing line ends it
 pub with_growing-ended : (g : MoveLine) (m : Motion) (lines : List MoveLine) → is_one g (alone m) ≡ true → m.out ≡ true
     → with_growing (Some g) (with_motion m lines) ≡ record g { out = true } ∷ lines
-with_growing-ended g m lines one out = rw (in_front-out m lines out, one) (ap (λ h. h ∷ lines) (ended g m one out))
+with_growing-ended g m lines one out = rw (with_motion-out m lines out, one) (ap (λ h. h ∷ lines) (ended g m one out))

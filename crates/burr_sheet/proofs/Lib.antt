@@ -4,3 +4,4 @@ pub mod GrowingLines
 pub mod LineWords
 pub mod Motions
 pub mod OneClosing
+pub mod WorkedRows

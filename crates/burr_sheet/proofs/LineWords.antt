@@ -1,18 +1,19 @@
 -- What the words of a sheet's lines come to.
-use Rattle.std.proofs.Common.{◌≡◌, ℕ, zero, suc, ◌+◌, ◌==◌, ◌<◌, true, false, if◌then◌else◌, IfSome, List, [], ◌∷◌, ◌++◌, length, get_or, slice_get, drop, map, codes, decimal, sym, ap, arith, add-one, drop-cons, append_assoc}
+use Rattle.std.proofs.Common.{◌≡◌, ℕ, zero, suc, ◌+◌, ◌<◌, if◌then◌else◌, IfSome, List, [], ◌∷◌, ◌++◌, length, get_or, slice_get, drop, map, codes, decimal, sym, arith, add-one, drop-cons, append_assoc}
 use Rattle.std.proofs.lemmas.List.{length-map}
 use Rattle.std.specs.List.{join_with_byte}
-use Rattle.std.specs.Int.{bit_at}
+use Rattle.burr_code.specs.PieceSets.{IsInSet, is_left_out}
+use Rattle.burr_code.proofs.Common.PieceSets.{not_left_out, left_out}
 use Rattle.burr_assembly.specs.Text.{Piece}
 use Rattle.burr_voxels.specs.Grid.{name_of}
-use Rattle.burr_sheet.specs.SheetText.{MoveLine, levels_word, names_from, move_line}
+use Rattle.burr_sheet.specs.SheetText.{MoveLine, levels_word, names_from, out_word, move_line}
 use Rattle.burr_text.specs.Words.{text_line}
-use Rattle.burr_io.proofs.Common.Puts.{joined_rest, joined_behind-join}
+use Rattle.burr_io.proofs.Common.Puts.{joined, joined-join}
 
 -- levels, of which there are some, with a dot between each two
-pub levels_word-some : (levels : List ℕ) (last : List ℕ) → 0 < length levels → levels_word levels ++ last ≡ joined_rest [] 46 (map decimal levels) last
+pub levels_word-some : (levels : List ℕ) (last : List ℕ) → 0 < length levels → levels_word levels ++ last ≡ joined [] 46 (map decimal levels) last
 levels_word-some [] last some = absurd (omega arith)
-levels_word-some (level ∷ levels) last some = ap (λ t. t ++ last) (joined_behind-join 46 (map decimal (level ∷ levels)))
+levels_word-some (level ∷ levels) last some = joined-join 46 (map decimal (level ∷ levels)) last
 
 -- the name of the p-th piece
 name-at : (pieces : List Piece) (p : ℕ) (name : List ℕ) → p < length pieces → IfSome (slice_get pieces p) (λ (piece : Piece). name ≡ piece.name)
@@ -23,7 +24,7 @@ name-at (piece ∷ pieces) (suc p) name inside is = name-at pieces p name (omega
 
 names_from-at : (names : List (List ℕ)) (p group : ℕ) → p < length names
     → names_from p group (drop p names)
-    ≡ (if bit_at group p == 1 then (get_or names p [] ∷ names_from (p + 1) group (drop (p + 1) names)) else names_from (p + 1) group (drop (p + 1) names))
+    ≡ (if is_left_out group p then names_from (p + 1) group (drop (p + 1) names) else (get_or names p [] ∷ names_from (p + 1) group (drop (p + 1) names)))
 names_from-at names p group inside = rw (add-one, drop-cons names p [])
 
 module _ (pieces : List Piece) (p group : ℕ) (inside : p < length pieces) where
@@ -31,14 +32,14 @@ module _ (pieces : List Piece) (p group : ℕ) (inside : p < length pieces) wher
   here = rw length-map inside
 
   -- a piece of the group is the next whose name is to come
-  pub names_from-in : (name : List ℕ) → (bit_at group p == 1) ≡ true → IfSome (slice_get pieces p) (λ (piece : Piece). name ≡ piece.name)
+  pub names_from-in : (name : List ℕ) → IsInSet group p → IfSome (slice_get pieces p) (λ (piece : Piece). name ≡ piece.name)
       → names_from p group (drop p (map (λ (piece : Piece). piece.name) pieces)) ≡ name ∷ names_from (p + 1) group (drop (p + 1) (map (λ (piece : Piece). piece.name) pieces))
-  names_from-in name is has = rw (names_from-at _ p group here, is, name-at pieces p name inside has)
+  names_from-in name is has = rw (names_from-at _ p group here, not_left_out group p is, name-at pieces p name inside has)
 
   -- a piece of another group is passed over
-  pub names_from-out : (bit_at group p == 1) ≡ false
+  pub names_from-out : (¬ IsInSet group p)
       → names_from p group (drop p (map (λ (piece : Piece). piece.name) pieces)) ≡ names_from (p + 1) group (drop (p + 1) (map (λ (piece : Piece). piece.name) pieces))
-  names_from-out is = rw (names_from-at _ p group here, is)
+  names_from-out none = rw (names_from-at _ p group here, left_out group p none)
 
 -- the words of a line, one after another
 spaced : (number tray names word : List ℕ) (words : List (List ℕ))
@@ -49,5 +50,5 @@ spaced number tray names word words = simp append_assoc
 pub move_line-parts : (names : List (List ℕ)) (n : ℕ) (l : MoveLine)
     → move_line names n l
     ≡ decimal n
-    ++ (codes " t" ++ (decimal l.tray ++ (codes " " ++ (join_with_byte 44 (names_from 0 l.group names) ++ (codes " " ++ text_line (name_of l.direction ∷ decimal l.units ∷ (if l.out then (codes "out" ∷ []) else [])))))))
-move_line-parts names n l = spaced (decimal n) (decimal l.tray) _ (name_of l.direction) (decimal l.units ∷ (if l.out then (codes "out" ∷ []) else []))
+    ++ (codes " t" ++ (decimal l.tray ++ (codes " " ++ (join_with_byte 44 (names_from 0 l.group names) ++ (codes " " ++ text_line (name_of l.direction ∷ decimal l.units ∷ out_word l.out))))))
+move_line-parts names n l = spaced (decimal n) (decimal l.tray) _ (name_of l.direction) (decimal l.units ∷ out_word l.out)

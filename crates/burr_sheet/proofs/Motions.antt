@@ -1,13 +1,13 @@
 -- What a motion closes of what is to come.
-use Rattle.std.proofs.Common.{◌≡◌, ℕ, suc, ◌+◌, List, [], ◌∷◌, ◌++◌, true, false, Option, Some, None, codes, refl, sym, ap, ◌∙◌, arith, append_assoc}
+use Rattle.std.proofs.Common.{◌≡◌, ℕ, suc, ◌+◌, List, [], ◌∷◌, ◌++◌, true, false, Option, Some, None, refl, sym, ap, ◌∙◌, arith, append_assoc}
 use Rattle.std.proofs.KnownBytes.{Appends-nil, Appends-trans}
 use Rattle.std.specs.Io.KnownBytes.{Appends}
-use Rattle.burr_io.specs.Sink.{TakesFront}
+use Rattle.burr_io.specs.Sink.{SinkView, FailsWithin}
+use Rattle.burr_io.proofs.Common.Puts.{FailsWithin-more, FailsWithin-first}
 use Rattle.burr_bench.specs.declared.motion.Motion.{Motion}
 use Rattle.burr_bench.specs.declared.closing.Closing.{Closing}
-use Rattle.burr_sheet.specs.SheetText.{MoveLine, alone, with_motion, longest_lines, levels_from, move_line, move_lines, levels_word, closing_line}
-use Rattle.burr_text.specs.Words.{text_line}
-use Rattle.burr_sheet.specs.SheetUnderWay.{UnderWay, is_one, with_growing, to_come, PutsBefore, PutsMotion, PutsFront}
+use Rattle.burr_sheet.specs.SheetText.{MoveLine, alone, with_motion, longest_lines, levels_from, move_line, move_lines, levels_line, closing_line}
+use Rattle.burr_sheet.specs.SheetUnderWay.{UnderWay, is_one, with_growing, to_come, PutsBefore, PutsMotion, FailsInMotion}
 use Rattle.burr_sheet.proofs.GrowingLines.{with_growing-other, with_growing-fresh, with_growing-longer, with_growing-ended}
 
 -- a line is closed
@@ -27,14 +27,10 @@ levels_from-out n l ls out = rw out
 -- what is to come of these lines
 abbrev come : UnderWay → List MoveLine → ℕ → Closing → List ℕ
 come u lines steps closing =
-    move_lines u.names (u.lines + 1) lines ++ text_line (codes "levels" ∷ levels_word (u.levels ++ levels_from u.level lines) ∷ []) ++ closing_line closing steps
+    move_lines u.names (u.lines + 1) lines ++ levels_line (u.levels ++ levels_from u.level lines) ++ closing_line closing steps
 
 regroup : (a b c d e f : List ℕ) → b ≡ c → d ≡ e → ((a ++ b) ++ d) ++ f ≡ a ++ ((c ++ e) ++ f)
 regroup a b c d e f same too = rw (same, too) (simp append_assoc)
-
--- the levels' line of these levels
-abbrev levels_line : List ℕ → List ℕ
-levels_line levels = text_line (codes "levels" ∷ levels_word levels ∷ [])
 
 -- the first line, and what is to come behind it
 module _ (u : UnderWay) (lines : List MoveLine) (l : MoveLine) (ls : List MoveLine) (parts : with_growing u.growing lines ≡ l ∷ ls) (steps : ℕ) (closing : Closing) where
@@ -60,24 +56,24 @@ to_come-same u growing lines others same steps closing = ap (λ xs. come u xs st
 -- The line that a motion goes on
 
 -- it is the first, or the first behind an aside
-pub PutsBefore-fresh : (taken : Option (List ℕ)) (u : UnderWay) (m : Motion) (g : MoveLine) → u.growing ≡ None → is_one g (alone m) ≡ true → g.units ≡ 0
-    → PutsBefore taken taken u m (record u { growing = Some g })
-PutsBefore-fresh taken u m g is one none = (
+pub PutsBefore-fresh : {S : Type 0} (sink : SinkView S) (old : S) (u : UnderWay) (m : Motion) (g : MoveLine) → u.growing ≡ None → is_one g (alone m) ≡ true → g.units ≡ 0
+    → PutsBefore sink old old u m (record u { growing = Some g })
+PutsBefore-fresh sink old u m g is one none = (
   [],
-  Appends-nil taken,
+  Appends-nil (sink.taken old),
   λ lines steps closing.
       to_come-same u (Some g) (with_motion m lines) (with_motion m lines) (ap (λ growing. with_growing growing (with_motion m lines)) is ∙ sym (with_growing-fresh g m lines one none)) steps closing,
 )
 
 -- the growing line is another
-module _ (old : Option (List ℕ)) (u : UnderWay) (m : Motion) (l : MoveLine) (is : u.growing ≡ Some l) (goes : l.out ≡ false) (other : is_one l (alone m) ≡ false) where
+module _ {S : Type 0} (sink : SinkView S) (old new : S) (u : UnderWay) (m : Motion) (l : MoveLine) (is : u.growing ≡ Some l) (goes : l.out ≡ false) (other : is_one l (alone m) ≡ false) where
   first : (lines : List MoveLine) (steps : ℕ) (closing : Closing) → to_come u (with_motion m lines) steps closing ≡ move_line u.names (u.lines + 1) l ++ to_come (with_line u) (with_motion m lines) steps closing
   first lines steps closing =
       to_come-line u (with_motion m lines) l (with_motion m lines) (ap (λ growing. with_growing growing (with_motion m lines)) is ∙ with_growing-other l m lines other) steps closing goes
 
-  pub PutsBefore-other : (new : Option (List ℕ)) (g : MoveLine) → Appends old new (move_line u.names (u.lines + 1) l) → is_one g (alone m) ≡ true → g.units ≡ 0
-      → PutsBefore old new u m (record (with_line u) { growing = Some g })
-  PutsBefore-other new g went one none = (
+  pub PutsBefore-other : (g : MoveLine) → Appends (sink.taken old) (sink.taken new) (move_line u.names (u.lines + 1) l) → is_one g (alone m) ≡ true → g.units ≡ 0
+      → PutsBefore sink old new u m (record (with_line u) { growing = Some g })
+  PutsBefore-other g went one none = (
     move_line u.names (u.lines + 1) l,
     went,
     λ lines steps closing.
@@ -86,22 +82,14 @@ module _ (old : Option (List ℕ)) (u : UnderWay) (m : Motion) (l : MoveLine) (i
         (to_come-same (with_line u) (Some g) (with_motion m lines) (with_motion m lines) (sym (with_growing-fresh g m lines one none)) steps closing),
   )
 
-  pub PutsFront-other : (new : Option (List ℕ)) → TakesFront old new (move_line u.names (u.lines + 1) l) → PutsFront old new u m
-  PutsFront-other new short = (
-    short.0,
-    short.3,
-    λ ms steps closing. (
-      short.1 ++ to_come (with_line u) (with_motion m (longest_lines ms)) steps closing,
-      first (longest_lines ms) steps closing ∙ ap (λ t. t ++ to_come (with_line u) (with_motion m (longest_lines ms)) steps closing) short.2
-          ∙ append_assoc short.0 short.1 (to_come (with_line u) (with_motion m (longest_lines ms)) steps closing),
-    ),
-  )
+  pub FailsInMotion-other : FailsWithin sink old new (move_line u.names (u.lines + 1) l) → FailsInMotion sink old new u m
+  FailsInMotion-other short ms steps closing = rw (first (longest_lines ms) steps closing) (FailsWithin-first _ short)
 
 -- What the motion does to it
 
-module _ (old mid : Option (List ℕ)) (u v : UnderWay) (m : Motion) (g : MoveLine) (before : PutsBefore old mid u m v) (is : v.growing ≡ Some g) (one : is_one g (alone m) ≡ true) where
+module _ {S : Type 0} (sink : SinkView S) (old mid : S) (u v : UnderWay) (m : Motion) (g : MoveLine) (before : PutsBefore sink old mid u m v) (is : v.growing ≡ Some g) (one : is_one g (alone m) ≡ true) where
   -- a step makes it longer
-  pub PutsMotion-step : m.out ≡ false → g.out ≡ false → PutsMotion old mid u m (record v { growing = Some (record g { units = g.units + 1 }) })
+  pub PutsMotion-step : m.out ≡ false → g.out ≡ false → PutsMotion sink old mid u m (record v { growing = Some (record g { units = g.units + 1 }) })
   PutsMotion-step step goes = (
     before.0,
     before.1,
@@ -113,29 +101,20 @@ module _ (old mid : Option (List ℕ)) (u v : UnderWay) (m : Motion) (g : MoveLi
   )
 
   closes : m.out ≡ true → (lines : List MoveLine) (steps : ℕ) (closing : Closing)
-      → to_come v (with_motion m lines) steps closing ≡ move_line v.names (v.lines + 1) (record g { out = true }) ++ to_come (with_out v) lines steps closing
+      → to_come u (with_motion m lines) steps closing ≡ before.0 ++ (move_line v.names (v.lines + 1) (record g { out = true }) ++ to_come (with_out v) lines steps closing)
   closes out lines steps closing =
-      to_come-out v (with_motion m lines) (record g { out = true }) lines (ap (λ growing. with_growing growing (with_motion m lines)) is ∙ with_growing-ended g m lines one out) steps closing refl
+      before.2 lines steps closing
+      ∙ ap (λ t. before.0 ++ t)
+      (to_come-out v (with_motion m lines) (record g { out = true }) lines (ap (λ growing. with_growing growing (with_motion m lines)) is ∙ with_growing-ended g m lines one out) steps closing refl)
 
   -- an aside closes it
-  pub PutsMotion-out : (new : Option (List ℕ)) → m.out ≡ true → Appends mid new (move_line v.names (v.lines + 1) (record g { out = true })) → PutsMotion old new u m (with_out v)
+  pub PutsMotion-out : (new : S) → m.out ≡ true → Appends (sink.taken mid) (sink.taken new) (move_line v.names (v.lines + 1) (record g { out = true })) → PutsMotion sink old new u m (with_out v)
   PutsMotion-out new out went = (
     before.0 ++ move_line v.names (v.lines + 1) (record g { out = true }),
-    Appends-trans old mid new before.0 (move_line v.names (v.lines + 1) (record g { out = true })) before.1 went,
-    λ ms steps closing.
-        before.2 (longest_lines ms) steps closing ∙ ap (λ t. before.0 ++ t) (closes out (longest_lines ms) steps closing)
-        ∙ sym (append_assoc before.0 (move_line v.names (v.lines + 1) (record g { out = true })) (to_come (with_out v) (longest_lines ms) steps closing)),
+    Appends-trans _ _ _ before.0 _ before.1 went,
+    λ ms steps closing. closes out (longest_lines ms) steps closing ∙ sym (append_assoc before.0 _ (to_come (with_out v) (longest_lines ms) steps closing)),
   )
 
   -- the sink fails within the line that an aside closes
-  pub PutsFront-out : (new : Option (List ℕ)) → m.out ≡ true → TakesFront mid new (move_line v.names (v.lines + 1) (record g { out = true })) → PutsFront old new u m
-  PutsFront-out new out short = (
-    before.0 ++ short.0,
-    Appends-trans old mid new before.0 short.0 before.1 short.3,
-    λ ms steps closing. (
-      short.1 ++ to_come (with_out v) (longest_lines ms) steps closing,
-      before.2 (longest_lines ms) steps closing ∙ ap (λ t. before.0 ++ t) (closes out (longest_lines ms) steps closing)
-          ∙ ap (λ t. before.0 ++ (t ++ to_come (with_out v) (longest_lines ms) steps closing)) short.2
-          ∙ simp append_assoc,
-    ),
-  )
+  pub FailsInMotion-out : (new : S) → m.out ≡ true → FailsWithin sink mid new (move_line v.names (v.lines + 1) (record g { out = true })) → FailsInMotion sink old new u m
+  FailsInMotion-out new out short ms steps closing = rw (closes out (longest_lines ms) steps closing) (FailsWithin-more before.0 before.1 (FailsWithin-first _ short))

@@ -1,15 +1,17 @@
 -- How far a sheet is, by its fields.
 use Rattle.std.specs.Prelude.{Option, Some, None, false}
+use Rattle.burr_assembly.specs.Homes.{names_of}
 use Rattle.burr_sheet.specs.declared.sheet.line.GrowingLine.{GrowingLine}
 use Rattle.burr_sheet.specs.declared.sheet.Sheet.TheInside.{Inside}
-use Rattle.burr_assembly.specs.Homes.{names_of}
 use Rattle.burr_sheet.specs.SheetText.{MoveLine}
 use Rattle.burr_sheet.specs.SheetUnderWay.{UnderWay, move_line_of}
 
+-- the growing line of the code, which no aside has ended
 abbrev pub growing_of : Option GrowingLine → Option MoveLine
 growing_of None = None
 growing_of (Some l) = Some (move_line_of l false)
 
+-- what the fields of the code's sheet tell
 abbrev pub under_way : Inside → UnderWay
 under_way s = record {
   names = names_of s.assembly.now;

@@ -1,9 +1,8 @@
-ghost use Rattle.std.specs.Prelude.{◌≡◌, ◌+◌, ◌<◌, ◌≤◌, [], true, false, Some, length, IfOk, OnOk, OnErr, IsTrue};
-ghost use Rattle.std.specs.Io.KnownBytes.{Appends};
-ghost use Rattle.burr_io.specs.Sink.{TakesFront};
+ghost use Rattle.std.specs.Prelude.{◌≡◌, ◌+◌, ◌<◌, ◌≤◌, [], true, false, Some, length, IfOk, OnOk, OnErr};
+ghost use Rattle.burr_io.specs.Sink.{Puts};
 ghost use Rattle.burr_assembly.specs.Homes.{names_of};
 ghost use Rattle.burr_sheet.specs.SheetText.{alone};
-ghost use Rattle.burr_sheet.specs.SheetUnderWay.{blank, still, outs_of, growing_text, move_line_of, is_one, PutsBefore, PutsMotion, PutsFront};
+ghost use Rattle.burr_sheet.specs.SheetUnderWay.{blank, still, outs_of, growing_text, move_line_of, is_one, PutsBefore, PutsMotion, FailsInMotion};
 
 mod ending;
 mod line;
@@ -19,19 +18,20 @@ use std::marker::Model;
 /// The most outs of a run: each makes one group of pieces two, and there are at most 32 pieces.
 const MOST_OUTS: usize = 31;
 
-/// The sheet of a run, written as its motions come. It keeps nothing but the growing line and counts.
+/// The sheet of a run, written as its motions come. It keeps nothing but the growing line and
+/// counts.
 #[derive(Debug, Drop)]
 pub struct Sheet<'a> {
     assembly: &'a Assembly,
     /// The line that the next motion may go on.
     growing: Option<GrowingLine>,
-    /// The lines that are closed.
+    /// How many lines are closed.
     lines: u32,
-    /// The lines that are closed since the last out.
+    /// How many of them behind the last out.
     level: u32,
-    /// For each out, the number of lines since the out before it, its own line included.
+    /// For each out, how many lines there were since the out before it, its own line included.
     levels: ArrayVec<u32, MOST_OUTS>,
-    /// The motions so far.
+    /// How many motions have come.
     motions: u32,
 }
 
@@ -66,10 +66,11 @@ impl<'a> Sheet<'a> {
     pub fn motion<W: Sink>(&mut self, motion: Motion, sink: &mut W) -> Result<(), WriteFault>
         requires few { self.old.motions < 1000000 }
         requires outs { length self.old.levels + outs_of motion ≤ 31 }
-        ensures ok { OnOk result (PutsMotion (W.taken sink.old) (W.taken sink.new) self.old motion self.new) }
-        ensures counts { OnOk result ((self.new.motions ≡ self.old.motions + 1) × (length self.new.levels ≡ length self.old.levels + outs_of motion)) }
-        ensures err { OnErr result (PutsFront (W.taken sink.old) (W.taken sink.new) self.old motion) }
-        ensures fails { OnErr result (IsTrue (W.has_failed sink.new)) }
+        ensures ok { OnOk result (PutsMotion W.Sink sink.old sink.new self.old motion self.new) }
+        ensures motions { OnOk result (self.new.motions ≡ self.old.motions + 1) }
+        ensures levels { OnOk result
+            (length self.new.levels ≡ length self.old.levels + outs_of motion) }
+        ensures err { OnErr result (FailsInMotion W.Sink sink.old sink.new self.old motion) }
     {
         let line = self.line_for(motion, sink)?;
         if motion.out {
@@ -89,11 +90,12 @@ impl<'a> Sheet<'a> {
     /// else a new one, and the growing one is put.
     fn line_for<W: Sink>(&mut self, motion: Motion, sink: &mut W) -> Result<GrowingLine, WriteFault>
         ensures one { IfOk result (λ line. is_one (move_line_of line false) (alone motion) ≡ true) }
-        ensures ok { IfOk result (λ line. PutsBefore (W.taken sink.old) (W.taken sink.new) self.old motion (record self.new { growing = Some (move_line_of line false) })) }
+        ensures ok { IfOk result (λ line. PutsBefore W.Sink sink.old sink.new self.old motion
+            (record self.new { growing = Some (move_line_of line false) })) }
         ensures units { IfOk result (λ line. line.units ≤ self.old.motions) }
-        ensures counts { OnOk result ((self.new.motions ≡ self.old.motions) × (self.new.levels ≡ self.old.levels)) }
-        ensures err { OnErr result (PutsFront (W.taken sink.old) (W.taken sink.new) self.old motion) }
-        ensures fails { OnErr result (IsTrue (W.has_failed sink.new)) }
+        ensures motions { OnOk result (self.new.motions ≡ self.old.motions) }
+        ensures levels { OnOk result (self.new.levels ≡ self.old.levels) }
+        ensures err { OnErr result (FailsInMotion W.Sink sink.old sink.new self.old motion) }
     {
         let Some(line) = self.growing else {
             return Ok(GrowingLine::before(motion));
@@ -115,9 +117,7 @@ impl<'a> Sheet<'a> {
         steps: u64,
         sink: &mut W,
     ) -> Result<(), WriteFault>
-        ensures ok { OnOk result (Appends (W.taken sink.old) (W.taken sink.new) (still self.entry [] steps closing)) }
-        ensures err { OnErr result (TakesFront (W.taken sink.old) (W.taken sink.new) (still self.entry [] steps closing)) }
-        ensures fails { OnErr result (IsTrue (W.has_failed sink.new)) }
+        ensures { Puts W.Sink sink.old sink.new (still self.entry [] steps closing) result }
     {
         self.put_growing(sink)?;
         put_levels(self.levels.as_slice(), sink)?;
@@ -126,9 +126,7 @@ impl<'a> Sheet<'a> {
 
     /// Puts the growing line, if there is one.
     fn put_growing<W: Sink>(&self, sink: &mut W) -> Result<(), WriteFault>
-        ensures ok { OnOk result (Appends (W.taken sink.old) (W.taken sink.new) (growing_text self.now)) }
-        ensures err { OnErr result (TakesFront (W.taken sink.old) (W.taken sink.new) (growing_text self.now)) }
-        ensures fails { OnErr result (IsTrue (W.has_failed sink.new)) }
+        ensures { Puts W.Sink sink.old sink.new (growing_text self.now) result }
     {
         match self.growing {
             Some(line) => put_line(self.assembly, self.lines + 1, line, false, sink),

@@ -1,103 +1,66 @@
--- For crates above: what a row of puts has put of a text.
-use Rattle.std.proofs.Common.{◌≡◌, ℕ, ◌+◌, ◌<◌, List, [], ◌∷◌, ◌++◌, length, map, drop, get_or, Option, Result, Ok, Err, OnOk, OnErr, refl, sym, ap, ◌∙◌, subst, add-one, drop-cons, append_assoc, append-nil}
+-- For crates above: a text put part by part.
+use Rattle.std.proofs.Common.{◌≡◌, ℕ, ◌+◌, ◌<◌, List, [], ◌∷◌, ◌++◌, length, map, drop, get_or, Result, Ok, Err, refl, sym, ap, ◌∙◌, subst, add-one, drop-cons, append_assoc}
+use Rattle.std.specs.Prelude.{IsErr}
 use Rattle.std.proofs.KnownBytes.{Appends-nil, Appends-trans}
 use Rattle.std.specs.Io.KnownBytes.{Appends}
 use Rattle.std.specs.List.{join_with_byte}
-use Rattle.burr_io.specs.Sink.{TakesFront}
+use Rattle.burr_io.specs.Sink.{SinkView, FailsWithin, Puts}
+use Rattle.burr_io.specs.declared.fault.WriteFault.{WriteFault}
 
--- of the whole text all but the rest was taken
-pub record HasPut (whole rest : List ℕ) (old new : Option (List ℕ)) : Type 0 where
-  pub front : List ℕ
-  pub parts : whole ≡ front ++ rest
-  pub taken : Appends old new front
+-- a part went, and the sink fails within what follows
+pub FailsWithin-more : {S : Type 0} {sink : SinkView S} {old mid new : S} (part : List ℕ) {rest : List ℕ}
+    → Appends (sink.taken old) (sink.taken mid) part → FailsWithin sink mid new rest → FailsWithin sink old new (part ++ rest)
+FailsWithin-more part went short =
+    let (front, rest, parts, took) = short.takes in
+    record { takes = (part ++ front, rest, ap (λ t. part ++ t) parts ∙ sym (append_assoc part front rest), Appends-trans _ _ _ part front went took); fails = short.fails }
 
--- nothing was put yet
-pub HasPut-none : (whole rest : List ℕ) (old : Option (List ℕ)) → whole ≡ rest → HasPut whole rest old old
-HasPut-none whole rest old same = record { front = []; parts = same; taken = Appends-nil old }
+-- the sink fails within a part, and nothing of what follows goes
+pub FailsWithin-first : {S : Type 0} {sink : SinkView S} {old new : S} {part : List ℕ} (more : List ℕ) → FailsWithin sink old new part → FailsWithin sink old new (part ++ more)
+FailsWithin-first more short =
+    let (front, rest, parts, took) = short.takes in
+    record { takes = (front, rest ++ more, ap (λ t. t ++ more) parts ∙ append_assoc front rest more, took); fails = short.fails }
 
--- the next part was put
-pub HasPut-more : (part : List ℕ) {whole rest : List ℕ} {old mid new : Option (List ℕ)}
-    → HasPut whole (part ++ rest) old mid → Appends mid new part → HasPut whole rest old new
-HasPut-more part {rest} {old} {mid} {new} put went = record {
-  front = put.front ++ part;
-  parts = put.parts ∙ sym (append_assoc put.front part rest);
-  taken = Appends-trans old mid new put.front part put.taken went;
-}
+-- no bytes, no calls
+pub Puts-nothing : {S A E : Type 0} {sink : SinkView S} {old : S} {a : A} → Puts {E = E} sink old old [] (Ok a)
+Puts-nothing {sink = sink} {old = old} = record { ok = Appends-nil (sink.taken old); err = tt }
 
--- the sink fails within the rest
-pub HasPut-fails : {whole rest : List ℕ} {old mid : Option (List ℕ)} (new : Option (List ℕ)) → HasPut whole rest old mid → TakesFront mid new rest → TakesFront old new whole
-HasPut-fails {old} {mid} new put short = (
-  put.front ++ short.0,
-  short.1,
-  put.parts ∙ ap (λ t. put.front ++ t) short.2 ∙ sym (append_assoc put.front short.0 short.1),
-  Appends-trans old mid new put.front short.0 put.taken short.3,
-)
+-- a part went, and what follows was put
+pub Puts-more : {S A B E F : Type 0} {sink : SinkView S} {old mid new : S} {part rest : List ℕ} {a : A} {r : Result B F}
+    → Puts {E = E} sink old mid part (Ok a) → Puts sink mid new rest r → Puts sink old new (part ++ rest) r
+Puts-more {part = part} {rest = rest} {r = Ok b} went more = record { ok = Appends-trans _ _ _ part rest went.ok more.ok; err = tt }
+Puts-more {part = part} {r = Err e} went more = record { ok = tt; err = FailsWithin-more part went.ok more.err }
 
--- the sink fails within the next part
-pub HasPut-front : (part rest : List ℕ) {whole : List ℕ} {old mid : Option (List ℕ)} (new : Option (List ℕ))
-    → HasPut whole (part ++ rest) old mid → TakesFront mid new part → TakesFront old new whole
-HasPut-front part rest new put short =
-    HasPut-fails new put (short.0, short.1 ++ rest, ap (λ t. t ++ rest) short.2 ∙ append_assoc short.0 short.1 rest, short.3)
+-- the sink fails within a part
+pub Puts-fails : {S A B E F : Type 0} {sink : SinkView S} {old new : S} {part : List ℕ} (more : List ℕ) {e : E} {r : Result B F}
+    → Puts {A = A} sink old new part (Err e) → IsErr r → Puts sink old new (part ++ more) r
+Puts-fails more {r = Ok b} short err = cc
+Puts-fails more {r = Err f} short err = record { ok = tt; err = FailsWithin-first more short.err }
 
--- parts with a byte between each two, where before the first stands another text
-abbrev pub joined_behind : List ℕ → ℕ → List (List ℕ) → List ℕ
-joined_behind separator byte [] = []
-joined_behind separator byte (part ∷ parts) = separator ++ (part ++ joined_behind (byte ∷ []) byte parts)
+-- the whole text is put once the rest is
+abbrev pub Remains : {S : Type 0} → SinkView S → S → S → List ℕ → List ℕ → Type 0
+Remains {S} sink old mid whole rest = (new : S) (r : Result (Unit {0}) WriteFault) → Puts sink mid new rest r → Puts sink old new whole r
 
-joined_behind-all : (separator : List ℕ) (byte : ℕ) (part : List ℕ) (parts : List (List ℕ))
-    → joined_behind separator byte (part ∷ parts) ≡ separator ++ join_with_byte byte (part ∷ parts)
-joined_behind-all separator byte part [] = ap (λ t. separator ++ t) (append-nil part)
-joined_behind-all separator byte part (next ∷ parts) = ap (λ t. separator ++ (part ++ t)) (joined_behind-all (byte ∷ []) byte next parts)
+-- parts with a byte between each two, where before the first stands a separator, and a last text behind them
+abbrev pub joined : List ℕ → ℕ → List (List ℕ) → List ℕ → List ℕ
+joined separator byte [] last = last
+joined separator byte (part ∷ parts) last = separator ++ (part ++ joined (byte ∷ []) byte parts last)
+
+joined-cons : (separator : List ℕ) (byte : ℕ) (part : List ℕ) (parts : List (List ℕ)) (last : List ℕ)
+    → joined separator byte (part ∷ parts) last ≡ separator ++ (join_with_byte byte (part ∷ parts) ++ last)
+joined-cons separator byte part [] last = refl
+joined-cons separator byte part (next ∷ parts) last =
+    ap (λ t. separator ++ t) (ap (λ t. part ++ t) (joined-cons (byte ∷ []) byte next parts last) ∙ sym (append_assoc part (byte ∷ join_with_byte byte (next ∷ parts)) last))
 
 -- before the first part of a join stands nothing
-pub joined_behind-join : (byte : ℕ) (parts : List (List ℕ)) → join_with_byte byte parts ≡ joined_behind [] byte parts
-joined_behind-join byte [] = refl
-joined_behind-join byte (part ∷ parts) = sym (joined_behind-all [] byte part parts)
+pub joined-join : (byte : ℕ) (parts : List (List ℕ)) (last : List ℕ) → join_with_byte byte parts ++ last ≡ joined [] byte parts last
+joined-join byte [] last = refl
+joined-join byte (part ∷ parts) last = sym (joined-cons [] byte part parts last)
 
--- the parts that follow, and a last text
-abbrev pub joined_rest : List ℕ → ℕ → List (List ℕ) → List ℕ → List ℕ
-joined_rest separator byte parts last = joined_behind separator byte parts ++ last
-
-joined_rest-cons : (separator : List ℕ) (byte : ℕ) (part : List ℕ) (parts : List (List ℕ)) (last : List ℕ)
-    → joined_rest separator byte (part ∷ parts) last ≡ separator ++ (part ++ joined_rest (byte ∷ []) byte parts last)
-joined_rest-cons separator byte part parts last =
-    append_assoc separator (part ++ joined_behind (byte ∷ []) byte parts) last ∙ ap (λ t. separator ++ t) (append_assoc part (joined_behind (byte ∷ []) byte parts) last)
-
--- the parts may be told otherwise
-pub joined-same : (separator : List ℕ) (byte : ℕ) (parts same : List (List ℕ)) (last : List ℕ) → parts ≡ same → {whole : List ℕ} {old new : Option (List ℕ)}
-    → HasPut whole (joined_rest separator byte parts last) old new → HasPut whole (joined_rest separator byte same last) old new
-joined-same separator byte parts same last is {whole} {old} {new} put = subst (λ p. HasPut whole (joined_rest separator byte p last) old new) is put
-
--- while such parts are put, one has its separator and itself put
-module _ (separator : List ℕ) (byte : ℕ) (part : List ℕ) (parts more : List (List ℕ)) (last : List ℕ) (next : parts ≡ part ∷ more) {whole : List ℕ} {old mid : Option (List ℕ)}
-    (put : HasPut whole (joined_rest separator byte parts last) old mid) where
-  unfolded : HasPut whole (separator ++ (part ++ joined_rest (byte ∷ []) byte more last)) old mid
-  unfolded =
-      subst (λ t. HasPut whole t old mid) (ap (λ p. joined_rest separator byte p last) next ∙ joined_rest-cons separator byte part more last) put
-
-  -- the sink fails within the separator
-  pub joined-separator_front : (new : Option (List ℕ)) → TakesFront mid new separator → TakesFront old new whole
-  joined-separator_front new short = HasPut-front separator _ new unfolded short
-
-  -- the sink fails within the part
-  pub joined-part_front : (then new : Option (List ℕ)) → Appends mid then separator → TakesFront then new part → TakesFront old new whole
-  joined-part_front then new went short = HasPut-front part _ new (HasPut-more separator unfolded went) short
-
-  pub joined-more : (then new : Option (List ℕ)) → Appends mid then separator → Appends then new part → HasPut whole (joined_rest (byte ∷ []) byte more last) old new
-  joined-more then new went goes = HasPut-more part (HasPut-more separator unfolded went) goes
-
--- the parts from an item on
-pub map-drop-cons : {X : Type 0} (f : X → List ℕ) (items : List X) (i : ℕ) (d : X) → i < length items
-    → map f (drop i items) ≡ f (get_or items i d) ∷ map f (drop (i + 1) items)
-map-drop-cons f items i d inside = rw (add-one, drop-cons items i d)
-
--- the last part, whose result is returned as it is
-pub HasPut-last : (part : List ℕ) {T E : Type 0} (r : Result T E) (new : Option (List ℕ)) {whole : List ℕ} {old mid : Option (List ℕ)}
-    → HasPut whole part old mid → OnOk r (Appends mid new part) → OnOk r (Appends old new whole)
-HasPut-last part (Ok x) new {old} {mid} put went = subst (Appends old new) (sym put.parts) (Appends-trans old mid new put.front part put.taken went)
-HasPut-last part (Err e) new put went = tt
-
-pub HasPut-last_front : (part : List ℕ) {T E : Type 0} (r : Result T E) (new : Option (List ℕ)) {whole : List ℕ} {old mid : Option (List ℕ)}
-    → HasPut whole part old mid → OnErr r (TakesFront mid new part) → OnErr r (TakesFront old new whole)
-HasPut-last_front part (Ok x) new put short = tt
-HasPut-last_front part (Err e) new put short = HasPut-fails new put short
+-- of items that remain, the next one remains behind its separator, and then the others
+pub Remains-item : {X : Type 0} (f : X → List ℕ) (items : List X) (i : ℕ) (d : X) → i < length items
+    → (separator : List ℕ) (byte : ℕ) (last : List ℕ) {S : Type 0} {sink : SinkView S} {old mid : S} {whole : List ℕ}
+    → Remains sink old mid whole (joined separator byte (map f (drop i items)) last)
+    → Remains sink old mid whole (separator ++ (f (get_or items i d) ++ joined (byte ∷ []) byte (map f (drop (i + 1) items)) last))
+Remains-item f items i d inside separator byte last {sink = sink} {old = old} {mid = mid} {whole = whole} remains =
+    let next : map f (drop i items) ≡ f (get_or items i d) ∷ map f (drop (i + 1) items) = rw (add-one, drop-cons items i d) in
+    subst (λ rest. Remains sink old mid whole (joined separator byte rest last)) next remains

@@ -4,15 +4,15 @@ use Rattle.std.proofs.lemmas.List.{get_or_default, get_or-drop, length-drop, tak
 use Rattle.burr_text.specs.Lines.{IsLines}
 
 -- a list of bytes is cut behind its last end of a line
-pub record IsCutAt (bytes front line : List ℕ) : Type 0 where
+pub record IsCutLast (bytes front line : List ℕ) : Type 0 where
   pub parts : bytes ≡ front ++ line
   pub lines : IsLines front
   pub unended : ¬ Contains line 10
 
 -- cut behind the place of the last end of a line
-pub IsCutAt-behind : (bytes front line : List ℕ) (n : ℕ) → n < length bytes → get_or bytes n 0 ≡ 10
-    → ((k : ℕ) → n < k → k < length bytes → get_or bytes k 0 ≢ 10) → front ≡ take (n + 1) bytes → line ≡ drop (n + 1) bytes → IsCutAt bytes front line
-IsCutAt-behind bytes front line n inside is_end last front_is line_is = record {
+pub IsCutLast-behind : (bytes front line : List ℕ) (n : ℕ) → n < length bytes → get_or bytes n 0 ≡ 10
+    → ((k : ℕ) → n < k → k < length bytes → get_or bytes k 0 ≢ 10) → front ≡ take (n + 1) bytes → line ≡ drop (n + 1) bytes → IsCutLast bytes front line
+IsCutLast-behind bytes front line n inside is_end last front_is line_is = record {
   parts = rw (front_is, line_is) (sym (take-append-drop (n + 1) bytes));
   lines = inr (take n bytes, front_is ∙ take_more bytes n 0 inside ∙ ap (λ b. take n bytes ++ b ∷ []) is_end);
   unended = λ found.
@@ -25,9 +25,9 @@ IsCutAt-behind bytes front line n inside is_end last front_is line_is = record {
 }
 
 -- a cut of what stands before the input's last byte, which is an end of a line
-pub IsCutAt-with_end : (input bytes front line : List ℕ) (b : ℕ) → input ≡ bytes ++ b ∷ [] → b ≡ 10 → IsCutAt bytes front line
+pub IsCutLast-with_end : (input bytes front line : List ℕ) (b : ℕ) → input ≡ bytes ++ b ∷ [] → b ≡ 10 → IsCutLast bytes front line
     → (input ≡ front ++ line ++ 10 ∷ []) × IsLines front × (¬ Contains line 10)
-IsCutAt-with_end input bytes front line b split is_end cut = (
+IsCutLast-with_end input bytes front line b split is_end cut = (
   split ∙ ap (λ n. bytes ++ n ∷ []) is_end ∙ ap (λ (bs : List ℕ). bs ++ 10 ∷ []) cut.parts,
   cut.lines,
   cut.unended,

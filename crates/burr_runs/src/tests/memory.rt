@@ -5,21 +5,21 @@ use super::*;
 use std::io::Cursor;
 use std::ops::Range;
 
-/// What was seen of an input's answers while memory was wanting.
+/// What was seen of an input's results while memory was wanting.
 #[derive(Clone, Copy, Debug, Default, PartialEq, Eq)]
 struct Seen {
     /// `Memory` before the source had told its end, and nothing written.
     memory_before: bool,
     /// `Memory` behind that, and nothing written.
     memory_behind: bool,
-    /// Neither this nor the right answer.
+    /// Neither this nor the right result.
     wrong: bool,
 }
 
 impl Seen {
-    /// Answers an input, given in portions, with a source and a sink that need no memory. Tells
-    /// whether the answer is the right one, with the whole text.
-    fn answer(
+    /// Runs an input, given in portions, with a source and a sink that need no memory. Tells
+    /// whether the result is the right one, with the whole output.
+    fn run(
         &mut self,
         alloc: Global,
         input: &str,
@@ -31,10 +31,10 @@ impl Seen {
         let mut room = [0; 1024];
         let mut written = Cursor::new(room.as_mut_slice());
         let mut source = Reading::new(&mut portions);
-        let answer = bench_text(alloc, &mut source, &mut Writing::new(&mut written));
+        let result = bench_text(alloc, &mut source, &mut Writing::new(&mut written));
         let count = written.position() as usize;
-        let is_right = answer == Ok(outcome) && room.get(..count) == Some(output.as_bytes());
-        if answer == Err(BenchFault::Memory) && count == 0 {
+        let is_right = result == Ok(outcome) && room.get(..count) == Some(output.as_bytes());
+        if result == Err(BenchFault::Memory) && count == 0 {
             self.memory_before |= !portions.has_ended;
             self.memory_behind |= portions.has_ended;
         } else {
@@ -81,11 +81,11 @@ fn take_all_memory(alloc: Global, blocks: &mut Vec<Vec<u8>>) {
     }
 }
 
-/// Answers an input while no memory can be had; then, for each small size, while a few blocks of
+/// Runs an input while no memory can be had; then, for each small size, while a few blocks of
 /// the others can be had, and of this one none, and one more each time; then with each other block
-/// that is given back, up to the right answer. So most requests are refused at a time when those
+/// that is given back, up to the right result. So most requests are refused at a time when those
 /// before them are met.
-fn answer_in_want(
+fn run_in_want(
     seen: &mut Seen,
     alloc: Global,
     input: &str,
@@ -101,7 +101,7 @@ fn answer_in_want(
         }
     }
     take_all_memory(alloc, &mut blocks);
-    if seen.answer(alloc, input, portion, outcome, output) {
+    if seen.run(alloc, input, portion, outcome, output) {
         // an allocator that still has memory
         return Ok(());
     }
@@ -109,14 +109,14 @@ fn answer_in_want(
     for size in SMALL.step_by(16) {
         take(alloc, size, MOST_BLOCKS, &mut small);
         for _ in 0..=MOST_BLOCKS {
-            seen.answer(alloc, input, portion, outcome, output);
+            seen.run(alloc, input, portion, outcome, output);
             if small.pop().is_none() {
                 break;
             }
         }
     }
     for _ in 0..MOST_BLOCKS {
-        let is_right = seen.answer(alloc, input, portion, outcome, output);
+        let is_right = seen.run(alloc, input, portion, outcome, output);
         if is_right || blocks.pop().is_none() {
             break;
         }
@@ -125,7 +125,7 @@ fn answer_in_want(
 }
 
 /// Asserts that want of memory is told, both while an input is read and behind that, with nothing
-/// written; that there is no other answer than this and the right one; and that the right one comes
+/// written; that there is no other result than this and the right one; and that the right one comes
 /// with ample memory.
 fn assert_wants_memory(
     rt: &impl Abort,
@@ -135,15 +135,15 @@ fn assert_wants_memory(
     output: &str,
 ) -> Result<(), AllocError> {
     let mut seen = Seen::default();
-    answer_in_want(&mut seen, alloc, input, usize::MAX, outcome, output)?;
-    answer_in_want(&mut seen, alloc, input, 1, outcome, output)?;
+    run_in_want(&mut seen, alloc, input, usize::MAX, outcome, output)?;
+    run_in_want(&mut seen, alloc, input, 1, outcome, output)?;
     let wanted = Seen {
         memory_before: true,
         memory_behind: true,
         wrong: false,
     };
     assert_eq!(rt; seen, wanted, "{input}");
-    assert_answer(rt, alloc, input, outcome, output);
+    assert_output(rt, alloc, input, outcome, output);
     Ok(())
 }
 

@@ -55,11 +55,11 @@ const BEHIND_A_PIECE: &[(&str, &str)] = &[
 fn refuses_bad_input(rt: HostRuntime) -> Result<(), Fail> {
     let alloc = rt.alloc();
     for (input, output) in INPUTS {
-        assert_answer(&rt, alloc, input, Outcome::Refused, output);
+        assert_output(&rt, alloc, input, Outcome::Refused, output);
     }
     for (rest, output) in BEHIND_A_PIECE {
         let input = format!(in alloc; "{FRONT}{rest}code 00\n")?;
-        assert_answer(&rt, alloc, input.as_str(), Outcome::Refused, output);
+        assert_output(&rt, alloc, input.as_str(), Outcome::Refused, output);
     }
     Ok(())
 }

@@ -109,7 +109,7 @@ fn runs_the_worked_rows(rt: HostRuntime) -> Result<(), Fail> {
     let alloc = rt.alloc();
     for (text, code, outcome, output) in ROWS {
         let input = input_of(alloc, text, code)?;
-        assert_answer(&rt, alloc, input.as_str(), *outcome, output);
+        assert_output(&rt, alloc, input.as_str(), *outcome, output);
     }
     Ok(())
 }
@@ -138,6 +138,6 @@ pub fn row_of_32(alloc: Global) -> Result<(String, String), AllocError> {
 fn takes_32_pieces_apart_by_31_outs(rt: HostRuntime) -> Result<(), Fail> {
     let alloc = rt.alloc();
     let (input, sheet) = row_of_32(alloc)?;
-    assert_answer(&rt, alloc, input.as_str(), Outcome::Apart, sheet.as_str());
+    assert_output(&rt, alloc, input.as_str(), Outcome::Apart, sheet.as_str());
     Ok(())
 }

@@ -40,14 +40,14 @@ fn writes_a_front_to_a_sink_that_fails(rt: HostRuntime) -> Result<(), Fail> {
             let taken = Vec::new(alloc);
             let mut writer = Narrow { taken, room, fails };
             let mut source = Reading::new(input.as_bytes());
-            let answer = bench_text(alloc, &mut source, &mut Writing::new(&mut writer));
+            let result = bench_text(alloc, &mut source, &mut Writing::new(&mut writer));
             let wanted = if room < 42 {
                 Err(BenchFault::Write)
             } else {
                 Ok(Outcome::Apart)
             };
             let front = SHEET.as_bytes().get(..room);
-            assert_eq!(rt; answer, wanted, "{room}");
+            assert_eq!(rt; result, wanted, "{room}");
             assert_eq!(rt; Some(writer.taken.as_slice()), front, "{room}");
         }
     }

@@ -3,20 +3,20 @@ use super::*;
 
 /// A call that fails, from the first to the one that would tell the end, leaves nothing written.
 #[test]
-fn answers_a_source_that_gives_a_byte_a_call(rt: HostRuntime) -> Result<(), Fail> {
+fn reads_a_source_that_gives_a_byte_a_call(rt: HostRuntime) -> Result<(), Fail> {
     let alloc = rt.alloc();
     let input = input_of(alloc, DUO, APART)?;
     let calls = input.len() + 1;
     for made in 0..=calls {
         let mut source = Reading::new(Portions::new(input.as_str(), 1, made));
         let mut output = Vec::new(alloc);
-        let answer = bench_text(alloc, &mut source, &mut Writing::new(&mut output));
+        let result = bench_text(alloc, &mut source, &mut Writing::new(&mut output));
         let (wanted, sheet) = if made < calls {
             (Err(BenchFault::Read), "")
         } else {
             (Ok(Outcome::Apart), SHEET)
         };
-        assert_eq!(rt; answer, wanted, "after {made} calls");
+        assert_eq!(rt; result, wanted, "after {made} calls");
         assert_eq!(rt; output.as_slice(), sheet.as_bytes(), "after {made} calls");
     }
     Ok(())
@@ -56,11 +56,11 @@ fn judges_a_source_that_fails_or_is_too_long(rt: HostRuntime) {
         (16_777_217, 8192, false, Err(BenchFault::TooLong)),
         (16_777_216, 8192, false, Ok(Outcome::Refused)),
     ];
-    for (left, each, fails, answer) in cases {
+    for (left, each, fails, wanted) in cases {
         let mut output = Vec::new(alloc);
         let mut source = Reading::new(Blanks { left, each, fails });
-        let got = bench_text(alloc, &mut source, &mut Writing::new(&mut output));
-        assert_eq!(rt; got, answer, "{left} {each}");
-        assert_eq!(rt; output.is_empty(), answer.is_err(), "{left} {each}");
+        let result = bench_text(alloc, &mut source, &mut Writing::new(&mut output));
+        assert_eq!(rt; result, wanted, "{left} {each}");
+        assert_eq!(rt; output.is_empty(), wanted.is_err(), "{left} {each}");
     }
 }

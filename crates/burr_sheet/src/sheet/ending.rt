@@ -1,9 +1,7 @@
+ghost use Rattle.std.specs.Prelude.{◌∷◌, [], map};
+ghost use Rattle.burr_io.specs.Sink.{Puts};
 ghost use Rattle.burr_bench.specs.declared.closing.Closing.TheVariants as closings;
-ghost use Rattle.std.specs.Prelude.{◌∷◌, [], codes, map, OnOk, OnErr, IsTrue};
-ghost use Rattle.std.specs.Io.KnownBytes.{Appends};
-ghost use Rattle.burr_io.specs.Sink.{TakesFront};
-ghost use Rattle.burr_sheet.specs.SheetText.{closing_line, levels_word};
-ghost use Rattle.burr_text.specs.Words.{text_line};
+ghost use Rattle.burr_sheet.specs.SheetText.{closing_line, levels_line};
 
 use burr_bench::{Closing, Trap};
 use burr_io::{Sink, WriteFault, put_all, put_number, put_words};
@@ -11,9 +9,7 @@ use itoa::Buffer;
 
 /// Puts how a run closed, as `apart in 3 steps`.
 pub fn put_closing<W: Sink>(closing: Closing, steps: u64, sink: &mut W) -> Result<(), WriteFault>
-    ensures ok { OnOk result (Appends (W.taken sink.old) (W.taken sink.new) (closing_line closing steps)) }
-    ensures err { OnErr result (TakesFront (W.taken sink.old) (W.taken sink.new) (closing_line closing steps)) }
-    ensures fails { OnErr result (IsTrue (W.has_failed sink.new)) }
+    ensures { Puts W.Sink sink.old sink.new (closing_line closing steps) result }
 {
     match closing {
         Closing::Apart => put_words(
@@ -41,9 +37,8 @@ pub fn put_closing<W: Sink>(closing: Closing, steps: u64, sink: &mut W) -> Resul
 
 /// Puts the bounds of a question, as `waiting 0 2 after 1 steps`.
 fn put_waiting<W: Sink>(low: i32, high: i32, steps: u64, sink: &mut W) -> Result<(), WriteFault>
-    ensures ok { OnOk result (Appends (W.taken sink.old) (W.taken sink.new) (closing_line (closings.Waiting low high) steps)) }
-    ensures err { OnErr result (TakesFront (W.taken sink.old) (W.taken sink.new) (closing_line (closings.Waiting low high) steps)) }
-    ensures fails { OnErr result (IsTrue (W.has_failed sink.new)) }
+    ensures { Puts W.Sink sink.old sink.new
+        (closing_line (closings.Waiting low high) steps) result }
 {
     put_words(
         &[
@@ -66,9 +61,8 @@ fn put_trap<W: Sink>(
     steps: u64,
     sink: &mut W,
 ) -> Result<(), WriteFault>
-    ensures ok { OnOk result (Appends (W.taken sink.old) (W.taken sink.new) (closing_line (closings.Trapped trap procedure pc) steps)) }
-    ensures err { OnErr result (TakesFront (W.taken sink.old) (W.taken sink.new) (closing_line (closings.Trapped trap procedure pc) steps)) }
-    ensures fails { OnErr result (IsTrue (W.has_failed sink.new)) }
+    ensures { Puts W.Sink sink.old sink.new
+        (closing_line (closings.Trapped trap procedure pc) steps) result }
 {
     put_words(
         &[
@@ -89,9 +83,7 @@ fn put_trap<W: Sink>(
 
 /// Puts the levels, as `levels 1.3`, or `levels -` without an out.
 pub fn put_levels<W: Sink>(levels: &[u32], sink: &mut W) -> Result<(), WriteFault>
-    ensures ok { OnOk result (Appends (W.taken sink.old) (W.taken sink.new) (text_line (codes "levels" ∷ levels_word levels.now ∷ []))) }
-    ensures err { OnErr result (TakesFront (W.taken sink.old) (W.taken sink.new) (text_line (codes "levels" ∷ levels_word levels.now ∷ []))) }
-    ensures fails { OnErr result (IsTrue (W.has_failed sink.new)) }
+    ensures { Puts W.Sink sink.old sink.new (levels_line levels.now) result }
 {
     if levels.is_empty() {
         return put_words(&[b"levels", b"-"], sink);

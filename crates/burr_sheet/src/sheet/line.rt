@@ -1,21 +1,20 @@
-ghost use Rattle.std.specs.Prelude.{◌≡◌, ◌==◌, ◌+◌, ◌≤◌, ◌<◌, false, ◌∷◌, [], codes, decimal, OnOk, OnErr, IsTrue, if◌then◌else◌};
+ghost use Rattle.std.specs.Prelude.{◌≡◌, ◌==◌, ◌+◌, ◌≤◌, ◌<◌, false, ◌∷◌, decimal};
 ghost use Rattle.std.specs.List.{join_with_byte};
-ghost use Rattle.std.specs.Int.{bit_at};
-ghost use Rattle.std.specs.Io.KnownBytes.{Appends};
-ghost use Rattle.burr_io.specs.Sink.{TakesFront};
+ghost use Rattle.burr_io.specs.Sink.{Puts};
 ghost use Rattle.burr_voxels.specs.Grid.{name_of};
 ghost use Rattle.burr_assembly.specs.Homes.{names_of};
-ghost use Rattle.burr_sheet.specs.SheetText.{alone, move_line, names_from};
 ghost use Rattle.burr_text.specs.Words.{text_line};
+ghost use Rattle.burr_sheet.specs.SheetText.{alone, move_line, names_from, out_word};
 ghost use Rattle.burr_sheet.specs.SheetUnderWay.{move_line_of, is_one};
 
 use burr_assembly::Assembly;
 use burr_bench::Motion;
+use burr_code::is_in_set;
 use burr_io::{Sink, WriteFault, put_all, put_number, put_words};
 use burr_voxels::Direction;
 use itoa::Buffer;
 
-/// Unit steps of one group in one tray along one direction.
+/// The line that may still grow: unit steps of one group in one tray along one direction.
 #[derive(Clone, Copy, Debug)]
 pub struct GrowingLine {
     /// The pieces that move: bit p is piece p.
@@ -26,9 +25,14 @@ pub struct GrowingLine {
 }
 
 impl GrowingLine {
-    /// The line that a motion begins, without its step.
+    /// The line that a motion begins, before the motion goes on it.
     pub fn before(motion: Motion) -> GrowingLine
-        ensures { result ≡ record { group = motion.group; tray = motion.tray; direction = motion.dir; units = 0 } }
+        ensures { result ≡ record {
+          group = motion.group;
+          tray = motion.tray;
+          direction = motion.dir;
+          units = 0;
+        } }
     {
         GrowingLine {
             group: motion.group,
@@ -38,7 +42,8 @@ impl GrowingLine {
         }
     }
 
-    /// Whether a motion goes on the line: of the same group in the same tray along the same direction.
+    /// Whether a motion goes on the line: of the same group in the same tray along the same
+    /// direction.
     pub fn is_of(self, motion: Motion) -> bool
         ensures { result ≡ is_one (move_line_of self false) (alone motion) }
     {
@@ -67,9 +72,8 @@ pub fn put_line<W: Sink>(
     out: bool,
     sink: &mut W,
 ) -> Result<(), WriteFault>
-    ensures ok { OnOk result (Appends (W.taken sink.old) (W.taken sink.new) (move_line (names_of assembly.now) number (move_line_of line out))) }
-    ensures err { OnErr result (TakesFront (W.taken sink.old) (W.taken sink.new) (move_line (names_of assembly.now) number (move_line_of line out))) }
-    ensures fails { OnErr result (IsTrue (W.has_failed sink.new)) }
+    ensures { Puts W.Sink sink.old sink.new
+        (move_line (names_of assembly.now) number (move_line_of line out)) result }
 {
     put_number(number, sink)?;
     put_all(b" t", sink)?;
@@ -87,9 +91,8 @@ fn put_steps<W: Sink>(
     out: bool,
     sink: &mut W,
 ) -> Result<(), WriteFault>
-    ensures ok { OnOk result (Appends (W.taken sink.old) (W.taken sink.new) (text_line (name_of direction ∷ decimal units ∷ (if out then (codes "out" ∷ []) else [])))) }
-    ensures err { OnErr result (TakesFront (W.taken sink.old) (W.taken sink.new) (text_line (name_of direction ∷ decimal units ∷ (if out then (codes "out" ∷ []) else [])))) }
-    ensures fails { OnErr result (IsTrue (W.has_failed sink.new)) }
+    ensures { Puts W.Sink sink.old sink.new
+        (text_line (name_of direction ∷ decimal units ∷ out_word out)) result }
 {
     let name = direction.name();
     let mut buffer = Buffer::new();
@@ -103,13 +106,12 @@ fn put_steps<W: Sink>(
 
 /// Puts the names of the pieces of a group, as `A,B`.
 fn put_names<W: Sink>(assembly: &Assembly, group: u32, sink: &mut W) -> Result<(), WriteFault>
-    ensures ok { OnOk result (Appends (W.taken sink.old) (W.taken sink.new) (join_with_byte 44 (names_from 0 group (names_of assembly.now)))) }
-    ensures err { OnErr result (TakesFront (W.taken sink.old) (W.taken sink.new) (join_with_byte 44 (names_from 0 group (names_of assembly.now)))) }
-    ensures fails { OnErr result (IsTrue (W.has_failed sink.new)) }
+    ensures { Puts W.Sink sink.old sink.new
+        (join_with_byte 44 (names_from 0 group (names_of assembly.now))) result }
 {
     let mut separator: &[u8] = b"";
     for piece in 0..assembly.piece_count() {
-        if is_in(piece, group) {
+        if is_in_set(group, piece) {
             let name = assembly.piece_name(piece).as_bytes();
             put_all(separator, sink)?;
             put_all(name, sink)?;
@@ -117,12 +119,4 @@ fn put_names<W: Sink>(assembly: &Assembly, group: u32, sink: &mut W) -> Result<(
         }
     }
     Ok(())
-}
-
-/// Whether a piece is in a group.
-fn is_in(piece: u8, group: u32) -> bool
-    requires { piece < 32 }
-    ensures { result ≡ (bit_at group piece == 1) }
-{
-    (group >> piece) & 1 == 1
 }

@@ -43,7 +43,7 @@ returns-in_ok-motion-in-Ok-Went-Some-clause-ok g c =
     let on = subst (λ (p : Progress). GoesOn b new (motion_in (Ok p))) went c.in-Ok-Went-Some.ensures.goes_on in
     let puts = c.in_ok-motion-in-Ok-Went-Some.ensures.ok in
     let under = under_way (setup_of b) b.state new.state (Some motion) c.requires.running c.requires.in_step.within c.requires.within next in (
-      in_step_motion b new c.args.sheet.now c.motion.new.self motion c.requires.in_step under on c.in_ok-motion-in-Ok-Went-Some.ensures.counts,
+      in_step_motion b new c.args.sheet.now c.motion.new.self motion c.requires.in_step under on (c.in_ok-motion-in-Ok-Went-Some.ensures.motions, c.in_ok-motion-in-Ok-Went-Some.ensures.levels),
       record { assembly = on.assembly; code = on.code },
       under.1,
       (
@@ -63,5 +63,5 @@ returns-in_err-motion-in-Ok-Went-Some-clause-err g c =
     let next = subst (λ (p : Progress). Tells (setup_of b) b.state (Ok p) new.state) went told in
     let under = under_way (setup_of b) b.state new.state (Some motion) c.requires.running c.requires.in_step.within c.requires.within next in
     on_err c.from_residual.result
-    (fails_at_motion (setup_of b) b.state new.state c.args.sheet.now motion (g.W.Sink.taken c.args.sink.now) (g.W.Sink.taken c.motion.new.sink)
+    (fails_at_motion g.W.Sink (setup_of b) b.state new.state c.args.sheet.now motion c.args.sink.now c.motion.new.sink
     (record { running = c.requires.running; within = c.requires.within }) next under.0 c.in_err-motion-in-Ok-Went-Some.ensures.err)

@@ -3,20 +3,20 @@ use Rattle.burr_sheet.specs.SheetText.{alone}
 use Rattle.burr_sheet.specs.SheetUnderWay.{move_line_of, is_one}
 use Rattle.burr_sheet.specs.SheetView.{growing_of, under_way}
 use Rattle.burr_text.proofs.Common.Tests.{on_err}
-use Rattle.burr_sheet.proofs.Motions.{PutsBefore-fresh, PutsBefore-other, PutsFront-other}
+use Rattle.burr_sheet.proofs.Motions.{PutsBefore-fresh, PutsBefore-other, FailsInMotion-other}
 use Rattle.burr_sheet.proofs.sheet.Sheet.line_for.Goals as goal
 
 pub returns-in_default-clause-ok : goal.returns-in_default-clause-ok
 returns-in_default-clause-ok g c =
     let one : is_one (move_line_of c.before-in_default.result false) (alone c.args.motion) ≡ true = search rules in
     let none : c.before-in_default.result.units ≡ 0 = search rules in
-    rw (← c.self.view_is) (PutsBefore-fresh _ (under_way c.self.inside) c.args.motion (move_line_of c.before-in_default.result false) (ap growing_of c.in_default.is) one none)
+    rw (← c.self.view_is) (PutsBefore-fresh g.W.Sink _ (under_way c.self.inside) c.args.motion (move_line_of c.before-in_default.result false) (ap growing_of c.in_default.is) one none)
 
 pub returns-in_err-put_line-clause-err : goal.returns-in_err-put_line-clause-err
 returns-in_err-put_line-clause-err g c =
     let other = sym c.is_of.ensures ∙ c.if-is_of.false in
     rw (← c.self.view_is)
-    (on_err _ (PutsFront-other _ (under_way c.self.inside) c.args.motion (move_line_of c.in-Some.line false) (ap growing_of c.in-Some.is) refl other _ c.in_err-put_line.ensures.err))
+    (on_err _ (FailsInMotion-other g.W.Sink _ _ (under_way c.self.inside) c.args.motion (move_line_of c.in-Some.line false) (ap growing_of c.in-Some.is) refl other c.in_err-put_line.ensures.err))
 
 pub returns-clause-ok : goal.returns-clause-ok
 returns-clause-ok g c =
@@ -24,4 +24,4 @@ returns-clause-ok g c =
     let one : is_one (move_line_of c.before-2.result false) (alone c.args.motion) ≡ true = search rules in
     let none : c.before-2.result.units ≡ 0 = search rules in
     rw (← c.self.view_is)
-    (PutsBefore-other _ (under_way c.self.inside) c.args.motion (move_line_of c.in-Some.line false) (ap growing_of c.in-Some.is) refl other _ (move_line_of c.before-2.result false) c.in_ok-put_line.ensures.ok one none)
+    (PutsBefore-other g.W.Sink _ _ (under_way c.self.inside) c.args.motion (move_line_of c.in-Some.line false) (ap growing_of c.in-Some.is) refl other (move_line_of c.before-2.result false) c.in_ok-put_line.ensures.ok one none)

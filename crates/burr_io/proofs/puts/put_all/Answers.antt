@@ -2,7 +2,7 @@ use Rattle.std.proofs.Common.{◌<◌, length, ap, ◌∙◌, rules, arith}
 use Rattle.std.proofs.lemmas.Grind.{common_steps}
 use Rattle.burr_io.proofs.Putting.{HasPut-more, HasPut-some, HasPut-short}
 use Rattle.burr_io.specs.Sink.{TakesShort}
-use Rattle.burr_io.proofs.sink.put_all.Goals as goal
+use Rattle.burr_io.proofs.puts.put_all.Goals as goal
 
 pub loop-rest-preserved : goal.loop-rest-preserved
 loop-rest-preserved g c =

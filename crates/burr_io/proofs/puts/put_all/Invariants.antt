@@ -1,6 +1,6 @@
 use Rattle.std.proofs.Common.{◌≡◌, [], length, true}
 use Rattle.burr_io.proofs.Putting.{HasPut}
-use Rattle.burr_io.proofs.sink.put_all.Given as goal
+use Rattle.burr_io.proofs.puts.put_all.Given as goal
 
 -- a front of the bytes went, and the rest is to go; the sink is as it was where there are no bytes, or where it had failed
 abbrev pub invariant-loop-rest : goal.invariant-loop-rest
