@@ -1,90 +1,169 @@
-use burr_io::{Reading, Writing};
+//! What the program does with its words and its streams, and the status that it ends with.
+
+ghost use Rattle.std.specs.Prelude.{◌≡◌, ◌≢◌, ◌≤◌, ◌<◌, codes, length, map, true, false};
+ghost use Rattle.std.specs.String.{string_bytes};
+ghost use Rattle.burr_runs.specs.declared.fault.BenchFault.TheVariants.{Memory};
+ghost use Rattle.burr_runs.specs.BenchText.{Streams};
+ghost use Rattle.burr.specs.Ends.{took, TakesText, IsRun, GivesText, TellsFault, IsReply};
+ghost use Rattle.burr.specs.Ends.{complaint_of, status_of, status_of_fault};
+
+use crate::command_line::{Reply, reply_to};
+use burr_io::{Sink, Source, WriteFault, put_all};
 use burr_runs::{BenchFault, Outcome, bench_text};
-use clap::Command;
-use clap::error::ErrorKind;
 use std::alloc::{AllocError, Global};
-use std::env::{self, Env};
-use std::io;
+use std::io::ErrorKind;
 
 /// The status of a fault of the command line.
 const COMMAND_LINE: u8 = 2;
 
-/// The words that the program knows.
-pub fn command<'a>(alloc: Global) -> Result<Command<'a>, AllocError> {
-    Ok(Command::new(alloc, "burr").about(
-        "Runs bare code on an assembly of a burr.\n\nReads the assembly's text and behind it a last line `code` with the code's bytes as hexadecimal digits from standard input, and prints the sheet of the run.",
-    ))
-}
-
-/// The status that an answer or a fault ends the program with.
-pub fn status_of(answer: Result<Outcome, BenchFault>) -> u8 {
-    match answer {
-        Ok(Outcome::Apart) => 0,
-        Ok(Outcome::Refused | Outcome::Trapped | Outcome::Stopped) => 1,
-        Ok(Outcome::Waiting) => 5,
-        Err(BenchFault::Read | BenchFault::TooLong | BenchFault::Write) => 3,
-        Err(BenchFault::Memory) => 4,
+/// Does all that the program does, and gives the status to end with. Without a word but the
+/// program's name it writes the output for the source to the sink, as `bench_text` does. With more words nothing
+/// is read: help and the version are written to the sink, and a fault of the words is told to the
+/// complaints. These take one line for status 3 and one for status 4.
+///
+/// The status is 0 where all pieces are apart, or help or the version was written; 1 where the
+/// input was refused, or the run trapped or was stopped; 2 for a fault of the words; 3 where the
+/// source or the sink failed, or the input is too long; 4 where memory was refused; 5 where the run
+/// waits for an answer.
+pub fn run_words<R: Source, W: Sink, E: Sink>(
+    alloc: Global,
+    words: &[String],
+    source: &mut R,
+    sink: &mut W,
+    complaints: &mut E,
+) -> u8
+    ensures run { length words.now ≤ 1 → IsRun
+        (record {
+          left_old = R.left source.old;
+          left_new = R.left source.new;
+          read_failed = R.has_failed source.new;
+          taken_old = W.taken sink.old;
+          taken_new = W.taken sink.new;
+          write_failed = W.has_failed sink.new;
+        })
+        (took (E.taken complaints.old) (E.taken complaints.new) (E.has_failed complaints.new))
+        result }
+    ensures reply { 1 < length words.now → IsReply (map string_bytes words.now)
+        (took (W.taken sink.old) (W.taken sink.new) (W.has_failed sink.new))
+        (took (E.taken complaints.old) (E.taken complaints.new) (E.has_failed complaints.new))
+        result }
+    ensures unread { 1 < length words.now → source.new ≡ source.old }
+{
+    if words.len() <= 1 {
+        return run(alloc, source, sink, complaints);
+    }
+    match reply_to(alloc, words) {
+        Ok(reply) => give(&reply, sink, complaints),
+        Err(AllocError) => end_by(BenchFault::Memory, complaints),
     }
 }
 
-/// The line for standard error that goes with a fault.
-pub fn complaint(fault: BenchFault) -> &'static str {
-    match fault {
-        BenchFault::Read | BenchFault::TooLong => "cannot read -",
-        BenchFault::Write => "cannot write -",
-        BenchFault::Memory => "no memory",
+/// Ends where the words of the command line can't be had, and gives the status to end with: 4 where
+/// memory was refused, else 2, since a word is not UTF-8. The complaints take the line for it.
+pub fn end_without_words<E: Sink>(kind: ErrorKind, complaints: &mut E) -> u8
+    ensures memory { kind ≡ ErrorKind.OutOfMemory → (result ≡ 4) × TakesText
+        (took (E.taken complaints.old) (E.taken complaints.new) (E.has_failed complaints.new))
+        (complaint_of Memory) }
+    ensures fault { kind ≢ ErrorKind.OutOfMemory → (result ≡ 2) × TakesText
+        (took (E.taken complaints.old) (E.taken complaints.new) (E.has_failed complaints.new))
+        (codes "error: a word of the command line is not UTF-8\n") }
+{
+    if kind == ErrorKind::OutOfMemory {
+        return end_by(BenchFault::Memory, complaints);
     }
-}
-
-fn ended<R: Eprint>(rt: &R, fault: BenchFault) -> u8 {
-    let _ = rt.eprintln(complaint(fault));
-    status_of(Err(fault))
-}
-
-/// Ends where the words of the command line can't be had.
-fn no_words<R: Eprint>(rt: &R, kind: io::ErrorKind) -> u8 {
-    if kind == io::ErrorKind::OutOfMemory {
-        return ended(rt, BenchFault::Memory);
-    }
-    let _ = rt.eprintln("error: a word of the command line is not UTF-8");
+    let _ = put_all(
+        b"error: a word of the command line is not UTF-8\n",
+        complaints,
+    );
     COMMAND_LINE
 }
 
-/// Does what the words of the command line ask for, and gives the status to end with.
-pub fn status<R: Env + Print + Eprint + Input + AllocGlobal>(rt: &R) -> u8 {
-    let alloc = rt.alloc();
-    let list = match env::args(rt) {
-        Ok(list) => list,
-        Err(error) => return no_words(rt, error.kind()),
-    };
-    let words: Vec<String> = match list.collect(alloc) {
-        Ok(words) => words,
-        Err(_) => return ended(rt, BenchFault::Memory),
-    };
-    let command = match command(alloc) {
-        Ok(command) => command,
-        Err(_) => return ended(rt, BenchFault::Memory),
-    };
-    let fault = match command.try_get_matches_from(words.as_slice()) {
-        Ok(_matches) => return run(rt),
-        Err(error) => error,
-    };
-    if fault.kind() == ErrorKind::OutOfMemory {
-        return ended(rt, BenchFault::Memory);
+/// Puts a reply where it belongs, and gives the status to end with.
+fn give<W: Sink, E: Sink>(reply: &Reply, sink: &mut W, complaints: &mut E) -> u8
+    ensures fault { reply.now.is_fault ≡ true → TellsFault
+        (took (W.taken sink.old) (W.taken sink.new) (W.has_failed sink.new))
+        (took (E.taken complaints.old) (E.taken complaints.new) (E.has_failed complaints.new))
+        result }
+    ensures text { reply.now.is_fault ≡ false → GivesText
+        (took (W.taken sink.old) (W.taken sink.new) (W.has_failed sink.new))
+        (took (E.taken complaints.old) (E.taken complaints.new) (E.has_failed complaints.new))
+        result }
+{
+    let text = reply.text.as_bytes();
+    if reply.is_fault {
+        let _ = put_all(text, complaints);
+        return COMMAND_LINE;
     }
-    match fault.print(rt) {
-        Ok(()) if fault.use_stderr() => COMMAND_LINE,
+    match put_all(text, sink) {
         Ok(()) => 0,
-        Err(_) => ended(rt, BenchFault::Write),
+        Err(WriteFault) => end_by(BenchFault::Write, complaints),
     }
 }
 
-/// Answers standard input on standard output.
-fn run<R: Print + Eprint + Input + AllocGlobal>(rt: &R) -> u8 {
-    let mut source = Reading::new(rt.reader());
-    let mut sink = Writing::new(io::writer(rt));
-    match bench_text(rt.alloc(), &mut source, &mut sink) {
-        Ok(outcome) => status_of(Ok(outcome)),
-        Err(fault) => ended(rt, fault),
+/// Writes the output for the source to the sink, and gives the status to end with.
+fn run<R: Source, W: Sink, E: Sink>(
+    alloc: Global,
+    source: &mut R,
+    sink: &mut W,
+    complaints: &mut E,
+) -> u8
+    ensures { IsRun
+        (record {
+          left_old = R.left source.old;
+          left_new = R.left source.new;
+          read_failed = R.has_failed source.new;
+          taken_old = W.taken sink.old;
+          taken_new = W.taken sink.new;
+          write_failed = W.has_failed sink.new;
+        })
+        (took (E.taken complaints.old) (E.taken complaints.new) (E.has_failed complaints.new))
+        result }
+{
+    match bench_text(alloc, source, sink) {
+        Ok(outcome) => outcome_status(outcome),
+        Err(fault) => end_by(fault, complaints),
+    }
+}
+
+/// Tells a fault, and gives the status to end with.
+fn end_by<E: Sink>(fault: BenchFault, complaints: &mut E) -> u8
+    ensures status { result ≡ status_of_fault fault }
+    ensures told { TakesText
+        (took (E.taken complaints.old) (E.taken complaints.new) (E.has_failed complaints.new))
+        (complaint_of fault) }
+{
+    let _ = put_all(complaint(fault), complaints);
+    fault_status(fault)
+}
+
+/// The status of an outcome.
+fn outcome_status(outcome: Outcome) -> u8
+    ensures { result ≡ status_of outcome }
+{
+    match outcome {
+        Outcome::Apart => 0,
+        Outcome::Refused | Outcome::Trapped | Outcome::Stopped => 1,
+        Outcome::Waiting => 5,
+    }
+}
+
+/// The status of a fault.
+fn fault_status(fault: BenchFault) -> u8
+    ensures { result ≡ status_of_fault fault }
+{
+    match fault {
+        BenchFault::Read | BenchFault::TooLong | BenchFault::Write => 3,
+        BenchFault::Memory => 4,
+    }
+}
+
+/// The line of standard error for a fault.
+fn complaint(fault: BenchFault) -> &'static [u8]
+    ensures { result.now ≡ complaint_of fault }
+{
+    match fault {
+        BenchFault::Read | BenchFault::TooLong => b"cannot read -\n",
+        BenchFault::Write => b"cannot write -\n",
+        BenchFault::Memory => b"no memory\n",
     }
 }

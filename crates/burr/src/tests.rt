@@ -1,53 +1,106 @@
-//! Statuses, lines of standard error, and words of the command line.
-use crate::program::{command, complaint, status_of};
-use burr_runs::{BenchFault, Outcome};
-use clap::error::ErrorKind;
+//! The program whole: words and streams in, status, output and complaints out.
+use crate::program::run_words;
+use burr_io::{Reading, Writing};
+use std::alloc::{AllocError, Global};
+use std::io::{self, Read, Write};
+use std::process::Abort;
 use std::test::Fail;
 
-#[test]
-fn ends_with_the_statuses_of_the_rules(rt: HostRuntime) {
-    let statuses = [
-        (Ok(Outcome::Apart), 0),
-        (Ok(Outcome::Refused), 1),
-        (Ok(Outcome::Trapped), 1),
-        (Ok(Outcome::Stopped), 1),
-        (Ok(Outcome::Waiting), 5),
-        (Err(BenchFault::Read), 3),
-        (Err(BenchFault::TooLong), 3),
-        (Err(BenchFault::Write), 3),
-        (Err(BenchFault::Memory), 4),
-    ];
-    for (answer, status) in statuses {
-        assert_eq!(rt; status_of(answer), status, "{answer:?}");
+mod memory;
+mod runs;
+mod streams;
+mod words;
+
+/// Two cubes side by side, and code that takes them apart.
+const DUO: &str =
+    "assembly duo\nshape cube\nlayer\n#\nend\npiece A cube +x+y+z 0 0 0\npiece B cube +x+y+z 1 0 0\ncode 100000000112010100\n";
+
+/// What is printed for them.
+const SHEET: &str = "1 t0 A -x 0 out\nlevels 1\napart in 3 steps\n";
+
+/// The words of a command line.
+fn words_of(alloc: Global, words: &[&str]) -> Result<Vec<String>, AllocError> {
+    let mut list = Vec::new(alloc);
+    for word in words {
+        list.push(String::from_str(alloc, word)?)?;
     }
-    assert_eq!(rt; complaint(BenchFault::Read), "cannot read -");
-    assert_eq!(rt; complaint(BenchFault::TooLong), "cannot read -");
-    assert_eq!(rt; complaint(BenchFault::Write), "cannot write -");
-    assert_eq!(rt; complaint(BenchFault::Memory), "no memory");
+    Ok(list)
 }
 
-#[test]
-fn knows_no_words(rt: HostRuntime) -> Result<(), Fail> {
-    let alloc = rt.alloc();
-    let wrong = ["burr", "run"];
-    match command(alloc)?.try_get_matches_from(wrong.as_slice()) {
-        Ok(_) => return Err(Fail::from("a word is taken")),
-        Err(error) => {
-            let text = format!(in alloc; "{error}")?;
-            assert!(rt; error.use_stderr());
-            assert_eq!(rt;
-                text.as_str(),
-                "error: unexpected argument 'run' found\n\nUsage: burr\n\nFor more information, try '--help'.\n"
-            );
+/// A reader that gives a byte a call, and fails where so many calls have been made.
+#[derive(Drop)]
+struct Drips<'a> {
+    left: &'a [u8],
+    calls: usize,
+}
+
+impl Read for Drips<'_> {
+    fn read(&mut self, buffer: &mut [u8]) -> io::Result<usize> {
+        if self.calls == 0 {
+            return Err(io::Error::from(io::ErrorKind::Other));
+        }
+        self.calls -= 1;
+        match (self.left.split_first(), buffer.first_mut()) {
+            (Some((first, rest)), Some(place)) => {
+                *place = *first;
+                self.left = rest;
+                Ok(1)
+            }
+            _ => Ok(0),
         }
     }
-    let help = ["burr", "--help"];
-    match command(alloc)?.try_get_matches_from(help.as_slice()) {
-        Ok(_) => Err(Fail::from("help is taken for a run")),
-        Err(error) => {
-            assert!(rt; !error.use_stderr());
-            assert!(rt; error.kind() == ErrorKind::DisplayHelp);
-            Ok(())
+}
+
+/// A writer that takes a byte a call, so many of them, and then takes none or fails.
+#[derive(Drop)]
+struct Narrow {
+    taken: Vec<u8>,
+    room: usize,
+    fails: bool,
+}
+
+impl Write for Narrow {
+    fn write(&mut self, bytes: &[u8]) -> io::Result<usize> {
+        let Some(first) = bytes.first() else {
+            return Ok(0);
+        };
+        if self.taken.len() < self.room {
+            self.taken.push(*first)?;
+            return Ok(1);
         }
+        if self.fails {
+            return Err(io::Error::from(io::ErrorKind::Other));
+        }
+        Ok(0)
     }
+
+    fn flush(&mut self) -> io::Result<()> {
+        Ok(())
+    }
+}
+
+/// Asserts that words and an input end so.
+fn assert_ends(
+    rt: &impl Abort,
+    alloc: Global,
+    words: &[&str],
+    input: &str,
+    status: u8,
+    output: &str,
+    complaint: &str,
+) -> Result<(), AllocError> {
+    let words = words_of(alloc, words)?;
+    let mut written = Vec::new(alloc);
+    let mut told = Vec::new(alloc);
+    let got = run_words(
+        alloc,
+        &words,
+        &mut Reading::new(input.as_bytes()),
+        &mut Writing::new(&mut written),
+        &mut Writing::new(&mut told),
+    );
+    assert_eq!(rt; got, status, "{words:?} {input}");
+    assert_eq!(rt; written.as_slice(), output.as_bytes(), "{words:?} {input}");
+    assert_eq!(rt; told.as_slice(), complaint.as_bytes(), "{words:?} {input}");
+    Ok(())
 }

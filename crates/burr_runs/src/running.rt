@@ -8,8 +8,8 @@ ghost use Rattle.burr_runs.specs.Running.{PutsSheet, FailsInSheet, FailsInRun, S
 
 use crate::outcome::Outcome;
 use burr_assembly::Assembly;
-use burr_blocking::PlainCells;
 use burr_bench::{Checked, Closing, Progress};
+use burr_blocking::PlainCells;
 use burr_io::{Sink, WriteFault};
 use burr_sheet::Sheet;
 
