@@ -3,7 +3,7 @@
 ghost use Rattle.std.specs.Prelude.{◌≡◌, ◌≢◌, ◌≤◌, ◌<◌, codes, length, map, true, false};
 ghost use Rattle.std.specs.String.{string_bytes};
 ghost use Rattle.burr_runs.specs.declared.fault.BenchFault.TheVariants.{Memory};
-ghost use Rattle.burr_runs.specs.BenchText.{Streams};
+ghost use Rattle.burr_runs.specs.BenchText.{streams};
 ghost use Rattle.burr.specs.Ends.{took, TakesText, IsRun, GivesText, TellsFault, IsReply};
 ghost use Rattle.burr.specs.Ends.{complaint_of, status_of, status_of_fault};
 
@@ -33,14 +33,7 @@ pub fn run_words<R: Source, W: Sink, E: Sink>(
     complaints: &mut E,
 ) -> u8
     ensures run { length words.now ≤ 1 → IsRun
-        (record {
-          left_old = R.left source.old;
-          left_new = R.left source.new;
-          read_failed = R.has_failed source.new;
-          taken_old = W.taken sink.old;
-          taken_new = W.taken sink.new;
-          write_failed = W.has_failed sink.new;
-        })
+        (streams R.Source source.old source.new W.Sink sink.old sink.new)
         (took (E.taken complaints.old) (E.taken complaints.new) (E.has_failed complaints.new))
         result }
     ensures reply { 1 < length words.now → IsReply (map string_bytes words.now)
@@ -108,14 +101,7 @@ fn run<R: Source, W: Sink, E: Sink>(
     complaints: &mut E,
 ) -> u8
     ensures { IsRun
-        (record {
-          left_old = R.left source.old;
-          left_new = R.left source.new;
-          read_failed = R.has_failed source.new;
-          taken_old = W.taken sink.old;
-          taken_new = W.taken sink.new;
-          write_failed = W.has_failed sink.new;
-        })
+        (streams R.Source source.old source.new W.Sink sink.old sink.new)
         (took (E.taken complaints.old) (E.taken complaints.new) (E.has_failed complaints.new))
         result }
 {
