@@ -22,8 +22,8 @@ pub decide_piece_name : (pieces : List Piece) (name : List ℕ) → Decided (IsP
 decide_piece_name pieces name = decide_any (λ (p : Piece). p.name ≡ name) (λ p. decide_same_bytes p.name name) pieces
 
 -- whether a layer may be finished
-pub decide_whole : (layers : List (List (List ℕ))) (rows : List (List ℕ)) → Decided (IsFinishedLayer layers rows)
-decide_whole layers rows =
+pub decide_finished_layer : (layers : List (List (List ℕ))) (rows : List (List ℕ)) → Decided (IsFinishedLayer layers rows)
+decide_finished_layer layers rows =
     decided_and (decide_at_most 1 (length rows)) (decide_if_some (λ first. length rows ≡ length first) (λ first. decide_same (length rows) (length first)) (slice_get layers 0))
 
 -- whether a row may stand behind these

@@ -1,3 +1,5 @@
+pub mod BeginningParts
+pub mod BeginningTexts
 pub mod Beginnings
 pub mod Behind
 pub mod Boxes
@@ -6,8 +8,6 @@ pub mod Common
 pub mod Conditions
 pub mod Coordinates
 pub mod Drawings
-pub mod BeginningTexts
-pub mod BeginningParts
 pub mod HomeLemmas
 pub mod LineByLine
 pub mod NamedPieces

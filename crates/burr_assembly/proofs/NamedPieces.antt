@@ -162,6 +162,10 @@ names_both text name shapes pieces w bytes rest earlier piece read unended is (i
     read.names ∙ ap (λ (names : List (List ℕ)). map name_of pieces ++ names) (line_names (bytes ++ 10 ∷ rest) bytes rest (PieceLine w) (record { parts = refl; first = unended }) is) in
     let count : length (map name_of pieces) ≡ length pieces = length-map pieces name_of in
     record {
+      title = read.begins.before.title_is;
+      shapes = read.begins.before.each;
+      pieces = read.begins.each;
+      words = is.0;
       begins = (rest, read.parts ∙ ap (λ (line : List ℕ). beginning_text (Pieces name shapes pieces) ++ (line ++ 10 ∷ rest)) is.1);
       is_earlier = omega arith;
       is_next = behind;

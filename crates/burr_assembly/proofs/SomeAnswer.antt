@@ -8,7 +8,7 @@ use Rattle.burr_assembly.specs.Faults.{Beginning, Blank, Shapes, Drawn, Pieces, 
 use Rattle.burr_text.specs.Lines.{IsUnended}
 use Rattle.burr_text.proofs.Common.Decisions.{Decided, decided_and, decided_not, decide_same, decide_below, decide_at_most}
 use Rattle.burr_assembly.proofs.Readings.{IsNameOf, decide_turn_name, decide_position_text, decide_line}
-use Rattle.burr_assembly.proofs.Conditions.{decide_name, decide_shape_name, decide_piece_name, decide_whole, decide_row, decide_cell_count, decide_first_sharing}
+use Rattle.burr_assembly.proofs.Conditions.{decide_name, decide_shape_name, decide_piece_name, decide_finished_layer, decide_row, decide_cell_count, decide_first_sharing}
 
 -- where a decided condition holds there is an answer, and so there is one in any case
 some_needs : {A C : Type 0} (v : A) (P : A → Type 0) → Decided C → (C → (x : A) × P x) → (x : A) × (((¬ C) × (x ≡ v)) ⊎ (C × P x))
@@ -45,11 +45,11 @@ some_form_answer n (Shapes name shapes) (ShapeLine shape) =
     (Ok (Drawn name shapes (record { name = shape; layers = [] }) None), refl)
 some_form_answer n (Drawn name shapes d None) LayerLine = (Ok (Drawn name shapes d (Some [])), refl)
 some_form_answer n (Drawn name shapes d (Some rows)) LayerLine =
-    some_needs _ _ (decided_and (decide_whole d.layers rows) (decide_below (length d.layers + 1) 16)) (λ h. (Ok (Drawn name shapes (with_layer d rows) (Some [])), refl))
+    some_needs _ _ (decided_and (decide_finished_layer d.layers rows) (decide_below (length d.layers + 1) 16)) (λ h. (Ok (Drawn name shapes (with_layer d rows) (Some [])), refl))
 some_form_answer n (Drawn name shapes d (Some rows)) (RowLine marks) =
     some_needs _ _ (decide_row d.layers rows marks) (λ h. (Ok (Drawn name shapes d (Some (rows ++ marks ∷ []))), refl))
 some_form_answer n (Drawn name shapes d (Some rows)) EndLine =
-    some_needs _ _ (decided_and (decide_whole d.layers rows) (decide_cell_count (with_layer d rows))) (λ h. (Ok (Shapes name (shapes ++ with_layer d rows ∷ [])), refl))
+    some_needs _ _ (decided_and (decide_finished_layer d.layers rows) (decide_cell_count (with_layer d rows))) (λ h. (Ok (Shapes name (shapes ++ with_layer d rows ∷ [])), refl))
 some_form_answer n (Shapes name (s ∷ shapes)) (PieceLine w) = some_piece_answer n name (s ∷ shapes) [] w
 some_form_answer n (Pieces name shapes pieces) (PieceLine w) = some_piece_answer n name shapes pieces w
 some_form_answer n so_far form = (Err (A1 n), refl)

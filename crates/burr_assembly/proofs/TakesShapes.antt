@@ -80,8 +80,8 @@ other_layers : (width height : ℕ) (layer : List (List ℕ)) (layers : List (Li
 other_layers width height layer layers are = record { wide = All-tail (All (IsWide width)) layer layers are.wide; high = All-tail (IsHigh height) layer layers are.high; marks = All-tail (All (All IsMark)) layer layers are.marks }
 
 -- a layer as high as all before it may be finished
-is_whole : (height : ℕ) → 1 ≤ height → (layers : List (List (List ℕ))) (rows : List (List ℕ)) → All (IsHigh height) layers → IsHigh height rows → IsFinishedLayer layers rows
-is_whole height low layers rows before here = (omega arith, of_first (λ (first : List (List ℕ)). length rows ≡ length first) layers (λ k d lt. here ∙ sym (before k d lt)))
+is_finished_layer : (height : ℕ) → 1 ≤ height → (layers : List (List (List ℕ))) (rows : List (List ℕ)) → All (IsHigh height) layers → IsHigh height rows → IsFinishedLayer layers rows
+is_finished_layer height low layers rows before here = (omega arith, of_first (λ (first : List (List ℕ)). length rows ≡ length first) layers (λ k d lt. here ∙ sym (before k d lt)))
 
 -- the bounds on a drawing's sizes
 record AreSizes (width height : ℕ) : Type 0 where
@@ -114,7 +114,7 @@ goes_layers : (width height : ℕ) → AreSizes width height → (name : List �
     → Goes (Drawn name shapes d (Some rows)) (flat_map layer_text more ++ text_line (codes "end" ∷ [])) (Shapes name (shapes ++ with_layers d (rows ∷ more) ∷ []))
 goes_layers width height sizes name shapes [] d rows are before before_high wide high room cells =
     goes_line (Drawn name shapes d (Some rows)) (Shapes name (shapes ++ with_layer d rows ∷ [])) EndLine tt
-    (λ n. inr ((is_whole height sizes.low d.layers rows before_high high, cells), refl))
+    (λ n. inr ((is_finished_layer height sizes.low d.layers rows before_high high, cells), refl))
 goes_layers width height sizes name shapes (layer ∷ more) d rows are before before_high wide high room cells =
     let this = first_layer width height layer more are in
     let e : with_layers (with_layer d rows) (layer ∷ more) ≡ with_layers d (rows ∷ layer ∷ more) = same_layers d rows (layer ∷ more) in
@@ -125,7 +125,7 @@ goes_layers width height sizes name shapes (layer ∷ more) d rows are before be
     (goes_further from (Drawn name shapes (with_layer d rows) (Some layer)) (Shapes name (shapes ++ with_layers (with_layer d rows) (layer ∷ more) ∷ []))
     (layer_text layer) (flat_map layer_text more ++ text_line (codes "end" ∷ []))
     (goes_layer width height sizes name shapes (with_layer d rows) (All-push (All (IsWide width)) d.layers rows before wide) from layer this
-    (λ n. inr ((is_whole height sizes.low d.layers rows before_high high, room_for (length d.layers) (length more) room), refl)))
+    (λ n. inr ((is_finished_layer height sizes.low d.layers rows before_high high, room_for (length d.layers) (length more) room), refl)))
     (goes_layers width height sizes name shapes more (with_layer d rows) layer (other_layers width height layer more are)
     (All-push (All (IsWide width)) d.layers rows before wide) (All-push (IsHigh height) d.layers rows before_high high) this.0 this.1
     (one_more d.layers rows (length more) room) (subst HasCellCount (sym e) cells))))

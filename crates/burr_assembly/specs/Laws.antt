@@ -1,10 +1,11 @@
 -- What holds of all assembly texts.
 use Rattle.std.specs.Prelude.{◌≡◌, ◌⊎◌, ◌↔◌, ◌<◌, ℕ, pos, ◌≤ℤ◌, ◌<ℤ◌, List, ◌∷◌, ◌++◌, length, slice_index_or, IsTrue, All}
 use Rattle.burr_voxels.specs.declared.cell.Cell.{Cell}
+use Rattle.burr_text.specs.Names.{IsName}
 use Rattle.burr_assembly.specs.declared.fault.AssemblyFault.{AssemblyFault}
 use Rattle.burr_assembly.specs.declared.fault.AssemblyFault.TheVariants.{A8}
-use Rattle.burr_assembly.specs.Text.{Assembly, Drawing, Piece, IsAssembly, IsDrawing, IsText, text_of, drawn_cells, drawn_sides}
-use Rattle.burr_assembly.specs.Lines.{PieceWords, PieceLine, IsLine, form_text}
+use Rattle.burr_assembly.specs.Text.{Assembly, Drawing, Piece, IsAssembly, IsDrawing, IsPiece, IsText, text_of, drawn_cells, drawn_sides}
+use Rattle.burr_assembly.specs.Lines.{PieceWords, PieceLine, IsPieceWords, IsLine, form_text}
 use Rattle.burr_assembly.specs.Faults.{FirstFault}
 use Rattle.burr_assembly.specs.PieceNames.{is_piece_line, name_in, name_at}
 
@@ -47,6 +48,10 @@ PieceLineIsNamed =
 -- The text begins with that of an assembly so far and the line of a next piece, and the names in
 -- it are those of an earlier piece and of this one.
 pub record NamesBoth (text : List ℕ) (earlier piece : ℕ) (so_far : Assembly) (next : PieceWords) : Type 0 where
+  pub title : IsName so_far.name
+  pub shapes : All IsDrawing so_far.shapes
+  pub pieces : All (IsPiece so_far.shapes) so_far.pieces
+  pub words : IsPieceWords next
   pub begins : (rest : List ℕ) × (text ≡ text_of so_far ++ (form_text (PieceLine next) ++ 10 ∷ rest))
   pub is_earlier : earlier < piece
   pub is_next : piece ≡ length so_far.pieces

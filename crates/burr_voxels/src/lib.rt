@@ -13,7 +13,7 @@ pub use cell::Cell;
 pub use cells::Cells;
 pub use direction::Direction;
 pub use laws::a_group_that_overlaps_is_not_free;
-pub use meeting::{meets, overlap, overlap_at};
+pub use meeting::{meets, overlap_at};
 pub use orientation::Orientation;
 pub use shape::Shape;
 

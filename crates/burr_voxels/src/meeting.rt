@@ -53,10 +53,3 @@ fn has_cell(cells: &[Cell], cell: Cell) -> bool
 {
     cells.contains(&cell)
 }
-
-/// Whether a cell is in both lists.
-pub fn overlap(cells: &[Cell], others: &[Cell]) -> bool
-    ensures { IsTrue result ↔ Overlap cells.now others.now }
-{
-    cells.iter().any(|cell| others.contains(cell))
-}

@@ -65,7 +65,7 @@ impl Sketch {
                 begun: next,
             }),
             Some(layer) => {
-                if !is_whole(&layers, &layer) || layers.len() + 1 >= SIDE {
+                if !is_finished_layer(&layers, &layer) || layers.len() + 1 >= SIDE {
                     return Err(AssemblyFault::A3 { line });
                 }
                 layers.push(layer)?;
@@ -116,7 +116,7 @@ impl Sketch {
         let Some(layer) = begun else {
             return Err(AssemblyFault::A1 { line });
         };
-        if !is_whole(&layers, &layer) {
+        if !is_finished_layer(&layers, &layer) {
             return Err(AssemblyFault::A3 { line });
         }
         layers.push(layer)?;
@@ -133,7 +133,7 @@ impl Sketch {
 }
 
 /// Whether a layer may be finished behind others: it has rows, as many as the first.
-fn is_whole(layers: &[Layer], layer: &Layer) -> bool
+fn is_finished_layer(layers: &[Layer], layer: &Layer) -> bool
     ensures { IsTrue result ↔ IsFinishedLayer layers.now layer.now }
 {
     let height = layer.rows().len();
