@@ -27,9 +27,9 @@ use Rattle.burr_runs.specs.BenchText.{Outputs, PutsOutput, PutsFrontOfOutput, Ou
 use Rattle.burr_assembly.proofs.Common.HomeCells.{have_homes}
 
 -- a fault of the sink is the fault `Write`
-pub write_fails : {A : Type 0} (IsDue : Outputs) (r : Result A BenchFault) (old new : Option (List ℕ)) (failed : Bool)
-    → IsErrAnd r (λ e. e ≡ Write) → PutsFrontOfOutput IsDue old new failed → IfErr r (λ fault. OutputFails IsDue old new failed fault)
-write_fails IsDue r old new failed err front = let p = err_from_is_err_and r err in rw (p.1, p.2) front
+pub write_fails : {A : Type 0} (IsRight : Outputs) (r : Result A BenchFault) (old new : Option (List ℕ)) (failed : Bool)
+    → IsErrAnd r (λ e. e ≡ Write) → PutsFrontOfOutput IsRight old new failed → IfErr r (λ fault. OutputFails IsRight old new failed fault)
+write_fails IsRight r old new failed err front = let p = err_from_is_err_and r err in rw (p.1, p.2) front
 
 -- only another fault would leave the sink as it was
 pub write_touches : {A : Type 0} (r : Result A BenchFault) (Same : Type 0) → IsErrAnd r (λ e. e ≡ Write) → IfErr r (λ fault. fault ≢ Write → Same)

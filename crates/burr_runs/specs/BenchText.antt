@@ -9,28 +9,28 @@ use Rattle.burr_runs.specs.declared.fault.BenchFault.TheVariants.{Read, TooLong,
 use Rattle.burr_runs.specs.ReadWhole.{IsWholeInput, IsTooLong}
 use Rattle.burr_runs.specs.Output.{IsOutput}
 
--- what is due for an input: a text that is written, and how it ends
+-- which outputs are right for an input, and how each of them ends
 abbrev pub Outputs : Type 1
 Outputs = List ℕ → Outcome → Type 0
 
--- a sink took an output that is due
+-- a sink took a right output
 abbrev pub PutsOutput : Outputs → Option (List ℕ) → Option (List ℕ) → Outcome → Type 0
-PutsOutput IsDue taken_old taken_new outcome =
-    (output : List ℕ) × IsDue output outcome × Appends taken_old taken_new output
+PutsOutput IsRight taken_old taken_new outcome =
+    (output : List ℕ) × IsRight output outcome × Appends taken_old taken_new output
 
--- a sink failed, and had taken a front of an output that is due
+-- a sink failed, and had taken a front of a right output
 abbrev pub PutsFrontOfOutput : Outputs → Option (List ℕ) → Option (List ℕ) → Bool → Type 0
-PutsFrontOfOutput IsDue taken_old taken_new failed =
-    (output : List ℕ) × (outcome : Outcome) × IsDue output outcome
+PutsFrontOfOutput IsRight taken_old taken_new failed =
+    (output : List ℕ) × (outcome : Outcome) × IsRight output outcome
     × TakesFront taken_old taken_new output × (failed ≡ true)
 
--- why the output that is due was not written whole, for an input that was read whole
+-- why no right output was written whole, where the input was read whole
 abbrev pub OutputFails : Outputs → Option (List ℕ) → Option (List ℕ) → Bool → BenchFault → Type 0
-OutputFails IsDue taken_old taken_new failed Read = ⊥
-OutputFails IsDue taken_old taken_new failed TooLong = ⊥
-OutputFails IsDue taken_old taken_new failed Write =
-    PutsFrontOfOutput IsDue taken_old taken_new failed
-OutputFails IsDue taken_old taken_new failed Memory = taken_new ≡ taken_old
+OutputFails IsRight taken_old taken_new failed Read = ⊥
+OutputFails IsRight taken_old taken_new failed TooLong = ⊥
+OutputFails IsRight taken_old taken_new failed Write =
+    PutsFrontOfOutput IsRight taken_old taken_new failed
+OutputFails IsRight taken_old taken_new failed Memory = taken_new ≡ taken_old
 
 -- What the source had left before and behind, and whether it has failed; what the sink had taken
 -- before and behind, and whether it has failed.
