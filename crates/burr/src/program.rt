@@ -17,9 +17,9 @@ use std::io::ErrorKind;
 const COMMAND_LINE: u8 = 2;
 
 /// Does all that the program does, and gives the status to end with. Without a word but the
-/// program's name it writes the output for the source to the sink, as `bench_text` does. With more words nothing
-/// is read: help and the version are written to the sink, and a fault of the words is told to the
-/// complaints. These take one line for status 3 and one for status 4.
+/// program's name it writes the output for the source to the sink, as `bench_text` does. With more
+/// words nothing is read: help and the version are written to the sink, and a fault of the words is
+/// told to the complaints. These take one line for status 3 and one for status 4.
 ///
 /// The status is 0 where all pieces are apart, or help or the version was written; 1 where the
 /// input was refused, or the run trapped or was stopped; 2 for a fault of the words; 3 where the

@@ -14,4 +14,5 @@ AreDistinct shapes = AllPairs (λ (s t : Drawing). s.name ≢ t.name) shapes
 -- a shape of this name, if there is one
 abbrev pub IsShapeOf : List Drawing → List ℕ → Option Drawing → Type 0
 IsShapeOf shapes name found =
-    MatchOption found ((s : Drawing) → Contains shapes s → s.name ≢ name) (λ s. Contains shapes s × (s.name ≡ name))
+    MatchOption found ((s : Drawing) → Contains shapes s → s.name ≢ name) (λ s.
+    Contains shapes s × (s.name ≡ name))

@@ -1,4 +1,5 @@
--- The first fault of an assembly text: what the lines so far have been, and what is wrong with the next.
+-- The first fault of an assembly text: what the lines so far have been, and what is wrong with the
+-- next.
 use Rattle.burr_text.specs.Lines.{IsUnended}
 use Rattle.std.specs.Prelude.{◌≡◌, ◌≢◌, ℕ, ◌+◌, ◌<◌, ◌≤◌, List, [], ◌∷◌, ◌++◌, length, Option, Some, None, Result, Ok, Err, slice_get, slice_index_or, IfSome, ◌⊎◌}
 use Rattle.std.specs.List.{flat_map}
@@ -17,7 +18,8 @@ pub data Beginning : Type 0 where
   -- the assembly's name, and shapes that have ended
   Shapes : (name : List ℕ) (shapes : List Drawing) → Beginning
   -- behind them a shape that has not: its finished layers, and the rows of a layer that has begun
-  Drawn : (name : List ℕ) (shapes : List Drawing) (drawing : Drawing) (begun : Option (List (List ℕ))) → Beginning
+  Drawn : (name : List ℕ) (shapes : List Drawing) (drawing : Drawing)
+      (begun : Option (List (List ℕ))) → Beginning
   -- the shapes, and behind them a piece at least
   Pieces : (name : List ℕ) (shapes : List Drawing) (pieces : List Piece) → Beginning
 
@@ -31,13 +33,16 @@ gives next answer = answer ≡ Ok next
 
 -- a layer may be finished: it has rows, as many as the first
 abbrev pub IsFinishedLayer : List (List (List ℕ)) → List (List ℕ) → Type 0
-IsFinishedLayer layers rows = (1 ≤ length rows) × IfSome (slice_get layers 0) (λ first. length rows ≡ length first)
+IsFinishedLayer layers rows = (1 ≤ length rows) × IfSome (slice_get layers 0) (λ first.
+    length rows ≡ length first)
 
 -- a row may stand behind these: it is as wide as the shape's first, and there is room
-pub record IsRow (layers : List (List (List ℕ))) (rows : List (List ℕ)) (marks : List ℕ) : Type 0 where
+pub record IsRow (layers : List (List (List ℕ))) (rows : List (List ℕ))
+    (marks : List ℕ) : Type 0 where
   pub narrow : length marks ≤ 16
   pub room : length rows < 16
-  pub like_first : IfSome (slice_get (flat_map (λ layer. layer) layers ++ rows) 0) (λ (first : List ℕ). length marks ≡ length first)
+  pub like_first : IfSome (slice_get (flat_map (λ layer. layer) layers ++ rows) 0)
+      (λ (first : List ℕ). length marks ≡ length first)
 
 abbrev pub with_layer : Drawing → List (List ℕ) → Drawing
 with_layer d rows = record d { layers = d.layers ++ rows ∷ [] }
@@ -46,7 +51,8 @@ abbrev pub HasCellCount : Drawing → Type 0
 HasCellCount d = (1 ≤ length (drawn_cells d.layers)) × (length (drawn_cells d.layers) ≤ 512)
 
 -- the earliest of the pieces that shares a cell with this one
-pub record IsFirstSharing (shapes : List Drawing) (pieces : List Piece) (p : Piece) (q : ℕ) : Type 0 where
+pub record IsFirstSharing (shapes : List Drawing) (pieces : List Piece) (p : Piece)
+    (q : ℕ) : Type 0 where
   pub inside : q < length pieces
   pub shares : Shares shapes (slice_index_or pieces q p) p
   pub first : (r : ℕ) → r < q → ¬ Shares shapes (slice_index_or pieces r p) p
@@ -66,9 +72,11 @@ PieceRule n name shapes pieces w =
     λ answer.
     let p : Piece = record { name = w.name; shape = w.shape; turn = t; position = position } in
     ((q : ℕ) × IsFirstSharing shapes pieces p q × (answer ≡ Err (A8 n q (length pieces))))
-    ⊎ (((q : ℕ) → ¬ IsFirstSharing shapes pieces p q) × gives (Pieces name shapes (pieces ++ p ∷ [])) answer))))
+    ⊎ (((q : ℕ) → ¬ IsFirstSharing shapes pieces p q)
+    × gives (Pieces name shapes (pieces ++ p ∷ [])) answer))))
 
--- What a line of a form gives behind a beginning: the faults in their order, and then the beginning with it.
+-- What a line of a form gives behind a beginning: the faults in their order, and then the beginning
+-- with it.
 abbrev pub FormGives : ℕ → Beginning → LineForm → LineResult → Type 0
 FormGives n Blank (AssemblyLine name) = needs (IsName name) (Err (A2 n)) (gives (Shapes name []))
 FormGives n (Shapes name shapes) (ShapeLine shape) =
@@ -101,7 +109,8 @@ EndGives n (Shapes name (s ∷ shapes)) answer = answer ≡ Err (A7 n)
 EndGives n (Drawn name shapes d begun) answer = answer ≡ Err (A1 n)
 EndGives n (Pieces name shapes pieces) answer =
     needs (2 ≤ length pieces) (Err (A7 n))
-    (λ (given : Result Assembly AssemblyFault). given ≡ Ok (record { name = name; shapes = shapes; pieces = pieces }))
+    (λ (given : Result Assembly AssemblyFault).
+    given ≡ Ok (record { name = name; shapes = shapes; pieces = pieces }))
     answer
 
 -- What the rest of a text gives, from the n-th line on, behind a beginning.
@@ -113,7 +122,8 @@ pub data TextGives : ℕ → Beginning → List ℕ → Result Assembly Assembly
   fails : (n : ℕ) (so_far : Beginning) (bytes rest : List ℕ) (fault : AssemblyFault)
       → IsUnended bytes → LineGives n so_far bytes (Err fault)
       → TextGives n so_far (bytes ++ 10 ∷ rest) (Err fault)
-  goes_on : (n : ℕ) (so_far next : Beginning) (bytes rest : List ℕ) (answer : Result Assembly AssemblyFault)
+  goes_on : (n : ℕ) (so_far next : Beginning) (bytes rest : List ℕ)
+      (answer : Result Assembly AssemblyFault)
       → IsUnended bytes → LineGives n so_far bytes (Ok next)
       → TextGives (n + 1) next rest answer → TextGives n so_far (bytes ++ 10 ∷ rest) answer
 

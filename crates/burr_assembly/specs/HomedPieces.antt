@@ -18,7 +18,15 @@ turn_of o = record { x = o.x; y = o.y; z = o.z }
 -- the piece with these parts
 abbrev pub homed_piece : List ℕ → List ℕ → Orientation → Cell → List Cell → HomedPiece
 homed_piece name shape orientation position cells =
-    record { piece = record { name = name; shape = shape; turn = turn_of orientation; position = position }; cells = cells }
+    record {
+      piece = record {
+        name = name;
+        shape = shape;
+        turn = turn_of orientation;
+        position = position;
+      };
+      cells = cells;
+    }
 
 -- the pieces without their cells
 abbrev pub pieces_of : List HomedPiece → List Piece

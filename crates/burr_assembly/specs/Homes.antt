@@ -6,7 +6,8 @@ use Rattle.burr_assembly.specs.Text.{HasCells, Assembly, Drawing, Piece, home_ce
 -- the cells of a piece of the first shape with its shape's name
 abbrev pub home_of : List Drawing → Piece → List Cell
 home_of [] p = []
-home_of (s ∷ shapes) p = if bytes_eq s.name p.shape then home_cells p.turn p.position (drawn_cells s.layers) else home_of shapes p
+home_of (s ∷ shapes) p = if bytes_eq s.name p.shape
+    then home_cells p.turn p.position (drawn_cells s.layers) else home_of shapes p
 
 abbrev pub homes_of : Assembly → List (List Cell)
 homes_of a = map (home_of a.shapes) a.pieces

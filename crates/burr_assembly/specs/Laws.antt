@@ -16,7 +16,8 @@ OneAssembly = (text : List ℕ) (a b : Assembly) → IsText text a → IsText te
 -- each text is an assembly's, or has a fault
 abbrev pub FaultOrAssembly : Type 0
 FaultOrAssembly =
-    (text : List ℕ) → ((a : Assembly) × IsText text a) ⊎ ((fault : AssemblyFault) × FirstFault text fault)
+    (text : List ℕ) → ((a : Assembly) × IsText text a)
+    ⊎ ((fault : AssemblyFault) × FirstFault text fault)
 
 -- an assembly's text has no fault
 abbrev pub NoFault : Type 0
@@ -47,12 +48,14 @@ PieceLineIsNamed =
 
 -- The text begins with that of an assembly so far and the line of a next piece, and the names in
 -- it are those of an earlier piece and of this one.
-pub record NamesBoth (text : List ℕ) (earlier piece : ℕ) (so_far : Assembly) (next : PieceWords) : Type 0 where
+pub record NamesBoth (text : List ℕ) (earlier piece : ℕ) (so_far : Assembly)
+    (next : PieceWords) : Type 0 where
   pub title : IsName so_far.name
   pub shapes : All IsDrawing so_far.shapes
   pub pieces : All (IsPiece so_far.shapes) so_far.pieces
   pub words : IsPieceWords next
-  pub begins : (rest : List ℕ) × (text ≡ text_of so_far ++ (form_text (PieceLine next) ++ 10 ∷ rest))
+  pub begins : (rest : List ℕ)
+      × (text ≡ text_of so_far ++ (form_text (PieceLine next) ++ 10 ∷ rest))
   pub is_earlier : earlier < piece
   pub is_next : piece ≡ length so_far.pieces
   pub first : (d : Piece) → name_at text earlier ≡ (slice_index_or so_far.pieces earlier d).name

@@ -8,7 +8,14 @@ use Rattle.burr_assembly.specs.Text.{IsCoordinate}
 use Rattle.burr_assembly.specs.Lines.{LineForm, PieceWords, AssemblyLine, ShapeLine, LayerLine, RowLine, EndLine, PieceLine as PieceForm}
 
 abbrev pub words_of : PieceLine → PieceWords
-words_of l = record { name = l.name.now; shape = l.shape.now; orientation = l.orientation.now; x = l.x.now; y = l.y.now; z = l.z.now }
+words_of l = record {
+  name = l.name.now;
+  shape = l.shape.now;
+  orientation = l.orientation.now;
+  x = l.x.now;
+  y = l.y.now;
+  z = l.z.now;
+}
 
 abbrev pub form_of : TextLine → LineForm
 form_of (lines.Assembly name) = AssemblyLine name.now
@@ -30,4 +37,5 @@ HasWords (PieceForm words) = Unit {0}
 -- the coordinate that a number is, if it is one
 abbrev pub IsCoordinateText : List ℕ → Option ℤ → Type 0
 IsCoordinateText number found =
-    MatchOption found ((z : ℤ) → IsCoordinate z → number ≢ signed_decimal z) (λ z. IsCoordinate z × (number ≡ signed_decimal z))
+    MatchOption found ((z : ℤ) → IsCoordinate z → number ≢ signed_decimal z) (λ z.
+    IsCoordinate z × (number ≡ signed_decimal z))

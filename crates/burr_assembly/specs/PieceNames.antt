@@ -28,7 +28,8 @@ is_count word = nat_le 49 (slice_index word 0) && list_all is_digit word
 -- `0`, or a count, perhaps behind a `-`
 abbrev pub is_number : List ℕ → Bool
 is_number word =
-    bytes_eq word (codes "0") || is_count word || ((slice_index word 0 == 45) && is_count (drop 1 word))
+    bytes_eq word (codes "0") || is_count word ||
+    ((slice_index word 0 == 45) && is_count (drop 1 word))
 
 -- there are as many words as tests, and each passes its own
 abbrev pub each_passes : List (List ℕ → Bool) → List (List ℕ) → Bool

@@ -20,13 +20,15 @@ IsDue fault Due = (fault ≡ faults.Memory) ⊎ Due
 
 -- a line behind a shape that has not ended gives this, whatever stands before the shape
 abbrev pub SketchGives : ℕ → Sketched → LineForm → (List ℕ → List Drawing → LineResult) → Type 0
-SketchGives n s form answer = (name : List ℕ) (shapes : List Drawing) → FormGives n (sketched name shapes s) form (answer name shapes)
+SketchGives n s form answer = (name : List ℕ) (shapes : List Drawing)
+    → FormGives n (sketched name shapes s) form (answer name shapes)
 
 abbrev pub beginning_of : BeginningOf → Beginning
 beginning_of beginnings.Blank = Blank
 beginning_of (beginnings.Shapes header) = Shapes header.name header.shapes.items
 beginning_of (beginnings.Drawing header sketch) = sketched header.name header.shapes.items sketch
-beginning_of (beginnings.Pieces header occupancy) = Pieces header.name header.shapes.items (pieces_of occupancy)
+beginning_of (beginnings.Pieces header occupancy) =
+    Pieces header.name header.shapes.items (pieces_of occupancy)
 
 -- the pieces have their cells at home
 abbrev pub IsHome : BeginningOf → Type 0
@@ -40,7 +42,8 @@ abbrev pub IsReady : BeginningOf → Type 0
 IsReady beginnings.Blank = Unit {0}
 IsReady (beginnings.Shapes header) = AreDistinct header.shapes.items
 IsReady (beginnings.Drawing header sketch) = Unit {0}
-IsReady (beginnings.Pieces header occupancy) = AreDistinct header.shapes.items × AreAtHome header.shapes.items occupancy
+IsReady (beginnings.Pieces header occupancy) =
+    AreDistinct header.shapes.items × AreAtHome header.shapes.items occupancy
 
 abbrev pub assembly_of : List ℕ → List Drawing → List HomedPiece → Assembly
 assembly_of name shapes placed = record { name = name; shapes = shapes; pieces = pieces_of placed }

@@ -38,28 +38,32 @@ abbrev pub layer_text : List (List ℕ) → List ℕ
 layer_text rows = text_line (codes "layer" ∷ []) ++ flat_map (λ row. row ++ 10 ∷ []) rows
 
 abbrev pub shape_text : Drawing → List ℕ
-shape_text s = text_line (codes "shape" ∷ s.name ∷ []) ++ flat_map layer_text s.layers ++ text_line (codes "end" ∷ [])
+shape_text s = text_line (codes "shape" ∷ s.name ∷ []) ++ flat_map layer_text s.layers
+    ++ text_line (codes "end" ∷ [])
 
 abbrev pub turn_name : Turn → List ℕ
 turn_name t = axes_name t.x t.y t.z
 
 abbrev pub piece_words : Piece → List (List ℕ)
 piece_words p =
-    codes "piece" ∷ p.name ∷ p.shape ∷ turn_name p.turn ∷ signed_decimal p.position.x ∷ signed_decimal p.position.y ∷ signed_decimal p.position.z ∷ []
+    codes "piece" ∷ p.name ∷ p.shape ∷ turn_name p.turn ∷ signed_decimal p.position.x
+    ∷ signed_decimal p.position.y ∷ signed_decimal p.position.z ∷ []
 
 abbrev pub piece_text : Piece → List ℕ
 piece_text p = text_line (piece_words p)
 
 -- The one text of an assembly.
 abbrev pub text_of : Assembly → List ℕ
-text_of a = text_line (codes "assembly" ∷ a.name ∷ []) ++ flat_map shape_text a.shapes ++ flat_map piece_text a.pieces
+text_of a = text_line (codes "assembly" ∷ a.name ∷ []) ++ flat_map shape_text a.shapes
+    ++ flat_map piece_text a.pieces
 
 -- The cells
 
 -- the cells of a row, from x on: `#` is 35
 abbrev pub row_cells : ℕ → ℕ → ℕ → List ℕ → List Cell
 row_cells x y z [] = []
-row_cells x y z (mark ∷ row) = if mark == 35 then (at (pos x) (pos y) (pos z) ∷ row_cells (suc x) y z row) else row_cells (suc x) y z row
+row_cells x y z (mark ∷ row) = if mark == 35
+    then (at (pos x) (pos y) (pos z) ∷ row_cells (suc x) y z row) else row_cells (suc x) y z row
 
 -- the cells of a layer's rows, from y on
 abbrev pub layer_cells : ℕ → ℕ → List (List ℕ) → List Cell
@@ -75,7 +79,8 @@ cells_from z (layer ∷ layers) = layer_cells 0 z layer ++ cells_from (suc z) la
 abbrev pub drawn_cells : List (List (List ℕ)) → List Cell
 drawn_cells layers = cells_from 0 layers
 
--- the sides of a drawing's box: the width of its first row, the number of rows of its first layer, and that of its layers
+-- the sides of a drawing's box: the width of its first row, the number of rows of its first layer,
+-- and that of its layers
 abbrev pub drawn_sides : List (List (List ℕ)) → Cell
 drawn_sides layers =
     let rows = slice_index_or layers 0 [] in
@@ -87,7 +92,8 @@ home_cells t position cells = map (λ c. plus (turned t.x t.y t.z c) position) c
 
 -- the piece is of one of the shapes, and these are its cells at home
 abbrev pub HasCells : List Drawing → Piece → List Cell → Type 0
-HasCells shapes p cells = (s : Drawing) × Contains shapes s × (s.name ≡ p.shape) × (cells ≡ home_cells p.turn p.position (drawn_cells s.layers))
+HasCells shapes p cells = (s : Drawing) × Contains shapes s × (s.name ≡ p.shape)
+    × (cells ≡ home_cells p.turn p.position (drawn_cells s.layers))
 
 -- What is an assembly
 
@@ -98,8 +104,10 @@ IsMark b = (b ≡ 35) ⊎ (b ≡ 46)
 pub record IsDrawing (s : Drawing) : Type 0 where
   pub name : IsName s.name
   pub layers : (1 ≤ length s.layers) × (length s.layers ≤ 16)
-  pub rows : (height : ℕ) × (1 ≤ height) × (height ≤ 16) × All (λ layer. length layer ≡ height) s.layers
-  pub width : (width : ℕ) × (1 ≤ width) × (width ≤ 16) × All (All (λ (row : List ℕ). length row ≡ width)) s.layers
+  pub rows : (height : ℕ) × (1 ≤ height) × (height ≤ 16) × All (λ layer.
+      length layer ≡ height) s.layers
+  pub width : (width : ℕ) × (1 ≤ width) × (width ≤ 16)
+      × All (All (λ (row : List ℕ). length row ≡ width)) s.layers
   pub marks : All (All (All IsMark)) s.layers
   pub cells : (1 ≤ length (drawn_cells s.layers)) × (length (drawn_cells s.layers) ≤ 512)
 
@@ -116,7 +124,8 @@ IsPosition c = IsCoordinate c.x × IsCoordinate c.y × IsCoordinate c.z
 
 -- the words are the coordinates of the position
 abbrev pub IsPositionText : List ℕ → List ℕ → List ℕ → Cell → Type 0
-IsPositionText x y z c = IsPosition c × (x ≡ signed_decimal c.x) × (y ≡ signed_decimal c.y) × (z ≡ signed_decimal c.z)
+IsPositionText x y z c =
+    IsPosition c × (x ≡ signed_decimal c.x) × (y ≡ signed_decimal c.y) × (z ≡ signed_decimal c.z)
 
 -- one of the shapes has the name
 abbrev pub IsShapeName : List Drawing → List ℕ → Type 0
@@ -134,7 +143,8 @@ pub record IsPiece (shapes : List Drawing) (p : Piece) : Type 0 where
 
 -- the pieces share a home cell
 abbrev pub Shares : List Drawing → Piece → Piece → Type 0
-Shares shapes p q = (ps : List Cell) × (qs : List Cell) × HasCells shapes p ps × HasCells shapes q qs × Overlap ps qs
+Shares shapes p q = (ps : List Cell) × (qs : List Cell) × HasCells shapes p ps
+    × HasCells shapes q qs × Overlap ps qs
 
 pub record IsAssembly (a : Assembly) : Type 0 where
   pub name : IsName a.name

@@ -34,19 +34,23 @@ impl Model for Assembly {
 
     ghost Value = { AssemblyOf };
 
-    ghost view = { λ a. record { name = a.name; shapes = a.shapes.items; pieces = pieces_of a.pieces.items } };
+    ghost view = { λ a. record
+        { name = a.name; shapes = a.shapes.items; pieces = pieces_of a.pieces.items } };
 
     ghost invariant = { λ a.
-        IsAssembly (record { name = a.name; shapes = a.shapes.items; pieces = pieces_of a.pieces.items })
+        IsAssembly
+        (record { name = a.name; shapes = a.shapes.items; pieces = pieces_of a.pieces.items })
         × AreAtHome a.shapes.items a.pieces.items };
 }
 
 impl Assembly {
     /// The assembly of these parts.
     pub(crate) fn new(name: Name, shapes: Vec<DrawnShape>, pieces: Vec<Piece>) -> Assembly
-        requires assembly { IsAssembly (record { name = name; shapes = shapes.items; pieces = pieces_of pieces.items }) }
+        requires assembly { IsAssembly
+            (record { name = name; shapes = shapes.items; pieces = pieces_of pieces.items }) }
         requires homes { AreAtHome shapes.items pieces.items }
-        ensures { result ≡ record { name = name; shapes = shapes.items; pieces = pieces_of pieces.items } }
+        ensures { result
+            ≡ record { name = name; shapes = shapes.items; pieces = pieces_of pieces.items } }
     {
         Assembly {
             name,
@@ -99,7 +103,8 @@ impl Assembly {
     /// its rows, in each x rising. Each coordinate lies in -79..79.
     pub fn cells(&self, piece: u8) -> &[Cell]
         requires { piece < length self.now.pieces }
-        ensures cells { IfSome (slice_get self.now.pieces piece) (λ p. HasCells self.now.shapes p result.now) }
+        ensures cells { IfSome (slice_get self.now.pieces piece) (λ p.
+            HasCells self.now.shapes p result.now) }
         ensures home { HasHome (homes_of self.now) piece result.now }
         ensures near { All (IsWithin 79) result.now }
     {

@@ -27,7 +27,8 @@ impl Model for Occupancy {
 
     ghost view = { λ o. o.pieces.items };
 
-    ghost invariant = { λ o. (vec_len o.pieces ≤ 32) × AreOwners o.pieces.items (get same_cell o.owners) };
+    ghost invariant = { λ o. (vec_len o.pieces ≤ 32)
+        × AreOwners o.pieces.items (get same_cell o.owners) };
 }
 
 impl Occupancy {
@@ -93,7 +94,8 @@ fn lesser(a: Option<u8>, b: Option<u8>) -> Option<u8>
 
 /// Makes a piece the owner of cells.
 fn own(owners: &mut HashMap<Cell, u8>, cells: &[Cell], piece: u8) -> Result<(), AllocError>
-    ensures { OnOk result (Owns piece cells.now (get same_cell owners.old) (get same_cell owners.new)) }
+    ensures { OnOk result
+        (Owns piece cells.now (get same_cell owners.old) (get same_cell owners.new)) }
 {
     for cell in cells {
         owners.insert(*cell, piece)?;

@@ -94,7 +94,8 @@ pub fn home_cells(
 ) -> Result<Vec<Cell>, AllocError>
     requires cells { All (IsWithin 15) cells.now }
     requires position { IsWithin 64 position }
-    ensures homes { IfOk result (λ homes. homes.items ≡ homes_of (turn_of orientation.now) position cells.now) }
+    ensures homes { IfOk result (λ homes.
+        homes.items ≡ homes_of (turn_of orientation.now) position cells.now) }
     ensures near { IfOk result (λ homes. All (IsWithin 79) homes.items) }
 {
     let mut homes = Vec::with_capacity(alloc, cells.len())?;

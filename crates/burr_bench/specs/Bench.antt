@@ -1,4 +1,5 @@
--- The bench: pieces that lie in trays, and where a run stands. Activations, their slots and operands are those of the JVM Specification, 2.6.
+-- The bench: pieces that lie in trays, and where a run stands. Activations, their slots and
+-- operands are those of the JVM Specification, 2.6.
 use Rattle.std.specs.Prelude.{ℕ, ℤ, List, [], ◌∷◌, Option, None, map, replicate}
 use Rattle.burr_voxels.specs.declared.cell.Cell.{Cell}
 use Rattle.burr_voxels.specs.Grid.{origin}
@@ -25,7 +26,8 @@ pub record BenchState : Type 0 where
   pub steps : ℕ
   pub mode : Mode
 
--- what the bench knows of a procedure: how many parameters and results it has, its labels' positions, its code
+-- what the bench knows of a procedure: how many parameters and results it has, its labels'
+-- positions, its code
 pub record BenchProcedure : Type 0 where
   pub parameters : ℕ
   pub results : ℕ
@@ -38,7 +40,8 @@ pub record Setup : Type 0 where
   pub procedures : List BenchProcedure
 
 abbrev pub activation : ℕ → ℕ → List (Option ℤ) → List ℤ → Activation
-activation procedure pc slots operands = record { procedure = procedure; pc = pc; slots = slots; operands = operands }
+activation procedure pc slots operands =
+    record { procedure = procedure; pc = pc; slots = slots; operands = operands }
 
 -- the one procedure of bare code
 abbrev pub bare_procedure : List ℕ → BenchProcedure

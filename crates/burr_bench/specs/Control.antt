@@ -1,4 +1,5 @@
--- Instructions of the flow of control: their traps in the order in which they are tried, and then the effect. Calls follow the JVM Specification, 2.6.1 and 2.6.2.
+-- Instructions of the flow of control: their traps in the order in which they are tried, and then
+-- the effect. Calls follow the JVM Specification, 2.6.1 and 2.6.2.
 use Rattle.std.specs.Prelude.{◌≡◌, ℕ, zero, suc, ◌+◌, ◌≤◌, ℤ, pos, negsuc, ◌-ℤ◌, ◌≤ℤ◌, List, [], ◌∷◌, ◌++◌, length, None, slice_get, get_or}
 use Rattle.burr_text.specs.Checks.{needs, finds}
 use Rattle.burr_code.specs.Instruction.{Instruction, Down, Call, spelled}
@@ -37,13 +38,15 @@ counting_down here s v label =
     needs (here.parameters ≤ v) (Traps traps.ParamWritten)
     (finds (get_or s.running.slots v None) (Traps traps.EmptySlot) λ x.
     needs (pos 0 ≤ℤ x) (Traps traps.BadCount)
-    (goes (by_count x (after (Down v label) s.running s) (at_label to (with_slot v (x -ℤ pos 1) s.running) s)) None))
+    (goes (by_count x (after (Down v label) s.running s)
+    (at_label to (with_slot v (x -ℤ pos 1) s.running) s)) None))
 
 -- an activation of the callee, with these arguments, above the caller behind its call
 abbrev pub called : ℕ → List ℤ → List ℤ → Instruction → BenchState → BenchState
 called callee arguments below i s = stepped (record s {
   running = activation callee 0 (argument_slots arguments) [];
-  callers = record s.running { pc = s.running.pc + length (spelled i); operands = below } ∷ s.callers;
+  callers =
+      record s.running { pc = s.running.pc + length (spelled i); operands = below } ∷ s.callers;
 })
 
 -- `call`: the topmost operands become the callee's first slots, the top the last of them

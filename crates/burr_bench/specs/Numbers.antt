@@ -1,4 +1,5 @@
--- Instructions on operands and slots: their traps in the order in which they are tried, and then the effect.
+-- Instructions on operands and slots: their traps in the order in which they are tried, and then
+-- the effect.
 use Rattle.std.specs.Prelude.{ℕ, ◌<◌, ◌≤◌, ℤ, ◌+ℤ◌, ◌-ℤ◌, List, ◌∷◌, length, Some, None, set, get_or}
 use Rattle.burr_text.specs.Checks.{needs, finds}
 use Rattle.burr_code.specs.Instruction.{Push, Load, Store, Add, Sub, Drop, IsInNumberRange}

@@ -10,7 +10,8 @@ abbrev pub PositionHolds : {Position : Type 0} → (Position → Type 0) → Pla
 PositionHolds P Apart = Unit {0}
 PositionHolds P (On tray position) = P position
 
-abbrev pub PositionsHold : {Position : Type 0} → (Position → Type 0) → List (Placement Position) → Type 0
+abbrev pub PositionsHold : {Position : Type 0} → (Position → Type 0) → List (Placement Position)
+    → Type 0
 PositionsHold P places = All (PositionHolds P) places
 
 -- the pieces lie at most 256 from home, a coordinate

@@ -23,7 +23,8 @@ picking here labels =
 abbrev pub Fits : ℤ → ℤ → ℤ → Type 0
 Fits low high answer = (low ≤ℤ answer) × (answer ≤ℤ high)
 
--- where a fitting answer to a question leads: it is pushed, or the run goes on at the label that it numbers
+-- where a fitting answer to a question leads: it is pushed, or the run goes on at the label that it
+-- numbers
 abbrev pub Takes : BenchProcedure → BenchState → Instruction → ℤ → BenchState → Type 0
 Takes here s (Ask low high) answer new = new ≡ after (Ask low high) (pushed answer s.running) s
 Takes here s (Pick labels) answer new =

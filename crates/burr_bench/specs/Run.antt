@@ -16,16 +16,18 @@ pub record IsGoing (budget : ℕ) (s : BenchState) : Type 0 where
   pub running : s.mode ≡ Running
   pub within : s.steps ≢ budget
 
--- From a state, with these answers left, a run makes these motions, has then made so many steps, and
--- closes so.
-pub data Run (setup : Setup) (budget : ℕ) : BenchState → List ℤ → List Motion → ℕ → Closing → Type 0 where
+-- From a state, with these answers left, a run makes these motions, has then made so many steps,
+-- and closes so.
+pub data Run (setup : Setup) (budget : ℕ) : BenchState → List ℤ → List Motion → ℕ → Closing
+    → Type 0 where
   ends : (s : BenchState) (answers : List ℤ) → s.mode ≡ Ended
       → Run setup budget s answers [] s.steps closings.Apart
   stops : (s : BenchState) (answers : List ℤ) → s.mode ≡ Running → s.steps ≡ budget
       → Run setup budget s answers [] s.steps closings.Stopped
   traps : (s : BenchState) (answers : List ℤ) (trap : Trap)
       → IsGoing budget s → NextIs setup s (Traps trap)
-      → Run setup budget s answers [] s.steps (closings.Trapped trap s.running.procedure s.running.pc)
+      → Run setup budget s answers [] s.steps
+      (closings.Trapped trap s.running.procedure s.running.pc)
   waits : (s : BenchState) (low high : ℤ)
       → IsGoing budget s → NextIs setup s (Asks low high)
       → Run setup budget s [] [] s.steps (closings.Waiting low high)

@@ -1,4 +1,5 @@
--- Instructions that move pieces: their traps in the order in which they are tried, and then the effect.
+-- Instructions that move pieces: their traps in the order in which they are tried, and then the
+-- effect.
 use Rattle.std.specs.Prelude.{◌≢◌, ℕ, pos, List, Some, None, Bool, true, false}
 use Rattle.burr_text.specs.Checks.{needs}
 use Rattle.burr_voxels.specs.declared.cell.Cell.{Cell}
@@ -28,11 +29,12 @@ abbrev pub AllOnBench : List (Placement Cell) → ℕ → Type 0
 AllOnBench places tray =
     (p : ℕ) (offset : Cell) → LiesAt places p tray offset → IsWithin 256 offset
 
--- Shifted any whole number of units along a direction, no piece of the group overlaps a piece of the
--- tray that is not in the group.
+-- Shifted any whole number of units along a direction, no piece of the group overlaps a piece of
+-- the tray that is not in the group.
 abbrev pub IsFreeGroup : List (List Cell) → List (Placement Cell) → ℕ → ℕ → Direction → Type 0
 IsFreeGroup homes places tray group direction =
-    (p q : ℕ) (p_home q_home : List Cell) (p_offset q_offset : Cell) → IsInSet group p → (¬ IsInSet group q)
+    (p q : ℕ) (p_home q_home : List Cell) (p_offset q_offset : Cell) → IsInSet group p
+    → (¬ IsInSet group q)
     → HasHome homes p p_home → HasHome homes q q_home
     → LiesAt places p tray p_offset → LiesAt places q tray q_offset
     → IsFree (shifted p_offset p_home) (shifted q_offset q_home) direction
@@ -43,7 +45,8 @@ moved_places group direction places =
     changed (at_position (λ offset. plus offset (along direction (pos 1)))) group 0 places
 
 abbrev pub motion_of : ℕ → ℕ → Direction → Bool → Motion
-motion_of group tray direction out = record { group = group; tray = tray; dir = direction; out = out }
+motion_of group tray direction out =
+    record { group = group; tray = tray; dir = direction; out = out }
 
 -- `grip`: the grip becomes a set of pieces of the current tray
 abbrev pub gripping : BenchState → ℕ → Next → Type 0

@@ -25,7 +25,8 @@ in_main places tray grip running steps mode = record {
 
 -- so many pieces at home in tray 0, and main at its begin
 abbrev pub at_start : ℕ → BenchState
-at_start pieces = in_main (replicate pieces (On 0 origin)) 0 0 (activation 0 0 (replicate 8 None) []) 0 Running
+at_start pieces =
+    in_main (replicate pieces (On 0 origin)) 0 0 (activation 0 0 (replicate 8 None) []) 0 Running
 
 -- what holds of each state
 pub record IsOrderly (s : BenchState) : Type 0 where

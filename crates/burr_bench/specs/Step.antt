@@ -45,8 +45,10 @@ IsAt setup s here i = Runs setup s here × StandsAt here.code s.running.pc i
 -- what stands next where nothing is answered
 abbrev pub NextIs : Setup → BenchState → Next → Type 0
 NextIs setup s next =
-    ((here : BenchProcedure) × (i : Instruction) × IsAt setup s here i × Executes setup here s i next)
-    ⊎ (((here : BenchProcedure) (i : Instruction) → ¬ IsAt setup s here i) × (next ≡ Traps traps.BadCode))
+    ((here : BenchProcedure) × (i : Instruction) × IsAt setup s here i
+    × Executes setup here s i next)
+    ⊎ (((here : BenchProcedure) (i : Instruction) → ¬ IsAt setup s here i)
+    × (next ≡ Traps traps.BadCode))
 
 -- the state asks for a number of this range
 abbrev pub AsksFor : Setup → BenchState → ℤ → ℤ → Type 0
@@ -75,8 +77,10 @@ abbrev pub IsUnfit : Setup → BenchState → ℤ → Type 0
 IsUnfit setup s answer = (low high : ℤ) → AsksFor setup s low high → ¬ Fits low high answer
 
 -- one call, by the mode of the state
-abbrev pub CallIn : Mode → Setup → BenchState → Option ℤ → Result Progress Trap → BenchState → Type 0
-CallIn Running setup s None result new = (next : Next) × NextIs setup s next × (result ≡ told next) × (new ≡ left_by s next)
+abbrev pub CallIn : Mode → Setup → BenchState → Option ℤ → Result Progress Trap → BenchState
+    → Type 0
+CallIn Running setup s None result new =
+    (next : Next) × NextIs setup s next × (result ≡ told next) × (new ≡ left_by s next)
 CallIn Running setup s (Some answer) result new =
     (TakesAnswer setup s answer new × (result ≡ Ok (progress.Went None)))
     ⊎ (IsUnfit setup s answer × (result ≡ Ok progress.Again) × (new ≡ s))

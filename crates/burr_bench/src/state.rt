@@ -35,5 +35,6 @@ impl Model for BenchState {
 
     ghost view = { λ s. in_main s.places.items s.tray s.grip s.running s.steps s.mode };
 
-    ghost invariant = { λ s. IsOrderly (in_main s.places.items s.tray s.grip s.running s.steps s.mode) };
+    ghost invariant = { λ s.
+        IsOrderly (in_main s.places.items s.tray s.grip s.running s.steps s.mode) };
 }

@@ -9,7 +9,8 @@ use Rattle.burr_voxels.specs.CellSets.{Overlap}
 abbrev pub IsBlocked : List Cell → List Cell → Cell → Type 0
 IsBlocked ps qs d = Overlap (shifted d ps) qs
 
--- The first piece, displaced by d and from there any whole number of units, at least 1, along the direction, never overlaps the second.
+-- The first piece, displaced by d and from there any whole number of units, at least 1, along the
+-- direction, never overlaps the second.
 abbrev pub IsFreeFrom : List Cell → List Cell → Cell → Direction → Type 0
 IsFreeFrom ps qs d direction =
     (k : ℕ) → 1 ≤ k → ¬ IsBlocked ps qs (plus d (along direction (pos k)))

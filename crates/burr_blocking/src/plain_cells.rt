@@ -38,15 +38,16 @@ impl<'a> PlainCells<'a> {
         self.assembly
     }
 
-    /// Whether a piece, displaced from home against another one at home, overlaps it. The pieces are
-    /// two of the assembly's, and the displacement lies within 512 a coordinate, the caller's
+    /// Whether a piece, displaced from home against another one at home, overlaps it. The pieces
+    /// are two of the assembly's, and the displacement lies within 512 a coordinate, the caller's
     /// conditions.
     pub fn blocked(&self, piece: u8, other: u8, displacement: Cell) -> bool
         requires piece { piece < length self.now.pieces }
         requires other { other < length self.now.pieces }
         requires two { piece ≢ other }
         requires near { IsWithin 512 displacement }
-        ensures { IsTrue result ↔ IsBlocked (home_at (homes_of self.now) piece) (home_at (homes_of self.now) other) displacement }
+        ensures { IsTrue result ↔ IsBlocked (home_at (homes_of self.now) piece)
+            (home_at (homes_of self.now) other) displacement }
     {
         overlap_at(self.home(piece), displacement, self.home(other))
     }
@@ -58,7 +59,8 @@ impl<'a> PlainCells<'a> {
         requires other { other < length self.now.pieces }
         requires two { piece ≢ other }
         requires near { IsWithin 512 displacement }
-        ensures { IsTrue result ↔ IsFreeFrom (home_at (homes_of self.now) piece) (home_at (homes_of self.now) other) displacement direction }
+        ensures { IsTrue result ↔ IsFreeFrom (home_at (homes_of self.now) piece)
+            (home_at (homes_of self.now) other) displacement direction }
     {
         !meets(self.home(piece), displacement, self.home(other), direction)
     }

@@ -1,4 +1,5 @@
--- What labels and calls name, over any element: positions and values on the bench, frames and forms in the verifier.
+-- What labels and calls name, over any element: positions and values on the bench, frames and forms
+-- in the verifier.
 use Rattle.std.specs.Prelude.{ℕ, ◌-◌, List, [], ◌∷◌, ◌++◌, length, map, reverse, replicate, Option, Some, None, slice_get, if◌then◌else◌, nat_lt}
 use Rattle.burr_code.specs.declared.limits.TheConstants.{SLOTS}
 
@@ -15,7 +16,8 @@ labelled all (label ∷ labels) = with_first (slice_get all label) (labelled all
 
 -- the procedure of this number, where it is higher than that of the running one
 abbrev pub callee_of : {A : Type 0} → List A → ℕ → ℕ → Option A
-callee_of procedures running callee = if nat_lt running callee then slice_get procedures callee else None
+callee_of procedures running callee = if nat_lt running callee then slice_get procedures callee
+    else None
 
 -- the slots of a callee: its arguments, given with the last of them first, and then empty ones
 abbrev pub argument_slots : {A : Type 0} → List A → List (Option A)

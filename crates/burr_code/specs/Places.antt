@@ -1,4 +1,5 @@
--- Where pieces lie: apart, or in a tray at a position. Positions are offsets on the bench, and triples of forms in the verifier.
+-- Where pieces lie: apart, or in a tray at a position. Positions are offsets on the bench, and
+-- triples of forms in the verifier.
 use Rattle.std.specs.Prelude.{◌≡◌, ◌≢◌, ℕ, suc, ◌+◌, List, [], ◌∷◌, Option, Some, None, slice_get, if◌then◌else◌, ◌==◌, Bool, false}
 use Rattle.burr_code.specs.PieceSets.{IsInSet, is_left_out}
 
@@ -21,7 +22,8 @@ AllLieIn places tray set = (p : ℕ) → IsInSet set p → LiesIn places p tray
 
 -- each piece is apart
 abbrev pub AllApart : {Position : Type 0} → List (Placement Position) → Type 0
-AllApart {Position} places = (p : ℕ) (place : Placement Position) → slice_get places p ≡ Some place → place ≡ Apart
+AllApart {Position} places =
+    (p : ℕ) (place : Placement Position) → slice_get places p ≡ Some place → place ≡ Apart
 
 -- the tray in which a piece lies
 abbrev pub tray_of : {Position : Type 0} → Placement Position → Option ℕ
@@ -36,7 +38,8 @@ at_position f (On tray position) = On tray (f position)
 -- the places of piece p and of the pieces behind it, those of the set changed
 abbrev pub changed : {Place : Type 0} → (Place → Place) → ℕ → ℕ → List Place → List Place
 changed change set p [] = []
-changed change set p (place ∷ places) = (if is_left_out set p then place else change place) ∷ changed change set (suc p) places
+changed change set p (place ∷ places) =
+    (if is_left_out set p then place else change place) ∷ changed change set (suc p) places
 
 -- the same place, in another tray
 abbrev pub to_tray : {Position : Type 0} → ℕ → Placement Position → Placement Position
@@ -54,17 +57,21 @@ count_in tray [] = 0
 count_in tray (place ∷ places) = (if is_in tray place then 1 else 0) + count_in tray places
 
 -- the places, where each piece of the tray is now apart
-abbrev pub parted_in : {Position : Type 0} → ℕ → List (Placement Position) → List (Placement Position)
+abbrev pub parted_in : {Position : Type 0} → ℕ → List (Placement Position)
+    → List (Placement Position)
 parted_in tray [] = []
-parted_in tray (place ∷ places) = (if is_in tray place then Apart else place) ∷ parted_in tray places
+parted_in tray (place ∷ places) =
+    (if is_in tray place then Apart else place) ∷ parted_in tray places
 
 -- the places, where a piece that was alone in the tray is now apart
 abbrev pub parted : {Position : Type 0} → ℕ → List (Placement Position) → List (Placement Position)
 parted tray places = if count_in tray places == 1 then parted_in tray places else places
 
 -- the places after the group went from one tray to another that was empty
-abbrev pub aside_places : {Position : Type 0} → ℕ → ℕ → ℕ → List (Placement Position) → List (Placement Position)
-aside_places group here there places = parted there (parted here (changed (to_tray there) group 0 places))
+abbrev pub aside_places : {Position : Type 0} → ℕ → ℕ → ℕ → List (Placement Position)
+    → List (Placement Position)
+aside_places group here there places =
+    parted there (parted here (changed (to_tray there) group 0 places))
 
 -- the group has a piece, and a piece of the tray is not in it
 abbrev pub IsPartOfTray : {Position : Type 0} → ℕ → List (Placement Position) → ℕ → Type 0

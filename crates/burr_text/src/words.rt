@@ -4,7 +4,8 @@ ghost use Rattle.burr_text.specs.Numbers.{IsCount, IsNumber};
 
 /// What stands before the first of a byte, and what behind it; None where it is not there.
 pub fn cut_at(bytes: &[u8], separator: u8) -> Option<(&[u8], &[u8])>
-    ensures { MatchOption result (¬ Contains bytes.now separator) (λ parts. IsCutAt separator bytes.now parts.0.now parts.1.now) }
+    ensures { MatchOption result (¬ Contains bytes.now separator) (λ parts.
+        IsCutAt separator bytes.now parts.0.now parts.1.now) }
 {
     let at = bytes.iter().position(|byte| *byte == separator)?;
     Some((&bytes[..at], &bytes[at + 1..]))

@@ -8,11 +8,13 @@ use Rattle.burr_voxels.specs.Grid.{IsAhead, along, shifted}
 abbrev pub Overlap : List Cell → List Cell → Type 0
 Overlap ps qs = (c : Cell) × Contains ps c × Contains qs c
 
--- A group is free of the others along a direction where for every whole k of at least 1 the group, shifted k
--- units, overlaps none of them.
+-- A group is free of the others along a direction where for every whole k of at least 1 the group,
+-- shifted k units, overlaps none of them.
 abbrev pub IsFree : List Cell → List Cell → Direction → Type 0
-IsFree group others direction = (k : ℕ) → 1 ≤ k → ¬ Overlap (shifted (along direction (pos k)) group) others
+IsFree group others direction =
+    (k : ℕ) → 1 ≤ k → ¬ Overlap (shifted (along direction (pos k)) group) others
 
 -- a cell of the others lies ahead of one of the group
 abbrev pub Meets : List Cell → List Cell → Direction → Type 0
-Meets group others direction = (from : Cell) × (to : Cell) × Contains group from × Contains others to × IsAhead from to direction
+Meets group others direction = (from : Cell) × (to : Cell) × Contains group from
+    × Contains others to × IsAhead from to direction

@@ -18,7 +18,8 @@ pub enum Direction {
 impl Direction {
     /// The direction with a number of 0 to 5: +x, -x, +y, -y, +z, -z; None at any other number.
     pub fn of(number: u8) -> Option<Direction>
-        ensures { MatchOption result ((d : DirectionOf) → number_of d ≢ number) (λ d. number_of d ≡ number) }
+        ensures { MatchOption result ((d : DirectionOf) → number_of d ≢ number) (λ d.
+            number_of d ≡ number) }
     {
         match number {
             0 => Some(Direction::PlusX),
@@ -84,7 +85,8 @@ impl Direction {
 
     /// The direction with a name; None where there is none.
     pub fn named(name: &[u8]) -> Option<Direction>
-        ensures { MatchOption result ((d : DirectionOf) → name_of d ≢ name.now) (λ d. name_of d ≡ name.now) }
+        ensures { MatchOption result ((d : DirectionOf) → name_of d ≢ name.now) (λ d.
+            name_of d ≡ name.now) }
     {
         match name {
             b"+x" => Some(Direction::PlusX),

@@ -38,9 +38,11 @@ impl Beginning {
     /// first fault.
     pub fn next(self, alloc: Global, bytes: &[u8], line: usize) -> Result<Beginning, AssemblyFault>
         requires { IsReady self }
-        ensures ok { IfOk result (λ next. LineGives line (beginning_of self) bytes.now (Ok (beginning_of next))) }
+        ensures ok { IfOk result (λ next.
+            LineGives line (beginning_of self) bytes.now (Ok (beginning_of next))) }
         ensures home { IfOk result IsHome }
-        ensures err { IfErr result (λ e. IsDue e (LineGives line (beginning_of self) bytes.now (Err e))) }
+        ensures err { IfErr result (λ e.
+            IsDue e (LineGives line (beginning_of self) bytes.now (Err e))) }
     {
         match TextLine::parse(bytes) {
             Some(form) => self.with(alloc, form, line),
@@ -57,9 +59,11 @@ impl Beginning {
     ) -> Result<Beginning, AssemblyFault>
         requires form { IsLineForm (form_of form) }
         requires ready { IsReady self }
-        ensures ok { IfOk result (λ next. FormGives line (beginning_of self) (form_of form.entry) (Ok (beginning_of next))) }
+        ensures ok { IfOk result (λ next.
+            FormGives line (beginning_of self) (form_of form.entry) (Ok (beginning_of next))) }
         ensures home { IfOk result IsHome }
-        ensures err { IfErr result (λ e. IsDue e (FormGives line (beginning_of self) (form_of form.entry) (Err e))) }
+        ensures err { IfErr result (λ e.
+            IsDue e (FormGives line (beginning_of self) (form_of form.entry) (Err e))) }
     {
         match self {
             Beginning::Blank => begin(alloc, form, line),
@@ -78,7 +82,8 @@ impl Beginning {
 
     /// The parts of the assembly, where the text may end here; `line` is the one after the last.
     pub fn finish(self, line: usize) -> Result<Parts, AssemblyFault>
-        ensures ok { IfOk result (λ parts. EndGives line (beginning_of self) (Ok (assembly_of parts.0 parts.1.items parts.2.items))) }
+        ensures ok { IfOk result (λ parts. EndGives line (beginning_of self)
+            (Ok (assembly_of parts.0 parts.1.items parts.2.items))) }
         ensures homes { IfOk result (λ parts. IsHome self → AreAtHome parts.1.items parts.2.items) }
         ensures err { IfErr result (λ e. EndGives line (beginning_of self) (Err e)) }
     {
@@ -103,7 +108,8 @@ impl Beginning {
 
 /// The first line of the text: the assembly's name.
 fn begin(alloc: Global, form: TextLine<'_>, line: usize) -> Result<Beginning, AssemblyFault>
-    ensures ok { IfOk result (λ next. FormGives line Blank (form_of form.entry) (Ok (beginning_of next))) }
+    ensures ok { IfOk result (λ next.
+        FormGives line Blank (form_of form.entry) (Ok (beginning_of next))) }
     ensures home { IfOk result IsHome }
     ensures err { IfErr result (λ e. IsDue e (FormGives line Blank (form_of form.entry) (Err e))) }
 {
@@ -134,9 +140,11 @@ fn behind_shapes(
 ) -> Result<Beginning, AssemblyFault>
     requires form { IsLineForm (form_of form) }
     requires distinct { AreDistinct header.shapes.items }
-    ensures ok { IfOk result (λ next. FormGives line (Shapes header.name header.shapes.items) (form_of form.entry) (Ok (beginning_of next))) }
+    ensures ok { IfOk result (λ next. FormGives line (Shapes header.name header.shapes.items)
+        (form_of form.entry) (Ok (beginning_of next))) }
     ensures home { IfOk result IsHome }
-    ensures err { IfErr result (λ e. IsDue e (FormGives line (Shapes header.name header.shapes.items) (form_of form.entry) (Err e))) }
+    ensures err { IfErr result (λ e. IsDue e
+        (FormGives line (Shapes header.name header.shapes.items) (form_of form.entry) (Err e))) }
 {
     match form {
         TextLine::Shape(name) => {
@@ -163,9 +171,11 @@ fn in_shape(
     form: TextLine<'_>,
     line: usize,
 ) -> Result<Beginning, AssemblyFault>
-    ensures ok { IfOk result (λ next. FormGives line (sketched header.name header.shapes.items sketch) (form_of form.entry) (Ok (beginning_of next))) }
+    ensures ok { IfOk result (λ next. FormGives line (sketched header.name header.shapes.items
+        sketch) (form_of form.entry) (Ok (beginning_of next))) }
     ensures home { IfOk result IsHome }
-    ensures err { IfErr result (λ e. IsDue e (FormGives line (sketched header.name header.shapes.items sketch) (form_of form.entry) (Err e))) }
+    ensures err { IfErr result (λ e. IsDue e (FormGives line
+        (sketched header.name header.shapes.items sketch) (form_of form.entry) (Err e))) }
 {
     match form {
         TextLine::Layer => {
@@ -198,9 +208,11 @@ fn with_piece(
     requires words { IsPieceWords (words_of words) }
     requires distinct { AreDistinct header.shapes.items }
     requires homes { AreAtHome header.shapes.items occupancy }
-    ensures ok { IfOk result (λ next. PieceRule line header.name header.shapes.items (pieces_of occupancy) (words_of words.entry) (Ok (beginning_of next))) }
+    ensures ok { IfOk result (λ next. PieceRule line header.name header.shapes.items
+        (pieces_of occupancy) (words_of words.entry) (Ok (beginning_of next))) }
     ensures home { IfOk result IsHome }
-    ensures err { IfErr result (λ e. IsDue e (PieceRule line header.name header.shapes.items (pieces_of occupancy) (words_of words.entry) (Err e))) }
+    ensures err { IfErr result (λ e. IsDue e (PieceRule line header.name header.shapes.items
+        (pieces_of occupancy) (words_of words.entry) (Err e))) }
 {
     let piece = header.piece(alloc, &occupancy, words, line)?;
     Ok(Beginning::Pieces(header, occupancy.with(piece)?))

@@ -36,8 +36,10 @@ impl Header {
         name: &[u8],
         line: usize,
     ) -> Result<Sketch, AssemblyFault>
-        ensures ok { IfOk result (λ s. FormGives line (Shapes self.now.name self.now.shapes.items) (ShapeLine name.now) (Ok (sketched self.now.name self.now.shapes.items s))) }
-        ensures err { IfErr result (λ e. IsDue e (FormGives line (Shapes self.now.name self.now.shapes.items) (ShapeLine name.now) (Err e))) }
+        ensures ok { IfOk result (λ s. FormGives line (Shapes self.now.name self.now.shapes.items)
+            (ShapeLine name.now) (Ok (sketched self.now.name self.now.shapes.items s))) }
+        ensures err { IfErr result (λ e. IsDue e (FormGives line
+            (Shapes self.now.name self.now.shapes.items) (ShapeLine name.now) (Err e))) }
     {
         if self.shapes.len() >= MOST_SHAPES {
             return Err(AssemblyFault::A7 { line });
@@ -78,12 +80,15 @@ impl Header {
         requires words { IsPieceWords (words_of words) }
         requires distinct { AreDistinct self.now.shapes.items }
         requires homes { AreAtHome self.now.shapes.items occupancy.now }
-        ensures ok { IfOk result (λ p. PieceRule line self.now.name self.now.shapes.items (pieces_of occupancy.now) (words_of words.entry)
-            (Ok (Pieces self.now.name self.now.shapes.items (pieces_of occupancy.now ++ p.piece ∷ [])))) }
+        ensures ok { IfOk result (λ p. PieceRule line self.now.name self.now.shapes.items
+            (pieces_of occupancy.now) (words_of words.entry)
+            (Ok (Pieces self.now.name self.now.shapes.items
+            (pieces_of occupancy.now ++ p.piece ∷ [])))) }
         ensures home { IfOk result (λ p. HasCells self.now.shapes.items p.piece p.cells) }
         ensures room { IfOk result (λ p. length occupancy.now < MOST_PIECES) }
         ensures free { IfOk result (λ p. IsFirstMeeting occupancy.now p.cells None) }
-        ensures err { IfErr result (λ e. IsDue e (PieceRule line self.now.name self.now.shapes.items (pieces_of occupancy.now) (words_of words.entry) (Err e))) }
+        ensures err { IfErr result (λ e. IsDue e (PieceRule line self.now.name self.now.shapes.items
+            (pieces_of occupancy.now) (words_of words.entry) (Err e))) }
     {
         let pieces = occupancy.pieces();
         if pieces.len() >= MOST_PIECES {

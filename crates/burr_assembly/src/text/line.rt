@@ -36,7 +36,8 @@ pub struct PieceLine<'a> {
 impl TextLine<'_> {
     /// The line with these bytes, which are without its end; None where it is of no form.
     pub fn parse(bytes: &[u8]) -> Option<TextLine<'_>>
-        ensures { MatchOption result ((form : LineForm) → ¬ IsLine bytes.now form) (λ line. IsLine bytes.now (form_of line)) }
+        ensures { MatchOption result ((form : LineForm) → ¬ IsLine bytes.now form) (λ line.
+            IsLine bytes.now (form_of line)) }
     {
         match bytes {
             b"layer" => Some(TextLine::Layer),
@@ -76,7 +77,8 @@ impl PieceLine<'_> {
     fn parse(bytes: &[u8]) -> Option<PieceLine<'_>>
         ensures { MatchOption result
             ((w : PieceWords) → IsPieceWords w → ¬ (bytes.now ≡ piece_words_text w))
-            (λ line. IsPieceWords (words_of line) × (bytes.now ≡ piece_words_text (words_of line))) }
+            (λ line.
+            IsPieceWords (words_of line) × (bytes.now ≡ piece_words_text (words_of line))) }
     {
         let (name, rest) = cut_at(bytes, b' ')?;
         let (shape, rest) = cut_at(rest, b' ')?;

@@ -30,9 +30,11 @@ impl Model for Sketch {
 
     ghost Value = { Sketched };
 
-    ghost view = { λ s. record { drawing = record { name = s.name; layers = s.layers.items }; begun = s.begun } };
+    ghost view = { λ s. record
+        { drawing = record { name = s.name; layers = s.layers.items }; begun = s.begun } };
 
-    ghost invariant = { λ s. (vec_len s.layers < 16) × All (λ (rows : List (List ℕ)). 0 < length rows) s.layers.items };
+    ghost invariant = { λ s. (vec_len s.layers < 16)
+        × All (λ (rows : List (List ℕ)). 0 < length rows) s.layers.items };
 }
 
 impl Sketch {
@@ -49,7 +51,8 @@ impl Sketch {
 
     /// A line `layer`: finishes the layer that has begun, and begins the next.
     pub fn begin_layer(self, alloc: Global, line: usize) -> Result<Sketch, AssemblyFault>
-        ensures ok { IfOk result (λ s. SketchGives line self LayerLine (λ name shapes. Ok (sketched name shapes s))) }
+        ensures ok { IfOk result (λ s.
+            SketchGives line self LayerLine (λ name shapes. Ok (sketched name shapes s))) }
         ensures err { IfErr result (λ e. IsDue e (SketchGives line self LayerLine (λ _ _. Err e))) }
     {
         let Sketch {
@@ -80,8 +83,10 @@ impl Sketch {
 
     /// A row of the layer that has begun; where none has, no row may stand here.
     pub fn add_row(self, alloc: Global, marks: &[u8], line: usize) -> Result<Sketch, AssemblyFault>
-        ensures ok { IfOk result (λ s. SketchGives line self (RowLine marks.now) (λ name shapes. Ok (sketched name shapes s))) }
-        ensures err { IfErr result (λ e. IsDue e (SketchGives line self (RowLine marks.now) (λ _ _. Err e))) }
+        ensures ok { IfOk result (λ s. SketchGives line self (RowLine marks.now) (λ name shapes.
+            Ok (sketched name shapes s))) }
+        ensures err { IfErr result (λ e.
+            IsDue e (SketchGives line self (RowLine marks.now) (λ _ _. Err e))) }
     {
         let Sketch {
             name,
@@ -105,7 +110,8 @@ impl Sketch {
     /// A line `end`: the shape, with its last layer finished; where no layer has begun, it may not
     /// end here.
     pub fn finish(self, alloc: Global, line: usize) -> Result<DrawnShape, AssemblyFault>
-        ensures ok { IfOk result (λ s. SketchGives line self EndLine (λ name shapes. Ok (Shapes name (shapes ++ s ∷ [])))) }
+        ensures ok { IfOk result (λ s.
+            SketchGives line self EndLine (λ name shapes. Ok (Shapes name (shapes ++ s ∷ [])))) }
         ensures err { IfErr result (λ e. IsDue e (SketchGives line self EndLine (λ _ _. Err e))) }
     {
         let Sketch {

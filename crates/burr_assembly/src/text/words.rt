@@ -27,7 +27,8 @@ pub fn position(x: &[u8], y: &[u8], z: &[u8]) -> Option<Cell>
     requires x { IsNumber x.now }
     requires y { IsNumber y.now }
     requires z { IsNumber z.now }
-    ensures { MatchOption result ((c : CellOf) → ¬ IsPositionText x.now y.now z.now c) (IsPositionText x.now y.now z.now) }
+    ensures { MatchOption result ((c : CellOf) → ¬ IsPositionText x.now y.now z.now c)
+        (IsPositionText x.now y.now z.now) }
 {
     let (x, y, z) = (coordinate(x)?, coordinate(y)?, coordinate(z)?);
     Some(Cell { x, y, z })

@@ -17,7 +17,8 @@ pub fn write_text(
     shapes: &[DrawnShape],
     pieces: &[Piece],
 ) -> Result<Vec<u8>, AllocError>
-    ensures { IfOk result (λ text. text.items ≡ text_of (record { name = name.now; shapes = shapes.now; pieces = pieces_of pieces.now })) }
+    ensures { IfOk result (λ text. text.items ≡ text_of
+        (record { name = name.now; shapes = shapes.now; pieces = pieces_of pieces.now })) }
 {
     let mut text = Vec::from_slice(alloc, b"assembly ")?;
     text.extend_from_slice(name.as_bytes())?;

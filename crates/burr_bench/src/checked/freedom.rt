@@ -23,11 +23,13 @@ impl Checked<'_> {
         true
     }
 
-    /// Whether a piece, if it lies in the current tray, is free of the rest of it along a direction.
+    /// Whether a piece, if it lies in the current tray, is free of the rest of it along a
+    /// direction.
     fn is_piece_free(&self, piece: u8, direction: Direction) -> bool
         requires piece { piece < length self.now.assembly.pieces }
         requires gripped { IsInSet self.now.state.grip piece }
-        ensures { IsTrue result ↔ IsFreePiece (homes_of self.now.assembly) self.now.state.places self.now.state.tray self.now.state.grip direction piece }
+        ensures { IsTrue result ↔ IsFreePiece (homes_of self.now.assembly) self.now.state.places
+            self.now.state.tray self.now.state.grip direction piece }
     {
         let Some(offset) = self.offset_here(piece) else {
             return true;
@@ -47,7 +49,8 @@ impl Checked<'_> {
         requires other { other < length self.now.assembly.pieces }
         requires two { piece ≢ other }
         requires near { IsWithin 256 offset }
-        ensures { IsTrue result ↔ IsFreeOf (homes_of self.now.assembly) self.now.state.places self.now.state.tray direction piece offset other }
+        ensures { IsTrue result ↔ IsFreeOf (homes_of self.now.assembly) self.now.state.places
+            self.now.state.tray direction piece offset other }
     {
         match self.offset_here(other) {
             None => true,

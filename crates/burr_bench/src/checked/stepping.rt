@@ -13,9 +13,10 @@ use burr_code::{Instr, fetch};
 use burr_voxels::Direction;
 
 impl Checked<'_> {
-    /// One call of the bench. A running bench carries out the next instruction, or tells what it asks
-    /// for; a trap changes nothing, is no step, and is answered by every later call, as the end is. An
-    /// answer is taken where it fits the question; else it is passed over, and nothing changes.
+    /// One call of the bench. A running bench carries out the next instruction, or tells what it
+    /// asks for; a trap changes nothing, is no step, and is answered by every later call, as the
+    /// end is. An answer is taken where it fits the question; else it is passed over, and nothing
+    /// changes.
     pub fn step(&mut self, answer: Option<i32>) -> Result<Progress, Trap>
         ensures called { Called (setup_of self.old) self.old.state answer result self.new.state }
         ensures goes_on { OnOk result (GoesOn self.old self.new (motion_in result)) }
@@ -31,7 +32,8 @@ impl Checked<'_> {
 
     /// Carries out the next instruction, and keeps its trap.
     fn go_on(&mut self) -> Result<Progress, Trap>
-        ensures called { CallIn Running (setup_of self.old) self.old.state None result self.new.state }
+        ensures called { CallIn Running (setup_of self.old) self.old.state
+            None result self.new.state }
         ensures goes_on { OnOk result (GoesOn self.old self.new (motion_in result)) }
     {
         match self.carry_out() {
@@ -85,8 +87,8 @@ impl Checked<'_> {
         Ok(None)
     }
 
-    /// `aside`: takes the grip out along a direction, to an empty tray, where it is free of the rest
-    /// of the current tray. A group of one piece is apart.
+    /// `aside`: takes the grip out along a direction, to an empty tray, where it is free of the
+    /// rest of the current tray. A group of one piece is apart.
     fn aside(&mut self, direction: Direction, tray: u8, size: usize) -> Result<Option<Motion>, Trap>
         requires within { self.old.state.running.pc + size ≤ length self.old.code }
         requires size { size ≡ length (spelled (Aside direction tray)) }
