@@ -5,11 +5,11 @@ use Rattle.std.proofs.lemmas.Int.{ints}
 use Rattle.std.proofs.lemmas.List.Elements.{All-nil, All-cons, All-append, All-head, All-tail}
 use Rattle.burr_voxels.specs.declared.cell.Cell.{Cell}
 use Rattle.burr_voxels.specs.Grid.{at}
-use Rattle.burr_assembly.specs.Text.{row_cells, layer_cells, cells_from, drawn_cells, drawn_sides}
+use Rattle.burr_assembly.specs.Text.{Drawing, IsDrawing, row_cells, layer_cells, cells_from, drawn_cells, drawn_sides}
 use Rattle.burr_assembly.specs.Laws.{IsInBox, DrawnInBox}
 
 -- in the box of these sides
-abbrev Boxed : ℕ → ℕ → ℕ → Cell → Type 0
+abbrev pub Boxed : ℕ → ℕ → ℕ → Cell → Type 0
 Boxed w h d c = IsInBox (at (pos w) (pos h) (pos d)) c
 
 boxed : (w h d x y z : ℕ) → x < w → y < h → z < d → Boxed w h d (at (pos x) (pos y) (pos z))
@@ -61,9 +61,11 @@ sides_are w h ((row ∷ rows) ∷ layers) wide high some low =
     let height : length (row ∷ rows) ≡ h = All-head (IsHigh h) (row ∷ rows) layers high in
     λ i. at (pos (width i)) (pos (height i)) (pos (length ((row ∷ rows) ∷ layers)))
 
+-- the cells of a drawing lie in the box of its width, its height and its number of layers
+pub drawn_boxed : (s : Drawing) (is : IsDrawing s) → All (Boxed is.width.0 is.rows.0 (length s.layers)) (drawn_cells s.layers)
+drawn_boxed s is = layers_boxed is.width.0 is.rows.0 (length s.layers) 0 s.layers is.width.3 is.rows.3 (omega arith)
+
 pub drawn_in_box : DrawnInBox
 drawn_in_box s is =
-    let w = is.width.0 in
-    let h = is.rows.0 in
-    subst (λ (sides : Cell). All (IsInBox sides) (drawn_cells s.layers)) (sym (sides_are w h s.layers is.width.3 is.rows.3 is.layers.0 is.rows.1))
-    (layers_boxed w h (length s.layers) 0 s.layers is.width.3 is.rows.3 (omega arith))
+    subst (λ (sides : Cell). All (IsInBox sides) (drawn_cells s.layers)) (sym (sides_are is.width.0 is.rows.0 s.layers is.width.3 is.rows.3 is.layers.0 is.rows.1))
+    (drawn_boxed s is)

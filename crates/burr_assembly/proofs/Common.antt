@@ -1,3 +1,4 @@
 pub mod HomeCells
+pub mod HomeSizes
 pub mod OneHomes
 pub mod TextLaws

@@ -27,4 +27,5 @@ pub mod Taken
 pub mod Takes
 pub mod TakesPieces
 pub mod TakesShapes
+pub mod Turns
 pub mod WorkedRows

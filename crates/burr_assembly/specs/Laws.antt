@@ -5,6 +5,7 @@ use Rattle.burr_text.specs.Names.{IsName}
 use Rattle.burr_assembly.specs.declared.fault.AssemblyFault.{AssemblyFault}
 use Rattle.burr_assembly.specs.declared.fault.AssemblyFault.TheVariants.{A8}
 use Rattle.burr_assembly.specs.Text.{Assembly, Drawing, Piece, IsAssembly, IsDrawing, IsPiece, IsText, text_of, drawn_cells, drawn_sides}
+use Rattle.burr_assembly.specs.Homes.{homes_of, HasHome, DiameterAtMost}
 use Rattle.burr_assembly.specs.Lines.{PieceWords, PieceLine, IsPieceWords, IsLine, form_text}
 use Rattle.burr_assembly.specs.Faults.{FirstFault}
 use Rattle.burr_assembly.specs.PieceNames.{is_piece_line, name_in, name_at}
@@ -77,3 +78,9 @@ pub record IsInBox (sides c : Cell) : Type 0 where
 abbrev pub DrawnInBox : Type 0
 DrawnInBox =
     (s : Drawing) → IsDrawing s → All (IsInBox (drawn_sides s.layers)) (drawn_cells s.layers)
+
+-- no two cells of a piece at home lie more than 15 apart, a coordinate
+abbrev pub HomesAreSmall : Type 0
+HomesAreSmall =
+    (a : Assembly) → IsAssembly a → (p : ℕ) (cells : List Cell) → HasHome (homes_of a) p cells
+    → DiameterAtMost 15 cells

@@ -82,9 +82,10 @@ impl Assembly {
         self.name.as_str()
     }
 
-    /// The number of its pieces, 2 to 32.
+    /// The number of its pieces, 2 to 32. What a reference to an assembly holds is one.
     pub fn piece_count(&self) -> u8
         ensures count { result ≡ length self.now.pieces }
+        ensures assembly { IsAssembly self.now }
         ensures several { 2 ≤ result }
         ensures few { result ≤ 32 }
     {

@@ -1,4 +1,4 @@
-ghost use Rattle.burr_assembly.specs.Laws.{OneAssembly, FaultOrAssembly, NoFault, OneFault, ReadsBack, WritesBack, PieceLineIsTold, PieceLineIsNamed, SharingPiecesAreNamed, DrawnInBox};
+ghost use Rattle.burr_assembly.specs.Laws.{OneAssembly, FaultOrAssembly, NoFault, OneFault, ReadsBack, WritesBack, PieceLineIsTold, PieceLineIsNamed, SharingPiecesAreNamed, DrawnInBox, HomesAreSmall};
 
 /// No text is that of two assemblies.
 pub fn a_text_has_one_assembly()
@@ -30,4 +30,9 @@ pub fn a_piece_is_named_in_its_text()
 /// Each cell of a drawing lies in its box.
 pub fn a_drawing_lies_in_its_box()
     ensures { DrawnInBox }
+{}
+
+/// No two cells of a piece at home lie more than 15 apart, a coordinate.
+pub fn a_piece_is_no_larger_than_its_drawing()
+    ensures { HomesAreSmall }
 {}

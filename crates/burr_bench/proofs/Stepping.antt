@@ -1,2 +1,4 @@
 pub mod Conditions
+pub mod Near
 pub mod Steps
+pub mod Ways

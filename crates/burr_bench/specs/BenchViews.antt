@@ -1,6 +1,5 @@
 -- What a bench at work stands for, and what its instructions did.
 use Rattle.std.specs.Prelude.{◌≡◌, ◌≤◌, ◌+◌, ℕ, if◌then◌else◌, length, List, Option, Some, None, Result, Ok, Err}
-use Rattle.burr_voxels.specs.declared.direction.Direction.{Direction}
 use Rattle.burr_code.specs.Places.{AllLieIn}
 use Rattle.burr_code.specs.Instruction.{Instruction}
 use Rattle.burr_code.specs.declared.limits.TheConstants.{MOST_CODE}
@@ -8,11 +7,15 @@ use Rattle.burr_assembly.specs.Text.{Assembly}
 use Rattle.burr_assembly.specs.Homes.{homes_of}
 use Rattle.burr_bench.specs.declared.trap.Trap.{Trap}
 use Rattle.burr_bench.specs.declared.motion.Motion.{Motion}
+use Rattle.burr_bench.specs.declared.checked.way.Way.{Way}
+use Rattle.burr_bench.specs.declared.checked.way.Way.TheVariants as ways
 use Rattle.burr_bench.specs.declared.progress.Progress.{Progress}
 use Rattle.burr_bench.specs.declared.progress.Progress.TheVariants as progress
 use Rattle.burr_bench.specs.Bench.{bare, bare_procedure, BenchState, Setup}
 use Rattle.burr_bench.specs.Next.{Next, Goes, Traps}
-use Rattle.burr_bench.specs.Space.{IsFreeGroup}
+use Rattle.burr_bench.specs.Space.{NoOverlap}
+use Rattle.burr_bench.specs.StateViews.{StaysOnBench}
+use Rattle.burr_bench.specs.Ways.{GroupPasses}
 use Rattle.burr_bench.specs.Step.{Executes}
 use Rattle.burr_bench.specs.Parts.{parts}
 
@@ -37,11 +40,18 @@ pub record IsSound (b : Benched) : Type 0 where
   -- the grip lies in the current tray
   pub here : AllLieIn b.state.places b.state.tray b.state.grip
   pub main : b.state.running.procedure ≡ 0
+  -- no two pieces of a tray overlap
+  pub apart : NoOverlap (homes_of b.assembly) b.state.places
 
--- the grip is free of the rest of its tray along a direction
-abbrev pub IsGripFree : Benched → Direction → Type 0
-IsGripFree b direction =
-    IsFreeGroup (homes_of b.assembly) b.state.places b.state.tray b.state.grip direction
+-- the pieces of the current tray are on the bench where the grip is asked of
+abbrev pub SetsOut : Benched → Way → Type 0
+SetsOut b (ways.Unit direction) = StaysOnBench b.state direction
+SetsOut b (ways.Out direction) = Unit {0}
+
+-- the grip goes its way past the rest of its tray
+abbrev pub GripPasses : Benched → Way → Type 0
+GripPasses b way =
+    GroupPasses way (homes_of b.assembly) b.state.places b.state.tray b.state.grip
 
 -- what an instruction did
 abbrev pub next_of : Result (Option Motion) Trap → BenchState → Next

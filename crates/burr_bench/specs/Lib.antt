@@ -2,7 +2,7 @@ pub mod AsideLaws
 pub mod Bench
 pub mod BenchViews
 pub mod Control
-pub mod Freedom
+pub mod Ways
 pub mod Next
 pub mod Numbers
 pub mod Offsets

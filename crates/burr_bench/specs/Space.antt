@@ -24,6 +24,10 @@ NoOverlapIn homes places tray =
     → LiesAt places p tray p_offset → LiesAt places q tray q_offset
     → ¬ Overlap (shifted p_offset p_home) (shifted q_offset q_home)
 
+-- no two pieces of any tray overlap
+abbrev pub NoOverlap : List (List Cell) → List (Placement Cell) → Type 0
+NoOverlap homes places = (tray : ℕ) → NoOverlapIn homes places tray
+
 -- each piece of this tray is on the bench
 abbrev pub AllOnBench : List (Placement Cell) → ℕ → Type 0
 AllOnBench places tray =

@@ -2,20 +2,16 @@
 use Rattle.std.specs.Prelude.{◌≢◌, ◌⊎◌, ℕ, ℤ, List, length, Option}
 use Rattle.burr_voxels.specs.declared.cell.Cell.{Cell}
 use Rattle.burr_voxels.specs.CellSets.{Overlap}
-use Rattle.burr_code.specs.Places.{Placement, AllLieIn}
+use Rattle.burr_code.specs.Places.{AllLieIn}
 use Rattle.burr_assembly.specs.Text.{Assembly, IsAssembly}
 use Rattle.burr_assembly.specs.Homes.{HasHome, homes_of}
 use Rattle.burr_bench.specs.declared.motion.Motion.{Motion}
 use Rattle.burr_bench.specs.Bench.{BenchState, Setup, start}
 use Rattle.burr_bench.specs.Next.{Goes}
-use Rattle.burr_bench.specs.Space.{NoOverlapIn}
+use Rattle.burr_bench.specs.Space.{NoOverlap}
 use Rattle.burr_bench.specs.Step.{NextIs, TakesAnswer}
 use Rattle.burr_bench.specs.AsideLaws.{NoneLone}
 use Rattle.burr_bench.specs.RunLaws.{Calls}
-
--- no two pieces of any tray overlap
-abbrev pub NoOverlap : List (List Cell) → List (Placement Cell) → Type 0
-NoOverlap homes places = (tray : ℕ) → NoOverlapIn homes places tray
 
 -- the grip lies in the current tray
 abbrev pub IsGripHere : BenchState → Type 0

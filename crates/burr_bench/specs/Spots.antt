@@ -13,3 +13,8 @@ placement_of (spots.On tray offset) = On tray offset
 abbrev pub offset_in : ℕ → Placement Cell → Option Cell
 offset_in tray Apart = None
 offset_in tray (On t offset) = if t == tray then Some offset else None
+
+-- the place of a piece in this tray at this offset, or apart
+abbrev pub placed : Option (ℕ × Cell) → Placement Cell
+placed None = Apart
+placed (Some place) = On place.0 place.1

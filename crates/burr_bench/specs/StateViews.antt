@@ -1,7 +1,9 @@
 -- What the code's state of the bench stands for, and what holds of each.
-use Rattle.std.specs.Prelude.{Option, MatchOption, ℕ, ◌+◌, ◌≤◌, List, [], None, length, replicate}
+use Rattle.std.specs.Prelude.{Option, MatchOption, ℕ, ◌+◌, ◌≤◌, List, [], None, length, replicate, pos}
 use Rattle.burr_voxels.specs.declared.cell.Cell.{Cell}
-use Rattle.burr_voxels.specs.Grid.{origin}
+use Rattle.burr_voxels.specs.declared.direction.Direction.{Direction}
+use Rattle.burr_voxels.specs.Grid.{origin, plus, along}
+use Rattle.burr_voxels.specs.Near.{IsWithin}
 use Rattle.burr_code.specs.PieceSets.{IsInSet}
 use Rattle.burr_code.specs.Places.{Placement, On, LiesAt, LiesIn, AllLieIn, aside_places}
 use Rattle.burr_code.specs.declared.limits.TheConstants.{MOST_CODE}
@@ -10,6 +12,7 @@ use Rattle.burr_bench.specs.declared.mode.Mode.TheVariants.{Running}
 use Rattle.burr_bench.specs.Bench.{Activation, activation, BenchState}
 use Rattle.burr_bench.specs.Next.{stepped}
 use Rattle.burr_bench.specs.Offsets.{AreNear}
+use Rattle.burr_bench.specs.Space.{AllOnBench, moved_places}
 
 -- a state without callers, with these parts
 abbrev pub in_main : List (Placement Cell) → ℕ → ℕ → Activation → ℕ → Mode → BenchState
@@ -55,3 +58,18 @@ gone_aside tray size s = record (behind size s) {
   places = aside_places s.grip s.tray tray s.places;
   grip = 0;
 }
+
+-- piece p, if it lies in the current tray, is on the bench one unit along the direction
+abbrev pub PieceStaysOnBench : BenchState → Direction → ℕ → Type 0
+PieceStaysOnBench s direction p =
+    (offset : Cell) → LiesAt s.places p s.tray offset
+    → IsWithin 256 (plus offset (along direction (pos 1)))
+
+-- each piece of the current tray is, behind one unit of the grip
+abbrev pub StaysOnBench : BenchState → Direction → Type 0
+StaysOnBench s direction = AllOnBench (moved_places s.grip direction s.places) s.tray
+
+-- the step of a `step` of so many bytes along this direction
+abbrev pub gone_on : Direction → ℕ → BenchState → BenchState
+gone_on direction size s =
+    record (behind size s) { places = moved_places s.grip direction s.places }

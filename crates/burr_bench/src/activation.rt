@@ -1,4 +1,5 @@
-ghost use Rattle.std.specs.Prelude.{◌≡◌, None, [], replicate};
+ghost use Rattle.std.specs.Prelude.{◌≡◌, ◌<◌, None, [], replicate, reverse, slice_index_or};
+ghost use Rattle.burr_code.specs.declared.limits.TheConstants.{SLOTS};
 ghost use Rattle.burr_bench.specs.Bench.{activation};
 
 use arrayvec::ArrayVec;
@@ -39,6 +40,28 @@ impl Activation {
         }
     }
 
+    /// The procedure's number.
+    pub fn procedure(&self) -> u8
+        ensures { result ≡ self.now.procedure }
+    {
+        self.procedure
+    }
+
+    /// The value of a slot; None where it is empty.
+    pub fn slot(&self, slot: u8) -> Option<i32>
+        requires { slot < SLOTS }
+        ensures { result ≡ slice_index_or self.now.slots slot None }
+    {
+        self.slots[usize::from(slot)]
+    }
+
+    /// The operands, the bottom first.
+    pub fn operands(&self) -> &[i32]
+        ensures { result.now ≡ reverse self.now.operands }
+    {
+        self.operands.as_slice()
+    }
+
     /// Where the next instruction stands.
     pub fn pc(&self) -> usize
         ensures { result ≡ self.now.pc }
@@ -51,5 +74,13 @@ impl Activation {
         ensures { self.new ≡ record self.old { pc = pc } }
     {
         self.pc = pc;
+    }
+}
+
+impl Default for Activation {
+    ghost is_default = { λ a. a ≡ activation 0 0 (replicate 8 None) [] };
+
+    fn default() -> Activation {
+        Activation::main()
     }
 }

@@ -1,26 +1,27 @@
-mod freedom;
 mod readers;
 mod stepping;
+mod way;
+mod ways;
 
 use crate::state::BenchState;
-use burr_blocking::PlainCells;
+use burr_blocking::Blocking;
 use std::marker::Model;
 
 /// The bench at work on bare code: one procedure without labels. Whether pieces meet is asked of
-/// the assembly's cells.
-#[derive(Debug, Drop)]
-pub struct Checked<'a> {
+/// what answers for the assembly.
+#[derive(Drop)]
+pub struct Checked<'a, B: Blocking> {
     code: &'a [u8],
-    blocking: &'a PlainCells<'a>,
+    blocking: &'a B,
     state: BenchState,
 }
 
-impl<'a> Model for Checked<'a> {
+impl<'a, B: Blocking> Model for Checked<'a, B> {
     ghost use Rattle.burr_bench.specs.BenchViews.{Benched, benched, IsSound};
 
     ghost Value = { Benched };
 
-    ghost view = { λ b. benched b.blocking.now b.code.now b.state };
+    ghost view = { λ b. benched (B.subject b.blocking.now) b.code.now b.state };
 
-    ghost invariant = { λ b. IsSound (benched b.blocking.now b.code.now b.state) };
+    ghost invariant = { λ b. IsSound (benched (B.subject b.blocking.now) b.code.now b.state) };
 }

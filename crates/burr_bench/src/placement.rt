@@ -1,9 +1,11 @@
 ghost use Rattle.std.specs.Prelude.{◌≡◌, ◌↔◌, pos, IsTrue};
-ghost use Rattle.burr_code.specs.Places.{Apart, On, is_in, to_tray};
-ghost use Rattle.burr_voxels.specs.Grid.{at};
-ghost use Rattle.burr_bench.specs.Spots.{offset_in};
+ghost use Rattle.burr_code.specs.Places.{Apart, On, is_in, to_tray, at_position};
+ghost use Rattle.burr_voxels.specs.Grid.{at, along, plus};
+ghost use Rattle.burr_voxels.specs.Near.{IsWithin};
+ghost use Rattle.burr_bench.specs.Spots.{offset_in, placed};
+ghost use Rattle.burr_bench.specs.Offsets.{PositionHolds};
 
-use burr_voxels::Cell;
+use burr_voxels::{Cell, Direction};
 use std::marker::Model;
 
 #[derive(Clone, Copy, Debug)]
@@ -68,6 +70,16 @@ impl Placement {
         }
     }
 
+    /// The tray and the offset; None where the piece is apart.
+    pub fn place(&self) -> Option<(u8, Cell)>
+        ensures { self.now ≡ placed result }
+    {
+        match self.spot {
+            Spot::Apart => None,
+            Spot::On { tray, offset } => Some((tray, offset)),
+        }
+    }
+
     /// How far from home the piece lies in a tray; None where it isn't in that tray.
     pub fn offset_in(&self, wanted: u8) -> Option<Cell>
         ensures { result ≡ offset_in wanted self.now }
@@ -75,6 +87,23 @@ impl Placement {
         match self.spot {
             Spot::On { tray, offset } if tray == wanted => Some(offset),
             _ => None,
+        }
+    }
+
+    /// The place one unit along a direction, of a piece that lies within 256 of home; a piece that is
+    /// apart stays so.
+    pub fn shifted(&self, direction: Direction) -> Placement
+        requires { PositionHolds (IsWithin 256) self.now }
+        ensures { result ≡ at_position (λ offset. plus offset (along direction (pos 1))) self.now }
+    {
+        match self.spot {
+            Spot::Apart => Placement::apart(),
+            Spot::On { tray, offset } => Placement {
+                spot: Spot::On {
+                    tray,
+                    offset: one_unit_on(offset, direction),
+                },
+            },
         }
     }
 
@@ -89,6 +118,27 @@ impl Placement {
             },
         }
     }
+}
+
+/// One unit along a direction from an offset on the bench.
+pub fn one_unit_on(offset: Cell, direction: Direction) -> Cell
+    requires { IsWithin 256 offset }
+    ensures { result ≡ plus offset (along direction (pos 1)) }
+{
+    offset + direction.unit()
+}
+
+/// Whether an offset is on the bench: within 256 a coordinate.
+pub fn is_on_bench(offset: Cell) -> bool
+    ensures { IsTrue result ↔ IsWithin 256 offset }
+{
+    if offset.x < -256 || 256 < offset.x {
+        return false;
+    }
+    if offset.y < -256 || 256 < offset.y {
+        return false;
+    }
+    -256 <= offset.z && offset.z <= 256
 }
 
 impl Default for Placement {

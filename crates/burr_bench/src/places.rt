@@ -1,8 +1,11 @@
 ghost use Rattle.std.specs.Prelude.{◌≡◌, ◌≤◌, ◌↔◌, length, IsTrue};
 ghost use Rattle.burr_code.specs.Places.{AllApart, IsEmptyTray, count_in, aside_places, parted, parted_in, changed, to_tray};
+ghost use Rattle.burr_bench.specs.Offsets.{AreNear};
+ghost use Rattle.burr_bench.specs.Space.{moved_places};
 
 use crate::placement::Placement;
 use burr_code::is_in_set;
+use burr_voxels::Direction;
 
 /// Whether all pieces are apart.
 pub fn are_all_apart(places: &[Placement]) -> bool
@@ -37,6 +40,19 @@ fn move_group(places: &mut [Placement], group: u32, tray: u8)
     for (piece, place) in places.iter_mut().enumerate() {
         if is_in_set(group, piece as u8) {
             *place = place.moved_to(tray);
+        }
+    }
+}
+
+/// Moves the pieces of a group that aren't apart one unit along a direction.
+pub fn shift_group(places: &mut [Placement], group: u32, direction: Direction)
+    requires few { length places.old ≤ 32 }
+    requires near { AreNear places.old }
+    ensures { places.new ≡ moved_places group direction places.old }
+{
+    for (piece, place) in places.iter_mut().enumerate() {
+        if is_in_set(group, piece as u8) {
+            *place = place.shifted(direction);
         }
     }
 }

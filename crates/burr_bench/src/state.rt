@@ -22,6 +22,8 @@ pub struct BenchState {
     /// The pieces of the current tray that are gripped: bit p is piece p.
     grip: u32,
     running: Activation,
+    /// The activations that wait for the running one: none, since no call is built.
+    callers: ArrayVec<Activation, 0>,
     /// The steps made.
     steps: u64,
     mode: Mode,

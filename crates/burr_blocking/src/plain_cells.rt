@@ -1,9 +1,9 @@
-ghost use Rattle.std.specs.Prelude.{◌≡◌, ◌≢◌, ◌↔◌, ◌<◌, length, IsTrue};
+ghost use Rattle.std.specs.Prelude.{◌≡◌, ◌<◌, length};
 ghost use Rattle.std.specs.List.{All};
 ghost use Rattle.burr_voxels.specs.Near.{IsWithin};
 ghost use Rattle.burr_assembly.specs.Homes.{homes_of, home_at};
-ghost use Rattle.burr_blocking.specs.Pairs.{IsBlocked, IsFreeFrom};
 
+use crate::blocking::Blocking;
 use burr_assembly::Assembly;
 use burr_voxels::{Cell, Direction, meets, overlap_at};
 use std::marker::Model;
@@ -31,40 +31,6 @@ impl<'a> PlainCells<'a> {
         PlainCells { assembly }
     }
 
-    /// The assembly whose pieces are asked of.
-    pub fn assembly(&self) -> &'a Assembly
-        ensures { result.now ≡ self.now }
-    {
-        self.assembly
-    }
-
-    /// Whether a piece, displaced from home against another one at home, overlaps it. The pieces
-    /// are two of the assembly's, and the displacement lies within 512 a coordinate, the caller's
-    /// conditions.
-    pub fn blocked(&self, piece: u8, other: u8, displacement: Cell) -> bool
-        requires piece { piece < length self.now.pieces }
-        requires other { other < length self.now.pieces }
-        requires two { piece ≢ other }
-        requires near { IsWithin 512 displacement }
-        ensures { IsTrue result ↔ IsBlocked (home_at (homes_of self.now) piece)
-            (home_at (homes_of self.now) other) displacement }
-    {
-        overlap_at(self.home(piece), displacement, self.home(other))
-    }
-
-    /// Whether a piece, displaced and from there shifted any whole number of units, at least one,
-    /// along a direction, never overlaps another one at home; the same conditions.
-    pub fn free(&self, piece: u8, other: u8, displacement: Cell, direction: Direction) -> bool
-        requires piece { piece < length self.now.pieces }
-        requires other { other < length self.now.pieces }
-        requires two { piece ≢ other }
-        requires near { IsWithin 512 displacement }
-        ensures { IsTrue result ↔ IsFreeFrom (home_at (homes_of self.now) piece)
-            (home_at (homes_of self.now) other) displacement direction }
-    {
-        !meets(self.home(piece), displacement, self.home(other), direction)
-    }
-
     /// The home cells of a piece.
     fn home(&self, piece: u8) -> &[Cell]
         requires { piece < length self.now.pieces }
@@ -72,5 +38,21 @@ impl<'a> PlainCells<'a> {
         ensures near { All (IsWithin 79) result.now }
     {
         self.assembly.cells(piece)
+    }
+}
+
+impl<'a> Blocking for PlainCells<'a> {
+    ghost subject = { λ p. p };
+
+    fn assembly(&self) -> &Assembly {
+        self.assembly
+    }
+
+    fn blocked(&self, piece: u8, other: u8, displacement: Cell) -> bool {
+        overlap_at(self.home(piece), displacement, self.home(other))
+    }
+
+    fn free(&self, piece: u8, other: u8, displacement: Cell, direction: Direction) -> bool {
+        !meets(self.home(piece), displacement, self.home(other), direction)
     }
 }

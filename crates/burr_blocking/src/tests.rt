@@ -1,7 +1,7 @@
 ghost use Rattle.std.specs.Prelude.{◌≡◌};
 ghost use Rattle.burr_voxels.specs.Grid.{at as at_of};
 
-use crate::PlainCells;
+use crate::{Blocking, PlainCells};
 use burr_assembly::Assembly;
 use burr_voxels::{Cell, Direction};
 use std::test::Fail;

@@ -80,6 +80,7 @@ IsInRange Ret = Unit {0}
 abbrev pub IsBuilt : Instruction → Type 0
 IsBuilt Halt = Unit {0}
 IsBuilt (Grip set) = Unit {0}
+IsBuilt (Step direction) = Unit {0}
 IsBuilt (Aside direction tray) = Unit {0}
 IsBuilt i = ⊥
 

@@ -6,12 +6,13 @@ use Rattle.burr_voxels.specs.Grid.{number_of}
 use Rattle.burr_code.specs.declared.instr.Instr.{Instr}
 use Rattle.burr_code.specs.declared.instr.Instr.TheVariants as instr
 use Rattle.burr_code.specs.declared.limits.TheConstants.{TRAYS}
-use Rattle.burr_code.specs.Instruction.{Instruction, Halt, Grip, Aside, StandsAt, spelled}
+use Rattle.burr_code.specs.Instruction.{Instruction, Halt, Grip, Step, Aside, StandsAt, spelled}
 
 -- the instruction that a value of the code stands for
 abbrev pub meaning : Instr → Instruction
 meaning instr.Halt = Halt
 meaning (instr.Grip set) = Grip set
+meaning (instr.Step direction) = Step direction
 meaning (instr.Aside direction tray) = Aside direction tray
 
 -- this instruction stands there, with so many bytes
@@ -35,6 +36,14 @@ IsGripAt operands found =
     ((set : ℕ) → set ≢ 0 → set < 2 ^ 32 → ¬ IsWith operands (big_bytes 4 set))
     (λ i. (set : ℕ) × (i ≡ instr.Grip set)
     × (set ≢ 0) × (set < 2 ^ 32) × IsWith operands (big_bytes 4 set))
+
+-- the `step` that the operands make, if they make one
+abbrev pub IsStepAt : List ℕ → Option Instr → Type 0
+IsStepAt operands found =
+    MatchOption found
+    ((direction : Direction) → ¬ IsWith operands (number_of direction ∷ []))
+    (λ i. (direction : Direction) × (i ≡ instr.Step direction)
+    × IsWith operands (number_of direction ∷ []))
 
 -- the `aside` that the operands make, if they make one
 abbrev pub IsAsideAt : List ℕ → Option Instr → Type 0

@@ -1,5 +1,5 @@
 ghost use Rattle.std.specs.Prelude.{◌≡◌, ◌≤◌, ◌+◌, length, IfSome, MatchOption};
-ghost use Rattle.burr_code.specs.Meaning.{IsGripAt, IsAsideAt, IsFoundAt, NoneStandsAt};
+ghost use Rattle.burr_code.specs.Meaning.{IsGripAt, IsStepAt, IsAsideAt, IsFoundAt, NoneStandsAt};
 
 use crate::instr::Instr;
 use crate::limits::TRAYS;
@@ -16,6 +16,7 @@ pub fn fetch(code: &[u8], pc: usize) -> Option<(Instr, usize)>
     match *first {
         0x00 => Some((Instr::Halt, 1)),
         0x10 => Some((grip(operands)?, 5)),
+        0x11 => Some((step(operands)?, 2)),
         0x12 => Some((aside(operands)?, 3)),
         _ => None,
     }
@@ -32,6 +33,14 @@ fn grip(operands: &[u8]) -> Option<Instr>
         0 => None,
         set => Some(Instr::Grip(set)),
     }
+}
+
+/// The `step` with these operands: a direction's number.
+fn step(operands: &[u8]) -> Option<Instr>
+    ensures { IsStepAt operands.now result }
+{
+    let direction = Direction::of(*operands.first()?)?;
+    Some(Instr::Step(direction))
 }
 
 /// The `aside` with these operands: a direction's number and a tray.

@@ -7,6 +7,8 @@ pub enum Instr {
     Halt,
     /// Makes these pieces the grip: bit p is piece p, and at least one bit is set.
     Grip(u32),
+    /// Moves the grip by one unit along a direction.
+    Step(Direction),
     /// Takes the grip out along a direction, to a tray of 0 to 31.
     Aside(Direction, u8),
 }

@@ -16,6 +16,10 @@ fn finds_what_stands_there(rt: HostRuntime) {
         Some((Instr::Grip(0x8102_0304), 5))
     );
     assert_eq!(rt;
+        fetch(&[0x11, 0x05], 0),
+        Some((Instr::Step(Direction::MinusZ), 2))
+    );
+    assert_eq!(rt;
         fetch(&[0x12, 0x01, 0x01], 0),
         Some((Instr::Aside(Direction::MinusX, 1), 3))
     );
@@ -42,7 +46,7 @@ fn finds_nothing_outside_the_code(rt: HostRuntime) {
 #[test]
 fn finds_nothing_behind_another_first_byte(rt: HostRuntime) {
     for first in 0..=255u8 {
-        if first != 0x00 && first != 0x10 && first != 0x12 {
+        if ![0x00, 0x10, 0x11, 0x12].contains(&first) {
             let code = [first, 1, 1, 1, 1, 1, 1, 1, 1];
             assert_eq!(rt; fetch(&code, 0), None, "at {first}");
         }
@@ -51,10 +55,12 @@ fn finds_nothing_behind_another_first_byte(rt: HostRuntime) {
 
 #[test]
 fn finds_nothing_with_operands_that_are_short_or_out_of_range(rt: HostRuntime) {
-    let wrong: [&[u8]; 7] = [
+    let wrong: [&[u8]; 9] = [
         &[0x10],
         &[0x10, 0x00, 0x00, 0x01],
         &[0x10, 0x00, 0x00, 0x00, 0x00],
+        &[0x11],
+        &[0x11, 0x06],
         &[0x12],
         &[0x12, 0x00],
         &[0x12, 0x06, 0x01],

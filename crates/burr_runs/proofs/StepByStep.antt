@@ -142,18 +142,12 @@ pub still_running : (s : BenchState) → (s.mode ≡ Running) ⊎ (s.mode ≡ En
 still_running s (inl running) open_end = running
 still_running s (inr ended) open_end = absurd (open_end ended)
 
--- a trap closes the run, at the place of its instruction in main
-pub trapped_run : (b new : Benched) (trap : Trap) (pc : ℕ) → b.state.mode ≡ Running → b.state.steps ≢ 1000000 → NextIs (setup_of b) b.state (Traps trap)
-    → new.state ≡ record b.state { mode = Trapped trap } → new.state.running.procedure ≡ 0 → pc ≡ new.state.running.pc
-    → BareRun (setup_of b) b.state [] new.state.steps (closings.Trapped trap 0 pc)
-trapped_run b new trap pc running some next state main at =
-    let steps : b.state.steps ≡ new.state.steps = sym (ap (λ (s : BenchState). s.steps) state) in
-    let procedure : b.state.running.procedure ≡ 0 = sym (ap (λ (s : BenchState). s.running.procedure) state) ∙ main in
-    let place : b.state.running.pc ≡ pc = sym (ap (λ (s : BenchState). s.running.pc) state) ∙ sym at in
-    let run = traps b.state [] trap (record { running = running; within = some }) next in
-    let run_main = subst (λ (p : ℕ). BareRun (setup_of b) b.state [] b.state.steps (closings.Trapped trap p b.state.running.pc)) procedure run in
-    let run_at = subst (λ (p : ℕ). BareRun (setup_of b) b.state [] b.state.steps (closings.Trapped trap 0 p)) place run_main in
-    subst (λ (n : ℕ). BareRun (setup_of b) b.state [] n (closings.Trapped trap 0 pc)) steps run_at
+-- a trap closes the run, at the place of its instruction
+pub trapped_run : (b new : Benched) (trap : Trap) (procedure pc : ℕ) → b.state.mode ≡ Running → b.state.steps ≢ 1000000 → NextIs (setup_of b) b.state (Traps trap)
+    → new.state ≡ record b.state { mode = Trapped trap } → procedure ≡ new.state.running.procedure → pc ≡ new.state.running.pc
+    → BareRun (setup_of b) b.state [] new.state.steps (closings.Trapped trap procedure pc)
+trapped_run b new trap procedure pc running some next state in_procedure at =
+    rw (in_procedure, at, state) (traps b.state [] trap (record { running = running; within = some }) next)
 
 module _ {S : Type 0} (sink : SinkView S) where
   -- where no step is to be made, the run closes behind the steps before

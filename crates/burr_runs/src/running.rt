@@ -7,9 +7,8 @@ ghost use Rattle.burr_runs.specs.Output.{outcome_of};
 ghost use Rattle.burr_runs.specs.Running.{PutsSheet, FailsInSheet, FailsInRun, StepOrClose, IsInStep, ClosesPart};
 
 use crate::outcome::Outcome;
-use burr_assembly::Assembly;
 use burr_bench::{Checked, Closing, Progress};
-use burr_blocking::PlainCells;
+use burr_blocking::Blocking;
 use burr_io::{Sink, WriteFault};
 use burr_sheet::Sheet;
 
@@ -17,20 +16,20 @@ use burr_sheet::Sheet;
 const BUDGET: u64 = 1_000_000;
 
 /// Runs bare code on the bench, without answers, and writes the run's sheet.
-pub fn run_bare<W: Sink>(
-    assembly: &Assembly,
+pub fn run_bare<B: Blocking, W: Sink>(
+    blocking: &B,
     code: &[u8],
     sink: &mut W,
 ) -> Result<Outcome, WriteFault>
-    requires whole { IsAssembly assembly.now }
+    requires whole { IsAssembly (B.subject blocking.now) }
     requires short { length code.now ≤ MOST_CODE }
     ensures ok { IfOk result (λ outcome.
-        PutsSheet W.Sink sink.old sink.new assembly.now code.now outcome) }
-    ensures err { OnErr result (FailsInSheet W.Sink sink.old sink.new assembly.now code.now) }
+        PutsSheet W.Sink sink.old sink.new (B.subject blocking.now) code.now outcome) }
+    ensures err { OnErr result
+        (FailsInSheet W.Sink sink.old sink.new (B.subject blocking.now) code.now) }
 {
-    let cells = PlainCells::new(assembly);
-    let mut bench = Checked::bare(code, &cells);
-    let mut sheet = Sheet::new(assembly);
+    let mut bench = Checked::bare(code, blocking);
+    let mut sheet = Sheet::new(blocking.assembly());
     let closing = run_to_close(&mut bench, &mut sheet, sink)?;
     sheet.close(closing, bench.steps(), sink)?;
     Ok(outcome(closing))
@@ -49,8 +48,8 @@ fn outcome(closing: Closing) -> Outcome
 }
 
 /// Takes the bench's steps to where the run closes, and puts what its motions close.
-fn run_to_close<W: Sink>(
-    bench: &mut Checked,
+fn run_to_close<B: Blocking, W: Sink>(
+    bench: &mut Checked<B>,
     sheet: &mut Sheet,
     sink: &mut W,
 ) -> Result<Closing, WriteFault>
@@ -76,8 +75,8 @@ fn run_to_close<W: Sink>(
 
 /// Takes one step of the bench, and puts what its motion closes; or tells how the run closes where
 /// no step is to be made.
-fn take_step<W: Sink>(
-    bench: &mut Checked,
+fn take_step<B: Blocking, W: Sink>(
+    bench: &mut Checked<B>,
     sheet: &mut Sheet,
     sink: &mut W,
 ) -> Result<Option<Closing>, WriteFault>
@@ -98,6 +97,6 @@ fn take_step<W: Sink>(
         Ok(Progress::Asks(low, high)) => Ok(Some(Closing::Waiting(low, high))),
         // Neither comes of a running bench without an answer.
         Ok(Progress::Again) | Ok(Progress::Ended) => Ok(None),
-        Err(trap) => Ok(Some(Closing::Trapped(trap, 0, bench.pc()))),
+        Err(trap) => Ok(Some(Closing::Trapped(trap, bench.proc(), bench.pc()))),
     }
 }

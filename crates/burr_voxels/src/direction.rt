@@ -1,6 +1,6 @@
-ghost use Rattle.std.specs.Prelude.{◌≡◌, ◌≢◌, ◌≤ℤ◌, ◌<◌, ℕ, pos, neg_ℤ, MatchOption};
+ghost use Rattle.std.specs.Prelude.{◌≡◌, ◌≢◌, ◌≤ℤ◌, ◌<◌, ℕ, ℤ, pos, neg_ℤ, MatchOption};
 ghost use Rattle.burr_voxels.specs.declared.direction.Direction.{Direction as DirectionOf};
-ghost use Rattle.burr_voxels.specs.Grid.{along, name_of, number_of};
+ghost use Rattle.burr_voxels.specs.Grid.{along, minus, name_of, number_of, origin};
 
 use crate::cell::Cell;
 
@@ -67,6 +67,20 @@ impl Direction {
             Direction::MinusZ => (0, 0, -units),
         };
         Cell { x, y, z }
+    }
+
+    /// The direction the other way along the same axis.
+    pub fn opposite(self) -> Direction
+        ensures { (k : ℤ) → along result k ≡ minus origin (along self k) }
+    {
+        match self {
+            Direction::PlusX => Direction::MinusX,
+            Direction::MinusX => Direction::PlusX,
+            Direction::PlusY => Direction::MinusY,
+            Direction::MinusY => Direction::PlusY,
+            Direction::PlusZ => Direction::MinusZ,
+            Direction::MinusZ => Direction::PlusZ,
+        }
     }
 
     /// The direction's name: a sign and an axis, as `+x`.

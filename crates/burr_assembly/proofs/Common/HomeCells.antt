@@ -1,8 +1,8 @@
 -- For crates above: the cells at home that an assembly's pieces have.
 use Rattle.std.proofs.Common.{◌≡◌, ◌<◌, ◌∙◌, ℕ, zero, suc, List, [], ◌∷◌, length, map, get_or, refl, sym, ap, subst, inl, inr, arith, Bool, true, false}
 use Rattle.std.specs.Prelude.{Some, Option, slice_get, IfSome, bytes_eq, All}
-use Rattle.std.proofs.lemmas.Option.{slice_get-map, slice_get_cases}
-use Rattle.std.proofs.lemmas.List.Elements.{All-head, All-tail, Contains-append_right}
+use Rattle.std.proofs.lemmas.Option.{slice_get-map, slice_get_cases, same_Some, none-some}
+use Rattle.std.proofs.lemmas.List.Elements.{All-head, All-tail, All-contains, Contains-append_right}
 use Rattle.std.proofs.lemmas.Slice.Eq.{bytes_eq-Decides}
 use Rattle.burr_voxels.specs.declared.cell.Cell.{Cell}
 use Rattle.burr_assembly.specs.Text.{Assembly, IsAssembly, Drawing, Piece, IsPiece, HasCells}
@@ -39,6 +39,17 @@ has_home a p cells whole inside has = elim (slice_get_cases a.pieces p).1 [
       let is : HasCells a.shapes found.0 cells = subst (λ (o : Option Piece). IfSome o (λ piece. HasCells a.shapes piece cells)) found.2 has in
       rw (slice_get-map (home_of a.shapes) a.pieces p, found.2) (ap Some (sym (home_is a found.0 cells whole is)))
   | inr past ↦ absurd (omega (arith, past.0, inside))
+]
+
+-- the cells of a home are those of a piece
+pub piece_of_home : (a : Assembly) (p : ℕ) (cells : List Cell) → IsAssembly a → HasHome (homes_of a) p cells → (piece : Piece) × IsPiece a.shapes piece × HasCells a.shapes piece cells
+piece_of_home a p cells whole home = elim (slice_get_cases a.pieces p).1 [
+  | inl (piece, inside, found, at) ↦
+      let is : IsPiece a.shapes piece = All-contains (IsPiece a.shapes) a.pieces piece whole.each_piece (p, inside, at) in
+      let given = rw (slice_get-map (home_of a.shapes) a.pieces p, found) at home in
+      let named = is.shape in
+      (piece, is, subst (HasCells a.shapes piece) (same_Some _ _ given) (home_has a.shapes piece named.0 named.1 named.2 named.3 named.4))
+  | inr (past, none) ↦ absurd (none-some cells (rw (slice_get-map (home_of a.shapes) a.pieces p, none) at home))
 ]
 
 -- each piece has its cells

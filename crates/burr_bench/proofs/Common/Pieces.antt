@@ -13,10 +13,10 @@ use Rattle.burr_bench.specs.declared.motion.Motion.{Motion}
 use Rattle.burr_bench.specs.Bench.{BenchState, BenchProcedure, Setup}
 use Rattle.burr_bench.specs.Next.{Next, Goes, Asks, Traps}
 use Rattle.burr_bench.specs.Questions.{Takes}
-use Rattle.burr_bench.specs.Space.{NoOverlapIn, moved_places}
+use Rattle.burr_bench.specs.Space.{NoOverlap, NoOverlapIn, moved_places}
 use Rattle.burr_bench.specs.Step.{Executes, NextIs}
 use Rattle.burr_bench.specs.AsideLaws.{NoneLone}
-use Rattle.burr_bench.specs.SpaceLaws.{NoOverlap, IsGripHere, StepsTo, GripStays, NoOverlapStays, NoneLoneStays}
+use Rattle.burr_bench.specs.SpaceLaws.{IsGripHere, StepsTo, GripStays, NoOverlapStays, NoneLoneStays}
 use Rattle.burr_bench.proofs.Existence.Conditions.{same_tray}
 use Rattle.burr_bench.proofs.Trays.Shifts.{IsShifted, lay_before_shift, lies_after_shift, count_in-shift}
 use Rattle.burr_bench.proofs.Trays.Asides.{LayBefore, lay_before, none_lone_aside}

@@ -18,10 +18,11 @@ use Rattle.burr_bench.specs.declared.mode.Mode.TheVariants.{Running}
 use Rattle.burr_bench.specs.declared.motion.Motion.{Motion}
 use Rattle.burr_bench.specs.declared.progress.Progress.{Progress}
 use Rattle.burr_bench.specs.Bench.{BenchState, Setup, start}
+use Rattle.burr_bench.specs.Space.{NoOverlap}
 use Rattle.burr_bench.specs.Step.{CallIn}
 use Rattle.burr_bench.specs.AsideLaws.{NoneLone}
 use Rattle.burr_bench.specs.RunLaws.{Calls, begun, went, answered}
-use Rattle.burr_bench.specs.SpaceLaws.{NoOverlap, IsGripHere, StepsTo, AreDisjoint, HomesAreDisjoint, GripIsHere, PiecesNeverOverlap, NoPieceIsLone}
+use Rattle.burr_bench.specs.SpaceLaws.{IsGripHere, StepsTo, AreDisjoint, HomesAreDisjoint, GripIsHere, PiecesNeverOverlap, NoPieceIsLone}
 use Rattle.burr_bench.proofs.Existence.Conditions.{same_tray, same_position}
 use Rattle.burr_bench.proofs.Trays.Counts.{count_in-same, count_in-other}
 use Rattle.burr_bench.proofs.Trays.Parts.{all_lie_in_nothing}
@@ -68,7 +69,8 @@ unshifted (c ∷ cells) =
 at_home : (home : List Cell) (offset : Cell) → origin ≡ offset → shifted offset home ≡ home
 at_home home offset e = ap (λ (o : Cell). shifted o home) (sym e) ∙ unshifted home
 
-disjoint_at_start : (homes : List (List Cell)) → AreDisjoint homes → NoOverlap homes (home_places homes)
+-- no two pieces of a tray overlap at the start
+pub disjoint_at_start : (homes : List (List Cell)) → AreDisjoint homes → NoOverlap homes (home_places homes)
 disjoint_at_start homes apart tray p q p_home q_home p_offset q_offset other p_has q_has p_lies q_lies over =
     apart p q p_home q_home other p_has q_has
     (subst (λ (cells : List Cell). Overlap cells q_home) (at_home p_home p_offset (lies_at_start homes p tray p_offset p_lies).1)

@@ -1,23 +1,26 @@
-ghost use Rattle.std.specs.Prelude.{◌≡◌, ◌≤◌, ◌↔◌, length, IsTrue};
-ghost use Rattle.burr_code.specs.declared.limits.TheConstants.{MOST_CODE};
+ghost use Rattle.std.specs.Prelude.{◌≡◌, ◌≤◌, ◌<◌, ◌↔◌, ◌+◌, length, IsTrue, IfSome, Some, None, slice_get, slice_index_or, reverse};
+ghost use Rattle.burr_voxels.specs.Near.{IsWithin};
+ghost use Rattle.burr_code.specs.declared.limits.TheConstants.{MOST_CODE, MOST_BUDGET, SLOTS};
 ghost use Rattle.burr_bench.specs.declared.mode.Mode.TheVariants.{Ended};
 ghost use Rattle.burr_bench.specs.Bench.{start as start_of};
 ghost use Rattle.burr_bench.specs.Parts.{parts};
 ghost use Rattle.burr_bench.specs.BenchViews.{setup_of};
+ghost use Rattle.burr_bench.specs.Spots.{placed};
 
 use crate::checked::Checked;
 use crate::mode::Mode;
 use crate::state::BenchState;
-use burr_blocking::PlainCells;
+use burr_assembly::Assembly;
+use burr_blocking::Blocking;
+use burr_code::limits::MOST_BUDGET;
+use burr_voxels::Cell;
 
-impl<'a> Checked<'a> {
+impl<'a, B: Blocking> Checked<'a, B> {
     /// The bench at the start of bare code: one procedure of at most 4,096 bytes, without labels;
     /// all pieces in tray 0 at home, nothing gripped.
-    pub fn bare(code: &'a [u8], blocking: &'a PlainCells<'a>) -> Checked<'a>
-        requires short { length code.now ≤ MOST_CODE }
-        requires several { 2 ≤ length blocking.now.pieces }
-        requires few { length blocking.now.pieces ≤ 32 }
-        ensures assembly { result.assembly ≡ blocking.entry.now }
+    pub fn bare(code: &'a [u8], blocking: &'a B) -> Checked<'a, B>
+        requires { length code.now ≤ MOST_CODE }
+        ensures assembly { result.assembly ≡ B.subject blocking.entry.now }
         ensures code { result.code ≡ code.entry.now }
         ensures state { result.state ≡ start_of (setup_of result) }
         ensures parts { parts result.state.places ≡ 1 }
@@ -43,11 +46,78 @@ impl<'a> Checked<'a> {
         self.state.mode() == Mode::Ended
     }
 
-    /// Where the next instruction stands in the code of main.
+    /// The most steps that a run of it makes.
+    pub fn budget(&self) -> u32
+        ensures { result ≡ MOST_BUDGET }
+    {
+        MOST_BUDGET
+    }
+
+    /// The assembly whose pieces are moved.
+    pub fn assembly(&self) -> &Assembly
+        ensures { result.now ≡ self.now.assembly }
+    {
+        self.blocking.assembly()
+    }
+
+    /// Where a piece is: its tray, 0 to 31, and how far from home it lies there; None where it is
+    /// apart. Its number is below the count of pieces, the caller's condition.
+    pub fn place(&self, piece: u8) -> Option<(u8, Cell)>
+        requires { piece < length self.now.assembly.pieces }
+        ensures place { slice_get self.now.state.places piece ≡ Some (placed result) }
+        ensures near { IfSome result (λ place. IsWithin 256 place.1) }
+    {
+        self.state.place(piece)
+    }
+
+    /// The current tray, 0 to 31.
+    pub fn tray(&self) -> u8
+        ensures { result ≡ self.now.state.tray }
+    {
+        self.state.tray()
+    }
+
+    /// The pieces of the current tray that are gripped: bit p is piece p.
+    pub fn grip(&self) -> u32
+        ensures { result ≡ self.now.state.grip }
+    {
+        self.state.grip()
+    }
+
+    /// The number of activations: the running one and those that wait for it.
+    pub fn depth(&self) -> usize
+        ensures { result ≡ length self.now.state.callers + 1 }
+    {
+        self.state.depth()
+    }
+
+    /// The number of the running procedure.
+    pub fn proc(&self) -> u8
+        ensures { result ≡ self.now.state.running.procedure }
+    {
+        self.state.running().procedure()
+    }
+
+    /// Where the next instruction stands in the running procedure's code.
     pub fn pc(&self) -> u16
-        ensures pc { result ≡ self.now.state.running.pc }
-        ensures main { self.now.state.running.procedure ≡ 0 }
+        ensures { result ≡ self.now.state.running.pc }
     {
         self.state.pc() as u16
+    }
+
+    /// The value of a slot of the running activation; None where it is empty. Slots are numbered
+    /// from 0 to 7, the caller's condition.
+    pub fn slot(&self, slot: u8) -> Option<i32>
+        requires { slot < SLOTS }
+        ensures { result ≡ slice_index_or self.now.state.running.slots slot None }
+    {
+        self.state.running().slot(slot)
+    }
+
+    /// The operands of the running activation, the bottom first.
+    pub fn operands(&self) -> &[i32]
+        ensures { result.now ≡ reverse self.now.state.running.operands }
+    {
+        self.state.running().operands()
     }
 }

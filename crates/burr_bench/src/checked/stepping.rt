@@ -1,18 +1,21 @@
 ghost use Rattle.std.specs.Prelude.{◌≡◌, ◌+◌, ◌≤◌, None, length, OnErr, OnOk};
-ghost use Rattle.burr_code.specs.Instruction.{Halt, Grip, Aside, spelled};
+ghost use Rattle.burr_code.specs.Instruction.{Halt, Grip, Step, Aside, spelled};
 ghost use Rattle.burr_bench.specs.declared.mode.Mode.TheVariants.{Running};
+ghost use Rattle.burr_bench.specs.Space.{motion_of};
 ghost use Rattle.burr_bench.specs.Step.{NextIs, CallIn, Called};
 ghost use Rattle.burr_bench.specs.BenchViews.{setup_of, next_of, motion_in, motion_made, Follows, GoesOn};
 
 use crate::checked::Checked;
+use crate::checked::way::Way;
 use crate::mode::Mode;
 use crate::motion::Motion;
 use crate::progress::Progress;
 use crate::trap::Trap;
+use burr_blocking::Blocking;
 use burr_code::{Instr, fetch};
 use burr_voxels::Direction;
 
-impl Checked<'_> {
+impl<B: Blocking> Checked<'_, B> {
     /// One call of the bench. A running bench carries out the next instruction, or tells what it
     /// asks for; a trap changes nothing, is no step, and is answered by every later call, as the
     /// end is. An answer is taken where it fits the question; else it is passed over, and nothing
@@ -55,6 +58,7 @@ impl Checked<'_> {
             None => Err(Trap::BadCode),
             Some((Instr::Halt, _)) => self.halt(),
             Some((Instr::Grip(set), size)) => self.make_grip(set, size),
+            Some((Instr::Step(direction), size)) => self.move_grip(direction, size),
             Some((Instr::Aside(direction, tray), size)) => self.aside(direction, tray, size),
         }
     }
@@ -87,6 +91,29 @@ impl Checked<'_> {
         Ok(None)
     }
 
+    /// `step`: the grip goes one unit along a direction, where each piece of the current tray is
+    /// then on the bench and no two of them overlap.
+    fn move_grip(&mut self, direction: Direction, size: usize) -> Result<Option<Motion>, Trap>
+        requires within { self.old.state.running.pc + size ≤ length self.old.code }
+        requires size { size ≡ length (spelled (Step direction)) }
+        ensures follows { Follows self.old self.new (Step direction) result }
+        ensures trapped { OnErr result (self.new ≡ self.old) }
+        ensures goes_on { OnOk result (GoesOn self.old self.new (motion_made result)) }
+    {
+        if self.state.grip() == 0 {
+            return Err(Trap::BadGroup);
+        }
+        if !self.state.stays_on_bench(direction) {
+            return Err(Trap::OffBench);
+        }
+        if !self.passes(Way::Unit(direction)) {
+            return Err(Trap::Collision);
+        }
+        let motion = self.motion(direction, false);
+        self.state.go_on(direction, size);
+        Ok(Some(motion))
+    }
+
     /// `aside`: takes the grip out along a direction, to an empty tray, where it is free of the
     /// rest of the current tray. A group of one piece is apart.
     fn aside(&mut self, direction: Direction, tray: u8, size: usize) -> Result<Option<Motion>, Trap>
@@ -102,16 +129,23 @@ impl Checked<'_> {
         if !self.state.is_empty(tray) {
             return Err(Trap::TrayInUse);
         }
-        if !self.is_free(direction) {
+        if !self.passes(Way::Out(direction)) {
             return Err(Trap::NotFree);
         }
-        let motion = Motion {
+        let motion = self.motion(direction, true);
+        self.state.go_aside(tray, size);
+        Ok(Some(motion))
+    }
+
+    /// The grip's motion along a direction, in its tray or out of it.
+    fn motion(&self, direction: Direction, out: bool) -> Motion
+        ensures { result ≡ motion_of self.now.state.grip self.now.state.tray direction out }
+    {
+        Motion {
             group: self.state.grip(),
             tray: self.state.tray(),
             dir: direction,
-            out: true,
-        };
-        self.state.go_aside(tray, size);
-        Ok(Some(motion))
+            out,
+        }
     }
 }

@@ -1,10 +1,12 @@
 ghost use Rattle.std.specs.Prelude.{◌↔◌, IsTrue};
 ghost use Rattle.burr_code.specs.Places.{LiesIn, AllLieIn, AllApart, IsPartOfTray, IsEmptyTray};
-ghost use Rattle.burr_bench.specs.StateViews.{LeavesSome};
+ghost use Rattle.burr_bench.specs.StateViews.{LeavesSome, StaysOnBench, PieceStaysOnBench};
 
+use crate::placement::{is_on_bench, one_unit_on};
 use crate::places::{are_all_apart, is_empty_tray};
 use crate::state::BenchState;
 use burr_code::is_in_set;
+use burr_voxels::Direction;
 
 impl BenchState {
     /// Whether a piece lies in the current tray.
@@ -43,6 +45,29 @@ impl BenchState {
             }
         }
         false
+    }
+
+    /// Whether each piece of the current tray is on the bench behind one unit of the grip along a
+    /// direction.
+    pub fn stays_on_bench(&self, direction: Direction) -> bool
+        ensures { IsTrue result ↔ StaysOnBench self.now direction }
+    {
+        for piece in 0..self.piece_count() {
+            if is_in_set(self.grip(), piece) && !self.piece_stays_on_bench(piece, direction) {
+                return false;
+            }
+        }
+        true
+    }
+
+    /// Whether a piece, if it lies in the current tray, is on the bench one unit along a direction.
+    fn piece_stays_on_bench(&self, piece: u8, direction: Direction) -> bool
+        ensures { IsTrue result ↔ PieceStaysOnBench self.now direction piece }
+    {
+        match self.offset_here(piece) {
+            None => true,
+            Some(offset) => is_on_bench(one_unit_on(offset, direction)),
+        }
     }
 
     /// Whether no piece is in a tray.

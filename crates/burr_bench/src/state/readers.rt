@@ -1,7 +1,8 @@
-ghost use Rattle.std.specs.Prelude.{◌≡◌, ◌≤◌, length, IfSome};
+ghost use Rattle.std.specs.Prelude.{◌≡◌, ◌≤◌, ◌<◌, ◌+◌, length, IfSome, Some, slice_get};
 ghost use Rattle.burr_voxels.specs.Near.{IsWithin};
 ghost use Rattle.burr_bench.specs.StateViews.{at_start, IsOffsetHere};
-ghost use Rattle.burr_bench.specs.Parts.{parts};
+ghost use Rattle.burr_bench.specs.Spots.{placed};
+ghost use Rattle.burr_bench.specs.Offsets.{AreNear};
 
 use crate::activation::Activation;
 use crate::mode::Mode;
@@ -25,6 +26,7 @@ impl BenchState {
             tray: 0,
             grip: 0,
             running: Activation::main(),
+            callers: ArrayVec::new(),
             steps: 0,
             mode: Mode::Running,
         }
@@ -66,12 +68,36 @@ impl BenchState {
         self.running.pc()
     }
 
-    /// The number of pieces.
+    /// The number of pieces. Each that isn't apart lies within 256 of home.
     pub fn piece_count(&self) -> u8
         ensures places { result ≡ length self.now.places }
         ensures few { result ≤ 32 }
+        ensures near { AreNear self.now.places }
     {
         self.places.len() as u8
+    }
+
+    /// The number of activations: the running one and those that wait for it.
+    pub fn depth(&self) -> usize
+        ensures { result ≡ length self.now.callers + 1 }
+    {
+        self.callers.len() + 1
+    }
+
+    /// The running activation.
+    pub fn running(&self) -> &Activation
+        ensures { result.now ≡ self.now.running }
+    {
+        &self.running
+    }
+
+    /// Where a piece is: its tray and its offset, within 256; None where it is apart.
+    pub fn place(&self, piece: u8) -> Option<(u8, Cell)>
+        requires { piece < length self.now.places }
+        ensures place { slice_get self.now.places piece ≡ Some (placed result) }
+        ensures near { IfSome result (λ place. IsWithin 256 place.1) }
+    {
+        self.places[usize::from(piece)].place()
     }
 
     /// How far from home a piece lies in the current tray; None where it isn't there.

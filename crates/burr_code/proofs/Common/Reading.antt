@@ -158,6 +158,7 @@ decide_in_range Ret = inl tt
 decide_built : (i : Instruction) → Decided (IsBuilt i)
 decide_built Halt = inl tt
 decide_built (Grip set) = inl tt
+decide_built (Step d) = inl tt
 decide_built (Aside d tray) = inl tt
 decide_built i = inr (λ built. built)
 

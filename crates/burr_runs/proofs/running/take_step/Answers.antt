@@ -15,7 +15,7 @@ returns-in-Err-clause-ok g c =
     let b = c.args.bench.now in
     let new = c.step.new.self in
     let told = tells (setup_of b) b.state new.state (Err c.in-Err.trap) c.requires.running c.in-Err.ensures.called in
-    (trapped_run b new c.in-Err.trap c.pc.result c.requires.running c.requires.within told.0 told.1 c.pc.ensures.main c.pc.ensures.pc, refl, refl)
+    (trapped_run b new c.in-Err.trap c.proc.result c.pc.result c.requires.running c.requires.within told.0 told.1 c.proc.ensures c.pc.ensures, refl, refl)
 
 pub returns-in-Ok-Went-None-clause-ok : goal.returns-in-Ok-Went-None-clause-ok
 returns-in-Ok-Went-None-clause-ok g c =

@@ -7,7 +7,7 @@ use Rattle.burr_voxels.specs.CellSets.{Meets}
 use Rattle.burr_text.proofs.Common.Tests.{yes_of, yes_iff, no_of, no_iff}
 use Rattle.burr_blocking.specs.Pairs.{IsFreeFrom}
 use Rattle.burr_blocking.proofs.Common.Displaced.{free_where_unmet, unmet_where_free}
-use Rattle.burr_blocking.proofs.plain_cells.PlainCells.free.Goals as goal
+use Rattle.burr_blocking.proofs.plain_cells.PlainCellsBlocking.free.Goals as goal
 
 by_test : (met : Bool) (d : Cell) (ps qs : List Cell) (direction : Direction) → IsTrue met ↔ Meets (shifted d ps) qs direction → IsTrue (not met) ↔ IsFreeFrom ps qs d direction
 by_test true d ps qs direction met = no_iff (λ free. unmet_where_free d ps qs direction free (yes_of met))

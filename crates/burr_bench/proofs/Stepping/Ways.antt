@@ -1,0 +1,157 @@
+-- What the tests of the grip's way come to.
+use Rattle.std.proofs.Common.{◌≡◌, ◌↔◌, ◌<◌, ◌≤◌, ℕ, List, [], length, sym, subst, inl, inr, arith, IsTrue, Bool, true, false, not}
+use Rattle.burr_text.proofs.Common.Tests.{yes_of, yes_iff, no_of, no_iff}
+use Rattle.std.specs.Prelude.{ℤ, pos, ◌+ℤ◌, ◌-ℤ◌}
+use Rattle.std.proofs.lemmas.Int.{ints}
+use Rattle.std.proofs.lemmas.List.{length-map}
+use Rattle.std.proofs.lemmas.Option.{get_or_from_slice_get, slice_get-get_or}
+use Rattle.burr_voxels.specs.declared.cell.Cell.{Cell}
+use Rattle.burr_voxels.specs.declared.direction.Direction.{Direction}
+use Rattle.burr_voxels.specs.Grid.{plus, minus, along, shifted}
+use Rattle.burr_voxels.specs.Near.{IsWithin}
+use Rattle.burr_voxels.proofs.Common.Ahead.{same_cell}
+use Rattle.burr_voxels.specs.CellSets.{Overlap, IsFree}
+use Rattle.burr_code.specs.PieceSets.{IsInSet}
+use Rattle.burr_code.specs.Places.{Placement, LiesAt, LiesIn}
+use Rattle.burr_assembly.specs.Text.{Assembly}
+use Rattle.burr_assembly.specs.Homes.{HasHome, home_at, home_of, homes_of}
+use Rattle.burr_blocking.specs.Pairs.{IsBlocked}
+use Rattle.burr_blocking.proofs.Common.Displaced.{free_of_difference, difference_of_free, blocked_of_overlap, overlap_of_blocked}
+use Rattle.burr_bench.specs.declared.checked.way.Way.{Way}
+use Rattle.burr_bench.specs.declared.checked.way.Way.TheVariants as ways
+use Rattle.burr_bench.specs.Space.{IsFreeGroup, NoOverlapIn, moved_places}
+use Rattle.burr_bench.specs.BenchViews.{Benched, SetsOut}
+use Rattle.burr_bench.specs.Ways.{Passes, PassesPiece, PassesRest, GroupPasses, setting_out}
+use Rattle.burr_bench.proofs.Existence.Conditions.{one_position, lies_within}
+use Rattle.burr_bench.proofs.Stepping.Near.{staying_of_on_bench}
+use Rattle.burr_bench.proofs.Trays.Shifts.{IsShifted, lay_before_shift, lies_at_shifted, lies_at_kept}
+
+-- a test that fails where a condition holds
+pub holds_not : (P : Type 0) (test : Bool) → IsTrue test ↔ P → IsTrue (not test) ↔ (¬ P)
+holds_not P true tells = no_iff (λ none. none (yes_of tells))
+holds_not P false tells = yes_iff (no_of tells)
+
+-- Pair by pair
+
+-- a piece elsewhere is passed
+pub passes_absent : (way : Way) (homes : List (List Cell)) (places : List (Placement Cell)) (tray p : ℕ) (from : Cell) (q : ℕ) → (¬ LiesIn places q tray) → PassesPiece way homes places tray p from q
+passes_absent way homes places tray p from q none there lies = absurd (none (there, lies))
+
+-- a piece here is asked of by the difference of the offsets
+pub passes_present : (test : Bool) (way : Way) (homes : List (List Cell)) (places : List (Placement Cell)) (tray p : ℕ) (from : Cell) (q : ℕ) (there : Cell)
+    → LiesAt places q tray there → IsTrue test ↔ Passes way (home_at homes p) (home_at homes q) (minus from there) → IsTrue test ↔ PassesPiece way homes places tray p from q
+passes_present test way homes places tray p from q there lies tells = (
+  λ yes other lies_other. subst (λ (c : Cell). Passes way (home_at homes p) (home_at homes q) (minus from c)) (one_position places q tray there other lies lies_other) (tells.0 yes),
+  λ passes. tells.1 (passes there lies),
+)
+
+-- a piece that is not here has nobody in its way
+pub absent_passes : (way : Way) (homes : List (List Cell)) (places : List (Placement Cell)) (tray group p : ℕ) → (¬ LiesIn places p tray) → PassesRest way homes places tray group p
+absent_passes way homes places tray group p none offset lies q rest = absurd (none (offset, lies))
+
+-- a piece passes the rest where it passes each piece that may lie here
+pub passes_of_each : (way : Way) (homes : List (List Cell)) (places : List (Placement Cell)) (tray group n p : ℕ) (offset : Cell) → LiesAt places p tray offset → length places ≤ n
+    → ((q : ℕ) → q < n → (¬ IsInSet group q) → PassesPiece way homes places tray p (setting_out way offset) q) → PassesRest way homes places tray group p
+passes_of_each way homes places tray group n p offset lies all each other lies_other q rest there lies_q =
+    let within = lies_within places q tray (there, lies_q) in
+    subst (λ (c : Cell). Passes way (home_at homes p) (home_at homes q) (minus (setting_out way c) there)) (one_position places p tray offset other lies lies_other)
+    (each q (omega (arith, within, all)) rest there lies_q)
+
+-- a piece that is in another's way bars it
+pub barred : (way : Way) (homes : List (List Cell)) (places : List (Placement Cell)) (tray group p : ℕ) (offset : Cell) (q : ℕ)
+    → LiesAt places p tray offset → (¬ IsInSet group q) → (¬ PassesPiece way homes places tray p (setting_out way offset) q) → ¬ PassesRest way homes places tray group p
+barred way homes places tray group p offset q lies rest bars passes = bars (passes offset lies q rest)
+
+-- a group passes where each of its pieces does
+pub passes_of_pieces : (way : Way) (homes : List (List Cell)) (places : List (Placement Cell)) (tray group n : ℕ) → length places ≤ n
+    → ((p : ℕ) → p < n → IsInSet group p → PassesRest way homes places tray group p) → GroupPasses way homes places tray group
+passes_of_pieces way homes places tray group n all each p bit offset lies =
+    let within = lies_within places p tray (offset, lies) in each p (omega (arith, within, all)) bit offset lies
+
+-- Homes
+
+-- there are as many homes as pieces
+pub as_many_homes : (a : Assembly) (places : List (Placement Cell)) → length places ≡ length a.pieces → length places ≤ length (homes_of a)
+as_many_homes a places same = let homes = length-map a.pieces (home_of a.shapes) in omega (arith, same, homes)
+
+-- the home cells of a piece are those of the function
+home_is : (homes : List (List Cell)) (p : ℕ) (home : List Cell) → HasHome homes p home → home_at homes p ≡ home
+home_is homes p home has = get_or_from_slice_get homes p home [] has
+
+-- a piece that lies in a tray has a home
+has_home : (homes : List (List Cell)) (places : List (Placement Cell)) (tray p : ℕ) → length places ≤ length homes → LiesIn places p tray → HasHome homes p (home_at homes p)
+has_home homes places tray p as_many lies = let within = lies_within places p tray lies in slice_get-get_or homes p [] (omega (arith, within, as_many))
+
+-- All the way out
+
+pub free_of_passing : (homes : List (List Cell)) (places : List (Placement Cell)) (tray group : ℕ) (direction : Direction) → GroupPasses (ways.Out direction) homes places tray group → IsFreeGroup homes places tray group direction
+free_of_passing homes places tray group direction passes p q p_home q_home p_offset q_offset bit rest has has_q lies lies_q =
+    subst (λ (cells : List Cell). IsFree (shifted p_offset cells) (shifted q_offset q_home) direction) (home_is homes p p_home has)
+    (subst (λ (cells : List Cell). IsFree (shifted p_offset (home_at homes p)) (shifted q_offset cells) direction) (home_is homes q q_home has_q)
+    (free_of_difference p_offset q_offset (home_at homes p) (home_at homes q) direction (passes p bit p_offset lies q rest q_offset lies_q)))
+
+pub passing_of_free : (homes : List (List Cell)) (places : List (Placement Cell)) (tray group : ℕ) (direction : Direction) → length places ≤ length homes
+    → IsFreeGroup homes places tray group direction → GroupPasses (ways.Out direction) homes places tray group
+passing_of_free homes places tray group direction as_many free p bit offset lies q rest there lies_q =
+    difference_of_free offset there (home_at homes p) (home_at homes q) direction
+    (free p q (home_at homes p) (home_at homes q) offset there bit rest (has_home homes places tray p as_many (offset, lies)) (has_home homes places tray q as_many (there, lies_q)) lies lies_q)
+
+-- One unit
+
+-- two offsets that moved alike differ as before
+same_difference : (a b u : ℤ) → ((a +ℤ u) -ℤ (b +ℤ u)) ≡ (a -ℤ b)
+same_difference a b u = omega (arith, ints)
+
+moved_alike : (a b u : Cell) → minus (plus a u) (plus b u) ≡ minus a b
+moved_alike a b u = same_cell _ _ (same_difference a.x b.x u.x) (same_difference a.y b.y u.y) (same_difference a.z b.z u.z)
+
+-- two pieces that moved alike overlap only where they did before
+overlap_before : (a b u : Cell) (ps qs : List Cell) → Overlap (shifted (plus a u) ps) (shifted (plus b u) qs) → Overlap (shifted a ps) (shifted b qs)
+overlap_before a b u ps qs over = overlap_of_blocked a b ps qs (subst (λ (d : Cell). IsBlocked ps qs d) (moved_alike a b u) (blocked_of_overlap (plus a u) (plus b u) ps qs over))
+
+-- no two pieces of the tray overlap behind the unit where the group passes: two pieces of the group, or two of the rest, lie to each other as before
+pub no_overlap_of_passing : (homes : List (List Cell)) (places : List (Placement Cell)) (tray group : ℕ) (direction : Direction) → NoOverlapIn homes places tray
+    → GroupPasses (ways.Unit direction) homes places tray group → NoOverlapIn homes (moved_places group direction places) tray
+no_overlap_of_passing homes places tray group direction apart passes p q p_home q_home p_offset q_offset other has has_q lies lies_q over =
+    let p_lay = lay_before_shift move group p tray p_offset places lies in
+    let q_lay = lay_before_shift move group q tray q_offset places lies_q in
+    by_cases p_lay.0 q_lay.0 p_lay.1 q_lay.1 p_lay.2 q_lay.2
+  where
+    unit : Cell
+    unit = along direction (pos 1)
+
+    move : Cell → Cell
+    move offset = plus offset unit
+
+    -- a piece of the group and one of the rest
+    past : (i j : ℕ) (i_home j_home : List Cell) (x i_offset j_offset : Cell) → HasHome homes i i_home → HasHome homes j j_home → IsInSet group i → (¬ IsInSet group j) → LiesAt places i tray x → LiesAt places j tray j_offset
+        → i_offset ≡ plus x unit → ¬ Overlap (shifted i_offset i_home) (shifted j_offset j_home)
+    past i j i_home j_home x i_offset j_offset i_has j_has bit rest i_lay j_lay moved meets =
+        passes i bit x i_lay j rest j_offset j_lay
+        (subst (λ (d : Cell). IsBlocked (home_at homes i) (home_at homes j) (minus d j_offset)) moved
+        (subst (λ (cs : List Cell). IsBlocked cs (home_at homes j) (minus i_offset j_offset)) (sym (home_is homes i i_home i_has))
+        (subst (λ (cs : List Cell). IsBlocked i_home cs (minus i_offset j_offset)) (sym (home_is homes j j_home j_has)) (blocked_of_overlap i_offset j_offset i_home j_home meets))))
+
+    by_cases : (x y : Cell) → LiesAt places p tray x → LiesAt places q tray y → IsShifted move group p x p_offset → IsShifted move group q y q_offset → ⊥
+    by_cases x y p_lay q_lay (inl moved) (inl also) =
+        apart p q p_home q_home x y other has has_q p_lay q_lay
+        (overlap_before x y unit p_home q_home (subst (λ c. Overlap (shifted c p_home) (shifted (plus y unit) q_home)) moved.1 (subst (λ c. Overlap (shifted p_offset p_home) (shifted c q_home)) also.1 over)))
+    by_cases x y p_lay q_lay (inl moved) (inr still) = past p q p_home q_home x p_offset q_offset has has_q moved.0 still.0 p_lay (subst (LiesAt places q tray) (sym still.1) q_lay) moved.1 over
+    by_cases x y p_lay q_lay (inr still) (inl moved) =
+        past q p q_home p_home y q_offset p_offset has_q has moved.0 still.0 q_lay (subst (LiesAt places p tray) (sym still.1) p_lay) moved.1 (over.0, over.2, over.1)
+    by_cases x y p_lay q_lay (inr still) (inr also) =
+        apart p q p_home q_home x y other has has_q p_lay q_lay (subst (λ c. Overlap (shifted c p_home) (shifted y q_home)) still.1 (subst (λ c. Overlap (shifted p_offset p_home) (shifted c q_home)) also.1 over))
+
+pub passing_of_no_overlap : (homes : List (List Cell)) (places : List (Placement Cell)) (tray group : ℕ) (direction : Direction) → length places ≤ length homes
+    → NoOverlapIn homes (moved_places group direction places) tray → GroupPasses (ways.Unit direction) homes places tray group
+passing_of_no_overlap homes places tray group direction as_many apart p bit offset lies q rest there lies_q blocked =
+    let f : Cell → Cell = λ (o : Cell). plus o (along direction (pos 1)) in
+    apart p q (home_at homes p) (home_at homes q) (plus offset (along direction (pos 1))) there (λ same. rest (subst (λ n. IsInSet group n) same bit))
+    (has_home homes places tray p as_many (offset, lies)) (has_home homes places tray q as_many (there, lies_q))
+    (lies_at_shifted f group p tray offset places bit lies) (lies_at_kept f group q tray there places rest lies_q)
+    (overlap_of_blocked (plus offset (along direction (pos 1))) there (home_at homes p) (home_at homes q) blocked)
+
+-- a gripped piece is asked of where it is on the bench
+pub near_start : (b : Benched) (way : Way) (p : ℕ) (offset : Cell) → SetsOut b way → IsInSet b.state.grip p → LiesAt b.state.places p b.state.tray offset → IsWithin 256 offset → IsWithin 256 (setting_out way offset)
+near_start b (ways.Unit direction) p offset sets_out bit lies near = staying_of_on_bench b.state.places b.state.tray b.state.grip direction sets_out p bit offset lies
+near_start b (ways.Out direction) p offset sets_out bit lies near = near

@@ -1,0 +1,10 @@
+use Rattle.std.proofs.Common.{ℕ, ◌<◌}
+use Rattle.burr_code.specs.PieceSets.{IsInSet}
+use Rattle.burr_assembly.specs.Homes.{homes_of}
+use Rattle.burr_bench.specs.Ways.{PassesPiece}
+use Rattle.burr_bench.proofs.checked.Checked.passes_rest.Given as goal
+
+-- it passes the pieces so far
+abbrev pub invariant-loop-other : goal.invariant-loop-other
+invariant-loop-other g l =
+    (q : ℕ) → q < l.other → (¬ IsInSet l.self.state.grip q) → PassesPiece l.way (homes_of l.self.assembly) l.self.state.places l.self.state.tray l.piece l.from q
