@@ -81,9 +81,12 @@ abbrev pub motion_made : Result (Option Motion) Trap → Option Motion
 motion_made (Ok motion) = motion
 motion_made (Err trap) = None
 
--- it runs the same, and each out has made one part more
-pub record GoesOn (old new : Benched) (motion : Option Motion) : Type 0 where
+-- both benches run the same code on the same assembly
+pub record IsSameRun (old new : Benched) : Type 0 where
   pub assembly : new.assembly ≡ old.assembly
   pub code : new.code ≡ old.code
+
+-- each out has made one part more
+pub record GoesOn (old new : Benched) (motion : Option Motion) : Type 0 where
   pub outs : parts new.state.places ≡ parts old.state.places + outs_of motion
   pub few : parts new.state.places ≤ 32

@@ -17,11 +17,11 @@ use Rattle.burr_bench.specs.Run.{IsGoing, traps, goes}
 use Rattle.burr_bench.specs.RunLaws.{RunOf, IsUnderWay}
 use Rattle.burr_assembly.specs.Homes.{homes_of}
 use Rattle.burr_sheet.specs.SheetUnderWay.{UnderWay, blank, still, outs_of, Closes, FailsInMotion}
-use Rattle.burr_bench.specs.BenchViews.{Benched, GoesOn, setup_of}
+use Rattle.burr_bench.specs.BenchViews.{Benched, GoesOn, setup_of, IsSameRun}
 use Rattle.burr_bench.specs.Bench.{bare}
 use Rattle.burr_assembly.specs.Homes.{names_of}
 use Rattle.burr_runs.specs.Output.{outcome_of}
-use Rattle.burr_runs.specs.Running.{BareRun, Leads, PutsPart, FailsInRun, ClosesPart, IsInStep, IsSameRun, StepOrClose, PutsSheet, FailsInSheet}
+use Rattle.burr_runs.specs.Running.{BareRun, Leads, PutsPart, FailsInRun, ClosesPart, IsInStep, StepOrClose, PutsSheet, FailsInSheet}
 use Rattle.burr_runs.proofs.WholeInput.{sheet_of_run}
 use Rattle.burr_bench.specs.StepLaws.{IsStepFrom}
 use Rattle.burr_bench.proofs.Common.Leading.{leads_from}

@@ -10,7 +10,7 @@ use Rattle.burr_bench.specs.Run.{Run}
 use Rattle.burr_bench.specs.declared.closing.Closing.{Closing}
 use Rattle.burr_bench.specs.Parts.{parts}
 use Rattle.burr_sheet.specs.SheetUnderWay.{UnderWay, still}
-use Rattle.burr_bench.specs.BenchViews.{Benched, setup_of}
+use Rattle.burr_bench.specs.BenchViews.{Benched, setup_of, IsSameRun}
 use Rattle.burr_runs.specs.Output.{IsSheet}
 
 -- a run without answers, with a budget of 1,000,000 steps
@@ -45,11 +45,6 @@ pub record IsInStep (b : Benched) (u : UnderWay) : Type 0 where
   pub motions : u.motions ≤ b.state.steps
   -- so many parts more as there were outs
   pub outs : length u.levels + 1 ≡ parts b.state.places
-
--- both benches run the same code on the same assembly
-pub record IsSameRun (old new : Benched) : Type 0 where
-  pub assembly : new.assembly ≡ old.assembly
-  pub code : new.code ≡ old.code
 
 -- what a step of the bench and the sheet came to: it was made, or the run closes without it
 abbrev pub StepOrClose : {S : Type 0} → SinkView S → S → S

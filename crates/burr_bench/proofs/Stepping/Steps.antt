@@ -80,32 +80,26 @@ pub few_parts : (b : Benched) → IsSound b → parts b.state.places ≤ 32
 few_parts b sound = let most = parts_at_most b.state.places in let few = sound.few in omega (arith, most, few)
 
 -- a step that moves no piece
-pub goes_on_still : (old new : Benched) → IsSound old → new.assembly ≡ old.assembly → new.code ≡ old.code → new.state.places ≡ old.state.places → GoesOn old new None
-goes_on_still old new sound assembly code still = record {
-  assembly = assembly;
-  code = code;
+pub goes_on_still : (old new : Benched) → IsSound old → new.state.places ≡ old.state.places → GoesOn old new None
+goes_on_still old new sound still = record {
   outs = let same = ap parts still in omega (arith, same);
   few = let few = few_parts old sound in let same = ap parts still in omega (arith, same, few);
 }
 
 -- a unit makes no part more
-pub goes_on_unit : (old new : Benched) (motion : Motion) (direction : Direction) → IsSound old → new.assembly ≡ old.assembly → new.code ≡ old.code → motion.out ≡ false
+pub goes_on_unit : (old new : Benched) (motion : Motion) (direction : Direction) → IsSound old → motion.out ≡ false
     → new.state.places ≡ moved_places old.state.grip direction old.state.places → GoesOn old new (Some motion)
-goes_on_unit old new motion direction sound assembly code out places =
+goes_on_unit old new motion direction sound out places =
     let same : parts new.state.places ≡ parts old.state.places = ap parts places ∙ parts-shift (λ (o : Cell). plus o (along direction (pos 1))) old.state.grip 0 old.state.places in record {
-      assembly = assembly;
-      code = code;
       outs = rw out (let is = same in omega (arith, is));
       few = let few = few_parts old sound in omega (arith, same, few);
     }
 
 -- an out makes one part more
-pub goes_on_aside : (old new : Benched) (motion : Motion) (there : ℕ) → IsSound old → new.assembly ≡ old.assembly → new.code ≡ old.code → motion.out ≡ true
+pub goes_on_aside : (old new : Benched) (motion : Motion) (there : ℕ) → IsSound old → motion.out ≡ true
     → IsPartOfTray old.state.grip old.state.places old.state.tray → IsEmptyTray old.state.places there
     → new.state.places ≡ aside_places old.state.grip old.state.tray there old.state.places → GoesOn old new (Some motion)
-goes_on_aside old new motion there sound assembly code out part empty places = record {
-  assembly = assembly;
-  code = code;
+goes_on_aside old new motion there sound out part empty places = record {
   outs = rw (places, out) (parts_after_aside old.state.grip old.state.tray there old.state.places sound.here part empty);
   few =
       let most = parts_at_most new.state.places in

@@ -3,7 +3,7 @@ ghost use Rattle.burr_code.specs.Instruction.{Halt, Grip, Step, Aside, spelled};
 ghost use Rattle.burr_bench.specs.declared.mode.Mode.TheVariants.{Running};
 ghost use Rattle.burr_bench.specs.Space.{motion_of};
 ghost use Rattle.burr_bench.specs.Step.{NextIs, CallIn, Called};
-ghost use Rattle.burr_bench.specs.BenchViews.{setup_of, next_of, motion_in, motion_made, Follows, GoesOn};
+ghost use Rattle.burr_bench.specs.BenchViews.{setup_of, next_of, motion_in, motion_made, Follows, GoesOn, IsSameRun};
 
 use crate::checked::Checked;
 use crate::checked::way::Way;
@@ -22,6 +22,7 @@ impl<B: Blocking> Checked<'_, B> {
     /// changes.
     pub fn step(&mut self, answer: Option<i32>) -> Result<Progress, Trap>
         ensures called { Called (setup_of self.old) self.old.state answer result self.new.state }
+        ensures same { IsSameRun self.old self.new }
         ensures goes_on { OnOk result (GoesOn self.old self.new (motion_in result)) }
     {
         match (self.state.mode(), answer) {
@@ -37,6 +38,7 @@ impl<B: Blocking> Checked<'_, B> {
     fn go_on(&mut self) -> Result<Progress, Trap>
         ensures called { CallIn Running (setup_of self.old) self.old.state
             None result self.new.state }
+        ensures same { IsSameRun self.old self.new }
         ensures goes_on { OnOk result (GoesOn self.old self.new (motion_in result)) }
     {
         match self.carry_out() {
@@ -52,6 +54,7 @@ impl<B: Blocking> Checked<'_, B> {
     fn carry_out(&mut self) -> Result<Option<Motion>, Trap>
         ensures next { NextIs (setup_of self.old) self.old.state (next_of result self.new.state) }
         ensures trapped { OnErr result (self.new ≡ self.old) }
+        ensures same { IsSameRun self.old self.new }
         ensures goes_on { OnOk result (GoesOn self.old self.new (motion_made result)) }
     {
         match fetch(self.code, self.state.pc()) {
@@ -67,6 +70,7 @@ impl<B: Blocking> Checked<'_, B> {
     fn halt(&mut self) -> Result<Option<Motion>, Trap>
         ensures follows { Follows self.old self.new Halt result }
         ensures trapped { OnErr result (self.new ≡ self.old) }
+        ensures same { IsSameRun self.old self.new }
         ensures goes_on { OnOk result (GoesOn self.old self.new (motion_made result)) }
     {
         if !self.state.are_all_apart() {
@@ -82,6 +86,7 @@ impl<B: Blocking> Checked<'_, B> {
         requires size { size ≡ length (spelled (Grip set)) }
         ensures follows { Follows self.old self.new (Grip set) result }
         ensures trapped { OnErr result (self.new ≡ self.old) }
+        ensures same { IsSameRun self.old self.new }
         ensures goes_on { OnOk result (GoesOn self.old self.new (motion_made result)) }
     {
         if !self.state.all_lie_here(set) {
@@ -98,6 +103,7 @@ impl<B: Blocking> Checked<'_, B> {
         requires size { size ≡ length (spelled (Step direction)) }
         ensures follows { Follows self.old self.new (Step direction) result }
         ensures trapped { OnErr result (self.new ≡ self.old) }
+        ensures same { IsSameRun self.old self.new }
         ensures goes_on { OnOk result (GoesOn self.old self.new (motion_made result)) }
     {
         if self.state.grip() == 0 {
@@ -121,6 +127,7 @@ impl<B: Blocking> Checked<'_, B> {
         requires size { size ≡ length (spelled (Aside direction tray)) }
         ensures follows { Follows self.old self.new (Aside direction tray) result }
         ensures trapped { OnErr result (self.new ≡ self.old) }
+        ensures same { IsSameRun self.old self.new }
         ensures goes_on { OnOk result (GoesOn self.old self.new (motion_made result)) }
     {
         if !self.state.is_part_gripped() {

@@ -102,6 +102,36 @@ const ROWS: &[Row] = &[
         Outcome::Trapped,
         "1 t0 C,D +y 0 out\nlevels 1\ntrap 5 TrayInUse proc 0 pc 13 after 3 steps\n",
     ),
+    (
+        DUO,
+        "10000000011100",
+        Outcome::Trapped,
+        "levels -\ntrap 1 Collision proc 0 pc 5 after 1 steps\n",
+    ),
+    (
+        DUO,
+        "1000000001110112010100",
+        Outcome::Apart,
+        "1 t0 A -x 1 out\nlevels 1\napart in 4 steps\n",
+    ),
+    (
+        DUO,
+        "10000000011101110312010100",
+        Outcome::Apart,
+        "1 t0 A -x 1\n2 t0 A -y 1\n3 t0 A -x 0 out\nlevels 3\napart in 5 steps\n",
+    ),
+    (
+        DUO,
+        "1000000003110210000000011201011101",
+        Outcome::Trapped,
+        "1 t0 A,B +y 1\n2 t0 A -x 0 out\nlevels 2\ntrap 4 BadGroup proc 0 pc 15 after 4 steps\n",
+    ),
+    (
+        FAR,
+        "1000000001110011001100",
+        Outcome::Trapped,
+        "1 t0 A +x 2\nlevels -\ntrap 1 Collision proc 0 pc 9 after 3 steps\n",
+    ),
 ];
 
 #[test]

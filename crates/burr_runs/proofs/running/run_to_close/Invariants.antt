@@ -1,6 +1,6 @@
 use Rattle.std.proofs.Common.{◌-◌}
-use Rattle.burr_bench.specs.BenchViews.{setup_of}
-use Rattle.burr_runs.specs.Running.{IsInStep, IsSameRun, PutsPart}
+use Rattle.burr_bench.specs.BenchViews.{setup_of, IsSameRun}
+use Rattle.burr_runs.specs.Running.{IsInStep, PutsPart}
 use Rattle.burr_runs.proofs.running.run_to_close.Given as goal
 
 -- a part of the run was made, and of its sheet put

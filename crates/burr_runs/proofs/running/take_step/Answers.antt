@@ -27,7 +27,7 @@ returns-in-Ok-Went-None-clause-ok g c =
     let on = subst (λ (p : Progress). GoesOn b new (motion_in (Ok p))) went c.in-Ok-Went-None.ensures.goes_on in
     let under = under_way (setup_of b) b.state new.state None c.requires.running c.requires.in_step.within c.requires.within next in (
       in_step_still b new c.args.sheet.now c.requires.in_step under on,
-      record { assembly = on.assembly; code = on.code },
+      c.in-Ok-Went-None.ensures.same,
       under.1,
       ([], Appends-nil _, leads_still (setup_of b) b.state new.state c.args.sheet.now (record { running = c.requires.running; within = c.requires.within }) next),
     )
@@ -44,7 +44,7 @@ returns-in_ok-motion-in-Ok-Went-Some-clause-ok g c =
     let puts = c.in_ok-motion-in-Ok-Went-Some.ensures.ok in
     let under = under_way (setup_of b) b.state new.state (Some motion) c.requires.running c.requires.in_step.within c.requires.within next in (
       in_step_motion b new c.args.sheet.now c.motion.new.self motion c.requires.in_step under on (c.in_ok-motion-in-Ok-Went-Some.ensures.motions, c.in_ok-motion-in-Ok-Went-Some.ensures.levels),
-      record { assembly = on.assembly; code = on.code },
+      c.in-Ok-Went-Some.ensures.same,
       under.1,
       (
         puts.0,

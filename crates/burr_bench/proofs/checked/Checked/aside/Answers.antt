@@ -42,4 +42,4 @@ returns-clause-follows g c =
 pub returns-clause-goes_on : goal.returns-clause-goes_on
 returns-clause-goes_on g c =
     rw (sym c.self.view_is)
-    (goes_on_aside _ _ _ c.args.tray c.self.invariant refl refl (ap (λ m. m.out) c.motion-motion.ensures) (yes_of c.if-not-is_part_gripped.ensures) (yes_of c.if-not-is_empty.ensures) (ap (λ (s : BenchState). s.places) c.go_aside.ensures))
+    (goes_on_aside _ _ _ c.args.tray c.self.invariant (ap (λ m. m.out) c.motion-motion.ensures) (yes_of c.if-not-is_part_gripped.ensures) (yes_of c.if-not-is_empty.ensures) (ap (λ (s : BenchState). s.places) c.go_aside.ensures))

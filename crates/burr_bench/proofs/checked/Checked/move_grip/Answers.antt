@@ -52,4 +52,4 @@ returns-clause-follows g c =
 
 pub returns-clause-goes_on : goal.returns-clause-goes_on
 returns-clause-goes_on g c =
-    rw (sym c.self.view_is) (goes_on_unit _ _ _ c.args.direction c.self.invariant refl refl (ap (λ m. m.out) c.motion-motion.ensures) (ap (λ (s : BenchState). s.places) c.go_on.ensures))
+    rw (sym c.self.view_is) (goes_on_unit _ _ _ c.args.direction c.self.invariant (ap (λ m. m.out) c.motion-motion.ensures) (ap (λ (s : BenchState). s.places) c.go_on.ensures))

@@ -26,6 +26,6 @@ returns c =
     yes_iff
     (on_bench_of_staying now.places now.tray now.grip c.args.direction (λ p offset lies. near_lying now.places p now.tray offset c.piece_count-piece-end.ensures.near lies)
     (λ p bit offset lies.
-        let within = lies_within now.places p now.tray (offset, lies) in
-        let all : length now.places ≤ c.loop-piece.piece = search rules in
-        c.loop-piece.invariant p (omega (arith, within, all)) bit offset lies))
+    let within = lies_within now.places p now.tray (offset, lies) in
+    let all : length now.places ≤ c.loop-piece.piece = search rules in
+    c.loop-piece.invariant p (omega (arith, within, all)) bit offset lies))
