@@ -1,1 +1,2 @@
 pub mod Displaced
+pub mod Reversed

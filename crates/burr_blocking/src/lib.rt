@@ -2,9 +2,11 @@
 #![tactic(auto)]
 
 mod blocking;
+mod cell_tables;
 mod plain_cells;
 
 pub use blocking::Blocking;
+pub use cell_tables::CellTables;
 pub use plain_cells::PlainCells;
 
 #[cfg(test)]

@@ -14,7 +14,7 @@ use crate::reading::read_whole;
 use crate::refusal::put_refusal;
 use crate::running::run_bare;
 use burr_assembly::{Assembly, AssemblyFault};
-use burr_blocking::PlainCells;
+use burr_blocking::CellTables;
 use burr_io::{Sink, Source, WriteFault, put_all};
 use std::alloc::Global;
 
@@ -70,7 +70,10 @@ fn write_text_output<W: Sink>(
     ensures untouched { IfErr result (λ fault. fault ≢ Write → sink.new ≡ sink.old) }
 {
     match Assembly::read(alloc, text) {
-        Ok(assembly) => Ok(run_bare(&PlainCells::new(&assembly), code, sink)?),
+        Ok(assembly) => {
+            let tables = CellTables::build(alloc, &assembly)?;
+            Ok(run_bare(&tables, code, sink)?)
+        }
         Err(AssemblyFault::Memory) => Err(BenchFault::Memory),
         Err(fault) => Ok(refuse_text(text, fault, sink)?),
     }

@@ -35,6 +35,7 @@ Code (the blanks are for reading alone):
 
   00              halt: all pieces must be apart
   10 SSSSSSSS     grip the pieces whose bits are set in S: 00000001 is piece 0
+  11 DD           step: move the grip by one unit along direction D
   12 DD TT        aside: take the grip out along direction D, to empty tray T
 
 Directions are 00 +x, 01 -x, 02 +y, 03 -y, 04 +z, 05 -z; trays are 00 to 1f.

@@ -13,6 +13,10 @@ const FAR: &str =
 const FOUR: &str =
     "assembly cubes\nshape cube\nlayer\n#\nend\npiece A cube +x+y+z 0 0 0\npiece B cube +x+y+z 1 0 0\npiece C cube +x+y+z 0 1 0\npiece D cube +x+y+z 1 1 0\n";
 
+/// A cube in a box whose lid has a hole.
+const BOX: &str =
+    "assembly box\nshape cube\nlayer\n#\nend\nshape box\nlayer\n####\n####\n####\nlayer\n####\n#..#\n####\nlayer\n####\n##.#\n####\nend\npiece A cube +x+y+z 1 1 1\npiece B box +x+y+z 0 0 0\n";
+
 /// An assembly's text, the code, the outcome, and what is written.
 type Row = (&'static str, &'static str, Outcome, &'static str);
 
@@ -125,6 +129,18 @@ const ROWS: &[Row] = &[
         "1000000003110210000000011201011101",
         Outcome::Trapped,
         "1 t0 A,B +y 1\n2 t0 A -x 0 out\nlevels 2\ntrap 4 BadGroup proc 0 pc 15 after 4 steps\n",
+    ),
+    (
+        BOX,
+        "1000000001110012040100",
+        Outcome::Apart,
+        "1 t0 A +x 1\n2 t0 A +z 0 out\nlevels 2\napart in 4 steps\n",
+    ),
+    (
+        BOX,
+        "10000000011100110012040100",
+        Outcome::Trapped,
+        "1 t0 A +x 1\nlevels -\ntrap 1 Collision proc 0 pc 7 after 2 steps\n",
     ),
     (
         FAR,

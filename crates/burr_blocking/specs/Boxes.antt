@@ -1,0 +1,29 @@
+-- Boxes of cells or displacements, and where each one of a box stands in its table.
+use Rattle.std.specs.Prelude.{ℕ, ◌+◌, ◌*◌}
+use Rattle.std.specs.Int.{int_gap}
+use Rattle.burr_voxels.specs.declared.cell.Cell.{Cell}
+use Rattle.burr_blocking.specs.declared.cell_tables.extent.Extent.{Extent}
+use Rattle.burr_blocking.specs.Corners.{IsBetween}
+
+-- the displacement lies in the box
+abbrev pub IsInBox : Extent → Cell → Type 0
+IsInBox e d = IsBetween e.least e.greatest d
+
+-- how many there are along each axis
+abbrev pub wide_of : Extent → ℕ
+wide_of e = int_gap e.least.x e.greatest.x + 1
+
+abbrev pub deep_of : Extent → ℕ
+deep_of e = int_gap e.least.y e.greatest.y + 1
+
+abbrev pub high_of : Extent → ℕ
+high_of e = int_gap e.least.z e.greatest.z + 1
+
+-- how many there are in all
+abbrev pub size_of : Extent → ℕ
+size_of e = wide_of e * (deep_of e * high_of e)
+
+-- where one of the box stands in its table: x first, then y, then z
+abbrev pub place_of : Extent → Cell → ℕ
+place_of e d = (int_gap e.least.z d.z * deep_of e + int_gap e.least.y d.y) * wide_of e
+    + int_gap e.least.x d.x
