@@ -27,5 +27,4 @@ pub mod Taken
 pub mod Takes
 pub mod TakesPieces
 pub mod TakesShapes
-pub mod Turns
 pub mod WorkedRows

@@ -1,3 +1,4 @@
 pub mod Ahead
 pub mod Freedom
 pub mod Naming
+pub mod Turning

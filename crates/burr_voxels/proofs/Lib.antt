@@ -2,4 +2,3 @@ pub mod Common
 pub mod MeetingCells
 pub mod Near
 pub mod Overlapping
-pub mod Turning

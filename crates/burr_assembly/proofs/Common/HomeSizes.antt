@@ -7,11 +7,11 @@ use Rattle.burr_voxels.specs.Grid.{plus, minus}
 use Rattle.burr_voxels.specs.Near.{IsWithin}
 use Rattle.burr_voxels.specs.Turns.{turned}
 use Rattle.burr_voxels.proofs.Common.Freedom.{Contains-from_map}
+use Rattle.burr_voxels.proofs.Common.Turning.{turned_apart}
 use Rattle.burr_assembly.specs.Text.{Drawing, IsDrawing, Piece, HasCells, Turn, IsTurn, home_cells, drawn_cells}
 use Rattle.burr_assembly.specs.Homes.{DiameterAtMost}
 use Rattle.burr_assembly.specs.Laws.{HomesAreSmall}
 use Rattle.burr_assembly.proofs.Boxes.{Boxed, drawn_boxed}
-use Rattle.burr_assembly.proofs.Turns.{turned_apart}
 use Rattle.burr_assembly.proofs.Common.HomeCells.{piece_of_home}
 
 -- two cells of one box lie less than its sides apart

@@ -1,7 +1,7 @@
 -- The images of the axes are those of a rotation, so each sum stays as near to the origin as the cell.
 use Rattle.std.proofs.Common.{rules, FitsSigned, to_z-of_z, w32, lit<}
 use Rattle.burr_voxels.proofs.Near.{IsWithin_fits}
-use Rattle.burr_voxels.proofs.Turning.{turned_within}
+use Rattle.burr_voxels.proofs.Common.Turning.{turned_within}
 use Rattle.burr_voxels.proofs.orientation.Orientation.turn.Goals as goal
 
 pub add-requires : goal.add-requires

@@ -1,6 +1,6 @@
--- Turns take no cell farther from the origin.
-use Rattle.std.proofs.Common.{◌≡◌, ℕ, ◌+◌, ◌*◌, ◌≤◌, Bool, true, ◌&&◌, cond, nat_eq, refl, ap, arith}
-use Rattle.std.specs.Prelude.{ℤ, pos, neg_ℤ, ◌≤ℤ◌, IsTrue}
+-- For crates above: turns take no cell farther from the origin, and no two cells farther apart.
+use Rattle.std.proofs.Common.{◌≡◌, ℕ, ◌+◌, ◌*◌, ◌≤◌, Bool, true, ◌&&◌, cond, nat_eq, refl, ap, subst, arith, ◌∙◌}
+use Rattle.std.specs.Prelude.{ℤ, pos, ◌-ℤ◌, neg_ℤ, ◌≤ℤ◌, IsTrue}
 use Rattle.std.specs.Int.RustNames.{unsigned_abs}
 use Rattle.std.specs.Ordering.{int_eq}
 use Rattle.std.proofs.lemmas.Bool.Decides.{nat_tests}
@@ -8,9 +8,10 @@ use Rattle.std.proofs.lemmas.Int.{ints}
 use Rattle.burr_voxels.specs.declared.cell.Cell.{Cell}
 use Rattle.burr_voxels.specs.declared.direction.Direction.{Direction}
 use Rattle.burr_voxels.specs.declared.direction.Direction.TheVariants.{PlusX, MinusX, PlusY, MinusY, PlusZ, MinusZ}
-use Rattle.burr_voxels.specs.Grid.{plus, along}
+use Rattle.burr_voxels.specs.Grid.{plus, minus, along}
 use Rattle.burr_voxels.specs.Near.{IsWithin}
 use Rattle.burr_voxels.specs.Turns.{determinant, turned, IsRotation}
+use Rattle.burr_voxels.proofs.Common.Ahead.{same_cell}
 
 -- all directions pass a test
 abbrev all_directions : (Direction → Bool) → Bool
@@ -114,3 +115,32 @@ turned_within x y z r n c h =
     let two = plus_bounded _ _ _ _ _ _ _ _ (along_bounded x c.x n (abs_le n c.x h.x_above h.x_below)) (along_bounded y c.y n (abs_le n c.y h.y_above h.y_below)) in
     let all = plus_bounded _ _ _ _ _ _ _ _ two (along_bounded z c.z n (abs_le n c.z h.z_above h.z_below)) in
     (within_bounded n _ _ _ _ two in_x.0 in_y.0 in_z.0, within_bounded n _ _ _ _ all in_x.1 in_y.1 in_z.1)
+
+-- a difference goes along a direction as its two numbers do
+along_minus : (d : Direction) (k l : ℤ) → along d (k -ℤ l) ≡ minus (along d k) (along d l)
+along_minus PlusX k l = same_cell _ _ (omega (arith, ints)) (omega (arith, ints)) (omega (arith, ints))
+along_minus MinusX k l = same_cell _ _ (omega (arith, ints)) (omega (arith, ints)) (omega (arith, ints))
+along_minus PlusY k l = same_cell _ _ (omega (arith, ints)) (omega (arith, ints)) (omega (arith, ints))
+along_minus MinusY k l = same_cell _ _ (omega (arith, ints)) (omega (arith, ints)) (omega (arith, ints))
+along_minus PlusZ k l = same_cell _ _ (omega (arith, ints)) (omega (arith, ints)) (omega (arith, ints))
+along_minus MinusZ k l = same_cell _ _ (omega (arith, ints)) (omega (arith, ints)) (omega (arith, ints))
+
+-- the sum of differences is the difference of sums
+plus_minus : (p q r s : Cell) → plus (minus p q) (minus r s) ≡ minus (plus p r) (plus q s)
+plus_minus p q r s = same_cell _ _ (omega (arith, ints)) (omega (arith, ints)) (omega (arith, ints))
+
+-- so a turn of a difference is the sum of three differences
+turned_difference : (x y z : Direction) (a b : Cell)
+    → turned x y z (minus a b) ≡ plus (plus (minus (along x a.x) (along x b.x)) (minus (along y a.y) (along y b.y))) (minus (along z a.z) (along z b.z))
+turned_difference x y z a b i = plus (plus (along_minus x a.x b.x i) (along_minus y a.y b.y i)) (along_minus z a.z b.z i)
+
+-- which is the difference of the turns
+turned_minus : (x y z : Direction) (a b : Cell) → turned x y z (minus a b) ≡ minus (turned x y z a) (turned x y z b)
+turned_minus x y z a b =
+    turned_difference x y z a b
+    ∙ ap (λ (c : Cell). plus c (minus (along z a.z) (along z b.z))) (plus_minus (along x a.x) (along x b.x) (along y a.y) (along y b.y))
+    ∙ plus_minus (plus (along x a.x) (along y a.y)) (plus (along x b.x) (along y b.y)) (along z a.z) (along z b.z)
+
+-- a turn takes no two cells farther apart
+pub turned_apart : (x y z : Direction) → IsRotation x y z → (n : ℕ) (a b : Cell) → IsWithin n (minus a b) → IsWithin n (minus (turned x y z a) (turned x y z b))
+turned_apart x y z r n a b near = subst (IsWithin n) (turned_minus x y z a b) (turned_within x y z r n (minus a b) near).1
