@@ -1,11 +1,11 @@
 -- What the loops over the cells of two pieces have marked.
-use Rattle.std.proofs.Common.{◌≡◌, ℕ, zero, suc, ◌+◌, ◌*◌, ◌/◌, ◌%◌, ◌<◌, ◌≤◌, Bool, true, false, List, [], ◌∷◌, ◌++◌, length, take, get_or, map, Contains, refl, ap, sym, ◌∙◌, arith, slice_index_or, slice_set, inl, inr, replicate, subst}
+use Rattle.std.proofs.Common.{◌≡◌, ℕ, zero, suc, ◌+◌, ◌*◌, ◌/◌, ◌%◌, ◌<◌, ◌≤◌, Bool, true, false, List, [], ◌∷◌, ◌++◌, length, take, get_or, map, Contains, refl, ap, sym, ◌∙◌, arith, slice_index_or, slice_set, inl, inr, subst}
 use Rattle.std.specs.Prelude.{ℤ, ◌+ℤ◌, ◌-ℤ◌, ◌≤ℤ◌, ◌⊎◌, ◌↔◌, IsTrue}
 use Rattle.std.specs.Int.{int_gap}
 use Rattle.std.specs.List.{All}
 use Rattle.std.proofs.lemmas.Int.{ints}
 use Rattle.std.proofs.lemmas.Nat.{mul-add-lt, div-mul-add, mod-mul-add}
-use Rattle.std.proofs.lemmas.List.{take_more, take_all, length-replicate}
+use Rattle.std.proofs.lemmas.List.{take_more, take_all}
 use Rattle.std.proofs.lemmas.List.Elements.{All-contains, All-get_or, All-map, All-weaker, Contains-append_left, Contains-push, Contains-push_cases}
 use Rattle.burr_voxels.specs.declared.cell.Cell.{Cell}
 use Rattle.burr_voxels.specs.Grid.{plus, minus}
@@ -38,11 +38,6 @@ set_cases (b ∷ m) zero zero h = inr refl
 set_cases (b ∷ m) zero (suc k) h = inl h
 set_cases (b ∷ m) (suc i) zero h = inl h
 set_cases (b ∷ m) (suc i) (suc k) h = elim (set_cases m i k h) [ inl t ↦ inl t | inr e ↦ inr (ap (λ n. suc n) e) ]
-
-none_marked : (n k : ℕ) → ¬ IsTrue (slice_index_or (replicate n false) k false)
-none_marked zero k h = cc
-none_marked (suc n) zero h = cc
-none_marked (suc n) (suc k) h = none_marked n k h
 
 -- Places: no two displacements of a box stand in one
 
@@ -78,13 +73,6 @@ minus_plus x d = same_cell _ _ (omega (arith, ints)) (omega (arith, ints)) (omeg
 abbrev pub Adds : Extent → List Bool → List Bool → Cell → List Cell → Type 0
 Adds e old new from tos =
     (d : Cell) → IsMarked e new d ↔ (IsMarked e old d ⊎ Contains tos (plus from d))
-
-none_there : {A : Type 0} (x : A) → ¬ Contains [] x
-none_there x (k, lt, is) = absurd (omega arith)
-
--- before any place, nothing has been set
-pub sets_none : (marks : List Bool) (first : ℕ) → SetsMarks marks marks first []
-sets_none marks first k = (λ h. inl h, λ h. elim h [ inl m ↦ m | inr c ↦ absurd (none_there c.0 c.1) ])
 
 -- one place more
 pub sets_more : (old marks : List Bool) (first : ℕ) (places : List ℕ) (i x at_place : ℕ) → i < length places → at_place ≡ first + get_or places i x → at_place < length marks → SetsMarks old marks first (take i places) → SetsMarks old (slice_set marks at_place true) first (take (i + 1) places)
@@ -235,15 +223,6 @@ box_room e hull other ps qs i first x places box lt first_is places_are =
 pub record IsSoFar (e : Extent) (marks : List Bool) (ps qs : List Cell) : Type 0 where
   pub size : length marks ≡ size_of e
   pub table : IsTableOf e marks ps qs
-
-pub so_far_none : (e : Extent) (marks : List Bool) (qs : List Cell) → marks ≡ replicate (size_of e) false → IsSoFar e marks [] qs
-so_far_none e marks qs is = record {
-  size = ap length is ∙ length-replicate (size_of e) false;
-  table = λ d. (
-    λ m. absurd (none_marked (size_of e) (place_of e d) (subst (λ (ms : List Bool). IsTrue (slice_index_or ms (place_of e d) false)) is m.marked)),
-    λ (c, in_none, in_qs). absurd (none_there c in_none),
-  );
-}
 
 -- one cell more
 pub so_far_more : (e : Extent) (marks new : List Bool) (ps qs : List Cell) (i : ℕ) (x : Cell) → i < length ps → length new ≡ length marks → Adds e marks new (get_or ps i x) qs → IsSoFar e marks (take i ps) qs → IsSoFar e new (take (i + 1) ps) qs
