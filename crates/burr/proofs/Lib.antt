@@ -1,2 +1,1 @@
-mod ExplanationLines
-mod ExplanationWords
+pub mod Wordings

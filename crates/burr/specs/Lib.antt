@@ -1,4 +1,2 @@
+pub mod CommandLine
 pub mod Ends
-pub mod Explain
-pub mod Faults
-pub mod Refusals

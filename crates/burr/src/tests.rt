@@ -4,10 +4,8 @@ use burr_io::{Reading, Writing};
 use std::alloc::{AllocError, Global};
 use std::io::{self, Read, Write};
 use std::process::Abort;
-use std::rt::Files;
 use std::test::Fail;
 
-mod commands;
 mod memory;
 mod runs;
 mod streams;
@@ -82,8 +80,8 @@ impl Write for Narrow {
 }
 
 /// Asserts that words and an input end so.
-fn assert_ends<T: Abort + Files + AllocGlobal>(
-    rt: &T,
+fn assert_ends(
+    rt: &impl Abort,
     alloc: Global,
     words: &[&str],
     input: &str,
@@ -95,7 +93,7 @@ fn assert_ends<T: Abort + Files + AllocGlobal>(
     let mut written = Vec::new(alloc);
     let mut told = Vec::new(alloc);
     let got = run_words(
-        rt,
+        alloc,
         &words,
         &mut Reading::new(input.as_bytes()),
         &mut Writing::new(&mut written),

@@ -1,12 +1,7 @@
-use Rattle.std.proofs.Common.{codes, inl, inr, refl}
+use Rattle.std.proofs.Common.{inr}
 use Rattle.burr.proofs.program.give.Goals as goal
 
-pub returns-in-Err : goal.returns-in-Err
-returns-in-Err g c =
+pub returns-in-Err-clause-text : goal.returns-in-Err-clause-text
+returns-in-Err-clause-text g c given =
     let fails = c.in-Err.ensures.puts.err in
-    inr (
-      _,
-      inr (inl (c.end_by.ensures.status, (codes "-", inr refl))),
-      inr ((fails.takes.0, fails.takes.3), fails.fails),
-      c.end_by.ensures.told,
-    )
+    (c.as_bytes-text.result.now, inr (fails.takes, fails.fails, c.end_by.ensures.told, c.end_by.ensures.status))

@@ -1,5 +1,0 @@
-//! Refusals of the verifier, by subject.
-
-pub mod code;
-pub mod frames;
-pub mod space;
