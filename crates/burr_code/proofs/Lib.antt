@@ -1,4 +1,3 @@
 pub mod Common
-pub mod LabelLists
 pub mod Operands
 mod WorkedRows

@@ -1,5 +1,4 @@
 pub mod Instruction
-pub mod LabelBytes
 pub mod Labels
 pub mod Laws
 pub mod Meaning

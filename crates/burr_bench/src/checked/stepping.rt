@@ -63,8 +63,6 @@ impl<B: Blocking> Checked<'_, B> {
             Some((Instr::Grip(set), size)) => self.make_grip(set, size),
             Some((Instr::Step(direction), size)) => self.move_grip(direction, size),
             Some((Instr::Aside(direction, tray), size)) => self.aside(direction, tray, size),
-            // The other instructions are not built yet: they are no code.
-            Some(_) => Err(Trap::BadCode),
         }
     }
 
@@ -118,7 +116,7 @@ impl<B: Blocking> Checked<'_, B> {
             return Err(Trap::Collision);
         }
         let motion = self.motion(direction, false);
-        self.state.move_grip(direction, size);
+        self.state.go_on(direction, size);
         Ok(Some(motion))
     }
 

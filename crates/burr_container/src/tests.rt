@@ -1,4 +1,0 @@
-use super::*;
-
-mod faults;
-mod vectors;

@@ -1,6 +1,0 @@
-//! Linear forms over symbols.
-#![tactic(auto)]
-
-mod form;
-
-pub use form::Form;
