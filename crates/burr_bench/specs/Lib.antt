@@ -1,6 +1,7 @@
 pub mod AsideLaws
 pub mod Bench
 pub mod BenchViews
+pub mod Built
 pub mod Control
 pub mod Ways
 pub mod Next

@@ -70,6 +70,6 @@ abbrev pub StaysOnBench : BenchState → Direction → Type 0
 StaysOnBench s direction = AllOnBench (moved_places s.grip direction s.places) s.tray
 
 -- the step of a `step` of so many bytes along this direction
-abbrev pub gone_on : Direction → ℕ → BenchState → BenchState
-gone_on direction size s =
+abbrev pub moved_grip : Direction → ℕ → BenchState → BenchState
+moved_grip direction size s =
     record (behind size s) { places = moved_places s.grip direction s.places }

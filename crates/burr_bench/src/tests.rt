@@ -175,7 +175,8 @@ fn tells_its_state(rt: HostRuntime) -> Result<(), Fail> {
 fn tells_where_it_stands(rt: HostRuntime) -> Result<(), Fail> {
     let duo = Assembly::read(rt.alloc(), DUO)?;
     let cells = PlainCells::new(&duo);
-    let mut bench = Checked::bare(&[0x10, 0, 0, 0, 1, 0x13], &cells);
+    // a `grip`, and a `tray`, which is not built
+    let mut bench = Checked::bare(&[0x10, 0, 0, 0, 1, 0x13, 1], &cells);
     assert_eq!(rt; (bench.steps(), bench.pc(), bench.ended()), (0, 0, false));
     assert_eq!(rt; bench.step(None), Ok(Progress::Went(None)));
     assert_eq!(rt; (bench.steps(), bench.pc(), bench.ended()), (1, 5, false));

@@ -1,3 +1,4 @@
 pub mod Common
+pub mod LabelLists
 pub mod Operands
 mod WorkedRows

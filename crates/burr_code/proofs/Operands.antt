@@ -1,56 +1,56 @@
--- The operands of an instruction: the bytes behind its first.
-use Rattle.std.proofs.Common.{◌≡◌, ℕ, ◌/◌, ◌%◌, ◌<◌, ◌≤◌, ◌-◌, List, [], ◌∷◌, length, take, drop, slice_index, sym, subst, arith, length-drop}
+-- Bytes that begin with no instruction, and those that begin with a `pick`.
+use Rattle.std.proofs.Common.{◌≡◌, ◌≢◌, ℕ, ◌+◌, ◌-◌, ◌*◌, ◌<◌, List, ◌∷◌, ◌++◌, length, take, drop, sym, ap, ◌∙◌, subst, arith}
 use Rattle.std.specs.List.{slice_range}
-use Rattle.std.proofs.lemmas.List.{take_all}
-use Rattle.byteorder.specs.Endian.{big_bytes, big_number}
-use Rattle.burr_text.proofs.Common.Cuts.{same_tail}
-use Rattle.burr_voxels.specs.declared.direction.Direction.{Direction}
-use Rattle.burr_voxels.specs.Grid.{number_of}
-use Rattle.burr_code.specs.declared.limits.TheConstants.{TRAYS}
-use Rattle.burr_code.specs.Instruction.{Instruction, Aside, Begins, IsInRange}
-use Rattle.burr_code.specs.Meaning.{IsWith, NoneStandsAt}
-use Rattle.burr_code.proofs.Common.Reading.{read_begun}
+use Rattle.std.proofs.Math.Seq.{take-append_seam}
+use Rattle.std.proofs.lemmas.List.{take-append-drop, length-append}
+use Rattle.burr_text.proofs.Common.Cuts.{same_head, same_tail}
+use Rattle.burr_code.specs.Instruction.{Instruction, Begins, IsInRange, IsInNumberRange, AreLabels, label_bytes, signed_word}
+use Rattle.burr_code.specs.Meaning.{NoneBegins, NoOperand}
+use Rattle.burr_code.proofs.Common.Reading.{read, read_begun}
+use Rattle.burr_code.proofs.LabelLists.{length-label_bytes}
 
--- four bytes are those of the number that they make, the highest first
-pub with_number_of_four : (xs : List ℕ) (n : ℕ) → 4 ≤ length xs → ((i : ℕ) → slice_index xs i < 256) → n ≡ big_number 4 xs → IsWith xs (big_bytes 4 n)
-with_number_of_four [] n long small e = absurd (omega arith)
-with_number_of_four (a ∷ []) n long small e = absurd (omega arith)
-with_number_of_four (a ∷ b ∷ []) n long small e = absurd (omega arith)
-with_number_of_four (a ∷ b ∷ c ∷ []) n long small e = absurd (omega arith)
-with_number_of_four (a ∷ b ∷ c ∷ d ∷ rest) n long small e =
-    let a_small = small 0 in
-    let b_small = small 1 in
-    let c_small = small 2 in
-    let d_small = small 3 in
-    let first : a ≡ n / 16777216 % 256 = omega arith in
-    let second : b ≡ n / 65536 % 256 = omega arith in
-    let third : c ≡ n / 256 % 256 = omega arith in
-    let fourth : d ≡ n % 256 = omega arith in
-    record { rest = rest; parts = cc }
+-- bytes begin with no instruction where they don't begin with the one that is read from them
+none_begins : (bytes : List ℕ) → (IsInRange (read bytes) → ¬ Begins bytes (read bytes)) → NoneBegins bytes
+none_begins bytes none i in_range begins =
+    let both = subst (λ (j : Instruction). IsInRange j × Begins bytes j) (sym (read_begun bytes i in_range begins)) (in_range, begins) in
+    none both.0 both.1
 
--- where the bytes behind the first of an `aside` make no `aside`, no instruction begins them all
-none_begins_where_no_aside : (operands : List ℕ)
-    → ((direction : Direction) (tray : ℕ) → tray < TRAYS → ¬ IsWith operands (number_of direction ∷ tray ∷ []))
-    → (i : Instruction) → IsInRange i → ¬ Begins (0x12 ∷ operands) i
-none_begins_where_no_aside operands none i in_range begins = at _ _ (read_begun (0x12 ∷ operands) i in_range begins)
-  where
-    at : (direction : Direction) (tray : ℕ) → ¬ (Aside direction tray ≡ i)
-    at direction tray e =
-        let aside = subst (λ (j : Instruction). IsInRange j × Begins (0x12 ∷ operands) j) (sym e) (in_range, begins) in
-        none direction tray aside.0 (record { rest = aside.1.0; parts = same_tail _ _ _ _ aside.1.1 })
+-- no `ask` without a second number
+pub no_ask : (a b : ℕ) (operands rest : List ℕ) → operands ≡ a ∷ b ∷ rest → NoOperand IsInNumberRange signed_word rest → NoneBegins (0x22 ∷ operands)
+no_ask a b operands rest parts none = none_begins (0x22 ∷ operands) λ in_range begins.
+    none _ begins.0 in_range.1 (same_tail _ _ _ _ (same_tail _ _ _ _ (sym parts ∙ same_tail _ _ _ _ begins.1)))
 
--- the same at a place of the code
-pub none_stands_where_no_aside : (code operands : List ℕ) (pc : ℕ)
-    → drop pc code ≡ 0x12 ∷ operands
-    → ((direction : Direction) (tray : ℕ) → tray < TRAYS → ¬ IsWith operands (number_of direction ∷ tray ∷ []))
-    → NoneStandsAt code pc
-none_stands_where_no_aside code operands pc e none i stands =
-    none_begins_where_no_aside operands none i stands.in_range (rw e at stands.begins)
+-- no `pick` without so many labels
+no_pick : (count : ℕ) (operands rest : List ℕ) → operands ≡ count ∷ rest
+    → ((labels behind : List ℕ) → AreLabels labels → count ≡ length labels → rest ≢ label_bytes labels ++ behind) → NoneBegins (0x23 ∷ operands)
+no_pick count operands rest parts none = none_begins (0x23 ∷ operands) λ in_range begins.
+    let both = sym parts ∙ same_tail _ _ _ _ begins.1 in
+    none _ begins.0 in_range (same_head _ _ _ _ both) (same_tail _ _ _ _ both)
 
--- the code from a place on, where its first byte and what is behind it are known
-pub rest_from : (code rest operands : List ℕ) (pc first number : ℕ)
-    → rest ≡ slice_range code pc (length code) → rest ≡ first ∷ operands → first ≡ number
-    → drop pc code ≡ number ∷ operands
-rest_from code rest operands pc first number cut parts is =
-    let all : take (length code - pc) (drop pc code) ≡ drop pc code = take_all (length code - pc) (drop pc code) (omega (arith, length-drop pc code)) in
-    cc
+-- no `pick` in fewer bytes
+pub no_pick_in : (count : ℕ) (operands rest : List ℕ) → operands ≡ count ∷ rest → length rest < 2 * count → NoneBegins (0x23 ∷ operands)
+no_pick_in count operands rest parts short = no_pick count operands rest parts λ labels behind are many e.
+    let size : length rest ≡ length (label_bytes labels) + length behind = ap (λ (all : List ℕ). length all) e ∙ length-append (label_bytes labels) behind in
+    omega (arith, short, many, size, length-label_bytes labels)
+
+front_of : (count : ℕ) (rest labels behind : List ℕ) → count ≡ length labels → rest ≡ label_bytes labels ++ behind → take (2 * count) rest ≡ label_bytes labels
+front_of count rest labels behind many e =
+    let size : 2 * count ≡ length (label_bytes labels) = omega (arith, many, length-label_bytes labels) in
+    ap (λ n. take n rest) size ∙ ap (λ (all : List ℕ). take (length (label_bytes labels)) all) e ∙ take-append_seam (label_bytes labels) behind
+
+cut_front : (n : ℕ) (rest : List ℕ) → slice_range rest 0 n ≡ take n rest
+cut_front n rest = let all : n - 0 ≡ n = omega arith in ap (λ m. take m rest) all
+
+-- no `pick` where the bytes are those of no labels
+pub no_pick_of : (count : ℕ) (operands rest front : List ℕ) → operands ≡ count ∷ rest → front ≡ slice_range rest 0 (2 * count)
+    → ((labels : List ℕ) → AreLabels labels → front ≢ label_bytes labels) → NoneBegins (0x23 ∷ operands)
+no_pick_of count operands rest front parts cut none = no_pick count operands rest parts λ labels behind are many e.
+    none labels are (cut ∙ cut_front (2 * count) rest ∙ front_of count rest labels behind many e)
+
+-- a `pick` of labels whose bytes are there
+pub is_pick : (count : ℕ) (operands rest front labels : List ℕ) → operands ≡ count ∷ rest → front ≡ slice_range rest 0 (2 * count) → length front ≡ 2 * count
+    → front ≡ label_bytes labels → (behind : List ℕ) × (0x23 ∷ operands ≡ 0x23 ∷ length labels ∷ (label_bytes labels ++ behind))
+is_pick count operands rest front labels parts cut size e =
+    let many : count ≡ length labels = omega (arith, size, ap (λ (all : List ℕ). length all) e, length-label_bytes labels) in
+    let whole : rest ≡ label_bytes labels ++ drop (2 * count) rest = sym (take-append-drop (2 * count) rest) ∙ ap (λ (all : List ℕ). all ++ drop (2 * count) rest) (sym (cut ∙ cut_front (2 * count) rest) ∙ e) in
+    (drop (2 * count) rest, ap (λ (all : List ℕ). 0x23 ∷ all) (parts ∙ ap (λ n. n ∷ rest) many ∙ ap (λ (all : List ℕ). length labels ∷ all) whole))

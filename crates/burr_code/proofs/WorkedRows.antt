@@ -40,3 +40,9 @@ no_number_below is = omega (arith, ints, is.0)
 
 no_pick_of_one : ¬ IsInRange (Pick (0 ∷ []))
 no_pick_of_one is = omega (arith, is.0)
+
+no_pick_of_nine : ¬ IsInRange (Pick (0 ∷ 1 ∷ 2 ∷ 3 ∷ 4 ∷ 5 ∷ 6 ∷ 7 ∷ 8 ∷ []))
+no_pick_of_nine is = omega (arith, is.1)
+
+no_ask_from_above : ¬ IsInRange (Ask (pos 1) (pos 0))
+no_ask_from_above is = omega (arith, ints, is.2)

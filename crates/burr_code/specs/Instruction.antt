@@ -31,6 +31,10 @@ pub data Instruction : Type 0 where
 abbrev pub signed_word : ℤ → List ℕ
 signed_word n = big_bytes 2 (cast_unsigned w16 n)
 
+-- the bytes of labels: two a label
+abbrev pub label_bytes : List ℕ → List ℕ
+label_bytes labels = flat_map (λ label. big_bytes 2 label) labels
+
 -- the bytes of an instruction: the first tells which it is, and its operands follow
 abbrev pub spelled : Instruction → List ℕ
 spelled Halt = 0x00 ∷ []
@@ -47,13 +51,18 @@ spelled (Tray tray) = 0x13 ∷ tray ∷ []
 spelled (Jump label) = 0x20 ∷ big_bytes 2 label
 spelled (Down slot label) = 0x21 ∷ slot ∷ big_bytes 2 label
 spelled (Ask low high) = 0x22 ∷ signed_word low ++ signed_word high
-spelled (Pick labels) = 0x23 ∷ length labels ∷ flat_map (λ label. big_bytes 2 label) labels
+spelled (Pick labels) = 0x23 ∷ length labels ∷ label_bytes labels
 spelled (Call callee) = 0x24 ∷ callee ∷ []
 spelled Ret = 0x25 ∷ []
 
 -- a number that an operand or a slot may be
 abbrev pub IsInNumberRange : ℤ → Type 0
 IsInNumberRange n = (neg_ℤ (pos 32767) ≤ℤ n) × (n ≤ℤ pos 32767)
+
+-- labels that `pick` may offer
+abbrev pub AreLabels : List ℕ → Type 0
+AreLabels labels =
+    (2 ≤ length labels) × (length labels ≤ 8) × All (λ label. label < 2 ^ 16) labels
 
 -- the operands are in their ranges
 abbrev pub IsInRange : Instruction → Type 0
@@ -71,18 +80,9 @@ IsInRange (Tray tray) = tray < TRAYS
 IsInRange (Jump label) = label < 2 ^ 16
 IsInRange (Down slot label) = (slot < SLOTS) × (label < 2 ^ 16)
 IsInRange (Ask low high) = IsInNumberRange low × IsInNumberRange high × (low ≤ℤ high)
-IsInRange (Pick labels) =
-    (2 ≤ length labels) × (length labels ≤ 8) × All (λ label. label < 2 ^ 16) labels
+IsInRange (Pick labels) = AreLabels labels
 IsInRange (Call callee) = callee < 256
 IsInRange Ret = Unit {0}
-
--- the instructions that are built so far; the others stand nowhere yet
-abbrev pub IsBuilt : Instruction → Type 0
-IsBuilt Halt = Unit {0}
-IsBuilt (Grip set) = Unit {0}
-IsBuilt (Step direction) = Unit {0}
-IsBuilt (Aside direction tray) = Unit {0}
-IsBuilt i = ⊥
 
 -- the bytes begin with the instruction's
 abbrev pub Begins : List ℕ → Instruction → Type 0
@@ -90,6 +90,5 @@ Begins bytes i = (rest : List ℕ) × (bytes ≡ spelled i ++ rest)
 
 -- An instruction stands at pc where its operands are in range and its bytes begin the code at pc.
 pub record StandsAt (code : List ℕ) (pc : ℕ) (i : Instruction) : Type 0 where
-  pub built : IsBuilt i
   pub in_range : IsInRange i
   pub begins : Begins (drop pc code) i

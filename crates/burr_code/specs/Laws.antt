@@ -1,6 +1,6 @@
 -- The laws of the instructions' bytes.
-use Rattle.std.specs.Prelude.{◌≡◌, ℕ, List}
-use Rattle.burr_code.specs.Instruction.{Instruction, IsInRange, Begins, StandsAt}
+use Rattle.std.specs.Prelude.{◌≡◌, ◌↔◌, ◌++◌, ℕ, List, length}
+use Rattle.burr_code.specs.Instruction.{Instruction, IsInRange, Begins, StandsAt, spelled}
 
 -- bytes begin with one instruction at most
 abbrev pub OneBegins : Type 0
@@ -13,3 +13,9 @@ abbrev pub OneStandsAt : Type 0
 OneStandsAt =
     (code : List ℕ) (pc : ℕ) (i j : Instruction)
     → StandsAt code pc i → StandsAt code pc j → i ≡ j
+
+-- where the bytes of an instruction are, it stands, and no other does
+abbrev pub StandsAtItsBytes : Type 0
+StandsAtItsBytes =
+    (front rest : List ℕ) (i j : Instruction) → IsInRange i
+    → StandsAt (front ++ (spelled i ++ rest)) (length front) j ↔ (j ≡ i)

@@ -1,4 +1,5 @@
 pub mod Instruction
+pub mod LabelBytes
 pub mod Labels
 pub mod Laws
 pub mod Meaning

@@ -1,19 +1,29 @@
--- What the code's instructions stand for, and which operands make one.
-use Rattle.std.specs.Prelude.{◌≡◌, ◌≢◌, ◌<◌, ◌^◌, ◌++◌, ◌∷◌, [], ℕ, List, length, Option, MatchOption}
-use Rattle.byteorder.specs.Endian.{big_bytes}
-use Rattle.burr_voxels.specs.declared.direction.Direction.{Direction}
-use Rattle.burr_voxels.specs.Grid.{number_of}
+-- What the code's instructions stand for, and what bytes make one.
+use Rattle.std.specs.Prelude.{◌≡◌, ◌≢◌, ◌++◌, ℕ, List, length, Option, MatchOption}
+use Rattle.std.specs.Borrow.{Bor}
 use Rattle.burr_code.specs.declared.instr.Instr.{Instr}
 use Rattle.burr_code.specs.declared.instr.Instr.TheVariants as instr
-use Rattle.burr_code.specs.declared.limits.TheConstants.{TRAYS}
-use Rattle.burr_code.specs.Instruction.{Instruction, Halt, Grip, Step, Aside, StandsAt, spelled}
+use Rattle.burr_code.specs.Instruction.{Instruction, Halt, Push, Load, Store, Add, Sub, Drop, Grip, Step, Aside, Tray, Jump, Down, Ask, Pick, Call, Ret, IsInRange, Begins, StandsAt, spelled}
 
 -- the instruction that a value of the code stands for
 abbrev pub meaning : Instr → Instruction
 meaning instr.Halt = Halt
+meaning (instr.Push n) = Push n
+meaning (instr.Load slot) = Load slot
+meaning (instr.Store slot) = Store slot
+meaning instr.Add = Add
+meaning instr.Sub = Sub
+meaning instr.Drop = Drop
 meaning (instr.Grip set) = Grip set
 meaning (instr.Step direction) = Step direction
 meaning (instr.Aside direction tray) = Aside direction tray
+meaning (instr.Tray tray) = Tray tray
+meaning (instr.Jump label) = Jump label
+meaning (instr.Down slot label) = Down slot label
+meaning (instr.Ask low high) = Ask low high
+meaning (instr.Pick labels) = Pick labels
+meaning (instr.Call callee) = Call callee
+meaning instr.Ret = Ret
 
 -- this instruction stands there, with so many bytes
 abbrev pub IsFoundAt : List ℕ → ℕ → Instr × ℕ → Type 0
@@ -24,32 +34,24 @@ IsFoundAt code pc found =
 abbrev pub NoneStandsAt : List ℕ → ℕ → Type 0
 NoneStandsAt code pc = (i : Instruction) → ¬ StandsAt code pc i
 
--- what stands behind a first byte begins with these bytes
-pub record IsWith (operands bytes : List ℕ) : Type 0 where
-  pub rest : List ℕ
-  pub parts : operands ≡ bytes ++ rest
+-- the bytes begin with no instruction
+abbrev pub NoneBegins : List ℕ → Type 0
+NoneBegins bytes = (i : Instruction) → IsInRange i → ¬ Begins bytes i
 
--- the `grip` that the operands make, if they make one
-abbrev pub IsGripAt : List ℕ → Option Instr → Type 0
-IsGripAt operands found =
-    MatchOption found
-    ((set : ℕ) → set ≢ 0 → set < 2 ^ 32 → ¬ IsWith operands (big_bytes 4 set))
-    (λ i. (set : ℕ) × (i ≡ instr.Grip set)
-    × (set ≢ 0) × (set < 2 ^ 32) × IsWith operands (big_bytes 4 set))
+-- the instruction with which the bytes begin, if they begin with one
+abbrev pub IsDecoded : List ℕ → Option Instr → Type 0
+IsDecoded bytes found =
+    MatchOption found (NoneBegins bytes)
+    (λ i. IsInRange (meaning i) × Begins bytes (meaning i))
 
--- the `step` that the operands make, if they make one
-abbrev pub IsStepAt : List ℕ → Option Instr → Type 0
-IsStepAt operands found =
-    MatchOption found
-    ((direction : Direction) → ¬ IsWith operands (number_of direction ∷ []))
-    (λ i. (direction : Direction) × (i ≡ instr.Step direction)
-    × IsWith operands (number_of direction ∷ []))
+-- the bytes begin with no operand of this range
+abbrev pub NoOperand : {A : Type 0} → (A → Type 0) → (A → List ℕ) → List ℕ → Type 0
+NoOperand {A} IsOne bytes_of bytes =
+    (operand : A) (rest : List ℕ) → IsOne operand → bytes ≢ bytes_of operand ++ rest
 
--- the `aside` that the operands make, if they make one
-abbrev pub IsAsideAt : List ℕ → Option Instr → Type 0
-IsAsideAt operands found =
-    MatchOption found
-    ((direction : Direction) (tray : ℕ) → tray < TRAYS
-    → ¬ IsWith operands (number_of direction ∷ tray ∷ []))
-    (λ i. (direction : Direction) × (tray : ℕ) × (i ≡ instr.Aside direction tray)
-    × (tray < TRAYS) × IsWith operands (number_of direction ∷ tray ∷ []))
+-- the operand with which the bytes begin, and the bytes behind it; or none of its range
+abbrev pub IsOperand : {A : Type 0} → (A → Type 0) → (A → List ℕ) → List ℕ
+    → Option (A × Bor (List ℕ)) → Type 0
+IsOperand IsOne bytes_of bytes found =
+    MatchOption found (NoOperand IsOne bytes_of bytes)
+    (λ front. IsOne front.0 × (bytes ≡ bytes_of front.0 ++ front.1.now))

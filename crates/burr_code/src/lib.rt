@@ -1,15 +1,19 @@
 //! The instructions of a plan and their bytes, sets of pieces, and the limits of plans.
 #![tactic(auto)]
 
+mod encoding;
 mod fetching;
 mod instr;
+mod labels;
 mod laws;
 pub mod limits;
 mod piece_set;
 
+pub use encoding::encode;
 pub use fetching::fetch;
 pub use instr::Instr;
-pub use laws::instructions_are_unique;
+pub use labels::Labels;
+pub use laws::{instructions_are_read_back, instructions_are_unique};
 pub use piece_set::is_in_set;
 
 #[cfg(test)]

@@ -20,3 +20,9 @@ pub const MOST_PROCEDURES: usize = 16;
 
 /// The budget of a plan is at most this many steps.
 pub const MOST_BUDGET: u32 = 1_000_000;
+
+/// A procedure has at most this many parameters.
+pub const MOST_PARAMETERS: u8 = 4;
+
+/// A frame has at most this many guards.
+pub const MOST_GUARDS: usize = 4;

@@ -13,6 +13,7 @@ mod text_runs;
 pub use fault::BenchFault;
 pub use laws::an_input_has_one_output;
 pub use outcome::Outcome;
+pub use reading::{LIMIT, read_whole};
 pub use text_runs::bench_text;
 
 #[cfg(test)]

@@ -17,12 +17,13 @@ use Rattle.burr_bench.specs.declared.trap.Trap.TheVariants as traps
 use Rattle.burr_bench.specs.declared.motion.Motion.{Motion}
 use Rattle.burr_bench.specs.declared.mode.Mode.{Mode}
 use Rattle.burr_bench.specs.declared.mode.Mode.TheVariants.{Running, Ended}
+use Rattle.burr_bench.specs.Built.{IsBuilt}
 use Rattle.burr_bench.specs.Bench.{activation, bare_procedure, start, BenchProcedure, BenchState, Setup}
 use Rattle.burr_bench.specs.Next.{Next, Goes, Traps, stepped}
 use Rattle.burr_bench.specs.Space.{NoOverlapIn, NoOverlap, AllOnBench, IsFreeGroup, moved_places, motion_of}
 use Rattle.burr_bench.specs.Step.{Executes, NextIs}
 use Rattle.burr_bench.specs.Parts.{parts}
-use Rattle.burr_bench.specs.StateViews.{IsOrderly, behind, gone_on, at_start, in_main, StaysOnBench}
+use Rattle.burr_bench.specs.StateViews.{IsOrderly, behind, moved_grip, at_start, in_main, StaysOnBench}
 use Rattle.burr_bench.specs.BenchViews.{Benched, benched, setup_of, IsSound, GoesOn}
 use Rattle.burr_bench.proofs.Common.Reached.{disjoint_at_start, homes_are_disjoint}
 use Rattle.burr_bench.proofs.Common.Pieces.{no_overlap_moved, no_overlap_aside}
@@ -51,11 +52,11 @@ pub step_collides : (setup : Setup) (here : BenchProcedure) (s : BenchState) (di
 step_collides setup here s direction some on met = inr (some, inr (on, inl (met, refl)))
 
 pub step_goes : (setup : Setup) (here : BenchProcedure) (s new : BenchState) (direction : Direction) (size : ℕ) (motion : Motion) → s.grip ≢ 0 → AllOnBench (moved_places s.grip direction s.places) s.tray
-    → NoOverlapIn setup.homes (moved_places s.grip direction s.places) s.tray → size ≡ length (spelled (Step direction)) → motion ≡ motion_of s.grip s.tray direction false → new ≡ gone_on direction size s
+    → NoOverlapIn setup.homes (moved_places s.grip direction s.places) s.tray → size ≡ length (spelled (Step direction)) → motion ≡ motion_of s.grip s.tray direction false → new ≡ moved_grip direction size s
     → Executes setup here s (Step direction) (Goes new (Some motion))
 step_goes setup here s new direction size motion some on none spells moves is =
-    let same : new ≡ gone_on direction 2 s = is ∙ ap (λ (n : ℕ). gone_on direction n s) spells in
-    inr (some, inr (on, inr (none, ap (λ (t : BenchState). Goes t (Some motion)) same ∙ ap (λ (m : Motion). Goes (gone_on direction 2 s) (Some m)) moves)))
+    let same : new ≡ moved_grip direction 2 s = is ∙ ap (λ (n : ℕ). moved_grip direction n s) spells in
+    inr (some, inr (on, inr (none, ap (λ (t : BenchState). Goes t (Some motion)) same ∙ ap (λ (m : Motion). Goes (moved_grip direction 2 s) (Some m)) moves)))
 
 pub aside_goes : (setup : Setup) (here : BenchProcedure) (s new : BenchState) (direction : Direction) (tray size : ℕ) (motion : Motion) → IsPartOfTray s.grip s.places s.tray → IsEmptyTray s.places tray
     → IsFreeGroup setup.homes s.places s.tray s.grip direction → size ≡ length (spelled (Aside direction tray)) → motion ≡ motion_of s.grip s.tray direction true
@@ -177,9 +178,9 @@ sound_aside old new there sound empty assembly code places grip main =
     }
 
 -- what stands next where an instruction stands in main
-pub next_at : (b : Benched) (i : Instruction) (next : Next) → b.state.running.procedure ≡ 0 → StandsAt b.code b.state.running.pc i
+pub next_at : (b : Benched) (i : Instruction) (next : Next) → b.state.running.procedure ≡ 0 → StandsAt b.code b.state.running.pc i → IsBuilt i
     → Executes (setup_of b) (bare_procedure b.code) b.state i next → NextIs (setup_of b) b.state next
-next_at b i next main stands rule = inl (bare_procedure b.code, i, (rw main refl, stands), rule)
+next_at b i next main stands built rule = inl (bare_procedure b.code, i, (rw main refl, stands, built), rule)
 
 pub start_parts : {Position : Type 0} (n : ℕ) (position : Position) → 2 ≤ n → parts (replicate n (On 0 position)) ≡ 1
 start_parts zero position several = absurd (omega arith)

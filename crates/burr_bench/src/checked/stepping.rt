@@ -63,6 +63,8 @@ impl<B: Blocking> Checked<'_, B> {
             Some((Instr::Grip(set), size)) => self.make_grip(set, size),
             Some((Instr::Step(direction), size)) => self.move_grip(direction, size),
             Some((Instr::Aside(direction, tray), size)) => self.aside(direction, tray, size),
+            // The other instructions are not built yet: they are no code.
+            Some(_) => Err(Trap::BadCode),
         }
     }
 
@@ -116,7 +118,7 @@ impl<B: Blocking> Checked<'_, B> {
             return Err(Trap::Collision);
         }
         let motion = self.motion(direction, false);
-        self.state.go_on(direction, size);
+        self.state.move_grip(direction, size);
         Ok(Some(motion))
     }
 

@@ -3,7 +3,7 @@ ghost use Rattle.burr_code.specs.Places.{AllLieIn};
 ghost use Rattle.burr_code.specs.declared.limits.TheConstants.{MOST_CODE};
 ghost use Rattle.burr_bench.specs.declared.mode.Mode.TheVariants.{Ended, Trapped};
 ghost use Rattle.burr_bench.specs.Next.{stepped};
-ghost use Rattle.burr_bench.specs.StateViews.{behind, gone_on, gone_aside, StaysOnBench};
+ghost use Rattle.burr_bench.specs.StateViews.{behind, moved_grip, gone_aside, StaysOnBench};
 
 use crate::mode::Mode;
 use crate::places::{shift_group, take_aside};
@@ -39,10 +39,10 @@ impl BenchState {
 
     /// The step of a `step` of so many bytes: the grip goes one unit along a direction, and stays on
     /// the bench.
-    pub fn go_on(&mut self, direction: Direction, size: usize)
+    pub fn move_grip(&mut self, direction: Direction, size: usize)
         requires on_bench { StaysOnBench self.old direction }
         requires within { self.old.running.pc + size ≤ MOST_CODE }
-        ensures { self.new ≡ gone_on direction size self.old }
+        ensures { self.new ≡ moved_grip direction size self.old }
     {
         shift_group(self.places.as_mut_slice(), self.grip, direction);
         self.go_behind(size);

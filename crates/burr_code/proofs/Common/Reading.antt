@@ -1,7 +1,6 @@
 -- For crates above: the instruction with which bytes begin, and the one that stands at a place of the code: one at most, and whether there is one.
 use Rattle.std.proofs.Common.{◌≡◌, ℕ, zero, suc, ◌<◌, ◌^◌, List, [], ◌∷◌, ◌++◌, length, drop, ◌⊎◌, inl, inr, refl, sym, ap, subst, ◌∙◌, arith, All}
 use Rattle.std.specs.Prelude.{slice_index, ℤ, pos, negsuc, FitsSigned, if◌then◌else◌, ◌==◌}
-use Rattle.std.specs.List.{flat_map}
 use Rattle.std.specs.Int.{w16, cast_unsigned, cast_signed}
 use Rattle.std.proofs.lemmas.Int.{to_z-of_z, ints}
 use Rattle.std.proofs.lemmas.List.Elements.{All-head, All-tail}
@@ -12,8 +11,8 @@ use Rattle.burr_voxels.specs.declared.direction.Direction.{Direction}
 use Rattle.burr_voxels.specs.declared.direction.Direction.TheVariants.{PlusX, MinusX, PlusY, MinusY, PlusZ, MinusZ}
 use Rattle.burr_voxels.specs.Grid.{number_of}
 use Rattle.burr_code.specs.declared.limits.TheConstants.{SLOTS, TRAYS}
-use Rattle.burr_code.specs.Instruction.{Instruction, Halt, Push, Load, Store, Add, Sub, Drop, Grip, Step, Aside, Tray, Jump, Down, Ask, Pick, Call, Ret, IsInRange, IsInNumberRange, IsBuilt, Begins, StandsAt, spelled, signed_word}
-use Rattle.burr_code.specs.Laws.{OneBegins, OneStandsAt}
+use Rattle.burr_code.specs.Instruction.{Instruction, Halt, Push, Load, Store, Add, Sub, Drop, Grip, Step, Aside, Tray, Jump, Down, Ask, Pick, Call, Ret, IsInRange, IsInNumberRange, Begins, StandsAt, spelled, signed_word, label_bytes}
+use Rattle.burr_code.specs.Laws.{OneBegins, OneStandsAt, StandsAtItsBytes}
 use Rattle.burr_code.proofs.Common.Orders.{decide_le}
 
 -- Operands, read from their bytes
@@ -47,10 +46,6 @@ signed_in bytes = cast_signed w16 (word_in bytes)
 abbrev words_in : ℕ → List ℕ → List ℕ
 words_in zero bytes = []
 words_in (suc n) bytes = word_in bytes ∷ words_in n (drop 2 bytes)
-
--- the two bytes of each of these labels
-abbrev label_bytes : List ℕ → List ℕ
-label_bytes labels = flat_map (λ (label : ℕ). big_bytes 2 label) labels
 
 number_fits : (n : ℤ) → IsInNumberRange n → FitsSigned w16 n
 number_fits n is = omega (arith, ints, is.0, is.1)
@@ -125,11 +120,24 @@ read_begun bytes i in_range begins = ap read begins.1 ∙ read_back i begins.0 i
 
 -- One at most
 
+behind_front : (xs ys : List ℕ) → drop (length xs) (xs ++ ys) ≡ ys
+behind_front [] ys = refl
+behind_front (x ∷ xs) ys = behind_front xs ys
+
 pub one_begins : OneBegins
 one_begins bytes i j first second here also = sym (read_begun bytes i first here) ∙ read_begun bytes j second also
 
 pub one_stands_at : OneStandsAt
 one_stands_at code pc i j here also = one_begins (drop pc code) i j here.in_range also.in_range here.begins also.begins
+
+pub stands_at_its_bytes : StandsAtItsBytes
+stands_at_its_bytes front rest i j in_range = (λ stands. one_stands_at code (length front) j i stands here, λ same. subst (λ (k : Instruction). StandsAt code (length front) k) (sym same) here)
+  where
+    code : List ℕ
+    code = front ++ (spelled i ++ rest)
+
+    here : StandsAt code (length front) i
+    here = record { in_range = in_range; begins = (rest, behind_front front (spelled i ++ rest)) }
 
 -- Whether there is one
 
@@ -155,17 +163,6 @@ decide_in_range (Pick labels) = decided_and_three (decide_at_most 2 (length labe
 decide_in_range (Call callee) = decide_below callee 256
 decide_in_range Ret = inl tt
 
-decide_built : (i : Instruction) → Decided (IsBuilt i)
-decide_built Halt = inl tt
-decide_built (Grip set) = inl tt
-decide_built (Step d) = inl tt
-decide_built (Aside d tray) = inl tt
-decide_built i = inr (λ built. built)
-
-behind_front : (xs ys : List ℕ) → drop (length xs) (xs ++ ys) ≡ ys
-behind_front [] ys = refl
-behind_front (x ∷ xs) ys = behind_front xs ys
-
 -- the bytes of an instruction, and behind them the others
 is_cut : (bytes : List ℕ) (i : Instruction) → Begins bytes i → bytes ≡ spelled i ++ drop (length (spelled i)) bytes
 is_cut bytes i begins =
@@ -185,16 +182,9 @@ decide_begins bytes = decided_like (λ both. (read bytes, both.0, both.1)) back 
 
 -- whether an instruction stands at a place of the code
 pub decide_stands : (code : List ℕ) (pc : ℕ) → Decided ((i : Instruction) × StandsAt code pc i)
-decide_stands code pc = decided_like (λ all. (read bytes, record { built = all.0; in_range = all.1; begins = all.2 })) back
-    (decided_and_three (decide_built (read bytes)) (decide_in_range (read bytes)) (decide_begins_with bytes (read bytes)))
-  where
-    bytes : List ℕ
-    bytes = drop pc code
-
-    back : (i : Instruction) × StandsAt code pc i → IsBuilt (read bytes) × IsInRange (read bytes) × Begins bytes (read bytes)
-    back found =
-        let stands = found.1 in
-        subst (λ (i : Instruction). IsBuilt i × IsInRange i × Begins bytes i) (sym (read_begun bytes found.0 stands.in_range stands.begins)) (stands.built, stands.in_range, stands.begins)
+decide_stands code pc = decided_like
+    (λ found. (found.0, record { in_range = found.1; begins = found.2 })) (λ found. (found.0, found.1.in_range, found.1.begins))
+    (decide_begins (drop pc code))
 
 -- an instruction stands at a place of the code, or none does
 pub stands_or_none : (code : List ℕ) (pc : ℕ) → ((i : Instruction) × StandsAt code pc i) ⊎ ((i : Instruction) → ¬ StandsAt code pc i)

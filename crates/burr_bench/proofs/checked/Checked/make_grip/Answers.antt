@@ -1,4 +1,4 @@
-use Rattle.std.proofs.Common.{sym, refl, ap}
+use Rattle.std.proofs.Common.{sym, ap}
 use Rattle.burr_bench.specs.Bench.{BenchState}
 use Rattle.burr_bench.proofs.Stepping.Steps.{goes_on_still}
 use Rattle.burr_bench.proofs.checked.Checked.make_grip.Goals as goal

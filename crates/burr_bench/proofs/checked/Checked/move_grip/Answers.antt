@@ -2,7 +2,7 @@ use Rattle.std.proofs.Common.{◌≡◌, ◌≢◌, sym, subst, refl, ap, length
 use Rattle.burr_assembly.specs.Homes.{homes_of}
 use Rattle.burr_bench.specs.Bench.{bare_procedure, BenchState}
 use Rattle.burr_bench.specs.Space.{NoOverlap}
-use Rattle.burr_bench.specs.StateViews.{gone_on, StaysOnBench}
+use Rattle.burr_bench.specs.StateViews.{moved_grip, StaysOnBench}
 use Rattle.burr_bench.specs.BenchViews.{Benched, benched, setup_of, GripPasses}
 use Rattle.burr_bench.specs.declared.checked.way.Way.TheVariants.{Unit}
 use Rattle.burr_text.proofs.Common.Tests.{yes_of, no_of}
@@ -29,8 +29,8 @@ returns-then-not-passes-clause-follows g c =
     step_collides (setup_of now) (bare_procedure now.code) now.state c.args.direction some stays
     (λ none. no_of c.if-not-passes.ensures (passing_of_no_overlap (homes_of now.assembly) now.state.places now.state.tray now.state.grip c.args.direction as_many none))
 
-pub go_on-requires-clause-on_bench : goal.go_on-requires-clause-on_bench
-go_on-requires-clause-on_bench g c = yes_of c.if-not-stays_on_bench.ensures
+pub move_grip-requires-clause-on_bench : goal.move_grip-requires-clause-on_bench
+move_grip-requires-clause-on_bench g c = yes_of c.if-not-stays_on_bench.ensures
 
 pub invariant_of-self : goal.invariant_of-self
 invariant_of-self g c =
@@ -38,7 +38,7 @@ invariant_of-self g c =
     let passes = subst (λ (b : Benched). GripPasses b (Unit c.args.direction)) (sym c.self.view_is) (yes_of c.if-not-passes.ensures) in
     let none = no_overlap_of_passing (homes_of old.assembly) old.state.places old.state.tray old.state.grip c.args.direction (c.self.invariant.apart old.state.tray) passes in
     sound_unit old _ c.args.direction c.self.invariant none refl refl
-    (ap (λ (s : BenchState). s.places) c.go_on.ensures) (ap (λ (s : BenchState). s.tray) c.go_on.ensures) (ap (λ (s : BenchState). s.grip) c.go_on.ensures) (ap (λ (s : BenchState). s.running.procedure) c.go_on.ensures)
+    (ap (λ (s : BenchState). s.places) c.move_grip.ensures) (ap (λ (s : BenchState). s.tray) c.move_grip.ensures) (ap (λ (s : BenchState). s.grip) c.move_grip.ensures) (ap (λ (s : BenchState). s.running.procedure) c.move_grip.ensures)
 
 pub returns-clause-follows : goal.returns-clause-follows
 returns-clause-follows g c =
@@ -47,9 +47,9 @@ returns-clause-follows g c =
     let stays = subst (λ (b : Benched). StaysOnBench b.state c.args.direction) c.self.view_is (yes_of c.if-not-stays_on_bench.ensures) in
     let apart = (subst (λ (b : Benched). NoOverlap (homes_of b.assembly) b.state.places) c.self.view_is c.self.invariant.apart) now.state.tray in
     let none = no_overlap_of_passing (homes_of now.assembly) now.state.places now.state.tray now.state.grip c.args.direction apart (yes_of c.if-not-passes.ensures) in
-    let went = subst (λ (b : Benched). c.go_on.new.self ≡ gone_on c.args.direction c.args.size b.state) c.self.view_is c.go_on.ensures in
-    step_goes (setup_of now) (bare_procedure now.code) now.state c.go_on.new.self c.args.direction c.args.size _ some stays none c.requires.size c.motion-motion.ensures went
+    let went = subst (λ (b : Benched). c.move_grip.new.self ≡ moved_grip c.args.direction c.args.size b.state) c.self.view_is c.move_grip.ensures in
+    step_goes (setup_of now) (bare_procedure now.code) now.state c.move_grip.new.self c.args.direction c.args.size _ some stays none c.requires.size c.motion-motion.ensures went
 
 pub returns-clause-goes_on : goal.returns-clause-goes_on
 returns-clause-goes_on g c =
-    rw (sym c.self.view_is) (goes_on_unit _ _ _ c.args.direction c.self.invariant (ap (λ m. m.out) c.motion-motion.ensures) (ap (λ (s : BenchState). s.places) c.go_on.ensures))
+    rw (sym c.self.view_is) (goes_on_unit _ _ _ c.args.direction c.self.invariant (ap (λ m. m.out) c.motion-motion.ensures) (ap (λ (s : BenchState). s.places) c.move_grip.ensures))

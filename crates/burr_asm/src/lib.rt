@@ -1,0 +1,14 @@
+//! Plans as texts: a text is assembled to a container, and a container is listed as a text.
+#![tactic(auto)]
+
+mod assembling;
+mod fault;
+mod listing;
+mod text;
+
+pub use assembling::assemble;
+pub use fault::AsmFault;
+pub use listing::list;
+
+#[cfg(test)]
+mod tests;

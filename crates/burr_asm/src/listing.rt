@@ -1,0 +1,44 @@
+mod code;
+mod forms;
+mod frames;
+mod instructions;
+mod names;
+mod numbers;
+mod sets;
+
+ghost use Rattle.std.specs.Prelude.{◌<◌, length};
+
+use crate::listing::code::add_code;
+use crate::listing::frames::add_exit;
+use crate::listing::names::add_procedure_name;
+use crate::listing::numbers::{add_word, end_line};
+use burr_container::Container;
+use std::alloc::{AllocError, Global};
+
+/// The text of a container's plan: procedures are named `p0`, `p1` and so on, and the labels of
+/// each `L0`, `L1` and so on. `assemble` gives the container back from it.
+pub fn list(alloc: Global, container: &Container<'_>) -> Result<Vec<u8>, AllocError> {
+    let header = container.header();
+    let mut text = Vec::from_slice(alloc, b"plan ")?;
+    text.extend_from_slice(header.name)?;
+    add_word(&mut text, header.pieces)?;
+    add_word(&mut text, header.budget)?;
+    end_line(&mut text)?;
+    for i in 0..container.proc_count() {
+        add_procedure(&mut text, container, i)?;
+    }
+    Ok(text)
+}
+
+fn add_procedure(text: &mut Vec<u8>, container: &Container<'_>, i: usize) -> Result<(), AllocError>
+    requires { i < length container.now.procedures.items }
+{
+    text.extend_from_slice(b"proc ")?;
+    add_procedure_name(text, i)?;
+    add_word(text, container.params(i))?;
+    end_line(text)?;
+    if let Some(exit) = container.exit(i) {
+        add_exit(text, &exit)?;
+    }
+    add_code(text, container, i)
+}

@@ -1,0 +1,110 @@
+ghost use Rattle.std.specs.Prelude.{◌<◌, ◌≤◌, IfSome, length, slice_get};
+
+use crate::listing::frames::add_frame;
+use crate::listing::instructions::{add_byte, add_instruction};
+use crate::listing::names::add_label_name;
+use crate::listing::numbers::end_line;
+use burr_code::{Instr, Labels, fetch};
+use burr_container::Container;
+use std::alloc::AllocError;
+
+/// How many labels a procedure has, and how many procedures its plan: what its code may name.
+#[derive(Clone, Copy, Debug)]
+struct Reach {
+    labels: usize,
+    procedures: usize,
+}
+
+/// Adds the labels and the code of procedure i.
+pub fn add_code(text: &mut Vec<u8>, container: &Container<'_>, i: usize) -> Result<(), AllocError>
+    requires { i < length container.now.procedures.items }
+{
+    let reach = Reach {
+        labels: container.label_count(i),
+        procedures: container.proc_count(),
+    };
+    for n in 0..container.label_count(i) {
+        add_label(text, container, i, n)?;
+        add_block(text, block(container, i, n), reach)?;
+    }
+    Ok(())
+}
+
+/// Adds label n of procedure i, with its frame.
+fn add_label(
+    text: &mut Vec<u8>,
+    container: &Container<'_>,
+    i: usize,
+    n: usize,
+) -> Result<(), AllocError>
+    requires procedure { i < length container.now.procedures.items }
+    requires label { IfSome (slice_get container.now.procedures.items i) (λ p. n < p.labels.count) }
+{
+    text.extend_from_slice(b"label ")?;
+    add_label_name(text, n)?;
+    end_line(text)?;
+    add_frame(text, &container.frame(i, n))
+}
+
+/// The code from label n of procedure i to the next one or to the end.
+fn block<'a>(container: &Container<'a>, i: usize, n: usize) -> &'a [u8]
+    requires procedure { i < length container.now.procedures.items }
+    requires label { IfSome (slice_get container.now.procedures.items i) (λ p. n < p.labels.count) }
+{
+    let code = container.code(i);
+    let start = usize::from(container.label(i, n));
+    let end = if n + 1 < container.label_count(i) {
+        usize::from(container.label(i, n + 1))
+    } else {
+        code.len()
+    };
+    // labels rise within the code, so the block is there
+    code.get(start..end).unwrap_or(&[])
+}
+
+/// Adds the lines of code within which no label stands.
+fn add_block(text: &mut Vec<u8>, block: &[u8], reach: Reach) -> Result<(), AllocError> {
+    let mut rest = block;
+    while let Some((first, others)) = rest.split_first() {
+        match reach.statement(rest) {
+            Some((instr, size)) => {
+                add_instruction(text, &instr)?;
+                rest = &rest[size..];
+            }
+            None => {
+                add_byte(text, *first)?;
+                rest = others;
+            }
+        }
+    }
+    Ok(())
+}
+
+impl Reach {
+    /// The instruction with which code begins, if all that it names is there, and its size.
+    fn statement(self, code: &[u8]) -> Option<(Instr<'_>, usize)>
+        ensures within { IfSome result (λ found. found.1 ≤ length code.now) }
+        ensures some { IfSome result (λ found. 0 < found.1) }
+    {
+        let (instr, size) = fetch(code, 0)?;
+        self.has_names_of(&instr).then_some((instr, size))
+    }
+
+    /// Whether all labels and procedures that an instruction names are there.
+    fn has_names_of(self, instr: &Instr<'_>) -> bool {
+        match instr {
+            Instr::Jump(label) | Instr::Down(_, label) => self.has_label(*label),
+            Instr::Pick(labels) => self.has_labels(labels),
+            Instr::Call(procedure) => usize::from(*procedure) < self.procedures,
+            _ => true,
+        }
+    }
+
+    fn has_label(self, label: u16) -> bool {
+        usize::from(label) < self.labels
+    }
+
+    fn has_labels(self, labels: &Labels<'_>) -> bool {
+        (0..labels.len()).all(|n| labels.get(n).is_some_and(|label| self.has_label(label)))
+    }
+}

@@ -1,0 +1,19 @@
+use itoa::{Buffer, Integer};
+use std::alloc::AllocError;
+
+/// Adds a number.
+pub fn add_number<Number: Integer>(text: &mut Vec<u8>, number: Number) -> Result<(), AllocError> {
+    text.extend_from_slice(Buffer::new().format(number).as_bytes())
+}
+
+/// Adds a blank and a number.
+pub fn add_word<Number: Integer>(text: &mut Vec<u8>, number: Number) -> Result<(), AllocError> {
+    text.push(b' ')?;
+    add_number(text, number)
+}
+
+/// Adds the end of a line.
+pub fn end_line(text: &mut Vec<u8>) -> Result<(), AllocError> {
+    text.push(b'\n')?;
+    Ok(())
+}

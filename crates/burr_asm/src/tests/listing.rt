@@ -1,0 +1,210 @@
+//! How containers are listed.
+use super::*;
+
+/// The container of two cubes with a second label at its second byte, listed.
+const SECOND_LABEL: &str = "plan duo 2 3\n\
+     proc p0 0\n\
+     label L0\n\
+     frame 0 -\n\
+     cost 3\n\
+     at 0 0 0 0 0\n\
+     at 1 0 0 0 0\n\
+     byte 10\n\
+     label L1\n\
+     frame 0 -\n\
+     cost 3\n\
+     at 0 0 0 0 0\n\
+     at 1 0 0 0 0\n\
+     halt\n\
+     halt\n\
+     halt\n\
+     push 4609\n\
+     byte 01\n\
+     halt\n";
+
+/// A lift by a procedure, listed.
+const LISTED_LIFT: &str = "plan cup 2 11\n\
+     proc p0 0\n\
+     label L0\n\
+     frame 0 -\n\
+     cost 11\n\
+     at 0 0 0 0 0\n\
+     at 1 0 0 0 0\n\
+     grip 0\n\
+     push 0\n\
+     call p1\n\
+     push 1\n\
+     call p1\n\
+     aside +z 1\n\
+     halt\n\
+     proc p1 1\n\
+     exit 0 0\n\
+     at 0 0 0 0 1+1v0\n\
+     at 1 0 0 0 0\n\
+     label L0\n\
+     frame 0 0\n\
+     slot 0 0 3\n\
+     cost 2\n\
+     at 0 0 0 0 0+1v0\n\
+     at 1 0 0 0 0\n\
+     step +z\n\
+     ret\n";
+
+/// All that a frame may say, and all instructions.
+const ALL: &str = "plan All_9- 3 1000000\n\
+     proc p0 0\n\
+     label L0\n\
+     frame 31 -\n\
+     slot 2 -32767 32767\n\
+     slot 7 -1 -1\n\
+     guard -2147483648-32768v2+32767v7\n\
+     guard 0\n\
+     stack 2147483647\n\
+     stack 0+1v7\n\
+     cost 0-1v2\n\
+     at 0 31 0 1-1v2 2+1v7\n\
+     at 1 apart\n\
+     at 2 0 0 0 0\n\
+     add\n\
+     sub\n\
+     drop\n\
+     load 7\n\
+     store 0\n\
+     grip 0,2,31\n\
+     step -x\n\
+     aside +y 0\n\
+     tray 31\n\
+     jump L1\n\
+     down 7 L0\n\
+     ask -32767 32767\n\
+     pick L1 L0 L1\n\
+     pick L0 L0 L0 L0 L0 L0 L0 L1\n\
+     call p1\n\
+     call p0\n\
+     ret\n\
+     byte ff\n\
+     byte 0f\n\
+     label L1\n\
+     frame 0 0,1,2\n\
+     cost 0\n\
+     at 0 apart\n\
+     at 1 apart\n\
+     at 2 apart\n\
+     push -32767\n\
+     halt\n\
+     proc p1 4\n\
+     exit 1 1\n\
+     at 0 5 1-1v0 2+2v1-3v2 3+4v3\n\
+     at 1 apart\n\
+     at 2 0 0 0 0\n\
+     label L0\n\
+     frame 0 -\n\
+     slot 0 0 0\n\
+     cost 1\n\
+     at 0 apart\n\
+     at 1 apart\n\
+     at 2 apart\n\
+     ret\n";
+
+/// Asserts the listing of a container.
+fn assert_listing(
+    rt: &impl Abort,
+    alloc: Global,
+    bytes: &[u8],
+    want: &str,
+) -> Result<(), AllocError> {
+    match Container::parse(bytes) {
+        Ok(container) => {
+            let text = list(alloc, &container)?;
+            assert_eq!(rt; str::from_utf8(&text).ok(), Some(want));
+        }
+        Err(fault) => assert!(rt; false, "{fault:?}"),
+    }
+    Ok(())
+}
+
+#[test]
+fn lists_a_label_inside_an_instruction(rt: HostRuntime) -> Result<(), Fail> {
+    let alloc = rt.alloc();
+    let mut bytes = assemble(alloc, DUO.as_bytes())?;
+    // the label's frame once more, at position 1, and two labels in place of one
+    let mut changed = Vec::from_slice(alloc, bytes.get(..18).unwrap_or(&[]))?;
+    changed.push(2)?;
+    changed.extend_from_slice(bytes.get(19..59).unwrap_or(&[]))?;
+    changed.extend_from_slice(&[0, 1])?;
+    changed.extend_from_slice(bytes.get(21..).unwrap_or(&[]))?;
+    bytes.clear();
+    assert_listing(&rt, alloc, &changed, SECOND_LABEL)?;
+    assert_listed(&rt, alloc, &changed)
+}
+
+#[test]
+fn lists_procedures_by_number(rt: HostRuntime) -> Result<(), Fail> {
+    let alloc = rt.alloc();
+    let bytes = assemble(alloc, LIFT.as_bytes())?;
+    assert_listing(&rt, alloc, &bytes, LISTED_LIFT)?;
+    Ok(())
+}
+
+#[test]
+fn lists_all_that_a_plan_may_say(rt: HostRuntime) -> Result<(), Fail> {
+    let alloc = rt.alloc();
+    let bytes = assemble(alloc, ALL.as_bytes())?;
+    assert_listing(&rt, alloc, &bytes, ALL)?;
+    Ok(())
+}
+
+/// Raw bytes in the place of the code of two cubes, and how they are listed.
+const CODES: &[(&str, &str)] = &[
+    // no such label, no such procedure
+    ("byte 20\nbyte 00\nbyte 01", "byte 20\nhalt\nbyte 01"),
+    ("byte 20\nbyte 00\nbyte 00", "jump L0"),
+    (
+        "byte 21\nbyte 00\nbyte 00\nbyte 01",
+        "byte 21\nhalt\nhalt\nbyte 01",
+    ),
+    ("byte 24\nbyte 00", "call p0"),
+    ("byte 24\nbyte 01", "byte 24\nbyte 01"),
+    (
+        "byte 23\nbyte 02\nbyte 00\nbyte 00\nbyte 00\nbyte 00",
+        "pick L0 L0",
+    ),
+    (
+        "byte 23\nbyte 02\nbyte 00\nbyte 00\nbyte 00\nbyte 01",
+        "byte 23\nload 0\nhalt\nhalt\nbyte 01",
+    ),
+    // pieces that the plan hasn't
+    ("byte 10\nbyte 80\nbyte 00\nbyte 00\nbyte 04", "grip 2,31"),
+    (
+        "byte 10\nbyte 00\nbyte 00\nbyte 00\nbyte 00",
+        "byte 10\nhalt\nhalt\nhalt\nhalt",
+    ),
+    // operands out of range, and cut off
+    ("byte 01\nbyte 80\nbyte 00", "byte 01\nbyte 80\nhalt"),
+    ("byte 01\nbyte 80\nbyte 01", "push -32767"),
+    ("byte 11\nbyte 06", "byte 11\ndrop"),
+    ("byte 05\nbyte 11", "sub\nbyte 11"),
+];
+
+#[test]
+fn lists_what_stands_where_it_can_be_named(rt: HostRuntime) -> Result<(), Fail> {
+    let alloc = rt.alloc();
+    for (raw, want) in CODES {
+        let bytes = assemble(
+            alloc,
+            &edited(alloc, DUO, &[(8, raw), (9, ";"), (10, ";")])?,
+        )?;
+        let text = edited(alloc, DUO, &[(2, "proc p0 0"), (3, "label L0"), (8, want)])?;
+        let Some(text) = str::from_utf8(&text).ok() else {
+            assert!(rt; false, "ASCII");
+            return Ok(());
+        };
+        let Some((want, _rest)) = text.split_once("aside -x 1\nhalt\n") else {
+            assert!(rt; false, "the end");
+            return Ok(());
+        };
+        assert_listing(&rt, alloc, &bytes, want)?;
+        assert_listed(&rt, alloc, &bytes)?;
+    }
+    Ok(())
+}

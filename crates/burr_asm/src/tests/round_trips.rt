@@ -1,0 +1,46 @@
+//! Listings are assembled to the container that they are of.
+use super::*;
+use crate::tests::making::Random;
+
+#[test]
+fn lists_what_is_assembled(rt: HostRuntime) -> Result<(), Fail> {
+    let alloc = rt.alloc();
+    for text in [DUO, RING, CUP, LIFT] {
+        let bytes = assemble(alloc, text.as_bytes())?;
+        assert_listed(&rt, alloc, &bytes)?;
+    }
+    Ok(())
+}
+
+#[test]
+fn lists_plans_made_at_random(rt: HostRuntime) -> Result<(), Fail> {
+    let alloc = rt.alloc();
+    let mut random = Random::new(20);
+    for which in 0..300u32 {
+        let plan = random.plan(alloc)?;
+        assert!(rt; plan.fits(), "plan {which}");
+        let bytes = write(alloc, &plan)?;
+        assert_listed(&rt, alloc, &bytes)?;
+    }
+    Ok(())
+}
+
+#[test]
+fn lists_what_is_left_of_a_damaged_text(rt: HostRuntime) -> Result<(), Fail> {
+    let alloc = rt.alloc();
+    for text in [RING, LIFT] {
+        let text = text.as_bytes();
+        for place in 0..text.len() {
+            let mut changed = Vec::from_slice(alloc, text)?;
+            for byte in b"\n ;01-,v" {
+                if let Some(at) = changed.get_mut(place) {
+                    *at = *byte;
+                }
+                if let Ok(bytes) = assemble(alloc, &changed) {
+                    assert_listed(&rt, alloc, &bytes)?;
+                }
+            }
+        }
+    }
+    Ok(())
+}

@@ -1,0 +1,161 @@
+use crate::fault::AsmFault;
+use crate::text::code::Code;
+use crate::text::names::Names;
+use crate::text::statement::{Scope, Statement};
+use burr_code::limits::MOST_LABELS;
+use burr_container::{ExitFrame, Frame, Procedure};
+use std::alloc::Global;
+
+/// A procedure as far as it has been read.
+#[derive(Debug, Drop)]
+pub struct Routine<'a> {
+    parameters: u8,
+    exit: Option<ExitFrame>,
+    names: Names<'a>,
+    labels: Vec<(u16, Frame)>,
+    /// The line of the last label.
+    last: usize,
+    code: Code<'a>,
+}
+
+impl<'a> Routine<'a> {
+    /// A procedure of which only the first line has been read.
+    pub fn new(alloc: Global, parameters: u8) -> Routine<'a> {
+        Routine {
+            parameters,
+            exit: None,
+            names: Names::new(alloc),
+            labels: Vec::new(alloc),
+            last: 0,
+            code: Code::new(alloc),
+        }
+    }
+
+    /// How many parameters it has: 0 to 4.
+    pub fn parameters(&self) -> u8 {
+        self.parameters
+    }
+
+    /// The same with an exit frame.
+    pub fn with_exit(self, exit: ExitFrame) -> Routine<'a> {
+        let Routine {
+            parameters,
+            exit: _none,
+            names,
+            labels,
+            last,
+            code,
+        } = self;
+        Routine {
+            parameters,
+            exit: Some(exit),
+            names,
+            labels,
+            last,
+            code,
+        }
+    }
+
+    /// A line `label NAME`, whose frame is still to come.
+    pub fn with_label(self, name: &'a [u8], line: usize) -> Result<Routine<'a>, AsmFault> {
+        if self.names.number(name).is_some() {
+            return Err(AsmFault::P2 { line });
+        }
+        if self.names.names.len() >= MOST_LABELS || self.ends_with_label() {
+            return Err(AsmFault::P4 { line });
+        }
+        let Routine {
+            parameters,
+            exit,
+            names,
+            labels,
+            last: _earlier,
+            code,
+        } = self;
+        let names = names.with(name)?;
+        Ok(Routine {
+            parameters,
+            exit,
+            names,
+            labels,
+            last: line,
+            code,
+        })
+    }
+
+    /// The same with the frame of the label that has come last.
+    pub fn with_frame(self, frame: Frame) -> Result<Routine<'a>, AsmFault> {
+        let Routine {
+            parameters,
+            exit,
+            names,
+            mut labels,
+            last,
+            code,
+        } = self;
+        labels.push((code.size(), frame))?;
+        Ok(Routine {
+            parameters,
+            exit,
+            names,
+            labels,
+            last,
+            code,
+        })
+    }
+
+    /// The same with one more statement behind its code.
+    pub fn with_statement(
+        self,
+        statement: Statement<'a>,
+        line: usize,
+    ) -> Result<Routine<'a>, AsmFault> {
+        let Routine {
+            parameters,
+            exit,
+            names,
+            labels,
+            last,
+            code,
+        } = self;
+        let code = code.with(statement, line)?;
+        Ok(Routine {
+            parameters,
+            exit,
+            names,
+            labels,
+            last,
+            code,
+        })
+    }
+
+    /// Whether the last label stands at the end of the code.
+    fn ends_with_label(&self) -> bool {
+        match self.labels.last() {
+            Some((position, _frame)) => *position == self.code.size(),
+            None => false,
+        }
+    }
+
+    /// The line of the last label, where it stands at the end of the code: a fault, where the
+    /// procedure ends there.
+    pub fn label_at_end(&self) -> Option<usize> {
+        self.ends_with_label().then_some(self.last)
+    }
+
+    /// The procedure, where all names in its code are known; else the fault of the first line in
+    /// which one is not.
+    pub fn resolve(self, alloc: Global, procedures: &Names<'_>) -> Result<Procedure, AsmFault> {
+        let scope = Scope {
+            labels: &self.names,
+            procedures,
+        };
+        let code = self.code.encode(alloc, scope)?;
+        Ok(Procedure {
+            params: self.parameters,
+            exit: self.exit,
+            labels: self.labels,
+            code,
+        })
+    }
+}

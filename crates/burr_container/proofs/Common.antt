@@ -1,0 +1,13 @@
+pub mod Containers
+pub mod Fields
+pub mod FormSpelling
+pub mod Frames
+pub mod Judging
+pub mod LabelLists
+pub mod Lawful
+pub mod Lists
+pub mod Places
+pub mod Procedures
+pub mod Rising
+pub mod Slots
+pub mod Spelled

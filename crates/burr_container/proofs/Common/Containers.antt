@@ -1,0 +1,332 @@
+-- For crates above: a plan has one spelling, its bytes have no fault, and bytes have one fault at
+-- most.
+use Rattle.std.proofs.Common.{◌≡◌, ℕ, pred, ◌≤◌, ◌&&◌, ◌==◌, Bool, true, false, IsTrue, nat_le, List, [], ◌∷◌, ◌++◌, length, codes, flat_map, refl, sym, ap, ◌∙◌, arith, append_assoc, append-nil, eqb-true, leb-true, eq-eqb, le-leb}
+use Rattle.std.specs.Str.{bytes_eq}
+use Rattle.std.specs.List.{list_all}
+use Rattle.std.proofs.lemmas.Bool.{and_parts, and_from, false≢true}
+use Rattle.byteorder.specs.Endian.{big_bytes}
+use Rattle.burr_code.specs.declared.limits.TheConstants.{MOST_PROCEDURES, MOST_BUDGET}
+use Rattle.burr_container.specs.declared.fault.ContainerFault.TheVariants.{C2, C3, C4}
+use Rattle.burr_container.specs.Plans.{PlanProcedure, Plan}
+use Rattle.burr_container.specs.Spelling.{counted_bytes, procedure_bytes, plan_bytes}
+use Rattle.burr_container.specs.Fitting.{is_procedure, are_procedures, is_piece_count, is_name_text, is_budget, is_fitting}
+use Rattle.burr_container.specs.Faults.{Failing, number, raw, passes, first, procedure, others, each, IsFollowed, name}
+use Rattle.burr_container.specs.Laws.{OnePlan, NoFaultOfPlan, OneFault}
+use Rattle.burr_container.proofs.Common.Lawful.{Front, Lawful, OfPart, OfFirst, OfNothing, OfEnd, Sound, first_lawful, lawful_as, passes_lawful, end_lawful}
+use Rattle.burr_container.proofs.Common.Lists.{OfEach, each_lawful}
+use Rattle.burr_container.proofs.Common.Fields.{number_sound, raw_sound, of_number, of_byte}
+use Rattle.burr_container.proofs.Common.Procedures.{main_sound, other_sound}
+
+-- The name
+
+abbrev pub is_name_length : ℕ → Bool
+is_name_length length = nat_le 1 length && nat_le length 32
+
+abbrev pub OfName : Front (ℕ × List ℕ)
+OfName = OfFirst (number 1 C4 is_name_length) (λ length. OfPart (raw length C4 is_name_text))
+
+name_long : (text : List ℕ) → IsTrue (is_name_text text) → 1 ≤ length text
+name_long [] is = absurd (false≢true is)
+name_long (b ∷ text) is = omega arith
+
+of_name : (text bytes r : List ℕ) → OfPart name text bytes r → (both : ℕ × List ℕ)
+    × (both.1 ≡ text) × OfName both bytes r
+of_name text bytes r here =
+    let short = (and_parts _ (nat_le (length text) 32) here.0).1 in
+    let few = leb-true (length text) 32 short in
+    let so =
+    and_from (nat_le 1 (length text)) (nat_le (length text) 32)
+    (le-leb 1 (length text) (name_long text here.0)) short in (
+      (length text, text),
+      refl,
+      (
+        text ++ r,
+        of_byte C4 is_name_length (length text) bytes (text ++ r) (omega (arith, few)) so here.1,
+        (
+          and_from (length text == length text) (is_name_text text)
+              (eq-eqb (length text) (length text) refl) here.0,
+          refl,
+        ),
+      ),
+    )
+
+pub name_sound : Sound name
+name_sound =
+    lawful_as (λ (both : ℕ × List ℕ). both.1) (OfPart name) OfName name.Fails name.Fails of_name
+    (λ at bytes fault fails. fails)
+    (first_lawful (number 1 C4 is_name_length) (λ length. OfPart (raw length C4 is_name_text))
+    (λ length. (raw length C4 is_name_text).Fails)
+    (number_sound 1 C4 is_name_length) (λ length fits. raw_sound length C4 is_name_text))
+
+-- Procedures, and what follows them
+
+abbrev pub Nothing : Type 0
+Nothing = Unit {0}
+
+abbrev pub is_procedure_count : ℕ → Bool
+is_procedure_count count = nat_le 1 count && nat_le count MOST_PROCEDURES
+
+others_sound : (pieces count : ℕ) → pieces ≤ 32 → Sound (others pieces count)
+others_sound pieces count few =
+    lawful_as (λ (ps : List PlanProcedure). ps) (OfPart (others pieces count))
+    (OfEach count (procedure pieces false)) (others pieces count).Fails
+    (each count (procedure pieces false))
+    (λ ps bytes r here.
+    let parts = and_parts (length ps == count) (list_all (is_procedure pieces false) ps) here.0 in
+    (ps, refl, (eqb-true (length ps) count parts.0, parts.1, here.1)))
+    (λ at bytes fault fails. fails)
+    (each_lawful (procedure pieces false) count (other_sound pieces few))
+
+abbrev pub OfOthers : ℕ → ℕ → Front Nothing → Front (List PlanProcedure × Nothing)
+OfOthers pieces count Last = OfFirst (others pieces count) (λ ps. Last)
+
+abbrev pub others_fail : ℕ → ℕ → Failing → Failing
+others_fail pieces count last = first (others pieces count) (λ ps. last)
+
+abbrev pub OfProcedures : ℕ → ℕ → Front Nothing
+    → Front (PlanProcedure × (List PlanProcedure × Nothing))
+OfProcedures pieces count Last =
+    OfFirst (procedure pieces true) (λ main. OfOthers pieces (pred count) Last)
+
+abbrev pub procedures_fail : ℕ → ℕ → Failing → Failing
+procedures_fail pieces count last =
+    first (procedure pieces true) (λ main. others_fail pieces (pred count) last)
+
+abbrev pub OfCounted : ℕ → Front Nothing
+    → Front (ℕ × (PlanProcedure × (List PlanProcedure × Nothing)))
+OfCounted pieces Last =
+    OfFirst (number 1 C4 is_procedure_count) (λ count. OfProcedures pieces count Last)
+
+abbrev pub counted_fail : ℕ → Failing → Failing
+counted_fail pieces last =
+    first (number 1 C4 is_procedure_count) (λ count. procedures_fail pieces count last)
+
+counted_lawful : (pieces : ℕ) (Last : Front Nothing) (last : Failing) → pieces ≤ 32
+    → Lawful Last last → Lawful (OfCounted pieces Last) (counted_fail pieces last)
+counted_lawful pieces Last last few lawful =
+    first_lawful (number 1 C4 is_procedure_count) (λ count. OfProcedures pieces count Last)
+    (λ count. procedures_fail pieces count last) (number_sound 1 C4 is_procedure_count)
+    (λ count fits.
+    first_lawful (procedure pieces true) (λ main. OfOthers pieces (pred count) Last)
+    (λ main. others_fail pieces (pred count) last) (main_sound pieces few)
+    (λ main is. first_lawful (others pieces (pred count)) (λ ps. Last) (λ ps. last)
+    (others_sound pieces (pred count) few) (λ ps are. lawful)))
+
+-- The header
+
+abbrev pub Counted : Type 0
+Counted = ℕ × (PlanProcedure × (List PlanProcedure × Nothing))
+
+abbrev pub OfNamed : ℕ → Front Nothing → Front (List ℕ × Counted)
+OfNamed pieces Last = OfFirst name (λ text. OfCounted pieces Last)
+
+abbrev pub named_fails : ℕ → Failing → Failing
+named_fails pieces last = first name (λ text. counted_fail pieces last)
+
+abbrev pub OfPieces : Front Nothing → Front (ℕ × (List ℕ × Counted))
+OfPieces Last = OfFirst (number 1 C4 is_piece_count) (λ pieces. OfNamed pieces Last)
+
+abbrev pub pieces_fail : Failing → Failing
+pieces_fail last = first (number 1 C4 is_piece_count) (λ pieces. named_fails pieces last)
+
+abbrev pub OfBudget : Front Nothing → Front (ℕ × (ℕ × (List ℕ × Counted)))
+OfBudget Last = OfFirst (number 4 C4 is_budget) (λ budget. OfPieces Last)
+
+abbrev pub budget_fails : Failing → Failing
+budget_fails last = first (number 4 C4 is_budget) (λ budget. pieces_fail last)
+
+abbrev pub is_version : ℕ → Bool
+is_version version = version == 1
+
+abbrev pub OfVersion : Front Nothing → Front (ℕ × (ℕ × (ℕ × (List ℕ × Counted))))
+OfVersion Last = OfFirst (number 2 C3 is_version) (λ version. OfBudget Last)
+
+abbrev pub version_fails : Failing → Failing
+version_fails last = first (number 2 C3 is_version) (λ version. budget_fails last)
+
+abbrev pub is_magic : List ℕ → Bool
+is_magic b = bytes_eq b (codes "BPLN")
+
+-- the values of a container
+abbrev pub Values : Type 0
+Values = List ℕ × (ℕ × (ℕ × (ℕ × (List ℕ × Counted))))
+
+abbrev pub OfValues : Front Nothing → Front Values
+OfValues Last = OfFirst (raw 4 C2 is_magic) (λ magic. OfVersion Last)
+
+abbrev pub values_fail : Failing → Failing
+values_fail last = first (raw 4 C2 is_magic) (λ magic. version_fails last)
+
+pieces_few : (pieces : ℕ) → IsTrue (is_piece_count pieces) → pieces ≤ 32
+pieces_few pieces are = leb-true pieces 32 (and_parts (nat_le 2 pieces) (nat_le pieces 32) are).1
+
+module _ (Last : Front Nothing) (last : Failing) (lawful : Lawful Last last) where
+  named_lawful : (pieces : ℕ) → pieces ≤ 32 → Lawful (OfNamed pieces Last) (named_fails pieces last)
+  named_lawful pieces few =
+      first_lawful name (λ text. OfCounted pieces Last) (λ text. counted_fail pieces last)
+      name_sound (λ text fits. counted_lawful pieces Last last few lawful)
+
+  pieces_lawful : Lawful (OfPieces Last) (pieces_fail last)
+  pieces_lawful =
+      first_lawful (number 1 C4 is_piece_count) (λ pieces. OfNamed pieces Last)
+      (λ pieces. named_fails pieces last) (number_sound 1 C4 is_piece_count)
+      (λ pieces fits. named_lawful pieces
+      (pieces_few pieces (and_parts _ (is_piece_count pieces) fits).1))
+
+  budget_lawful : Lawful (OfBudget Last) (budget_fails last)
+  budget_lawful =
+      first_lawful (number 4 C4 is_budget) (λ budget. OfPieces Last) (λ budget. pieces_fail last)
+      (number_sound 4 C4 is_budget) (λ budget fits. pieces_lawful)
+
+  version_lawful : Lawful (OfVersion Last) (version_fails last)
+  version_lawful =
+      first_lawful (number 2 C3 is_version) (λ version. OfBudget Last)
+      (λ version. budget_fails last) (number_sound 2 C3 is_version)
+      (λ version fits. budget_lawful)
+
+  values_lawful : Lawful (OfValues Last) (values_fail last)
+  values_lawful =
+      first_lawful (raw 4 C2 is_magic) (λ magic. OfVersion Last) (λ magic. version_fails last)
+      (raw_sound 4 C2 is_magic) (λ magic fits. version_lawful)
+
+-- Plans
+
+abbrev pub plan_of : Values → Plan
+plan_of v =
+    record {
+      name = v.1.1.1.1.0;
+      pieces = v.1.1.1.0;
+      budget = v.1.1.0;
+      procedures =
+          v.1.1.1.1.1.1.0 ∷ v.1.1.1.1.1.1.1.0;
+    }
+
+-- a plan that fits, at the front, and what follows it is so
+abbrev pub OfPlan : Front Nothing → Front Plan
+OfPlan Last plan bytes r =
+    (rest : List ℕ) × IsTrue (is_fitting plan) × (bytes ≡ plan_bytes plan ++ rest) × Last tt rest r
+
+some_main : (pieces : ℕ) (ps : List PlanProcedure) → IsTrue (are_procedures pieces ps)
+    → (main : PlanProcedure) × (more : List PlanProcedure) × (ps ≡ main ∷ more)
+    × IsTrue (is_procedure pieces true main) × IsTrue (list_all (is_procedure pieces false) more)
+    × IsTrue (nat_le (length (main ∷ more)) MOST_PROCEDURES)
+some_main pieces [] are = absurd (false≢true are)
+some_main pieces (main ∷ more) are =
+    let a =
+    and_parts (is_procedure pieces true main && list_all (is_procedure pieces false) more)
+    (nat_le (length (main ∷ more)) MOST_PROCEDURES) are in
+    let b =
+    and_parts (is_procedure pieces true main) (list_all (is_procedure pieces false) more) a.0 in
+    (main, more, refl, b.0, b.1, a.1)
+
+counted_made : (pieces : ℕ) (Last : Front Nothing) (main : PlanProcedure)
+    (more : List PlanProcedure) (bytes rest r : List ℕ)
+    → IsTrue (is_procedure pieces true main) → IsTrue (list_all (is_procedure pieces false) more)
+    → IsTrue (nat_le (length (main ∷ more)) MOST_PROCEDURES)
+    → bytes ≡ counted_bytes procedure_bytes (main ∷ more) ++ rest → Last tt rest r
+    → OfCounted pieces Last (length (main ∷ more), (main, (more, tt))) bytes r
+counted_made pieces Last main more bytes rest r is are many e last =
+    let few = leb-true (length (main ∷ more)) 16 many in
+    let so =
+    and_from (nat_le 1 (length (main ∷ more))) (nat_le (length (main ∷ more)) MOST_PROCEDURES)
+    (le-leb 1 (length (main ∷ more)) (omega arith)) many in
+    let others_fit =
+    and_from (length more == length more) (list_all (is_procedure pieces false) more)
+    (eq-eqb (length more) (length more) refl) are in
+    let behind = flat_map procedure_bytes (main ∷ more) ++ rest in (
+      behind,
+      of_byte C4 is_procedure_count (length (main ∷ more)) bytes behind (omega (arith, few)) so e,
+      (
+        flat_map procedure_bytes more ++ rest,
+        (is, append_assoc (procedure_bytes main) (flat_map procedure_bytes more) rest),
+        (rest, (others_fit, refl), last),
+      ),
+    )
+
+pub plan_apart : (plan : Plan) (rest : List ℕ)
+    → plan_bytes plan ++ rest
+    ≡ codes
+    "BPLN" ++ (big_bytes 2
+    1 ++ (big_bytes 4
+    plan.budget ++ (plan.pieces ∷ length
+    plan.name ∷ (plan.name ++ (counted_bytes procedure_bytes
+    plan.procedures ++ rest)))))
+plan_apart plan rest =
+    ap (λ (all : List ℕ). codes
+    "BPLN" ++ (big_bytes 2
+    1 ++ (big_bytes 4 plan.budget ++ (plan.pieces ∷ length plan.name ∷ all))))
+    (append_assoc plan.name (counted_bytes procedure_bytes plan.procedures) rest)
+
+with_procedures : (plan : Plan) (ps : List PlanProcedure) → plan.procedures ≡ ps
+    → record plan { procedures = ps } ≡ plan
+with_procedures plan ps e = λ i. record plan { procedures = sym e i }
+
+of_plan : (Last : Front Nothing) (plan : Plan) (bytes r : List ℕ) → OfPlan Last plan bytes r
+    → (v : Values) × (plan_of v ≡ plan) × OfValues Last v bytes r
+of_plan Last plan bytes r here =
+    let a =
+    and_parts (is_budget plan.budget && is_piece_count plan.pieces && is_name_text plan.name)
+    (are_procedures plan.pieces plan.procedures) here.1 in
+    let b =
+    and_parts (is_budget plan.budget && is_piece_count plan.pieces) (is_name_text plan.name)
+    a.0 in
+    let c = and_parts (is_budget plan.budget) (is_piece_count plan.pieces) b.0 in
+    let most =
+    leb-true plan.budget MOST_BUDGET
+    (and_parts (nat_le 1 plan.budget) (nat_le plan.budget MOST_BUDGET) c.0).1 in
+    let few = pieces_few plan.pieces c.1 in
+    let some = some_main plan.pieces plan.procedures a.1 in
+    let behind_name = counted_bytes procedure_bytes plan.procedures ++ here.0 in
+    let behind_pieces = length plan.name ∷ (plan.name ++ behind_name) in
+    let behind_budget = plan.pieces ∷ behind_pieces in
+    let behind_version = big_bytes 4 plan.budget ++ behind_budget in
+    let behind_magic = big_bytes 2 1 ++ behind_version in
+    let after_name =
+    ap (λ (ps : List PlanProcedure). counted_bytes procedure_bytes ps ++ here.0) some.2 in
+    let counted =
+    counted_made plan.pieces Last some.0 some.1 behind_name here.0 r some.3 some.4 some.5
+    after_name here.3 in
+    let named : List ℕ × Counted =
+    (plan.name, (length (some.0 ∷ some.1), (some.0, (some.1, tt)))) in
+    let from_pieces : OfPieces Last (plan.pieces, named) behind_budget r = (
+      behind_pieces,
+      of_byte C4 is_piece_count plan.pieces behind_budget behind_pieces
+          (omega (arith, few)) c.1 refl,
+      (behind_name, (b.1, refl), counted),
+    ) in
+    let from_budget : OfBudget Last (plan.budget, (plan.pieces, named)) behind_version r = (
+      behind_budget,
+      of_number 4 C4 is_budget plan.budget behind_version behind_budget
+          (omega (arith, most)) c.0 refl,
+      from_pieces,
+    ) in
+    let from_version : OfVersion Last (1, (plan.budget, (plan.pieces, named))) behind_magic r = (
+      behind_version,
+      of_number 2 C3 is_version 1 behind_magic behind_version (omega arith) refl
+          refl,
+      from_budget,
+    ) in (
+      (codes "BPLN", (1, (plan.budget, (plan.pieces, named)))),
+      with_procedures plan _ some.2,
+      (behind_magic, (refl, here.2 ∙ plan_apart plan here.0), from_version),
+    )
+
+plan_lawful : (Last : Front Nothing) (last : Failing) → Lawful Last last
+    → Lawful (OfPlan Last) (values_fail last)
+plan_lawful Last last lawful =
+    lawful_as plan_of (OfPlan Last) (OfValues Last) (values_fail last) (values_fail last)
+    (of_plan Last) (λ at bytes fault fails. fails) (values_lawful Last last lawful)
+
+pub one_plan : OnePlan
+one_plan p q r s first second e =
+    (plan_lawful OfNothing passes passes_lawful).one p q (plan_bytes p ++ r) r s
+    (r, first, refl, refl) (s, second, e, refl)
+
+pub no_fault_of_plan : NoFaultOfPlan
+no_fault_of_plan bytes fault (plan, fits, e) fails =
+    (plan_lawful OfEnd IsFollowed end_lawful).never plan bytes [] 0 fault
+    ([], fits, e ∙ sym (append-nil (plan_bytes plan)), (refl, refl)) fails
+
+pub one_fault : OneFault
+one_fault bytes a b here also =
+    (plan_lawful OfEnd IsFollowed end_lawful).one_fault 0 bytes a b here also

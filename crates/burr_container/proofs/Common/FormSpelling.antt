@@ -1,0 +1,114 @@
+-- For crates above: forms and places are spelled in one way over the same live slots.
+use Rattle.std.proofs.Common.{◌≡◌, ℕ, ◌<◌, ◌&&◌, ℤ, pos, Bool, true, false, IsTrue, List, [], ◌∷◌, ◌++◌, length, flat_map, refl, sym, ◌∙◌, arith, eqb-true, ltb-true}
+use Rattle.std.specs.List.{list_all}
+use Rattle.std.proofs.lemmas.Bool.{and_parts, false≢true}
+use Rattle.std.proofs.lemmas.Int.{ints}
+use Rattle.burr_text.proofs.Common.Cuts.{same_head, same_tail}
+use Rattle.burr_code.specs.Instruction.{signed_word}
+use Rattle.burr_code.specs.Places.{Apart, On}
+use Rattle.burr_forms.specs.Forms.{Form}
+use Rattle.burr_container.specs.Plans.{FormCell, of_live}
+use Rattle.burr_container.specs.Spelling.{form_bytes, forms_bytes, place_bytes, places_bytes}
+use Rattle.burr_container.specs.Fitting.{is_between, are_coefficients, is_form, are_forms, is_tray, is_place, are_places}
+use Rattle.burr_container.proofs.Common.Spelled.{OneSpelling, apart_three, between, one_word, one_long, one_list}
+
+zero_only : (n : ℤ) → IsTrue (is_between (pos 0) (pos 0) n) → n ≡ pos 0
+zero_only n test = let both = between (pos 0) (pos 0) n test in omega (arith, ints, both.0, both.1)
+
+-- coefficients, of which those of the live slots are spelled and the others are 0
+one_coefficients : (live : List Bool) (xs ys : List ℤ) (r s : List ℕ)
+    → IsTrue (are_coefficients live xs) → IsTrue (are_coefficients live ys)
+    → flat_map signed_word (of_live live xs) ++ r ≡ flat_map signed_word (of_live live ys) ++ s
+    → (xs ≡ ys) × (r ≡ s)
+one_coefficients [] [] [] r s first second e = (refl, e)
+one_coefficients [] [] (y ∷ ys) r s first second e = absurd (false≢true second)
+one_coefficients [] (x ∷ xs) ys r s first second e = absurd (false≢true first)
+one_coefficients (l ∷ live) [] ys r s first second e = absurd (false≢true first)
+one_coefficients (l ∷ live) (x ∷ xs) [] r s first second e = absurd (false≢true second)
+one_coefficients (true ∷ live) (x ∷ xs) (y ∷ ys) r s first second e =
+    let here = and_parts _ (are_coefficients live xs) first in
+    let also = and_parts _ (are_coefficients live ys) second in
+    let head =
+    one_word x y (flat_map signed_word (of_live live xs) ++ r)
+    (flat_map signed_word (of_live live ys) ++ s) here.0 also.0 e in
+    let tail = one_coefficients live xs ys r s here.1 also.1 head.1 in
+    (λ i. head.0 i ∷ tail.0 i, tail.1)
+one_coefficients (false ∷ live) (x ∷ xs) (y ∷ ys) r s first second e =
+    let here = and_parts _ (are_coefficients live xs) first in
+    let also = and_parts _ (are_coefficients live ys) second in
+    let head : x ≡ y = zero_only x here.0 ∙ sym (zero_only y also.0) in
+    let tail = one_coefficients live xs ys r s here.1 also.1 e in
+    (λ i. head i ∷ tail.0 i, tail.1)
+
+pub one_form : (live : List Bool) → OneSpelling (form_bytes live) (is_form live)
+one_form live a b r s first second e =
+    let here = and_parts _ (are_coefficients live a.coefs) first in
+    let also = and_parts _ (are_coefficients live b.coefs) second in
+    let constant =
+    one_long a.constant b.constant (flat_map signed_word (of_live live a.coefs) ++ r)
+    (flat_map signed_word (of_live live b.coefs) ++ s) here.0 also.0 e in
+    let coefs = one_coefficients live a.coefs b.coefs r s here.1 also.1 constant.1 in
+    (λ i. record { constant = constant.0 i; coefs = coefs.0 i }, coefs.1)
+
+-- as many forms
+pub one_forms_of : (live : List Bool) (xs ys : List Form) (r s : List ℕ) → length xs ≡ length ys
+    → IsTrue (list_all (is_form live) xs) → IsTrue (list_all (is_form live) ys)
+    → flat_map (form_bytes live) xs ++ r ≡ flat_map (form_bytes live) ys ++ s → (xs ≡ ys) × (r ≡ s)
+one_forms_of live = one_list (form_bytes live) (is_form live) (one_form live)
+
+-- forms behind their count
+pub one_forms : (most : ℕ) (live : List Bool) → OneSpelling (forms_bytes live) (are_forms most live)
+one_forms most live xs ys r s first second e =
+    one_forms_of live xs ys r s (same_head _ _ _ _ e) (and_parts _ _ first).1
+    (and_parts _ _ second).1 (same_tail _ _ _ _ e)
+
+pub tray_small : (tray : ℕ) → IsTrue (is_tray tray) → tray < 32
+tray_small tray test = ltb-true tray 32 test
+
+-- what a place on a tray must be
+pub on_parts : (live : List Bool) (tray : ℕ) (at : FormCell) → IsTrue (is_place live (On tray at))
+    → IsTrue (is_tray tray) × IsTrue (is_form live at.x) × IsTrue (is_form live at.y)
+    × IsTrue (is_form live at.z)
+on_parts live tray at fits =
+    let third =
+    and_parts (is_tray tray && is_form live at.x && is_form live at.y) (is_form live at.z)
+    fits in
+    let second = and_parts (is_tray tray && is_form live at.x) (is_form live at.y) third.0 in
+    let first = and_parts (is_tray tray) (is_form live at.x) second.0 in
+    (first.0, first.1, second.1, third.1)
+
+pub one_place : (live : List Bool) → OneSpelling (place_bytes live) (is_place live)
+one_place live Apart Apart r s first second e = (refl, same_tail _ _ _ _ e)
+one_place live Apart (On tray at) r s first second e =
+    let here = tray_small tray (on_parts live tray at second).0 in
+    let same : 255 ≡ tray = same_head _ _ _ _ e in
+    absurd (omega (arith, here, same))
+one_place live (On tray at) Apart r s first second e =
+    let here = tray_small tray (on_parts live tray at first).0 in
+    let same : tray ≡ 255 = same_head _ _ _ _ e in
+    absurd (omega (arith, here, same))
+one_place live (On tray at) (On other there) r s first second e =
+    let a = on_parts live tray at first in
+    let b = on_parts live other there second in
+    let same : tray ≡ other = same_head _ _ _ _ e in
+    let behind =
+    sym (apart_three (form_bytes live at.x) (form_bytes live at.y) (form_bytes live at.z) r)
+    ∙ same_tail _ _ _ _ e
+    ∙ apart_three (form_bytes live there.x) (form_bytes live there.y) (form_bytes live there.z) s in
+    let x =
+    one_form live at.x there.x (form_bytes live at.y ++ (form_bytes live at.z ++ r))
+    (form_bytes live there.y ++ (form_bytes live there.z ++ s)) a.1 b.1 behind in
+    let y =
+    one_form live at.y there.y (form_bytes live at.z ++ r) (form_bytes live there.z ++ s) a.2
+    b.2 x.1 in
+    let z = one_form live at.z there.z r s a.3 b.3 y.1 in
+    (λ i. On (same i) (record { x = x.0 i; y = y.0 i; z = z.0 i }), z.1)
+
+-- a place for each piece
+pub one_places : (pieces : ℕ) (live : List Bool)
+    → OneSpelling (places_bytes live) (are_places pieces live)
+one_places pieces live xs ys r s first second e =
+    let here = and_parts _ _ first in
+    let also = and_parts _ _ second in
+    one_list (place_bytes live) (is_place live) (one_place live) xs ys r s
+    (eqb-true _ _ here.0 ∙ sym (eqb-true _ _ also.0)) here.1 also.1 e

@@ -1,0 +1,9 @@
+pub mod Containers
+pub mod Fields
+pub mod Frames
+pub mod Fronts
+pub mod LabelLists
+pub mod Lists
+pub mod Places
+pub mod Procedures
+pub mod Slots

@@ -1,0 +1,11 @@
+pub mod Counts
+pub mod Cuts
+pub mod Decoding
+pub mod Faults
+pub mod Fitting
+pub mod Laws
+pub mod Plans
+pub mod Reading
+pub mod Refs
+pub mod Spelling
+pub mod Views

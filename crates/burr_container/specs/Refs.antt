@@ -1,0 +1,46 @@
+-- What the frames stand for that are read in place.
+use Rattle.std.specs.Prelude.{ℕ, List, Option, Some, None, Result, MatchResult}
+use Rattle.burr_code.specs.Places.{Placement, Apart, On}
+use Rattle.burr_forms.specs.Forms.{Form}
+use Rattle.burr_container.specs.declared.fault.ContainerFault.{ContainerFault}
+use Rattle.burr_container.specs.declared.reading.cursor.Cursor.{Cursor}
+use Rattle.burr_container.specs.declared.runs.FormRun.{FormRun}
+use Rattle.burr_container.specs.declared.runs.PlaceRun.{PlaceRun}
+use Rattle.burr_container.specs.declared.frame_ref.FrameRef.{FrameRef}
+use Rattle.burr_container.specs.declared.exit_ref.ExitRef.{ExitRef}
+use Rattle.burr_container.specs.Plans.{FormCell, Frame, ExitFrame}
+use Rattle.burr_container.specs.Decoding.{forms_in, form_in, places_in}
+use Rattle.burr_container.specs.Faults.{Part}
+use Rattle.burr_container.specs.Reading.{IsAt}
+
+abbrev pub forms_of : FormRun → List Form
+forms_of run = forms_in run.live run.count run.bytes.now
+
+abbrev pub places_of : PlaceRun → List (Placement FormCell)
+places_of run = places_in run.live run.count run.bytes.now
+
+abbrev pub frame_of : FrameRef → Frame
+frame_of f = record {
+  tray = f.tray;
+  grip = f.grip;
+  slots = f.slots;
+  guards = forms_of f.guards;
+  stack = forms_of f.stack;
+  cost = form_in f.cost.live f.cost.bytes.now;
+  places = places_of f.places;
+}
+
+abbrev pub exit_frame_of : ExitRef → ExitFrame
+exit_frame_of f = record { tray = f.tray; grip = f.grip; places = places_of f.places }
+
+-- a part is read in place: what is kept stands for the value at the cursor; or how the part fails
+abbrev pub ReadsInPlace : {A V : Type 0} → (V → A) → Part A → Cursor
+    → Result (V × Cursor) ContainerFault → Type 0
+ReadsInPlace value_of part cursor result =
+    MatchResult result (λ ok. IsAt part cursor (value_of ok.0) ok.1)
+    (λ fault. part.Fails cursor.at cursor.rest.now fault)
+
+-- where a piece lies, as it is told: apart, or its tray and three forms
+abbrev pub told : Option (ℕ × Form × Form × Form) → Placement FormCell
+told None = Apart
+told (Some at) = On at.0 (record { x = at.1; y = at.2; z = at.3 })

@@ -1,0 +1,20 @@
+use thiserror::Error;
+
+/// Why bytes are no container: the first field that fails, by the position of its first byte from 0.
+/// Fields are judged in their order, each once all its bytes are there.
+#[derive(Clone, Copy, Debug, PartialEq, Eq, Error)]
+pub enum ContainerFault {
+    /// The position is the number of bytes that there are.
+    #[error("at {at}: the bytes end too early")]
+    C1 { at: usize },
+    #[error("at {at}: the bytes don't begin with `BPLN`")]
+    C2 { at: usize },
+    #[error("at {at}: the version isn't 1")]
+    C3 { at: usize },
+    #[error("at {at}: a number, or the name, is out of its range")]
+    C4 { at: usize },
+    #[error("at {at}: the first label isn't at 0, or the labels don't rise")]
+    C5 { at: usize },
+    #[error("at {at}: bytes follow the last procedure")]
+    C6 { at: usize },
+}

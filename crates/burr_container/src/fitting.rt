@@ -1,0 +1,291 @@
+//! Whether plans are within the format.
+
+ghost use Rattle.std.specs.Prelude.{◌≡◌, ◌≤◌, ◌&&◌, length, false, pos, neg_ℤ, IsTrue};
+ghost use Rattle.std.specs.List.{list_all};
+ghost use Rattle.burr_container.specs.Fitting.{is_fitting, is_budget as fits_budget, is_piece_count as fits_piece_count, is_name_text as fits_name, are_procedures as fit_procedures, is_procedure as fits_procedure, is_exit as fits_exit, are_labels as fit_labels, are_parameters as fit_parameters, is_code, rise_from, is_exit_frame as fits_exit_frame, is_frame as fits_frame, is_frame_rest as fits_frame_rest, is_between, is_set_of as fits_set, is_range as fits_range, are_forms as fit_forms, is_form as fits_form, are_coefficients, is_coefficient, are_places as fit_places, is_place as fits_place};
+ghost use Rattle.burr_container.specs.Views.{placement_of, placements_of};
+
+use crate::frame::{ExitFrame, Frame};
+use crate::live::{live_slots, parameter_slots};
+use crate::place::Place;
+use crate::plan::{Plan, Procedure};
+use crate::plan_form::PlanForm;
+use burr_code::limits::{
+    MOST_BUDGET, MOST_CODE, MOST_GUARDS, MOST_LABELS, MOST_OPERANDS, MOST_PARAMETERS,
+    MOST_PROCEDURES, SLOTS, TRAYS,
+};
+use burr_text::is_name;
+
+impl Plan {
+    /// Whether the plan is within the format.
+    pub fn fits(&self) -> bool
+        ensures { result ≡ is_fitting self.now }
+    {
+        is_budget(self.budget)
+            && is_piece_count(self.pieces)
+            && is_name_text(&self.name)
+            && are_procedures(self.pieces, &self.procs)
+    }
+}
+
+fn is_budget(budget: u32) -> bool
+    ensures { result ≡ fits_budget budget }
+{
+    1 <= budget && budget <= MOST_BUDGET
+}
+
+fn is_piece_count(pieces: u8) -> bool
+    ensures test { result ≡ fits_piece_count pieces }
+    ensures few { IsTrue result → pieces ≤ 32 }
+{
+    2 <= pieces && pieces <= 32
+}
+
+fn is_name_text(name: &[u8]) -> bool
+    ensures { result ≡ fits_name name.now }
+{
+    is_name(name)
+}
+
+/// Main first, and then other procedures.
+fn are_procedures(pieces: u8, procedures: &[Procedure]) -> bool
+    requires { pieces ≤ 32 }
+    ensures { result ≡ fit_procedures pieces procedures.now }
+{
+    match procedures {
+        [] => false,
+        [main, others @ ..] => {
+            is_procedure(pieces, true, main)
+                && all_others(pieces, others)
+                && procedures.len() <= MOST_PROCEDURES
+        }
+    }
+}
+
+fn all_others(pieces: u8, procedures: &[Procedure]) -> bool
+    requires { pieces ≤ 32 }
+    ensures { result ≡ list_all (fits_procedure pieces false) procedures.now }
+{
+    procedures
+        .iter()
+        .all(|other| is_procedure(pieces, false, other))
+}
+
+fn is_procedure(pieces: u8, main: bool, procedure: &Procedure) -> bool
+    requires { pieces ≤ 32 }
+    ensures { result ≡ fits_procedure pieces main procedure.now }
+{
+    if !are_parameters(main, procedure.params) {
+        return false;
+    }
+    if !is_exit(pieces, main, procedure.params, &procedure.exit) {
+        return false;
+    }
+    is_body(pieces, &procedure.labels, &procedure.code)
+}
+
+/// Whether so many parameters may be; main has none.
+fn are_parameters(main: bool, parameters: u8) -> bool
+    ensures test { result ≡ fit_parameters main parameters }
+    ensures few { IsTrue result → parameters ≤ 4 }
+{
+    parameters <= if main { 0 } else { MOST_PARAMETERS }
+}
+
+fn is_body(pieces: u8, labels: &[(u16, Frame)], code: &[u8]) -> bool
+    requires { pieces ≤ 32 }
+    ensures { result ≡ (fit_labels pieces (length code.now) labels.now && is_code code.now) }
+{
+    are_labels(pieces, code.len(), labels) && code.len() <= MOST_CODE
+}
+
+fn is_exit(pieces: u8, main: bool, parameters: u8, exit: &Option<ExitFrame>) -> bool
+    requires pieces { pieces ≤ 32 }
+    requires parameters { parameters ≤ 4 }
+    ensures { result ≡ fits_exit main pieces parameters exit.now }
+{
+    match (main, exit) {
+        (true, None) => true,
+        (true, Some(_)) => false,
+        (false, None) => false,
+        (false, Some(exit)) => is_exit_frame(pieces, parameters, exit),
+    }
+}
+
+fn are_labels(pieces: u8, end: usize, labels: &[(u16, Frame)]) -> bool
+    requires { pieces ≤ 32 }
+    ensures { result ≡ fit_labels pieces end labels.now }
+{
+    match labels {
+        [] => false,
+        [first, ..] => {
+            first.0 == 0
+                && rise(labels, end)
+                && labels.len() <= MOST_LABELS
+                && all_frames(pieces, labels)
+        }
+    }
+}
+
+fn all_frames(pieces: u8, labels: &[(u16, Frame)]) -> bool
+    requires { pieces ≤ 32 }
+    ensures { result ≡ list_all (λ label. fits_frame pieces label.1) labels.now }
+{
+    labels.iter().all(|label| is_frame(pieces, &label.1))
+}
+
+/// Whether the labels rise, below the end of the code.
+fn rise(labels: &[(u16, Frame)], end: usize) -> bool
+    ensures { result ≡ rise_from 0 end labels.now }
+{
+    let mut least = 0;
+    for label in labels {
+        let position = usize::from(label.0);
+        if position < least || end <= position {
+            return false;
+        }
+        least = position + 1;
+    }
+    true
+}
+
+fn is_exit_frame(pieces: u8, parameters: u8, exit: &ExitFrame) -> bool
+    requires pieces { pieces ≤ 32 }
+    requires parameters { parameters ≤ 4 }
+    ensures { result ≡ fits_exit_frame pieces parameters exit.now }
+{
+    if TRAYS <= exit.tray {
+        return false;
+    }
+    if !is_set_of(pieces, exit.grip) {
+        return false;
+    }
+    are_places(pieces, &parameter_slots(parameters), &exit.places)
+}
+
+fn is_frame(pieces: u8, frame: &Frame) -> bool
+    requires { pieces ≤ 32 }
+    ensures { result ≡ fits_frame pieces frame.now }
+{
+    if TRAYS <= frame.tray {
+        return false;
+    }
+    if !is_set_of(pieces, frame.grip) {
+        return false;
+    }
+    if !are_ranges(&frame.slots) {
+        return false;
+    }
+    is_frame_rest(pieces, &live_slots(&frame.slots), frame)
+}
+
+/// Whether what follows the slots of a frame is within the format.
+fn is_frame_rest(pieces: u8, live: &[bool; 8], frame: &Frame) -> bool
+    ensures { result ≡ fits_frame_rest pieces live.now frame.now }
+{
+    if !are_forms(MOST_GUARDS, live, &frame.guards) {
+        return false;
+    }
+    if !are_forms(MOST_OPERANDS, live, &frame.stack) {
+        return false;
+    }
+    if !is_form(live, &frame.cost) {
+        return false;
+    }
+    are_places(pieces, live, &frame.places)
+}
+
+/// Whether these are some of so many pieces.
+fn is_set_of(pieces: u8, set: u32) -> bool
+    requires { pieces ≤ 32 }
+    ensures { result ≡ fits_set pieces set }
+{
+    u64::from(set) < 1u64 << pieces
+}
+
+fn are_ranges(slots: &[Option<(i16, i16)>]) -> bool
+    ensures { result ≡ list_all fits_range slots.now }
+{
+    slots.iter().all(|slot| is_range(*slot))
+}
+
+fn is_range(slot: Option<(i16, i16)>) -> bool
+    ensures { result ≡ fits_range slot }
+{
+    match slot {
+        None => true,
+        Some((low, high)) => low != i16::MIN && low <= high,
+    }
+}
+
+fn are_forms(most: usize, live: &[bool; 8], forms: &[PlanForm]) -> bool
+    ensures { result ≡ fit_forms most live.now forms.now }
+{
+    forms.len() <= most && all_forms(live, forms)
+}
+
+fn all_forms(live: &[bool; 8], forms: &[PlanForm]) -> bool
+    ensures { result ≡ list_all (fits_form live.now) forms.now }
+{
+    forms.iter().all(|form| is_form(live, form))
+}
+
+/// Whether the coefficients of slots that aren't live are 0.
+fn is_form(live: &[bool; 8], form: &PlanForm) -> bool
+    ensures { result ≡ fits_form live.now form.now }
+{
+    is_constant(&form.constant) && are_coefs(live, &form.coefs)
+}
+
+/// Whether a constant is one of 32 bits, as each is here.
+fn is_constant(constant: &i32) -> bool
+    ensures { result ≡ is_between (neg_ℤ (pos 2147483648)) (pos 2147483647) constant.now }
+{
+    i32::MIN <= *constant
+}
+
+fn are_coefs(live: &[bool; 8], coefs: &[i16; 8]) -> bool
+    ensures { result ≡ are_coefficients live.now coefs.now }
+{
+    for v in 0..SLOTS {
+        if !is_coef(live[v], coefs[v]) {
+            return false;
+        }
+    }
+    true
+}
+
+/// Whether a coefficient is 0, or that of a live slot.
+fn is_coef(is_live: bool, coef: i16) -> bool
+    ensures { result ≡ is_coefficient is_live coef }
+{
+    is_live || coef == 0
+}
+
+fn are_places(pieces: u8, live: &[bool; 8], places: &[Place]) -> bool
+    ensures { result ≡ fit_places pieces live.now (placements_of places.now) }
+{
+    places.len() == usize::from(pieces) && all_places(live, places)
+}
+
+fn all_places(live: &[bool; 8], places: &[Place]) -> bool
+    ensures { result ≡ list_all (fits_place live.now) (placements_of places.now) }
+{
+    for place in places {
+        if !is_place(live, place) {
+            return false;
+        }
+    }
+    true
+}
+
+fn is_place(live: &[bool; 8], place: &Place) -> bool
+    ensures { result ≡ fits_place live.now (placement_of place.now) }
+{
+    match place {
+        Place::Apart => true,
+        Place::On(tray, x, y, z) => {
+            *tray < TRAYS && is_form(live, x) && is_form(live, y) && is_form(live, z)
+        }
+    }
+}

@@ -1,0 +1,122 @@
+//! Readers of frames.
+
+ghost use Rattle.std.specs.Prelude.{◌≡◌, ◌<◌, length, Some, slice_get, map};
+ghost use Rattle.burr_container.specs.Plans.{live_slots, over_symbols, place_over_symbols};
+ghost use Rattle.burr_container.specs.Refs.{frame_of, exit_frame_of, told};
+
+use crate::exit_ref::ExitRef;
+use crate::frame_ref::FrameRef;
+use burr_forms::Form;
+
+impl FrameRef<'_> {
+    /// How many pieces the frame tells of: those of the plan.
+    pub fn piece_count(&self) -> usize
+        ensures { result ≡ self.now.places.count }
+    {
+        self.places.count
+    }
+
+    /// The current tray, 0 to 31.
+    pub fn tray(&self) -> u8
+        ensures { result ≡ (frame_of self.now).tray }
+    {
+        self.tray
+    }
+
+    /// The grip: bit p is piece p.
+    pub fn grip(&self) -> u32
+        ensures { result ≡ (frame_of self.now).grip }
+    {
+        self.grip
+    }
+
+    /// The range of slot v of 0 to 7; None where it isn't live.
+    pub fn slot(&self, v: u8) -> Option<(i16, i16)>
+        requires { v < 8 }
+        ensures { slice_get (frame_of self.now).slots v ≡ Some result }
+    {
+        self.slots[usize::from(v)]
+    }
+
+    /// How many guards there are, 0 to 4.
+    pub fn guard_count(&self) -> usize
+        ensures { result ≡ length (frame_of self.now).guards }
+    {
+        self.guards.count
+    }
+
+    /// Guard n, which is below `guard_count`.
+    pub fn guard(&self, n: usize) -> Form
+        requires { n < length (frame_of self.now).guards }
+        ensures { slice_get (map (over_symbols (live_slots self.now.slots)) (frame_of self.now).guards) n
+            ≡ Some result }
+    {
+        self.guards.form(n)
+    }
+
+    /// How many operands there are, 0 to 8.
+    pub fn stack_count(&self) -> usize
+        ensures { result ≡ length (frame_of self.now).stack }
+    {
+        self.stack.count
+    }
+
+    /// Operand n, counted from the bottom, which is below `stack_count`.
+    pub fn stack(&self, n: usize) -> Form
+        requires { n < length (frame_of self.now).stack }
+        ensures { slice_get (map (over_symbols (live_slots self.now.slots)) (frame_of self.now).stack) n
+            ≡ Some result }
+    {
+        self.stack.form(n)
+    }
+
+    /// The cost.
+    pub fn cost(&self) -> Form
+        ensures { result ≡ over_symbols (live_slots self.now.slots) (frame_of self.now).cost }
+    {
+        self.cost.form(0)
+    }
+
+    /// The tray and the offset of piece p, which the plan has; None where it is apart.
+    pub fn place(&self, p: usize) -> Option<(u8, Form, Form, Form)>
+        requires { p < self.now.places.count }
+        ensures { slice_get
+            (map (place_over_symbols (live_slots self.now.slots)) (frame_of self.now).places) p
+            ≡ Some (told result) }
+    {
+        self.places.place(p)
+    }
+}
+
+impl ExitRef<'_> {
+    /// How many pieces the exit frame tells of: those of the plan.
+    pub fn piece_count(&self) -> usize
+        ensures { result ≡ self.now.places.count }
+    {
+        self.places.count
+    }
+
+    /// The current tray, 0 to 31.
+    pub fn tray(&self) -> u8
+        ensures { result ≡ (exit_frame_of self.now).tray }
+    {
+        self.tray
+    }
+
+    /// The grip: bit p is piece p.
+    pub fn grip(&self) -> u32
+        ensures { result ≡ (exit_frame_of self.now).grip }
+    {
+        self.grip
+    }
+
+    /// The tray and the offset of piece p, which the plan has; None where it is apart.
+    pub fn place(&self, p: usize) -> Option<(u8, Form, Form, Form)>
+        requires { p < self.now.places.count }
+        ensures { slice_get
+            (map (place_over_symbols self.now.places.live) (exit_frame_of self.now).places) p
+            ≡ Some (told result) }
+    {
+        self.places.place(p)
+    }
+}

@@ -1,0 +1,22 @@
+ghost use Rattle.std.specs.Prelude.{◌≡◌, ◌<◌};
+ghost use Rattle.burr_container.specs.Plans.{live_slots};
+
+use crate::runs::{FormRun, PlaceRun};
+
+/// The frame of a label, read in place. Coefficient j of its forms belongs to the j-th live slot;
+/// further ones are 0.
+#[derive(Clone, Copy)]
+pub struct FrameRef<'a> {
+    pub(crate) tray: u8,
+    pub(crate) grip: u32,
+    pub(crate) slots: [Option<(i16, i16)>; 8],
+    pub(crate) guards: FormRun<'a>,
+    pub(crate) stack: FormRun<'a>,
+    pub(crate) cost: FormRun<'a>,
+    pub(crate) places: PlaceRun<'a>,
+    ghost guards_live: { guards.live ≡ live_slots slots },
+    ghost stack_live: { stack.live ≡ live_slots slots },
+    ghost cost_live: { cost.live ≡ live_slots slots },
+    ghost one_cost: { cost.count ≡ 1 },
+    ghost places_live: { places.live ≡ live_slots slots },
+}

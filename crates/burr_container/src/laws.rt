@@ -1,0 +1,10 @@
+ghost use Rattle.burr_container.specs.Laws.{FaultOrPlan, NoFaultOfPlan, OneFault, OnePlan};
+
+/// Bytes are a plan's or have a fault, never both, and one plan's or one fault at most. So a plan
+/// within the format is told by its bytes, and the bytes of one plan begin those of no other.
+pub fn containers_are_unique()
+    ensures one_plan { OnePlan }
+    ensures fault_or_plan { FaultOrPlan }
+    ensures no_fault_of_plan { NoFaultOfPlan }
+    ensures one_fault { OneFault }
+{}

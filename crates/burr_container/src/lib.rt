@@ -1,0 +1,36 @@
+//! The binary container of plans: owned plans and their bytes, and a container read in place.
+#![tactic(auto)]
+
+mod container;
+mod exit_ref;
+mod fault;
+mod fitting;
+mod frame;
+mod frame_readers;
+mod frame_ref;
+mod header;
+mod labels;
+mod laws;
+mod live;
+mod place;
+mod plan;
+mod plan_form;
+mod reading;
+mod run_readers;
+mod runs;
+mod writing;
+
+pub use container::Container;
+pub use exit_ref::ExitRef;
+pub use fault::ContainerFault;
+pub use frame::{ExitFrame, Frame};
+pub use frame_ref::FrameRef;
+pub use header::Header;
+pub use laws::containers_are_unique;
+pub use place::Place;
+pub use plan::{Plan, Procedure};
+pub use plan_form::PlanForm;
+pub use writing::write;
+
+#[cfg(test)]
+mod tests;

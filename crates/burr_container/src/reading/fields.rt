@@ -1,0 +1,62 @@
+ghost use Rattle.std.specs.Prelude.{◌≤◌, ◌&&◌, ◌<◌, nat_le};
+ghost use Rattle.burr_container.specs.declared.fault.ContainerFault.TheVariants.{C4 as C4_at};
+ghost use Rattle.burr_container.specs.Fitting.{is_tray, is_set_of};
+ghost use Rattle.burr_container.specs.Faults.{number, range as range_part};
+ghost use Rattle.burr_container.specs.Reading.{Reads};
+
+use crate::fault::ContainerFault;
+use crate::reading::cursor::Cursor;
+use burr_code::limits::TRAYS;
+
+/// A byte within a range, both ends in it; else C4 at it.
+pub fn byte_within(
+    cursor: Cursor<'_>,
+    low: u8,
+    high: u8,
+) -> Result<(u8, Cursor<'_>), ContainerFault>
+    ensures { Reads (number 1 C4_at (λ n. nat_le low n && nat_le n high)) cursor.entry result }
+{
+    let (byte, next) = cursor.byte()?;
+    if byte < low || high < byte {
+        return Err(ContainerFault::C4 { at: cursor.at });
+    }
+    Ok((byte, next))
+}
+
+/// The number of a tray.
+pub fn tray(cursor: Cursor<'_>) -> Result<(u8, Cursor<'_>), ContainerFault>
+    ensures { Reads (number 1 C4_at is_tray) cursor.entry result }
+{
+    let (tray, next) = cursor.byte()?;
+    if TRAYS <= tray {
+        return Err(ContainerFault::C4 { at: cursor.at });
+    }
+    Ok((tray, next))
+}
+
+/// A set of some of so many pieces.
+pub fn piece_set(pieces: u8, cursor: Cursor<'_>) -> Result<(u32, Cursor<'_>), ContainerFault>
+    requires { pieces ≤ 32 }
+    ensures { Reads (number 4 C4_at (is_set_of pieces)) cursor.entry result }
+{
+    let (set, next) = cursor.long()?;
+    if u64::from(set) >= 1u64 << pieces {
+        return Err(ContainerFault::C4 { at: cursor.at });
+    }
+    Ok((set, next))
+}
+
+/// The range of a live slot: two numbers of -32,767 to 32,767, the lower first.
+pub fn range(cursor: Cursor<'_>) -> Result<((i16, i16), Cursor<'_>), ContainerFault>
+    ensures { Reads range_part cursor.entry result }
+{
+    let (low, behind_low) = cursor.signed()?;
+    if low == i16::MIN {
+        return Err(ContainerFault::C4 { at: cursor.at });
+    }
+    let (high, next) = behind_low.signed()?;
+    if high < low {
+        return Err(ContainerFault::C4 { at: behind_low.at });
+    }
+    Ok(((low, high), next))
+}

@@ -1,0 +1,132 @@
+ghost use Rattle.std.specs.Prelude.{◌≡◌, ◌≤◌, ◌+◌, IfOk};
+ghost use Rattle.burr_container.specs.Plans.{parameter_slots as first_ones};
+ghost use Rattle.burr_container.specs.Faults.{forms as forms_part, form as form_part, slots as slots_part, frame as frame_part, exit_frame as exit_frame_part};
+ghost use Rattle.burr_container.specs.Decoding.{IsOver};
+ghost use Rattle.burr_container.specs.Reading.{Reads};
+ghost use Rattle.burr_container.specs.Refs.{ReadsInPlace, forms_of, places_of, frame_of, exit_frame_of};
+
+use crate::exit_ref::ExitRef;
+use crate::fault::ContainerFault;
+use crate::frame_ref::FrameRef;
+use crate::live::{live_slots, parameter_slots};
+use crate::reading::cursor::Cursor;
+use crate::reading::fields::{piece_set, range, tray};
+use crate::runs::{FormRun, PlaceRun, form_size};
+use burr_code::limits::{MOST_GUARDS, MOST_OPERANDS, SLOTS, TRAYS};
+
+/// A frame of a label in a plan with so many pieces.
+pub fn frame(pieces: u8, cursor: Cursor<'_>) -> Result<(FrameRef<'_>, Cursor<'_>), ContainerFault>
+    requires { pieces ≤ 32 }
+    ensures { IfOk result (λ ok. ok.0.places.count ≡ pieces) }
+{
+    let (tray, cursor) = tray(cursor)?;
+    let (grip, cursor) = piece_set(pieces, cursor)?;
+    let (slots, cursor) = slots(cursor)?;
+    let live = live_slots(&slots);
+    let (guards, cursor) = forms(live, MOST_GUARDS, cursor)?;
+    let (stack, cursor) = forms(live, MOST_OPERANDS, cursor)?;
+    let (cost, cursor) = form(live, cursor)?;
+    let (places, cursor) = places(pieces, live, cursor)?;
+    let frame = FrameRef {
+        tray,
+        grip,
+        slots,
+        guards,
+        stack,
+        cost,
+        places,
+    };
+    Ok((frame, cursor))
+}
+
+/// The exit frame of a procedure with so many parameters, in a plan with so many pieces.
+pub fn exit_frame(
+    pieces: u8,
+    parameters: u8,
+    cursor: Cursor<'_>,
+) -> Result<(ExitRef<'_>, Cursor<'_>), ContainerFault>
+    requires pieces { pieces ≤ 32 }
+    requires parameters { parameters ≤ 4 }
+    ensures { IfOk result (λ ok. ok.0.places.count ≡ pieces) }
+{
+    let (tray, cursor) = tray(cursor)?;
+    let (grip, cursor) = piece_set(pieces, cursor)?;
+    let (places, cursor) = places(pieces, parameter_slots(parameters), cursor)?;
+    let exit = ExitRef { tray, grip, places };
+    Ok((exit, cursor))
+}
+
+/// Which slots are live, and their ranges.
+fn slots(cursor: Cursor<'_>) -> Result<([Option<(i16, i16)>; 8], Cursor<'_>), ContainerFault> {
+    let (mask, cursor) = cursor.byte()?;
+    let mut slots = [None; 8];
+    let mut mask = mask;
+    let mut cursor = cursor;
+    for v in 0..SLOTS {
+        if mask % 2 == 1 {
+            let (range, next) = range(cursor)?;
+            slots[v] = Some(range);
+            cursor = next;
+        }
+        mask /= 2;
+    }
+    Ok((slots, cursor))
+}
+
+/// Forms over these live slots, with their count, at most this, in front of them.
+fn forms(
+    live: [bool; 8],
+    most: usize,
+    cursor: Cursor<'_>,
+) -> Result<(FormRun<'_>, Cursor<'_>), ContainerFault>
+    ensures { IfOk result (λ ok. ok.0.live ≡ live) }
+{
+    let (count, next) = cursor.byte()?;
+    let count = usize::from(count);
+    if most < count {
+        return Err(ContainerFault::C4 { at: cursor.at });
+    }
+    let (bytes, next) = next.bytes(count * form_size(&live))?;
+    Ok((FormRun { live, count, bytes }, next))
+}
+
+/// A form over these live slots.
+fn form(live: [bool; 8], cursor: Cursor<'_>) -> Result<(FormRun<'_>, Cursor<'_>), ContainerFault>
+    ensures { IfOk result (λ ok. (ok.0.live ≡ live) × (ok.0.count ≡ 1)) }
+{
+    let (bytes, next) = cursor.bytes(form_size(&live))?;
+    let count = 1;
+    Ok((FormRun { live, count, bytes }, next))
+}
+
+/// The places of so many pieces, by forms over these live slots.
+fn places(
+    pieces: u8,
+    live: [bool; 8],
+    cursor: Cursor<'_>,
+) -> Result<(PlaceRun<'_>, Cursor<'_>), ContainerFault>
+    ensures { IfOk result (λ ok. (ok.0.live ≡ live) × (ok.0.count ≡ pieces)) }
+{
+    let bytes = cursor.rest;
+    let mut cursor = cursor;
+    for _ in 0..pieces {
+        cursor = place(&live, cursor)?;
+    }
+    let count = usize::from(pieces);
+    Ok((PlaceRun { live, count, bytes }, cursor))
+}
+
+/// Goes over the place of a piece, by forms over these live slots.
+fn place<'a>(live: &[bool; 8], cursor: Cursor<'a>) -> Result<Cursor<'a>, ContainerFault>
+    ensures { IfOk result (λ next. IsOver live.now cursor.entry.rest.now next.rest.now) }
+{
+    let (first, next) = cursor.byte()?;
+    if first == 255 {
+        return Ok(next);
+    }
+    if TRAYS <= first {
+        return Err(ContainerFault::C4 { at: cursor.at });
+    }
+    let (_forms, next) = next.bytes(3 * form_size(live))?;
+    Ok(next)
+}

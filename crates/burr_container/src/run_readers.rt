@@ -1,0 +1,98 @@
+//! Readers of forms and places.
+
+ghost use Rattle.std.specs.Prelude.{◌≡◌, ◌+◌, ◌*◌, ◌≤◌, ◌<◌, length, drop, Some, slice_get, slice_index, map, IsTrue};
+ghost use Rattle.burr_container.specs.Plans.{over_symbols, place_over_symbols};
+ghost use Rattle.burr_container.specs.Spelling.{form_size as size_of_form, places_bytes};
+ghost use Rattle.burr_container.specs.Decoding.{live_count as count_of_live, signed_in, form_in, forms_in, place_rest, place_in, places_in};
+ghost use Rattle.burr_container.specs.Refs.{forms_of, places_of, told};
+
+use crate::runs::{FormRun, PlaceRun, form_size, live_count};
+use burr_forms::Form;
+use byteorder::{BigEndian, ByteOrder};
+
+/// The form over these live slots at the front of some bytes.
+fn form_of(live: &[bool; 8], bytes: &[u8]) -> Form
+    requires { size_of_form live.now ≤ length bytes.now }
+    ensures { result ≡ over_symbols live.now (form_in live.now bytes.now) }
+{
+    let mut coefs = [0; 8];
+    let count = live_count(live);
+    for symbol in 0..count {
+        coefs[symbol] = signed_at(bytes, 4 + 2 * symbol);
+    }
+    Form {
+        constant: i64::from(BigEndian::read_i32(bytes)),
+        coefs,
+    }
+}
+
+/// The signed number of two bytes that stands there.
+fn signed_at(bytes: &[u8], at: usize) -> i64
+    requires { at + 2 ≤ length bytes.now }
+    ensures { result ≡ signed_in (drop at bytes.now) }
+{
+    i64::from(BigEndian::read_i16(&bytes[at..]))
+}
+
+impl FormRun<'_> {
+    /// Form n over symbols, one for each live slot.
+    pub fn form(&self, n: usize) -> Form
+        requires { n < self.now.count }
+        ensures { slice_get (map (over_symbols self.now.live) (forms_of self.now)) n ≡ Some result }
+    {
+        form_of(&self.live, behind(self.bytes, n * form_size(&self.live)))
+    }
+}
+
+impl PlaceRun<'_> {
+    /// Place p by forms over symbols: the tray and the offset; None where the piece is apart.
+    pub fn place(&self, p: usize) -> Option<(u8, Form, Form, Form)>
+        requires { p < self.now.count }
+        ensures { slice_get (map (place_over_symbols self.now.live) (places_of self.now)) p
+            ≡ Some (told result) }
+    {
+        let mut rest = self.bytes;
+        for _ in 0..p {
+            rest = behind_place(&self.live, rest);
+        }
+        place_of(&self.live, rest)
+    }
+}
+
+/// The bytes behind the place at the front of some bytes.
+fn behind_place<'a>(live: &[bool; 8], bytes: &'a [u8]) -> &'a [u8]
+    requires first { 0 < length bytes.now }
+    requires whole { 1 + place_rest live.now (slice_index bytes.now 0) ≤ length bytes.now }
+    ensures { result.now ≡ drop (1 + place_rest live.now (slice_index bytes.now 0)) bytes.now }
+{
+    if bytes[0] == 255 {
+        &bytes[1..]
+    } else {
+        &bytes[1 + 3 * form_size(live)..]
+    }
+}
+
+/// The place by forms over symbols at the front of some bytes.
+fn place_of(live: &[bool; 8], bytes: &[u8]) -> Option<(u8, Form, Form, Form)>
+    requires first { 0 < length bytes.now }
+    requires whole { 1 + place_rest live.now (slice_index bytes.now 0) ≤ length bytes.now }
+    ensures { told result ≡ place_over_symbols live.now
+        (place_in live.now (slice_index bytes.now 0) (drop 1 bytes.now)) }
+{
+    if bytes[0] == 255 {
+        return None;
+    }
+    let size = form_size(live);
+    let x = form_of(live, behind(bytes, 1));
+    let y = form_of(live, behind(bytes, 1 + size));
+    let z = form_of(live, behind(bytes, 1 + size + size));
+    Some((bytes[0], x, y, z))
+}
+
+/// What is behind the first bytes, so many.
+fn behind(bytes: &[u8], count: usize) -> &[u8]
+    requires { count ≤ length bytes.now }
+    ensures { result.now ≡ drop count bytes.now }
+{
+    &bytes[count..]
+}

@@ -1,0 +1,88 @@
+//! Frames, added to bytes.
+
+ghost use Rattle.std.specs.Prelude.{◌≡◌, ◌<◌, ◌≤◌, ◌++◌, length, OnOk, if◌then◌else◌};
+ghost use Rattle.std.specs.List.{flat_map};
+ghost use Rattle.burr_container.specs.Plans.{live_slots as live_ones};
+ghost use Rattle.burr_container.specs.Spelling.{mask_of as mask_of_live, range_bytes, slots_bytes, frame_bytes, exit_frame_bytes};
+
+use crate::frame::{ExitFrame, Frame};
+use crate::live::{live_slots, parameter_slots};
+use crate::writing::forms::{add_form, add_forms, add_places};
+use crate::writing::numbers::{add_long, add_signed};
+use std::alloc::AllocError;
+
+/// The exit frame of a procedure with so many parameters.
+pub fn add_exit_frame(
+    bytes: &mut Vec<u8>,
+    parameters: u8,
+    exit: &ExitFrame,
+) -> Result<(), AllocError>
+    requires { parameters ≤ 4 }
+    ensures { OnOk result (bytes.new.items ≡ bytes.old.items ++ exit_frame_bytes parameters exit.now) }
+{
+    let live = parameter_slots(parameters);
+    bytes.push(exit.tray)?;
+    add_long(bytes, exit.grip)?;
+    add_places(bytes, &live, &exit.places)
+}
+
+/// The frame of a label.
+pub fn add_frame(bytes: &mut Vec<u8>, frame: &Frame) -> Result<(), AllocError>
+    requires guards { length frame.now.guards < 256 }
+    requires stack { length frame.now.stack < 256 }
+    ensures { OnOk result (bytes.new.items ≡ bytes.old.items ++ frame_bytes frame.now) }
+{
+    let live = live_slots(&frame.slots);
+    bytes.push(frame.tray)?;
+    add_long(bytes, frame.grip)?;
+    add_slots(bytes, &live, &frame.slots)?;
+    add_forms(bytes, &live, &frame.guards)?;
+    add_forms(bytes, &live, &frame.stack)?;
+    add_form(bytes, &live, &frame.cost)?;
+    add_places(bytes, &live, &frame.places)
+}
+
+/// Which slots are live, and their ranges.
+fn add_slots(
+    bytes: &mut Vec<u8>,
+    live: &[bool; 8],
+    slots: &[Option<(i16, i16)>; 8],
+) -> Result<(), AllocError>
+    requires { live.now ≡ live_ones slots.now }
+    ensures { OnOk result (bytes.new.items ≡ bytes.old.items ++ slots_bytes slots.now) }
+{
+    bytes.push(mask_of(live))?;
+    for slot in slots {
+        add_range(bytes, slot)?;
+    }
+    Ok(())
+}
+
+/// The range of a slot, if it is live.
+fn add_range(bytes: &mut Vec<u8>, slot: &Option<(i16, i16)>) -> Result<(), AllocError>
+    ensures { OnOk result (bytes.new.items ≡ bytes.old.items ++ range_bytes slot.now) }
+{
+    match slot {
+        None => Ok(()),
+        Some((low, high)) => {
+            add_signed(bytes, *low)?;
+            add_signed(bytes, *high)
+        }
+    }
+}
+
+/// The live slots as a byte: bit v for slot v.
+fn mask_of(live: &[bool; 8]) -> u8
+    ensures { result ≡ mask_of_live live.now }
+{
+    let [a, b, c, d, e, f, g, h] = *live;
+    let high = bit(e) + 2 * (bit(f) + 2 * (bit(g) + 2 * bit(h)));
+    bit(a) + 2 * (bit(b) + 2 * (bit(c) + 2 * (bit(d) + 2 * high)))
+}
+
+fn bit(is_live: bool) -> u8
+    ensures bit { result ≡ (if is_live then 1 else 0) }
+    ensures small { result ≤ 1 }
+{
+    u8::from(is_live)
+}

@@ -1,0 +1,6 @@
+//! Linear forms over symbols.
+#![tactic(auto)]
+
+mod form;
+
+pub use form::Form;
