@@ -1,1 +1,2 @@
-pub mod Wordings
+mod ExplanationLines
+mod ExplanationWords

@@ -1,5 +1,6 @@
 -- How the program ends: its status, and what it tells on standard error.
-use Rattle.std.specs.Prelude.{◌≡◌, ◌⊎◌, ℕ, List, Bool, true, Option, codes}
+use Rattle.std.specs.Prelude.{◌≡◌, ◌⊎◌, ◌≤◌, ℕ, List, [], ◌∷◌, Bool, true, Option, codes}
+use Rattle.burr_text.specs.Words.{text_line}
 use Rattle.std.specs.Io.KnownBytes.{Appends}
 use Rattle.burr_io.specs.Sink.{TakesFront}
 use Rattle.burr_runs.specs.declared.outcome.Outcome.{Outcome}
@@ -7,7 +8,6 @@ use Rattle.burr_runs.specs.declared.outcome.Outcome.TheVariants.{Apart, Waiting,
 use Rattle.burr_runs.specs.declared.fault.BenchFault.{BenchFault}
 use Rattle.burr_runs.specs.declared.fault.BenchFault.TheVariants.{Read, TooLong, Write, Memory}
 use Rattle.burr_runs.specs.BenchText.{Streams, Succeeds, Fails}
-use Rattle.burr.specs.CommandLine.{AskForText, NameNoFlag}
 
 -- the status of an outcome
 abbrev pub status_of : Outcome → ℕ
@@ -67,37 +67,36 @@ IsRun streams complaints status =
     ((outcome : Outcome) × HasOutcome streams complaints status outcome)
     ⊎ ((fault : BenchFault) × HasFault streams complaints status fault)
 
--- a text was written
-abbrev pub WritesText : Taken → Taken → ℕ → List ℕ → Type 0
-WritesText sink complaints status text =
-    Appends sink.old sink.new text × TakesNothing complaints × (status ≡ 0)
+-- it took some text, perhaps none
+abbrev pub TakesSome : Taken → Type 0
+TakesSome t = (text : List ℕ) × Appends t.old t.new text
 
--- the sink failed within the text, which is told
-abbrev pub FailsWithin : Taken → Taken → ℕ → List ℕ → Type 0
-FailsWithin sink complaints status text =
-    TakesFront sink.old sink.new text × (sink.failed ≡ true)
-    × TakesText complaints (complaint_of Write) × (status ≡ 3)
+-- all that was to be written was written, and nothing told
+abbrev pub WritesAll : Taken → Taken → ℕ → Type 0
+WritesAll sink complaints status = TakesSome sink × TakesNothing complaints × (status ≤ 1)
 
--- some text was written, or the sink failed within it
-abbrev pub GivesText : Taken → Taken → ℕ → Type 0
-GivesText sink complaints status =
-    (text : List ℕ)
-    × (WritesText sink complaints status text ⊎ FailsWithin sink complaints status text)
+-- nothing was written, or the sink failed
+abbrev pub WritesLess : Taken → Type 0
+WritesLess sink = TakesNothing sink ⊎ (TakesSome sink × (sink.failed ≡ true))
 
--- a fault of the command line was told by some text, and nothing written
-abbrev pub TellsFault : Taken → Taken → ℕ → Type 0
-TellsFault sink complaints status =
-    (text : List ℕ) × TakesNothing sink × TakesText complaints text × (status ≡ 2)
+-- the line that tells that a file or a stream failed
+abbrev pub IsFileLine : List ℕ → Type 0
+IsFileLine line =
+    (name : List ℕ) × ((line ≡ text_line (codes "cannot" ∷ codes "read" ∷ name ∷ []))
+    ⊎ (line ≡ text_line (codes "cannot" ∷ codes "write" ∷ name ∷ [])))
 
--- memory was refused, which is told, and nothing written
-abbrev pub LacksMemory : Taken → Taken → ℕ → Type 0
-LacksMemory sink complaints status =
-    TakesNothing sink × TakesText complaints (complaint_of Memory) × (status ≡ 4)
+-- the status that goes with what is told: 2 for a fault of the words, 3 for a file or a stream that
+-- failed, 4 for want of memory
+abbrev pub Means : ℕ → List ℕ → Type 0
+Means status line =
+    (status ≡ 2) ⊎ ((status ≡ 3) × IsFileLine line) ⊎ ((status ≡ 4) × (line ≡ codes "no memory\n"))
 
--- The words are answered by a text, and not where they name no flag; or by a fault, and not where
--- they ask for a text; or memory was refused.
-abbrev pub IsReply : List (List ℕ) → Taken → Taken → ℕ → Type 0
-IsReply words sink complaints status =
-    (GivesText sink complaints status × (¬ NameNoFlag words))
-    ⊎ (TellsFault sink complaints status × (¬ AskForText words))
-    ⊎ LacksMemory sink complaints status
+-- a complaint was told, and the status goes with it
+abbrev pub Complains : Taken → Taken → ℕ → Type 0
+Complains sink complaints status =
+    (line : List ℕ) × Means status line × WritesLess sink × TakesText complaints line
+
+-- The words were answered: all was written, or a complaint was told.
+abbrev pub IsEnd : Taken → Taken → ℕ → Type 0
+IsEnd sink complaints status =
+    WritesAll sink complaints status ⊎ Complains sink complaints status

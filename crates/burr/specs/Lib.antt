@@ -1,2 +1,4 @@
-pub mod CommandLine
 pub mod Ends
+pub mod Explain
+pub mod Faults
+pub mod Refusals

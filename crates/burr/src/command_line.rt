@@ -1,22 +1,23 @@
-//! The words of the command line, and what is replied to them.
+//! The words of the command line, and what they ask for.
 
-ghost use Rattle.std.specs.Prelude.{◌≡◌, ◌⊎◌, map, true, false, IfOk};
-ghost use Rattle.std.specs.String.{string_bytes};
-ghost use Rattle.clap.specs.Simple.{app_of};
-ghost use Rattle.clap.specs.Values.{kind_of};
-ghost use Rattle.clap.specs.declared.error.kind.ErrorKind.TheVariants.{DisplayHelp, DisplayVersion, UnknownArgument};
-ghost use Rattle.burr.specs.CommandLine.{burr_app, AskForText, NameNoFlag};
-
+use crate::job::Job;
 use clap::error::ErrorKind;
-use clap::{Command, Error};
+use clap::{Arg, ArgMatches, Command, Error};
 use std::alloc::{AllocError, Global};
 
-/// What is replied to words.
+/// A text that is the reply to words.
 #[derive(Debug, Drop)]
 pub struct Reply {
     pub text: String,
     /// Whether the text tells a fault of the words, and is no text that they ask for.
     pub is_fault: bool,
+}
+
+/// What words ask for.
+#[derive(Debug, Drop)]
+pub enum Request<'a> {
+    Reply(Reply),
+    Job(Job<'a>),
 }
 
 /// What help says first.
@@ -25,6 +26,8 @@ const ABOUT: &str =
 
 /// What help says behind the options.
 const FORM: &str = "\
+Without a command the input is an assembly and code, and its run is printed.
+
 Input: lines of ASCII, each ended by a line feed, words separated by one blank.
 
   assembly NAME
@@ -79,47 +82,99 @@ Exit statuses:
   4  no memory
   5  the run waits for an answer (no instruction asks yet)";
 
-/// The reply to the words of the command line, of which the first is the program's name and there
-/// are more: help or the version where they ask for it, else what is wrong with them.
-pub fn reply_to(alloc: Global, words: &[String]) -> Result<Reply, AllocError>
-    ensures asked { AskForText (map string_bytes words.now)
-        → IfOk result (λ reply. reply.is_fault ≡ false) }
-    ensures unknown { NameNoFlag (map string_bytes words.now)
-        → IfOk result (λ reply. reply.is_fault ≡ true) }
-{
-    let answer = answer_of(alloc, words)?;
+/// An example of `asm`.
+const ASM_EXAMPLE: &str = "\
+OUT is written last, and left alone where TEXT is refused: `refused P2 line 9`.
+
+Example: ./burr asm examples/ring.plan /tmp/ring.bpln";
+
+/// An example of `list`.
+const LIST_EXAMPLE: &str = "\
+A file that is no container is refused: `refused C1 at 12`. What is printed is
+assembled to the same bytes again.
+
+Example: ./burr list /tmp/ring.bpln";
+
+/// An example of `explain`.
+const EXPLAIN_EXAMPLE: &str = "\
+WORD is A1 to A8, C1 to C6, P1 to P5, V1 to V28, S1 to S4, a trap by its number
+or name, or `input`. docs/FAULTS.md has all of them.
+
+Example: ./burr explain A8";
+
+/// What the words of the command line ask for, of which the first is the program's name and there are
+/// more: a job, or a reply, which is help or the version where they ask for it, else what is wrong
+/// with them.
+pub fn request_of<'a>(alloc: Global, words: &'a [String]) -> Result<Request<'a>, AllocError> {
+    let mut command = command(alloc)?;
+    let error = match command.try_get_matches_from_mut(words) {
+        Ok(matches) => match job_of(&matches) {
+            Some(job) => return Ok(Request::Job(job)),
+            None => command.error(ErrorKind::UnknownArgument, "unexpected argument '--' found")?,
+        },
+        Err(error) => error,
+    };
+    Ok(Request::Reply(reply_of(alloc, &error)?))
+}
+
+/// The text of what clap answers to words that it does not take.
+fn reply_of(alloc: Global, error: &Error) -> Result<Reply, AllocError> {
+    if error.kind() == ErrorKind::OutOfMemory {
+        return Err(AllocError);
+    }
     Ok(Reply {
-        text: format!(in alloc; "{answer}")?,
-        is_fault: answer.use_stderr(),
+        text: format!(in alloc; "{error}")?,
+        is_fault: error.use_stderr(),
     })
 }
 
-/// What clap answers to the words. All that it takes is `--` with no word behind it, which is
-/// answered as an unknown word too.
-fn answer_of(alloc: Global, words: &[String]) -> Result<Error, AllocError>
-    ensures asked { AskForText (map string_bytes words.now)
-        → IfOk result (λ e. (kind_of e ≡ DisplayHelp) ⊎ (kind_of e ≡ DisplayVersion)) }
-    ensures unknown { NameNoFlag (map string_bytes words.now)
-        → IfOk result (λ e. kind_of e ≡ UnknownArgument) }
-{
-    let mut command = command(alloc);
-    let answer = match command.try_get_matches_from_mut(words) {
-        Ok(_) => command.error(ErrorKind::UnknownArgument, "unexpected argument '--' found")?,
-        Err(answer) => answer,
-    };
-    match answer.kind() {
-        ErrorKind::OutOfMemory => Err(AllocError),
-        _ => Ok(answer),
+/// The job of words that clap takes; None where no command is among them.
+fn job_of<'a>(matches: &ArgMatches<'a>) -> Option<Job<'a>> {
+    let (name, words) = matches.subcommand()?;
+    match name {
+        "asm" => Some(Job::Assemble {
+            text: words.get_str("TEXT")?,
+            out: words.get_str("OUT")?,
+        }),
+        "list" => Some(Job::List {
+            plan: words.get_str("PLAN")?,
+        }),
+        _ => Some(Job::Explain {
+            word: words.get_str("WORD")?,
+        }),
     }
 }
 
-/// The command line: help and the version, and no other word.
-fn command<'a>(alloc: Global) -> Command<'a>
-    ensures { app_of result ≡ burr_app }
-{
+/// The command line: the commands, help and the version.
+fn command<'a>(alloc: Global) -> Result<Command<'a>, AllocError> {
+    let asm = Command::new(alloc, "asm")
+        .about("Assembles a plan text into a container")
+        .arg(word(alloc, "TEXT", "The plan text"))?
+        .arg(word(alloc, "OUT", "The container that is made"))?
+        .after_help(ASM_EXAMPLE);
+    let list = Command::new(alloc, "list")
+        .about("Prints the plan text of a container")
+        .arg(word(alloc, "PLAN", "The container"))?
+        .after_help(LIST_EXAMPLE);
+    let explain = Command::new(alloc, "explain")
+        .about("Tells what a refusal or a trap means")
+        .arg(word(alloc, "WORD", "The word behind `refused` or `trap`"))?
+        .after_help(EXPLAIN_EXAMPLE);
     Command::new(alloc, "burr")
         .about(ABOUT)
         .version("0.1.0")
-        .override_usage("burr < INPUT")
+        .override_usage("burr < INPUT\n       burr <COMMAND>")
         .after_help(FORM)
+        .disable_help_subcommand(true)
+        .subcommand(asm)?
+        .subcommand(list)?
+        .subcommand(explain)
+}
+
+/// A word that has to be given, as it stands: one that begins with a hyphen too.
+fn word<'a>(alloc: Global, name: &'a str, help: &'a str) -> Arg<'a> {
+    Arg::new(alloc, name)
+        .required(true)
+        .allow_hyphen_values(true)
+        .help(help)
 }

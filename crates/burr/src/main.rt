@@ -2,7 +2,13 @@
 #![tactic(auto)]
 
 mod command_line;
+mod explain;
+mod fault;
+mod files;
+mod job;
+mod jobs;
 mod program;
+mod refusal;
 
 use crate::program::{end_without_words, run_words};
 use burr_io::{Reading, Writing};
@@ -14,7 +20,7 @@ fn main(rt: HostRuntime) -> ExitCode {
     let mut sink = Writing::new(rt.stdout());
     let mut complaints = Writing::new(rt.stderr());
     let status = match words(&rt) {
-        Ok(words) => run_words(rt.alloc(), &words, &mut source, &mut sink, &mut complaints),
+        Ok(words) => run_words(&rt, &words, &mut source, &mut sink, &mut complaints),
         Err(error) => end_without_words(error.kind(), &mut complaints),
     };
     ExitCode::from(status)

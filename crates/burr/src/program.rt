@@ -1,32 +1,36 @@
 //! What the program does with its words and its streams, and the status that it ends with.
 
-ghost use Rattle.std.specs.Prelude.{◌≡◌, ◌≢◌, ◌≤◌, ◌<◌, codes, length, map, true, false};
-ghost use Rattle.std.specs.String.{string_bytes};
+ghost use Rattle.std.specs.Prelude.{◌≡◌, ◌≢◌, ◌≤◌, ◌<◌, codes, length};
 ghost use Rattle.burr_runs.specs.declared.fault.BenchFault.TheVariants.{Memory};
 ghost use Rattle.burr_runs.specs.BenchText.{streams};
-ghost use Rattle.burr.specs.Ends.{took, TakesText, IsRun, GivesText, TellsFault, IsReply};
+ghost use Rattle.burr.specs.Ends.{took, TakesText, IsRun, IsEnd};
 ghost use Rattle.burr.specs.Ends.{complaint_of, status_of, status_of_fault};
 
-use crate::command_line::{Reply, reply_to};
+use crate::command_line::{Reply, Request, request_of};
+use crate::fault::put_fault;
+use crate::job::Job;
+use crate::jobs::{assemble_file, explain_word, list_file};
 use burr_io::{Sink, Source, WriteFault, put_all};
 use burr_runs::{BenchFault, Outcome, bench_text};
 use std::alloc::{AllocError, Global};
 use std::io::ErrorKind;
+use std::rt::Files;
 
 /// The status of a fault of the command line.
 const COMMAND_LINE: u8 = 2;
 
 /// Does all that the program does, and gives the status to end with. Without a word but the
 /// program's name it writes the output for the source to the sink, as `bench_text` does. With more
-/// words nothing is read: help and the version are written to the sink, and a fault of the words is
-/// told to the complaints. These take one line for status 3 and one for status 4.
+/// words the source is not read: a command's job is done on the files that it names, help and the
+/// version are written to the sink, and a fault of the words is told to the complaints. These take
+/// one line for status 3 and one for status 4.
 ///
-/// The status is 0 where all pieces are apart, or help or the version was written; 1 where the
-/// input was refused, or the run trapped or was stopped; 2 for a fault of the words; 3 where the
-/// source or the sink failed, or the input is too long; 4 where memory was refused; 5 where the run
-/// waits for an answer.
-pub fn run_words<R: Source, W: Sink, E: Sink>(
-    alloc: Global,
+/// The status is 0 where all pieces are apart, a command has done what it is for, or help or the
+/// version was written; 1 where the input was refused, or the run trapped or was stopped; 2 for a
+/// fault of the words; 3 where a file, the source or the sink failed, or an input is too long; 4
+/// where memory was refused; 5 where the run waits for an answer.
+pub fn run_words<F: Files + AllocGlobal, R: Source, W: Sink, E: Sink>(
+    files: &F,
     words: &[String],
     source: &mut R,
     sink: &mut W,
@@ -36,18 +40,46 @@ pub fn run_words<R: Source, W: Sink, E: Sink>(
         (streams R.Source source.old source.new W.Sink sink.old sink.new)
         (took (E.taken complaints.old) (E.taken complaints.new) (E.has_failed complaints.new))
         result }
-    ensures reply { 1 < length words.now → IsReply (map string_bytes words.now)
+    ensures end { 1 < length words.now → IsEnd
         (took (W.taken sink.old) (W.taken sink.new) (W.has_failed sink.new))
         (took (E.taken complaints.old) (E.taken complaints.new) (E.has_failed complaints.new))
         result }
     ensures unread { 1 < length words.now → source.new ≡ source.old }
 {
+    let alloc = files.alloc();
     if words.len() <= 1 {
         return run(alloc, source, sink, complaints);
     }
-    match reply_to(alloc, words) {
-        Ok(reply) => give(&reply, sink, complaints),
+    match request_of(alloc, words) {
+        Ok(Request::Reply(reply)) => give(&reply, sink, complaints),
+        Ok(Request::Job(job)) => work(files, job, sink, complaints),
         Err(AllocError) => end_by(BenchFault::Memory, complaints),
+    }
+}
+
+/// Does a command's job, and gives the status to end with.
+fn work<F: Files + AllocGlobal, W: Sink, E: Sink>(
+    files: &F,
+    job: Job<'_>,
+    sink: &mut W,
+    complaints: &mut E,
+) -> u8
+    ensures { IsEnd
+        (took (W.taken sink.old) (W.taken sink.new) (W.has_failed sink.new))
+        (took (E.taken complaints.old) (E.taken complaints.new) (E.has_failed complaints.new))
+        result }
+{
+    let done = match job {
+        Job::Assemble { text, out } => assemble_file(files, text, out, sink),
+        Job::List { plan } => list_file(files, plan, sink),
+        Job::Explain { word } => explain_word(word, sink),
+    };
+    match done {
+        Ok(status) => status,
+        Err(fault) => {
+            let _ = put_fault(&fault, complaints);
+            fault.status()
+        }
     }
 }
 
@@ -73,11 +105,7 @@ pub fn end_without_words<E: Sink>(kind: ErrorKind, complaints: &mut E) -> u8
 
 /// Puts a reply where it belongs, and gives the status to end with.
 fn give<W: Sink, E: Sink>(reply: &Reply, sink: &mut W, complaints: &mut E) -> u8
-    ensures fault { reply.now.is_fault ≡ true → TellsFault
-        (took (W.taken sink.old) (W.taken sink.new) (W.has_failed sink.new))
-        (took (E.taken complaints.old) (E.taken complaints.new) (E.has_failed complaints.new))
-        result }
-    ensures text { reply.now.is_fault ≡ false → GivesText
+    ensures { IsEnd
         (took (W.taken sink.old) (W.taken sink.new) (W.has_failed sink.new))
         (took (E.taken complaints.old) (E.taken complaints.new) (E.has_failed complaints.new))
         result }

@@ -4,8 +4,10 @@ use burr_io::{Reading, Writing};
 use std::alloc::{AllocError, Global};
 use std::io::{self, Read, Write};
 use std::process::Abort;
+use std::rt::Files;
 use std::test::Fail;
 
+mod commands;
 mod memory;
 mod runs;
 mod streams;
@@ -80,8 +82,8 @@ impl Write for Narrow {
 }
 
 /// Asserts that words and an input end so.
-fn assert_ends(
-    rt: &impl Abort,
+fn assert_ends<T: Abort + Files + AllocGlobal>(
+    rt: &T,
     alloc: Global,
     words: &[&str],
     input: &str,
@@ -93,7 +95,7 @@ fn assert_ends(
     let mut written = Vec::new(alloc);
     let mut told = Vec::new(alloc);
     let got = run_words(
-        alloc,
+        rt,
         &words,
         &mut Reading::new(input.as_bytes()),
         &mut Writing::new(&mut written),

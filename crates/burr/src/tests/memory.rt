@@ -72,13 +72,20 @@ struct Seen {
 
 impl Seen {
     /// Calls the program with streams that need no memory.
-    fn call(&mut self, alloc: Global, words: &[String], status: u8, output: &str, complaint: &str) {
+    fn call<T: Files + AllocGlobal>(
+        &mut self,
+        rt: &T,
+        words: &[String],
+        status: u8,
+        output: &str,
+        complaint: &str,
+    ) {
         let mut written = Room::new();
         let mut told = Room::new();
         let mut source = Reading::new(DUO.as_bytes());
         let mut sink = Writing::new(&mut written);
         let mut complaints = Writing::new(&mut told);
-        let got = run_words(alloc, words, &mut source, &mut sink, &mut complaints);
+        let got = run_words(rt, words, &mut source, &mut sink, &mut complaints);
         if got == status && written.has(output) && told.has(complaint) {
             self.answer = true;
         } else if got == 4 && written.has("") && told.has("no memory\n") {
@@ -91,18 +98,18 @@ impl Seen {
 
 /// Calls the program while no memory can be had, and then with each block that is given back, up to
 /// the right answer.
-fn call_in_want(
-    alloc: Global,
+fn call_in_want<T: Files + AllocGlobal>(
+    rt: &T,
     words: &[String],
     status: u8,
     output: &str,
     complaint: &str,
 ) -> Result<Seen, AllocError> {
     let mut seen = Seen::default();
-    let mut blocks: Vec<Vec<u8>> = Vec::with_capacity(alloc, MOST_BLOCKS)?;
-    take_all_memory(alloc, &mut blocks);
+    let mut blocks: Vec<Vec<u8>> = Vec::with_capacity(rt.alloc(), MOST_BLOCKS)?;
+    take_all_memory(rt.alloc(), &mut blocks);
     for _ in 0..=MOST_BLOCKS {
-        seen.call(alloc, words, status, output, complaint);
+        seen.call(rt, words, status, output, complaint);
         if seen.answer || blocks.pop().is_none() {
             break;
         }
@@ -122,7 +129,7 @@ fn tells_a_want_of_memory(rt: HostRuntime) -> Result<(), Fail> {
     ];
     for (list, status, output, complaint) in cases {
         let words = words_of(alloc, list)?;
-        let seen = call_in_want(alloc, &words, status, output, complaint)?;
+        let seen = call_in_want(&rt, &words, status, output, complaint)?;
         let wanted = Seen {
             want: true,
             answer: true,

@@ -1,5 +1,6 @@
 //! Streams that fail at any call.
 use super::*;
+use std::fs;
 
 /// A source that fails leaves the sink alone.
 #[test]
@@ -12,7 +13,7 @@ fn tells_a_source_that_fails(rt: HostRuntime) -> Result<(), Fail> {
         let mut written = Vec::new(alloc);
         let mut told = Vec::new(alloc);
         let got = run_words(
-            alloc,
+            &rt,
             &words,
             &mut Reading::new(Drips { left, calls }),
             &mut Writing::new(&mut written),
@@ -32,8 +33,8 @@ fn tells_a_source_that_fails(rt: HostRuntime) -> Result<(), Fail> {
 
 /// Calls the program with a sink that has room for so many bytes, and asserts that it took a front
 /// of the text, and what is told.
-fn assert_front(
-    rt: &impl Abort,
+fn assert_front<T: Abort + Files + AllocGlobal>(
+    rt: &T,
     alloc: Global,
     words: &[String],
     room: usize,
@@ -44,7 +45,7 @@ fn assert_front(
     let mut writer = Narrow { taken, room, fails };
     let mut told = Vec::new(alloc);
     let got = run_words(
-        alloc,
+        rt,
         words,
         &mut Reading::new(DUO.as_bytes()),
         &mut Writing::new(&mut writer),
@@ -67,10 +68,12 @@ fn assert_front(
 #[test]
 fn tells_a_sink_that_fails(rt: HostRuntime) -> Result<(), Fail> {
     let alloc = rt.alloc();
+    fs::write(&rt, "plan", &commands::DUO_BYTES)?;
     let cases = [
         (["burr"].as_slice(), SHEET),
         (&["burr", "--version"], words::VERSION),
         (&["burr", "--help"], words::HELP),
+        (&["burr", "list", "plan"], commands::DUO_PLAN),
     ];
     for (list, text) in cases {
         let words = words_of(alloc, list)?;
@@ -84,8 +87,8 @@ fn tells_a_sink_that_fails(rt: HostRuntime) -> Result<(), Fail> {
 
 /// Calls the program with a source that fails and room for so many bytes on standard error, and
 /// asserts that nothing is written and a front of the line told.
-fn assert_told_front(
-    rt: &impl Abort,
+fn assert_told_front<T: Abort + Files + AllocGlobal>(
+    rt: &T,
     alloc: Global,
     words: &[String],
     room: usize,
@@ -102,7 +105,7 @@ fn assert_told_front(
     };
     let mut sink = Writing::new(&mut written);
     let mut complaints = Writing::new(&mut writer);
-    let got = run_words(alloc, words, &mut source, &mut sink, &mut complaints);
+    let got = run_words(rt, words, &mut source, &mut sink, &mut complaints);
     assert_eq!(rt; got, status, "{words:?} {room}");
     assert!(rt; written.is_empty(), "{words:?} {room}");
     assert_eq!(rt;

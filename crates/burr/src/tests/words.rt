@@ -9,10 +9,18 @@ pub const HELP: &str = "\
 Takes a burr puzzle apart by code on a voxel bench, and prints the move sheet.
 
 Usage: burr < INPUT
+       burr <COMMAND>
+
+Commands:
+  asm      Assembles a plan text into a container
+  list     Prints the plan text of a container
+  explain  Tells what a refusal or a trap means
 
 Options:
   -h, --help     Print help
   -V, --version  Print version
+
+Without a command the input is an assembly and code, and its run is printed.
 
 Input: lines of ASCII, each ended by a line feed, words separated by one blank.
 
@@ -70,10 +78,71 @@ Exit statuses:
 ";
 
 pub const UNEXPECTED_RUN: &str =
-    "error: unexpected argument 'run' found\n\nUsage: burr < INPUT\n\nFor more information, try '--help'.\n";
+    "error: unrecognized subcommand 'run'\n\nUsage: burr < INPUT\n       burr <COMMAND>\n\nFor more information, try '--help'.\n";
 
 pub const UNEXPECTED_DASHES: &str =
-    "error: unexpected argument '--' found\n\nUsage: burr < INPUT\n\nFor more information, try '--help'.\n";
+    "error: unexpected argument '--' found\n\nUsage: burr < INPUT\n       burr <COMMAND>\n\nFor more information, try '--help'.\n";
+
+/// What a command's help prints.
+const COMMAND_HELP: &[(&str, &str)] = &[
+    (
+        "asm",
+        "\
+Assembles a plan text into a container
+
+Usage: burr asm <TEXT> <OUT>
+
+Arguments:
+  <TEXT>  The plan text
+  <OUT>   The container that is made
+
+Options:
+  -h, --help  Print help
+
+OUT is written last, and left alone where TEXT is refused: `refused P2 line 9`.
+
+Example: ./burr asm examples/ring.plan /tmp/ring.bpln
+",
+    ),
+    (
+        "list",
+        "\
+Prints the plan text of a container
+
+Usage: burr list <PLAN>
+
+Arguments:
+  <PLAN>  The container
+
+Options:
+  -h, --help  Print help
+
+A file that is no container is refused: `refused C1 at 12`. What is printed is
+assembled to the same bytes again.
+
+Example: ./burr list /tmp/ring.bpln
+",
+    ),
+    (
+        "explain",
+        "\
+Tells what a refusal or a trap means
+
+Usage: burr explain <WORD>
+
+Arguments:
+  <WORD>  The word behind `refused` or `trap`
+
+Options:
+  -h, --help  Print help
+
+WORD is A1 to A8, C1 to C6, P1 to P5, V1 to V28, S1 to S4, a trap by its number
+or name, or `input`. docs/FAULTS.md has all of them.
+
+Example: ./burr explain A8
+",
+    ),
+];
 
 /// Words, and what is told on standard error.
 const FAULTS: &[(&[&str], &str)] = &[
@@ -81,28 +150,40 @@ const FAULTS: &[(&[&str], &str)] = &[
     (&["/usr/bin/other", "run", "--help"], UNEXPECTED_RUN),
     (
         &["burr", ""],
-        "error: unexpected argument '' found\n\nUsage: burr < INPUT\n\nFor more information, try '--help'.\n",
+        "error: unrecognized subcommand ''\n\nUsage: burr < INPUT\n       burr <COMMAND>\n\nFor more information, try '--help'.\n",
     ),
     (
         &["burr", "-"],
-        "error: unexpected argument '-' found\n\nUsage: burr < INPUT\n\nFor more information, try '--help'.\n",
+        "error: unrecognized subcommand '-'\n\nUsage: burr < INPUT\n       burr <COMMAND>\n\nFor more information, try '--help'.\n",
     ),
     (&["burr", "--"], UNEXPECTED_DASHES),
     (
         &["burr", "--", "--help"],
-        "error: unexpected argument '--help' found\n\nUsage: burr < INPUT\n\nFor more information, try '--help'.\n",
+        "error: unrecognized subcommand '--help'\n\nUsage: burr < INPUT\n       burr <COMMAND>\n\nFor more information, try '--help'.\n",
     ),
     (
         &["burr", "-x"],
-        "error: unexpected argument '-x' found\n\nUsage: burr < INPUT\n\nFor more information, try '--help'.\n",
+        "error: unexpected argument '-x' found\n\nUsage: burr < INPUT\n       burr <COMMAND>\n\nFor more information, try '--help'.\n",
     ),
     (
         &["burr", "--hepl"],
-        "error: unexpected argument '--hepl' found\n\n  tip: a similar argument exists: '--help'\n\nUsage: burr < INPUT\n\nFor more information, try '--help'.\n",
+        "error: unexpected argument '--hepl' found\n\n  tip: a similar argument exists: '--help'\n\nUsage: burr < INPUT\n       burr <COMMAND>\n\nFor more information, try '--help'.\n",
     ),
     (
         &["burr", "--help=me"],
-        "error: unexpected value 'me' for '--help' found; no more were expected\n\nUsage: burr < INPUT\n\nFor more information, try '--help'.\n",
+        "error: unexpected value 'me' for '--help' found; no more were expected\n\nUsage: burr < INPUT\n       burr <COMMAND>\n\nFor more information, try '--help'.\n",
+    ),
+    (
+        &["burr", "asm", "text"],
+        "error: the following required arguments were not provided:\n  <OUT>\n\nUsage: burr asm <TEXT> <OUT>\n\nFor more information, try '--help'.\n",
+    ),
+    (
+        &["burr", "list"],
+        "error: the following required arguments were not provided:\n  <PLAN>\n\nUsage: burr list <PLAN>\n\nFor more information, try '--help'.\n",
+    ),
+    (
+        &["burr", "explain", "A1", "A2"],
+        "error: unexpected argument 'A2' found\n\nUsage: burr explain <WORD>\n\nFor more information, try '--help'.\n",
     ),
 ];
 
@@ -128,6 +209,16 @@ fn gives_help_and_the_version(rt: HostRuntime) -> Result<(), Fail> {
 }
 
 #[test]
+fn gives_help_on_commands(rt: HostRuntime) -> Result<(), Fail> {
+    let alloc = rt.alloc();
+    for (command, help) in COMMAND_HELP {
+        assert_ends(&rt, alloc, &["burr", command, "--help"], DUO, 0, help, "")?;
+        assert_ends(&rt, alloc, &["burr", command, "-h"], DUO, 0, help, "")?;
+    }
+    Ok(())
+}
+
+#[test]
 fn tells_faults_of_the_command_line(rt: HostRuntime) -> Result<(), Fail> {
     let alloc = rt.alloc();
     for (words, fault) in FAULTS {
@@ -147,7 +238,7 @@ fn reads_nothing_for_words(rt: HostRuntime) -> Result<(), Fail> {
         let mut written = Vec::new(alloc);
         let mut told = Vec::new(alloc);
         let got = run_words(
-            alloc,
+            &rt,
             &words,
             &mut source,
             &mut Writing::new(&mut written),

@@ -1,7 +1,12 @@
-use Rattle.std.proofs.Common.{inr}
+use Rattle.std.proofs.Common.{codes, inl, inr, refl}
 use Rattle.burr.proofs.program.give.Goals as goal
 
-pub returns-in-Err-clause-text : goal.returns-in-Err-clause-text
-returns-in-Err-clause-text g c given =
+pub returns-in-Err : goal.returns-in-Err
+returns-in-Err g c =
     let fails = c.in-Err.ensures.puts.err in
-    (c.as_bytes-text.result.now, inr (fails.takes, fails.fails, c.end_by.ensures.told, c.end_by.ensures.status))
+    inr (
+      _,
+      inr (inl (c.end_by.ensures.status, (codes "-", inr refl))),
+      inr ((fails.takes.0, fails.takes.3), fails.fails),
+      c.end_by.ensures.told,
+    )

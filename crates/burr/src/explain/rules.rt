@@ -1,0 +1,5 @@
+//! Refusals of the verifier, by subject.
+
+pub mod code;
+pub mod frames;
+pub mod space;

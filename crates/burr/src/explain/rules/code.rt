@@ -1,0 +1,133 @@
+//! Rules on the code of a plan: instructions, operands, slots and labels.
+ghost use Rattle.std.specs.Prelude.{◌≡◌};
+ghost use Rattle.burr.specs.Explain.{words_in, code_rule_words};
+
+use crate::explain::Explanation;
+
+/// V1 to V12.
+pub fn rules() -> &'static [Explanation]
+    ensures { words_in result.now ≡ code_rule_words }
+{
+    RULES
+}
+
+const RULES: &[Explanation] = &[
+    Explanation {
+        word: "V1",
+        name: None,
+        meaning: &[
+            "The plan is one for another assembly: its name or its number of pieces differs.",
+        ],
+        cause: &["files of two puzzles, or an assembly that was renamed."],
+        setting: "given with the assembly duo, which has 2 pieces",
+        example: &["plan ring 2 11"],
+    },
+    Explanation {
+        word: "V2",
+        name: None,
+        meaning: &[
+            "No instruction stands here: no such code, an operand out of its range, or code",
+            "that ends within the instruction.",
+        ],
+        cause: &["a `byte` line, or a container that is damaged."],
+        setting: "no instruction begins with ff",
+        example: &["byte ff"],
+    },
+    Explanation {
+        word: "V3",
+        name: None,
+        meaning: &["A label stands inside an instruction, behind its first byte."],
+        cause: &["`byte` lines that spell an instruction, with a label among them."],
+        setting: "a label at 1, and the `grip` at 0 has 5 bytes",
+        example: &["10 00000001 12 01 01 00"],
+    },
+    Explanation {
+        word: "V4",
+        name: None,
+        meaning: &[
+            "A frame is missing: what stands before never goes on here, and without a label",
+            "nothing says what holds here.",
+        ],
+        cause: &["code behind `jump`, `pick`, `halt` or `ret` that nothing reaches."],
+        setting: "no label stands behind the `halt`",
+        example: &["halt", "drop"],
+    },
+    Explanation {
+        word: "V5",
+        name: None,
+        meaning: &["The procedure goes on behind its last instruction, where no code is."],
+        cause: &["a missing `halt` in main, or a missing `ret` in another procedure."],
+        setting: "the last lines of main",
+        example: &["grip 0", "aside -x 1"],
+    },
+    Explanation {
+        word: "V6",
+        name: None,
+        meaning: &["The instruction takes more operands than there are."],
+        cause: &["a `push` too few, or a value that was stored or dropped before."],
+        setting: "`add` takes two operands, and there is one",
+        example: &["push 1", "add"],
+    },
+    Explanation {
+        word: "V7",
+        name: None,
+        meaning: &["There are eight operands, and there would be more."],
+        cause: &["operands that are kept where a slot would do, by `store`."],
+        setting: "with eight operands",
+        example: &["push 1"],
+    },
+    Explanation {
+        word: "V8",
+        name: None,
+        meaning: &[
+            "Nothing is known of the slot's value. Behind a label the slots of its frame are",
+            "known and no others, whatever was stored before.",
+        ],
+        cause: &["a `slot` line too few in a frame, or a slot that was never stored."],
+        setting: "slot 1 was stored before L, and the frame names slot 0 alone",
+        example: &[
+            "label L",
+            "frame 0 0",
+            "slot 0 0 2",
+            "cost 4+2v0",
+            "at 0 0 0 0 0",
+            "at 1 0 0 0 0",
+            "load 1",
+        ],
+    },
+    Explanation {
+        word: "V9",
+        name: None,
+        meaning: &["The slot is a parameter of the procedure, and parameters are not written."],
+        cause: &["a counter in a slot that is a parameter: `down` writes its slot."],
+        setting: "in a procedure with 1 parameter, which is slot 0",
+        example: &["push 5", "store 0"],
+    },
+    Explanation {
+        word: "V10",
+        name: None,
+        meaning: &["The procedure has no label of this number."],
+        cause: &["a container that was not made from a plan text."],
+        setting: "`jump` to label 7 of a procedure that has fewer",
+        example: &["20 0007"],
+    },
+    Explanation {
+        word: "V11",
+        name: None,
+        meaning: &["The slot that `down` counts may be below 0 here, at the point that is named."],
+        cause: &["a frame or an `ask` that lets the counter begin below 0."],
+        setting: "answer -1 makes a counter of -1",
+        example: &["ask -1 2", "store 0", "down 0 L"],
+    },
+    Explanation {
+        word: "V12",
+        name: None,
+        meaning: &[
+            "The sum or the difference may lie outside -32,767 to 32,767; the point that is",
+            "named shows where it does.",
+        ],
+        cause: &["a `slot` or `ask` range that is wider than it has to be."],
+        setting: "answer 4 makes 32,768",
+        example: &["ask 0 4", "push 32764", "add"],
+    },
+];

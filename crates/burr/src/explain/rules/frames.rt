@@ -1,0 +1,144 @@
+//! Rules on calls, frames, costs and forms.
+ghost use Rattle.std.specs.Prelude.{◌≡◌};
+ghost use Rattle.burr.specs.Explain.{words_in, frame_rule_words};
+
+use crate::explain::Explanation;
+
+/// V19 to V28.
+pub fn rules() -> &'static [Explanation]
+    ensures { words_in result.now ≡ frame_rule_words }
+{
+    RULES
+}
+
+const RULES: &[Explanation] = &[
+    Explanation {
+        word: "V19",
+        name: None,
+        meaning: &[
+            "There is no such procedure, or its number is not above that of the procedure",
+            "which calls it.",
+        ],
+        cause: &["a procedure that calls itself or an earlier one."],
+        setting: "in the procedure lift itself",
+        example: &["call lift"],
+    },
+    Explanation {
+        word: "V20",
+        name: None,
+        meaning: &[
+            "What holds at the `call` does not meet the callee's first frame: the tray, the",
+            "grip or a piece's place differs, an argument is out of its slot's range, or a",
+            "guard fails.",
+        ],
+        cause: &["pieces moved or gripped between two calls, or a wrong argument."],
+        setting: "lift takes how far up A is, and A is at home",
+        example: &["push 1", "call lift"],
+    },
+    Explanation {
+        word: "V21",
+        name: None,
+        meaning: &[
+            "What holds here does not meet the label's frame: the tray, the grip, operands,",
+            "places and guards have to be as it says, its slots known and in their ranges,",
+            "and the cost that is left not below the frame's.",
+        ],
+        cause: &["a loop that moves a piece whose `at` line does not count it."],
+        setting: "A goes up by each turn, and its `at` line leaves it where it is",
+        example: &[
+            "label L",
+            "frame 0 0",
+            "slot 0 0 2",
+            "cost 4+2v0",
+            "at 0 0 0 0 0",
+            "at 1 0 0 0 0",
+            "step +z",
+            "down 0 L",
+        ],
+    },
+    Explanation {
+        word: "V22",
+        name: None,
+        meaning: &[
+            "What holds at the `ret` does not meet the procedure's exit frame; or a `ret` is",
+            "in main, or a `halt` in another procedure.",
+        ],
+        cause: &["a path through the procedure on which a step is missing."],
+        setting: "in main",
+        example: &["ret"],
+    },
+    Explanation {
+        word: "V23",
+        name: None,
+        meaning: &["`halt` ends the run, and a piece is not apart."],
+        cause: &["a tray that still holds pieces together."],
+        setting: "three cubes in a row; M goes up, and A and C are left in tray 0",
+        example: &["grip 1", "aside +y 2", "halt"],
+    },
+    Explanation {
+        word: "V24",
+        name: None,
+        meaning: &[
+            "The cost that is left is below what is needed: each instruction takes 1, and a",
+            "`call` its callee's cost too.",
+        ],
+        cause: &["an instruction more, and no more in the `cost` lines before it."],
+        setting: "three instructions behind a frame whose cost is 2",
+        example: &[
+            "cost 2",
+            "at 0 0 0 0 0",
+            "at 1 0 0 0 0",
+            "grip 0",
+            "aside -x 1",
+            "halt",
+        ],
+    },
+    Explanation {
+        word: "V25",
+        name: None,
+        meaning: &[
+            "Too much is open at once: more than 8 slots and answers, more than 8 guards, or",
+            "more than 4,096 points, which are all ways to choose the slots and answers.",
+        ],
+        cause: &["several wide `slot` or `ask` ranges in one frame's code."],
+        setting: "4,097 answers",
+        example: &["ask 0 4096"],
+    },
+    Explanation {
+        word: "V26",
+        name: None,
+        meaning: &[
+            "A form is too large: a number in it would pass 2^40, above or below, though what",
+            "it comes to may be small.",
+        ],
+        cause: &["forms that are added again and again and cancel each other out."],
+        setting: "-5+1v0 on top with slot 0 in 5..5, which is 0; these lines 40 times",
+        example: &["store 1", "load 1", "load 1", "add"],
+    },
+    Explanation {
+        word: "V27",
+        name: None,
+        meaning: &[
+            "A frame is malformed: a parameter has no `slot` line, a first frame an operand",
+            "or another slot, a grip is not in its tray, or a tray has a single piece; or the",
+            "start, with all pieces at home in tray 0, does not meet main's first frame.",
+        ],
+        cause: &["a piece that is left alone in its tray, which makes it apart."],
+        setting: "B is alone in tray 0, so its line has to be `at 1 apart`",
+        example: &["at 0 apart", "at 1 0 0 0 0"],
+    },
+    Explanation {
+        word: "V28",
+        name: None,
+        meaning: &["The plan's budget is below the cost of main's first frame."],
+        cause: &["a cost that was raised, and not the budget in the `plan` line."],
+        setting: "the budget is 10, and the cost 11",
+        example: &[
+            "plan ring 2 10",
+            "proc main 0",
+            "label start",
+            "frame 0 -",
+            "cost 11",
+        ],
+    },
+];

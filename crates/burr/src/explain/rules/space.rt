@@ -1,0 +1,84 @@
+//! Rules on the pieces: grips, steps, ways out and trays.
+ghost use Rattle.std.specs.Prelude.{◌≡◌};
+ghost use Rattle.burr.specs.Explain.{words_in, space_rule_words};
+
+use crate::explain::Explanation;
+
+/// V13 to V18.
+pub fn rules() -> &'static [Explanation]
+    ensures { words_in result.now ≡ space_rule_words }
+{
+    RULES
+}
+
+const RULES: &[Explanation] = &[
+    Explanation {
+        word: "V13",
+        name: None,
+        meaning: &[
+            "A piece that would be gripped is not in the current tray, is apart, or has a",
+            "number that no piece has.",
+        ],
+        cause: &[
+            "a piece that is apart already, or that went to another tray:",
+            "`tray` makes that one current first.",
+        ],
+        setting: "cubes A and B side by side, both apart behind the `aside`",
+        example: &["grip 0", "aside -x 1", "grip 0"],
+    },
+    Explanation {
+        word: "V14",
+        name: None,
+        meaning: &["The grip is empty, or `aside` would take the whole tray."],
+        cause: &["no `grip` since the last `aside` or `tray`, which empty the grip."],
+        setting: "`tray` has emptied the grip",
+        example: &["grip 0", "tray 0", "step +z"],
+    },
+    Explanation {
+        word: "V15",
+        name: None,
+        meaning: &[
+            "The step may make two pieces of the tray overlap: the first one named, which is",
+            "gripped, and the other one, at the point that is named.",
+        ],
+        cause: &[
+            "a step too far, a direction that is blocked, or a frame without",
+            "the `guard` that leaves such points out.",
+        ],
+        setting: "cubes A at 0 0 0 and B at 1 0 0",
+        example: &["grip 0", "step +x"],
+    },
+    Explanation {
+        word: "V16",
+        name: None,
+        meaning: &[
+            "The gripped pieces may not be free along the direction: somewhere on its way out",
+            "the first piece named would overlap the other one, at the point that is named.",
+        ],
+        cause: &[
+            "the wrong direction, or a piece that is in the way farther out:",
+            "free for one unit is not enough.",
+        ],
+        setting: "cubes A at 0 0 0 and B at 3 0 0",
+        example: &["grip 0", "aside +x 1"],
+    },
+    Explanation {
+        word: "V17",
+        name: None,
+        meaning: &["`aside` names a tray that has pieces."],
+        cause: &["the current tray, or one in which pieces still lie together."],
+        setting: "four cubes in a square, of which C and D go to tray 1 together",
+        example: &["grip 2,3", "aside +y 1", "grip 0", "aside -x 1"],
+    },
+    Explanation {
+        word: "V18",
+        name: None,
+        meaning: &[
+            "A piece of the current tray may lie more than 256 units from its home along an",
+            "axis, at the point that is named.",
+        ],
+        cause: &["a loop that makes too many steps; `aside` takes pieces out at once."],
+        setting: "A lies 256 units from home along +z",
+        example: &["grip 0", "step +z"],
+    },
+];

@@ -1,0 +1,67 @@
+ghost use Rattle.burr_io.specs.Sink.{Puts};
+ghost use Rattle.burr.specs.Ends.{Means};
+ghost use Rattle.burr.specs.Faults.{line_of};
+
+use burr_io::{Sink, WriteFault, put_words};
+use std::alloc::AllocError;
+
+/// Why the program stopped before it was done; a standard stream's name is `-`.
+#[derive(Clone, Copy, Debug, PartialEq, Eq)]
+pub enum Fault<'a> {
+    /// A file or a stream can't be read, or has too many bytes.
+    Read(&'a str),
+    /// A file or a stream can't be written.
+    Write(&'a str),
+    /// Nothing is explained under this word.
+    Unknown(&'a str),
+    Memory,
+}
+
+impl From<AllocError> for Fault<'_> {
+    fn from(_e: AllocError) -> Self {
+        Fault::Memory
+    }
+}
+
+impl From<WriteFault> for Fault<'_> {
+    fn from(_e: WriteFault) -> Self {
+        Fault::Write("-")
+    }
+}
+
+impl Fault<'_> {
+    /// The status to end with: 2 for a fault of the words, 3 where a file or a stream failed, or gave
+    /// too many bytes, 4 where memory was refused.
+    pub fn status(&self) -> u8
+        ensures { Means result (line_of self.now) }
+    {
+        match self {
+            Fault::Unknown(_) => 2,
+            Fault::Read(_) | Fault::Write(_) => 3,
+            Fault::Memory => 4,
+        }
+    }
+}
+
+/// Puts the line of standard error for a fault: `cannot read NAME`, `cannot write NAME` or
+/// `no memory`, or that there is nothing under a word.
+pub fn put_fault<W: Sink>(fault: &Fault<'_>, sink: &mut W) -> Result<(), WriteFault>
+    ensures { Puts W.Sink sink.old sink.new (line_of fault.now) result }
+{
+    match fault {
+        Fault::Read(name) => put_words(&[b"cannot", b"read", name.as_bytes()], sink),
+        Fault::Write(name) => put_words(&[b"cannot", b"write", name.as_bytes()], sink),
+        Fault::Unknown(word) => put_words(
+            &[
+                b"error:",
+                b"nothing",
+                b"is",
+                b"explained",
+                b"under",
+                word.as_bytes(),
+            ],
+            sink,
+        ),
+        Fault::Memory => put_words(&[b"no", b"memory"], sink),
+    }
+}

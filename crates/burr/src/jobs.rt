@@ -1,0 +1,90 @@
+//! What the program does for each of its commands, and the status to end with.
+
+ghost use Rattle.std.specs.Prelude.{◌≡◌, ◌≤◌, OnErr, OnOk, IfOk};
+ghost use Rattle.burr.specs.Ends.{took, TakesSome, WritesLess};
+
+use crate::explain::{explanation_of, put_explanation};
+use crate::fault::Fault;
+use crate::files::{read_file, write_file};
+use crate::refusal::{put_container_refusal, put_text_refusal};
+use burr_asm::{AsmFault, assemble, list};
+use burr_container::Container;
+use burr_io::{Sink, put_all};
+use std::rt::Files;
+
+/// The status where all went well.
+const DONE: u8 = 0;
+
+/// The status where an input is refused.
+const REFUSED: u8 = 1;
+
+/// Assembles a plan text and makes a file of its container; a refusal is put on the sink, and the
+/// file is then left alone.
+pub fn assemble_file<'a, F: Files + AllocGlobal, W: Sink>(
+    files: &F,
+    text: &'a str,
+    out: &'a str,
+    sink: &mut W,
+) -> Result<u8, Fault<'a>>
+    ensures status { IfOk result (λ status. status ≤ 1) }
+    ensures ok { OnOk result (TakesSome
+        (took (W.taken sink.old) (W.taken sink.new) (W.has_failed sink.new))) }
+    ensures err { OnErr result (WritesLess
+        (took (W.taken sink.old) (W.taken sink.new) (W.has_failed sink.new))) }
+{
+    let bytes = read_file(files, text)?;
+    match assemble(files.alloc(), &bytes) {
+        Ok(container) => {
+            write_file(files, out, &container)?;
+            Ok(DONE)
+        }
+        Err(AsmFault::Memory) => Err(Fault::Memory),
+        Err(fault) => {
+            put_text_refusal(fault, sink)?;
+            Ok(REFUSED)
+        }
+    }
+}
+
+/// Puts the plan text of a container that a file holds, or its refusal.
+pub fn list_file<'a, F: Files + AllocGlobal, W: Sink>(
+    files: &F,
+    plan: &'a str,
+    sink: &mut W,
+) -> Result<u8, Fault<'a>>
+    ensures status { IfOk result (λ status. status ≤ 1) }
+    ensures ok { OnOk result (TakesSome
+        (took (W.taken sink.old) (W.taken sink.new) (W.has_failed sink.new))) }
+    ensures err { OnErr result (WritesLess
+        (took (W.taken sink.old) (W.taken sink.new) (W.has_failed sink.new))) }
+{
+    let bytes = read_file(files, plan)?;
+    match Container::parse(&bytes) {
+        Ok(container) => {
+            let text = list(files.alloc(), &container)?;
+            put_all(&text, sink)?;
+            Ok(DONE)
+        }
+        Err(fault) => {
+            put_container_refusal(fault, sink)?;
+            Ok(REFUSED)
+        }
+    }
+}
+
+/// Puts what a word of a refusal or a trap means.
+pub fn explain_word<'a, W: Sink>(word: &'a str, sink: &mut W) -> Result<u8, Fault<'a>>
+    ensures status { IfOk result (λ status. status ≤ 1) }
+    ensures ok { OnOk result (TakesSome
+        (took (W.taken sink.old) (W.taken sink.new) (W.has_failed sink.new))) }
+    ensures err { OnErr result (WritesLess
+        (took (W.taken sink.old) (W.taken sink.new) (W.has_failed sink.new))) }
+{
+    match explanation_of(word.as_bytes()) {
+        Some(known) => {
+            put_explanation(known, sink)?;
+            Ok(DONE)
+        }
+        None => Err(Fault::Unknown(word)),
+    }
+}
