@@ -2,7 +2,6 @@
 #![tactic(auto)]
 
 mod container;
-mod container_readers;
 mod exit_ref;
 mod fault;
 mod fitting;
@@ -16,7 +15,6 @@ mod live;
 mod place;
 mod plan;
 mod plan_form;
-mod procedure_ref;
 mod reading;
 mod run_readers;
 mod runs;

@@ -1,5 +1,4 @@
 use super::*;
 
 mod faults;
-mod plans;
 mod vectors;

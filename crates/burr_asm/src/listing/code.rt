@@ -1,5 +1,4 @@
-ghost use Rattle.std.specs.Prelude.{◌<◌, ◌≤◌, IfSome, length};
-ghost use Rattle.burr_container.specs.Containers.{HasLabel};
+ghost use Rattle.std.specs.Prelude.{◌<◌, ◌≤◌, IfSome, length, slice_get};
 
 use crate::listing::frames::add_frame;
 use crate::listing::instructions::{add_byte, add_instruction};
@@ -39,7 +38,7 @@ fn add_label(
     n: usize,
 ) -> Result<(), AllocError>
     requires procedure { i < length container.now.procedures.items }
-    requires label { HasLabel container.now i n }
+    requires label { IfSome (slice_get container.now.procedures.items i) (λ p. n < p.labels.count) }
 {
     text.extend_from_slice(b"label ")?;
     add_label_name(text, n)?;
@@ -50,12 +49,11 @@ fn add_label(
 /// The code from label n of procedure i to the next one or to the end.
 fn block<'a>(container: &Container<'a>, i: usize, n: usize) -> &'a [u8]
     requires procedure { i < length container.now.procedures.items }
-    requires label { HasLabel container.now i n }
+    requires label { IfSome (slice_get container.now.procedures.items i) (λ p. n < p.labels.count) }
 {
     let code = container.code(i);
     let start = usize::from(container.label(i, n));
-    let count = container.label_count(i);
-    let end = if n + 1 < count {
+    let end = if n + 1 < container.label_count(i) {
         usize::from(container.label(i, n + 1))
     } else {
         code.len()
