@@ -1,8 +1,22 @@
+pub mod Chains
 pub mod Common
+pub mod Decoded
+pub mod EachWalk
 pub mod Fits
+pub mod FormsRead
+pub mod FramesRead
+pub mod ContainerRead
 pub mod Forms
+pub mod HeaderRead
+pub mod KeptWalk
+pub mod LabelsWalk
+pub mod Kept
 mod NameTests
 pub mod Numbers
+pub mod PartsRead
 pub mod PlaceWalk
+pub mod PlacesRead
 mod WorkedRows
+pub mod SlotWalk
+pub mod ProceduresRead
 pub mod Written

@@ -12,8 +12,8 @@ use Rattle.burr_forms.specs.Forms.{Form}
 use Rattle.burr_container.specs.declared.fault.ContainerFault.{ContainerFault}
 use Rattle.burr_container.specs.declared.fault.ContainerFault.TheVariants.{C1, C2, C3, C4, C5, C6}
 use Rattle.burr_container.specs.Plans.{FormCell, Range, Frame, ExitFrame, PlanProcedure, live_slots, parameter_slots}
-use Rattle.burr_container.specs.Spelling.{form_size, form_bytes, forms_bytes, range_bytes, slots_bytes, place_bytes, frame_bytes, exit_frame_bytes, label_bytes, labels_bytes, procedure_bytes}
-use Rattle.burr_container.specs.Fitting.{is_form, are_forms, is_number, is_range, are_slots, is_tray, is_set_of, is_place, is_frame, is_exit_frame, are_parameters, is_procedure, is_piece_count, is_budget, is_name_text}
+use Rattle.burr_container.specs.Spelling.{counted_bytes, form_size, form_bytes, forms_bytes, range_bytes, slots_bytes, place_bytes, places_bytes, frame_bytes, exit_frame_bytes, label_bytes, labels_bytes, code_bytes, procedure_bytes}
+use Rattle.burr_container.specs.Fitting.{is_form, are_forms, is_number, is_range, are_slots, is_tray, is_set_of, is_place, are_places, is_frame, is_exit_frame, is_code, are_parameters, is_procedure, are_procedures, is_piece_count, is_budget, is_name_text}
 
 -- how bytes that begin at a position of the container fail
 abbrev pub Failing : Type 1
@@ -131,6 +131,14 @@ place live = record {
       by_test (tray == 255) passes (each 3 (form live)));
 }
 
+-- the places of so many pieces
+abbrev pub places : ℕ → List Bool → Part (List (Placement FormCell))
+places pieces live = record {
+  bytes = places_bytes live;
+  fits = are_places pieces live;
+  Fails = each pieces (place live);
+}
+
 abbrev pub frame : ℕ → Part Frame
 frame pieces = record {
   bytes = frame_bytes;
@@ -141,7 +149,7 @@ frame pieces = record {
       first (forms MOST_GUARDS (live_slots s)) (λ guards.
       first (forms MOST_OPERANDS (live_slots s)) (λ stack.
       first (form (live_slots s)) (λ cost.
-      each pieces (place (live_slots s))))))));
+      (places pieces (live_slots s)).Fails))))));
 }
 
 abbrev pub exit_frame : ℕ → ℕ → Part ExitFrame
@@ -150,7 +158,15 @@ exit_frame pieces parameters = record {
   fits = is_exit_frame pieces parameters;
   Fails = first (number 1 C4 is_tray) (λ tray.
       first (number 4 C4 (is_set_of pieces)) (λ grip.
-      each pieces (place (parameter_slots parameters))));
+      (places pieces (parameter_slots parameters)).Fails));
+}
+
+-- a label at such a position
+abbrev pub label : (ℕ → Bool) → ℕ → Part (ℕ × Frame)
+label is_so pieces = record {
+  bytes = label_bytes;
+  fits = λ l. is_so l.0 && nat_lt l.0 (2 ^ 16) && is_frame pieces l.1;
+  Fails = first (number 2 C5 is_so) (λ position. (frame pieces).Fails);
 }
 
 -- a label may stand here behind the last one; the first stands at 0
@@ -176,7 +192,7 @@ LabelsFail pieces count at bytes fault =
     (front : List (ℕ × Frame)) × (rest : List ℕ) × (length front < count)
     × IsTrue (are_rising None front && list_all (λ label. is_frame pieces label.1) front)
     × (bytes ≡ flat_map label_bytes front ++ rest)
-    × first (number 2 C5 (is_next_label (last_label front))) (λ position. (frame pieces).Fails)
+    × (label (is_next_label (last_label front)) pieces).Fails
     (at + length (flat_map label_bytes front)) rest fault
 
 -- labels behind their count, and the code behind its length, which is above the last label
@@ -198,9 +214,23 @@ CodeFails last =
     first (number 2 C4 (λ length. is_above last length && nat_le length MOST_CODE)) (λ length.
     (raw length C4 (λ _. true)).Fails)
 
+abbrev pub code : Option ℕ → Part (List ℕ)
+code last = record {
+  bytes = code_bytes;
+  fits = λ c. is_above last (length c) && is_code c;
+  Fails = CodeFails last;
+}
+
 -- what follows the parameters of a procedure
 abbrev pub BodyFails : ℕ → Failing
 BodyFails pieces = first (labels pieces) (λ ls. CodeFails (last_label ls))
+
+abbrev pub body : ℕ → Part (List (ℕ × Frame) × List ℕ)
+body pieces = record {
+  bytes = λ b. labels_bytes b.0 ++ code_bytes b.1;
+  fits = λ b. (labels pieces).fits b.0 && (code (last_label b.0)).fits b.1;
+  Fails = BodyFails pieces;
+}
 
 abbrev pub procedure : ℕ → Bool → Part PlanProcedure
 procedure pieces main = record {
@@ -230,6 +260,13 @@ ProceduresFail pieces =
     first (procedure pieces true) (λ main.
     first (others pieces (pred count)) (λ _. IsFollowed)))
 
+abbrev pub procedures : ℕ → Part (List PlanProcedure)
+procedures pieces = record {
+  bytes = counted_bytes procedure_bytes;
+  fits = are_procedures pieces;
+  Fails = ProceduresFail pieces;
+}
+
 -- a name behind its length
 abbrev pub name : Part (List ℕ)
 name = record {
@@ -239,10 +276,14 @@ name = record {
       (raw length C4 is_name_text).Fails);
 }
 
+-- the bytes that each container begins with
+abbrev pub is_magic : List ℕ → Bool
+is_magic bytes = bytes_eq bytes (codes "BPLN")
+
 -- The first fault of a container's bytes.
 abbrev pub ContainerFails : Failing
 ContainerFails =
-    first (raw 4 C2 (λ b. bytes_eq b (codes "BPLN"))) (λ _.
+    first (raw 4 C2 is_magic) (λ _.
     first (number 2 C3 (λ version. version == 1)) (λ _.
     first (number 4 C4 is_budget) (λ budget.
     first (number 1 C4 is_piece_count) (λ pieces.

@@ -1,8 +1,10 @@
+pub mod Containers
 pub mod Counts
 pub mod Cuts
 pub mod Decoding
 pub mod Faults
 pub mod Fitting
+pub mod InPlace
 pub mod Laws
 pub mod Plans
 pub mod Reading

@@ -16,6 +16,10 @@ use Rattle.burr_container.specs.Reading.{IsAt}
 abbrev pub forms_of : FormRun → List Form
 forms_of run = forms_in run.live run.count run.bytes.now
 
+-- a single form
+abbrev pub form_in_run : FormRun → Form
+form_in_run run = form_in run.live run.bytes.now
+
 abbrev pub places_of : PlaceRun → List (Placement FormCell)
 places_of run = places_in run.live run.count run.bytes.now
 
@@ -26,7 +30,7 @@ frame_of f = record {
   slots = f.slots;
   guards = forms_of f.guards;
   stack = forms_of f.stack;
-  cost = form_in f.cost.live f.cost.bytes.now;
+  cost = form_in_run f.cost;
   places = places_of f.places;
 }
 

@@ -78,11 +78,13 @@ abbrev pub procedure_bytes : PlanProcedure → List ℕ
 procedure_bytes p =
     p.parameters ∷ exit_bytes p.parameters p.exit ++ labels_bytes p.labels ++ code_bytes p.code
 
--- what stands in front of the procedures
+-- what stands in front of the procedures: the budget, the number of pieces and the name
+abbrev pub front_bytes : ℕ → ℕ → List ℕ → List ℕ
+front_bytes budget pieces name =
+    codes "BPLN" ++ big_bytes 2 1 ++ big_bytes 4 budget ++ pieces ∷ length name ∷ name
+
 abbrev pub header_bytes : Plan → List ℕ
-header_bytes plan =
-    codes "BPLN" ++ big_bytes 2 1 ++ big_bytes 4 plan.budget ++ plan.pieces ∷ length plan.name
-    ∷ plan.name
+header_bytes plan = front_bytes plan.budget plan.pieces plan.name
 
 -- The bytes of a plan.
 abbrev pub plan_bytes : Plan → List ℕ

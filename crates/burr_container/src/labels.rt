@@ -1,47 +1,35 @@
-ghost use Rattle.std.specs.Prelude.{◌≡◌, ◌≤◌, ◌<◌, IfOk};
+ghost use Rattle.std.specs.Prelude.{◌≡◌, ◌≤◌, ◌<◌, ℕ, List, Some, length, slice_get, true, IfOk};
+ghost use Rattle.burr_container.specs.Plans.{Frame};
+ghost use Rattle.burr_container.specs.Faults.{number, label as label_part};
+ghost use Rattle.burr_container.specs.declared.fault.ContainerFault.TheVariants.{C5 as C5_at};
+ghost use Rattle.burr_container.specs.Reading.{Reads};
+ghost use Rattle.burr_container.specs.Refs.{ReadsInPlace, frame_of};
+ghost use Rattle.burr_container.specs.InPlace.{AreFor, IsLabel};
 
 use crate::fault::ContainerFault;
 use crate::frame_ref::FrameRef;
 use crate::reading::{Cursor, frame};
 use crate::runs::{FormRun, PlaceRun};
+use arrayvec::ArrayVec;
+use burr_code::limits::MOST_LABELS;
 
-/// How many labels one entry of the index stands for.
-pub const STRIDE: usize = 16;
-
-/// The labels of a procedure, read in place. So that a label is found without reading all that stand
-/// before it, the bytes from every sixteenth label on are kept: a sparse index.
-#[derive(Clone, Copy)]
+/// The labels of a procedure, read in place: of each the bytes from it on.
+#[derive(Drop, Default)]
 pub struct Labels<'a> {
-    pub count: usize,
-    pub index: [&'a [u8]; 16],
-    ghost few: { count ≤ 256 },
-}
-
-impl Default for Labels<'_> {
-    fn default() -> Self {
-        Labels {
-            count: 0,
-            index: [&[]; 16],
-        }
-    }
+    pub starts: ArrayVec<&'a [u8], MOST_LABELS>,
 }
 
 impl<'a> Labels<'a> {
     /// The position of label n, and its frame, in a plan of so many pieces.
     pub fn label(&self, pieces: u8, n: usize) -> (u16, FrameRef<'a>)
         requires pieces { pieces ≤ 32 }
-        requires label { n < self.now.count }
-        ensures { result.1.places.count ≡ pieces }
+        requires label { n < length self.now.starts.items }
+        ensures places { result.1.places.count ≡ pieces }
+        ensures label { (ls : List (ℕ × Frame)) (l : ℕ × Frame)
+            → AreFor (IsLabel pieces) self.now.starts.items ls → slice_get ls n ≡ Some l
+            → (result.0 ≡ l.0) × (frame_of result.1 ≡ l.1) }
     {
-        let rest = self.index[n / STRIDE];
-        let mut cursor = Cursor::new(rest);
-        for _ in 0..n % STRIDE {
-            match label(pieces, cursor) {
-                Ok((_label, next)) => cursor = next,
-                Err(_) => return blank(pieces),
-            }
-        }
-        match label(pieces, cursor) {
+        match label(pieces, Cursor::new(self.starts[n])) {
             Ok((label, _next)) => label,
             Err(_) => blank(pieces),
         }
@@ -81,15 +69,25 @@ fn blank(pieces: u8) -> (u16, FrameRef<'static>)
     (0, frame)
 }
 
+/// A position, of which nothing is asked.
+fn any_position(cursor: Cursor<'_>) -> Result<(u16, Cursor<'_>), ContainerFault>
+    ensures { Reads (number 2 C5_at (λ p. true)) cursor.entry result }
+{
+    let (position, next) = cursor.word()?;
+    Ok((position, next))
+}
+
 /// A label in a plan of so many pieces: its position, of which nothing is asked here, and its frame.
 pub fn label(
     pieces: u8,
     cursor: Cursor<'_>,
 ) -> Result<((u16, FrameRef<'_>), Cursor<'_>), ContainerFault>
     requires { pieces ≤ 32 }
-    ensures { IfOk result (λ ok. ok.0.1.places.count ≡ pieces) }
+    ensures places { IfOk result (λ ok. ok.0.1.places.count ≡ pieces) }
+    ensures reads { ReadsInPlace (λ kept. (kept.0, frame_of kept.1)) (label_part (λ p. true) pieces)
+        cursor.entry result }
 {
-    let (position, cursor) = cursor.word()?;
-    let (frame, cursor) = frame(pieces, cursor)?;
-    Ok(((position, frame), cursor))
+    let (position, behind_position) = any_position(cursor)?;
+    let (frame, next) = frame(pieces, behind_position)?;
+    Ok(((position, frame), next))
 }

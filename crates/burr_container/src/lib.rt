@@ -2,6 +2,7 @@
 #![tactic(auto)]
 
 mod container;
+mod container_readers;
 mod exit_ref;
 mod fault;
 mod fitting;
@@ -15,6 +16,7 @@ mod live;
 mod place;
 mod plan;
 mod plan_form;
+mod procedure_ref;
 mod reading;
 mod run_readers;
 mod runs;

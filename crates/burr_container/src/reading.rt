@@ -6,5 +6,6 @@ mod frames;
 mod parts;
 
 pub use cursor::Cursor;
+pub use fields::count_within;
 pub use frames::{exit_frame, frame};
-pub use parts::{header, procedure};
+pub use parts::{header, main_procedure, other_procedure};

@@ -1,4 +1,5 @@
 use super::*;
 
 mod faults;
+mod plans;
 mod vectors;

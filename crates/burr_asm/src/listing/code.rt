@@ -1,4 +1,5 @@
-ghost use Rattle.std.specs.Prelude.{◌<◌, ◌≤◌, IfSome, length, slice_get};
+ghost use Rattle.std.specs.Prelude.{◌<◌, ◌≤◌, IfSome, length};
+ghost use Rattle.burr_container.specs.Containers.{HasLabel};
 
 use crate::listing::frames::add_frame;
 use crate::listing::instructions::{add_byte, add_instruction};
@@ -38,7 +39,7 @@ fn add_label(
     n: usize,
 ) -> Result<(), AllocError>
     requires procedure { i < length container.now.procedures.items }
-    requires label { IfSome (slice_get container.now.procedures.items i) (λ p. n < p.labels.count) }
+    requires label { HasLabel container.now i n }
 {
     text.extend_from_slice(b"label ")?;
     add_label_name(text, n)?;
@@ -49,11 +50,12 @@ fn add_label(
 /// The code from label n of procedure i to the next one or to the end.
 fn block<'a>(container: &Container<'a>, i: usize, n: usize) -> &'a [u8]
     requires procedure { i < length container.now.procedures.items }
-    requires label { IfSome (slice_get container.now.procedures.items i) (λ p. n < p.labels.count) }
+    requires label { HasLabel container.now i n }
 {
     let code = container.code(i);
     let start = usize::from(container.label(i, n));
-    let end = if n + 1 < container.label_count(i) {
+    let count = container.label_count(i);
+    let end = if n + 1 < count {
         usize::from(container.label(i, n + 1))
     } else {
         code.len()

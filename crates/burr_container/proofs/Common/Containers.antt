@@ -10,7 +10,7 @@ use Rattle.burr_container.specs.declared.fault.ContainerFault.TheVariants.{C2, C
 use Rattle.burr_container.specs.Plans.{PlanProcedure, Plan}
 use Rattle.burr_container.specs.Spelling.{counted_bytes, procedure_bytes, plan_bytes}
 use Rattle.burr_container.specs.Fitting.{is_procedure, are_procedures, is_piece_count, is_name_text, is_budget, is_fitting}
-use Rattle.burr_container.specs.Faults.{Failing, number, raw, passes, first, procedure, others, each, IsFollowed, name}
+use Rattle.burr_container.specs.Faults.{Failing, number, raw, passes, first, procedure, others, each, IsFollowed, name, is_magic}
 use Rattle.burr_container.specs.Laws.{OnePlan, NoFaultOfPlan, OneFault}
 use Rattle.burr_container.proofs.Common.Lawful.{Front, Lawful, OfPart, OfFirst, OfNothing, OfEnd, Sound, first_lawful, lawful_as, passes_lawful, end_lawful}
 use Rattle.burr_container.proofs.Common.Lists.{OfEach, each_lawful}
@@ -143,9 +143,6 @@ OfVersion Last = OfFirst (number 2 C3 is_version) (λ version. OfBudget Last)
 
 abbrev pub version_fails : Failing → Failing
 version_fails last = first (number 2 C3 is_version) (λ version. budget_fails last)
-
-abbrev pub is_magic : List ℕ → Bool
-is_magic b = bytes_eq b (codes "BPLN")
 
 -- the values of a container
 abbrev pub Values : Type 0

@@ -12,7 +12,7 @@ use Rattle.burr_container.specs.Spelling.{form_bytes, forms_bytes, place_bytes, 
 use Rattle.burr_container.specs.Fitting.{is_between, are_coefficients, is_form, are_forms, is_tray, is_place, are_places}
 use Rattle.burr_container.proofs.Common.Spelled.{OneSpelling, apart_three, between, one_word, one_long, one_list}
 
-zero_only : (n : ℤ) → IsTrue (is_between (pos 0) (pos 0) n) → n ≡ pos 0
+pub zero_only : (n : ℤ) → IsTrue (is_between (pos 0) (pos 0) n) → n ≡ pos 0
 zero_only n test = let both = between (pos 0) (pos 0) n test in omega (arith, ints, both.0, both.1)
 
 -- coefficients, of which those of the live slots are spelled and the others are 0

@@ -127,7 +127,7 @@ of_head pieces tray grip More b bytes rest r few on set e more =
     )
 
 -- a place for each piece
-places_made : (pieces : ℕ) (live : List Bool) (places : FormPlaces) (bytes r : List ℕ)
+pub places_made : (pieces : ℕ) (live : List Bool) (places : FormPlaces) (bytes r : List ℕ)
     → IsTrue (are_places pieces live places) → bytes ≡ places_bytes live places ++ r
     → OfEach pieces (place live) places bytes r
 places_made pieces live places bytes r fits e =

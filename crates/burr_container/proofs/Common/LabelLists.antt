@@ -8,48 +8,45 @@ use Rattle.burr_container.specs.declared.fault.ContainerFault.TheVariants.{C4, C
 use Rattle.burr_container.specs.Plans.{Frame}
 use Rattle.burr_container.specs.Spelling.{frame_bytes, label_bytes}
 use Rattle.burr_container.specs.Fitting.{is_frame}
-use Rattle.burr_container.specs.Faults.{Failing, Part, number, frame, passes, first, is_next_label, last_label, are_rising, LabelsFail, labels}
+use Rattle.burr_container.specs.Faults.{Failing, Part, number, frame, passes, first, label as label_at, is_next_label, last_label, are_rising, LabelsFail, labels}
 use Rattle.burr_container.proofs.Common.Lawful.{Front, Lawful, OfPart, OfFirst, OfNothing, Sound, first_lawful, lawful_as, passes_lawful}
 use Rattle.burr_container.proofs.Common.Fields.{number_sound, of_number}
 use Rattle.burr_container.proofs.Common.Frames.{frame_sound}
 
--- a label behind this one
-abbrev pub label : ℕ → Option ℕ → Part (ℕ × Frame)
-label pieces last = record {
-  bytes = label_bytes;
-  fits = λ l. is_next_label last l.0 && nat_lt l.0 (2 ^ 16) && is_frame pieces l.1;
-  Fails = first (number 2 C5 (is_next_label last)) (λ position. (frame pieces).Fails);
-}
-
-of_label : (pieces : ℕ) (last : Option ℕ) (l : ℕ × Frame) (bytes r : List ℕ)
-    → OfPart (label pieces last) l bytes r
+of_label : (is_so : ℕ → Bool) (pieces : ℕ) (l : ℕ × Frame) (bytes r : List ℕ)
+    → OfPart (label_at is_so pieces) l bytes r
     → (both : ℕ × Frame) × (both ≡ l)
-    × OfFirst (number 2 C5 (is_next_label last)) (λ position. OfPart (frame pieces)) both bytes r
-of_label pieces last l bytes r here =
-    let a =
-    and_parts (is_next_label last l.0 && nat_lt l.0 (2 ^ 16)) (is_frame pieces l.1) here.0 in
-    let b = and_parts (is_next_label last l.0) (nat_lt l.0 (2 ^ 16)) a.0 in
+    × OfFirst (number 2 C5 is_so) (λ position. OfPart (frame pieces)) both bytes r
+of_label is_so pieces l bytes r here =
+    let a = and_parts (is_so l.0 && nat_lt l.0 (2 ^ 16)) (is_frame pieces l.1) here.0 in
+    let b = and_parts (is_so l.0) (nat_lt l.0 (2 ^ 16)) a.0 in
     let small = ltb-true l.0 65536 b.1 in
     let rest = frame_bytes l.1 ++ r in (
       l,
       refl,
       (
         rest,
-        of_number 2 C5 (is_next_label last) l.0 bytes rest (omega (arith, small)) b.0
-            here.1,
+        of_number 2 C5 is_so l.0 bytes rest (omega (arith, small)) b.0 here.1,
         (a.1, refl),
       ),
     )
 
-pub label_sound : (pieces : ℕ) (last : Option ℕ) → pieces ≤ 32 → Sound (label pieces last)
-label_sound pieces last few =
-    lawful_as (λ (both : ℕ × Frame). both) (OfPart (label pieces last))
-    (OfFirst (number 2 C5 (is_next_label last)) (λ position. OfPart (frame pieces)))
-    (label pieces last).Fails (label pieces last).Fails (of_label pieces last)
+pub label_at_sound : (is_so : ℕ → Bool) (pieces : ℕ) → pieces ≤ 32 → Sound (label_at is_so pieces)
+label_at_sound is_so pieces few =
+    lawful_as (λ (both : ℕ × Frame). both) (OfPart (label_at is_so pieces))
+    (OfFirst (number 2 C5 is_so) (λ position. OfPart (frame pieces)))
+    (label_at is_so pieces).Fails (label_at is_so pieces).Fails (of_label is_so pieces)
     (λ at bytes fault fails. fails)
-    (first_lawful (number 2 C5 (is_next_label last)) (λ position. OfPart (frame pieces))
-    (λ position. (frame pieces).Fails) (number_sound 2 C5 (is_next_label last))
+    (first_lawful (number 2 C5 is_so) (λ position. OfPart (frame pieces))
+    (λ position. (frame pieces).Fails) (number_sound 2 C5 is_so)
     (λ position fits. frame_sound pieces few))
+
+-- a label behind this one
+abbrev pub label : ℕ → Option ℕ → Part (ℕ × Frame)
+label pieces last = label_at (is_next_label last) pieces
+
+pub label_sound : (pieces : ℕ) (last : Option ℕ) → pieces ≤ 32 → Sound (label pieces last)
+label_sound pieces last few = label_at_sound (is_next_label last) pieces few
 
 -- Labels from one on
 

@@ -25,13 +25,17 @@ coefficients_size (true ∷ live) (c ∷ cs) fits = let more =
 coefficients_size (false ∷ live) (c ∷ cs) fits = let more =
     coefficients_size live cs (and_parts _ (are_coefficients live cs) fits).1 in omega (arith, more)
 
+pub form_length : (live : List Bool) (f : Form) → IsTrue (is_form live f)
+    → length (form_bytes live f) ≡ form_size live
+form_length live f fits =
+    let size =
+    coefficients_size live f.coefs (and_parts _ (are_coefficients live f.coefs) fits).1 in
+    omega (arith, size)
+
 pub form_sound : (live : List Bool) → Sound (form live)
 form_sound live =
     field_sound (form_size live) C4 (λ _. true) (form_bytes live) (is_form live) (one_form live)
-    (λ f fits. let size =
-    coefficients_size live f.coefs (and_parts _ (are_coefficients live f.coefs) fits).1 in
-    omega (arith, size))
-    (λ f fits. refl)
+    (form_length live) (λ f fits. refl)
 
 -- forms behind their count
 abbrev pub OfForms : ℕ → List Bool → Front (ℕ × List Form)

@@ -64,7 +64,7 @@ pub word_small : (n : ℤ) → (neg_ℤ (pos 32768) ≤ℤ n) → (n ≤ℤ pos 
 word_small (pos a) low high = omega (arith, ints, high)
 word_small (negsuc a) low high = omega (arith, ints, low)
 
-word_back : (n : ℤ) → (neg_ℤ (pos 32768) ≤ℤ n) → (n ≤ℤ pos 32767)
+pub word_back : (n : ℤ) → (neg_ℤ (pos 32768) ≤ℤ n) → (n ≤ℤ pos 32767)
     → cast_signed w16 (cast_unsigned w16 n) ≡ n
 word_back n low high = let fits : FitsSigned w16 n = omega (arith, ints, low, high) in
     to_z-of_z w16 n fits
@@ -93,7 +93,7 @@ pub long_small : (n : ℤ) → (neg_ℤ (pos 2147483648) ≤ℤ n) → (n ≤ℤ
 long_small (pos a) low high = omega (arith, ints, high)
 long_small (negsuc a) low high = omega (arith, ints, low)
 
-long_back : (n : ℤ) → (neg_ℤ (pos 2147483648) ≤ℤ n) → (n ≤ℤ pos 2147483647)
+pub long_back : (n : ℤ) → (neg_ℤ (pos 2147483648) ≤ℤ n) → (n ≤ℤ pos 2147483647)
     → cast_signed w32 (cast_unsigned w32 n) ≡ n
 long_back n low high = let fits : FitsSigned w32 n = omega (arith, ints, low, high) in
     to_z-of_z w32 n fits

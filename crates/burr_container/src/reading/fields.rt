@@ -23,6 +23,38 @@ pub fn byte_within(
     Ok((byte, next))
 }
 
+/// A count of one byte within a range, both ends in it; else C4 at it.
+pub fn count_within(
+    cursor: Cursor<'_>,
+    low: usize,
+    high: usize,
+) -> Result<(usize, Cursor<'_>), ContainerFault>
+    ensures { Reads (number 1 C4_at (λ n. nat_le low n && nat_le n high)) cursor.entry result }
+{
+    let (byte, next) = cursor.byte()?;
+    let count = usize::from(byte);
+    if count < low || high < count {
+        return Err(ContainerFault::C4 { at: cursor.at });
+    }
+    Ok((count, next))
+}
+
+/// A number of 16 bits within a range, both ends in it; else C4 at it.
+pub fn word_within(
+    cursor: Cursor<'_>,
+    low: usize,
+    high: usize,
+) -> Result<(usize, Cursor<'_>), ContainerFault>
+    ensures { Reads (number 2 C4_at (λ n. nat_le low n && nat_le n high)) cursor.entry result }
+{
+    let (word, next) = cursor.word()?;
+    let number = usize::from(word);
+    if number < low || high < number {
+        return Err(ContainerFault::C4 { at: cursor.at });
+    }
+    Ok((number, next))
+}
+
 /// The number of a tray.
 pub fn tray(cursor: Cursor<'_>) -> Result<(u8, Cursor<'_>), ContainerFault>
     ensures { Reads (number 1 C4_at is_tray) cursor.entry result }

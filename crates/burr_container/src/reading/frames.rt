@@ -1,32 +1,33 @@
 ghost use Rattle.std.specs.Prelude.{◌≡◌, ◌≤◌, ◌+◌, IfOk};
 ghost use Rattle.burr_container.specs.Plans.{parameter_slots as first_ones};
-ghost use Rattle.burr_container.specs.Faults.{forms as forms_part, form as form_part, slots as slots_part, frame as frame_part, exit_frame as exit_frame_part};
+ghost use Rattle.burr_container.specs.Faults.{forms as forms_part, form as form_part, slots as slots_part, place as place_part, places as places_part, frame as frame_part, exit_frame as exit_frame_part};
 ghost use Rattle.burr_container.specs.Decoding.{IsOver};
-ghost use Rattle.burr_container.specs.Reading.{Reads};
-ghost use Rattle.burr_container.specs.Refs.{ReadsInPlace, forms_of, places_of, frame_of, exit_frame_of};
+ghost use Rattle.burr_container.specs.Reading.{Reads, GoesOver};
+ghost use Rattle.burr_container.specs.Refs.{ReadsInPlace, form_in_run, forms_of, places_of, frame_of, exit_frame_of};
 
 use crate::exit_ref::ExitRef;
 use crate::fault::ContainerFault;
 use crate::frame_ref::FrameRef;
 use crate::live::{live_slots, parameter_slots};
 use crate::reading::cursor::Cursor;
-use crate::reading::fields::{piece_set, range, tray};
+use crate::reading::fields::{count_within, piece_set, range, tray};
 use crate::runs::{FormRun, PlaceRun, form_size};
 use burr_code::limits::{MOST_GUARDS, MOST_OPERANDS, SLOTS, TRAYS};
 
 /// A frame of a label in a plan with so many pieces.
 pub fn frame(pieces: u8, cursor: Cursor<'_>) -> Result<(FrameRef<'_>, Cursor<'_>), ContainerFault>
     requires { pieces ≤ 32 }
-    ensures { IfOk result (λ ok. ok.0.places.count ≡ pieces) }
+    ensures places { IfOk result (λ ok. ok.0.places.count ≡ pieces) }
+    ensures reads { ReadsInPlace frame_of (frame_part pieces) cursor.entry result }
 {
-    let (tray, cursor) = tray(cursor)?;
-    let (grip, cursor) = piece_set(pieces, cursor)?;
-    let (slots, cursor) = slots(cursor)?;
+    let (tray, behind_tray) = tray(cursor)?;
+    let (grip, behind_grip) = piece_set(pieces, behind_tray)?;
+    let (slots, behind_slots) = slots(behind_grip)?;
     let live = live_slots(&slots);
-    let (guards, cursor) = forms(live, MOST_GUARDS, cursor)?;
-    let (stack, cursor) = forms(live, MOST_OPERANDS, cursor)?;
-    let (cost, cursor) = form(live, cursor)?;
-    let (places, cursor) = places(pieces, live, cursor)?;
+    let (guards, behind_guards) = forms(live, MOST_GUARDS, behind_slots)?;
+    let (stack, behind_stack) = forms(live, MOST_OPERANDS, behind_guards)?;
+    let (cost, behind_cost) = form(live, behind_stack)?;
+    let (places, next) = places(pieces, live, behind_cost)?;
     let frame = FrameRef {
         tray,
         grip,
@@ -36,7 +37,7 @@ pub fn frame(pieces: u8, cursor: Cursor<'_>) -> Result<(FrameRef<'_>, Cursor<'_>
         cost,
         places,
     };
-    Ok((frame, cursor))
+    Ok((frame, next))
 }
 
 /// The exit frame of a procedure with so many parameters, in a plan with so many pieces.
@@ -47,28 +48,33 @@ pub fn exit_frame(
 ) -> Result<(ExitRef<'_>, Cursor<'_>), ContainerFault>
     requires pieces { pieces ≤ 32 }
     requires parameters { parameters ≤ 4 }
-    ensures { IfOk result (λ ok. ok.0.places.count ≡ pieces) }
+    ensures places { IfOk result (λ ok. (ok.0.places.count ≡ pieces)
+        × (ok.0.places.live ≡ first_ones parameters)) }
+    ensures reads { ReadsInPlace exit_frame_of (exit_frame_part pieces parameters) cursor.entry result }
 {
-    let (tray, cursor) = tray(cursor)?;
-    let (grip, cursor) = piece_set(pieces, cursor)?;
-    let (places, cursor) = places(pieces, parameter_slots(parameters), cursor)?;
+    let (tray, behind_tray) = tray(cursor)?;
+    let (grip, behind_grip) = piece_set(pieces, behind_tray)?;
+    let live = parameter_slots(parameters);
+    let (places, next) = places(pieces, live, behind_grip)?;
     let exit = ExitRef { tray, grip, places };
-    Ok((exit, cursor))
+    Ok((exit, next))
 }
 
 /// Which slots are live, and their ranges.
-fn slots(cursor: Cursor<'_>) -> Result<([Option<(i16, i16)>; 8], Cursor<'_>), ContainerFault> {
-    let (mask, cursor) = cursor.byte()?;
+fn slots(cursor: Cursor<'_>) -> Result<([Option<(i16, i16)>; 8], Cursor<'_>), ContainerFault>
+    ensures { Reads slots_part cursor.entry result }
+{
+    let (mask, behind_mask) = cursor.byte()?;
     let mut slots = [None; 8];
-    let mut mask = mask;
-    let mut cursor = cursor;
+    let mut bits = mask;
+    let mut cursor = behind_mask;
     for v in 0..SLOTS {
-        if mask % 2 == 1 {
+        if bits % 2 == 1 {
             let (range, next) = range(cursor)?;
             slots[v] = Some(range);
             cursor = next;
         }
-        mask /= 2;
+        bits /= 2;
     }
     Ok((slots, cursor))
 }
@@ -79,20 +85,18 @@ fn forms(
     most: usize,
     cursor: Cursor<'_>,
 ) -> Result<(FormRun<'_>, Cursor<'_>), ContainerFault>
-    ensures { IfOk result (λ ok. ok.0.live ≡ live) }
+    ensures live { IfOk result (λ ok. ok.0.live ≡ live) }
+    ensures reads { ReadsInPlace forms_of (forms_part most live) cursor.entry result }
 {
-    let (count, next) = cursor.byte()?;
-    let count = usize::from(count);
-    if most < count {
-        return Err(ContainerFault::C4 { at: cursor.at });
-    }
-    let (bytes, next) = next.bytes(count * form_size(&live))?;
+    let (count, behind_count) = count_within(cursor, 0, most)?;
+    let (bytes, next) = behind_count.bytes(count * form_size(&live))?;
     Ok((FormRun { live, count, bytes }, next))
 }
 
 /// A form over these live slots.
 fn form(live: [bool; 8], cursor: Cursor<'_>) -> Result<(FormRun<'_>, Cursor<'_>), ContainerFault>
-    ensures { IfOk result (λ ok. (ok.0.live ≡ live) × (ok.0.count ≡ 1)) }
+    ensures live { IfOk result (λ ok. (ok.0.live ≡ live) × (ok.0.count ≡ 1)) }
+    ensures reads { ReadsInPlace form_in_run (form_part live) cursor.entry result }
 {
     let (bytes, next) = cursor.bytes(form_size(&live))?;
     let count = 1;
@@ -105,7 +109,8 @@ fn places(
     live: [bool; 8],
     cursor: Cursor<'_>,
 ) -> Result<(PlaceRun<'_>, Cursor<'_>), ContainerFault>
-    ensures { IfOk result (λ ok. (ok.0.live ≡ live) × (ok.0.count ≡ pieces)) }
+    ensures live { IfOk result (λ ok. (ok.0.live ≡ live) × (ok.0.count ≡ pieces)) }
+    ensures reads { ReadsInPlace places_of (places_part pieces live) cursor.entry result }
 {
     let bytes = cursor.rest;
     let mut cursor = cursor;
@@ -118,7 +123,8 @@ fn places(
 
 /// Goes over the place of a piece, by forms over these live slots.
 fn place<'a>(live: &[bool; 8], cursor: Cursor<'a>) -> Result<Cursor<'a>, ContainerFault>
-    ensures { IfOk result (λ next. IsOver live.now cursor.entry.rest.now next.rest.now) }
+    ensures over { IfOk result (λ next. IsOver live.now cursor.entry.rest.now next.rest.now) }
+    ensures reads { GoesOver (place_part live.now) cursor.entry result }
 {
     let (first, next) = cursor.byte()?;
     if first == 255 {

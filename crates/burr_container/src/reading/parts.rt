@@ -1,123 +1,182 @@
-ghost use Rattle.std.specs.Prelude.{◌≤◌, IfOk};
+ghost use Rattle.std.specs.Prelude.{◌≡◌, ◌≤◌, ◌==◌, IfOk, true, false};
+ghost use Rattle.burr_container.specs.declared.fault.ContainerFault.TheVariants.{C2 as C2_at, C3 as C3_at, C4 as C4_at, C5 as C5_at};
+ghost use Rattle.burr_container.specs.Fitting.{is_budget, is_name_text};
+ghost use Rattle.burr_container.specs.Faults.{number, raw, is_magic, is_next_label, name as name_part, label as label_part, labels as labels_part, code as code_part, body as body_part, procedure as procedure_part};
+ghost use Rattle.burr_container.specs.Reading.{Reads, GoesOver, ReadsAs};
+ghost use Rattle.burr_container.specs.Refs.{ReadsInPlace};
+ghost use Rattle.burr_container.specs.InPlace.{ReadsHeader, AreLabels, IsBody, IsProcedure};
 
-use crate::container::ProcedureRef;
-use crate::exit_ref::ExitRef;
 use crate::fault::ContainerFault;
 use crate::header::Header;
-use crate::labels::{Labels, STRIDE};
+use crate::labels::Labels;
+use crate::procedure_ref::ProcedureRef;
 use crate::reading::cursor::Cursor;
-use crate::reading::fields::byte_within;
+use crate::reading::fields::{byte_within, count_within, word_within};
 use crate::reading::frames::{exit_frame, frame};
+use arrayvec::ArrayVec;
 use burr_code::limits::{MOST_BUDGET, MOST_CODE, MOST_LABELS, MOST_PARAMETERS};
 use burr_text::is_name;
 
 /// The header: magic, version, budget, pieces and name.
 pub fn header(cursor: Cursor<'_>) -> Result<(Header<'_>, Cursor<'_>), ContainerFault>
-    ensures { IfOk result (λ ok. ok.0.pieces ≤ 32) }
+    ensures few { IfOk result (λ ok. ok.0.pieces ≤ 32) }
+    ensures reads { ReadsHeader cursor.entry result }
 {
-    let (magic, behind_magic) = cursor.bytes(4)?;
-    if magic != b"BPLN".as_slice() {
-        return Err(ContainerFault::C2 { at: cursor.at });
-    }
-    let (version, behind_version) = behind_magic.word()?;
-    if version != 1 {
-        return Err(ContainerFault::C3 {
-            at: behind_magic.at,
-        });
-    }
-    let (budget, behind_budget) = behind_version.long()?;
-    if budget < 1 || MOST_BUDGET < budget {
-        return Err(ContainerFault::C4 {
-            at: behind_version.at,
-        });
-    }
-    let (pieces, cursor) = byte_within(behind_budget, 2, 32)?;
-    let (name, cursor) = name(cursor)?;
+    let behind_magic = magic(cursor)?;
+    let (version, behind_version) = version(behind_magic)?;
+    let (budget, behind_budget) = budget(behind_version)?;
+    let (pieces, behind_pieces) = byte_within(behind_budget, 2, 32)?;
+    let (name, behind_name) = name(behind_pieces)?;
     let header = Header {
         version,
         budget,
         pieces,
         name,
     };
-    Ok((header, cursor))
+    Ok((header, behind_name))
+}
+
+/// The bytes that each container begins with; else C2 at them.
+fn magic(cursor: Cursor<'_>) -> Result<Cursor<'_>, ContainerFault>
+    ensures { GoesOver (raw 4 C2_at is_magic) cursor.entry result }
+{
+    let (magic, next) = cursor.bytes(4)?;
+    if magic != b"BPLN".as_slice() {
+        return Err(ContainerFault::C2 { at: cursor.at });
+    }
+    Ok(next)
+}
+
+/// The version, which is 1; else C3 at it.
+fn version(cursor: Cursor<'_>) -> Result<(u16, Cursor<'_>), ContainerFault>
+    ensures { Reads (number 2 C3_at (λ version. version == 1)) cursor.entry result }
+{
+    let (version, next) = cursor.word()?;
+    if version != 1 {
+        return Err(ContainerFault::C3 { at: cursor.at });
+    }
+    Ok((version, next))
+}
+
+/// The budget.
+fn budget(cursor: Cursor<'_>) -> Result<(u32, Cursor<'_>), ContainerFault>
+    ensures { Reads (number 4 C4_at is_budget) cursor.entry result }
+{
+    let (budget, next) = cursor.long()?;
+    if budget < 1 || MOST_BUDGET < budget {
+        return Err(ContainerFault::C4 { at: cursor.at });
+    }
+    Ok((budget, next))
 }
 
 /// A name, with its length in front of it.
-fn name(cursor: Cursor<'_>) -> Result<(&[u8], Cursor<'_>), ContainerFault> {
-    let (length, cursor) = byte_within(cursor, 1, 32)?;
-    let (name, next) = cursor.bytes(usize::from(length))?;
+fn name(cursor: Cursor<'_>) -> Result<(&[u8], Cursor<'_>), ContainerFault>
+    ensures { ReadsInPlace (λ name. name.now) name_part cursor.entry result }
+{
+    let (length, behind_length) = count_within(cursor, 1, 32)?;
+    name_text(length, behind_length)
+}
+
+/// A name of so many bytes; else C4 at it.
+fn name_text(length: usize, cursor: Cursor<'_>) -> Result<(&[u8], Cursor<'_>), ContainerFault>
+    ensures { ReadsInPlace (λ name. name.now) (raw length C4_at is_name_text) cursor.entry result }
+{
+    let (name, next) = cursor.bytes(length)?;
     if !is_name(name) {
         return Err(ContainerFault::C4 { at: cursor.at });
     }
     Ok((name, next))
 }
 
-/// A procedure in a plan of so many pieces; main has no parameters and no exit frame.
-pub fn procedure(
+/// Main in a plan of so many pieces: it has no parameters and no exit frame.
+pub fn main_procedure(
     pieces: u8,
-    main: bool,
     cursor: Cursor<'_>,
 ) -> Result<(ProcedureRef<'_>, Cursor<'_>), ContainerFault>
     requires { pieces ≤ 32 }
+    ensures { ReadsAs (IsProcedure pieces) (procedure_part pieces true) cursor.entry result }
 {
-    let most = if main { 0 } else { MOST_PARAMETERS };
-    let (parameters, cursor) = byte_within(cursor, 0, most)?;
-    let (exit, cursor) = exit(pieces, main, parameters, cursor)?;
-    let (labels, last, cursor) = labels(pieces, cursor)?;
-    let (code, cursor) = code(last, cursor)?;
+    let (parameters, behind_parameters) = byte_within(cursor, 0, 0)?;
+    let ((labels, code), next) = body(pieces, behind_parameters)?;
     let procedure = ProcedureRef {
         parameters,
-        exit,
+        exit: None,
         labels,
         code,
     };
-    Ok((procedure, cursor))
+    Ok((procedure, next))
 }
 
-fn exit(
+/// A procedure other than main in a plan of so many pieces.
+pub fn other_procedure(
     pieces: u8,
-    main: bool,
-    parameters: u8,
     cursor: Cursor<'_>,
-) -> Result<(Option<ExitRef<'_>>, Cursor<'_>), ContainerFault>
-    requires pieces { pieces ≤ 32 }
-    requires parameters { parameters ≤ 4 }
+) -> Result<(ProcedureRef<'_>, Cursor<'_>), ContainerFault>
+    requires { pieces ≤ 32 }
+    ensures { ReadsAs (IsProcedure pieces) (procedure_part pieces false) cursor.entry result }
 {
-    if main {
-        return Ok((None, cursor));
-    }
-    let (exit, cursor) = exit_frame(pieces, parameters, cursor)?;
-    Ok((Some(exit), cursor))
+    let (parameters, behind_parameters) = byte_within(cursor, 0, MOST_PARAMETERS)?;
+    let (exit, behind_exit) = exit_frame(pieces, parameters, behind_parameters)?;
+    let ((labels, code), next) = body(pieces, behind_exit)?;
+    let procedure = ProcedureRef {
+        parameters,
+        exit: Some(exit),
+        labels,
+        code,
+    };
+    Ok((procedure, next))
+}
+
+/// What follows the parameters and the exit frame of a procedure: its labels and its code.
+fn body(pieces: u8, cursor: Cursor<'_>) -> Result<((Labels<'_>, &[u8]), Cursor<'_>), ContainerFault>
+    requires { pieces ≤ 32 }
+    ensures { ReadsAs (IsBody pieces) (body_part pieces) cursor.entry result }
+{
+    let ((labels, last), behind_labels) = labels(pieces, cursor)?;
+    let (code, next) = code(last, behind_labels)?;
+    Ok(((labels, code), next))
 }
 
 /// The labels of a procedure, and the position of the last one.
-fn labels(pieces: u8, cursor: Cursor<'_>) -> Result<(Labels<'_>, u16, Cursor<'_>), ContainerFault>
+fn labels(
+    pieces: u8,
+    cursor: Cursor<'_>,
+) -> Result<((Labels<'_>, Option<u16>), Cursor<'_>), ContainerFault>
     requires { pieces ≤ 32 }
+    ensures { ReadsAs (AreLabels pieces) (labels_part pieces) cursor.entry result }
 {
-    let (count, next) = cursor.word()?;
-    let count = usize::from(count);
-    if count < 1 || MOST_LABELS < count {
-        return Err(ContainerFault::C4 { at: cursor.at });
-    }
-    let cursor = next;
-    let mut index = [cursor.rest; 16];
+    let (count, behind_count) = word_within(cursor, 1, MOST_LABELS)?;
+    let mut starts = ArrayVec::new();
     let mut last = None;
-    let mut cursor = cursor;
-    for n in 0..count {
-        if n % STRIDE == 0 {
-            index[n / STRIDE] = cursor.rest;
-        }
-        let (position, next) = position(last, cursor)?;
-        let (_frame, next) = frame(pieces, next)?;
+    let mut cursor = behind_count;
+    for _ in 0..count {
+        let (position, next) = label(last, pieces, cursor)?;
+        starts.push(cursor.rest);
         last = Some(position);
         cursor = next;
     }
-    let labels = Labels { count, index };
-    Ok((labels, last.unwrap_or(0), cursor))
+    Ok(((Labels { starts }, last), cursor))
+}
+
+/// A label behind the one at `last`: its position.
+fn label(
+    last: Option<u16>,
+    pieces: u8,
+    cursor: Cursor<'_>,
+) -> Result<(u16, Cursor<'_>), ContainerFault>
+    requires { pieces ≤ 32 }
+    ensures { ReadsAs (λ position l. position ≡ l.0)
+        (label_part (is_next_label last) pieces) cursor.entry result }
+{
+    let (position, behind_position) = position(last, cursor)?;
+    let (_frame, next) = frame(pieces, behind_position)?;
+    Ok((position, next))
 }
 
 /// The position of the label behind the one at `last`: the first is at 0, each later one rises.
-fn position(last: Option<u16>, cursor: Cursor<'_>) -> Result<(u16, Cursor<'_>), ContainerFault> {
+fn position(last: Option<u16>, cursor: Cursor<'_>) -> Result<(u16, Cursor<'_>), ContainerFault>
+    ensures { Reads (number 2 C5_at (is_next_label last)) cursor.entry result }
+{
     let (position, next) = cursor.word()?;
     let rises = match last {
         None => position == 0,
@@ -130,10 +189,14 @@ fn position(last: Option<u16>, cursor: Cursor<'_>) -> Result<(u16, Cursor<'_>), 
 }
 
 /// The code, with its length in front of it, in which the last label stands here.
-fn code(last: u16, cursor: Cursor<'_>) -> Result<(&[u8], Cursor<'_>), ContainerFault> {
-    let (length, next) = cursor.word()?;
-    if length <= last || MOST_CODE < usize::from(length) {
-        return Err(ContainerFault::C4 { at: cursor.at });
-    }
-    next.bytes(usize::from(length))
+fn code(last: Option<u16>, cursor: Cursor<'_>) -> Result<(&[u8], Cursor<'_>), ContainerFault>
+    ensures { ReadsInPlace (λ code. code.now) (code_part last) cursor.entry result }
+{
+    let least = match last {
+        None => 0,
+        Some(last) => usize::from(last) + 1,
+    };
+    let (length, behind_length) = word_within(cursor, least, MOST_CODE)?;
+    let (code, next) = behind_length.bytes(length)?;
+    Ok((code, next))
 }

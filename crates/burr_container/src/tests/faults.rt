@@ -14,14 +14,19 @@ fn changed(at: usize, bytes: &[u8]) -> [u8; 70] {
     all
 }
 
+/// The first fault of some bytes.
+fn fault_of(bytes: &[u8]) -> Option<ContainerFault> {
+    Container::parse(bytes).err()
+}
+
 #[test]
 fn names_where_bytes_end(rt: HostRuntime) {
     for n in 0..70usize {
-        let fault = Container::parse(&DUO[..n]).err();
+        let fault = fault_of(&DUO[..n]);
         assert_eq!(rt; fault, Some(ContainerFault::C1 { at: n }), "at {n}");
     }
     for n in 0..140usize {
-        let fault = Container::parse(&RING[..n]).err();
+        let fault = fault_of(&RING[..n]);
         assert_eq!(rt; fault, Some(ContainerFault::C1 { at: n }), "at {n}");
     }
 }
@@ -32,28 +37,16 @@ fn names_bytes_behind_the_end(rt: HostRuntime) {
     for (place, byte) in all.iter_mut().zip(DUO.iter()) {
         *place = *byte;
     }
-    assert_eq!(rt;
-        Container::parse(&all).err(),
-        Some(ContainerFault::C6 { at: 70 })
-    );
+    assert_eq!(rt; fault_of(&all), Some(ContainerFault::C6 { at: 70 }));
 }
 
 #[test]
 fn names_magic_and_version(rt: HostRuntime) {
     let magic = changed(0, b"XPLN");
-    assert_eq!(rt;
-        Container::parse(&magic).err(),
-        Some(ContainerFault::C2 { at: 0 })
-    );
-    assert_eq!(rt;
-        Container::parse(b"XX").err(),
-        Some(ContainerFault::C1 { at: 2 })
-    );
+    assert_eq!(rt; fault_of(&magic), Some(ContainerFault::C2 { at: 0 }));
+    assert_eq!(rt; fault_of(b"XX"), Some(ContainerFault::C1 { at: 2 }));
     let version = changed(4, &[0, 2]);
-    assert_eq!(rt;
-        Container::parse(&version).err(),
-        Some(ContainerFault::C3 { at: 4 })
-    );
+    assert_eq!(rt; fault_of(&version), Some(ContainerFault::C3 { at: 4 }));
 }
 
 #[test]
@@ -80,43 +73,24 @@ fn names_numbers_out_of_range(rt: HostRuntime) {
     ];
     for (at, bytes) in cases {
         let all = changed(at, bytes);
-        assert_eq!(rt;
-            Container::parse(&all).err(),
-            Some(ContainerFault::C4 { at }),
-            "at {at}"
-        );
+        assert_eq!(rt; fault_of(&all), Some(ContainerFault::C4 { at }), "at {at}");
     }
     let long = changed(59, &[0x10, 0x01]);
-    assert_eq!(rt;
-        Container::parse(&long).err(),
-        Some(ContainerFault::C4 { at: 59 })
-    );
+    assert_eq!(rt; fault_of(&long), Some(ContainerFault::C4 { at: 59 }));
     let tray = changed(33, &[254]);
-    assert_eq!(rt;
-        Container::parse(&tray).err(),
-        Some(ContainerFault::C4 { at: 33 })
-    );
+    assert_eq!(rt; fault_of(&tray), Some(ContainerFault::C4 { at: 33 }));
 }
 
 #[test]
 fn names_labels_that_do_not_rise(rt: HostRuntime) {
     let first = changed(19, &[0, 1]);
-    assert_eq!(rt;
-        Container::parse(&first).err(),
-        Some(ContainerFault::C5 { at: 19 })
-    );
+    assert_eq!(rt; fault_of(&first), Some(ContainerFault::C5 { at: 19 }));
     let mut second = RING;
     second[61] = 0;
-    assert_eq!(rt;
-        Container::parse(&second).err(),
-        Some(ContainerFault::C5 { at: 60 })
-    );
+    assert_eq!(rt; fault_of(&second), Some(ContainerFault::C5 { at: 60 }));
     second[60] = 0xff;
     second[61] = 0xff;
-    assert_eq!(rt;
-        Container::parse(&second).err(),
-        Some(ContainerFault::C4 { at: 118 })
-    );
+    assert_eq!(rt; fault_of(&second), Some(ContainerFault::C4 { at: 118 }));
 }
 
 #[test]
@@ -124,19 +98,10 @@ fn names_ends_of_ranges(rt: HostRuntime) {
     let mut low = RING;
     low[68] = 0x80;
     low[69] = 0;
-    assert_eq!(rt;
-        Container::parse(&low).err(),
-        Some(ContainerFault::C4 { at: 68 })
-    );
-    assert_eq!(rt;
-        Container::parse(&low[..70]).err(),
-        Some(ContainerFault::C4 { at: 68 })
-    );
+    assert_eq!(rt; fault_of(&low), Some(ContainerFault::C4 { at: 68 }));
+    assert_eq!(rt; fault_of(&low[..70]), Some(ContainerFault::C4 { at: 68 }));
     let mut high = RING;
     high[70] = 0xff;
     high[71] = 0xff;
-    assert_eq!(rt;
-        Container::parse(&high).err(),
-        Some(ContainerFault::C4 { at: 70 })
-    );
+    assert_eq!(rt; fault_of(&high), Some(ContainerFault::C4 { at: 70 }));
 }

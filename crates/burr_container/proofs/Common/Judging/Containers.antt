@@ -11,12 +11,12 @@ use Rattle.burr_container.specs.declared.fault.ContainerFault.TheVariants.{C2, C
 use Rattle.burr_container.specs.Plans.{PlanProcedure}
 use Rattle.burr_container.specs.Spelling.{counted_bytes, procedure_bytes, plan_bytes}
 use Rattle.burr_container.specs.Fitting.{is_procedure, are_procedures, is_piece_count, is_name_text, is_budget}
-use Rattle.burr_container.specs.Faults.{Failing, number, raw, procedure, others, each, IsFollowed, name, ContainerFails}
+use Rattle.burr_container.specs.Faults.{Failing, number, raw, procedure, others, each, IsFollowed, name, is_magic, ContainerFails}
 use Rattle.burr_container.specs.Laws.{IsSpelled, FaultOrPlan}
 use Rattle.burr_container.proofs.Common.Fields.{byte_back, number_so}
 use Rattle.burr_container.proofs.Common.Lawful.{Front, OfPart, OfEnd}
 use Rattle.burr_container.proofs.Common.Lists.{OfEach}
-use Rattle.burr_container.proofs.Common.Containers.{is_name_length, OfName, Nothing, is_procedure_count, OfOthers, others_fail, OfProcedures, procedures_fail, OfCounted, counted_fail, OfNamed, named_fails, OfPieces, pieces_fail, OfBudget, budget_fails, is_version, OfVersion, version_fails, is_magic, Values, OfValues, values_fail, plan_of, OfPlan, plan_apart}
+use Rattle.burr_container.proofs.Common.Containers.{is_name_length, OfName, Nothing, is_procedure_count, OfOthers, others_fail, OfProcedures, procedures_fail, OfCounted, counted_fail, OfNamed, named_fails, OfPieces, pieces_fail, OfBudget, budget_fails, is_version, OfVersion, version_fails, Values, OfValues, values_fail, plan_of, OfPlan, plan_apart}
 use Rattle.burr_container.proofs.Common.Judging.Fronts.{AreSmall, Found, Faulted, Judged, JudgedPart, first_judged, judged_as, end_judged}
 use Rattle.burr_container.proofs.Common.Judging.Fields.{number_judged, raw_judged, digits_1, digits_2, digits_4}
 use Rattle.burr_container.proofs.Common.Judging.Lists.{each_judged}
@@ -24,7 +24,7 @@ use Rattle.burr_container.proofs.Common.Judging.Procedures.{main_judged, other_j
 
 -- The name
 
-name_back : (both : ℕ × List ℕ) (bytes r : List ℕ) → AreSmall bytes → OfName both bytes r
+pub name_back : (both : ℕ × List ℕ) (bytes r : List ℕ) → AreSmall bytes → OfName both bytes r
     → OfPart name both.1 bytes r
 name_back both bytes r small here =
     let head = byte_back C4 is_name_length both.0 bytes here.0 here.1 in
@@ -104,7 +104,7 @@ one_and_more count n is e = let some =
     leb-true 1 count (and_parts (nat_le 1 count) (nat_le count MOST_PROCEDURES) is).0 in
     omega (arith, some, e)
 
-counted_back : (pieces : ℕ) (Last : Front Nothing)
+pub counted_back : (pieces : ℕ) (Last : Front Nothing)
     (v : ℕ × (PlanProcedure × (List PlanProcedure × Nothing))) (bytes r : List ℕ)
     → OfCounted pieces Last v bytes r
     → (rest : List ℕ) × IsTrue (are_procedures pieces (v.1.0 ∷ v.1.1.0))
@@ -135,7 +135,7 @@ counted_back pieces Last v bytes r here =
       end.2,
     )
 
-plan_back : (Last : Front Nothing) (v : Values) (bytes r : List ℕ) → AreSmall bytes
+pub plan_back : (Last : Front Nothing) (v : Values) (bytes r : List ℕ) → AreSmall bytes
     → OfValues Last v bytes r → OfPlan Last (plan_of v) bytes r
 plan_back Last v bytes r small here =
     let plan = plan_of v in

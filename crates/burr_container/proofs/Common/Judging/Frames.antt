@@ -71,13 +71,13 @@ head_back pieces More v bytes r here =
       inner.2,
     )
 
-places_back : (pieces : ℕ) (live : List Bool) (places : FormPlaces) (bytes r : List ℕ)
+pub places_back : (pieces : ℕ) (live : List Bool) (places : FormPlaces) (bytes r : List ℕ)
     → OfEach pieces (place live) places bytes r → IsTrue (are_places pieces live places)
 places_back pieces live places bytes r here =
     and_from (length places == pieces) (list_all (is_place live) places)
     (eq-eqb (length places) pieces here.0) here.1
 
-frame_back : (pieces : ℕ) (v : ℕ × (ℕ × BehindHead)) (bytes r : List ℕ) → AreSmall bytes
+pub frame_back : (pieces : ℕ) (v : ℕ × (ℕ × BehindHead)) (bytes r : List ℕ) → AreSmall bytes
     → OfHead pieces (OfSlotsOn pieces) v bytes r → OfPart (frame pieces) (frame_of v) bytes r
 frame_back pieces v bytes r small here =
     let f = frame_of v in
@@ -129,7 +129,7 @@ frame_judged pieces =
     (λ at bytes fault fails. fails)
     (head_judged pieces (OfSlotsOn pieces) (slots_fail pieces) (ranges_on_judged pieces))
 
-exit_back : (pieces parameters : ℕ) (v : ℕ × (ℕ × FormPlaces)) (bytes r : List ℕ) → AreSmall bytes
+pub exit_back : (pieces parameters : ℕ) (v : ℕ × (ℕ × FormPlaces)) (bytes r : List ℕ) → AreSmall bytes
     → OfHead pieces (OfEach pieces (place (parameter_slots parameters))) v bytes r
     → OfPart (exit_frame pieces parameters) (exit_frame_of v) bytes r
 exit_back pieces parameters v bytes r small here =

@@ -1,5 +1,5 @@
 -- For crates above: bytes have labels at their front, or fail to.
-use Rattle.std.proofs.Common.{◌≡◌, ℕ, zero, suc, ◌+◌, ◌^◌, ◌&&◌, ◌==◌, IsTrue, nat_lt, nat_le, Option, Some, None, List, [], ◌∷◌, ◌++◌, length, flat_map, inl, inr, refl, sym, ap, ◌∙◌, subst, arith, append_assoc, length-append, ltb-true, lt-ltb, le-leb}
+use Rattle.std.proofs.Common.{◌≡◌, ℕ, zero, suc, ◌+◌, ◌^◌, ◌&&◌, ◌==◌, Bool, IsTrue, nat_lt, nat_le, Option, Some, None, List, [], ◌∷◌, ◌++◌, length, flat_map, inl, inr, refl, sym, ap, ◌∙◌, subst, arith, append_assoc, length-append, ltb-true, lt-ltb, le-leb}
 use Rattle.std.proofs.lemmas.Bool.{and_parts, and_from, false≢true}
 use Rattle.byteorder.specs.Endian.{big_bytes}
 use Rattle.burr_code.specs.declared.limits.TheConstants.{MOST_LABELS}
@@ -8,7 +8,7 @@ use Rattle.burr_container.specs.declared.fault.ContainerFault.TheVariants.{C4, C
 use Rattle.burr_container.specs.Plans.{Frame}
 use Rattle.burr_container.specs.Spelling.{label_bytes}
 use Rattle.burr_container.specs.Fitting.{is_frame, rise_from, are_labels}
-use Rattle.burr_container.specs.Faults.{number, frame, passes, first, is_next_label, last_label, are_rising, is_above, LabelsFail, labels}
+use Rattle.burr_container.specs.Faults.{number, frame, passes, first, label as label_at, is_next_label, last_label, are_rising, is_above, LabelsFail, labels}
 use Rattle.burr_container.proofs.Common.Fields.{number_so}
 use Rattle.burr_container.proofs.Common.Lawful.{OfPart, OfFirst, OfNothing}
 use Rattle.burr_container.proofs.Common.LabelLists.{label, are_framed, LabelsFailFrom, OfLabels, last_from, last_of_all, is_label_count, OfAllLabels}
@@ -16,13 +16,13 @@ use Rattle.burr_container.proofs.Common.Judging.Fronts.{AreSmall, Judged, Judged
 use Rattle.burr_container.proofs.Common.Judging.Fields.{number_judged, digits_2}
 use Rattle.burr_container.proofs.Common.Judging.Frames.{frame_judged}
 
-label_back : (pieces : ℕ) (last : Option ℕ) (l : ℕ × Frame) (bytes r : List ℕ) → AreSmall bytes
-    → OfFirst (number 2 C5 (is_next_label last)) (λ position. OfPart (frame pieces)) l bytes r
-    → OfPart (label pieces last) l bytes r
-label_back pieces last l bytes r small here =
-    let position = and_parts (nat_lt l.0 (256 ^ 2)) (is_next_label last l.0) here.1.0 in (
-      and_from (is_next_label last l.0 && nat_lt l.0 (2 ^ 16)) (is_frame pieces l.1)
-          (and_from (is_next_label last l.0) (nat_lt l.0 (2 ^ 16)) position.1 position.0) here.2.0,
+pub label_back : (is_so : ℕ → Bool) (pieces : ℕ) (l : ℕ × Frame) (bytes r : List ℕ)
+    → AreSmall bytes → OfFirst (number 2 C5 is_so) (λ position. OfPart (frame pieces)) l bytes r
+    → OfPart (label_at is_so pieces) l bytes r
+label_back is_so pieces l bytes r small here =
+    let position = and_parts (nat_lt l.0 (256 ^ 2)) (is_so l.0) here.1.0 in (
+      and_from (is_so l.0 && nat_lt l.0 (2 ^ 16)) (is_frame pieces l.1)
+          (and_from (is_so l.0) (nat_lt l.0 (2 ^ 16)) position.1 position.0) here.2.0,
       here.1.1 ∙ ap (λ (rest : List ℕ). big_bytes 2 l.0 ++ rest) here.2.1,
     )
 
@@ -30,7 +30,7 @@ pub label_judged : (pieces : ℕ) (last : Option ℕ) → JudgedPart (label piec
 label_judged pieces last =
     judged_as (λ (both : ℕ × Frame). both) (OfPart (label pieces last))
     (OfFirst (number 2 C5 (is_next_label last)) (λ position. OfPart (frame pieces)))
-    (label pieces last).Fails (label pieces last).Fails (label_back pieces last)
+    (label pieces last).Fails (label pieces last).Fails (label_back (is_next_label last) pieces)
     (λ at bytes fault fails. fails)
     (first_judged (number 2 C5 (is_next_label last)) (λ position. OfPart (frame pieces))
     (λ position. (frame pieces).Fails) (number_judged 2 C5 (is_next_label last) digits_2)
@@ -49,7 +49,7 @@ more_fit pieces last l ls fits are =
     b.0)
     (and_from (is_frame pieces l.1) (are_framed pieces ls) a.1 b.1)
 
-one_more_fails : (pieces : ℕ) (last : Option ℕ) (count at : ℕ) (bytes : List ℕ)
+pub one_more_fails : (pieces : ℕ) (last : Option ℕ) (count at : ℕ) (bytes : List ℕ)
     (fault : ContainerFault)
     → first (label pieces last) (λ l. LabelsFailFrom pieces (Some l.0) count) at bytes fault
     → LabelsFailFrom pieces last (suc count) at bytes fault
@@ -77,7 +77,7 @@ one_more_fails pieces last count at bytes fault
       subst (λ (n : ℕ). (label pieces (last_from (Some l.0) ls)).Fails n more fault) position fails,
     )
 
-one_more : (pieces : ℕ) (last : Option ℕ) (count : ℕ) (both : (ℕ × Frame) × List (ℕ × Frame))
+pub one_more : (pieces : ℕ) (last : Option ℕ) (count : ℕ) (both : (ℕ × Frame) × List (ℕ × Frame))
     (bytes r : List ℕ) → AreSmall bytes
     → OfFirst (label pieces last) (λ l. OfLabels pieces (Some l.0) count) both bytes r
     → OfLabels pieces last (suc count) (both.0 ∷ both.1) bytes r
@@ -105,7 +105,7 @@ labels_from_judged pieces last (suc count) =
     (λ l. LabelsFailFrom pieces (Some l.0) count) (label_judged pieces last)
     (λ l fits. labels_from_judged pieces (Some l.0) count))
 
-labels_fail_back : (pieces count at : ℕ) (bytes : List ℕ) (fault : ContainerFault)
+pub labels_fail_back : (pieces count at : ℕ) (bytes : List ℕ) (fault : ContainerFault)
     → LabelsFailFrom pieces None count at bytes fault → LabelsFail pieces count at bytes fault
 labels_fail_back pieces count at bytes fault (front, rest, size, fits, e, fails) = (
   front,
@@ -118,7 +118,7 @@ labels_fail_back pieces count at bytes fault (front, rest, size, fits, e, fails)
       rest fault) (sym (last_of_all front)) fails,
 )
 
-labels_back : (pieces : ℕ) (both : ℕ × List (ℕ × Frame)) (bytes r : List ℕ) → AreSmall bytes
+pub labels_back : (pieces : ℕ) (both : ℕ × List (ℕ × Frame)) (bytes r : List ℕ) → AreSmall bytes
     → OfAllLabels pieces both bytes r → OfPart (labels pieces) both.1 bytes r
 labels_back pieces both bytes r small here =
     let ls = both.1 in

@@ -9,7 +9,7 @@ use Rattle.burr_container.proofs.Common.Lists.{OfEach}
 use Rattle.burr_container.proofs.Common.Judging.Fronts.{AreSmall, Judged, JudgedPart, first_judged, judged_as, passes_judged}
 
 module _ {A : Type 0} (part : Part A) where
-  one_more_fails : (count at : ℕ) (bytes : List ℕ) (fault : ContainerFault)
+  pub one_more_fails : (count at : ℕ) (bytes : List ℕ) (fault : ContainerFault)
       → first part (λ _. each count part) at bytes fault → each (suc count) part at bytes fault
   one_more_fails count at bytes fault (inl fails) =
       let here : at ≡ at + 0 = omega arith in
@@ -27,7 +27,7 @@ module _ {A : Type 0} (part : Part A) where
         subst (λ (n : ℕ). part.Fails n more fault) position fails,
       )
 
-  one_more : (count : ℕ) (both : A × List A) (bytes r : List ℕ) → AreSmall bytes
+  pub one_more : (count : ℕ) (both : A × List A) (bytes r : List ℕ) → AreSmall bytes
       → OfFirst part (λ _. OfEach count part) both bytes r
       → OfEach (suc count) part (both.0 ∷ both.1) bytes r
   one_more count both bytes r small here = (

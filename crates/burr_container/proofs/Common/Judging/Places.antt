@@ -47,7 +47,7 @@ coefficients_read (false ∷ live) bytes size small =
     let more = coefficients_read live bytes (omega (arith, size)) small in
     (pos 0 ∷ more.0, more.1, more.2)
 
-form_read : (live : List Bool) (bytes : List ℕ) → length bytes ≡ form_size live → AreSmall bytes
+pub form_read : (live : List Bool) (bytes : List ℕ) → length bytes ≡ form_size live → AreSmall bytes
     → (f : Form) × IsTrue (is_form live f) × (bytes ≡ form_bytes live f)
 form_read live bytes size small =
     let least = form_size_least live in
@@ -72,7 +72,7 @@ form_judged live =
     field_judged (form_size live) C4 (λ _. true) (form_bytes live) (is_form live)
     (λ front size small so. form_read live front size small)
 
-forms_back : (most : ℕ) (live : List Bool) (both : ℕ × List Form) (bytes r : List ℕ)
+pub forms_back : (most : ℕ) (live : List Bool) (both : ℕ × List Form) (bytes r : List ℕ)
     → AreSmall bytes → OfForms most live both bytes r → OfPart (forms most live) both.1 bytes r
 forms_back most live both bytes r small here =
     let head = byte_back C4 (λ count. nat_le count most) both.0 bytes here.0 here.1 in (
@@ -136,7 +136,7 @@ place_by_back false live tray fs bytes rest r is head e here =
     let on : IsTrue (is_tray tray) = subst (λ (b : Bool). IsTrue (b || is_tray tray)) is head in
     on_back live tray fs bytes rest r on e here
 
-place_back : (live : List Bool) (both : ℕ × List Form) (bytes r : List ℕ) → AreSmall bytes
+pub place_back : (live : List Bool) (both : ℕ × List Form) (bytes r : List ℕ) → AreSmall bytes
     → OfPlace live both bytes r → OfPart (place live) (place_of both) bytes r
 place_back live both bytes r small here =
     let head = byte_back C4 is_place_head both.0 bytes here.0 here.1 in

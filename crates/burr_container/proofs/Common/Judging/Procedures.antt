@@ -28,7 +28,7 @@ body_judged pieces =
     first_judged (labels pieces) (λ ls. OfCode (last_label ls)) (λ ls. CodeFails (last_label ls))
     (labels_judged pieces) (λ ls fits. code_judged (last_label ls))
 
-small_bytes : (bytes : List ℕ) → AreSmall bytes → IsTrue (list_all (λ b. nat_lt b 256) bytes)
+pub small_bytes : (bytes : List ℕ) → AreSmall bytes → IsTrue (list_all (λ b. nat_lt b 256) bytes)
 small_bytes [] small = refl
 small_bytes (b ∷ bytes) small =
     and_from (nat_lt b 256) (list_all (λ b. nat_lt b 256) bytes) (lt-ltb b 256 small.0)
@@ -66,7 +66,7 @@ body_back pieces v bytes r small here =
           ∙ ap (λ (rest : List ℕ). big_bytes 2 (length code) ++ rest) inner.2.1),
     )
 
-main_back : (pieces : ℕ) (v : ℕ × Body) (bytes r : List ℕ) → AreSmall bytes
+pub main_back : (pieces : ℕ) (v : ℕ × Body) (bytes r : List ℕ) → AreSmall bytes
     → OfMain pieces v bytes r → OfPart (procedure pieces true) (main_of v) bytes r
 main_back pieces v bytes r small here =
     let p = main_of v in
@@ -93,7 +93,7 @@ main_judged pieces =
     (λ parameters. BodyFails pieces) (number_judged 1 C4 (are_parameters true) digits_1)
     (λ parameters fits. body_judged pieces))
 
-other_back : (pieces : ℕ) (v : ℕ × (ExitFrame × Body)) (bytes r : List ℕ) → AreSmall bytes
+pub other_back : (pieces : ℕ) (v : ℕ × (ExitFrame × Body)) (bytes r : List ℕ) → AreSmall bytes
     → OfOther pieces v bytes r → OfPart (procedure pieces false) (other_of v) bytes r
 other_back pieces v bytes r small here =
     let p = other_of v in

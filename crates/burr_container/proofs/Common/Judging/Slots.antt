@@ -32,7 +32,7 @@ range_judged =
     (λ low. (signed (is_high low)).Fails) (signed_judged is_number)
     (λ low fits. signed_judged (is_high low)))
 
-live_back : (live : List Bool) (both : Range × List (Option Range)) (bytes r : List ℕ)
+pub live_back : (live : List Bool) (both : Range × List (Option Range)) (bytes r : List ℕ)
     → AreSmall bytes → OfFirst range (λ _. OfRanges live) both bytes r
     → OfRanges (true ∷ live) (Some both.0 ∷ both.1) bytes r
 live_back live both bytes r small here = (
@@ -41,7 +41,7 @@ live_back live both bytes r small here = (
   here.1.1 ∙ ap (λ (rest : List ℕ). range_bytes (Some both.0) ++ rest) here.2.2,
 )
 
-dead_back : (live : List Bool) (more : List (Option Range)) (bytes r : List ℕ) → AreSmall bytes
+pub dead_back : (live : List Bool) (more : List (Option Range)) (bytes r : List ℕ) → AreSmall bytes
     → OfRanges live more bytes r → OfRanges (false ∷ live) (None ∷ more) bytes r
 dead_back live more bytes r small here =
     (ap (λ (live : List Bool). false ∷ live) here.0, here.1, here.2)
@@ -79,7 +79,7 @@ pub length_bits : (n mask : ℕ) → length (bits n mask) ≡ n
 length_bits zero mask = refl
 length_bits (suc n) mask = ap suc (length_bits n (mask / 2))
 
-slots_back : (both : ℕ × List (Option Range)) (bytes r : List ℕ) → AreSmall bytes
+pub slots_back : (both : ℕ × List (Option Range)) (bytes r : List ℕ) → AreSmall bytes
     → OfSlots both bytes r → OfPart slots both.1 bytes r
 slots_back both bytes r small here =
     let head = byte_back C4 (λ _. true) both.0 bytes here.0 here.1 in

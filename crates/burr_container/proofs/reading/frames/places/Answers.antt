@@ -1,12 +1,27 @@
--- A place in front of others that stand.
-use Rattle.std.proofs.Common.{◌≡◌, ◌-◌, ◌+◌, suc, subst, arith, ℕ}
-use Rattle.std.specs.Prelude.{IsTrue}
-use Rattle.burr_container.specs.Decoding.{places_stand}
-use Rattle.burr_container.proofs.PlaceWalk.{stands_before}
+-- A place is read each turn.
+use Rattle.std.proofs.Common.{rules, ◌≡◌, arith}
+use Rattle.std.proofs.lemmas.Result.{err_from_is_err_and}
+use Rattle.burr_container.specs.Faults.{place}
+use Rattle.burr_container.proofs.EachWalk.{each_fails, each_ends}
+use Rattle.burr_container.proofs.FormsRead.{places_at}
+use Rattle.burr_container.proofs.PlacesRead.{places_go_on}
 use Rattle.burr_container.proofs.reading.frames.places.Goals as goal
 
 pub loop-preserved : goal.loop-preserved
-loop-preserved c = λ stand.
-    let left = c.args.pieces - (c.loop.counter + 1) in
-    let more : suc left ≡ c.args.pieces - c.loop.counter = omega arith in
-    c.loop.invariant (subst (λ (n : ℕ). IsTrue (places_stand c.args.live n c.loop.cursor.rest.now)) more (stands_before c.args.live left c.loop.cursor.rest.now c.in_ok-cursor.cursor.rest.now c.in_ok-cursor.ensures stand))
+loop-preserved c =
+    let place = c.in_ok-cursor.ensures.reads in
+    places_go_on c.args.live c.args.pieces c.loop.counter c.args.cursor c.loop.cursor c.in_ok-cursor.cursor place.0 (omega arith) c.loop.invariant
+    c.in_ok-cursor.ensures.over place.1
+
+pub returns-in_err-cursor-clause-reads : goal.returns-in_err-cursor-clause-reads
+returns-in_err-cursor-clause-reads c =
+    let p = err_from_is_err_and c.from_residual.result c.from_residual.ensures.1 in
+    rw (p.1, p.2)
+    (each_fails (place c.args.live) c.args.pieces c.args.cursor c.loop.counter c.loop.cursor _ (omega arith) c.loop.invariant.walk c.in_err-cursor.ensures.reads)
+
+pub returns-clause-reads : goal.returns-clause-reads
+returns-clause-reads c =
+    let all =
+    each_ends (place c.args.live) c.args.pieces c.args.cursor c.loop.counter c.loop.cursor (omega arith) c.loop.invariant.walk in
+    rw c.from-count.ensures
+    (places_at c.args.pieces c.args.live c.args.cursor c.loop.cursor all.0 all.1 c.loop.invariant.walk.behind)

@@ -1,10 +1,11 @@
--- Where the others stand, all stand.
+-- Where the others stand, all stand; and the places so far are read.
 use Rattle.std.proofs.Common.{◌-◌}
 use Rattle.std.specs.Prelude.{IsTrue}
 use Rattle.burr_container.specs.Decoding.{places_stand}
+use Rattle.burr_container.specs.Faults.{place}
+use Rattle.burr_container.proofs.EachWalk.{IsEachWalk}
+use Rattle.burr_container.proofs.PlacesRead.{ArePlacesRead}
 use Rattle.burr_container.proofs.reading.frames.places.Given as goal
 
 abbrev pub invariant-loop : goal.invariant-loop
-invariant-loop l =
-    IsTrue (places_stand l.live (l.pieces - l.counter) l.cursor.rest.now)
-    → IsTrue (places_stand l.live l.pieces l.bytes)
+invariant-loop l = ArePlacesRead l.live l.pieces l.initial.cursor l.counter l.cursor

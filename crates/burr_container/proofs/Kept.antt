@@ -1,0 +1,51 @@
+-- What is kept of each.
+use Rattle.std.proofs.Common.{◌≡◌, ℕ, zero, suc, ◌≤◌, ◌^◌, Option, Some, None, List, [], ◌∷◌, ◌++◌, length, refl, sym, ap, ◌∙◌, subst}
+use Rattle.std.specs.Prelude.{slice_get, slice_index_or, true}
+use Rattle.std.specs.Borrow.{Bor}
+use Rattle.burr_container.specs.declared.fault.ContainerFault.{ContainerFault}
+use Rattle.burr_container.specs.declared.reading.cursor.Cursor.{Cursor}
+use Rattle.burr_container.specs.Plans.{Frame}
+use Rattle.burr_container.specs.Faults.{label}
+use Rattle.burr_container.specs.Reading.{IsAt}
+use Rattle.burr_container.specs.InPlace.{AreFor, IsLabel}
+use Rattle.burr_container.proofs.Common.LabelLists.{label_at_sound}
+
+abbrev value_or : {A : Type 0} → Option A → A → A
+value_or None other = other
+value_or (Some a) other = a
+
+some_value : {A : Type 0} (a b : A) → Some a ≡ Some b → a ≡ b
+some_value a b e = ap (λ (o : Option _). value_or o a) e
+
+module _ {A B : Type 0} (Is : A → B → Type 0) where
+  pub for_length : (xs : List A) (ys : List B) → AreFor Is xs ys → length xs ≡ length ys
+  for_length [] [] are = refl
+  for_length [] (y ∷ ys) are = absurd are
+  for_length (x ∷ xs) [] are = absurd are
+  for_length (x ∷ xs) (y ∷ ys) are = ap suc (for_length xs ys are.1)
+
+  pub for_at : (xs : List A) (ys : List B) (i : ℕ) (y : B) (default : A) → AreFor Is xs ys
+      → slice_get ys i ≡ Some y → Is (slice_index_or xs i default) y
+  for_at [] [] i y default are e = absurd (cc)
+  for_at [] (y' ∷ ys) i y default are e = absurd are
+  for_at (x ∷ xs) [] i y default are e = absurd are
+  for_at (x ∷ xs) (y' ∷ ys) zero y default are e =
+      subst (λ (z : B). Is x z) (some_value y' y e) are.0
+  for_at (x ∷ xs) (y' ∷ ys) (suc i) y default are e = for_at xs ys i y default are.1 e
+
+-- the label that stands at a cursor is the one that is kept
+pub label_is : (pieces : ℕ) → pieces ≤ 32 → (cursor next : Cursor) (v l : ℕ × Frame)
+    (start : Bor (List ℕ)) → cursor.rest.now ≡ start.now
+    → IsAt (label (λ position. true) pieces) cursor v next → IsLabel pieces start l → v ≡ l
+label_is pieces few cursor next v l start e here kept =
+    ((label_at_sound (λ position. true) pieces few).one v l cursor.rest.now next.rest.now kept.rest
+    (here.fits, here.cut.parts) (kept.fits, e ∙ kept.parts)).0
+
+-- it does not fail
+pub label_never : (pieces : ℕ) → pieces ≤ 32 → (cursor : Cursor) (l : ℕ × Frame)
+    (start : Bor (List ℕ)) (fault : ContainerFault) → cursor.rest.now ≡ start.now
+    → IsLabel pieces start l
+    → ¬ (label (λ position. true) pieces).Fails cursor.at cursor.rest.now fault
+label_never pieces few cursor l start fault e kept =
+    (label_at_sound (λ position. true) pieces few).never l cursor.rest.now kept.rest cursor.at fault
+    (kept.fits, e ∙ kept.parts)

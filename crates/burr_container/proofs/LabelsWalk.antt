@@ -1,0 +1,150 @@
+-- Reading labels, one after the other.
+use Rattle.std.proofs.Common.{◌≡◌, ℕ, suc, ◌+◌, ◌-◌, ◌<◌, ◌≤◌, ◌^◌, ◌&&◌, Bool, true, IsTrue, nat_lt, nat_le, Option, Some, None, List, [], ◌∷◌, ◌++◌, length, inl, refl, sym, ap, ◌∙◌, subst, arith, append_assoc, append-nil, length-append}
+use Rattle.std.specs.Borrow.{Bor}
+use Rattle.std.proofs.lemmas.Bool.{and_parts, and_from}
+use Rattle.burr_code.specs.declared.limits.TheConstants.{MOST_LABELS}
+use Rattle.burr_container.specs.declared.fault.ContainerFault.{ContainerFault}
+use Rattle.burr_container.specs.declared.fault.ContainerFault.TheVariants.{C4}
+use Rattle.burr_container.specs.declared.reading.cursor.Cursor.{Cursor}
+use Rattle.burr_container.specs.Plans.{Frame}
+use Rattle.burr_container.specs.Fitting.{is_frame}
+use Rattle.burr_container.specs.Faults.{number, label, labels, is_next_label, last_label, LabelsFail}
+use Rattle.burr_container.specs.Reading.{IsAt}
+use Rattle.burr_container.specs.InPlace.{AreFor, IsLabel}
+use Rattle.burr_container.proofs.Common.LabelLists.{LabelsFailFrom, OfLabels, last_from, last_of_all, is_label_count}
+use Rattle.burr_container.proofs.Common.Judging.LabelLists.{one_more, one_more_fails, labels_back, labels_fail_back}
+use Rattle.burr_container.proofs.Chains.{IsBehind, small_of, behind_part, stands_at, then_fails, then_stands}
+
+-- the first i of n stand there, behind each other, and the others are to be read
+pub record IsLabelsWalk (pieces n : ℕ) (begin : Cursor) (i : ℕ) (starts : List (Bor (List ℕ)))
+    (last : Option ℕ) (cursor : Cursor) : Type 0 where
+  pub fails : (fault : ContainerFault)
+      → LabelsFailFrom pieces last (n - i) cursor.at cursor.rest.now fault
+      → LabelsFailFrom pieces None n begin.at begin.rest.now fault
+  pub stands : (more : List (ℕ × Frame)) (others : List (Bor (List ℕ))) (r : List ℕ)
+      → OfLabels pieces last (n - i) more cursor.rest.now r
+      → AreFor (IsLabel pieces) others more
+      → (whole : List (ℕ × Frame)) × OfLabels pieces None n whole begin.rest.now r
+      × AreFor (IsLabel pieces) (starts ++ others) whole
+      × (last_from None whole ≡ last_from last more)
+  pub behind : IsBehind begin cursor
+  pub size : length starts ≡ i
+
+-- a label that stands there is one at the begin of the bytes from there on
+label_begins : (is_so : ℕ → Bool) (pieces : ℕ) (cursor next : Cursor) (l : ℕ × Frame)
+    → IsAt (label is_so pieces) cursor l next → IsLabel pieces cursor.rest l
+label_begins is_so pieces cursor next l here =
+    let a = and_parts (is_so l.0 && nat_lt l.0 (2 ^ 16)) (is_frame pieces l.1) here.fits in
+    let b = and_parts (is_so l.0) (nat_lt l.0 (2 ^ 16)) a.0 in
+    record {
+      rest = next.rest.now;
+      fits = and_from (true && nat_lt l.0 (2 ^ 16)) (is_frame pieces l.1)
+          (and_from true (nat_lt l.0 (2 ^ 16)) refl b.1) a.1;
+      parts = here.cut.parts;
+    }
+
+module _ (pieces n : ℕ) (begin : Cursor) where
+  pub labels_begin : IsLabelsWalk pieces n begin 0 [] None begin
+  labels_begin =
+      let all : n - 0 ≡ n = omega arith in
+      record {
+        fails = λ fault fails.
+            subst (λ (k : ℕ). LabelsFailFrom pieces None k begin.at begin.rest.now fault) all fails;
+        stands = λ more others r here are. (
+          more,
+          subst (λ (k : ℕ). OfLabels pieces None k more begin.rest.now r) all here,
+          are,
+          refl,
+        );
+        behind = refl;
+        size = refl;
+      }
+
+  module _ (i : ℕ) (starts : List (Bor (List ℕ))) (last : Option ℕ) (cursor : Cursor)
+      (small : i < n) (walk : IsLabelsWalk pieces n begin i starts last cursor) where
+    pub labels_go_on : (l : ℕ × Frame) (position : ℕ) (next : Cursor) → position ≡ l.0
+        → IsAt (label (is_next_label last) pieces) cursor l next
+        → IsLabelsWalk pieces n begin (i + 1) (starts ++ cursor.rest ∷ []) (Some position) next
+    labels_go_on l position next e here =
+        let left = n - (i + 1) in
+        let size : suc left ≡ n - i = omega (arith, small) in
+        let this = label (is_next_label last) pieces in
+        record {
+          fails = λ fault fails. walk.fails fault
+              (subst (λ (k : ℕ). LabelsFailFrom pieces last k cursor.at cursor.rest.now fault) size
+              (one_more_fails pieces last left cursor.at cursor.rest.now fault
+              (then_fails this cursor next l (λ l. LabelsFailFrom pieces (Some l.0) left) fault here
+              (subst
+              (λ (k : ℕ). LabelsFailFrom pieces (Some k) left next.at next.rest.now fault) e
+              fails))));
+          stands = λ more others r stand are.
+              let behind =
+              subst (λ (k : ℕ). OfLabels pieces (Some k) left more next.rest.now r) e stand in
+              let all =
+              walk.stands (l ∷ more) (cursor.rest ∷ others) r
+              (subst (λ (k : ℕ). OfLabels pieces last k (l ∷ more) cursor.rest.now r) size
+              (one_more pieces last left (l, more) cursor.rest.now r
+              (small_of cursor.rest.now cursor.bytes)
+              (then_stands this cursor next l (λ l. OfLabels pieces (Some l.0) left) more r here
+              behind)))
+              (label_begins (is_next_label last) pieces cursor next l here, are) in (
+                all.0,
+                all.1,
+                subst (λ (s : List (Bor (List ℕ))). AreFor (IsLabel pieces) s all.0)
+                    (sym (append_assoc starts (cursor.rest ∷ []) others)) all.2,
+                all.3 ∙ ap (λ (k : ℕ). last_from (Some k) more) (sym e),
+              );
+          behind = behind_part this cursor next l here ∙ walk.behind;
+          size = let more = length-append starts (cursor.rest ∷ []) in
+              omega (arith, more, walk.size);
+        }
+
+    pub labels_fail_on : (fault : ContainerFault)
+        → (label (is_next_label last) pieces).Fails cursor.at cursor.rest.now fault
+        → LabelsFailFrom pieces None n begin.at begin.rest.now fault
+    labels_fail_on fault fails =
+        let left = n - (i + 1) in
+        let size : suc left ≡ n - i = omega (arith, small) in
+        walk.fails fault
+        (subst (λ (k : ℕ). LabelsFailFrom pieces last k cursor.at cursor.rest.now fault) size
+        (one_more_fails pieces last left cursor.at cursor.rest.now fault (inl fails)))
+
+  pub labels_end : (i : ℕ) (starts : List (Bor (List ℕ))) (last : Option ℕ) (cursor : Cursor)
+      → n ≤ i → IsLabelsWalk pieces n begin i starts last cursor
+      → (whole : List (ℕ × Frame)) × OfLabels pieces None n whole begin.rest.now cursor.rest.now
+      × AreFor (IsLabel pieces) starts whole × (last ≡ last_label whole)
+  labels_end i starts last cursor all walk =
+      let none : 0 ≡ n - i = omega (arith, all) in
+      let end =
+      walk.stands [] [] cursor.rest.now
+      (subst (λ (k : ℕ). OfLabels pieces last k [] cursor.rest.now cursor.rest.now) none
+      (refl, refl, refl)) tt in (
+        end.0,
+        end.1,
+        subst (λ (s : List (Bor (List ℕ))). AreFor (IsLabel pieces) s end.0) (append-nil starts)
+            end.2,
+        sym end.3 ∙ sym (last_of_all end.0),
+      )
+
+-- labels behind their count
+pub labels_at : (pieces count : ℕ) (cursor behind_count next : Cursor) (ls : List (ℕ × Frame))
+    → IsAt (number 2 C4 is_label_count) cursor count behind_count
+    → OfLabels pieces None count ls behind_count.rest.now next.rest.now
+    → IsBehind behind_count next → IsAt (labels pieces) cursor ls next
+labels_at pieces count cursor behind_count next ls head here behind =
+    let counted = number 2 C4 is_label_count in
+    stands_at (labels pieces) cursor next ls
+    (labels_back pieces (count, ls) cursor.rest.now next.rest.now
+    (small_of cursor.rest.now cursor.bytes)
+    (then_stands counted cursor behind_count count (λ count. OfLabels pieces None count) ls
+    next.rest.now head here))
+    (behind ∙ behind_part counted cursor behind_count count head)
+
+pub labels_fail_at : (pieces count : ℕ) (cursor behind_count : Cursor) (fault : ContainerFault)
+    → IsAt (number 2 C4 is_label_count) cursor count behind_count
+    → LabelsFailFrom pieces None count behind_count.at behind_count.rest.now fault
+    → (labels pieces).Fails cursor.at cursor.rest.now fault
+labels_fail_at pieces count cursor behind_count fault head fails =
+    then_fails (number 2 C4 is_label_count) cursor behind_count count
+    (λ count. LabelsFail pieces count) fault head
+    (labels_fail_back pieces count behind_count.at behind_count.rest.now fault fails)

@@ -1,0 +1,41 @@
+-- Reading the places of all pieces.
+use Rattle.std.proofs.Common.{◌≡◌, ℕ, suc, ◌+◌, ◌-◌, ◌<◌, Bool, List, subst, arith}
+use Rattle.std.specs.Prelude.{IsTrue}
+use Rattle.burr_code.specs.Places.{Placement}
+use Rattle.burr_container.specs.declared.reading.cursor.Cursor.{Cursor}
+use Rattle.burr_container.specs.Plans.{FormCell}
+use Rattle.burr_container.specs.Faults.{place}
+use Rattle.burr_container.specs.Decoding.{places_stand, IsOver}
+use Rattle.burr_container.specs.Reading.{IsAt}
+use Rattle.burr_container.proofs.EachWalk.{IsEachWalk, each_begins, each_goes_on}
+use Rattle.burr_container.proofs.PlaceWalk.{stands_before}
+
+-- where the others stand, all stand; and the first i are read
+pub record ArePlacesRead (live : List Bool) (pieces : ℕ) (begin : Cursor) (i : ℕ)
+    (cursor : Cursor) : Type 0 where
+  pub stand : IsTrue (places_stand live (pieces - i) cursor.rest.now)
+      → IsTrue (places_stand live pieces begin.rest.now)
+  pub walk : IsEachWalk (place live) pieces begin i cursor
+
+pub places_go_on : (live : List Bool) (pieces i : ℕ) (begin cursor next : Cursor)
+    (p : Placement FormCell) → i < pieces → ArePlacesRead live pieces begin i cursor
+    → IsOver live cursor.rest.now next.rest.now → IsAt (place live) cursor p next
+    → ArePlacesRead live pieces begin (i + 1) next
+places_go_on live pieces i begin cursor next p small read over here =
+    let left = pieces - (i + 1) in
+    let more : suc left ≡ pieces - i = omega (arith, small) in
+    record {
+      stand = λ others. read.stand
+          (subst (λ (n : ℕ). IsTrue (places_stand live n cursor.rest.now)) more
+          (stands_before live left cursor.rest.now next.rest.now over others));
+      walk = each_goes_on (place live) pieces begin i cursor next p small read.walk here;
+    }
+
+pub places_begin : (live : List Bool) (pieces : ℕ) (begin : Cursor)
+    → ArePlacesRead live pieces begin 0 begin
+places_begin live pieces begin =
+    let all : pieces - 0 ≡ pieces = omega arith in
+    record {
+      stand = λ others. subst (λ (n : ℕ). IsTrue (places_stand live n begin.rest.now)) all others;
+      walk = each_begins (place live) pieces begin;
+    }

@@ -1,0 +1,12 @@
+-- The procedures so far are read.
+use Rattle.std.proofs.Common.{◌-◌}
+use Rattle.std.specs.Prelude.{false}
+use Rattle.burr_container.specs.Faults.{procedure}
+use Rattle.burr_container.specs.InPlace.{IsProcedure}
+use Rattle.burr_container.proofs.KeptWalk.{IsKeptWalk}
+use Rattle.burr_container.proofs.container_readers.procedures.Given as goal
+
+abbrev pub invariant-loop : goal.invariant-loop
+invariant-loop l =
+    IsKeptWalk (procedure l.pieces false) (IsProcedure l.pieces) (l.count - 1) l.initial.cursor
+    l.initial.procedures.items l.counter l.procedures.items l.cursor

@@ -1,0 +1,35 @@
+-- An exit frame and a body stand behind the parameters.
+use Rattle.std.proofs.Common.{refl}
+use Rattle.std.proofs.lemmas.Result.{err_from_is_err_and}
+use Rattle.burr_container.specs.Refs.{exit_frame_of}
+use Rattle.burr_container.proofs.ProceduresRead.{other_at, exit_frame_fails, other_body_fails}
+use Rattle.burr_container.proofs.reading.parts.other_procedure.Goals as goal
+
+pub returns-in_err-exit : goal.returns-in_err-exit
+returns-in_err-exit c =
+    let p = err_from_is_err_and c.from_residual-in_err-exit.result c.from_residual-in_err-exit.ensures.1 in
+    rw (p.1, p.2)
+    (exit_frame_fails c.args.pieces c.in_ok-parameters.parameters c.args.cursor c.in_ok-parameters.behind_parameters c.in_ok-parameters.ensures _
+    c.in_err-exit.ensures.reads)
+
+pub returns-in_err-labels : goal.returns-in_err-labels
+returns-in_err-labels c =
+    let p = err_from_is_err_and c.from_residual-in_err-labels.result c.from_residual-in_err-labels.ensures.1 in
+    rw (p.1, p.2)
+    (other_body_fails c.args.pieces c.in_ok-parameters.parameters c.args.cursor c.in_ok-parameters.behind_parameters c.in_ok-parameters.ensures
+    (exit_frame_of c.in_ok-exit.exit) c.in_ok-exit.behind_exit c.in_ok-exit.ensures.reads _ c.in_err-labels.ensures)
+
+pub returns : goal.returns
+returns c =
+    let body = c.in_ok-labels.ensures in
+    let exit = c.in_ok-exit.ensures in (
+      _,
+      record {
+        parameters = refl;
+        exit = record { frame = refl; live = exit.places.1; count = exit.places.0 };
+        labels = body.1.labels;
+        code = body.1.code;
+      },
+      other_at c.args.pieces c.in_ok-parameters.parameters c.args.cursor c.in_ok-parameters.behind_parameters c.in_ok-parameters.ensures
+          (exit_frame_of c.in_ok-exit.exit) c.in_ok-exit.behind_exit exit.reads body.0.0 body.0.1 c.in_ok-labels.next body.2,
+    )

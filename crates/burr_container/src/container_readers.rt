@@ -1,0 +1,129 @@
+//! Reading a container.
+
+ghost use Rattle.std.specs.Prelude.{◌≡◌, ◌≤◌, ◌<◌, length, slice_get, IfSome};
+ghost use Rattle.burr_container.specs.Plans.{Plan};
+ghost use Rattle.burr_container.specs.Faults.{procedures as procedures_part};
+ghost use Rattle.burr_container.specs.Reading.{ReadsAs};
+ghost use Rattle.burr_container.specs.Refs.{frame_of};
+ghost use Rattle.burr_container.specs.InPlace.{AreFor, IsProcedure, IsExit};
+ghost use Rattle.burr_container.specs.Containers.{ReadsContainer, IsContainer, IsHeader, HasLabel, OfProcedure, OfLabel};
+
+use crate::container::Container;
+use crate::exit_ref::ExitRef;
+use crate::fault::ContainerFault;
+use crate::frame_ref::FrameRef;
+use crate::header::Header;
+use crate::procedure_ref::ProcedureRef;
+use crate::reading::{Cursor, count_within, header, main_procedure, other_procedure};
+use arrayvec::ArrayVec;
+use burr_code::limits::MOST_PROCEDURES;
+
+impl<'a> Container<'a> {
+    /// The container with these bytes, or the first fault of them. Each byte is looked at a bounded
+    /// number of times.
+    pub fn parse(bytes: &'a [u8]) -> Result<Container<'a>, ContainerFault>
+        ensures { ReadsContainer bytes.now result }
+    {
+        let begin = Cursor::new(bytes);
+        let (header, behind_header) = header(begin)?;
+        let (procedures, end) = procedures(header.pieces, behind_header)?;
+        if !end.rest.is_empty() {
+            return Err(ContainerFault::C6 { at: end.at });
+        }
+        Ok(Container { header, procedures })
+    }
+
+    /// Version, budget, number of pieces and name.
+    pub fn header(&self) -> Header<'a>
+        ensures pieces { result.pieces ≡ self.now.header.pieces }
+        ensures plan { (p : Plan) → IsContainer self.now p → IsHeader result p }
+    {
+        self.header
+    }
+
+    /// How many procedures there are, 1 to 16; main is procedure 0.
+    pub fn proc_count(&self) -> usize
+        ensures count { result ≡ length self.now.procedures.items }
+        ensures plan { (p : Plan) → IsContainer self.now p → result ≡ length p.procedures }
+    {
+        self.procedures.len()
+    }
+
+    /// How many parameters procedure i has, 0 to 4.
+    pub fn params(&self, i: usize) -> u8
+        requires { i < length self.now.procedures.items }
+        ensures { OfProcedure self.now i (λ p q. result ≡ q.parameters) }
+    {
+        self.procedures[i].parameters
+    }
+
+    /// How many labels procedure i has, 1 to 256.
+    pub fn label_count(&self, i: usize) -> usize
+        requires { i < length self.now.procedures.items }
+        ensures count { IfSome (slice_get self.now.procedures.items i)
+            (λ p. result ≡ length p.labels.starts.items) }
+        ensures few { result ≤ 256 }
+        ensures plan { OfProcedure self.now i (λ p q. result ≡ length q.labels) }
+    {
+        self.procedures[i].labels.starts.len()
+    }
+
+    /// The position in its code of label n of procedure i.
+    pub fn label(&self, i: usize, n: usize) -> u16
+        requires procedure { i < length self.now.procedures.items }
+        requires label { HasLabel self.now i n }
+        ensures { OfLabel self.now i n (λ l. result ≡ l.0) }
+    {
+        let labels = &self.procedures[i].labels;
+        labels.label(self.header.pieces, n).0
+    }
+
+    /// The frame of label n of procedure i.
+    pub fn frame(&self, i: usize, n: usize) -> FrameRef<'a>
+        requires procedure { i < length self.now.procedures.items }
+        requires label { HasLabel self.now i n }
+        ensures places { result.places.count ≡ self.now.header.pieces }
+        ensures plan { OfLabel self.now i n (λ l. frame_of result ≡ l.1) }
+    {
+        let labels = &self.procedures[i].labels;
+        labels.label(self.header.pieces, n).1
+    }
+
+    /// The exit frame of procedure i; None for main.
+    pub fn exit(&self, i: usize) -> Option<ExitRef<'a>>
+        requires { i < length self.now.procedures.items }
+        ensures { OfProcedure self.now i (λ p q. IsExit p.pieces q.parameters result q.exit) }
+    {
+        self.procedures[i].exit
+    }
+
+    /// The code of procedure i, 1 to 4,096 bytes.
+    pub fn code(&self, i: usize) -> &'a [u8]
+        requires { i < length self.now.procedures.items }
+        ensures { OfProcedure self.now i (λ p q. result.now ≡ q.code) }
+    {
+        self.procedures[i].code
+    }
+}
+
+/// The procedures of a plan of so many pieces, with their count in front of them.
+fn procedures(
+    pieces: u8,
+    cursor: Cursor<'_>,
+) -> Result<(ArrayVec<ProcedureRef<'_>, MOST_PROCEDURES>, Cursor<'_>), ContainerFault>
+    requires { pieces ≤ 32 }
+    ensures { ReadsAs (λ kept ps. AreFor (IsProcedure pieces) kept.items ps) (procedures_part pieces)
+        cursor.entry result }
+{
+    let (count, behind_count) = count_within(cursor, 1, MOST_PROCEDURES)?;
+    let (main, behind_main) = main_procedure(pieces, behind_count)?;
+    let mut procedures = ArrayVec::new();
+    procedures.push(main);
+    let mut cursor = behind_main;
+    for _ in 0..count - 1 {
+        let (procedure, next) = other_procedure(pieces, cursor)?;
+        procedures.push(procedure);
+        cursor = next;
+    }
+    Ok((procedures, cursor))
+}
