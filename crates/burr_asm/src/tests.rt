@@ -113,48 +113,114 @@ const LIFT: &str = "plan cup 2 11\n\
 /// The first line of a frame, its cost and two pieces apart, behind a label's line.
 const FRAME: &str = "frame 0 -\ncost 1\nat 0 apart\nat 1 apart\n";
 
-/// Numbers of lines, counted from 1, and what stands in their place: perhaps several lines.
-type Edits = &'static [(usize, &'static str)];
-
-/// A text with other lines in the place of some of its own.
-fn edited(alloc: Global, text: &str, edits: &[(usize, &str)]) -> Result<Vec<u8>, AllocError> {
+/// A text with other lines in the place of some of its own: an edit is the number of a line, counted
+/// from 1, and what stands in its place; edits are joined by `|`.
+fn edited(alloc: Global, text: &str, edits: &str) -> Result<Vec<u8>, AllocError> {
     let mut changed = Vec::new(alloc);
     for (index, kept) in text.split_terminator('\n').enumerate() {
-        let number = index.wrapping_add(1);
-        let line = match edits.iter().find(|(edit, _)| *edit == number) {
-            Some((_, line)) => *line,
-            None => kept,
-        };
-        changed.extend_from_slice(line.as_bytes())?;
-        changed.push(b'\n')?;
+        let put = edit_of(edits, index.wrapping_add(1));
+        add_lines(&mut changed, put.unwrap_or(kept))?;
     }
     Ok(changed)
 }
 
-/// Asserts the fault of a text with each of these edits; None where it is right.
-fn assert_faults(
-    rt: &impl Abort,
-    alloc: Global,
-    text: &str,
-    cases: &[(Edits, Option<AsmFault>)],
-) -> Result<(), AllocError> {
-    for (edits, want) in cases {
-        let changed = edited(alloc, text, edits)?;
-        assert_eq!(rt; assemble(alloc, &changed).err(), *want, "{edits:?}");
+/// What edits put in the place of the line with this number.
+fn edit_of(edits: &str, number: usize) -> Option<&str> {
+    for edit in edits.split('|') {
+        let (place, put) = edit.split_once(' ')?;
+        if place.parse() == Ok(number) {
+            return Some(put);
+        }
+    }
+    None
+}
+
+/// Adds lines that are joined by `/`.
+fn add_lines(text: &mut Vec<u8>, lines: &str) -> Result<(), AllocError> {
+    for line in lines.split('/') {
+        text.extend_from_slice(line.as_bytes())?;
+        text.push(b'\n')?;
     }
     Ok(())
 }
 
-/// Asserts that a container is listed as a text from which it is assembled again.
-fn assert_listed(rt: &impl Abort, alloc: Global, bytes: &[u8]) -> Result<(), Fail> {
-    let Ok(container) = Container::parse(bytes) else {
-        assert!(rt; false, "a container");
-        return Ok(());
-    };
-    let text = list(alloc, &container)?;
-    match assemble(alloc, &text) {
-        Ok(again) => assert!(rt; again.as_slice() == bytes),
-        Err(fault) => assert!(rt; false, "{fault:?} in {text:?}"),
+/// Asserts each line of a table that isn't a heading with `#`: edits of the text, and behind the last
+/// `|` what is then wrong with it.
+fn assert_faults(
+    rt: &impl Abort,
+    alloc: Global,
+    text: &str,
+    table: &str,
+) -> Result<(), AllocError> {
+    for case in table.lines() {
+        if !case.starts_with('#') {
+            assert_case(rt, alloc, text, case)?;
+        }
     }
     Ok(())
+}
+
+/// Asserts a line of a table.
+fn assert_case(rt: &impl Abort, alloc: Global, text: &str, case: &str) -> Result<(), AllocError> {
+    match case.rsplit_once('|') {
+        Some((edits, want)) => {
+            let changed = edited(alloc, text, edits)?;
+            assert!(rt; is_judged(alloc, &changed, want), "{case}");
+        }
+        None => assert!(rt; false, "{case}"),
+    }
+    Ok(())
+}
+
+/// Whether a text is `right`, or has the fault and the line that words name, as `P1 15`.
+fn is_judged(alloc: Global, text: &[u8], want: &str) -> bool {
+    match assemble(alloc, text) {
+        Ok(_bytes) => want == "right",
+        Err(found) => fault(want) == Some(found),
+    }
+}
+
+/// The fault that words name.
+fn fault(words: &str) -> Option<AsmFault> {
+    let (kind, line) = words.split_once(' ')?;
+    let line = line.parse().ok()?;
+    match kind {
+        "P1" => Some(AsmFault::P1 { line }),
+        "P2" => Some(AsmFault::P2 { line }),
+        "P3" => Some(AsmFault::P3 { line }),
+        "P4" => Some(AsmFault::P4 { line }),
+        "P5" => Some(AsmFault::P5 { line }),
+        _ => None,
+    }
+}
+
+/// Asserts that a text is right, and that its container is listed.
+fn assert_right(rt: &impl Abort, alloc: Global, text: &[u8]) -> Result<(), AllocError> {
+    match assemble(alloc, text) {
+        Ok(bytes) => assert_listed(rt, alloc, &bytes),
+        Err(fault) => {
+            assert!(rt; false, "{fault:?}");
+            Ok(())
+        }
+    }
+}
+
+/// Asserts that a container is listed as a text from which it is assembled again.
+fn assert_listed(rt: &impl Abort, alloc: Global, bytes: &[u8]) -> Result<(), AllocError> {
+    match Container::parse(bytes) {
+        Ok(container) => {
+            let text = list(alloc, &container)?;
+            assert!(rt; is_assembled(alloc, &text, bytes));
+        }
+        Err(fault) => assert!(rt; false, "{fault:?}"),
+    }
+    Ok(())
+}
+
+/// Whether a text is assembled to these bytes.
+fn is_assembled(alloc: Global, text: &[u8], bytes: &[u8]) -> bool {
+    match assemble(alloc, text) {
+        Ok(found) => found.as_slice() == bytes,
+        Err(_fault) => false,
+    }
 }

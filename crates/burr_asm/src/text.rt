@@ -9,9 +9,11 @@ mod numbers;
 mod outline;
 mod places;
 mod plain;
+mod plain_line;
 mod procedure;
 mod reader;
 mod set;
+mod stage;
 mod statement;
 mod words;
 

@@ -1,5 +1,7 @@
 pub mod Common
 pub mod Existence
+pub mod Offers
+pub mod Operands
 pub mod Stepping
 pub mod Trays
 mod TwoCubes

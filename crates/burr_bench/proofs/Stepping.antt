@@ -1,4 +1,6 @@
+pub mod Callers
 pub mod Conditions
 pub mod Near
+pub mod Questions
 pub mod Steps
 pub mod Ways

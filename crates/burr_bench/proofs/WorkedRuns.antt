@@ -66,14 +66,14 @@ at_home cells = On 0 origin
 grips : (cells : List (List Cell)) (rest : List ℕ) → map at_home cells ≡ both_here
     → NextIs (bare cells (grip_a rest)) (start (bare cells (grip_a rest))) (Goes gripped None)
 grips cells rest two =
-    rw two (inl (bare_procedure (grip_a rest), Grip 1, (refl, record { in_range = (one_some, lit< tt); begins = (rest, refl) }, tt), inr (a_lies, refl)))
+    rw two (inl (bare_procedure (grip_a rest), Grip 1, (refl, record { in_range = (one_some, lit< tt); begins = (rest, refl) }), inr (a_lies, refl)))
 
 takes_aside : (rest : List ℕ) → NextIs (bare homes (grip_a (aside_back rest))) gripped (Goes taken (Some (motion_of 1 0 MinusX true)))
 takes_aside rest =
     inl (
       bare_procedure (grip_a (aside_back rest)),
       Aside MinusX 1,
-      (refl, record { in_range = lit< tt; begins = (rest, refl) }, tt),
+      (refl, record { in_range = lit< tt; begins = (rest, refl) }),
       inr (b_stays, inr (tray_is_free, inr (group_is_free, refl))),
     )
 
@@ -82,7 +82,7 @@ is_stuck =
     inl (
       bare_procedure (grip_a (aside_on halt)),
       Aside PlusX 1,
-      (refl, record { in_range = lit< tt; begins = (halt, refl) }, tt),
+      (refl, record { in_range = lit< tt; begins = (halt, refl) }),
       inr (b_stays, inr (tray_is_free, inl (group_is_blocked, refl))),
     )
 
@@ -91,7 +91,7 @@ is_stuck_far =
     inl (
       bare_procedure (grip_a (aside_on halt)),
       Aside PlusX 1,
-      (refl, record { in_range = lit< tt; begins = (halt, refl) }, tt),
+      (refl, record { in_range = lit< tt; begins = (halt, refl) }),
       inr (b_stays, inr (tray_is_free, inl (group_is_blocked_far, refl))),
     )
 
@@ -100,13 +100,13 @@ grips_nothing =
     inl (
       bare_procedure (grip_a (aside_back (grip_a halt))),
       Grip 1,
-      (refl, record { in_range = (one_some, lit< tt); begins = (halt, refl) }, tt),
+      (refl, record { in_range = (one_some, lit< tt); begins = (halt, refl) }),
       inl (a_is_gone, refl),
     )
 
 halts : NextIs apart taken (Goes ended None)
 halts =
-    inl (bare_procedure (grip_a (aside_back halt)), Halt, (refl, record { in_range = tt; begins = ([], refl) }, tt), inr (refl, inr (both_are_apart, refl)))
+    inl (bare_procedure (grip_a (aside_back halt)), Halt, (refl, record { in_range = tt; begins = ([], refl) }), inr (refl, inr (both_are_apart, refl)))
 
 going : (s : BenchState) → s.mode ≡ Running → s.steps ≤ 2 → IsGoing 1000000 s
 going s running few = record { running = running; within = λ all. omega (arith, few, all) }

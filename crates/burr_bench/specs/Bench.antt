@@ -4,6 +4,7 @@ use Rattle.std.specs.Prelude.{ℕ, ℤ, List, [], ◌∷◌, Option, None, map, 
 use Rattle.burr_voxels.specs.declared.cell.Cell.{Cell}
 use Rattle.burr_voxels.specs.Grid.{origin}
 use Rattle.burr_code.specs.Places.{Placement, On}
+use Rattle.burr_code.specs.declared.limits.TheConstants.{MOST_BUDGET}
 use Rattle.burr_bench.specs.declared.mode.Mode.{Mode}
 use Rattle.burr_bench.specs.declared.mode.Mode.TheVariants.{Running}
 
@@ -34,6 +35,11 @@ pub record BenchProcedure : Type 0 where
   pub labels : List ℕ
   pub code : List ℕ
 
+-- what is run: the procedures, main first, and the most steps of a run
+pub record Program : Type 0 where
+  pub procedures : List BenchProcedure
+  pub budget : ℕ
+
 -- what a run is of: each piece's home cells, and the procedures, main first
 pub record Setup : Type 0 where
   pub homes : List (List Cell)
@@ -47,9 +53,17 @@ activation procedure pc slots operands =
 abbrev pub bare_procedure : List ℕ → BenchProcedure
 bare_procedure code = record { parameters = 0; results = 0; labels = []; code = code }
 
+-- bare code has the greatest budget
+abbrev pub bare_program : List ℕ → Program
+bare_program code = record { procedures = bare_procedure code ∷ []; budget = MOST_BUDGET }
+
 -- the run of bare code: one procedure without labels
 abbrev pub bare : List (List Cell) → List ℕ → Setup
 bare homes code = record { homes = homes; procedures = bare_procedure code ∷ [] }
+
+-- the run of a program on pieces with these home cells
+abbrev pub running : List (List Cell) → Program → Setup
+running homes program = record { homes = homes; procedures = program.procedures }
 
 -- All pieces are at home in tray 0, nothing is gripped, and main is at its begin.
 abbrev pub start : Setup → BenchState

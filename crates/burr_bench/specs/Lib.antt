@@ -1,13 +1,14 @@
 pub mod AsideLaws
 pub mod Bench
 pub mod BenchViews
-pub mod Built
 pub mod Control
+pub mod Effects
 pub mod Ways
 pub mod Next
 pub mod Numbers
 pub mod Offsets
 pub mod Parts
+pub mod Programs
 pub mod Questions
 pub mod Run
 pub mod RunLaws

@@ -1,12 +1,11 @@
 -- What the code's state of the bench stands for, and what holds of each.
-use Rattle.std.specs.Prelude.{Option, MatchOption, ℕ, ◌+◌, ◌≤◌, List, [], None, length, replicate, pos}
+use Rattle.std.specs.Prelude.{Option, MatchOption, ℕ, ◌+◌, ◌^◌, ◌<◌, ◌≤◌, List, [], ◌∷◌, None, length, replicate, pos}
 use Rattle.burr_voxels.specs.declared.cell.Cell.{Cell}
 use Rattle.burr_voxels.specs.declared.direction.Direction.{Direction}
 use Rattle.burr_voxels.specs.Grid.{origin, plus, along}
 use Rattle.burr_voxels.specs.Near.{IsWithin}
 use Rattle.burr_code.specs.PieceSets.{IsInSet}
 use Rattle.burr_code.specs.Places.{Placement, On, LiesAt, LiesIn, AllLieIn, aside_places}
-use Rattle.burr_code.specs.declared.limits.TheConstants.{MOST_CODE}
 use Rattle.burr_bench.specs.declared.mode.Mode.{Mode}
 use Rattle.burr_bench.specs.declared.mode.Mode.TheVariants.{Running}
 use Rattle.burr_bench.specs.Bench.{Activation, activation, BenchState}
@@ -14,14 +13,15 @@ use Rattle.burr_bench.specs.Next.{stepped}
 use Rattle.burr_bench.specs.Offsets.{AreNear}
 use Rattle.burr_bench.specs.Space.{AllOnBench, moved_places}
 
--- a state without callers, with these parts
-abbrev pub in_main : List (Placement Cell) → ℕ → ℕ → Activation → ℕ → Mode → BenchState
-in_main places tray grip running steps mode = record {
+-- a state with these parts
+abbrev pub standing : List (Placement Cell) → ℕ → ℕ → Activation → List Activation → ℕ → Mode
+    → BenchState
+standing places tray grip running callers steps mode = record {
   places = places;
   tray = tray;
   grip = grip;
   running = running;
-  callers = [];
+  callers = callers;
   steps = steps;
   mode = mode;
 }
@@ -29,7 +29,13 @@ in_main places tray grip running steps mode = record {
 -- so many pieces at home in tray 0, and main at its begin
 abbrev pub at_start : ℕ → BenchState
 at_start pieces =
-    in_main (replicate pieces (On 0 origin)) 0 0 (activation 0 0 (replicate 8 None) []) 0 Running
+    standing (replicate pieces (On 0 origin)) 0 0 (activation 0 0 (replicate 8 None) []) [] 0 Running
+
+-- each caller waits within its code, and called a procedure of a higher number
+abbrev pub IsCallChain : ℕ → List Activation → Type 0
+IsCallChain procedure [] = Unit {0}
+IsCallChain procedure (caller ∷ callers) =
+    (caller.procedure < procedure) × (caller.pc < 2 ^ 16) × IsCallChain caller.procedure callers
 
 -- what holds of each state
 pub record IsOrderly (s : BenchState) : Type 0 where
@@ -37,7 +43,8 @@ pub record IsOrderly (s : BenchState) : Type 0 where
   -- the grip lies in the current tray
   pub here : AllLieIn s.places s.tray s.grip
   pub few : length s.places ≤ 32
-  pub within : s.running.pc ≤ MOST_CODE
+  pub within : s.running.pc < 2 ^ 16
+  pub chain : IsCallChain s.running.procedure s.callers
 
 -- the step is made, and the run goes on so many bytes further
 abbrev pub behind : ℕ → BenchState → BenchState

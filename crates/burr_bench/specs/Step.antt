@@ -7,7 +7,6 @@ use Rattle.burr_bench.specs.declared.trap.Trap.{Trap}
 use Rattle.burr_bench.specs.declared.trap.Trap.TheVariants as traps
 use Rattle.burr_bench.specs.declared.progress.Progress.{Progress}
 use Rattle.burr_bench.specs.declared.progress.Progress.TheVariants as progress
-use Rattle.burr_bench.specs.Built.{IsBuilt}
 use Rattle.burr_bench.specs.Bench.{BenchState, BenchProcedure, Setup}
 use Rattle.burr_bench.specs.Next.{Next, Goes, Asks, Traps}
 use Rattle.burr_bench.specs.Space.{gripping, stepping, going_aside, choosing_tray}
@@ -42,7 +41,6 @@ Runs setup s here = slice_get setup.procedures s.running.procedure ≡ Some here
 -- the instruction at which a state stands, and the procedure
 abbrev pub IsAt : Setup → BenchState → BenchProcedure → Instruction → Type 0
 IsAt setup s here i = Runs setup s here × StandsAt here.code s.running.pc i
-    × IsBuilt i
 
 -- what stands next where nothing is answered
 abbrev pub NextIs : Setup → BenchState → Next → Type 0

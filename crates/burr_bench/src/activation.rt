@@ -1,6 +1,9 @@
-ghost use Rattle.std.specs.Prelude.{◌≡◌, ◌<◌, None, [], replicate, reverse, slice_index_or};
-ghost use Rattle.burr_code.specs.declared.limits.TheConstants.{SLOTS};
+ghost use Rattle.std.specs.Prelude.{◌≡◌, ◌<◌, ◌≤◌, ◌↔◌, ℤ, List, None, Some, [], ◌∷◌, drop, length, replicate, reverse, get_or, IsTrue, MatchOption};
+ghost use Rattle.burr_code.specs.declared.limits.TheConstants.{SLOTS, MOST_OPERANDS};
+ghost use Rattle.burr_code.specs.Stacks.{top, top_two};
 ghost use Rattle.burr_bench.specs.Bench.{activation};
+ghost use Rattle.burr_bench.specs.Effects.{CallsFor, slots_with};
+ghost use Rattle.burr_bench.specs.Numbers.{HasRoom, pushed, with_operands, with_slot};
 
 use arrayvec::ArrayVec;
 use burr_code::limits::{MOST_OPERANDS, SLOTS};
@@ -50,9 +53,17 @@ impl Activation {
     /// The value of a slot; None where it is empty.
     pub fn slot(&self, slot: u8) -> Option<i32>
         requires { slot < SLOTS }
-        ensures { result ≡ slice_index_or self.now.slots slot None }
+        ensures { result ≡ get_or self.now.slots slot None }
     {
         self.slots[usize::from(slot)]
+    }
+
+    /// Puts a number into a slot.
+    pub fn set_slot(&mut self, slot: u8, number: i32)
+        requires { slot < SLOTS }
+        ensures { self.new ≡ with_slot slot number self.old }
+    {
+        self.slots[usize::from(slot)] = Some(number);
     }
 
     /// The operands, the bottom first.
@@ -62,11 +73,73 @@ impl Activation {
         self.operands.as_slice()
     }
 
+    /// Whether the operands have room for one more.
+    pub fn has_room(&self) -> bool
+        ensures { IsTrue result ↔ HasRoom self.now }
+    {
+        self.operands.len() < MOST_OPERANDS
+    }
+
+    /// Puts a number on top of the operands.
+    pub fn push(&mut self, number: i32)
+        requires { HasRoom self.old }
+        ensures { self.new ≡ pushed number self.old }
+    {
+        self.operands.push(number);
+    }
+
+    /// Takes the top off the operands; None where there are none.
+    pub fn pop(&mut self) -> Option<i32>
+        ensures top { MatchOption result (top self.old.operands ≡ None)
+            (λ number. top self.old.operands ≡ Some (number, self.new.operands)) }
+        ensures rest { self.new ≡ with_operands self.new.operands self.old }
+        ensures none { MatchOption result (self.new ≡ self.old) (λ number. Unit) }
+    {
+        self.operands.pop()
+    }
+
+    /// The top of the operands, and the one below; None where there are fewer than two.
+    pub fn top_two(&self) -> Option<(i32, i32)>
+        ensures { MatchOption result (top_two self.now.operands ≡ None)
+            (λ two. top_two self.now.operands ≡ Some (two.0, two.1, drop 2 self.now.operands)) }
+    {
+        match self.operands.as_slice() {
+            [.., below, top] => Some((*top, *below)),
+            _ => None,
+        }
+    }
+
+    /// Puts a number in place of the top of the operands and the one below.
+    pub fn replace_two(&mut self, number: i32)
+        requires { 2 ≤ length self.old.operands }
+        ensures { self.new ≡ with_operands (number ∷ drop 2 self.old.operands) self.old }
+    {
+        self.operands.truncate(self.operands.len() - 2);
+        self.operands.push(number);
+    }
+
     /// Where the next instruction stands.
     pub fn pc(&self) -> usize
         ensures { result ≡ self.now.pc }
     {
         self.pc
+    }
+
+    /// A call of a procedure with so many parameters, whose arguments are taken off the operands: the
+    /// top becomes the last one's. None where there are fewer operands, and then nothing changes.
+    pub fn calls(&mut self, procedure: u8, parameters: u8) -> Option<Activation>
+        ensures calls { CallsFor self.old procedure parameters result self.new }
+        ensures few { length self.old.operands ≤ MOST_OPERANDS }
+    {
+        let first = self.operands.len().checked_sub(usize::from(parameters))?;
+        let slots = slots_of(&self.operands[first..]);
+        self.operands.truncate(first);
+        Some(Activation {
+            procedure,
+            pc: 0,
+            slots,
+            operands: ArrayVec::new(),
+        })
     }
 
     /// Goes on at another place of the code.
@@ -75,6 +148,18 @@ impl Activation {
     {
         self.pc = pc;
     }
+}
+
+/// Slots with these numbers in the first of them.
+fn slots_of(numbers: &[i32]) -> [Option<i32>; SLOTS]
+    requires { length numbers.now ≤ SLOTS }
+    ensures { result ≡ slots_with numbers.now }
+{
+    let mut slots = [None; SLOTS];
+    for slot in 0..numbers.len() {
+        slots[slot] = numbers.get(slot).copied();
+    }
+    slots
 }
 
 impl Default for Activation {

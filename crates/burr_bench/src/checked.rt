@@ -1,17 +1,18 @@
+mod answering;
 mod readers;
 mod stepping;
 mod way;
 mod ways;
 
+use crate::program::Program;
 use crate::state::BenchState;
 use burr_blocking::Blocking;
 use std::marker::Model;
 
-/// The bench at work on bare code: one procedure without labels. Whether pieces meet is asked of
-/// what answers for the assembly.
+/// The bench at work on a program. Whether pieces meet is asked of what answers for the assembly.
 #[derive(Drop)]
 pub struct Checked<'a, B: Blocking> {
-    code: &'a [u8],
+    program: Program<'a>,
     blocking: &'a B,
     state: BenchState,
 }
@@ -21,7 +22,7 @@ impl<'a, B: Blocking> Model for Checked<'a, B> {
 
     ghost Value = { Benched };
 
-    ghost view = { λ b. benched (B.subject b.blocking.now) b.code.now b.state };
+    ghost view = { λ b. benched (B.subject b.blocking.now) b.program b.state };
 
-    ghost invariant = { λ b. IsSound (benched (B.subject b.blocking.now) b.code.now b.state) };
+    ghost invariant = { λ b. IsSound (benched (B.subject b.blocking.now) b.program b.state) };
 }

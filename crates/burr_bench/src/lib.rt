@@ -4,11 +4,13 @@
 mod activation;
 mod checked;
 mod closing;
+mod effect;
 mod laws;
 mod mode;
 mod motion;
 mod placement;
 mod places;
+mod program;
 mod progress;
 mod state;
 mod trap;

@@ -175,12 +175,86 @@ fn tells_its_state(rt: HostRuntime) -> Result<(), Fail> {
 fn tells_where_it_stands(rt: HostRuntime) -> Result<(), Fail> {
     let duo = Assembly::read(rt.alloc(), DUO)?;
     let cells = PlainCells::new(&duo);
-    // a `grip`, and a `tray`, which is not built
-    let mut bench = Checked::bare(&[0x10, 0, 0, 0, 1, 0x13, 1], &cells);
+    // a `grip`, and no instruction
+    let mut bench = Checked::bare(&[0x10, 0, 0, 0, 1, 0x14, 1], &cells);
     assert_eq!(rt; (bench.steps(), bench.pc(), bench.ended()), (0, 0, false));
     assert_eq!(rt; bench.step(None), Ok(Progress::Went(None)));
     assert_eq!(rt; (bench.steps(), bench.pc(), bench.ended()), (1, 5, false));
     assert_eq!(rt; bench.step(None), Err(Trap::BadCode));
     assert_eq!(rt; (bench.steps(), bench.pc(), bench.ended()), (1, 5, false));
+    Ok(())
+}
+
+/// Asserts that code for the duo, without answers, stops at a trap: its place and the steps before.
+fn assert_trap(
+    rt: &impl Abort,
+    alloc: Global,
+    code: &[u8],
+    trap: Trap,
+    pc: u16,
+    steps: u64,
+) -> Result<(), Fail> {
+    let duo = Assembly::read(alloc, DUO)?;
+    let cells = PlainCells::new(&duo);
+    if code.len() > 4096 {
+        return Err(Fail::from("code has at most 4,096 bytes"));
+    }
+    let mut bench = Checked::bare(code, &cells);
+    for _ in 0..steps {
+        assert_eq!(rt; bench.step(None), Ok(Progress::Went(None)));
+    }
+    assert_eq!(rt; bench.step(None), Err(trap));
+    assert_eq!(rt; (bench.pc(), bench.steps()), (pc, steps));
+    Ok(())
+}
+
+#[test]
+fn traps_of_numbers(rt: HostRuntime) -> Result<(), Fail> {
+    let range = [1, 0x7f, 0xff, 1, 0, 1, 4];
+    assert_trap(&rt, rt.alloc(), &range, Trap::NumberRange, 6, 2)?;
+    let below = [1, 0x80, 1, 1, 0, 1, 5];
+    assert_trap(&rt, rt.alloc(), &below, Trap::NumberRange, 6, 2)?;
+    assert_trap(&rt, rt.alloc(), &[1, 0, 1, 4], Trap::MissingOperand, 3, 1)?;
+    assert_trap(&rt, rt.alloc(), &[6], Trap::MissingOperand, 0, 0)?;
+    assert_trap(&rt, rt.alloc(), &[3, 7], Trap::MissingOperand, 0, 0)?;
+    assert_trap(&rt, rt.alloc(), &[2, 7], Trap::EmptySlot, 0, 0)?;
+    let pushes = [1, 0, 1].repeat(rt.alloc(), 9)?;
+    assert_trap(&rt, rt.alloc(), &pushes, Trap::StackFull, 24, 8)
+}
+
+#[test]
+fn traps_of_the_flow_of_control(rt: HostRuntime) -> Result<(), Fail> {
+    assert_trap(&rt, rt.alloc(), &[0x25], Trap::Misplaced, 0, 0)?;
+    assert_trap(&rt, rt.alloc(), &[0x24, 1], Trap::BadCall, 0, 0)?;
+    assert_trap(&rt, rt.alloc(), &[0x20, 0, 0], Trap::BadJump, 0, 0)?;
+    assert_trap(&rt, rt.alloc(), &[0x21, 0, 0, 0], Trap::BadJump, 0, 0)?;
+    let pick = [0x23, 2, 0, 0, 0, 1];
+    assert_trap(&rt, rt.alloc(), &pick, Trap::BadJump, 0, 0)?;
+    assert_trap(&rt, rt.alloc(), &[0], Trap::NotApart, 0, 0)?;
+    let lets_go = [0x10, 0, 0, 0, 1, 0x13, 0, 0x11, 0];
+    assert_trap(&rt, rt.alloc(), &lets_go, Trap::BadGroup, 7, 2)
+}
+
+#[test]
+fn takes_a_fitting_answer(rt: HostRuntime) -> Result<(), Fail> {
+    let duo = Assembly::read(rt.alloc(), DUO)?;
+    let cells = PlainCells::new(&duo);
+    // ask 0 2, store 3, load 3, push 5, sub
+    let code = [0x22, 0, 0, 0, 2, 3, 3, 2, 3, 1, 0, 5, 5];
+    let mut bench = Checked::bare(&code, &cells);
+    assert_eq!(rt; bench.step(None), Ok(Progress::Asks(0, 2)));
+    assert_eq!(rt; bench.step(Some(3)), Ok(Progress::Again));
+    assert_eq!(rt; bench.step(Some(-1)), Ok(Progress::Again));
+    assert_eq!(rt; bench.steps(), 0);
+    assert_eq!(rt; bench.step(Some(2)), Ok(Progress::Went(None)));
+    assert_eq!(rt; bench.operands().first(), Some(&2));
+    for _ in 0..4 {
+        assert_eq!(rt; bench.step(None), Ok(Progress::Went(None)));
+    }
+    assert_eq!(rt;
+        (bench.slot(3), bench.operands().first()),
+        (Some(2), Some(&-3))
+    );
+    assert_eq!(rt; (bench.steps(), bench.pc()), (5, 13));
     Ok(())
 }

@@ -1,5 +1,5 @@
 -- A run and its sheet, taken step by step.
-use Rattle.std.proofs.Common.{◌≡◌, ◌≢◌, ◌≤◌, ◌+◌, ◌++◌, ◌∷◌, ◌∙◌, ◌⊎◌, ℕ, List, [], length, refl, sym, ap, subst, inl, inr, append_assoc, lit<, arith}
+use Rattle.std.proofs.Common.{◌≡◌, ◌≢◌, ◌≤◌, ◌+◌, ◌++◌, ◌∷◌, ◌∙◌, ◌⊎◌, ℕ, ℤ, List, [], length, refl, sym, ap, subst, inl, inr, append_assoc, lit<, arith}
 use Rattle.std.specs.Prelude.{Option, Some, None}
 use Rattle.std.specs.Io.KnownBytes.{Appends}
 use Rattle.std.proofs.KnownBytes.{Appends-trans}
@@ -11,14 +11,14 @@ use Rattle.burr_bench.specs.declared.trap.Trap.{Trap}
 use Rattle.burr_runs.specs.declared.outcome.Outcome.{Outcome}
 use Rattle.burr_bench.specs.Bench.{Setup, BenchState, start}
 use Rattle.burr_bench.specs.Step.{NextIs}
-use Rattle.burr_bench.specs.Next.{Goes, Traps}
+use Rattle.burr_bench.specs.Next.{Goes, Asks, Traps}
 use Rattle.burr_bench.specs.declared.closing.Closing.{Closing}
-use Rattle.burr_bench.specs.Run.{IsGoing, traps, goes}
+use Rattle.burr_bench.specs.Run.{IsGoing, traps, waits, goes}
 use Rattle.burr_bench.specs.RunLaws.{RunOf, IsUnderWay}
 use Rattle.burr_assembly.specs.Homes.{homes_of}
 use Rattle.burr_sheet.specs.SheetUnderWay.{UnderWay, blank, still, outs_of, Closes, FailsInMotion}
 use Rattle.burr_bench.specs.BenchViews.{Benched, GoesOn, setup_of, IsSameRun}
-use Rattle.burr_bench.specs.Bench.{bare}
+use Rattle.burr_bench.specs.Bench.{bare, bare_program}
 use Rattle.burr_assembly.specs.Homes.{names_of}
 use Rattle.burr_runs.specs.Output.{outcome_of}
 use Rattle.burr_runs.specs.Running.{BareRun, Leads, PutsPart, FailsInRun, ClosesPart, IsInStep, StepOrClose, PutsSheet, FailsInSheet}
@@ -132,10 +132,10 @@ in_step_motion b new u more motion step (under, counted) on (motions, levels) = 
 -- The loop over the steps
 
 pub same_setup : (old new : Benched) → IsSameRun old new → setup_of new ≡ setup_of old
-same_setup old new same = rw (same.assembly, same.code) refl
+same_setup old new same = rw (same.assembly, same.program) refl
 
 pub same_run_on : (a b c : Benched) → IsSameRun a b → IsSameRun b c → IsSameRun a c
-same_run_on a b c p q = record { assembly = q.assembly ∙ p.assembly; code = q.code ∙ p.code }
+same_run_on a b c p q = record { assembly = q.assembly ∙ p.assembly; program = q.program ∙ p.program }
 
 -- a state that has not ended, and did not trap, runs
 pub still_running : (s : BenchState) → (s.mode ≡ Running) ⊎ (s.mode ≡ Ended) → (¬ (s.mode ≡ Ended)) → s.mode ≡ Running
@@ -148,6 +148,11 @@ pub trapped_run : (b new : Benched) (trap : Trap) (procedure pc : ℕ) → b.sta
     → BareRun (setup_of b) b.state [] new.state.steps (closings.Trapped trap procedure pc)
 trapped_run b new trap procedure pc running some next state in_procedure at =
     rw (in_procedure, at, state) (traps b.state [] trap (record { running = running; within = some }) next)
+
+-- a question closes a run without answers
+pub waiting_run : (b new : Benched) (low high : ℤ) → b.state.mode ≡ Running → b.state.steps ≢ 1000000 → NextIs (setup_of b) b.state (Asks low high) → new.state ≡ b.state
+    → BareRun (setup_of b) b.state [] new.state.steps (closings.Waiting low high)
+waiting_run b new low high running some next state = rw state (waits b.state low high (record { running = running; within = some }) next)
 
 module _ {S : Type 0} (sink : SinkView S) where
   -- where no step is to be made, the run closes behind the steps before
@@ -178,12 +183,12 @@ module _ {S : Type 0} (sink : SinkView S) where
 -- a bench at its start, on this code and this assembly
 pub record IsFresh (b : Benched) (u : UnderWay) (a : Assembly) (code : List ℕ) : Type 0 where
   pub assembly : b.assembly ≡ a
-  pub code_is : b.code ≡ code
+  pub program : b.program ≡ bare_program code
   pub state : b.state ≡ start (setup_of b)
   pub sheet : u ≡ blank (names_of a)
 
 fresh_setup : (b : Benched) (u : UnderWay) (a : Assembly) (code : List ℕ) → IsFresh b u a code → setup_of b ≡ bare (homes_of a) code
-fresh_setup b u a code fresh = rw (fresh.assembly, fresh.code_is) refl
+fresh_setup b u a code fresh = rw (fresh.assembly, fresh.program) refl
 
 fresh_state : (b : Benched) (u : UnderWay) (a : Assembly) (code : List ℕ) → IsFresh b u a code → b.state ≡ start (bare (homes_of a) code)
 fresh_state b u a code fresh = fresh.state ∙ ap start (fresh_setup b u a code fresh)

@@ -45,7 +45,9 @@ Code (the blanks are for reading alone):
   10 SSSSSSSS     grip the pieces whose bits are set in S: 00000001 is piece 0
   11 DD           step: move the grip by one unit along direction D
   12 DD TT        aside: take the grip out along direction D, to empty tray T
+  13 TT           tray: make tray T the current one, and let go of the grip
 
+Numbers, questions and jumps are told in docs/FORMATS.md and docs/BENCH.md.
 Directions are 00 +x, 01 -x, 02 +y, 03 -y, 04 +z, 05 -z; trays are 00 to 1f.
 
 Example, to be pasted at the top of the repository:
@@ -74,7 +76,7 @@ Exit statuses:
   2  a fault of the command line
   3  input or output failed, or the input has more than 16777216 bytes
   4  no memory
-  5  the run waits for an answer (no instruction asks yet)
+  5  the run waits for an answer
 ";
 
 pub const UNEXPECTED_RUN: &str =

@@ -1,4 +1,4 @@
-ghost use Rattle.std.specs.Prelude.{◌<◌, ◌≤◌, IfSome, length};
+ghost use Rattle.std.specs.Prelude.{◌<◌, ◌≤◌, IfOk, IfSome, length};
 ghost use Rattle.burr_container.specs.Containers.{HasLabel};
 
 use crate::listing::frames::add_frame;
@@ -10,7 +10,7 @@ use burr_container::Container;
 use std::alloc::AllocError;
 
 /// How many labels a procedure has, and how many procedures its plan: what its code may name.
-#[derive(Clone, Copy, Debug)]
+#[derive(Clone, Copy)]
 struct Reach {
     labels: usize,
     procedures: usize,
@@ -67,22 +67,32 @@ fn block<'a>(container: &Container<'a>, i: usize, n: usize) -> &'a [u8]
 /// Adds the lines of code within which no label stands.
 fn add_block(text: &mut Vec<u8>, block: &[u8], reach: Reach) -> Result<(), AllocError> {
     let mut rest = block;
-    while let Some((first, others)) = rest.split_first() {
-        match reach.statement(rest) {
-            Some((instr, size)) => {
-                add_instruction(text, &instr)?;
-                rest = &rest[size..];
-            }
-            None => {
-                add_byte(text, *first)?;
-                rest = others;
-            }
-        }
+    while !rest.is_empty() {
+        let size = reach.add_line(text, rest)?;
+        rest = &rest[size..];
     }
     Ok(())
 }
 
 impl Reach {
+    /// Adds the line with which code begins; gives how many bytes it stands for.
+    fn add_line(self, text: &mut Vec<u8>, code: &[u8]) -> Result<usize, AllocError>
+        requires { 0 < length code.now }
+        ensures within { IfOk result (λ size. size ≤ length code.now) }
+        ensures some { IfOk result (λ size. 0 < size) }
+    {
+        match self.statement(code) {
+            Some((instr, size)) => {
+                add_instruction(text, &instr)?;
+                Ok(size)
+            }
+            None => {
+                add_byte(text, code[0])?;
+                Ok(1)
+            }
+        }
+    }
+
     /// The instruction with which code begins, if all that it names is there, and its size.
     fn statement(self, code: &[u8]) -> Option<(Instr<'_>, usize)>
         ensures within { IfSome result (λ found. found.1 ≤ length code.now) }

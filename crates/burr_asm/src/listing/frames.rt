@@ -20,15 +20,24 @@ pub fn add_exit(text: &mut Vec<u8>, exit: &ExitRef<'_>) -> Result<(), AllocError
 /// Adds the lines of a label's frame.
 pub fn add_frame(text: &mut Vec<u8>, frame: &FrameRef<'_>) -> Result<(), AllocError> {
     let symbols = live_slots(frame);
-    add_grip(text, b"frame", frame.tray(), frame.grip())?;
-    add_slots(text, frame)?;
-    add_guards(text, &symbols, frame)?;
-    add_stack(text, &symbols, frame)?;
-    add_form_line(text, b"cost ", &symbols, &frame.cost())?;
+    add_conditions(text, &symbols, frame)?;
     for piece in 0..frame.piece_count() {
         add_piece(text, &symbols, piece, frame.place(piece))?;
     }
     Ok(())
+}
+
+/// Adds the lines of a frame as far as its cost.
+fn add_conditions(
+    text: &mut Vec<u8>,
+    symbols: &[u8; 8],
+    frame: &FrameRef<'_>,
+) -> Result<(), AllocError> {
+    add_grip(text, b"frame", frame.tray(), frame.grip())?;
+    add_slots(text, frame)?;
+    add_guards(text, symbols, frame)?;
+    add_stack(text, symbols, frame)?;
+    add_form_line(text, b"cost ", symbols, &frame.cost())
 }
 
 /// The live slots in rising order, which are the symbols of the frame's forms; behind them 0.
@@ -106,17 +115,27 @@ fn add_piece(
 ) -> Result<(), AllocError> {
     text.extend_from_slice(b"at ")?;
     add_number(text, piece)?;
-    match place {
-        None => text.extend_from_slice(b" apart")?,
-        Some((tray, x, y, z)) => {
-            add_word(text, tray)?;
-            text.push(b' ')?;
-            add_form(text, symbols, &x)?;
-            text.push(b' ')?;
-            add_form(text, symbols, &y)?;
-            text.push(b' ')?;
-            add_form(text, symbols, &z)?;
-        }
-    }
+    add_place(text, symbols, place)?;
     end_line(text)
+}
+
+/// Adds a blank and where a piece lies.
+fn add_place(
+    text: &mut Vec<u8>,
+    symbols: &[u8; 8],
+    place: Option<(u8, Form, Form, Form)>,
+) -> Result<(), AllocError> {
+    let Some((tray, x, y, z)) = place else {
+        return text.extend_from_slice(b" apart");
+    };
+    add_word(text, tray)?;
+    add_form_word(text, symbols, &x)?;
+    add_form_word(text, symbols, &y)?;
+    add_form_word(text, symbols, &z)
+}
+
+/// Adds a blank and a form.
+fn add_form_word(text: &mut Vec<u8>, symbols: &[u8; 8], form: &Form) -> Result<(), AllocError> {
+    text.push(b' ')?;
+    add_form(text, symbols, form)
 }

@@ -10,26 +10,31 @@ use std::alloc::AllocError;
 
 /// Adds the line of an instruction.
 pub fn add_instruction(text: &mut Vec<u8>, instr: &Instr<'_>) -> Result<(), AllocError> {
-    match instr {
-        Instr::Halt => text.extend_from_slice(b"halt")?,
-        Instr::Push(number) => add_numbered(text, b"push", *number)?,
-        Instr::Load(slot) => add_numbered(text, b"load", *slot)?,
-        Instr::Store(slot) => add_numbered(text, b"store", *slot)?,
-        Instr::Add => text.extend_from_slice(b"add")?,
-        Instr::Sub => text.extend_from_slice(b"sub")?,
-        Instr::Drop => text.extend_from_slice(b"drop")?,
-        Instr::Grip(set) => add_grip(text, *set)?,
-        Instr::Step(direction) => add_directed(text, b"step ", *direction)?,
-        Instr::Aside(direction, tray) => add_aside(text, *direction, *tray)?,
-        Instr::Tray(tray) => add_numbered(text, b"tray", *tray)?,
-        Instr::Jump(label) => add_jump(text, *label)?,
-        Instr::Down(slot, label) => add_down(text, *slot, *label)?,
-        Instr::Ask(low, high) => add_ask(text, *low, *high)?,
-        Instr::Pick(labels) => add_pick(text, labels)?,
-        Instr::Call(procedure) => add_call(text, *procedure)?,
-        Instr::Ret => text.extend_from_slice(b"ret")?,
-    }
+    add_words(text, instr)?;
     end_line(text)
+}
+
+/// Adds the words of an instruction.
+fn add_words(text: &mut Vec<u8>, instr: &Instr<'_>) -> Result<(), AllocError> {
+    match instr {
+        Instr::Halt => text.extend_from_slice(b"halt"),
+        Instr::Push(number) => add_numbered(text, b"push", *number),
+        Instr::Load(slot) => add_numbered(text, b"load", *slot),
+        Instr::Store(slot) => add_numbered(text, b"store", *slot),
+        Instr::Add => text.extend_from_slice(b"add"),
+        Instr::Sub => text.extend_from_slice(b"sub"),
+        Instr::Drop => text.extend_from_slice(b"drop"),
+        Instr::Grip(set) => add_grip(text, *set),
+        Instr::Step(direction) => add_directed(text, b"step ", *direction),
+        Instr::Aside(direction, tray) => add_aside(text, *direction, *tray),
+        Instr::Tray(tray) => add_numbered(text, b"tray", *tray),
+        Instr::Jump(label) => add_jump(text, *label),
+        Instr::Down(slot, label) => add_down(text, *slot, *label),
+        Instr::Ask(low, high) => add_ask(text, *low, *high),
+        Instr::Pick(labels) => add_pick(text, labels),
+        Instr::Call(procedure) => add_call(text, *procedure),
+        Instr::Ret => text.extend_from_slice(b"ret"),
+    }
 }
 
 /// Adds the line of one raw byte.

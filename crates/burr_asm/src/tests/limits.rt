@@ -23,42 +23,62 @@ fn add_numbered(
     Ok(())
 }
 
+/// Asserts each line of a table: lines at the end of a text, and behind `|` what is then wrong with
+/// it.
+fn assert_ends(rt: &impl Abort, alloc: Global, text: &[u8], table: &str) -> Result<(), AllocError> {
+    for case in table.lines() {
+        assert_end(rt, alloc, text, case)?;
+    }
+    Ok(())
+}
+
+/// Asserts a line of a table.
+fn assert_end(rt: &impl Abort, alloc: Global, text: &[u8], case: &str) -> Result<(), AllocError> {
+    let Some((end, want)) = case.rsplit_once('|') else {
+        assert!(rt; false, "{case}");
+        return Ok(());
+    };
+    let mut longer = Vec::from_slice(alloc, text)?;
+    add_lines(&mut longer, end)?;
+    assert!(rt; is_judged(alloc, &longer, want), "{case}");
+    if want == "right" {
+        assert_right(rt, alloc, &longer)?;
+    }
+    Ok(())
+}
+
+/// A plan with 256 labels, but for the last line of its code.
+fn labels_256(alloc: Global) -> Result<Vec<u8>, AllocError> {
+    let mut text = Vec::from_slice(alloc, MAIN.as_bytes())?;
+    let rest = "\nframe 0 -\ncost 1\nat 0 apart\nat 1 apart\n";
+    add_numbered(&mut text, alloc, "add\nlabel m", 1..256, rest)?;
+    Ok(text)
+}
+
+/// Ends of a plan with 256 labels: line 7 + 6 * 255 is the last of the last frame.
+const BEHIND_LABELS: &str = "\
+halt|right
+halt/label m256|P4 1539
+halt/label m255|P2 1539
+";
+
 #[test]
 fn takes_256_labels(rt: HostRuntime) -> Result<(), Fail> {
     let alloc = rt.alloc();
-    let mut text = Vec::from_slice(alloc, MAIN.as_bytes())?;
-    let rest = "\nframe 0 -\ncost 1\nat 0 apart\nat 1 apart\n";
-    add_numbered(&mut text, alloc, "add\nlabel m", 1..256, rest)?;
-    text.extend_from_slice(b"halt\n")?;
-    let bytes = assemble(alloc, &text)?;
-    assert_listed(&rt, alloc, &bytes)?;
-    // a line 7 + 6 * 255 is the last of the last frame
-    let line = 1539;
-    text.extend_from_slice(b"label m256\n")?;
-    assert_eq!(rt; assemble(alloc, &text).err(), Some(AsmFault::P4 { line }));
-    Ok(())
+    let text = labels_256(alloc)?;
+    Ok(assert_ends(&rt, alloc, &text, BEHIND_LABELS)?)
 }
 
-#[test]
-fn names_a_repeated_label_before_one_too_many(rt: HostRuntime) -> Result<(), Fail> {
-    let alloc = rt.alloc();
-    let mut text = Vec::from_slice(alloc, MAIN.as_bytes())?;
-    let rest = "\nframe 0 -\ncost 1\nat 0 apart\nat 1 apart\n";
-    add_numbered(&mut text, alloc, "add\nlabel m", 1..256, rest)?;
-    text.extend_from_slice(b"halt\nlabel m255\n")?;
-    assert_eq!(rt;
-        assemble(alloc, &text).err(),
-        Some(AsmFault::P2 { line: 1539 })
-    );
-    Ok(())
-}
-
-#[test]
-fn takes_16_procedures(rt: HostRuntime) -> Result<(), Fail> {
-    let alloc = rt.alloc();
+/// A plan with 16 procedures.
+fn procedures_16(alloc: Global) -> Result<Vec<u8>, AllocError> {
     let mut text = Vec::from_slice(alloc, MAIN.as_bytes())?;
     text.extend_from_slice(b"call q15\nhalt\n")?;
-    let rest = " 4\n\
+    add_numbered(&mut text, alloc, "proc q", 1..16, PROCEDURE)?;
+    Ok(text)
+}
+
+/// What stands behind the name of a procedure.
+const PROCEDURE: &str = " 4\n\
      exit 0 -\n\
      at 0 apart\n\
      at 1 apart\n\
@@ -68,53 +88,50 @@ fn takes_16_procedures(rt: HostRuntime) -> Result<(), Fail> {
      at 0 apart\n\
      at 1 apart\n\
      ret\n";
-    add_numbered(&mut text, alloc, "proc q", 1..16, rest)?;
-    let bytes = assemble(alloc, &text)?;
-    assert_listed(&rt, alloc, &bytes)?;
-    // 9 lines of main and 10 of each other procedure
-    let line = 160;
-    let ends: [(&str, AsmFault); 5] = [
-        ("proc q16 0\n", AsmFault::P4 { line }),
-        ("proc q16 5\n", AsmFault::P3 { line }),
-        ("proc q15 0\n", AsmFault::P2 { line }),
-        ("proc q15 5\n", AsmFault::P2 { line }),
-        ("proc q15 x\n", AsmFault::P1 { line }),
-    ];
-    for (end, want) in ends {
-        let mut longer = text.clone()?;
-        longer.extend_from_slice(end.as_bytes())?;
-        assert_eq!(rt; assemble(alloc, &longer).err(), Some(want), "{end:?}");
-    }
-    Ok(())
-}
+
+/// Ends of a plan with 16 procedures: 9 lines of main and 10 of each other procedure.
+const BEHIND_PROCEDURES: &str = "\
+proc q16 0|P4 160
+proc q16 5|P3 160
+proc q15 0|P2 160
+proc q15 5|P2 160
+proc q15 x|P1 160
+";
 
 #[test]
-fn takes_4096_bytes_of_code(rt: HostRuntime) -> Result<(), Fail> {
+fn takes_16_procedures(rt: HostRuntime) -> Result<(), Fail> {
     let alloc = rt.alloc();
+    let text = procedures_16(alloc)?;
+    assert_right(&rt, alloc, &text)?;
+    Ok(assert_ends(&rt, alloc, &text, BEHIND_PROCEDURES)?)
+}
+
+/// A plan with 4,093 bytes of code.
+fn bytes_4093(alloc: Global) -> Result<Vec<u8>, AllocError> {
     let mut text = Vec::from_slice(alloc, MAIN.as_bytes())?;
     for _ in 0..4093u32 {
         text.extend_from_slice(b"add\n")?;
     }
-    let ends: [(&str, Option<AsmFault>); 8] = [
-        ("push 1\n", None),
-        ("add\nadd\nbyte 00\n", None),
-        ("jump start\n", None),
-        ("grip 0\n", Some(AsmFault::P4 { line: 4101 })),
-        ("grip -\n", Some(AsmFault::P3 { line: 4101 })),
-        ("down 0 start\n", Some(AsmFault::P4 { line: 4101 })),
-        ("pick start none\n", Some(AsmFault::P4 { line: 4101 })),
-        ("jump start\nbyte 00\n", Some(AsmFault::P4 { line: 4102 })),
-    ];
-    for (end, want) in ends {
-        let mut longer = text.clone()?;
-        longer.extend_from_slice(end.as_bytes())?;
-        let assembled = assemble(alloc, &longer);
-        assert_eq!(rt; assembled.as_ref().err().copied(), want, "{end:?}");
-        if let Ok(bytes) = assembled {
-            assert_listed(&rt, alloc, &bytes)?;
-        }
-    }
-    Ok(())
+    Ok(text)
+}
+
+/// Ends of a plan with 4,093 bytes of code.
+const BEHIND_CODE: &str = "\
+push 1|right
+add/add/byte 00|right
+jump start|right
+grip 0|P4 4101
+grip -|P3 4101
+down 0 start|P4 4101
+pick start none|P4 4101
+jump start/byte 00|P4 4102
+";
+
+#[test]
+fn takes_4096_bytes_of_code(rt: HostRuntime) -> Result<(), Fail> {
+    let alloc = rt.alloc();
+    let text = bytes_4093(alloc)?;
+    Ok(assert_ends(&rt, alloc, &text, BEHIND_CODE)?)
 }
 
 /// A frame in which all of 32 pieces are apart.
@@ -183,22 +200,27 @@ fn procedure(random: &mut Random, alloc: Global, i: u32) -> Result<Procedure, Al
     })
 }
 
-#[test]
-fn lists_a_plan_at_its_limits(rt: HostRuntime) -> Result<(), Fail> {
-    let alloc = rt.alloc();
+/// A plan at its limits.
+fn plan(alloc: Global) -> Result<Plan, AllocError> {
     let mut random = Random::new(7);
     let mut procs = Vec::new(alloc);
     for i in 0..16u32 {
         procs.push(procedure(&mut random, alloc, i)?)?;
     }
-    let plan = Plan {
+    Ok(Plan {
         name: Vec::from_slice(alloc, b"abcdefghijklmnopqrstuvwxyz012345")?,
         pieces: 32,
         budget: 1_000_000,
         procs,
-    };
+    })
+}
+
+#[test]
+fn lists_a_plan_at_its_limits(rt: HostRuntime) -> Result<(), Fail> {
+    let alloc = rt.alloc();
+    let plan = plan(alloc)?;
     assert!(rt; plan.fits());
     assert_eq!(rt; plan.procs.last().map(|last| last.labels.len()), Some(256));
     let bytes = write(alloc, &plan)?;
-    assert_listed(&rt, alloc, &bytes)
+    Ok(assert_listed(&rt, alloc, &bytes)?)
 }

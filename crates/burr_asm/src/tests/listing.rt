@@ -111,100 +111,108 @@ fn assert_listing(
     rt: &impl Abort,
     alloc: Global,
     bytes: &[u8],
-    want: &str,
+    want: &[u8],
 ) -> Result<(), AllocError> {
     match Container::parse(bytes) {
         Ok(container) => {
             let text = list(alloc, &container)?;
-            assert_eq!(rt; str::from_utf8(&text).ok(), Some(want));
+            assert!(rt; text.as_slice() == want);
         }
         Err(fault) => assert!(rt; false, "{fault:?}"),
     }
     Ok(())
 }
 
-#[test]
-fn lists_a_label_inside_an_instruction(rt: HostRuntime) -> Result<(), Fail> {
-    let alloc = rt.alloc();
-    let mut bytes = assemble(alloc, DUO.as_bytes())?;
-    // the label's frame once more, at position 1, and two labels in place of one
+/// The container of two cubes with its label's frame once more, at position 1, and so two labels in
+/// place of one.
+fn with_second_label(alloc: Global, bytes: &[u8]) -> Result<Vec<u8>, AllocError> {
     let mut changed = Vec::from_slice(alloc, bytes.get(..18).unwrap_or(&[]))?;
     changed.push(2)?;
     changed.extend_from_slice(bytes.get(19..59).unwrap_or(&[]))?;
     changed.extend_from_slice(&[0, 1])?;
     changed.extend_from_slice(bytes.get(21..).unwrap_or(&[]))?;
-    bytes.clear();
-    assert_listing(&rt, alloc, &changed, SECOND_LABEL)?;
-    assert_listed(&rt, alloc, &changed)
+    Ok(changed)
+}
+
+#[test]
+fn lists_a_label_inside_an_instruction(rt: HostRuntime) -> Result<(), Fail> {
+    let alloc = rt.alloc();
+    let bytes = assemble(alloc, DUO.as_bytes())?;
+    let changed = with_second_label(alloc, &bytes)?;
+    assert_listing(&rt, alloc, &changed, SECOND_LABEL.as_bytes())?;
+    Ok(assert_listed(&rt, alloc, &changed)?)
 }
 
 #[test]
 fn lists_procedures_by_number(rt: HostRuntime) -> Result<(), Fail> {
     let alloc = rt.alloc();
     let bytes = assemble(alloc, LIFT.as_bytes())?;
-    assert_listing(&rt, alloc, &bytes, LISTED_LIFT)?;
-    Ok(())
+    Ok(assert_listing(&rt, alloc, &bytes, LISTED_LIFT.as_bytes())?)
 }
 
 #[test]
 fn lists_all_that_a_plan_may_say(rt: HostRuntime) -> Result<(), Fail> {
     let alloc = rt.alloc();
     let bytes = assemble(alloc, ALL.as_bytes())?;
-    assert_listing(&rt, alloc, &bytes, ALL)?;
-    Ok(())
+    Ok(assert_listing(&rt, alloc, &bytes, ALL.as_bytes())?)
 }
 
-/// Raw bytes in the place of the code of two cubes, and how they are listed.
-const CODES: &[(&str, &str)] = &[
-    // no such label, no such procedure
-    ("byte 20\nbyte 00\nbyte 01", "byte 20\nhalt\nbyte 01"),
-    ("byte 20\nbyte 00\nbyte 00", "jump L0"),
-    (
-        "byte 21\nbyte 00\nbyte 00\nbyte 01",
-        "byte 21\nhalt\nhalt\nbyte 01",
-    ),
-    ("byte 24\nbyte 00", "call p0"),
-    ("byte 24\nbyte 01", "byte 24\nbyte 01"),
-    (
-        "byte 23\nbyte 02\nbyte 00\nbyte 00\nbyte 00\nbyte 00",
-        "pick L0 L0",
-    ),
-    (
-        "byte 23\nbyte 02\nbyte 00\nbyte 00\nbyte 00\nbyte 01",
-        "byte 23\nload 0\nhalt\nhalt\nbyte 01",
-    ),
-    // pieces that the plan hasn't
-    ("byte 10\nbyte 80\nbyte 00\nbyte 00\nbyte 04", "grip 2,31"),
-    (
-        "byte 10\nbyte 00\nbyte 00\nbyte 00\nbyte 00",
-        "byte 10\nhalt\nhalt\nhalt\nhalt",
-    ),
-    // operands out of range, and cut off
-    ("byte 01\nbyte 80\nbyte 00", "byte 01\nbyte 80\nhalt"),
-    ("byte 01\nbyte 80\nbyte 01", "push -32767"),
-    ("byte 11\nbyte 06", "byte 11\ndrop"),
-    ("byte 05\nbyte 11", "sub\nbyte 11"),
-];
+/// Raw bytes in the place of the code of two cubes, and how they are listed: `/` stands for the end
+/// of a line.
+const CODES: &str = "\
+# no such label, no such procedure
+byte 20/byte 00/byte 01|byte 20/halt/byte 01
+byte 20/byte 00/byte 00|jump L0
+byte 21/byte 00/byte 00/byte 01|byte 21/halt/halt/byte 01
+byte 24/byte 00|call p0
+byte 24/byte 01|byte 24/byte 01
+byte 23/byte 02/byte 00/byte 00/byte 00/byte 00|pick L0 L0
+byte 23/byte 02/byte 00/byte 00/byte 00/byte 01|byte 23/load 0/halt/halt/byte 01
+# pieces that the plan hasn't
+byte 10/byte 80/byte 00/byte 00/byte 04|grip 2,31
+byte 10/byte 00/byte 00/byte 00/byte 00|byte 10/halt/halt/halt/halt
+# operands out of range, and cut off
+byte 01/byte 80/byte 00|byte 01/byte 80/halt
+byte 01/byte 80/byte 01|push -32767
+byte 11/byte 06|byte 11/drop
+byte 05/byte 11|sub/byte 11
+";
+
+/// What stands in the listings before that code.
+const BEFORE_CODE: &str = "plan duo 2 3\n\
+     proc p0 0\n\
+     label L0\n\
+     frame 0 -\n\
+     cost 3\n\
+     at 0 0 0 0 0\n\
+     at 1 0 0 0 0\n";
+
+/// Asserts a line of the table.
+fn assert_code(rt: &impl Abort, alloc: Global, case: &str) -> Result<(), Fail> {
+    let Some((raw, want)) = case.split_once('|') else {
+        assert!(rt; false, "{case}");
+        return Ok(());
+    };
+    let bytes = with_code(alloc, raw)?;
+    let mut listing = Vec::from_slice(alloc, BEFORE_CODE.as_bytes())?;
+    add_lines(&mut listing, want)?;
+    assert_listing(rt, alloc, &bytes, &listing)?;
+    Ok(assert_listed(rt, alloc, &bytes)?)
+}
+
+/// The container of two cubes with other lines in the place of its code.
+fn with_code(alloc: Global, lines: &str) -> Result<Vec<u8>, AsmFault> {
+    let edits = format!(in alloc; "8 {lines}|9 ;|10 ;")?;
+    assemble(alloc, &edited(alloc, DUO, &edits)?)
+}
 
 #[test]
 fn lists_what_stands_where_it_can_be_named(rt: HostRuntime) -> Result<(), Fail> {
     let alloc = rt.alloc();
-    for (raw, want) in CODES {
-        let bytes = assemble(
-            alloc,
-            &edited(alloc, DUO, &[(8, raw), (9, ";"), (10, ";")])?,
-        )?;
-        let text = edited(alloc, DUO, &[(2, "proc p0 0"), (3, "label L0"), (8, want)])?;
-        let Some(text) = str::from_utf8(&text).ok() else {
-            assert!(rt; false, "ASCII");
-            return Ok(());
-        };
-        let Some((want, _rest)) = text.split_once("aside -x 1\nhalt\n") else {
-            assert!(rt; false, "the end");
-            return Ok(());
-        };
-        assert_listing(&rt, alloc, &bytes, want)?;
-        assert_listed(&rt, alloc, &bytes)?;
+    for case in CODES.lines() {
+        if !case.starts_with('#') {
+            assert_code(&rt, alloc, case)?;
+        }
     }
     Ok(())
 }

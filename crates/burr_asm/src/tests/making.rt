@@ -3,7 +3,7 @@ use super::*;
 use burr_container::{ExitFrame, Frame, Place, PlanForm, Procedure};
 
 /// A linear congruential generator.
-#[derive(Debug, Drop)]
+#[derive(Drop)]
 pub struct Random {
     state: u64,
 }

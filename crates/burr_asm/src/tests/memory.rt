@@ -20,56 +20,120 @@ fn take_all_memory(alloc: Global, blocks: &mut Vec<Vec<u8>>) {
     }
 }
 
-#[test]
-fn tells_a_want_of_memory(rt: HostRuntime) -> Result<(), Fail> {
-    let alloc = rt.alloc();
-    // with memory, a fault of the text
-    let unknown = edited(alloc, LIFT, &[(10, "call lid")])?;
-    let fault = AsmFault::P2 { line: 10 };
-    let wanted = assemble(alloc, LIFT.as_bytes())?;
-    let Ok(container) = Container::parse(&wanted) else {
-        assert!(rt; false, "a container");
-        return Ok(());
-    };
-    let listed = list(alloc, &container)?;
-    let mut blocks: Vec<Vec<u8>> = Vec::with_capacity(alloc, 60_000)?;
-    take_all_memory(alloc, &mut blocks);
-    // asserts may want memory, so they stand behind the blocks
-    let refused = assemble(alloc, LIFT.as_bytes()).err();
-    let unknown_refused = assemble(alloc, &unknown).err();
-    let is_list_refused = list(alloc, &container).is_err();
-    // with each block that is freed, an answer is the want of memory or the right one
-    let mut other = None;
-    let (mut assembles, mut faults, mut lists) = (false, false, false);
-    let mut is_wrong = false;
-    for _ in 0..60_000 {
+/// A text with an unknown name in it, and a container with its listing.
+#[derive(Clone, Copy)]
+struct Asked<'a, 'c> {
+    unknown: &'a [u8],
+    bytes: &'a [u8],
+    container: &'a Container<'c>,
+    listing: &'a [u8],
+}
+
+/// Which of the answers have come, and whether one was neither right nor the want of memory.
+#[derive(Clone, Copy)]
+struct Seen {
+    assembles: bool,
+    faults: bool,
+    lists: bool,
+    is_wrong: bool,
+}
+
+impl Seen {
+    /// No answer yet.
+    fn new() -> Seen {
+        Seen {
+            assembles: false,
+            faults: false,
+            lists: false,
+            is_wrong: false,
+        }
+    }
+
+    fn has_all(&self) -> bool {
+        self.assembles && self.faults && self.lists
+    }
+
+    fn ask(&mut self, alloc: Global, asked: Asked<'_, '_>) {
+        self.ask_for_bytes(alloc, asked);
+        self.ask_for_fault(alloc, asked);
+        self.ask_for_listing(alloc, asked);
+    }
+
+    fn ask_for_bytes(&mut self, alloc: Global, asked: Asked<'_, '_>) {
         match assemble(alloc, LIFT.as_bytes()) {
             Ok(bytes) => {
-                assembles = true;
-                is_wrong |= bytes.as_slice() != wanted.as_slice();
+                self.assembles = true;
+                self.is_wrong |= bytes.as_slice() != asked.bytes;
             }
             Err(AsmFault::Memory) => {}
-            Err(fault) => other = Some(fault),
+            Err(_fault) => self.is_wrong = true,
         }
-        match assemble(alloc, &unknown).err() {
-            Some(AsmFault::Memory) => {}
-            Some(found) if found == fault => faults = true,
-            found => other = found.or(Some(fault)),
+    }
+
+    fn ask_for_fault(&mut self, alloc: Global, asked: Asked<'_, '_>) {
+        match assemble(alloc, asked.unknown) {
+            Err(AsmFault::P2 { line: 10 }) => self.faults = true,
+            Err(AsmFault::Memory) => {}
+            _ => self.is_wrong = true,
         }
-        if let Ok(text) = list(alloc, &container) {
-            lists = true;
-            is_wrong |= text.as_slice() != listed.as_slice();
+    }
+
+    fn ask_for_listing(&mut self, alloc: Global, asked: Asked<'_, '_>) {
+        if let Ok(text) = list(alloc, asked.container) {
+            self.lists = true;
+            self.is_wrong |= text.as_slice() != asked.listing;
         }
-        if (assembles && faults && lists) || blocks.pop().is_none() {
+    }
+}
+
+/// The answers with no memory, and those that come as block after block of it is freed, until all
+/// have come.
+fn answers(alloc: Global, asked: Asked<'_, '_>, mut blocks: Vec<Vec<u8>>) -> (Seen, Seen) {
+    take_all_memory(alloc, &mut blocks);
+    let mut first = Seen::new();
+    first.ask(alloc, asked);
+    let mut seen = first;
+    for _ in 0..60_000 {
+        seen.ask(alloc, asked);
+        if seen.has_all() || blocks.pop().is_none() {
             break;
         }
     }
-    drop(blocks);
-    assert!(rt; !is_wrong);
-    assert_eq!(rt; refused, Some(AsmFault::Memory));
-    assert_eq!(rt; unknown_refused, Some(AsmFault::Memory));
-    assert!(rt; is_list_refused);
-    assert_eq!(rt; other, None);
-    assert!(rt; assembles && faults && lists);
+    (first, seen)
+}
+
+/// Asserts what comes of a container under a want of memory.
+fn assert_told(
+    rt: &impl Abort,
+    alloc: Global,
+    container: &Container<'_>,
+    bytes: &[u8],
+) -> Result<(), AllocError> {
+    let unknown = edited(alloc, LIFT, "10 call lid")?;
+    let listing = list(alloc, container)?;
+    let asked = Asked {
+        unknown: &unknown,
+        bytes,
+        container,
+        listing: &listing,
+    };
+    // asserts may want memory, so they stand behind the blocks
+    let (first, seen) = answers(alloc, asked, Vec::with_capacity(alloc, 60_000)?);
+    assert!(rt; !first.assembles);
+    assert!(rt; !first.faults);
+    assert!(rt; !first.lists);
+    assert!(rt; !seen.is_wrong);
+    assert!(rt; seen.has_all());
+    Ok(())
+}
+
+#[test]
+fn tells_a_want_of_memory(rt: HostRuntime) -> Result<(), Fail> {
+    let alloc = rt.alloc();
+    let bytes = assemble(alloc, LIFT.as_bytes())?;
+    match Container::parse(&bytes) {
+        Ok(container) => assert_told(&rt, alloc, &container, &bytes)?,
+        Err(fault) => assert!(rt; false, "{fault:?}"),
+    }
     Ok(())
 }

@@ -60,11 +60,7 @@ fn assembles_a_question(rt: HostRuntime) -> Result<(), Fail> {
 #[test]
 fn refuses_the_worked_damages(rt: HostRuntime) -> Result<(), Fail> {
     let alloc = rt.alloc();
-    let cases: &[(Edits, Option<AsmFault>)] = &[
-        (&[(14, "cost 4+2v1")], Some(AsmFault::P3 { line: 14 })),
-        (&[(18, "down 0 M")], Some(AsmFault::P2 { line: 18 })),
-    ];
-    assert_faults(&rt, alloc, RING, cases)?;
+    assert_faults(&rt, alloc, RING, "14 cost 4+2v1|P3 14\n18 down 0 M|P2 18")?;
     let without_label = b"plan ring 2 11\nproc main 0\nframe 0 -\ncost 11\n\
           at 0 0 0 0 0\nat 1 0 0 0 0\ngrip 0\npush 2\nstore 0\n";
     assert_eq!(rt;

@@ -8,7 +8,7 @@ use std::alloc::Global;
 
 /// The code of a procedure as far as it has been read: its statements, each with its line, and how
 /// many bytes they have.
-#[derive(Debug, Drop)]
+#[derive(Drop)]
 pub struct Code<'a> {
     statements: Vec<(usize, Statement<'a>)>,
     size: usize,
@@ -29,19 +29,15 @@ impl<'a> Code<'a> {
         self.size as u16
     }
 
-    /// This code and behind it one more statement, if there is room.
-    pub fn with(self, statement: Statement<'a>, line: usize) -> Result<Code<'a>, AsmFault> {
-        let Code {
-            mut statements,
-            size,
-        } = self;
+    /// Adds one more statement, if there is room.
+    pub fn add(&mut self, statement: Statement<'a>, line: usize) -> Result<(), AsmFault> {
         let more = statement.size();
-        if more > MOST_CODE - size {
+        if more > MOST_CODE - self.size {
             return Err(AsmFault::P4 { line });
         }
-        statements.push((line, statement))?;
-        let size = size + more;
-        Ok(Code { statements, size })
+        self.statements.push((line, statement))?;
+        self.size += more;
+        Ok(())
     }
 
     /// The bytes of the code; else the fault of the first line in which an unknown name stands.

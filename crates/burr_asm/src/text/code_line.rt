@@ -1,53 +1,38 @@
 ghost use Rattle.std.specs.Prelude.{◌<◌, ◌≤◌, IfSome};
 
-use crate::text::set::is_set;
-use crate::text::words::{cut_number, name, number};
-use burr_text::{cut_at, is_name};
-use burr_voxels::Direction;
+use crate::text::plain_line::PlainLine;
+use crate::text::words::{cut_number, name};
+use burr_text::is_name;
 
 /// A line of code by its form alone: an instruction's word and its operands, or one raw byte.
-#[derive(Clone, Copy, Debug)]
+#[derive(Clone, Copy)]
 pub enum CodeLine<'a> {
-    /// `halt`
-    Halt,
-    /// `push NUMBER`
-    Push(&'a [u8]),
-    /// `load SLOT`
-    Load(&'a [u8]),
-    /// `store SLOT`
-    Store(&'a [u8]),
-    /// `add`
-    Add,
-    /// `sub`
-    Sub,
-    /// `drop`
-    Drop,
-    /// `grip SET`
-    Grip(&'a [u8]),
-    /// `step DIRECTION`
-    Step(Direction),
-    /// `aside DIRECTION TRAY`
-    Aside(Direction, &'a [u8]),
-    /// `tray TRAY`
-    Tray(&'a [u8]),
+    /// An instruction that names nothing.
+    Plain(PlainLine<'a>),
     /// `jump LABEL`
     Jump(&'a [u8]),
     /// `down SLOT LABEL`
     Down(&'a [u8], &'a [u8]),
-    /// `ask LOW HIGH`
-    Ask(&'a [u8], &'a [u8]),
     /// `pick LABEL LABEL ..`
     Pick(OfferWords<'a>),
     /// `call PROCEDURE`
     Call(&'a [u8]),
-    /// `ret`
-    Ret,
     /// `byte XX`
     Byte(u8),
 }
 
+/// The word of a line that names something, or of a raw byte.
+#[derive(Clone, Copy)]
+enum Keyword {
+    Jump,
+    Down,
+    Pick,
+    Call,
+    Byte,
+}
+
 /// The words of a `pick`: the names of 2 to 8 labels, joined by blanks.
-#[derive(Clone, Copy, Debug)]
+#[derive(Clone, Copy)]
 pub struct OfferWords<'a> {
     pub names: &'a [u8],
     /// How many names there are.
@@ -56,70 +41,52 @@ pub struct OfferWords<'a> {
 }
 
 impl CodeLine<'_> {
-    /// The line with these bytes; None where it is of no form.
-    pub fn parse(bytes: &[u8]) -> Option<CodeLine<'_>> {
-        match bytes {
-            b"halt" => Some(CodeLine::Halt),
-            b"add" => Some(CodeLine::Add),
-            b"sub" => Some(CodeLine::Sub),
-            b"drop" => Some(CodeLine::Drop),
-            b"ret" => Some(CodeLine::Ret),
-            _ => CodeLine::with_operands(bytes),
+    /// The line that is this one word; None where it is of no form.
+    pub fn of_word(word: &[u8]) -> Option<CodeLine<'_>> {
+        Some(CodeLine::Plain(PlainLine::of_word(word)?))
+    }
+
+    /// The line that begins with this word, and what stands behind the blank; None where it is of no
+    /// form.
+    pub fn with_operands<'a>(word: &[u8], words: &'a [u8]) -> Option<CodeLine<'a>> {
+        match Keyword::of(word) {
+            Some(keyword) => CodeLine::with_keyword(keyword, words),
+            None => Some(CodeLine::Plain(PlainLine::with_operands(word, words)?)),
         }
     }
 
-    /// The line of several words with these bytes.
-    fn with_operands(bytes: &[u8]) -> Option<CodeLine<'_>> {
-        if let Some(line) = CodeLine::on_numbers(bytes) {
-            Some(line)
-        } else if let Some(line) = CodeLine::in_space(bytes) {
-            Some(line)
-        } else if let Some(line) = CodeLine::of_control(bytes) {
-            Some(line)
-        } else {
-            Some(CodeLine::Byte(hex_byte(bytes.strip_prefix(b"byte ")?)?))
+    /// The line that begins with a keyword, and what stands behind the blank.
+    fn with_keyword(keyword: Keyword, words: &[u8]) -> Option<CodeLine<'_>> {
+        match keyword {
+            Keyword::Jump => Some(CodeLine::Jump(name(words)?)),
+            Keyword::Down => {
+                let (slot, label) = cut_number(words)?;
+                Some(CodeLine::Down(slot, name(label)?))
+            }
+            Keyword::Pick => Some(CodeLine::Pick(OfferWords::parse(words)?)),
+            Keyword::Call => Some(CodeLine::Call(name(words)?)),
+            Keyword::Byte => Some(CodeLine::Byte(hex_byte(words)?)),
+        }
+    }
+}
+
+impl Keyword {
+    /// The keyword that a word is.
+    fn of(word: &[u8]) -> Option<Keyword> {
+        match word {
+            b"jump" => Some(Keyword::Jump),
+            b"pick" => Some(Keyword::Pick),
+            _ => Keyword::other(word),
         }
     }
 
-    /// The line of an instruction on numbers.
-    fn on_numbers(bytes: &[u8]) -> Option<CodeLine<'_>> {
-        if let Some(word) = bytes.strip_prefix(b"push ") {
-            Some(CodeLine::Push(number(word)?))
-        } else if let Some(word) = bytes.strip_prefix(b"load ") {
-            Some(CodeLine::Load(number(word)?))
-        } else if let Some(word) = bytes.strip_prefix(b"store ") {
-            Some(CodeLine::Store(number(word)?))
-        } else {
-            let (low, high) = cut_number(bytes.strip_prefix(b"ask ")?)?;
-            Some(CodeLine::Ask(low, number(high)?))
-        }
-    }
-
-    /// The line of an instruction that moves pieces.
-    fn in_space(bytes: &[u8]) -> Option<CodeLine<'_>> {
-        if let Some(set) = bytes.strip_prefix(b"grip ") {
-            is_set(set).then_some(CodeLine::Grip(set))
-        } else if let Some(word) = bytes.strip_prefix(b"step ") {
-            Some(CodeLine::Step(Direction::named(word)?))
-        } else if let Some(words) = bytes.strip_prefix(b"aside ") {
-            let (direction, tray) = cut_at(words, b' ')?;
-            Some(CodeLine::Aside(Direction::named(direction)?, number(tray)?))
-        } else {
-            Some(CodeLine::Tray(number(bytes.strip_prefix(b"tray ")?)?))
-        }
-    }
-
-    /// The line of an instruction that names labels or a procedure.
-    fn of_control(bytes: &[u8]) -> Option<CodeLine<'_>> {
-        if let Some(word) = bytes.strip_prefix(b"jump ") {
-            Some(CodeLine::Jump(name(word)?))
-        } else if let Some(words) = bytes.strip_prefix(b"down ") {
-            let (slot, label) = cut_number(words)?;
-            Some(CodeLine::Down(slot, name(label)?))
-        } else if let Some(words) = bytes.strip_prefix(b"pick ") {
-            Some(CodeLine::Pick(OfferWords::parse(words)?))
-        } else {
-            Some(CodeLine::Call(name(bytes.strip_prefix(b"call ")?)?))
+    /// The keyword that a word is, if it is one of the rest.
+    fn other(word: &[u8]) -> Option<Keyword> {
+        match word {
+            b"down" => Some(Keyword::Down),
+            b"call" => Some(Keyword::Call),
+            b"byte" => Some(Keyword::Byte),
+            _ => None,
         }
     }
 }

@@ -5,14 +5,14 @@ use burr_container::PlanForm;
 use burr_text::{cut_at, is_number};
 
 /// The words of a form: its constant, and behind it its terms.
-#[derive(Clone, Copy, Debug)]
+#[derive(Clone, Copy)]
 pub struct FormWords<'a> {
     constant: &'a [u8],
     terms: &'a [u8],
 }
 
 /// The words of a term: its coefficient, without a `+`, and its slot.
-#[derive(Clone, Copy, Debug)]
+#[derive(Clone, Copy)]
 struct TermWords<'a> {
     coefficient: &'a [u8],
     slot: &'a [u8],

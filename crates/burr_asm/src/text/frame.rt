@@ -3,16 +3,16 @@ ghost use Rattle.burr_code.specs.declared.limits.TheConstants.{SLOTS};
 
 use crate::fault::AsmFault;
 use crate::text::form::FormWords;
-use crate::text::line::{GripWords, PieceWords, SlotWords};
+use crate::text::line::{GripWords, LineForm, PieceWords, SlotWords};
 use crate::text::numbers::{range, slot, tray};
-use crate::text::places::with_place;
+use crate::text::places::add_place;
 use crate::text::set::piece_set;
 use burr_code::limits::{MOST_GUARDS, MOST_OPERANDS};
-use burr_container::{ExitFrame, Frame, Place, PlanForm};
+use burr_container::{ExitFrame, Frame, PlanForm};
 use std::alloc::Global;
 
 /// The current tray and the grip, with which frames begin.
-#[derive(Clone, Copy, Debug)]
+#[derive(Clone, Copy)]
 pub struct Grip {
     pub tray: u8,
     pub set: u32,
@@ -31,7 +31,7 @@ impl Grip {
 }
 
 /// A frame before its cost: slots first, then guards, then operands.
-#[derive(Debug, Drop)]
+#[derive(Drop)]
 pub struct Conditions {
     grip: Grip,
     slots: [Option<(i16, i16)>; 8],
@@ -50,72 +50,51 @@ impl Conditions {
         }
     }
 
+    /// A line before the cost: slots first, then guards, then operands.
+    pub fn add(&mut self, form: LineForm<'_>, line: usize) -> Result<(), AsmFault> {
+        match form {
+            LineForm::Slot(words) => self.add_slot(words, line),
+            LineForm::Guard(form) => self.add_guard(form, line),
+            LineForm::Stack(form) => self.add_operand(form, line),
+            _ => Err(AsmFault::P1 { line }),
+        }
+    }
+
     /// A line `slot`, before all guards and operands.
-    pub fn with_slot(self, words: SlotWords<'_>, line: usize) -> Result<Conditions, AsmFault> {
-        let Conditions {
-            grip,
-            mut slots,
-            guards,
-            stack,
-        } = self;
-        if !guards.is_empty() || !stack.is_empty() {
+    fn add_slot(&mut self, words: SlotWords<'_>, line: usize) -> Result<(), AsmFault> {
+        if !self.guards.is_empty() || !self.stack.is_empty() {
             return Err(AsmFault::P1 { line });
         }
-        let Some((slot, range)) = slot_above(&slots, words) else {
-            return Err(AsmFault::P3 { line });
-        };
-        slots[usize::from(slot)] = Some(range);
-        Ok(Conditions {
-            grip,
-            slots,
-            guards,
-            stack,
-        })
+        match slot_above(&self.slots, words) {
+            Some((slot, range)) => {
+                self.slots[usize::from(slot)] = Some(range);
+                Ok(())
+            }
+            None => Err(AsmFault::P3 { line }),
+        }
     }
 
     /// A line `guard`, before all operands.
-    pub fn with_guard(self, form: FormWords<'_>, line: usize) -> Result<Conditions, AsmFault> {
-        let Conditions {
-            grip,
-            slots,
-            mut guards,
-            stack,
-        } = self;
-        if !stack.is_empty() {
+    fn add_guard(&mut self, form: FormWords<'_>, line: usize) -> Result<(), AsmFault> {
+        if !self.stack.is_empty() {
             return Err(AsmFault::P1 { line });
         }
-        let guard = form_over(&slots, form, line)?;
-        if guards.len() >= MOST_GUARDS {
+        let guard = form_over(&self.slots, form, line)?;
+        if self.guards.len() >= MOST_GUARDS {
             return Err(AsmFault::P4 { line });
         }
-        guards.push(guard)?;
-        Ok(Conditions {
-            grip,
-            slots,
-            guards,
-            stack,
-        })
+        self.guards.push(guard)?;
+        Ok(())
     }
 
     /// A line `stack`.
-    pub fn with_operand(self, form: FormWords<'_>, line: usize) -> Result<Conditions, AsmFault> {
-        let Conditions {
-            grip,
-            slots,
-            guards,
-            mut stack,
-        } = self;
-        let operand = form_over(&slots, form, line)?;
-        if stack.len() >= MOST_OPERANDS {
+    fn add_operand(&mut self, form: FormWords<'_>, line: usize) -> Result<(), AsmFault> {
+        let operand = form_over(&self.slots, form, line)?;
+        if self.stack.len() >= MOST_OPERANDS {
             return Err(AsmFault::P4 { line });
         }
-        stack.push(operand)?;
-        Ok(Conditions {
-            grip,
-            slots,
-            guards,
-            stack,
-        })
+        self.stack.push(operand)?;
+        Ok(())
     }
 
     /// A line `cost`: the frame, of which no piece has its place yet.
@@ -125,19 +104,13 @@ impl Conditions {
         form: FormWords<'_>,
         line: usize,
     ) -> Result<Frame, AsmFault> {
-        let Conditions {
-            grip,
-            slots,
-            guards,
-            stack,
-        } = self;
-        let cost = form_over(&slots, form, line)?;
+        let cost = form_over(&self.slots, form, line)?;
         Ok(Frame {
-            tray: grip.tray,
-            grip: grip.set,
-            slots,
-            guards,
-            stack,
+            tray: self.grip.tray,
+            grip: self.grip.set,
+            slots: self.slots,
+            guards: self.guards,
+            stack: self.stack,
             cost,
             places: Vec::new(alloc),
         })
@@ -188,37 +161,18 @@ fn parameter_slots(parameters: u8) -> [bool; 8] {
 }
 
 /// A line `at` of the pieces of a frame.
-pub fn with_piece(frame: Frame, words: PieceWords<'_>, line: usize) -> Result<Frame, AsmFault> {
+pub fn add_piece(frame: &mut Frame, words: PieceWords<'_>, line: usize) -> Result<(), AsmFault> {
     let live = live_slots(&frame.slots);
-    let Frame {
-        tray,
-        grip,
-        slots,
-        guards,
-        stack,
-        cost,
-        places,
-    } = frame;
-    let places = with_place(places, &live, words, line)?;
-    Ok(Frame {
-        tray,
-        grip,
-        slots,
-        guards,
-        stack,
-        cost,
-        places,
-    })
+    add_place(&mut frame.places, &live, words, line)
 }
 
 /// A line `at` of the pieces of the exit frame of a procedure with so many parameters.
-pub fn with_exit_piece(
-    exit: ExitFrame,
+pub fn add_exit_piece(
+    exit: &mut ExitFrame,
     parameters: u8,
     words: PieceWords<'_>,
     line: usize,
-) -> Result<ExitFrame, AsmFault> {
-    let ExitFrame { tray, grip, places } = exit;
-    let places = with_place(places, &parameter_slots(parameters), words, line)?;
-    Ok(ExitFrame { tray, grip, places })
+) -> Result<(), AsmFault> {
+    let live = parameter_slots(parameters);
+    add_place(&mut exit.places, &live, words, line)
 }

@@ -6,7 +6,7 @@ use burr_text::cut_at;
 
 /// A line of a plan text by its form alone: its numbers, sets and forms are not judged yet, its
 /// names are not looked for, and whether it may stand where it stands isn't judged either.
-#[derive(Clone, Copy, Debug)]
+#[derive(Clone, Copy)]
 pub enum LineForm<'a> {
     /// `plan NAME PIECES BUDGET`
     Plan(PlanWords<'a>),
@@ -33,7 +33,7 @@ pub enum LineForm<'a> {
 }
 
 /// The words of the plan's line.
-#[derive(Clone, Copy, Debug)]
+#[derive(Clone, Copy)]
 pub struct PlanWords<'a> {
     pub name: &'a [u8],
     pub pieces: &'a [u8],
@@ -41,21 +41,21 @@ pub struct PlanWords<'a> {
 }
 
 /// The words of a procedure's line.
-#[derive(Clone, Copy, Debug)]
+#[derive(Clone, Copy)]
 pub struct ProcedureWords<'a> {
     pub name: &'a [u8],
     pub parameters: &'a [u8],
 }
 
 /// The words with which a frame begins.
-#[derive(Clone, Copy, Debug)]
+#[derive(Clone, Copy)]
 pub struct GripWords<'a> {
     pub tray: &'a [u8],
     pub set: &'a [u8],
 }
 
 /// The words of a slot's line.
-#[derive(Clone, Copy, Debug)]
+#[derive(Clone, Copy)]
 pub struct SlotWords<'a> {
     pub slot: &'a [u8],
     pub low: &'a [u8],
@@ -63,14 +63,14 @@ pub struct SlotWords<'a> {
 }
 
 /// The words of a piece's line.
-#[derive(Clone, Copy, Debug)]
+#[derive(Clone, Copy)]
 pub struct PieceWords<'a> {
     pub piece: &'a [u8],
     pub place: PlaceWords<'a>,
 }
 
 /// Where a piece is said to lie.
-#[derive(Clone, Copy, Debug)]
+#[derive(Clone, Copy)]
 pub enum PlaceWords<'a> {
     Apart,
     On(&'a [u8], FormWords<'a>, FormWords<'a>, FormWords<'a>),
@@ -79,45 +79,46 @@ pub enum PlaceWords<'a> {
 impl LineForm<'_> {
     /// The line with these bytes, which are without its end; None where it is of no form.
     pub fn parse(bytes: &[u8]) -> Option<LineForm<'_>> {
-        if let Some(line) = LineForm::heading(bytes) {
-            Some(line)
-        } else if let Some(line) = LineForm::of_frame(bytes) {
-            Some(line)
-        } else {
-            Some(LineForm::Code(CodeLine::parse(bytes)?))
+        match cut_at(bytes, b' ') {
+            Some((word, words)) => LineForm::with_words(word, words),
+            None => Some(LineForm::Code(CodeLine::of_word(bytes)?)),
         }
     }
 
-    /// The line with which a part of the text begins.
-    fn heading(bytes: &[u8]) -> Option<LineForm<'_>> {
-        if let Some(words) = bytes.strip_prefix(b"plan ") {
-            Some(LineForm::Plan(PlanWords::parse(words)?))
-        } else if let Some(words) = bytes.strip_prefix(b"proc ") {
-            Some(LineForm::Procedure(ProcedureWords::parse(words)?))
-        } else if let Some(words) = bytes.strip_prefix(b"exit ") {
-            Some(LineForm::Exit(GripWords::parse(words)?))
-        } else if let Some(words) = bytes.strip_prefix(b"label ") {
-            Some(LineForm::Label(name(words)?))
-        } else {
-            let words = bytes.strip_prefix(b"frame ")?;
-            Some(LineForm::Frame(GripWords::parse(words)?))
+    /// The line that begins with this word, and what stands behind the blank.
+    fn with_words<'a>(word: &[u8], words: &'a [u8]) -> Option<LineForm<'a>> {
+        match word {
+            b"plan" => Some(LineForm::Plan(PlanWords::parse(words)?)),
+            b"proc" => Some(LineForm::Procedure(ProcedureWords::parse(words)?)),
+            b"exit" => Some(LineForm::Exit(GripWords::parse(words)?)),
+            b"label" => Some(LineForm::Label(name(words)?)),
+            b"frame" => Some(LineForm::Frame(GripWords::parse(words)?)),
+            _ => LineForm::of_frame(word, words),
         }
     }
 
-    /// The line within a frame.
-    fn of_frame(bytes: &[u8]) -> Option<LineForm<'_>> {
-        if let Some(words) = bytes.strip_prefix(b"slot ") {
-            Some(LineForm::Slot(SlotWords::parse(words)?))
-        } else if let Some(form) = bytes.strip_prefix(b"guard ") {
-            Some(LineForm::Guard(FormWords::parse(form)?))
-        } else if let Some(form) = bytes.strip_prefix(b"stack ") {
-            Some(LineForm::Stack(FormWords::parse(form)?))
-        } else if let Some(form) = bytes.strip_prefix(b"cost ") {
-            Some(LineForm::Cost(FormWords::parse(form)?))
-        } else {
-            let words = bytes.strip_prefix(b"at ")?;
-            Some(LineForm::At(PieceWords::parse(words)?))
+    /// The line within a frame, or behind it.
+    fn of_frame<'a>(word: &[u8], words: &'a [u8]) -> Option<LineForm<'a>> {
+        match word {
+            b"slot" => Some(LineForm::Slot(SlotWords::parse(words)?)),
+            b"at" => Some(LineForm::At(PieceWords::parse(words)?)),
+            _ => LineForm::of_form(word, words),
         }
+    }
+
+    /// The line of a form, or of code.
+    fn of_form<'a>(word: &[u8], words: &'a [u8]) -> Option<LineForm<'a>> {
+        match word {
+            b"guard" => Some(LineForm::Guard(FormWords::parse(words)?)),
+            b"stack" => Some(LineForm::Stack(FormWords::parse(words)?)),
+            b"cost" => Some(LineForm::Cost(FormWords::parse(words)?)),
+            _ => LineForm::of_code(word, words),
+        }
+    }
+
+    /// The line of code.
+    fn of_code<'a>(word: &[u8], words: &'a [u8]) -> Option<LineForm<'a>> {
+        Some(LineForm::Code(CodeLine::with_operands(word, words)?))
     }
 }
 
@@ -177,14 +178,19 @@ impl PlaceWords<'_> {
         if bytes == b"apart".as_slice() {
             return Some(PlaceWords::Apart);
         }
-        let (tray, rest) = cut_number(bytes)?;
-        let (x, rest) = cut_at(rest, b' ')?;
-        let (y, z) = cut_at(rest, b' ')?;
-        let (x, y, z) = (
-            FormWords::parse(x)?,
-            FormWords::parse(y)?,
-            FormWords::parse(z)?,
-        );
+        let (tray, forms) = cut_number(bytes)?;
+        let (x, y, z) = three_forms(forms)?;
         Some(PlaceWords::On(tray, x, y, z))
     }
+}
+
+/// Three forms, joined by blanks.
+fn three_forms(bytes: &[u8]) -> Option<(FormWords<'_>, FormWords<'_>, FormWords<'_>)> {
+    let (x, rest) = cut_at(bytes, b' ')?;
+    let (y, z) = cut_at(rest, b' ')?;
+    Some((
+        FormWords::parse(x)?,
+        FormWords::parse(y)?,
+        FormWords::parse(z)?,
+    ))
 }

@@ -4,7 +4,7 @@ use std::alloc::{AllocError, Global};
 use std::collections::HashMap;
 
 /// At most 256 different names, numbered from 0 in their order.
-#[derive(Debug, Drop)]
+#[derive(Drop)]
 pub struct Names<'a> {
     pub names: Vec<&'a [u8]>,
     pub numbers: HashMap<&'a [u8], u8>,
@@ -24,16 +24,13 @@ impl<'a> Names<'a> {
         self.numbers.get(&name).copied()
     }
 
-    /// These names and one more, which is none of them.
-    pub fn with(self, name: &'a [u8]) -> Result<Names<'a>, AllocError>
-        requires { vec_len self.names < 256 }
+    /// Adds a name, which is none of these.
+    pub fn add(&mut self, name: &'a [u8]) -> Result<(), AllocError>
+        requires { vec_len self.now.names < 256 }
     {
-        let Names {
-            mut names,
-            mut numbers,
-        } = self;
-        numbers.insert(name, names.len() as u8)?;
-        names.push(name)?;
-        Ok(Names { names, numbers })
+        let number = self.names.len() as u8;
+        self.numbers.insert(name, number)?;
+        self.names.push(name)?;
+        Ok(())
     }
 }

@@ -11,7 +11,7 @@ use std::alloc::Global;
 
 /// A plan as far as it has been read: what its first line says, the names of all procedures that
 /// have begun, and those that have ended.
-#[derive(Debug, Drop)]
+#[derive(Drop)]
 pub struct Outline<'a> {
     name: &'a [u8],
     pieces: u8,
@@ -45,57 +45,31 @@ impl<'a> Outline<'a> {
 
     /// A line `proc` behind procedures that have all ended.
     pub fn begin(
-        self,
+        &mut self,
         alloc: Global,
         words: ProcedureWords<'a>,
         line: usize,
-    ) -> Result<(Outline<'a>, Routine<'a>), AsmFault> {
-        let Outline {
-            name,
-            pieces,
-            budget,
-            names,
-            ended,
-        } = self;
-        if names.number(words.name).is_some() {
+    ) -> Result<Routine<'a>, AsmFault> {
+        if self.names.number(words.name).is_some() {
             return Err(AsmFault::P2 { line });
         }
-        let Some(parameters) = parameter_count(words.parameters, ended.is_empty()) else {
+        let Some(parameters) = parameter_count(words.parameters, self.ended.is_empty()) else {
             return Err(AsmFault::P3 { line });
         };
-        if names.names.len() >= MOST_PROCEDURES {
+        if self.names.names.len() >= MOST_PROCEDURES {
             return Err(AsmFault::P4 { line });
         }
-        let outline = Outline {
-            name,
-            pieces,
-            budget,
-            names: names.with(words.name)?,
-            ended,
-        };
-        Ok((outline, Routine::new(alloc, parameters)))
+        self.names.add(words.name)?;
+        Ok(Routine::new(alloc, parameters))
     }
 
     /// The plan with the procedure that has begun last, which ends here.
-    pub fn end(self, routine: Routine<'a>) -> Result<Outline<'a>, AsmFault> {
+    pub fn end(mut self, routine: Routine<'a>) -> Result<Outline<'a>, AsmFault> {
         if let Some(line) = routine.label_at_end() {
             return Err(AsmFault::P4 { line });
         }
-        let Outline {
-            name,
-            pieces,
-            budget,
-            names,
-            mut ended,
-        } = self;
-        ended.push(routine)?;
-        Ok(Outline {
-            name,
-            pieces,
-            budget,
-            names,
-            ended,
-        })
+        self.ended.push(routine)?;
+        Ok(self)
     }
 
     /// The plan, where all names in its code are known; else the fault of the first line in which

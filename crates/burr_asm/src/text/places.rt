@@ -16,13 +16,13 @@ fn place(words: PlaceWords<'_>, live: &[bool; 8]) -> Option<Place> {
     }
 }
 
-/// These places and behind them that of one more piece, which has to be the next.
-pub fn with_place(
-    mut places: Vec<Place>,
+/// Adds the place of one more piece, which has to be the next.
+pub fn add_place(
+    places: &mut Vec<Place>,
     live: &[bool; 8],
     words: PieceWords<'_>,
     line: usize,
-) -> Result<Vec<Place>, AsmFault> {
+) -> Result<(), AsmFault> {
     let is_next = byte(words.piece).is_some_and(|piece| usize::from(piece) == places.len());
     if !is_next {
         return Err(AsmFault::P1 { line });
@@ -30,7 +30,7 @@ pub fn with_place(
     match place(words.place, live) {
         Some(place) => {
             places.push(place)?;
-            Ok(places)
+            Ok(())
         }
         None => Err(AsmFault::P3 { line }),
     }

@@ -2,15 +2,15 @@ ghost use Rattle.std.specs.Prelude.{◌≡◌, IfSome};
 ghost use Rattle.burr_code.specs.Instruction.{IsInRange};
 ghost use Rattle.burr_code.specs.Meaning.{meaning};
 
-use crate::text::code_line::CodeLine;
 use crate::text::numbers::{operand, range, slot, tray};
+use crate::text::plain_line::PlainLine;
 use crate::text::set::gripped_set;
 use burr_code::{Instr, encode};
 use std::alloc::{AllocError, Global};
 use std::marker::Model;
 
 /// An instruction whose operands are in their ranges, and that names no label and no procedure.
-#[derive(Debug, Drop)]
+#[derive(Drop)]
 pub struct Plain<'a> {
     instr: Instr<'a>,
 }
@@ -27,9 +27,8 @@ impl<'a> Model for Plain<'a> {
 }
 
 impl<'a> Plain<'a> {
-    /// The instruction of a line; None where the line names something, is a raw byte, or where a
-    /// number or a set is out of its range.
-    pub fn of(line: CodeLine<'a>) -> Option<Plain<'a>> {
+    /// The instruction of a line; None where a number or a set is out of its range.
+    pub fn of(line: PlainLine<'a>) -> Option<Plain<'a>> {
         Some(Plain {
             instr: instr(line)?,
         })
@@ -46,30 +45,25 @@ impl<'a> Plain<'a> {
     }
 }
 
-fn instr<'a>(line: CodeLine<'a>) -> Option<Instr<'a>>
+fn instr<'a>(line: PlainLine<'a>) -> Option<Instr<'a>>
     ensures { IfSome result (λ instr. IsInRange (meaning instr)) }
 {
     match line {
-        CodeLine::Halt => Some(Instr::Halt),
-        CodeLine::Push(number) => Some(Instr::Push(operand(number)?)),
-        CodeLine::Load(word) => Some(Instr::Load(slot(word)?)),
-        CodeLine::Store(word) => Some(Instr::Store(slot(word)?)),
-        CodeLine::Add => Some(Instr::Add),
-        CodeLine::Sub => Some(Instr::Sub),
-        CodeLine::Drop => Some(Instr::Drop),
-        CodeLine::Grip(set) => Some(Instr::Grip(gripped_set(set)?)),
-        CodeLine::Step(direction) => Some(Instr::Step(direction)),
-        CodeLine::Aside(direction, word) => Some(Instr::Aside(direction, tray(word)?)),
-        CodeLine::Tray(word) => Some(Instr::Tray(tray(word)?)),
-        CodeLine::Ask(low, high) => {
+        PlainLine::Halt => Some(Instr::Halt),
+        PlainLine::Push(number) => Some(Instr::Push(operand(number)?)),
+        PlainLine::Load(word) => Some(Instr::Load(slot(word)?)),
+        PlainLine::Store(word) => Some(Instr::Store(slot(word)?)),
+        PlainLine::Add => Some(Instr::Add),
+        PlainLine::Sub => Some(Instr::Sub),
+        PlainLine::Drop => Some(Instr::Drop),
+        PlainLine::Grip(set) => Some(Instr::Grip(gripped_set(set)?)),
+        PlainLine::Step(direction) => Some(Instr::Step(direction)),
+        PlainLine::Aside(direction, word) => Some(Instr::Aside(direction, tray(word)?)),
+        PlainLine::Tray(word) => Some(Instr::Tray(tray(word)?)),
+        PlainLine::Ask(low, high) => {
             let (low, high) = range(low, high)?;
             Some(Instr::Ask(low, high))
         }
-        CodeLine::Ret => Some(Instr::Ret),
-        CodeLine::Jump(_)
-        | CodeLine::Down(_, _)
-        | CodeLine::Pick(_)
-        | CodeLine::Call(_)
-        | CodeLine::Byte(_) => None,
+        PlainLine::Ret => Some(Instr::Ret),
     }
 }

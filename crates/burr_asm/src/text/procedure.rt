@@ -4,10 +4,10 @@ use crate::text::names::Names;
 use crate::text::statement::{Scope, Statement};
 use burr_code::limits::MOST_LABELS;
 use burr_container::{ExitFrame, Frame, Procedure};
-use std::alloc::Global;
+use std::alloc::{AllocError, Global};
 
 /// A procedure as far as it has been read.
-#[derive(Debug, Drop)]
+#[derive(Drop)]
 pub struct Routine<'a> {
     parameters: u8,
     exit: Option<ExitFrame>,
@@ -36,97 +36,33 @@ impl<'a> Routine<'a> {
         self.parameters
     }
 
-    /// The same with an exit frame.
-    pub fn with_exit(self, exit: ExitFrame) -> Routine<'a> {
-        let Routine {
-            parameters,
-            exit: _none,
-            names,
-            labels,
-            last,
-            code,
-        } = self;
-        Routine {
-            parameters,
-            exit: Some(exit),
-            names,
-            labels,
-            last,
-            code,
-        }
+    /// Its exit frame.
+    pub fn set_exit(&mut self, exit: ExitFrame) {
+        self.exit = Some(exit);
     }
 
     /// A line `label NAME`, whose frame is still to come.
-    pub fn with_label(self, name: &'a [u8], line: usize) -> Result<Routine<'a>, AsmFault> {
+    pub fn add_label(&mut self, name: &'a [u8], line: usize) -> Result<(), AsmFault> {
         if self.names.number(name).is_some() {
             return Err(AsmFault::P2 { line });
         }
         if self.names.names.len() >= MOST_LABELS || self.ends_with_label() {
             return Err(AsmFault::P4 { line });
         }
-        let Routine {
-            parameters,
-            exit,
-            names,
-            labels,
-            last: _earlier,
-            code,
-        } = self;
-        let names = names.with(name)?;
-        Ok(Routine {
-            parameters,
-            exit,
-            names,
-            labels,
-            last: line,
-            code,
-        })
+        self.names.add(name)?;
+        self.last = line;
+        Ok(())
     }
 
-    /// The same with the frame of the label that has come last.
-    pub fn with_frame(self, frame: Frame) -> Result<Routine<'a>, AsmFault> {
-        let Routine {
-            parameters,
-            exit,
-            names,
-            mut labels,
-            last,
-            code,
-        } = self;
-        labels.push((code.size(), frame))?;
-        Ok(Routine {
-            parameters,
-            exit,
-            names,
-            labels,
-            last,
-            code,
-        })
+    /// The frame of the label that has come last.
+    pub fn add_frame(&mut self, frame: Frame) -> Result<(), AllocError> {
+        self.labels.push((self.code.size(), frame))?;
+        Ok(())
     }
 
-    /// The same with one more statement behind its code.
-    pub fn with_statement(
-        self,
-        statement: Statement<'a>,
-        line: usize,
-    ) -> Result<Routine<'a>, AsmFault> {
-        let Routine {
-            parameters,
-            exit,
-            names,
-            labels,
-            last,
-            code,
-        } = self;
-        let code = code.with(statement, line)?;
-        Ok(Routine {
-            parameters,
-            exit,
-            names,
-            labels,
-            last,
-            code,
-        })
+    /// One more statement behind its code.
+    pub fn add_statement(&mut self, statement: Statement<'a>, line: usize) -> Result<(), AsmFault> {
+        self.code.add(statement, line)
     }
 
     /// Whether the last label stands at the end of the code.
@@ -146,16 +82,21 @@ impl<'a> Routine<'a> {
     /// The procedure, where all names in its code are known; else the fault of the first line in
     /// which one is not.
     pub fn resolve(self, alloc: Global, procedures: &Names<'_>) -> Result<Procedure, AsmFault> {
-        let scope = Scope {
-            labels: &self.names,
-            procedures,
-        };
-        let code = self.code.encode(alloc, scope)?;
+        let code = self.encode(alloc, procedures)?;
         Ok(Procedure {
             params: self.parameters,
             exit: self.exit,
             labels: self.labels,
             code,
         })
+    }
+
+    /// The bytes of its code.
+    fn encode(&self, alloc: Global, procedures: &Names<'_>) -> Result<Vec<u8>, AsmFault> {
+        let scope = Scope {
+            labels: &self.names,
+            procedures,
+        };
+        self.code.encode(alloc, scope)
     }
 }

@@ -10,14 +10,14 @@ use burr_code::{Instr, Labels, encode};
 use std::alloc::Global;
 
 /// A slot of an activation.
-#[derive(Clone, Copy, Debug)]
+#[derive(Clone, Copy)]
 pub struct Slot {
     number: u8,
     ghost in_range: { number < SLOTS },
 }
 
 /// A line of code whose numbers and sets are in their ranges. What it names is not looked for yet.
-#[derive(Debug, Drop)]
+#[derive(Drop)]
 pub enum Statement<'a> {
     /// One raw byte.
     Byte(u8),
@@ -34,27 +34,31 @@ pub enum Statement<'a> {
 }
 
 /// What the names in code stand for.
-#[derive(Clone, Copy, Debug)]
+#[derive(Clone, Copy)]
 pub struct Scope<'n, 'a> {
     pub labels: &'n Names<'a>,
     pub procedures: &'n Names<'a>,
+}
+
+impl Slot {
+    /// The slot of a word; None where it is out of its range.
+    fn of(word: &[u8]) -> Option<Slot> {
+        Some(Slot {
+            number: slot(word)?,
+        })
+    }
 }
 
 impl<'a> Statement<'a> {
     /// The statement of a line; None where a number or a set is out of its range.
     pub fn of(line: CodeLine<'a>) -> Option<Statement<'a>> {
         match line {
+            CodeLine::Plain(line) => Some(Statement::Plain(Plain::of(line)?)),
             CodeLine::Jump(label) => Some(Statement::Jump(label)),
-            CodeLine::Down(word, label) => {
-                let slot = Slot {
-                    number: slot(word)?,
-                };
-                Some(Statement::Down(slot, label))
-            }
+            CodeLine::Down(word, label) => Some(Statement::Down(Slot::of(word)?, label)),
             CodeLine::Pick(labels) => Some(Statement::Pick(labels)),
             CodeLine::Call(procedure) => Some(Statement::Call(procedure)),
             CodeLine::Byte(byte) => Some(Statement::Byte(byte)),
-            _ => Some(Statement::Plain(Plain::of(line)?)),
         }
     }
 
@@ -81,19 +85,10 @@ impl<'a> Statement<'a> {
         match self {
             Statement::Byte(byte) => Ok(Vec::from_slice(alloc, &[*byte])?),
             Statement::Plain(plain) => Ok(plain.encode(alloc)?),
-            Statement::Jump(label) => {
-                let label = known(scope.labels, label, line)?;
-                Ok(encode(alloc, &Instr::Jump(u16::from(label)))?)
-            }
-            Statement::Down(slot, label) => {
-                let label = known(scope.labels, label, line)?;
-                Ok(encode(alloc, &Instr::Down(slot.number, u16::from(label)))?)
-            }
+            Statement::Jump(label) => jump(alloc, scope, label, line),
+            Statement::Down(slot, label) => down(alloc, scope, *slot, label, line),
             Statement::Pick(labels) => pick(alloc, scope.labels, labels.names, line),
-            Statement::Call(procedure) => {
-                let procedure = known(scope.procedures, procedure, line)?;
-                Ok(encode(alloc, &Instr::Call(procedure))?)
-            }
+            Statement::Call(procedure) => call(alloc, scope, procedure, line),
         }
     }
 }
@@ -104,6 +99,40 @@ fn known(names: &Names<'_>, name: &[u8], line: usize) -> Result<u8, AsmFault> {
         Some(number) => Ok(number),
         None => Err(AsmFault::P2 { line }),
     }
+}
+
+/// The bytes of a `jump` to the label of this name.
+fn jump(
+    alloc: Global,
+    scope: Scope<'_, '_>,
+    label: &[u8],
+    line: usize,
+) -> Result<Vec<u8>, AsmFault> {
+    let label = known(scope.labels, label, line)?;
+    Ok(encode(alloc, &Instr::Jump(u16::from(label)))?)
+}
+
+/// The bytes of a `down` with a slot and the label of this name.
+fn down(
+    alloc: Global,
+    scope: Scope<'_, '_>,
+    slot: Slot,
+    label: &[u8],
+    line: usize,
+) -> Result<Vec<u8>, AsmFault> {
+    let label = known(scope.labels, label, line)?;
+    Ok(encode(alloc, &Instr::Down(slot.number, u16::from(label)))?)
+}
+
+/// The bytes of a `call` of the procedure of this name.
+fn call(
+    alloc: Global,
+    scope: Scope<'_, '_>,
+    procedure: &[u8],
+    line: usize,
+) -> Result<Vec<u8>, AsmFault> {
+    let procedure = known(scope.procedures, procedure, line)?;
+    Ok(encode(alloc, &Instr::Call(procedure))?)
 }
 
 /// The bytes of a `pick` that offers the labels of these names.

@@ -38,7 +38,7 @@ at_either P (pos (suc n)) at_zero above p q = q
 at_either P (negsuc n) at_zero above p q = q
 
 -- a fitting answer among some is the number of one of them
-answer_number : (count : ℕ) (answer : ℤ) → Fits (pos 0) (pos count -ℤ pos 1) answer → (n : ℕ) × (answer ≡ pos n) × (n < count)
+pub answer_number : (count : ℕ) (answer : ℤ) → Fits (pos 0) (pos count -ℤ pos 1) answer → (n : ℕ) × (answer ≡ pos n) × (n < count)
 answer_number count (pos n) fits = (n, refl, omega (arith, ints, fits.1))
 answer_number count (negsuc n) fits = absurd (omega (arith, ints, fits.0))
 

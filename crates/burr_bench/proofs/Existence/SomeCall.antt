@@ -31,13 +31,13 @@ high_of (Goes new motion) other = other
 high_of (Asks low high) other = high
 high_of (Traps trap) other = other
 
-abbrev IsQuestion : Next → Type 0
+abbrev pub IsQuestion : Next → Type 0
 IsQuestion (Goes new motion) = ⊥
 IsQuestion (Asks low high) = Unit {0}
 IsQuestion (Traps trap) = ⊥
 
 -- where no question stands next, an answer fits none
-unfit_elsewhere : (setup : Setup) (s : BenchState) (next : Next) (answer : ℤ) → NextIs setup s next → ¬ IsQuestion next → IsUnfit setup s answer
+pub unfit_elsewhere : (setup : Setup) (s : BenchState) (next : Next) (answer : ℤ) → NextIs setup s next → ¬ IsQuestion next → IsUnfit setup s answer
 unfit_elsewhere setup s next answer is none low high asks fits = none (subst IsQuestion (one_next setup s (Asks low high) next asks is) tt)
 
 -- an answer that does not fit the question that stands next fits none

@@ -2,23 +2,15 @@
 use Rattle.std.proofs.Common.{◌⊎◌, inl, inr, refl, subst}
 use Rattle.std.specs.Prelude.{slice_get}
 use Rattle.burr_text.proofs.Common.Decisions.{Decided}
-use Rattle.burr_code.specs.Instruction.{Instruction, Halt, Grip, Step, Aside, StandsAt}
-use Rattle.burr_code.proofs.Common.Reading.{one_stands_at, stands_or_none}
+use Rattle.burr_code.specs.Instruction.{Instruction, StandsAt}
+use Rattle.burr_code.proofs.Common.Reading.{stands_or_none}
 use Rattle.burr_bench.specs.declared.trap.Trap.TheVariants.{BadCode}
-use Rattle.burr_bench.specs.Built.{IsBuilt}
 use Rattle.burr_bench.specs.Bench.{BenchState, Setup, BenchProcedure}
 use Rattle.burr_bench.specs.Next.{Next, Traps}
 use Rattle.burr_bench.specs.Step.{NextIs, IsAt, Runs}
 use Rattle.burr_bench.specs.RunLaws.{SomeNext}
 use Rattle.burr_bench.proofs.Existence.Conditions.{decide_found, one_in_list}
 use Rattle.burr_bench.proofs.Existence.Executions.{some_execution}
-
-decide_built : (i : Instruction) → Decided (IsBuilt i)
-decide_built Halt = inl tt
-decide_built (Grip set) = inl tt
-decide_built (Step direction) = inl tt
-decide_built (Aside direction tray) = inl tt
-decide_built i = inr (λ built. built)
 
 -- a state stands at an instruction, or at none
 at_some_or_none : (setup : Setup) (s : BenchState) → ((here : BenchProcedure) × (i : Instruction) × IsAt setup s here i) ⊎ ((here : BenchProcedure) (i : Instruction) → ¬ IsAt setup s here i)
@@ -29,10 +21,7 @@ at_some_or_none setup s = by_procedure (decide_found (slice_get setup.procedures
 
     by_instruction : (here : BenchProcedure) → Runs setup s here → ((i : Instruction) × StandsAt here.code s.running.pc i) ⊎ ((i : Instruction) → ¬ StandsAt here.code s.running.pc i)
         → ((here : BenchProcedure) × (i : Instruction) × IsAt setup s here i) ⊎ ((here : BenchProcedure) (i : Instruction) → ¬ IsAt setup s here i)
-    by_instruction here runs (inl found) = elim (decide_built found.0) [
-      | inl built ↦ inl (here, found.0, (runs, found.1, built))
-      | inr none ↦ inr (λ other i at. none (subst (λ (j : Instruction). IsBuilt j) (one_stands_at here.code s.running.pc i found.0 (stands_here here other i runs at) found.1) at.2))
-    ]
+    by_instruction here runs (inl found) = inl (here, found.0, (runs, found.1))
     by_instruction here runs (inr none) = inr (λ other i at. none i (stands_here here other i runs at))
 
     by_procedure : Decided ((here : BenchProcedure) × Runs setup s here) → ((here : BenchProcedure) × (i : Instruction) × IsAt setup s here i) ⊎ ((here : BenchProcedure) (i : Instruction) → ¬ IsAt setup s here i)

@@ -1,18 +1,18 @@
-ghost use Rattle.std.specs.Prelude.{◌≡◌, ◌≤◌, ◌<◌, ◌↔◌, ◌+◌, length, IsTrue, IfSome, Some, None, slice_get, slice_index_or, reverse};
+ghost use Rattle.std.specs.Prelude.{◌≡◌, ◌≤◌, ◌<◌, ◌↔◌, ◌+◌, length, IsTrue, IfSome, Some, None, slice_get, get_or, reverse};
 ghost use Rattle.burr_voxels.specs.Near.{IsWithin};
-ghost use Rattle.burr_code.specs.declared.limits.TheConstants.{MOST_CODE, MOST_BUDGET, SLOTS};
+ghost use Rattle.burr_code.specs.declared.limits.TheConstants.{MOST_CODE, SLOTS};
 ghost use Rattle.burr_bench.specs.declared.mode.Mode.TheVariants.{Ended};
-ghost use Rattle.burr_bench.specs.Bench.{start as start_of};
+ghost use Rattle.burr_bench.specs.Bench.{bare_program, start as start_of};
 ghost use Rattle.burr_bench.specs.Parts.{parts};
 ghost use Rattle.burr_bench.specs.BenchViews.{setup_of};
 ghost use Rattle.burr_bench.specs.Spots.{placed};
 
 use crate::checked::Checked;
 use crate::mode::Mode;
+use crate::program::Program;
 use crate::state::BenchState;
 use burr_assembly::Assembly;
 use burr_blocking::Blocking;
-use burr_code::limits::MOST_BUDGET;
 use burr_voxels::Cell;
 
 impl<'a, B: Blocking> Checked<'a, B> {
@@ -21,12 +21,12 @@ impl<'a, B: Blocking> Checked<'a, B> {
     pub fn bare(code: &'a [u8], blocking: &'a B) -> Checked<'a, B>
         requires { length code.now ≤ MOST_CODE }
         ensures assembly { result.assembly ≡ B.subject blocking.entry.now }
-        ensures code { result.code ≡ code.entry.now }
+        ensures program { result.program ≡ bare_program code.entry.now }
         ensures state { result.state ≡ start_of (setup_of result) }
         ensures parts { parts result.state.places ≡ 1 }
     {
         Checked {
-            code,
+            program: Program::bare(code),
             blocking,
             state: BenchState::start(blocking.assembly().piece_count()),
         }
@@ -48,9 +48,9 @@ impl<'a, B: Blocking> Checked<'a, B> {
 
     /// The most steps that a run of it makes.
     pub fn budget(&self) -> u32
-        ensures { result ≡ MOST_BUDGET }
+        ensures { result ≡ self.now.program.budget }
     {
-        MOST_BUDGET
+        self.program.budget()
     }
 
     /// The assembly whose pieces are moved.
@@ -109,7 +109,7 @@ impl<'a, B: Blocking> Checked<'a, B> {
     /// from 0 to 7, the caller's condition.
     pub fn slot(&self, slot: u8) -> Option<i32>
         requires { slot < SLOTS }
-        ensures { result ≡ slice_index_or self.now.state.running.slots slot None }
+        ensures { result ≡ get_or self.now.state.running.slots slot None }
     {
         self.state.running().slot(slot)
     }

@@ -1,12 +1,15 @@
-ghost use Rattle.std.specs.Prelude.{◌≡◌, ◌+◌, ◌≤◌, None, length, OnErr, OnOk};
-ghost use Rattle.burr_code.specs.Instruction.{Halt, Grip, Step, Aside, spelled};
+ghost use Rattle.std.specs.Prelude.{◌≡◌, ◌+◌, ◌≤◌, Ok, length, OnOk};
+ghost use Rattle.burr_code.specs.Instruction.{Step, Aside, spelled};
+ghost use Rattle.burr_code.specs.declared.limits.TheConstants.{MOST_CODE};
 ghost use Rattle.burr_bench.specs.declared.mode.Mode.TheVariants.{Running};
 ghost use Rattle.burr_bench.specs.Space.{motion_of};
 ghost use Rattle.burr_bench.specs.Step.{NextIs, CallIn, Called};
-ghost use Rattle.burr_bench.specs.BenchViews.{setup_of, next_of, motion_in, motion_made, Follows, GoesOn, IsSameRun};
+ghost use Rattle.burr_bench.specs.Effects.{next_of, KeepsUnlessGoes, motion_made};
+ghost use Rattle.burr_bench.specs.BenchViews.{setup_of, motion_in, Follows, GoesOn, IsSameRun};
 
 use crate::checked::Checked;
 use crate::checked::way::Way;
+use crate::effect::Effect;
 use crate::mode::Mode;
 use crate::motion::Motion;
 use crate::progress::Progress;
@@ -27,8 +30,7 @@ impl<B: Blocking> Checked<'_, B> {
     {
         match (self.state.mode(), answer) {
             (Mode::Running, None) => self.go_on(),
-            // No instruction that is built asks, so each answer is passed over.
-            (Mode::Running, Some(_)) => Ok(Progress::Again),
+            (Mode::Running, Some(answer)) => Ok(self.take(answer)),
             (Mode::Ended, _) => Ok(Progress::Ended),
             (Mode::Trapped(trap), _) => Err(trap),
         }
@@ -42,7 +44,8 @@ impl<B: Blocking> Checked<'_, B> {
         ensures goes_on { OnOk result (GoesOn self.old self.new (motion_in result)) }
     {
         match self.carry_out() {
-            Ok(motion) => Ok(Progress::Went(motion)),
+            Ok(Effect::Goes(motion)) => Ok(Progress::Went(motion)),
+            Ok(Effect::Asks(low, high)) => Ok(Progress::Asks(low, high)),
             Err(trap) => {
                 self.state.trap(trap);
                 Err(trap)
@@ -50,61 +53,33 @@ impl<B: Blocking> Checked<'_, B> {
         }
     }
 
-    /// Carries out the next instruction; a trap changes nothing.
-    fn carry_out(&mut self) -> Result<Option<Motion>, Trap>
+    /// Carries out the next instruction; a trap or a question changes nothing.
+    fn carry_out(&mut self) -> Result<Effect, Trap>
         ensures next { NextIs (setup_of self.old) self.old.state (next_of result self.new.state) }
-        ensures trapped { OnErr result (self.new ≡ self.old) }
+        ensures kept { KeepsUnlessGoes result self.old self.new }
         ensures same { IsSameRun self.old self.new }
         ensures goes_on { OnOk result (GoesOn self.old self.new (motion_made result)) }
     {
-        match fetch(self.code, self.state.pc()) {
-            None => Err(Trap::BadCode),
-            Some((Instr::Halt, _)) => self.halt(),
-            Some((Instr::Grip(set), size)) => self.make_grip(set, size),
-            Some((Instr::Step(direction), size)) => self.move_grip(direction, size),
-            Some((Instr::Aside(direction, tray), size)) => self.aside(direction, tray, size),
-            // The other instructions are not built yet: they are no code.
-            Some(_) => Err(Trap::BadCode),
+        let Some(procedure) = self.program.procedure(self.state.procedure()) else {
+            unreachable!();
+        };
+        let Some((instruction, size)) = fetch(procedure.code(), self.state.pc()) else {
+            return Err(Trap::BadCode);
+        };
+        match instruction {
+            Instr::Step(direction) => self.move_grip(direction, size),
+            Instr::Aside(direction, tray) => self.aside(direction, tray, size),
+            other => self.state.execute(&other, procedure, &self.program, size),
         }
-    }
-
-    /// `halt`: ends the run where all pieces are apart; pc stays.
-    fn halt(&mut self) -> Result<Option<Motion>, Trap>
-        ensures follows { Follows self.old self.new Halt result }
-        ensures trapped { OnErr result (self.new ≡ self.old) }
-        ensures same { IsSameRun self.old self.new }
-        ensures goes_on { OnOk result (GoesOn self.old self.new (motion_made result)) }
-    {
-        if !self.state.are_all_apart() {
-            return Err(Trap::NotApart);
-        }
-        self.state.end();
-        Ok(None)
-    }
-
-    /// `grip`: the grip becomes a set of pieces of the current tray.
-    fn make_grip(&mut self, set: u32, size: usize) -> Result<Option<Motion>, Trap>
-        requires within { self.old.state.running.pc + size ≤ length self.old.code }
-        requires size { size ≡ length (spelled (Grip set)) }
-        ensures follows { Follows self.old self.new (Grip set) result }
-        ensures trapped { OnErr result (self.new ≡ self.old) }
-        ensures same { IsSameRun self.old self.new }
-        ensures goes_on { OnOk result (GoesOn self.old self.new (motion_made result)) }
-    {
-        if !self.state.all_lie_here(set) {
-            return Err(Trap::GripOff);
-        }
-        self.state.make_grip(set, size);
-        Ok(None)
     }
 
     /// `step`: the grip goes one unit along a direction, where each piece of the current tray is
     /// then on the bench and no two of them overlap.
-    fn move_grip(&mut self, direction: Direction, size: usize) -> Result<Option<Motion>, Trap>
-        requires within { self.old.state.running.pc + size ≤ length self.old.code }
+    fn move_grip(&mut self, direction: Direction, size: usize) -> Result<Effect, Trap>
+        requires within { self.old.state.running.pc + size ≤ MOST_CODE }
         requires size { size ≡ length (spelled (Step direction)) }
         ensures follows { Follows self.old self.new (Step direction) result }
-        ensures trapped { OnErr result (self.new ≡ self.old) }
+        ensures kept { KeepsUnlessGoes result self.old self.new }
         ensures same { IsSameRun self.old self.new }
         ensures goes_on { OnOk result (GoesOn self.old self.new (motion_made result)) }
     {
@@ -119,16 +94,16 @@ impl<B: Blocking> Checked<'_, B> {
         }
         let motion = self.motion(direction, false);
         self.state.move_grip(direction, size);
-        Ok(Some(motion))
+        Ok(Effect::Goes(Some(motion)))
     }
 
     /// `aside`: takes the grip out along a direction, to an empty tray, where it is free of the
     /// rest of the current tray. A group of one piece is apart.
-    fn aside(&mut self, direction: Direction, tray: u8, size: usize) -> Result<Option<Motion>, Trap>
-        requires within { self.old.state.running.pc + size ≤ length self.old.code }
+    fn aside(&mut self, direction: Direction, tray: u8, size: usize) -> Result<Effect, Trap>
+        requires within { self.old.state.running.pc + size ≤ MOST_CODE }
         requires size { size ≡ length (spelled (Aside direction tray)) }
         ensures follows { Follows self.old self.new (Aside direction tray) result }
-        ensures trapped { OnErr result (self.new ≡ self.old) }
+        ensures kept { KeepsUnlessGoes result self.old self.new }
         ensures same { IsSameRun self.old self.new }
         ensures goes_on { OnOk result (GoesOn self.old self.new (motion_made result)) }
     {
@@ -143,7 +118,7 @@ impl<B: Blocking> Checked<'_, B> {
         }
         let motion = self.motion(direction, true);
         self.state.go_aside(tray, size);
-        Ok(Some(motion))
+        Ok(Effect::Goes(Some(motion)))
     }
 
     /// The grip's motion along a direction, in its tray or out of it.

@@ -1,8 +1,6 @@
 ghost use Rattle.std.specs.Prelude.{◌≡◌, ◌+◌, ◌≤◌};
-ghost use Rattle.burr_code.specs.Places.{AllLieIn};
 ghost use Rattle.burr_code.specs.declared.limits.TheConstants.{MOST_CODE};
-ghost use Rattle.burr_bench.specs.declared.mode.Mode.TheVariants.{Ended, Trapped};
-ghost use Rattle.burr_bench.specs.Next.{stepped};
+ghost use Rattle.burr_bench.specs.declared.mode.Mode.TheVariants.{Trapped};
 ghost use Rattle.burr_bench.specs.StateViews.{behind, moved_grip, gone_aside, StaysOnBench};
 
 use crate::mode::Mode;
@@ -12,29 +10,11 @@ use crate::trap::Trap;
 use burr_voxels::Direction;
 
 impl BenchState {
-    /// The step of `halt`: the run has ended.
-    pub fn end(&mut self)
-        ensures { self.new ≡ stepped (record self.old { mode = Ended }) }
-    {
-        self.mode = Mode::Ended;
-        self.steps = self.steps.saturating_add(1);
-    }
-
     /// A trap: nothing but the mode changes.
     pub fn trap(&mut self, trap: Trap)
         ensures { self.new ≡ record self.old { mode = Trapped trap } }
     {
         self.mode = Mode::Trapped(trap);
-    }
-
-    /// The step of a `grip` of so many bytes: pieces of the current tray are gripped.
-    pub fn make_grip(&mut self, set: u32, size: usize)
-        requires here { AllLieIn self.old.places self.old.tray set }
-        requires within { self.old.running.pc + size ≤ MOST_CODE }
-        ensures { self.new ≡ record (behind size self.old) { grip = set } }
-    {
-        self.grip = set;
-        self.go_behind(size);
     }
 
     /// The step of a `step` of so many bytes: the grip goes one unit along a direction, and stays on
@@ -60,7 +40,7 @@ impl BenchState {
     }
 
     /// A step that goes on so many bytes further.
-    fn go_behind(&mut self, size: usize)
+    pub fn go_behind(&mut self, size: usize)
         requires within { self.old.running.pc + size ≤ MOST_CODE }
         ensures { self.new ≡ behind size self.old }
     {

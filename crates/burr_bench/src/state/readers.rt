@@ -60,10 +60,17 @@ impl BenchState {
         self.grip
     }
 
-    /// Where the next instruction stands in the running procedure's code, at most 4,096.
+    /// The number of the running procedure.
+    pub fn procedure(&self) -> u8
+        ensures { result ≡ self.now.running.procedure }
+    {
+        self.running.procedure()
+    }
+
+    /// Where the next instruction stands in the running procedure's code, within 16 bits.
     pub fn pc(&self) -> usize
         ensures pc { result ≡ self.now.running.pc }
-        ensures within { result ≤ 4096 }
+        ensures within { result < 65536 }
     {
         self.running.pc()
     }

@@ -1,4 +1,4 @@
-use Rattle.std.proofs.Common.{refl, subst, [], Some, None, Ok, Err, ◌∙◌, ap}
+use Rattle.std.proofs.Common.{◌≡◌, rules, to_z, of_z, w32, refl, subst, [], Some, None, Ok, Err, ◌∙◌, ap}
 use Rattle.std.specs.Prelude.{Option}
 use Rattle.std.proofs.KnownBytes.{Appends-nil}
 use Rattle.burr_bench.specs.declared.motion.Motion.{Motion}
@@ -7,7 +7,7 @@ use Rattle.burr_bench.specs.declared.progress.Progress.TheVariants.{Went}
 use Rattle.burr_bench.specs.BenchViews.{GoesOn, motion_in, setup_of}
 use Rattle.burr_bench.proofs.Common.Calls.{Tells, tells}
 use Rattle.burr_text.proofs.Common.Tests.{on_err}
-use Rattle.burr_runs.proofs.StepByStep.{leads_motion, leads_still, under_way, fails_at_motion, in_step_still, in_step_motion, trapped_run}
+use Rattle.burr_runs.proofs.StepByStep.{waiting_run, leads_motion, leads_still, under_way, fails_at_motion, in_step_still, in_step_motion, trapped_run}
 use Rattle.burr_runs.proofs.running.take_step.Goals as goal
 
 pub returns-in-Err-clause-ok : goal.returns-in-Err-clause-ok
@@ -16,6 +16,18 @@ returns-in-Err-clause-ok g c =
     let new = c.step.new.self in
     let told = tells (setup_of b) b.state new.state (Err c.in-Err.trap) c.requires.running c.in-Err.ensures.called in
     (trapped_run b new c.in-Err.trap c.proc.result c.pc.result c.requires.running c.requires.within told.0 told.1 c.proc.ensures c.pc.ensures, refl, refl)
+
+pub returns-in-Ok-Asks-clause-ok : goal.returns-in-Ok-Asks-clause-ok
+returns-in-Ok-Asks-clause-ok g c =
+    let b = c.args.bench.now in
+    let new = c.step.new.self in
+    let low = c.in-Ok-Asks.low in
+    let high = c.in-Ok-Asks.high in
+    let same_low : to_z w32 (of_z w32 low) ≡ low = search rules in
+    let same_high : to_z w32 (of_z w32 high) ≡ high = search rules in
+    let asks = c.in-Ok-Asks.field-0-is in
+    let told = subst (λ (p : Progress). Tells (setup_of b) b.state (Ok p) new.state) asks (tells (setup_of b) b.state new.state (Ok c.in-Ok-Asks.field-0) c.requires.running c.in-Ok-Asks.ensures.called) in
+    (rw (same_low, same_high) (waiting_run b new low high c.requires.running c.requires.within told.0 told.1), refl, refl)
 
 pub returns-in-Ok-Went-None-clause-ok : goal.returns-in-Ok-Went-None-clause-ok
 returns-in-Ok-Went-None-clause-ok g c =

@@ -1,7 +1,7 @@
 use Rattle.std.proofs.Common.{◌≡◌, sym, subst, refl, ap, length}
 use Rattle.burr_assembly.specs.Homes.{homes_of}
 use Rattle.burr_code.specs.Places.{IsPartOfTray, IsEmptyTray}
-use Rattle.burr_bench.specs.Bench.{bare_procedure, BenchState}
+use Rattle.burr_bench.specs.Bench.{BenchState}
 use Rattle.burr_bench.specs.StateViews.{gone_aside}
 use Rattle.burr_bench.specs.BenchViews.{Benched, benched, setup_of}
 use Rattle.burr_text.proofs.Common.Tests.{yes_of, no_of}
@@ -10,34 +10,34 @@ use Rattle.burr_bench.proofs.Stepping.Ways.{as_many_homes, free_of_passing, pass
 use Rattle.burr_bench.proofs.checked.Checked.aside.Goals as goal
 
 pub returns-then-not-is_empty-clause-follows : goal.returns-then-not-is_empty-clause-follows
-returns-then-not-is_empty-clause-follows g c =
+returns-then-not-is_empty-clause-follows g c here runs =
     let part = subst (λ (b : Benched). IsPartOfTray b.state.grip b.state.places b.state.tray) c.self.view_is (yes_of c.if-not-is_part_gripped.ensures) in
     let some = subst (λ (b : Benched). ¬ IsEmptyTray b.state.places c.args.tray) c.self.view_is (no_of c.if-not-is_empty.ensures) in
-    aside_in_use (setup_of c.args.self.now) (bare_procedure c.args.self.now.code) c.args.self.now.state c.args.direction c.args.tray part some
+    aside_in_use (setup_of c.args.self.now) here c.args.self.now.state c.args.direction c.args.tray part some
 
 pub returns-then-not-passes-clause-follows : goal.returns-then-not-passes-clause-follows
-returns-then-not-passes-clause-follows g c =
+returns-then-not-passes-clause-follows g c here runs =
     let now = c.args.self.now in
     let part = subst (λ (b : Benched). IsPartOfTray b.state.grip b.state.places b.state.tray) c.self.view_is (yes_of c.if-not-is_part_gripped.ensures) in
     let empty = subst (λ (b : Benched). IsEmptyTray b.state.places c.args.tray) c.self.view_is (yes_of c.if-not-is_empty.ensures) in
     let as_many = as_many_homes now.assembly now.state.places (subst (λ (b : Benched). length b.state.places ≡ length b.assembly.pieces) c.self.view_is c.self.invariant.as_many) in
-    aside_not_free (setup_of now) (bare_procedure now.code) now.state c.args.direction c.args.tray part empty
+    aside_not_free (setup_of now) here now.state c.args.direction c.args.tray part empty
     (λ free. no_of c.if-not-passes.ensures (passing_of_free (homes_of now.assembly) now.state.places now.state.tray now.state.grip c.args.direction as_many free))
 
 pub invariant_of-self : goal.invariant_of-self
 invariant_of-self g c =
-    let old = benched (g.B.Blocking.subject c.self.inside.blocking.now) c.self.inside.code.now c.self.inside.state in
+    let old = benched (g.B.Blocking.subject c.self.inside.blocking.now) c.self.inside.program c.self.inside.state in
     sound_aside old _ c.args.tray c.self.invariant (yes_of c.if-not-is_empty.ensures) refl refl
     (ap (λ (s : BenchState). s.places) c.go_aside.ensures) (ap (λ (s : BenchState). s.grip) c.go_aside.ensures) (ap (λ (s : BenchState). s.running.procedure) c.go_aside.ensures)
 
 pub returns-clause-follows : goal.returns-clause-follows
-returns-clause-follows g c =
+returns-clause-follows g c here runs =
     let now = c.args.self.now in
     let part = subst (λ (b : Benched). IsPartOfTray b.state.grip b.state.places b.state.tray) c.self.view_is (yes_of c.if-not-is_part_gripped.ensures) in
     let empty = subst (λ (b : Benched). IsEmptyTray b.state.places c.args.tray) c.self.view_is (yes_of c.if-not-is_empty.ensures) in
     let free = free_of_passing (homes_of now.assembly) now.state.places now.state.tray now.state.grip c.args.direction (yes_of c.if-not-passes.ensures) in
     let went = subst (λ (b : Benched). c.go_aside.new.self ≡ gone_aside c.args.tray c.args.size b.state) c.self.view_is c.go_aside.ensures in
-    aside_goes (setup_of now) (bare_procedure now.code) now.state c.go_aside.new.self c.args.direction c.args.tray c.args.size _ part empty free c.requires.size c.motion-motion.ensures went
+    aside_goes (setup_of now) here now.state c.go_aside.new.self c.args.direction c.args.tray c.args.size _ part empty free c.requires.size c.motion-motion.ensures went
 
 pub returns-clause-goes_on : goal.returns-clause-goes_on
 returns-clause-goes_on g c =

@@ -1,35 +1,28 @@
-use Rattle.std.proofs.Common.{◌≡◌, subst}
-use Rattle.burr_code.specs.declared.instr.Instr.{Instr}
-use Rattle.burr_code.specs.Instruction.{Halt, Grip, Step, Aside, StandsAt}
+use Rattle.std.proofs.Common.{refl, inl}
+use Rattle.burr_assembly.specs.Homes.{homes_of}
 use Rattle.burr_code.specs.Meaning.{meaning}
-use Rattle.burr_bench.specs.BenchViews.{Benched}
-use Rattle.burr_bench.proofs.Stepping.Steps.{next_at}
+use Rattle.burr_bench.specs.Bench.{running}
+use Rattle.burr_bench.specs.Effects.{KeepsUnlessGoes}
+use Rattle.burr_bench.specs.BenchViews.{benched}
+use Rattle.burr_bench.proofs.Stepping.Steps.{is_at, kept_whole, goes_on_plain, sound_staying}
 use Rattle.burr_bench.proofs.checked.Checked.carry_out.Goals as goal
 
-pub returns-in-Some-Halt-default-clause-next : goal.returns-in-Some-Halt-default-clause-next
-returns-in-Some-Halt-default-clause-next g c =
-    let i = Halt in
-    let stands : StandsAt c.self.inside.code.now c.self.inside.state.running.pc i =
-    subst (λ (x : Instr). StandsAt c.self.inside.code.now c.self.inside.state.running.pc (meaning x)) c.in-Some-Halt-default.field-0-0-is (subst (λ n. StandsAt c.self.inside.code.now n (meaning c.in-Some-Halt-default.field-0-0)) c.pc.ensures.pc c.in-Some-Halt-default.ensures.stands.0) in
-    next_at c.args.self.now i _ (subst (λ (b : Benched). b.state.running.procedure ≡ 0) c.self.view_is c.self.invariant.main) (subst (λ (b : Benched). StandsAt b.code b.state.running.pc i) c.self.view_is stands) tt c.halt.ensures.follows
+pub invariant_of-self : goal.invariant_of-self
+invariant_of-self g c =
+    sound_staying (benched (g.B.Blocking.subject c.self.inside.blocking.now) c.self.inside.program c.self.inside.state) _ c.self.invariant refl c.execute.ensures.stays c.execute.ensures.runs
 
-pub returns-in-Some-Grip-default-clause-next : goal.returns-in-Some-Grip-default-clause-next
-returns-in-Some-Grip-default-clause-next g c =
-    let i = Grip c.in-Some-Grip-default.set in
-    let stands : StandsAt c.self.inside.code.now c.self.inside.state.running.pc i =
-    subst (λ (x : Instr). StandsAt c.self.inside.code.now c.self.inside.state.running.pc (meaning x)) c.in-Some-Grip-default.field-0-0-is (subst (λ n. StandsAt c.self.inside.code.now n (meaning c.in-Some-Grip-default.field-0-0)) c.pc.ensures.pc c.in-Some-Grip-default.ensures.stands.0) in
-    next_at c.args.self.now i _ (subst (λ (b : Benched). b.state.running.procedure ≡ 0) c.self.view_is c.self.invariant.main) (subst (λ (b : Benched). StandsAt b.code b.state.running.pc i) c.self.view_is stands) tt c.make_grip.ensures.follows
-
-pub returns-in-Some-Step-default-clause-next : goal.returns-in-Some-Step-default-clause-next
-returns-in-Some-Step-default-clause-next g c =
-    let i = Step c.in-Some-Step-default.direction in
-    let stands : StandsAt c.self.inside.code.now c.self.inside.state.running.pc i =
-    subst (λ (x : Instr). StandsAt c.self.inside.code.now c.self.inside.state.running.pc (meaning x)) c.in-Some-Step-default.field-0-0-is (subst (λ n. StandsAt c.self.inside.code.now n (meaning c.in-Some-Step-default.field-0-0)) c.pc.ensures.pc c.in-Some-Step-default.ensures.stands.0) in
-    next_at c.args.self.now i _ (subst (λ (b : Benched). b.state.running.procedure ≡ 0) c.self.view_is c.self.invariant.main) (subst (λ (b : Benched). StandsAt b.code b.state.running.pc i) c.self.view_is stands) tt c.move_grip.ensures.follows
-
-pub returns-in-Some-Aside-default-clause-next : goal.returns-in-Some-Aside-default-clause-next
-returns-in-Some-Aside-default-clause-next g c =
-    let i = Aside c.in-Some-Aside-default.direction c.in-Some-Aside-default.tray in
-    let stands : StandsAt c.self.inside.code.now c.self.inside.state.running.pc i =
-    subst (λ (x : Instr). StandsAt c.self.inside.code.now c.self.inside.state.running.pc (meaning x)) c.in-Some-Aside-default.field-0-0-is (subst (λ n. StandsAt c.self.inside.code.now n (meaning c.in-Some-Aside-default.field-0-0)) c.pc.ensures.pc c.in-Some-Aside-default.ensures.stands.0) in
-    next_at c.args.self.now i _ (subst (λ (b : Benched). b.state.running.procedure ≡ 0) c.self.view_is c.self.invariant.main) (subst (λ (b : Benched). StandsAt b.code b.state.running.pc i) c.self.view_is stands) tt c.aside.ensures.follows
+pub returns-in_default-instruction : goal.returns-in_default-instruction
+returns-in_default-instruction g c =
+    let old = c.self.inside in
+    let setup = running (homes_of (g.B.Blocking.subject old.blocking.now)) old.program in
+    let i = meaning c.in-Some-fetch.instruction in
+    let here = c.in-Some.procedure.now in
+    let at = is_at setup old.state here i _ _ _ c.procedure.ensures c.pc.ensures.pc c.in-Some.ensures.found c.code.ensures.code c.in-Some-fetch.ensures.stands.0 in
+    let kept : KeepsUnlessGoes c.execute.result (benched (g.B.Blocking.subject old.blocking.now) old.program old.state) (benched (g.B.Blocking.subject old.blocking.now) old.program c.execute.new.self) =
+    kept_whole (g.B.Blocking.subject old.blocking.now) old.program old.state c.execute.new.self c.execute.result c.execute.ensures.kept in
+    rw (← c.self.view_is) (record {
+      next = inl (here, i, at, c.execute.ensures.next (homes_of (g.B.Blocking.subject old.blocking.now)));
+      kept = kept;
+      same = record { assembly = refl; program = refl };
+      goes_on = goes_on_plain _ _ c.execute.result c.self.invariant c.execute.ensures.stays.places c.execute.ensures.no_motion;
+    })

@@ -1,6 +1,6 @@
 use Rattle.std.proofs.Common.{◌≡◌, ◌≢◌, sym, subst, refl, ap, length, rules}
 use Rattle.burr_assembly.specs.Homes.{homes_of}
-use Rattle.burr_bench.specs.Bench.{bare_procedure, BenchState}
+use Rattle.burr_bench.specs.Bench.{BenchState}
 use Rattle.burr_bench.specs.Space.{NoOverlap}
 use Rattle.burr_bench.specs.StateViews.{moved_grip, StaysOnBench}
 use Rattle.burr_bench.specs.BenchViews.{Benched, benched, setup_of, GripPasses}
@@ -11,22 +11,22 @@ use Rattle.burr_bench.proofs.Stepping.Ways.{as_many_homes, no_overlap_of_passing
 use Rattle.burr_bench.proofs.checked.Checked.move_grip.Goals as goal
 
 pub returns-then-not-stays_on_bench-clause-follows : goal.returns-then-not-stays_on_bench-clause-follows
-returns-then-not-stays_on_bench-clause-follows g c =
+returns-then-not-stays_on_bench-clause-follows g c here runs =
     let now = c.args.self.now in
     let some : now.state.grip ≢ 0 = search rules in
     let off = subst (λ (b : Benched). ¬ StaysOnBench b.state c.args.direction) c.self.view_is (no_of c.if-not-stays_on_bench.ensures) in
-    step_off_bench (setup_of now) (bare_procedure now.code) now.state c.args.direction some off
+    step_off_bench (setup_of now) here now.state c.args.direction some off
 
 pub passes-requires : goal.passes-requires
 passes-requires g c = subst (λ (b : Benched). StaysOnBench b.state c.args.direction) c.self.view_is (yes_of c.if-not-stays_on_bench.ensures)
 
 pub returns-then-not-passes-clause-follows : goal.returns-then-not-passes-clause-follows
-returns-then-not-passes-clause-follows g c =
+returns-then-not-passes-clause-follows g c here runs =
     let now = c.args.self.now in
     let some : now.state.grip ≢ 0 = search rules in
     let stays = subst (λ (b : Benched). StaysOnBench b.state c.args.direction) c.self.view_is (yes_of c.if-not-stays_on_bench.ensures) in
     let as_many = as_many_homes now.assembly now.state.places (subst (λ (b : Benched). length b.state.places ≡ length b.assembly.pieces) c.self.view_is c.self.invariant.as_many) in
-    step_collides (setup_of now) (bare_procedure now.code) now.state c.args.direction some stays
+    step_collides (setup_of now) here now.state c.args.direction some stays
     (λ none. no_of c.if-not-passes.ensures (passing_of_no_overlap (homes_of now.assembly) now.state.places now.state.tray now.state.grip c.args.direction as_many none))
 
 pub move_grip-requires-clause-on_bench : goal.move_grip-requires-clause-on_bench
@@ -34,21 +34,21 @@ move_grip-requires-clause-on_bench g c = yes_of c.if-not-stays_on_bench.ensures
 
 pub invariant_of-self : goal.invariant_of-self
 invariant_of-self g c =
-    let old = benched (g.B.Blocking.subject c.self.inside.blocking.now) c.self.inside.code.now c.self.inside.state in
+    let old = benched (g.B.Blocking.subject c.self.inside.blocking.now) c.self.inside.program c.self.inside.state in
     let passes = subst (λ (b : Benched). GripPasses b (Unit c.args.direction)) (sym c.self.view_is) (yes_of c.if-not-passes.ensures) in
     let none = no_overlap_of_passing (homes_of old.assembly) old.state.places old.state.tray old.state.grip c.args.direction (c.self.invariant.apart old.state.tray) passes in
     sound_unit old _ c.args.direction c.self.invariant none refl refl
     (ap (λ (s : BenchState). s.places) c.move_grip.ensures) (ap (λ (s : BenchState). s.tray) c.move_grip.ensures) (ap (λ (s : BenchState). s.grip) c.move_grip.ensures) (ap (λ (s : BenchState). s.running.procedure) c.move_grip.ensures)
 
 pub returns-clause-follows : goal.returns-clause-follows
-returns-clause-follows g c =
+returns-clause-follows g c here runs =
     let now = c.args.self.now in
     let some : now.state.grip ≢ 0 = search rules in
     let stays = subst (λ (b : Benched). StaysOnBench b.state c.args.direction) c.self.view_is (yes_of c.if-not-stays_on_bench.ensures) in
     let apart = (subst (λ (b : Benched). NoOverlap (homes_of b.assembly) b.state.places) c.self.view_is c.self.invariant.apart) now.state.tray in
     let none = no_overlap_of_passing (homes_of now.assembly) now.state.places now.state.tray now.state.grip c.args.direction apart (yes_of c.if-not-passes.ensures) in
     let went = subst (λ (b : Benched). c.move_grip.new.self ≡ moved_grip c.args.direction c.args.size b.state) c.self.view_is c.move_grip.ensures in
-    step_goes (setup_of now) (bare_procedure now.code) now.state c.move_grip.new.self c.args.direction c.args.size _ some stays none c.requires.size c.motion-motion.ensures went
+    step_goes (setup_of now) here now.state c.move_grip.new.self c.args.direction c.args.size _ some stays none c.requires.size c.motion-motion.ensures went
 
 pub returns-clause-goes_on : goal.returns-clause-goes_on
 returns-clause-goes_on g c =

@@ -1,0 +1,9 @@
+//! The rules that a plan has to keep.
+#![tactic(auto)]
+
+mod rule;
+
+pub use rule::Rule;
+
+#[cfg(test)]
+mod tests;

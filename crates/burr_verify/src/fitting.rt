@@ -1,0 +1,29 @@
+//! Whether a plan is for an assembly.
+
+ghost use Rattle.std.specs.Prelude.{◌≡◌, ◌↔◌, IsOk, OnOk, IfErr, length};
+ghost use Rattle.burr_container.specs.Plans.{Plan};
+ghost use Rattle.burr_container.specs.Containers.{IsContainer};
+ghost use Rattle.burr_verify.specs.Fitting.{FitsAssembly};
+ghost use Rattle.burr_verify.specs.Refusals.{plain_refusal};
+
+use crate::refusal::Refusal;
+use burr_assembly::Assembly;
+use burr_container::Container;
+use burr_frames::Rule;
+
+/// Whether the container's plan is for the assembly, by its name and number of pieces. A container
+/// that was parsed has a plan.
+pub fn fits_assembly(container: &Container<'_>, assembly: &Assembly) -> Result<(), Refusal>
+    ensures fits { (p : Plan) → IsContainer container.now p
+        → (IsOk result ↔ FitsAssembly p assembly.now) }
+    // Whoever indexes pieces by what the container holds has no plan at hand.
+    ensures pieces { OnOk result (container.now.header.pieces ≡ length assembly.now.pieces) }
+    ensures refusal { IfErr result (λ refusal. refusal ≡ plain_refusal 0 0 Rule.V1) }
+{
+    let header = container.header();
+    if header.name == assembly.name().as_bytes() && header.pieces == assembly.piece_count() {
+        Ok(())
+    } else {
+        Err(Refusal::plain(0, 0, Rule::V1))
+    }
+}
