@@ -5,8 +5,6 @@ pub enum Job<'a> {
     Assemble { text: &'a str, out: &'a str },
     /// Prints the plan text of a container.
     List { plan: &'a str },
-    /// Runs a plan on an assembly, with the answers of standard input, without accepting it.
-    Try { assembly: &'a str, plan: &'a str },
     /// Tells what a word of a refusal or a trap means.
     Explain { word: &'a str },
 }

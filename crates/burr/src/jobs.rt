@@ -1,7 +1,7 @@
 //! What the program does for each of its commands, and the status to end with.
 
-ghost use Rattle.std.specs.Prelude.{OnErr, OnOk, IfOk};
-ghost use Rattle.burr.specs.Ends.{took, TakesSome, WritesLess, IsDone};
+ghost use Rattle.std.specs.Prelude.{◌≡◌, ◌≤◌, OnErr, OnOk, IfOk};
+ghost use Rattle.burr.specs.Ends.{took, TakesSome, WritesLess};
 
 use crate::explain::{explanation_of, put_explanation};
 use crate::fault::Fault;
@@ -16,7 +16,7 @@ use std::rt::Files;
 const DONE: u8 = 0;
 
 /// The status where an input is refused.
-pub const REFUSED: u8 = 1;
+const REFUSED: u8 = 1;
 
 /// Assembles a plan text and makes a file of its container; a refusal is put on the sink, and the
 /// file is then left alone.
@@ -26,7 +26,7 @@ pub fn assemble_file<'a, F: Files + AllocGlobal, W: Sink>(
     out: &'a str,
     sink: &mut W,
 ) -> Result<u8, Fault<'a>>
-    ensures status { IfOk result IsDone }
+    ensures status { IfOk result (λ status. status ≤ 1) }
     ensures ok { OnOk result (TakesSome
         (took (W.taken sink.old) (W.taken sink.new) (W.has_failed sink.new))) }
     ensures err { OnErr result (WritesLess
@@ -52,7 +52,7 @@ pub fn list_file<'a, F: Files + AllocGlobal, W: Sink>(
     plan: &'a str,
     sink: &mut W,
 ) -> Result<u8, Fault<'a>>
-    ensures status { IfOk result IsDone }
+    ensures status { IfOk result (λ status. status ≤ 1) }
     ensures ok { OnOk result (TakesSome
         (took (W.taken sink.old) (W.taken sink.new) (W.has_failed sink.new))) }
     ensures err { OnErr result (WritesLess
@@ -74,7 +74,7 @@ pub fn list_file<'a, F: Files + AllocGlobal, W: Sink>(
 
 /// Puts what a word of a refusal or a trap means.
 pub fn explain_word<'a, W: Sink>(word: &'a str, sink: &mut W) -> Result<u8, Fault<'a>>
-    ensures status { IfOk result IsDone }
+    ensures status { IfOk result (λ status. status ≤ 1) }
     ensures ok { OnOk result (TakesSome
         (took (W.taken sink.old) (W.taken sink.new) (W.has_failed sink.new))) }
     ensures err { OnErr result (WritesLess

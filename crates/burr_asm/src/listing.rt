@@ -31,7 +31,7 @@ pub fn list(alloc: Global, container: &Container<'_>) -> Result<Vec<u8>, AllocEr
 }
 
 fn add_procedure(text: &mut Vec<u8>, container: &Container<'_>, i: usize) -> Result<(), AllocError>
-    requires { i < length container.now.procedures }
+    requires { i < length container.now.procedures.items }
 {
     text.extend_from_slice(b"proc ")?;
     add_procedure_name(text, i)?;

@@ -14,7 +14,6 @@ Usage: burr < INPUT
 Commands:
   asm      Assembles a plan text into a container
   list     Prints the plan text of a container
-  try      Runs a plan on the bench, without accepting it
   explain  Tells what a refusal or a trap means
 
 Options:

@@ -18,7 +18,7 @@ struct Reach {
 
 /// Adds the labels and the code of procedure i.
 pub fn add_code(text: &mut Vec<u8>, container: &Container<'_>, i: usize) -> Result<(), AllocError>
-    requires { i < length container.now.procedures }
+    requires { i < length container.now.procedures.items }
 {
     let reach = Reach {
         labels: container.label_count(i),
@@ -38,7 +38,7 @@ fn add_label(
     i: usize,
     n: usize,
 ) -> Result<(), AllocError>
-    requires procedure { i < length container.now.procedures }
+    requires procedure { i < length container.now.procedures.items }
     requires label { HasLabel container.now i n }
 {
     text.extend_from_slice(b"label ")?;
@@ -49,7 +49,7 @@ fn add_label(
 
 /// The code from label n of procedure i to the next one or to the end.
 fn block<'a>(container: &Container<'a>, i: usize, n: usize) -> &'a [u8]
-    requires procedure { i < length container.now.procedures }
+    requires procedure { i < length container.now.procedures.items }
     requires label { HasLabel container.now i n }
 {
     let code = container.code(i);
