@@ -1,1 +1,5 @@
 pub mod Forms
+pub mod Points
+pub mod Results
+pub mod Rising
+pub mod Wides
