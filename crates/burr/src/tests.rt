@@ -11,8 +11,6 @@ mod commands;
 mod memory;
 mod runs;
 mod streams;
-mod traps;
-mod trying;
 mod words;
 
 /// Two cubes side by side, and code that takes them apart.

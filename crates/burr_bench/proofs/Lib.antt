@@ -2,7 +2,6 @@ pub mod Common
 pub mod Existence
 pub mod Offers
 pub mod Operands
-pub mod Programs
 pub mod Stepping
 pub mod Trays
 mod TwoCubes

@@ -1,6 +1,5 @@
 mod answering;
 mod readers;
-mod starting;
 mod stepping;
 mod way;
 mod ways;

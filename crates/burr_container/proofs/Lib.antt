@@ -19,5 +19,4 @@ pub mod PlacesRead
 mod WorkedRows
 pub mod SlotWalk
 pub mod ProceduresRead
-pub mod WithinFormat
 pub mod Written

@@ -1,7 +1,0 @@
-mod Multiples
-mod Narrowing
-mod Stepping
-mod Substituting
-mod Sums
-mod Values
-mod Widths

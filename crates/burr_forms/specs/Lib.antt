@@ -1,5 +1,1 @@
 pub mod Forms
-pub mod Points
-pub mod Results
-pub mod Rising
-pub mod Wides

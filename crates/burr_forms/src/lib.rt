@@ -1,12 +1,6 @@
-//! Linear forms over symbols, and the points of their boxes.
+//! Linear forms over symbols.
 #![tactic(auto)]
 
-mod advancing;
 mod form;
-mod guards;
-mod ranges;
-mod wide;
 
-pub use form::{Form, FormTooLarge};
-pub use guards::Guards;
-pub use ranges::Box8;
+pub use form::Form;

@@ -1,4 +1,3 @@
-pub mod AnswerTexts
 pub mod Inputs
 pub mod OneOutput
 pub mod SomeOutput

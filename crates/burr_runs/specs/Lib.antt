@@ -1,4 +1,3 @@
-pub mod Answers
 pub mod BenchText
 pub mod Input
 pub mod Output

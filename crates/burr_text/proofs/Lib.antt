@@ -1,3 +1,2 @@
 pub mod Common
-mod Integers
 mod NameBytes

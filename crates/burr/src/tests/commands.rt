@@ -41,10 +41,6 @@ fn assembles_and_lists(rt: HostRuntime) -> Result<(), Fail> {
     Ok(())
 }
 
-/// Two pieces in one place.
-const CROWD: &str =
-    "assembly duo\nshape cube\nlayer\n#\nend\npiece A cube +x+y+z 0 0 0\npiece B cube +x+y+z 0 0 0\n";
-
 /// Words behind the program's name, the status, and what is printed.
 const ENDS: &[(&[&str], u8, &str, &str)] = &[
     (
@@ -74,49 +70,6 @@ const ENDS: &[(&[&str], u8, &str, &str)] = &[
     (&["burr", "list", "text"], 1, "refused C2 at 0\n", ""),
     (&["burr", "list", "full"], 1, "refused C2 at 0\n", ""),
     (
-        &["burr", "try", "none", "long"],
-        3,
-        "",
-        "cannot read none\n",
-    ),
-    (
-        &["burr", "try", "text", "none"],
-        3,
-        "",
-        "cannot read none\n",
-    ),
-    (
-        &["burr", "try", "cubes", "long"],
-        3,
-        "",
-        "cannot read long\n",
-    ),
-    (
-        &["burr", "try", "text", "empty"],
-        1,
-        "refused A1 line 1\n",
-        "",
-    ),
-    (
-        &["burr", "try", "crowd", "empty"],
-        1,
-        "refused A8 line 7 A B\n",
-        "",
-    ),
-    (
-        &["burr", "try", "cubes", "empty"],
-        1,
-        "refused C1 at 0\n",
-        "",
-    ),
-    // The input is no list of answers, which is seen once the plan is found to be for the cubes.
-    (
-        &["burr", "try", "cubes", "plan"],
-        1,
-        "refused answers line 1\n",
-        "",
-    ),
-    (
         &["burr", "explain", "A9"],
         2,
         "",
@@ -136,9 +89,6 @@ fn ends_commands_by_what_they_met(rt: HostRuntime) -> Result<(), Fail> {
     fs::write(&rt, "text", DUO_PLAN)?;
     fs::write(&rt, "wrong", "plan duo 2 3\n")?;
     fs::write(&rt, "empty", "")?;
-    fs::write(&rt, "plan", &DUO_BYTES)?;
-    fs::write(&rt, "cubes", trying::CUBES)?;
-    fs::write(&rt, "crowd", CROWD)?;
     fs::write(&rt, "out", "as before")?;
     let mut bytes = vec![in alloc; b'x'; LIMIT]?;
     fs::write(&rt, "full", &bytes)?;

@@ -1,5 +1,4 @@
 //! Streams that fail at any call.
-use super::trying::{CUP, CUP_PLAN, SQUARE, SQUARE_CODE, SQUARE_FRONT, SQUARE_SHEET};
 use super::*;
 use std::fs;
 
@@ -32,62 +31,30 @@ fn tells_a_source_that_fails(rt: HostRuntime) -> Result<(), Fail> {
     Ok(())
 }
 
-/// Words, the input, the status, and what is printed.
-type Call = (&'static [&'static str], &'static str, u8, &'static str);
-
-const CALLS: &[Call] = &[
-    (&["burr"], DUO, 0, SHEET),
-    (&["burr", "--version"], "", 0, words::VERSION),
-    (&["burr", "--help"], "", 0, words::HELP),
-    (&["burr", "list", "duo.plan"], "", 0, commands::DUO_PLAN),
-];
-
-/// The same of runs of plans.
-const RUNS: &[Call] = &[
-    (
-        &["burr", "try", "square", "square.plan"],
-        "",
-        0,
-        SQUARE_SHEET,
-    ),
-    (
-        &["burr", "try", "cup", "cup.plan"],
-        "2\n",
-        0,
-        "1 t0 A +z 2 out\nlevels 1\napart in 14 steps\n",
-    ),
-    (
-        &["burr", "try", "cup", "cup.plan"],
-        "",
-        5,
-        "levels -\nwaiting 0 2 after 1 steps\n",
-    ),
-];
-
-/// Makes the call with a sink that has room for so many bytes, and asserts that it took a front of
-/// what is printed, and what is told.
+/// Calls the program with a sink that has room for so many bytes, and asserts that it took a front
+/// of the text, and what is told.
 fn assert_front<T: Abort + Files + AllocGlobal>(
     rt: &T,
     alloc: Global,
-    call: &Call,
+    words: &[String],
     room: usize,
     fails: bool,
-) -> Result<(), AllocError> {
-    let (words, input, whole_status, text) = *call;
+    text: &str,
+) {
     let taken = Vec::new(alloc);
     let mut writer = Narrow { taken, room, fails };
     let mut told = Vec::new(alloc);
     let got = run_words(
         rt,
-        &words_of(alloc, words)?,
-        &mut Reading::new(input.as_bytes()),
+        words,
+        &mut Reading::new(DUO.as_bytes()),
         &mut Writing::new(&mut writer),
         &mut Writing::new(&mut told),
     );
     let (status, complaint) = if room < text.len() {
         (3, "cannot write -\n")
     } else {
-        (whole_status, "")
+        (0, "")
     };
     assert_eq!(rt; got, status, "{words:?} {room}");
     assert_eq!(rt; told.as_slice(), complaint.as_bytes(), "{words:?} {room}");
@@ -96,44 +63,25 @@ fn assert_front<T: Abort + Files + AllocGlobal>(
         text.as_bytes().get(..room),
         "{words:?} {room}"
     );
-    Ok(())
-}
-
-/// Makes each call with each room that is too small, and with the room that it needs, of a sink that
-/// fails and of one that takes nothing more.
-fn assert_fronts<T: Abort + Files + AllocGlobal>(
-    rt: &T,
-    alloc: Global,
-    calls: &[Call],
-) -> Result<(), AllocError> {
-    for call in calls {
-        for room in 0..=call.3.len() {
-            assert_front(rt, alloc, call, room, true)?;
-            assert_front(rt, alloc, call, room, false)?;
-        }
-    }
-    Ok(())
 }
 
 #[test]
 fn tells_a_sink_that_fails(rt: HostRuntime) -> Result<(), Fail> {
-    fs::write(&rt, "duo.plan", &commands::DUO_BYTES)?;
-    assert_fronts(&rt, rt.alloc(), CALLS)?;
-    Ok(())
-}
-
-#[test]
-fn tells_a_sink_that_fails_in_a_run(rt: HostRuntime) -> Result<(), Fail> {
     let alloc = rt.alloc();
-    let square_plan = format!(in alloc; "{SQUARE_FRONT}{SQUARE_CODE}")?;
-    fs::write(&rt, "square", SQUARE)?;
-    fs::write(&rt, "square.text", &square_plan)?;
-    fs::write(&rt, "cup", CUP)?;
-    fs::write(&rt, "cup.text", CUP_PLAN)?;
-    for (text, plan) in [("square.text", "square.plan"), ("cup.text", "cup.plan")] {
-        assert_ends(&rt, alloc, &["burr", "asm", text, plan], "", 0, "", "")?;
+    fs::write(&rt, "plan", &commands::DUO_BYTES)?;
+    let cases = [
+        (["burr"].as_slice(), SHEET),
+        (&["burr", "--version"], words::VERSION),
+        (&["burr", "--help"], words::HELP),
+        (&["burr", "list", "plan"], commands::DUO_PLAN),
+    ];
+    for (list, text) in cases {
+        let words = words_of(alloc, list)?;
+        for room in 0..=text.len() {
+            assert_front(&rt, alloc, &words, room, true, text);
+            assert_front(&rt, alloc, &words, room, false, text);
+        }
     }
-    assert_fronts(&rt, alloc, RUNS)?;
     Ok(())
 }
 

@@ -1,17 +1,19 @@
--- A number that is read is written so again, and the text of an integer is read.
-use Rattle.std.proofs.Common.{◌≡◌, ℕ, zero, suc, ◌<◌, List, [], ◌∷◌, length, get_or, ℤ, pos, neg_ℤ, FitsSigned, Result, Ok, Err, Some, None, MatchResult, w32, refl, sym, ap, subst, ◌∙◌, arith, inl, inr}
+-- A number that is read is written so again, and the text of a coordinate is read.
+use Rattle.std.proofs.Common.{◌≡◌, ℕ, zero, suc, ◌^◌, ◌<◌, List, [], ◌∷◌, length, get_or, ℤ, pos, negsuc, neg_ℤ, FitsSigned, Result, Ok, Err, Some, None, MatchResult, w32, refl, sym, ap, subst, ◌∙◌, arith, inl, inr}
 use Rattle.std.specs.Fmt.{decimal, signed_decimal}
 use Rattle.std.specs.Int.{IsInRange}
 use Rattle.std.specs.Result.{result_ok}
 use Rattle.std.specs.Str.{IsUtf8}
 use Rattle.std.specs.Str.Parse.{digits_value, ParsesSigned}
 use Rattle.std.proofs.lemmas.Option.{none-some}
+use Rattle.std.proofs.lemmas.Int.{ints, fits_signed_from_abs}
 use Rattle.std.proofs.lemmas.Fmt.{decimal_digit, decimal-digits_value, parse-signed_decimal, IsAscii-signed}
 use Rattle.std.proofs.lemmas.Str.{IsUtf8-from_ascii}
 use Rattle.std.proofs.lemmas.Str.Parse.{IsNumeralModel, numerals_by_value, tells_by_index, parse_signed_digits, parse_signed_minus}
+use lib.Signed.{mag}
 use denote.Bor.{Bor}
-use Rattle.burr_text.specs.Numbers.{IsCount, IsNumber, IsInteger}
-use Rattle.burr_text.proofs.Common.Integers.{small}
+use Rattle.burr_assembly.specs.Text.{IsCoordinate}
+use Rattle.burr_text.specs.Numbers.{IsCount, IsNumber}
 
 -- each byte is a digit
 abbrev AreDigits : List ℕ → Type 0
@@ -21,9 +23,19 @@ AreDigits bytes = (i : ℕ) → i < length bytes → IsInRange 48 57 (get_or byt
 numerals : IsNumeralModel AreDigits (digits_value 10)
 numerals = numerals_by_value AreDigits tells_by_index
 
--- where bytes are no text, they are not the text of an integer
+-- a coordinate is small
+small : (z : ℤ) → IsCoordinate z → mag z < 2 ^ 63
+small (pos n) h = let high = h.high in omega (arith, ints)
+small (negsuc n) h = let low = h.low in omega (arith, ints)
+
+-- so small that it is an i32
+fits : (z : ℤ) → IsCoordinate z → FitsSigned w32 z
+fits (pos n) h = let high = h.high in fits_signed_from_abs w32 (pos n) (omega (arith, ints))
+fits (negsuc n) h = let low = h.low in fits_signed_from_abs w32 (negsuc n) (omega (arith, ints))
+
+-- where bytes are no text, they are not the text of a coordinate
 pub unless_text : {E : Type 0} (number : List ℕ) (r : Result (Bor (List ℕ)) E) (Q : E → Type 0) → None ≡ result_ok r → MatchResult r (λ s. (s.now ≡ number) × IsUtf8 number) (λ e. ¬ IsUtf8 number × Q e)
-    → (z : ℤ) → FitsSigned w32 z → ¬ (number ≡ signed_decimal z)
+    → (z : ℤ) → IsCoordinate z → ¬ (number ≡ signed_decimal z)
 unless_text number (Ok s) Q none h z p e = none-some s none
 unless_text number (Err f) Q none h z p e = h.0 (subst IsUtf8 (sym e) (IsUtf8-from_ascii (signed_decimal z) (IsAscii-signed z (small z p))))
 
@@ -35,11 +47,17 @@ of_text {F} number (Ok s) Q text read some h parses =
     subst (λ (b : List ℕ). ParsesSigned {E = F} w32 10 b read) (ap (λ (b : Bor (List ℕ)). b.now) same ∙ h.0) parses
 of_text number (Err f) Q text read some h parses = absurd (none-some text (sym some))
 
--- the text of an integer is read as that integer, so bytes that are not read are the text of none
-unless_read : {E : Type 0} (number : List ℕ) (r : Result ℤ E) → ParsesSigned w32 10 number r → None ≡ result_ok r → (z : ℤ) → FitsSigned w32 z → ¬ (number ≡ signed_decimal z)
-unless_read number r parses none z h e =
-    let read : result_ok r ≡ Some z = ap result_ok (parse-signed_decimal w32 z number r h (small z h) e parses) in
-    absurd (none-some z (none ∙ read))
+-- the text of a coordinate is read as that coordinate
+is_read : {E : Type 0} (number : List ℕ) (r : Result ℤ E) → ParsesSigned w32 10 number r → (z : ℤ) → IsCoordinate z → number ≡ signed_decimal z → result_ok r ≡ Some z
+is_read number r parses z h e = ap result_ok (parse-signed_decimal w32 z number r (fits z h) (small z h) e parses)
+
+-- so bytes that are not read are the text of none
+pub unless_read : {E : Type 0} (number : List ℕ) (r : Result ℤ E) → ParsesSigned w32 10 number r → None ≡ result_ok r → (z : ℤ) → IsCoordinate z → ¬ (number ≡ signed_decimal z)
+unless_read number r parses none z h e = let read = is_read number r parses z h e in absurd (none-some z (none ∙ read))
+
+-- and what is read is the coordinate
+pub same_value : {E : Type 0} (number : List ℕ) (r : Result ℤ E) (x : ℤ) → ParsesSigned w32 10 number r → Some x ≡ result_ok r → (z : ℤ) → IsCoordinate z → number ≡ signed_decimal z → x ≡ z
+same_value number r x parses some z h e = let read : Some x ≡ Some z = some ∙ is_read number r parses z h e in cc
 
 -- a count is of digits
 digits_of_count : (bytes : List ℕ) → IsCount bytes → AreDigits bytes
@@ -81,7 +99,7 @@ number_again E number x (inr (inl h)) parses = plain_again E number x (digits_of
 number_again E number x (inr (inr h)) parses =
     subst (λ (b : List ℕ). ParsesSigned {E = E} w32 10 b (Ok x) → b ≡ signed_decimal x) (sym h.1) (minus_again E h.0 x h.2) parses
 
--- what a number is read as is the integer that it is the text of
-pub read_value : {E : Type 0} (number : List ℕ) (r : Result ℤ E) → IsNumber number → ParsesSigned w32 10 number r → IsInteger number (result_ok r)
-read_value {E} number (Ok x) h parses = number_again E number x h parses
-read_value number (Err f) h parses = unless_read number (Err f) parses refl
+-- and so it is where `parse` found the value
+pub is_written : {E : Type 0} (number : List ℕ) (r : Result ℤ E) (x : ℤ) → IsNumber number → ParsesSigned w32 10 number r → Some x ≡ result_ok r → number ≡ signed_decimal x
+is_written {E} number (Ok y) x h parses some = let same : y ≡ x = cc in number_again E number y h parses ∙ ap signed_decimal same
+is_written {E} number (Err f) x h parses some = cc
