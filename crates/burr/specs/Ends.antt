@@ -71,9 +71,13 @@ IsRun streams complaints status =
 abbrev pub TakesSome : Taken → Type 0
 TakesSome t = (text : List ℕ) × Appends t.old t.new text
 
+-- done, refused, trapped or stopped; or the run waits
+abbrev pub IsDone : ℕ → Type 0
+IsDone status = (status ≤ 1) ⊎ (status ≡ 5)
+
 -- all that was to be written was written, and nothing told
 abbrev pub WritesAll : Taken → Taken → ℕ → Type 0
-WritesAll sink complaints status = TakesSome sink × TakesNothing complaints × (status ≤ 1)
+WritesAll sink complaints status = TakesSome sink × TakesNothing complaints × IsDone status
 
 -- nothing was written, or the sink failed
 abbrev pub WritesLess : Taken → Type 0

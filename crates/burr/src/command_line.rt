@@ -2,7 +2,7 @@
 
 use crate::job::Job;
 use clap::error::ErrorKind;
-use clap::{Arg, ArgMatches, Command, Error};
+use clap::{Arg, ArgAction, ArgMatches, Command, Error};
 use std::alloc::{AllocError, Global};
 
 /// A text that is the reply to words.
@@ -97,6 +97,14 @@ assembled to the same bytes again.
 
 Example: ./burr list /tmp/ring.bpln";
 
+/// An example of `try`.
+const TRY_EXAMPLE: &str = "\
+Answers to questions are read from standard input, a number on each line. Each
+move is checked on the bench; the sheet that is printed ends with how the run
+closed. Status 5: it waits for an answer.
+
+Example: echo 2 | ./burr try examples/cup.assembly /tmp/cup.bpln";
+
 /// An example of `explain`.
 const EXPLAIN_EXAMPLE: &str = "\
 WORD is A1 to A8, C1 to C6, P1 to P5, V1 to V28, S1 to S4, a trap by its number
@@ -138,8 +146,13 @@ fn job_of<'a>(matches: &ArgMatches<'a>) -> Option<Job<'a>> {
             text: words.get_str("TEXT")?,
             out: words.get_str("OUT")?,
         }),
+        "try" => Some(Job::Try {
+            assembly: words.get_str("ASSEMBLY")?,
+            plan: words.get_str("PLAN")?,
+        }),
         "list" => Some(Job::List {
             plan: words.get_str("PLAN")?,
+            places: words.get_flag("places"),
         }),
         _ => Some(Job::Explain {
             word: words.get_str("WORD")?,
@@ -157,7 +170,18 @@ fn command<'a>(alloc: Global) -> Result<Command<'a>, AllocError> {
     let list = Command::new(alloc, "list")
         .about("Prints the plan text of a container")
         .arg(word(alloc, "PLAN", "The container"))?
+        .arg(
+            Arg::new(alloc, "places")
+                .long("places")
+                .action(ArgAction::SetTrue)
+                .help("Tells before each line of code where it stands"),
+        )?
         .after_help(LIST_EXAMPLE);
+    let try_plan = Command::new(alloc, "try")
+        .about("Runs a plan on the bench, without accepting it")
+        .arg(word(alloc, "ASSEMBLY", "The assembly text"))?
+        .arg(word(alloc, "PLAN", "The container"))?
+        .after_help(TRY_EXAMPLE);
     let explain = Command::new(alloc, "explain")
         .about("Tells what a refusal or a trap means")
         .arg(word(alloc, "WORD", "The word behind `refused` or `trap`"))?
@@ -170,6 +194,7 @@ fn command<'a>(alloc: Global) -> Result<Command<'a>, AllocError> {
         .disable_help_subcommand(true)
         .subcommand(asm)?
         .subcommand(list)?
+        .subcommand(try_plan)?
         .subcommand(explain)
 }
 

@@ -1,13 +1,13 @@
 //! What the program does for each of its commands, and the status to end with.
 
-ghost use Rattle.std.specs.Prelude.{◌≡◌, ◌≤◌, OnErr, OnOk, IfOk};
-ghost use Rattle.burr.specs.Ends.{took, TakesSome, WritesLess};
+ghost use Rattle.std.specs.Prelude.{OnErr, OnOk, IfOk};
+ghost use Rattle.burr.specs.Ends.{took, TakesSome, WritesLess, IsDone};
 
 use crate::explain::{explanation_of, put_explanation};
 use crate::fault::Fault;
 use crate::files::{read_file, write_file};
 use crate::refusal::{put_container_refusal, put_text_refusal};
-use burr_asm::{AsmFault, assemble, list};
+use burr_asm::{AsmFault, assemble, list, list_with_places};
 use burr_container::Container;
 use burr_io::{Sink, put_all};
 use std::rt::Files;
@@ -16,7 +16,7 @@ use std::rt::Files;
 const DONE: u8 = 0;
 
 /// The status where an input is refused.
-const REFUSED: u8 = 1;
+pub const REFUSED: u8 = 1;
 
 /// Assembles a plan text and makes a file of its container; a refusal is put on the sink, and the
 /// file is then left alone.
@@ -26,7 +26,7 @@ pub fn assemble_file<'a, F: Files + AllocGlobal, W: Sink>(
     out: &'a str,
     sink: &mut W,
 ) -> Result<u8, Fault<'a>>
-    ensures status { IfOk result (λ status. status ≤ 1) }
+    ensures status { IfOk result IsDone }
     ensures ok { OnOk result (TakesSome
         (took (W.taken sink.old) (W.taken sink.new) (W.has_failed sink.new))) }
     ensures err { OnErr result (WritesLess
@@ -46,13 +46,15 @@ pub fn assemble_file<'a, F: Files + AllocGlobal, W: Sink>(
     }
 }
 
-/// Puts the plan text of a container that a file holds, or its refusal.
+/// Puts the plan text of a container that a file holds, with the places of code or without, or the
+/// container's refusal.
 pub fn list_file<'a, F: Files + AllocGlobal, W: Sink>(
     files: &F,
     plan: &'a str,
+    places: bool,
     sink: &mut W,
 ) -> Result<u8, Fault<'a>>
-    ensures status { IfOk result (λ status. status ≤ 1) }
+    ensures status { IfOk result IsDone }
     ensures ok { OnOk result (TakesSome
         (took (W.taken sink.old) (W.taken sink.new) (W.has_failed sink.new))) }
     ensures err { OnErr result (WritesLess
@@ -61,7 +63,11 @@ pub fn list_file<'a, F: Files + AllocGlobal, W: Sink>(
     let bytes = read_file(files, plan)?;
     match Container::parse(&bytes) {
         Ok(container) => {
-            let text = list(files.alloc(), &container)?;
+            let text = if places {
+                list_with_places(files.alloc(), &container)?
+            } else {
+                list(files.alloc(), &container)?
+            };
             put_all(&text, sink)?;
             Ok(DONE)
         }
@@ -74,7 +80,7 @@ pub fn list_file<'a, F: Files + AllocGlobal, W: Sink>(
 
 /// Puts what a word of a refusal or a trap means.
 pub fn explain_word<'a, W: Sink>(word: &'a str, sink: &mut W) -> Result<u8, Fault<'a>>
-    ensures status { IfOk result (λ status. status ≤ 1) }
+    ensures status { IfOk result IsDone }
     ensures ok { OnOk result (TakesSome
         (took (W.taken sink.old) (W.taken sink.new) (W.has_failed sink.new))) }
     ensures err { OnErr result (WritesLess

@@ -9,6 +9,7 @@ mod job;
 mod jobs;
 mod program;
 mod refusal;
+mod trying;
 
 use crate::program::{end_without_words, run_words};
 use burr_io::{Reading, Writing};

@@ -10,6 +10,7 @@ use crate::command_line::{Reply, Request, request_of};
 use crate::fault::put_fault;
 use crate::job::Job;
 use crate::jobs::{assemble_file, explain_word, list_file};
+use crate::trying::try_files;
 use burr_io::{Sink, Source, WriteFault, put_all};
 use burr_runs::{BenchFault, Outcome, bench_text};
 use std::alloc::{AllocError, Global};
@@ -21,9 +22,9 @@ const COMMAND_LINE: u8 = 2;
 
 /// Does all that the program does, and gives the status to end with. Without a word but the
 /// program's name it writes the output for the source to the sink, as `bench_text` does. With more
-/// words the source is not read: a command's job is done on the files that it names, help and the
-/// version are written to the sink, and a fault of the words is told to the complaints. These take
-/// one line for status 3 and one for status 4.
+/// words a command's job is done on the files that it names, of which `try` alone reads the source;
+/// help and the version are written to the sink, and a fault of the words is told to the complaints.
+/// These take one line for status 3 and one for status 4.
 ///
 /// The status is 0 where all pieces are apart, a command has done what it is for, or help or the
 /// version was written; 1 where the input was refused, or the run trapped or was stopped; 2 for a
@@ -44,7 +45,6 @@ pub fn run_words<F: Files + AllocGlobal, R: Source, W: Sink, E: Sink>(
         (took (W.taken sink.old) (W.taken sink.new) (W.has_failed sink.new))
         (took (E.taken complaints.old) (E.taken complaints.new) (E.has_failed complaints.new))
         result }
-    ensures unread { 1 < length words.now → source.new ≡ source.old }
 {
     let alloc = files.alloc();
     if words.len() <= 1 {
@@ -52,15 +52,16 @@ pub fn run_words<F: Files + AllocGlobal, R: Source, W: Sink, E: Sink>(
     }
     match request_of(alloc, words) {
         Ok(Request::Reply(reply)) => give(&reply, sink, complaints),
-        Ok(Request::Job(job)) => work(files, job, sink, complaints),
+        Ok(Request::Job(job)) => work(files, job, source, sink, complaints),
         Err(AllocError) => end_by(BenchFault::Memory, complaints),
     }
 }
 
 /// Does a command's job, and gives the status to end with.
-fn work<F: Files + AllocGlobal, W: Sink, E: Sink>(
+fn work<F: Files + AllocGlobal, R: Source, W: Sink, E: Sink>(
     files: &F,
     job: Job<'_>,
+    source: &mut R,
     sink: &mut W,
     complaints: &mut E,
 ) -> u8
@@ -71,7 +72,8 @@ fn work<F: Files + AllocGlobal, W: Sink, E: Sink>(
 {
     let done = match job {
         Job::Assemble { text, out } => assemble_file(files, text, out, sink),
-        Job::List { plan } => list_file(files, plan, sink),
+        Job::List { plan, places } => list_file(files, plan, places, sink),
+        Job::Try { assembly, plan } => try_files(files, assembly, plan, source, sink),
         Job::Explain { word } => explain_word(word, sink),
     };
     match done {
@@ -151,7 +153,7 @@ fn end_by<E: Sink>(fault: BenchFault, complaints: &mut E) -> u8
 }
 
 /// The status of an outcome.
-fn outcome_status(outcome: Outcome) -> u8
+pub fn outcome_status(outcome: Outcome) -> u8
     ensures { result ≡ status_of outcome }
 {
     match outcome {

@@ -1,11 +1,12 @@
 //! The lines that tell why a plan text or a container is refused.
 
+ghost use Rattle.std.specs.Prelude.{codes};
 ghost use Rattle.burr_io.specs.Sink.{Puts};
 ghost use Rattle.burr.specs.Refusals.{place_line, text_refusal, container_refusal};
 
 use burr_asm::AsmFault;
 use burr_container::ContainerFault;
-use burr_io::{Sink, WriteFault, put_words};
+use burr_io::{Sink, WriteFault, put_all, put_words};
 use itoa::Buffer;
 
 /// Puts the line of a plan text's fault, as `refused P2 line 9`. Want of memory is no fault of a text:
@@ -49,4 +50,18 @@ fn put_refused<W: Sink>(
     let mut buffer = Buffer::new();
     let place = buffer.format(place).as_bytes();
     put_words(&[b"refused", rule, unit, place], sink)
+}
+
+/// Puts the line of a plan for another assembly, which rule V1 refuses.
+pub fn put_misfit<W: Sink>(sink: &mut W) -> Result<(), WriteFault>
+    ensures { Puts W.Sink sink.old sink.new (codes "refused V1 proc 0 pc 0\n") result }
+{
+    put_all(b"refused V1 proc 0 pc 0\n", sink)
+}
+
+/// Puts the line of answers that can't be read, as `refused answers line 2`.
+pub fn put_answers_refusal<W: Sink>(line: usize, sink: &mut W) -> Result<(), WriteFault>
+    ensures { Puts W.Sink sink.old sink.new (place_line (codes "answers") (codes "line") line) result }
+{
+    put_refused(b"answers", b"line", line, sink)
 }

@@ -11,6 +11,8 @@ mod commands;
 mod memory;
 mod runs;
 mod streams;
+mod traps;
+mod trying;
 mod words;
 
 /// Two cubes side by side, and code that takes them apart.
@@ -27,6 +29,17 @@ fn words_of(alloc: Global, words: &[&str]) -> Result<Vec<String>, AllocError> {
         list.push(String::from_str(alloc, word)?)?;
     }
     Ok(list)
+}
+
+/// The status that a word of a table says.
+fn status_of(word: &str) -> u8 {
+    match word {
+        "0" => 0,
+        "1" => 1,
+        "2" => 2,
+        "3" => 3,
+        _ => 5,
+    }
 }
 
 /// A reader that gives a byte a call, and fails where so many calls have been made.

@@ -8,7 +8,7 @@ mod text;
 
 pub use assembling::assemble;
 pub use fault::AsmFault;
-pub use listing::list;
+pub use listing::{list, list_with_places};
 
 #[cfg(test)]
 mod tests;

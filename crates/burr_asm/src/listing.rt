@@ -18,6 +18,22 @@ use std::alloc::{AllocError, Global};
 /// The text of a container's plan: procedures are named `p0`, `p1` and so on, and the labels of
 /// each `L0`, `L1` and so on. `assemble` gives the container back from it.
 pub fn list(alloc: Global, container: &Container<'_>) -> Result<Vec<u8>, AllocError> {
+    list_lines(alloc, container, false)
+}
+
+/// The same with a comment before each line of code that tells where it stands, as
+/// `; proc 0 pc 12`, since a trap names a procedure and a position. `assemble` gives the container
+/// back from it too.
+pub fn list_with_places(alloc: Global, container: &Container<'_>) -> Result<Vec<u8>, AllocError> {
+    list_lines(alloc, container, true)
+}
+
+/// The text of a container's plan, with places or without.
+fn list_lines(
+    alloc: Global,
+    container: &Container<'_>,
+    places: bool,
+) -> Result<Vec<u8>, AllocError> {
     let header = container.header();
     let mut text = Vec::from_slice(alloc, b"plan ")?;
     text.extend_from_slice(header.name)?;
@@ -25,13 +41,18 @@ pub fn list(alloc: Global, container: &Container<'_>) -> Result<Vec<u8>, AllocEr
     add_word(&mut text, header.budget)?;
     end_line(&mut text)?;
     for i in 0..container.proc_count() {
-        add_procedure(&mut text, container, i)?;
+        add_procedure(&mut text, container, i, places)?;
     }
     Ok(text)
 }
 
-fn add_procedure(text: &mut Vec<u8>, container: &Container<'_>, i: usize) -> Result<(), AllocError>
-    requires { i < length container.now.procedures.items }
+fn add_procedure(
+    text: &mut Vec<u8>,
+    container: &Container<'_>,
+    i: usize,
+    places: bool,
+) -> Result<(), AllocError>
+    requires { i < length container.now.procedures }
 {
     text.extend_from_slice(b"proc ")?;
     add_procedure_name(text, i)?;
@@ -40,5 +61,5 @@ fn add_procedure(text: &mut Vec<u8>, container: &Container<'_>, i: usize) -> Res
     if let Some(exit) = container.exit(i) {
         add_exit(text, &exit)?;
     }
-    add_code(text, container, i)
+    add_code(text, container, i, places)
 }

@@ -1,16 +1,13 @@
 -- The bytes of a line hold no end of a line, and names are words.
-use Rattle.std.proofs.Common.{◌≡◌, ◌≢◌, ℕ, zero, suc, ◌+◌, ◌%◌, ◌^◌, ◌<◌, ◌≤◌, Bool, true, false, not, ◌&&◌, ◌==◌, IsTrue, nat_le, List, [], ◌∷◌, ◌++◌, codes, All, ℤ, pos, negsuc, refl, sym, subst, arith, inl, inr, lit<}
+use Rattle.std.proofs.Common.{◌≡◌, ◌≢◌, ℕ, ◌≤◌, Bool, true, false, not, ◌&&◌, ◌==◌, IsTrue, nat_le, List, [], ◌∷◌, ◌++◌, codes, All, refl, sym, subst, arith, inl, inr}
 use Rattle.std.specs.List.{list_all, join_with_byte}
-use Rattle.std.specs.Fmt.{decimal, signed_decimal}
-use Rattle.std.proofs.lemmas.Fmt.{decimal_by_steps, decimal_digit, first_decimal}
-use Rattle.std.proofs.lemmas.Int.{ints}
-use Rattle.std.proofs.lemmas.List.Elements.{All-nil, All-cons, All-append, All-push, All-weaker, All-contains}
+use Rattle.std.proofs.lemmas.List.Elements.{All-nil, All-cons, All-append, All-weaker, All-contains}
 use Rattle.std.proofs.lemmas.Bool.Decides.{nat_tests}
 use Rattle.burr_voxels.specs.declared.direction.Direction.{Direction}
 use Rattle.burr_voxels.specs.declared.direction.Direction.TheVariants.{PlusX, MinusX, PlusY, MinusY, PlusZ, MinusZ}
 use Rattle.burr_voxels.specs.Grid.{name_of}
 use Rattle.burr_text.specs.Names.{IsName, is_name_byte, is_letter}
-use Rattle.burr_assembly.specs.Text.{IsCoordinate, IsMark, Turn, turn_name}
+use Rattle.burr_assembly.specs.Text.{IsMark, Turn, turn_name}
 use Rattle.burr_assembly.specs.Lines.{LineForm, AssemblyLine, ShapeLine, LayerLine, RowLine, EndLine, PieceLine, form_text, IsLineForm}
 use Rattle.burr_text.specs.Words.{IsWord}
 use Rattle.burr_text.specs.Numbers.{IsCount, IsNumber}
@@ -86,29 +83,6 @@ clear_number : (bytes : List ℕ) → IsNumber bytes → All IsClear bytes
 clear_number bytes (inl e) = subst (All IsClear) (sym e) (clear_word (codes "0") refl)
 clear_number bytes (inr (inl count)) = count_clear bytes count
 clear_number bytes (inr (inr (rest, e, count))) = subst (All IsClear) (sym e) (All-cons IsClear 45 rest minus_clear (count_clear rest count))
-
--- what `{}` writes of a number are digits
-decimal_digits : (n : ℕ) → n < 2 ^ 64 → All IsDigit (decimal n)
-decimal_digits = decimal_by_steps (λ n ds. All IsDigit ds) (λ n small. All-cons IsDigit (48 + n) [] (omega arith, omega arith) (All-nil IsDigit))
-    (λ n ds large is. All-push IsDigit ds (48 + n % 10) is (omega arith, omega arith))
-
--- a number above 0 is written as a count
-count_of_decimal : (n : ℕ) → 0 < n → n < 2 ^ 64 → IsCount (decimal n)
-count_of_decimal n some small = record { first = first_decimal n some small; digits = decimal_digits n small }
-
--- a coordinate from 0 on has few digits
-small_pos : (n : ℕ) → IsCoordinate (pos n) → n < 2 ^ 64
-small_pos n is = let high = is.high in omega (arith, ints)
-
--- a coordinate below 0 has few digits
-small_negsuc : (n : ℕ) → IsCoordinate (negsuc n) → suc n < 2 ^ 64
-small_negsuc n is = let low = is.low in omega (arith, ints)
-
--- the text of a coordinate is a number
-pub number_of_coordinate : (z : ℤ) → IsCoordinate z → IsNumber (signed_decimal z)
-number_of_coordinate (pos zero) is = inl (decimal_digit 0 (lit< tt))
-number_of_coordinate (pos (suc n)) is = inr (inl (count_of_decimal (suc n) (omega arith) (small_pos (suc n) is)))
-number_of_coordinate (negsuc n) is = inr (inr (decimal (suc n), refl, count_of_decimal (suc n) (omega arith) (small_negsuc n is)))
 
 -- words with blanks between them hold no end of a line
 clear_joined : (word : List ℕ) (words : List (List ℕ)) → All IsClear word → All IsClear (join_with_byte 32 words) → All IsClear (join_with_byte 32 (word ∷ words))

@@ -6,7 +6,6 @@ pub mod Boxes
 pub mod Clear
 pub mod Common
 pub mod Conditions
-pub mod Coordinates
 pub mod Drawings
 pub mod HomeLemmas
 pub mod LineByLine

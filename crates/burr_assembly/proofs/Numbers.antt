@@ -1,15 +1,14 @@
 -- The words of numbers, and the positions that they spell.
-use Rattle.std.proofs.Common.{◌≡◌, ℕ, suc, ◌^◌, ◌<◌, ◌≤◌, List, [], ◌∷◌, All, ℤ, pos, negsuc, sym, subst, ◌∙◌, arith, inl, inr}
+use Rattle.std.proofs.Common.{◌≡◌, ℕ, suc, ◌≤◌, List, [], ◌∷◌, All, ℤ, pos, negsuc, FitsSigned, w32, sym, subst, arith, inl, inr}
 use Rattle.std.specs.Fmt.{signed_decimal}
-use Rattle.std.proofs.lemmas.Int.{ints}
-use Rattle.std.proofs.lemmas.Fmt.{signed_decimal_injective}
-use lib.Signed.{mag}
+use Rattle.std.proofs.lemmas.Int.{ints, fits_signed_from_abs}
 use Rattle.burr_voxels.specs.declared.cell.Cell.{Cell}
 use Rattle.burr_assembly.specs.Text.{IsCoordinate}
 use Rattle.burr_assembly.specs.Lines.{PieceWords}
 use Rattle.burr_text.specs.Numbers.{IsNumber}
 use Rattle.burr_assembly.specs.Faults.{IsPositionOf}
 use Rattle.burr_text.proofs.Common.Cuts.{Lacks}
+use Rattle.burr_text.proofs.Common.Integers.{number_of_integer, same_integer}
 
 -- digits are no blanks
 digits_lack : (bytes : List ℕ) → All (λ b. (48 ≤ b) × (b ≤ 57)) bytes → Lacks 32 bytes
@@ -22,14 +21,18 @@ number_lacks bytes (inl e) = subst (Lacks 32) (sym e) (λ h. omega arith, tt)
 number_lacks bytes (inr (inl h)) = digits_lack bytes h.digits
 number_lacks bytes (inr (inr h)) = subst (Lacks 32) (sym h.1) (λ e. omega arith, digits_lack h.0 h.2.digits)
 
--- a coordinate is small
-small : (z : ℤ) → IsCoordinate z → mag z < 2 ^ 63
-small (pos n) h = let high = h.high in omega (arith, ints)
-small (negsuc n) h = let low = h.low in omega (arith, ints)
+-- a coordinate is an integer of 32 bits
+pub fits : (z : ℤ) → IsCoordinate z → FitsSigned w32 z
+fits (pos n) h = let high = h.high in fits_signed_from_abs w32 (pos n) (omega (arith, ints))
+fits (negsuc n) h = let low = h.low in fits_signed_from_abs w32 (negsuc n) (omega (arith, ints))
 
--- coordinates of one spelling are one
+-- the text of a coordinate is a number
+pub number_of_coordinate : (z : ℤ) → IsCoordinate z → IsNumber (signed_decimal z)
+number_of_coordinate z h = number_of_integer z (fits z h)
+
+-- coordinates of one text are one
 same_coordinate : (bytes : List ℕ) (y z : ℤ) → IsCoordinate y → IsCoordinate z → bytes ≡ signed_decimal y → bytes ≡ signed_decimal z → y ≡ z
-same_coordinate bytes y z h k p q = signed_decimal_injective y z (small y h) (small z k) (sym p ∙ q)
+same_coordinate bytes y z h k = same_integer bytes y z (fits y h) (fits z k)
 
 -- the positions that the numbers of a line spell are one
 pub one_position : (w : PieceWords) (c d : Cell) → IsPositionOf w c → IsPositionOf w d → c ≡ d

@@ -7,7 +7,8 @@ use Rattle.burr_text.specs.Names.{IsName}
 use Rattle.burr_assembly.specs.Text.{Drawing, Piece, turn_name, piece_text, IsPiece, IsShapeName, IsPieceName, Shares}
 use Rattle.burr_assembly.specs.Lines.{PieceWords, PieceLine}
 use Rattle.burr_assembly.specs.Faults.{Beginning, Shapes, Pieces, FormGives, PieceRule, IsFirstSharing}
-use Rattle.burr_assembly.proofs.Clear.{word_of_name, word_of_turn, number_of_coordinate}
+use Rattle.burr_assembly.proofs.Clear.{word_of_name, word_of_turn}
+use Rattle.burr_assembly.proofs.Numbers.{number_of_coordinate}
 use Rattle.burr_assembly.proofs.Stretches.{Goes, goes_nowhere, goes_further, goes_line, goes_to, pair_before}
 
 -- the words of a piece's line

@@ -2,6 +2,7 @@ pub mod Common
 pub mod Existence
 pub mod Offers
 pub mod Operands
+pub mod Programs
 pub mod Stepping
 pub mod Trays
 mod TwoCubes

@@ -12,7 +12,7 @@ use Rattle.burr_code.specs.PieceSets.{IsInSet}
 use Rattle.burr_code.specs.Places.{Placement, Apart, On, LiesIn, AllLieIn, AllApart, IsPartOfTray, IsEmptyTray}
 use Rattle.burr_code.proofs.Common.PieceSets.{no_bit_above}
 use Rattle.burr_bench.specs.Space.{NoOverlapIn, AllOnBench, IsFreeGroup}
-use Rattle.burr_bench.proofs.Existence.Conditions.{same_tray, same_position, apart-on}
+use Rattle.burr_frames.proofs.Common.Conditions.{same_tray, same_position, apart-on}
 
 -- A at the origin, and B beside it along x
 abbrev pub homes : List (List Cell)

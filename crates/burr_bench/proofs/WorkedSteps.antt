@@ -18,7 +18,7 @@ use Rattle.burr_bench.specs.Space.{motion_of}
 use Rattle.burr_bench.specs.Questions.{Fits, Takes}
 use Rattle.burr_bench.specs.Step.{Executes, NextIs}
 use Rattle.burr_bench.specs.Parts.{parts}
-use Rattle.burr_bench.proofs.Existence.Conditions.{apart-on}
+use Rattle.burr_frames.proofs.Common.Conditions.{apart-on}
 use Rattle.burr_bench.proofs.TwoCubes.{homes, both_here, both_apart, a_along_x, one_some, a_lies, a_is_gone, b_stays, none_stays, tray_is_free, both_are_apart, group_is_free, group_is_blocked, a_is_on_bench, a_meets_b, a_misses_b}
 
 -- A procedure that main called: its one parameter is slot 0, and its labels are at 3 and 8

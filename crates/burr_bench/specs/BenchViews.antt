@@ -2,7 +2,7 @@
 use Rattle.std.specs.Prelude.{◌≡◌, ◌<◌, ◌≤◌, ◌+◌, ℕ, ℤ, Bool, true, false, if◌then◌else◌, length, Option, Some, None, Result, Ok, Err}
 use Rattle.burr_code.specs.Places.{AllLieIn}
 use Rattle.burr_code.specs.Instruction.{Instruction}
-use Rattle.burr_assembly.specs.Text.{Assembly}
+use Rattle.burr_assembly.specs.Text.{Assembly, IsAssembly}
 use Rattle.burr_assembly.specs.Homes.{homes_of}
 use Rattle.burr_bench.specs.declared.trap.Trap.{Trap}
 use Rattle.burr_bench.specs.declared.motion.Motion.{Motion}
@@ -10,7 +10,7 @@ use Rattle.burr_bench.specs.declared.checked.way.Way.{Way}
 use Rattle.burr_bench.specs.declared.checked.way.Way.TheVariants as ways
 use Rattle.burr_bench.specs.declared.progress.Progress.{Progress}
 use Rattle.burr_bench.specs.declared.progress.Progress.TheVariants as progress
-use Rattle.burr_bench.specs.Bench.{running, BenchProcedure, BenchState, Program, Setup}
+use Rattle.burr_bench.specs.Bench.{running, start, BenchProcedure, BenchState, Program, Setup}
 use Rattle.burr_bench.specs.declared.effect.Effect.{Effect}
 use Rattle.burr_bench.specs.Effects.{next_of}
 use Rattle.burr_bench.specs.Space.{NoOverlap}
@@ -39,10 +39,17 @@ pub record IsSound (b : Benched) : Type 0 where
   pub few : length b.state.places ≤ 32
   -- the grip lies in the current tray
   pub here : AllLieIn b.state.places b.state.tray b.state.grip
+  -- the assembly is one
+  pub whole : IsAssembly b.assembly
   -- there is a procedure of the running one's number
   pub runs : b.state.running.procedure < length b.program.procedures
   -- no two pieces of a tray overlap
   pub apart : NoOverlap (homes_of b.assembly) b.state.places
+
+-- a bench that has made no step: it stands at the start of what it runs, and all pieces are one part
+pub record IsAtStart (b : Benched) : Type 0 where
+  pub state : b.state ≡ start (setup_of b)
+  pub parts : parts b.state.places ≡ 1
 
 -- the pieces of the current tray are on the bench where the grip is asked of
 abbrev pub SetsOut : Benched → Way → Type 0

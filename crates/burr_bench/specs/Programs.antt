@@ -1,6 +1,7 @@
 -- What a bench runs, as the code keeps it.
-use Rattle.std.specs.Prelude.{◌≡◌, ◌<◌, ◌≤◌, ℕ, List, length, Some, slice_get}
+use Rattle.std.specs.Prelude.{◌≡◌, ◌<◌, ◌≤◌, ℕ, List, length, map, Some, slice_get}
 use Rattle.burr_code.specs.declared.limits.TheConstants.{MOST_CODE}
+use Rattle.burr_container.specs.Plans.{Plan, PlanProcedure, Frame}
 use Rattle.burr_bench.specs.Bench.{BenchProcedure, Program}
 
 -- a procedure without results, with these parts
@@ -15,6 +16,18 @@ pub record IsRunnable (p : BenchProcedure) : Type 0 where
 
 abbrev pub program_of : List BenchProcedure → ℕ → Program
 program_of procedures budget = record { procedures = procedures; budget = budget }
+
+-- the positions of labels
+abbrev pub positions_of : List (ℕ × Frame) → List ℕ
+positions_of labels = map (λ label. label.0) labels
+
+-- a procedure of a plan, as the bench runs it
+abbrev pub bench_procedure : PlanProcedure → BenchProcedure
+bench_procedure q = procedure_of q.parameters (positions_of q.labels) q.code
+
+-- what the bench runs of a plan
+abbrev pub plan_program : Plan → Program
+plan_program p = program_of (map bench_procedure p.procedures) p.budget
 
 -- the first of these labels are there, so many
 abbrev pub HasFirstLabels : ℕ → List ℕ → List ℕ → Type 0

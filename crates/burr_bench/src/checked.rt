@@ -1,5 +1,6 @@
 mod answering;
 mod readers;
+mod starting;
 mod stepping;
 mod way;
 mod ways;

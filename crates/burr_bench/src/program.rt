@@ -1,5 +1,7 @@
 //! What a bench runs.
 
+mod reading;
+
 ghost use Rattle.std.specs.Prelude.{◌≡◌, ◌<◌, ◌≤◌, ◌↔◌, ◌∷◌, [], length, slice_get, IsTrue, MatchOption, None, Some};
 ghost use Rattle.burr_code.specs.declared.limits.TheConstants.{MOST_CODE, MOST_BUDGET};
 ghost use Rattle.burr_code.specs.Labels.{callee_of};
@@ -100,12 +102,16 @@ pub struct Program<'a> {
 }
 
 impl<'a> Model for Program<'a> {
+    ghost use Rattle.std.specs.Prelude.{◌≤◌};
+    ghost use Rattle.burr_code.specs.declared.limits.TheConstants.{MOST_BUDGET};
     ghost use Rattle.burr_bench.specs.Bench.{Program as ProgramOf};
     ghost use Rattle.burr_bench.specs.Programs.{program_of};
 
     ghost Value = { ProgramOf };
 
     ghost view = { λ p. program_of p.procedures.items p.budget };
+
+    ghost invariant = { λ p. p.budget ≤ MOST_BUDGET };
 }
 
 impl<'a> Program<'a> {
@@ -124,7 +130,8 @@ impl<'a> Program<'a> {
 
     /// The most steps that a run makes.
     pub fn budget(&self) -> u32
-        ensures { result ≡ self.now.budget }
+        ensures budget { result ≡ self.now.budget }
+        ensures few { result ≤ MOST_BUDGET }
     {
         self.budget
     }

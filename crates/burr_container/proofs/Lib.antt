@@ -19,4 +19,5 @@ pub mod PlacesRead
 mod WorkedRows
 pub mod SlotWalk
 pub mod ProceduresRead
+pub mod WithinFormat
 pub mod Written

@@ -2,12 +2,20 @@
 use Rattle.std.specs.Prelude.{◌≡◌, ◌<◌, ℕ, List, length, Option, Some, IfSome, Result, MatchResult, slice_get, IsTrue}
 use Rattle.burr_container.specs.declared.fault.ContainerFault.{ContainerFault}
 use Rattle.burr_container.specs.declared.header.Header.{Header}
-use Rattle.burr_container.specs.declared.container.Container.{Container}
+use Rattle.burr_container.specs.declared.procedure_ref.ProcedureRef.{ProcedureRef}
 use Rattle.burr_container.specs.Plans.{Plan, PlanProcedure, Frame}
 use Rattle.burr_container.specs.Spelling.{plan_bytes}
 use Rattle.burr_container.specs.Fitting.{is_fitting}
 use Rattle.burr_container.specs.Faults.{ContainerFails}
 use Rattle.burr_container.specs.InPlace.{AreFor, IsProcedure}
+
+-- a container, read in place
+pub record KeptContainer : Type 0 where
+  pub header : Header
+  pub procedures : List ProcedureRef
+
+abbrev pub kept_container : Header → List ProcedureRef → KeptContainer
+kept_container header procedures = record { header = header; procedures = procedures }
 
 pub record IsHeader (h : Header) (p : Plan) : Type 0 where
   pub version : h.version ≡ 1
@@ -16,29 +24,33 @@ pub record IsHeader (h : Header) (p : Plan) : Type 0 where
   pub name : h.name.now ≡ p.name
 
 -- the container is that of the plan
-pub record IsContainer (kept : Container) (p : Plan) : Type 0 where
+pub record IsContainer (kept : KeptContainer) (p : Plan) : Type 0 where
   pub header : IsHeader kept.header p
-  pub procedures : AreFor (IsProcedure p.pieces) kept.procedures.items p.procedures
+  pub procedures : AreFor (IsProcedure p.pieces) kept.procedures p.procedures
+
+-- it is the container of a plan within the format
+abbrev pub HasPlan : KeptContainer → Type 0
+HasPlan kept = (p : Plan) × IsTrue (is_fitting p) × IsContainer kept p
 
 -- the bytes are those of a plan within the format, and the container is that plan's; or how they fail
-abbrev pub ReadsContainer : List ℕ → Result Container ContainerFault → Type 0
+abbrev pub ReadsContainer : List ℕ → Result KeptContainer ContainerFault → Type 0
 ReadsContainer bytes result =
     MatchResult result
     (λ kept. (p : Plan) × IsTrue (is_fitting p) × (bytes ≡ plan_bytes p) × IsContainer kept p)
     (λ fault. ContainerFails 0 bytes fault)
 
 -- procedure i of the container has a label n
-abbrev pub HasLabel : Container → ℕ → ℕ → Type 0
+abbrev pub HasLabel : KeptContainer → ℕ → ℕ → Type 0
 HasLabel kept i n =
-    IfSome (slice_get kept.procedures.items i) (λ p. n < length p.labels.starts.items)
+    IfSome (slice_get kept.procedures i) (λ p. n < length p.labels.starts.items)
 
 -- it holds of procedure i of the container's plan
-abbrev pub OfProcedure : Container → ℕ → (Plan → PlanProcedure → Type 0) → Type 0
+abbrev pub OfProcedure : KeptContainer → ℕ → (Plan → PlanProcedure → Type 0) → Type 0
 OfProcedure kept i Holds =
     (p : Plan) (q : PlanProcedure) → IsContainer kept p → slice_get p.procedures i ≡ Some q
     → Holds p q
 
 -- it holds of label n of procedure i of the container's plan
-abbrev pub OfLabel : Container → ℕ → ℕ → (ℕ × Frame → Type 0) → Type 0
+abbrev pub OfLabel : KeptContainer → ℕ → ℕ → (ℕ × Frame → Type 0) → Type 0
 OfLabel kept i n Holds =
     OfProcedure kept i (λ p q. (l : ℕ × Frame) → slice_get q.labels n ≡ Some l → Holds l)

@@ -4,11 +4,22 @@ use crate::header::Header;
 use crate::procedure_ref::ProcedureRef;
 use arrayvec::ArrayVec;
 use burr_code::limits::MOST_PROCEDURES;
+use std::marker::Model;
 
-/// A plan in its binary format, read in place: version 1.
+/// A plan in its binary format, read in place: version 1. There is a plan that it is the container of.
 #[derive(Drop)]
 pub struct Container<'a> {
     pub(crate) header: Header<'a>,
     pub(crate) procedures: ArrayVec<ProcedureRef<'a>, MOST_PROCEDURES>,
     ghost few_pieces: { header.pieces ≤ 32 },
+}
+
+impl<'a> Model for Container<'a> {
+    ghost use Rattle.burr_container.specs.Containers.{KeptContainer, kept_container, HasPlan};
+
+    ghost Value = { KeptContainer };
+
+    ghost view = { λ c. kept_container c.header c.procedures.items };
+
+    ghost invariant = { λ c. HasPlan (kept_container c.header c.procedures.items) };
 }

@@ -1,6 +1,7 @@
 //! Reading a container.
 
 ghost use Rattle.std.specs.Prelude.{◌≡◌, ◌≤◌, ◌<◌, length, slice_get, IfSome};
+ghost use Rattle.burr_code.specs.declared.limits.TheConstants.{MOST_BUDGET, MOST_CODE, MOST_PROCEDURES};
 ghost use Rattle.burr_container.specs.Plans.{Plan};
 ghost use Rattle.burr_container.specs.Faults.{procedures as procedures_part};
 ghost use Rattle.burr_container.specs.Reading.{ReadsAs};
@@ -35,15 +36,18 @@ impl<'a> Container<'a> {
 
     /// Version, budget, number of pieces and name.
     pub fn header(&self) -> Header<'a>
-        ensures pieces { result.pieces ≡ self.now.header.pieces }
+        ensures header { result ≡ self.now.header }
         ensures plan { (p : Plan) → IsContainer self.now p → IsHeader result p }
+        ensures budget { result.budget ≤ MOST_BUDGET }
     {
         self.header
     }
 
     /// How many procedures there are, 1 to 16; main is procedure 0.
     pub fn proc_count(&self) -> usize
-        ensures count { result ≡ length self.now.procedures.items }
+        ensures count { result ≡ length self.now.procedures }
+        ensures some { 1 ≤ result }
+        ensures few { result ≤ MOST_PROCEDURES }
         ensures plan { (p : Plan) → IsContainer self.now p → result ≡ length p.procedures }
     {
         self.procedures.len()
@@ -51,7 +55,7 @@ impl<'a> Container<'a> {
 
     /// How many parameters procedure i has, 0 to 4.
     pub fn params(&self, i: usize) -> u8
-        requires { i < length self.now.procedures.items }
+        requires { i < length self.now.procedures }
         ensures { OfProcedure self.now i (λ p q. result ≡ q.parameters) }
     {
         self.procedures[i].parameters
@@ -59,8 +63,8 @@ impl<'a> Container<'a> {
 
     /// How many labels procedure i has, 1 to 256.
     pub fn label_count(&self, i: usize) -> usize
-        requires { i < length self.now.procedures.items }
-        ensures count { IfSome (slice_get self.now.procedures.items i)
+        requires { i < length self.now.procedures }
+        ensures count { IfSome (slice_get self.now.procedures i)
             (λ p. result ≡ length p.labels.starts.items) }
         ensures few { result ≤ 256 }
         ensures plan { OfProcedure self.now i (λ p q. result ≡ length q.labels) }
@@ -70,7 +74,7 @@ impl<'a> Container<'a> {
 
     /// The position in its code of label n of procedure i.
     pub fn label(&self, i: usize, n: usize) -> u16
-        requires procedure { i < length self.now.procedures.items }
+        requires procedure { i < length self.now.procedures }
         requires label { HasLabel self.now i n }
         ensures { OfLabel self.now i n (λ l. result ≡ l.0) }
     {
@@ -80,7 +84,7 @@ impl<'a> Container<'a> {
 
     /// The frame of label n of procedure i.
     pub fn frame(&self, i: usize, n: usize) -> FrameRef<'a>
-        requires procedure { i < length self.now.procedures.items }
+        requires procedure { i < length self.now.procedures }
         requires label { HasLabel self.now i n }
         ensures places { result.places.count ≡ self.now.header.pieces }
         ensures plan { OfLabel self.now i n (λ l. frame_of result ≡ l.1) }
@@ -91,7 +95,7 @@ impl<'a> Container<'a> {
 
     /// The exit frame of procedure i; None for main.
     pub fn exit(&self, i: usize) -> Option<ExitRef<'a>>
-        requires { i < length self.now.procedures.items }
+        requires { i < length self.now.procedures }
         ensures { OfProcedure self.now i (λ p q. IsExit p.pieces q.parameters result q.exit) }
     {
         self.procedures[i].exit
@@ -99,8 +103,9 @@ impl<'a> Container<'a> {
 
     /// The code of procedure i, 1 to 4,096 bytes.
     pub fn code(&self, i: usize) -> &'a [u8]
-        requires { i < length self.now.procedures.items }
-        ensures { OfProcedure self.now i (λ p q. result.now ≡ q.code) }
+        requires { i < length self.now.procedures }
+        ensures short { length result.now ≤ MOST_CODE }
+        ensures plan { OfProcedure self.now i (λ p q. result.now ≡ q.code) }
     {
         self.procedures[i].code
     }

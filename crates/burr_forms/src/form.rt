@@ -1,8 +1,17 @@
+ghost use Rattle.std.specs.Prelude.{◌≡◌, ◌≤◌, ◌↔◌, IsTrue, length};
+ghost use Rattle.burr_forms.specs.Forms.{value, plus_form, minus_form, substituted};
+ghost use Rattle.burr_forms.specs.Forms.{IsSmall, IsSmallForm, AllSmallForms, AllNear};
+ghost use Rattle.burr_forms.specs.Results.{IsFormOf};
+
+use crate::wide::Wide;
 use std::marker::Model;
+
+/// A number of a form is at most this, either way.
+const MOST: i64 = 1 << 40;
 
 /// A linear form over at most eight symbols. Its value is the constant plus each coefficient times
 /// the value of its symbol; the coefficient of a symbol that isn't there is 0.
-#[derive(Clone, Copy, Debug, PartialEq, Eq)]
+#[derive(Clone, Copy, Debug, Default, PartialEq, Eq)]
 pub struct Form {
     pub constant: i64,
     pub coefs: [i64; 8],
@@ -16,4 +25,84 @@ impl Model for Form {
     ghost view = { λ f. record { constant = f.constant; coefs = f.coefs } };
 
     ghost inverse = { λ f. record { constant = f.constant; coefs = f.coefs } };
+}
+
+/// A number of a form would lie outside ±2^40.
+#[derive(Clone, Copy, Debug, PartialEq, Eq)]
+pub struct FormTooLarge;
+
+impl Form {
+    /// Its value where the symbols have these values, each within ±32,767. Its own numbers lie within
+    /// ±2^40; both are the caller's condition.
+    pub fn eval(&self, point: &[i32; 8]) -> i64
+        requires small { IsSmallForm self.now }
+        requires near { AllNear point.now }
+        ensures { result ≡ value point.now self.now }
+    {
+        self.value_at(point)
+    }
+
+    /// Its value where the first symbols, eight at most, have these values, each within ±32,767, and
+    /// the others count nothing. Its own numbers lie within ±2^40; all is the caller's condition.
+    pub fn value_at(&self, point: &[i32]) -> i64
+        requires small { IsSmallForm self.now }
+        requires near { AllNear point.now }
+        requires few { length point.now ≤ 8 }
+        ensures { result ≡ value point.now self.now }
+    {
+        let mut sum = self.constant;
+        for symbol in 0..point.len() {
+            sum += self.coefs[symbol] * i64::from(point[symbol]);
+        }
+        sum
+    }
+
+    /// The sum with another form. The numbers of both lie within ±2^40, the caller's condition.
+    pub fn add(&self, other: &Form) -> Result<Form, FormTooLarge>
+        requires small { IsSmallForm self.now }
+        requires other_small { IsSmallForm other.now }
+        ensures { IsFormOf result (plus_form self.now other.now) }
+    {
+        let mut sum = Wide::of(self);
+        sum.add_times(1, other);
+        sum.form()
+    }
+
+    /// This form less another one. The numbers of both lie within ±2^40, the caller's condition.
+    pub fn sub(&self, other: &Form) -> Result<Form, FormTooLarge>
+        requires small { IsSmallForm self.now }
+        requires other_small { IsSmallForm other.now }
+        ensures { IsFormOf result (minus_form self.now other.now) }
+    {
+        let mut sum = Wide::of(self);
+        sum.add_times(-1, other);
+        sum.form()
+    }
+
+    /// The form with an argument in place of each symbol. The numbers of all lie within ±2^40, the
+    /// caller's condition; sums on the way may be larger.
+    pub fn substitute(&self, arguments: &[Form; 8]) -> Result<Form, FormTooLarge>
+        requires small { IsSmallForm self.now }
+        requires arguments_small { AllSmallForms arguments.now }
+        ensures { IsFormOf result (substituted arguments.now self.now) }
+    {
+        let mut sum = Wide::of_number(self.constant);
+        for symbol in 0..8 {
+            sum.add_times(self.coefs[symbol], &arguments[symbol]);
+        }
+        sum.form()
+    }
+}
+
+/// Whether all numbers of a form lie within ±2^40.
+pub fn is_small(form: &Form) -> bool
+    ensures { IsTrue result ↔ IsSmallForm form.now }
+{
+    is_small_number(form.constant) && form.coefs.iter().all(|coef| is_small_number(*coef))
+}
+
+fn is_small_number(number: i64) -> bool
+    ensures { IsTrue result ↔ IsSmall number }
+{
+    -MOST <= number && number <= MOST
 }

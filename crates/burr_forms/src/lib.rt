@@ -1,6 +1,25 @@
-//! Linear forms over symbols.
+//! Linear forms over symbols, and the points of their boxes.
 #![tactic(auto)]
 
+mod advancing;
+mod along;
+mod condition;
 mod form;
+mod guards;
+mod laws;
+mod points;
+mod ranges;
+mod rows;
+mod searching;
+#[cfg(test)]
+mod tests;
+mod wide;
 
-pub use form::Form;
+pub use condition::{Condition, NotNegative};
+pub use form::{Form, FormTooLarge};
+pub use guards::Guards;
+pub use laws::the_points_are_given;
+pub use points::Points;
+pub use ranges::Box8;
+pub use rows::{Point, Row};
+pub use searching::first_failing;

@@ -1,1 +1,12 @@
+pub mod Arrival
+pub mod ControlRules
+pub mod FramedPlans
+pub mod NumberRules
+pub mod Over
+pub mod QuestionRules
 pub mod RuleNumbers
+pub mod SpaceRules
+pub mod States
+pub mod Transfer
+pub mod TransferLaws
+pub mod Verdicts

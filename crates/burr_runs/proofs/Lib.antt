@@ -1,3 +1,4 @@
+pub mod AnswerTexts
 pub mod Inputs
 pub mod OneOutput
 pub mod SomeOutput

@@ -15,7 +15,7 @@ use Rattle.burr_runs.specs.Input.{IsInput}
 use Rattle.burr_runs.specs.Output.{IsSheet, IsTextOutput, IsOutput, outcome_of}
 use Rattle.burr_runs.specs.Refusals.{refusal}
 use Rattle.burr_assembly.specs.Homes.{names_of}
-use Rattle.burr_bench.specs.Bench.{bare}
+use Rattle.burr_bench.specs.Bench.{bare, bare_program}
 use Rattle.burr_runs.specs.OutputLaws.{SomeOutput}
 use Rattle.burr_runs.proofs.WholeInput.{sheet_of_run}
 use Rattle.burr_bench.proofs.Common.SomeRun.{some_result}
@@ -32,7 +32,7 @@ some_sheet : (text code : List ℕ) (a : Assembly) → IsText text a → HasOutp
 some_sheet text code a is =
     let setup : Setup = bare (homes_of a) code in
     let ran = some_result setup 1000000 (start setup) [] (lit≤ tt) (start_under_way setup 1000000) in
-    (sheet (names_of a) ran.motions ran.steps ran.closing, outcome_of ran.closing, sheet_of_run a code _ ran.motions ran.steps ran.closing is.0 ran.run refl)
+    (sheet (names_of a) ran.motions ran.steps ran.closing, outcome_of ran.closing, sheet_of_run a (bare_program code) [] _ ran.motions ran.steps ran.closing is.0 ran.run refl)
 
 some_text_output : (text code : List ℕ) → HasOutput (IsTextOutput text code)
 some_text_output text code = by_text (fault_or_assembly text)

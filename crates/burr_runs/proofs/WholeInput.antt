@@ -1,5 +1,5 @@
 -- What is written for a whole input.
-use Rattle.std.proofs.Common.{◌≡◌, ◌≢◌, List, ℕ, refl, inl, inr, true}
+use Rattle.std.proofs.Common.{◌≡◌, ◌≢◌, List, ℕ, ℤ, refl, inl, inr, true}
 use Rattle.std.specs.Prelude.{Option, Result, Ok, Err, Bool, IfOk, IfErr, codes}
 use Rattle.std.specs.Result.{IsErrAnd}
 use Rattle.std.proofs.lemmas.Result.{err_from_is_err_and}
@@ -12,16 +12,15 @@ use Rattle.burr_runs.specs.declared.outcome.Outcome.TheVariants.{Refused}
 use Rattle.burr_runs.specs.declared.fault.BenchFault.{BenchFault}
 use Rattle.burr_runs.specs.declared.fault.BenchFault.TheVariants.{Read, TooLong, Write, Memory}
 use Rattle.burr_bench.specs.declared.motion.Motion.{Motion}
-use Rattle.burr_bench.specs.Bench.{start}
+use Rattle.burr_bench.specs.Bench.{Program, running, start}
 use Rattle.burr_assembly.specs.Homes.{homes_of}
 use Rattle.burr_bench.specs.declared.closing.Closing.{Closing}
 use Rattle.burr_sheet.specs.SheetText.{sheet}
 use Rattle.burr_runs.specs.Input.{IsInput}
-use Rattle.burr_runs.specs.Output.{IsSheet, outcome_of, IsOutput, IsTextOutput}
+use Rattle.burr_runs.specs.Output.{IsSheetOf, outcome_of, IsOutput, IsTextOutput}
 use Rattle.burr_runs.specs.Refusals.{refusal}
 use Rattle.burr_assembly.specs.Homes.{names_of}
-use Rattle.burr_bench.specs.Bench.{bare}
-use Rattle.burr_runs.specs.Running.{BareRun}
+use Rattle.burr_bench.specs.Run.{Run}
 use Rattle.burr_runs.specs.ReadWhole.{IsWholeInput}
 use Rattle.burr_runs.specs.BenchText.{Outputs, PutsOutput, PutsFrontOfOutput, OutputFails, Streams, Succeeds, Fails}
 use Rattle.burr_assembly.proofs.Common.HomeCells.{have_homes}
@@ -65,9 +64,9 @@ front_of_fault old new failed text code fault first front fails = (refusal text 
 -- an assembly's text
 
 -- what is written of a run is its sheet
-pub sheet_of_run : (a : Assembly) (code output : List ℕ) (motions : List Motion) (steps : ℕ) (closing : Closing) → IsAssembly a → BareRun (bare (homes_of a) code) (start (bare (homes_of a) code)) motions steps closing
-    → output ≡ sheet (names_of a) motions steps closing → IsSheet a code output (outcome_of closing)
-sheet_of_run a code output motions steps closing whole run text =
+pub sheet_of_run : (a : Assembly) (program : Program) (answers : List ℤ) (output : List ℕ) (motions : List Motion) (steps : ℕ) (closing : Closing) → IsAssembly a
+    → Run (running (homes_of a) program) program.budget (start (running (homes_of a) program)) answers motions steps closing → output ≡ sheet (names_of a) motions steps closing → IsSheetOf a program answers output (outcome_of closing)
+sheet_of_run a program answers output motions steps closing whole run text =
     record { homes = homes_of a; cells = have_homes a whole; motions = motions; steps = steps; closing = closing; run = run; text = text; closes = refl }
 
 -- a fault is no outcome

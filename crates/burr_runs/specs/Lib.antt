@@ -1,3 +1,4 @@
+pub mod Answers
 pub mod BenchText
 pub mod Input
 pub mod Output

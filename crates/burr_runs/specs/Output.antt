@@ -1,5 +1,5 @@
 -- What is written for an input, and how it ends.
-use Rattle.std.specs.Prelude.{◌≡◌, ℕ, List, [], codes, ◌⊎◌}
+use Rattle.std.specs.Prelude.{◌≡◌, ℕ, ℤ, List, [], codes, ◌⊎◌}
 use Rattle.burr_voxels.specs.declared.cell.Cell.{Cell}
 use Rattle.burr_assembly.specs.declared.fault.AssemblyFault.{AssemblyFault}
 use Rattle.burr_assembly.specs.Text.{Assembly, IsText}
@@ -8,7 +8,7 @@ use Rattle.burr_assembly.specs.Homes.{names_of, HaveCells}
 use Rattle.burr_bench.specs.declared.motion.Motion.{Motion}
 use Rattle.burr_bench.specs.declared.closing.Closing.{Closing}
 use Rattle.burr_bench.specs.declared.closing.Closing.TheVariants as closings
-use Rattle.burr_bench.specs.Bench.{bare, start}
+use Rattle.burr_bench.specs.Bench.{Program, bare_program, running, start}
 use Rattle.burr_bench.specs.Run.{Run}
 use Rattle.burr_sheet.specs.SheetText.{sheet}
 use Rattle.burr_runs.specs.declared.outcome.Outcome.{Outcome}
@@ -23,17 +23,22 @@ outcome_of (closings.Waiting low high) = outcomes.Waiting
 outcome_of (closings.Trapped trap procedure pc) = outcomes.Trapped
 outcome_of closings.Stopped = outcomes.Stopped
 
--- the sheet of the run of this code on this assembly, without answers and with a budget of
--- 1,000,000 steps
-pub record IsSheet (a : Assembly) (code output : List ℕ) (outcome : Outcome) : Type 0 where
+-- the sheet of the run of this program on this assembly, with these answers, and how it ends
+pub record IsSheetOf (a : Assembly) (program : Program) (answers : List ℤ) (output : List ℕ)
+    (outcome : Outcome) : Type 0 where
   pub homes : List (List Cell)
   pub cells : HaveCells a a.pieces homes
   pub motions : List Motion
   pub steps : ℕ
   pub closing : Closing
-  pub run : Run (bare homes code) 1000000 (start (bare homes code)) [] motions steps closing
+  pub run : Run (running homes program) program.budget (start (running homes program)) answers
+      motions steps closing
   pub text : output ≡ sheet (names_of a) motions steps closing
   pub closes : outcome ≡ outcome_of closing
+
+-- that of bare code: without answers, and with a budget of 1,000,000 steps
+abbrev pub IsSheet : Assembly → List ℕ → List ℕ → Outcome → Type 0
+IsSheet a code output outcome = IsSheetOf a (bare_program code) [] output outcome
 
 -- What is written for an assembly's text with code behind it, and how it ends: the line of the
 -- text's first fault, or the sheet of the run on its assembly.

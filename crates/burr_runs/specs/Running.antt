@@ -1,81 +1,116 @@
--- A run of bare code and its sheet, both under way.
-use Rattle.std.specs.Prelude.{◌≡◌, ◌≤◌, ◌+◌, ◌++◌, ◌⊎◌, ℕ, List, [], length, Option, Some, None}
+-- A run and its sheet, both under way.
+use Rattle.std.specs.Prelude.{◌≡◌, ◌<◌, ◌≤◌, ◌+◌, ◌-◌, ◌++◌, ◌⊎◌, ℕ, ℤ, List, [], ◌∷◌, length, None}
 use Rattle.burr_io.specs.Sink.{SinkView, Takes, FailsWithin}
 use Rattle.burr_assembly.specs.Text.{Assembly}
 use Rattle.burr_bench.specs.declared.mode.Mode.TheVariants.{Running, Ended}
 use Rattle.burr_bench.specs.declared.motion.Motion.{Motion}
 use Rattle.burr_runs.specs.declared.outcome.Outcome.{Outcome}
-use Rattle.burr_bench.specs.Bench.{Setup, BenchState}
+use Rattle.burr_bench.specs.Bench.{Program}
 use Rattle.burr_bench.specs.Run.{Run}
 use Rattle.burr_bench.specs.declared.closing.Closing.{Closing}
+use Rattle.burr_bench.specs.declared.closing.Closing.TheVariants as closings
 use Rattle.burr_bench.specs.Parts.{parts}
 use Rattle.burr_sheet.specs.SheetUnderWay.{UnderWay, still}
-use Rattle.burr_bench.specs.BenchViews.{Benched, setup_of, IsSameRun}
-use Rattle.burr_runs.specs.Output.{IsSheet}
+use Rattle.burr_bench.specs.BenchViews.{Benched, setup_of, IsSameRun, GoesOn}
+use Rattle.burr_bench.specs.Step.{TakesAnswer}
+use Rattle.burr_bench.specs.StepLaws.{IsStepFrom}
+use Rattle.burr_bench.specs.Questions.{Fits}
+use Rattle.burr_runs.specs.declared.running.Turn.{Turn}
+use Rattle.burr_runs.specs.declared.running.Turn.TheVariants as turns
+use Rattle.burr_runs.specs.Output.{IsSheetOf}
 
--- a run without answers, with a budget of 1,000,000 steps
-abbrev pub BareRun : Setup → BenchState → List Motion → ℕ → Closing → Type 0
-BareRun setup s motions steps closing = Run setup 1000000 s [] motions steps closing
+-- how far a run is: the bench, the answers that are left, and the sheet
+pub record RunState : Type 0 where
+  pub bench : Benched
+  pub answers : List ℤ
+  pub sheet : UnderWay
+
+abbrev pub run_state : Benched → List ℤ → UnderWay → RunState
+run_state bench answers sheet = record { bench = bench; answers = answers; sheet = sheet }
+
+-- from there, within the program's budget, a run makes these motions and closes so
+abbrev pub RunsOn : RunState → List Motion → ℕ → Closing → Type 0
+RunsOn p motions steps closing =
+    Run (setup_of p.bench) p.bench.program.budget p.bench.state p.answers motions steps closing
 
 -- However the run goes on, behind these bytes comes what is then still to be written.
-abbrev pub Leads : Setup → BenchState → UnderWay → List ℕ → BenchState → UnderWay → Type 0
-Leads setup s u bytes new more =
+abbrev pub Leads : RunState → List ℕ → RunState → Type 0
+Leads p bytes q =
     (motions : List Motion) (steps : ℕ) (closing : Closing)
-    → BareRun setup new motions steps closing
-    → (all : List Motion) × BareRun setup s all steps closing
-    × (still u all steps closing ≡ bytes ++ still more motions steps closing)
+    → RunsOn q motions steps closing
+    → (all : List Motion) × RunsOn p all steps closing
+    × (still p.sheet all steps closing ≡ bytes ++ still q.sheet motions steps closing)
 
 -- a sink took what a part of the run closes
-abbrev pub PutsPart : {S : Type 0} → SinkView S → S → S
-    → Setup → BenchState → UnderWay → BenchState → UnderWay → Type 0
-PutsPart sink before behind setup s u new more =
-    (bytes : List ℕ) × Takes sink before behind bytes × Leads setup s u bytes new more
+abbrev pub PutsPart : {S : Type 0} → SinkView S → S → S → RunState → RunState → Type 0
+PutsPart sink before behind p q =
+    (bytes : List ℕ) × Takes sink before behind bytes × Leads p bytes q
 
 -- a sink failed, and had taken a front of what is still to be written of the run
-abbrev pub FailsInRun : {S : Type 0} → SinkView S → S → S → Setup → BenchState → UnderWay → Type 0
-FailsInRun sink before behind setup s u =
+abbrev pub FailsInRun : {S : Type 0} → SinkView S → S → S → RunState → Type 0
+FailsInRun sink before behind p =
     (motions : List Motion) × (steps : ℕ) × (closing : Closing)
-    × BareRun setup s motions steps closing
-    × FailsWithin sink before behind (still u motions steps closing)
+    × RunsOn p motions steps closing
+    × FailsWithin sink before behind (still p.sheet motions steps closing)
 
 -- the bench and the sheet keep step
 pub record IsInStep (b : Benched) (u : UnderWay) : Type 0 where
   pub mode : (b.state.mode ≡ Running) ⊎ (b.state.mode ≡ Ended)
-  pub within : b.state.steps ≤ 1000000
+  pub within : b.state.steps ≤ b.program.budget
+  pub few : b.program.budget ≤ 1000000
   pub motions : u.motions ≤ b.state.steps
   -- so many parts more as there were outs
   pub outs : length u.levels + 1 ≡ parts b.state.places
 
--- what a step of the bench and the sheet came to: it was made, or the run closes without it
-abbrev pub StepOrClose : {S : Type 0} → SinkView S → S → S
-    → Benched → UnderWay → Benched → UnderWay → Option Closing → Type 0
-StepOrClose sink before behind b u new more None =
-    IsInStep new more × IsSameRun b new × (new.state.steps ≡ b.state.steps + 1)
-    × PutsPart sink before behind (setup_of b) b.state u new.state more
-StepOrClose sink before behind b u new more (Some closing) =
-    BareRun (setup_of b) b.state [] new.state.steps closing × (more ≡ u)
-    × (sink.taken behind ≡ sink.taken before)
-
--- the sheet of the run was written
-abbrev pub PutsSheet : {S : Type 0} → SinkView S → S → S → Assembly → List ℕ → Outcome → Type 0
-PutsSheet sink before behind a code outcome =
-    (output : List ℕ) × IsSheet a code output outcome × Takes sink before behind output
-
--- a sink failed, and had taken a front of the sheet of the run
-abbrev pub FailsInSheet : {S : Type 0} → SinkView S → S → S → Assembly → List ℕ → Type 0
-FailsInSheet sink before behind a code =
-    (output : List ℕ) × (outcome : Outcome) × IsSheet a code output outcome
-    × FailsWithin sink before behind output
+-- a run goes on with the same program and assembly, bench and sheet in step
+pub record GoesWith {S : Type 0} (sink : SinkView S) (before behind : S) (p q : RunState) : Type 0 where
+  pub in_step : IsInStep q.bench q.sheet
+  pub same : IsSameRun p.bench q.bench
+  pub puts : PutsPart sink before behind p q
 
 -- Where the run closes so, behind these bytes comes the end of its sheet.
-abbrev pub LeadsToEnd : Setup → BenchState → UnderWay → List ℕ → BenchState → UnderWay → Closing
-    → Type 0
-LeadsToEnd setup s u bytes new more closing =
-    (all : List Motion) × BareRun setup s all new.steps closing
-    × (still u all new.steps closing ≡ bytes ++ still more [] new.steps closing)
+abbrev pub LeadsToEnd : RunState → List ℕ → RunState → Closing → Type 0
+LeadsToEnd p bytes q closing =
+    (all : List Motion) × RunsOn p all q.bench.state.steps closing
+    × (still p.sheet all q.bench.state.steps closing
+    ≡ bytes ++ still q.sheet [] q.bench.state.steps closing)
 
 -- a sink took what the run closes to its end, where it closes so
-abbrev pub ClosesPart : {S : Type 0} → SinkView S → S → S
-    → Setup → BenchState → UnderWay → BenchState → UnderWay → Closing → Type 0
-ClosesPart sink before behind setup s u new more closing =
-    (bytes : List ℕ) × Takes sink before behind bytes × LeadsToEnd setup s u bytes new more closing
+abbrev pub ClosesPart : {S : Type 0} → SinkView S → S → S → RunState → RunState → Closing → Type 0
+ClosesPart sink before behind p q closing =
+    (bytes : List ℕ) × Takes sink before behind bytes × LeadsToEnd p bytes q closing
+
+-- the steps and the answers that a run can still take
+abbrev pub left_to_take : RunState → ℕ
+left_to_take p = (p.bench.program.budget - p.bench.state.steps) + length p.answers
+
+-- what a turn of the run came to: it goes on with these answers left, or closes where it stands
+abbrev pub TurnIs : {S : Type 0} → SinkView S → S → S → RunState → Benched → UnderWay → Turn → Type 0
+TurnIs sink before behind p new more (turns.GoesOn left) =
+    GoesWith sink before behind p (run_state new left.now more)
+    × (left_to_take (run_state new left.now more) < left_to_take p)
+TurnIs sink before behind p new more (turns.Closes closing) =
+    RunsOn p [] new.state.steps closing × (more ≡ p.sheet)
+    × (sink.taken behind ≡ sink.taken before)
+
+-- what a bench that asks for a number of this range came to with these answers: the first is taken or
+-- passed over, and where there is none the run waits
+abbrev pub AnswerIs : Benched → List ℤ → ℤ → ℤ → Benched → Turn → Type 0
+AnswerIs b answers low high new (turns.GoesOn left) =
+    (answer : ℤ) × (answers ≡ answer ∷ left.now) × IsSameRun b new × GoesOn b new None
+    × ((TakesAnswer (setup_of b) b.state answer new.state × IsStepFrom b.state new.state)
+    ⊎ ((¬ Fits low high answer) × (new.state ≡ b.state)))
+AnswerIs b answers low high new (turns.Closes closing) =
+    (answers ≡ []) × (closing ≡ closings.Waiting low high) × (new ≡ b)
+
+-- the sheet of the run was written
+abbrev pub PutsSheet : {S : Type 0} → SinkView S → S → S → Assembly → Program → List ℤ → Outcome
+    → Type 0
+PutsSheet sink before behind a program answers outcome =
+    (output : List ℕ) × IsSheetOf a program answers output outcome × Takes sink before behind output
+
+-- a sink failed, and had taken a front of the sheet of the run
+abbrev pub FailsInSheet : {S : Type 0} → SinkView S → S → S → Assembly → Program → List ℤ → Type 0
+FailsInSheet sink before behind a program answers =
+    (output : List ℕ) × (outcome : Outcome) × IsSheetOf a program answers output outcome
+    × FailsWithin sink before behind output

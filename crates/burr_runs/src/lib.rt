@@ -1,6 +1,7 @@
 //! Runs of plans on the bench from readers to writers: what is read, and what is written for it.
 #![tactic(auto)]
 
+mod answers;
 mod fault;
 mod input;
 mod laws;
@@ -10,10 +11,13 @@ mod refusal;
 mod running;
 mod text_runs;
 
+pub use answers::{AnswersFault, read_answers};
 pub use fault::BenchFault;
-pub use laws::an_input_has_one_output;
+pub use laws::{an_input_has_one_output, answers_are_read_in_one_way};
 pub use outcome::Outcome;
 pub use reading::{LIMIT, read_whole};
+pub use refusal::put_refusal;
+pub use running::try_plan;
 pub use text_runs::bench_text;
 
 #[cfg(test)]

@@ -1,19 +1,26 @@
-ghost use Rattle.std.specs.Prelude.{◌≡◌, ◌≢◌, ◌≤◌, [], length, IfOk, OnErr};
-ghost use Rattle.burr_assembly.specs.Text.{IsAssembly};
-ghost use Rattle.burr_bench.specs.declared.mode.Mode.TheVariants.{Running};
+mod turns;
+
+ghost use Rattle.std.specs.Prelude.{◌≡◌, ◌≤◌, [], length, IfOk, OnErr};
 ghost use Rattle.burr_code.specs.declared.limits.TheConstants.{MOST_CODE};
-ghost use Rattle.burr_bench.specs.BenchViews.{setup_of};
+ghost use Rattle.burr_bench.specs.Bench.{bare_program};
+ghost use Rattle.burr_bench.specs.BenchViews.{IsAtStart};
 ghost use Rattle.burr_runs.specs.Output.{outcome_of};
-ghost use Rattle.burr_runs.specs.Running.{PutsSheet, FailsInSheet, FailsInRun, StepOrClose, IsInStep, ClosesPart};
+ghost use Rattle.burr_runs.specs.Running.{PutsSheet, FailsInSheet, FailsInRun, IsInStep, ClosesPart, run_state};
 
 use crate::outcome::Outcome;
-use burr_bench::{Checked, Closing, Progress};
+use crate::running::turns::take_turn;
+use burr_bench::{Checked, Closing};
 use burr_blocking::Blocking;
 use burr_io::{Sink, WriteFault};
 use burr_sheet::Sheet;
 
-/// The most steps of a run of bare code.
-const BUDGET: u64 = 1_000_000;
+/// What a turn of a run came to.
+pub enum Turn<'a> {
+    /// The run goes on, with these answers left.
+    GoesOn(&'a [i32]),
+    /// The run closes.
+    Closes(Closing),
+}
 
 /// Runs bare code on the bench, without answers, and writes the run's sheet.
 pub fn run_bare<B: Blocking, W: Sink>(
@@ -21,16 +28,31 @@ pub fn run_bare<B: Blocking, W: Sink>(
     code: &[u8],
     sink: &mut W,
 ) -> Result<Outcome, WriteFault>
-    requires whole { IsAssembly (B.subject blocking.now) }
-    requires short { length code.now ≤ MOST_CODE }
-    ensures ok { IfOk result (λ outcome.
-        PutsSheet W.Sink sink.old sink.new (B.subject blocking.now) code.now outcome) }
-    ensures err { OnErr result
-        (FailsInSheet W.Sink sink.old sink.new (B.subject blocking.now) code.now) }
+    requires { length code.now ≤ MOST_CODE }
+    ensures ok { IfOk result (λ outcome. PutsSheet W.Sink sink.old sink.new
+        (B.subject blocking.now) (bare_program code.now) [] outcome) }
+    ensures err { OnErr result (FailsInSheet W.Sink sink.old sink.new
+        (B.subject blocking.now) (bare_program code.now) []) }
 {
-    let mut bench = Checked::bare(code, blocking);
-    let mut sheet = Sheet::new(blocking.assembly());
-    let closing = run_to_close(&mut bench, &mut sheet, sink)?;
+    try_plan(&mut Checked::bare(code, blocking), &[], sink)
+}
+
+/// Runs the program of a bench at its start, with these answers and within the program's budget, and
+/// writes the run's sheet. After a fault the bench stands at some step of that run.
+pub fn try_plan<B: Blocking, W: Sink>(
+    bench: &mut Checked<B>,
+    answers: &[i32],
+    sink: &mut W,
+) -> Result<Outcome, WriteFault>
+    requires { IsAtStart bench.old }
+    ensures ok { IfOk result (λ outcome. PutsSheet W.Sink sink.old sink.new
+        bench.old.assembly bench.old.program answers.now outcome) }
+    ensures err { OnErr result (FailsInSheet W.Sink sink.old sink.new
+        bench.old.assembly bench.old.program answers.now) }
+{
+    let mut sheet = Sheet::new(bench.assembly());
+    let budget = u64::from(bench.budget());
+    let closing = run_to_close(bench, budget, answers, &mut sheet, sink)?;
     sheet.close(closing, bench.steps(), sink)?;
     Ok(outcome(closing))
 }
@@ -50,53 +72,29 @@ fn outcome(closing: Closing) -> Outcome
 /// Takes the bench's steps to where the run closes, and puts what its motions close.
 fn run_to_close<B: Blocking, W: Sink>(
     bench: &mut Checked<B>,
+    budget: u64,
+    answers: &[i32],
     sheet: &mut Sheet,
     sink: &mut W,
 ) -> Result<Closing, WriteFault>
-    requires { IsInStep bench.old sheet.old }
+    requires in_step { IsInStep bench.old sheet.old }
+    requires budget { budget ≡ bench.old.program.budget }
     ensures ok { IfOk result (λ closing. ClosesPart W.Sink sink.old sink.new
-        (setup_of bench.old) bench.old.state sheet.old bench.new.state sheet.new closing) }
+        (run_state bench.old answers.now sheet.old) (run_state bench.new [] sheet.new) closing) }
     ensures err { OnErr result (FailsInRun W.Sink sink.old sink.new
-        (setup_of bench.old) bench.old.state sheet.old) }
+        (run_state bench.old answers.now sheet.old)) }
 {
+    let mut answers = answers;
     loop {
         if bench.ended() {
             return Ok(Closing::Apart);
         }
-        if bench.steps() == BUDGET {
+        if bench.steps() == budget {
             return Ok(Closing::Stopped);
         }
-        match take_step(bench, sheet, sink)? {
-            Some(closing) => return Ok(closing),
-            None => {}
+        match take_turn(bench, answers, sheet, sink)? {
+            Turn::GoesOn(left) => answers = left,
+            Turn::Closes(closing) => return Ok(closing),
         }
-    }
-}
-
-/// Takes one step of the bench, and puts what its motion closes; or tells how the run closes where
-/// no step is to be made.
-fn take_step<B: Blocking, W: Sink>(
-    bench: &mut Checked<B>,
-    sheet: &mut Sheet,
-    sink: &mut W,
-) -> Result<Option<Closing>, WriteFault>
-    requires in_step { IsInStep bench.old sheet.old }
-    requires running { bench.old.state.mode ≡ Running }
-    requires within { bench.old.state.steps ≢ 1000000 }
-    ensures ok { IfOk result (λ closing. StepOrClose W.Sink sink.old sink.new
-        bench.old sheet.old bench.new sheet.new closing) }
-    ensures err { OnErr result (FailsInRun W.Sink sink.old sink.new
-        (setup_of bench.old) bench.old.state sheet.old) }
-{
-    match bench.step(None) {
-        Ok(Progress::Went(Some(motion))) => {
-            sheet.motion(motion, sink)?;
-            Ok(None)
-        }
-        Ok(Progress::Went(None)) => Ok(None),
-        Ok(Progress::Asks(low, high)) => Ok(Some(Closing::Waiting(low, high))),
-        // Neither comes of a running bench without an answer.
-        Ok(Progress::Again) | Ok(Progress::Ended) => Ok(None),
-        Err(trap) => Ok(Some(Closing::Trapped(trap, bench.proc(), bench.pc()))),
     }
 }

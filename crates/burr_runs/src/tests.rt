@@ -1,10 +1,11 @@
-use crate::{BenchFault, Outcome, bench_text};
+use crate::{AnswersFault, BenchFault, Outcome, bench_text, read_answers};
 use burr_io::{Reading, Writing};
 use std::alloc::{AllocError, Global};
 use std::io::{self, Read};
 use std::process::Abort;
 use std::test::Fail;
 
+mod answers;
 mod memory;
 mod refusals;
 mod rows;

@@ -1,2 +1,3 @@
 pub mod Common
+mod Integers
 mod NameBytes

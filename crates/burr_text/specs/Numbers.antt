@@ -1,5 +1,7 @@
 -- Numbers as they are written.
-use Rattle.std.specs.Prelude.{◌≡◌, ℕ, ◌≤◌, List, ◌∷◌, codes, All, slice_index, ◌⊎◌}
+use Rattle.std.specs.Prelude.{◌≡◌, ◌≢◌, ℕ, ℤ, ◌≤◌, List, ◌∷◌, codes, All, slice_index, ◌⊎◌, Option, MatchOption, FitsSigned}
+use Rattle.std.specs.Int.{w32}
+use Rattle.std.specs.Fmt.{signed_decimal}
 
 -- digits of which the first isn't `0`
 pub record IsCount (bytes : List ℕ) : Type 0 where
@@ -11,3 +13,9 @@ pub record IsCount (bytes : List ℕ) : Type 0 where
 abbrev pub IsNumber : List ℕ → Type 0
 IsNumber bytes =
     (bytes ≡ codes "0") ⊎ (IsCount bytes ⊎ ((rest : List ℕ) × (bytes ≡ 45 ∷ rest) × IsCount rest))
+
+-- the number of 32 bits that is written so, if one is
+abbrev pub IsInteger : List ℕ → Option ℤ → Type 0
+IsInteger text found =
+    MatchOption found ((n : ℤ) → FitsSigned w32 n → text ≢ signed_decimal n) (λ n.
+    text ≡ signed_decimal n)

@@ -2,10 +2,12 @@
 #![tactic(auto)]
 
 mod name;
+mod numbers;
 mod words;
 
 pub use name::{Name, is_name};
-pub use words::{cut_at, is_number, is_word};
+pub use numbers::{integer, is_number};
+pub use words::{cut_at, is_word};
 
 #[cfg(test)]
 mod tests;

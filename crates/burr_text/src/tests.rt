@@ -114,6 +114,29 @@ fn takes_numbers_as_they_are_written(rt: HostRuntime) {
     }
 }
 
+/// Numbers of 32 bits, at their limits.
+const INTEGERS: &[(&str, Option<i32>)] = &[
+    ("0", Some(0)),
+    ("-1", Some(-1)),
+    ("2147483647", Some(i32::MAX)),
+    ("-2147483648", Some(i32::MIN)),
+    ("2147483648", None),
+    ("-2147483649", None),
+    ("99999999999999999999", None),
+    ("-0", None),
+    ("01", None),
+    ("+1", None),
+    ("1 ", None),
+    ("", None),
+];
+
+#[test]
+fn reads_numbers_of_32_bits(rt: HostRuntime) {
+    for (text, value) in INTEGERS {
+        assert_eq!(rt; integer(text.as_bytes()), *value, "{text:?}");
+    }
+}
+
 /// A text that is cut at a blank, and its two parts.
 const CUTS: &[(&str, &str, &str)] = &[
     (" ", "", ""),

@@ -4,7 +4,7 @@ ghost use Rattle.std.specs.Prelude.{◌≡◌, ◌↔◌, IsOk, OnOk, IfErr, len
 ghost use Rattle.burr_container.specs.Plans.{Plan};
 ghost use Rattle.burr_container.specs.Containers.{IsContainer};
 ghost use Rattle.burr_verify.specs.Fitting.{FitsAssembly};
-ghost use Rattle.burr_verify.specs.Refusals.{plain_refusal};
+ghost use Rattle.burr_verify.specs.Refusals.{another_assembly};
 
 use crate::refusal::Refusal;
 use burr_assembly::Assembly;
@@ -18,7 +18,7 @@ pub fn fits_assembly(container: &Container<'_>, assembly: &Assembly) -> Result<(
         → (IsOk result ↔ FitsAssembly p assembly.now) }
     // Whoever indexes pieces by what the container holds has no plan at hand.
     ensures pieces { OnOk result (container.now.header.pieces ≡ length assembly.now.pieces) }
-    ensures refusal { IfErr result (λ refusal. refusal ≡ plain_refusal 0 0 Rule.V1) }
+    ensures refusal { IfErr result (λ refusal. refusal ≡ another_assembly) }
 {
     let header = container.header();
     if header.name == assembly.name().as_bytes() && header.pieces == assembly.piece_count() {

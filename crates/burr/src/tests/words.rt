@@ -14,6 +14,7 @@ Usage: burr < INPUT
 Commands:
   asm      Assembles a plan text into a container
   list     Prints the plan text of a container
+  try      Runs a plan on the bench, without accepting it
   explain  Tells what a refusal or a trap means
 
 Options:
@@ -111,18 +112,40 @@ Example: ./burr asm examples/ring.plan /tmp/ring.bpln
         "\
 Prints the plan text of a container
 
-Usage: burr list <PLAN>
+Usage: burr list [OPTIONS] <PLAN>
 
 Arguments:
   <PLAN>  The container
 
 Options:
-  -h, --help  Print help
+      --places  Tells before each line of code where it stands
+  -h, --help    Print help
 
 A file that is no container is refused: `refused C1 at 12`. What is printed is
 assembled to the same bytes again.
 
 Example: ./burr list /tmp/ring.bpln
+",
+    ),
+    (
+        "try",
+        "\
+Runs a plan on the bench, without accepting it
+
+Usage: burr try <ASSEMBLY> <PLAN>
+
+Arguments:
+  <ASSEMBLY>  The assembly text
+  <PLAN>      The container
+
+Options:
+  -h, --help  Print help
+
+Answers to questions are read from standard input, a number on each line. Each
+move is checked on the bench; the sheet that is printed ends with how the run
+closed. Status 5: it waits for an answer.
+
+Example: echo 2 | ./burr try examples/cup.assembly /tmp/cup.bpln
 ",
     ),
     (

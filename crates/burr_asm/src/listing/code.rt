@@ -4,29 +4,38 @@ ghost use Rattle.burr_container.specs.Containers.{HasLabel};
 use crate::listing::frames::add_frame;
 use crate::listing::instructions::{add_byte, add_instruction};
 use crate::listing::names::add_label_name;
-use crate::listing::numbers::end_line;
+use crate::listing::numbers::{add_word, end_line};
 use burr_code::{Instr, Labels, fetch};
 use burr_container::Container;
 use std::alloc::AllocError;
 
-/// How many labels a procedure has, and how many procedures its plan: what its code may name.
+/// How many labels a procedure has, and how many procedures its plan: what its code may name. Its
+/// number, where each line of its code has its place in front of it.
 #[derive(Clone, Copy)]
 struct Reach {
     labels: usize,
     procedures: usize,
+    placed: Option<usize>,
 }
 
-/// Adds the labels and the code of procedure i.
-pub fn add_code(text: &mut Vec<u8>, container: &Container<'_>, i: usize) -> Result<(), AllocError>
-    requires { i < length container.now.procedures.items }
+/// Adds the labels and the code of procedure i, with places or without.
+pub fn add_code(
+    text: &mut Vec<u8>,
+    container: &Container<'_>,
+    i: usize,
+    places: bool,
+) -> Result<(), AllocError>
+    requires { i < length container.now.procedures }
 {
     let reach = Reach {
         labels: container.label_count(i),
         procedures: container.proc_count(),
+        placed: places.then_some(i),
     };
     for n in 0..container.label_count(i) {
         add_label(text, container, i, n)?;
-        add_block(text, block(container, i, n), reach)?;
+        let start = usize::from(container.label(i, n));
+        add_block(text, start, block(container, i, n), reach)?;
     }
     Ok(())
 }
@@ -38,7 +47,7 @@ fn add_label(
     i: usize,
     n: usize,
 ) -> Result<(), AllocError>
-    requires procedure { i < length container.now.procedures.items }
+    requires procedure { i < length container.now.procedures }
     requires label { HasLabel container.now i n }
 {
     text.extend_from_slice(b"label ")?;
@@ -49,7 +58,7 @@ fn add_label(
 
 /// The code from label n of procedure i to the next one or to the end.
 fn block<'a>(container: &Container<'a>, i: usize, n: usize) -> &'a [u8]
-    requires procedure { i < length container.now.procedures.items }
+    requires procedure { i < length container.now.procedures }
     requires label { HasLabel container.now i n }
 {
     let code = container.code(i);
@@ -64,17 +73,37 @@ fn block<'a>(container: &Container<'a>, i: usize, n: usize) -> &'a [u8]
     code.get(start..end).unwrap_or(&[])
 }
 
-/// Adds the lines of code within which no label stands.
-fn add_block(text: &mut Vec<u8>, block: &[u8], reach: Reach) -> Result<(), AllocError> {
+/// Adds the lines of code that begins at a position, and within which no label stands.
+fn add_block(
+    text: &mut Vec<u8>,
+    start: usize,
+    block: &[u8],
+    reach: Reach,
+) -> Result<(), AllocError> {
     let mut rest = block;
+    let mut at = start;
     while !rest.is_empty() {
+        reach.add_place(text, at)?;
         let size = reach.add_line(text, rest)?;
         rest = &rest[size..];
+        at = at.saturating_add(size);
     }
     Ok(())
 }
 
 impl Reach {
+    /// Adds the place of a line of code, where places are wanted.
+    fn add_place(self, text: &mut Vec<u8>, at: usize) -> Result<(), AllocError> {
+        let Some(procedure) = self.placed else {
+            return Ok(());
+        };
+        text.extend_from_slice(b"; proc")?;
+        add_word(text, procedure)?;
+        text.extend_from_slice(b" pc")?;
+        add_word(text, at)?;
+        end_line(text)
+    }
+
     /// Adds the line with which code begins; gives how many bytes it stands for.
     fn add_line(self, text: &mut Vec<u8>, code: &[u8]) -> Result<usize, AllocError>
         requires { 0 < length code.now }

@@ -81,3 +81,15 @@ fn refuses_the_worked_damages(rt: HostRuntime) -> Result<(), Fail> {
     );
     Ok(())
 }
+
+#[test]
+fn lists_places_of_code(rt: HostRuntime) -> Result<(), Fail> {
+    let alloc = rt.alloc();
+    let container = Container::parse(&RING_BYTES)?;
+    let text = list_with_places(alloc, &container)?;
+    let lines = "down 0 L1\n; proc 0 pc 16\naside +z 1\n; proc 0 pc 19\nhalt\n";
+    assert!(rt; text.ends_with(lines.as_bytes()));
+    let again = assemble(alloc, &text)?;
+    assert_eq!(rt; again.as_slice(), RING_BYTES.as_slice());
+    Ok(())
+}

@@ -1,20 +1,19 @@
 ghost use Rattle.std.specs.Prelude.{MatchOption};
-ghost use Rattle.burr_text.specs.Numbers.{IsNumber};
 ghost use Rattle.burr_voxels.specs.declared.cell.Cell.{Cell as CellOf};
 ghost use Rattle.burr_assembly.specs.Text.{IsPositionText};
 ghost use Rattle.burr_assembly.specs.LineViews.{IsCoordinateText};
 
+use burr_text::integer;
 use burr_voxels::Cell;
 
 /// A coordinate of a position is at most this, either way.
 const REACH: i32 = 64;
 
-/// The coordinate that a number is, if it lies in -64..64.
-fn coordinate(number: &[u8]) -> Option<i32>
-    requires { IsNumber number.now }
-    ensures { IsCoordinateText number.now result }
+/// The coordinate that is written so, if one of -64..64 is.
+fn coordinate(text: &[u8]) -> Option<i32>
+    ensures { IsCoordinateText text.now result }
 {
-    let value: i32 = str::from_utf8(number).ok()?.parse().ok()?;
+    let value = integer(text)?;
     if -REACH <= value && value <= REACH {
         Some(value)
     } else {
@@ -22,11 +21,8 @@ fn coordinate(number: &[u8]) -> Option<i32>
     }
 }
 
-/// The position whose coordinates these numbers are, if each lies in -64..64.
+/// The position whose coordinates are written so, if each is one of -64..64.
 pub fn position(x: &[u8], y: &[u8], z: &[u8]) -> Option<Cell>
-    requires x { IsNumber x.now }
-    requires y { IsNumber y.now }
-    requires z { IsNumber z.now }
     ensures { MatchOption result ((c : CellOf) → ¬ IsPositionText x.now y.now z.now c)
         (IsPositionText x.now y.now z.now) }
 {

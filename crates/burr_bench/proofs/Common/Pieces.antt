@@ -17,7 +17,7 @@ use Rattle.burr_bench.specs.Space.{NoOverlap, NoOverlapIn, moved_places}
 use Rattle.burr_bench.specs.Step.{Executes, NextIs}
 use Rattle.burr_bench.specs.AsideLaws.{NoneLone}
 use Rattle.burr_bench.specs.SpaceLaws.{IsGripHere, StepsTo, GripStays, NoOverlapStays, NoneLoneStays}
-use Rattle.burr_bench.proofs.Existence.Conditions.{same_tray}
+use Rattle.burr_frames.proofs.Common.Conditions.{same_tray}
 use Rattle.burr_bench.proofs.Trays.Shifts.{IsShifted, lay_before_shift, lies_after_shift, count_in-shift}
 use Rattle.burr_bench.proofs.Trays.Asides.{LayBefore, lay_before, none_lone_aside}
 use Rattle.burr_bench.proofs.Trays.Parts.{all_lie_in_nothing}

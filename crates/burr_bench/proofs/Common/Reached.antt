@@ -23,7 +23,7 @@ use Rattle.burr_bench.specs.Step.{CallIn}
 use Rattle.burr_bench.specs.AsideLaws.{NoneLone}
 use Rattle.burr_bench.specs.RunLaws.{Calls, begun, went, answered}
 use Rattle.burr_bench.specs.SpaceLaws.{IsGripHere, StepsTo, AreDisjoint, HomesAreDisjoint, GripIsHere, PiecesNeverOverlap, NoPieceIsLone}
-use Rattle.burr_bench.proofs.Existence.Conditions.{same_tray, same_position}
+use Rattle.burr_frames.proofs.Common.Conditions.{same_tray, same_position}
 use Rattle.burr_bench.proofs.Trays.Counts.{count_in-same, count_in-other}
 use Rattle.burr_bench.proofs.Trays.Parts.{all_lie_in_nothing}
 use Rattle.burr_bench.proofs.Common.Calls.{tells}

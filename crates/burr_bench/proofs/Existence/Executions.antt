@@ -7,7 +7,7 @@ use Rattle.burr_code.specs.Instruction.{Halt, Push, Load, Store, Add, Sub, Drop,
 use Rattle.burr_code.proofs.Common.Orders.{decide_le}
 use Rattle.burr_bench.specs.Space.{moved_places}
 use Rattle.burr_bench.specs.StepLaws.{SomeExecution}
-use Rattle.burr_bench.proofs.Existence.Conditions.{decide_all_lie, decide_all_apart, decide_part_of_tray, decide_empty_tray}
+use Rattle.burr_frames.proofs.Common.Conditions.{decide_all_lie, decide_all_apart, decide_part_of_tray, decide_empty_tray}
 use Rattle.burr_bench.proofs.Existence.Pairs.{decide_on_bench, decide_no_overlap, decide_free_group}
 
 -- there is something that is so

@@ -12,8 +12,8 @@ use Rattle.burr_code.proofs.Common.Orders.{decide_le}
 use Rattle.burr_code.proofs.Common.PieceSets.{decide_bit}
 use Rattle.burr_assembly.specs.Homes.{HasHome}
 use Rattle.burr_bench.specs.Space.{NoOverlapIn, AllOnBench, IsFreeGroup}
-use Rattle.burr_bench.proofs.Existence.Conditions.{decided_implies, decide_all_numbers, decide_of_the_one, decide_found, one_in_list, decide_lies, one_position, lies_within}
-use Rattle.burr_bench.proofs.Existence.Freedom.{decide_overlap, decide_free}
+use Rattle.burr_frames.proofs.Common.Conditions.{decided_implies, decide_all_numbers, decide_of_the_one, decide_found, one_in_list, decide_lies, one_position, lies_within}
+use Rattle.burr_frames.proofs.Common.Freedom.{decide_overlap, decide_free}
 
 -- One piece
 

@@ -9,7 +9,7 @@ use Rattle.burr_bench.specs.Bench.{BenchState, Setup, BenchProcedure}
 use Rattle.burr_bench.specs.Next.{Next, Traps}
 use Rattle.burr_bench.specs.Step.{NextIs, IsAt, Runs}
 use Rattle.burr_bench.specs.RunLaws.{SomeNext}
-use Rattle.burr_bench.proofs.Existence.Conditions.{decide_found, one_in_list}
+use Rattle.burr_frames.proofs.Common.Conditions.{decide_found, one_in_list}
 use Rattle.burr_bench.proofs.Existence.Executions.{some_execution}
 
 -- a state stands at an instruction, or at none

@@ -6,7 +6,7 @@ use Rattle.burr_code.specs.Places.{Placement, LiesIn, AllLieIn, count_in, IsEmpt
 use Rattle.burr_code.proofs.Common.PieceSets.{no_bit_above}
 use Rattle.burr_text.proofs.Common.Decisions.{decide_below}
 use Rattle.burr_bench.proofs.Trays.Counts.{count_in-empty, count_in-some}
-use Rattle.burr_bench.proofs.Existence.Conditions.{lies_within}
+use Rattle.burr_frames.proofs.Common.Conditions.{lies_within}
 
 -- a tray is empty where it is counted so
 pub counts_empty : {Position : Type 0} (places : List (Placement Position)) (tray count : ℕ) → count ≡ count_in tray places → IsTrue (nat_eq count 0) ↔ IsEmptyTray places tray

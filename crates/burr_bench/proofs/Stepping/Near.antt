@@ -11,7 +11,7 @@ use Rattle.burr_code.specs.PieceSets.{IsInSet}
 use Rattle.burr_code.specs.Places.{Placement, Apart, On, LiesAt, AllLieIn}
 use Rattle.burr_bench.specs.Offsets.{PositionHolds, AreNear}
 use Rattle.burr_bench.specs.Space.{AllOnBench, moved_places}
-use Rattle.burr_bench.proofs.Existence.Conditions.{same_tray, lies_within}
+use Rattle.burr_frames.proofs.Common.Conditions.{same_tray, lies_within}
 use Rattle.burr_bench.proofs.Trays.Shifts.{IsShifted, lay_before_shift, lies_at_shifted}
 
 -- the difference of two numbers within a bound is within twice the bound

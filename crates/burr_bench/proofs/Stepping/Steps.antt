@@ -152,6 +152,7 @@ sound_staying old new sound assembly stays runs = record {
   as_many = ap length stays.places ∙ sound.as_many ∙ ap (λ a. length a.pieces) (sym assembly);
   few = let few = sound.few in let same = ap length stays.places in omega (arith, same, few);
   here = stays.here;
+  whole = subst IsAssembly (sym assembly) sound.whole;
   runs = runs;
   apart = subst (λ (a : Assembly). NoOverlap (homes_of a) new.state.places) (sym assembly) (subst (λ (ps : List (Placement Cell)). NoOverlap (homes_of old.assembly) ps) (sym stays.places) sound.apart);
 }
@@ -179,6 +180,7 @@ sound_unit old new direction sound none assembly program places tray grip same_o
       as_many = same ∙ sound.as_many ∙ ap (λ a. length a.pieces) (sym assembly);
       few = let few = sound.few in omega (arith, same, few);
       here = rw (places, tray, grip) (λ p bit. lies_after_shift (λ (o : Cell). plus o (along direction (pos 1))) old.state.grip p old.state.tray old.state.places (sound.here p bit));
+      whole = subst IsAssembly (sym assembly) sound.whole;
       runs = runs_still old new sound program same_one;
       apart =
           subst (λ (a : Assembly). NoOverlap (homes_of a) new.state.places) (sym assembly)
@@ -194,6 +196,7 @@ sound_aside old new there sound empty assembly program places grip same_one =
       as_many = same ∙ sound.as_many ∙ ap (λ a. length a.pieces) (sym assembly);
       few = let few = sound.few in omega (arith, same, few);
       here = rw grip (all_lie_in_nothing new.state.places new.state.tray);
+      whole = subst IsAssembly (sym assembly) sound.whole;
       runs = runs_still old new sound program same_one;
       apart =
           subst (λ (a : Assembly). NoOverlap (homes_of a) new.state.places) (sym assembly)
@@ -219,6 +222,7 @@ sound_start a program count whole is some = record {
   as_many = length-replicate count (On 0 origin) ∙ is;
   few = let most = whole.pieces.1 in let as_many : length (replicate count (On 0 origin)) ≡ count = length-replicate count (On 0 origin) in omega (arith, most, as_many, is);
   here = all_lie_in_nothing (replicate count (On 0 origin)) 0;
+  whole = whole;
   runs = some;
   apart = rw (places_at_start a count is) (disjoint_at_start (homes_of a) (homes_are_disjoint a whole).0);
 }

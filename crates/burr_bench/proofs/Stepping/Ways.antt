@@ -22,7 +22,7 @@ use Rattle.burr_bench.specs.declared.checked.way.Way.TheVariants as ways
 use Rattle.burr_bench.specs.Space.{IsFreeGroup, NoOverlapIn, moved_places}
 use Rattle.burr_bench.specs.BenchViews.{Benched, SetsOut}
 use Rattle.burr_bench.specs.Ways.{Passes, PassesPiece, PassesRest, GroupPasses, setting_out}
-use Rattle.burr_bench.proofs.Existence.Conditions.{one_position, lies_within}
+use Rattle.burr_frames.proofs.Common.Conditions.{one_position, lies_within}
 use Rattle.burr_bench.proofs.Stepping.Near.{staying_of_on_bench}
 use Rattle.burr_bench.proofs.Trays.Shifts.{IsShifted, lay_before_shift, lies_at_shifted, lies_at_kept}
 

@@ -5,7 +5,7 @@ use Rattle.std.proofs.lemmas.Bool.Decides.{nat_tests}
 use Rattle.std.proofs.lemmas.Option.{none-some, same_Some}
 use native.Mathlib.Decide.{ℕ_discrete}
 use Rattle.burr_code.specs.Places.{Placement, Apart, On, LiesAt, LiesIn, is_in, count_in, parted_in, parted}
-use Rattle.burr_bench.proofs.Existence.Conditions.{apart-on}
+use Rattle.burr_frames.proofs.Common.Conditions.{apart-on}
 use Rattle.burr_bench.proofs.Trays.Counts.{count_in-same, count_in-other, count_in-empty, count_in-some, count_in-parted_in}
 
 -- A tray with exactly one piece

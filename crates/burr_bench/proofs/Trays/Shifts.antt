@@ -11,7 +11,7 @@ use Rattle.burr_voxels.specs.declared.direction.Direction.{Direction}
 use Rattle.burr_voxels.specs.Grid.{plus, along}
 use Rattle.burr_bench.specs.Space.{moved_places}
 use Rattle.burr_bench.specs.Parts.{is_last, parts}
-use Rattle.burr_bench.proofs.Existence.Conditions.{apart-on, same_tray, same_position}
+use Rattle.burr_frames.proofs.Common.Conditions.{apart-on, same_tray, same_position}
 use Rattle.burr_bench.proofs.Trays.Counts.{changed_place, is_changed, is_kept, length-changed, slice_get-changed, changed_back}
 
 -- a position, and what it is afterwards

@@ -1,37 +1,17 @@
 ghost use Rattle.std.specs.Prelude.{◌≡◌, ◌≤◌, ◌<◌, ◌↔◌, ◌+◌, length, IsTrue, IfSome, Some, None, slice_get, get_or, reverse};
+ghost use Rattle.burr_assembly.specs.Text.{IsAssembly};
 ghost use Rattle.burr_voxels.specs.Near.{IsWithin};
-ghost use Rattle.burr_code.specs.declared.limits.TheConstants.{MOST_CODE, SLOTS};
+ghost use Rattle.burr_code.specs.declared.limits.TheConstants.{MOST_BUDGET, SLOTS};
 ghost use Rattle.burr_bench.specs.declared.mode.Mode.TheVariants.{Ended};
-ghost use Rattle.burr_bench.specs.Bench.{bare_program, start as start_of};
-ghost use Rattle.burr_bench.specs.Parts.{parts};
-ghost use Rattle.burr_bench.specs.BenchViews.{setup_of};
 ghost use Rattle.burr_bench.specs.Spots.{placed};
 
 use crate::checked::Checked;
 use crate::mode::Mode;
-use crate::program::Program;
-use crate::state::BenchState;
 use burr_assembly::Assembly;
 use burr_blocking::Blocking;
 use burr_voxels::Cell;
 
 impl<'a, B: Blocking> Checked<'a, B> {
-    /// The bench at the start of bare code: one procedure of at most 4,096 bytes, without labels;
-    /// all pieces in tray 0 at home, nothing gripped.
-    pub fn bare(code: &'a [u8], blocking: &'a B) -> Checked<'a, B>
-        requires { length code.now ≤ MOST_CODE }
-        ensures assembly { result.assembly ≡ B.subject blocking.entry.now }
-        ensures program { result.program ≡ bare_program code.entry.now }
-        ensures state { result.state ≡ start_of (setup_of result) }
-        ensures parts { parts result.state.places ≡ 1 }
-    {
-        Checked {
-            program: Program::bare(code),
-            blocking,
-            state: BenchState::start(blocking.assembly().piece_count()),
-        }
-    }
-
     /// The steps made so far; the count stays at its greatest value.
     pub fn steps(&self) -> u64
         ensures { result ≡ self.now.state.steps }
@@ -48,14 +28,16 @@ impl<'a, B: Blocking> Checked<'a, B> {
 
     /// The most steps that a run of it makes.
     pub fn budget(&self) -> u32
-        ensures { result ≡ self.now.program.budget }
+        ensures budget { result ≡ self.now.program.budget }
+        ensures few { result ≤ MOST_BUDGET }
     {
         self.program.budget()
     }
 
     /// The assembly whose pieces are moved.
-    pub fn assembly(&self) -> &Assembly
-        ensures { result.now ≡ self.now.assembly }
+    pub fn assembly(&self) -> &'a Assembly
+        ensures assembly { result.now ≡ self.now.assembly }
+        ensures whole { IsAssembly self.now.assembly }
     {
         self.blocking.assembly()
     }

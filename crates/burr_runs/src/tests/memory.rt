@@ -158,3 +158,69 @@ fn tells_a_want_of_memory(rt: HostRuntime) -> Result<(), Fail> {
     assert_wants_memory(&rt, alloc, crowd, Outcome::Refused, refusal)?;
     Ok(())
 }
+
+/// What was seen of the answers of a text while memory was wanting.
+#[derive(Clone, Copy, Debug, Default, PartialEq, Eq)]
+struct AnswersSeen {
+    /// `Memory`.
+    memory: bool,
+    /// The right result.
+    right: bool,
+    /// Neither.
+    wrong: bool,
+}
+
+impl AnswersSeen {
+    fn read(&mut self, alloc: Global, text: &str, wanted: Result<&[i32], AnswersFault>) {
+        let result = read_answers(alloc, text.as_bytes());
+        let is_right = match &result {
+            Ok(answers) => Ok(answers.as_slice()) == wanted,
+            Err(fault) => Err(*fault) == wanted,
+        };
+        if is_right {
+            self.right = true;
+        } else if matches!(result, Err(AnswersFault::Memory)) {
+            self.memory = true;
+        } else {
+            self.wrong = true;
+        }
+    }
+}
+
+/// Reads a text's answers while no memory can be had, and then with each block that is given back,
+/// the smallest first, up to the right result. The list of answers grows by doubling, so each of
+/// its requests is refused at a time when those before it are met.
+fn read_in_want(
+    alloc: Global,
+    text: &str,
+    wanted: Result<&[i32], AnswersFault>,
+) -> Result<AnswersSeen, AllocError> {
+    let mut seen = AnswersSeen::default();
+    let mut blocks: Vec<Vec<u8>> = Vec::with_capacity(alloc, MOST_BLOCKS)?;
+    take_all_memory(alloc, &mut blocks);
+    for _ in 0..=MOST_BLOCKS {
+        seen.read(alloc, text, wanted);
+        if seen.right || blocks.pop().is_none() {
+            break;
+        }
+    }
+    Ok(seen)
+}
+
+#[test]
+fn tells_a_want_of_memory_for_answers(rt: HostRuntime) -> Result<(), Fail> {
+    let alloc = rt.alloc();
+    let text = "7\n".repeat(alloc, 200)?;
+    let faulty = format!(in alloc; "{text}-0\n")?;
+    let wanted = AnswersSeen {
+        memory: true,
+        right: true,
+        wrong: false,
+    };
+    let seen = read_in_want(alloc, &text, Ok(&[7; 200]))?;
+    assert_eq!(rt; seen, wanted);
+    let fault = AnswersFault::Line(201);
+    let seen = read_in_want(alloc, &faulty, Err(fault))?;
+    assert_eq!(rt; seen, wanted);
+    Ok(())
+}

@@ -1,40 +1,42 @@
-use Rattle.std.proofs.Common.{subst, sym, []}
+use Rattle.std.proofs.Common.{◌≡◌, subst, sym, refl, ap, [], ◌∙◌}
+use Rattle.std.proofs.KnownBytes.{Appends-nil}
+use Rattle.burr_bench.specs.Bench.{Program}
 use Rattle.burr_bench.specs.Run.{ends, stops}
-use Rattle.std.specs.Prelude.{Option}
-use Rattle.burr_bench.specs.declared.closing.Closing.{Closing}
-use Rattle.burr_runs.specs.Running.{StepOrClose}
-use Rattle.burr_bench.specs.BenchViews.{setup_of}
-use Rattle.burr_text.proofs.Common.Tests.{on_err, yes_of, no_of}
-use Rattle.burr_runs.proofs.StepByStep.{still_running, closes_behind, step_closes, step_joins, step_fails}
 use Rattle.burr_bench.specs.declared.closing.Closing.TheVariants as closings
+use Rattle.burr_runs.specs.declared.running.Turn.{Turn}
+use Rattle.burr_runs.specs.Running.{TurnIs, run_state}
+use Rattle.burr_text.proofs.Common.Tests.{on_err, yes_of, no_of}
+use Rattle.burr_runs.proofs.StepByStep.{still_running, closes_behind, fails_behind, parts_join, same_run_on}
 use Rattle.burr_runs.proofs.running.run_to_close.Goals as goal
+
+pub loop-answers-init : goal.loop-answers-init
+loop-answers-init g c = (c.requires.in_step, record { assembly = refl; program = refl }, ([], Appends-nil _, λ motions steps closing run. (motions, run, refl)))
 
 pub returns-then-ended-clause-ok : goal.returns-then-ended-clause-ok
 returns-then-ended-clause-ok g c =
-    let now = c.loop-bench.bench in
-    closes_behind g.W.Sink (setup_of c.args.bench.now) c.args.bench.now.state now.state now.state c.args.sheet.now c.loop-bench.sheet _ _ closings.Apart c.loop-bench.invariant.2
-    (ends now.state [] (yes_of c.if-ended.ensures))
+    let now = c.loop-answers.bench in
+    closes_behind g.W.Sink (run_state c.args.bench.now c.args.answers.now c.args.sheet.now) (run_state now c.loop-answers.answers.now c.loop-answers.sheet) now c.loop-answers.sheet _ _ _ closings.Apart c.loop-answers.invariant.2
+    (ends now.state c.loop-answers.answers.now (yes_of c.if-ended.ensures)) refl refl
 
-pub returns-then-steps-eq-BUDGET-clause-ok : goal.returns-then-steps-eq-BUDGET-clause-ok
-returns-then-steps-eq-BUDGET-clause-ok g c =
-    let now = c.loop-bench.bench in
-    closes_behind g.W.Sink (setup_of c.args.bench.now) c.args.bench.now.state now.state now.state c.args.sheet.now c.loop-bench.sheet _ _ closings.Stopped c.loop-bench.invariant.2
-    (stops now.state [] (still_running now.state c.loop-bench.invariant.0.mode (no_of c.if-ended.ensures)) (rw (sym c.steps.ensures) c.if-steps-eq-BUDGET.true))
+pub returns-then-steps-budget-clause-ok : goal.returns-then-steps-budget-clause-ok
+returns-then-steps-budget-clause-ok g c =
+    let now = c.loop-answers.bench in
+    let used : now.state.steps ≡ now.program.budget = sym c.steps.ensures ∙ c.if-steps-budget.true ∙ c.requires.budget ∙ ap (λ (p : Program). p.budget) (sym c.loop-answers.invariant.1.program) in
+    closes_behind g.W.Sink (run_state c.args.bench.now c.args.answers.now c.args.sheet.now) (run_state now c.loop-answers.answers.now c.loop-answers.sheet) now c.loop-answers.sheet _ _ _ closings.Stopped c.loop-answers.invariant.2
+    (stops now.state c.loop-answers.answers.now (still_running now.state c.loop-answers.invariant.0.mode (no_of c.if-ended.ensures)) used) refl refl
 
-pub returns-in_err-closing-clause-err : goal.returns-in_err-closing-clause-err
-returns-in_err-closing-clause-err g c =
-    on_err c.from_residual.result (step_fails g.W.Sink c.args.bench.now c.loop-bench.bench c.args.sheet.now c.loop-bench.sheet _ _ _ c.loop-bench.invariant.1 c.loop-bench.invariant.2 c.in_err-closing.ensures.err)
+pub returns-in_err-left-clause-err : goal.returns-in_err-left-clause-err
+returns-in_err-left-clause-err g c =
+    on_err c.from_residual.result
+    (fails_behind g.W.Sink (run_state c.args.bench.now c.args.answers.now c.args.sheet.now) (run_state c.loop-answers.bench c.loop-answers.answers.now c.loop-answers.sheet) _ _ _ c.loop-answers.invariant.2 c.in_err-left.ensures.err)
 
-pub returns-in-Some-clause-ok : goal.returns-in-Some-clause-ok
-returns-in-Some-clause-ok g c =
-    let now = c.loop-bench.bench in
-    let new = c.take_step.new.bench in
-    let step = subst (λ (t : Option Closing). StepOrClose g.W.Sink c.loop-bench.sink c.take_step.new.sink now c.loop-bench.sheet new c.take_step.new.sheet t) c.in-Some.is c.in_ok-closing.ensures.ok in
-    step_closes g.W.Sink c.args.bench.now now new c.args.sheet.now c.loop-bench.sheet c.take_step.new.sheet _ _ _ c.in-Some.closing c.loop-bench.invariant.1 c.loop-bench.invariant.2 step
-
-pub loop-bench-preserved : goal.loop-bench-preserved
-loop-bench-preserved g c =
-    let now = c.loop-bench.bench in
-    let new = c.take_step.new.bench in
-    let step = subst (λ (t : Option Closing). StepOrClose g.W.Sink c.loop-bench.sink c.take_step.new.sink now c.loop-bench.sheet new c.take_step.new.sheet t) c.in-None.is c.in_ok-closing.ensures.ok in
-    step_joins g.W.Sink c.args.bench.now now new c.args.sheet.now c.loop-bench.sheet c.take_step.new.sheet _ _ _ c.loop-bench.invariant.1 c.loop-bench.invariant.2 step
+pub loop-answers-preserved : goal.loop-answers-preserved
+loop-answers-preserved g c =
+    let now = c.loop-answers.bench in
+    let new = c.take_turn.new.bench in
+    let here = run_state now c.loop-answers.answers.now c.loop-answers.sheet in
+    let turn = subst (λ (t : Turn). TurnIs g.W.Sink c.loop-answers.sink c.take_turn.new.sink here new c.take_turn.new.sheet t) c.in-GoesOn.is c.in_ok-left.ensures.ok in (
+      turn.0.in_step,
+      same_run_on c.args.bench.now now new c.loop-answers.invariant.1 turn.0.same,
+      parts_join g.W.Sink (run_state c.args.bench.now c.args.answers.now c.args.sheet.now) here (run_state new c.in-GoesOn.left.now c.take_turn.new.sheet) _ _ _ c.loop-answers.invariant.2 turn.0.puts,
+    )

@@ -1,13 +1,13 @@
-use Rattle.std.proofs.Common.{◌-◌}
-use Rattle.burr_bench.specs.BenchViews.{setup_of, IsSameRun}
-use Rattle.burr_runs.specs.Running.{IsInStep, PutsPart}
+use Rattle.burr_bench.specs.BenchViews.{IsSameRun}
+use Rattle.burr_runs.specs.Running.{IsInStep, PutsPart, run_state, left_to_take}
 use Rattle.burr_runs.proofs.running.run_to_close.Given as goal
 
 -- a part of the run was made, and of its sheet put
-abbrev pub invariant-loop-bench : goal.invariant-loop-bench
-invariant-loop-bench g l =
+abbrev pub invariant-loop-answers : goal.invariant-loop-answers
+invariant-loop-answers g l =
     IsInStep l.bench l.sheet × IsSameRun l.fn.bench l.bench
-    × PutsPart g.W.Sink l.fn.sink l.sink (setup_of l.fn.bench) l.fn.bench.state l.fn.sheet l.bench.state l.sheet
+    × PutsPart g.W.Sink l.fn.sink l.sink (run_state l.fn.bench l.fn.answers l.fn.sheet) (run_state l.bench l.answers l.sheet)
 
-abbrev pub decreases-loop-bench : goal.decreases-loop-bench
-decreases-loop-bench g l = 1000000 - l.bench.state.steps
+-- each turn makes a step or takes an answer
+abbrev pub decreases-loop-answers : goal.decreases-loop-answers
+decreases-loop-answers g l = left_to_take (run_state l.bench l.answers l.sheet)

@@ -1,7 +1,7 @@
 use Rattle.std.proofs.Common.{rules, arith, IsBitSet, sym, length, ◌≤◌}
 use Rattle.burr_bench.specs.StateViews.{PieceStaysOnBench}
 use Rattle.burr_text.proofs.Common.Tests.{yes_of, no_of, yes_iff, no_iff, one_more_number}
-use Rattle.burr_bench.proofs.Existence.Conditions.{lies_within}
+use Rattle.burr_frames.proofs.Common.Conditions.{lies_within}
 use Rattle.burr_bench.proofs.Stepping.Near.{on_bench_of_staying, staying_of_on_bench, near_lying}
 use Rattle.burr_bench.proofs.state.BenchState.stays_on_bench.Goals as goal
 use Rattle.burr_bench.proofs.state.BenchState.stays_on_bench.Goals.{else-is_in_set-via-then-is_in_set+else-not-piece_stays_on_bench, else-is_in_set-via-else-is_in_set}

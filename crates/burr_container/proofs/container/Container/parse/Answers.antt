@@ -40,3 +40,18 @@ returns c =
         procedures = here.1;
       },
     )
+
+pub invariant_of-result-2 : goal.invariant_of-result-2
+invariant_of-result-2 c =
+    let here = c.in_ok-procedures.ensures in
+    let none : c.in_ok-procedures.end.rest.now ≡ [] =
+    none_left c.in_ok-procedures.end.rest.now (eqb-true (length c.in_ok-procedures.end.rest.now) 0 (sym c.if-not-is_empty.ensures)) in
+    let plan =
+    plan_at c.in_ok-header.header c.new-begin.result c.in_ok-header.behind_header c.in_ok-procedures.end here.0 c.in_ok-header.ensures.reads here.2 none in (
+      _,
+      plan.0,
+      record {
+        header = record { version = c.in_ok-header.ensures.reads.version; budget = refl; pieces = refl; name = refl };
+        procedures = here.1;
+      },
+    )

@@ -1,0 +1,58 @@
+ghost use Rattle.std.specs.Prelude.{◌≡◌, ◌<◌, ◌↔◌, ◌≤◌, IsOk, IfOk, IfErr, length};
+ghost use Rattle.burr_code.specs.declared.limits.TheConstants.{MOST_CODE};
+ghost use Rattle.burr_container.specs.Plans.{Plan};
+ghost use Rattle.burr_container.specs.Containers.{IsContainer};
+ghost use Rattle.burr_verify.specs.Fitting.{FitsAssembly};
+ghost use Rattle.burr_verify.specs.Refusals.{another_assembly};
+ghost use Rattle.burr_bench.specs.Bench.{bare_program};
+ghost use Rattle.burr_bench.specs.Programs.{plan_program};
+ghost use Rattle.burr_bench.specs.BenchViews.{IsAtStart};
+
+use crate::checked::Checked;
+use crate::program::Program;
+use crate::state::BenchState;
+use burr_blocking::Blocking;
+use burr_container::Container;
+use burr_verify::{Refusal, fits_assembly};
+
+impl<'a, B: Blocking> Checked<'a, B> {
+    /// The bench at the start of a container's plan: all pieces in tray 0 at home, nothing gripped. A
+    /// plan for another assembly is refused by V1, and nothing else is judged.
+    pub fn start(container: &Container<'a>, blocking: &'a B) -> Result<Checked<'a, B>, Refusal>
+        ensures fits { (p : Plan) → IsContainer container.entry.now p
+            → (IsOk result ↔ FitsAssembly p (B.subject blocking.entry.now)) }
+        ensures refusal { IfErr result (λ refusal. refusal ≡ another_assembly) }
+        ensures assembly { IfOk result (λ bench. bench.assembly ≡ B.subject blocking.entry.now) }
+        ensures program { IfOk result (λ bench. (p : Plan) → IsContainer container.entry.now p
+            → bench.program ≡ plan_program p) }
+        ensures start { IfOk result IsAtStart }
+    {
+        fits_assembly(container, blocking.assembly())?;
+        Ok(Checked::of(Program::of(container), blocking))
+    }
+
+    /// The bench at the start of bare code: one procedure of at most 4,096 bytes, without labels;
+    /// all pieces in tray 0 at home, nothing gripped.
+    pub fn bare(code: &'a [u8], blocking: &'a B) -> Checked<'a, B>
+        requires { length code.now ≤ MOST_CODE }
+        ensures assembly { result.assembly ≡ B.subject blocking.entry.now }
+        ensures program { result.program ≡ bare_program code.entry.now }
+        ensures start { IsAtStart result }
+    {
+        Checked::of(Program::bare(code), blocking)
+    }
+
+    /// The bench at the start of a program.
+    fn of(program: Program<'a>, blocking: &'a B) -> Checked<'a, B>
+        requires { 0 < length program.procedures }
+        ensures assembly { result.assembly ≡ B.subject blocking.entry.now }
+        ensures program { result.program ≡ program.entry }
+        ensures start { IsAtStart result }
+    {
+        Checked {
+            program,
+            blocking,
+            state: BenchState::start(blocking.assembly().piece_count()),
+        }
+    }
+}

@@ -1,0 +1,60 @@
+-- What the format bounds is within its bounds in each container.
+use Rattle.std.proofs.Common.{◌≡◌, ◌<◌, ◌≤◌, ℕ, zero, suc, Bool, true, false, Some, List, [], ◌∷◌, length, refl, sym, ap, subst, arith, ◌∙◌, nat_le, ◌&&◌, slice_get}
+use Rattle.std.specs.List.{list_all}
+use Rattle.std.proofs.lemmas.Bool.{and_parts, leb-true, false≢true}
+use Rattle.std.proofs.lemmas.Option.{none-some, same_Some, slice_get_within}
+use Rattle.burr_code.specs.declared.limits.TheConstants.{MOST_CODE}
+use Rattle.burr_container.specs.declared.procedure_ref.ProcedureRef.{ProcedureRef}
+use Rattle.burr_container.specs.Plans.{Plan, PlanProcedure}
+use Rattle.burr_container.specs.Fitting.{is_fitting, are_procedures, is_procedure, is_code, is_budget, is_piece_count, is_name_text, are_parameters, is_exit, are_labels}
+use Rattle.burr_container.specs.InPlace.{AreFor, IsProcedure}
+use Rattle.burr_container.specs.Containers.{KeptContainer, HasPlan}
+
+-- an element for which the test of all is passed
+one_of_all : {A : Type 0} (test : A → Bool) (xs : List A) (i : ℕ) (x : A) → list_all test xs ≡ true → slice_get xs i ≡ Some x → test x ≡ true
+one_of_all test [] i x all at = absurd (none-some _ at)
+one_of_all test (y ∷ xs) zero x all at = subst (λ z. test z ≡ true) (same_Some _ _ at) (and_parts (test y) (list_all test xs) all).0
+one_of_all test (y ∷ xs) (suc i) x all at = one_of_all test xs i x (and_parts (test y) (list_all test xs) all).1 at
+
+-- for each element of the first list there is one of the second
+for_there : {A B : Type 0} (Is : A → B → Type 0) (xs : List A) (ys : List B) (i : ℕ) (x : A) → AreFor Is xs ys → slice_get xs i ≡ Some x → (y : B) × (slice_get ys i ≡ Some y) × Is x y
+for_there Is [] [] i x are at = absurd (none-some _ at)
+for_there Is [] (y ∷ ys) i x are at = absurd are
+for_there Is (z ∷ xs) [] i x are at = absurd are
+for_there Is (z ∷ xs) (y ∷ ys) zero x are at = (y, refl, subst (λ w. Is w y) (same_Some _ _ at) are.0)
+for_there Is (z ∷ xs) (y ∷ ys) (suc i) x are at = for_there Is xs ys i x are.1 at
+
+-- the procedures of a plan within the format
+fitting_procedures : (p : Plan) → is_fitting p ≡ true → are_procedures p.pieces p.procedures ≡ true
+fitting_procedures p fits = (and_parts (is_budget p.budget && is_piece_count p.pieces && is_name_text p.name) (are_procedures p.pieces p.procedures) fits).1
+
+-- a procedure's code
+fitting_code : (pieces : ℕ) (main : Bool) (q : PlanProcedure) → is_procedure pieces main q ≡ true → length q.code ≤ MOST_CODE
+fitting_code pieces main q fits =
+    let code = (and_parts (are_parameters main q.parameters && is_exit main pieces q.parameters q.exit && are_labels pieces (length q.code) q.labels) (is_code q.code) fits).1 in
+    leb-true (length q.code) MOST_CODE (and_parts (nat_le (length q.code) MOST_CODE) _ code).0
+
+-- each of the procedures
+each_code : (pieces : ℕ) (qs : List PlanProcedure) (i : ℕ) (q : PlanProcedure) → are_procedures pieces qs ≡ true → slice_get qs i ≡ Some q → length q.code ≤ MOST_CODE
+each_code pieces [] i q fits at = absurd (none-some _ at)
+each_code pieces (main ∷ others) zero q fits at =
+    let both = and_parts (is_procedure pieces true main && list_all (is_procedure pieces false) others) _ fits in
+    subst (λ (x : PlanProcedure). length x.code ≤ MOST_CODE) (same_Some _ _ at) (fitting_code pieces true main (and_parts (is_procedure pieces true main) _ both.0).0)
+each_code pieces (main ∷ others) (suc i) q fits at =
+    let both = and_parts (is_procedure pieces true main && list_all (is_procedure pieces false) others) _ fits in
+    fitting_code pieces false q (one_of_all (is_procedure pieces false) others i q (and_parts (is_procedure pieces true main) _ both.0).1 at)
+
+-- the code of a container's procedure
+pub code_short : (kept : KeptContainer) (i : ℕ) (r : ProcedureRef) → HasPlan kept → slice_get kept.procedures i ≡ Some r → length r.code.now ≤ MOST_CODE
+code_short kept i r (p, fits, is) at =
+    let q = for_there (IsProcedure p.pieces) kept.procedures p.procedures i r is.procedures at in
+    subst (λ (bytes : List ℕ). length bytes ≤ MOST_CODE) (sym q.2.code) (each_code p.pieces p.procedures i q.0 (fitting_procedures p fits) q.1)
+
+-- a container has a procedure
+pub some_procedure : (kept : KeptContainer) → HasPlan kept → 1 ≤ length kept.procedures
+some_procedure kept (p, fits, is) = at_least_one kept.procedures p.procedures is.procedures (fitting_procedures p fits)
+  where
+    at_least_one : (rs : List ProcedureRef) (qs : List PlanProcedure) → AreFor (IsProcedure p.pieces) rs qs → are_procedures p.pieces qs ≡ true → 1 ≤ length rs
+    at_least_one rs [] are fits = absurd (false≢true fits)
+    at_least_one [] (q ∷ qs) are fits = absurd are
+    at_least_one (r ∷ rs) (q ∷ qs) are fits = omega arith

@@ -1,0 +1,19 @@
+-- Small forms have room, and another form once is that form.
+use Rattle.std.proofs.Common.{sym, ◌∙◌, subst, subst}
+use Rattle.burr_forms.specs.Forms.{Form, plus_form}
+use Rattle.burr_forms.specs.Wides.{IsWideForm}
+use Rattle.burr_forms.specs.Results.{IsFormOf}
+use Rattle.burr_forms.proofs.Sums.{form_once}
+use Rattle.burr_forms.proofs.Widths.{small_is_wide, one_is_small}
+use Rattle.burr_forms.proofs.form.Form.add.Goals as goal
+
+pub add_times-requires-clause-wide : goal.add_times-requires-clause-wide
+add_times-requires-clause-wide c = subst IsWideForm (sym c.of-sum.ensures) (small_is_wide c.args.self.now c.requires.small)
+
+pub add_times-requires-clause-factor : goal.add_times-requires-clause-factor
+add_times-requires-clause-factor c = one_is_small
+
+pub returns : goal.returns
+returns c =
+    let same = c.add_times.ensures ∙ (λ i. plus_form (c.of-sum.ensures i) (form_once c.args.other.now i)) in
+    subst (λ (f : Form). IsFormOf c.form.result f) same c.form.ensures

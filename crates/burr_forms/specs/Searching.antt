@@ -1,0 +1,41 @@
+-- A search over the points of a region, which carries values along the last symbol.
+use Rattle.std.specs.Prelude.{◌≡◌, ◌^◌, ◌≤◌, ◌-◌, ℕ, ℤ, pos, ◌+ℤ◌, List, [], ◌∷◌, map, All, length, Some, slice_index_or}
+use Rattle.std.specs.Int.RustNames.{unsigned_abs}
+use Rattle.burr_forms.specs.Forms.{Form, Point, values}
+use Rattle.burr_forms.specs.Points.{InBox, IsPointOf, Precedes}
+use Rattle.burr_forms.specs.Rising.{following}
+use Rattle.burr_forms.specs.Conditions.{Region}
+
+-- no value of a small form at a near point is greater, either way
+abbrev pub IsBounded : ℤ → Type 0
+IsBounded v = unsigned_abs v ≤ 2 ^ 59
+
+abbrev pub AllBounded : List ℤ → Type 0
+AllBounded numbers = All IsBounded numbers
+
+-- how far the value of a form goes as this symbol goes one up
+abbrev pub step_of : ℕ → Form → ℤ
+step_of k f = slice_index_or f.coefs k (pos 0)
+
+abbrev pub steps_of : ℕ → List Form → List ℤ
+steps_of k forms = map (step_of k) forms
+
+-- two lists of as many numbers, added place by place
+abbrev pub sums : List ℤ → List ℤ → List ℤ
+sums [] steps = []
+sums (v ∷ numbers) [] = v ∷ numbers
+sums (v ∷ numbers) (s ∷ steps) = (v +ℤ s) ∷ sums numbers steps
+
+-- the last number of a point goes one up: the point that follows, where each form is its own step further
+pub record IsRaised (ranges : List (ℤ × ℤ)) (old new : Point) : Type 0 where
+  pub follows : following ranges old ≡ Some new
+  pub carries : (forms : List Form) → values new forms ≡ sums (values old forms) (steps_of (length ranges - 1) forms)
+
+-- the condition holds at each point before this one
+abbrev pub HoldsBefore : Region → (Point → Type 0) → Point → Type 0
+HoldsBefore s P point = (q : Point) → IsPointOf s.ranges s.guards q → Precedes q point → P q
+
+-- the search stands at this point
+pub record StandsAt (s : Region) (P : Point → Type 0) (point : Point) : Type 0 where
+  pub inside : InBox s.ranges point
+  pub before : HoldsBefore s P point

@@ -1,0 +1,50 @@
+ghost use Rattle.std.specs.Prelude.{◌≡◌, ◌≤◌, length, MatchOption};
+ghost use Rattle.burr_forms.specs.Forms.{AllSmallForms, AllNear};
+ghost use Rattle.burr_forms.specs.Points.{guards_hold, AreGuards};
+
+use crate::form::{Form, is_small};
+use arrayvec::ArrayVec;
+use std::marker::Model;
+
+/// At most eight forms, none of which may be negative.
+#[derive(Clone, Debug, Drop)]
+pub struct Guards {
+    forms: ArrayVec<Form, 8>,
+}
+
+impl Model for Guards {
+    ghost use Rattle.std.specs.Prelude.{List};
+    ghost use Rattle.burr_forms.specs.Forms.{Form, AllSmallForms};
+
+    ghost Value = { List Form };
+
+    ghost view = { λ g. g.forms.items };
+
+    ghost invariant = { λ g. AllSmallForms g.forms.items };
+}
+
+impl Guards {
+    /// These guards. None where there are more than eight, or a number of one lies outside ±2^40.
+    pub fn new(forms: &[Form]) -> Option<Guards>
+        ensures { MatchOption result (¬ AreGuards forms.now) (λ given.
+            AreGuards forms.now × (given ≡ forms.now)) }
+    {
+        if 8 < forms.len() || !forms.iter().all(|form| is_small(form)) {
+            return None;
+        }
+        let mut guards = ArrayVec::new();
+        for form in forms {
+            guards.push(*form);
+        }
+        Some(Guards { forms: guards })
+    }
+
+    /// Whether none is negative at a point, each of whose numbers lies within ±32,767, the caller's
+    /// condition.
+    pub fn hold(&self, point: &[i32; 8]) -> bool
+        requires { AllNear point.now }
+        ensures { result ≡ guards_hold self.now point.now }
+    {
+        self.forms.iter().all(|guard| guard.eval(point) >= 0)
+    }
+}

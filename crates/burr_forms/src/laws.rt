@@ -1,0 +1,8 @@
+ghost use Rattle.burr_forms.specs.PointLaws.{OneListOfPoints, ThePointsAreGiven};
+
+/// The points of a box under guards are listed each once, rising, the first symbol slowest, and
+/// no other; and there is one such list at most.
+pub fn the_points_are_given()
+    ensures given { ThePointsAreGiven }
+    ensures one { OneListOfPoints }
+{}

@@ -1,0 +1,54 @@
+ghost use Rattle.std.specs.Prelude.{◌≤◌, length, MatchOption};
+ghost use Rattle.burr_forms.specs.Forms.{AllSmallForms};
+ghost use Rattle.burr_forms.specs.Points.{AreRanges};
+ghost use Rattle.burr_forms.specs.Conditions.{region, at_values, Throughout, FailsFirstAt};
+
+use crate::along::{carry, raise_last};
+use crate::condition::{Condition, passes};
+use crate::form::Form;
+use crate::rows::{Point, advance_point, evaluate, lowest_point, steps_along, values_at};
+
+/// The first point of a box, rising, at which no guard is negative and the condition fails; None where
+/// it holds at each. There are at most eight ranges and 120 guards and forms; each range holds a number,
+/// and numbers within ±32,767 alone; the numbers of all forms lie within ±2^40: all is the caller's
+/// condition. Along the last symbol values are carried on by addition.
+pub fn first_failing<C: Condition>(
+    ranges: &[(i32, i32)],
+    guards: &[Form],
+    condition: &C,
+) -> Option<Point>
+    requires few { length ranges.now ≤ 8 }
+    requires few_guards { length guards.now ≤ 120 }
+    requires few_forms { length (C.asked condition.now) ≤ 120 }
+    requires ranges { AreRanges ranges.now }
+    requires guards { AllSmallForms guards.now }
+    requires forms { AllSmallForms (C.asked condition.now) }
+    ensures { MatchOption result
+        (Throughout (region ranges.now guards.now)
+        (at_values (C.Holds condition.now) (C.asked condition.now)))
+        (λ point. FailsFirstAt (region ranges.now guards.now)
+        (at_values (C.Holds condition.now) (C.asked condition.now)) point.items) }
+{
+    let forms = condition.forms();
+    let last = ranges.len().saturating_sub(1);
+    let sign_steps = steps_along(guards, last);
+    let steps = steps_along(forms, last);
+    let mut point = lowest_point(ranges);
+    let mut signs = values_at(guards, &point);
+    let mut row = values_at(forms, &point);
+    loop {
+        if !passes(condition, &signs, &row) {
+            return Some(point);
+        }
+        if raise_last(ranges, &mut point) {
+            carry(&mut signs, &sign_steps);
+            carry(&mut row, &steps);
+            continue;
+        }
+        if !advance_point(ranges, &mut point) {
+            return None;
+        }
+        evaluate(guards, &point, &mut signs);
+        evaluate(forms, &point, &mut row);
+    }
+}

@@ -1,0 +1,111 @@
+//! Values, sums and substitution.
+ghost use Rattle.std.specs.Prelude.{◌↔◌, IsTrue};
+ghost use Rattle.burr_forms.specs.Forms.{IsNear};
+
+use super::*;
+
+/// Asserts the value of a form at a point, in the front of which these numbers stand.
+fn assert_value<T: Abort>(rt: &T, form: Form, point: [i32; 8], value: i64) {
+    assert!(rt; is_small(&form));
+    assert!(rt; point.iter().all(|number| is_near(*number)));
+    assert_eq!(rt; form.eval(&point), value);
+}
+
+fn is_near(number: i32) -> bool
+    ensures { IsTrue result ↔ IsNear number }
+{
+    -32767 <= number && number <= 32767
+}
+
+#[test]
+fn gives_values(rt: HostRuntime) -> Result<(), Fail> {
+    assert_value(&rt, form(1, 2, -3), [4, 5, 9, 9, 9, 9, 9, 9], -6);
+    assert_value(&rt, number(-MOST), [0; 8], -MOST);
+    let most = Form {
+        constant: MOST,
+        coefs: [MOST; 8],
+    };
+    assert_value(&rt, most, [32767; 8], MOST * (1 + 8 * 32767));
+    assert_value(&rt, most, [-32767; 8], MOST * (1 - 8 * 32767));
+    Ok(())
+}
+
+/// Asserts what a form is with these arguments in place of its symbols.
+fn assert_substituted<T: Abort>(
+    rt: &T,
+    form: Form,
+    arguments: &[Form; 8],
+    given: Result<Form, FormTooLarge>,
+) {
+    assert!(rt; is_small(&form));
+    assert!(rt; Guards::new(arguments).is_some());
+    assert_eq!(rt; form.substitute(arguments), given);
+}
+
+/// Two arguments, and 0 in place of the other symbols.
+fn arguments(first: Form, second: Form) -> [Form; 8] {
+    let zero = number(0);
+    [first, second, zero, zero, zero, zero, zero, zero]
+}
+
+#[test]
+fn puts_forms_in_place_of_symbols(rt: HostRuntime) -> Result<(), Fail> {
+    let zero = number(0);
+    let one = arguments(form(3, 0, -1), zero);
+    assert_substituted(&rt, form(1, 2, 0), &one, Ok(form(7, 0, -2)));
+    let other = arguments(zero, form(1, 1, 0));
+    assert_substituted(&rt, form(5, 0, 3), &other, Ok(form(8, 3, 0)));
+    assert_substituted(
+        &rt,
+        form(0, MOST, 0),
+        &arguments(number(1), zero),
+        Ok(number(MOST)),
+    );
+    assert_substituted(
+        &rt,
+        form(0, MOST, 0),
+        &arguments(number(2), zero),
+        Err(FormTooLarge),
+    );
+    // What lies between may be far larger.
+    let far = arguments(number(MOST), number(-MOST));
+    assert_substituted(&rt, form(1, MOST, MOST), &far, Ok(number(1)));
+    Ok(())
+}
+
+/// Asserts the sum and the difference of two forms.
+fn assert_added<T: Abort>(
+    rt: &T,
+    one: Form,
+    other: Form,
+    sum: Result<Form, FormTooLarge>,
+    difference: Result<Form, FormTooLarge>,
+) {
+    assert!(rt; is_small(&one));
+    assert!(rt; is_small(&other));
+    assert_eq!(rt; one.add(&other), sum);
+    assert_eq!(rt; one.sub(&other), difference);
+}
+
+#[test]
+fn adds_and_subtracts(rt: HostRuntime) -> Result<(), Fail> {
+    let (one, other) = (form(1, 2, 3), form(10, -2, 30));
+    assert_added(&rt, one, other, Ok(form(11, 0, 33)), Ok(form(-9, 4, -27)));
+    let (most, least) = (number(MOST), number(-MOST));
+    assert_added(
+        &rt,
+        most,
+        number(1),
+        Err(FormTooLarge),
+        Ok(number(MOST - 1)),
+    );
+    assert_added(
+        &rt,
+        least,
+        number(1),
+        Ok(number(1 - MOST)),
+        Err(FormTooLarge),
+    );
+    assert_added(&rt, most, least, Ok(number(0)), Err(FormTooLarge));
+    Ok(())
+}

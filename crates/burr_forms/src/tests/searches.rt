@@ -1,0 +1,40 @@
+//! Searches for the first point at which a form is negative.
+use super::*;
+
+/// Asserts the first point at which no guard is negative and the form is.
+fn assert_found<T: Abort>(
+    rt: &T,
+    ranges: &[(i32, i32)],
+    guards: &[Form],
+    form: Form,
+    found: Option<&[i32]>,
+) {
+    assert!(rt; Box8::new(ranges).is_some());
+    assert!(rt; Guards::new(guards).is_some());
+    let forms = [form];
+    assert!(rt; Guards::new(&forms).is_some());
+    let point = first_failing(ranges, guards, &NotNegative { forms: &forms });
+    assert_eq!(rt; point.as_ref().map(|point| point.as_slice()), found);
+}
+
+#[test]
+fn finds_the_first_point(rt: HostRuntime) -> Result<(), Fail> {
+    let ranges = [(0, 2), (0, 2)];
+    assert_found(&rt, &ranges, &[], form(4, -1, -1), None);
+    assert_found(&rt, &ranges, &[], form(3, -1, -1), Some(&[2, 2]));
+    assert_found(&rt, &ranges, &[], form(1, -1, -1), Some(&[0, 2]));
+    assert_found(&rt, &ranges, &[], form(-1, 1, 0), Some(&[0, 0]));
+    // A guard keeps the second number from being above the first.
+    let guards = [form(0, 1, -1)];
+    assert_found(&rt, &ranges, &guards, form(1, -1, -1), Some(&[1, 1]));
+    assert_found(&rt, &ranges, &guards, form(0, 1, -1), None);
+    Ok(())
+}
+
+#[test]
+fn finds_points_without_symbols(rt: HostRuntime) -> Result<(), Fail> {
+    assert_found(&rt, &[], &[], number(0), None);
+    assert_found(&rt, &[], &[], number(-1), Some(&[]));
+    assert_found(&rt, &[], &[number(-1)], number(-1), None);
+    Ok(())
+}

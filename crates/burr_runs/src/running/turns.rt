@@ -1,0 +1,63 @@
+ghost use Rattle.std.specs.Prelude.{◌≡◌, ◌≢◌, IfOk, OnErr};
+ghost use Rattle.burr_bench.specs.declared.mode.Mode.TheVariants.{Running};
+ghost use Rattle.burr_bench.specs.Next.{Asks};
+ghost use Rattle.burr_bench.specs.Step.{NextIs};
+ghost use Rattle.burr_bench.specs.BenchViews.{setup_of};
+ghost use Rattle.burr_runs.specs.Running.{FailsInRun, IsInStep, TurnIs, AnswerIs, run_state};
+
+use crate::running::Turn;
+use burr_bench::{Checked, Closing, Progress};
+use burr_blocking::Blocking;
+use burr_io::{Sink, WriteFault};
+use burr_sheet::Sheet;
+
+/// Takes one step of the bench, and puts what its motion closes, or gives it the next answer where it
+/// asks; or tells how the run closes where no step is to be made.
+pub fn take_turn<'a, B: Blocking, W: Sink>(
+    bench: &mut Checked<B>,
+    answers: &'a [i32],
+    sheet: &mut Sheet,
+    sink: &mut W,
+) -> Result<Turn<'a>, WriteFault>
+    requires in_step { IsInStep bench.old sheet.old }
+    requires running { bench.old.state.mode ≡ Running }
+    requires within { bench.old.state.steps ≢ bench.old.program.budget }
+    ensures ok { IfOk result (TurnIs W.Sink sink.old sink.new
+        (run_state bench.old answers.entry.now sheet.old) bench.new sheet.new) }
+    ensures err { OnErr result (FailsInRun W.Sink sink.old sink.new
+        (run_state bench.old answers.entry.now sheet.old)) }
+{
+    match bench.step(None) {
+        Ok(Progress::Went(Some(motion))) => {
+            sheet.motion(motion, sink)?;
+            Ok(Turn::GoesOn(answers))
+        }
+        Ok(Progress::Went(None)) => Ok(Turn::GoesOn(answers)),
+        Ok(Progress::Asks(low, high)) => Ok(give_answer(bench, answers, low, high)),
+        // Neither comes of a running bench without an answer.
+        Ok(Progress::Again) | Ok(Progress::Ended) => Ok(Turn::GoesOn(answers)),
+        Err(trap) => {
+            let closing = Closing::Trapped(trap, bench.proc(), bench.pc());
+            Ok(Turn::Closes(closing))
+        }
+    }
+}
+
+/// Gives a bench that asks the next answer; where there is none the run closes.
+fn give_answer<'a, B: Blocking>(
+    bench: &mut Checked<B>,
+    answers: &'a [i32],
+    low: i32,
+    high: i32,
+) -> Turn<'a>
+    requires running { bench.old.state.mode ≡ Running }
+    requires within { bench.old.state.steps ≢ bench.old.program.budget }
+    requires asks { NextIs (setup_of bench.old) bench.old.state (Asks low high) }
+    ensures { AnswerIs bench.old answers.entry.now low high bench.new result }
+{
+    let Some((answer, left)) = answers.split_first() else {
+        return Turn::Closes(Closing::Waiting(low, high));
+    };
+    let _ = bench.step(Some(*answer));
+    Turn::GoesOn(left)
+}

@@ -1,0 +1,18 @@
+ghost use Rattle.burr_verify.specs.VerifyLaws.{OnePass, PassIsCut, RefusalIsFirst, OneJudging, JudgingIsFraming, JudgingRefuses};
+
+/// Over code whose labels stand at rising places, a pass has exactly one judgement: nothing is wrong
+/// exactly where the code can be cut with a state before each instruction, and a refusal names the first
+/// check that fails.
+pub fn a_pass_has_one_judgement()
+    ensures one { OnePass }
+    ensures cut { PassIsCut }
+    ensures first { RefusalIsFirst }
+{}
+
+/// A plan whose labels stand at rising places of its codes has exactly one judgement: nothing is wrong
+/// exactly where it is well framed, and a refusal names the first check that fails.
+pub fn a_plan_is_judged_in_one_way()
+    ensures one { OneJudging }
+    ensures framed { JudgingIsFraming }
+    ensures first { JudgingRefuses }
+{}
