@@ -1,5 +1,6 @@
 pub mod CallLaws
 pub mod Calls
+pub mod FramedSetup
 pub mod Leading
 pub mod OneRun
 pub mod Outcomes

@@ -3,6 +3,7 @@ pub mod Existence
 pub mod Offers
 pub mod Operands
 pub mod Programs
+pub mod Soundness
 pub mod Stepping
 pub mod Trays
 mod TwoCubes

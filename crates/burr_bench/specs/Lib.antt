@@ -3,7 +3,8 @@ pub mod Bench
 pub mod BenchViews
 pub mod Control
 pub mod Effects
-pub mod Ways
+pub mod Framing
+pub mod Invariant
 pub mod Next
 pub mod Numbers
 pub mod Offsets
@@ -12,10 +13,14 @@ pub mod Programs
 pub mod Questions
 pub mod Run
 pub mod RunLaws
+pub mod SafeRuns
+pub mod Soundness
 pub mod Space
 pub mod SpaceLaws
 pub mod Spots
+pub mod Standing
 pub mod StateViews
 pub mod Step
 pub mod StepLaws
 pub mod TrapNames
+pub mod Ways

@@ -4,6 +4,7 @@ ghost use Rattle.burr_bench.specs.SpaceLaws.{HomesAreDisjoint, GripIsHere, Piece
 ghost use Rattle.burr_bench.specs.StepLaws.{SomeExecution, OneExecution, CallLeaves};
 ghost use Rattle.burr_bench.specs.RunLaws.{OneNext, SomeNext, OneCall, SomeCall};
 ghost use Rattle.burr_bench.specs.RunLaws.{OneResult, SomeResult, RunIsCalls};
+ghost use Rattle.burr_bench.specs.Soundness.{VerifierIsSound, AcceptedHasRuns};
 
 /// Each instruction, carried out at any state, has one effect.
 pub fn an_instruction_has_one_effect()
@@ -58,4 +59,11 @@ pub fn pieces_never_overlap()
     ensures grip { GripIsHere }
     ensures no_overlap { PiecesNeverOverlap }
     ensures none_lone { NoPieceIsLone }
+{}
+
+/// Each run of a plan that is well framed ends with every piece apart within the budget, or waits for
+/// an answer before it: it meets no trap, and is not stopped. And it has runs, whatever the answers.
+pub fn a_well_framed_plan_runs_safely()
+    ensures safe { VerifierIsSound }
+    ensures some { AcceptedHasRuns }
 {}

@@ -1,16 +1,15 @@
 -- Reading a whole container.
-use Rattle.std.proofs.Common.{◌≡◌, ◌≢◌, ℕ, suc, ◌+◌, ◌<◌, ◌%◌, ◌&&◌, true, false, IsTrue, nat_le, List, [], ◌∷◌, ◌++◌, length, flat_map, inl, inr, refl, sym, ap, ◌∙◌, subst, arith, append_assoc, append-nil, length-append, leb-true, le-leb, eq-eqb, ◌==◌}
+use Rattle.std.proofs.Common.{◌≡◌, ◌≢◌, ℕ, suc, ◌+◌, ◌&&◌, true, false, IsTrue, nat_le, List, [], ◌∷◌, ◌++◌, length, flat_map, inr, refl, sym, ap, ◌∙◌, arith, append_assoc, append-nil, length-append, leb-true, le-leb, eq-eqb, ◌==◌}
 use Rattle.std.specs.List.{list_all}
 use Rattle.std.proofs.lemmas.Bool.{and_parts, and_from, false≢true}
 use Rattle.burr_code.specs.declared.limits.TheConstants.{MOST_PROCEDURES}
-use Rattle.burr_container.specs.declared.fault.ContainerFault.{ContainerFault}
 use Rattle.burr_container.specs.declared.fault.ContainerFault.TheVariants.{C4, C6}
 use Rattle.burr_container.specs.declared.reading.cursor.Cursor.{Cursor}
 use Rattle.burr_container.specs.declared.header.Header.{Header}
-use Rattle.burr_container.specs.Plans.{PlanProcedure, Plan}
+use Rattle.burr_container.specs.Plans.{PlanProcedure}
 use Rattle.burr_container.specs.Spelling.{procedure_bytes, counted_bytes, front_bytes, plan_bytes}
 use Rattle.burr_container.specs.Fitting.{is_budget, is_piece_count, is_name_text, is_procedure, are_procedures, is_fitting}
-use Rattle.burr_container.specs.Faults.{number, procedure, others, procedures, ProceduresFail, ContainerFails}
+use Rattle.burr_container.specs.Faults.{others, procedures, ProceduresFail}
 use Rattle.burr_container.specs.Reading.{IsAt}
 use Rattle.burr_container.specs.InPlace.{IsHeaderAt}
 use Rattle.burr_container.proofs.Common.Fields.{of_byte}

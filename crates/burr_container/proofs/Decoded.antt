@@ -1,23 +1,21 @@
 -- What is decoded from the bytes of forms and places is what they spell.
-use Rattle.std.proofs.Common.{◌≡◌, ℕ, zero, suc, ◌+◌, ◌*◌, ◌-◌, ◌<◌, ◌≤◌, ◌&&◌, ◌==◌, ℤ, pos, neg_ℤ, Bool, true, false, IsTrue, List, [], ◌∷◌, ◌++◌, length, flat_map, take, drop, inl, inr, refl, sym, ap, ◌∙◌, subst, arith, append_assoc, append-nil, length-append, take-append-drop, length-take-le, length-drop, ne_eqb}
+use Rattle.std.proofs.Common.{◌≡◌, ℕ, zero, suc, ◌+◌, ◌*◌, ◌<◌, ◌≤◌, ◌==◌, ℤ, pos, neg_ℤ, Bool, true, false, IsTrue, List, [], ◌∷◌, ◌++◌, length, flat_map, take, drop, inl, inr, refl, sym, ap, ◌∙◌, subst, arith, append_assoc, take-append-drop, length-take-le, length-drop, ne_eqb}
 use Rattle.std.specs.List.{list_all}
 use Rattle.std.specs.Int.{w16, w32, cast_signed, cast_unsigned}
 use Rattle.std.proofs.Math.Seq.{drop-append_seam}
 use Rattle.std.proofs.lemmas.Bool.{and_parts, and_from, false≢true}
-use Rattle.byteorder.specs.Endian.{big_number, big_bytes}
+use Rattle.byteorder.specs.Endian.{big_number}
 use Rattle.byteorder.specs.Numbers.{big_number-reads_back}
 use Rattle.burr_text.proofs.Common.Decisions.{Decided, decide_at_most}
 use Rattle.burr_code.specs.Instruction.{signed_word}
 use Rattle.burr_code.specs.Places.{Placement, Apart, On}
 use Rattle.burr_forms.specs.Forms.{Form}
-use Rattle.burr_container.specs.declared.fault.ContainerFault.{ContainerFault}
-use Rattle.burr_container.specs.declared.fault.ContainerFault.TheVariants.{C1, C4}
-use Rattle.burr_container.specs.Cuts.{IsShort}
+use Rattle.burr_container.specs.declared.fault.ContainerFault.TheVariants.{C1}
 use Rattle.burr_container.specs.Plans.{FormCell, of_live}
 use Rattle.burr_container.specs.Spelling.{form_size, form_bytes, place_bytes}
 use Rattle.burr_container.specs.Fitting.{are_coefficients, is_form, is_place}
-use Rattle.burr_container.specs.Faults.{form, place, each}
-use Rattle.burr_container.specs.Decoding.{signed_in, coefs_in, form_in, forms_in, cell_in, place_by, place_in, rest_by, place_rest, places_in}
+use Rattle.burr_container.specs.Faults.{form, each}
+use Rattle.burr_container.specs.Decoding.{signed_in, coefs_in, form_in, forms_in, place_by, place_in, rest_by, place_rest, places_in}
 use Rattle.burr_container.proofs.Common.Spelled.{is_word, is_long, long_bytes, between, word_small, word_back, long_small, long_back}
 use Rattle.burr_container.proofs.Common.FormSpelling.{zero_only, tray_small, on_parts}
 use Rattle.burr_container.proofs.Common.Places.{form_length}

@@ -1,18 +1,17 @@
 -- Reading forms and places.
-use Rattle.std.proofs.Common.{◌≡◌, ℕ, ◌+◌, ◌*◌, ◌<◌, ◌==◌, ◌||◌, Bool, true, false, IsTrue, List, [], ◌∷◌, ◌++◌, length, flat_map, inl, inr, refl, sym, ap, ◌∙◌, subst, arith, append-nil, length-append}
+use Rattle.std.proofs.Common.{◌≡◌, ℕ, ◌+◌, ◌*◌, ◌==◌, Bool, true, false, List, ◌++◌, length, flat_map, sym, ap, ◌∙◌, subst, arith, append-nil, length-append}
 use Rattle.std.specs.Prelude.{nat_le}
-use Rattle.std.specs.List.{list_all}
-use Rattle.std.proofs.lemmas.Bool.{and_parts, and_from}
+use Rattle.std.proofs.lemmas.Bool.{and_parts}
 use Rattle.burr_code.specs.Places.{Placement}
 use Rattle.burr_forms.specs.Forms.{Form}
 use Rattle.burr_container.specs.declared.fault.ContainerFault.{ContainerFault}
-use Rattle.burr_container.specs.declared.fault.ContainerFault.TheVariants.{C1, C4}
+use Rattle.burr_container.specs.declared.fault.ContainerFault.TheVariants.{C4}
 use Rattle.burr_container.specs.declared.reading.cursor.Cursor.{Cursor}
 use Rattle.burr_container.specs.Cuts.{AreBytes, IsCut, IsShort}
 use Rattle.burr_container.specs.Plans.{FormCell}
 use Rattle.burr_container.specs.Spelling.{form_size, form_bytes, place_bytes}
-use Rattle.burr_container.specs.Fitting.{is_form, is_tray, is_place, are_places}
-use Rattle.burr_container.specs.Faults.{Failing, number, form, forms, place, places, passes, by_test, each, first}
+use Rattle.burr_container.specs.Fitting.{is_form}
+use Rattle.burr_container.specs.Faults.{number, form, forms, place, places, passes, by_test, each}
 use Rattle.burr_container.specs.Decoding.{form_in, forms_in, places_in}
 use Rattle.burr_container.specs.Reading.{IsAt}
 use Rattle.burr_container.proofs.Common.Lists.{OfEach}

@@ -1,12 +1,11 @@
 -- Reading frames, part by part.
-use Rattle.std.proofs.Common.{◌≡◌, ℕ, ◌&&◌, Bool, List, Option, inl, sym, ap, ◌∙◌, subst}
-use Rattle.burr_code.specs.Places.{Placement}
+use Rattle.std.proofs.Common.{◌≡◌, ℕ, Bool, List, Option, inl, ◌∙◌, subst}
 use Rattle.burr_code.specs.declared.limits.TheConstants.{MOST_OPERANDS, MOST_GUARDS}
 use Rattle.burr_forms.specs.Forms.{Form}
 use Rattle.burr_container.specs.declared.fault.ContainerFault.{ContainerFault}
 use Rattle.burr_container.specs.declared.fault.ContainerFault.TheVariants.{C4}
 use Rattle.burr_container.specs.declared.reading.cursor.Cursor.{Cursor}
-use Rattle.burr_container.specs.Plans.{FormCell, Range, live_slots, parameter_slots}
+use Rattle.burr_container.specs.Plans.{Range, live_slots, parameter_slots}
 use Rattle.burr_container.specs.Fitting.{is_tray, is_set_of}
 use Rattle.burr_container.specs.Faults.{Failing, number, slots, form, forms, place, places, each, first, frame, exit_frame}
 use Rattle.burr_container.specs.Reading.{IsAt}

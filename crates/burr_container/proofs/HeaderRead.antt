@@ -1,5 +1,5 @@
 -- Reading the header.
-use Rattle.std.proofs.Common.{◌≡◌, ℕ, ◌+◌, ◌==◌, Bool, IsTrue, List, ◌∷◌, ◌++◌, length, codes, inl, sym, ap, ◌∙◌, arith, append_assoc, length-append, eqb-true}
+use Rattle.std.proofs.Common.{◌≡◌, ℕ, ◌+◌, ◌==◌, Bool, List, ◌∷◌, ◌++◌, length, codes, inl, sym, ap, ◌∙◌, arith, append_assoc, length-append, eqb-true}
 use Rattle.std.proofs.lemmas.Bool.{and_parts}
 use Rattle.std.proofs.lemmas.Slice.Eq.{bytes_eq-Decides}
 use Rattle.byteorder.specs.Endian.{big_bytes}
@@ -8,7 +8,7 @@ use Rattle.burr_container.specs.declared.fault.ContainerFault.TheVariants.{C2, C
 use Rattle.burr_container.specs.declared.reading.cursor.Cursor.{Cursor}
 use Rattle.burr_container.specs.declared.header.Header.{Header}
 use Rattle.burr_container.specs.Spelling.{front_bytes}
-use Rattle.burr_container.specs.Fitting.{is_budget, is_piece_count, is_name_text}
+use Rattle.burr_container.specs.Fitting.{is_budget, is_piece_count}
 use Rattle.burr_container.specs.Faults.{Failing, number, raw, first, name, is_magic, ProceduresFail, ContainerFails}
 use Rattle.burr_container.specs.Reading.{IsAt}
 use Rattle.burr_container.specs.InPlace.{IsHeaderAt}

@@ -1,14 +1,13 @@
 -- Reading so many of a part, one after the other, and keeping something of each.
-use Rattle.std.proofs.Common.{◌≡◌, ℕ, suc, ◌+◌, ◌-◌, ◌<◌, ◌≤◌, List, [], ◌∷◌, ◌++◌, length, inl, refl, sym, ap, ◌∙◌, subst, arith, append_assoc, append-nil, length-append}
-use Rattle.burr_container.specs.declared.fault.ContainerFault.{ContainerFault}
+use Rattle.std.proofs.Common.{◌≡◌, ℕ, suc, ◌+◌, ◌-◌, ◌<◌, ◌≤◌, List, [], ◌∷◌, ◌++◌, length, refl, sym, ap, ◌∙◌, subst, arith, append_assoc, append-nil, length-append}
 use Rattle.burr_container.specs.declared.reading.cursor.Cursor.{Cursor}
-use Rattle.burr_container.specs.Faults.{Part, each}
+use Rattle.burr_container.specs.Faults.{Part}
 use Rattle.burr_container.specs.Reading.{IsAt}
 use Rattle.burr_container.specs.InPlace.{AreFor}
 use Rattle.burr_container.proofs.Common.Lists.{OfEach}
 use Rattle.burr_container.proofs.EachWalk.{IsEachWalk, each_begins, each_goes_on}
 use Rattle.burr_container.proofs.Common.Judging.Lists.{one_more}
-use Rattle.burr_container.proofs.Chains.{IsBehind, small_of, then_stands}
+use Rattle.burr_container.proofs.Chains.{small_of, then_stands}
 
 -- the first i of n stand there, and what is kept of them follows what was kept at first
 pub record IsKeptWalk {A V : Type 0} (part : Part A) (Is : V → A → Type 0) (n : ℕ)

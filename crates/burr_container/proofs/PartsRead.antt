@@ -1,5 +1,5 @@
 -- Reading the parts of the header and of a procedure.
-use Rattle.std.proofs.Common.{◌≡◌, ℕ, suc, ◌+◌, ◌<◌, ◌≤◌, ◌^◌, ◌&&◌, Bool, IsTrue, nat_lt, nat_le, Option, Some, None, List, ◌++◌, length, codes, take, inl, inr, refl, sym, ap, ◌∙◌, subst, arith, length-append, lt-ltb, leb-true}
+use Rattle.std.proofs.Common.{◌≡◌, ℕ, ◌+◌, ◌^◌, ◌&&◌, Bool, IsTrue, nat_lt, nat_le, Option, Some, None, List, ◌++◌, length, codes, take, inl, inr, refl, sym, ap, ◌∙◌, subst, arith, length-append, lt-ltb, leb-true}
 use Rattle.std.proofs.Math.Seq.{take-append_seam}
 use Rattle.std.proofs.lemmas.Bool.{and_parts, and_from}
 use Rattle.std.proofs.lemmas.Slice.Eq.{bytes_eq-Decides}
@@ -10,9 +10,8 @@ use Rattle.burr_container.specs.declared.fault.ContainerFault.TheVariants.{C2, C
 use Rattle.burr_container.specs.declared.reading.cursor.Cursor.{Cursor}
 use Rattle.burr_container.specs.Cuts.{AreBytes, IsCut}
 use Rattle.burr_container.specs.Plans.{Frame}
-use Rattle.burr_container.specs.Spelling.{code_bytes}
 use Rattle.burr_container.specs.Fitting.{is_code}
-use Rattle.burr_container.specs.Faults.{field, number, first, frame, label, code, is_above, is_magic}
+use Rattle.burr_container.specs.Faults.{field, number, frame, label, code, is_above, is_magic}
 use Rattle.burr_container.specs.Reading.{IsAt}
 use Rattle.burr_container.proofs.Common.Lawful.{OfPart}
 use Rattle.burr_container.proofs.Common.Judging.LabelLists.{label_back}

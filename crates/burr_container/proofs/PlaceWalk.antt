@@ -1,12 +1,13 @@
 -- Going over places, one by one.
 use Rattle.std.proofs.Common.{◌≡◌, ℕ, zero, suc, ◌+◌, ◌*◌, ◌<◌, ◌≤◌, List, [], ◌∷◌, length, drop, slice_index, refl, sym, ap, subst, ◌∙◌, arith}
-use Rattle.std.specs.Prelude.{Bool, true, false, IsTrue, Option, Some, map, slice_get, ◌==◌}
+use Rattle.std.specs.Prelude.{Bool, true, false, IsTrue, Option, Some, map, slice_get, ◌==◌, nat_le}
+use Rattle.std.specs.List.{list_all}
 use Rattle.std.proofs.lemmas.Grind.{common_steps}
 use Rattle.burr_code.specs.Places.{Placement, On}
 use Rattle.burr_forms.specs.Forms.{Form}
 use Rattle.burr_container.specs.Plans.{FormCell, over_symbols, place_over_symbols}
 use Rattle.burr_container.proofs.Written.{le_of, first_test, second_test, both_tests}
-use Rattle.burr_container.specs.Fitting.{is_tray}
+use Rattle.burr_container.specs.Fitting.{is_tray, is_form, are_forms}
 use Rattle.burr_container.specs.Spelling.{form_size}
 use Rattle.burr_container.specs.Decoding.{form_in, forms_in, place_in, rest_by, place_rest, places_in, places_stand, stands_by, IsOver}
 
@@ -83,6 +84,14 @@ count_places live (suc n) (first ∷ bytes) stand =
 pub count_forms : (live : List Bool) (n : ℕ) (bytes : List ℕ) → length (forms_in live n bytes) ≡ n
 count_forms live zero bytes = refl
 count_forms live (suc n) bytes = omega (arith, count_forms live n (drop (form_size live) bytes))
+
+-- as many as are allowed, where they fit
+pub few_forms : (most : ℕ) (over live : List Bool) (n : ℕ) (bytes : List ℕ)
+    → IsTrue (are_forms most over (forms_in live n bytes)) → n ≤ most
+few_forms most over live n bytes fits =
+    let forms = forms_in live n bytes in
+    let few = first_test (nat_le (length forms) most) (list_all (is_form over) forms) fits in
+    omega (arith, le_of (length forms) most few, count_forms live n bytes)
 
 -- places still to go over, of which number q is the answer
 pub record IsWalk (live : List Bool) (k q : ℕ) (bytes : List ℕ) (answer : Option (Placement FormCell)) : Type 0 where

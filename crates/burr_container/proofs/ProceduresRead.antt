@@ -1,5 +1,5 @@
 -- Reading procedures.
-use Rattle.std.proofs.Common.{◌≡◌, ℕ, zero, suc, pred, ◌+◌, ◌-◌, ◌<◌, ◌≤◌, ◌^◌, ◌&&◌, ◌==◌, Bool, true, false, IsTrue, nat_lt, nat_le, Option, Some, None, List, [], ◌∷◌, ◌++◌, length, inl, inr, refl, sym, ap, ◌∙◌, subst, arith, append_assoc, leb-true, eq-eqb}
+use Rattle.std.proofs.Common.{◌≡◌, ℕ, zero, suc, pred, ◌-◌, ◌≤◌, ◌^◌, ◌&&◌, ◌==◌, true, false, IsTrue, nat_lt, nat_le, Option, Some, None, List, ◌∷◌, ◌++◌, length, inl, refl, sym, ap, ◌∙◌, subst, arith, append_assoc, leb-true, eq-eqb}
 use Rattle.std.specs.List.{list_all}
 use Rattle.std.proofs.lemmas.Bool.{and_parts, and_from}
 use Rattle.burr_code.specs.declared.limits.TheConstants.{MOST_CODE}
@@ -9,16 +9,16 @@ use Rattle.burr_container.specs.declared.reading.cursor.Cursor.{Cursor}
 use Rattle.burr_container.specs.Plans.{Frame, ExitFrame, PlanProcedure}
 use Rattle.burr_container.specs.Spelling.{labels_bytes, code_bytes}
 use Rattle.burr_container.specs.Fitting.{are_parameters, is_code, is_procedure}
-use Rattle.burr_container.specs.Faults.{number, raw, first, by_test, each, exit_frame, labels, last_label, is_above, code, CodeFails, BodyFails, body, procedure, others, procedures, IsFollowed, ProceduresFail}
+use Rattle.burr_container.specs.Faults.{number, first, by_test, each, exit_frame, labels, last_label, is_above, code, CodeFails, BodyFails, body, procedure, others, procedures, IsFollowed, ProceduresFail}
 use Rattle.burr_container.specs.Reading.{IsAt}
-use Rattle.burr_container.proofs.Common.Lawful.{OfPart, OfFirst, OfNothing}
+use Rattle.burr_container.proofs.Common.Lawful.{OfNothing}
 use Rattle.burr_container.proofs.Common.Fields.{of_number}
 use Rattle.burr_container.proofs.Common.Lists.{OfEach}
-use Rattle.burr_container.proofs.Common.Procedures.{is_length, OfCode, Body, OfBody, main_of, OfMain, other_of, OfExit, exit_fails, OfOther}
-use Rattle.burr_container.proofs.Common.Containers.{Nothing, is_procedure_count, OfOthers, others_fail, OfProcedures, procedures_fail}
+use Rattle.burr_container.proofs.Common.Procedures.{is_length, OfCode, Body, OfBody, main_of, other_of, OfExit, exit_fails}
+use Rattle.burr_container.proofs.Common.Containers.{is_procedure_count, OfOthers, others_fail, OfProcedures, procedures_fail}
 use Rattle.burr_container.proofs.Common.Judging.Procedures.{main_back, other_back}
 use Rattle.burr_container.proofs.Common.Judging.Containers.{counted_back}
-use Rattle.burr_container.proofs.Chains.{IsBehind, small_of, at_most, behind_part, stands, stands_at, then_fails, then_stands}
+use Rattle.burr_container.proofs.Chains.{IsBehind, small_of, at_most, behind_part, stands_at, then_fails, then_stands}
 
 -- labels, and code behind them
 module _ (pieces : ℕ) (cursor behind_labels : Cursor) (ls : List (ℕ × Frame)) (last : Option ℕ)

@@ -1,7 +1,7 @@
 -- What the frames stand for that are read in place.
-use Rattle.std.specs.Prelude.{ℕ, List, Option, Some, None, Result, MatchResult}
+use Rattle.std.specs.Prelude.{ℕ, List, Option, Some, None, Result, MatchResult, IfSome}
 use Rattle.burr_code.specs.Places.{Placement, Apart, On}
-use Rattle.burr_forms.specs.Forms.{Form}
+use Rattle.burr_forms.specs.Forms.{Form, IsSmallForm}
 use Rattle.burr_container.specs.declared.fault.ContainerFault.{ContainerFault}
 use Rattle.burr_container.specs.declared.reading.cursor.Cursor.{Cursor}
 use Rattle.burr_container.specs.declared.runs.FormRun.{FormRun}
@@ -48,3 +48,8 @@ ReadsInPlace value_of part cursor result =
 abbrev pub told : Option (ℕ × Form × Form × Form) → Placement FormCell
 told None = Apart
 told (Some at) = On at.0 (record { x = at.1; y = at.2; z = at.3 })
+
+-- all numbers of the three forms are small
+abbrev pub IsSmallPlace : Option (ℕ × Form × Form × Form) → Type 0
+IsSmallPlace place =
+    IfSome place (λ at. IsSmallForm at.1 × IsSmallForm at.2 × IsSmallForm at.3)

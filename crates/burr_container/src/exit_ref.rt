@@ -1,4 +1,4 @@
-ghost use Rattle.std.specs.Prelude.{◌≡◌, ◌<◌};
+ghost use Rattle.std.specs.Prelude.{◌≡◌, ◌≤◌, ◌<◌};
 
 use crate::runs::PlaceRun;
 
@@ -9,4 +9,5 @@ pub struct ExitRef<'a> {
     pub(crate) tray: u8,
     pub(crate) grip: u32,
     pub(crate) places: PlaceRun<'a>,
+    ghost few_places: { places.count ≤ 32 },
 }

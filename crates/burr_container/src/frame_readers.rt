@@ -1,17 +1,22 @@
 //! Readers of frames.
 
-ghost use Rattle.std.specs.Prelude.{◌≡◌, ◌<◌, length, Some, slice_get, map};
+ghost use Rattle.std.specs.Prelude.{◌≡◌, ◌≤◌, ◌<◌, length, Some, slice_get, map, IfSome};
+ghost use Rattle.burr_code.specs.declared.limits.TheConstants.{MOST_GUARDS, MOST_OPERANDS};
+ghost use Rattle.burr_forms.specs.Forms.{IsSmallForm};
+ghost use Rattle.burr_forms.specs.Points.{IsRange};
 ghost use Rattle.burr_container.specs.Plans.{live_slots, over_symbols, place_over_symbols};
-ghost use Rattle.burr_container.specs.Refs.{frame_of, exit_frame_of, told};
+ghost use Rattle.burr_container.specs.Refs.{frame_of, exit_frame_of, told, IsSmallPlace};
 
 use crate::exit_ref::ExitRef;
 use crate::frame_ref::FrameRef;
 use burr_forms::Form;
 
 impl FrameRef<'_> {
-    /// How many pieces the frame tells of: those of the plan.
+    /// How many pieces the frame tells of: those of the plan, 32 at most.
     pub fn piece_count(&self) -> usize
-        ensures { result ≡ self.now.places.count }
+        ensures count { result ≡ self.now.places.count }
+        ensures places { result ≡ length (frame_of self.now).places }
+        ensures few { result ≤ 32 }
     {
         self.places.count
     }
@@ -33,14 +38,17 @@ impl FrameRef<'_> {
     /// The range of slot v of 0 to 7; None where it isn't live.
     pub fn slot(&self, v: u8) -> Option<(i16, i16)>
         requires { v < 8 }
-        ensures { slice_get (frame_of self.now).slots v ≡ Some result }
+        ensures slot { slice_get (frame_of self.now).slots v ≡ Some result }
+        ensures range { IfSome result IsRange }
+        ensures eight { length (frame_of self.now).slots ≡ 8 }
     {
         self.slots[usize::from(v)]
     }
 
     /// How many guards there are, 0 to 4.
     pub fn guard_count(&self) -> usize
-        ensures { result ≡ length (frame_of self.now).guards }
+        ensures count { result ≡ length (frame_of self.now).guards }
+        ensures few { result ≤ MOST_GUARDS }
     {
         self.guards.count
     }
@@ -48,15 +56,17 @@ impl FrameRef<'_> {
     /// Guard n, which is below `guard_count`.
     pub fn guard(&self, n: usize) -> Form
         requires { n < length (frame_of self.now).guards }
-        ensures { slice_get (map (over_symbols (live_slots self.now.slots)) (frame_of self.now).guards) n
+        ensures guard { slice_get (map (over_symbols (live_slots self.now.slots)) (frame_of self.now).guards) n
             ≡ Some result }
+        ensures small { IsSmallForm result }
     {
         self.guards.form(n)
     }
 
     /// How many operands there are, 0 to 8.
     pub fn stack_count(&self) -> usize
-        ensures { result ≡ length (frame_of self.now).stack }
+        ensures count { result ≡ length (frame_of self.now).stack }
+        ensures few { result ≤ MOST_OPERANDS }
     {
         self.stack.count
     }
@@ -64,15 +74,17 @@ impl FrameRef<'_> {
     /// Operand n, counted from the bottom, which is below `stack_count`.
     pub fn stack(&self, n: usize) -> Form
         requires { n < length (frame_of self.now).stack }
-        ensures { slice_get (map (over_symbols (live_slots self.now.slots)) (frame_of self.now).stack) n
+        ensures operand { slice_get (map (over_symbols (live_slots self.now.slots)) (frame_of self.now).stack) n
             ≡ Some result }
+        ensures small { IsSmallForm result }
     {
         self.stack.form(n)
     }
 
     /// The cost.
     pub fn cost(&self) -> Form
-        ensures { result ≡ over_symbols (live_slots self.now.slots) (frame_of self.now).cost }
+        ensures cost { result ≡ over_symbols (live_slots self.now.slots) (frame_of self.now).cost }
+        ensures small { IsSmallForm result }
     {
         self.cost.form(0)
     }
@@ -80,18 +92,21 @@ impl FrameRef<'_> {
     /// The tray and the offset of piece p, which the plan has; None where it is apart.
     pub fn place(&self, p: usize) -> Option<(u8, Form, Form, Form)>
         requires { p < self.now.places.count }
-        ensures { slice_get
+        ensures place { slice_get
             (map (place_over_symbols (live_slots self.now.slots)) (frame_of self.now).places) p
             ≡ Some (told result) }
+        ensures small { IsSmallPlace result }
     {
         self.places.place(p)
     }
 }
 
 impl ExitRef<'_> {
-    /// How many pieces the exit frame tells of: those of the plan.
+    /// How many pieces the exit frame tells of: those of the plan, 32 at most.
     pub fn piece_count(&self) -> usize
-        ensures { result ≡ self.now.places.count }
+        ensures count { result ≡ self.now.places.count }
+        ensures places { result ≡ length (exit_frame_of self.now).places }
+        ensures few { result ≤ 32 }
     {
         self.places.count
     }
@@ -113,9 +128,10 @@ impl ExitRef<'_> {
     /// The tray and the offset of piece p, which the plan has; None where it is apart.
     pub fn place(&self, p: usize) -> Option<(u8, Form, Form, Form)>
         requires { p < self.now.places.count }
-        ensures { slice_get
+        ensures place { slice_get
             (map (place_over_symbols self.now.places.live) (exit_frame_of self.now).places) p
             ≡ Some (told result) }
+        ensures small { IsSmallPlace result }
     {
         self.places.place(p)
     }

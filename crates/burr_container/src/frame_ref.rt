@@ -1,5 +1,7 @@
-ghost use Rattle.std.specs.Prelude.{◌≡◌, ◌<◌};
+ghost use Rattle.std.specs.Prelude.{◌≡◌, ◌≤◌, ◌<◌, IsTrue};
+ghost use Rattle.burr_code.specs.declared.limits.TheConstants.{MOST_GUARDS, MOST_OPERANDS};
 ghost use Rattle.burr_container.specs.Plans.{live_slots};
+ghost use Rattle.burr_container.specs.Fitting.{are_slots};
 
 use crate::runs::{FormRun, PlaceRun};
 
@@ -19,4 +21,8 @@ pub struct FrameRef<'a> {
     ghost cost_live: { cost.live ≡ live_slots slots },
     ghost one_cost: { cost.count ≡ 1 },
     ghost places_live: { places.live ≡ live_slots slots },
+    ghost ranges: { IsTrue (are_slots slots) },
+    ghost few_guards: { guards.count ≤ MOST_GUARDS },
+    ghost few_operands: { stack.count ≤ MOST_OPERANDS },
+    ghost few_places: { places.count ≤ 32 },
 }

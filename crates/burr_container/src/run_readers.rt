@@ -1,10 +1,11 @@
 //! Readers of forms and places.
 
-ghost use Rattle.std.specs.Prelude.{◌≡◌, ◌+◌, ◌*◌, ◌≤◌, ◌<◌, length, drop, Some, slice_get, slice_index, map, IsTrue};
+ghost use Rattle.std.specs.Prelude.{◌≡◌, ◌+◌, ◌*◌, ◌≤◌, ◌<◌, length, drop, Some, slice_get, slice_index, map, IsTrue, IfSome};
+ghost use Rattle.burr_forms.specs.Forms.{IsSmall, IsSmallForm};
 ghost use Rattle.burr_container.specs.Plans.{over_symbols, place_over_symbols};
 ghost use Rattle.burr_container.specs.Spelling.{form_size as size_of_form, places_bytes};
 ghost use Rattle.burr_container.specs.Decoding.{live_count as count_of_live, signed_in, form_in, forms_in, place_rest, place_in, places_in};
-ghost use Rattle.burr_container.specs.Refs.{forms_of, places_of, told};
+ghost use Rattle.burr_container.specs.Refs.{forms_of, places_of, told, IsSmallPlace};
 
 use crate::runs::{FormRun, PlaceRun, form_size, live_count};
 use burr_forms::Form;
@@ -13,7 +14,8 @@ use byteorder::{BigEndian, ByteOrder};
 /// The form over these live slots at the front of some bytes.
 fn form_of(live: &[bool; 8], bytes: &[u8]) -> Form
     requires { size_of_form live.now ≤ length bytes.now }
-    ensures { result ≡ over_symbols live.now (form_in live.now bytes.now) }
+    ensures form { result ≡ over_symbols live.now (form_in live.now bytes.now) }
+    ensures small { IsSmallForm result }
 {
     let mut coefs = [0; 8];
     let count = live_count(live);
@@ -29,7 +31,8 @@ fn form_of(live: &[bool; 8], bytes: &[u8]) -> Form
 /// The signed number of two bytes that stands there.
 fn signed_at(bytes: &[u8], at: usize) -> i64
     requires { at + 2 ≤ length bytes.now }
-    ensures { result ≡ signed_in (drop at bytes.now) }
+    ensures number { result ≡ signed_in (drop at bytes.now) }
+    ensures small { IsSmall result }
 {
     i64::from(BigEndian::read_i16(&bytes[at..]))
 }
@@ -38,7 +41,9 @@ impl FormRun<'_> {
     /// Form n over symbols, one for each live slot.
     pub fn form(&self, n: usize) -> Form
         requires { n < self.now.count }
-        ensures { slice_get (map (over_symbols self.now.live) (forms_of self.now)) n ≡ Some result }
+        ensures form { slice_get (map (over_symbols self.now.live) (forms_of self.now)) n
+            ≡ Some result }
+        ensures small { IsSmallForm result }
     {
         form_of(&self.live, behind(self.bytes, n * form_size(&self.live)))
     }
@@ -48,8 +53,9 @@ impl PlaceRun<'_> {
     /// Place p by forms over symbols: the tray and the offset; None where the piece is apart.
     pub fn place(&self, p: usize) -> Option<(u8, Form, Form, Form)>
         requires { p < self.now.count }
-        ensures { slice_get (map (place_over_symbols self.now.live) (places_of self.now)) p
+        ensures place { slice_get (map (place_over_symbols self.now.live) (places_of self.now)) p
             ≡ Some (told result) }
+        ensures small { IsSmallPlace result }
     {
         let mut rest = self.bytes;
         for _ in 0..p {
@@ -76,8 +82,9 @@ fn behind_place<'a>(live: &[bool; 8], bytes: &'a [u8]) -> &'a [u8]
 fn place_of(live: &[bool; 8], bytes: &[u8]) -> Option<(u8, Form, Form, Form)>
     requires first { 0 < length bytes.now }
     requires whole { 1 + place_rest live.now (slice_index bytes.now 0) ≤ length bytes.now }
-    ensures { told result ≡ place_over_symbols live.now
+    ensures place { told result ≡ place_over_symbols live.now
         (place_in live.now (slice_index bytes.now 0) (drop 1 bytes.now)) }
+    ensures small { IsSmallPlace result }
 {
     if bytes[0] == 255 {
         return None;

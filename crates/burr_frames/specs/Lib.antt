@@ -1,4 +1,6 @@
 pub mod Arrival
+pub mod ArrivalViews
+pub mod Comparing
 pub mod ControlRules
 pub mod FramedPlans
 pub mod NumberRules
@@ -6,7 +8,10 @@ pub mod Over
 pub mod QuestionRules
 pub mod RuleNumbers
 pub mod SpaceRules
+pub mod Spots
+pub mod StateViews
 pub mod States
+pub mod Targets
 pub mod Transfer
 pub mod TransferLaws
 pub mod Verdicts

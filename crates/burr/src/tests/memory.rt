@@ -96,8 +96,8 @@ impl Seen {
     }
 }
 
-/// Calls the program while no memory can be had, and then with each block that is given back, up to
-/// the right answer.
+/// Calls the program with ample memory; while no memory can be had; and then with each block that is
+/// given back, up to the right answer.
 fn call_in_want<T: Files + AllocGlobal>(
     rt: &T,
     words: &[String],
@@ -105,6 +105,13 @@ fn call_in_want<T: Files + AllocGlobal>(
     output: &str,
     complaint: &str,
 ) -> Result<Seen, AllocError> {
+    // with ample memory first: then the stack has grown as far as the calls need, which it can't do
+    // while all memory is taken
+    let mut ample = Seen::default();
+    ample.call(rt, words, status, output, complaint);
+    if !ample.answer {
+        return Ok(ample);
+    }
     let mut seen = Seen::default();
     let mut blocks: Vec<Vec<u8>> = Vec::with_capacity(rt.alloc(), MOST_BLOCKS)?;
     take_all_memory(rt.alloc(), &mut blocks);

@@ -89,6 +89,9 @@ impl Seen {
 /// The answers with no memory, and those that come as block after block of it is freed, until all
 /// have come.
 fn answers(alloc: Global, asked: Asked<'_, '_>, mut blocks: Vec<Vec<u8>>) -> (Seen, Seen) {
+    // with ample memory first: then the stack has grown as far as the calls need, which it can't do
+    // while all memory is taken
+    Seen::new().ask(alloc, asked);
     take_all_memory(alloc, &mut blocks);
     let mut first = Seen::new();
     first.ask(alloc, asked);

@@ -32,6 +32,10 @@ fn reports_a_want_of_memory(rt: HostRuntime) -> Result<(), Fail> {
         piece: 1,
     };
     let duo = Assembly::read(alloc, DUO.as_bytes())?;
+    // with ample memory first: then the stack has grown as far as the calls need, which it can't do
+    // while all memory is taken
+    assert_eq!(rt; Assembly::read(alloc, &crowded).err(), Some(crowd));
+    assert_eq!(rt; duo.write(alloc)?.as_slice(), DUO.as_bytes());
     let mut blocks: Vec<Vec<u8>> = Vec::with_capacity(alloc, 60_000)?;
     take_all_memory(alloc, &mut blocks);
     // asserts may want memory, so they stand behind the blocks

@@ -106,7 +106,7 @@ moved_alike : (a b u : Cell) → minus (plus a u) (plus b u) ≡ minus a b
 moved_alike a b u = same_cell _ _ (same_difference a.x b.x u.x) (same_difference a.y b.y u.y) (same_difference a.z b.z u.z)
 
 -- two pieces that moved alike overlap only where they did before
-overlap_before : (a b u : Cell) (ps qs : List Cell) → Overlap (shifted (plus a u) ps) (shifted (plus b u) qs) → Overlap (shifted a ps) (shifted b qs)
+pub overlap_before : (a b u : Cell) (ps qs : List Cell) → Overlap (shifted (plus a u) ps) (shifted (plus b u) qs) → Overlap (shifted a ps) (shifted b qs)
 overlap_before a b u ps qs over = overlap_of_blocked a b ps qs (subst (λ (d : Cell). IsBlocked ps qs d) (moved_alike a b u) (blocked_of_overlap (plus a u) (plus b u) ps qs over))
 
 -- no two pieces of the tray overlap behind the unit where the group passes: two pieces of the group, or two of the rest, lie to each other as before

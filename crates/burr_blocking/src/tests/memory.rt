@@ -78,6 +78,9 @@ impl Seen {
 fn build_in_want(seen: &mut Seen, alloc: Global, duo: &Assembly) -> Result<(), AllocError>
     requires { length duo.now.pieces ≡ 2 }
 {
+    // with ample memory first: then the stack has grown as far as the calls need, which it can't do
+    // while all memory is taken
+    Seen::default().build(alloc, duo);
     let mut blocks: Vec<Vec<u8>> = Vec::with_capacity(alloc, MOST_BLOCKS)?;
     let mut small: Vec<Vec<u8>> = Vec::with_capacity(alloc, MOST_BLOCKS)?;
     for _ in 0..KEPT {

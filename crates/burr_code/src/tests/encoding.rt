@@ -88,6 +88,10 @@ fn take_all_memory(alloc: Global, blocks: &mut Vec<Vec<u8>>) {
 fn tells_a_want_of_memory(rt: HostRuntime) -> Result<(), Fail> {
     let alloc = rt.alloc();
     let instr = Instr::Ask(0, 2);
+    // with ample memory first: then the stack has grown as far as the calls need, which it can't do
+    // while all memory is taken
+    let spelled = [0x22, 0x00, 0x00, 0x00, 0x02];
+    assert_eq!(rt; encode(alloc, &instr)?.as_slice(), spelled.as_slice());
     let mut blocks: Vec<Vec<u8>> = Vec::with_capacity(alloc, 60_000)?;
     take_all_memory(alloc, &mut blocks);
     // asserts may want memory, so they stand behind the blocks

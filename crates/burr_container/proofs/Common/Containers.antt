@@ -1,7 +1,6 @@
 -- For crates above: a plan has one spelling, its bytes have no fault, and bytes have one fault at
 -- most.
 use Rattle.std.proofs.Common.{◌≡◌, ℕ, pred, ◌≤◌, ◌&&◌, ◌==◌, Bool, true, false, IsTrue, nat_le, List, [], ◌∷◌, ◌++◌, length, codes, flat_map, refl, sym, ap, ◌∙◌, arith, append_assoc, append-nil, eqb-true, leb-true, eq-eqb, le-leb}
-use Rattle.std.specs.Str.{bytes_eq}
 use Rattle.std.specs.List.{list_all}
 use Rattle.std.proofs.lemmas.Bool.{and_parts, and_from, false≢true}
 use Rattle.byteorder.specs.Endian.{big_bytes}

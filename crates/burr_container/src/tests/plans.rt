@@ -73,6 +73,9 @@ fn tells_a_want_of_memory(rt: HostRuntime) -> Result<(), Fail> {
     if !plan.fits() {
         panic!(rt; "the plan is within the format");
     }
+    // with ample memory first: then the stack has grown as far as the calls need, which it can't do
+    // while all memory is taken
+    assert_eq!(rt; write(alloc, &plan)?.as_slice(), DUO.as_slice());
     let mut blocks: Vec<Vec<u8>> = Vec::with_capacity(alloc, 60_000)?;
     take_all_memory(alloc, &mut blocks);
     let is_refused = write(alloc, &plan).is_err();

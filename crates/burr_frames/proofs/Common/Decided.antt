@@ -24,13 +24,13 @@ use Rattle.burr_frames.proofs.Common.Search.{decide_in_box, decide_guards, first
 
 -- Equal values
 
-no_first : {A : Type 0} (x : A) (xs : List A) → ¬ ([] ≡ x ∷ xs)
+pub no_first : {A : Type 0} (x : A) (xs : List A) → ¬ ([] ≡ x ∷ xs)
 no_first x xs e = cc
 
-same_head : {A : Type 0} (x y : A) (xs ys : List A) → x ∷ xs ≡ y ∷ ys → x ≡ y
+pub same_head : {A : Type 0} (x y : A) (xs ys : List A) → x ∷ xs ≡ y ∷ ys → x ≡ y
 same_head x y xs ys e = cc
 
-same_tail : {A : Type 0} (x y : A) (xs ys : List A) → x ∷ xs ≡ y ∷ ys → xs ≡ ys
+pub same_tail : {A : Type 0} (x y : A) (xs ys : List A) → x ∷ xs ≡ y ∷ ys → xs ≡ ys
 same_tail x y xs ys e = cc
 
 pub decide_same_list : {A : Type 0} → ((a b : A) → Decided (a ≡ b)) → (xs ys : List A) → Decided (xs ≡ ys)

@@ -93,6 +93,9 @@ fn run_in_want(
     outcome: Outcome,
     output: &str,
 ) -> Result<(), AllocError> {
+    // with ample memory first: then the stack has grown as far as the calls need, which it can't do
+    // while all memory is taken
+    Seen::default().run(alloc, input, portion, outcome, output);
     let mut blocks: Vec<Vec<u8>> = Vec::with_capacity(alloc, MOST_BLOCKS)?;
     let mut small: Vec<Vec<u8>> = Vec::with_capacity(alloc, MOST_BLOCKS)?;
     for _ in 0..KEPT {
@@ -195,6 +198,9 @@ fn read_in_want(
     text: &str,
     wanted: Result<&[i32], AnswersFault>,
 ) -> Result<AnswersSeen, AllocError> {
+    // with ample memory first: then the stack has grown as far as the calls need, which it can't do
+    // while all memory is taken
+    AnswersSeen::default().read(alloc, text, wanted);
     let mut seen = AnswersSeen::default();
     let mut blocks: Vec<Vec<u8>> = Vec::with_capacity(alloc, MOST_BLOCKS)?;
     take_all_memory(alloc, &mut blocks);

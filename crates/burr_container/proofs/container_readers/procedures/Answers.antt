@@ -1,5 +1,5 @@
 -- A procedure is read each turn, main first.
-use Rattle.std.proofs.Common.{◌≡◌, ◌-◌, ◌<◌, ◌≤◌, pred, arith, ap, sym, subst, ◌∙◌, ◌++◌, ◌∷◌, [], length, length-append, rules}
+use Rattle.std.proofs.Common.{◌≡◌, ◌-◌, arith, ap, sym, subst, ◌∙◌, ◌++◌, ◌∷◌, [], rules}
 use Rattle.std.specs.Prelude.{List, false}
 use Rattle.std.proofs.lemmas.Result.{err_from_is_err_and}
 use Rattle.burr_container.specs.declared.procedure_ref.ProcedureRef.{ProcedureRef}

@@ -7,14 +7,14 @@ use Rattle.burr_container.specs.Decoding.{form_in}
 use Rattle.burr_container.proofs.PlaceWalk.{place_told}
 use Rattle.burr_container.proofs.run_readers.place_of.Goals as goal
 
-pub returns : goal.returns
-returns c =
+pub returns-clause-place : goal.returns-clause-place
+returns-clause-place c =
     let live = c.args.live.now in
     let bytes = c.args.bytes.now in
     let form : List ℕ → Form = λ (b : List ℕ). over_symbols live (form_in live b) in
     let lies : (slice_index bytes 0 == 255) ≡ false = search rules in
     let size = c.form_size-size.ensures.size in
     place_told live bytes c.form_of-x.result c.form_of-y.result c.form_of-z.result lies
-    (c.form_of-x.ensures ∙ ap form c.behind.ensures)
-    (c.form_of-y.ensures ∙ ap form (c.behind-2.ensures ∙ ap (λ (k : ℕ). drop (1 + k) bytes) size))
-    (c.form_of-z.ensures ∙ ap form (c.behind-3.ensures ∙ ap (λ (k : ℕ). drop (1 + k + k) bytes) size))
+    (c.form_of-x.ensures.form ∙ ap form c.behind.ensures)
+    (c.form_of-y.ensures.form ∙ ap form (c.behind-2.ensures ∙ ap (λ (k : ℕ). drop (1 + k) bytes) size))
+    (c.form_of-z.ensures.form ∙ ap form (c.behind-3.ensures ∙ ap (λ (k : ℕ). drop (1 + k + k) bytes) size))

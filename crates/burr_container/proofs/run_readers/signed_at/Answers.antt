@@ -7,8 +7,8 @@ use Rattle.std.proofs.lemmas.List.{take_all}
 use Rattle.burr_container.specs.Decoding.{signed_in}
 use Rattle.burr_container.proofs.run_readers.signed_at.Goals as goal
 
-pub returns : goal.returns
-returns c =
+pub returns-clause-number : goal.returns-clause-number
+returns-clause-number c =
     let narrow : FitsSigned w16 c.read_i16.result = search rules in
     let wide : FitsSigned w64 c.from.result = search rules in
     rw (to_z-of_z w64 c.from.result wide)

@@ -1,12 +1,12 @@
 -- That of the procedure.
-use Rattle.std.proofs.Common.{sym, subst, ◌∙◌}
+use Rattle.std.proofs.Common.{sym, subst}
 use Rattle.std.specs.Prelude.{◌<◌, ◌≤◌, List, length, slice_index_or}
 use Rattle.std.proofs.lemmas.Option.{slice_get-get_or}
 use Rattle.burr_container.specs.declared.procedure_ref.ProcedureRef.{ProcedureRef}
 use Rattle.burr_container.specs.InPlace.{AreFor, IsProcedure}
 use Rattle.burr_container.specs.Containers.{KeptContainer, kept_container, IsContainer}
 use Rattle.burr_container.proofs.WithinFormat.{code_short}
-use Rattle.burr_container.proofs.Kept.{for_length, for_at}
+use Rattle.burr_container.proofs.Kept.{for_at}
 use Rattle.burr_container.proofs.container.Container.code.Goals as goal
 
 pub returns-clause-plan : goal.returns-clause-plan

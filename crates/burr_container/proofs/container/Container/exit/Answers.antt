@@ -1,10 +1,10 @@
 -- That of the procedure.
-use Rattle.std.proofs.Common.{sym, subst, ◌∙◌}
+use Rattle.std.proofs.Common.{sym, subst}
 use Rattle.std.specs.Prelude.{List}
 use Rattle.burr_container.specs.declared.procedure_ref.ProcedureRef.{ProcedureRef}
 use Rattle.burr_container.specs.InPlace.{AreFor, IsProcedure}
 use Rattle.burr_container.specs.Containers.{KeptContainer, IsContainer}
-use Rattle.burr_container.proofs.Kept.{for_length, for_at}
+use Rattle.burr_container.proofs.Kept.{for_at}
 use Rattle.burr_container.proofs.container.Container.exit.Goals as goal
 
 pub returns : goal.returns

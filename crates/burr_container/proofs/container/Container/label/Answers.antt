@@ -1,10 +1,10 @@
 -- That of the label.
-use Rattle.std.proofs.Common.{sym, subst, ◌∙◌, ℕ}
+use Rattle.std.proofs.Common.{sym, subst, ℕ}
 use Rattle.std.specs.Prelude.{List, slice_index_or}
 use Rattle.burr_container.specs.declared.procedure_ref.ProcedureRef.{ProcedureRef}
 use Rattle.burr_container.specs.InPlace.{AreFor, IsProcedure, IsLabel}
 use Rattle.burr_container.specs.Containers.{KeptContainer, IsContainer}
-use Rattle.burr_container.proofs.Kept.{for_length, for_at}
+use Rattle.burr_container.proofs.Kept.{for_at}
 use Rattle.burr_container.proofs.container.Container.label.Goals as goal
 
 pub returns : goal.returns

@@ -1,9 +1,8 @@
 -- A header, procedures and nothing behind them.
-use Rattle.std.proofs.Common.{◌≡◌, ◌≢◌, ℕ, [], rules, refl, sym, ap, eqb-true, length, subst, subst₂, ◌∙◌}
+use Rattle.std.proofs.Common.{◌≡◌, ◌≢◌, ℕ, [], rules, refl, sym, eqb-true, length, subst₂, ◌∙◌}
 use Rattle.std.specs.Prelude.{List}
 use Rattle.std.proofs.lemmas.Result.{err_from_is_err_and}
 use Rattle.burr_container.specs.declared.fault.ContainerFault.TheVariants.{C6}
-use Rattle.burr_container.specs.Spelling.{plan_bytes}
 use Rattle.burr_container.specs.Faults.{ContainerFails}
 use Rattle.burr_container.proofs.ContainerRead.{none_left, followed, plan_at}
 use Rattle.burr_container.proofs.container.Container.parse.Goals as goal

@@ -3,5 +3,5 @@ use Rattle.std.proofs.Common.{sym}
 use Rattle.burr_container.proofs.PlaceWalk.{count_forms}
 use Rattle.burr_container.proofs.frame_ref.FrameRef.guard_count.Goals as goal
 
-pub returns : goal.returns
-returns c = let run = c.args.self.now.guards in sym (count_forms run.live run.count run.bytes.now)
+pub returns-clause-count : goal.returns-clause-count
+returns-clause-count c = let run = c.args.self.now.guards in sym (count_forms run.live run.count run.bytes.now)

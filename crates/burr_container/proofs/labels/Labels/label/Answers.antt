@@ -1,5 +1,5 @@
 -- The label that stands at the bytes from it on.
-use Rattle.std.proofs.Common.{◌≡◌, sym, ap, ◌∙◌, subst, ℕ}
+use Rattle.std.proofs.Common.{sym, ap, subst, ℕ}
 use Rattle.std.specs.Prelude.{List, [], slice_index_or}
 use Rattle.std.specs.Borrow.{Bor}
 use Rattle.burr_container.specs.Plans.{Frame}

@@ -1,7 +1,6 @@
 -- So many forms stand behind their count.
-use Rattle.std.proofs.Common.{◌≡◌, ◌*◌, ap, ◌∙◌, ℕ}
+use Rattle.std.proofs.Common.{◌*◌, ap, ◌∙◌, ℕ}
 use Rattle.std.proofs.lemmas.Result.{err_from_is_err_and}
-use Rattle.burr_container.specs.Cuts.{IsShort}
 use Rattle.burr_container.proofs.Chains.{at_most}
 use Rattle.burr_container.proofs.FormsRead.{forms_at, forms_fail}
 use Rattle.burr_container.proofs.reading.frames.forms.Goals as goal

@@ -1,6 +1,8 @@
 -- The parts of a frame stand one behind the other.
+use Rattle.std.proofs.Common.{◌∙◌, arith}
 use Rattle.std.proofs.lemmas.Result.{err_from_is_err_and}
-use Rattle.burr_container.specs.Refs.{forms_of, form_in_run, places_of}
+use Rattle.burr_code.specs.declared.limits.TheConstants.{MOST_GUARDS, MOST_OPERANDS}
+use Rattle.burr_container.proofs.PlaceWalk.{few_forms}
 use Rattle.burr_container.proofs.FramesRead.{slots_fail_in_frame, guards_fail_in_frame, stack_fails_in_frame, cost_fails_in_frame, places_fail_in_frame, frame_at}
 use Rattle.burr_container.proofs.reading.frames.frame.Goals as goal
 
@@ -42,3 +44,20 @@ pub returns-clause-reads : goal.returns-clause-reads
 returns-clause-reads c =
     frame_at _ _ _ _ _ _ c.in_ok-tray.ensures c.in_ok-grip.ensures _ _ c.live_slots-live.ensures _ c.in_ok-slots.ensures _ _
     c.in_ok-guards.ensures.reads _ _ c.in_ok-stack.ensures.reads _ _ c.in_ok-cost.ensures.reads _ _ c.in_ok-places.ensures.reads
+
+pub invariant_of-frame : goal.invariant_of-frame
+invariant_of-frame c =
+    let live = c.live_slots-live.ensures in
+    let guards = c.in_ok-guards.guards in
+    let stack = c.in_ok-stack.stack in
+    record {
+      guards_live = c.in_ok-guards.ensures.live ∙ live;
+      stack_live = c.in_ok-stack.ensures.live ∙ live;
+      cost_live = c.in_ok-cost.ensures.live.0 ∙ live;
+      one_cost = c.in_ok-cost.ensures.live.1;
+      places_live = c.in_ok-places.ensures.live.0 ∙ live;
+      ranges = c.in_ok-slots.ensures.fits;
+      few_guards = few_forms MOST_GUARDS c.live_slots-live.result guards.live guards.count guards.bytes.now c.in_ok-guards.ensures.reads.fits;
+      few_operands = few_forms MOST_OPERANDS c.live_slots-live.result stack.live stack.count stack.bytes.now c.in_ok-stack.ensures.reads.fits;
+      few_places = omega (arith, c.in_ok-places.ensures.live, c.requires);
+    }

@@ -1,5 +1,5 @@
 -- Three forms follow a tray.
-use Rattle.std.proofs.Common.{rules, ◌≡◌, ◌<◌, ◌*◌, ◌==◌, false, ap, ◌∙◌, ℕ, arith, ne_eqb, lt-ltb}
+use Rattle.std.proofs.Common.{◌≡◌, ◌<◌, ◌*◌, ◌==◌, false, ap, ◌∙◌, ℕ, arith, ne_eqb, lt-ltb}
 use Rattle.std.proofs.lemmas.Bool.{or_right}
 use Rattle.std.proofs.lemmas.Result.{err_from_is_err_and}
 use Rattle.burr_container.specs.declared.fault.ContainerFault.TheVariants.{C4}

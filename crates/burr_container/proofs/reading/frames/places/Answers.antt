@@ -1,5 +1,5 @@
 -- A place is read each turn.
-use Rattle.std.proofs.Common.{rules, ◌≡◌, arith}
+use Rattle.std.proofs.Common.{arith}
 use Rattle.std.proofs.lemmas.Result.{err_from_is_err_and}
 use Rattle.burr_container.specs.Faults.{place}
 use Rattle.burr_container.proofs.EachWalk.{each_fails, each_ends}

@@ -1,9 +1,4 @@
 -- Where the others stand, all stand; and the places so far are read.
-use Rattle.std.proofs.Common.{◌-◌}
-use Rattle.std.specs.Prelude.{IsTrue}
-use Rattle.burr_container.specs.Decoding.{places_stand}
-use Rattle.burr_container.specs.Faults.{place}
-use Rattle.burr_container.proofs.EachWalk.{IsEachWalk}
 use Rattle.burr_container.proofs.PlacesRead.{ArePlacesRead}
 use Rattle.burr_container.proofs.reading.frames.places.Given as goal
 

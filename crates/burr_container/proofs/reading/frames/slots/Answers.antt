@@ -1,9 +1,8 @@
 -- The mask stands in front of the ranges of the slots.
 use Rattle.std.proofs.lemmas.Result.{err_from_is_err_and}
-use Rattle.std.proofs.Common.{rules, ◌≡◌, ◌<◌, true, refl, arith}
+use Rattle.std.proofs.Common.{rules, true, refl, arith}
 use Rattle.burr_container.specs.declared.fault.ContainerFault.TheVariants.{C4}
 use Rattle.burr_container.specs.Faults.{number, RangesFail, bits}
-use Rattle.burr_container.specs.Reading.{IsAt}
 use Rattle.burr_container.proofs.Chains.{byte_at, then_fails}
 use Rattle.burr_container.proofs.SlotWalk.{walk_live, walk_dead, walk_fails, walk_ends, slots_at}
 use Rattle.burr_container.proofs.reading.frames.slots.Goals.{then-bits-eq1+in_ok-range, else-bits-eq1}

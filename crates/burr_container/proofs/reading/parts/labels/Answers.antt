@@ -1,5 +1,5 @@
 -- A label is read each turn.
-use Rattle.std.proofs.Common.{rules, ◌≡◌, ◌++◌, ◌∷◌, [], arith}
+use Rattle.std.proofs.Common.{arith}
 use Rattle.std.proofs.lemmas.Result.{err_from_is_err_and}
 use Rattle.burr_container.proofs.LabelsWalk.{labels_go_on, labels_fail_on, labels_end, labels_at, labels_fail_at}
 use Rattle.burr_container.proofs.reading.parts.labels.Goals as goal

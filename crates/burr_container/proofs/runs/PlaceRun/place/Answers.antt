@@ -24,10 +24,10 @@ place_of-requires-clause-whole c =
     let run = c.args.self.now in
     (first_there run.live (run.count - c.loop.counter) c.loop.rest.now (omega (arith, c.requires)) c.loop.invariant.are).whole
 
-pub returns : goal.returns
-returns c =
+pub returns-clause-place : goal.returns-clause-place
+returns-clause-place c =
     let run = c.args.self.now in
     let bytes = c.loop.rest.now in
     let answer = slice_get (map (place_over_symbols run.live) (places_of run)) c.args.p in
     walk_ends run.live (run.count - c.loop.counter) (c.args.p - c.loop.counter) bytes answer (omega (arith, c.requires)) (omega arith) c.loop.invariant
-    ∙ sym (ap Some c.place_of.ensures)
+    ∙ sym (ap Some c.place_of.ensures.place)

@@ -1,0 +1,217 @@
+-- What is made of forms over the first symbols is over them.
+use Rattle.std.proofs.Common.{◌≡◌, ℕ, zero, suc, ◌+◌, ◌-◌, ◌^◌, ◌≤◌, List, [], ◌∷◌, ◌++◌, length, Option, Some, None, Bool, true, false, refl, subst, ap, ◌∙◌, arith}
+use Rattle.std.specs.Prelude.{ℤ, pos, neg_ℤ, ◌+ℤ◌, ◌*ℤ◌, map, replicate, get_or, if◌then◌else◌, ◌==◌, bit_and}
+use Rattle.std.proofs.lemmas.Int.{ints}
+use Rattle.std.proofs.lemmas.Option.{none-some, same_Some}
+use Rattle.std.proofs.Math.IntN.{*ℤ-zero}
+use Rattle.burr_voxels.specs.declared.direction.Direction.{Direction}
+use Rattle.burr_code.specs.Places.{Placement, Apart, On, at_position, changed, to_tray, is_in, count_in, parted, parted_in, aside_places}
+use Rattle.burr_forms.specs.Forms.{Form, number, symbol, sum_of, plus_form, times, minus_form, combined, substituted}
+use Rattle.burr_container.specs.Plans.{FormCell}
+use Rattle.burr_frames.specs.States.{live_ranges, numbered}
+use Rattle.burr_frames.specs.SpaceRules.{moved_forms, moved}
+use Rattle.burr_frames.specs.ControlRules.{substituted_places, symbols_from}
+use Rattle.burr_frames.specs.Over.{AllZero, ZeroFrom, IsOver, AllOver, AllPlacesOver}
+
+-- Coefficients
+
+zeros_from : (n : ℕ) (coefs : List ℤ) → AllZero coefs → ZeroFrom n coefs
+zeros_from zero coefs h = h
+zeros_from (suc n) [] h = tt
+zeros_from (suc n) (c ∷ coefs) h = zeros_from n coefs h.1
+
+all_zero : (k : ℕ) → AllZero (replicate k (pos 0))
+all_zero zero = tt
+all_zero (suc k) = (refl, all_zero k)
+
+from_more : (n m : ℕ) (coefs : List ℤ) → n ≤ m → ZeroFrom n coefs → ZeroFrom m coefs
+from_more zero m coefs le h = zeros_from m coefs h
+from_more (suc n) zero coefs le h = absurd (omega arith)
+from_more (suc n) (suc m) [] le h = tt
+from_more (suc n) (suc m) (c ∷ coefs) le h = from_more n m coefs (omega arith) h
+
+zero_sum : (x y : ℤ) → x ≡ pos 0 → y ≡ pos 0 → (x +ℤ y) ≡ pos 0
+zero_sum x y p q = omega (arith, ints)
+
+from_sum : (n : ℕ) (xs ys : List ℤ) → ZeroFrom n xs → ZeroFrom n ys → ZeroFrom n (sum_of xs ys)
+from_sum n [] ys h k = k
+from_sum zero (x ∷ xs) [] h k = h
+from_sum (suc n) (x ∷ xs) [] h k = h
+from_sum zero (x ∷ xs) (y ∷ ys) h k = (zero_sum x y h.0 k.0, from_sum zero xs ys h.1 k.1)
+from_sum (suc n) (x ∷ xs) (y ∷ ys) h k = from_sum n xs ys h k
+
+from_times : (n : ℕ) (k : ℤ) (xs : List ℤ) → ZeroFrom n xs → ZeroFrom n (map (λ c. k *ℤ c) xs)
+from_times zero k [] h = tt
+from_times zero k (x ∷ xs) h = (ap (λ c. k *ℤ c) h.0 ∙ *ℤ-zero k, from_times zero k xs h.1)
+from_times (suc n) k [] h = tt
+from_times (suc n) k (x ∷ xs) h = from_times n k xs h
+
+from_symbol : (n k : ℕ) → ZeroFrom (suc n) (replicate n (pos 0) ++ pos 1 ∷ replicate k (pos 0))
+from_symbol zero k = all_zero k
+from_symbol (suc n) k = from_symbol n k
+
+-- Forms
+
+pub over_more : (n m : ℕ) (f : Form) → n ≤ m → IsOver n f → IsOver m f
+over_more n m f le h = from_more n m f.coefs le h
+
+pub over_number : (n : ℕ) (x : ℤ) → IsOver n (number x)
+over_number n x = zeros_from n (replicate 8 (pos 0)) (all_zero 8)
+
+pub over_symbol : (n : ℕ) → IsOver (suc n) (symbol n)
+over_symbol n = from_symbol n (7 - n)
+
+pub over_plus : (n : ℕ) (f g : Form) → IsOver n f → IsOver n g → IsOver n (plus_form f g)
+over_plus n f g h k = from_sum n f.coefs g.coefs h k
+
+pub over_times : (n : ℕ) (k : ℤ) (f : Form) → IsOver n f → IsOver n (times k f)
+over_times n k f h = from_times n k f.coefs h
+
+pub over_minus : (n : ℕ) (f g : Form) → IsOver n f → IsOver n g → IsOver n (minus_form f g)
+over_minus n f g h k = over_plus n f (times (neg_ℤ (pos 1)) g) h (over_times n (neg_ℤ (pos 1)) g k)
+
+over_combined : (n : ℕ) (coefs : List ℤ) (arguments : List Form) → AllOver n arguments
+    → IsOver n (combined coefs arguments)
+over_combined n [] arguments h = over_number n (pos 0)
+over_combined n (c ∷ coefs) [] h = over_number n (pos 0)
+over_combined n (c ∷ coefs) (a ∷ arguments) h =
+    over_plus n (times c a) (combined coefs arguments) (over_times n c a h.0)
+    (over_combined n coefs arguments h.1)
+
+pub over_substituted : (n : ℕ) (arguments : List Form) (f : Form) → AllOver n arguments
+    → IsOver n (substituted arguments f)
+over_substituted n arguments f h = over_combined n f.coefs arguments h
+
+-- Lists of forms
+
+pub all_more : (n m : ℕ) (forms : List Form) → n ≤ m → AllOver n forms → AllOver m forms
+all_more n m [] le h = tt
+all_more n m (f ∷ forms) le h = (over_more n m f le h.0, all_more n m forms le h.1)
+
+pub all_appended : (n : ℕ) (forms more : List Form) → AllOver n forms → AllOver n more
+    → AllOver n (forms ++ more)
+all_appended n [] more h k = k
+all_appended n (f ∷ forms) more h k = (h.0, all_appended n forms more h.1 k)
+
+pub all_substituted : (n : ℕ) (arguments forms : List Form) → AllOver n arguments
+    → AllOver n (map (substituted arguments) forms)
+all_substituted n arguments [] h = tt
+all_substituted n arguments (f ∷ forms) h =
+    (over_substituted n arguments f h, all_substituted n arguments forms h)
+
+pub all_symbols : (n r m : ℕ) → n + r ≤ m → AllOver m (symbols_from n r)
+all_symbols n zero m le = tt
+all_symbols n (suc r) m le = (
+  over_more (suc n) m (symbol n) (omega arith) (over_symbol n),
+  all_symbols (suc n) r m (omega arith),
+)
+
+-- Slots of a frame
+
+pub numbered_over : (j m : ℕ) (slots : List (Option (ℤ × ℤ))) → j + length (live_ranges slots) ≤ m
+    → (k : ℕ) (f : Form) → get_or (numbered j slots) k None ≡ Some f → IsOver m f
+numbered_over j m [] le k f e = absurd (none-some _ e)
+numbered_over j m (None ∷ slots) le zero f e = absurd (none-some _ e)
+numbered_over j m (None ∷ slots) le (suc k) f e = numbered_over j m slots le k f e
+numbered_over j m (Some range ∷ slots) le zero f e =
+    subst (λ (g : Form). IsOver m g) (same_Some _ _ e) (over_more (suc j) m (symbol j) (omega arith)
+    (over_symbol j))
+numbered_over j m (Some range ∷ slots) le (suc k) f e =
+    numbered_over (suc j) m slots (omega arith) k f e
+
+pub numbered_length : (j : ℕ) (slots : List (Option (ℤ × ℤ))) → length (numbered j slots)
+    ≡ length slots
+numbered_length j [] = refl
+numbered_length j (None ∷ slots) = ap suc (numbered_length j slots)
+numbered_length j (Some range ∷ slots) = ap suc (numbered_length (suc j) slots)
+
+-- Places
+
+abbrev IsPlaceOver : ℕ → Placement FormCell → Type 0
+IsPlaceOver n Apart = Unit {0}
+IsPlaceOver n (On tray c) = IsOver n c.x × IsOver n c.y × IsOver n c.z
+
+first_over : (n : ℕ) (place : Placement FormCell) (places : List (Placement FormCell))
+    → AllPlacesOver n (place ∷ places) → IsPlaceOver n place × AllPlacesOver n places
+first_over n Apart places h = (tt, h)
+first_over n (On tray c) places h = ((h.0, h.1, h.2), h.3)
+
+with_first : (n : ℕ) (place : Placement FormCell) (places : List (Placement FormCell))
+    → IsPlaceOver n place → AllPlacesOver n places → AllPlacesOver n (place ∷ places)
+with_first n Apart places h k = k
+with_first n (On tray c) places h k = (h.0, h.1, h.2, k)
+
+either_over : (n : ℕ) (b : Bool) (x y : Placement FormCell) → IsPlaceOver n x → IsPlaceOver n y
+    → IsPlaceOver n (if b then x else y)
+either_over n true x y h k = h
+either_over n false x y h k = k
+
+changed_over : (n : ℕ) (change : Placement FormCell → Placement FormCell)
+    → ((x : Placement FormCell) → IsPlaceOver n x → IsPlaceOver n (change x))
+    → (group p : ℕ) (places : List (Placement FormCell)) → AllPlacesOver n places
+    → AllPlacesOver n (changed change group p places)
+changed_over n change keeps group p [] h = tt
+changed_over n change keeps group p (x ∷ places) h =
+    let f = first_over n x places h in
+    with_first n (if bit_and group (2 ^ p) == 0 then x else change x)
+    (changed change group (suc p) places) (either_over n (bit_and group (2 ^ p) == 0) x
+    (change x) f.0 (keeps x f.0)) (changed_over n change keeps group (suc p) places f.1)
+
+pub moved_over : (n group : ℕ) (direction : Direction) (places : List (Placement FormCell))
+    → AllPlacesOver n places → AllPlacesOver n (moved group direction places)
+moved_over n group direction places h =
+    changed_over n (at_position (moved_forms direction)) keeps group 0 places h
+  where
+    keeps : (x : Placement FormCell) → IsPlaceOver n x
+        → IsPlaceOver n (at_position (moved_forms direction) x)
+    keeps Apart h = tt
+    keeps (On tray c) h = h
+
+parted_in_over : (n tray : ℕ) (places : List (Placement FormCell)) → AllPlacesOver n places
+    → AllPlacesOver n (parted_in tray places)
+parted_in_over n tray [] h = tt
+parted_in_over n tray (x ∷ places) h =
+    let f = first_over n x places h in
+    with_first n (if is_in tray x then Apart else x) (parted_in tray places)
+    (either_over n (is_in tray x) Apart x tt f.0) (parted_in_over n tray places f.1)
+
+parted_over : (n tray : ℕ) (places : List (Placement FormCell)) → AllPlacesOver n places
+    → AllPlacesOver n (parted tray places)
+parted_over n tray places h = by_test (count_in tray places == 1)
+  where
+    by_test : (b : Bool) → AllPlacesOver n (if b then parted_in tray places else places)
+    by_test true = parted_in_over n tray places h
+    by_test false = h
+
+pub aside_over : (n group here there : ℕ) (places : List (Placement FormCell))
+    → AllPlacesOver n places → AllPlacesOver n (aside_places group here there places)
+aside_over n group here there places h =
+    parted_over n there (parted here (changed (to_tray there) group 0 places))
+    (parted_over n here (changed (to_tray there) group 0 places)
+    (changed_over n (to_tray there) keeps group 0 places h))
+  where
+    keeps : (x : Placement FormCell) → IsPlaceOver n x → IsPlaceOver n (to_tray there x)
+    keeps Apart h = tt
+    keeps (On tray c) h = h
+
+pub places_over_more : (n m : ℕ) (places : List (Placement FormCell)) → n ≤ m
+    → AllPlacesOver n places → AllPlacesOver m places
+places_over_more n m [] le h = tt
+places_over_more n m (Apart ∷ places) le h = places_over_more n m places le h
+places_over_more n m (On tray c ∷ places) le h = (
+  over_more n m c.x le h.0,
+  over_more n m c.y le h.1,
+  over_more n m c.z le h.2,
+  places_over_more n m places le h.3,
+)
+
+pub substituted_over : (n : ℕ) (arguments : List Form) (places : List (Placement FormCell))
+    → AllOver n arguments → AllPlacesOver n (substituted_places arguments places)
+substituted_over n arguments [] h = tt
+substituted_over n arguments (Apart ∷ places) h = substituted_over n arguments places h
+substituted_over n arguments (On tray c ∷ places) h = (
+  over_substituted n arguments c.x h,
+  over_substituted n arguments c.y h,
+  over_substituted n arguments c.z h,
+  substituted_over n arguments places h,
+)

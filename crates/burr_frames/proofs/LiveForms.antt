@@ -1,0 +1,78 @@
+-- The forms in the live slots, found slot by slot.
+use Rattle.std.proofs.Common.{◌≡◌, ℕ, suc, ◌+◌, ◌<◌, ◌≤◌, length, slice_index_or, arith, List, [], ◌∷◌, ◌++◌, drop, Option, Some, None, refl, sym, ap, ◌∙◌, append_assoc}
+use Rattle.std.specs.Prelude.{slice_get}
+use Rattle.std.proofs.lemmas.Option.{slice_get-get_or, none-some, same_Some}
+use Rattle.std.proofs.lemmas.List.{drop_all, append-nil}
+use Rattle.burr_code.specs.Labels.{with_first}
+use Rattle.burr_forms.specs.Forms.{Form}
+use Rattle.burr_container.specs.Plans.{Range}
+use Rattle.burr_frames.specs.States.{live_ranges}
+use Rattle.burr_frames.specs.Arrival.{live_forms}
+use Rattle.burr_frames.proofs.Reading.{drop_here}
+
+-- forms, and behind them others if there are
+abbrev pub in_front : List Form → Option (List Form) → Option (List Form)
+in_front forms None = None
+in_front forms (Some others) = Some (forms ++ others)
+
+-- the forms so far, and then those of the slots from number v on
+abbrev pub found_behind : List Form → ℕ → List (Option Range) → List (Option Form) → Option (List Form)
+found_behind forms v slots known = in_front forms (live_forms (drop v slots) (drop v known))
+
+in_front_first : (forms : List Form) (form : Form) (others : Option (List Form))
+    → in_front forms (with_first (Some form) others) ≡ in_front (forms ++ form ∷ []) others
+in_front_first forms form None = refl
+in_front_first forms form (Some others) = ap Some (sym (append_assoc forms (form ∷ []) others))
+
+-- a slot that is not live
+pub found_not_live : (forms : List Form) (v : ℕ) (slots : List (Option Range)) (known : List (Option Form)) (slot : Option Form)
+    → slice_get slots v ≡ Some None → slice_get known v ≡ Some slot
+    → found_behind forms (v + 1) slots known ≡ found_behind forms v slots known
+found_not_live forms v slots known slot e f =
+    sym (ap (λ (s : List (Option Range)). in_front forms (live_forms s (drop v known))) (drop_here slots v None e)
+    ∙ ap (λ (k : List (Option Form)). in_front forms (live_forms (None ∷ drop (v + 1) slots) k)) (drop_here known v slot f))
+
+-- a live slot whose form is known
+pub found_live : (forms : List Form) (v : ℕ) (slots : List (Option Range)) (known : List (Option Form)) (range : Range) (form : Form)
+    → slice_get slots v ≡ Some (Some range) → slice_get known v ≡ Some (Some form)
+    → found_behind (forms ++ form ∷ []) (v + 1) slots known ≡ found_behind forms v slots known
+found_live forms v slots known range form e f =
+    sym (ap (λ (s : List (Option Range)). in_front forms (live_forms s (drop v known))) (drop_here slots v (Some range) e)
+    ∙ ap (λ (k : List (Option Form)). in_front forms (live_forms (Some range ∷ drop (v + 1) slots) k)) (drop_here known v (Some form) f)
+    ∙ in_front_first forms form (live_forms (drop (v + 1) slots) (drop (v + 1) known)))
+
+-- a live slot of which nothing is known
+pub found_nothing : (forms : List Form) (v : ℕ) (slots : List (Option Range)) (known : List (Option Form)) (range : Range)
+    → slice_get slots v ≡ Some (Some range) → slice_get known v ≡ Some None
+    → found_behind forms v slots known ≡ None
+found_nothing forms v slots known range e f =
+    ap (λ (s : List (Option Range)). in_front forms (live_forms s (drop v known))) (drop_here slots v (Some range) e)
+    ∙ ap (λ (k : List (Option Form)). in_front forms (live_forms (Some range ∷ drop (v + 1) slots) k)) (drop_here known v None f)
+
+-- nothing is left behind the last slot
+pub found_all : (forms : List Form) (v : ℕ) (slots : List (Option Range)) (known : List (Option Form))
+    → length slots ≤ v → length known ≤ v → found_behind forms v slots known ≡ Some forms
+found_all forms v slots known l k =
+    ap (λ (s : List (Option Range)). in_front forms (live_forms s (drop v known))) (drop_all v slots l)
+    ∙ ap Some (append-nil forms)
+
+-- there is something at a number below the length
+pub known_at : (v : ℕ) (known : List (Option Form)) → length known ≡ 8 → v < 8 → (slot : Option Form) × (slice_get known v ≡ Some slot)
+known_at v known eight l = (slice_index_or known v None, slice_get-get_or known v None (omega (arith, eight, l)))
+
+-- there is a form for each live slot
+one_more : (form : Option Form) (found : Option (List Form)) (forms : List Form) → with_first form found ≡ Some forms
+    → (first : Form) × (others : List Form) × (found ≡ Some others) × (forms ≡ first ∷ others)
+one_more None found forms e = absurd (none-some forms e)
+one_more (Some form) None forms e = absurd (none-some forms e)
+one_more (Some form) (Some others) forms e = (form, others, refl, sym (same_Some (form ∷ others) forms e))
+
+pub as_many_found : (slots : List (Option Range)) (known : List (Option Form)) (forms : List Form)
+    → live_forms slots known ≡ Some forms → length forms ≡ length (live_ranges slots)
+as_many_found [] known forms e = ap (length {A = Form}) (sym (same_Some [] forms e))
+as_many_found (None ∷ slots) [] forms e = as_many_found slots [] forms e
+as_many_found (None ∷ slots) (form ∷ known) forms e = as_many_found slots known forms e
+as_many_found (Some range ∷ slots) [] forms e = absurd (none-some forms e)
+as_many_found (Some range ∷ slots) (form ∷ known) forms e =
+    let more = one_more form (live_forms slots known) forms e in
+    ap (length {A = Form}) more.3 ∙ ap suc (as_many_found slots known more.1 more.2)

@@ -1,0 +1,46 @@
+-- The forms of offsets, piece by piece.
+use Rattle.std.proofs.Common.{◌≡◌, ℕ, zero, suc, ◌+◌, ◌<◌, ◌≤◌, List, [], ◌∷◌, ◌++◌, length, take, refl, sym, ap, subst, ◌∙◌, arith, slice_index_or}
+use Rattle.std.specs.Prelude.{reverse}
+use Rattle.std.proofs.lemmas.List.{take_more, reverse-reverse}
+use Rattle.std.proofs.lemmas.List.Elements.{All-nil, All-cons}
+use Rattle.std.proofs.lemmas.List.Sorted.{All-permutation, IsPermutation-reverse}
+use Rattle.burr_code.specs.Places.{Placement, Apart, On}
+use Rattle.burr_forms.specs.Forms.{Form, IsSmallForm, AllSmallForms}
+use Rattle.burr_container.specs.Plans.{FormCell}
+use Rattle.burr_frames.specs.SpaceRules.{AllSmallPlaces}
+use Rattle.burr_frames.specs.Comparing.{offset_forms}
+
+offsets_push : (places : List (Placement FormCell)) (place : Placement FormCell)
+    → offset_forms (places ++ place ∷ []) ≡ offset_forms places ++ offset_forms (place ∷ [])
+offsets_push [] place = refl
+offsets_push (Apart ∷ places) place = offsets_push places place
+offsets_push (On tray c ∷ places) place = ap (λ (forms : List Form). c.x ∷ c.y ∷ c.z ∷ forms) (offsets_push places place)
+
+-- the forms of the offsets up to piece p
+pub offsets_more : (places : List (Placement FormCell)) (p : ℕ) (place : Placement FormCell) → p < length places
+    → place ≡ slice_index_or places p place
+    → offset_forms (take (p + 1) places) ≡ offset_forms (take p places) ++ offset_forms (place ∷ [])
+offsets_more places p place l e =
+    ap offset_forms (take_more places p place l ∙ ap (λ (x : Placement FormCell). take p places ++ x ∷ []) (sym e))
+    ∙ offsets_push (take p places) place
+
+-- the forms of a piece's offset are small, and three at most
+pub small_offset_at : (places : List (Placement FormCell)) (p : ℕ) (d : Placement FormCell) → AllSmallPlaces places
+    → p < length places → AllSmallForms (offset_forms (slice_index_or places p d ∷ []))
+small_offset_at [] p d s l = absurd (omega (arith, l))
+small_offset_at (Apart ∷ places) zero d s l = All-nil IsSmallForm
+small_offset_at (Apart ∷ places) (suc p) d s l = small_offset_at places p d s (omega (arith, l))
+small_offset_at (On tray c ∷ places) zero d s l =
+    All-cons IsSmallForm c.x (c.y ∷ c.z ∷ []) s.0
+    (All-cons IsSmallForm c.y (c.z ∷ []) s.1 (All-cons IsSmallForm c.z [] s.2 (All-nil IsSmallForm)))
+small_offset_at (On tray c ∷ places) (suc p) d s l = small_offset_at places p d s.3 (omega (arith, l))
+
+pub three_at_most : (place : Placement FormCell) → length (offset_forms (place ∷ [])) ≤ 3
+three_at_most Apart = omega arith
+three_at_most (On tray c) = omega arith
+
+-- forms that are small the other way round are small
+pub small_reversed : (forms : List Form) → AllSmallForms (reverse forms) → AllSmallForms forms
+small_reversed forms small =
+    subst AllSmallForms (reverse-reverse forms)
+    (All-permutation IsSmallForm (reverse forms) (reverse (reverse forms)) (IsPermutation-reverse (reverse forms)) small)

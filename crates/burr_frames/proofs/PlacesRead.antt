@@ -1,0 +1,14 @@
+-- Places that are read one by one.
+use Rattle.std.proofs.Common.{List, [], ◌∷◌, ◌++◌, Some, None, Option, ℕ}
+use Rattle.burr_code.specs.Places.{Placement, Apart, On}
+use Rattle.burr_forms.specs.Forms.{Form}
+use Rattle.burr_container.specs.Plans.{FormCell}
+use Rattle.burr_container.specs.Refs.{told, IsSmallPlace}
+use Rattle.burr_frames.specs.SpaceRules.{AllSmallPlaces}
+
+pub small_push : (places : List (Placement FormCell)) (place : Option (ℕ × Form × Form × Form)) → AllSmallPlaces places
+    → IsSmallPlace place → AllSmallPlaces (places ++ told place ∷ [])
+small_push [] None s p = tt
+small_push [] (Some at) s p = (p.0, p.1, p.2, tt)
+small_push (Apart ∷ places) place s p = small_push places place s p
+small_push (On tray c ∷ places) place s p = (s.0, s.1, s.2, small_push places place s.3 p)

@@ -1,0 +1,11 @@
+-- What values are compared with in an agreement.
+use Rattle.burr_frames.specs.declared.state.agreeing.Agreement.{Agreement}
+use Rattle.burr_frames.specs.Comparing.{Target}
+
+abbrev pub target_of : Agreement → Target
+target_of a = record {
+  ranges = a.ranges.now;
+  guards = a.guards.now;
+  least = a.least.now;
+  same = a.same.now;
+}

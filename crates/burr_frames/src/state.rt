@@ -1,0 +1,49 @@
+mod agreeing;
+mod arriving;
+mod framing;
+mod matching;
+#[cfg(test)]
+mod tests;
+
+use crate::lying::Lying;
+use arrayvec::ArrayVec;
+pub use arriving::{Miss, arrives};
+use burr_forms::Form;
+use std::marker::Model;
+
+/// The most pieces of an assembly.
+const MOST_PIECES: usize = 32;
+
+/// What is known where an instruction stands, at all points of its symbols at once: forms in place of
+/// numbers. The numbers of all forms lie within ±2^40.
+#[derive(Clone, Debug, Drop)]
+pub struct State {
+    /// Of each symbol, both ends in it.
+    ranges: ArrayVec<(i32, i32), 8>,
+    /// Forms that are negative at no point.
+    guards: ArrayVec<Form, 8>,
+    /// None where nothing is known of a slot's value.
+    slots: [Option<Form>; 8],
+    /// The top last.
+    operands: ArrayVec<Form, 8>,
+    places: ArrayVec<Lying, MOST_PIECES>,
+    /// The current tray.
+    tray: u8,
+    /// The pieces of the current tray that are gripped: bit p is piece p.
+    grip: u32,
+    /// How many steps may still be made at most.
+    cost: Form,
+}
+
+impl Model for State {
+    ghost use Rattle.burr_frames.specs.States.{AbstractState};
+    ghost use Rattle.burr_frames.specs.StateViews.{abstract_state, IsSmallState};
+
+    ghost Value = { AbstractState };
+
+    ghost view = { λ s. abstract_state s.ranges.items s.guards.items s.slots s.operands.items
+        s.places.items s.tray s.grip s.cost };
+
+    ghost invariant = { λ s. IsSmallState (abstract_state s.ranges.items s.guards.items s.slots
+        s.operands.items s.places.items s.tray s.grip s.cost) };
+}
