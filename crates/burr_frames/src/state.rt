@@ -1,7 +1,11 @@
 mod agreeing;
 mod arriving;
+mod changes;
 mod framing;
 mod matching;
+mod moves;
+mod numbers;
+mod paying;
 #[cfg(test)]
 mod tests;
 
