@@ -4,8 +4,5 @@ pub mod Comparisons
 pub mod LiveForms
 pub mod Numbering
 pub mod Offsets
-pub mod Operands
-pub mod Paying
 pub mod PlacesRead
-pub mod Reaches
 pub mod Reading

@@ -1,14 +1,11 @@
 pub mod Arrival
 pub mod ArrivalViews
-pub mod Breaks
-pub mod Changes
 pub mod Comparing
 pub mod ControlRules
 pub mod FramedPlans
 pub mod NumberRules
 pub mod Over
 pub mod QuestionRules
-pub mod Ranges
 pub mod RuleNumbers
 pub mod SpaceRules
 pub mod Spots

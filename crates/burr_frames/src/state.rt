@@ -1,11 +1,7 @@
 mod agreeing;
 mod arriving;
-mod changes;
 mod framing;
 mod matching;
-mod moves;
-mod numbers;
-mod paying;
 #[cfg(test)]
 mod tests;
 
