@@ -1,5 +1,6 @@
 mod Before
 pub mod Common
+mod Containers
 mod Exact
 mod Failure
 mod OnePass

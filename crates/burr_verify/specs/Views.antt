@@ -1,0 +1,47 @@
+-- What the code's answers say of a judgement.
+use Rattle.std.specs.Prelude.{◌≡◌, ⊤, ℕ, ◌+◌, List, Option, Some, None, Result, Ok, Err, MatchResult, option_map}
+use Rattle.burr_voxels.specs.declared.cell.Cell.{Cell}
+use Rattle.burr_frames.specs.FramedPlans.{FramedProcedure, FramedPlan}
+use Rattle.burr_frames.specs.States.{AbstractState}
+use Rattle.burr_frames.specs.Breaks.{broken_of}
+use Rattle.burr_frames.specs.Verdicts.{Verdict, Breaks, Falls, Leaves}
+use Rattle.burr_frames.specs.declared.breaking.Break.{Break}
+use Rattle.burr_verify.specs.declared.refusal.Refusal.{Refusal}
+use Rattle.burr_verify.specs.declared.transfer.Flow.{Flow}
+use Rattle.burr_verify.specs.declared.transfer.Flow.TheVariants as flows
+use Rattle.burr_verify.specs.Judging.{Answer}
+use Rattle.burr_verify.specs.Pass.{Judgement, Passed, Refuses, FailedCheck, Stage, Pass, Comes, Judges}
+
+abbrev pub failed_check : Refusal → FailedCheck
+failed_check r = record {
+  procedure = r.proc;
+  pc = r.pc;
+  rule = r.rule;
+  pieces = r.pieces;
+  point = option_map (λ point. point.items) r.point;
+}
+
+abbrev pub judgement_of : Result ⊤ Refusal → Judgement
+judgement_of (Ok _) = Passed
+judgement_of (Err r) = Refuses (failed_check r)
+
+-- what an instruction comes to, where it leaves this state
+abbrev pub verdict_of : AbstractState → Result Flow Break → Verdict
+verdict_of s (Ok flows.Falls) = Falls s
+verdict_of s (Ok flows.Leaves) = Leaves
+verdict_of s (Err b) = Breaks (broken_of b)
+
+-- a part of the checks: where they hold, what follows says it all, and else they are what refuses
+abbrev pub AnswersPart : (Answer → Answer) → Result ⊤ Refusal → Type 0
+AnswersPart part result =
+    MatchResult result (λ _. (rest : Answer) (j : Judgement) → rest j → part rest j)
+    (λ r. (rest : Answer) → part rest (Refuses (failed_check r)))
+
+-- the pass goes on from one stage to another, whatever it comes to from there
+abbrev pub GoesOn : List (List Cell) → FramedPlan → ℕ → FramedProcedure → Stage → Stage → Type 0
+GoesOn homes plan n here from to =
+    (j : Judgement) → Pass homes plan n here to j → Pass homes plan n here from j
+
+-- the pass ends at this stage, by this refusal
+abbrev pub Stops : List (List Cell) → FramedPlan → ℕ → FramedProcedure → Stage → Refusal → Type 0
+Stops homes plan n here from r = Pass homes plan n here from (Refuses (failed_check r))
