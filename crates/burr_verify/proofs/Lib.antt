@@ -1,6 +1,5 @@
 mod Before
 pub mod Common
-mod Containers
 mod Exact
 mod Failure
 mod OnePass
