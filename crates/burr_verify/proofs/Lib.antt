@@ -1,5 +1,6 @@
 mod Before
 pub mod Common
+mod Containers
 mod Exact
 mod Failure
 mod OnePass
@@ -7,3 +8,4 @@ mod PassCuts
 mod SomePass
 mod VerifyLaws
 mod Worked
+pub mod Lookups
