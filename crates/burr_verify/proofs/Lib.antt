@@ -1,6 +1,5 @@
 mod Before
 pub mod Common
-mod Containers
 mod Exact
 mod Failure
 mod OnePass
@@ -8,4 +7,3 @@ mod PassCuts
 mod SomePass
 mod VerifyLaws
 mod Worked
-pub mod Lookups
