@@ -1,14 +1,9 @@
 mod Before
-mod Containers
+pub mod Common
 mod Exact
 mod Failure
-mod Framings
-mod Heres
-mod JudgedOn
-mod Lookups
 mod OnePass
 mod PassCuts
 mod SomePass
 mod VerifyLaws
 mod Worked
-pub mod Common
