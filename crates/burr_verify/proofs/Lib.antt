@@ -1,18 +1,9 @@
 mod Before
-mod Containers
+pub mod Common
 mod Exact
 mod Failure
-mod Formed
-mod Framings
-mod Heres
-mod JudgedOn
-mod LabelsJudged
-mod Lookups
 mod OnePass
 mod PassCuts
 mod SomePass
-mod Stages
-mod Trays
 mod VerifyLaws
 mod Worked
-pub mod Common
