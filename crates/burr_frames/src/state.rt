@@ -1,24 +1,13 @@
 mod agreeing;
 mod arriving;
-mod asking;
-mod calling;
-mod changes;
-mod control;
-mod copying;
 mod framing;
 mod matching;
-mod moves;
-mod numbers;
-mod paying;
-mod places;
-mod starting;
 #[cfg(test)]
 mod tests;
 
 use crate::lying::Lying;
-pub use arriving::{Miss, arrives};
 use arrayvec::ArrayVec;
-pub use calling::{meets_entry, meets_exit};
+pub use arriving::{Miss, arrives};
 use burr_forms::Form;
 use std::marker::Model;
 

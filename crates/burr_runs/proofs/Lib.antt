@@ -1,5 +1,4 @@
 pub mod AnswerTexts
-pub mod Headline
 pub mod Inputs
 pub mod OneOutput
 pub mod SomeOutput

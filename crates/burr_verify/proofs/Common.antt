@@ -1,4 +1,1 @@
-pub mod Costs
-pub mod FineVerdicts
-pub mod FormValues
 pub mod FromContainers

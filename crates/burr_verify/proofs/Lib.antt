@@ -1,21 +1,9 @@
-mod AcceptingCosts
 mod Before
-mod Beginnings
-mod Containers
+pub mod Common
 mod Exact
 mod Failure
-mod Formed
-mod Framings
-mod Heres
-mod JudgedOn
-mod LabelsJudged
-mod OneContainer
 mod OnePass
-mod Parts
 mod PassCuts
 mod SomePass
-mod Stages
-mod Trays
 mod VerifyLaws
 mod Worked
-pub mod Common

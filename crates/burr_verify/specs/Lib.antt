@@ -1,4 +1,3 @@
-pub mod Accepting
 pub mod Fitting
 pub mod FromContainers
 pub mod Fronts
@@ -7,5 +6,3 @@ pub mod Pass
 pub mod Refusals
 pub mod VerifyLaws
 pub mod WellFramed
-pub mod Views
-pub mod Forming
