@@ -7,7 +7,7 @@ ghost use Rattle.burr_container.specs.Faults.{procedures as procedures_part};
 ghost use Rattle.burr_container.specs.Reading.{ReadsAs};
 ghost use Rattle.burr_container.specs.Refs.{frame_of};
 ghost use Rattle.burr_container.specs.InPlace.{AreFor, IsProcedure, IsExit};
-ghost use Rattle.burr_container.specs.Containers.{ReadsContainer, IsContainer, IsHeader, HasLabel, OfProcedure, OfLabel};
+ghost use Rattle.burr_container.specs.Containers.{ReadsContainer, IsContainer, HasPlan, IsHeader, HasLabel, OfProcedure, OfLabel};
 
 use crate::container::Container;
 use crate::exit_ref::ExitRef;
@@ -34,9 +34,10 @@ impl<'a> Container<'a> {
         Ok(Container { header, procedures })
     }
 
-    /// Version, budget, number of pieces and name.
+    /// Version, budget, number of pieces and name. What a reference to a container holds is one.
     pub fn header(&self) -> Header<'a>
         ensures header { result ≡ self.now.header }
+        ensures container { HasPlan self.now }
         ensures plan { (p : Plan) → IsContainer self.now p → IsHeader result p }
         ensures budget { result.budget ≤ MOST_BUDGET }
     {

@@ -1,14 +1,15 @@
 -- From one point of a region to the next.
-use Rattle.std.proofs.Common.{◌≡◌, ◌<◌, ◌≤◌, ◌-◌, List, [], ◌∷◌, length, Some, None, refl, ap, sym, ◌∙◌, arith, inl, inr, subst}
-use Rattle.std.specs.Prelude.{ℤ, pos, ◌↔◌, Bool, true, false, IsTrue, MatchBool, ◌≤ℤ◌}
+use Rattle.std.proofs.Common.{◌≡◌, ◌<◌, ◌≤◌, ◌-◌, List, [], ◌∷◌, length, Some, None, ap, sym, ◌∙◌, arith, inl, inr, subst}
+use Rattle.std.specs.Prelude.{ℤ, pos, Bool, true, false, IsTrue, ◌≤ℤ◌}
 use Rattle.burr_forms.specs.Forms.{Form, Point, value, values, AllNear, AllSmallForms}
 use Rattle.burr_forms.specs.Points.{IsPointOf, InBox, AreRanges, GuardsHold}
-use Rattle.burr_forms.specs.Searching.{AllBounded, steps_of, sums, HoldsBefore, StandsAt, IsRaised}
+use Rattle.burr_forms.specs.Searching.{AllBounded, steps_of, sums, HoldsBefore, StandsAt, IsRaised, IsBehind, IsHere}
 use Rattle.burr_forms.specs.Rising.{lows, following, count_after}
 use Rattle.burr_forms.specs.Conditions.{Region, Throughout, FailsFirstAt, NoneNegative, at_values}
 use Rattle.std.proofs.lemmas.List.Elements.{All-head, All-tail, All-nil, All-cons, All-map}
 use Rattle.burr_forms.proofs.Boxes.{near_inside, length_inside}
-use Rattle.burr_forms.proofs.RowValues.{values_bounded}
+use Rattle.burr_forms.proofs.RowValues.{values_bounded, length-values}
+use Rattle.burr_forms.proofs.Carrying.{length-sums}
 use Rattle.burr_forms.proofs.Orders.{IsUpTo, IsNext, IsLast, follows_next, follows_none, lows_inside, none_before_lows}
 
 -- the guard's value, or the number, is not negative
@@ -67,53 +68,52 @@ at_few s P point few at = let e = length_inside s.ranges point at.inside in omeg
 pub at_many : (s : Region) (P : Point → Type 0) (point : Point) → StandsAt s P point → length point ≡ length s.ranges
 at_many s P point at = length_inside s.ranges point at.inside
 
--- a loop stands at a point, with the values there
-pub record Carries (s : Region) (P : List ℤ → Type 0) (forms : List Form) (signs row : List ℤ) (point : Point) : Type 0 where
+-- a loop stands at a point, with the guards' values there, and the line of the forms' values
+pub record Carries (s : Region) (P : List ℤ → Type 0) (forms : List Form) (signs steps row : List ℤ) (is_kept : Bool) (point : Point) : Type 0 where
   pub at : StandsAt s (at_values P forms) point
   pub signs_are : signs ≡ values point s.guards
-  pub row_are : row ≡ values point forms
+  pub behind : IsBehind steps forms point row is_kept
 
 -- The loop that carries values
 
-module _ (s : Region) (P : List ℤ → Type 0) (forms : List Form) (signs row : List ℤ) (point : Point) (here : Carries s P forms signs row point) where
-  pub row_bounded : AreRanges s.ranges → length s.ranges ≤ 8 → AllSmallForms forms → AllBounded row
-  row_bounded r few small = subst AllBounded (sym here.row_are) (values_bounded point forms small (at_near s (at_values P forms) point r here.at) (at_few s (at_values P forms) point few here.at))
+module _ (s : Region) (P : Point → Type 0) (signs : List ℤ) (point : Point) (at : StandsAt s P point) (signs_are : signs ≡ values point s.guards) where
+  pub holds_here : (NoneNegative signs → P point) → GuardsHold s.guards point → P point
+  holds_here passes g = passes (subst NoneNegative (sym signs_are) (from_guards s.guards point g))
 
-  pub holds_here : (NoneNegative signs → P row) → GuardsHold s.guards point → P (values point forms)
-  holds_here passes g = subst P here.row_are (passes (subst NoneNegative (sym here.signs_are) (from_guards s.guards point g)))
-
-  pub fails_here : NoneNegative signs × (¬ P row) → FailsFirstAt s (at_values P forms) point
-  fails_here f = fails s (at_values P forms) point here.at (to_guards s.guards point (subst NoneNegative here.signs_are f.0)) (λ p. f.1 (subst P (sym here.row_are) p))
+  pub fails_here : NoneNegative signs × (¬ P point) → FailsFirstAt s P point
+  fails_here f = fails s P point at (to_guards s.guards point (subst NoneNegative signs_are f.0)) f.1
 
   -- what stands at the point that follows
-  pub next_at : (next : Point) → AreRanges s.ranges → (NoneNegative signs → P row) → following s.ranges point ≡ Some next → StandsAt s (at_values P forms) next
-  next_at next r passes e = goes_on s (at_values P forms) r point next here.at (holds_here passes) e
+  pub next_at : (next : Point) → AreRanges s.ranges → (NoneNegative signs → P point) → following s.ranges point ≡ Some next → StandsAt s P next
+  next_at next r passes e = goes_on s P r point next at (holds_here passes) e
 
-  pub next_near : (next : Point) → AreRanges s.ranges → (NoneNegative signs → P row) → following s.ranges point ≡ Some next → AllNear next
-  next_near next r passes e = at_near s (at_values P forms) next r (next_at next r passes e)
+  pub next_near : (next : Point) → AreRanges s.ranges → (NoneNegative signs → P point) → following s.ranges point ≡ Some next → AllNear next
+  next_near next r passes e = at_near s P next r (next_at next r passes e)
 
-  pub next_few : (next : Point) → AreRanges s.ranges → length s.ranges ≤ 8 → (NoneNegative signs → P row) → following s.ranges point ≡ Some next → length next ≤ 8
-  next_few next r few passes e = at_few s (at_values P forms) next few (next_at next r passes e)
+  pub next_few : (next : Point) → AreRanges s.ranges → length s.ranges ≤ 8 → (NoneNegative signs → P point) → following s.ranges point ≡ Some next → length next ≤ 8
+  next_few next r few passes e = at_few s P next few (next_at next r passes e)
 
-  -- forms carried to a raised point
-  pub carried_bounded : (next : Point) (fs : List Form) (xs steps : List ℤ) → AreRanges s.ranges → length s.ranges ≤ 8 → AllSmallForms fs → (NoneNegative signs → P row) → IsRaised s.ranges point next → xs ≡ values point fs → steps ≡ steps_of (length s.ranges - 1) fs → AllBounded (sums xs steps)
-  carried_bounded next fs xs steps r few small passes up xs_are steps_are =
-      let are : sums xs steps ≡ values next fs = rw (xs_are, steps_are) (sym (up.carries fs)) in
-      subst AllBounded (sym are) (values_bounded next fs small (next_near next r passes up.follows) (next_few next r few passes up.follows))
+  -- guards carried to a raised point
+  pub carried_bounded : (next : Point) (steps : List ℤ) → AreRanges s.ranges → length s.ranges ≤ 8 → AllSmallForms s.guards → (NoneNegative signs → P point) → IsRaised s.ranges point next → steps ≡ steps_of (length s.ranges - 1) s.guards → AllBounded (sums signs steps)
+  carried_bounded next steps r few small passes up steps_are =
+      let are : sums signs steps ≡ values next s.guards = rw (signs_are, steps_are) (sym (up.carries s.guards)) in
+      subst AllBounded (sym are) (values_bounded next s.guards small (next_near next r passes up.follows) (next_few next r few passes up.follows))
 
-  pub carried_on : (next : Point) (sign_steps steps signs' row' : List ℤ) → AreRanges s.ranges → (NoneNegative signs → P row) → IsRaised s.ranges point next → sign_steps ≡ steps_of (length s.ranges - 1) s.guards → steps ≡ steps_of (length s.ranges - 1) forms → signs' ≡ sums signs sign_steps → row' ≡ sums row steps → Carries s P forms signs' row' next
-  carried_on next sign_steps steps signs' row' r passes up sign_steps_are steps_are signs_are row_are = record {
-    at = next_at next r passes up.follows;
-    signs_are = signs_are ∙ ap (λ xs. sums xs sign_steps) here.signs_are ∙ ap (sums (values point s.guards)) sign_steps_are ∙ sym (up.carries s.guards);
-    row_are = row_are ∙ ap (λ xs. sums xs steps) here.row_are ∙ ap (sums (values point forms)) steps_are ∙ sym (up.carries forms);
-  }
+  pub carried_on : (next : Point) (steps signs' : List ℤ) → IsRaised s.ranges point next → steps ≡ steps_of (length s.ranges - 1) s.guards → signs' ≡ sums signs steps → signs' ≡ values next s.guards
+  carried_on next steps signs' up steps_are are = are ∙ ap (λ xs. sums xs steps) signs_are ∙ ap (sums (values point s.guards)) steps_are ∙ sym (up.carries s.guards)
 
-  pub ended : AreRanges s.ranges → (NoneNegative signs → P row) → following s.ranges point ≡ None → Throughout s (at_values P forms)
-  ended r passes e = ends s (at_values P forms) r point here.at (holds_here passes) e
+  pub ended : AreRanges s.ranges → (NoneNegative signs → P point) → following s.ranges point ≡ None → Throughout s P
+  ended r passes e = ends s P r point at (holds_here passes) e
 
--- where the last number could not be raised the loop stands where it did
-pub stayed : (s : Region) (P : List ℤ → Type 0) (forms : List Form) (signs row : List ℤ) (point same : Point) → Carries s P forms signs row point → same ≡ point → Carries s P forms signs row same
-stayed s P forms signs row point same at e = subst (Carries s P forms signs row) (sym e) at
+-- what is kept here is behind a raised point
+pub now_behind : (ranges : List (ℤ × ℤ)) (steps : List ℤ) (forms : List Form) (point next : Point) (row : List ℤ) (is_kept : Bool) → IsRaised ranges point next → steps ≡ steps_of (length ranges - 1) forms → IsHere forms point row is_kept → IsBehind steps forms next row is_kept
+now_behind ranges steps forms point next row is_kept up steps_are here k = up.carries forms ∙ ap (sums (values point forms)) (sym steps_are) ∙ ap (λ xs. sums xs steps) (sym (here k))
+
+pub behind_bounded : (steps : List ℤ) (forms : List Form) (point : Point) (row : List ℤ) → values point forms ≡ sums row steps → AllSmallForms forms → AllNear point → length point ≤ 8 → AllBounded (sums row steps)
+behind_bounded steps forms point row are small near few = subst AllBounded are (values_bounded point forms small near few)
+
+pub behind_as_many : (steps : List ℤ) (forms : List Form) (point : Point) (row : List ℤ) → values point forms ≡ sums row steps → length steps ≡ length forms → length row ≡ length steps
+behind_as_many steps forms point row are places = sym (length-sums row steps) ∙ ap (λ xs. length xs) (sym are) ∙ length-values point forms ∙ sym places
 
 -- The start
 
@@ -123,18 +123,8 @@ near_start ranges point r is = near_inside ranges point r (subst (InBox ranges) 
 pub stands_first : (s : Region) (P : Point → Type 0) (point : Point) → AreRanges s.ranges → point ≡ lows s.ranges → StandsAt s P point
 stands_first s P point r is = subst (StandsAt s P) (sym is) (starts s P r)
 
--- Tests of a point
+-- Tests
 
-no_true : (b : Bool) → b ≡ false → ¬ IsTrue b
+pub no_true : (b : Bool) → b ≡ false → ¬ IsTrue b
 no_true true e = λ t. cc
 no_true false e = λ t. cc
-
--- a guard is negative there
-pub not_passed : (guards : List Form) (point : Point) (signs : List ℤ) (b : Bool) → signs ≡ values point guards → (IsTrue b ↔ NoneNegative signs) → b ≡ false → ¬ GuardsHold guards point
-not_passed guards point signs b is e f g = no_true b f (e.1 (subst NoneNegative (sym is) (from_guards guards point g)))
-
--- no guard is negative there, and the condition was asked
-pub tested : (P : List ℤ → Type 0) (guards forms : List Form) (point : Point) (signs row : List ℤ) (b h : Bool) → signs ≡ values point guards → row ≡ values point forms → (IsTrue b ↔ NoneNegative signs) → b ≡ true → (IsTrue h ↔ P row) → MatchBool h (GuardsHold guards point → P (values point forms)) (GuardsHold guards point × (¬ P (values point forms)))
-tested P guards forms point signs row b true is row_is e t holds = λ g. subst P row_is (holds.0 refl)
-tested P guards forms point signs row b false is row_is e t holds =
-    (to_guards guards point (subst NoneNegative is (e.0 t)), λ p. no_true false refl (holds.1 (subst P (sym row_is) p)))

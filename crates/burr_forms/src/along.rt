@@ -1,5 +1,5 @@
-ghost use Rattle.std.specs.Prelude.{◌≡◌, ◌-◌, ◌<◌, length, MatchBool};
-ghost use Rattle.burr_forms.specs.Searching.{AllBounded, sums, IsRaised};
+ghost use Rattle.std.specs.Prelude.{◌≡◌, length, MatchBool};
+ghost use Rattle.burr_forms.specs.Searching.{AllBounded, sums, IsRaised, IsAtEnd};
 
 use crate::rows::{Point, Row};
 
@@ -7,14 +7,15 @@ use crate::rows::{Point, Row};
 pub fn raise_last(ranges: &[(i32, i32)], point: &mut Point) -> bool
     requires places { length point.old.items ≡ length ranges.now }
     ensures { MatchBool result (IsRaised ranges.now point.old.items point.new.items)
-        (point.new.items ≡ point.old.items) }
+        ((point.new.items ≡ point.old.items) × IsAtEnd ranges.now point.old.items) }
 {
     raise_last_of(ranges, point.as_mut_slice())
 }
 
 fn raise_last_of(ranges: &[(i32, i32)], point: &mut [i32]) -> bool
     requires places { length point.old ≡ length ranges.now }
-    ensures { MatchBool result (IsRaised ranges.now point.old point.new) (point.new ≡ point.old) }
+    ensures { MatchBool result (IsRaised ranges.now point.old point.new)
+        ((point.new ≡ point.old) × IsAtEnd ranges.now point.old) }
 {
     let count = ranges.len();
     if count == 0 {

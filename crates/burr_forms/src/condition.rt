@@ -1,10 +1,11 @@
-ghost use Rattle.std.specs.Prelude.{◌≡◌, ◌↔◌, IsTrue, List, ℤ, length, MatchBool};
-ghost use Rattle.burr_forms.specs.Forms.{Form as FormOf};
-ghost use Rattle.burr_forms.specs.Conditions.{NoneNegative};
-ghost use Rattle.burr_forms.specs.Searching.{AllBounded};
+ghost use Rattle.std.specs.Prelude.{◌≡◌, ◌↔◌, ◌≤◌, IsTrue, List, ℤ, length, MatchBool};
+ghost use Rattle.burr_forms.specs.Forms.{Form as FormOf, AllNear, AllSmallForms};
+ghost use Rattle.burr_forms.specs.Conditions.{NoneNegative, at_values};
+ghost use Rattle.burr_forms.specs.Searching.{AllBounded, IsBehind, IsHere};
 
 use crate::form::Form;
-use crate::rows::Row;
+use crate::line::{Line, bring};
+use crate::rows::{Point, Row};
 
 /// A condition on the values that some forms have at a point.
 pub trait Condition {
@@ -25,18 +26,36 @@ pub trait Condition {
         ensures { IsTrue result ↔ Holds self.now values.now };
 }
 
-/// Whether the condition holds of the values of its forms, if no guard's value is negative.
-pub fn passes<C: Condition>(condition: &C, signs: &Row, row: &Row) -> bool
-    requires places { length row.now.items ≡ length (C.asked condition.now) }
-    requires bounded { AllBounded row.now.items }
-    ensures { MatchBool result
-        (NoneNegative signs.now.items → C.Holds condition.now row.now.items)
-        (NoneNegative signs.now.items × (¬ C.Holds condition.now row.now.items)) }
+/// Whether the condition holds at a point, if no guard's value is negative there. Where one is, the
+/// values of the condition's forms are not looked at.
+pub fn passes<C: Condition>(
+    condition: &C,
+    signs: &Row,
+    steps: &Row,
+    point: &Point,
+    line: &mut Line,
+) -> bool
+    requires many { length (C.asked condition.now) ≤ 120 }
+    requires places { length steps.now.items ≡ length (C.asked condition.now) }
+    requires small { AllSmallForms (C.asked condition.now) }
+    requires near { AllNear point.now.items }
+    requires few { length point.now.items ≤ 8 }
+    requires behind { IsBehind steps.now.items (C.asked condition.now) point.now.items
+        line.old.row.items line.old.is_kept }
+    ensures told { MatchBool result
+        (NoneNegative signs.now.items
+        → at_values (C.Holds condition.now) (C.asked condition.now) point.now.items)
+        (NoneNegative signs.now.items
+        × (¬ at_values (C.Holds condition.now) (C.asked condition.now) point.now.items)) }
+    ensures here { IsHere (C.asked condition.now) point.now.items
+        line.new.row.items line.new.is_kept }
 {
     if !none_negative(signs.as_slice()) {
+        line.is_kept = false;
         return true;
     }
-    condition.holds(row.as_slice())
+    bring(line, condition.forms(), steps, point);
+    condition.holds(line.row.as_slice())
 }
 
 /// Whether no number is negative.

@@ -7,6 +7,7 @@ mod condition;
 mod form;
 mod guards;
 mod laws;
+mod line;
 mod points;
 mod ranges;
 mod rows;

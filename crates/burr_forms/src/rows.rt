@@ -35,40 +35,17 @@ pub fn advance_point(ranges: &[(i32, i32)], point: &mut Point) -> bool
     advance(ranges, point.as_mut_slice())
 }
 
-/// The value of each form at a point.
-pub fn values_at(forms: &[Form], point: &Point) -> Row
-    requires many { length forms.now ≤ 120 }
-    requires small { AllSmallForms forms.now }
-    requires near { AllNear point.now.items }
-    ensures { result.items ≡ values point.now.items forms.now }
-{
-    let numbers = point.as_slice();
-    let mut row = ArrayVec::new();
-    for form in forms {
-        row.push(form.value_at(numbers));
-    }
-    row
-}
-
-/// Puts the value of each form at another point in the place of the old one.
+/// Puts the value of each form at a point in the place of a row.
 pub fn evaluate(forms: &[Form], point: &Point, row: &mut Row)
-    requires places { length row.old.items ≡ length forms.now }
+    requires many { length forms.now ≤ 120 }
     requires small { AllSmallForms forms.now }
     requires near { AllNear point.now.items }
     ensures { row.new.items ≡ values point.now.items forms.now }
 {
-    put_values(forms, point.as_slice(), row.as_mut_slice());
-}
-
-fn put_values(forms: &[Form], point: &[i32], row: &mut [i64])
-    requires places { length row.old ≡ length forms.now }
-    requires small { AllSmallForms forms.now }
-    requires near { AllNear point.now }
-    requires few { length point.now ≤ 8 }
-    ensures { row.new ≡ values point.now forms.now }
-{
-    for place in 0..forms.len() {
-        row[place] = forms[place].value_at(point);
+    let numbers = point.as_slice();
+    row.clear();
+    for form in forms {
+        row.push(form.value_at(numbers));
     }
 }
 

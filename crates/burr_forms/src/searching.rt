@@ -6,7 +6,9 @@ ghost use Rattle.burr_forms.specs.Conditions.{region, at_values, Throughout, Fai
 use crate::along::{carry, raise_last};
 use crate::condition::{Condition, passes};
 use crate::form::Form;
-use crate::rows::{Point, advance_point, evaluate, lowest_point, steps_along, values_at};
+use crate::line::Line;
+use crate::rows::{Point, advance_point, evaluate, lowest_point, steps_along};
+use arrayvec::ArrayVec;
 
 /// The first point of a box, rising, at which no guard is negative and the condition fails; None where
 /// it holds at each. There are at most eight ranges and 120 guards and forms; each range holds a number,
@@ -29,26 +31,28 @@ pub fn first_failing<C: Condition>(
         (λ point. FailsFirstAt (region ranges.now guards.now)
         (at_values (C.Holds condition.now) (C.asked condition.now)) point.items) }
 {
-    let forms = condition.forms();
     let last = ranges.len().saturating_sub(1);
     let sign_steps = steps_along(guards, last);
-    let steps = steps_along(forms, last);
+    let steps = steps_along(condition.forms(), last);
     let mut point = lowest_point(ranges);
-    let mut signs = values_at(guards, &point);
-    let mut row = values_at(forms, &point);
+    let mut signs = ArrayVec::new();
+    evaluate(guards, &point, &mut signs);
+    let mut line = Line {
+        row: ArrayVec::new(),
+        is_kept: false,
+    };
     loop {
-        if !passes(condition, &signs, &row) {
+        if !passes(condition, &signs, &steps, &point, &mut line) {
             return Some(point);
         }
         if raise_last(ranges, &mut point) {
             carry(&mut signs, &sign_steps);
-            carry(&mut row, &steps);
             continue;
         }
         if !advance_point(ranges, &mut point) {
             return None;
         }
         evaluate(guards, &point, &mut signs);
-        evaluate(forms, &point, &mut row);
+        line.is_kept = false;
     }
 }

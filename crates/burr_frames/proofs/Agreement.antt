@@ -19,14 +19,14 @@ use Rattle.burr_frames.proofs.Common.Decided.{no_first, same_head, same_tail}
 
 -- Cutting
 
-take_front : {A : Type 0} (xs ys : List A) (n : ℕ) → length xs ≡ n → take n (xs ++ ys) ≡ xs
+pub take_front : {A : Type 0} (xs ys : List A) (n : ℕ) → length xs ≡ n → take n (xs ++ ys) ≡ xs
 take_front xs ys n l = subst (λ (k : ℕ). take k (xs ++ ys) ≡ xs) l (whole xs ys)
   where
     whole : {A : Type 0} (xs ys : List A) → take (length xs) (xs ++ ys) ≡ xs
     whole [] ys = refl
     whole (x ∷ xs) ys = ap (λ zs. x ∷ zs) (whole xs ys)
 
-drop_front : {A : Type 0} (xs ys : List A) (n : ℕ) → length xs ≡ n → drop n (xs ++ ys) ≡ ys
+pub drop_front : {A : Type 0} (xs ys : List A) (n : ℕ) → length xs ≡ n → drop n (xs ++ ys) ≡ ys
 drop_front xs ys n l = subst (λ (k : ℕ). drop k (xs ++ ys) ≡ ys) l (whole xs ys)
   where
     whole : {A : Type 0} (xs ys : List A) → drop (length xs) (xs ++ ys) ≡ ys
@@ -86,7 +86,7 @@ same_place : (point there : Point) (t u : ℕ) (c d : FormCell) → t ≡ u → 
     → On t (cell_at point c) ≡ On u (cell_at there d)
 same_place point there t u c d e x y z = λ i. On (e i) (at (sym x i) (sym y i) (sym z i))
 
-same_places : (point there : Point) (xs ys : List (Placement FormCell)) → map tray_of xs ≡ map tray_of ys
+pub same_places : (point there : Point) (xs ys : List (Placement FormCell)) → map tray_of xs ≡ map tray_of ys
     → values there (offset_forms ys) ≡ values point (offset_forms xs) → places_at point xs ≡ places_at there ys
 same_places point there [] [] trays e = refl
 same_places point there [] (y ∷ ys) trays e = absurd (no_trays y ys trays)
@@ -114,7 +114,7 @@ same_places point there (On t c ∷ xs) (On u d ∷ ys) trays e =
     (same_tail (value there d.z) (value point c.z) ys_values xs_values two) in
     λ i. here i ∷ behind i
 
-same_offsets : (point there : Point) (xs ys : List (Placement FormCell)) → map tray_of xs ≡ map tray_of ys
+pub same_offsets : (point there : Point) (xs ys : List (Placement FormCell)) → map tray_of xs ≡ map tray_of ys
     → places_at point xs ≡ places_at there ys → values there (offset_forms ys) ≡ values point (offset_forms xs)
 same_offsets point there [] [] trays e = refl
 same_offsets point there [] (y ∷ ys) trays e = absurd (no_trays y ys trays)
@@ -175,7 +175,7 @@ parts_met s t live point many =
     λ i. IsMetAt (sought_in t) (c.0 i) (take 1 (c.1 i)) (drop 1 (c.1 i))
 
 -- operands and offsets have the same values just where they agree
-met_of_same : (s t : AbstractState) (point there : Point) → IsAlike s t
+pub met_of_same : (s t : AbstractState) (point there : Point) → IsAlike s t
     → values there (reverse t.operands ++ offset_forms t.places) ≡ values point (reverse s.operands ++ offset_forms s.places)
     → (values point s.operands ≡ values there t.operands) × (places_at point s.places ≡ places_at there t.places)
 met_of_same s t point there alike e =
@@ -190,7 +190,7 @@ met_of_same s t point there alike e =
     ∙ map-append (value point) (reverse s.operands) (offset_forms s.places)) in
     (same_operands point there s.operands t.operands parts.0, same_places point there s.places t.places alike.trays parts.1)
 
-same_of_met : (s t : AbstractState) (point there : Point) → IsAlike s t
+pub same_of_met : (s t : AbstractState) (point there : Point) → IsAlike s t
     → values point s.operands ≡ values there t.operands → places_at point s.places ≡ places_at there t.places
     → values there (reverse t.operands ++ offset_forms t.places) ≡ values point (reverse s.operands ++ offset_forms s.places)
 same_of_met s t point there alike operands places =

@@ -121,15 +121,20 @@ paying_call s behind callee_cost =
     (everywhere s (λ point. pos 0 ≤ℤ value point (left_of s.cost callee_cost)) rules.V24
     (falls (record behind { cost = left_of s.cost callee_cost })))))
 
+-- a call of a procedure with so many parameters and results, its entry frame and its exit frame
+abbrev pub calling : AbstractState → ℕ → ℕ → Frame → FramedExit → Rest
+calling s parameters results entry exit =
+    finds (top_many parameters s.operands) (plainly rules.V6) λ found.
+    needs (length found.1 + results ≤ 8) (plainly rules.V7)
+    (meeting (called_with found.0 s) entry rules.V20 λ arguments.
+    paying_call s (behind_call s (reverse found.0) found.1 exit) (substituted arguments entry.cost))
+
 abbrev pub call_rule : FramedPlan → ℕ → AbstractState → ℕ → Rest
 call_rule plan n s callee =
     finds (callee_of plan.procedures n callee) (plainly rules.V19) λ there.
     finds there.exit (plainly rules.V19) λ exit.
     finds (entry_of there) (plainly rules.V20) λ entry.
-    finds (top_many there.parameters s.operands) (plainly rules.V6) λ found.
-    needs (length found.1 + there.results ≤ 8) (plainly rules.V7)
-    (meeting (called_with found.0 s) entry rules.V20 λ arguments.
-    paying_call s (behind_call s (reverse found.0) found.1 exit) (substituted arguments entry.cost))
+    calling s there.parameters there.results entry exit
 
 -- tray, grip, and where each piece is, agree with an exit frame, without regard to points
 abbrev pub IsAlikeExit : AbstractState → FramedExit → Type 0

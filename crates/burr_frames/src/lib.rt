@@ -1,14 +1,22 @@
 //! The rules that a plan has to keep, the verifier's states, and their arrival at a frame.
 #![tactic(auto)]
 
+mod breaking;
+mod clearing;
+mod exiting;
+mod finding;
 mod laws;
 mod lying;
+mod raising;
 mod rule;
 mod state;
+mod wide;
+mod within;
 
+pub use breaking::Break;
 pub use laws::an_instruction_has_one_verdict;
 pub use rule::Rule;
-pub use state::{Miss, State, arrives};
+pub use state::{Miss, State, arrives, meets_entry, meets_exit};
 
 #[cfg(test)]
 mod tests;

@@ -1,7 +1,17 @@
 mod agreeing;
 mod arriving;
+mod asking;
+mod calling;
+mod changes;
+mod control;
+mod copying;
 mod framing;
 mod matching;
+mod moves;
+mod numbers;
+mod paying;
+mod places;
+mod starting;
 #[cfg(test)]
 mod tests;
 
@@ -9,6 +19,7 @@ use crate::lying::Lying;
 use arrayvec::ArrayVec;
 pub use arriving::{Miss, arrives};
 use burr_forms::Form;
+pub use calling::{meets_entry, meets_exit};
 use std::marker::Model;
 
 /// The most pieces of an assembly.

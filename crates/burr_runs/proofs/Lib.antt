@@ -1,4 +1,5 @@
 pub mod AnswerTexts
+pub mod Headline
 pub mod Inputs
 pub mod OneOutput
 pub mod SomeOutput

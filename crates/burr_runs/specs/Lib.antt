@@ -1,8 +1,10 @@
 pub mod Answers
 pub mod BenchText
+pub mod Headline
 pub mod Input
 pub mod Output
 pub mod OutputLaws
 pub mod ReadWhole
 pub mod Refusals
 pub mod Running
+pub mod Verdicts

@@ -1,7 +1,9 @@
 //! Runs of plans on the bench from readers to writers: what is read, and what is written for it.
 #![tactic(auto)]
 
+mod accepted_runs;
 mod answers;
+mod checking;
 mod fault;
 mod input;
 mod laws;
@@ -11,7 +13,9 @@ mod refusal;
 mod running;
 mod text_runs;
 
+pub use accepted_runs::run_plan;
 pub use answers::{AnswersFault, read_answers};
+pub use checking::check;
 pub use fault::BenchFault;
 pub use laws::{an_input_has_one_output, answers_are_read_in_one_way};
 pub use outcome::Outcome;

@@ -1,1 +1,4 @@
+pub mod Costs
+pub mod FineVerdicts
+pub mod FormValues
 pub mod FromContainers

@@ -1,9 +1,21 @@
+mod AcceptingCosts
 mod Before
-pub mod Common
+mod Beginnings
+mod Containers
 mod Exact
 mod Failure
+mod Formed
+mod Framings
+mod Heres
+mod JudgedOn
+mod LabelsJudged
+mod OneContainer
 mod OnePass
+mod Parts
 mod PassCuts
 mod SomePass
+mod Stages
+mod Trays
 mod VerifyLaws
 mod Worked
+pub mod Common

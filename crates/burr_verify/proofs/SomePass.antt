@@ -18,7 +18,8 @@ use Rattle.burr_frames.specs.Transfer.{Transfer}
 use Rattle.burr_frames.proofs.Common.Conditions.{decided_implies, decide_all_numbers, decide_all_lie}
 use Rattle.burr_frames.proofs.Common.Decided.{decide_meets}
 use Rattle.burr_frames.proofs.Common.SomeVerdict.{HasOne, some_given, some_needed, some_found, some_arriving, some_verdict}
-use Rattle.burr_verify.specs.WellFramed.{IsLabelled, IsFormed, IsFormedEntry, IsFormedExit, HasNoLonePiece, start_state}
+use Rattle.burr_frames.specs.Starts.{start_state}
+use Rattle.burr_verify.specs.WellFramed.{IsLabelled, IsFormed, IsFormedEntry, IsFormedExit, HasNoLonePiece}
 use Rattle.burr_verify.specs.Pass.{Judgement, Passed, Refuses, Stage, Comes, Judges, outset, Hides, Pass, ends, falls_off, lacks_frame, resumes, misses, arrives, goes_on, lacks_instruction, hides, breaks, falls, stops}
 use Rattle.burr_verify.specs.Judging.{Answer, judging_labels, judging_entry, judging_exit, judging_frames, judging_start, judging_code, go_on, passes, Judging}
 use Rattle.burr_verify.proofs.OnePass.{arrives_where_leaves}

@@ -13,7 +13,8 @@ use Rattle.burr_frames.specs.declared.rule.Rule.TheVariants as rules
 use Rattle.burr_frames.specs.FramedPlans.{FramedProcedure, FramedPlan}
 use Rattle.burr_frames.specs.States.{IsPoint, live_ranges, state_of}
 use Rattle.burr_frames.specs.Arrival.{Meets}
-use Rattle.burr_verify.specs.WellFramed.{IsLabelled, IsFormed, IsFormedEntry, IsFramedProcedure, IsWellFramed, start_state}
+use Rattle.burr_frames.specs.Starts.{start_state}
+use Rattle.burr_verify.specs.WellFramed.{IsLabelled, IsFormed, IsFormedEntry, IsFramedProcedure, IsWellFramed}
 use Rattle.burr_verify.specs.Pass.{Passed, refused, broken, outset, Hides, Pass, ends, resumes, hides, breaks, stops}
 use Rattle.burr_verify.specs.Judging.{Judging}
 use Rattle.burr_verify.proofs.PassCuts.{cut_of_pass}

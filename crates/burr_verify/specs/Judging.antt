@@ -10,7 +10,8 @@ use Rattle.burr_frames.specs.ControlRules.{entry_of}
 use Rattle.burr_frames.specs.FramedPlans.{FramedExit, FramedProcedure, FramedPlan}
 use Rattle.burr_frames.specs.States.{live_ranges}
 use Rattle.burr_verify.specs.Pass.{Judgement, Passed, Refuses, refused, outset, Pass}
-use Rattle.burr_verify.specs.WellFramed.{IsFormed, IsFormedEntry, IsFormedExit, start_state}
+use Rattle.burr_frames.specs.Starts.{start_state}
+use Rattle.burr_verify.specs.WellFramed.{IsFormed, IsFormedEntry, IsFormedExit}
 use Rattle.burr_frames.specs.declared.rule.Rule.TheVariants as rules
 
 -- what is to be said where the checks so far hold

@@ -1,3 +1,4 @@
+pub mod Accepting
 pub mod Fitting
 pub mod FromContainers
 pub mod Fronts
@@ -6,3 +7,5 @@ pub mod Pass
 pub mod Refusals
 pub mod VerifyLaws
 pub mod WellFramed
+pub mod Views
+pub mod Forming

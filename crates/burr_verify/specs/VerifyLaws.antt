@@ -1,7 +1,10 @@
 -- Laws of the judgement of plans.
-use Rattle.std.specs.Prelude.{◌≡◌, ◌⊎◌, ◌↔◌, ℕ, ◌<◌, List, Some, slice_get}
+use Rattle.std.specs.Prelude.{◌≡◌, ◌⊎◌, ◌↔◌, ℕ, ◌<◌, List, Some, slice_get, IsTrue}
 use Rattle.burr_voxels.specs.declared.cell.Cell.{Cell}
-use Rattle.burr_frames.specs.FramedPlans.{FramedProcedure, FramedPlan}
+use Rattle.burr_container.specs.Fitting.{is_fitting}
+use Rattle.burr_container.specs.Plans.{Plan}
+use Rattle.burr_frames.specs.FramedPlans.{FramedProcedure, FramedPlan, framed_plan}
+use Rattle.burr_verify.specs.FromContainers.{IsFromContainer}
 use Rattle.burr_verify.specs.Fronts.{IsFirstFailure}
 use Rattle.burr_verify.specs.Judging.{Answer, Judging, judging_before, judging_code, passes}
 use Rattle.burr_verify.specs.Pass.{Judgement, Passed, Refuses, FailedCheck, outset, Pass, IsLaidOut, AllLaidOut}
@@ -70,3 +73,7 @@ JudgingRefuses =
     → AllLaidOut plan
     → Judging name homes plan (Refuses r)
     ↔ (RefusedBefore name homes plan r ⊎ (HoldsBefore name homes plan × RefusedInCode homes plan r))
+
+-- a plan within the format has what containers promise
+abbrev pub FittingIsFromContainer : Type 0
+FittingIsFromContainer = (p : Plan) → IsTrue (is_fitting p) → IsFromContainer (framed_plan p)

@@ -1,10 +1,10 @@
 -- Plans that are well framed: code that can be cut into instructions with a state before each, as the
 -- type checker of the JVM Specification, 4.10.1, merges code and stack map frames.
-use Rattle.std.specs.Prelude.{◌≡◌, ◌≢◌, ◌⊎◌, ℕ, ◌+◌, ◌<◌, ◌≤◌, pos, ◌≤ℤ◌, List, [], ◌∷◌, length, map, replicate, Option, Some, None, slice_get}
+use Rattle.std.specs.Prelude.{◌≡◌, ◌≢◌, ◌⊎◌, ℕ, ◌+◌, ◌<◌, ◌≤◌, pos, ◌≤ℤ◌, List, [], ◌∷◌, length, Option, Some, None, slice_get}
 use Rattle.burr_voxels.specs.declared.cell.Cell.{Cell}
-use Rattle.burr_code.specs.Places.{Placement, On, AllLieIn, count_in}
+use Rattle.burr_code.specs.Places.{Placement, AllLieIn, count_in}
 use Rattle.burr_code.specs.Instruction.{Instruction, spelled, StandsAt}
-use Rattle.burr_forms.specs.Forms.{value, number}
+use Rattle.burr_forms.specs.Forms.{value}
 use Rattle.burr_forms.specs.Points.{box_size}
 use Rattle.burr_container.specs.Plans.{FormCell, Range, Frame}
 use Rattle.burr_frames.specs.FramedPlans.{FramedExit, FramedProcedure, FramedPlan}
@@ -13,6 +13,7 @@ use Rattle.burr_frames.specs.Arrival.{Meets, Arrives}
 use Rattle.burr_frames.specs.Verdicts.{Verdict, Breaks, Falls, Leaves}
 use Rattle.burr_frames.specs.ControlRules.{entry_of}
 use Rattle.burr_frames.specs.Transfer.{Transfer}
+use Rattle.burr_frames.specs.Starts.{start_state}
 
 -- Cuts
 
@@ -89,23 +90,6 @@ pub record IsFormedExit (f : FramedExit) : Type 0 where
   pub trays : HasNoLonePiece f.places
 
 -- Plans
-
--- at home, in the verifier's state
-abbrev pub home_position : FormCell
-home_position = record { x = number (pos 0); y = number (pos 0); z = number (pos 0) }
-
--- the state of the start, without a cost
-abbrev pub start_state : List (List Cell) → AbstractState
-start_state homes = record {
-  ranges = [];
-  guards = [];
-  slots = replicate 8 None;
-  operands = [];
-  places = map (λ _. On 0 home_position) homes;
-  tray = 0;
-  grip = 0;
-  cost = number (pos 0);
-}
 
 -- the frame is formed, and its box has no more than 4,096 points
 abbrev pub IsTakenFrame : ℕ → Frame → Type 0

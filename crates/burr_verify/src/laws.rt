@@ -1,4 +1,5 @@
 ghost use Rattle.burr_verify.specs.VerifyLaws.{OnePass, PassIsCut, RefusalIsFirst, OneJudging, JudgingIsFraming, JudgingRefuses};
+ghost use Rattle.burr_verify.specs.VerifyLaws.{FittingIsFromContainer};
 
 /// Over code whose labels stand at rising places, a pass has exactly one judgement: nothing is wrong
 /// exactly where the code can be cut with a state before each instruction, and a refusal names the first
@@ -15,4 +16,11 @@ pub fn a_plan_is_judged_in_one_way()
     ensures one { OneJudging }
     ensures framed { JudgingIsFraming }
     ensures first { JudgingRefuses }
+{}
+
+/// A plan within the format has what the other laws ask of a plan: labels at rising places of its
+/// codes, the first at 0, frames of eight slots whose forms are over their live ones, a main without
+/// an exit frame, and a budget below 2^64 - 1.
+pub fn a_fitting_plan_is_from_a_container()
+    ensures { FittingIsFromContainer }
 {}

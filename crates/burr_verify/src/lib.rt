@@ -1,12 +1,22 @@
 //! Judging plans: which rule refuses a plan, and where.
 #![tactic(auto)]
 
+mod accepting;
 mod fitting;
+mod forming;
+mod judging;
+mod labels;
 mod laws;
+mod passing;
 mod refusal;
+mod transfer;
 
+pub use accepting::{Accepted, accept};
 pub use fitting::fits_assembly;
-pub use laws::{a_pass_has_one_judgement, a_plan_is_judged_in_one_way};
+pub use judging::verify;
+pub use laws::{
+    a_fitting_plan_is_from_a_container, a_pass_has_one_judgement, a_plan_is_judged_in_one_way,
+};
 pub use refusal::Refusal;
 
 #[cfg(test)]

@@ -1,8 +1,12 @@
-ghost use Rattle.std.specs.Prelude.{◌≡◌};
+ghost use Rattle.std.specs.Prelude.{◌≡◌, option_map};
+ghost use Rattle.burr_frames.specs.Breaks.{broken_of, missed_break};
+ghost use Rattle.burr_frames.specs.declared.rule.Rule.TheVariants as rules;
+ghost use Rattle.burr_verify.specs.Pass.{Refuses, broken as broken_in};
 ghost use Rattle.burr_verify.specs.Refusals.{plain_refusal};
+ghost use Rattle.burr_verify.specs.Views.{failed_check};
 
 use arrayvec::ArrayVec;
-use burr_frames::Rule;
+use burr_frames::{Break, Miss, Rule};
 
 /// Why a plan is refused: a rule that is broken, and where.
 #[derive(Debug, PartialEq, Eq, Drop)]
@@ -30,6 +34,33 @@ impl Refusal {
             rule,
             pieces: None,
             point: None,
+        }
+    }
+
+    /// The refusal by a rule that is broken at a place.
+    pub(crate) fn of(proc: u8, pc: u16, broken: Break) -> Refusal
+        ensures { Refuses (failed_check result) ≡ broken_in proc pc (broken_of broken) }
+    {
+        Refusal {
+            proc,
+            pc,
+            rule: broken.rule,
+            pieces: broken.pieces,
+            point: broken.point,
+        }
+    }
+
+    /// The refusal of a state that does not arrive at a label's frame.
+    pub(crate) fn missed(proc: u8, pc: u16, miss: Miss) -> Refusal
+        ensures { Refuses (failed_check result) ≡ broken_in proc pc
+            (missed_break rules.V21 (option_map (λ point. point.items) miss.point)) }
+    {
+        Refusal {
+            proc,
+            pc,
+            rule: Rule::V21,
+            pieces: None,
+            point: miss.point,
         }
     }
 }

@@ -1,10 +1,16 @@
 use super::*;
 use burr_assembly::Assembly;
+use burr_blocking::CellTables;
 use burr_container::Container;
 use burr_frames::Rule;
-use std::alloc::Global;
+use std::alloc::{AllocError, Global};
 use std::process::Abort;
 use std::test::Fail;
+
+mod codes;
+mod labels;
+mod plans;
+mod worked;
 
 /// The container of a plan for the duo, which has two pieces.
 const DUO_PLAN: [u8; 70] = [
@@ -26,6 +32,14 @@ const DUO_OF_THREE: &str =
 /// A dot in a bowl: two pieces, too.
 const CUP: &str =
     "assembly cup\nshape dot\nlayer\n#\nend\nshape bowl\nlayer\n###\n###\n###\nlayer\n###\n#.#\n###\nend\npiece A dot +x+y+z 1 1 1\npiece B bowl +x+y+z 0 0 0\n";
+
+/// A rod in the hole of a ring.
+const RING: &str =
+    "assembly ring\nshape rod\nlayer\n#\nlayer\n#\nlayer\n#\nend\nshape ring\nlayer\n###\n#.#\n###\nend\npiece A rod +x+y+z 1 1 0\npiece B ring +x+y+z 0 0 0\n";
+
+/// Four cubes in a square.
+const SQUARE: &str =
+    "assembly square\nshape cube\nlayer\n#\nend\npiece A cube +x+y+z 0 0 0\npiece B cube +x+y+z 1 0 0\npiece C cube +x+y+z 0 1 0\npiece D cube +x+y+z 1 1 0\n";
 
 /// Asserts what is said of the duo's plan with the assembly of a text.
 fn assert_fit(

@@ -21,7 +21,8 @@ use Rattle.burr_bench.specs.Framing.{bench_part, framed_setup}
 use Rattle.burr_bench.specs.Standing.{Stands}
 use Rattle.burr_bench.proofs.Soundness.StepOutcomes.{FallsOn}
 use Rattle.burr_bench.specs.Invariant.{IsGood}
-use Rattle.burr_bench.proofs.Soundness.Failing.{IsFine, held, held_everywhere, held_of_pairs, paid, goes_past}
+use Rattle.burr_verify.proofs.Common.FineVerdicts.{IsFine, held, held_everywhere, held_of_pairs, paid}
+use Rattle.burr_bench.proofs.Soundness.Failing.{goes_past}
 use Rattle.burr_bench.proofs.Soundness.Operands.{is_paid}
 use Rattle.burr_bench.proofs.Soundness.Mapped.{lies_at_back, lies_at_map, aside_mapped}
 use Rattle.burr_bench.proofs.Trays.Asides.{none_lone_aside}

@@ -18,7 +18,8 @@ use Rattle.burr_bench.specs.Framing.{bench_part, framed_setup}
 use Rattle.burr_bench.specs.Standing.{Stands}
 use Rattle.burr_bench.proofs.Soundness.StepOutcomes.{FallsOn}
 use Rattle.burr_bench.specs.Invariant.{IsGood}
-use Rattle.burr_bench.proofs.Soundness.Failing.{IsFine, held, paid, goes_past}
+use Rattle.burr_verify.proofs.Common.FineVerdicts.{IsFine, held, paid}
+use Rattle.burr_bench.proofs.Soundness.Failing.{goes_past}
 use Rattle.burr_bench.proofs.Soundness.Values.{value_more, value_symbol}
 use Rattle.burr_bench.proofs.Soundness.Operands.{is_paid, room_for}
 use Rattle.burr_bench.proofs.Soundness.Tidy.{box_length, box_more, values_more, guards_more, places_more}

@@ -24,8 +24,9 @@ use Rattle.burr_bench.specs.Framing.{bench_part, framed_setup}
 use Rattle.burr_bench.specs.Standing.{Stands}
 use Rattle.burr_bench.proofs.Soundness.StepOutcomes.{FallsOn, SentOn, ParametersStay}
 use Rattle.burr_bench.specs.Invariant.{IsGood}
-use Rattle.burr_bench.proofs.Soundness.Failing.{IsFine, held, found, held_everywhere, paid, goes_past, goes_with}
-use Rattle.burr_bench.proofs.Soundness.Values.{value_raised, value_negated}
+use Rattle.burr_verify.proofs.Common.FineVerdicts.{IsFine, held, found, held_everywhere, paid}
+use Rattle.burr_bench.proofs.Soundness.Failing.{goes_past, goes_with}
+use Rattle.burr_verify.proofs.Common.FormValues.{value_raised, value_negated}
 use Rattle.burr_bench.proofs.Soundness.Operands.{is_paid, new_slot, apart_from}
 use Rattle.burr_bench.proofs.Soundness.Arrival.{stands_at_frame}
 use Rattle.burr_bench.proofs.Soundness.Mapped.{map_at}

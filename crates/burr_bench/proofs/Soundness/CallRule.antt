@@ -10,7 +10,7 @@ use Rattle.burr_frames.specs.States.{AbstractState, Everywhere}
 use Rattle.burr_frames.specs.Arrival.{Meets}
 use Rattle.burr_frames.specs.Verdicts.{Verdict, Falls}
 use Rattle.burr_frames.specs.ControlRules.{entry_of, called_with, behind_call, left_of, call_rule}
-use Rattle.burr_bench.proofs.Soundness.Failing.{IsFine, held, found, held_everywhere}
+use Rattle.burr_verify.proofs.Common.FineVerdicts.{IsFine, held, found, held_everywhere}
 
 pub record CallHolds (plan : FramedPlan) (n q : ℕ) (s : AbstractState) (v : Verdict) : Type 0 where
   pub there : FramedProcedure

@@ -31,11 +31,14 @@ use Rattle.burr_bench.specs.Framing.{bench_part, framed_setup}
 use Rattle.burr_bench.specs.Standing.{Stands}
 use Rattle.burr_bench.specs.Invariant.{IsGood, HasParameters, IsAdmitted, ReturnsAs}
 use Rattle.burr_bench.proofs.Soundness.CallRule.{call_holds}
-use Rattle.burr_bench.proofs.Soundness.Failing.{IsFine, goes_past, goes_with}
-use Rattle.burr_bench.proofs.Soundness.Values.{value_raised, value_minus, value_more}
+use Rattle.burr_verify.proofs.Common.FineVerdicts.{IsFine}
+use Rattle.burr_bench.proofs.Soundness.Failing.{goes_past, goes_with}
+use Rattle.burr_verify.proofs.Common.FormValues.{value_raised, value_minus}
+use Rattle.burr_bench.proofs.Soundness.Values.{value_more}
 use Rattle.burr_bench.proofs.Soundness.Arrival.{stands_at_frame}
 use Rattle.burr_bench.proofs.Soundness.Tidy.{box_length, box_more, values_more, guards_more}
-use Rattle.burr_bench.proofs.Soundness.Substitutions.{value_substituted, places_substituted, guards_substituted, symbols_are}
+use Rattle.burr_verify.proofs.Common.FormValues.{value_substituted}
+use Rattle.burr_bench.proofs.Soundness.Substitutions.{places_substituted, guards_substituted, symbols_are}
 use Rattle.burr_bench.proofs.Soundness.Returns.{top_many_map, map_reverse}
 use Rattle.burr_bench.proofs.Soundness.Mapped.{map_at}
 

@@ -20,7 +20,7 @@ use Rattle.burr_bench.specs.Framing.{bench_part, framed_setup, HasFraming}
 use Rattle.burr_bench.specs.Standing.{Stands}
 use Rattle.burr_bench.proofs.Soundness.StepOutcomes.{FallsOn, SentOn, EndsOn, HasEnded, Carries}
 use Rattle.burr_bench.specs.Invariant.{IsGood, IsSafeState}
-use Rattle.burr_bench.proofs.Soundness.Failing.{IsFine}
+use Rattle.burr_verify.proofs.Common.FineVerdicts.{IsFine}
 use Rattle.burr_bench.proofs.Soundness.Asks.{sound_ask}
 use Rattle.burr_bench.proofs.Soundness.Others.{sound_pick}
 use Rattle.burr_bench.proofs.Soundness.Mapped.{map_at}

@@ -16,7 +16,7 @@ use Rattle.burr_bench.specs.Bench.{Activation}
 use Rattle.burr_bench.specs.Framing.{HasFraming}
 use Rattle.burr_bench.specs.Invariant.{AllWait}
 use Rattle.burr_bench.proofs.Soundness.CallRule.{call_holds}
-use Rattle.burr_bench.proofs.Soundness.Failing.{IsFine, held, found, held_everywhere, held_of_pairs, paid}
+use Rattle.burr_verify.proofs.Common.FineVerdicts.{IsFine, held, found, held_everywhere, held_of_pairs, paid}
 use Rattle.burr_bench.proofs.Soundness.Operands.{is_paid}
 use Rattle.burr_bench.proofs.Soundness.CallSteps.{callee_is, cost_behind}
 use Rattle.burr_bench.proofs.Soundness.Judged.{judged, fine_falls}

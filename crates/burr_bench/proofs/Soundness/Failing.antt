@@ -1,53 +1,6 @@
--- Checks of a verdict that names no broken rule, and of a bench whose conditions hold.
-use Rattle.std.proofs.Common.{◌≡◌, ℕ, Option, Some, None, sym, subst, ◌∙◌, inl, inr, ◌⊎◌}
-use Rattle.std.specs.Prelude.{pos, ◌≤ℤ◌}
+-- Checks of a bench whose conditions hold.
+use Rattle.std.proofs.Common.{◌≡◌, ◌⊎◌, Option, Some, None, sym, subst, ◌∙◌, inl, inr}
 use Rattle.std.proofs.lemmas.Option.{none-some, same_Some}
-use Rattle.burr_text.specs.Checks.{needs}
-use Rattle.burr_forms.specs.Forms.{Point, value, one_less, IsSmallForm}
-use Rattle.burr_frames.specs.declared.rule.Rule.{Rule}
-use Rattle.burr_frames.specs.States.{AbstractState, Everywhere, IsFirstFailing}
-use Rattle.burr_frames.specs.Verdicts.{Broken, Verdict, Breaks, Falls, Leaves, everywhere, plainly, at_point, at_pair, IsFirstPair}
-use Rattle.burr_frames.specs.declared.rule.Rule.TheVariants as rules
-
-abbrev pub IsFine : Verdict → Type 0
-IsFine (Breaks break) = ⊥
-IsFine (Falls s) = Unit {0}
-IsFine Leaves = Unit {0}
-
-pub fine : {v : Verdict} (b : Broken) → v ≡ Breaks b → IsFine v → ⊥
-fine b e h = subst IsFine e h
-
-pub held : {C Q : Type 0} {b : Broken} {v : Verdict} → IsFine v → ((¬ C) × (v ≡ Breaks b)) ⊎ (C × Q)
-    → C × Q
-held {b = b} h (inl p) = absurd (fine b p.1 h)
-held h (inr p) = p
-
-pub found : {A : Type 0} {o : Option A} {Q : A → Type 0} {b : Broken} {v : Verdict} → IsFine v
-    → ((o ≡ None) × (v ≡ Breaks b)) ⊎ ((x : A) × (o ≡ Some x) × Q x) → (x : A) × (o ≡ Some x) × Q x
-found {b = b} h (inl p) = absurd (fine b p.1 h)
-found h (inr p) = p
-
-pub held_everywhere : (s : AbstractState) {P : Point
-    → Type 0} {rule : Rule} {Q : Type 0} {v : Verdict} → IsFine v
-    → ((point : Point) × IsFirstFailing s P point × (v ≡ at_point rule point))
-    ⊎ (Everywhere s P × Q) → Everywhere s P × Q
-held_everywhere s h (inl p) = absurd (fine _ p.2 h)
-held_everywhere s h (inr p) = p
-
-pub held_of_pairs : (s : AbstractState) {P : Point → ℕ → ℕ
-    → Type 0} {rule : Rule} {Q : Type 0} {v : Verdict} → IsFine v
-    → ((point : Point) × (p q : ℕ) × IsFirstFailing s (λ x. (r t : ℕ) → P x r t) point × IsFirstPair
-    (P point) p q × (v ≡ at_pair rule point p q)) ⊎ (Everywhere s (λ x. (r t : ℕ) → P x r t) × Q)
-    → Everywhere s (λ x. (r t : ℕ) → P x r t) × Q
-held_of_pairs s h (inl p) = absurd (fine _ p.5 h)
-held_of_pairs s h (inr p) = p
-
--- a step is paid for
-pub paid : (s : AbstractState) {Q : Type 0} {v : Verdict} → IsFine v
-    → needs (IsSmallForm (one_less s.cost)) (plainly rules.V26)
-    (everywhere s (λ point. pos 0 ≤ℤ value point (one_less s.cost)) rules.V24 (λ _. Q)) v
-    → Everywhere s (λ point. pos 0 ≤ℤ value point (one_less s.cost)) × Q
-paid s fine p = held_everywhere s fine (held fine p).1
 
 -- a check whose condition holds goes on
 pub goes_past : {Answer C Q : Type 0} {failure answer : Answer} → C → ((¬ C) × (answer ≡ failure))

@@ -14,7 +14,7 @@ use Rattle.burr_bench.specs.declared.motion.Motion.{Motion}
 use Rattle.burr_bench.specs.declared.trap.Trap.{Trap}
 use Rattle.burr_bench.specs.Bench.{BenchState}
 use Rattle.burr_bench.specs.Next.{Next, Goes, Asks, Traps}
-use Rattle.burr_bench.proofs.Soundness.Failing.{IsFine}
+use Rattle.burr_verify.proofs.Common.FineVerdicts.{IsFine}
 
 -- what the pass says of an instruction, and of the next
 pub record Judged (homes : List (List Cell)) (plan : FramedPlan) (n : ℕ) (here : FramedProcedure)

@@ -24,7 +24,8 @@ use Rattle.burr_bench.specs.Framing.{bench_part, framed_setup}
 use Rattle.burr_bench.specs.Standing.{Stands}
 use Rattle.burr_bench.proofs.Soundness.StepOutcomes.{FallsOn, SentOn, EndsOn}
 use Rattle.burr_bench.specs.Invariant.{IsGood}
-use Rattle.burr_bench.proofs.Soundness.Failing.{IsFine, held, found, paid, goes_past, goes_with}
+use Rattle.burr_verify.proofs.Common.FineVerdicts.{IsFine, held, found, paid}
+use Rattle.burr_bench.proofs.Soundness.Failing.{goes_past, goes_with}
 use Rattle.burr_bench.proofs.Soundness.Operands.{is_paid}
 use Rattle.burr_bench.proofs.Soundness.Mapped.{map_at, mapped_at, lies_at_map}
 use Rattle.burr_bench.proofs.Soundness.Branches.{arrived, sent_on}

@@ -25,7 +25,8 @@ use Rattle.burr_bench.specs.Step.{Executes}
 use Rattle.burr_bench.specs.Framing.{bench_part, framed_setup}
 use Rattle.burr_bench.specs.Standing.{Stands}
 use Rattle.burr_bench.specs.Invariant.{IsGood, HasParameters, IsAdmitted, Waits}
-use Rattle.burr_bench.proofs.Soundness.Failing.{IsFine, held, found, held_everywhere, paid, goes_with}
+use Rattle.burr_verify.proofs.Common.FineVerdicts.{IsFine, held, found, held_everywhere, paid}
+use Rattle.burr_bench.proofs.Soundness.Failing.{goes_with}
 use Rattle.burr_bench.proofs.Soundness.Arrival.{stands_at_frame}
 
 -- where a state falls in, the bench stands for the state that goes on

@@ -12,7 +12,8 @@ use Rattle.burr_container.specs.Plans.{Range, Frame}
 use Rattle.burr_frames.specs.FramedPlans.{FramedPlan}
 use Rattle.burr_frames.specs.States.{AbstractState, places_at}
 use Rattle.burr_frames.specs.Arrival.{live_forms}
-use Rattle.burr_verify.specs.WellFramed.{IsWellFramed, home_position, start_state}
+use Rattle.burr_frames.specs.Starts.{home_position, start_state}
+use Rattle.burr_verify.specs.WellFramed.{IsWellFramed}
 use Rattle.burr_verify.specs.FromContainers.{IsFromContainer}
 use Rattle.burr_verify.proofs.Common.FromContainers.{entry_stands}
 use Rattle.burr_bench.specs.Bench.{BenchState, Setup, start}

@@ -23,7 +23,8 @@ use Rattle.burr_frames.specs.SpaceRules.{GoesFree, OnBenchAt, PairAt}
 use Rattle.burr_frames.specs.Transfer.{Transfer}
 use Rattle.burr_frames.specs.Over.{IsOver, IsOverItsOwn}
 use Rattle.burr_frames.proofs.Common.Conditions.{same_tray, same_position}
-use Rattle.burr_verify.specs.WellFramed.{Row, IsLabelled, HasNoLabel, IsBefore, IsCut, IsFormed, IsFormedEntry, IsFramedProcedure, IsWellFramed, home_position, start_state}
+use Rattle.burr_frames.specs.Starts.{home_position, start_state}
+use Rattle.burr_verify.specs.WellFramed.{Row, IsLabelled, HasNoLabel, IsBefore, IsCut, IsFormed, IsFormedEntry, IsFramedProcedure, IsWellFramed}
 use Rattle.burr_verify.specs.Pass.{IsLaidOut}
 use Rattle.burr_verify.specs.FromContainers.{IsFromContainer}
 use Rattle.burr_bench.specs.SpaceLaws.{AreDisjoint}

@@ -29,8 +29,9 @@ use Rattle.burr_bench.specs.Framing.{bench_part, framed_setup}
 use Rattle.burr_bench.specs.Standing.{Stands}
 use Rattle.burr_bench.proofs.Soundness.StepOutcomes.{FallsOn}
 use Rattle.burr_bench.specs.Invariant.{IsGood}
-use Rattle.burr_bench.proofs.Soundness.Failing.{IsFine, held, held_everywhere, held_of_pairs, paid, goes_past}
-use Rattle.burr_bench.proofs.Soundness.Values.{value_raised}
+use Rattle.burr_verify.proofs.Common.FineVerdicts.{IsFine, held, held_everywhere, held_of_pairs, paid}
+use Rattle.burr_bench.proofs.Soundness.Failing.{goes_past}
+use Rattle.burr_verify.proofs.Common.FormValues.{value_raised}
 use Rattle.burr_bench.proofs.Soundness.Operands.{is_paid}
 use Rattle.burr_bench.proofs.Stepping.Ways.{overlap_before}
 use Rattle.burr_bench.proofs.Trays.Shifts.{IsShifted, lay_before_shift, lies_after_shift, count_in-shift}

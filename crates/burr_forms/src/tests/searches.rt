@@ -32,6 +32,23 @@ fn finds_the_first_point(rt: HostRuntime) -> Result<(), Fail> {
 }
 
 #[test]
+fn finds_points_behind_cut_ones(rt: HostRuntime) -> Result<(), Fail> {
+    let ranges = [(0, 1), (0, 5)];
+    // The guards cut the ends of each line; the numbers of each one between are from 1 to 4, and 2 to 4.
+    let guards = [form(-1, -1, 1), form(4, 0, -1)];
+    assert_found(&rt, &ranges, &guards, form(4, 0, -1), None);
+    assert_found(&rt, &ranges, &guards, form(3, 0, -1), Some(&[0, 4]));
+    assert_found(&rt, &ranges, &guards, form(4, -1, -1), Some(&[1, 4]));
+    assert_found(&rt, &ranges, &guards, form(2, -3, 0), Some(&[1, 2]));
+    assert_found(&rt, &ranges, &guards, form(-2, -1, 2), None);
+    // They hold at no point of the first line.
+    let guards = [form(-1, 1, 0)];
+    assert_found(&rt, &ranges, &guards, form(-1, 0, 1), Some(&[1, 0]));
+    assert_found(&rt, &ranges, &guards, form(-1, 1, 0), None);
+    Ok(())
+}
+
+#[test]
 fn finds_points_without_symbols(rt: HostRuntime) -> Result<(), Fail> {
     assert_found(&rt, &[], &[], number(0), None);
     assert_found(&rt, &[], &[], number(-1), Some(&[]));

@@ -67,7 +67,7 @@ fn slots(frame: &FrameRef<'_>) -> [Option<Form>; 8]
 }
 
 /// The form of a symbol.
-fn symbol(number: usize) -> Form
+pub(super) fn symbol(number: usize) -> Form
     requires { number < 8 }
     ensures symbol { result ≡ symbol_of number }
     ensures small { IsSmallForm result }

@@ -65,7 +65,7 @@ fn form_of(slots: &[Option<Form>; 8], v: u8) -> Option<Form>
 }
 
 /// Whether each piece is apart in both, or in the same tray.
-fn are_in_same_trays(places: &[Lying], others: &[Lying]) -> bool
+pub(super) fn are_in_same_trays(places: &[Lying], others: &[Lying]) -> bool
     ensures { IsTrue result ↔ (map tray_of places.now ≡ map tray_of others.now) }
 {
     if places.len() != others.len() {
@@ -98,6 +98,33 @@ impl State {
         append_offsets(&mut forms, self.places.as_slice());
         forms
     }
+}
+
+impl State {
+    /// Forms of the state to be compared: those in slots, and those of the offsets, piece by piece.
+    pub(super) fn compared_offsets(&self, slots: &[Form]) -> ArrayVec<Form, 120>
+        requires few { length slots.now ≤ 8 }
+        requires small { AllSmallForms slots.now }
+        ensures forms { result.items ≡ slots.now ++ offset_forms self.now.places }
+        ensures small { AllSmallForms result.items }
+    {
+        let mut forms = ArrayVec::new();
+        append(&mut forms, slots);
+        append_offsets(&mut forms, self.places.as_slice());
+        forms
+    }
+}
+
+/// The forms of offsets, piece by piece.
+pub(super) fn offset_forms(places: &[Lying]) -> ArrayVec<Form, 120>
+    requires few { length places.now ≤ 32 }
+    requires small { AllSmallPlaces places.now }
+    ensures forms { result.items ≡ offset_forms places.now }
+    ensures small { AllSmallForms result.items }
+{
+    let mut forms = ArrayVec::new();
+    append_offsets(&mut forms, places);
+    forms
 }
 
 /// Puts forms behind others. There is room, the caller's condition.

@@ -1,0 +1,88 @@
+-- Procedures of a container that are called: what is read of them in place is the plan's.
+use Rattle.std.proofs.Common.{◌≡◌, ℕ, zero, suc, ◌<◌, List, [], ◌∷◌, length, map, Option, Some, None, refl, sym, ap, ◌∙◌, arith, slice_get, lt-ltb}
+use Rattle.std.specs.Prelude.{option_map}
+use Rattle.std.proofs.lemmas.Option.{none-some, same_Some}
+use Rattle.burr_code.specs.Labels.{callee_of}
+use Rattle.burr_container.specs.declared.exit_ref.ExitRef.{ExitRef}
+use Rattle.burr_container.specs.declared.frame_ref.FrameRef.{FrameRef}
+use Rattle.burr_container.specs.Plans.{Frame, ExitFrame, PlanProcedure, place_over_symbols}
+use Rattle.burr_container.specs.InPlace.{IsExit}
+use Rattle.burr_container.specs.Refs.{frame_of}
+use Rattle.burr_frames.specs.FramedPlans.{FramedProcedure, framed, framed_exit, framed_procedure}
+use Rattle.burr_frames.specs.ControlRules.{first_frame}
+use Rattle.burr_frames.specs.Exits.{framed_ref}
+use Rattle.burr_frames.specs.Here.{IsFrameFound}
+
+-- Procedures
+
+-- a framed procedure is that of one of the plan's
+pub record IsFramed (procedures : List PlanProcedure) (n : ℕ) (here : FramedProcedure) : Type 0 where
+  pub procedure : PlanProcedure
+  pub at : slice_get procedures n ≡ Some procedure
+  pub is : framed_procedure procedure ≡ here
+
+pub framed_at : (procedures : List PlanProcedure) (n : ℕ) (here : FramedProcedure)
+    → slice_get (map framed_procedure procedures) n ≡ Some here → IsFramed procedures n here
+framed_at [] n here e = absurd (none-some here e)
+framed_at (p ∷ procedures) zero here e = record { procedure = p; at = refl; is = same_Some (framed_procedure p) here e }
+framed_at (p ∷ procedures) (suc n) here e =
+    let found = framed_at procedures n here e in
+    record { procedure = found.procedure; at = found.at; is = found.is }
+
+-- a callee that there is, and its number
+pub record IsCallee (procedures : List PlanProcedure) (n callee : ℕ) : Type 0 where
+  pub procedure : PlanProcedure
+  pub at : slice_get procedures callee ≡ Some procedure
+  pub framed : slice_get (map framed_procedure procedures) callee ≡ Some (framed_procedure procedure)
+  pub called : callee_of (map framed_procedure procedures) n callee ≡ Some (framed_procedure procedure)
+
+one_at : (procedures : List PlanProcedure) (k : ℕ) → k < length procedures
+    → (p : PlanProcedure) × (slice_get procedures k ≡ Some p)
+    × (slice_get (map framed_procedure procedures) k ≡ Some (framed_procedure p))
+one_at [] k l = absurd (omega (arith, l))
+one_at (p ∷ procedures) zero l = (p, refl, refl)
+one_at (p ∷ procedures) (suc k) l = one_at procedures k (omega (arith, l))
+
+pub callee_at : (procedures : List PlanProcedure) (n callee : ℕ) → n < callee → callee < length procedures
+    → IsCallee procedures n callee
+callee_at procedures n callee higher l =
+    let found = one_at procedures callee l in
+    record {
+      procedure = found.0;
+      at = found.1;
+      framed = found.2;
+      called = called_higher (map framed_procedure procedures) n callee higher ∙ found.2;
+    }
+  where
+    called_higher : (all : List FramedProcedure) (n callee : ℕ) → n < callee → callee_of all n callee ≡ slice_get all callee
+    called_higher all n callee higher = rw (lt-ltb n callee higher) refl
+
+-- Exit frames
+
+pub no_exit : (pieces parameters : ℕ) (exit : Option ExitFrame) → IsExit pieces parameters None exit
+    → option_map (framed_exit parameters) exit ≡ None
+no_exit pieces parameters None is = refl
+no_exit pieces parameters (Some f) is = absurd is
+
+pub exit_there : (pieces parameters : ℕ) (kept : ExitRef) (exit : Option ExitFrame) → IsExit pieces parameters (Some kept) exit
+    → option_map (framed_exit parameters) exit ≡ Some (framed_ref kept)
+exit_there pieces parameters kept None is = absurd is
+exit_there pieces parameters kept (Some f) is = λ i. Some (record {
+  tray = (sym is.frame i).tray;
+  grip = (sym is.frame i).grip;
+  results = [];
+  guards = [];
+  places = map (place_over_symbols (sym is.live i)) (sym is.frame i).places;
+})
+
+-- Entry frames
+
+pub no_entry : (labels : List (ℕ × Frame)) → IsFrameFound (slice_get labels 0) None → first_frame labels ≡ None
+no_entry [] none = refl
+no_entry (label ∷ labels) none = absurd (none-some label (sym none))
+
+pub entry_there : (labels : List (ℕ × Frame)) (f : FrameRef) → IsFrameFound (slice_get labels 0) (Some f)
+    → first_frame labels ≡ Some (framed (frame_of f))
+entry_there [] f found = absurd (none-some (found.0, framed (frame_of f)) found.1)
+entry_there (label ∷ labels) f found =
+    ap (λ (l : ℕ × Frame). Some l.1) (same_Some label (found.0, framed (frame_of f)) found.1)

@@ -1,0 +1,175 @@
+-- What the tests of pairs of pieces come to.
+use Rattle.std.proofs.Common.{◌≡◌, ◌≢◌, ◌↔◌, ◌∙◌, ◌<◌, ◌≤◌, ◌==◌, ℕ, ℤ, List, [], length, Bool, true, IsTrue, Some, if◌then◌else◌, sym, subst, ap, arith}
+use Rattle.std.specs.Prelude.{slice_get, slice_index_or, pos, neg_ℤ, ◌-ℤ◌, ◌≤ℤ◌, ◌+◌}
+use Rattle.std.proofs.lemmas.Bool.{cond_both}
+use Rattle.std.proofs.lemmas.Bool.Decides.{nat_tests}
+use Rattle.std.proofs.lemmas.Int.{ints}
+use Rattle.std.proofs.lemmas.Option.{same_Some, slice_get_within, slice_get-get_or, get_or_from_slice_get}
+use Rattle.burr_voxels.specs.declared.cell.Cell.{Cell}
+use Rattle.burr_voxels.specs.Grid.{minus, shifted}
+use Rattle.burr_voxels.specs.Near.{IsWithin}
+use Rattle.burr_code.specs.PieceSets.{IsInSet, is_left_out}
+use Rattle.burr_code.specs.Places.{Placement, Apart, On, LiesAt}
+use Rattle.burr_code.proofs.Common.PieceSets.{not_left_out, left_out, in_set, not_in_set}
+use Rattle.burr_assembly.specs.Homes.{HasHome, home_at}
+use Rattle.burr_blocking.proofs.Common.Displaced.{free_of_difference, difference_of_free, blocked_of_overlap, overlap_of_blocked}
+use Rattle.burr_forms.specs.Forms.{Point, values}
+use Rattle.burr_container.specs.Plans.{FormCell}
+use Rattle.burr_frames.specs.declared.clearing.Question.{Question}
+use Rattle.burr_frames.specs.declared.clearing.Question.TheVariants as questions
+use Rattle.burr_frames.specs.declared.clearing.Side.{Side}
+use Rattle.burr_frames.specs.declared.clearing.Side.TheVariants.{Elsewhere, Gripped, Left}
+use Rattle.burr_frames.specs.States.{cell_at}
+use Rattle.burr_frames.specs.Clearing.{IsSide, IsClear, IsClearAt, IsPairClear, AreSides, cell_of, side_of, offsets_in}
+use Rattle.burr_frames.specs.SpaceRules.{OnBenchAt, PairAt}
+use Rattle.burr_frames.specs.Moving.{IsApartBy}
+use Rattle.burr_frames.proofs.BenchOffsets.{cell_of_offset}
+
+-- One piece and another
+
+gripped-left : ¬ (Gripped ≡ Left)
+gripped-left e = cc
+
+-- a piece that is gripped and one that is left are two
+pub two_sides : (pieces : List Side) (p q : ℕ) → IsSide pieces p Gripped → IsSide pieces q Left → p ≢ q
+two_sides pieces p q gripped left e =
+    gripped-left (same_Some Gripped Left (sym gripped ∙ ap (slice_get pieces) e ∙ left))
+
+-- what is asked at the offsets of two pieces is asked of the pieces
+pub at_offsets : (question : Question) (homes : List (List Cell)) (values : List ℤ) (p q : ℕ) (from there : Cell) (test : Bool)
+    → from ≡ cell_of values p → there ≡ cell_of values q
+    → IsTrue test ↔ IsClearAt question (home_at homes p) (home_at homes q) (minus from there)
+    → IsTrue test ↔ IsPairClear question homes values p q
+at_offsets question homes values p q from there test here other tells =
+    subst (λ (x : Cell). IsTrue test ↔ IsClearAt question (home_at homes p) (home_at homes q) (minus x (cell_of values q))) here
+    (subst (λ (y : Cell). IsTrue test ↔ IsClearAt question (home_at homes p) (home_at homes q) (minus from y)) other tells)
+
+-- Sides
+
+same_tray_number : (t u : ℕ) → (t == u) ≡ true → t ≡ u
+same_tray_number t u e = grind (arith, nat_tests)
+
+own_tray : (t : ℕ) → (t == t) ≡ true
+own_tray t = grind (arith, nat_tests)
+
+-- how a piece on a side lies
+abbrev StandsSo : ℕ → ℕ → List (Placement FormCell) → ℕ → Side → Type 0
+StandsSo tray grip places p Elsewhere = Unit {0}
+StandsSo tray grip places p Gripped = (c : FormCell) × LiesAt places p tray c × IsInSet grip p
+StandsSo tray grip places p Left = (c : FormCell) × LiesAt places p tray c × (¬ IsInSet grip p)
+
+by_place : (tray grip : ℕ) (places : List (Placement FormCell)) (p : ℕ) (place : Placement FormCell) → slice_get places p ≡ Some place
+    → StandsSo tray grip places p (side_of grip tray p place)
+by_place tray grip places p Apart at = tt
+by_place tray grip places p (On t c) at =
+    cond_both (t == tray) (if is_left_out grip p then Left else Gripped) Elsewhere (StandsSo tray grip places p)
+    (λ here.
+    let lies : LiesAt places p tray c = at ∙ ap (λ (u : ℕ). Some (On u c)) (same_tray_number t tray here) in
+    cond_both (is_left_out grip p) Left Gripped (StandsSo tray grip places p) (λ out. (c, lies, not_in_set grip p out)) (λ bit. (c, lies, in_set grip p bit)))
+    (λ other. tt)
+
+-- a piece lies as its side tells
+stands_so : (tray grip n : ℕ) (places : List (Placement FormCell)) (found : List Side) → AreSides tray grip n places found
+    → (p : ℕ) (side : Side) → IsSide found p side → StandsSo tray grip places p side
+stands_so tray grip n places found are p side is =
+    let within = slice_get_within found p side is in
+    let place = slice_index_or places p Apart in
+    let at : slice_get places p ≡ Some place =
+    let no_more = are.no_more in slice_get-get_or places p Apart (omega (arith, within, no_more)) in
+    let few = are.few in
+    let own : side_of grip tray p place ≡ side =
+    same_Some (side_of grip tray p place) side (sym (are.each p place (omega (arith, within, few)) at) ∙ is) in
+    subst (StandsSo tray grip places p) own (by_place tray grip places p place at)
+
+-- a gripped piece of the tray is on its side, and so is one that is left
+gripped_side : (tray grip n : ℕ) (places : List (Placement FormCell)) (found : List Side) → AreSides tray grip n places found
+    → (p : ℕ) (c : FormCell) → p < n → LiesAt places p tray c → IsInSet grip p → IsSide found p Gripped
+gripped_side tray grip n places found are p c below lies bit =
+    are.each p (On tray c) below lies
+    ∙ ap (λ (here : Bool). Some (if here then (if is_left_out grip p then Left else Gripped) else Elsewhere)) (own_tray tray)
+    ∙ ap (λ (out : Bool). Some (if out then Left else Gripped)) (not_left_out grip p bit)
+
+left_side : (tray grip n : ℕ) (places : List (Placement FormCell)) (found : List Side) → AreSides tray grip n places found
+    → (p : ℕ) (c : FormCell) → p < n → LiesAt places p tray c → (¬ IsInSet grip p) → IsSide found p Left
+left_side tray grip n places found are p c below lies out =
+    are.each p (On tray c) below lies
+    ∙ ap (λ (here : Bool). Some (if here then (if is_left_out grip p then Left else Gripped) else Elsewhere)) (own_tray tray)
+    ∙ ap (λ (rest : Bool). Some (if rest then Left else Gripped)) (left_out grip p out)
+
+-- Two groups of cells at offsets
+
+-- the difference of two numbers within a bound is within twice the bound
+below_difference : (n : ℕ) (a b : ℤ) → neg_ℤ (pos n) ≤ℤ a → b ≤ℤ pos n → neg_ℤ (pos (n + n)) ≤ℤ (a -ℤ b)
+below_difference n a b least greatest = omega (arith, ints)
+
+above_difference : (n : ℕ) (a b : ℤ) → a ≤ℤ pos n → neg_ℤ (pos n) ≤ℤ b → (a -ℤ b) ≤ℤ pos (n + n)
+above_difference n a b greatest least = omega (arith, ints)
+
+-- so the difference of two offsets is one that may be asked of
+near_difference : (a b : Cell) → IsWithin 256 a → IsWithin 256 b → IsWithin 512 (minus a b)
+near_difference a b near also = record {
+  x_above = below_difference 256 a.x b.x near.x_above also.x_below;
+  x_below = above_difference 256 a.x b.x near.x_below also.x_above;
+  y_above = below_difference 256 a.y b.y near.y_above also.y_below;
+  y_below = above_difference 256 a.y b.y near.y_below also.y_above;
+  z_above = below_difference 256 a.z b.z near.z_above also.z_below;
+  z_below = above_difference 256 a.z b.z near.z_below also.z_above;
+}
+
+clear_where_apart : (question : Question) (a b : Cell) (ps qs : List Cell) → IsApartBy question (shifted a ps) (shifted b qs)
+    → IsClear question ps qs (minus a b)
+clear_where_apart questions.Blocked a b ps qs apart = λ blocked. apart (overlap_of_blocked a b ps qs blocked)
+clear_where_apart (questions.Free direction) a b ps qs apart = difference_of_free a b ps qs direction apart
+
+apart_where_clear : (question : Question) (a b : Cell) (ps qs : List Cell) → IsClear question ps qs (minus a b)
+    → IsApartBy question (shifted a ps) (shifted b qs)
+apart_where_clear questions.Blocked a b ps qs clear = λ overlap. clear (blocked_of_overlap a b ps qs overlap)
+apart_where_clear (questions.Free direction) a b ps qs clear = free_of_difference a b ps qs direction clear
+
+-- A pair at a point
+
+-- what the condition says of a pair of pieces on these sides
+abbrev pub IsPairOfSidesClear : Question → List (List Cell) → List Side → List ℤ → ℕ → ℕ → Type 0
+IsPairOfSidesClear question homes found numbers p q =
+    IsSide found p Gripped → IsSide found q Left → IsPairClear question homes numbers p q
+
+-- where each piece is on the bench, it holds of a pair that is apart so
+pub clear_of_apart : (question : Question) (homes : List (List Cell)) (places : List (Placement FormCell)) (tray grip n : ℕ) (found : List Side) (point : Point)
+    → AreSides tray grip n places found → n ≤ length homes → OnBenchAt places tray point → (p q : ℕ)
+    → PairAt (IsApartBy question) homes places tray grip point p q → IsPairOfSidesClear question homes found (values point (offsets_in tray places)) p q
+clear_of_apart question homes places tray grip n found point are homed on p q apart gripped left =
+    let numbers = values point (offsets_in tray places) in
+    let (c, lies, bit) = stands_so tray grip n places found are p Gripped gripped in
+    let (d, lies_q, out) = stands_so tray grip n places found are q Left left in
+    let few = are.few in
+    let inside = slice_get_within found p Gripped gripped in
+    let inside_q = slice_get_within found q Left left in
+    let home : HasHome homes p (home_at homes p) = slice_get-get_or homes p [] (omega (arith, inside, few, homed)) in
+    let home_q : HasHome homes q (home_at homes q) = slice_get-get_or homes q [] (omega (arith, inside_q, few, homed)) in
+    let a = cell_at point c in
+    let b = cell_at point d in
+    subst (λ (x : Cell). IsClearAt question (home_at homes p) (home_at homes q) (minus x (cell_of numbers q))) (sym (cell_of_offset places tray p c point lies))
+    (subst (λ (y : Cell). IsClearAt question (home_at homes p) (home_at homes q) (minus a y)) (sym (cell_of_offset places tray q d point lies_q)) (
+      near_difference a b (on p c lies) (on q d lies_q),
+      clear_where_apart question a b (home_at homes p) (home_at homes q)
+          (apart (home_at homes p) (home_at homes q) c d bit out home home_q lies lies_q),
+    ))
+
+-- and a pair is apart so where it holds of it
+pub apart_of_clear : (question : Question) (homes : List (List Cell)) (places : List (Placement FormCell)) (tray grip n : ℕ) (found : List Side) (point : Point)
+    → AreSides tray grip n places found → length homes ≤ n → (p q : ℕ)
+    → IsPairOfSidesClear question homes found (values point (offsets_in tray places)) p q → PairAt (IsApartBy question) homes places tray grip point p q
+apart_of_clear question homes places tray grip n found point are homed p q clear p_home q_home c d bit out home home_q lies lies_q =
+    let numbers = values point (offsets_in tray places) in
+    let inside = slice_get_within homes p p_home home in
+    let inside_q = slice_get_within homes q q_home home_q in
+    let gripped = gripped_side tray grip n places found are p c (omega (arith, inside, homed)) lies bit in
+    let left = left_side tray grip n places found are q d (omega (arith, inside_q, homed)) lies_q out in
+    let asked = clear gripped left in
+    let a = cell_at point c in
+    let b = cell_at point d in
+    subst (λ (cells : List Cell). IsApartBy question (shifted a cells) (shifted b q_home)) (get_or_from_slice_get homes p p_home [] home)
+    (subst (λ (cells : List Cell). IsApartBy question (shifted a (home_at homes p)) (shifted b cells)) (get_or_from_slice_get homes q q_home [] home_q)
+    (apart_where_clear question a b (home_at homes p) (home_at homes q)
+    (subst (λ (y : Cell). IsClear question (home_at homes p) (home_at homes q) (minus a y)) (cell_of_offset places tray q d point lies_q)
+    (subst (λ (x : Cell). IsClear question (home_at homes p) (home_at homes q) (minus x (cell_of numbers q))) (cell_of_offset places tray p c point lies) asked.1))))

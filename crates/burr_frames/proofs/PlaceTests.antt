@@ -1,0 +1,69 @@
+-- What the tests of places come to.
+use Rattle.std.proofs.Common.{◌≡◌, ◌≢◌, ◌↔◌, ◌<◌, ◌≤◌, ◌^◌, ◌==◌, ℕ, zero, suc, List, [], ◌∷◌, length, Some, slice_get, refl, sym, ap, ◌∙◌, inl, inr, arith, IsTrue, nat_eq}
+use Rattle.std.proofs.lemmas.Bool.Decides.{nat_tests}
+use Rattle.std.proofs.lemmas.Option.{none-some, same_Some, slice_get_within}
+use Rattle.burr_text.proofs.Common.Tests.{no_iff}
+use Rattle.burr_text.proofs.Common.Decisions.{decide_below}
+use Rattle.burr_code.specs.PieceSets.{IsInSet}
+use Rattle.burr_code.specs.Places.{Placement, Apart, On, LiesIn, AllLieIn, is_in, count_in, IsEmptyTray}
+use Rattle.burr_code.proofs.Common.PieceSets.{no_bit_above}
+use Rattle.burr_frames.proofs.Common.Conditions.{apart-on, same_tray}
+
+-- One piece
+
+same_trays : (t u : ℕ) → IsTrue (t == u) ↔ (t ≡ u)
+same_trays t u = (λ yes. grind (arith, nat_tests), λ e. grind (arith, nat_tests))
+
+-- a piece is in the tray where its place is
+pub lies_by_test : {Position : Type 0} (places : List (Placement Position)) (p tray : ℕ) (place : Placement Position)
+    → slice_get places p ≡ Some place → IsTrue (is_in tray place) ↔ LiesIn places p tray
+lies_by_test places p tray Apart at =
+    no_iff (λ lies. apart-on tray lies.0 (same_Some Apart (On tray lies.0) (sym at ∙ lies.1)))
+lies_by_test {Position} places p tray (On t x) at = (
+  λ yes. (x, at ∙ ap (λ (u : ℕ). Some (On u x)) ((same_trays t tray).0 yes)),
+  λ lies. (same_trays t tray).1 (same_tray t tray x lies.0 (same_Some (On t x) (On tray lies.0) (sym at ∙ lies.1))),
+)
+
+-- a piece that has no place is in no tray
+pub lies_nowhere : {Position : Type 0} (places : List (Placement Position)) (p tray : ℕ) → length places ≤ p
+    → ¬ LiesIn places p tray
+lies_nowhere places p tray far lies =
+    let inside = slice_get_within places p (On tray lies.0) lies.1 in
+    absurd (omega (arith, far, inside))
+
+-- Trays
+
+count_in-empty : {Position : Type 0} (t : ℕ) (places : List (Placement Position)) → IsEmptyTray places t → count_in t places ≡ 0
+count_in-empty t [] empty = refl
+count_in-empty t (Apart ∷ places) empty = omega (arith, count_in-empty t places (λ p. empty (suc p)))
+count_in-empty t (On u position ∷ places) empty =
+    let other : u ≢ t = λ e. empty 0 (position, ap (λ v. Some (On v position)) e) in
+    let rest = count_in-empty t places (λ p. empty (suc p)) in
+    grind (arith, nat_tests)
+
+count_in-some : {Position : Type 0} (t p : ℕ) (places : List (Placement Position)) → LiesIn places p t → 1 ≤ count_in t places
+count_in-some t p [] lies = absurd (none-some _ lies.1)
+count_in-some t zero (place ∷ places) lies = rw (same_Some _ _ lies.1) (grind (arith, nat_tests))
+count_in-some t (suc p) (place ∷ places) lies = omega (arith, count_in-some t p places lies)
+
+-- a tray is empty where it is counted so
+pub counts_empty : {Position : Type 0} (places : List (Placement Position)) (tray count : ℕ) → count ≡ count_in tray places
+    → IsTrue (nat_eq count 0) ↔ IsEmptyTray places tray
+counts_empty places tray count is = (
+  λ zero p lies. let some = count_in-some tray p places lies in grind (arith, nat_tests),
+  λ empty. let none = count_in-empty tray places empty in grind (arith, nat_tests),
+)
+
+-- Sets
+
+-- a set of 32 bits has no other
+bit_below : (set p : ℕ) → set < 2 ^ 32 → IsInSet set p → p < 32
+bit_below set p small bit = elim (decide_below p 32) [
+  | inl below ↦ below
+  | inr above ↦ absurd (no_bit_above set 32 p small (omega (arith, above)) bit)
+]
+
+-- the set lies here where each of its first 32 pieces does
+pub all_lie_of : {Position : Type 0} (places : List (Placement Position)) (tray set : ℕ) → set < 2 ^ 32
+    → ((p : ℕ) → p < 32 → IsInSet set p → LiesIn places p tray) → AllLieIn places tray set
+all_lie_of places tray set small each p bit = each p (bit_below set p small bit) bit

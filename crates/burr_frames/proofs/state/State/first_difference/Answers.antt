@@ -1,0 +1,78 @@
+-- The values that are compared meet the other state just where the state agrees with it.
+use Rattle.std.proofs.Common.{◌≡◌, ◌∙◌, List, [], ◌++◌, length, sym, ap, subst, arith}
+use Rattle.std.specs.Prelude.{reverse, Option, ℤ}
+use Rattle.arrayvec.specs.ArrayVec.{ArrayVec}
+use Rattle.std.proofs.lemmas.List.{length-append, length-reverse}
+use Rattle.std.proofs.lemmas.List.Elements.{All-nil}
+use Rattle.burr_forms.specs.Forms.{Form, IsSmallForm, AllSmallForms}
+use Rattle.burr_forms.specs.Points.{AreRanges}
+use Rattle.burr_forms.specs.Conditions.{Region, at_values}
+use Rattle.burr_container.specs.Plans.{Range}
+use Rattle.burr_frames.specs.States.{AbstractState, region_of}
+use Rattle.burr_frames.specs.Comparing.{offset_forms, Target, IsMetBy}
+use Rattle.burr_frames.proofs.Agreement.{as_many, FirstFailure}
+use Rattle.burr_frames.proofs.CallMeetings.{asked_in, met_in, difference}
+use Rattle.burr_frames.proofs.state.State.first_difference.Goals as goal
+
+pub invariant_of-agreement : goal.invariant_of-agreement
+invariant_of-agreement c =
+    let s = c.args.self.now in
+    let t = c.args.there.now in
+    let ranges : c.as_slice-2.result.now ≡ t.ranges = c.as_slice-2.ensures.value ∙ ap (λ (a : AbstractState). a.ranges) c.there.view_is in
+    let forms = c.as_slice.ensures.value ∙ c.compared-compared.ensures.forms in
+    let same = c.as_slice-4.ensures.value ∙ c.compared-met.ensures.forms in
+    let offsets = as_many s.places t.places c.requires.alike.trays in
+    record {
+      shape = omega (
+        arith,
+        ap (length {A = Form}) forms,
+        ap (length {A = Form}) same,
+        ap (length {A = Range}) ranges,
+        length-append c.args.forms.now (reverse s.operands ++ offset_forms s.places),
+        c.requires.many,
+        length-append (reverse s.operands) (offset_forms s.places),
+        length-append (reverse t.operands) (offset_forms t.places),
+        length-reverse s.operands,
+        length-reverse t.operands,
+        c.requires.alike.operands,
+        offsets,
+      );
+      few = omega (arith, ap (length {A = Range}) ranges, c.requires.many, c.requires.few);
+      are = subst AreRanges (sym c.as_slice-2.ensures.value) c.there.invariant.ranges;
+      guards_small = subst AllSmallForms (sym c.as_slice-3.ensures.value) c.there.invariant.guards;
+      least_small = All-nil IsSmallForm;
+      same_small = subst AllSmallForms (sym c.as_slice-4.ensures.value) c.compared-met.ensures.small;
+    }
+
+-- what is handed to the search
+record Handed : Type 0 where
+  region : Region
+  target : Target
+  asked : List Form
+
+abbrev Fails : Option (ArrayVec ℤ) → Handed → Type 0
+Fails found h = FirstFailure h.region (at_values (IsMetBy h.target) h.asked) found
+
+pub returns : goal.returns
+returns c =
+    let s = c.args.self.now in
+    let t = c.args.there.now in
+    let s_ranges : c.as_slice-5.result.now ≡ s.ranges = c.as_slice-5.ensures.value ∙ ap (λ (a : AbstractState). a.ranges) c.self.view_is in
+    let s_guards : c.as_slice-6.result.now ≡ s.guards = c.as_slice-6.ensures.value ∙ ap (λ (a : AbstractState). a.guards) c.self.view_is in
+    let ranges : c.as_slice-2.result.now ≡ t.ranges = c.as_slice-2.ensures.value ∙ ap (λ (a : AbstractState). a.ranges) c.there.view_is in
+    let guards : c.as_slice-3.result.now ≡ t.guards = c.as_slice-3.ensures.value ∙ ap (λ (a : AbstractState). a.guards) c.there.view_is in
+    let same : c.as_slice-4.result.now ≡ reverse t.operands ++ offset_forms t.places = c.as_slice-4.ensures.value ∙ c.compared-met.ensures.forms in
+    let asked : c.as_slice.result.now ≡ asked_in s c.args.forms.now = c.as_slice.ensures.value ∙ c.compared-compared.ensures.forms in
+    let first : Handed = record {
+      region = record { ranges = c.as_slice-5.result.now; guards = c.as_slice-6.result.now };
+      target = record { ranges = c.as_slice-2.result.now; guards = c.as_slice-3.result.now; least = []; same = c.as_slice-4.result.now };
+      asked = c.as_slice.result.now;
+    } in
+    let second : Handed = record { region = region_of s; target = met_in t; asked = asked_in s c.args.forms.now } in
+    let handed : first ≡ second = λ i. record {
+      region = record { ranges = s_ranges i; guards = s_guards i };
+      target = record { ranges = ranges i; guards = guards i; least = []; same = same i };
+      asked = asked i;
+    } in
+    difference s t c.args.forms.now c.requires.alike c.requires.many c.first_failing.result
+    (subst (Fails c.first_failing.result) handed c.first_failing.ensures)

@@ -1,0 +1,32 @@
+-- A slot of which nothing is known ends it; else its form is one more.
+use Rattle.std.proofs.Common.{◌≡◌, ◌+◌, ◌∙◌, ap, sym, subst, List, [], ◌∷◌, ◌++◌, Some, length, arith}
+use Rattle.std.proofs.lemmas.List.{length_push}
+use Rattle.std.proofs.lemmas.List.Elements.{All-push}
+use Rattle.burr_forms.specs.Forms.{Form, IsSmallForm, AllSmallForms}
+use Rattle.burr_frames.specs.ControlRules.{first_forms}
+use Rattle.burr_frames.proofs.CallForms.{first_unknown, first_push}
+use Rattle.burr_frames.proofs.state.State.first_forms.Goals as goal
+
+pub returns-in_default : goal.returns-in_default
+returns-in_default c =
+    first_unknown c.loop-v.v c.args.count c.args.self.now.slots c.loop-v-test.true c.in_default.ensures.slot
+
+pub loop-v-preserved : goal.loop-v-preserved
+loop-v-preserved c =
+    let before = c.loop-v.forms.items in
+    let form = c.in-Some.form in
+    let items : c.push.new.self.items ≡ before ++ form ∷ [] = c.push.ensures.items in
+    let old = c.loop-v.invariant in
+    record {
+      is = first_push c.loop-v.v c.args.self.now.slots before form old.is c.in-Some.ensures.slot ∙ ap (λ (fs : List Form). Some fs) (sym items);
+      many = ap (length {A = Form}) items ∙ length_push before form ∙ ap (λ n. n + 1) old.many;
+      small = subst AllSmallForms (sym items) (All-push IsSmallForm before form old.small c.in-Some.ensures.small.1);
+    }
+
+pub returns : goal.returns
+returns c =
+    let all : c.loop-v.v ≡ c.args.count = omega (arith, c.loop-v-test.false, c.loop-v.auto.v-end) in (
+      subst (λ n. first_forms n c.args.self.now.slots ≡ Some c.loop-v.forms.items) all c.loop-v.invariant.is,
+      c.loop-v.invariant.many ∙ all,
+      c.loop-v.invariant.small,
+    )

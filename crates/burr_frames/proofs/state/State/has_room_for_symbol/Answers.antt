@@ -1,0 +1,30 @@
+-- The ranges with one more have room, and the guards always do.
+use Rattle.std.proofs.Common.{◌≡◌, ◌≤◌, ◌∙◌, length, sym, ap, subst, List, [], ◌∷◌, ◌++◌, arith}
+use Rattle.burr_forms.specs.Points.{AreRanges, box_size}
+use Rattle.burr_container.specs.Plans.{Range}
+use Rattle.burr_frames.specs.States.{AbstractState}
+use Rattle.burr_frames.proofs.Rooms.{handed_range, one_range_more}
+use Rattle.burr_frames.proofs.state.State.has_room_for_symbol.Goals as goal
+
+pub has_room-requires : goal.has_room-requires
+has_room-requires c =
+    let old = c.self.inside.ranges.items in
+    let put = handed_range c.args.low c.args.high c.from.result c.from-2.result c.requires c.from.ensures c.from-2.ensures in
+    let ranges : c.push.new.self.items ≡ old ++ (c.args.low, c.args.high) ∷ [] =
+    c.push.ensures.items ∙ (λ i. c.copied-ranges.ensures i ++ put i ∷ []) in
+    subst AreRanges (sym (c.as_slice.ensures.value ∙ ranges)) (one_range_more old c.args.low c.args.high c.self.invariant.ranges c.requires)
+
+pub returns : goal.returns
+returns c =
+    let s = c.args.self.now in
+    let old = c.self.inside.ranges.items in
+    let range : Range = (c.args.low, c.args.high) in
+    let put = handed_range c.args.low c.args.high c.from.result c.from-2.result c.requires c.from.ensures c.from-2.ensures in
+    let same : old ≡ s.ranges = ap (λ (a : AbstractState). a.ranges) c.self.view_is in
+    let now : c.as_slice.result.now ≡ s.ranges ++ range ∷ [] =
+    c.as_slice.ensures.value ∙ c.push.ensures.items ∙ (λ i. (c.copied-ranges.ensures ∙ same) i ++ put i ∷ []) in
+    let few : length (s.ranges ++ range ∷ []) ≤ 8 = omega (arith, c.as_slice.ensures.fits, ap (length {A = Range}) now) in
+    let guards : length s.guards ≤ 8 = omega (arith, c.len-guards.ensures.fits, c.len-guards.ensures.value, ap (λ (a : AbstractState). length a.guards) c.self.view_is) in (
+      λ room. (few, guards, subst (λ (ranges : List Range). box_size ranges ≤ 4096) now (c.has_room.ensures.0 room)),
+      λ room. c.has_room.ensures.1 (subst (λ (ranges : List Range). box_size ranges ≤ 4096) (sym now) room.2),
+    )

@@ -1,0 +1,32 @@
+-- All labels are there, and the step is paid for.
+use Rattle.std.proofs.Common.{◌≡◌, ◌∙◌, ap, subst, inl, inr}
+use Rattle.burr_text.proofs.Common.Tests.{yes_of, no_of}
+use Rattle.burr_code.specs.Labels.{labelled}
+use Rattle.burr_frames.specs.States.{AbstractState}
+use Rattle.burr_frames.specs.Verdicts.{Breaks, leaves, arriving_at_all}
+use Rattle.burr_frames.specs.Breaks.{left}
+use Rattle.burr_frames.specs.Changes.{at_cost}
+use Rattle.burr_frames.proofs.Heres.{nothing_found}
+use Rattle.burr_frames.proofs.Paying.{paying_on}
+use Rattle.burr_frames.proofs.state.State.pick.Goals as goal
+
+pub returns-then-not-has_labels : goal.returns-then-not-has_labels
+returns-then-not-has_labels c = λ p here is e.
+    inl (
+      nothing_found (labelled here.labels c.args.labels.now) (no_of (c.if-not-has_labels.ensures p here is e)),
+      ap Breaks c.plain.ensures,
+    )
+
+pub returns : goal.returns
+returns c = λ p here is e.
+    let s = c.args.self.now in
+    let cost = c.in_ok-cost.cost in
+    let to = yes_of (c.if-not-has_labels.ensures p here is e) in
+    let verdict = left c.arrives_at_all.result in
+    let paid : c.set_cost.new.self ≡ at_cost cost s = c.set_cost.ensures ∙ ap (at_cost cost) c.copied-paid.ensures in
+    inr (
+      to.0,
+      to.1,
+      paying_on s cost (λ (a : AbstractState). arriving_at_all a to.0 leaves) verdict c.in_ok-cost.ensures
+          (subst (λ (a : AbstractState). arriving_at_all a to.0 leaves verdict) paid (c.arrives_at_all.ensures p here is e to.0 to.1)),
+    )

@@ -1,0 +1,10 @@
+-- So many pieces lie at home so far.
+use Rattle.std.proofs.Common.{◌≡◌, ◌≤◌}
+use Rattle.std.specs.Prelude.{replicate}
+use Rattle.burr_code.specs.Places.{On}
+use Rattle.burr_frames.specs.SpaceRules.{AllSmallPlaces}
+use Rattle.burr_frames.specs.Starts.{home_position}
+use Rattle.burr_frames.proofs.state.starting.home_places.Given as goal
+
+abbrev pub invariant-loop : goal.invariant-loop
+invariant-loop l = (l.places.items ≡ replicate l.counter (On 0 home_position)) × AllSmallPlaces l.places.items

@@ -1,0 +1,38 @@
+-- What a call that asks of a move's pairs says of the verdict.
+use Rattle.std.specs.Prelude.{⊤, ℕ, List, Option, Some, Result}
+use Rattle.burr_voxels.specs.declared.cell.Cell.{Cell}
+use Rattle.burr_code.specs.PieceSets.{IsInSet}
+use Rattle.burr_code.specs.Places.{Placement, LiesIn}
+use Rattle.burr_container.specs.Plans.{FormCell}
+use Rattle.burr_forms.specs.Forms.{Point}
+use Rattle.burr_frames.specs.declared.breaking.Break.{Break}
+use Rattle.burr_frames.specs.declared.clearing.Question.{Question}
+use Rattle.burr_frames.specs.declared.clearing.Question.TheVariants as questions
+use Rattle.burr_frames.specs.declared.rule.Rule.{Rule}
+use Rattle.burr_frames.specs.declared.rule.Rule.TheVariants as rules
+use Rattle.burr_frames.specs.Breaks.{left}
+use Rattle.burr_frames.specs.SpaceRules.{OnBenchAt, PairAt, DoesNotOverlap, GoesFree}
+use Rattle.burr_frames.specs.States.{AbstractState}
+use Rattle.burr_frames.specs.Verdicts.{Broken, everywhere, everywhere_of_pairs, leaves}
+
+-- how a gripped piece is to lie to one that is left in the tray
+abbrev pub IsApartBy : Question → List Cell → List Cell → Type 0
+IsApartBy questions.Blocked = DoesNotOverlap
+IsApartBy (questions.Free direction) = GoesFree direction
+
+-- With these places each piece of the tray is on the bench and each pair of it so, or a rule is broken;
+-- nothing is said of what follows.
+abbrev pub ClearOrBreaks : List (List Cell) → AbstractState → List (Placement FormCell) → Question → Rule
+    → Result ⊤ Break → Type 0
+ClearOrBreaks homes s places question rule result =
+    everywhere s (OnBenchAt places s.tray) rules.V18
+    (everywhere_of_pairs s (PairAt (IsApartBy question) homes places s.tray s.grip) rule leaves)
+    (left result)
+
+-- a rule that is broken at a point, for these pieces
+abbrev pub break_of_pieces : Rule → Option (ℕ × ℕ) → Point → Broken
+break_of_pieces rule pieces point = record { rule = rule; pieces = pieces; point = Some point }
+
+-- a piece of the current tray is not gripped
+abbrev pub LeavesSome : AbstractState → Type 0
+LeavesSome s = (p : ℕ) × LiesIn s.places p s.tray × (¬ IsInSet s.grip p)

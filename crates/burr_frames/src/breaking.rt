@@ -1,0 +1,52 @@
+ghost use Rattle.std.specs.Prelude.{◌≡◌, option_map};
+ghost use Rattle.burr_frames.specs.Breaks.{broken_of, plain_break, break_at, missed_break};
+
+use crate::rule::Rule;
+use crate::state::Miss;
+use burr_forms::Point;
+
+/// A rule that does not hold at an instruction, and where.
+#[derive(Clone, Debug, PartialEq, Eq, Drop)]
+pub struct Break {
+    /// The first of the instruction's checks that fails.
+    pub rule: Rule,
+    /// The first pair of pieces for which it fails, where it is asked of pairs: a gripped piece first.
+    pub pieces: Option<(u8, u8)>,
+    /// The first of the state's points at which it fails, where it is asked at points.
+    pub point: Option<Point>,
+}
+
+impl Break {
+    /// A rule that is broken without regard to points.
+    pub(crate) fn plain(rule: Rule) -> Break
+        ensures { broken_of result ≡ plain_break rule }
+    {
+        Break {
+            rule,
+            pieces: None,
+            point: None,
+        }
+    }
+
+    /// A rule that is broken at a point.
+    pub(crate) fn at(rule: Rule, point: Point) -> Break
+        ensures { broken_of result ≡ break_at rule point.items }
+    {
+        Break {
+            rule,
+            pieces: None,
+            point: Some(point),
+        }
+    }
+
+    /// A frame that is not met, where the rule asks for it.
+    pub(crate) fn missed(rule: Rule, miss: Miss) -> Break
+        ensures { broken_of result ≡ missed_break rule (option_map (λ point. point.items) miss.point) }
+    {
+        Break {
+            rule,
+            pieces: None,
+            point: miss.point,
+        }
+    }
+}

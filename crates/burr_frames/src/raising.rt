@@ -1,0 +1,25 @@
+ghost use Rattle.std.specs.Prelude.{◌≤◌};
+ghost use Rattle.std.specs.Int.RustNames.{unsigned_abs};
+ghost use Rattle.burr_forms.specs.Forms.{raised, IsSmallForm};
+ghost use Rattle.burr_forms.specs.Results.{IsFormOf};
+
+use burr_forms::{Form, FormTooLarge};
+
+/// A number of a form is at most this, either way.
+const MOST: i64 = 1 << 40;
+
+/// A form whose constant is so much higher, one at most, either way.
+pub fn raised_by(form: &Form, number: i64) -> Result<Form, FormTooLarge>
+    requires small { IsSmallForm form.now }
+    requires one { unsigned_abs number ≤ 1 }
+    ensures { IsFormOf result (raised number form.now) }
+{
+    let constant = form.constant + number;
+    if constant < -MOST || MOST < constant {
+        return Err(FormTooLarge);
+    }
+    Ok(Form {
+        constant,
+        coefs: form.coefs,
+    })
+}

@@ -1,0 +1,152 @@
+//! The rules of the instructions of the flow of control.
+
+ghost use Rattle.std.specs.Prelude.{◌≡◌, ◌<◌, ◌↔◌, IsTrue, IfErr, length, pos, neg_ℤ};
+ghost use Rattle.burr_code.specs.Places.{AllApart, Apart};
+ghost use Rattle.burr_forms.specs.Forms.{Form as FormOf, IsSmallForm, one_less, times};
+ghost use Rattle.burr_frames.specs.ControlRules.{halt_rule, jump_rule, down_rule, counted_down};
+ghost use Rattle.burr_frames.specs.Breaks.{fallen, left, ArrivesOrBreaks};
+ghost use Rattle.burr_frames.specs.Changes.{at_cost};
+ghost use Rattle.burr_frames.specs.Here.{OfHere};
+
+use super::State;
+use super::arriving::arrives;
+use crate::breaking::Break;
+use crate::finding::frame_at;
+use crate::lying::Lying;
+use crate::raising::raised_by;
+use crate::rule::Rule;
+use burr_container::{Container, FrameRef};
+use burr_forms::Form;
+
+impl State {
+    /// `halt`: in main, with all pieces apart.
+    pub fn halt(&self, procedure: usize) -> Result<(), Break>
+        ensures { halt_rule procedure self.now (left result) }
+    {
+        if procedure != 0 {
+            return Err(Break::plain(Rule::V22));
+        }
+        if !self.are_all_apart() {
+            return Err(Break::plain(Rule::V23));
+        }
+        self.paid()?;
+        Ok(())
+    }
+
+    /// `jump`: arrives at a label.
+    pub fn jump(&self, container: &Container<'_>, procedure: usize, label: u16) -> Result<(), Break>
+        requires { procedure < length container.now.procedures }
+        ensures { OfHere container.now procedure (λ plan here.
+            jump_rule here self.now label (left result)) }
+    {
+        let Some(frame) = frame_at(container, procedure, label) else {
+            return Err(Break::plain(Rule::V10));
+        };
+        let cost = self.paid()?;
+        let mut paid = self.copied();
+        paid.set_cost(cost);
+        paid.arrives_or_breaks(&frame)
+    }
+
+    /// `down`: where the counter in slot v is above 0, it arrives at a label with the counter one
+    /// less; where it is 0, it goes on behind.
+    pub fn down(
+        &mut self,
+        container: &Container<'_>,
+        procedure: usize,
+        v: u8,
+        label: u16,
+    ) -> Result<(), Break>
+        requires procedure { procedure < length container.now.procedures }
+        requires slot { v < 8 }
+        ensures verdict { OfHere container.now procedure (λ plan here.
+            down_rule here self.old v label (fallen self.new result)) }
+        ensures kept { IfErr result (λ _. self.new ≡ self.old) }
+    {
+        let Some(frame) = frame_at(container, procedure, label) else {
+            return Err(Break::plain(Rule::V10));
+        };
+        if v < container.params(procedure) {
+            return Err(Break::plain(Rule::V9));
+        }
+        let Some(count) = self.form_in(v) else {
+            return Err(Break::plain(Rule::V8));
+        };
+        let Ok(less) = raised_by(&count, -1) else {
+            return Err(Break::plain(Rule::V26));
+        };
+        self.never_negative(&count, Rule::V11)?;
+        if self.guards_are_full() {
+            return Err(Break::plain(Rule::V25));
+        }
+        let cost = self.paid()?;
+        self.branch(v, less, cost).arrives_or_breaks(&frame)?;
+        self.set_cost(cost);
+        self.add_guard(negated(&count));
+        Ok(())
+    }
+
+    /// Where `down` goes on at its label: the counter in slot v, above 0, is this form, one less, and
+    /// the step is paid for.
+    fn branch(&self, v: u8, less: Form, cost: Form) -> State
+        requires slot { v < 8 }
+        requires room { length self.now.guards < 8 }
+        requires small { IsSmallForm less }
+        requires cost_small { IsSmallForm cost }
+        ensures { (count : FormOf) → less ≡ one_less count
+            → result ≡ counted_down v count (at_cost cost self.now) }
+    {
+        let mut branch = self.copied();
+        branch.set_cost(cost);
+        branch.add_guard(less);
+        branch.set_slot(v, less);
+        branch
+    }
+
+    /// That the state arrives at a label's frame, its cost included.
+    pub(super) fn arrives_or_breaks(&self, frame: &FrameRef<'_>) -> Result<(), Break>
+        ensures { ArrivesOrBreaks self.now frame.now result }
+    {
+        match arrives(self, frame) {
+            Ok(()) => Ok(()),
+            Err(miss) => Err(Break::missed(Rule::V21, miss)),
+        }
+    }
+
+    /// Whether each piece is apart.
+    fn are_all_apart(&self) -> bool
+        ensures { IsTrue result ↔ AllApart self.now.places }
+    {
+        are_apart(self.places.as_slice())
+    }
+}
+
+/// Whether all pieces are apart.
+fn are_apart(places: &[Lying]) -> bool
+    ensures { IsTrue result ↔ AllApart places.now }
+{
+    places.iter().all(is_apart)
+}
+
+/// Whether a piece is apart.
+fn is_apart(place: &Lying) -> bool
+    ensures { IsTrue result ↔ (place.now ≡ Apart) }
+{
+    place.tray().is_none()
+}
+
+/// The form with each number the other way.
+fn negated(form: &Form) -> Form
+    requires small { IsSmallForm form.now }
+    ensures form { result ≡ times (neg_ℤ (pos 1)) form.now }
+    ensures small { IsSmallForm result }
+{
+    let mut coefs = form.coefs;
+    for symbol in 0..8 {
+        coefs[symbol] = -form.coefs[symbol];
+    }
+    Form {
+        constant: -form.constant,
+        coefs,
+    }
+}

@@ -1,0 +1,197 @@
+//! The rules of the instructions that grip and move pieces.
+
+ghost use Rattle.std.specs.Prelude.{◌≡◌, ◌<◌, ◌≤◌, ◌↔◌, IsTrue, IfErr, MatchResult, length};
+ghost use Rattle.burr_code.specs.Places.{LiesIn, AllLieIn, IsPartOfTray, IsEmptyTray, aside_places};
+ghost use Rattle.burr_assembly.specs.Homes.{homes_of};
+ghost use Rattle.burr_frames.specs.Changes.{with_grip, with_places};
+ghost use Rattle.burr_frames.specs.SpaceRules.{grip_rule, step_rule, aside_rule, tray_rule};
+ghost use Rattle.burr_frames.specs.SpaceRules.{moved, AllSmallPlaces};
+ghost use Rattle.burr_frames.specs.Breaks.{fallen};
+ghost use Rattle.burr_frames.specs.Moving.{ClearOrBreaks, LeavesSome};
+
+use super::places::{count_in_tray, moved_places, offsets_in, sides_in, take_aside};
+use super::{MOST_PIECES, State};
+use crate::breaking::Break;
+use crate::clearing::{Clearing, Question};
+use crate::lying::Lying;
+use crate::rule::Rule;
+use arrayvec::ArrayVec;
+use burr_blocking::Blocking;
+use burr_code::is_in_set;
+use burr_forms::{FormTooLarge, first_failing};
+use burr_voxels::Direction;
+
+/// A piece on the bench lies at most so far from home, a coordinate.
+const BENCH: u16 = 256;
+
+impl State {
+    /// `grip`: pieces of the current tray are gripped.
+    pub fn take_grip(&mut self, group: u32) -> Result<(), Break>
+        ensures verdict { grip_rule self.old group (fallen self.new result) }
+        ensures kept { IfErr result (λ _. self.new ≡ self.old) }
+    {
+        if !self.all_lie_here(group) {
+            return Err(Break::plain(Rule::V13));
+        }
+        let cost = self.paid()?;
+        self.set_cost(cost);
+        self.set_grip(group);
+        Ok(())
+    }
+
+    /// `tray`: another tray is the current one, with nothing gripped.
+    pub fn turn_to(&mut self, tray: u8) -> Result<(), Break>
+        ensures verdict { tray_rule self.old tray (fallen self.new result) }
+        ensures kept { IfErr result (λ _. self.new ≡ self.old) }
+    {
+        let cost = self.paid()?;
+        self.set_cost(cost);
+        self.go_to(tray);
+        Ok(())
+    }
+
+    /// `step`: the grip goes one unit along a direction; behind it each piece of the tray is on the
+    /// bench, and no gripped piece overlaps another one of the tray.
+    pub fn step<B: Blocking>(&mut self, blocking: &B, direction: Direction) -> Result<(), Break>
+        ensures verdict { step_rule (homes_of (B.subject blocking.now)) self.old direction
+            (fallen self.new result) }
+        ensures kept { IfErr result (λ _. self.new ≡ self.old) }
+    {
+        if self.grip == 0 {
+            return Err(Break::plain(Rule::V14));
+        }
+        let Ok(places) = self.moved(direction) else {
+            return Err(Break::plain(Rule::V26));
+        };
+        self.goes_clear(places.as_slice(), blocking, Question::Blocked, Rule::V15)?;
+        let cost = self.paid()?;
+        self.set_cost(cost);
+        self.set_places(places);
+        Ok(())
+    }
+
+    /// `aside`: the grip, which is not the whole tray, goes out along a direction to an empty tray,
+    /// free of the rest of its tray. A piece that is alone in a tray then is apart.
+    pub fn aside<B: Blocking>(
+        &mut self,
+        blocking: &B,
+        direction: Direction,
+        tray: u8,
+    ) -> Result<(), Break>
+        ensures verdict { aside_rule (homes_of (B.subject blocking.now)) self.old direction tray
+            (fallen self.new result) }
+        ensures kept { IfErr result (λ _. self.new ≡ self.old) }
+    {
+        if !self.is_part_gripped() {
+            return Err(Break::plain(Rule::V14));
+        }
+        if !self.is_empty(tray) {
+            return Err(Break::plain(Rule::V17));
+        }
+        let question = Question::Free(direction);
+        self.goes_clear(self.places.as_slice(), blocking, question, Rule::V16)?;
+        let cost = self.paid()?;
+        self.set_cost(cost);
+        self.go_aside(tray);
+        Ok(())
+    }
+
+    /// That where the pieces lie at these places each of the tray is on the bench, and no gripped
+    /// piece is in the way of one left in the tray; else a rule is broken at the first point where
+    /// that does not hold, and this one there for the first pair. There are at most 32 places, and
+    /// the numbers of all forms lie within ±2^40: the caller's condition.
+    fn goes_clear<B: Blocking>(
+        &self,
+        places: &[Lying],
+        blocking: &B,
+        question: Question,
+        rule: Rule,
+    ) -> Result<(), Break>
+        requires few { length places.now ≤ 32 }
+        requires small { AllSmallPlaces places.now }
+        ensures { ClearOrBreaks (homes_of (B.subject blocking.now)) self.now places.now question
+            rule result }
+    {
+        let offsets = offsets_in(self.tray, places);
+        self.stays_within(offsets.as_slice(), BENCH, Rule::V18)?;
+        let pieces = blocking.assembly().piece_count();
+        let sides = sides_in(self.tray, self.grip, places, pieces);
+        let clearing = Clearing {
+            forms: offsets.as_slice(),
+            sides: sides.as_slice(),
+            blocking,
+            question,
+        };
+        match first_failing(self.ranges.as_slice(), self.guards.as_slice(), &clearing) {
+            None => Ok(()),
+            Some(point) => Err(clearing.broken_at(rule, point)),
+        }
+    }
+
+    /// The places where the grip has gone one unit along a direction.
+    fn moved(&self, direction: Direction) -> Result<ArrayVec<Lying, MOST_PIECES>, FormTooLarge>
+        ensures { MatchResult result
+            (λ places. (places.items ≡ moved self.now.grip direction self.now.places)
+            × AllSmallPlaces places.items)
+            (λ _. ¬ AllSmallPlaces (moved self.now.grip direction self.now.places)) }
+    {
+        moved_places(self.places.as_slice(), self.grip, direction)
+    }
+
+    /// The grip goes to an empty tray; a piece that is alone in a tray then is apart.
+    fn go_aside(&mut self, tray: u8)
+        ensures { self.new ≡ with_grip 0 (with_places
+            (aside_places self.old.grip self.old.tray tray self.old.places) self.old) }
+    {
+        take_aside(self.places.as_mut_slice(), self.grip, self.tray, tray);
+        self.grip = 0;
+    }
+
+    /// Whether each piece of a set lies in the current tray.
+    fn all_lie_here(&self, set: u32) -> bool
+        ensures { IsTrue result ↔ AllLieIn self.now.places self.now.tray set }
+    {
+        for piece in 0..32 {
+            if is_in_set(set, piece) && !self.lies_here(piece) {
+                return false;
+            }
+        }
+        true
+    }
+
+    /// Whether a piece lies in the current tray.
+    fn lies_here(&self, piece: u8) -> bool
+        ensures { IsTrue result ↔ LiesIn self.now.places piece self.now.tray }
+    {
+        match self.places.get(usize::from(piece)) {
+            Some(place) => place.is_in(self.tray),
+            None => false,
+        }
+    }
+
+    /// Whether the grip has a piece, and not all of the current tray.
+    fn is_part_gripped(&self) -> bool
+        ensures { IsTrue result ↔ IsPartOfTray self.now.grip self.now.places self.now.tray }
+    {
+        self.grip != 0 && self.leaves_some()
+    }
+
+    /// Whether the current tray has a piece that is not gripped.
+    fn leaves_some(&self) -> bool
+        ensures { IsTrue result ↔ LeavesSome self.now }
+    {
+        for piece in 0..self.places.len() as u8 {
+            if self.lies_here(piece) && !is_in_set(self.grip, piece) {
+                return true;
+            }
+        }
+        false
+    }
+
+    /// Whether no piece lies in a tray.
+    fn is_empty(&self, tray: u8) -> bool
+        ensures { IsTrue result ↔ IsEmptyTray self.now.places tray }
+    {
+        count_in_tray(self.places.as_slice(), tray) == 0
+    }
+}

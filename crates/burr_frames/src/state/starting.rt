@@ -1,0 +1,46 @@
+//! The state of the start of a run.
+
+ghost use Rattle.std.specs.Prelude.{◌≡◌, ◌≤◌, List, length, replicate};
+ghost use Rattle.burr_voxels.specs.declared.cell.Cell.{Cell as CellOf};
+ghost use Rattle.burr_code.specs.Places.{On};
+ghost use Rattle.burr_frames.specs.SpaceRules.{AllSmallPlaces};
+ghost use Rattle.burr_frames.specs.Starts.{start_state, home_position};
+
+use super::numbers::number_form;
+use super::{MOST_PIECES, State};
+use crate::lying::Lying;
+use arrayvec::ArrayVec;
+
+impl State {
+    /// So many pieces, 32 at most, at home in tray 0, with nothing gripped; nothing is known of the
+    /// slots, and the cost is 0.
+    pub fn at_home(pieces: u8) -> State
+        requires { pieces ≤ 32 }
+        ensures { (homes : List (List CellOf)) → length homes ≡ pieces → result ≡ start_state homes }
+    {
+        State {
+            ranges: ArrayVec::new(),
+            guards: ArrayVec::new(),
+            slots: [None; 8],
+            operands: ArrayVec::new(),
+            places: home_places(pieces),
+            tray: 0,
+            grip: 0,
+            cost: number_form(0),
+        }
+    }
+}
+
+/// So many pieces at home in tray 0.
+fn home_places(pieces: u8) -> ArrayVec<Lying, MOST_PIECES>
+    requires { pieces ≤ 32 }
+    ensures places { result.items ≡ replicate pieces (On 0 home_position) }
+    ensures small { AllSmallPlaces result.items }
+{
+    let mut places = ArrayVec::new();
+    for _ in 0..pieces {
+        let home = number_form(0);
+        places.push(Lying::at(Some((0, home, home, home))));
+    }
+    places
+}

@@ -1,0 +1,217 @@
+-- For crates above too: each instruction of a cut costs at least one.
+use Rattle.std.proofs.Common.{◌≡◌, ℕ, zero, suc, ◌+◌, ◌<◌, ◌≤◌, Bool, true, false, List, [], ◌∷◌, length, Option, Some, None, refl, subst, arith}
+use Rattle.std.specs.Prelude.{ℤ, pos, neg_ℤ, ◌+ℤ◌, ◌-ℤ◌, ◌≤ℤ◌, slice_get, nat_lt, if◌then◌else◌}
+use Rattle.std.proofs.lemmas.Int.{ints}
+use Rattle.std.proofs.lemmas.Option.{none-some, same_Some, slice_get_within}
+use Rattle.burr_voxels.specs.declared.cell.Cell.{Cell}
+use Rattle.burr_code.specs.Instruction.{Instruction, Halt, Push, Load, Store, Add, Sub, Drop, Grip, Step, Aside, Tray, Jump, Down, Ask, Pick, Call, Ret}
+use Rattle.burr_code.specs.Labels.{callee_of}
+use Rattle.burr_forms.specs.Forms.{Form, Point, value, values, one_less, substituted}
+use Rattle.burr_container.specs.Plans.{Frame}
+use Rattle.burr_frames.specs.FramedPlans.{FramedProcedure, FramedPlan}
+use Rattle.burr_frames.specs.States.{AbstractState, IsPoint, Everywhere, state_of}
+use Rattle.burr_frames.specs.ControlRules.{entry_of, called_with, left_of, call_rule}
+use Rattle.burr_frames.specs.Arrival.{Meets}
+use Rattle.burr_frames.specs.Verdicts.{Verdict, Breaks, Falls, Leaves}
+use Rattle.burr_frames.specs.Transfer.{Transfer}
+use Rattle.burr_verify.specs.WellFramed.{Row, behind, FallsOut, Passes, IsCut}
+use Rattle.burr_verify.proofs.Common.FineVerdicts.{IsFine, held, found, held_everywhere, held_of_pairs, paid}
+use Rattle.burr_verify.proofs.Common.FormValues.{value_raised, value_minus, value_substituted}
+use Rattle.burr_verify.proofs.Common.FromContainers.{first_label}
+
+-- each procedure of the plan has a cut
+abbrev pub AllCut : List (List Cell) → FramedPlan → Type 0
+AllCut homes plan =
+    (n : ℕ) (here : FramedProcedure) → slice_get plan.procedures n ≡ Some here
+    → (rows : List Row) × IsCut homes plan n here rows
+
+-- every point of the state has a cost of at least one
+abbrev pub CostsOne : AbstractState → Type 0
+CostsOne s = Everywhere s (λ point. pos 1 ≤ℤ value point s.cost)
+
+more_by_one : (a b : ℤ) → b ≡ (a +ℤ neg_ℤ (pos 1)) → pos 0 ≤ℤ b → pos 1 ≤ℤ a
+more_by_one a b e h = omega (arith, ints)
+
+from_one_less : (s : AbstractState) (point : Point) → IsPoint s point
+    → ((q : Point) → IsPoint s q → pos 0 ≤ℤ value q (one_less s.cost)) → pos 1 ≤ℤ value point s.cost
+from_one_less s point is enough =
+    more_by_one (value point s.cost) (value point (one_less s.cost)) (value_raised (neg_ℤ (pos 1)) s.cost point)
+    (enough point is)
+
+-- Calls
+
+more_than : (a b c : ℤ) → c ≡ ((a -ℤ pos 1) -ℤ b) → pos 0 ≤ℤ c → pos 1 ≤ℤ b → pos 1 ≤ℤ a
+more_than a b c e h k = omega (arith, ints)
+
+-- the cost behind a call
+cost_behind : (cost : Form) (forms : List Form) (entry : Form) (x : Point)
+    → value x (left_of cost (substituted forms entry)) ≡ ((value x cost -ℤ pos 1) -ℤ value (values x forms) entry)
+cost_behind cost forms entry x =
+    let a = value_minus (one_less cost) (substituted forms entry) x in
+    let c = value_substituted forms entry x in
+    let d = value_raised (neg_ℤ (pos 1)) cost x in
+    omega (arith, ints)
+
+lt_true : (a b : ℕ) → nat_lt a b ≡ true → a < b
+lt_true a b h = grind arith
+
+-- a callee is of a higher number
+callee_above : (ps : List FramedProcedure) (n q : ℕ) (there : FramedProcedure) → callee_of ps n q ≡ Some there
+    → (n < q) × (slice_get ps q ≡ Some there)
+callee_above ps n q there = by_test (nat_lt n q) refl
+  where
+    by_test : (c : Bool) → nat_lt n q ≡ c → (if c then slice_get ps q else None) ≡ Some there
+        → (n < q) × (slice_get ps q ≡ Some there)
+    by_test true is e = (lt_true n q is, e)
+    by_test false is e = absurd (none-some _ e)
+
+-- what a call costs, where it breaks no rule
+record CallCosts (plan : FramedPlan) (n q : ℕ) (s : AbstractState) : Type 0 where
+  there : FramedProcedure
+  there_is : callee_of plan.procedures n q ≡ Some there
+  entry : Frame
+  entry_is : entry_of there ≡ Some entry
+  arguments : List Form
+  meets : Meets (called_with arguments s) entry
+  enough : Everywhere s (λ point. pos 0 ≤ℤ value point (left_of s.cost (substituted meets.forms entry.cost)))
+
+call_costs : (plan : FramedPlan) (n q : ℕ) (s : AbstractState) (v : Verdict) → IsFine v → call_rule plan n s q v
+    → CallCosts plan n q s
+call_costs plan n q s v fine t =
+    let there = found fine t in
+    let exit = found fine there.2 in
+    let entry = found fine exit.2 in
+    let taken = found fine entry.2 in
+    let room = held fine taken.2 in
+    let forms = found fine room.1 in
+    let alike = held fine forms.2 in
+    let agrees = held_everywhere (called_with taken.0.0 s) fine alike.1 in
+    let symbols = held fine agrees.1 in
+    let small = held fine symbols.1 in
+    let costs_small = held fine small.1 in
+    let cost = held_everywhere s fine costs_small.1 in record {
+      there = there.0;
+      there_is = there.1;
+      entry = entry.0;
+      entry_is = entry.1;
+      arguments = taken.0.0;
+      meets = record { forms = forms.0; known = forms.1; alike = alike.0; agrees = agrees.0 };
+      enough = cost.0;
+    }
+
+-- Cuts
+
+-- the rule of an instruction of a cut
+record RowRule (homes : List (List Cell)) (plan : FramedPlan) (n : ℕ) (here : FramedProcedure) (row : Row) : Type 0 where
+  verdict : Verdict
+  fine : IsFine verdict
+  rule : Transfer homes plan n here row.state row.instruction verdict
+
+fine_falls : (v : Verdict) (out : Option AbstractState) → FallsOut v out → IsFine v
+fine_falls (Breaks b) out h = h
+fine_falls (Falls s) out h = tt
+fine_falls Leaves out h = tt
+
+rule_at : (homes : List (List Cell)) (plan : FramedPlan) (n : ℕ) (here : FramedProcedure) (rows : List Row) (pc : ℕ)
+    (falling : Option AbstractState) (k : ℕ) (row : Row) → Passes homes plan n here pc falling rows
+    → slice_get rows k ≡ Some row → RowRule homes plan n here row
+rule_at homes plan n here [] pc falling k row p e = absurd (none-some _ e)
+rule_at homes plan n here (first ∷ rows) pc falling zero row p e =
+    subst (λ (r : Row). RowRule homes plan n here r) (same_Some first row e)
+    (record { verdict = p.3; fine = fine_falls p.3 p.4 p.6; rule = p.5 })
+rule_at homes plan n here (first ∷ rows) pc falling (suc k) row p e =
+    rule_at homes plan n here rows (behind first) p.4 k row p.7 e
+
+-- each instruction of a procedure costs at least one
+abbrev EachCosts : List (List Cell) → FramedPlan → ℕ → FramedProcedure → Type 0
+EachCosts homes plan n here =
+    (i : Instruction) (s : AbstractState) (v : Verdict) → IsFine v → Transfer homes plan n here s i v → CostsOne s
+
+-- and so does its entry frame
+entry_costs : (homes : List (List Cell)) (plan : FramedPlan) (n : ℕ) (here : FramedProcedure) (rows : List Row) (f : Frame)
+    → EachCosts homes plan n here → IsCut homes plan n here rows → entry_of here ≡ Some f → CostsOne (state_of f)
+entry_costs homes plan n here rows f each cut e =
+    let label = first_label here.labels f e in
+    let first = cut.labels label.0.0 label.0.1 (0, label.1) in
+    let rule = rule_at homes plan n here rows 0 None first.0 first.1 cut.passes first.2 in
+    let costs : CostsOne (state_of label.0.1) =
+    subst (λ (s : AbstractState). CostsOne s) first.4
+    (each first.1.instruction first.1.state rule.verdict rule.fine rule.rule) in
+    subst (λ (g : Frame). CostsOne (state_of g)) label.2 costs
+
+-- every instruction costs at least one; of a call by what its callee costs, which has a higher number
+pub costs : (homes : List (List Cell)) (plan : FramedPlan) → AllCut homes plan → (fuel n : ℕ) (here : FramedProcedure)
+    → slice_get plan.procedures n ≡ Some here → length plan.procedures ≤ n + fuel → EachCosts homes plan n here
+costs homes plan cuts zero n here is few i s v fine t point at =
+    absurd (let w = slice_get_within plan.procedures n here is in omega arith)
+costs homes plan cuts (suc fuel) n here is few Halt s v fine t point at =
+    from_one_less s point at (paid s fine (held fine (held fine t).1).1).0
+costs homes plan cuts (suc fuel) n here is few (Push x) s v fine t point at =
+    from_one_less s point at (paid s fine (held fine t).1).0
+costs homes plan cuts (suc fuel) n here is few (Load k) s v fine t point at =
+    let f = found fine t in let h = held fine f.2 in from_one_less s point at (paid s fine h.1).0
+costs homes plan cuts (suc fuel) n here is few (Store k) s v fine t point at =
+    let h = held fine t in let f = found fine h.1 in from_one_less s point at (paid s fine f.2).0
+costs homes plan cuts (suc fuel) n here is few Add s v fine t point at =
+    let f =
+    found fine t in let h =
+    held fine f.2 in from_one_less s point at (paid s fine (held_everywhere s fine h.1).1).0
+costs homes plan cuts (suc fuel) n here is few Sub s v fine t point at =
+    let f =
+    found fine t in let h =
+    held fine f.2 in from_one_less s point at (paid s fine (held_everywhere s fine h.1).1).0
+costs homes plan cuts (suc fuel) n here is few Drop s v fine t point at =
+    let f = found fine t in from_one_less s point at (paid s fine f.2).0
+costs homes plan cuts (suc fuel) n here is few (Grip group) s v fine t point at =
+    from_one_less s point at (paid s fine (held fine t).1).0
+costs homes plan cuts (suc fuel) n here is few (Step direction) s v fine t point at =
+    from_one_less s point at
+    (paid s fine (held_of_pairs s fine
+    (held_everywhere s fine (held fine (held fine t).1).1).1).1).0
+costs homes plan cuts (suc fuel) n here is few (Aside direction tray) s v fine t point at =
+    from_one_less s point at
+    (paid s fine (held_of_pairs s fine
+    (held_everywhere s fine (held fine (held fine t).1).1).1).1).0
+costs homes plan cuts (suc fuel) n here is few (Tray tray) s v fine t point at =
+    from_one_less s point at (paid s fine t).0
+costs homes plan cuts (suc fuel) n here is few (Jump label) s v fine t point at =
+    let f = found fine t in from_one_less s point at (paid s fine f.2).0
+costs homes plan cuts (suc fuel) n here is few (Down k label) s v fine t point at =
+    let to = found fine t in
+    let param = held fine to.2 in
+    let f = found fine param.1 in
+    let small = held fine f.2 in
+    let count = held_everywhere s fine small.1 in
+    let room = held fine count.1 in
+    from_one_less s point at (paid s fine room.1).0
+costs homes plan cuts (suc fuel) n here is few (Ask low high) s v fine t point at =
+    from_one_less s point at (paid s fine (held fine (held fine t).1).1).0
+costs homes plan cuts (suc fuel) n here is few (Pick labels) s v fine t point at =
+    let f = found fine t in from_one_less s point at (paid s fine f.2).0
+costs homes plan cuts (suc fuel) n here is few (Call q) s v fine t point at =
+    let c = call_costs plan n q s v fine t in
+    let callee = callee_above plan.procedures n q c.there c.there_is in
+    let cut = cuts q c.there callee.1 in
+    let lower : length plan.procedures ≤ q + fuel = further n q fuel (length plan.procedures) callee.0 few in
+    let one =
+    entry_costs homes plan q c.there cut.0 c.entry
+    (λ i u w ok rule. costs homes plan cuts fuel q c.there callee.1 lower i u w ok rule) cut.1 c.entry_is
+    (values point c.meets.forms) (c.meets.agrees point at).is_point in
+    more_than (value point s.cost) (value (values point c.meets.forms) c.entry.cost) _
+    (cost_behind s.cost c.meets.forms c.entry.cost point) (c.enough point at) one
+  where
+    further : (n q fuel l : ℕ) → n < q → l ≤ n + suc fuel → l ≤ q + fuel
+    further n q fuel l lt le = omega arith
+costs homes plan cuts (suc fuel) n here is few Ret s v fine t point at =
+    let exit = found fine t in
+    let fp = found fine exit.2 in
+    let rs = found fine fp.2 in
+    from_one_less s point at (paid s fine rs.2).0
+
+-- So an entry frame costs at least one at each of its points.
+pub entry_costs_one : (homes : List (List Cell)) (plan : FramedPlan) → AllCut homes plan → (n : ℕ) (here : FramedProcedure)
+    (f : Frame) → slice_get plan.procedures n ≡ Some here → entry_of here ≡ Some f → CostsOne (state_of f)
+entry_costs_one homes plan cuts n here f is e =
+    let cut = cuts n here is in
+    entry_costs homes plan n here cut.0 f
+    (costs homes plan cuts (length plan.procedures) n here is (omega arith)) cut.1 e

@@ -1,0 +1,113 @@
+-- What is judged from one procedure on gives what is judged from the first.
+use Rattle.std.proofs.Common.{◌≡◌, ◌+◌, ◌<◌, ◌≤◌, ℕ, zero, suc, List, [], ◌∷◌, length, Some, refl, sym, subst, ap, arith, add-one, inl, inr}
+use Rattle.std.proofs.lemmas.List.{length-map}
+use Rattle.burr_container.specs.Plans.{Plan}
+use Rattle.burr_verify.proofs.Heres.{element_at}
+use Rattle.std.specs.Prelude.{slice_get, drop}
+use Rattle.std.proofs.lemmas.Option.{none-some, same_Some}
+use Rattle.burr_voxels.specs.declared.cell.Cell.{Cell}
+use Rattle.burr_frames.specs.FramedPlans.{FramedProcedure, FramedPlan, framed_procedure, framed_plan}
+use Rattle.burr_verify.specs.Judging.{Answer, judging_exit, judging_entry, judging_frames, judging_code, passes}
+use Rattle.burr_verify.specs.Pass.{Judgement, Passed, Refuses, FailedCheck, outset, Pass}
+use Rattle.burr_verify.specs.VerifyLaws.{nothing}
+use Rattle.burr_verify.specs.Views.{PartFrom}
+use Rattle.burr_verify.proofs.Before.{over_exit, over_entry, carry_exit, carry_entry}
+
+drop_at : {A : Type 0} (xs : List A) (i : ℕ) (x : A) → slice_get xs i ≡ Some x → drop i xs ≡ x ∷ drop (suc i) xs
+drop_at [] i x e = absurd (none-some x e)
+drop_at (y ∷ ys) zero x e = ap (λ z. z ∷ ys) (same_Some y x e)
+drop_at (y ∷ ys) (suc i) x e = drop_at ys i x e
+
+-- the frames of one procedure
+abbrev pub one_framed : ℕ → FramedProcedure → Answer → Answer
+one_framed n here rest = judging_exit n here.exit (judging_entry n here.parameters here.labels rest)
+
+-- where its frames hold, what is said behind them is said with them
+with_one : (n : ℕ) (here : FramedProcedure) (rest : Answer) (a : Judgement) → one_framed n here passes Passed
+    → rest a → one_framed n here rest a
+with_one n here rest a holds well =
+    (carry_exit n here.exit _ _ a (carry_entry n here.parameters here.labels passes rest a
+    (record { carry = λ e. well }))).carry holds
+
+-- where they refuse, whatever is said behind them
+refused_by_one : (n : ℕ) (here : FramedProcedure) (rest : Answer) (r : FailedCheck)
+    → one_framed n here nothing (Refuses r) → one_framed n here rest (Refuses r)
+refused_by_one n here rest r refused =
+    elim ((over_exit n here.exit _ _ _ (Refuses r) Passed ⊥ (over_entry n here.parameters here.labels nothing rest passes
+    (Refuses r) Passed ⊥ (record { split = λ h. absurd h }))).split refused) [
+      | inl judged ↦ judged
+      | inr h ↦ absurd h.1
+    ]
+
+pub frames_on : (ps : List FramedProcedure) (i : ℕ) (here : FramedProcedure) (part : Answer → Answer)
+    → slice_get ps i ≡ Some here → one_framed i here passes Passed → PartFrom (judging_frames i (drop i ps)) part
+    → PartFrom (judging_frames (i + 1) (drop (i + 1) ps)) part
+frames_on ps i here part e holds from =
+    let on : PartFrom (judging_frames i (here ∷ drop (suc i) ps)) part =
+    subst (λ (qs : List FramedProcedure). PartFrom (judging_frames i qs) part) (drop_at ps i here e) from in
+    subst (λ (n : ℕ). PartFrom (judging_frames n (drop n ps)) part) (sym (add-one i)) (
+      (λ well. on.0 (with_one i here (judging_frames (suc i) (drop (suc i) ps) passes) Passed holds well)),
+      (λ r well. on.1 r (with_one i here (judging_frames (suc i) (drop (suc i) ps) nothing) (Refuses r) holds well)),
+    )
+
+pub frames_stop : (ps : List FramedProcedure) (i : ℕ) (here : FramedProcedure) (part : Answer → Answer) (r : FailedCheck)
+    → slice_get ps i ≡ Some here → one_framed i here nothing (Refuses r) → PartFrom (judging_frames i (drop i ps)) part
+    → part nothing (Refuses r)
+frames_stop ps i here part r e refused from =
+    let on : PartFrom (judging_frames i (here ∷ drop (suc i) ps)) part =
+    subst (λ (qs : List FramedProcedure). PartFrom (judging_frames i qs) part) (drop_at ps i here e) from in
+    on.1 r (refused_by_one i here (judging_frames (suc i) (drop (suc i) ps) nothing) r refused)
+
+-- the code of the procedures from i on gives the code of all
+abbrev pub CodeFrom : List (List Cell) → FramedPlan → ℕ → Type 0
+CodeFrom homes plan i =
+    (j : Judgement) → judging_code homes plan i (drop i plan.procedures) passes j
+    → judging_code homes plan 0 plan.procedures passes j
+
+code_here : (homes : List (List Cell)) (plan : FramedPlan) (i : ℕ) (here : FramedProcedure)
+    → slice_get plan.procedures i ≡ Some here → CodeFrom homes plan i → (j : Judgement)
+    → judging_code homes plan i (here ∷ drop (suc i) plan.procedures) passes j
+    → judging_code homes plan 0 plan.procedures passes j
+code_here homes plan i here e from j =
+    subst (λ (qs : List FramedProcedure). judging_code homes plan i qs passes j
+    → judging_code homes plan 0 plan.procedures passes j) (drop_at plan.procedures i here e) (from j)
+
+pub code_on : (homes : List (List Cell)) (plan : FramedPlan) (i : ℕ) (here : FramedProcedure)
+    → slice_get plan.procedures i ≡ Some here → Pass homes plan i here outset Passed → CodeFrom homes plan i
+    → CodeFrom homes plan (i + 1)
+code_on homes plan i here e pass from =
+    subst (λ (n : ℕ). CodeFrom homes plan n) (sym (add-one i))
+    (λ j well. code_here homes plan i here e from j (Passed, pass, well))
+
+pub code_stops : (homes : List (List Cell)) (plan : FramedPlan) (i : ℕ) (here : FramedProcedure) (r : FailedCheck)
+    → slice_get plan.procedures i ≡ Some here → Pass homes plan i here outset (Refuses r) → CodeFrom homes plan i
+    → judging_code homes plan 0 plan.procedures passes (Refuses r)
+code_stops homes plan i here r e pass from = code_here homes plan i here e from (Refuses r) (Refuses r, pass, refl)
+
+-- the procedure that stands at a number of the plan
+pub here_at : (p : Plan) (i : ℕ) → i < length p.procedures
+    → (here : FramedProcedure) × (slice_get (framed_plan p).procedures i ≡ Some here)
+here_at p i l = element_at (framed_plan p).procedures i (subst (λ (m : ℕ). i < m) (sym (length-map p.procedures framed_procedure)) l)
+
+drop_all : {A : Type 0} (xs : List A) (i : ℕ) → length xs ≤ i → drop i xs ≡ []
+drop_all [] zero l = refl
+drop_all [] (suc i) l = refl
+drop_all (x ∷ xs) zero l = absurd (omega (arith, l))
+drop_all (x ∷ xs) (suc i) l = drop_all xs i (omega (arith, l))
+
+none_behind : (p : Plan) (i : ℕ) → length p.procedures ≤ i → drop i (framed_plan p).procedures ≡ []
+none_behind p i l =
+    drop_all (framed_plan p).procedures i (subst (λ (m : ℕ). m ≤ i) (sym (length-map p.procedures framed_procedure)) l)
+
+-- where none is left, all holds
+pub frames_end : (p : Plan) (i : ℕ) (part : Answer → Answer) → length p.procedures ≤ i
+    → PartFrom (judging_frames i (drop i (framed_plan p).procedures)) part → part passes Passed
+frames_end p i part l from =
+    let on : PartFrom (judging_frames i []) part =
+    subst (λ (qs : List FramedProcedure). PartFrom (judging_frames i qs) part) (none_behind p i l) from in on.0 refl
+
+pub code_ends : (homes : List (List Cell)) (p : Plan) (i : ℕ) → length p.procedures ≤ i
+    → CodeFrom homes (framed_plan p) i → judging_code homes (framed_plan p) 0 (framed_plan p).procedures passes Passed
+code_ends homes p i l from =
+    (subst (λ (qs : List FramedProcedure). judging_code homes (framed_plan p) i qs passes Passed
+    → judging_code homes (framed_plan p) 0 (framed_plan p).procedures passes Passed) (none_behind p i l) (from Passed)) refl

@@ -1,0 +1,176 @@
+-- How a pass goes on from one stage to another, and where it stops.
+use Rattle.std.proofs.Common.{◌≡◌, ◌≢◌, ℕ, ◌+◌, ◌<◌, ◌≤◌, List, length, Option, Some, None, refl, sym, subst, ap, ◌∙◌, arith}
+use Rattle.std.specs.Prelude.{slice_get, true, false}
+use Rattle.std.specs.Option.{is_some}
+use Rattle.std.proofs.lemmas.Bool.{false≢true}
+use Rattle.std.proofs.lemmas.Option.{same_Some, slice_get_within}
+use Rattle.burr_voxels.specs.declared.cell.Cell.{Cell}
+use Rattle.burr_code.specs.Instruction.{Instruction, spelled, StandsAt}
+use Rattle.burr_forms.specs.Forms.{Point}
+use Rattle.burr_container.specs.declared.frame_ref.FrameRef.{FrameRef}
+use Rattle.burr_container.specs.Plans.{Plan, Frame}
+use Rattle.burr_container.specs.Refs.{frame_of}
+use Rattle.burr_container.specs.Containers.{KeptContainer, IsContainer, OfLabel, OfProcedure}
+use Rattle.burr_frames.specs.ArrivalViews.{missed_at}
+use Rattle.burr_frames.specs.Breaks.{missed_break}
+use Rattle.burr_frames.specs.FramedPlans.{FramedProcedure, FramedPlan, framed, framed_label, framed_plan}
+use Rattle.burr_frames.specs.States.{AbstractState, state_of}
+use Rattle.burr_frames.specs.Transfer.{Transfer}
+use Rattle.burr_frames.specs.Verdicts.{Breaks, Falls, Leaves, arriving, leaves}
+use Rattle.burr_frames.specs.declared.rule.Rule.TheVariants as rules
+use Rattle.burr_verify.specs.declared.refusal.Refusal.{Refusal}
+use Rattle.burr_verify.specs.Refusals.{plain_refusal}
+use Rattle.burr_verify.specs.WellFramed.{IsLabelled, HasNoLabel}
+use Rattle.burr_verify.specs.Pass.{Judgement, Passed, Refuses, Stage, Comes, Judges, Hides, Pass, broken, resumes, misses, arrives, falls, stops, ends, falls_off}
+use Rattle.burr_verify.specs.Views.{GoesOn, Stops, IsLabelWithin, failed_check}
+use Rattle.burr_verify.proofs.Heres.{procedure_here, label_here, element_at, as_many_labels}
+use Rattle.burr_verify.proofs.OnePass.{arrives_where_leaves}
+
+-- Labels
+
+pub no_label : (here : FramedProcedure) (pc : ℕ) → IsLabelWithin here pc (pc + 1) None → HasNoLabel here pc
+no_label here pc none f (k, e) = absurd (omega (arith, none k (pc, f) e (omega arith)))
+
+pub at_label : (here : FramedProcedure) (pc n : ℕ) (l : ℕ × Frame) → slice_get here.labels n ≡ Some l → pc ≤ l.0
+    → l.0 < pc + 1 → IsLabelled here pc l.1
+at_label here pc n l e from before =
+    let same : l.0 ≡ pc = omega (arith, from, before) in
+    (n, subst (λ (m : ℕ). slice_get here.labels n ≡ Some (m, l.1)) same e)
+
+-- the frame that was read is that of the label
+pub frame_read : (kept : KeptContainer) (i n : ℕ) (f : FrameRef) → OfLabel kept i n (λ l. frame_of f ≡ l.1)
+    → (p : Plan) (here : FramedProcedure) → IsContainer kept p → slice_get (framed_plan p).procedures i ≡ Some here
+    → (x : ℕ × Frame) → slice_get here.labels n ≡ Some x → framed (frame_of f) ≡ x.1
+frame_read kept i n f reads p here is at x standing =
+    let found = procedure_here p i here at in
+    let q = found.0 in
+    let inside : n < length q.labels = subst (λ (m : ℕ). n < m) (as_many_labels q here found.2) (slice_get_within here.labels n x standing) in
+    let l = element_at q.labels n inside in
+    let same : x ≡ framed_label l.0 = same_Some _ _ (sym standing ∙ label_here q here n l.0 found.2 l.1) in
+    ap framed (reads p q is found.1 l.0 l.1) ∙ sym (ap (λ (y : ℕ × Frame). y.1) same)
+
+-- Before a place
+
+pub missed : (s : AbstractState) (f : Frame) (o : Option Point) → arriving s f leaves (missed_at o)
+    → arriving s f leaves (Breaks (missed_break rules.V21 o))
+missed s f None h = h
+missed s f (Some point) h = h
+
+pub enters_resumes : (homes : List (List Cell)) (plan : FramedPlan) (n : ℕ) (here : FramedProcedure) (last pc : ℕ) (f : Frame)
+    (s : AbstractState) → pc ≢ length here.code → IsLabelled here pc f → s ≡ state_of f
+    → GoesOn homes plan n here (Comes last pc None) (Judges pc s)
+enters_resumes homes plan n here last pc f s more labelled same j pass =
+    resumes last pc f j more labelled (subst (λ (t : AbstractState). Pass homes plan n here (Judges pc t) j) same pass)
+
+pub enters_arrives : (homes : List (List Cell)) (plan : FramedPlan) (n : ℕ) (here : FramedProcedure) (last pc : ℕ) (f : Frame)
+    (t s : AbstractState) → pc ≢ length here.code → IsLabelled here pc f → arriving t f leaves Leaves → s ≡ state_of f
+    → GoesOn homes plan n here (Comes last pc (Some t)) (Judges pc s)
+enters_arrives homes plan n here last pc f t s more labelled arrived same j pass =
+    arrives last pc t f j more labelled (arrives_where_leaves t f arrived)
+    (subst (λ (u : AbstractState). Pass homes plan n here (Judges pc u) j) same pass)
+
+pub enters_misses : (homes : List (List Cell)) (plan : FramedPlan) (n : ℕ) (here : FramedProcedure) (last pc : ℕ) (f : Frame)
+    (t : AbstractState) (o : Option Point) (r : Refusal) → pc ≢ length here.code → IsLabelled here pc f
+    → arriving t f leaves (missed_at o) → Refuses (failed_check r) ≡ broken n last (missed_break rules.V21 o)
+    → Stops homes plan n here (Comes last pc (Some t)) r
+enters_misses homes plan n here last pc f t o r more labelled miss same =
+    subst (λ (j : Judgement). Pass homes plan n here (Comes last pc (Some t)) j) (sym same)
+    (misses last pc t f (missed_break rules.V21 o) more labelled (missed t f o miss))
+
+-- At a place
+
+-- no label stands strictly inside an instruction of so many bytes
+pub hides_none : (here : FramedProcedure) (pc size : ℕ) (i : Instruction) → size ≡ length (spelled i)
+    → IsLabelWithin here (pc + 1) (pc + size) None → ¬ Hides here pc i
+hides_none here pc size i same none (p, f, (k, e), above, below) =
+    let behind = none k (p, f) e (omega (arith, above)) in omega (arith, behind, below, same)
+
+pub hides_one : (here : FramedProcedure) (pc size n : ℕ) (i : Instruction) (l : ℕ × Frame) → size ≡ length (spelled i)
+    → slice_get here.labels n ≡ Some l → pc + 1 ≤ l.0 → l.0 < pc + size → Hides here pc i
+hides_one here pc size n i l same e from before =
+    (l.0, l.1, (n, e), omega (arith, from), omega (arith, before, same))
+
+pub judges_falls : (homes : List (List Cell)) (plan : FramedPlan) (n : ℕ) (here : FramedProcedure) (pc size : ℕ)
+    (s t : AbstractState) (i : Instruction) → StandsAt here.code pc i → size ≡ length (spelled i) → (¬ Hides here pc i)
+    → Transfer homes plan n here s i (Falls t)
+    → GoesOn homes plan n here (Judges pc s) (Comes pc (pc + size) (Some t))
+judges_falls homes plan n here pc size s t i stands same bare rule j pass =
+    falls pc s t i j stands bare rule
+    (subst (λ (m : ℕ). Pass homes plan n here (Comes pc (pc + m) (Some t)) j) same pass)
+
+pub judges_stops : (homes : List (List Cell)) (plan : FramedPlan) (n : ℕ) (here : FramedProcedure) (pc size : ℕ)
+    (s : AbstractState) (i : Instruction) → StandsAt here.code pc i → size ≡ length (spelled i) → (¬ Hides here pc i)
+    → Transfer homes plan n here s i Leaves
+    → GoesOn homes plan n here (Judges pc s) (Comes pc (pc + size) None)
+judges_stops homes plan n here pc size s i stands same bare rule j pass =
+    stops pc s i j stands bare rule
+    (subst (λ (m : ℕ). Pass homes plan n here (Comes pc (pc + m) None) j) same pass)
+
+-- What falls in
+
+pub on_from : (homes : List (List Cell)) (plan : FramedPlan) (n : ℕ) (here : FramedProcedure) (last pc : ℕ)
+    (falling to : Option AbstractState) (s : AbstractState) → falling ≡ to
+    → GoesOn homes plan n here (Comes last pc to) (Judges pc s)
+    → GoesOn homes plan n here (Comes last pc falling) (Judges pc s)
+on_from homes plan n here last pc falling to s same on =
+    subst (λ (o : Option AbstractState). GoesOn homes plan n here (Comes last pc o) (Judges pc s)) (sym same) on
+
+pub stops_from : (homes : List (List Cell)) (plan : FramedPlan) (n : ℕ) (here : FramedProcedure) (last pc : ℕ)
+    (falling to : Option AbstractState) (r : Refusal) → falling ≡ to → Stops homes plan n here (Comes last pc to) r
+    → Stops homes plan n here (Comes last pc falling) r
+stops_from homes plan n here last pc falling to r same stop =
+    subst (λ (o : Option AbstractState). Stops homes plan n here (Comes last pc o) r) (sym same) stop
+
+-- a pass that comes to this judgement stops by the refusal of which that is told
+pub stops_by : (homes : List (List Cell)) (plan : FramedPlan) (n : ℕ) (here : FramedProcedure) (stage : Stage) (r : Refusal)
+    (j : Judgement) → Refuses (failed_check r) ≡ j → Pass homes plan n here stage j → Stops homes plan n here stage r
+stops_by homes plan n here stage r j same pass =
+    subst (λ (k : Judgement). Pass homes plan n here stage k) (sym same) pass
+
+-- A label that was looked for
+
+pub none_found : (here : FramedProcedure) (from end : ℕ) (found : Option ℕ) → found ≡ None
+    → IsLabelWithin here from end found → IsLabelWithin here from end None
+none_found here from end found same is = subst (λ (o : Option ℕ). IsLabelWithin here from end o) same is
+
+pub one_found : (here : FramedProcedure) (from end n : ℕ) (found : Option ℕ) → found ≡ Some n
+    → IsLabelWithin here from end found → IsLabelWithin here from end (Some n)
+one_found here from end n found same is = subst (λ (o : Option ℕ). IsLabelWithin here from end o) same is
+
+-- the code that was read is the procedure's
+pub code_read : (kept : KeptContainer) (i : ℕ) (code : List ℕ) → OfProcedure kept i (λ p q. code ≡ q.code)
+    → (p : Plan) (here : FramedProcedure) → IsContainer kept p → slice_get (framed_plan p).procedures i ≡ Some here
+    → code ≡ here.code
+code_read kept i code reads p here is at =
+    let found = procedure_here p i here at in
+    reads p found.0 is found.1 ∙ sym (ap (λ (h : FramedProcedure). h.code) found.2)
+
+pub none_where : (o : Option ℕ) → false ≡ is_some o → o ≡ None
+none_where None e = refl
+none_where (Some n) e = absurd (false≢true e)
+
+pub some_where : (o : Option ℕ) → true ≡ is_some o → (n : ℕ) × (o ≡ Some n)
+some_where None e = absurd (false≢true (sym e))
+some_where (Some n) e = (n, refl)
+
+-- Where the code ends
+
+pub before_end : (code kept : List ℕ) (pc : ℕ) → code ≡ kept → pc < length code → pc ≢ length kept
+before_end code kept pc same below at = omega (arith, below, at, ap length same)
+
+pub at_end : (code kept : List ℕ) (pc : ℕ) → code ≡ kept → length code ≤ pc → pc ≤ length kept → pc ≡ length kept
+at_end code kept pc same from within = omega (arith, from, within, ap length same)
+
+pub well_ended : (homes : List (List Cell)) (plan : FramedPlan) (n : ℕ) (here : FramedProcedure) (last pc : ℕ)
+    (falling : Option AbstractState) → falling ≡ None → pc ≡ length here.code
+    → Pass homes plan n here (Comes last pc falling) Passed
+well_ended homes plan n here last pc falling same is =
+    subst (λ (o : Option AbstractState). Pass homes plan n here (Comes last pc o) Passed) (sym same) (ends last pc is)
+
+pub fallen_off : (homes : List (List Cell)) (plan : FramedPlan) (n : ℕ) (here : FramedProcedure) (last pc : ℕ)
+    (falling : Option AbstractState) (s : AbstractState) (r : Refusal) → falling ≡ Some s → pc ≡ length here.code
+    → r ≡ plain_refusal n last rules.V5 → Stops homes plan n here (Comes last pc falling) r
+fallen_off homes plan n here last pc falling s r same is told =
+    subst (λ (o : Option AbstractState). Stops homes plan n here (Comes last pc o) r) (sym same)
+    (stops_by homes plan n here (Comes last pc (Some s)) r _ (ap (λ q. Refuses (failed_check q)) told)
+    (falls_off last pc s is))

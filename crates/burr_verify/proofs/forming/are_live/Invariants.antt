@@ -1,0 +1,8 @@
+-- The slots so far are live.
+use Rattle.std.proofs.Common.{ℕ, ◌<◌}
+use Rattle.burr_container.specs.Refs.{frame_of}
+use Rattle.burr_verify.specs.Forming.{IsLive}
+use Rattle.burr_verify.proofs.forming.are_live.Given as goal
+
+abbrev pub invariant-loop-v : goal.invariant-loop-v
+invariant-loop-v l = (v : ℕ) → v < l.v → IsLive (frame_of l.frame).slots v

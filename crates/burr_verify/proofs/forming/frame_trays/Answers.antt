@@ -1,0 +1,24 @@
+-- One more is read; at the end all are.
+use Rattle.std.proofs.Common.{◌∙◌, [], ◌∷◌, ◌++◌, Option, ℕ, ap, arith}
+use Rattle.std.proofs.lemmas.List.{length-map}
+use Rattle.burr_container.specs.Plans.{live_slots, place_over_symbols}
+use Rattle.burr_container.specs.Refs.{frame_of, told}
+use Rattle.burr_frames.specs.FramedPlans.{framed}
+use Rattle.burr_verify.proofs.Trays.{read_on, all_read}
+use Rattle.burr_verify.proofs.forming.frame_trays.Goals as goal
+
+pub loop-p-preserved : goal.loop-p-preserved
+loop-p-preserved c =
+    let before = c.loop-p.trays.items in
+    read_on (framed (frame_of c.args.frame.now)).places c.loop-p.p before c.push.new.self.items (told c.place.result) c.place.ensures.place
+    (c.push.ensures.items ∙ ap (λ (t : Option ℕ). before ++ t ∷ []) c.tray.ensures) c.loop-p.invariant
+
+pub returns : goal.returns
+returns c =
+    all_read (framed (frame_of c.args.frame.now)).places c.loop-p.p c.loop-p.trays.items
+    (omega (
+      arith,
+      length-map (frame_of c.args.frame.now).places (place_over_symbols (live_slots c.args.frame.now.slots)),
+      c.piece_count-p-end.ensures.places,
+      c.loop-p-test.false,
+    )) c.loop-p.invariant

@@ -1,0 +1,12 @@
+use Rattle.burr_container.specs.Plans.{Plan}
+use Rattle.burr_container.specs.Containers.{IsContainer}
+use Rattle.burr_frames.specs.FramedPlans.{framed_plan}
+use Rattle.burr_verify.specs.Judging.{judging_frames}
+use Rattle.burr_verify.specs.Views.{PartFrom}
+use Rattle.std.specs.Prelude.{drop}
+use Rattle.burr_verify.proofs.judging.judge_all_frames.Given as goal
+
+abbrev pub invariant-loop-procedure : goal.invariant-loop-procedure
+invariant-loop-procedure l =
+    (p : Plan) → IsContainer l.container p → PartFrom (judging_frames l.procedure (drop l.procedure (framed_plan p).procedures))
+    (judging_frames 0 (framed_plan p).procedures)

@@ -1,0 +1,18 @@
+-- The pass goes on from its outset to the place that is reached.
+use Rattle.std.proofs.Common.{◌<◌, ◌≤◌, ◌-◌, length}
+use Rattle.burr_assembly.specs.Homes.{homes_of}
+use Rattle.burr_code.specs.declared.limits.TheConstants.{MOST_CODE}
+use Rattle.burr_frames.specs.Here.{OfHere}
+use Rattle.burr_verify.specs.Pass.{Comes, outset}
+use Rattle.burr_verify.specs.Views.{GoesOn}
+use Rattle.burr_verify.proofs.passing.judge_code.Given as goal
+
+abbrev pub invariant-loop-pc : goal.invariant-loop-pc
+invariant-loop-pc g l =
+    OfHere l.container l.procedure (λ plan here.
+    GoesOn (homes_of (g.B.Blocking.subject l.blocking)) plan l.procedure here outset (Comes l.last l.pc l.falling)
+    × (l.pc ≤ length here.code))
+    × (l.last ≤ l.pc) × (l.last < MOST_CODE)
+
+abbrev pub decreases-loop-pc : goal.decreases-loop-pc
+decreases-loop-pc g l = l.size - l.pc

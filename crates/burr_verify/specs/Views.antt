@@ -1,0 +1,62 @@
+-- What the code's answers say of a judgement.
+use Rattle.std.specs.Prelude.{◌≡◌, ⊤, ℕ, List, Option, Some, Result, Ok, Err, MatchResult, MatchOption, ◌<◌, ◌≤◌, slice_get, option_map}
+use Rattle.burr_voxels.specs.declared.cell.Cell.{Cell}
+use Rattle.burr_container.specs.Plans.{Frame}
+use Rattle.burr_frames.specs.FramedPlans.{FramedProcedure, FramedPlan}
+use Rattle.burr_frames.specs.States.{AbstractState}
+use Rattle.burr_frames.specs.Breaks.{broken_of}
+use Rattle.burr_frames.specs.Verdicts.{Verdict, Breaks, Falls, Leaves}
+use Rattle.burr_frames.specs.declared.breaking.Break.{Break}
+use Rattle.burr_verify.specs.declared.refusal.Refusal.{Refusal}
+use Rattle.burr_verify.specs.declared.transfer.Flow.{Flow}
+use Rattle.burr_verify.specs.declared.transfer.Flow.TheVariants as flows
+use Rattle.burr_verify.specs.Judging.{Answer, passes}
+use Rattle.burr_verify.specs.VerifyLaws.{nothing}
+use Rattle.burr_verify.specs.Pass.{Judgement, Passed, Refuses, FailedCheck, Stage, Pass}
+
+abbrev pub failed_check : Refusal → FailedCheck
+failed_check r = record {
+  procedure = r.proc;
+  pc = r.pc;
+  rule = r.rule;
+  pieces = r.pieces;
+  point = option_map (λ point. point.items) r.point;
+}
+
+abbrev pub judgement_of : Result ⊤ Refusal → Judgement
+judgement_of (Ok _) = Passed
+judgement_of (Err r) = Refuses (failed_check r)
+
+-- what an instruction comes to, where it leaves this state
+abbrev pub verdict_of : AbstractState → Result Flow Break → Verdict
+verdict_of s (Ok flows.Falls) = Falls s
+verdict_of s (Ok flows.Leaves) = Leaves
+verdict_of s (Err b) = Breaks (broken_of b)
+
+-- A part of the checks: where they hold, nothing is wrong as far as what follows goes, and else they are
+-- what refuses, whatever would follow.
+abbrev pub AnswersPart : (Answer → Answer) → Result ⊤ Refusal → Type 0
+AnswersPart part result =
+    MatchResult result (λ _. part passes Passed) (λ r. part nothing (Refuses (failed_check r)))
+
+-- what a part says where it begins, it says from an earlier place on
+abbrev pub PartFrom : (Answer → Answer) → (Answer → Answer) → Type 0
+PartFrom later part =
+    (later passes Passed → part passes Passed)
+    × ((r : FailedCheck) → later nothing (Refuses r) → part nothing (Refuses r))
+
+-- the pass goes on from one stage to another, whatever it comes to from there
+abbrev pub GoesOn : List (List Cell) → FramedPlan → ℕ → FramedProcedure → Stage → Stage → Type 0
+GoesOn homes plan n here from to =
+    (j : Judgement) → Pass homes plan n here to j → Pass homes plan n here from j
+
+-- the pass ends at this stage, by this refusal
+abbrev pub Stops : List (List Cell) → FramedPlan → ℕ → FramedProcedure → Stage → Refusal → Type 0
+Stops homes plan n here from r = Pass homes plan n here from (Refuses (failed_check r))
+
+-- the first label at a place from one on and before another; none where there is none
+abbrev pub IsLabelWithin : FramedProcedure → ℕ → ℕ → Option ℕ → Type 0
+IsLabelWithin here from end result =
+    MatchOption result
+    ((k : ℕ) (l : ℕ × Frame) → slice_get here.labels k ≡ Some l → from ≤ l.0 → end ≤ l.0)
+    (λ n. (l : ℕ × Frame) × (slice_get here.labels n ≡ Some l) × (from ≤ l.0) × (l.0 < end))

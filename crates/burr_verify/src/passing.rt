@@ -1,0 +1,111 @@
+//! The pass over a procedure's code and frames.
+
+ghost use Rattle.std.specs.Prelude.{◌≡◌, ◌≢◌, ◌<◌, ◌≤◌, List, IfOk, MatchResult, length};
+ghost use Rattle.burr_assembly.specs.Homes.{homes_of};
+ghost use Rattle.burr_code.specs.declared.limits.TheConstants.{MOST_CODE, MOST_PROCEDURES};
+ghost use Rattle.burr_voxels.specs.declared.cell.Cell.{Cell};
+ghost use Rattle.burr_frames.specs.Here.{OfHere};
+ghost use Rattle.burr_verify.specs.Pass.{Pass, Comes, Judges, outset};
+ghost use Rattle.burr_verify.specs.Views.{judgement_of, GoesOn, Stops};
+
+use crate::labels::label_within;
+use crate::refusal::Refusal;
+use crate::transfer::{Flow, transfer};
+use burr_blocking::Blocking;
+use burr_code::fetch;
+use burr_container::Container;
+use burr_frames::{Rule, State, arrives};
+
+/// Judges a procedure's code in one pass from its first byte, with one state at a time.
+pub fn judge_code<B: Blocking>(
+    container: &Container<'_>,
+    procedure: usize,
+    blocking: &B,
+) -> Result<(), Refusal>
+    requires { procedure < length container.now.procedures }
+    ensures { OfHere container.now procedure (λ plan here.
+        Pass (homes_of (B.subject blocking.now)) plan procedure here outset (judgement_of result)) }
+{
+    let _most = container.proc_count();
+    let size = container.code(procedure).len();
+    let mut last = 0;
+    let mut pc = 0;
+    let mut falling = None;
+    while pc < size {
+        let state = enter(container, procedure, last, pc, falling)?;
+        let (behind, next) = judge_at(container, procedure, pc, state, blocking)?;
+        last = pc;
+        pc = behind;
+        falling = next;
+    }
+    match falling {
+        None => Ok(()),
+        Some(_) => Err(Refusal::plain(procedure as u8, last as u16, Rule::V5)),
+    }
+}
+
+/// The state before the instruction at pc: that of the frame there, at which what falls in arrives, or
+/// what falls in itself. What falls in falls out of the instruction at `last`.
+fn enter(
+    container: &Container<'_>,
+    procedure: usize,
+    last: usize,
+    pc: usize,
+    falling: Option<State>,
+) -> Result<State, Refusal>
+    requires procedure { procedure < length container.now.procedures }
+    requires few { procedure < MOST_PROCEDURES }
+    requires short { pc < MOST_CODE }
+    requires rising { last ≤ pc }
+    ensures { (homes : List (List Cell)) → OfHere container.now procedure (λ plan here.
+        pc ≢ length here.code → MatchResult result
+        (λ s. GoesOn homes plan procedure here (Comes last pc falling) (Judges pc s))
+        (Stops homes plan procedure here (Comes last pc falling))) }
+{
+    let label = label_within(container, procedure, pc, pc + 1);
+    match (label, falling) {
+        (None, None) => Err(Refusal::plain(procedure as u8, pc as u16, Rule::V4)),
+        (None, Some(state)) => Ok(state),
+        (Some(label), None) => Ok(State::of(&container.frame(procedure, label))),
+        (Some(label), Some(state)) => {
+            let frame = container.frame(procedure, label);
+            match arrives(&state, &frame) {
+                Ok(()) => Ok(State::of(&frame)),
+                Err(miss) => Err(Refusal::missed(procedure as u8, last as u16, miss)),
+            }
+        }
+    }
+}
+
+/// Judges the instruction at pc in this state: the place behind it, and the state that falls out of it.
+fn judge_at<B: Blocking>(
+    container: &Container<'_>,
+    procedure: usize,
+    pc: usize,
+    state: State,
+    blocking: &B,
+) -> Result<(usize, Option<State>), Refusal>
+    requires procedure { procedure < length container.now.procedures }
+    requires few { procedure < MOST_PROCEDURES }
+    requires short { pc < MOST_CODE }
+    ensures behind { IfOk result (λ ok. pc < ok.0) }
+    ensures within { OfHere container.now procedure (λ plan here.
+        IfOk result (λ ok. ok.0 ≤ length here.code)) }
+    ensures passes { OfHere container.now procedure (λ plan here. MatchResult result
+        (λ ok. GoesOn (homes_of (B.subject blocking.now)) plan procedure here (Judges pc state)
+        (Comes pc ok.0 ok.1))
+        (Stops (homes_of (B.subject blocking.now)) plan procedure here (Judges pc state))) }
+{
+    let Some((instruction, size)) = fetch(container.code(procedure), pc) else {
+        return Err(Refusal::plain(procedure as u8, pc as u16, Rule::V2));
+    };
+    if label_within(container, procedure, pc + 1, pc + size).is_some() {
+        return Err(Refusal::plain(procedure as u8, pc as u16, Rule::V3));
+    }
+    let mut state = state;
+    match transfer(&mut state, &instruction, container, procedure, blocking) {
+        Ok(Flow::Falls) => Ok((pc + size, Some(state))),
+        Ok(Flow::Leaves) => Ok((pc + size, None)),
+        Err(broken) => Err(Refusal::of(procedure as u8, pc as u16, broken)),
+    }
+}

@@ -1,0 +1,213 @@
+//! Plans with several frames, worked by hand, and what is said where something of them is another.
+use super::plans::{assert_verdict, edited};
+use super::*;
+
+/// Asserts each line of a table that isn't a heading with `#`: edits of a plan's digits, and what
+/// is said of it then.
+fn assert_edits(
+    rt: &impl Abort,
+    alloc: Global,
+    assembly: &str,
+    plan: &str,
+    table: &str,
+) -> Result<(), Fail> {
+    for line in table.lines() {
+        if let Some((edits, wanted)) = line.split_once(" | ") {
+            let digits = edited(alloc, plan, edits)?;
+            assert_verdict(rt, alloc, assembly, &digits, wanted)?;
+        } else {
+            assert!(rt; line.starts_with('#'), "{line}");
+        }
+    }
+    Ok(())
+}
+
+/// A rod in a ring is moved up by three units in a loop, and then taken out. At the loop, at 10,
+/// slot 0 is 0 to 2, the cost `4+2v0`, and the rod at z `2-1v0`.
+const RING_PLAN: &str = "42504c4e 0001 0000000b 02 04 72696e67 01 \
+    00 0002 \
+    0000 00 00000000 00 00 00 0000000b \
+    00 00000000 00000000 00000000 \
+    00 00000000 00000000 00000000 \
+    000a 00 00000001 01 0000 0002 00 00 00000004 0002 \
+    00 00000000 0000 00000000 0000 00000002 ffff \
+    00 00000000 0000 00000000 0000 00000000 0000 \
+    0014 10 00000001 01 0002 03 00 11 04 21 00 0001 12 04 01 00";
+
+const RING_EDITS: &str = "\
+# as it stands, and with a budget below the cost of main
+none | accepted
+0001 0000000b > 0001 0000000a | V28 proc 0 pc 0
+# the cost at the loop: `4+1v0`, `3+2v0`
+00000004 0002 > 00000004 0001 | V21 proc 0 pc 12 point 1
+00000004 0002 > 00000003 0002 | V24 proc 0 pc 19 point 0
+# 256 units, and 257
+0001 0000000b > 0001 00000205, 00 00 00 0000000b > 00 00 00 00000205, \
+0000 0002 00 > 0000 00ff 00, 00000002 ffff > 000000ff ffff, 01 0002 03 > 01 00ff 03 \
+| accepted
+0001 0000000b > 0001 00000207, 00 00 00 0000000b > 00 00 00 00000207, \
+0000 0002 00 > 0000 0100 00, 00000002 ffff > 00000100 ffff, 01 0002 03 > 01 0100 03 \
+| V18 proc 0 pc 10 point 0
+# the range at the loop: 0 to 1, 1 to 2, -1 to 2
+0000 0002 00 00 > 0000 0001 00 00 | V21 proc 0 pc 8 point
+0000 0002 00 00 > 0001 0002 00 00 | V21 proc 0 pc 12 point 1
+0000 0002 00 00 > ffff 0002 00 00 | V11 proc 0 pc 12 point -1
+# the rod at z `2-2v0`, another tray, another grip; a slot of which nothing is known
+00000002 ffff > 00000002 fffe | V21 proc 0 pc 8 point
+000a 00 00000001 > 000a 01 00000001 | V27 proc 0 pc 10
+000a 00 00000001 > 000a 00 00000002 | V21 proc 0 pc 8
+01 0002 03 00 > 01 0002 03 01 | V21 proc 0 pc 8";
+
+#[test]
+fn judges_a_counted_loop(rt: HostRuntime) -> Result<(), Fail> {
+    assert_edits(&rt, rt.alloc(), RING, RING_PLAN, RING_EDITS)
+}
+
+/// A dot in a cup is lifted as far as the operator says, and then taken out.
+const CUP_PLAN: &str = "42504c4e 0001 0000000e 02 03 637570 01 \
+    00 0003 \
+    0000 00 00000000 00 00 00 0000000e \
+    00 00000000 00000000 00000000 \
+    00 00000000 00000000 00000000 \
+    0010 00 00000001 03 0000 0002 0000 0002 01 00000000 0001 ffff 00 00000003 0000 0003 \
+    00 00000000 0000 0000 00000000 0000 0000 00000000 0001 ffff \
+    00 00000000 0000 0000 00000000 0000 0000 00000000 0000 0000 \
+    0018 00 00000001 03 0000 0002 0000 0001 01 ffffffff 0001 ffff 00 00000005 0000 0003 \
+    00 00000000 0000 0000 00000000 0000 0000 ffffffff 0001 ffff \
+    00 00000000 0000 0000 00000000 0000 0000 00000000 0000 0000 \
+    001d 10 00000001 22 0000 0002 03 00 02 00 03 01 21 01 0002 12 04 01 00 11 04 20 0001";
+
+const CUP_EDITS: &str = "\
+none | accepted
+# without both guards, without the second, without the first
+01 00000000 0001 ffff 00 > 00 00, 01 ffffffff 0001 ffff 00 > 00 00 \
+| V15 proc 0 pc 24 pieces 0 1 point 0 1
+01 ffffffff 0001 ffff 00 > 00 00 | V15 proc 0 pc 24 pieces 0 1 point 0 1
+01 00000000 0001 ffff 00 > 00 00 | V21 proc 0 pc 16 point 0 1
+# an answer more
+22 0000 0002 > 22 0000 0003 | V21 proc 0 pc 14 point 3";
+
+#[test]
+fn judges_a_question(rt: HostRuntime) -> Result<(), Fail> {
+    assert_edits(&rt, rt.alloc(), CUP, CUP_PLAN, CUP_EDITS)
+}
+
+/// A dot in a cup is lifted twice, by a procedure: its parameter is 0 to 3, the dot comes at z
+/// `0+1v0` and leaves at `1+1v0`, at a cost of 2.
+const LIFT_PLAN: &str = "42504c4e 0001 0000000b 02 03 637570 02 \
+    00 0001 \
+    0000 00 00000000 00 00 00 0000000b \
+    00 00000000 00000000 00000000 \
+    00 00000000 00000000 00000000 \
+    0013 10 00000001 01 0000 24 01 01 0001 24 01 12 04 01 00 \
+    01 00 00000001 \
+    00 00000000 0000 00000000 0000 00000001 0001 \
+    00 00000000 0000 00000000 0000 00000000 0000 \
+    0001 \
+    0000 00 00000001 01 0000 0003 00 00 00000002 0000 \
+    00 00000000 0000 00000000 0000 00000000 0001 \
+    00 00000000 0000 00000000 0000 00000000 0000 \
+    0003 11 04 25";
+
+const LIFT_EDITS: &str = "\
+none | accepted
+# the first argument is 1; it is an answer of 0 or 1
+01 0000 24 > 01 0001 24 | V20 proc 0 pc 8 point
+0013 10 00000001 01 0000 24 > 0015 10 00000001 22 0000 0001 24 | V20 proc 0 pc 10 point 1
+# a budget of 10, also with a cost of 10; an entry cost of 1
+0001 0000000b > 0001 0000000a | V28 proc 0 pc 0
+0001 0000000b > 0001 0000000a, 00 00 00 0000000b > 00 00 00 0000000a | V24 proc 0 pc 18 point
+00000002 0000 > 00000001 0000 | V24 proc 1 pc 2 point 0
+# the dot leaves at `2+1v0`; a parameter of 0 alone; another grip; another live slot
+00000001 0001 > 00000002 0001 | V20 proc 0 pc 13 point
+0000 0003 00 00 > 0000 0000 00 00 | V20 proc 0 pc 13 point
+0000 00 00000001 01 > 0000 00 00000002 01 | V20 proc 0 pc 8
+00000001 01 0000 0003 > 00000001 02 0000 0003 | V27 proc 1 pc 0
+# a call of main, and one without an operand
+01 0001 24 01 12 > 01 0001 24 00 12 | V19 proc 0 pc 13
+01 0001 24 01 12 > 06 13 00 24 01 12 | V6 proc 0 pc 10
+# in the procedure `halt`, another tray, a step into the bowl
+0003 11 04 25 > 0003 00 00 00 | V22 proc 1 pc 0
+0003 11 04 25 > 0003 13 00 25 | V22 proc 1 pc 2
+0003 11 04 25 > 0003 11 02 25 | V15 proc 1 pc 0 pieces 0 1 point 0";
+
+#[test]
+fn judges_calls(rt: HostRuntime) -> Result<(), Fail> {
+    assert_edits(&rt, rt.alloc(), CUP, LIFT_PLAN, LIFT_EDITS)
+}
+
+/// The operator says which of two cubes is taken out.
+const CHOICE_PLAN: &str = "42504c4e 0001 00000004 02 03 64756f 01 \
+    00 0003 \
+    0000 00 00000000 00 00 00 00000004 \
+    00 00000000 00000000 00000000 00 00000000 00000000 00000000 \
+    0006 00 00000000 00 00 00 00000003 \
+    00 00000000 00000000 00000000 00 00000000 00000000 00000000 \
+    000f 00 00000000 00 00 00 00000003 \
+    00 00000000 00000000 00000000 00 00000000 00000000 00000000 \
+    0018 23 02 0001 0002 10 00000001 12 01 01 00 10 00000002 12 00 01 00";
+
+const CHOICE_EDITS: &str = "\
+none | accepted
+# another name, a label inside an instruction, a label that is missing
+64756f > 64756e | V1 proc 0 pc 0
+0006 00 > 0005 00 | V3 proc 0 pc 0
+23 02 0001 0002 > 23 02 0001 0003 | V10 proc 0 pc 0
+# the cost at the first label, the grip at the second
+0006 00 00000000 00 00 00 00000003 > 0006 00 00000000 00 00 00 00000004 | V21 proc 0 pc 0 point
+000f 00 00000000 00 00 00 00000003 > 000f 00 00000001 00 00 00 00000003 | V21 proc 0 pc 0
+# the grip at the first label, the cost at the second, which the instruction names first
+23 02 0001 0002 > 23 02 0002 0001, 0006 00 00000000 > 0006 00 00000001, \
+000f 00 00000000 00 00 00 00000003 > 000f 00 00000000 00 00 00 00000004 | V21 proc 0 pc 0 point";
+
+#[test]
+fn judges_a_choice(rt: HostRuntime) -> Result<(), Fail> {
+    assert_edits(&rt, rt.alloc(), DUO, CHOICE_PLAN, CHOICE_EDITS)
+}
+
+/// Two cubes are taken apart. Behind that stands a frame to which nothing comes, with its own
+/// `halt`.
+const FRAME_PLAN: &str = "42504c4e 0001 00000003 02 03 64756f 01 \
+    00 0002 \
+    0000 00 00000000 00 00 00 00000003 \
+    00 00000000 00000000 00000000 00 00000000 00000000 00000000 \
+    0009 00 00000000 00 00 00 00000001 ff ff \
+    000a 10 00000001 12 01 01 00 00";
+
+const FRAME_EDITS: &str = "\
+none | accepted
+# 4,096 points, and 4,097
+00 00 00 00000001 ff > 01 0000 0fff 00 00 00000001 0000 ff | accepted
+00 00 00 00000001 ff > 01 0000 1000 00 00 00000001 0000 ff | V25 proc 0 pc 9
+# 64 times 64 points, and 64 times 65
+00 00 00 00000001 ff > 81 0000 003f ffe0 001f 00 00 00000001 0000 0000 ff | accepted
+00 00 00 00000001 ff > 81 0000 003f ffe0 0020 00 00 00000001 0000 0000 ff | V25 proc 0 pc 9
+# eight slots of any number
+00 00 00 00000001 ff > ff 8001 7fff 8001 7fff 8001 7fff 8001 7fff 8001 7fff 8001 7fff 8001 7fff \
+8001 7fff 00 00 00000001 0000 0000 0000 0000 0000 0000 0000 0000 ff | V25 proc 0 pc 9
+# a guard that leaves no point, so that a cost below zero is none; guards that leave points
+00 00 00 00000001 ff > 01 0000 0005 01 ffffffff 0000 00 fffffff0 0000 ff | accepted
+00 00 00 00000001 ff > 01 0000 0005 01 fffffffe 0001 00 00000000 0001 ff | accepted
+00 00 00 00000001 ff > 01 0000 0005 01 ffffffff 0001 00 fffffffe 0001 ff \
+| V24 proc 0 pc 9 point 1
+# a grip of a piece that is apart, a piece alone in a tray
+0009 00 00000000 > 0009 00 00000001 | V27 proc 0 pc 9
+00000001 ff ff > 00000001 ff 1f 00000000 00000000 00000000 | V27 proc 0 pc 9
+# the start: a live slot, an operand, guards, tray, grip, a place
+00 00 00 00000003 00 00000000 00000000 00000000 00 00000000 00000000 00000000 > \
+01 0000 0000 00 00 00000003 0000 00 00000000 0000 00000000 0000 00000000 0000 \
+00 00000000 0000 00000000 0000 00000000 0000 | V27 proc 0 pc 0
+0000 00 00000000 00 00 00 > 0000 00 00000000 00 00 01 00000000 | V27 proc 0 pc 0
+0000 00 00000000 00 00 00 > 0000 00 00000000 00 01 ffffffff 00 | V27 proc 0 pc 0
+0000 00 00000000 00 00 00 > 0000 00 00000000 00 01 00000000 00 | accepted
+0000 00 00000000 00 00 00 > 0000 01 00000000 00 00 00 | V27 proc 0 pc 0
+0000 00 00000000 00 00 00 > 0000 00 00000001 00 00 00 | V27 proc 0 pc 0
+00000003 00 00000000 > 00000003 00 00000001 | V27 proc 0 pc 0
+# a cost above the budget, and one that is used up
+00 00 00 00000003 > 00 00 00 00000004 | V28 proc 0 pc 0
+00 00 00 00000003 > 00 00 00 00000002 | V24 proc 0 pc 8 point";
+
+#[test]
+fn judges_frames(rt: HostRuntime) -> Result<(), Fail> {
+    assert_edits(&rt, rt.alloc(), DUO, FRAME_PLAN, FRAME_EDITS)
+}
