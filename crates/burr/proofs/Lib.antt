@@ -1,3 +1,2 @@
-mod Ending
 mod ExplanationLines
 mod ExplanationWords

@@ -79,7 +79,8 @@ impl<'a> Container<'a> {
         requires label { HasLabel self.now i n }
         ensures { OfLabel self.now i n (λ l. result ≡ l.0) }
     {
-        self.procedures[i].labels.position(n)
+        let labels = &self.procedures[i].labels;
+        labels.label(self.header.pieces, n).0
     }
 
     /// The frame of label n of procedure i.
