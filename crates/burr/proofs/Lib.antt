@@ -1,2 +1,3 @@
+mod Ending
 mod ExplanationLines
 mod ExplanationWords

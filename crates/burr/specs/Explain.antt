@@ -106,8 +106,14 @@ example_text e =
     codes "\nExample: " ++ (line_behind [] e.setting.now
     ++ (codes "\n" ++ lines_behind (codes "    ") (map (λ l. l.now) e.example.now)))
 
--- an explanation: its heading, what it means, what mostly causes it, and an example
+-- what to do, where something is told of that
+abbrev pub remedy_text : List (Bor (List ℕ)) → List ℕ
+remedy_text [] = []
+remedy_text (line ∷ lines) =
+    codes "\nWhat to do: " ++ lines_behind [] (map (λ l. l.now) (line ∷ lines))
+
+-- an explanation: its heading, what it means, what mostly causes it, what to do, and an example
 abbrev pub explanation_text : Explanation → List ℕ
 explanation_text e =
     heading e.word.now e.name ++ (paragraph (codes "\n") e.meaning
-    ++ (paragraph (codes "\nUsual cause: ") e.cause ++ example_text e))
+    ++ (paragraph (codes "\nUsual cause: ") e.cause ++ (remedy_text e.remedy.now ++ example_text e)))

@@ -11,3 +11,7 @@ line_of (faults.Unknown word) =
     text_line (codes "error:" ∷ codes "nothing" ∷ codes "is" ∷ codes "explained" ∷ codes "under"
     ∷ word.now ∷ [])
 line_of faults.Memory = codes "no memory\n"
+
+-- the line that tells that standard output failed
+abbrev pub output_failed : List ℕ
+output_failed = text_line (codes "cannot" ∷ codes "write" ∷ codes "-" ∷ [])

@@ -1,4 +1,5 @@
 pub mod Ends
 pub mod Explain
 pub mod Faults
+pub mod PlanEnds
 pub mod Refusals

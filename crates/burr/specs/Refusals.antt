@@ -27,3 +27,7 @@ container_refusal (container.C3 at) = place_line (codes "C3") (codes "at") at
 container_refusal (container.C4 at) = place_line (codes "C4") (codes "at") at
 container_refusal (container.C5 at) = place_line (codes "C5") (codes "at") at
 container_refusal (container.C6 at) = place_line (codes "C6") (codes "at") at
+
+-- the line for a plan for another assembly
+abbrev pub misfit_line : List ℕ
+misfit_line = codes "refused V1 proc 0 pc 0\n"

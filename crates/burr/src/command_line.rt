@@ -1,12 +1,12 @@
 //! The words of the command line, and what they ask for.
 
-use crate::job::Job;
+use crate::job::{Job, PlanTask};
 use clap::error::ErrorKind;
 use clap::{Arg, ArgAction, ArgMatches, Command, Error};
 use std::alloc::{AllocError, Global};
 
 /// A text that is the reply to words.
-#[derive(Debug, Drop)]
+#[derive(Drop)]
 pub struct Reply {
     pub text: String,
     /// Whether the text tells a fault of the words, and is no text that they ask for.
@@ -14,7 +14,7 @@ pub struct Reply {
 }
 
 /// What words ask for.
-#[derive(Debug, Drop)]
+#[derive(Drop)]
 pub enum Request<'a> {
     Reply(Reply),
     Job(Job<'a>),
@@ -97,6 +97,30 @@ assembled to the same bytes again.
 
 Example: ./burr list /tmp/ring.bpln";
 
+/// What `check`, `run` and `try` do.
+const CHECK: &str = "Tells whether a plan is accepted";
+
+const RUN: &str = "Runs a plan that is accepted";
+
+const TRY: &str = "Runs a plan on the bench, without accepting it";
+
+/// An example of `check`.
+const CHECK_EXAMPLE: &str = "\
+The plan is judged, and not run: standard input is not read. `accepted cost 14
+budget 14` says that no run of it meets a trap or makes more than 14 steps. Else
+the first rule that fails is named, as `refused V28 proc 0 pc 0`, with status 1.
+
+Example: ./burr check examples/cup.assembly /tmp/cup.bpln";
+
+/// An example of `run`.
+const RUN_EXAMPLE: &str = "\
+A plan that `check` refuses is not run: the refusal is printed, with status 1.
+Answers to questions are read from standard input, a number on each line. The
+sheet that is printed ends with all pieces apart, or, where no answer is left,
+with what the run waits for and status 5.
+
+Example: echo 2 | ./burr run examples/cup.assembly /tmp/cup.bpln";
+
 /// An example of `try`.
 const TRY_EXAMPLE: &str = "\
 Answers to questions are read from standard input, a number on each line. Each
@@ -146,10 +170,9 @@ fn job_of<'a>(matches: &ArgMatches<'a>) -> Option<Job<'a>> {
             text: words.get_str("TEXT")?,
             out: words.get_str("OUT")?,
         }),
-        "try" => Some(Job::Try {
-            assembly: words.get_str("ASSEMBLY")?,
-            plan: words.get_str("PLAN")?,
-        }),
+        "check" => plan_job(PlanTask::Check, words),
+        "run" => plan_job(PlanTask::Run, words),
+        "try" => plan_job(PlanTask::Try, words),
         "list" => Some(Job::List {
             plan: words.get_str("PLAN")?,
             places: words.get_flag("places"),
@@ -160,42 +183,77 @@ fn job_of<'a>(matches: &ArgMatches<'a>) -> Option<Job<'a>> {
     }
 }
 
+/// The job of a command on a plan and an assembly.
+fn plan_job<'a>(task: PlanTask, words: &ArgMatches<'a>) -> Option<Job<'a>> {
+    Some(Job::Plan {
+        task,
+        assembly: words.get_str("ASSEMBLY")?,
+        plan: words.get_str("PLAN")?,
+    })
+}
+
 /// The command line: the commands, help and the version.
 fn command<'a>(alloc: Global) -> Result<Command<'a>, AllocError> {
-    let asm = Command::new(alloc, "asm")
-        .about("Assembles a plan text into a container")
-        .arg(word(alloc, "TEXT", "The plan text"))?
-        .arg(word(alloc, "OUT", "The container that is made"))?
-        .after_help(ASM_EXAMPLE);
-    let list = Command::new(alloc, "list")
-        .about("Prints the plan text of a container")
-        .arg(word(alloc, "PLAN", "The container"))?
-        .arg(
-            Arg::new(alloc, "places")
-                .long("places")
-                .action(ArgAction::SetTrue)
-                .help("Tells before each line of code where it stands"),
-        )?
-        .after_help(LIST_EXAMPLE);
-    let try_plan = Command::new(alloc, "try")
-        .about("Runs a plan on the bench, without accepting it")
-        .arg(word(alloc, "ASSEMBLY", "The assembly text"))?
-        .arg(word(alloc, "PLAN", "The container"))?
-        .after_help(TRY_EXAMPLE);
-    let explain = Command::new(alloc, "explain")
-        .about("Tells what a refusal or a trap means")
-        .arg(word(alloc, "WORD", "The word behind `refused` or `trap`"))?
-        .after_help(EXPLAIN_EXAMPLE);
     Command::new(alloc, "burr")
         .about(ABOUT)
         .version("0.1.0")
         .override_usage("burr < INPUT\n       burr <COMMAND>")
         .after_help(FORM)
         .disable_help_subcommand(true)
-        .subcommand(asm)?
-        .subcommand(list)?
-        .subcommand(try_plan)?
-        .subcommand(explain)
+        .subcommand(asm(alloc)?)?
+        .subcommand(list(alloc)?)?
+        .subcommand(on_plan(alloc, "check", CHECK, CHECK_EXAMPLE)?)?
+        .subcommand(on_plan(alloc, "run", RUN, RUN_EXAMPLE)?)?
+        .subcommand(on_plan(alloc, "try", TRY, TRY_EXAMPLE)?)?
+        .subcommand(explain(alloc)?)
+}
+
+/// The command `asm`.
+fn asm<'a>(alloc: Global) -> Result<Command<'a>, AllocError> {
+    Command::new(alloc, "asm")
+        .about("Assembles a plan text into a container")
+        .after_help(ASM_EXAMPLE)
+        .arg(word(alloc, "TEXT", "The plan text"))?
+        .arg(word(alloc, "OUT", "The container that is made"))
+}
+
+/// The command `list`.
+fn list<'a>(alloc: Global) -> Result<Command<'a>, AllocError> {
+    Command::new(alloc, "list")
+        .about("Prints the plan text of a container")
+        .after_help(LIST_EXAMPLE)
+        .arg(word(alloc, "PLAN", "The container"))?
+        .arg(places(alloc))
+}
+
+/// The flag `--places`.
+fn places<'a>(alloc: Global) -> Arg<'a> {
+    Arg::new(alloc, "places")
+        .action(ArgAction::SetTrue)
+        .long("places")
+        .help("Tells before each line of code where it stands")
+}
+
+/// A command on an assembly and a plan.
+fn on_plan<'a>(
+    alloc: Global,
+    name: &'a str,
+    about: &'a str,
+    example: &'a str,
+) -> Result<Command<'a>, AllocError> {
+    Command::new(alloc, name)
+        .about(about)
+        .after_help(example)
+        .arg(word(alloc, "ASSEMBLY", "The assembly text"))?
+        .arg(word(alloc, "PLAN", "The container"))
+}
+
+/// The command `explain`.
+fn explain<'a>(alloc: Global) -> Result<Command<'a>, AllocError> {
+    Command::new(alloc, "explain")
+        .about("Tells what a refusal or a trap means")
+        .after_help(EXPLAIN_EXAMPLE)
+        .arg(word(alloc, "WORD", "The word behind `refused` or `trap`"))
 }
 
 /// A word that has to be given, as it stands: one that begins with a hyphen too.

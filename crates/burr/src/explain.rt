@@ -14,7 +14,7 @@ ghost use Rattle.burr.specs.Explain.{IsAskedBy, known_words, words_among};
 pub use putting::put_explanation;
 
 /// What a refusal, a rule or a trap means. Its texts are lines without their line feeds.
-#[derive(Clone, Copy, Debug)]
+#[derive(Clone, Copy)]
 pub struct Explanation {
     /// What a refusal names, as `A4` or `input`, or a trap's number.
     pub word: &'static str,
@@ -23,6 +23,8 @@ pub struct Explanation {
     pub meaning: &'static [&'static str],
     /// What has mostly happened where it is met.
     pub cause: &'static [&'static str],
+    /// What a plan's author does next, of a rule of the verifier; else nothing.
+    pub remedy: &'static [&'static str],
     /// What the example shows, or what holds where it stands.
     pub setting: &'static str,
     /// Lines of a text or a plan, bytes, or a dialogue with the stepper.

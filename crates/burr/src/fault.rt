@@ -6,7 +6,7 @@ use burr_io::{Sink, WriteFault, put_words};
 use std::alloc::AllocError;
 
 /// Why the program stopped before it was done; a standard stream's name is `-`.
-#[derive(Clone, Copy, Debug, PartialEq, Eq)]
+#[derive(Clone, Copy)]
 pub enum Fault<'a> {
     /// A file or a stream can't be read, or has too many bytes.
     Read(&'a str),
@@ -18,12 +18,22 @@ pub enum Fault<'a> {
 }
 
 impl From<AllocError> for Fault<'_> {
+    ghost use Rattle.std.specs.Prelude.{◌≡◌, codes};
+    ghost use Rattle.burr.specs.Faults.{line_of};
+
+    ghost from_gives = { λ _ e. line_of e ≡ codes "no memory\n" };
+
     fn from(_e: AllocError) -> Self {
         Fault::Memory
     }
 }
 
 impl From<WriteFault> for Fault<'_> {
+    ghost use Rattle.std.specs.Prelude.{◌≡◌};
+    ghost use Rattle.burr.specs.Faults.{line_of, output_failed};
+
+    ghost from_gives = { λ _ e. line_of e ≡ output_failed };
+
     fn from(_e: WriteFault) -> Self {
         Fault::Write("-")
     }

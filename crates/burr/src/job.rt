@@ -1,12 +1,35 @@
 /// What the first word of the command line asks for, with the words behind it.
-#[derive(Clone, Copy, Debug, PartialEq, Eq)]
+#[derive(Clone, Copy)]
 pub enum Job<'a> {
     /// Assembles a plan text into a container.
-    Assemble { text: &'a str, out: &'a str },
+    Assemble {
+        text: &'a str,
+        out: &'a str,
+    },
     /// Prints the plan text of a container, with the places of code or without.
-    List { plan: &'a str, places: bool },
-    /// Runs a plan on an assembly, with the answers of standard input, without accepting it.
-    Try { assembly: &'a str, plan: &'a str },
+    List {
+        plan: &'a str,
+        places: bool,
+    },
+    /// Judges a plan for an assembly, or runs it.
+    Plan {
+        task: PlanTask,
+        assembly: &'a str,
+        plan: &'a str,
+    },
     /// Tells what a word of a refusal or a trap means.
-    Explain { word: &'a str },
+    Explain {
+        word: &'a str,
+    },
+}
+
+/// What is done with a plan and an assembly.
+#[derive(Clone, Copy)]
+pub enum PlanTask {
+    /// Tells whether the plan is accepted.
+    Check,
+    /// Runs the plan, where it is accepted, with the answers of standard input.
+    Run,
+    /// Runs the plan with the answers of standard input, without accepting it.
+    Try,
 }

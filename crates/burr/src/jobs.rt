@@ -13,7 +13,7 @@ use burr_io::{Sink, put_all};
 use std::rt::Files;
 
 /// The status where all went well.
-const DONE: u8 = 0;
+pub const DONE: u8 = 0;
 
 /// The status where an input is refused.
 pub const REFUSED: u8 = 1;

@@ -7,9 +7,9 @@ mod fault;
 mod files;
 mod job;
 mod jobs;
+mod plans;
 mod program;
 mod refusal;
-mod trying;
 
 use crate::program::{end_without_words, run_words};
 use burr_io::{Reading, Writing};

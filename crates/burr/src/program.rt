@@ -10,7 +10,7 @@ use crate::command_line::{Reply, Request, request_of};
 use crate::fault::put_fault;
 use crate::job::Job;
 use crate::jobs::{assemble_file, explain_word, list_file};
-use crate::trying::try_files;
+use crate::plans::use_files;
 use burr_io::{Sink, Source, WriteFault, put_all};
 use burr_runs::{BenchFault, Outcome, bench_text};
 use std::alloc::{AllocError, Global};
@@ -22,7 +22,7 @@ const COMMAND_LINE: u8 = 2;
 
 /// Does all that the program does, and gives the status to end with. Without a word but the
 /// program's name it writes the output for the source to the sink, as `bench_text` does. With more
-/// words a command's job is done on the files that it names, of which `try` alone reads the source;
+/// words a command's job is done on the files that it names; `run` and `try` alone read the source;
 /// help and the version are written to the sink, and a fault of the words is told to the complaints.
 /// These take one line for status 3 and one for status 4.
 ///
@@ -73,7 +73,11 @@ fn work<F: Files + AllocGlobal, R: Source, W: Sink, E: Sink>(
     let done = match job {
         Job::Assemble { text, out } => assemble_file(files, text, out, sink),
         Job::List { plan, places } => list_file(files, plan, places, sink),
-        Job::Try { assembly, plan } => try_files(files, assembly, plan, source, sink),
+        Job::Plan {
+            task,
+            assembly,
+            plan,
+        } => use_files(files, task, assembly, plan, source, sink),
         Job::Explain { word } => explain_word(word, sink),
     };
     match done {

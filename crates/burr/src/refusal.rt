@@ -2,7 +2,7 @@
 
 ghost use Rattle.std.specs.Prelude.{codes};
 ghost use Rattle.burr_io.specs.Sink.{Puts};
-ghost use Rattle.burr.specs.Refusals.{place_line, text_refusal, container_refusal};
+ghost use Rattle.burr.specs.Refusals.{place_line, text_refusal, container_refusal, misfit_line};
 
 use burr_asm::AsmFault;
 use burr_container::ContainerFault;
@@ -54,7 +54,7 @@ fn put_refused<W: Sink>(
 
 /// Puts the line of a plan for another assembly, which rule V1 refuses.
 pub fn put_misfit<W: Sink>(sink: &mut W) -> Result<(), WriteFault>
-    ensures { Puts W.Sink sink.old sink.new (codes "refused V1 proc 0 pc 0\n") result }
+    ensures { Puts W.Sink sink.old sink.new misfit_line result }
 {
     put_all(b"refused V1 proc 0 pc 0\n", sink)
 }

@@ -2,44 +2,58 @@
 use crate::program::run_words;
 use burr_io::{Reading, Writing};
 use std::alloc::{AllocError, Global};
+use std::fs;
 use std::io::{self, Read, Write};
 use std::process::Abort;
 use std::rt::Files;
 use std::test::Fail;
 
-mod commands;
+mod bench;
+mod examples;
 mod memory;
-mod runs;
+mod plans;
 mod streams;
+mod transcript;
 mod traps;
-mod trying;
 mod words;
 
-/// Two cubes side by side, and code that takes them apart.
-const DUO: &str =
-    "assembly duo\nshape cube\nlayer\n#\nend\npiece A cube +x+y+z 0 0 0\npiece B cube +x+y+z 1 0 0\ncode 100000000112010100\n";
-
-/// What is printed for them.
-const SHEET: &str = "1 t0 A -x 0 out\nlevels 1\napart in 3 steps\n";
-
-/// The words of a command line.
-fn words_of(alloc: Global, words: &[&str]) -> Result<Vec<String>, AllocError> {
-    let mut list = Vec::new(alloc);
-    for word in words {
-        list.push(String::from_str(alloc, word)?)?;
+/// The words of a command line, the program's name first; a blank stands between two of them. No text
+/// is no words.
+fn words_of(alloc: Global, line: &str) -> Result<Vec<String>, AllocError> {
+    let mut words = Vec::new(alloc);
+    if !line.is_empty() {
+        for word in line.split(' ') {
+            words.push(String::from_str(alloc, word)?)?;
+        }
     }
-    Ok(list)
+    Ok(words)
 }
 
-/// The status that a word of a table says.
-fn status_of(word: &str) -> u8 {
-    match word {
-        "0" => 0,
-        "1" => 1,
-        "2" => 2,
-        "3" => 3,
-        _ => 5,
-    }
+/// How a call of the program ended.
+#[derive(Drop)]
+struct End {
+    status: u8,
+    output: Vec<u8>,
+    complaint: Vec<u8>,
+}
+
+/// Calls the program with the words of a line and an input.
+fn end_of<T: Files + AllocGlobal>(rt: &T, line: &str, input: &str) -> Result<End, AllocError> {
+    let alloc = rt.alloc();
+    let mut output = Vec::new(alloc);
+    let mut complaint = Vec::new(alloc);
+    let status = run_words(
+        rt,
+        &words_of(alloc, line)?,
+        &mut Reading::new(input.as_bytes()),
+        &mut Writing::new(&mut output),
+        &mut Writing::new(&mut complaint),
+    );
+    Ok(End {
+        status,
+        output,
+        complaint,
+    })
 }
 
 /// A reader that gives a byte a call, and fails where so many calls have been made.
@@ -92,30 +106,4 @@ impl Write for Narrow {
     fn flush(&mut self) -> io::Result<()> {
         Ok(())
     }
-}
-
-/// Asserts that words and an input end so.
-fn assert_ends<T: Abort + Files + AllocGlobal>(
-    rt: &T,
-    alloc: Global,
-    words: &[&str],
-    input: &str,
-    status: u8,
-    output: &str,
-    complaint: &str,
-) -> Result<(), AllocError> {
-    let words = words_of(alloc, words)?;
-    let mut written = Vec::new(alloc);
-    let mut told = Vec::new(alloc);
-    let got = run_words(
-        rt,
-        &words,
-        &mut Reading::new(input.as_bytes()),
-        &mut Writing::new(&mut written),
-        &mut Writing::new(&mut told),
-    );
-    assert_eq!(rt; got, status, "{words:?} {input}");
-    assert_eq!(rt; written.as_slice(), output.as_bytes(), "{words:?} {input}");
-    assert_eq!(rt; told.as_slice(), complaint.as_bytes(), "{words:?} {input}");
-    Ok(())
 }

@@ -5,10 +5,13 @@ use Rattle.std.specs.Borrow.{Bor}
 use Rattle.burr_container.specs.declared.fault.ContainerFault.{ContainerFault}
 use Rattle.burr_container.specs.declared.reading.cursor.Cursor.{Cursor}
 use Rattle.burr_container.specs.Plans.{Frame}
-use Rattle.burr_container.specs.Faults.{label}
+use Rattle.burr_container.specs.declared.fault.ContainerFault.TheVariants.{C5}
+use Rattle.burr_container.specs.Faults.{number, label}
 use Rattle.burr_container.specs.Reading.{IsAt}
 use Rattle.burr_container.specs.InPlace.{AreFor, IsLabel}
-use Rattle.burr_container.proofs.Common.LabelLists.{label_at_sound}
+use Rattle.burr_container.proofs.Common.Lawful.{OfPart}
+use Rattle.burr_container.proofs.Common.Fields.{number_sound}
+use Rattle.burr_container.proofs.Common.LabelLists.{of_label, label_at_sound}
 
 abbrev value_or : {A : Type 0} → Option A → A → A
 value_or None other = other
@@ -49,3 +52,31 @@ pub label_never : (pieces : ℕ) → pieces ≤ 32 → (cursor : Cursor) (l : �
 label_never pieces few cursor l start fault e kept =
     (label_at_sound (λ position. true) pieces few).never l cursor.rest.now kept.rest cursor.at fault
     (kept.fits, e ∙ kept.parts)
+
+-- a label begins with its position
+label_begins : (pieces : ℕ) (l : ℕ × Frame) (bytes r : List ℕ)
+    → OfPart (label (λ position. true) pieces) l bytes r
+    → (rest : List ℕ) × OfPart (number 2 C5 (λ position. true)) l.0 bytes rest
+label_begins pieces l bytes r here =
+    let p = of_label (λ position. true) pieces l bytes r here in
+    let at =
+    subst (λ (v : ℕ × Frame). OfPart (number 2 C5 (λ position. true)) v.0 bytes p.2.0) p.1 p.2.1 in
+    (p.2.0, at)
+
+-- the position that stands at a cursor is that of the label that is kept
+pub position_is : (pieces : ℕ) (cursor next : Cursor) (v : ℕ) (l : ℕ × Frame)
+    (start : Bor (List ℕ)) → cursor.rest.now ≡ start.now
+    → IsAt (number 2 C5 (λ position. true)) cursor v next → IsLabel pieces start l → v ≡ l.0
+position_is pieces cursor next v l start e here kept =
+    let p = label_begins pieces l start.now kept.rest (kept.fits, kept.parts) in
+    ((number_sound 2 C5 (λ position. true)).one v l.0 cursor.rest.now next.rest.now p.0
+    (here.fits, here.cut.parts) (p.1.0, e ∙ p.1.1)).0
+
+-- it does not fail
+pub position_never : (pieces : ℕ) (cursor : Cursor) (l : ℕ × Frame) (start : Bor (List ℕ))
+    (fault : ContainerFault) → cursor.rest.now ≡ start.now → IsLabel pieces start l
+    → ¬ (number 2 C5 (λ position. true)).Fails cursor.at cursor.rest.now fault
+position_never pieces cursor l start fault e kept =
+    let p = label_begins pieces l start.now kept.rest (kept.fits, kept.parts) in
+    (number_sound 2 C5 (λ position. true)).never l.0 cursor.rest.now p.0 cursor.at fault
+    (p.1.0, e ∙ p.1.1)

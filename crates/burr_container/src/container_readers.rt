@@ -79,8 +79,7 @@ impl<'a> Container<'a> {
         requires label { HasLabel self.now i n }
         ensures { OfLabel self.now i n (λ l. result ≡ l.0) }
     {
-        let labels = &self.procedures[i].labels;
-        labels.label(self.header.pieces, n).0
+        self.procedures[i].labels.position(n)
     }
 
     /// The frame of label n of procedure i.

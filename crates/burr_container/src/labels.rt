@@ -20,6 +20,20 @@ pub struct Labels<'a> {
 }
 
 impl<'a> Labels<'a> {
+    /// The position of label n. Its frame is not read.
+    pub fn position(&self, n: usize) -> u16
+        requires { n < length self.now.starts.items }
+        ensures { (pieces : ℕ) (ls : List (ℕ × Frame)) (l : ℕ × Frame)
+            → AreFor (IsLabel pieces) self.now.starts.items ls → slice_get ls n ≡ Some l
+            → result ≡ l.0 }
+    {
+        match any_position(Cursor::new(self.starts[n])) {
+            Ok((position, _next)) => position,
+            // No label of a container is cut so short.
+            Err(_) => 0,
+        }
+    }
+
     /// The position of label n, and its frame, in a plan of so many pieces.
     pub fn label(&self, pieces: u8, n: usize) -> (u16, FrameRef<'a>)
         requires pieces { pieces ≤ 32 }

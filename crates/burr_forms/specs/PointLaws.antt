@@ -9,7 +9,8 @@ IsRising [] = Unit {0}
 IsRising (p ∷ points) = All (Precedes p) points × IsRising points
 
 -- the points of a box under guards, each once, rising, and no other
-pub record AreThePoints (ranges : List (ℤ × ℤ)) (guards : List Form) (points : List Point) : Type 0 where
+pub record AreThePoints (ranges : List (ℤ × ℤ)) (guards : List Form) (points : List Point)
+    : Type 0 where
   pub inside : All (IsPointOf ranges guards) points
   pub each : (point : Point) → IsPointOf ranges guards point → Contains points point
   pub rising : IsRising points

@@ -37,10 +37,12 @@ last_end ranges = (slice_index_or ranges (length ranges - 1) (pos 0, pos 0)).1
 abbrev pub IsAtEnd : List (ℤ × ℤ) → Point → Type 0
 IsAtEnd ranges point = (length ranges ≡ 0) ⊎ (last_end ranges ≤ℤ last_number point)
 
--- the last number of a point goes one up: the point that follows, where each form is its own step further
+-- the last number of a point goes one up: the point that follows, where each form is its own step
+-- further
 pub record IsRaised (ranges : List (ℤ × ℤ)) (old new : Point) : Type 0 where
   pub follows : following ranges old ≡ Some new
-  pub carries : (forms : List Form) → values new forms ≡ sums (values old forms) (steps_of (length ranges - 1) forms)
+  pub carries : (forms : List Form)
+      → values new forms ≡ sums (values old forms) (steps_of (length ranges - 1) forms)
 
 -- the condition holds at each point before this one
 abbrev pub HoldsBefore : Region → (Point → Type 0) → Point → Type 0

@@ -32,8 +32,8 @@ impl Model for Form {
 pub struct FormTooLarge;
 
 impl Form {
-    /// Its value where the symbols have these values, each within ±32,767. Its own numbers lie within
-    /// ±2^40; both are the caller's condition.
+    /// Its value where the symbols have these values, each within ±32,767. Its own numbers lie
+    /// within ±2^40; both are the caller's condition.
     pub fn eval(&self, point: &[i32; 8]) -> i64
         requires small { IsSmallForm self.now }
         requires near { AllNear point.now }
@@ -42,8 +42,9 @@ impl Form {
         self.value_at(point)
     }
 
-    /// Its value where the first symbols, eight at most, have these values, each within ±32,767, and
-    /// the others count nothing. Its own numbers lie within ±2^40; all is the caller's condition.
+    /// Its value where the first symbols, eight at most, have these values, each within ±32,767,
+    /// and the others count nothing. Its own numbers lie within ±2^40; all is the caller's
+    /// condition.
     pub fn value_at(&self, point: &[i32]) -> i64
         requires small { IsSmallForm self.now }
         requires near { AllNear point.now }

@@ -11,13 +11,13 @@ use crate::rows::{Point, Row, evaluate};
 pub struct Line {
     /// The values at the point that was looked at last, where they are kept.
     pub row: Row,
-    /// Not on a new line, nor behind a point at which a guard is negative. Where the guards hold on a line
-    /// they hold without a gap, so that it is evaluated once at most.
+    /// Not on a new line, nor behind a point at which a guard is negative. Where the guards hold on
+    /// a line they hold without a gap, so that it is evaluated once at most.
     pub is_kept: bool,
 }
 
-/// Brings the values of forms to a point: they are carried on from the point before it, with these steps,
-/// or evaluated.
+/// Brings the values of forms to a point: they are carried on from the point before it, with these
+/// steps, or evaluated.
 pub fn bring(line: &mut Line, forms: &[Form], steps: &Row, point: &Point)
     requires many { length forms.now ≤ 120 }
     requires places { length steps.now.items ≡ length forms.now }

@@ -7,8 +7,8 @@ use crate::guards::Guards;
 use crate::ranges::Box8;
 use std::marker::Model;
 
-/// The points of a box at which no guard is negative, each once, rising, the first symbol slowest. A
-/// point has 0 for a symbol that isn't there.
+/// The points of a box at which no guard is negative, each once, rising, the first symbol slowest.
+/// A point has 0 for a symbol that isn't there.
 #[derive(Clone, Debug, Drop)]
 pub struct Points<'a> {
     ranges: &'a Box8,

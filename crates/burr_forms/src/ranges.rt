@@ -26,8 +26,8 @@ impl Model for Box8 {
 }
 
 impl Box8 {
-    /// The box of these ranges, each from its lowest number to its highest. None where there are more
-    /// than eight, one holds no number, or one ends outside ±32,767.
+    /// The box of these ranges, each from its lowest number to its highest. None where there are
+    /// more than eight, one holds no number, or one ends outside ±32,767.
     pub fn new(ranges: &[(i32, i32)]) -> Option<Box8>
         ensures { MatchOption result (¬ IsBox ranges.now) (λ given.
             IsBox ranges.now × (given ≡ padded ranges.now)) }

@@ -10,8 +10,8 @@ use arrayvec::ArrayVec;
 /// Values of the symbols, in their order.
 pub type Point = ArrayVec<i32, 8>;
 
-/// A number for each of some forms. There is room for all of a state: its slots and operands, eight of
-/// each, three for each of 32 pieces, and its cost.
+/// A number for each of some forms. There is room for all of a state: its slots and operands, eight
+/// of each, three for each of 32 pieces, and its cost.
 pub type Row = ArrayVec<i64, 120>;
 
 /// The lowest point of a box: the lowest number of each range.

@@ -10,10 +10,10 @@ use crate::line::Line;
 use crate::rows::{Point, advance_point, evaluate, lowest_point, steps_along};
 use arrayvec::ArrayVec;
 
-/// The first point of a box, rising, at which no guard is negative and the condition fails; None where
-/// it holds at each. There are at most eight ranges and 120 guards and forms; each range holds a number,
-/// and numbers within ±32,767 alone; the numbers of all forms lie within ±2^40: all is the caller's
-/// condition. Along the last symbol values are carried on by addition.
+/// The first point of a box, rising, at which no guard is negative and the condition fails; None
+/// where it holds at each. There are at most eight ranges and 120 guards and forms; each range
+/// holds a number, and numbers within ±32,767 alone; the numbers of all forms lie within ±2^40: all
+/// is the caller's condition. Along the last symbol values are carried on by addition.
 pub fn first_failing<C: Condition>(
     ranges: &[(i32, i32)],
     guards: &[Form],

@@ -220,7 +220,8 @@ agrees_met s t live alike many point a =
 abbrev pub FirstFailure : Region → (Point → Type 0) → Option (ArrayVec ℤ) → Type 0
 FirstFailure r P found = MatchOption found (Throughout r P) (λ point. FailsFirstAt r P point.items)
 
--- the first point at which the values do not meet the other state is the first at which they disagree
+-- the first point at which the values do not meet the other state is the first at which they
+-- disagree
 pub disagreement : (s t : AbstractState) (live : List Form) → IsAlike s t → length live ≡ length t.ranges
     → (found : Option (ArrayVec ℤ)) → FirstFailure (region_of s) (at_values (IsMetBy (sought_in t)) (asked_of s live)) found
     → FirstFailure (region_of s) (AgreesAtCostOf s t live) found

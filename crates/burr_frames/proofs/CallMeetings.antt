@@ -1,5 +1,5 @@
--- A state and a frame that it meets: values of the state's forms beside those of the frame's, no cost
--- asked; and what is found of it says the verdict.
+-- A state and a frame that it meets: values of the state's forms beside those of the frame's, no
+-- cost asked; and what is found of it says the verdict.
 use Rattle.std.proofs.Common.{◌≡◌, List, [], ◌++◌, length, take, drop, map, refl, sym, ap, subst, ◌∙◌, inl, inr, ℤ}
 use Rattle.std.specs.Prelude.{reverse, Option, Some, None, pos, ◌≤ℤ◌}
 use Rattle.arrayvec.specs.ArrayVec.{ArrayVec}
@@ -69,7 +69,8 @@ agrees_met s t live alike many point a =
       same = same_of_met s t point (values point live) alike a.operands a.places;
     })
 
--- the first point at which the values do not meet the other state is the first at which they disagree
+-- the first point at which the values do not meet the other state is the first at which they
+-- disagree
 pub difference : (s t : AbstractState) (live : List Form) → IsAlike s t → length live ≡ length t.ranges
     → (found : Option (ArrayVec ℤ)) → FirstFailure (region_of s) (at_values (IsMetBy (met_in t)) (asked_in s live)) found
     → FirstFailure (region_of s) (AgreesBy s t live) found

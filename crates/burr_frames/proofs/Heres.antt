@@ -1,4 +1,5 @@
--- For others too: procedures and labels of the plan that a container holds, as the verifier reads them.
+-- For others too: procedures and labels of the plan that a container holds, as the verifier reads
+-- them.
 use Rattle.std.proofs.Common.{◌≡◌, ◌<◌, ℕ, zero, suc, List, [], ◌∷◌, length, Option, Some, None, refl, sym, ap, subst, ◌∙◌, arith}
 use Rattle.std.specs.Prelude.{slice_get, option_map}
 use Rattle.std.proofs.lemmas.Option.{slice_get-map, slice_get_within, none-some, same_Some}

@@ -1,4 +1,5 @@
--- What the searches for a piece off the bench, and for a pair in each other's way, say of the verdict.
+-- What the searches for a piece off the bench, and for a pair in each other's way, say of the
+-- verdict.
 use Rattle.std.proofs.Common.{◌≡◌, ◌∙◌, ◌≤◌, ℕ, ℤ, List, [], ◌∷◌, length, Option, Some, None, inl, inr, refl, sym, subst, ap, arith}
 use Rattle.std.proofs.lemmas.List.Elements.{All-nil, All-cons, All-head, All-tail}
 use Rattle.std.proofs.lemmas.List.{length-map}

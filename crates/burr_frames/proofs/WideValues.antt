@@ -1,4 +1,5 @@
--- Values of forms where symbols have wide values: their bounds, and what they are one symbol further.
+-- Values of forms where symbols have wide values: their bounds, and what they are one symbol
+-- further.
 use Rattle.std.proofs.Common.{◌≡◌, ℕ, zero, suc, ◌+◌, ◌*◌, ◌≤◌, ◌<◌, List, [], ◌∷◌, length, take, refl, ap, sym, arith, slice_index_or, FitsSigned}
 use Rattle.std.specs.Prelude.{ℤ, pos, ◌+ℤ◌, ◌*ℤ◌}
 use Rattle.std.specs.Int.{w128}

@@ -23,7 +23,8 @@ pub record IsAlike (s t : AbstractState) : Type 0 where
   pub trays : map tray_of s.places ≡ map tray_of t.places
 
 -- state s at a point agrees with state t at its point
-pub record Agrees (s : AbstractState) (point : Point) (t : AbstractState) (there : Point) : Type 0 where
+pub record Agrees (s : AbstractState) (point : Point) (t : AbstractState) (there : Point)
+    : Type 0 where
   pub is_point : IsPoint t there
   pub operands : values point s.operands ≡ values there t.operands
   pub places : places_at point s.places ≡ places_at there t.places

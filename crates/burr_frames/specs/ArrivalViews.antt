@@ -16,8 +16,9 @@ abbrev pub arrival_verdict : Result ⊤ Miss → Verdict
 arrival_verdict (Ok _) = Leaves
 arrival_verdict (Err miss) = missed_at (option_map (λ point. point.items) miss.point)
 
--- at this point the state agrees with another one, at the point of that which these forms give, and its
--- cost is at least that one's
+-- at this point the state agrees with another one, at the point of that which these forms give, and
+-- its cost is at least that one's
 abbrev pub AgreesAtCostOf : AbstractState → AbstractState → List Form → Point → Type 0
 AgreesAtCostOf s t forms point =
-    Agrees s point t (values point forms) × (value (values point forms) t.cost ≤ℤ value point s.cost)
+    Agrees s point t (values point forms)
+    × (value (values point forms) t.cost ≤ℤ value point s.cost)

@@ -38,7 +38,8 @@ abbrev pub left : Result ⊤ Break → Verdict
 left (Ok _) = Leaves
 left (Err b) = Breaks (broken_of b)
 
--- the condition holds at each point of the state, or the rule is broken at the first at which it doesn't
+-- the condition holds at each point of the state, or the rule is broken at the first at which it
+-- doesn't
 abbrev pub HoldsOrBreaks : AbstractState → (Point → Type 0) → Rule → Result ⊤ Break → Type 0
 HoldsOrBreaks s P rule result =
     MatchResult result (λ _. Everywhere s P)

@@ -66,7 +66,8 @@ side_of grip tray p place =
     else sides.Elsewhere
 
 -- these are the sides of the first pieces, as many as given
-pub record AreSides (tray grip pieces : ℕ) (places : List (Placement FormCell)) (found : List Side) : Type 0 where
+pub record AreSides (tray grip pieces : ℕ) (places : List (Placement FormCell))
+    (found : List Side) : Type 0 where
   pub few : length found ≤ pieces
   pub no_more : length found ≤ length places
   pub each : (p : ℕ) (place : Placement FormCell) → p < pieces → slice_get places p ≡ Some place

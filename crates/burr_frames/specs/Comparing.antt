@@ -11,8 +11,8 @@ offset_forms [] = []
 offset_forms (Apart ∷ places) = offset_forms places
 offset_forms (On tray c ∷ places) = c.x ∷ c.y ∷ c.z ∷ offset_forms places
 
--- what values are compared with: a region that the first are a point of, forms whose values there are
--- at most the next ones, and forms whose values there are the others
+-- what values are compared with: a region that the first are a point of, forms whose values there
+-- are at most the next ones, and forms whose values there are the others
 pub record Target : Type 0 where
   pub ranges : List Range
   pub guards : List Form

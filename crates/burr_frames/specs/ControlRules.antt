@@ -1,4 +1,5 @@
--- The rules of instructions of the flow of control: the checks in their order, and the state behind.
+-- The rules of instructions of the flow of control: the checks in their order, and the state
+-- behind.
 use Rattle.std.specs.Prelude.{◌≡◌, ℕ, zero, suc, ◌+◌, ◌<◌, ◌≤◌, pos, neg_ℤ, ◌≤ℤ◌, List, [], ◌∷◌, ◌++◌, length, map, reverse, replicate, set, get_or, Option, Some, None, slice_get}
 use Rattle.burr_text.specs.Checks.{needs, finds}
 use Rattle.burr_code.specs.Places.{Placement, AllApart, at_position, tray_of}
@@ -79,8 +80,8 @@ entry_of p = first_frame p.labels
 abbrev pub result_symbols : AbstractState → FramedExit → List Form
 result_symbols s exit = symbols_from (length s.ranges) (length exit.results)
 
--- The state behind a call, its cost not yet paid: what the exit frame says, with these forms in place
--- of its symbols, and the results on the operands.
+-- The state behind a call, its cost not yet paid: what the exit frame says, with these forms in
+-- place of its symbols, and the results on the operands.
 abbrev pub behind_with : AbstractState → List Form → List Form → List Form → FramedExit
     → AbstractState
 behind_with s forms results below exit = record s {
@@ -101,7 +102,8 @@ abbrev pub HasRoomForSymbols : AbstractState → Type 0
 HasRoomForSymbols s =
     (length s.ranges ≤ 8) × (length s.guards ≤ 8) × (box_size s.ranges ≤ 4096)
 
--- the state in which a callee begins: its arguments, given with the last of them first, and no operand
+-- the state in which a callee begins: its arguments, given with the last of them first, and no
+-- operand
 abbrev pub called_with : List Form → AbstractState → AbstractState
 called_with arguments s = record s { slots = argument_slots arguments; operands = [] }
 
@@ -142,8 +144,8 @@ IsAlikeExit s exit =
     (s.tray ≡ exit.tray) × (s.grip ≡ exit.grip)
     × (map tray_of s.places ≡ map tray_of exit.places)
 
--- at a point: the results are in their ranges, the guards hold, and the pieces lie as the exit frame
--- says, of the parameters and the results there
+-- at a point: the results are in their ranges, the guards hold, and the pieces lie as the exit
+-- frame says, of the parameters and the results there
 abbrev pub MeetsExitAt : AbstractState → FramedExit → List Form → List Form → Point → Type 0
 MeetsExitAt s exit parameters results point =
     InBox exit.results (values point results)

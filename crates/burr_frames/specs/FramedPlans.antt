@@ -1,6 +1,6 @@
--- Plans as the verifier reads them. The forms of a frame are over symbols, one for each live slot in
--- their order; those of an exit frame are over the parameters and then the results. As the stack map
--- frames of the JVM Specification, 4.10.1; forms, ranges and guards are this project's own.
+-- Plans as the verifier reads them. The forms of a frame are over symbols, one for each live slot
+-- in their order; those of an exit frame are over the parameters and then the results. As the stack
+-- map frames of the JVM Specification, 4.10.1; forms, ranges and guards are this project's own.
 use Rattle.std.specs.Prelude.{ℕ, List, [], map, Option, option_map}
 use Rattle.burr_code.specs.Places.{Placement}
 use Rattle.burr_forms.specs.Forms.{Form}

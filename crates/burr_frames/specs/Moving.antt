@@ -20,10 +20,10 @@ abbrev pub IsApartBy : Question → List Cell → List Cell → Type 0
 IsApartBy questions.Blocked = DoesNotOverlap
 IsApartBy (questions.Free direction) = GoesFree direction
 
--- With these places each piece of the tray is on the bench and each pair of it so, or a rule is broken;
--- nothing is said of what follows.
-abbrev pub ClearOrBreaks : List (List Cell) → AbstractState → List (Placement FormCell) → Question → Rule
-    → Result ⊤ Break → Type 0
+-- With these places each piece of the tray is on the bench and each pair of it so, or a rule is
+-- broken; nothing is said of what follows.
+abbrev pub ClearOrBreaks : List (List Cell) → AbstractState → List (Placement FormCell) → Question
+    → Rule → Result ⊤ Break → Type 0
 ClearOrBreaks homes s places question rule result =
     everywhere s (OnBenchAt places s.tray) rules.V18
     (everywhere_of_pairs s (PairAt (IsApartBy question) homes places s.tray s.grip) rule leaves)

@@ -28,7 +28,8 @@ abbrev pub IsSmallSlot : Option Form → Type 0
 IsSmallSlot slot = IfSome slot IsSmallForm
 
 -- these are the forms in the live slots, all small; or there is nothing known of one of them
-abbrev pub GivesLiveForms : List (Option Range) → List (Option Form) → Option (ArrayVec Form) → Type 0
+abbrev pub GivesLiveForms : List (Option Range) → List (Option Form) → Option (ArrayVec Form)
+    → Type 0
 GivesLiveForms slots known result =
     MatchOption result (live_forms slots known ≡ None)
     (λ forms. (live_forms slots known ≡ Some forms.items) × AllSmallForms forms.items)

@@ -10,7 +10,8 @@ use burr_forms::Point;
 pub struct Break {
     /// The first of the instruction's checks that fails.
     pub rule: Rule,
-    /// The first pair of pieces for which it fails, where it is asked of pairs: a gripped piece first.
+    /// The first pair of pieces for which it fails, where it is asked of pairs: a gripped piece
+    /// first.
     pub pieces: Option<(u8, u8)>,
     /// The first of the state's points at which it fails, where it is asked at points.
     pub point: Option<Point>,
@@ -41,7 +42,8 @@ impl Break {
 
     /// A frame that is not met, where the rule asks for it.
     pub(crate) fn missed(rule: Rule, miss: Miss) -> Break
-        ensures { broken_of result ≡ missed_break rule (option_map (λ point. point.items) miss.point) }
+        ensures { broken_of result
+            ≡ missed_break rule (option_map (λ point. point.items) miss.point) }
     {
         Break {
             rule,

@@ -7,8 +7,8 @@ ghost use Rattle.burr_forms.specs.Searching.{AllBounded};
 use crate::wide::wide_value;
 use burr_forms::{Condition, Form};
 
-/// The condition that some values of a state's forms are those of an exit frame's forms at the values
-/// of the parameters.
+/// The condition that some values of a state's forms are those of an exit frame's forms at the
+/// values of the parameters.
 #[derive(Drop)]
 pub struct ExitAgreement<'a> {
     /// The state's forms: those of the parameters, and then those that are compared.

@@ -121,8 +121,8 @@ impl Lying {
         Ok(Lying { spot })
     }
 
-    /// The same place with a form in place of each symbol. The numbers of all forms lie within ±2^40,
-    /// the caller's condition.
+    /// The same place with a form in place of each symbol. The numbers of all forms lie within
+    /// ±2^40, the caller's condition.
     pub fn substituted(&self, forms: &[Form; 8]) -> Result<Lying, FormTooLarge>
         requires small { AllSmallPlaces (self.now ∷ []) }
         requires forms_small { AllSmallForms forms.now }

@@ -25,8 +25,8 @@ use std::marker::Model;
 /// The most pieces of an assembly.
 const MOST_PIECES: usize = 32;
 
-/// What is known where an instruction stands, at all points of its symbols at once: forms in place of
-/// numbers. The numbers of all forms lie within ±2^40.
+/// What is known where an instruction stands, at all points of its symbols at once: forms in place
+/// of numbers. The numbers of all forms lie within ±2^40.
 #[derive(Clone, Debug, Drop)]
 pub struct State {
     /// Of each symbol, both ends in it.

@@ -4,9 +4,9 @@ ghost use Rattle.burr_forms.specs.Searching.{AllBounded};
 
 use burr_forms::Form;
 
-/// The value of a form where the first symbols, eight at most, have these values, each within ±2^59,
-/// and the others count nothing. The form's own numbers lie within ±2^40; all is the caller's
-/// condition.
+/// The value of a form where the first symbols, eight at most, have these values, each within
+/// ±2^59, and the others count nothing. The form's own numbers lie within ±2^40; all is the
+/// caller's condition.
 pub fn wide_value(form: &Form, symbols: &[i64]) -> i128
     requires small { IsSmallForm form.now }
     requires bounded { AllBounded symbols.now }

@@ -1,6 +1,6 @@
 -- The run of an accepted plan is safe.
-use Rattle.std.proofs.Common.{◌≡◌, ℕ, ◌≤◌, ℤ, List, length, map, refl, sym, ap, subst, ◌∙◌, inl, inr}
-use Rattle.std.specs.Prelude.{IsTrue, ◌⊎◌, Result, Ok, Err, IfOk, OnErr}
+use Rattle.std.proofs.Common.{◌≡◌, ℕ, ◌≤◌, ℤ, List, length, refl, sym, subst, ◌∙◌, inl, inr}
+use Rattle.std.specs.Prelude.{IsTrue, Result, Ok, Err, IfOk, OnErr}
 use Rattle.std.proofs.lemmas.List.{length-map}
 use Rattle.burr_voxels.specs.declared.cell.Cell.{Cell}
 use Rattle.burr_assembly.specs.Text.{Assembly, IsAssembly}
@@ -28,7 +28,6 @@ use Rattle.burr_bench.specs.Soundness.{VerifierIsSound}
 use Rattle.burr_bench.specs.SpaceLaws.{HomesAreDisjoint}
 use Rattle.burr_bench.proofs.Common.FramedSetup.{same_setup}
 use Rattle.burr_runs.specs.declared.outcome.Outcome.{Outcome}
-use Rattle.burr_runs.specs.declared.outcome.Outcome.TheVariants as outcomes
 use Rattle.burr_runs.specs.Headline.{setup_for, IsSafeSheetOf, EndsWell, PutsSafely, FailsSafely}
 use Rattle.burr_runs.specs.Running.{PutsSheet, FailsInSheet}
 use Rattle.burr_runs.specs.Output.{outcome_of, IsSheetOf}

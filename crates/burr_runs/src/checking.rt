@@ -14,15 +14,15 @@ use burr_verify::{Refusal, accept};
 
 /// Judges a container's plan for the pieces of an assembly, and puts the line that says so: `accepted
 /// cost 4 budget 4`, or the refusal. Whether the plan is accepted.
-pub fn check<'a, B: Blocking, W: Sink>(
-    container: &'a Container<'a>,
-    blocking: &'a B,
+pub fn check<B: Blocking, W: Sink>(
+    container: &Container<'_>,
+    blocking: &B,
     sink: &mut W,
 ) -> Result<bool, WriteFault>
-    ensures ok { IfOk result (PutsVerdict W.Sink sink.old sink.new container.entry.now
-        (B.subject blocking.entry.now)) }
-    ensures err { OnErr result (FailsInVerdict W.Sink sink.old sink.new container.entry.now
-        (B.subject blocking.entry.now)) }
+    ensures ok { IfOk result (PutsVerdict W.Sink sink.old sink.new container.now
+        (B.subject blocking.now)) }
+    ensures err { OnErr result (FailsInVerdict W.Sink sink.old sink.new container.now
+        (B.subject blocking.now)) }
 {
     let budget = container.header().budget;
     match accept(container, blocking) {

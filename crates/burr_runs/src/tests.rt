@@ -1,5 +1,9 @@
-use crate::{AnswersFault, BenchFault, Outcome, bench_text, read_answers};
-use burr_io::{Reading, Writing};
+use crate::{AnswersFault, BenchFault, Outcome, bench_text, check, read_answers, run_plan};
+use burr_assembly::Assembly;
+use burr_blocking::PlainCells;
+use burr_container::Container;
+use burr_io::{Reading, WriteFault, Writing};
+use burr_verify::accept;
 use std::alloc::{AllocError, Global};
 use std::io::{self, Read};
 use std::process::Abort;
@@ -7,6 +11,7 @@ use std::test::Fail;
 
 mod answers;
 mod memory;
+mod plans;
 mod refusals;
 mod rows;
 mod sinks;

@@ -19,12 +19,12 @@ use std::marker::Model;
 
 /// A plan that is well framed for an assembly, and what answers for the assembly's pieces.
 #[derive(Drop)]
-pub struct Accepted<'a, B: Blocking> {
-    container: &'a Container<'a>,
+pub struct Accepted<'a, 'c: 'a, B: Blocking> {
+    container: &'a Container<'c>,
     blocking: &'a B,
 }
 
-impl<'a, B: Blocking> Model for Accepted<'a, B> {
+impl<'a, 'c: 'a, B: Blocking> Model for Accepted<'a, 'c, B> {
     ghost use Rattle.burr_verify.specs.Accepting.{Judged, judged, IsAccepted};
 
     ghost Value = { Judged };
@@ -36,10 +36,10 @@ impl<'a, B: Blocking> Model for Accepted<'a, B> {
 
 /// Accepts a container's plan for the pieces of an assembly where `verify` finds nothing wrong; else
 /// the refusal.
-pub fn accept<'a, B: Blocking>(
-    container: &'a Container<'a>,
+pub fn accept<'a, 'c: 'a, B: Blocking>(
+    container: &'a Container<'c>,
     blocking: &'a B,
-) -> Result<Accepted<'a, B>, Refusal>
+) -> Result<Accepted<'a, 'c, B>, Refusal>
     ensures ok { IfOk result (λ accepted.
         accepted ≡ judged container.entry.now (B.subject blocking.entry.now)) }
     ensures accepted { IfOk result IsAccepted }
@@ -54,7 +54,7 @@ pub fn accept<'a, B: Blocking>(
     })
 }
 
-impl<'a, B: Blocking> Accepted<'a, B> {
+impl<'a, 'c: 'a, B: Blocking> Accepted<'a, 'c, B> {
     /// The cost of main: no run of the plan makes more steps. It is within the plan's budget.
     pub fn cost(&self) -> u32
         ensures { MainCosts self.now result }
@@ -71,7 +71,7 @@ impl<'a, B: Blocking> Accepted<'a, B> {
     }
 
     /// The container of the plan.
-    pub fn plan(&self) -> &'a Container<'a>
+    pub fn plan(&self) -> &'a Container<'c>
         ensures plan { result.now ≡ self.now.container }
         ensures accepted { IsAccepted self.now }
     {

@@ -2,20 +2,31 @@
 ghost use Rattle.std.specs.Prelude.{[], ◌++◌, map};
 ghost use Rattle.burr_io.specs.Sink.{Puts};
 ghost use Rattle.burr.specs.Explain.{explanation_text, heading, example_text};
-ghost use Rattle.burr.specs.Explain.{line_behind, lines_behind};
+ghost use Rattle.burr.specs.Explain.{line_behind, lines_behind, remedy_text};
 
 use crate::explain::Explanation;
 use burr_io::{Sink, WriteFault, put_all, put_words};
 
 /// Puts an explanation: its heading as the program prints the word, and a paragraph each for its
-/// meaning, its usual cause and an example.
+/// meaning, its usual cause, what to do, where that is told, and an example.
 pub fn put_explanation<W: Sink>(entry: &Explanation, sink: &mut W) -> Result<(), WriteFault>
     ensures { Puts W.Sink sink.old sink.new (explanation_text entry.now) result }
 {
     put_heading(entry, sink)?;
     put_paragraph(b"\n", entry.meaning, sink)?;
     put_paragraph(b"\nUsual cause: ", entry.cause, sink)?;
+    put_remedy(entry.remedy, sink)?;
     put_example(entry, sink)
+}
+
+/// Puts what to do; where nothing is told of that, nothing.
+fn put_remedy<W: Sink>(remedy: &[&str], sink: &mut W) -> Result<(), WriteFault>
+    ensures { Puts W.Sink sink.old sink.new (remedy_text remedy.now) result }
+{
+    if remedy.is_empty() {
+        return Ok(());
+    }
+    put_paragraph(b"\nWhat to do: ", remedy, sink)
 }
 
 /// Puts the first line, `refused A4` or `trap 3 NotFree`.

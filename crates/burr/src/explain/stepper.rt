@@ -17,6 +17,7 @@ const REFUSALS: &[Explanation] = &[
         name: None,
         meaning: &["The run has ended, and makes no further step and asks nothing."],
         cause: &["a command too many; `back 1` goes back by a step."],
+        remedy: &[],
         setting: "a command behind the last step (commands stand behind `>`)",
         example: &[
             "> forward",
@@ -30,6 +31,7 @@ const REFUSALS: &[Explanation] = &[
         name: None,
         meaning: &["The run waits for an answer, and makes no step before it."],
         cause: &["a question that was not seen; `answer N` answers it."],
+        remedy: &[],
         setting: "a step where the run asks (commands stand behind `>`)",
         example: &[
             "> forward",
@@ -43,6 +45,7 @@ const REFUSALS: &[Explanation] = &[
         name: None,
         meaning: &["The answer does not fit the question, or nothing is asked."],
         cause: &["a number outside those that stand behind `asks`."],
+        remedy: &[],
         setting: "an answer that is too large (commands stand behind `>`)",
         example: &[
             "> forward",
@@ -56,6 +59,7 @@ const REFUSALS: &[Explanation] = &[
         name: None,
         meaning: &["`back` asks for more steps back than were made."],
         cause: &["a number above the one that stands behind `after`."],
+        remedy: &[],
         setting: "a step back from the start (commands stand behind `>`)",
         example: &["> back 2", "after 0 steps", "> back 1", "refused S4"],
     },

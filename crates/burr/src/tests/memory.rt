@@ -1,4 +1,6 @@
 //! A want of memory, without words and with them.
+use super::examples::{DUO, EXAMPLES};
+use super::transcript::assert_transcript;
 use super::*;
 
 /// The most blocks of memory that are taken.
@@ -38,9 +40,9 @@ impl Room {
         }
     }
 
-    /// Whether it took this text.
-    fn has(&self, text: &str) -> bool {
-        self.bytes.get(..self.count) == Some(text.as_bytes())
+    /// What it took.
+    fn taken(&self) -> Option<&[u8]> {
+        self.bytes.get(..self.count)
     }
 }
 
@@ -59,90 +61,93 @@ impl Write for Room {
     }
 }
 
-/// What was seen while memory was wanting.
-#[derive(Clone, Copy, Debug, Default, PartialEq, Eq)]
-struct Seen {
-    /// The status of a want of memory, `no memory` told, and nothing written.
-    want: bool,
-    /// The right answer.
-    answer: bool,
-    /// Neither.
-    wrong: bool,
+/// How a call of the program ended, told without memory.
+#[derive(Drop)]
+struct SmallEnd {
+    status: u8,
+    output: Room,
+    complaint: Room,
 }
 
-impl Seen {
-    /// Calls the program with streams that need no memory.
-    fn call<T: Files + AllocGlobal>(
-        &mut self,
-        rt: &T,
-        words: &[String],
-        status: u8,
-        output: &str,
-        complaint: &str,
-    ) {
-        let mut written = Room::new();
-        let mut told = Room::new();
-        let mut source = Reading::new(DUO.as_bytes());
-        let mut sink = Writing::new(&mut written);
-        let mut complaints = Writing::new(&mut told);
-        let got = run_words(rt, words, &mut source, &mut sink, &mut complaints);
-        if got == status && written.has(output) && told.has(complaint) {
-            self.answer = true;
-        } else if got == 4 && written.has("") && told.has("no memory\n") {
-            self.want = true;
-        } else {
-            self.wrong = true;
+impl SmallEnd {
+    /// Calls the program.
+    fn of<T: Files + AllocGlobal>(rt: &T, words: &[String], input: &str) -> SmallEnd {
+        let mut output = Room::new();
+        let mut complaint = Room::new();
+        let status = run_words(
+            rt,
+            words,
+            &mut Reading::new(input.as_bytes()),
+            &mut Writing::new(&mut output),
+            &mut Writing::new(&mut complaint),
+        );
+        SmallEnd {
+            status,
+            output,
+            complaint,
         }
+    }
+
+    /// Whether the other call ended so too.
+    fn is_like(&self, other: &SmallEnd) -> bool {
+        self.status == other.status
+            && self.output.taken() == other.output.taken()
+            && self.complaint.taken() == other.complaint.taken()
+    }
+
+    /// Whether this is want of memory: its status and its line, and nothing printed.
+    fn is_want(&self) -> bool {
+        self.status == 4
+            && self.output.count == 0
+            && self.complaint.taken() == Some(b"no memory\n".as_slice())
     }
 }
 
-/// Calls the program with ample memory; while no memory can be had; and then with each block that is
-/// given back, up to the right answer.
-fn call_in_want<T: Files + AllocGlobal>(
+/// Asserts that a call that ends with this status tells want of memory while none can be had, and with
+/// each block that is given back, up to its right end.
+fn assert_wants<T: Abort + Files + AllocGlobal>(
     rt: &T,
-    words: &[String],
+    line: &str,
+    input: &str,
     status: u8,
-    output: &str,
-    complaint: &str,
-) -> Result<Seen, AllocError> {
+) -> Result<(), AllocError> {
+    let words = words_of(rt.alloc(), line)?;
     // with ample memory first: then the stack has grown as far as the calls need, which it can't do
     // while all memory is taken
-    let mut ample = Seen::default();
-    ample.call(rt, words, status, output, complaint);
-    if !ample.answer {
-        return Ok(ample);
-    }
-    let mut seen = Seen::default();
+    let right = SmallEnd::of(rt, &words, input);
+    assert_eq!(rt; right.status, status, "{line}");
     let mut blocks: Vec<Vec<u8>> = Vec::with_capacity(rt.alloc(), MOST_BLOCKS)?;
     take_all_memory(rt.alloc(), &mut blocks);
-    for _ in 0..=MOST_BLOCKS {
-        seen.call(rt, words, status, output, complaint);
-        if seen.answer || blocks.pop().is_none() {
+    let mut has_wanted = false;
+    let mut end = SmallEnd::of(rt, &words, input);
+    for _ in 0..MOST_BLOCKS {
+        if !end.is_want() || blocks.pop().is_none() {
             break;
         }
+        has_wanted = true;
+        end = SmallEnd::of(rt, &words, input);
     }
-    Ok(seen)
+    drop(blocks);
+    assert!(rt; has_wanted && end.is_like(&right), "{line}");
+    Ok(())
 }
 
 #[test]
 fn tells_a_want_of_memory(rt: HostRuntime) -> Result<(), Fail> {
-    let alloc = rt.alloc();
-    let cases = [
-        (["burr"].as_slice(), 0, SHEET, ""),
-        (&["burr", "--help"], 0, words::HELP, ""),
-        (&["burr", "--version"], 0, words::VERSION, ""),
-        (&["burr", "run"], 2, "", words::UNEXPECTED_RUN),
-        (&["burr", "--"], 2, "", words::UNEXPECTED_DASHES),
-    ];
-    for (list, status, output, complaint) in cases {
-        let words = words_of(alloc, list)?;
-        let seen = call_in_want(&rt, &words, status, output, complaint)?;
-        let wanted = Seen {
-            want: true,
-            answer: true,
-            wrong: false,
-        };
-        assert_eq!(rt; seen, wanted, "{list:?}");
-    }
+    assert_wants(&rt, "burr", DUO, 0)?;
+    assert_wants(&rt, "burr --help", "", 0)?;
+    assert_wants(&rt, "burr --version", "", 0)?;
+    assert_wants(&rt, "burr solve", "", 2)?;
+    assert_wants(&rt, "burr --", "", 2)?;
+    Ok(())
+}
+
+/// Where the plan's run has all memory that the program asks for, it goes on without more.
+#[test]
+fn tells_a_want_of_memory_for_a_plan(rt: HostRuntime) -> Result<(), Fail> {
+    assert_transcript(&rt, EXAMPLES)?;
+    assert_wants(&rt, "burr check cup cup.bpln", "", 0)?;
+    assert_wants(&rt, "burr run cup cup.bpln", "2\n", 0)?;
+    assert_wants(&rt, "burr run cup duo.bpln", "", 1)?;
     Ok(())
 }

@@ -1,84 +1,89 @@
 //! Streams that fail at any call.
-use super::trying::{CUP, CUP_PLAN, SQUARE, SQUARE_CODE, SQUARE_FRONT, SQUARE_SHEET};
+use super::examples::{DUO, EXAMPLES};
+use super::transcript::assert_transcript;
 use super::*;
-use std::fs;
+use burr_io::Source;
 
 /// A source that fails leaves the sink alone.
 #[test]
 fn tells_a_source_that_fails(rt: HostRuntime) -> Result<(), Fail> {
     let alloc = rt.alloc();
-    let words = words_of(alloc, &["burr"])?;
-    let needed = DUO.len() + 1;
+    assert_transcript(&rt, EXAMPLES)?;
+    // a call for each byte, and one that tells the end
+    assert_reads(&rt, "burr", DUO, DUO.len() + 1)?;
+    assert_reads(&rt, "burr run cup cup.bpln", "2\n", 3)?;
+    assert_reads(&rt, "burr try cup cup.bpln", "2\n", 3)?;
+    // these read nothing
+    assert_reads(&rt, "burr check cup cup.bpln", "2\n", 0)?;
+    assert_reads(&rt, "burr --help", "2\n", 0)?;
+    assert_reads(&rt, "burr solve", "2\n", 0)?;
+    Ok(())
+}
+
+/// Asserts that the words call the source so often, and what is told where a call before fails.
+fn assert_reads<T: Abort + Files + AllocGlobal>(
+    rt: &T,
+    line: &str,
+    input: &str,
+    needed: usize,
+) -> Result<(), AllocError> {
+    let right = end_of(rt, line, input)?;
     for calls in 0..=needed {
-        let left = DUO.as_bytes();
-        let mut written = Vec::new(alloc);
-        let mut told = Vec::new(alloc);
-        let got = run_words(
-            &rt,
-            &words,
-            &mut Reading::new(Drips { left, calls }),
-            &mut Writing::new(&mut written),
-            &mut Writing::new(&mut told),
+        let left = input.as_bytes();
+        let mut source = Reading::new(Drips { left, calls });
+        let mut output = Vec::new(rt.alloc());
+        let mut complaint = Vec::new(rt.alloc());
+        let status = run_words(
+            rt,
+            &words_of(rt.alloc(), line)?,
+            &mut source,
+            &mut Writing::new(&mut output),
+            &mut Writing::new(&mut complaint),
         );
-        let (status, output, complaint) = if calls < needed {
-            (3, "", "cannot read -\n")
+        if calls < needed {
+            assert_eq!(rt; (status, output.is_empty()), (3, true), "{line} {calls}");
+            assert_eq!(rt;
+                complaint.as_slice(),
+                b"cannot read -\n".as_slice(),
+                "{line} {calls}"
+            );
         } else {
-            (0, SHEET, "")
-        };
-        assert_eq!(rt; got, status, "{calls}");
-        assert_eq!(rt; written.as_slice(), output.as_bytes(), "{calls}");
-        assert_eq!(rt; told.as_slice(), complaint.as_bytes(), "{calls}");
+            assert_eq!(rt; (status, source.failed()), (right.status, false), "{line}");
+            assert_eq!(rt; output.as_slice(), right.output.as_slice(), "{line}");
+        }
     }
     Ok(())
 }
 
-/// What is called, and how it ends where nothing fails.
-#[derive(Drop, Clone, Copy)]
-struct Call<'a> {
-    words: &'a [&'a str],
-    input: &'a str,
-    /// The status.
-    whole: u8,
-    /// What is printed.
-    text: &'a str,
-}
-
 /// Makes the call with a sink that has room for so many bytes, and asserts that it took a front of
-/// what is printed, and what is told.
+/// what is printed where nothing fails, and what is told.
 fn assert_front<T: Abort + Files + AllocGlobal>(
     rt: &T,
-    alloc: Global,
-    call: &Call,
-    room: usize,
-    fails: bool,
+    line: &str,
+    input: &str,
+    right: &End,
+    writer: &mut Narrow,
 ) -> Result<(), AllocError> {
-    let Call {
-        words,
-        input,
-        whole,
-        text,
-    } = *call;
-    let taken = Vec::new(alloc);
-    let mut writer = Narrow { taken, room, fails };
-    let mut told = Vec::new(alloc);
-    let got = run_words(
+    let room = writer.room;
+    let mut complaint = Vec::new(rt.alloc());
+    let status = run_words(
         rt,
-        &words_of(alloc, words)?,
+        &words_of(rt.alloc(), line)?,
         &mut Reading::new(input.as_bytes()),
-        &mut Writing::new(&mut writer),
-        &mut Writing::new(&mut told),
+        &mut Writing::new(&mut *writer),
+        &mut Writing::new(&mut complaint),
     );
-    let (status, complaint) = if room < text.len() {
+    let (wanted, told) = if room < right.output.len() {
         (3, "cannot write -\n")
     } else {
-        (whole, "")
+        (right.status, "")
     };
-    assert_eq!(rt; got, status, "{words:?} {room}");
-    assert_eq!(rt; told.as_slice(), complaint.as_bytes(), "{words:?} {room}");
+    assert_eq!(rt; status, wanted, "{line} {room}");
+    assert_eq!(rt; complaint.as_slice(), told.as_bytes(), "{line} {room}");
     assert_eq!(rt;
         Some(writer.taken.as_slice()),
-        text.as_bytes().get(..room),
-        "{words:?} {room}"
+        right.output.get(..room),
+        "{line} {room}"
     );
     Ok(())
 }
@@ -87,100 +92,79 @@ fn assert_front<T: Abort + Files + AllocGlobal>(
 /// fails and of one that takes nothing more.
 fn assert_fronts<T: Abort + Files + AllocGlobal>(
     rt: &T,
-    alloc: Global,
-    words: &[&str],
+    line: &str,
     input: &str,
-    whole: u8,
-    text: &str,
 ) -> Result<(), AllocError> {
-    let call = Call {
-        words,
-        input,
-        whole,
-        text,
-    };
-    for room in 0..=text.len() {
-        assert_front(rt, alloc, &call, room, true)?;
-        assert_front(rt, alloc, &call, room, false)?;
+    let right = end_of(rt, line, input)?;
+    assert!(rt; !right.output.is_empty(), "{line}");
+    for room in 0..=right.output.len() {
+        for fails in [true, false] {
+            let taken = Vec::new(rt.alloc());
+            let mut writer = Narrow { taken, room, fails };
+            assert_front(rt, line, input, &right, &mut writer)?;
+        }
     }
     Ok(())
 }
 
 #[test]
 fn tells_a_sink_that_fails(rt: HostRuntime) -> Result<(), Fail> {
-    let alloc = rt.alloc();
-    fs::write(&rt, "duo.plan", &commands::DUO_BYTES)?;
-    assert_fronts(&rt, alloc, &["burr"], DUO, 0, SHEET)?;
-    assert_fronts(&rt, alloc, &["burr", "--version"], "", 0, words::VERSION)?;
-    assert_fronts(&rt, alloc, &["burr", "--help"], "", 0, words::HELP)?;
-    let list = ["burr", "list", "duo.plan"];
-    assert_fronts(&rt, alloc, &list, "", 0, commands::DUO_PLAN)?;
-    Ok(())
-}
-
-#[test]
-fn tells_a_sink_that_fails_in_a_run(rt: HostRuntime) -> Result<(), Fail> {
-    let alloc = rt.alloc();
-    let square_plan = format!(in alloc; "{SQUARE_FRONT}{SQUARE_CODE}")?;
-    fs::write(&rt, "square", SQUARE)?;
-    fs::write(&rt, "square.text", &square_plan)?;
-    fs::write(&rt, "cup", CUP)?;
-    fs::write(&rt, "cup.text", CUP_PLAN)?;
-    for (text, plan) in [("square.text", "square.plan"), ("cup.text", "cup.plan")] {
-        assert_ends(&rt, alloc, &["burr", "asm", text, plan], "", 0, "", "")?;
-    }
-    let square = ["burr", "try", "square", "square.plan"];
-    assert_fronts(&rt, alloc, &square, "", 0, SQUARE_SHEET)?;
-    let cup = ["burr", "try", "cup", "cup.plan"];
-    let apart = "1 t0 A +z 2 out\nlevels 1\napart in 14 steps\n";
-    assert_fronts(&rt, alloc, &cup, "2\n", 0, apart)?;
-    let waiting = "levels -\nwaiting 0 2 after 1 steps\n";
-    assert_fronts(&rt, alloc, &cup, "", 5, waiting)?;
+    assert_transcript(&rt, EXAMPLES)?;
+    assert_fronts(&rt, "burr", DUO)?;
+    assert_fronts(&rt, "burr --version", "")?;
+    assert_fronts(&rt, "burr list duo.bpln", "")?;
+    assert_fronts(&rt, "burr explain V15", "")?;
+    assert_fronts(&rt, "burr check cup cup.bpln", "")?;
+    assert_fronts(&rt, "burr check cup duo.bpln", "")?;
+    assert_fronts(&rt, "burr run cup cup.bpln", "2\n")?;
+    assert_fronts(&rt, "burr run cup cup.bpln", "")?;
+    assert_fronts(&rt, "burr run cup duo.bpln", "")?;
+    assert_fronts(&rt, "burr try cup cup.bpln", "2\n")?;
     Ok(())
 }
 
 /// Calls the program with a source that fails and room for so many bytes on standard error, and
-/// asserts that nothing is written and a front of the line told.
-fn assert_told_front<T: Abort + Files + AllocGlobal>(
+/// asserts that nothing is written, and a front of the line told.
+fn assert_told_fronts<T: Abort + Files + AllocGlobal>(
     rt: &T,
-    alloc: Global,
-    words: &[String],
-    room: usize,
-    status: u8,
     line: &str,
-) {
-    let left = DUO.as_bytes();
-    let mut source = Reading::new(Drips { left, calls: 7 });
-    let mut written = Vec::new(alloc);
-    let mut writer = Narrow {
-        taken: Vec::new(alloc),
-        room,
-        fails: true,
-    };
-    let mut sink = Writing::new(&mut written);
-    let mut complaints = Writing::new(&mut writer);
-    let got = run_words(rt, words, &mut source, &mut sink, &mut complaints);
-    assert_eq!(rt; got, status, "{words:?} {room}");
-    assert!(rt; written.is_empty(), "{words:?} {room}");
-    assert_eq!(rt;
-        Some(writer.taken.as_slice()),
-        line.as_bytes().get(..room),
-        "{words:?} {room}"
-    );
+    status: u8,
+    told: &str,
+) -> Result<(), AllocError> {
+    for room in 0..=told.len() {
+        let left = DUO.as_bytes();
+        let taken = Vec::new(rt.alloc());
+        let mut writer = Narrow {
+            taken,
+            room,
+            fails: true,
+        };
+        let mut output = Vec::new(rt.alloc());
+        let got = run_words(
+            rt,
+            &words_of(rt.alloc(), line)?,
+            &mut Reading::new(Drips { left, calls: 7 }),
+            &mut Writing::new(&mut output),
+            &mut Writing::new(&mut writer),
+        );
+        assert_eq!(rt; (got, output.is_empty()), (status, true), "{line} {room}");
+        assert_eq!(rt;
+            Some(writer.taken.as_slice()),
+            told.as_bytes().get(..room),
+            "{line} {room}"
+        );
+    }
+    Ok(())
 }
 
 #[test]
 fn keeps_the_status_where_standard_error_fails(rt: HostRuntime) -> Result<(), Fail> {
-    let alloc = rt.alloc();
-    let cases = [
-        (["burr"].as_slice(), 3, "cannot read -\n"),
-        (&["burr", "run"], 2, words::UNEXPECTED_RUN),
-    ];
-    for (list, status, line) in cases {
-        let words = words_of(alloc, list)?;
-        for room in 0..=line.len() {
-            assert_told_front(&rt, alloc, &words, room, status, line);
-        }
-    }
+    assert_told_fronts(&rt, "burr", 3, "cannot read -\n")?;
+    assert_told_fronts(
+        &rt,
+        "burr explain A9",
+        2,
+        "error: nothing is explained under A9\n",
+    )?;
     Ok(())
 }

@@ -1,5 +1,6 @@
 //! Each trap by a plan, two calls deep.
-use super::trying::{CUBES, assert_stops};
+use super::examples::EXAMPLES;
+use super::transcript::assert_transcript;
 use super::*;
 
 /// A plan for the two cubes, up to the code of its last procedure: main calls `one`, which fills a
@@ -50,6 +51,7 @@ const TRAPS: &str = "\
 grip 0;step -x;step +x;step +x; = 1 t0 A -x 1;2 t0 A +x 1;levels -;trap 1 Collision proc 2 pc 9 after 9 steps;
 grip 2; = levels -;trap 2 GripOff proc 2 pc 0 after 6 steps;
 tray 1;grip 0; = levels -;trap 2 GripOff proc 2 pc 2 after 7 steps;
+grip 0;aside -x 1;grip 0; = 1 t0 A -x 0 out;levels 1;trap 2 GripOff proc 2 pc 8 after 8 steps;
 grip 0;aside -x 1;grip 1; = 1 t0 A -x 0 out;levels 1;trap 2 GripOff proc 2 pc 8 after 8 steps;
 grip 0;aside +x 1; = levels -;trap 3 NotFree proc 2 pc 5 after 7 steps;
 step +z; = levels -;trap 4 BadGroup proc 2 pc 0 after 6 steps;
@@ -59,6 +61,7 @@ grip 0;aside +x 0; = levels -;trap 5 TrayInUse proc 2 pc 5 after 7 steps;
 drop; = levels -;trap 6 MissingOperand proc 2 pc 0 after 6 steps;
 push 1;add; = levels -;trap 6 MissingOperand proc 2 pc 3 after 7 steps;
 call three;proc three 1;exit 0 -;at 0 0 0 0 0;at 1 0 0 0 0;label start;frame 0 -;slot 0 0 0;cost 1;at 0 0 0 0 0;at 1 0 0 0 0;ret; = levels -;trap 6 MissingOperand proc 2 pc 0 after 6 steps;
+push 0;push 0;push 0;push 0;push 0;push 0;push 0;push 0;push 0; = levels -;trap 7 StackFull proc 2 pc 24 after 14 steps;
 push 0;push 0;push 0;push 0;push 0;push 0;push 0;push 0;load 0; = levels -;trap 7 StackFull proc 2 pc 24 after 14 steps;
 push 0;push 0;push 0;push 0;push 0;push 0;push 0;push 0;ask 0 1; = levels -;trap 7 StackFull proc 2 pc 24 after 14 steps;
 load 1; = levels -;trap 8 EmptySlot proc 2 pc 0 after 6 steps;
@@ -82,7 +85,28 @@ store 0; = levels -;trap 17 ParamWritten proc 2 pc 0 after 6 steps;
 down 0 start; = levels -;trap 17 ParamWritten proc 2 pc 0 after 6 steps;
 ";
 
+/// Asserts what `try` prints for a code of the table.
+fn assert_trap<T: Abort + Files + AllocGlobal>(rt: &T, line: &str) -> Result<(), Fail> {
+    let alloc = rt.alloc();
+    let (code, printed) = line.split_once(" = ").expect(rt, "a code has its end");
+    fs::write(
+        rt,
+        "plan",
+        format!(in alloc; "{CALLS}{code}")?.replace(alloc, ";", "\n")?,
+    )?;
+    assert_transcript(rt, "$burr asm plan bpln\n?0\n")?;
+    let end = end_of(rt, "burr try duo bpln", "0\n")?;
+    let printed = printed.replace(alloc, ";", "\n")?;
+    assert_eq!(rt; end.output.as_slice(), printed.as_bytes(), "{line}");
+    assert_eq!(rt; end.status, 1, "{line}");
+    Ok(())
+}
+
 #[test]
 fn tells_each_trap(rt: HostRuntime) -> Result<(), Fail> {
-    assert_stops(&rt, rt.alloc(), CUBES, CALLS, TRAPS)
+    assert_transcript(&rt, EXAMPLES)?;
+    for line in TRAPS.lines() {
+        assert_trap(&rt, line)?;
+    }
+    Ok(())
 }

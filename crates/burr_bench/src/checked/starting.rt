@@ -18,7 +18,10 @@ use burr_verify::{Refusal, fits_assembly};
 impl<'a, B: Blocking> Checked<'a, B> {
     /// The bench at the start of a container's plan: all pieces in tray 0 at home, nothing gripped. A
     /// plan for another assembly is refused by V1, and nothing else is judged.
-    pub fn start(container: &Container<'a>, blocking: &'a B) -> Result<Checked<'a, B>, Refusal>
+    pub fn start<'c: 'a>(
+        container: &Container<'c>,
+        blocking: &'a B,
+    ) -> Result<Checked<'a, B>, Refusal>
         ensures fits { (p : Plan) → IsContainer container.entry.now p
             → (IsOk result ↔ FitsAssembly p (B.subject blocking.entry.now)) }
         ensures refusal { IfErr result (λ refusal. refusal ≡ another_assembly) }

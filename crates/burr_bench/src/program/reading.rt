@@ -12,7 +12,7 @@ use burr_container::Container;
 
 impl<'a> Procedure<'a> {
     /// The procedure of a container with this number.
-    fn of(container: &Container<'a>, number: usize) -> Procedure<'a>
+    fn of<'c: 'a>(container: &Container<'c>, number: usize) -> Procedure<'a>
         requires { number < length container.now.procedures }
         ensures { OfProcedure container.now number (λ p q. result ≡ bench_procedure q) }
     {
@@ -38,7 +38,7 @@ fn label_positions(container: &Container<'_>, number: usize) -> ArrayVec<u16, MO
 
 impl<'a> Program<'a> {
     /// The program of a container: its procedures and its budget.
-    pub fn of(container: &Container<'a>) -> Program<'a>
+    pub fn of<'c: 'a>(container: &Container<'c>) -> Program<'a>
         ensures plan { (p : Plan) → IsContainer container.now p → result ≡ plan_program p }
         ensures some { 0 < length result.procedures }
     {

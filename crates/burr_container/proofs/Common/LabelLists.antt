@@ -13,7 +13,7 @@ use Rattle.burr_container.proofs.Common.Lawful.{Front, Lawful, OfPart, OfFirst, 
 use Rattle.burr_container.proofs.Common.Fields.{number_sound, of_number}
 use Rattle.burr_container.proofs.Common.Frames.{frame_sound}
 
-of_label : (is_so : ℕ → Bool) (pieces : ℕ) (l : ℕ × Frame) (bytes r : List ℕ)
+pub of_label : (is_so : ℕ → Bool) (pieces : ℕ) (l : ℕ × Frame) (bytes r : List ℕ)
     → OfPart (label_at is_so pieces) l bytes r
     → (both : ℕ × Frame) × (both ≡ l)
     × OfFirst (number 2 C5 is_so) (λ position. OfPart (frame pieces)) both bytes r

@@ -1,4 +1,5 @@
--- For crates above: the points of a box are finitely many: at one a condition fails first, or it holds at all.
+-- For crates above: the points of a box are finitely many: at one a condition fails first, or it
+-- holds at all.
 use Rattle.std.proofs.Common.{◌≡◌, ◌⊎◌, ℕ, ◌+◌, ◌<◌, ◌≤◌, ℤ, List, [], ◌∷◌, sym, subst, inl, inr, arith}
 use Rattle.std.specs.Prelude.{pos, negsuc, ◌+ℤ◌, ◌≤ℤ◌, ◌<ℤ◌}
 use Rattle.std.specs.Int.{int_gap}
@@ -145,7 +146,8 @@ first_failing s P each =
 
 -- Pairs
 
--- A condition on pairs that holds of pairs with a number from a bound on fails first for a pair, or holds of all.
+-- A condition on pairs that holds of pairs with a number from a bound on fails first for a pair, or
+-- holds of all.
 pub first_pair : (P : ℕ → ℕ → Type 0) → ((p q : ℕ) → Decided (P p q)) → (bound : ℕ) → ((p q : ℕ) → bound ≤ p → P p q)
     → ((p q : ℕ) → bound ≤ q → P p q)
     → ((p q : ℕ) × IsFirstPair P p q) ⊎ ((p q : ℕ) → P p q)

@@ -1,4 +1,5 @@
--- For crates above: one verdict a state and instruction at most: the checks of the rules, one by one.
+-- For crates above: one verdict a state and instruction at most: the checks of the rules, one by
+-- one.
 use Rattle.std.proofs.Common.{◌≡◌, ◌⊎◌, ℕ, ◌<◌, ℤ, List, [], ◌∷◌, Option, refl, sym, ap, subst, ◌∙◌, inl, inr}
 use Rattle.std.specs.Prelude.{◌<ℤ◌}
 use Rattle.std.proofs.lemmas.Bool.{cases_order}

@@ -22,11 +22,11 @@ pub struct Miss {
     pub point: Option<Point>,
 }
 
-/// Whether a state arrives at a frame. First what is asked without regard to points: the current tray,
-/// the grip, the number of operands and each piece's tray are the frame's, and each slot that is live
-/// in the frame is known. Then, at each point of the state, rising: the values of those slots lie in
-/// the frame's ranges and its guards hold of them; the operands and the offsets have the values of the
-/// frame's forms there; and the cost is at least the frame's.
+/// Whether a state arrives at a frame. First what is asked without regard to points: the current
+/// tray, the grip, the number of operands and each piece's tray are the frame's, and each slot that
+/// is live in the frame is known. Then, at each point of the state, rising: the values of those
+/// slots lie in the frame's ranges and its guards hold of them; the operands and the offsets have
+/// the values of the frame's forms there; and the cost is at least the frame's.
 pub fn arrives(state: &State, frame: &FrameRef<'_>) -> Result<(), Miss>
     ensures { arriving state.now (framed (frame_of frame.now)) leaves (arrival_verdict result) }
 {
@@ -44,9 +44,10 @@ pub fn arrives(state: &State, frame: &FrameRef<'_>) -> Result<(), Miss>
 }
 
 impl State {
-    /// The first point at which the state does not agree with another one, at the point of that which
-    /// these forms give, or its cost is below that one's; None where there is no such point. They are
-    /// alike without regard to points, and there is a form for each symbol: the caller's conditions.
+    /// The first point at which the state does not agree with another one, at the point of that
+    /// which these forms give, or its cost is below that one's; None where there is no such point.
+    /// They are alike without regard to points, and there is a form for each symbol: the caller's
+    /// conditions.
     fn first_disagreement(&self, forms: &[Form], there: &State) -> Option<Point>
         requires alike { IsAlike self.now there.now }
         requires many { length forms.now ≡ length there.now.ranges }
@@ -54,7 +55,8 @@ impl State {
         requires small { AllSmallForms forms.now }
         ensures { MatchOption result
             (Everywhere self.now (AgreesAtCostOf self.now there.now forms.now))
-            (λ point. IsFirstFailing self.now (AgreesAtCostOf self.now there.now forms.now) point.items) }
+            (λ point. IsFirstFailing self.now
+            (AgreesAtCostOf self.now there.now forms.now) point.items) }
     {
         let compared = self.compared(forms, &[self.cost]);
         let met = there.compared(&[], &[]);

@@ -34,10 +34,10 @@ use burr_container::{Container, ExitRef, FrameRef};
 use burr_forms::{Form, FormTooLarge, Point, first_failing};
 
 /// Whether a state meets a frame, its cost not asked. First what is asked without regard to points:
-/// each slot that is live in the frame is known, and the current tray, the grip, the number of operands
-/// and each piece's tray are the frame's. Then, at each point of the state, rising: the values of those
-/// slots lie in the frame's ranges and its guards hold of them; and the operands and the offsets have
-/// the values of the frame's forms there.
+/// each slot that is live in the frame is known, and the current tray, the grip, the number of
+/// operands and each piece's tray are the frame's. Then, at each point of the state, rising: the
+/// values of those slots lie in the frame's ranges and its guards hold of them; and the operands
+/// and the offsets have the values of the frame's forms there.
 pub fn meets_entry(state: &State, frame: &FrameRef<'_>) -> Result<(), Miss>
     ensures { meeting state.now (framed (frame_of frame.now)) rules.V20 (λ _. leaves)
         (miss_verdict rules.V20 result) }
@@ -46,10 +46,10 @@ pub fn meets_entry(state: &State, frame: &FrameRef<'_>) -> Result<(), Miss>
     Ok(())
 }
 
-/// Whether a state meets an exit frame over so many parameters. First what is asked without regard to
-/// points: each of the first slots, so many, is known, and the current tray, the grip and each piece's
-/// tray are the exit frame's. Then, at each point of the state, rising: the offsets have the values of
-/// the exit frame's forms where the parameters have the values of those slots.
+/// Whether a state meets an exit frame over so many parameters. First what is asked without regard
+/// to points: each of the first slots, so many, is known, and the current tray, the grip and each
+/// piece's tray are the exit frame's. Then, at each point of the state, rising: the offsets have
+/// the values of the exit frame's forms where the parameters have the values of those slots.
 pub fn meets_exit(state: &State, exit: &ExitRef<'_>, parameters: u8) -> Result<(), Miss>
     ensures { meeting_exit parameters state.now (framed_ref exit.now)
         (miss_verdict rules.V22 result) }
@@ -85,16 +85,17 @@ impl State {
         }
     }
 
-    /// The first point at which the state does not agree with another one, at the point of that which
-    /// these forms give; None where there is no such point. They are alike without regard to points,
-    /// and there is a form for each symbol: the caller's conditions.
+    /// The first point at which the state does not agree with another one, at the point of that
+    /// which these forms give; None where there is no such point. They are alike without regard to
+    /// points, and there is a form for each symbol: the caller's conditions.
     fn first_difference(&self, forms: &[Form], there: &State) -> Option<Point>
         requires alike { IsAlike self.now there.now }
         requires many { length forms.now ≡ length there.now.ranges }
         requires few { length forms.now ≤ 8 }
         requires small { AllSmallForms forms.now }
         ensures { MatchOption result
-            (Everywhere self.now (λ point. Agrees self.now point there.now (values point forms.now)))
+            (Everywhere self.now (λ point.
+            Agrees self.now point there.now (values point forms.now)))
             (λ found. IsFirstFailing self.now
             (λ point. Agrees self.now point there.now (values point forms.now)) found.items) }
     {
@@ -110,9 +111,9 @@ impl State {
         first_failing(self.ranges.as_slice(), self.guards.as_slice(), &agreement)
     }
 
-    /// `call`: the topmost operands are the arguments of a procedure of a higher number, whose entry
-    /// frame they meet; behind it the pieces lie as its exit frame says of them, and its cost at them is
-    /// paid beside the step.
+    /// `call`: the topmost operands are the arguments of a procedure of a higher number, whose
+    /// entry frame they meet; behind it the pieces lie as its exit frame says of them, and its cost
+    /// at them is paid beside the step.
     pub fn call(
         &mut self,
         container: &Container<'_>,
@@ -142,8 +143,8 @@ impl State {
 
     /// A call of a procedure with so many parameters, with its entry frame and its exit frame.
     fn calls(&mut self, count: u8, entry: &FrameRef<'_>, exit: &ExitRef<'_>) -> Result<(), Break>
-        ensures verdict { calling self.old count 0 (framed (frame_of entry.now)) (framed_ref exit.now)
-            (fallen self.new result) }
+        ensures verdict { calling self.old count 0 (framed (frame_of entry.now))
+            (framed_ref exit.now) (fallen self.new result) }
         ensures kept { IfErr result (λ _. self.new ≡ self.old) }
     {
         let Some(arguments) = self.arguments(count) else {
@@ -156,8 +157,8 @@ impl State {
         self.pays_for(arguments.as_slice(), exit, &entry.cost(), live.as_slice())
     }
 
-    /// A call with these arguments, its entry frame met, of a procedure with an exit frame and a cost,
-    /// which is a form over what is in the slots live at its entry.
+    /// A call with these arguments, its entry frame met, of a procedure with an exit frame and a
+    /// cost, which is a form over what is in the slots live at its entry.
     fn pays_for(
         &mut self,
         arguments: &[Form],
@@ -190,7 +191,8 @@ impl State {
         Ok(())
     }
 
-    /// Whether there is room for the symbols and the guards behind a call, which are the state's own.
+    /// Whether there is room for the symbols and the guards behind a call, which are the state's
+    /// own.
     fn has_room_behind(&self) -> bool
         ensures room { IsTrue result ↔ HasRoomForSymbols self.now }
         ensures small { AllSmallForms self.now.guards }
@@ -221,8 +223,8 @@ impl State {
         called
     }
 
-    /// The cost behind one step and a callee's cost, which is a form over these arguments: negative at
-    /// no point.
+    /// The cost behind one step and a callee's cost, which is a form over these arguments: negative
+    /// at no point.
     fn paid_beside(&self, cost: &Form, arguments: &[Form]) -> Result<Form, Break>
         requires small { IsSmallForm cost.now }
         requires few { length arguments.now ≤ 8 }
@@ -242,7 +244,8 @@ impl State {
         Ok(left)
     }
 
-    /// The so many topmost operands are gone, and the pieces lie so, with this current tray and grip.
+    /// The so many topmost operands are gone, and the pieces lie so, with this current tray and
+    /// grip.
     fn go_behind(&mut self, count: usize, places: ArrayVec<Lying, MOST_PIECES>, tray: u8, grip: u32)
         requires small { AllSmallPlaces places.items }
         requires many { count ≤ length self.old.operands }
@@ -257,7 +260,8 @@ impl State {
     /// `ret`: the pieces lie as the procedure's exit frame says of its parameters.
     pub fn ret(&self, container: &Container<'_>, procedure: usize) -> Result<(), Break>
         requires { procedure < length container.now.procedures }
-        ensures { OfHere container.now procedure (λ plan here. ret_rule here self.now (left result)) }
+        ensures { OfHere container.now procedure (λ plan here.
+            ret_rule here self.now (left result)) }
     {
         let Some(exit) = container.exit(procedure) else {
             return Err(Break::plain(Rule::V22));
@@ -273,8 +277,8 @@ impl State {
         }
     }
 
-    /// Whether the current tray and the grip are those of an exit frame, and each piece's tray is that
-    /// of these places.
+    /// Whether the current tray and the grip are those of an exit frame, and each piece's tray is
+    /// that of these places.
     fn is_alike_exit(&self, exit: &ExitRef<'_>, places: &[Lying]) -> bool
         requires { places.now ≡ (framed_ref exit.now).places }
         ensures { IsTrue result ↔ IsAlikeExit self.now (framed_ref exit.now) }
@@ -307,9 +311,9 @@ impl State {
         *self.slots.get(usize::from(v))?
     }
 
-    /// The first point at which the pieces do not lie as these places say, the symbols of those having
-    /// the values of these forms; None where there is no such point. Each piece's tray is the same, the
-    /// caller's condition.
+    /// The first point at which the pieces do not lie as these places say, the symbols of those
+    /// having the values of these forms; None where there is no such point. Each piece's tray is
+    /// the same, the caller's condition.
     fn first_displacement(&self, symbols: &[Form], there: &[Lying]) -> Option<Point>
         requires alike { map tray_of self.now.places ≡ map tray_of there.now }
         requires few { length symbols.now ≤ 8 }

@@ -86,8 +86,8 @@ impl State {
         Ok(())
     }
 
-    /// Where `down` goes on at its label: the counter in slot v, above 0, is this form, one less, and
-    /// the step is paid for.
+    /// Where `down` goes on at its label: the counter in slot v, above 0, is this form, one less,
+    /// and the step is paid for.
     fn branch(&self, v: u8, less: Form, cost: Form) -> State
         requires slot { v < 8 }
         requires room { length self.now.guards < 8 }

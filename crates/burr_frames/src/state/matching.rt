@@ -23,8 +23,8 @@ impl State {
         live_forms(&self.slots, frame)
     }
 
-    /// Whether the current tray, the grip, the number of operands and each piece's tray are those of
-    /// another state.
+    /// Whether the current tray, the grip, the number of operands and each piece's tray are those
+    /// of another state.
     pub(super) fn is_alike(&self, other: &State) -> bool
         ensures { IsTrue result ↔ IsAlike self.now other.now }
     {
@@ -80,8 +80,8 @@ pub(super) fn are_in_same_trays(places: &[Lying], others: &[Lying]) -> bool
 }
 
 impl State {
-    /// Forms of the state to be compared: those in slots, others, and those of the operands, the bottom
-    /// first, and of the offsets, piece by piece.
+    /// Forms of the state to be compared: those in slots, others, and those of the operands, the
+    /// bottom first, and of the offsets, piece by piece.
     pub(super) fn compared(&self, slots: &[Form], others: &[Form]) -> ArrayVec<Form, 120>
         requires few { length slots.now ≤ 8 }
         requires other { length others.now ≤ 1 }

@@ -77,7 +77,8 @@ impl State {
     fn put_result(&mut self, form: Form) -> Result<(), Break>
         requires two { 2 ≤ length self.old.operands }
         requires small { IsSmallForm form }
-        ensures verdict { result_rule self.old form (drop 2 self.old.operands) (fallen self.new result) }
+        ensures verdict { result_rule self.old form (drop 2 self.old.operands)
+            (fallen self.new result) }
         ensures kept { IfErr result (λ _. self.new ≡ self.old) }
     {
         self.stays_within(&[form], 32767, Rule::V12)?;

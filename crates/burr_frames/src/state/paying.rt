@@ -26,12 +26,13 @@ impl State {
         }
     }
 
-    /// That no value of some forms is farther from 0 than this; else the rule is broken at the first
-    /// point where one is. There are at most 120 forms, the caller's condition.
+    /// That no value of some forms is farther from 0 than this; else the rule is broken at the
+    /// first point where one is. There are at most 120 forms, the caller's condition.
     pub(super) fn stays_within(&self, forms: &[Form], reach: u16, rule: Rule) -> Result<(), Break>
         requires few { length forms.now ≤ 120 }
         requires small { AllSmallForms forms.now }
-        ensures { HoldsOrBreaks self.now (λ point. AllInReach reach (values point forms.now)) rule result }
+        ensures { HoldsOrBreaks self.now (λ point. AllInReach reach (values point forms.now))
+            rule result }
     {
         let condition = Within { forms, reach };
         match first_failing(self.ranges.as_slice(), self.guards.as_slice(), &condition) {

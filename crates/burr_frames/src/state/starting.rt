@@ -16,7 +16,8 @@ impl State {
     /// slots, and the cost is 0.
     pub fn at_home(pieces: u8) -> State
         requires { pieces ≤ 32 }
-        ensures { (homes : List (List CellOf)) → length homes ≡ pieces → result ≡ start_state homes }
+        ensures { (homes : List (List CellOf)) → length homes ≡ pieces
+            → result ≡ start_state homes }
     {
         State {
             ranges: ArrayVec::new(),

@@ -1,4 +1,5 @@
 //! Sinks that fail, or take no more.
+use super::plans::{CUP, CUP_PLAN, UNGUARDED_CUP_PLAN};
 use super::*;
 
 /// A writer that takes a byte a call, so many of them, and then takes none or fails.
@@ -47,6 +48,75 @@ fn writes_a_front_to_a_sink_that_fails(rt: HostRuntime) -> Result<(), Fail> {
                 Ok(Outcome::Apart)
             };
             let front = SHEET.as_bytes().get(..room);
+            assert_eq!(rt; result, wanted, "{room}");
+            assert_eq!(rt; Some(writer.taken.as_slice()), front, "{room}");
+        }
+    }
+    Ok(())
+}
+
+/// Asserts that of a plan's verdict a sink that fails has a front, as long as its room.
+fn assert_fronts_of_verdict(
+    rt: &impl Abort,
+    alloc: Global,
+    plan: &str,
+    is_accepted: bool,
+    line: &str,
+) -> Result<(), Fail> {
+    let bytes = hex::decode(alloc, plan)?;
+    let container = Container::parse(&bytes)?;
+    let cup = Assembly::read(alloc, CUP.as_bytes())?;
+    let cells = PlainCells::new(&cup);
+    for room in 0..=line.len() {
+        for fails in [false, true] {
+            let taken = Vec::new(alloc);
+            let mut writer = Narrow { taken, room, fails };
+            let result = check(&container, &cells, &mut Writing::new(&mut writer));
+            let wanted = if room < line.len() {
+                Err(WriteFault)
+            } else {
+                Ok(is_accepted)
+            };
+            let front = line.as_bytes().get(..room);
+            assert_eq!(rt; result, wanted, "{room}");
+            assert_eq!(rt; Some(writer.taken.as_slice()), front, "{room}");
+        }
+    }
+    Ok(())
+}
+
+#[test]
+fn writes_a_front_of_a_verdict_to_a_sink_that_fails(rt: HostRuntime) -> Result<(), Fail> {
+    let alloc = rt.alloc();
+    let accepted = "accepted cost 14 budget 14\n";
+    assert_fronts_of_verdict(&rt, alloc, CUP_PLAN, true, accepted)?;
+    let refused = "refused V15 proc 0 pc 24 pieces A B point 0 1\n";
+    assert_fronts_of_verdict(&rt, alloc, UNGUARDED_CUP_PLAN, false, refused)?;
+    Ok(())
+}
+
+#[test]
+fn writes_a_front_of_an_accepted_plans_sheet_to_a_sink_that_fails(
+    rt: HostRuntime,
+) -> Result<(), Fail> {
+    let alloc = rt.alloc();
+    let bytes = hex::decode(alloc, CUP_PLAN)?;
+    let container = Container::parse(&bytes)?;
+    let cup = Assembly::read(alloc, CUP.as_bytes())?;
+    let cells = PlainCells::new(&cup);
+    let accepted = accept(&container, &cells)?;
+    let sheet = "1 t0 A +z 2 out\nlevels 1\napart in 14 steps\n";
+    for room in 0..=sheet.len() {
+        for fails in [false, true] {
+            let taken = Vec::new(alloc);
+            let mut writer = Narrow { taken, room, fails };
+            let result = run_plan(&accepted, &[2], &mut Writing::new(&mut writer));
+            let wanted = if room < sheet.len() {
+                Err(WriteFault)
+            } else {
+                Ok(Outcome::Apart)
+            };
+            let front = sheet.as_bytes().get(..room);
             assert_eq!(rt; result, wanted, "{room}");
             assert_eq!(rt; Some(writer.taken.as_slice()), front, "{room}");
         }

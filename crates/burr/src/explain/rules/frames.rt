@@ -20,6 +20,10 @@ const RULES: &[Explanation] = &[
             "which calls it.",
         ],
         cause: &["a procedure that calls itself or an earlier one."],
+        remedy: &[
+            "put the procedure behind all that call it; in place of a call of",
+            "itself write a loop.",
+        ],
         setting: "in the procedure lift itself",
         example: &["call lift"],
     },
@@ -32,6 +36,11 @@ const RULES: &[Explanation] = &[
             "guard fails.",
         ],
         cause: &["pieces moved or gripped between two calls, or a wrong argument."],
+        remedy: &[
+            "put the callee's `at` lines, with the arguments in their slots,",
+            "beside where the pieces are before the `call`, and its grip and tray too; then",
+            "change the moves before, the argument, or the callee's first frame.",
+        ],
         setting: "lift takes how far up A is, and A is at home",
         example: &["push 1", "call lift"],
     },
@@ -44,6 +53,11 @@ const RULES: &[Explanation] = &[
             "and the cost that is left not below the frame's.",
         ],
         cause: &["a loop that moves a piece whose `at` line does not count it."],
+        remedy: &[
+            "without a point, compare tray, grip, number of operands, trays of",
+            "pieces and live slots with the frame's. With a point, work out both sides",
+            "there: each slot's range, each guard, operand and `at` form, and last the cost.",
+        ],
         setting: "A goes up by each turn, and its `at` line leaves it where it is",
         example: &[
             "label L",
@@ -64,6 +78,10 @@ const RULES: &[Explanation] = &[
             "in main, or a `halt` in another procedure.",
         ],
         cause: &["a path through the procedure on which a step is missing."],
+        remedy: &[
+            "as for V21, with the exit frame, whose forms are over the",
+            "parameters; main ends with `halt`, other procedures with `ret`.",
+        ],
         setting: "in main",
         example: &["ret"],
     },
@@ -72,6 +90,10 @@ const RULES: &[Explanation] = &[
         name: None,
         meaning: &["`halt` ends the run, and a piece is not apart."],
         cause: &["a tray that still holds pieces together."],
+        remedy: &[
+            "make each tray that still has pieces current with `tray`, and take",
+            "its pieces out, before the `halt`.",
+        ],
         setting: "three cubes in a row; M goes up, and A and C are left in tray 0",
         example: &["grip 1", "aside +y 2", "halt"],
     },
@@ -83,6 +105,11 @@ const RULES: &[Explanation] = &[
             "`call` its callee's cost too.",
         ],
         cause: &["an instruction more, and no more in the `cost` lines before it."],
+        remedy: &[
+            "raise the cost of the frame before to the number of steps from",
+            "there to the end, a call counted as 1 and its callee's cost; then the costs of",
+            "the frames that lead there, and the budget.",
+        ],
         setting: "three instructions behind a frame whose cost is 2",
         example: &[
             "cost 2",
@@ -101,6 +128,10 @@ const RULES: &[Explanation] = &[
             "more than 4,096 points, which are all ways to choose the slots and answers.",
         ],
         cause: &["several wide `slot` or `ask` ranges in one frame's code."],
+        remedy: &[
+            "make ranges smaller; or put a label in between whose frame has only",
+            "the slots that are still needed, since a frame forgets all others.",
+        ],
         setting: "4,097 answers",
         example: &["ask 0 4096"],
     },
@@ -112,6 +143,10 @@ const RULES: &[Explanation] = &[
             "it comes to may be small.",
         ],
         cause: &["forms that are added again and again and cancel each other out."],
+        remedy: &[
+            "store the value in a slot and put a label behind it whose frame has",
+            "the slot with its range: from there on its form is small.",
+        ],
         setting: "-5+1v0 on top with slot 0 in 5..5, which is 0; these lines 40 times",
         example: &["store 1", "load 1", "load 1", "add"],
     },
@@ -124,6 +159,11 @@ const RULES: &[Explanation] = &[
             "start, with all pieces at home in tray 0, does not meet main's first frame.",
         ],
         cause: &["a piece that is left alone in its tray, which makes it apart."],
+        remedy: &[
+            "correct the frame: a `slot` line for each parameter and, in a first",
+            "frame, for nothing else; grip only what lies in its tray; a piece alone in its",
+            "tray is `apart`; main begins with all pieces in tray 0 at 0 0 0 and no grip.",
+        ],
         setting: "B is alone in tray 0, so its line has to be `at 1 apart`",
         example: &["at 0 apart", "at 1 0 0 0 0"],
     },
@@ -132,6 +172,10 @@ const RULES: &[Explanation] = &[
         name: None,
         meaning: &["The plan's budget is below the cost of main's first frame."],
         cause: &["a cost that was raised, and not the budget in the `plan` line."],
+        remedy: &[
+            "raise the budget in the `plan` line to the cost of main's first",
+            "frame.",
+        ],
         setting: "the budget is 10, and the cost 11",
         example: &[
             "plan ring 2 10",

@@ -23,6 +23,10 @@ const RULES: &[Explanation] = &[
             "a piece that is apart already, or that went to another tray:",
             "`tray` makes that one current first.",
         ],
+        remedy: &[
+            "put `tray` with the piece's tray before the `grip`; leave out",
+            "pieces that are apart.",
+        ],
         setting: "cubes A and B side by side, both apart behind the `aside`",
         example: &["grip 0", "aside -x 1", "grip 0"],
     },
@@ -31,6 +35,10 @@ const RULES: &[Explanation] = &[
         name: None,
         meaning: &["The grip is empty, or `aside` would take the whole tray."],
         cause: &["no `grip` since the last `aside` or `tray`, which empty the grip."],
+        remedy: &[
+            "put a `grip` before; for `aside` leave a piece of the tray out of",
+            "it.",
+        ],
         setting: "`tray` has emptied the grip",
         example: &["grip 0", "tray 0", "step +z"],
     },
@@ -44,6 +52,12 @@ const RULES: &[Explanation] = &[
         cause: &[
             "a step too far, a direction that is blocked, or a frame without",
             "the `guard` that leaves such points out.",
+        ],
+        remedy: &[
+            "ask whether a run can come to the point named. Where none can, add",
+            "a `guard` that is below 0 there to the last frame, or make a range smaller.",
+            "Where one can, step along another direction or less far, or take the other",
+            "piece out first.",
         ],
         setting: "cubes A at 0 0 0 and B at 1 0 0",
         example: &["grip 0", "step +x"],
@@ -59,6 +73,11 @@ const RULES: &[Explanation] = &[
             "the wrong direction, or a piece that is in the way farther out:",
             "free for one unit is not enough.",
         ],
+        remedy: &[
+            "as for V15: leave the point out by a `guard` or a smaller range; or",
+            "take another direction, step the grip to where its way is free, or take the",
+            "other piece out first.",
+        ],
         setting: "cubes A at 0 0 0 and B at 3 0 0",
         example: &["grip 0", "aside +x 1"],
     },
@@ -67,6 +86,10 @@ const RULES: &[Explanation] = &[
         name: None,
         meaning: &["`aside` names a tray that has pieces."],
         cause: &["the current tray, or one in which pieces still lie together."],
+        remedy: &[
+            "name a tray that has no piece at this place; the last frame's `at`",
+            "lines and the `aside` lines behind it tell which do.",
+        ],
         setting: "four cubes in a square, of which C and D go to tray 1 together",
         example: &["grip 2,3", "aside +y 1", "grip 0", "aside -x 1"],
     },
@@ -78,6 +101,10 @@ const RULES: &[Explanation] = &[
             "axis, at the point that is named.",
         ],
         cause: &["a loop that makes too many steps; `aside` takes pieces out at once."],
+        remedy: &[
+            "make the range that counts the steps smaller, or take the piece out",
+            "with `aside`, which needs no steps.",
+        ],
         setting: "A lies 256 units from home along +z",
         example: &["grip 0", "step +z"],
     },

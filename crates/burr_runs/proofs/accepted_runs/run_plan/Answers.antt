@@ -1,5 +1,5 @@
 -- The bench starts, and its run is that of the container's plan, which is safe.
-use Rattle.std.proofs.Common.{◌≡◌, ◌∙◌, sym, subst, Ok, Err, Result}
+use Rattle.std.proofs.Common.{◌∙◌, sym, subst}
 use Rattle.std.specs.Prelude.{IsOk}
 use Rattle.burr_assembly.specs.Text.{Assembly}
 use Rattle.burr_container.specs.Containers.{KeptContainer, IsContainer}
@@ -20,17 +20,17 @@ returns-clause-ok g c =
     let accepted = c.plan.ensures.accepted in
     let laws : Laws = record { sound = c.a_well_framed_plan_runs_safely.ensures.safe; from_container = c.a_fitting_plan_is_from_a_container.ensures; disjoint = c.pieces_never_overlap.ensures.homes } in
     let is_container = subst (λ (kept : KeptContainer). IsContainer kept accepted.plan) (sym c.plan.ensures.plan) accepted.is_container in
-    puts_safely g.W.Sink c.args.sink.now c.try_plan.new.sink laws c.args.accepted.now accepted c.in-Ok.bench.assembly c.in-Ok.bench.program c.args.answers.now
-    (c.in-Ok.ensures.assembly ∙ c.blocking.ensures) (c.in-Ok.ensures.program accepted.plan is_container) c.try_plan.result c.try_plan.ensures.ok
+    puts_safely g.W.Sink c.args.sink.now c.run_bench.new.sink laws c.args.accepted.now accepted c.in-Ok.bench.assembly c.in-Ok.bench.program c.args.answers.now
+    (c.in-Ok.ensures.assembly ∙ c.blocking.ensures) (c.in-Ok.ensures.program accepted.plan is_container) c.run_bench.result c.run_bench.ensures.ok
 
 pub returns-clause-ends : goal.returns-clause-ends
 returns-clause-ends g c =
-    each_ends_well g.W.Sink c.args.sink.now c.try_plan.new.sink c.args.accepted.now c.args.answers.now c.try_plan.result (returns-clause-ok g c)
+    each_ends_well g.W.Sink c.args.sink.now c.run_bench.new.sink c.args.accepted.now c.args.answers.now c.run_bench.result (returns-clause-ok g c)
 
 pub returns-clause-err : goal.returns-clause-err
 returns-clause-err g c =
     let accepted = c.plan.ensures.accepted in
     let laws : Laws = record { sound = c.a_well_framed_plan_runs_safely.ensures.safe; from_container = c.a_fitting_plan_is_from_a_container.ensures; disjoint = c.pieces_never_overlap.ensures.homes } in
     let is_container = subst (λ (kept : KeptContainer). IsContainer kept accepted.plan) (sym c.plan.ensures.plan) accepted.is_container in
-    fails_safely g.W.Sink c.args.sink.now c.try_plan.new.sink laws c.args.accepted.now accepted c.in-Ok.bench.assembly c.in-Ok.bench.program c.args.answers.now
-    (c.in-Ok.ensures.assembly ∙ c.blocking.ensures) (c.in-Ok.ensures.program accepted.plan is_container) c.try_plan.result c.try_plan.ensures.err
+    fails_safely g.W.Sink c.args.sink.now c.run_bench.new.sink laws c.args.accepted.now accepted c.in-Ok.bench.assembly c.in-Ok.bench.program c.args.answers.now
+    (c.in-Ok.ensures.assembly ∙ c.blocking.ensures) (c.in-Ok.ensures.program accepted.plan is_container) c.run_bench.result c.run_bench.ensures.err

@@ -13,6 +13,13 @@ returns-in_err-put_paragraph-2 g c =
     Puts-more c.in_ok-put_heading.ensures
     (Puts-more c.in_ok-put_paragraph.ensures (Puts-fails _ c.in_err-put_paragraph-2.ensures c.from_residual-in_err-put_paragraph-2.ensures.0))
 
+pub returns-in_err-put_remedy : goal.returns-in_err-put_remedy
+returns-in_err-put_remedy g c =
+    Puts-more c.in_ok-put_heading.ensures
+    (Puts-more c.in_ok-put_paragraph.ensures
+    (Puts-more c.in_ok-put_paragraph-2.ensures (Puts-fails _ c.in_err-put_remedy.ensures c.from_residual-in_err-put_remedy.ensures.0)))
+
 pub returns : goal.returns
 returns g c =
-    Puts-more c.in_ok-put_heading.ensures (Puts-more c.in_ok-put_paragraph.ensures (Puts-more c.in_ok-put_paragraph-2.ensures c.put_example.ensures))
+    Puts-more c.in_ok-put_heading.ensures (Puts-more c.in_ok-put_paragraph.ensures (Puts-more c.in_ok-put_paragraph-2.ensures
+    (Puts-more c.in_ok-put_remedy.ensures c.put_example.ensures)))

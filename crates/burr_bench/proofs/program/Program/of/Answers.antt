@@ -1,6 +1,6 @@
-use Rattle.std.proofs.Common.{rules, ◌≡◌, ◌<◌, ◌+◌, ℕ, List, length, map, ◌∙◌, sym, ap, subst, arith}
+use Rattle.std.proofs.Common.{rules, ◌≡◌, ◌<◌, ℕ, List, length, map, ◌∙◌, ap, subst}
 use Rattle.burr_bench.specs.Bench.{BenchProcedure}
-use Rattle.burr_bench.specs.Programs.{bench_procedure, plan_program, program_of}
+use Rattle.burr_bench.specs.Programs.{bench_procedure, program_of}
 use Rattle.burr_bench.proofs.Programs.{made_next, made_all, some_at}
 use Rattle.burr_bench.proofs.program.Program.of.Goals as goal
 

@@ -1,4 +1,4 @@
-use Rattle.std.proofs.Common.{rules, ◌≡◌, ◌<◌, ◌+◌, ℕ, List, length, ◌∙◌, sym, ap, subst, arith}
+use Rattle.std.proofs.Common.{rules, ◌≡◌, ◌<◌, ℕ, length, ◌∙◌, subst}
 use Rattle.burr_container.specs.Plans.{Frame}
 use Rattle.burr_bench.proofs.Programs.{made_next, made_all, some_at}
 use Rattle.burr_bench.proofs.program.reading.label_positions.Goals as goal

@@ -1,4 +1,5 @@
--- What is equal without regard to points first, and then the first point at which pieces lie elsewhere.
+-- What is equal without regard to points first, and then the first point at which pieces lie
+-- elsewhere.
 use Rattle.std.proofs.Common.{◌≡◌, ◌∙◌, subst, List, refl, inl, inr}
 use Rattle.burr_text.proofs.Common.Tests.{yes_of}
 use Rattle.burr_code.specs.Places.{Placement}

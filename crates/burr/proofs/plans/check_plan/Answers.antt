@@ -1,0 +1,8 @@
+use Rattle.burr.specs.PlanEnds.{CheckEnds}
+use Rattle.burr.proofs.Ending.{fails_by_write, check_front}
+use Rattle.burr.proofs.plans.check_plan.Goals as goal
+
+pub returns-in_err-check-clause-err : goal.returns-in_err-check-clause-err
+returns-in_err-check-clause-err g c =
+    fails_by_write g.W.Sink c.args.sink.now c.check.new.sink (CheckEnds c.args.container.now (g.B.Blocking.subject c.args.blocking.now)) c.from_residual.result c.from_residual.ensures.1
+    (check_front g.W.Sink c.args.sink.now c.check.new.sink c.args.container.now (g.B.Blocking.subject c.args.blocking.now) c.in_err-check.ensures.err)

@@ -1,0 +1,268 @@
+//! What is done with a plan and an assembly: it is judged, or run with the answers of standard
+//! input.
+
+ghost use Rattle.std.specs.Prelude.{IfErr, IfOk, OnErr, OnOk};
+ghost use Rattle.burr_bench.specs.BenchViews.{IsAtStart};
+ghost use Rattle.burr_runs.specs.Refusals.{refusal};
+ghost use Rattle.burr.specs.Ends.{took, TakesSome, WritesLess, IsDone};
+ghost use Rattle.burr.specs.Faults.{line_of};
+ghost use Rattle.burr.specs.Refusals.{container_refusal, misfit_line};
+ghost use Rattle.burr.specs.PlanEnds.{PutsEnd, FailsToEnd, IsRefusal, PlanEnds, AssemblyEnds};
+ghost use Rattle.burr.specs.PlanEnds.{CheckEnds, RunEnds, TryEnds};
+ghost use Rattle.burr.specs.PlanEnds.{AnswersEnd, SafeEnds, BenchEnds, FaultyEnds};
+
+use crate::fault::Fault;
+use crate::files::read_file;
+use crate::job::PlanTask;
+use crate::jobs::{DONE, REFUSED};
+use crate::program::outcome_status;
+use crate::refusal::{put_answers_refusal, put_container_refusal, put_misfit};
+use burr_assembly::{Assembly, AssemblyFault};
+use burr_bench::Checked;
+use burr_blocking::{Blocking, CellTables};
+use burr_container::{Container, ContainerFault};
+use burr_io::{Sink, Source};
+use burr_runs::{
+    AnswersFault, BenchFault, check, put_refusal, read_answers, read_whole, run_plan, try_plan,
+};
+use burr_verify::{
+    Accepted, a_fitting_plan_is_from_a_container, a_plan_is_judged_in_one_way, accept,
+};
+use std::alloc::Global;
+use std::rt::Files;
+
+/// Does what is asked with a plan and an assembly, both in files, and puts what there is to print:
+/// a refusal, that the plan is accepted, or a run's sheet. The files are read in order, and then,
+/// where there may be a run, the source whole, before anything is judged: the text, the container,
+/// the plan for the assembly, and the answers.
+pub fn use_files<'a, F: Files + AllocGlobal, R: Source, W: Sink>(
+    files: &F,
+    task: PlanTask,
+    assembly: &'a str,
+    plan: &'a str,
+    source: &mut R,
+    sink: &mut W,
+) -> Result<u8, Fault<'a>>
+    ensures status { IfOk result IsDone }
+    ensures ok { OnOk result (TakesSome
+        (took (W.taken sink.old) (W.taken sink.new) (W.has_failed sink.new))) }
+    ensures err { OnErr result (WritesLess
+        (took (W.taken sink.old) (W.taken sink.new) (W.has_failed sink.new))) }
+{
+    let text = read_file(files, assembly)?;
+    let container = read_file(files, plan)?;
+    let answers = match task {
+        PlanTask::Check => Vec::new(files.alloc()),
+        PlanTask::Run | PlanTask::Try => read_source(files.alloc(), source)?,
+    };
+    use_text(files.alloc(), task, &text, &container, &answers, sink)
+}
+
+/// The bytes of standard input.
+fn read_source<'a, R: Source>(alloc: Global, source: &mut R) -> Result<Vec<u8>, Fault<'a>> {
+    match read_whole(alloc, source) {
+        Ok(bytes) => Ok(bytes),
+        Err(BenchFault::Memory) => Err(Fault::Memory),
+        Err(_) => Err(Fault::Read("-")),
+    }
+}
+
+/// Does what is asked with the bytes of an assembly's text, of a container, and of answers.
+fn use_text<'a, W: Sink>(
+    alloc: Global,
+    task: PlanTask,
+    text: &[u8],
+    container: &[u8],
+    answers: &[u8],
+    sink: &mut W,
+) -> Result<u8, Fault<'a>>
+    ensures ok { IfOk result (PutsEnd W.Sink sink.old sink.new
+        (PlanEnds task text.now container.now answers.now)) }
+    ensures err { IfErr result (λ fault. FailsToEnd W.Sink sink.old sink.new
+        (PlanEnds task text.now container.now answers.now) (line_of fault)) }
+{
+    match Assembly::read(alloc, text) {
+        Ok(assembly) => use_assembly(alloc, task, &assembly, container, answers, sink),
+        Err(AssemblyFault::Memory) => Err(Fault::Memory),
+        Err(fault) => refuse_text(text, fault, sink),
+    }
+}
+
+/// Refuses an assembly's text.
+fn refuse_text<'a, W: Sink>(
+    text: &[u8],
+    fault: AssemblyFault,
+    sink: &mut W,
+) -> Result<u8, Fault<'a>>
+    ensures ok { IfOk result (PutsEnd W.Sink sink.old sink.new
+        (IsRefusal (refusal text.now fault))) }
+    ensures err { IfErr result (λ problem. FailsToEnd W.Sink sink.old sink.new
+        (IsRefusal (refusal text.now fault)) (line_of problem)) }
+{
+    put_refusal(text, fault, sink)?;
+    Ok(REFUSED)
+}
+
+/// The same with an assembly that was read.
+fn use_assembly<'a, 'x, W: Sink>(
+    alloc: Global,
+    task: PlanTask,
+    assembly: &'x Assembly,
+    container: &'x [u8],
+    answers: &[u8],
+    sink: &mut W,
+) -> Result<u8, Fault<'a>>
+    ensures ok { IfOk result (PutsEnd W.Sink sink.old sink.new
+        (AssemblyEnds task container.entry.now answers.now assembly.entry.now)) }
+    ensures err { IfErr result (λ fault. FailsToEnd W.Sink sink.old sink.new
+        (AssemblyEnds task container.entry.now answers.now assembly.entry.now) (line_of fault)) }
+{
+    let container = match Container::parse(container) {
+        Ok(container) => container,
+        Err(fault) => return refuse_container(fault, sink),
+    };
+    let tables = CellTables::build(alloc, assembly)?;
+    match task {
+        PlanTask::Check => check_plan(&container, &tables, sink),
+        PlanTask::Run => run_if_accepted(alloc, &container, &tables, answers, sink),
+        PlanTask::Try => try_on_bench(alloc, &container, &tables, answers, sink),
+    }
+}
+
+/// Refuses a container.
+fn refuse_container<'a, W: Sink>(fault: ContainerFault, sink: &mut W) -> Result<u8, Fault<'a>>
+    ensures ok { IfOk result (PutsEnd W.Sink sink.old sink.new
+        (IsRefusal (container_refusal fault))) }
+    ensures err { IfErr result (λ problem. FailsToEnd W.Sink sink.old sink.new
+        (IsRefusal (container_refusal fault)) (line_of problem)) }
+{
+    put_container_refusal(fault, sink)?;
+    Ok(REFUSED)
+}
+
+/// Puts whether the plan is accepted.
+fn check_plan<'a, 'x, B: Blocking, W: Sink>(
+    container: &'x Container<'_>,
+    blocking: &'x B,
+    sink: &mut W,
+) -> Result<u8, Fault<'a>>
+    ensures ok { IfOk result (PutsEnd W.Sink sink.old sink.new
+        (CheckEnds container.entry.now (B.subject blocking.entry.now))) }
+    ensures err { IfErr result (λ fault. FailsToEnd W.Sink sink.old sink.new
+        (CheckEnds container.entry.now (B.subject blocking.entry.now)) (line_of fault)) }
+{
+    if check(container, blocking, sink)? {
+        Ok(DONE)
+    } else {
+        Ok(REFUSED)
+    }
+}
+
+/// Runs the plan where it is accepted, with the answers of a text; else puts the refusal, as a
+/// check does.
+fn run_if_accepted<'a, 'x, B: Blocking, W: Sink>(
+    alloc: Global,
+    container: &'x Container<'_>,
+    blocking: &'x B,
+    answers: &[u8],
+    sink: &mut W,
+) -> Result<u8, Fault<'a>>
+    ensures ok { IfOk result (PutsEnd W.Sink sink.old sink.new
+        (RunEnds container.entry.now (B.subject blocking.entry.now) answers.now)) }
+    ensures err { IfErr result (λ fault. FailsToEnd W.Sink sink.old sink.new
+        (RunEnds container.entry.now (B.subject blocking.entry.now) answers.now)
+        (line_of fault)) }
+{
+    match accept(container, blocking) {
+        Ok(accepted) => run_accepted(alloc, &accepted, answers, sink),
+        Err(_) => {
+            a_plan_is_judged_in_one_way();
+            a_fitting_plan_is_from_a_container();
+            check_plan(container, blocking, sink)
+        }
+    }
+}
+
+/// Runs an accepted plan with the answers of a text.
+fn run_accepted<'a, B: Blocking, W: Sink>(
+    alloc: Global,
+    accepted: &Accepted<'_, '_, B>,
+    answers: &[u8],
+    sink: &mut W,
+) -> Result<u8, Fault<'a>>
+    ensures ok { IfOk result (PutsEnd W.Sink sink.old sink.new
+        (AnswersEnd answers.now (SafeEnds accepted.now))) }
+    ensures err { IfErr result (λ fault. FailsToEnd W.Sink sink.old sink.new
+        (AnswersEnd answers.now (SafeEnds accepted.now)) (line_of fault)) }
+{
+    match read_answers(alloc, answers) {
+        Ok(answers) => Ok(outcome_status(run_plan(accepted, &answers, sink)?)),
+        Err(fault) => refuse_answers(fault, sink),
+    }
+}
+
+/// Runs the plan on the bench, where it is for the assembly, with the answers of a text.
+fn try_on_bench<'a, 'x, B: Blocking, W: Sink>(
+    alloc: Global,
+    container: &Container<'x>,
+    blocking: &'x B,
+    answers: &[u8],
+    sink: &mut W,
+) -> Result<u8, Fault<'a>>
+    ensures ok { IfOk result (PutsEnd W.Sink sink.old sink.new
+        (TryEnds container.entry.now (B.subject blocking.entry.now) answers.now)) }
+    ensures err { IfErr result (λ fault. FailsToEnd W.Sink sink.old sink.new
+        (TryEnds container.entry.now (B.subject blocking.entry.now) answers.now)
+        (line_of fault)) }
+{
+    match Checked::start(container, blocking) {
+        Ok(bench) => run_bench(alloc, bench, answers, sink),
+        // The plan is for another assembly, since nothing else is judged here.
+        Err(_) => refuse_misfit(sink),
+    }
+}
+
+/// Refuses a plan for another assembly.
+fn refuse_misfit<'a, W: Sink>(sink: &mut W) -> Result<u8, Fault<'a>>
+    ensures ok { IfOk result (PutsEnd W.Sink sink.old sink.new (IsRefusal misfit_line)) }
+    ensures err { IfErr result (λ problem. FailsToEnd W.Sink sink.old sink.new
+        (IsRefusal misfit_line) (line_of problem)) }
+{
+    put_misfit(sink)?;
+    Ok(REFUSED)
+}
+
+/// Runs the program of a bench at its start with the answers of a text.
+fn run_bench<'a, B: Blocking, W: Sink>(
+    alloc: Global,
+    bench: Checked<'_, B>,
+    answers: &[u8],
+    sink: &mut W,
+) -> Result<u8, Fault<'a>>
+    requires { IsAtStart bench }
+    ensures ok { IfOk result (PutsEnd W.Sink sink.old sink.new
+        (AnswersEnd answers.now (BenchEnds bench.entry))) }
+    ensures err { IfErr result (λ fault. FailsToEnd W.Sink sink.old sink.new
+        (AnswersEnd answers.now (BenchEnds bench.entry)) (line_of fault)) }
+{
+    let mut bench = bench;
+    match read_answers(alloc, answers) {
+        Ok(answers) => Ok(outcome_status(try_plan(&mut bench, &answers, sink)?)),
+        Err(fault) => refuse_answers(fault, sink),
+    }
+}
+
+/// Refuses a text of answers by its first faulty line.
+fn refuse_answers<'a, W: Sink>(fault: AnswersFault, sink: &mut W) -> Result<u8, Fault<'a>>
+    ensures ok { IfOk result (PutsEnd W.Sink sink.old sink.new (FaultyEnds fault)) }
+    ensures err { IfErr result (λ problem. FailsToEnd W.Sink sink.old sink.new
+        (FaultyEnds fault) (line_of problem)) }
+{
+    match fault {
+        AnswersFault::Memory => Err(Fault::Memory),
+        AnswersFault::Line(line) => {
+            put_answers_refusal(line, sink)?;
+            Ok(REFUSED)
+        }
+    }
+}
