@@ -9,6 +9,3 @@ mod text;
 pub use assembling::assemble;
 pub use fault::AsmFault;
 pub use listing::{list, list_with_places};
-
-#[cfg(test)]
-mod tests;

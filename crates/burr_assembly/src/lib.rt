@@ -19,6 +19,3 @@ pub use laws::{
     texts_and_assemblies_give_each_other_back,
 };
 pub use text::piece_name;
-
-#[cfg(test)]
-mod tests;

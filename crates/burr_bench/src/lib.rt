@@ -26,6 +26,3 @@ pub use motion::Motion;
 pub use progress::Progress;
 pub use state::BenchState;
 pub use trap::Trap;
-
-#[cfg(test)]
-mod tests;

@@ -8,6 +8,3 @@ mod plain_cells;
 pub use blocking::Blocking;
 pub use cell_tables::CellTables;
 pub use plain_cells::PlainCells;
-
-#[cfg(test)]
-mod tests;

@@ -15,6 +15,3 @@ pub use instr::Instr;
 pub use labels::Labels;
 pub use laws::{instructions_are_read_back, instructions_are_unique};
 pub use piece_set::is_in_set;
-
-#[cfg(test)]
-mod tests;

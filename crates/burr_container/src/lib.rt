@@ -33,6 +33,3 @@ pub use place::Place;
 pub use plan::{Plan, Procedure};
 pub use plan_form::PlanForm;
 pub use writing::write;
-
-#[cfg(test)]
-mod tests;

@@ -5,6 +5,7 @@ mod Counting
 mod Going
 mod GuardTests
 mod Listing
+mod Lowering
 mod Multiples
 mod Narrowing
 mod OneListing

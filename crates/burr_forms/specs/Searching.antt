@@ -1,5 +1,5 @@
 -- A search over the points of a region, which carries values along the last symbol.
-use Rattle.std.specs.Prelude.{◌≡◌, ◌⊎◌, ◌^◌, ◌≤◌, ◌-◌, ℕ, ℤ, pos, ◌+ℤ◌, ◌≤ℤ◌, Bool, IsTrue, List, [], ◌∷◌, map, All, length, Some, slice_index_or}
+use Rattle.std.specs.Prelude.{◌≡◌, ◌⊎◌, ◌^◌, ◌≤◌, ◌-◌, ℕ, suc, ℤ, pos, ◌+ℤ◌, ◌≤ℤ◌, Bool, IsTrue, List, [], ◌∷◌, map, All, length, Some, slice_index_or}
 use Rattle.std.specs.Int.RustNames.{unsigned_abs}
 use Rattle.burr_forms.specs.Forms.{Form, Point, values}
 use Rattle.burr_forms.specs.Points.{InBox, IsPointOf, Precedes}
@@ -61,3 +61,19 @@ IsBehind steps forms point numbers is_kept =
 -- what is kept are the values at this point
 abbrev pub IsHere : List Form → Point → List ℤ → Bool → Type 0
 IsHere forms point numbers is_kept = IsTrue is_kept → numbers ≡ values point forms
+
+-- no form has this symbol
+abbrev pub AllLack : ℕ → List Form → Type 0
+AllLack k forms = All (λ f. step_of k f ≡ pos 0) forms
+
+-- the range; or its lowest number alone, where that is enough
+abbrev pub IsNarrowRange : Type 0 → ℤ × ℤ → ℤ × ℤ → Type 0
+IsNarrowRange IsEnough range n = (n ≡ range) ⊎ ((n ≡ (range.0, range.0)) × IsEnough)
+
+-- each range; or its lowest number alone, where that is enough for its symbol
+abbrev pub AreNarrowRanges : (ℕ → Type 0) → List (ℤ × ℤ) → List (ℤ × ℤ) → Type 0
+AreNarrowRanges IsEnough [] [] = Unit {0}
+AreNarrowRanges IsEnough [] (n ∷ narrowed) = ⊥
+AreNarrowRanges IsEnough (range ∷ ranges) [] = ⊥
+AreNarrowRanges IsEnough (range ∷ ranges) (n ∷ narrowed) =
+    IsNarrowRange (IsEnough 0) range n × AreNarrowRanges (λ k. IsEnough (suc k)) ranges narrowed

@@ -10,6 +10,7 @@ mod laws;
 mod line;
 mod points;
 mod ranges;
+mod relevant;
 mod rows;
 mod searching;
 #[cfg(test)]
@@ -22,5 +23,5 @@ pub use guards::Guards;
 pub use laws::the_points_are_given;
 pub use points::Points;
 pub use ranges::Box8;
+pub use relevant::first_failing;
 pub use rows::{Point, Row};
-pub use searching::first_failing;

@@ -10,15 +10,9 @@ use crate::line::Line;
 use crate::rows::{Point, advance_point, evaluate, lowest_point, steps_along};
 use arrayvec::ArrayVec;
 
-/// The first point of a box, rising, at which no guard is negative and the condition fails; None
-/// where it holds at each. There are at most eight ranges and 120 guards and forms; each range
-/// holds a number, and numbers within ±32,767 alone; the numbers of all forms lie within ±2^40: all
-/// is the caller's condition. Along the last symbol values are carried on by addition.
-pub fn first_failing<C: Condition>(
-    ranges: &[(i32, i32)],
-    guards: &[Form],
-    condition: &C,
-) -> Option<Point>
+/// The first failing point of a box, as `first_failing` gives it, by a look at each point. Along the
+/// last symbol values are carried on by addition.
+pub fn search<C: Condition>(ranges: &[(i32, i32)], guards: &[Form], condition: &C) -> Option<Point>
     requires few { length ranges.now ≤ 8 }
     requires few_guards { length guards.now ≤ 120 }
     requires few_forms { length (C.asked condition.now) ≤ 120 }

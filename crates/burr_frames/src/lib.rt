@@ -17,6 +17,3 @@ pub use breaking::Break;
 pub use laws::an_instruction_has_one_verdict;
 pub use rule::Rule;
 pub use state::{Miss, State, arrives, meets_entry, meets_exit};
-
-#[cfg(test)]
-mod tests;

@@ -12,8 +12,6 @@ mod numbers;
 mod paying;
 mod places;
 mod starting;
-#[cfg(test)]
-mod tests;
 
 use crate::lying::Lying;
 use arrayvec::ArrayVec;

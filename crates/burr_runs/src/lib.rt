@@ -23,6 +23,3 @@ pub use reading::{LIMIT, read_whole};
 pub use refusal::put_refusal;
 pub use running::try_plan;
 pub use text_runs::bench_text;
-
-#[cfg(test)]
-mod tests;

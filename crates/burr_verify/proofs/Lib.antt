@@ -8,6 +8,7 @@ mod Formed
 mod Framings
 mod Heres
 mod JudgedOn
+mod LabelPlaces
 mod LabelsJudged
 mod OneContainer
 mod OnePass

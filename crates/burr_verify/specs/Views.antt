@@ -1,5 +1,5 @@
 -- What the code's answers say of a judgement.
-use Rattle.std.specs.Prelude.{◌≡◌, ⊤, ℕ, List, Option, Some, Result, Ok, Err, MatchResult, MatchOption, ◌<◌, ◌≤◌, slice_get, option_map}
+use Rattle.std.specs.Prelude.{◌≡◌, ⊤, ℕ, List, Option, Some, Result, Ok, Err, MatchResult, MatchOption, ◌↔◌, ◌<◌, ◌≤◌, slice_get, option_map}
 use Rattle.burr_voxels.specs.declared.cell.Cell.{Cell}
 use Rattle.burr_container.specs.Plans.{Frame}
 use Rattle.burr_frames.specs.FramedPlans.{FramedProcedure, FramedPlan}
@@ -53,6 +53,11 @@ GoesOn homes plan n here from to =
 -- the pass ends at this stage, by this refusal
 abbrev pub Stops : List (List Cell) → FramedPlan → ℕ → FramedProcedure → Stage → Refusal → Type 0
 Stops homes plan n here from r = Pass homes plan n here from (Refuses (failed_check r))
+
+-- so many labels stand before a place: those of the numbers below
+abbrev pub AreBefore : FramedProcedure → ℕ → ℕ → Type 0
+AreBefore here place n =
+    (k : ℕ) (l : ℕ × Frame) → slice_get here.labels k ≡ Some l → (k < n) ↔ (l.0 < place)
 
 -- the first label at a place from one on and before another; none where there is none
 abbrev pub IsLabelWithin : FramedProcedure → ℕ → ℕ → Option ℕ → Type 0

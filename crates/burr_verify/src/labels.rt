@@ -1,9 +1,9 @@
 //! Labels by their places.
 
-ghost use Rattle.std.specs.Prelude.{◌<◌, ◌≤◌, ◌↔◌, IsTrue, IfSome, length};
-ghost use Rattle.burr_container.specs.Containers.{HasLabel};
+ghost use Rattle.std.specs.Prelude.{◌<◌, ◌≤◌, IfSome, length, slice_get};
+ghost use Rattle.burr_container.specs.Containers.{HasLabel, OfProcedure};
 ghost use Rattle.burr_frames.specs.Here.{OfHere};
-ghost use Rattle.burr_verify.specs.Views.{IsLabelWithin};
+ghost use Rattle.burr_verify.specs.Views.{AreBefore, IsLabelWithin};
 
 use burr_container::Container;
 
@@ -18,18 +18,35 @@ pub fn label_within(
     ensures has { IfSome result (HasLabel container.now procedure) }
     ensures found { OfHere container.now procedure (λ plan here. IsLabelWithin here from end result) }
 {
-    for label in 0..container.label_count(procedure) {
-        let place = usize::from(container.label(procedure, label));
-        if is_between(place, from, end) {
-            return Some(label);
-        }
+    let label = count_before(container, procedure, from);
+    let behind = count_before(container, procedure, end);
+    if label < behind {
+        return Some(label);
     }
     None
 }
 
-/// Whether a place is one from a place on and before another.
-fn is_between(place: usize, from: usize, end: usize) -> bool
-    ensures { IsTrue result ↔ (from ≤ place) × (place < end) }
+/// How many labels of a procedure stand before a place; they stand at rising places, so it is found
+/// by bisection.
+fn count_before(container: &Container<'_>, procedure: usize, place: usize) -> usize
+    requires { procedure < length container.now.procedures }
+    ensures few { IfSome (slice_get container.now.procedures procedure)
+        (λ p. result ≤ length p.labels.starts.items) }
+    ensures many { OfProcedure container.now procedure (λ p q. result ≤ length q.labels) }
+    ensures before { OfHere container.now procedure (λ plan here. AreBefore here place result) }
 {
-    from <= place && place < end
+    // A container's plan is within the format.
+    let _header = container.header();
+    let count = container.label_count(procedure);
+    let mut low = 0;
+    let mut high = count;
+    while low < high {
+        let middle = low + (high - low) / 2;
+        if usize::from(container.label(procedure, middle)) < place {
+            low = middle + 1;
+        } else {
+            high = middle;
+        }
+    }
+    low
 }

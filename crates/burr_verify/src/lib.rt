@@ -18,6 +18,3 @@ pub use laws::{
     a_fitting_plan_is_from_a_container, a_pass_has_one_judgement, a_plan_is_judged_in_one_way,
 };
 pub use refusal::Refusal;
-
-#[cfg(test)]
-mod tests;

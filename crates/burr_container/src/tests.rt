@@ -1,5 +1,0 @@
-use super::*;
-
-mod faults;
-mod plans;
-mod vectors;

@@ -1,0 +1,5 @@
+use burr_container::*;
+
+mod faults;
+mod plans;
+mod vectors;
