@@ -10,6 +10,11 @@ use std::test::Fail;
 const DUO: &[u8] =
     b"assembly duo\nshape cube\nlayer\n#\nend\npiece A cube +x+y+z 0 0 0\npiece B cube +x+y+z 1 0 0\n";
 
+/// What a call of the bench tells.
+fn progress(bench: &mut Checked<'_, PlainCells<'_>>, answer: Option<i32>) -> Result<Progress, Trap> {
+    bench.step(answer)
+}
+
 /// What calls of the bench on the duo tell, one for each answer.
 fn assert_calls(
     rt: &impl Abort,
@@ -26,7 +31,7 @@ fn assert_calls(
     let mut bench = Checked::bare(code, &cells);
     assert_eq!(rt; answers.len(), told.len());
     for (answer, wanted) in answers.iter().zip(told) {
-        assert_eq!(rt; bench.step(*answer), *wanted);
+        assert_eq!(rt; progress(&mut bench, *answer), *wanted);
     }
     Ok(())
 }
@@ -110,9 +115,9 @@ fn steps_the_whole_tray(rt: HostRuntime) -> Result<(), Fail> {
     let duo = Assembly::read(rt.alloc(), DUO)?;
     let cells = PlainCells::new(&duo);
     let mut bench = Checked::bare(&[0x10, 0, 0, 0, 3, 0x11, 4], &cells);
-    assert_eq!(rt; bench.step(None), Ok(Progress::Went(None)));
+    assert_eq!(rt; progress(&mut bench, None), Ok(Progress::Went(None)));
     assert_eq!(rt;
-        bench.step(None),
+        progress(&mut bench, None),
         Ok(Progress::Went(Some(unit(3, Direction::PlusZ))))
     );
     for piece in 0..2 {
@@ -132,9 +137,9 @@ fn steps_no_farther_than_256(rt: HostRuntime) -> Result<(), Fail> {
     }
     let mut bench = Checked::bare(&code, &cells);
     for _ in 0..257 {
-        assert!(rt; bench.step(None).is_ok());
+        assert!(rt; progress(&mut bench, None).is_ok());
     }
-    assert_eq!(rt; bench.step(None), Err(Trap::OffBench));
+    assert_eq!(rt; progress(&mut bench, None), Err(Trap::OffBench));
     if bench.assembly().piece_count() != 2 {
         return Err(Fail::from("the duo has two pieces"));
     }
@@ -163,9 +168,9 @@ fn tells_its_state(rt: HostRuntime) -> Result<(), Fail> {
     }
     assert_eq!(rt; bench.assembly().name(), "duo");
     assert_eq!(rt; bench.place(1), Some((0, Cell::ORIGIN)));
-    assert_eq!(rt; bench.step(None), Ok(Progress::Went(None)));
+    assert_eq!(rt; progress(&mut bench, None), Ok(Progress::Went(None)));
     assert_eq!(rt; (bench.tray(), bench.grip()), (0, 2));
-    assert!(rt; bench.step(None).is_ok());
+    assert!(rt; progress(&mut bench, None).is_ok());
     assert_eq!(rt; (bench.tray(), bench.grip()), (0, 0));
     assert_eq!(rt; (bench.place(0), bench.place(1)), (None, None));
     Ok(())
@@ -178,9 +183,9 @@ fn tells_where_it_stands(rt: HostRuntime) -> Result<(), Fail> {
     // a `grip`, and no instruction
     let mut bench = Checked::bare(&[0x10, 0, 0, 0, 1, 0x14, 1], &cells);
     assert_eq!(rt; (bench.steps(), bench.pc(), bench.ended()), (0, 0, false));
-    assert_eq!(rt; bench.step(None), Ok(Progress::Went(None)));
+    assert_eq!(rt; progress(&mut bench, None), Ok(Progress::Went(None)));
     assert_eq!(rt; (bench.steps(), bench.pc(), bench.ended()), (1, 5, false));
-    assert_eq!(rt; bench.step(None), Err(Trap::BadCode));
+    assert_eq!(rt; progress(&mut bench, None), Err(Trap::BadCode));
     assert_eq!(rt; (bench.steps(), bench.pc(), bench.ended()), (1, 5, false));
     Ok(())
 }
@@ -201,9 +206,9 @@ fn assert_trap(
     }
     let mut bench = Checked::bare(code, &cells);
     for _ in 0..steps {
-        assert_eq!(rt; bench.step(None), Ok(Progress::Went(None)));
+        assert_eq!(rt; progress(&mut bench, None), Ok(Progress::Went(None)));
     }
-    assert_eq!(rt; bench.step(None), Err(trap));
+    assert_eq!(rt; progress(&mut bench, None), Err(trap));
     assert_eq!(rt; (bench.pc(), bench.steps()), (pc, steps));
     Ok(())
 }
@@ -242,14 +247,14 @@ fn takes_a_fitting_answer(rt: HostRuntime) -> Result<(), Fail> {
     // ask 0 2, store 3, load 3, push 5, sub
     let code = [0x22, 0, 0, 0, 2, 3, 3, 2, 3, 1, 0, 5, 5];
     let mut bench = Checked::bare(&code, &cells);
-    assert_eq!(rt; bench.step(None), Ok(Progress::Asks(0, 2)));
-    assert_eq!(rt; bench.step(Some(3)), Ok(Progress::Again));
-    assert_eq!(rt; bench.step(Some(-1)), Ok(Progress::Again));
+    assert_eq!(rt; progress(&mut bench, None), Ok(Progress::Asks(0, 2)));
+    assert_eq!(rt; progress(&mut bench, Some(3)), Ok(Progress::Again));
+    assert_eq!(rt; progress(&mut bench, Some(-1)), Ok(Progress::Again));
     assert_eq!(rt; bench.steps(), 0);
-    assert_eq!(rt; bench.step(Some(2)), Ok(Progress::Went(None)));
+    assert_eq!(rt; progress(&mut bench, Some(2)), Ok(Progress::Went(None)));
     assert_eq!(rt; bench.operands().first(), Some(&2));
     for _ in 0..4 {
-        assert_eq!(rt; bench.step(None), Ok(Progress::Went(None)));
+        assert_eq!(rt; progress(&mut bench, None), Ok(Progress::Went(None)));
     }
     assert_eq!(rt;
         (bench.slot(3), bench.operands().first()),

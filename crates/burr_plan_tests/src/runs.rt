@@ -1,7 +1,7 @@
 use burr_assembly::Assembly;
-use burr_blocking::{CellTables, PlainCells};
+use burr_blocking::{Blocking, CellTables, PlainCells};
 use burr_container::Container;
-use burr_io::{Reading, WriteFault, Writing};
+use burr_io::{Reading, Sink, Source, WriteFault, Writing};
 use burr_runs::{AnswersFault, BenchFault, Outcome, bench_text, check, read_answers, run_plan};
 use burr_verify::accept;
 use std::alloc::{AllocError, Global};
@@ -32,11 +32,44 @@ fn input_of(alloc: Global, text: &str, code: &str) -> Result<String, AllocError>
     format!(in alloc; "{text}code {code}\n")
 }
 
+// Calls whose contracts no test needs: here they end, and tests are proved sooner.
+
+/// Runs an input's bare code and puts its sheet.
+fn benched<R: Source, W: Sink>(
+    alloc: Global,
+    source: &mut R,
+    sink: &mut W,
+) -> Result<Outcome, BenchFault> {
+    bench_text(alloc, source, sink)
+}
+
+/// Checks a plan and puts the line of it.
+fn checked<B: Blocking, W: Sink>(
+    container: &Container<'_>,
+    blocking: &B,
+    sink: &mut W,
+) -> Result<bool, WriteFault> {
+    check(container, blocking, sink)
+}
+
+/// Checks a plan, and runs it where it is accepted.
+fn ran<B: Blocking, W: Sink>(
+    container: &Container<'_>,
+    blocking: &B,
+    answers: &[i32],
+    sink: &mut W,
+) -> Option<Result<Outcome, WriteFault>> {
+    let Ok(accepted) = accept(container, blocking) else {
+        return None;
+    };
+    Some(run_plan(&accepted, answers, sink))
+}
+
 /// Asserts that an input ends so, with this output.
 fn assert_output(rt: &impl Abort, alloc: Global, input: &str, outcome: Outcome, output: &str) {
     let mut source = Reading::new(input.as_bytes());
     let mut written = Vec::new(alloc);
-    let result = bench_text(alloc, &mut source, &mut Writing::new(&mut written));
+    let result = benched(alloc, &mut source, &mut Writing::new(&mut written));
     assert_eq!(rt; result, Ok(outcome), "{input}");
     assert_eq!(rt; written.as_slice(), output.as_bytes(), "{input}");
 }

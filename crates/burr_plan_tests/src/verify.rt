@@ -8,6 +8,7 @@ use std::process::Abort;
 use std::test::Fail;
 
 mod codes;
+mod growing;
 mod labels;
 mod plans;
 mod worked;

@@ -32,7 +32,7 @@ impl Seen {
         let mut room = [0; 1024];
         let mut written = Cursor::new(room.as_mut_slice());
         let mut source = Reading::new(&mut portions);
-        let result = bench_text(alloc, &mut source, &mut Writing::new(&mut written));
+        let result = benched(alloc, &mut source, &mut Writing::new(&mut written));
         let count = written.position() as usize;
         let is_right = result == Ok(outcome) && room.get(..count) == Some(output.as_bytes());
         if result == Err(BenchFault::Memory) && count == 0 {
@@ -244,11 +244,8 @@ fn put_without_memory(container: &Container<'_>, tables: &CellTables<'_>) -> Put
     let mut room = [0; 128];
     let mut written = Cursor::new(room.as_mut_slice());
     let mut sink = Writing::new(&mut written);
-    let is_accepted = check(container, tables, &mut sink);
-    let outcome = match accept(container, tables) {
-        Ok(accepted) => Some(run_plan(&accepted, &[2], &mut sink)),
-        Err(_) => None,
-    };
+    let is_accepted = checked(container, tables, &mut sink);
+    let outcome = ran(container, tables, &[2], &mut sink);
     Put {
         is_accepted,
         outcome,

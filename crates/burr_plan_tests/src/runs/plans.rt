@@ -98,7 +98,7 @@ fn assert_checked(
     let assembly = Assembly::read(alloc, assembly.as_bytes())?;
     let cells = PlainCells::new(&assembly);
     let mut written = Vec::new(alloc);
-    let result = check(&container, &cells, &mut Writing::new(&mut written));
+    let result = checked(&container, &cells, &mut Writing::new(&mut written));
     assert_eq!(rt; result, Ok(is_accepted), "{line}");
     assert_eq!(rt; written.as_slice(), line.as_bytes(), "{line}");
     Ok(())
@@ -154,10 +154,9 @@ fn assert_run(
     let container = Container::parse(&bytes)?;
     let assembly = Assembly::read(alloc, assembly.as_bytes())?;
     let cells = PlainCells::new(&assembly);
-    let accepted = accept(&container, &cells)?;
     let mut written = Vec::new(alloc);
-    let result = run_plan(&accepted, answers, &mut Writing::new(&mut written));
-    assert_eq!(rt; result, Ok(outcome), "{sheet}");
+    let result = ran(&container, &cells, answers, &mut Writing::new(&mut written));
+    assert_eq!(rt; result, Some(Ok(outcome)), "{sheet}");
     assert_eq!(rt; written.as_slice(), sheet.as_bytes(), "{sheet}");
     Ok(())
 }

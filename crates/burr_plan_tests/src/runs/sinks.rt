@@ -41,7 +41,7 @@ fn writes_a_front_to_a_sink_that_fails(rt: HostRuntime) -> Result<(), Fail> {
             let taken = Vec::new(alloc);
             let mut writer = Narrow { taken, room, fails };
             let mut source = Reading::new(input.as_bytes());
-            let result = bench_text(alloc, &mut source, &mut Writing::new(&mut writer));
+            let result = benched(alloc, &mut source, &mut Writing::new(&mut writer));
             let wanted = if room < 42 {
                 Err(BenchFault::Write)
             } else {
@@ -71,7 +71,7 @@ fn assert_fronts_of_verdict(
         for fails in [false, true] {
             let taken = Vec::new(alloc);
             let mut writer = Narrow { taken, room, fails };
-            let result = check(&container, &cells, &mut Writing::new(&mut writer));
+            let result = checked(&container, &cells, &mut Writing::new(&mut writer));
             let wanted = if room < line.len() {
                 Err(WriteFault)
             } else {
@@ -104,20 +104,19 @@ fn writes_a_front_of_an_accepted_plans_sheet_to_a_sink_that_fails(
     let container = Container::parse(&bytes)?;
     let cup = Assembly::read(alloc, CUP.as_bytes())?;
     let cells = PlainCells::new(&cup);
-    let accepted = accept(&container, &cells)?;
     let sheet = "1 t0 A +z 2 out\nlevels 1\napart in 14 steps\n";
     for room in 0..=sheet.len() {
         for fails in [false, true] {
             let taken = Vec::new(alloc);
             let mut writer = Narrow { taken, room, fails };
-            let result = run_plan(&accepted, &[2], &mut Writing::new(&mut writer));
+            let result = ran(&container, &cells, &[2], &mut Writing::new(&mut writer));
             let wanted = if room < sheet.len() {
                 Err(WriteFault)
             } else {
                 Ok(Outcome::Apart)
             };
             let front = sheet.as_bytes().get(..room);
-            assert_eq!(rt; result, wanted, "{room}");
+            assert_eq!(rt; result, Some(wanted), "{room}");
             assert_eq!(rt; Some(writer.taken.as_slice()), front, "{room}");
         }
     }

@@ -10,7 +10,7 @@ fn reads_a_source_that_gives_a_byte_a_call(rt: HostRuntime) -> Result<(), Fail> 
     for made in 0..=calls {
         let mut source = Reading::new(Portions::new(input.as_str(), 1, made));
         let mut output = Vec::new(alloc);
-        let result = bench_text(alloc, &mut source, &mut Writing::new(&mut output));
+        let result = benched(alloc, &mut source, &mut Writing::new(&mut output));
         let (wanted, sheet) = if made < calls {
             (Err(BenchFault::Read), "")
         } else {
@@ -59,7 +59,7 @@ fn judges_a_source_that_fails_or_is_too_long(rt: HostRuntime) {
     for (left, each, fails, wanted) in cases {
         let mut output = Vec::new(alloc);
         let mut source = Reading::new(Blanks { left, each, fails });
-        let result = bench_text(alloc, &mut source, &mut Writing::new(&mut output));
+        let result = benched(alloc, &mut source, &mut Writing::new(&mut output));
         assert_eq!(rt; result, wanted, "{left} {each}");
         assert_eq!(rt; output.is_empty(), wanted.is_err(), "{left} {each}");
     }

@@ -41,6 +41,18 @@ none | accepted
 # the cost at the loop: `4+1v0`, `3+2v0`
 00000004 0002 > 00000004 0001 | V21 proc 0 pc 12 point 1
 00000004 0002 > 00000003 0002 | V24 proc 0 pc 19 point 0
+00000004 0002 > 00000001 0000 | V24 proc 0 pc 12 point 0
+# the counter is known to be 0, and asked seven times more, and eight times: eight guards, and nine
+0001 0000000b > 0001 00000012, 00 00 00 0000000b > 00 00 00 00000012, \
+00000004 0002 > 0000000b 0002, 0014 10 > 0030 10, \
+21 00 0001 > 21 00 0001 21 00 0001 21 00 0001 21 00 0001 21 00 0001 21 00 0001 21 00 0001 \
+21 00 0001 \
+| accepted
+0001 0000000b > 0001 00000012, 00 00 00 0000000b > 00 00 00 00000012, \
+00000004 0002 > 00000009 0002, 0014 10 > 0034 10, \
+21 00 0001 > 21 00 0001 21 00 0001 21 00 0001 21 00 0001 21 00 0001 21 00 0001 21 00 0001 \
+21 00 0001 21 00 0001 \
+| V25 proc 0 pc 44
 # 256 units, and 257
 0001 0000000b > 0001 00000205, 00 00 00 0000000b > 00 00 00 00000205, \
 0000 0002 00 > 0000 00ff 00, 00000002 ffff > 000000ff ffff, 01 0002 03 > 01 00ff 03 \
@@ -94,7 +106,7 @@ fn judges_a_question(rt: HostRuntime) -> Result<(), Fail> {
 
 /// A dot in a cup is lifted twice, by a procedure: its parameter is 0 to 3, the dot comes at z
 /// `0+1v0` and leaves at `1+1v0`, at a cost of 2.
-const LIFT_PLAN: &str = "42504c4e 0001 0000000b 02 03 637570 02 \
+pub const LIFT_PLAN: &str = "42504c4e 0001 0000000b 02 03 637570 02 \
     00 0001 \
     0000 00 00000000 00 00 00 0000000b \
     00 00000000 00000000 00000000 \
@@ -126,9 +138,18 @@ none | accepted
 # a call of main, and one without an operand
 01 0001 24 01 12 > 01 0001 24 00 12 | V19 proc 0 pc 13
 01 0001 24 01 12 > 06 13 00 24 01 12 | V6 proc 0 pc 10
+# a cost that the callee's is too much for, also where the first argument is 1
+00 00 00 0000000b > 00 00 00 00000003 | V24 proc 0 pc 8 point
+00 00 00 0000000b > 00 00 00 00000003, 01 0000 24 > 01 0001 24 | V20 proc 0 pc 8 point
+# in the procedure a call of itself, a write of the parameter, and of it with no such label
+0003 11 04 25 > 0003 24 01 25 | V19 proc 1 pc 0
+0003 11 04 25 > 0003 03 00 25 | V9 proc 1 pc 0
+0003 11 04 25 > 0005 21 00 0000 25 | V9 proc 1 pc 0
+0003 11 04 25 > 0005 21 00 0001 25 | V10 proc 1 pc 0
 # in the procedure `halt`, another tray, a step into the bowl
 0003 11 04 25 > 0003 00 00 00 | V22 proc 1 pc 0
 0003 11 04 25 > 0003 13 00 25 | V22 proc 1 pc 2
+00000002 0000 > 00000001 0000, 0003 11 04 25 > 0003 13 00 25 | V24 proc 1 pc 2 point 0
 0003 11 04 25 > 0003 11 02 25 | V15 proc 1 pc 0 pieces 0 1 point 0";
 
 #[test]
@@ -193,6 +214,13 @@ none | accepted
 # a grip of a piece that is apart, a piece alone in a tray
 0009 00 00000000 > 0009 00 00000001 | V27 proc 0 pc 9
 00000001 ff ff > 00000001 ff 1f 00000000 00000000 00000000 | V27 proc 0 pc 9
+# at 257 units from home, where the other is in the way or its tray is in use: a motion out
+0009 00 00000000 00 00 00 00000001 ff ff > 0009 00 00000001 00 00 00 00000001 \
+00 00000101 00000000 00000000 00 00000101 00000000 00000000, \
+000a 10 00000001 12 01 01 00 00 > 000c 10 00000001 12 01 01 00 12 00 01 | V18 proc 0 pc 9 point
+0009 00 00000000 00 00 00 00000001 ff ff > 0009 00 00000001 00 00 00 00000001 \
+00 00000101 00000000 00000000 00 00000101 00000000 00000000, \
+000a 10 00000001 12 01 01 00 00 > 000c 10 00000001 12 01 01 00 12 00 00 | V17 proc 0 pc 9
 # the start: a live slot, an operand, guards, tray, grip, a place
 00 00 00 00000003 00 00000000 00000000 00000000 00 00000000 00000000 00000000 > \
 01 0000 0000 00 00 00000003 0000 00 00000000 0000 00000000 0000 00000000 0000 \
