@@ -194,18 +194,31 @@ fn plan_job<'a>(task: PlanTask, words: &ArgMatches<'a>) -> Option<Job<'a>> {
 
 /// The command line: the commands, help and the version.
 fn command<'a>(alloc: Global) -> Result<Command<'a>, AllocError> {
+    let with_files = with_files(alloc, without_commands(alloc))?;
+    with_plans(alloc, with_files)?.subcommand(explain(alloc)?)
+}
+
+/// The command line without its commands.
+fn without_commands<'a>(alloc: Global) -> Command<'a> {
     Command::new(alloc, "burr")
         .about(ABOUT)
         .version("0.1.0")
         .override_usage("burr < INPUT\n       burr <COMMAND>")
         .after_help(FORM)
         .disable_help_subcommand(true)
-        .subcommand(asm(alloc)?)?
-        .subcommand(list(alloc)?)?
+}
+
+/// A command line with the commands on a file behind its own.
+fn with_files<'a>(alloc: Global, command: Command<'a>) -> Result<Command<'a>, AllocError> {
+    command.subcommand(asm(alloc)?)?.subcommand(list(alloc)?)
+}
+
+/// A command line with the commands on an assembly and a plan behind its own.
+fn with_plans<'a>(alloc: Global, command: Command<'a>) -> Result<Command<'a>, AllocError> {
+    command
         .subcommand(on_plan(alloc, "check", CHECK, CHECK_EXAMPLE)?)?
         .subcommand(on_plan(alloc, "run", RUN, RUN_EXAMPLE)?)?
-        .subcommand(on_plan(alloc, "try", TRY, TRY_EXAMPLE)?)?
-        .subcommand(explain(alloc)?)
+        .subcommand(on_plan(alloc, "try", TRY, TRY_EXAMPLE)?)
 }
 
 /// The command `asm`.

@@ -11,7 +11,10 @@ const DUO: &[u8] =
     b"assembly duo\nshape cube\nlayer\n#\nend\npiece A cube +x+y+z 0 0 0\npiece B cube +x+y+z 1 0 0\n";
 
 /// What a call of the bench tells.
-fn progress(bench: &mut Checked<'_, PlainCells<'_>>, answer: Option<i32>) -> Result<Progress, Trap> {
+fn progress(
+    bench: &mut Checked<'_, PlainCells<'_>>,
+    answer: Option<i32>,
+) -> Result<Progress, Trap> {
     bench.step(answer)
 }
 

@@ -1,9 +1,10 @@
-ghost use Rattle.std.specs.Prelude.{◌≡◌, ◌++◌, ◌∷◌, IfOk, OnOk};
+ghost use Rattle.std.specs.Prelude.{◌≡◌, ◌++◌, ◌∷◌, [], IfOk, OnOk};
 ghost use Rattle.std.specs.Fmt.{signed_decimal};
+ghost use Rattle.std.specs.List.{flat_map};
 ghost use Rattle.burr_assembly.specs.Text.{text_of, shape_text, layer_text, piece_text};
 ghost use Rattle.burr_assembly.specs.HomedPieces.{pieces_of};
 
-use crate::drawing::Layer;
+use crate::drawing::{Layer, Row};
 use crate::piece::Piece;
 use crate::shape::DrawnShape;
 use burr_text::Name;
@@ -23,13 +24,28 @@ pub fn write_text(
     let mut text = Vec::from_slice(alloc, b"assembly ")?;
     text.extend_from_slice(name.as_bytes())?;
     text.push(b'\n')?;
-    for shape in shapes {
-        add_shape(&mut text, shape)?;
-    }
-    for piece in pieces {
-        add_piece(&mut text, piece)?;
-    }
+    add_shapes(&mut text, shapes)?;
+    add_pieces(&mut text, pieces)?;
     Ok(text)
+}
+
+fn add_shapes(text: &mut Vec<u8>, shapes: &[DrawnShape]) -> Result<(), AllocError>
+    ensures { OnOk result (text.new.items ≡ text.old.items ++ flat_map shape_text shapes.now) }
+{
+    for shape in shapes {
+        add_shape(text, shape)?;
+    }
+    Ok(())
+}
+
+fn add_pieces(text: &mut Vec<u8>, pieces: &[Piece]) -> Result<(), AllocError>
+    ensures { OnOk result (text.new.items ≡
+        text.old.items ++ flat_map piece_text (pieces_of pieces.now)) }
+{
+    for piece in pieces {
+        add_piece(text, piece)?;
+    }
+    Ok(())
 }
 
 fn add_shape(text: &mut Vec<u8>, shape: &DrawnShape) -> Result<(), AllocError>
@@ -38,10 +54,17 @@ fn add_shape(text: &mut Vec<u8>, shape: &DrawnShape) -> Result<(), AllocError>
     text.extend_from_slice(b"shape ")?;
     text.extend_from_slice(shape.name().as_bytes())?;
     text.push(b'\n')?;
-    for layer in shape.layers() {
+    add_layers(text, shape.layers())?;
+    text.extend_from_slice(b"end\n")
+}
+
+fn add_layers(text: &mut Vec<u8>, layers: &[Layer]) -> Result<(), AllocError>
+    ensures { OnOk result (text.new.items ≡ text.old.items ++ flat_map layer_text layers.now) }
+{
+    for layer in layers {
         add_layer(text, layer)?;
     }
-    text.extend_from_slice(b"end\n")
+    Ok(())
 }
 
 fn add_layer(text: &mut Vec<u8>, layer: &Layer) -> Result<(), AllocError>
@@ -49,9 +72,16 @@ fn add_layer(text: &mut Vec<u8>, layer: &Layer) -> Result<(), AllocError>
 {
     text.extend_from_slice(b"layer\n")?;
     for row in layer.rows() {
-        text.extend_from_slice(row.marks())?;
-        text.push(b'\n')?;
+        add_row(text, row)?;
     }
+    Ok(())
+}
+
+fn add_row(text: &mut Vec<u8>, row: &Row) -> Result<(), AllocError>
+    ensures { OnOk result (text.new.items ≡ text.old.items ++ row.now ++ 10 ∷ []) }
+{
+    text.extend_from_slice(row.marks())?;
+    text.push(b'\n')?;
     Ok(())
 }
 
