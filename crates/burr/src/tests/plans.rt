@@ -237,6 +237,12 @@ $burr run cup cup.bpln
 >levels 1
 >apart in 8 steps
 ?0
+<1
+$burr run cup cup.bpln
+>1 t0 A +z 1 out
+>levels 1
+>apart in 11 steps
+?0
 <7
 <-1
 <2
@@ -339,10 +345,147 @@ $burr try trio duo.bpln
 ?1
 ";
 
+/// Code that traps where it is refused; a label inside an instruction, to which no run comes; a question with
+/// as many answers as there may be, and one with one more.
+const CODES: &str = "\
+@duo.plan
+/plan duo 2 3/plan duo 2 4
+/cost 3/cost 4
+/halt/grip 0
+<halt
+=plan
+$burr asm plan bpln
+?0
+$burr check duo bpln
+>refused V13 proc 0 pc 8
+?1
+$burr try duo bpln
+>1 t0 A -x 0 out
+>levels 1
+>trap 2 GripOff proc 0 pc 8 after 2 steps
+?1
+<plan duo 2 3
+<proc main 0
+<label start
+<frame 0 -
+<cost 3
+<at 0 0 0 0 0
+<at 1 0 0 0 0
+<push 1
+<add
+<halt
+=plan
+$burr asm plan bpln
+?0
+$burr check duo bpln
+>refused V6 proc 0 pc 3
+?1
+$burr try duo bpln
+>levels -
+>trap 6 MissingOperand proc 0 pc 3 after 1 steps
+?1
+<plan duo 2 9
+<proc main 0
+<label start
+<frame 0 -
+<cost 9
+<at 0 0 0 0 0
+<at 1 0 0 0 0
+<push 1
+<push 1
+<push 1
+<push 1
+<push 1
+<push 1
+<push 1
+<push 1
+<push 1
+=plan
+$burr asm plan bpln
+?0
+$burr check duo bpln
+>refused V7 proc 0 pc 24
+?1
+$burr try duo bpln
+>levels -
+>trap 7 StackFull proc 0 pc 24 after 8 steps
+?1
+<plan duo 2 3
+<proc main 0
+<label start
+<frame 0 -
+<cost 3
+<at 0 0 0 0 0
+<at 1 0 0 0 0
+<byte 10
+<label inside
+<frame 0 -
+<cost 3
+<at 0 0 0 0 0
+<at 1 0 0 0 0
+<byte 00
+<byte 00
+<byte 00
+<byte 01
+<aside -x 1
+<halt
+=plan
+$burr asm plan bpln
+?0
+$burr check duo bpln
+>refused V3 proc 0 pc 0
+?1
+$burr try duo bpln
+>1 t0 A -x 0 out
+>levels 1
+>apart in 3 steps
+?0
+<plan duo 2 5
+<proc main 0
+<label start
+<frame 0 -
+<cost 5
+<at 0 0 0 0 0
+<at 1 0 0 0 0
+<ask 0 4095
+<drop
+<grip 0
+<aside -x 1
+<halt
+=plan
+$burr asm plan bpln
+?0
+$burr check duo bpln
+>accepted cost 5 budget 5
+?0
+<4096
+<4095
+$burr run duo bpln
+>1 t0 A -x 0 out
+>levels 1
+>apart in 5 steps
+?0
+@plan
+/4095/4096
+=plan
+$burr asm plan bpln
+?0
+$burr check duo bpln
+>refused V25 proc 0 pc 0
+?1
+<4096
+$burr try duo bpln
+>1 t0 A -x 0 out
+>levels 1
+>apart in 5 steps
+?0
+";
+
 #[test]
 fn refuses_plans(rt: HostRuntime) -> Result<(), Fail> {
     assert_transcript(&rt, EXAMPLES)?;
-    assert_transcript(&rt, REFUSED)
+    assert_transcript(&rt, REFUSED)?;
+    assert_transcript(&rt, CODES)
 }
 
 /// A loop as far as the bench goes, and one unit farther.
