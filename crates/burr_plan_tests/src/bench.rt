@@ -118,9 +118,9 @@ fn steps_the_whole_tray(rt: HostRuntime) -> Result<(), Fail> {
     let duo = Assembly::read(rt.alloc(), DUO)?;
     let cells = PlainCells::new(&duo);
     let mut bench = Checked::bare(&[0x10, 0, 0, 0, 3, 0x11, 4], &cells);
-    assert_eq!(rt; progress(&mut bench, None), Ok(Progress::Went(None)));
+    assert_eq!(rt; bench.step(None), Ok(Progress::Went(None)));
     assert_eq!(rt;
-        progress(&mut bench, None),
+        bench.step(None),
         Ok(Progress::Went(Some(unit(3, Direction::PlusZ))))
     );
     for piece in 0..2 {
@@ -171,9 +171,9 @@ fn tells_its_state(rt: HostRuntime) -> Result<(), Fail> {
     }
     assert_eq!(rt; bench.assembly().name(), "duo");
     assert_eq!(rt; bench.place(1), Some((0, Cell::ORIGIN)));
-    assert_eq!(rt; progress(&mut bench, None), Ok(Progress::Went(None)));
+    assert_eq!(rt; bench.step(None), Ok(Progress::Went(None)));
     assert_eq!(rt; (bench.tray(), bench.grip()), (0, 2));
-    assert!(rt; progress(&mut bench, None).is_ok());
+    assert!(rt; bench.step(None).is_ok());
     assert_eq!(rt; (bench.tray(), bench.grip()), (0, 0));
     assert_eq!(rt; (bench.place(0), bench.place(1)), (None, None));
     Ok(())
