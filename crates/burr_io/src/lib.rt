@@ -6,6 +6,7 @@ mod puts;
 mod reading;
 mod sink;
 mod source;
+mod whole_lines;
 mod writing;
 
 pub use fault::{IoFailed, WriteFault};
@@ -13,6 +14,7 @@ pub use puts::{put_all, put_number, put_words};
 pub use reading::Reading;
 pub use sink::Sink;
 pub use source::Source;
+pub use whole_lines::WholeLines;
 pub use writing::Writing;
 
 #[cfg(test)]

@@ -3,6 +3,8 @@ use std::io::{self, Cursor, ErrorKind, Read, Write};
 use std::process::Abort;
 use std::test::Fail;
 
+mod whole_lines;
+
 /// A reader that gives a byte a call, the call's number, and fails at one call alone.
 #[derive(Drop)]
 struct Drips {

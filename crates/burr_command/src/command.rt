@@ -1,0 +1,111 @@
+//! The commands, with their words and options.
+
+use crate::help;
+use clap::{Arg, ArgAction, Command};
+use std::alloc::{AllocError, Global};
+
+/// The command line: the commands, help and the version.
+pub fn command<'a>(alloc: Global) -> Result<Command<'a>, AllocError> {
+    let with_files = with_files(alloc, without_commands(alloc))?;
+    with_plans(alloc, with_files)?.subcommand(explain(alloc)?)
+}
+
+/// The command line without its commands.
+fn without_commands<'a>(alloc: Global) -> Command<'a> {
+    Command::new(alloc, "burr")
+        .about(help::ABOUT)
+        .version("0.1.0")
+        .override_usage(help::USAGE)
+        .after_help(help::OVERVIEW)
+}
+
+/// A command line with the commands on a file after its own.
+fn with_files<'a>(alloc: Global, command: Command<'a>) -> Result<Command<'a>, AllocError> {
+    command.subcommand(asm(alloc)?)?.subcommand(list(alloc)?)
+}
+
+/// A command line with the commands on an assembly and a plan after its own.
+fn with_plans<'a>(alloc: Global, command: Command<'a>) -> Result<Command<'a>, AllocError> {
+    command
+        .subcommand(check(alloc)?)?
+        .subcommand(run(alloc)?)?
+        .subcommand(attempt(alloc)?)
+}
+
+/// The command `asm`.
+fn asm<'a>(alloc: Global) -> Result<Command<'a>, AllocError> {
+    Command::new(alloc, "asm")
+        .about("Assembles a plan text into a container")
+        .after_help(help::ASM)
+        .arg(word(alloc, "TEXT", "The plan text"))?
+        .arg(word(alloc, "OUT", "The container that is made"))
+}
+
+/// The command `list`.
+fn list<'a>(alloc: Global) -> Result<Command<'a>, AllocError> {
+    Command::new(alloc, "list")
+        .about("Prints the plan text of a container")
+        .after_help(help::LIST)
+        .arg(word(alloc, "PLAN", "The container"))?
+        .arg(places(alloc))
+}
+
+/// The flag `--places`.
+fn places<'a>(alloc: Global) -> Arg<'a> {
+    Arg::new(alloc, "places")
+        .action(ArgAction::SetTrue)
+        .long("places")
+        .help("Says before each line of code where it stands")
+}
+
+/// The command `check`.
+fn check<'a>(alloc: Global) -> Result<Command<'a>, AllocError> {
+    on_plan(
+        alloc,
+        "check",
+        "Says whether a plan is accepted",
+        help::CHECK,
+    )
+}
+
+/// The command `run`.
+fn run<'a>(alloc: Global) -> Result<Command<'a>, AllocError> {
+    on_plan(alloc, "run", "Runs a plan that is accepted", help::RUN)
+}
+
+/// The command `try`.
+fn attempt<'a>(alloc: Global) -> Result<Command<'a>, AllocError> {
+    let about = "Runs a plan on the bench, without accepting it";
+    on_plan(alloc, "try", about, help::TRY)
+}
+
+/// A command on an assembly and a plan.
+fn on_plan<'a>(
+    alloc: Global,
+    name: &'a str,
+    about: &'a str,
+    example: &'a str,
+) -> Result<Command<'a>, AllocError> {
+    Command::new(alloc, name)
+        .about(about)
+        .after_help(example)
+        .arg(word(alloc, "ASSEMBLY", "The assembly text"))?
+        .arg(word(alloc, "PLAN", "The container"))
+}
+
+/// The command `explain`.
+fn explain<'a>(alloc: Global) -> Result<Command<'a>, AllocError> {
+    let line = word(alloc, "LINE", "A word or a line that was printed").num_args(1..);
+    Command::new(alloc, "explain")
+        .about("Says what a refusal, a trap or another line means")
+        .after_help(help::EXPLAIN)
+        .arg(line)
+}
+
+/// A word that has to be given, as it stands: one that begins with a hyphen too.
+fn word<'a>(alloc: Global, name: &'a str, help: &'a str) -> Arg<'a> {
+    Arg::new(alloc, name)
+        .required(true)
+        .allow_hyphen_values(true)
+        .help(help)
+}

@@ -1,0 +1,90 @@
+//! What help says beyond the lists of commands, words and options.
+
+/// What help says first.
+pub const ABOUT: &str =
+    "Checks and runs plans that take burr puzzles apart, and prints move sheets.";
+
+/// How the program is called.
+pub const USAGE: &str = "burr <COMMAND>\n       burr < INPUT";
+
+/// What help says after the options.
+pub const OVERVIEW: &str = "\
+An assembly is a text that draws a puzzle: shapes in layers, and its pieces. A
+plan is a text too: code that takes the puzzle apart, and at each label what
+holds there. You write both, or a program of yours does: burr does not search
+for a way to take a puzzle apart, it checks and runs the one that it is given.
+
+Example, to be pasted at the top of the repository:
+
+./burr asm examples/six-bars.plan /tmp/six-bars.bpln
+./burr check examples/six-bars.assembly /tmp/six-bars.bpln
+./burr run examples/six-bars.assembly /tmp/six-bars.bpln < /dev/null
+
+The first makes a container of the plan text. The second says `accepted`: then
+no run of the plan fails. The third prints the moves, and ends with `apart`.
+
+docs/ASSEMBLIES.md says how a puzzle is drawn, docs/PLANS.md how a plan is
+written, and docs/REFERENCE.md has all instructions and limits. Whatever is
+printed and not understood: burr explain 'THE LINE'.
+
+Without a command the input is an assembly and a line of code in hexadecimal
+digits, and its run is printed; docs/FORMATS.md has the rules.
+
+Exit statuses:
+
+  0  all pieces are apart; a plan is accepted; a command is done; help, version
+  1  refused, trapped or stopped, as printed
+  2  a fault of the command line; `explain` of a word that it does not know
+  3  a file or a stream failed, or one that is read has more than 16777216 bytes
+  4  out of memory
+  5  the run waits for an answer";
+
+/// What help says of `asm` last.
+pub const ASM: &str = "\
+OUT is written last, and left alone where TEXT is refused: `refused P2 line 9`.
+A file OUT is replaced whole: until all of the container is written, the old
+one stands. OUT may not be TEXT itself.
+
+Example: ./burr asm examples/ring.plan /tmp/ring.bpln";
+
+/// What help says of `list` last.
+pub const LIST: &str = "\
+A file that is no container is refused: `refused C1 at 12`. What is printed is
+assembled to the same bytes again.
+
+Example: ./burr list /tmp/ring.bpln";
+
+/// What help says of `check` last.
+pub const CHECK: &str = "\
+The plan is judged, and not run: standard input is not read. `accepted cost 14
+budget 14` says that no run of it meets a trap or makes more than 14 steps. Else
+the first rule that fails is named, as `refused V28 proc 0 pc 0`, with status 1.
+
+Example: ./burr check examples/cup.assembly /tmp/cup.bpln";
+
+/// What help says of `run` last.
+pub const RUN: &str = "\
+A plan that `check` refuses is not run: the refusal is printed, with status 1.
+Answers to questions are read from standard input, a number on each line. The
+sheet that is printed ends with all pieces apart, or, where no answer is left,
+with what the run waits for and status 5.
+
+Example: echo 2 | ./burr run examples/cup.assembly /tmp/cup.bpln";
+
+/// What help says of `try` last.
+pub const TRY: &str = "\
+Answers to questions are read from standard input, a number on each line. Each
+move is checked on the bench; the sheet that is printed ends with how the run
+closed. Status 5: it waits for an answer.
+
+Example: echo 2 | ./burr try examples/cup.assembly /tmp/cup.bpln";
+
+/// What help says of `explain` last.
+pub const EXPLAIN: &str = "\
+LINE is a word or a whole line that burr printed, in any case: A1 to A8, C1 to
+C6, P1 to P5, V1 to V28, `input`, `answers`, a trap by its number or name, or
+`waiting`, `stopped`, `apart`, `levels`, `accepted` and the lines of moves.
+docs/FAULTS.md has all of them.
+
+Examples: ./burr explain A8
+          ./burr explain refused V15 proc 0 pc 24 pieces A B point 0 1";

@@ -1,0 +1,13 @@
+//! The command line: what its words ask for, help, and what is wrong with words.
+#![tactic(auto)]
+
+mod command;
+mod help;
+mod job;
+mod request;
+
+pub use job::{Job, PlanTask};
+pub use request::{Reply, Request, request_of};
+
+#[cfg(test)]
+mod tests;

@@ -1,0 +1,412 @@
+//! Words, and what they ask for: help, the version, faults, jobs.
+use super::*;
+use std::alloc::{AllocError, Global};
+use std::process::Abort;
+use std::test::Fail;
+
+/// The words of a command line, the program's name first; a blank stands between two of them.
+fn words_of(alloc: Global, line: &str) -> Result<Vec<String>, AllocError> {
+    let mut words = Vec::new(alloc);
+    for word in line.split(' ') {
+        words.push(String::from_str(alloc, word)?)?;
+    }
+    Ok(words)
+}
+
+/// What the words of a line ask for, as text: `>` and each line of a reply, `!` and each line of a
+/// fault, or `=` and a job.
+fn answer_of(alloc: Global, line: &str) -> Result<String, AllocError> {
+    let words = words_of(alloc, line)?;
+    match request_of(alloc, &words)? {
+        Request::Reply(reply) => marked(alloc, if reply.is_fault { "!" } else { ">" }, &reply.text),
+        Request::Job(job) => job_text(alloc, &job),
+    }
+}
+
+/// The lines of a text, each after a mark.
+fn marked(alloc: Global, mark: &str, text: &str) -> Result<String, AllocError> {
+    let mut lines = String::new(alloc);
+    for line in text.lines() {
+        lines.push_str(mark)?;
+        lines.push_str(line)?;
+        lines.push('\n')?;
+    }
+    Ok(lines)
+}
+
+/// A job and its words.
+fn job_text(alloc: Global, job: &Job<'_>) -> Result<String, AllocError> {
+    match job {
+        Job::Assemble { text, out } => format!(in alloc; "=assemble {text} to {out}\n"),
+        Job::List { plan, places } => format!(in alloc; "=list {plan} {places}\n"),
+        Job::Explain { line } => format!(in alloc; "=explain {line}\n"),
+        Job::Plan {
+            task,
+            assembly,
+            plan,
+        } => {
+            let task = match task {
+                PlanTask::Check => "check",
+                PlanTask::Run => "run",
+                PlanTask::Try => "try",
+            };
+            format!(in alloc; "={task} {assembly} {plan}\n")
+        }
+    }
+}
+
+/// Goes through command lines, each after `$` and before the lines of its answer.
+fn assert_answers<T: Abort + AllocGlobal>(rt: &T, cases: &str) -> Result<(), Fail> {
+    for case in cases.split('$').skip(1) {
+        let (line, wanted) = case.split_once('\n').expect(rt, "a case has a first line");
+        let got = answer_of(rt.alloc(), line)?;
+        assert_eq!(rt; got.as_str(), wanted, "{line}");
+    }
+    Ok(())
+}
+
+/// What the program says of itself.
+const HELP: &str = "\
+$burr --help
+>Checks and runs plans that take burr puzzles apart, and prints move sheets.
+>
+>Usage: burr <COMMAND>
+>       burr < INPUT
+>
+>Commands:
+>  asm      Assembles a plan text into a container
+>  list     Prints the plan text of a container
+>  check    Says whether a plan is accepted
+>  run      Runs a plan that is accepted
+>  try      Runs a plan on the bench, without accepting it
+>  explain  Says what a refusal, a trap or another line means
+>  help     Print this message or the help of the given subcommand(s)
+>
+>Options:
+>  -h, --help     Print help
+>  -V, --version  Print version
+>
+>An assembly is a text that draws a puzzle: shapes in layers, and its pieces. A
+>plan is a text too: code that takes the puzzle apart, and at each label what
+>holds there. You write both, or a program of yours does: burr does not search
+>for a way to take a puzzle apart, it checks and runs the one that it is given.
+>
+>Example, to be pasted at the top of the repository:
+>
+>./burr asm examples/six-bars.plan /tmp/six-bars.bpln
+>./burr check examples/six-bars.assembly /tmp/six-bars.bpln
+>./burr run examples/six-bars.assembly /tmp/six-bars.bpln < /dev/null
+>
+>The first makes a container of the plan text. The second says `accepted`: then
+>no run of the plan fails. The third prints the moves, and ends with `apart`.
+>
+>docs/ASSEMBLIES.md says how a puzzle is drawn, docs/PLANS.md how a plan is
+>written, and docs/REFERENCE.md has all instructions and limits. Whatever is
+>printed and not understood: burr explain 'THE LINE'.
+>
+>Without a command the input is an assembly and a line of code in hexadecimal
+>digits, and its run is printed; docs/FORMATS.md has the rules.
+>
+>Exit statuses:
+>
+>  0  all pieces are apart; a plan is accepted; a command is done; help, version
+>  1  refused, trapped or stopped, as printed
+>  2  a fault of the command line; `explain` of a word that it does not know
+>  3  a file or a stream failed, or one that is read has more than 16777216 bytes
+>  4  out of memory
+>  5  the run waits for an answer
+$burr --version
+>burr 0.1.0
+$burr -V
+>burr 0.1.0
+$burr -Vh run
+>burr 0.1.0
+";
+
+/// What is said of each command.
+const COMMAND_HELP: &str = "\
+$burr asm --help
+>Assembles a plan text into a container
+>
+>Usage: burr asm <TEXT> <OUT>
+>
+>Arguments:
+>  <TEXT>  The plan text
+>  <OUT>   The container that is made
+>
+>Options:
+>  -h, --help  Print help
+>
+>OUT is written last, and left alone where TEXT is refused: `refused P2 line 9`.
+>A file OUT is replaced whole: until all of the container is written, the old
+>one stands. OUT may not be TEXT itself.
+>
+>Example: ./burr asm examples/ring.plan /tmp/ring.bpln
+$burr list --help
+>Prints the plan text of a container
+>
+>Usage: burr list [OPTIONS] <PLAN>
+>
+>Arguments:
+>  <PLAN>  The container
+>
+>Options:
+>      --places  Says before each line of code where it stands
+>  -h, --help    Print help
+>
+>A file that is no container is refused: `refused C1 at 12`. What is printed is
+>assembled to the same bytes again.
+>
+>Example: ./burr list /tmp/ring.bpln
+$burr check --help
+>Says whether a plan is accepted
+>
+>Usage: burr check <ASSEMBLY> <PLAN>
+>
+>Arguments:
+>  <ASSEMBLY>  The assembly text
+>  <PLAN>      The container
+>
+>Options:
+>  -h, --help  Print help
+>
+>The plan is judged, and not run: standard input is not read. `accepted cost 14
+>budget 14` says that no run of it meets a trap or makes more than 14 steps. Else
+>the first rule that fails is named, as `refused V28 proc 0 pc 0`, with status 1.
+>
+>Example: ./burr check examples/cup.assembly /tmp/cup.bpln
+$burr run --help
+>Runs a plan that is accepted
+>
+>Usage: burr run <ASSEMBLY> <PLAN>
+>
+>Arguments:
+>  <ASSEMBLY>  The assembly text
+>  <PLAN>      The container
+>
+>Options:
+>  -h, --help  Print help
+>
+>A plan that `check` refuses is not run: the refusal is printed, with status 1.
+>Answers to questions are read from standard input, a number on each line. The
+>sheet that is printed ends with all pieces apart, or, where no answer is left,
+>with what the run waits for and status 5.
+>
+>Example: echo 2 | ./burr run examples/cup.assembly /tmp/cup.bpln
+$burr try --help
+>Runs a plan on the bench, without accepting it
+>
+>Usage: burr try <ASSEMBLY> <PLAN>
+>
+>Arguments:
+>  <ASSEMBLY>  The assembly text
+>  <PLAN>      The container
+>
+>Options:
+>  -h, --help  Print help
+>
+>Answers to questions are read from standard input, a number on each line. Each
+>move is checked on the bench; the sheet that is printed ends with how the run
+>closed. Status 5: it waits for an answer.
+>
+>Example: echo 2 | ./burr try examples/cup.assembly /tmp/cup.bpln
+$burr explain --help
+>Says what a refusal, a trap or another line means
+>
+>Usage: burr explain <LINE>...
+>
+>Arguments:
+>  <LINE>...  A word or a line that was printed
+>
+>Options:
+>  -h, --help  Print help
+>
+>LINE is a word or a whole line that burr printed, in any case: A1 to A8, C1 to
+>C6, P1 to P5, V1 to V28, `input`, `answers`, a trap by its number or name, or
+>`waiting`, `stopped`, `apart`, `levels`, `accepted` and the lines of moves.
+>docs/FAULTS.md has all of them.
+>
+>Examples: ./burr explain A8
+>          ./burr explain refused V15 proc 0 pc 24 pieces A B point 0 1
+";
+
+/// Words that are faulty.
+const FAULTS: &str = "\
+$burr solve
+!error: unrecognized subcommand 'solve'
+!
+!Usage: burr <COMMAND>
+!       burr < INPUT
+!
+!For more information, try '--help'.
+$/usr/bin/other solve --help
+!error: unrecognized subcommand 'solve'
+!
+!Usage: burr <COMMAND>
+!       burr < INPUT
+!
+!For more information, try '--help'.
+$burr 
+!error: unrecognized subcommand ''
+!
+!Usage: burr <COMMAND>
+!       burr < INPUT
+!
+!For more information, try '--help'.
+$burr -
+!error: unrecognized subcommand '-'
+!
+!Usage: burr <COMMAND>
+!       burr < INPUT
+!
+!For more information, try '--help'.
+$burr --
+!error: unexpected argument '--' found
+!
+!Usage: burr <COMMAND>
+!       burr < INPUT
+!
+!For more information, try '--help'.
+$burr -- --help
+!error: unrecognized subcommand '--help'
+!
+!  tip: a similar subcommand exists: 'help'
+!
+!Usage: burr <COMMAND>
+!       burr < INPUT
+!
+!For more information, try '--help'.
+$burr -x
+!error: unexpected argument '-x' found
+!
+!Usage: burr <COMMAND>
+!       burr < INPUT
+!
+!For more information, try '--help'.
+$burr --hepl
+!error: unexpected argument '--hepl' found
+!
+!  tip: a similar argument exists: '--help'
+!
+!Usage: burr <COMMAND>
+!       burr < INPUT
+!
+!For more information, try '--help'.
+$burr --help=me
+!error: unexpected value 'me' for '--help' found; no more were expected
+!
+!Usage: burr <COMMAND>
+!       burr < INPUT
+!
+!For more information, try '--help'.
+$burr asm text
+!error: the following required arguments were not provided:
+!  <OUT>
+!
+!Usage: burr asm <TEXT> <OUT>
+!
+!For more information, try '--help'.
+$burr list
+!error: the following required arguments were not provided:
+!  <PLAN>
+!
+!Usage: burr list <PLAN>
+!
+!For more information, try '--help'.
+$burr run assembly
+!error: the following required arguments were not provided:
+!  <PLAN>
+!
+!Usage: burr run <ASSEMBLY> <PLAN>
+!
+!For more information, try '--help'.
+$burr check assembly plan 2
+!error: unexpected argument '2' found
+!
+!Usage: burr check <ASSEMBLY> <PLAN>
+!
+!For more information, try '--help'.
+$burr explain
+!error: the following required arguments were not provided:
+!  <LINE>...
+!
+!Usage: burr explain <LINE>...
+!
+!For more information, try '--help'.
+$burr help solve
+!error: unrecognized subcommand 'solve'
+!
+!Usage: burr <COMMAND>
+!       burr < INPUT
+!
+!For more information, try '--help'.
+";
+
+/// Words that ask for a job; paths are taken as they stand.
+const JOBS: &str = "\
+$burr asm a b
+=assemble a to b
+$burr asm -- -h --help
+=assemble -h to --help
+$burr list x
+=list x false
+$burr list --places x
+=list x true
+$burr list x --places
+=list x true
+$burr check a -dash
+=check a -dash
+$burr run a b
+=run a b
+$burr try a b
+=try a b
+$burr explain V15
+=explain V15
+$burr explain refused V15 proc 0 pc 24 pieces A B point 0 -1
+=explain refused V15 proc 0 pc 24 pieces A B point 0 -1
+$burr explain -
+=explain -
+";
+
+#[test]
+fn gives_help_and_the_version(rt: HostRuntime) -> Result<(), Fail> {
+    assert_answers(&rt, HELP)?;
+    assert_answers(&rt, COMMAND_HELP)
+}
+
+#[test]
+fn says_what_is_wrong_with_words(rt: HostRuntime) -> Result<(), Fail> {
+    assert_answers(&rt, FAULTS)
+}
+
+#[test]
+fn asks_for_jobs(rt: HostRuntime) -> Result<(), Fail> {
+    assert_answers(&rt, JOBS)
+}
+
+/// Pairs of command lines that are answered alike.
+const ALIKE: &str = "\
+burr --help=burr -h
+burr --help= -h run
+burr --help=burr -hV
+burr --help=burr help
+burr asm --help=burr asm -h
+burr asm --help=burr help asm
+burr run --help=burr run -h
+burr run --help=burr help run
+burr explain --help=burr explain -h
+burr explain --help=burr help explain
+";
+
+#[test]
+fn gives_help_by_other_words(rt: HostRuntime) -> Result<(), Fail> {
+    let alloc = rt.alloc();
+    for line in ALIKE.lines() {
+        let (first, second) = line.split_once('=').expect(&rt, "a pair is two lines");
+        let answer = answer_of(alloc, first)?;
+        let other = answer_of(alloc, second)?;
+        assert!(rt; answer.starts_with(">"), "{line}");
+        assert_eq!(rt; answer.as_str(), other.as_str(), "{line}");
+    }
+    Ok(())
+}
