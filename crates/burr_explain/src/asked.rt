@@ -1,6 +1,7 @@
 //! What of a line asks for its explanation.
 ghost use Rattle.std.specs.Prelude.{◌↔◌, IsTrue};
-ghost use Rattle.burr_explain.specs.Asked.{IsDigits, IsFirstWord, IsKeyOf, IsKeyOfCut, IsLead, lower_case};
+ghost use Rattle.burr_explain.specs.Asked.{IsDigits, IsFirstWord, IsKeyOf, IsKeyOfCut, IsLead};
+ghost use Rattle.burr_explain.specs.Asked.{lower_case};
 
 use burr_text::cut_at;
 
