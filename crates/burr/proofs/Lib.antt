@@ -1,3 +1,1 @@
 mod Ending
-mod ExplanationLines
-mod ExplanationWords

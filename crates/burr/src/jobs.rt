@@ -3,12 +3,12 @@
 ghost use Rattle.std.specs.Prelude.{OnErr, OnOk, IfOk};
 ghost use Rattle.burr.specs.Ends.{took, TakesSome, WritesLess, IsDone};
 
-use crate::explain::{explanation_of, put_explanation};
 use crate::fault::Fault;
 use crate::files::{read_file, write_file};
 use crate::refusal::{put_container_refusal, put_text_refusal};
 use burr_asm::{AsmFault, assemble, list, list_with_places};
 use burr_container::Container;
+use burr_explain::{explanation_of, put_explanation};
 use burr_io::{Sink, put_all};
 use std::rt::Files;
 

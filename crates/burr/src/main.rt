@@ -2,7 +2,6 @@
 #![tactic(auto)]
 
 mod command_line;
-mod explain;
 mod fault;
 mod files;
 mod job;

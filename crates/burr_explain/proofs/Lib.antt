@@ -1,0 +1,3 @@
+mod ExplanationLines
+mod ExplanationWords
+mod Keys

@@ -1,0 +1,17 @@
+use Rattle.burr_io.proofs.Common.Puts.{Puts-more, Puts-fails}
+use Rattle.burr_explain.proofs.putting.put_example.Goals as goal
+
+pub returns-in_err-put_all : goal.returns-in_err-put_all
+returns-in_err-put_all g c = Puts-fails _ c.in_err-put_all.ensures.puts c.from_residual.ensures.0
+
+pub returns-in_err-put_line : goal.returns-in_err-put_line
+returns-in_err-put_line g c =
+    Puts-more c.in_ok-put_all.ensures.puts (Puts-fails _ c.in_err-put_line.ensures c.from_residual-in_err-put_line.ensures.0)
+
+pub returns-in_err-put_all-2 : goal.returns-in_err-put_all-2
+returns-in_err-put_all-2 g c =
+    Puts-more c.in_ok-put_all.ensures.puts (Puts-more c.in_ok-put_line.ensures (Puts-fails _ c.in_err-put_all-2.ensures.puts c.from_residual-in_err-put_all-2.ensures.0))
+
+pub returns : goal.returns
+returns g c =
+    Puts-more c.in_ok-put_all.ensures.puts (Puts-more c.in_ok-put_line.ensures (Puts-more c.in_ok-put_all-2.ensures.puts c.put_lines.ensures))

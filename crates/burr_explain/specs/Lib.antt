@@ -1,0 +1,3 @@
+pub mod Asked
+pub mod Known
+pub mod Layout

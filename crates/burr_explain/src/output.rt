@@ -1,0 +1,126 @@
+//! Lines that burr prints beside refusals of texts and plans, and traps.
+ghost use Rattle.std.specs.Prelude.{◌≡◌};
+ghost use Rattle.burr_explain.specs.Asked.{words_in};
+ghost use Rattle.burr_explain.specs.Known.{output_words};
+
+use crate::explanation::{Explanation, Subject};
+
+/// The refusal of answers, the closing lines of sheets but traps, their levels and moves, and the
+/// verdict of a plan that is accepted.
+pub fn lines() -> &'static [Explanation]
+    ensures { words_in result.now ≡ output_words }
+{
+    LINES
+}
+
+const LINES: &[Explanation] = &[
+    Explanation {
+        subject: Subject::Refusal("answers"),
+        meaning: &[
+            "A line of the answers that were read from standard input is not an answer: `0`,",
+            "or an optional `-` and digits of which the first is not 0, from -2147483648 to",
+            "2147483647, and a line feed after it. The first such line is named, counted",
+            "from 1. Without any bytes there are no answers, and that is no fault.",
+        ],
+        cause: &[
+            "a last line without its line feed, two answers on one line, an",
+            "empty line, a blank, or `+2` or `02` in place of `2`; lines that end by carriage",
+            "return and line feed (CRLF).",
+        ],
+        remedy: &[
+            "write each answer on a line of its own, as `echo 2` does. An answer",
+            "that does not fit its question is no fault: it is passed over.",
+        ],
+        setting: "the second answer has a plus sign; `refused answers line 2`",
+        example: &["1", "+2"],
+    },
+    Explanation {
+        subject: Subject::Line("waiting"),
+        meaning: &[
+            "`waiting LO HI after N steps`: after N steps the run asks for a number of LO to",
+            "HI, and no answer is left. `ask LO HI` asks for such a number; `pick` with k",
+            "labels asks for 0 to k-1, which counts them from 0. Status 5.",
+        ],
+        cause: &[
+            "too few answers on standard input, or none that fits: one that",
+            "does not fit its question is passed over.",
+        ],
+        remedy: &[
+            "give one more number of LO to HI, on a line after the answers before",
+            "it, and run again: each run begins at the start.",
+        ],
+        setting: "`ask 0 2` comes after one step, and there are no answers",
+        example: &["levels -", "waiting 0 2 after 1 steps"],
+    },
+    Explanation {
+        subject: Subject::Line("stopped"),
+        meaning: &[
+            "`stopped after N steps`: the budget is used up, and the run has not ended. Bare",
+            "code has a budget of 1,000,000 steps, a plan that of its `plan` line. Only `try`",
+            "and bare code can be stopped, since `run` runs accepted plans alone. Status 1.",
+        ],
+        cause: &["a loop that does not end, or a budget that is too small."],
+        remedy: &[
+            "let the loop end, or raise the budget; `check` says whether a plan's",
+            "budget is enough.",
+        ],
+        setting: "a plan with a budget of 2 that makes 3 steps to its end",
+        example: &["1 t0 A -x 0 out", "levels 1", "stopped after 2 steps"],
+    },
+    Explanation {
+        subject: Subject::Line("apart"),
+        meaning: &[
+            "`apart in N steps`: the run has ended, and all pieces are apart. A step is one",
+            "instruction carried out, the `halt` at the end too. Status 0.",
+        ],
+        cause: &[],
+        remedy: &[],
+        setting: "three instructions: `grip 0`, `aside -x 1` and `halt`",
+        example: &["1 t0 A -x 0 out", "levels 1", "apart in 3 steps"],
+    },
+    Explanation {
+        subject: Subject::Line("levels"),
+        meaning: &[
+            "`levels 8.1.2`: how many lines of the sheet led to each out. The first number",
+            "counts the lines up to the first out, each next one those after the out before",
+            "it, the out's own line too. `-` stands where nothing went out. This is of the",
+            "plan, and not the level of the puzzle that catalogues print, unless the plan is",
+            "a shortest one.",
+        ],
+        cause: &[],
+        remedy: &[],
+        setting: "two lines to the first out, and one more to the second",
+        example: &[
+            "1 t0 A +z 2",
+            "2 t0 A +x 0 out",
+            "3 t0 B +y 0 out",
+            "levels 2.1",
+        ],
+    },
+    Explanation {
+        subject: Subject::Line("accepted"),
+        meaning: &[
+            "`accepted cost C budget B`: no run of the plan meets a trap or makes more than C",
+            "steps, whatever it is answered. A step is one instruction carried out. C is the",
+            "cost of main's first frame, and B the budget in the `plan` line, which is not",
+            "below C. Status 0.",
+        ],
+        cause: &[],
+        remedy: &[],
+        setting: "what `check` prints of examples/cup.plan",
+        example: &["accepted cost 14 budget 14"],
+    },
+    Explanation {
+        subject: Subject::Line("move"),
+        meaning: &[
+            "A line that begins with its number, counted from 1, is a move of the sheet. Next",
+            "come the tray, as `t0`; the pieces that move together, with commas between them;",
+            "the direction; and the number of unit steps. A last word `out` says that these",
+            "pieces are then taken out of the tray, along the same direction.",
+        ],
+        cause: &[],
+        remedy: &[],
+        setting: "in tray 0 A and B go up by 3 units together, and on out of the tray",
+        example: &["1 t0 A,B +z 3 out"],
+    },
+];
