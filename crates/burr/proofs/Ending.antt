@@ -22,7 +22,7 @@ use Rattle.burr_runs.specs.Running.{FailsInSheet}
 use Rattle.burr_runs.specs.Verdicts.{IsRefusedBy, FailsInVerdict}
 use Rattle.burr.specs.declared.fault.Fault.{Fault}
 use Rattle.burr.specs.Faults.{line_of, output_failed}
-use Rattle.burr.specs.declared.job.PlanTask.{PlanTask}
+use Rattle.burr_command.specs.declared.job.PlanTask.{PlanTask}
 use Rattle.burr.specs.Ends.{status_of}
 use Rattle.burr.specs.PlanEnds.{Ends, PutsEnd, PutsFrontOfEnd, FailsToEnd, IsRead, IsFor, CheckEnds, RunEnds, TryEnds, AnswersEnd, SafeEnds, BenchEnds, TaskEnds, AssemblyEnds, TextEnds}
 

@@ -1,1 +1,2 @@
 mod Ending
+pub mod Handing

@@ -2,11 +2,13 @@
 use Rattle.std.specs.Prelude.{◌≡◌, ◌⊎◌, ◌≤◌, ℕ, List, [], ◌∷◌, Bool, true, Option, codes}
 use Rattle.burr_text.specs.Words.{text_line}
 use Rattle.std.specs.Io.KnownBytes.{Appends}
-use Rattle.burr_io.specs.Sink.{TakesFront}
+use Rattle.burr_io.specs.Sink.{SinkView, HoldsFront}
 use Rattle.burr_runs.specs.declared.outcome.Outcome.{Outcome}
 use Rattle.burr_runs.specs.declared.outcome.Outcome.TheVariants.{Apart, Waiting, Trapped, Stopped, Refused}
 use Rattle.burr_runs.specs.declared.fault.BenchFault.{BenchFault}
 use Rattle.burr_runs.specs.declared.fault.BenchFault.TheVariants.{Read, TooLong, Write, Memory}
+use Rattle.burr_runs.specs.ReadWhole.{IsWholeInput}
+use Rattle.burr_runs.specs.Output.{IsOutput}
 use Rattle.burr_runs.specs.BenchText.{Streams, Succeeds, Fails}
 
 -- the status of an outcome
@@ -45,20 +47,37 @@ took old new failed = record { old = old; new = new; failed = failed }
 abbrev pub TakesNothing : Taken → Type 0
 TakesNothing t = t.new ≡ t.old
 
--- it took a text, or it failed and took a front of it
+-- it failed, and holds a front of what it held before and a text
+abbrev pub FailsInText : Taken → List ℕ → Type 0
+FailsInText t text = HoldsFront t.old t.new text × (t.failed ≡ true)
+
+-- it took a text, or it failed in it
 abbrev pub TakesText : Taken → List ℕ → Type 0
-TakesText t text =
-    Appends t.old t.new text ⊎ (TakesFront t.old t.new text × (t.failed ≡ true))
+TakesText t text = Appends t.old t.new text ⊎ FailsInText t text
 
 -- The run on the streams had an outcome, which the status tells, and standard error took nothing.
 abbrev pub HasOutcome : Streams → Taken → ℕ → Outcome → Type 0
 HasOutcome streams complaints status outcome =
     Succeeds streams outcome × (status ≡ status_of outcome) × TakesNothing complaints
 
+-- The sink failed in the output of the whole input.
+abbrev pub FailsInOutput : Streams → Type 0
+FailsInOutput s =
+    (input : List ℕ) × IsWholeInput s.left_old s.left_new s.read_failed input
+    × ((output : List ℕ) × (outcome : Outcome) × IsOutput input output outcome
+    × FailsInText (took s.taken_old s.taken_new s.write_failed) output)
+
+-- Why the run on the streams has no outcome.
+abbrev pub HasNoOutcome : Streams → BenchFault → Type 0
+HasNoOutcome s Read = Fails s Read
+HasNoOutcome s TooLong = Fails s TooLong
+HasNoOutcome s Memory = Fails s Memory
+HasNoOutcome s Write = FailsInOutput s
+
 -- The run on the streams had a fault, which the status and standard error tell.
 abbrev pub HasFault : Streams → Taken → ℕ → BenchFault → Type 0
 HasFault streams complaints status fault =
-    Fails streams fault × (status ≡ status_of_fault fault)
+    HasNoOutcome streams fault × (status ≡ status_of_fault fault)
     × TakesText complaints (complaint_of fault)
 
 -- one of the two
@@ -79,9 +98,16 @@ IsDone status = (status ≤ 1) ⊎ (status ≡ 5)
 abbrev pub WritesAll : Taken → Taken → ℕ → Type 0
 WritesAll sink complaints status = TakesSome sink × TakesNothing complaints × IsDone status
 
--- nothing was written, or the sink failed
+-- nothing was written, or the sink failed in some text
 abbrev pub WritesLess : Taken → Type 0
-WritesLess sink = TakesNothing sink ⊎ (TakesSome sink × (sink.failed ≡ true))
+WritesLess sink = TakesNothing sink ⊎ ((text : List ℕ) × FailsInText sink text)
+
+-- a sink was left as it was, or it took some text and then failed
+abbrev pub LeavesOrFails : {S : Type 0} → SinkView S → S → S → Type 0
+LeavesOrFails sink old new =
+    (new ≡ old)
+    ⊎ (TakesSome (took (sink.taken old) (sink.taken new) (sink.has_failed new))
+    × (sink.has_failed new ≡ true))
 
 -- the line that tells that a file or a stream failed
 abbrev pub IsFileLine : List ℕ → Type 0

@@ -10,6 +10,9 @@ line_of (faults.Write name) = text_line (codes "cannot" ∷ codes "write" ∷ na
 line_of (faults.Unknown word) =
     text_line (codes "error:" ∷ codes "nothing" ∷ codes "is" ∷ codes "explained" ∷ codes "under"
     ∷ word.now ∷ [])
+line_of (faults.Same name) =
+    text_line (codes "error:" ∷ codes "OUT" ∷ codes "is" ∷ codes "TEXT" ∷ codes "itself:"
+    ∷ name.now ∷ [])
 line_of faults.Memory = codes "no memory\n"
 
 -- the line that tells that standard output failed

@@ -1,4 +1,5 @@
 pub mod Ends
 pub mod Faults
+pub mod HandedOn
 pub mod PlanEnds
 pub mod Refusals

@@ -1,6 +1,6 @@
 -- How a command on a plan and an assembly ends: what is printed, and with which status.
 use Rattle.std.specs.Prelude.{◌≡◌, ◌⊎◌, ℕ, ℤ, List, true, false, codes, IsTrue}
-use Rattle.burr_io.specs.Sink.{SinkView, Takes, FailsWithin}
+use Rattle.burr_io.specs.Sink.{SinkView, Takes, FailsWithin, HoldsFront}
 use Rattle.burr_assembly.specs.declared.fault.AssemblyFault.{AssemblyFault}
 use Rattle.burr_assembly.specs.Text.{Assembly, IsText}
 use Rattle.burr_assembly.specs.Faults.{FirstFault}
@@ -22,8 +22,8 @@ use Rattle.burr_runs.specs.Headline.{IsSafeSheetOf}
 use Rattle.burr_runs.specs.Output.{IsSheetOf}
 use Rattle.burr_runs.specs.Refusals.{refusal}
 use Rattle.burr_runs.specs.Verdicts.{IsVerdictLine}
-use Rattle.burr.specs.declared.job.PlanTask.{PlanTask}
-use Rattle.burr.specs.declared.job.PlanTask.TheVariants.{Check, Run, Try}
+use Rattle.burr_command.specs.declared.job.PlanTask.{PlanTask}
+use Rattle.burr_command.specs.declared.job.PlanTask.TheVariants.{Check, Run, Try}
 use Rattle.burr.specs.Ends.{status_of}
 use Rattle.burr.specs.Faults.{output_failed}
 use Rattle.burr.specs.Refusals.{place_line, container_refusal, misfit_line}
@@ -145,4 +145,18 @@ PutsFrontOfEnd sink before behind AreEnds =
 abbrev pub FailsToEnd : {S : Type 0} → SinkView S → S → S → Ends → List ℕ → Type 0
 FailsToEnd sink before behind AreEnds line =
     ((line ≡ output_failed) × PutsFrontOfEnd sink before behind AreEnds)
-    ⊎ ((line ≡ codes "no memory\n") × (sink.taken behind ≡ sink.taken before))
+    ⊎ ((line ≡ codes "no memory\n") × (behind ≡ before))
+
+-- a sink failed, and holds a front of what it held before and of what is to be printed
+abbrev pub HoldsFrontOfEnd : {S : Type 0} → SinkView S → S → S → Ends → Type 0
+HoldsFrontOfEnd sink before behind AreEnds =
+    (output : List ℕ) × (status : ℕ) × AreEnds output status
+    × HoldsFront (sink.taken before) (sink.taken behind) output
+    × IsTrue (sink.has_failed behind)
+
+-- why what is to be printed did not come to this sink whole, by what is told on standard error: it
+-- failed; or memory was refused, and it was left alone
+abbrev pub StopsBeforeEnd : {S : Type 0} → SinkView S → S → S → Ends → List ℕ → Type 0
+StopsBeforeEnd sink before behind AreEnds line =
+    ((line ≡ output_failed) × HoldsFrontOfEnd sink before behind AreEnds)
+    ⊎ ((line ≡ codes "no memory\n") × (behind ≡ before))

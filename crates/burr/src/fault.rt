@@ -12,8 +12,10 @@ pub enum Fault<'a> {
     Read(&'a str),
     /// A file or a stream can't be written.
     Write(&'a str),
-    /// Nothing is explained under this word.
+    /// Nothing is explained under this line.
     Unknown(&'a str),
+    /// A container was to be written over its own plan text.
+    Same(&'a str),
     Memory,
 }
 
@@ -46,7 +48,7 @@ impl Fault<'_> {
         ensures { Means result (line_of self.now) }
     {
         match self {
-            Fault::Unknown(_) => 2,
+            Fault::Unknown(_) | Fault::Same(_) => 2,
             Fault::Read(_) | Fault::Write(_) => 3,
             Fault::Memory => 4,
         }
@@ -54,7 +56,8 @@ impl Fault<'_> {
 }
 
 /// Puts the line of standard error for a fault: `cannot read NAME`, `cannot write NAME` or
-/// `no memory`, or that there is nothing under a word.
+/// `no memory`, that nothing is explained under a line, or that a
+/// container was to be written over its plan text.
 pub fn put_fault<W: Sink>(fault: &Fault<'_>, sink: &mut W) -> Result<(), WriteFault>
     ensures { Puts W.Sink sink.old sink.new (line_of fault.now) result }
 {
@@ -69,6 +72,17 @@ pub fn put_fault<W: Sink>(fault: &Fault<'_>, sink: &mut W) -> Result<(), WriteFa
                 b"explained",
                 b"under",
                 word.as_bytes(),
+            ],
+            sink,
+        ),
+        Fault::Same(name) => put_words(
+            &[
+                b"error:",
+                b"OUT",
+                b"is",
+                b"TEXT",
+                b"itself:",
+                name.as_bytes(),
             ],
             sink,
         ),

@@ -1,10 +1,10 @@
 //! What the program does for each of its commands, and the status to end with.
 
 ghost use Rattle.std.specs.Prelude.{OnErr, OnOk, IfOk};
-ghost use Rattle.burr.specs.Ends.{took, TakesSome, WritesLess, IsDone};
+ghost use Rattle.burr.specs.Ends.{took, TakesSome, LeavesOrFails, IsDone};
 
 use crate::fault::Fault;
-use crate::files::{read_file, write_file};
+use crate::files::{are_one_file, read_file, write_file};
 use crate::refusal::{put_container_refusal, put_text_refusal};
 use burr_asm::{AsmFault, assemble, list, list_with_places};
 use burr_container::Container;
@@ -19,7 +19,7 @@ pub const DONE: u8 = 0;
 pub const REFUSED: u8 = 1;
 
 /// Assembles a plan text and makes a file of its container; a refusal is put on the sink, and the
-/// file is then left alone.
+/// file is then left alone. That file may not be the plan text itself.
 pub fn assemble_file<'a, F: Files + AllocGlobal, W: Sink>(
     files: &F,
     text: &'a str,
@@ -29,9 +29,11 @@ pub fn assemble_file<'a, F: Files + AllocGlobal, W: Sink>(
     ensures status { IfOk result IsDone }
     ensures ok { OnOk result (TakesSome
         (took (W.taken sink.old) (W.taken sink.new) (W.has_failed sink.new))) }
-    ensures err { OnErr result (WritesLess
-        (took (W.taken sink.old) (W.taken sink.new) (W.has_failed sink.new))) }
+    ensures err { OnErr result (LeavesOrFails W.Sink sink.old sink.new) }
 {
+    if are_one_file(files, text, out) {
+        return Err(Fault::Same(out));
+    }
     let bytes = read_file(files, text)?;
     match assemble(files.alloc(), &bytes) {
         Ok(container) => {
@@ -57,8 +59,7 @@ pub fn list_file<'a, F: Files + AllocGlobal, W: Sink>(
     ensures status { IfOk result IsDone }
     ensures ok { OnOk result (TakesSome
         (took (W.taken sink.old) (W.taken sink.new) (W.has_failed sink.new))) }
-    ensures err { OnErr result (WritesLess
-        (took (W.taken sink.old) (W.taken sink.new) (W.has_failed sink.new))) }
+    ensures err { OnErr result (LeavesOrFails W.Sink sink.old sink.new) }
 {
     let bytes = read_file(files, plan)?;
     match Container::parse(&bytes) {
@@ -78,19 +79,18 @@ pub fn list_file<'a, F: Files + AllocGlobal, W: Sink>(
     }
 }
 
-/// Puts what a word of a refusal or a trap means.
-pub fn explain_word<'a, W: Sink>(word: &'a str, sink: &mut W) -> Result<u8, Fault<'a>>
+/// Puts what a word or a line means that was printed.
+pub fn explain_line<'a, W: Sink>(line: &'a str, sink: &mut W) -> Result<u8, Fault<'a>>
     ensures status { IfOk result IsDone }
     ensures ok { OnOk result (TakesSome
         (took (W.taken sink.old) (W.taken sink.new) (W.has_failed sink.new))) }
-    ensures err { OnErr result (WritesLess
-        (took (W.taken sink.old) (W.taken sink.new) (W.has_failed sink.new))) }
+    ensures err { OnErr result (LeavesOrFails W.Sink sink.old sink.new) }
 {
-    match explanation_of(word.as_bytes()) {
+    match explanation_of(line.as_bytes()) {
         Some(known) => {
             put_explanation(known, sink)?;
             Ok(DONE)
         }
-        None => Err(Fault::Unknown(word)),
+        None => Err(Fault::Unknown(line)),
     }
 }

@@ -1,24 +1,26 @@
 //! burr takes interlocking puzzles apart by programs: what the program of this name does.
 #![tactic(auto)]
 
-mod command_line;
 mod fault;
 mod files;
-mod job;
+mod handing;
 mod jobs;
 mod plans;
 mod program;
 mod refusal;
 
 use crate::program::{end_without_words, run_words};
-use burr_io::{Reading, Writing};
+use burr_io::{Reading, WholeLines, Writing};
 use std::process::ExitCode;
 use std::{env, io};
 
+/// How many bytes of lines are held back of standard output, and of standard error.
+const HELD: usize = 65_536;
+
 fn main(rt: HostRuntime) -> ExitCode {
     let mut source = Reading::new(rt.reader());
-    let mut sink = Writing::new(rt.stdout());
-    let mut complaints = Writing::new(rt.stderr());
+    let mut sink: WholeLines<_, HELD> = WholeLines::new(Writing::new(rt.stdout()));
+    let mut complaints: WholeLines<_, HELD> = WholeLines::new(Writing::new(rt.stderr()));
     let status = match words(&rt) {
         Ok(words) => run_words(&rt, &words, &mut source, &mut sink, &mut complaints),
         Err(error) => end_without_words(error.kind(), &mut complaints),

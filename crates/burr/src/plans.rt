@@ -1,27 +1,29 @@
 //! What is done with a plan and an assembly: it is judged, or run with the answers of standard
 //! input.
 
-ghost use Rattle.std.specs.Prelude.{IfErr, IfOk, OnErr, OnOk};
+ghost use Rattle.std.specs.Prelude.{◌≡◌, [], IfErr, IfOk, OnErr, OnOk};
 ghost use Rattle.burr_bench.specs.BenchViews.{IsAtStart};
 ghost use Rattle.burr_runs.specs.Refusals.{refusal};
 ghost use Rattle.burr.specs.Ends.{took, TakesSome, WritesLess, IsDone};
 ghost use Rattle.burr.specs.Faults.{line_of};
 ghost use Rattle.burr.specs.Refusals.{container_refusal, misfit_line};
-ghost use Rattle.burr.specs.PlanEnds.{PutsEnd, FailsToEnd, IsRefusal, PlanEnds, AssemblyEnds};
+ghost use Rattle.burr.specs.PlanEnds.{PutsEnd, FailsToEnd, StopsBeforeEnd};
+ghost use Rattle.burr.specs.PlanEnds.{IsRefusal, PlanEnds, AssemblyEnds};
 ghost use Rattle.burr.specs.PlanEnds.{CheckEnds, RunEnds, TryEnds};
 ghost use Rattle.burr.specs.PlanEnds.{AnswersEnd, SafeEnds, BenchEnds, FaultyEnds};
 
 use crate::fault::Fault;
 use crate::files::read_file;
-use crate::job::PlanTask;
+use crate::handing::hand_on;
 use crate::jobs::{DONE, REFUSED};
 use crate::program::outcome_status;
 use crate::refusal::{put_answers_refusal, put_container_refusal, put_misfit};
 use burr_assembly::{Assembly, AssemblyFault};
 use burr_bench::Checked;
 use burr_blocking::{Blocking, CellTables};
+use burr_command::PlanTask;
 use burr_container::{Container, ContainerFault};
-use burr_io::{Sink, Source};
+use burr_io::{Sink, Source, WholeLines};
 use burr_runs::{
     AnswersFault, BenchFault, check, put_refusal, read_answers, read_whole, run_plan, try_plan,
 };
@@ -35,19 +37,20 @@ use std::rt::Files;
 /// a refusal, that the plan is accepted, or a run's sheet. The files are read in order, and then,
 /// where there may be a run, the source whole, before anything is judged: the text, the container,
 /// the plan for the assembly, and the answers.
-pub fn use_files<'a, F: Files + AllocGlobal, R: Source, W: Sink>(
+pub fn use_files<'a, F: Files + AllocGlobal, R: Source, W: Sink, const N: usize>(
     files: &F,
     task: PlanTask,
     assembly: &'a str,
     plan: &'a str,
     source: &mut R,
-    sink: &mut W,
+    sink: &mut WholeLines<W, N>,
 ) -> Result<u8, Fault<'a>>
+    requires fresh { sink.old.held ≡ [] }
     ensures status { IfOk result IsDone }
     ensures ok { OnOk result (TakesSome
-        (took (W.taken sink.old) (W.taken sink.new) (W.has_failed sink.new))) }
+        (took (W.taken sink.old.sink) (W.taken sink.new.sink) (W.has_failed sink.new.sink))) }
     ensures err { OnErr result (WritesLess
-        (took (W.taken sink.old) (W.taken sink.new) (W.has_failed sink.new))) }
+        (took (W.taken sink.old.sink) (W.taken sink.new.sink) (W.has_failed sink.new.sink))) }
 {
     let text = read_file(files, assembly)?;
     let container = read_file(files, plan)?;
@@ -67,8 +70,28 @@ fn read_source<'a, R: Source>(alloc: Global, source: &mut R) -> Result<Vec<u8>, 
     }
 }
 
-/// Does what is asked with the bytes of an assembly's text, of a container, and of answers.
-fn use_text<'a, W: Sink>(
+/// Does what is asked with the bytes of an assembly's text, of a container, and of answers, and hands
+/// on all that there is to print.
+fn use_text<'a, W: Sink, const N: usize>(
+    alloc: Global,
+    task: PlanTask,
+    text: &[u8],
+    container: &[u8],
+    answers: &[u8],
+    sink: &mut WholeLines<W, N>,
+) -> Result<u8, Fault<'a>>
+    requires fresh { sink.old.held ≡ [] }
+    ensures ok { IfOk result (PutsEnd W.Sink sink.old.sink sink.new.sink
+        (PlanEnds task text.now container.now answers.now)) }
+    ensures err { IfErr result (λ fault. StopsBeforeEnd W.Sink sink.old.sink sink.new.sink
+        (PlanEnds task text.now container.now answers.now) (line_of fault)) }
+{
+    let done = judge_text(alloc, task, text, container, answers, sink);
+    hand_on(done, sink)
+}
+
+/// Puts what there is to print of these bytes.
+fn judge_text<'a, W: Sink>(
     alloc: Global,
     task: PlanTask,
     text: &[u8],

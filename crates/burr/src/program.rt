@@ -1,17 +1,20 @@
 //! What the program does with its words and its streams, and the status that it ends with.
 
-ghost use Rattle.std.specs.Prelude.{◌≡◌, ◌≢◌, ◌≤◌, ◌<◌, codes, length};
+ghost use Rattle.std.specs.Prelude.{◌≡◌, ◌≢◌, ◌≤◌, ◌<◌, [], codes, length, IfOk, OnOk, OnErr};
 ghost use Rattle.burr_runs.specs.declared.fault.BenchFault.TheVariants.{Memory};
+ghost use Rattle.burr_io.specs.Sink.{Takes};
 ghost use Rattle.burr_runs.specs.BenchText.{streams};
-ghost use Rattle.burr.specs.Ends.{took, TakesText, IsRun, IsEnd};
+ghost use Rattle.burr.specs.Ends.{took, TakesText, FailsInText, TakesSome, WritesLess};
+ghost use Rattle.burr.specs.Ends.{IsDone, IsRun, IsEnd};
+ghost use Rattle.burr.specs.Faults.{line_of};
 ghost use Rattle.burr.specs.Ends.{complaint_of, status_of, status_of_fault};
 
-use crate::command_line::{Reply, Request, request_of};
-use crate::fault::put_fault;
-use crate::job::Job;
-use crate::jobs::{assemble_file, explain_word, list_file};
+use crate::fault::{Fault, put_fault};
+use crate::handing::hand_on;
+use crate::jobs::{assemble_file, explain_line, list_file};
 use crate::plans::use_files;
-use burr_io::{Sink, Source, WriteFault, put_all};
+use burr_command::{Job, Reply, Request, request_of};
+use burr_io::{Sink, Source, WholeLines, WriteFault, put_all};
 use burr_runs::{BenchFault, Outcome, bench_text};
 use std::alloc::{AllocError, Global};
 use std::io::ErrorKind;
@@ -30,20 +33,24 @@ const COMMAND_LINE: u8 = 2;
 /// version was written; 1 where the input was refused, or the run trapped or was stopped; 2 for a
 /// fault of the words; 3 where a file, the source or the sink failed, or an input is too long; 4
 /// where memory was refused; 5 where the run waits for an answer.
-pub fn run_words<F: Files + AllocGlobal, R: Source, W: Sink, E: Sink>(
+pub fn run_words<F: Files + AllocGlobal, R: Source, W: Sink, E: Sink, const N: usize>(
     files: &F,
     words: &[String],
     source: &mut R,
-    sink: &mut W,
-    complaints: &mut E,
+    sink: &mut WholeLines<W, N>,
+    complaints: &mut WholeLines<E, N>,
 ) -> u8
+    requires fresh { sink.old.held ≡ [] }
+    requires told { complaints.old.held ≡ [] }
     ensures run { length words.now ≤ 1 → IsRun
-        (streams R.Source source.old source.new W.Sink sink.old sink.new)
-        (took (E.taken complaints.old) (E.taken complaints.new) (E.has_failed complaints.new))
+        (streams R.Source source.old source.new W.Sink sink.old.sink sink.new.sink)
+        (took (E.taken complaints.old.sink) (E.taken complaints.new.sink)
+        (E.has_failed complaints.new.sink))
         result }
     ensures end { 1 < length words.now → IsEnd
-        (took (W.taken sink.old) (W.taken sink.new) (W.has_failed sink.new))
-        (took (E.taken complaints.old) (E.taken complaints.new) (E.has_failed complaints.new))
+        (took (W.taken sink.old.sink) (W.taken sink.new.sink) (W.has_failed sink.new.sink))
+        (took (E.taken complaints.old.sink) (E.taken complaints.new.sink)
+        (E.has_failed complaints.new.sink))
         result }
 {
     let alloc = files.alloc();
@@ -52,57 +59,115 @@ pub fn run_words<F: Files + AllocGlobal, R: Source, W: Sink, E: Sink>(
     }
     match request_of(alloc, words) {
         Ok(Request::Reply(reply)) => give(&reply, sink, complaints),
-        Ok(Request::Job(job)) => work(files, job, source, sink, complaints),
+        Ok(Request::Job(job)) => work(files, &job, source, sink, complaints),
         Err(AllocError) => end_by(BenchFault::Memory, complaints),
     }
 }
 
 /// Does a command's job, and gives the status to end with.
-fn work<F: Files + AllocGlobal, R: Source, W: Sink, E: Sink>(
+fn work<F: Files + AllocGlobal, R: Source, W: Sink, E: Sink, const N: usize>(
     files: &F,
-    job: Job<'_>,
+    job: &Job<'_>,
     source: &mut R,
-    sink: &mut W,
-    complaints: &mut E,
+    sink: &mut WholeLines<W, N>,
+    complaints: &mut WholeLines<E, N>,
 ) -> u8
+    requires fresh { sink.old.held ≡ [] }
+    requires told { complaints.old.held ≡ [] }
     ensures { IsEnd
-        (took (W.taken sink.old) (W.taken sink.new) (W.has_failed sink.new))
-        (took (E.taken complaints.old) (E.taken complaints.new) (E.has_failed complaints.new))
+        (took (W.taken sink.old.sink) (W.taken sink.new.sink) (W.has_failed sink.new.sink))
+        (took (E.taken complaints.old.sink) (E.taken complaints.new.sink)
+        (E.has_failed complaints.new.sink))
         result }
 {
-    let done = match job {
-        Job::Assemble { text, out } => assemble_file(files, text, out, sink),
-        Job::List { plan, places } => list_file(files, plan, places, sink),
-        Job::Plan {
-            task,
-            assembly,
-            plan,
-        } => use_files(files, task, assembly, plan, source, sink),
-        Job::Explain { word } => explain_word(word, sink),
-    };
-    match done {
+    match do_job(files, job, source, sink) {
         Ok(status) => status,
         Err(fault) => {
-            let _ = put_fault(&fault, complaints);
+            complain_of(&fault, complaints);
             fault.status()
         }
     }
 }
 
+/// Does a command's job, and hands on all that there is to print.
+fn do_job<'a, F: Files + AllocGlobal, R: Source, W: Sink, const N: usize>(
+    files: &F,
+    job: &'a Job<'_>,
+    source: &mut R,
+    sink: &mut WholeLines<W, N>,
+) -> Result<u8, Fault<'a>>
+    requires fresh { sink.old.held ≡ [] }
+    ensures status { IfOk result IsDone }
+    ensures ok { OnOk result (TakesSome
+        (took (W.taken sink.old.sink) (W.taken sink.new.sink) (W.has_failed sink.new.sink))) }
+    ensures err { OnErr result (WritesLess
+        (took (W.taken sink.old.sink) (W.taken sink.new.sink) (W.has_failed sink.new.sink))) }
+{
+    match job {
+        Job::Assemble { text, out } => {
+            let done = assemble_file(files, text, out, sink);
+            hand_on(done, sink)
+        }
+        Job::List { plan, places } => {
+            let done = list_file(files, plan, *places, sink);
+            hand_on(done, sink)
+        }
+        Job::Plan {
+            task,
+            assembly,
+            plan,
+        } => use_files(files, *task, assembly, plan, source, sink),
+        Job::Explain { line } => {
+            let done = explain_line(line, sink);
+            hand_on(done, sink)
+        }
+    }
+}
+
+/// Puts the line of standard error for a fault, and hands it on.
+fn complain_of<E: Sink, const N: usize>(fault: &Fault<'_>, complaints: &mut WholeLines<E, N>)
+    requires told { complaints.old.held ≡ [] }
+    ensures { TakesText
+        (took (E.taken complaints.old.sink) (E.taken complaints.new.sink)
+        (E.has_failed complaints.new.sink))
+        (line_of fault.now) }
+{
+    let _ = put_fault(fault, complaints);
+    let _ = complaints.flush();
+}
+
+/// Puts a text on standard error, and hands it on.
+fn complain<E: Sink, const N: usize>(text: &[u8], complaints: &mut WholeLines<E, N>)
+    requires told { complaints.old.held ≡ [] }
+    ensures { TakesText
+        (took (E.taken complaints.old.sink) (E.taken complaints.new.sink)
+        (E.has_failed complaints.new.sink))
+        text.now }
+{
+    let _ = put_all(text, complaints);
+    let _ = complaints.flush();
+}
+
 /// Ends where the words of the command line can't be had, and gives the status to end with: 4 where
 /// memory was refused, else 2, since a word is not UTF-8. The complaints take the line for it.
-pub fn end_without_words<E: Sink>(kind: ErrorKind, complaints: &mut E) -> u8
+pub fn end_without_words<E: Sink, const N: usize>(
+    kind: ErrorKind,
+    complaints: &mut WholeLines<E, N>,
+) -> u8
+    requires told { complaints.old.held ≡ [] }
     ensures memory { kind ≡ ErrorKind.OutOfMemory → (result ≡ 4) × TakesText
-        (took (E.taken complaints.old) (E.taken complaints.new) (E.has_failed complaints.new))
+        (took (E.taken complaints.old.sink) (E.taken complaints.new.sink)
+        (E.has_failed complaints.new.sink))
         (complaint_of Memory) }
     ensures fault { kind ≢ ErrorKind.OutOfMemory → (result ≡ 2) × TakesText
-        (took (E.taken complaints.old) (E.taken complaints.new) (E.has_failed complaints.new))
+        (took (E.taken complaints.old.sink) (E.taken complaints.new.sink)
+        (E.has_failed complaints.new.sink))
         (codes "error: a word of the command line is not UTF-8\n") }
 {
     if kind == ErrorKind::OutOfMemory {
         return end_by(BenchFault::Memory, complaints);
     }
-    let _ = put_all(
+    complain(
         b"error: a word of the command line is not UTF-8\n",
         complaints,
     );
@@ -110,49 +175,78 @@ pub fn end_without_words<E: Sink>(kind: ErrorKind, complaints: &mut E) -> u8
 }
 
 /// Puts a reply where it belongs, and gives the status to end with.
-fn give<W: Sink, E: Sink>(reply: &Reply, sink: &mut W, complaints: &mut E) -> u8
+fn give<W: Sink, E: Sink, const N: usize>(
+    reply: &Reply,
+    sink: &mut WholeLines<W, N>,
+    complaints: &mut WholeLines<E, N>,
+) -> u8
+    requires fresh { sink.old.held ≡ [] }
+    requires told { complaints.old.held ≡ [] }
     ensures { IsEnd
-        (took (W.taken sink.old) (W.taken sink.new) (W.has_failed sink.new))
-        (took (E.taken complaints.old) (E.taken complaints.new) (E.has_failed complaints.new))
+        (took (W.taken sink.old.sink) (W.taken sink.new.sink) (W.has_failed sink.new.sink))
+        (took (E.taken complaints.old.sink) (E.taken complaints.new.sink)
+        (E.has_failed complaints.new.sink))
         result }
 {
     let text = reply.text.as_bytes();
     if reply.is_fault {
-        let _ = put_all(text, complaints);
+        complain(text, complaints);
         return COMMAND_LINE;
     }
-    match put_all(text, sink) {
+    match put_whole(text, sink) {
         Ok(()) => 0,
         Err(WriteFault) => end_by(BenchFault::Write, complaints),
     }
 }
 
+/// Puts a text, and hands it on.
+fn put_whole<W: Sink, const N: usize>(
+    text: &[u8],
+    sink: &mut WholeLines<W, N>,
+) -> Result<(), WriteFault>
+    requires fresh { sink.old.held ≡ [] }
+    ensures ok { OnOk result (Takes W.Sink sink.old.sink sink.new.sink text.now) }
+    ensures err { OnErr result (FailsInText
+        (took (W.taken sink.old.sink) (W.taken sink.new.sink) (W.has_failed sink.new.sink)) text.now) }
+{
+    put_all(text, sink)?;
+    sink.flush()
+}
+
 /// Writes the output for the source to the sink, and gives the status to end with.
-fn run<R: Source, W: Sink, E: Sink>(
+fn run<R: Source, W: Sink, E: Sink, const N: usize>(
     alloc: Global,
     source: &mut R,
-    sink: &mut W,
-    complaints: &mut E,
+    sink: &mut WholeLines<W, N>,
+    complaints: &mut WholeLines<E, N>,
 ) -> u8
+    requires fresh { sink.old.held ≡ [] }
+    requires told { complaints.old.held ≡ [] }
     ensures { IsRun
-        (streams R.Source source.old source.new W.Sink sink.old sink.new)
-        (took (E.taken complaints.old) (E.taken complaints.new) (E.has_failed complaints.new))
+        (streams R.Source source.old source.new W.Sink sink.old.sink sink.new.sink)
+        (took (E.taken complaints.old.sink) (E.taken complaints.new.sink)
+        (E.has_failed complaints.new.sink))
         result }
 {
     match bench_text(alloc, source, sink) {
-        Ok(outcome) => outcome_status(outcome),
+        Ok(outcome) => match sink.flush() {
+            Ok(()) => outcome_status(outcome),
+            Err(WriteFault) => end_by(BenchFault::Write, complaints),
+        },
         Err(fault) => end_by(fault, complaints),
     }
 }
 
 /// Tells a fault, and gives the status to end with.
-fn end_by<E: Sink>(fault: BenchFault, complaints: &mut E) -> u8
+fn end_by<E: Sink, const N: usize>(fault: BenchFault, complaints: &mut WholeLines<E, N>) -> u8
+    requires told { complaints.old.held ≡ [] }
     ensures status { result ≡ status_of_fault fault }
     ensures told { TakesText
-        (took (E.taken complaints.old) (E.taken complaints.new) (E.has_failed complaints.new))
+        (took (E.taken complaints.old.sink) (E.taken complaints.new.sink)
+        (E.has_failed complaints.new.sink))
         (complaint_of fault) }
 {
-    let _ = put_all(complaint(fault), complaints);
+    complain(complaint(fault), complaints);
     fault_status(fault)
 }
 

@@ -1,6 +1,6 @@
 -- What a sink of whole lines holds back and hands on.
 use Rattle.std.specs.Prelude.{◌≡◌, ◌≢◌, ◌⊎◌, ◌<◌, ℕ, List, [], ◌++◌, length, take, drop, true, false}
-use Rattle.std.specs.Io.KnownBytes.{Appends}
+use Rattle.std.specs.Io.KnownBytes.{Appends, append_known}
 use Rattle.burr_text.specs.Lines.{IsLines, IsUnended}
 use Rattle.burr_io.specs.Sink.{SinkView}
 
@@ -8,6 +8,13 @@ use Rattle.burr_io.specs.Sink.{SinkView}
 pub record Lines (S : Type 0) : Type 0 where
   pub sink : S
   pub held : List ℕ
+
+-- what a sink of whole lines shows: it has taken what the sink below has taken and what is held back
+abbrev pub lines_view : {S : Type 0} → SinkView S → SinkView (Lines S)
+lines_view sink = record {
+  taken = λ l. append_known (sink.taken l.sink) l.held;
+  has_failed = λ l. sink.has_failed l.sink;
+}
 
 -- of bytes that were held back the first so many were handed on, and the others still are
 pub record HandsOn {S : Type 0} (sink : SinkView S) (old new : S) (count : ℕ)

@@ -1,5 +1,5 @@
 use Rattle.std.proofs.Common.{inl}
-use Rattle.burr.specs.declared.job.PlanTask.TheVariants.{Check, Run, Try}
+use Rattle.burr_command.specs.declared.job.PlanTask.TheVariants.{Check, Run, Try}
 use Rattle.burr.specs.PlanEnds.{IsRefusal, CheckEnds, RunEnds, TryEnds, AssemblyEnds}
 use Rattle.burr.specs.Refusals.{container_refusal}
 use Rattle.burr.proofs.Ending.{puts_among, fails_among, container_among}

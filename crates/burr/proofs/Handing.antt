@@ -1,0 +1,118 @@
+-- What was put on a sink of whole lines, once it is handed on.
+use Rattle.std.proofs.Common.{◌≡◌, ℕ, List, [], refl, sym, ap, subst, ◌∙◌, inl, inr, true}
+use Rattle.std.specs.Prelude.{Option, None, Some, Result, Ok, Err, IfOk, IfErr, OnOk, OnErr, IsTrue, IsErr, ◌++◌}
+use Rattle.std.proofs.lemmas.List.{append_assoc}
+use Rattle.std.specs.Io.KnownBytes.{Appends, append_known}
+use Rattle.burr_io.specs.Sink.{SinkView, Takes, TakesFront, FailsWithin, HoldsFront, Puts}
+use Rattle.burr_io.specs.WholeLines.{Lines, lines_view}
+use Rattle.burr_io.proofs.Common.Lines.{append_known-nil, handed_text, held_front, front_front, failed_front}
+use Rattle.burr.specs.declared.fault.Fault.{Fault}
+use Rattle.burr.specs.Faults.{line_of, output_failed}
+use Rattle.burr.specs.Ends.{took, TakesText, TakesSome, FailsInText, WritesLess, LeavesOrFails, IsDone}
+use Rattle.burr.specs.HandedOn.{HandsOnDone}
+use Rattle.burr.specs.PlanEnds.{Ends, PutsEnd, FailsToEnd, StopsBeforeEnd}
+
+-- where nothing was held back, the sink below had taken all that was put
+pub nothing_held : {S : Type 0} (sink : SinkView S) (old : Lines S) → old.held ≡ [] → append_known (sink.taken old.sink) old.held ≡ sink.taken old.sink
+nothing_held sink old none = ap (append_known (sink.taken old.sink)) none ∙ append_known-nil (sink.taken old.sink)
+
+-- so what was put since then is put on what it had taken
+put_since : {S : Type 0} (sink : SinkView S) (old mid : Lines S) (text : List ℕ) → old.held ≡ []
+    → Takes (lines_view sink) old mid text → Appends (sink.taken old.sink) (append_known (sink.taken mid.sink) mid.held) text
+put_since sink old mid text none put =
+    subst (λ (t : Option (List ℕ)). Appends t (append_known (sink.taken mid.sink) mid.held) text) (nothing_held sink old none) put
+
+-- all went
+pub went : {S : Type 0} (sink : SinkView S) (old mid new : Lines S) (text : List ℕ) → old.held ≡ []
+    → Takes (lines_view sink) old mid text → Takes sink mid.sink new.sink mid.held → Takes sink old.sink new.sink text
+went sink old mid new text none put took =
+    handed_text (sink.taken old.sink) (sink.taken mid.sink) (sink.taken new.sink) mid.held text (put_since sink old mid text none put) took
+
+-- the sink below failed when it was handed on
+pub failed_late : {S : Type 0} (sink : SinkView S) (old mid new : Lines S) (text : List ℕ) → old.held ≡ []
+    → Takes (lines_view sink) old mid text → FailsWithin sink mid.sink new.sink mid.held
+    → FailsInText (took (sink.taken old.sink) (sink.taken new.sink) (sink.has_failed new.sink)) text
+failed_late sink old mid new text none put fails =
+    (failed_front (sink.taken old.sink) (sink.taken mid.sink) (sink.taken new.sink) mid.held text (put_since sink old mid text none put) fails.takes, fails.fails)
+
+-- the sink below failed before all was put
+pub failed_early : {S : Type 0} (sink : SinkView S) (old mid : Lines S) (text : List ℕ) → old.held ≡ []
+    → FailsWithin (lines_view sink) old mid text
+    → FailsInText (took (sink.taken old.sink) (sink.taken mid.sink) (sink.has_failed mid.sink)) text
+failed_early sink old mid text none fails =
+    let (front, rest, parts, put) = fails.takes in
+    (front_front (sink.taken old.sink) (sink.taken mid.sink) mid.held text (front, rest, parts, put_since sink old mid front none put), fails.fails)
+
+-- what is printed with a status was handed on
+pub ends_handed : {S : Type 0} (sink : SinkView S) (old mid new : Lines S) (AreEnds : Ends) (done result : Result ℕ Fault) → old.held ≡ []
+    → HandsOnDone sink mid new done result → IfOk done (PutsEnd (lines_view sink) old mid AreEnds) → IfOk result (PutsEnd sink old.sink new.sink AreEnds)
+ends_handed sink old mid new AreEnds (Ok done) (Ok status) none (same, handed) (output, is, put) =
+    (output, subst (λ s. AreEnds output s) (sym same) is, went sink old mid new output none put handed)
+ends_handed sink old mid new AreEnds (Ok done) (Err fault) none hands put = tt
+ends_handed sink old mid new AreEnds (Err done) (Ok status) none hands put = absurd hands
+ends_handed sink old mid new AreEnds (Err done) (Err fault) none hands put = tt
+
+-- or why it was not
+pub stops_handed : {S : Type 0} (sink : SinkView S) (old mid new : Lines S) (AreEnds : Ends) (done result : Result ℕ Fault) → old.held ≡ []
+    → HandsOnDone sink mid new done result → IfOk done (PutsEnd (lines_view sink) old mid AreEnds)
+    → IfErr done (λ fault. FailsToEnd (lines_view sink) old mid AreEnds (line_of fault))
+    → IfErr result (λ fault. StopsBeforeEnd sink old.sink new.sink AreEnds (line_of fault))
+stops_handed sink old mid new AreEnds (Ok done) (Ok status) none hands put fails = tt
+stops_handed sink old mid new AreEnds (Ok done) (Err fault) none (line, within) (output, is, put) fails =
+    let late = failed_late sink old mid new output none put within in
+    inl (line, (output, done, is, late.0, late.1))
+stops_handed sink old mid new AreEnds (Err done) (Ok status) none hands put fails = absurd hands
+stops_handed {S} sink old mid new AreEnds (Err done) (Err fault) none (same, left) put (inl (line, (output, status, is, within))) =
+    let early = failed_early sink old mid output none within in
+    inl (ap line_of same ∙ line, (output, status, is, subst (λ (l : Lines S). FailsInText (took (sink.taken old.sink) (sink.taken l.sink) (sink.has_failed l.sink)) output) (sym left) early))
+stops_handed sink old mid new AreEnds (Err done) (Err fault) none (same, left) put (inr (line, kept)) =
+    inr (ap line_of same ∙ line, ap (λ l. l.sink) (left ∙ kept))
+
+-- some text was handed on
+pub some_handed : {S : Type 0} (sink : SinkView S) (old mid new : Lines S) (done result : Result ℕ Fault) → old.held ≡ []
+    → HandsOnDone sink mid new done result → OnOk done (TakesSome (took ((lines_view sink).taken old) ((lines_view sink).taken mid) ((lines_view sink).has_failed mid)))
+    → OnOk result (TakesSome (took (sink.taken old.sink) (sink.taken new.sink) (sink.has_failed new.sink)))
+some_handed sink old mid new (Ok done) (Ok status) none (same, handed) (text, put) = (text, went sink old mid new text none put handed)
+some_handed sink old mid new (Ok done) (Err fault) none hands some = tt
+some_handed sink old mid new (Err done) (Ok status) none hands some = absurd hands
+some_handed sink old mid new (Err done) (Err fault) none hands some = tt
+
+-- nothing was, or the sink below failed
+pub less_handed : {S : Type 0} (sink : SinkView S) (old mid new : Lines S) (done result : Result ℕ Fault) → old.held ≡ []
+    → HandsOnDone sink mid new done result → OnOk done (TakesSome (took ((lines_view sink).taken old) ((lines_view sink).taken mid) ((lines_view sink).has_failed mid)))
+    → OnErr done (LeavesOrFails (lines_view sink) old mid)
+    → OnErr result (WritesLess (took (sink.taken old.sink) (sink.taken new.sink) (sink.has_failed new.sink)))
+less_handed sink old mid new (Ok done) (Ok status) none hands some less = tt
+less_handed sink old mid new (Ok done) (Err fault) none (line, within) (text, put) less = inr (text, failed_late sink old mid new text none put within)
+less_handed sink old mid new (Err done) (Ok status) none hands some less = absurd hands
+less_handed sink old mid new (Err done) (Err fault) none (same, left) some (inl kept) = inl (ap (λ l. sink.taken l.sink) (left ∙ kept))
+less_handed {S} sink old mid new (Err done) (Err fault) none (same, left) some (inr ((text, put), fails)) =
+    let early = (held_front (sink.taken old.sink) (sink.taken mid.sink) mid.held text (put_since sink old mid text none put), fails) in
+    inr (text, subst (λ (l : Lines S). FailsInText (took (sink.taken old.sink) (sink.taken l.sink) (sink.has_failed l.sink)) text) (sym left) early)
+
+-- and the status is what it was
+pub done_handed : {S : Type 0} (sink : SinkView S) (mid new : Lines S) (done result : Result ℕ Fault)
+    → HandsOnDone sink mid new done result → IfOk done IsDone → IfOk result IsDone
+done_handed sink mid new (Ok done) (Ok status) (same, handed) is = subst IsDone (sym same) is
+done_handed sink mid new (Ok done) (Err fault) hands is = tt
+done_handed sink mid new (Err done) (Ok status) hands is = absurd hands
+done_handed sink mid new (Err done) (Err fault) hands is = tt
+
+-- a front of a front is one of the whole
+front_more : (old new : Option (List ℕ)) (front rest text : List ℕ) → text ≡ front ++ rest → HoldsFront old new front → HoldsFront old new text
+front_more None new front rest text parts holds = tt
+front_more (Some x) None front rest text parts holds = holds
+front_more (Some x) (Some y) front rest text parts (more, same) =
+    (more ++ rest, ap (λ t. x ++ t) parts ∙ sym (append_assoc x front rest) ∙ ap (λ t. t ++ rest) same ∙ append_assoc y more rest)
+
+-- a text that is put and then handed on is taken, or the sink below failed in it
+pub told : {S A E B F : Type 0} (sink : SinkView S) (old mid new : Lines S) (text : List ℕ) (put : Result A E) (flushed : Result B F) → old.held ≡ []
+    → Puts (lines_view sink) old mid text put → Puts sink mid.sink new.sink mid.held flushed → (IsTrue (sink.has_failed mid.sink) → IsErr flushed)
+    → TakesText (took (sink.taken old.sink) (sink.taken new.sink) (sink.has_failed new.sink)) text
+told sink old mid new text (Ok a) (Ok b) none puts goes good = inl (went sink old mid new text none puts.ok goes.ok)
+told sink old mid new text (Ok a) (Err f) none puts goes good = inr (failed_late sink old mid new text none puts.ok goes.err)
+told sink old mid new text (Err e) (Ok b) none puts goes good = absurd (good puts.err.fails)
+told sink old mid new text (Err e) (Err f) none puts goes good =
+    let (front, rest, parts, put) = puts.err.takes in
+    let late = failed_late sink old mid new front none put goes.err in
+    inr (front_more (sink.taken old.sink) (sink.taken new.sink) front rest text parts late.0, late.1)
