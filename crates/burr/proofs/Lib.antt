@@ -1,2 +1,2 @@
 mod Ending
-pub mod Handing
+pub mod HandedText

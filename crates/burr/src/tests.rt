@@ -1,6 +1,6 @@
 //! The program whole: words and streams in, status, output and complaints out.
 use crate::program::run_words;
-use burr_io::{Reading, Writing};
+use burr_io::{Reading, Source, WholeLines, Writing};
 use std::alloc::{AllocError, Global};
 use std::fs;
 use std::io::{self, Read, Write};
@@ -10,6 +10,7 @@ use std::test::Fail;
 
 mod bench;
 mod examples;
+mod files;
 mod memory;
 mod plans;
 mod streams;
@@ -29,6 +30,20 @@ fn words_of(alloc: Global, line: &str) -> Result<Vec<String>, AllocError> {
     Ok(words)
 }
 
+/// Calls the program over a source and two writers, and gives its status. Few bytes of lines are held
+/// back, so that what is long is handed on in parts.
+fn status_of<T, R, W, E>(rt: &T, words: &[String], source: &mut R, output: W, complaint: E) -> u8
+where
+    T: Files + AllocGlobal,
+    R: Source,
+    W: Write + Drop,
+    E: Write + Drop,
+{
+    let mut sink: WholeLines<_, 64> = WholeLines::new(Writing::new(output));
+    let mut complaints: WholeLines<_, 64> = WholeLines::new(Writing::new(complaint));
+    run_words(rt, words, source, &mut sink, &mut complaints)
+}
+
 /// How a call of the program ended.
 #[derive(Drop)]
 struct End {
@@ -42,13 +57,9 @@ fn end_of<T: Files + AllocGlobal>(rt: &T, line: &str, input: &str) -> Result<End
     let alloc = rt.alloc();
     let mut output = Vec::new(alloc);
     let mut complaint = Vec::new(alloc);
-    let status = run_words(
-        rt,
-        &words_of(alloc, line)?,
-        &mut Reading::new(input.as_bytes()),
-        &mut Writing::new(&mut output),
-        &mut Writing::new(&mut complaint),
-    );
+    let words = words_of(alloc, line)?;
+    let mut source = Reading::new(input.as_bytes());
+    let status = status_of(rt, &words, &mut source, &mut output, &mut complaint);
     Ok(End {
         status,
         output,

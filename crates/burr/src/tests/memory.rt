@@ -74,13 +74,8 @@ impl SmallEnd {
     fn of<T: Files + AllocGlobal>(rt: &T, words: &[String], input: &str) -> SmallEnd {
         let mut output = Room::new();
         let mut complaint = Room::new();
-        let status = run_words(
-            rt,
-            words,
-            &mut Reading::new(input.as_bytes()),
-            &mut Writing::new(&mut output),
-            &mut Writing::new(&mut complaint),
-        );
+        let mut source = Reading::new(input.as_bytes());
+        let status = status_of(rt, words, &mut source, &mut output, &mut complaint);
         SmallEnd {
             status,
             output,

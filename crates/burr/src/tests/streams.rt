@@ -2,7 +2,6 @@
 use super::examples::{DUO, EXAMPLES};
 use super::transcript::assert_transcript;
 use super::*;
-use burr_io::Source;
 
 /// A source that fails leaves the sink alone.
 #[test]
@@ -33,13 +32,8 @@ fn assert_reads<T: Abort + Files + AllocGlobal>(
         let mut source = Reading::new(Drips { left, calls });
         let mut output = Vec::new(rt.alloc());
         let mut complaint = Vec::new(rt.alloc());
-        let status = run_words(
-            rt,
-            &words_of(rt.alloc(), line)?,
-            &mut source,
-            &mut Writing::new(&mut output),
-            &mut Writing::new(&mut complaint),
-        );
+        let words = words_of(rt.alloc(), line)?;
+        let status = status_of(rt, &words, &mut source, &mut output, &mut complaint);
         if calls < needed {
             assert_eq!(rt; (status, output.is_empty()), (3, true), "{line} {calls}");
             assert_eq!(rt;
@@ -66,13 +60,9 @@ fn assert_front<T: Abort + Files + AllocGlobal>(
 ) -> Result<(), AllocError> {
     let room = writer.room;
     let mut complaint = Vec::new(rt.alloc());
-    let status = run_words(
-        rt,
-        &words_of(rt.alloc(), line)?,
-        &mut Reading::new(input.as_bytes()),
-        &mut Writing::new(&mut *writer),
-        &mut Writing::new(&mut complaint),
-    );
+    let words = words_of(rt.alloc(), line)?;
+    let mut source = Reading::new(input.as_bytes());
+    let status = status_of(rt, &words, &mut source, &mut *writer, &mut complaint);
     let (wanted, told) = if room < right.output.len() {
         (3, "cannot write -\n")
     } else {
@@ -140,13 +130,9 @@ fn assert_told_fronts<T: Abort + Files + AllocGlobal>(
             fails: true,
         };
         let mut output = Vec::new(rt.alloc());
-        let got = run_words(
-            rt,
-            &words_of(rt.alloc(), line)?,
-            &mut Reading::new(Drips { left, calls: 7 }),
-            &mut Writing::new(&mut output),
-            &mut Writing::new(&mut writer),
-        );
+        let words = words_of(rt.alloc(), line)?;
+        let mut source = Reading::new(Drips { left, calls: 7 });
+        let got = status_of(rt, &words, &mut source, &mut output, &mut writer);
         assert_eq!(rt; (got, output.is_empty()), (status, true), "{line} {room}");
         assert_eq!(rt;
             Some(writer.taken.as_slice()),
