@@ -1,15 +1,20 @@
 -- What was put on a sink of whole lines, once it is handed on.
-use Rattle.std.proofs.Common.{◌≡◌, ℕ, List, [], refl, sym, ap, subst, ◌∙◌, inl, inr, true}
+use Rattle.std.proofs.Common.{◌≡◌, ◌≢◌, ℕ, List, [], sym, ap, subst, ◌∙◌, inl, inr}
 use Rattle.std.specs.Prelude.{Option, None, Some, Result, Ok, Err, IfOk, IfErr, OnOk, OnErr, IsTrue, IsErr, ◌++◌}
 use Rattle.std.proofs.lemmas.List.{append_assoc}
 use Rattle.std.specs.Io.KnownBytes.{Appends, append_known}
-use Rattle.burr_io.specs.Sink.{SinkView, Takes, TakesFront, FailsWithin, HoldsFront, Puts}
+use Rattle.burr_io.specs.Sink.{SinkView, Takes, FailsWithin, HoldsFront, Puts}
 use Rattle.burr_io.specs.WholeLines.{Lines, lines_view}
 use Rattle.burr_io.proofs.Common.Lines.{append_known-nil, handed_text, held_front, front_front, failed_front}
 use Rattle.burr.specs.declared.fault.Fault.{Fault}
-use Rattle.burr.specs.Faults.{line_of, output_failed}
-use Rattle.burr.specs.Ends.{took, TakesText, TakesSome, FailsInText, WritesLess, LeavesOrFails, IsDone}
+use Rattle.burr.specs.Faults.{line_of}
+use Rattle.burr.specs.Ends.{took, TakesText, TakesSome, FailsInText, FailsInOutput, HasNoOutcome, WritesLess, LeavesOrFails, IsDone}
 use Rattle.burr.specs.HandedOn.{HandsOnDone}
+use Rattle.burr_io.specs.Source.{SourceView}
+use Rattle.burr_runs.specs.declared.outcome.Outcome.{Outcome}
+use Rattle.burr_runs.specs.declared.fault.BenchFault.{BenchFault}
+use Rattle.burr_runs.specs.declared.fault.BenchFault.TheVariants.{Read, TooLong, Write, Memory}
+use Rattle.burr_runs.specs.BenchText.{streams, Succeeds, Fails}
 use Rattle.burr.specs.PlanEnds.{Ends, PutsEnd, FailsToEnd, StopsBeforeEnd}
 
 -- where nothing was held back, the sink below had taken all that was put
@@ -64,7 +69,8 @@ stops_handed sink old mid new AreEnds (Ok done) (Err fault) none (line, within) 
 stops_handed sink old mid new AreEnds (Err done) (Ok status) none hands put fails = absurd hands
 stops_handed {S} sink old mid new AreEnds (Err done) (Err fault) none (same, left) put (inl (line, (output, status, is, within))) =
     let early = failed_early sink old mid output none within in
-    inl (ap line_of same ∙ line, (output, status, is, subst (λ (l : Lines S). FailsInText (took (sink.taken old.sink) (sink.taken l.sink) (sink.has_failed l.sink)) output) (sym left) early))
+    let moved = subst (λ (l : Lines S). FailsInText (took (sink.taken old.sink) (sink.taken l.sink) (sink.has_failed l.sink)) output) (sym left) early in
+    inl (ap line_of same ∙ line, (output, status, is, moved.0, moved.1))
 stops_handed sink old mid new AreEnds (Err done) (Err fault) none (same, left) put (inr (line, kept)) =
     inr (ap line_of same ∙ line, ap (λ l. l.sink) (left ∙ kept))
 
@@ -87,7 +93,8 @@ less_handed sink old mid new (Ok done) (Err fault) none (line, within) (text, pu
 less_handed sink old mid new (Err done) (Ok status) none hands some less = absurd hands
 less_handed sink old mid new (Err done) (Err fault) none (same, left) some (inl kept) = inl (ap (λ l. sink.taken l.sink) (left ∙ kept))
 less_handed {S} sink old mid new (Err done) (Err fault) none (same, left) some (inr ((text, put), fails)) =
-    let early = (held_front (sink.taken old.sink) (sink.taken mid.sink) mid.held text (put_since sink old mid text none put), fails) in
+    let early : FailsInText (took (sink.taken old.sink) (sink.taken mid.sink) (sink.has_failed mid.sink)) text =
+    (held_front (sink.taken old.sink) (sink.taken mid.sink) mid.held text (put_since sink old mid text none put), fails) in
     inr (text, subst (λ (l : Lines S). FailsInText (took (sink.taken old.sink) (sink.taken l.sink) (sink.has_failed l.sink)) text) (sym left) early)
 
 -- and the status is what it was
@@ -111,8 +118,30 @@ pub told : {S A E B F : Type 0} (sink : SinkView S) (old mid new : Lines S) (tex
     → TakesText (took (sink.taken old.sink) (sink.taken new.sink) (sink.has_failed new.sink)) text
 told sink old mid new text (Ok a) (Ok b) none puts goes good = inl (went sink old mid new text none puts.ok goes.ok)
 told sink old mid new text (Ok a) (Err f) none puts goes good = inr (failed_late sink old mid new text none puts.ok goes.err)
-told sink old mid new text (Err e) (Ok b) none puts goes good = absurd (good puts.err.fails)
+told sink old mid new text (Err e) (Ok b) none puts goes good = let bad = good puts.err.fails in cc
 told sink old mid new text (Err e) (Err f) none puts goes good =
     let (front, rest, parts, put) = puts.err.takes in
     let late = failed_late sink old mid new front none put goes.err in
     inr (front_more (sink.taken old.sink) (sink.taken new.sink) front rest text parts late.0, late.1)
+
+-- an error with a fact
+pub on_err : {A E : Type 0} (r : Result A E) {P : Type 0} → P → OnErr r P
+on_err (Ok a) p = tt
+on_err (Err e) p = p
+
+-- the sink below failed when the output of a whole input was handed on
+pub output_failed_late : {R S : Type 0} (source : SourceView R) (before after : R) (sink : SinkView S) (old mid new : Lines S) (outcome : Outcome) → old.held ≡ []
+    → Succeeds (streams source before after (lines_view sink) old mid) outcome → FailsWithin sink mid.sink new.sink mid.held
+    → FailsInOutput (streams source before after sink old.sink new.sink)
+output_failed_late source before after sink old mid new outcome none (input, whole, (output, is, put)) fails =
+    (input, whole, (output, outcome, is, failed_late sink old mid new output none put fails))
+
+-- why there is no outcome, of the sink below
+pub no_outcome : {R S : Type 0} (source : SourceView R) (before after : R) (sink : SinkView S) (old mid : Lines S) (fault : BenchFault) → old.held ≡ []
+    → Fails (streams source before after (lines_view sink) old mid) fault → (fault ≢ Write → mid ≡ old)
+    → HasNoOutcome (streams source before after sink old.sink mid.sink) fault
+no_outcome source before after sink old mid Read none fails kept = (fails.0, ap (λ l. sink.taken l.sink) (kept (λ same. cc)))
+no_outcome source before after sink old mid TooLong none fails kept = (fails.0, ap (λ l. sink.taken l.sink) (kept (λ same. cc)))
+no_outcome source before after sink old mid Memory none fails kept = (fails.0, ap (λ l. sink.taken l.sink) (kept (λ same. cc)))
+no_outcome source before after sink old mid Write none (input, whole, (output, outcome, is, takes, fails)) kept =
+    (input, whole, (output, outcome, is, failed_early sink old mid output none (record { takes = takes; fails = fails })))

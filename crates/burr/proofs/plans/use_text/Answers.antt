@@ -1,9 +1,13 @@
-use Rattle.burr.specs.PlanEnds.{AssemblyEnds, PlanEnds}
-use Rattle.burr.proofs.Ending.{fails_among, text_among}
+use Rattle.burr.specs.PlanEnds.{PlanEnds}
+use Rattle.burr.proofs.HandedText.{ends_handed, stops_handed}
 use Rattle.burr.proofs.plans.use_text.Goals as goal
 
-pub returns-in-Ok-clause-err : goal.returns-in-Ok-clause-err
-returns-in-Ok-clause-err g c =
-    fails_among g.W.Sink c.args.sink.now c.use_assembly.new.sink (AssemblyEnds c.args.task c.args.container.now c.args.answers.now c.in-Ok.assembly)
-    (PlanEnds c.args.task c.args.text.now c.args.container.now c.args.answers.now) c.use_assembly.result
-    (text_among c.args.text.now (AssemblyEnds c.args.task c.args.container.now c.args.answers.now) c.in-Ok.assembly c.in-Ok.ensures.ok) c.use_assembly.ensures.err
+pub returns-clause-ok : goal.returns-clause-ok
+returns-clause-ok g c =
+    ends_handed g.W.Sink c.args.sink.now c.judge_text-done.new.sink c.hand_on.new.sink (PlanEnds c.args.task c.args.text.now c.args.container.now c.args.answers.now)
+    c.judge_text-done.result c.hand_on.result c.requires.fresh c.hand_on.ensures c.judge_text-done.ensures.ok
+
+pub returns-clause-err : goal.returns-clause-err
+returns-clause-err g c =
+    stops_handed g.W.Sink c.args.sink.now c.judge_text-done.new.sink c.hand_on.new.sink (PlanEnds c.args.task c.args.text.now c.args.container.now c.args.answers.now)
+    c.judge_text-done.result c.hand_on.result c.requires.fresh c.hand_on.ensures c.judge_text-done.ensures.ok c.judge_text-done.ensures.err
