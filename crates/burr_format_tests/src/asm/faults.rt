@@ -2,7 +2,7 @@
 use super::*;
 
 const HEADINGS: &str = "\
-# the plan's line
+; the plan's line
 1 plan ring 2|P1 1
 1 plan ring 2 11 |P1 1
 1 plan 9 2 3|P1 1
@@ -37,7 +37,7 @@ const HEADINGS: &str = "\
 1 ; a plan/plan ring 1 11|P3 2
 1 plan ring 3 11|P1 8
 1 plan ring 2 11/plan ring 2 11|P1 2
-# main's line
+; main's line
 2 proc 9 0|P1 2
 2 proc main|P1 2
 2 proc main 0 0|P1 2
@@ -56,7 +56,7 @@ const HEADINGS: &str = "\
 2 proc main 0/exit 0 -|P5 3
 2 proc main 0/proc other 0|P5 3
 2 proc main 0/halt|P5 3
-# the first label's line
+; the first label's line
 3 label 9x|P1 3
 3 label|P1 3
 3 label |P1 3
@@ -82,7 +82,7 @@ const HEADINGS: &str = "\
 ";
 
 const FRAMES: &str = "\
-# the frame's line
+; the frame's line
 4 frame 0|P1 4
 4 frame  0 -|P1 4
 4 frame 0 0,|P1 4
@@ -123,7 +123,7 @@ const FRAMES: &str = "\
 4 frame 0 0,1|right
 4 frame 31 1|right
 4 ; a frame//frame 0 -|right
-# slots
+; slots
 13 slot 0 0|P1 13
 13 slot 0 0 2 3|P1 13
 13 slot 0 00 2|P1 13
@@ -150,7 +150,7 @@ const FRAMES: &str = "\
 13 slot 0 0 2/stack 1/slot 1 0 2|P1 15
 13 slot 1 0 2|P3 14
 13 slot 0 0 2/slot 1 0|P1 14
-# guards and operands
+; guards and operands
 13 slot 0 0 2/guard 1/guard 1/guard 1/guard 1|right
 13 slot 0 0 2/guard 1/guard 1/guard 1/guard 1/guard 1|P4 18
 13 slot 0 0 2/guard 1/guard 1/guard 1/guard 1/guard 1+1v1|P3 18
@@ -166,7 +166,7 @@ const FRAMES: &str = "\
 ";
 
 const FORMS: &str = "\
-# the cost, by all forms
+; the cost, by all forms
 14 cost|P1 14
 14 cost 4+2v01|P1 14
 14 cost 4+2v|P1 14
@@ -226,7 +226,7 @@ const FORMS: &str = "\
 14 label M|P1 14
 14 frame 0 0|P1 14
 14 guard 1/at 0 apart|P1 15
-# pieces
+; pieces
 6 at 1 0 0 0 0|P1 6
 6 at 2 apart|P1 6
 6 at -1 apart|P1 6
@@ -262,7 +262,7 @@ const FORMS: &str = "\
 ";
 
 const CODE: &str = "\
-# operands
+; operands
 8 grip|P1 8
 8 grip 0,|P1 8
 8 grip 0 1|P1 8
@@ -396,7 +396,7 @@ const CODE: &str = "\
 8 ;|right
 8 ; any é|right
 8 jump L//;/; x|right
-# labels
+; labels
 11 label start|P2 11
 8 label x/frame 0 -/cost 1/at 0 apart/at 1 apart|P4 8
 8 label start/frame 0 -/cost 1/at 0 apart/at 1 apart|P2 8
@@ -411,7 +411,7 @@ const CODE: &str = "\
 20 halt/label end/; x|P5 23
 20 halt/label end/frame 0 -|P1 23
 20 halt/label end/frame 0 -/cost 1/at 0 apart|P1 25
-# a label at the end of the code, and the procedure behind it
+; a label at the end of the code, and the procedure behind it
 20 halt/label end/frame 0 -/cost 1/at 0 apart/at 1 apart/proc main 0|P4 21
 20 halt/label end/frame 0 -/cost 1/at 0 apart/at 1 apart/proc x 5|P4 21
 20 halt/label end/frame 0 -/cost 1/at 0 apart/at 1 apart/proc x 0/halt|P4 21
@@ -421,7 +421,7 @@ const CODE: &str = "\
 20 halt/label end/frame 0 -/cost 1/at 0 apart/at 1 apart/exit 0 -|P1 26
 20 halt/label end/frame 0 -/cost 1/at 0 apart/at 1 apart/label more|P4 26
 20 halt/label end/frame 0 -/cost 1/at 0 apart/at 1 apart/label end|P2 26
-# unknown names come last
+; unknown names come last
 18 down 0 none|20 halt/label end/frame 0 -/cost 1/at 0 apart/at 1 apart|P4 21
 18 down 0 none|20 halts|P1 20
 18 down 0 none|20 push 32768|P3 20
@@ -487,21 +487,18 @@ plan ring 2 11/proc main 0/label start/frame 0 -/cost 1/at 0 apart/at 1 apart/ha
 #[test]
 fn judges_ends(rt: HostRuntime) -> Result<(), Fail> {
     for case in ENDS.lines() {
-        assert_whole(&rt, rt.alloc(), case)?;
+        assert_case(&rt, is_whole_judged(rt.alloc(), case)?, case);
     }
     Ok(())
 }
 
-/// Asserts a text, and behind `|` what is wrong with it.
-fn assert_whole(rt: &impl Abort, alloc: Global, case: &str) -> Result<(), AllocError> {
-    match case.rsplit_once('|') {
-        Some((text, want)) => {
-            let text = text.replace(alloc, '/', "\n")?;
-            assert!(rt; is_judged(alloc, text.as_bytes(), want), "{case}");
-        }
-        None => assert!(rt; false, "{case}"),
-    }
-    Ok(())
+/// Whether a case holds of a whole text.
+fn is_whole_judged(alloc: Global, case: &str) -> Result<bool, AllocError> {
+    let Some((text, want)) = case.rsplit_once('|') else {
+        return Ok(false);
+    };
+    let text = spread(alloc, text)?;
+    Ok(is_judged(alloc, &text, want))
 }
 
 /// A text with a line before each of its own that says nothing.

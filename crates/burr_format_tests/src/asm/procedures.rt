@@ -2,7 +2,7 @@
 use super::*;
 
 const PROCEDURES: &str = "\
-# the line of a procedure
+; the line of a procedure
 15 proc 9 1|P1 15
 15 proc lift|P1 15
 15 proc lift 01|P1 15
@@ -21,7 +21,7 @@ const PROCEDURES: &str = "\
 15 proc lift 0|P3 17
 15 proc start 1|P2 10
 15 proc start 9|P3 15
-# its exit frame
+; its exit frame
 16 exit 0|P1 16
 16 exit 0 0,|P1 16
 16 exit 0 0 0|P1 16
@@ -58,7 +58,7 @@ const PROCEDURES: &str = "\
 18 at 1 apart/halt|P5 19
 18 at 1 apart/; x//labels|P5 21
 18 at 1 apart/label 9|P1 19
-# its labels and its code
+; its labels and its code
 19 label main|right
 19 label up|right
 20 cost 2|P5 20
@@ -67,18 +67,18 @@ const PROCEDURES: &str = "\
 25 call lift|right
 26 ret/label start|P2 27
 26 ret/label end/frame 0 0/cost 2/at 0 apart/at 1 apart|P4 27
-# labels are known in their procedure only
+; labels are known in their procedure only
 19 label up|10 jump up|P2 10
 19 label up|25 jump up|right
 3 label down|25 jump down|P2 25
 3 label down|10 jump down|right
-# the first line with an unknown name, of labels and procedures together
+; the first line with an unknown name, of labels and procedures together
 10 call lid|25 jump up|P2 10
 10 jump up|12 call lid|P2 10
 12 call lid|10 jump start|P2 12
 12 pick start up|25 call lid|P2 12
 25 jump up|26 call lid|P2 25
-# and only where all else is right
+; and only where all else is right
 10 jump up|26 retx|P1 26
 10 jump up|15 proc main 1|P2 15
 10 call lid|26 retx|P1 26
@@ -87,12 +87,12 @@ const PROCEDURES: &str = "\
 10 call lid|26 ret/proc x 0|P1 28
 10 call lid|26 ret/label up|P5 28
 10 call lid|26 ret/label up/frame 0 0/cost 2/at 0 apart/at 1 apart|P4 27
-# a label at the end of main's code
+; a label at the end of main's code
 14 halt/label end/frame 0 -/cost 1/at 0 apart/at 1 apart|P4 15
 14 halt/label end/frame 0 -/cost 1/at 0 apart/at 1 apart|15 proc main 9|P4 15
 14 halt/label end/frame 0 -/cost 1/at 0 apart/at 1 apart|15 proc lift x|P1 20
 14 halt/label end/frame 0 -/cost 1/at 0 apart/at 1 apart|15 proc 9 1|P1 20
-# an exit that is missing, and main without code
+; an exit that is missing, and main without code
 14 halt/proc lid 0|P1 16
 14 halt/proc lid 0/exit 0 -|P1 17
 8 ;|9 ;|10 ;|11 ;|12 ;|13 ;|14 ;|P4 3
@@ -116,12 +116,8 @@ fn finds_labels_of_the_procedure_that_runs(rt: HostRuntime) -> Result<(), Fail> 
         |12 jump up|19 label up|25 jump up";
     let text = edited(alloc, LIFT, edits)?;
     let bytes = assemble(alloc, &text)?;
-    let Ok(container) = Container::parse(&bytes) else {
-        assert!(rt; false, "a container");
-        return Ok(());
-    };
-    assert!(rt; container.proc_count() == 2);
-    assert!(rt; container.code(0) == MAIN_CODE.as_slice());
-    assert!(rt; container.code(1) == [0x20, 0, 0, 0x25].as_slice());
+    assert!(rt; has_procedures(&bytes, 2));
+    assert!(rt; has_code(&bytes, 0, &MAIN_CODE));
+    assert!(rt; has_code(&bytes, 1, &[0x20, 0, 0, 0x25]));
     Ok(())
 }
