@@ -1,4 +1,4 @@
-use crate::tables::{assert_at, assert_case, is_case, spread};
+use crate::tables::{assert_at, assert_case, is_heading, spread};
 use burr_asm::*;
 use burr_container::{Container, Plan, write};
 use std::alloc::{AllocError, Global};
@@ -153,9 +153,7 @@ fn assert_faults(
     table: &str,
 ) -> Result<(), AllocError> {
     for case in table.lines() {
-        if is_case(case) {
-            assert_case(rt, is_case_judged(alloc, text, case)?, case);
-        }
+        assert_case(rt, is_case_judged(alloc, text, case)?, case);
     }
     Ok(())
 }
@@ -163,31 +161,17 @@ fn assert_faults(
 /// Whether a case holds of a text.
 fn is_case_judged(alloc: Global, text: &str, case: &str) -> Result<bool, AllocError> {
     let Some((edits, want)) = case.rsplit_once('|') else {
-        return Ok(false);
+        return Ok(is_heading(case));
     };
     let changed = edited(alloc, text, edits)?;
-    Ok(is_judged(alloc, &changed, want))
+    is_judged(alloc, &changed, want)
 }
 
-/// Whether a text is `right`, or has the fault and the line that words name, as `P1 15`.
-fn is_judged(alloc: Global, text: &[u8], want: &str) -> bool {
+/// Whether a text is `right`, or has this fault.
+fn is_judged(alloc: Global, text: &[u8], want: &str) -> Result<bool, AllocError> {
     match assemble(alloc, text) {
-        Ok(_bytes) => want == "right",
-        Err(found) => fault(want) == Some(found),
-    }
-}
-
-/// The fault that words name.
-fn fault(words: &str) -> Option<AsmFault> {
-    let (kind, line) = words.split_once(' ')?;
-    let line = line.parse().ok()?;
-    match kind {
-        "P1" => Some(AsmFault::P1 { line }),
-        "P2" => Some(AsmFault::P2 { line }),
-        "P3" => Some(AsmFault::P3 { line }),
-        "P4" => Some(AsmFault::P4 { line }),
-        "P5" => Some(AsmFault::P5 { line }),
-        _ => None,
+        Ok(_bytes) => Ok(want == "right"),
+        Err(found) => Ok(format!(in alloc; "{found:?}")?.as_str() == want),
     }
 }
 

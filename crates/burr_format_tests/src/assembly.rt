@@ -1,4 +1,4 @@
-use crate::tables::{assert_at, assert_case, is_case, joined, repeated, spread};
+use crate::tables::{assert_at, assert_case, is_heading, joined, repeated, spread};
 use burr_assembly::*;
 use std::alloc::{AllocError, Global};
 use std::process::Abort;
@@ -45,43 +45,12 @@ fn fault_of(alloc: Global, text: &[u8]) -> Option<AssemblyFault> {
     Assembly::read(alloc, text).err()
 }
 
-/// Whether a text is `right`, or has the fault that words name.
-fn is_judged(alloc: Global, text: &[u8], want: &str) -> bool {
+/// Whether a text is `right`, or has this fault.
+fn is_judged(alloc: Global, text: &[u8], want: &str) -> Result<bool, AllocError> {
     match fault_of(alloc, text) {
-        Some(found) => fault(want) == Some(found),
-        None => want == "right",
+        Some(found) => Ok(format!(in alloc; "{found:?}")?.as_str() == want),
+        None => Ok(want == "right"),
     }
-}
-
-/// The fault that words name by its kind and its line, as `A1 7`; a cell that two pieces share has
-/// the numbers of both behind that, as `A8 7 0 1`.
-fn fault(words: &str) -> Option<AssemblyFault> {
-    let (kind, rest) = words.split_once(' ')?;
-    if kind == "A8" {
-        return crowd(rest);
-    }
-    let line = rest.parse().ok()?;
-    match kind {
-        "A1" => Some(AssemblyFault::A1 { line }),
-        "A2" => Some(AssemblyFault::A2 { line }),
-        "A3" => Some(AssemblyFault::A3 { line }),
-        "A4" => Some(AssemblyFault::A4 { line }),
-        "A5" => Some(AssemblyFault::A5 { line }),
-        "A6" => Some(AssemblyFault::A6 { line }),
-        "A7" => Some(AssemblyFault::A7 { line }),
-        _ => None,
-    }
-}
-
-/// The fault of a cell that two pieces share: its line, the earlier piece and the later one.
-fn crowd(words: &str) -> Option<AssemblyFault> {
-    let (line, pieces) = words.split_once(' ')?;
-    let (earlier, piece) = pieces.split_once(' ')?;
-    Some(AssemblyFault::A8 {
-        line: line.parse().ok()?,
-        earlier: earlier.parse().ok()?,
-        piece: piece.parse().ok()?,
-    })
 }
 
 /// Asserts each case of a table: what stands between these two parts of a text, and what is wrong
@@ -94,9 +63,7 @@ fn assert_faults(
     rest: &str,
 ) -> Result<(), AllocError> {
     for case in table.lines() {
-        if is_case(case) {
-            assert_case(rt, is_part_judged(alloc, front, case, rest)?, case);
-        }
+        assert_case(rt, is_part_judged(alloc, front, case, rest)?, case);
     }
     Ok(())
 }
@@ -104,20 +71,18 @@ fn assert_faults(
 /// Whether a case holds between these two parts of a text.
 fn is_part_judged(alloc: Global, front: &[u8], case: &str, rest: &str) -> Result<bool, AllocError> {
     let Some((part, want)) = case.rsplit_once('|') else {
-        return Ok(false);
+        return Ok(is_heading(case));
     };
     let part = spread(alloc, part)?;
     let text = joined(alloc, front, &part, rest.as_bytes())?;
-    Ok(is_judged(alloc, &text, want))
+    is_judged(alloc, &text, want)
 }
 
 /// Asserts each case of a table: the number of a line of the duo, what stands in its place, and what
 /// is wrong with it.
 fn assert_changes(rt: &impl Abort, alloc: Global, table: &str) -> Result<(), AllocError> {
     for case in table.lines() {
-        if is_case(case) {
-            assert_case(rt, is_change_judged(alloc, case)?, case);
-        }
+        assert_case(rt, is_change_judged(alloc, case)?, case);
     }
     Ok(())
 }
@@ -125,11 +90,11 @@ fn assert_changes(rt: &impl Abort, alloc: Global, table: &str) -> Result<(), All
 /// Whether a case holds of the duo.
 fn is_change_judged(alloc: Global, case: &str) -> Result<bool, AllocError> {
     let Some((number, line, want)) = change(case) else {
-        return Ok(false);
+        return Ok(is_heading(case));
     };
     let line = spread(alloc, line)?;
     let text = duo_with(alloc, number, &line)?;
-    Ok(is_judged(alloc, &text, want))
+    is_judged(alloc, &text, want)
 }
 
 /// The number of a line, what stands in its place, and what is then wrong.

@@ -1,5 +1,6 @@
 //! Tables of cases: a text with a case a line, and headings that begin with `;`. In a case `/` stands
-//! for the end of a line, and what is wanted stands behind the last `|`.
+//! for the end of a line, and what is wanted stands behind the last `|`: `right`, or a fault as
+//! `Debug` writes it.
 use std::alloc::{AllocError, Global};
 use std::process::Abort;
 
@@ -13,9 +14,9 @@ pub fn assert_at(rt: &impl Abort, holds: bool, place: usize) {
     assert!(rt; holds, "at {place}");
 }
 
-/// Whether a line of a table is a case, and no heading.
-pub fn is_case(line: &str) -> bool {
-    !line.starts_with(';')
+/// Whether a line of a table is a heading.
+pub fn is_heading(line: &str) -> bool {
+    line.starts_with(';')
 }
 
 /// The text that is written with `/` for the ends of its lines.

@@ -42,7 +42,7 @@ fn is_end_judged(alloc: Global, text: &[u8], case: &str) -> Result<bool, AllocEr
     if want == "right" {
         return is_right(alloc, &longer);
     }
-    Ok(is_judged(alloc, &longer, want))
+    is_judged(alloc, &longer, want)
 }
 
 /// A plan with 256 labels, but for the last line of its code.
@@ -56,8 +56,8 @@ fn labels_256(alloc: Global) -> Result<Vec<u8>, AllocError> {
 /// Ends of a plan with 256 labels: line 7 + 6 * 255 is the last of the last frame.
 const BEHIND_LABELS: &str = "\
 halt|right
-halt/label m256|P4 1539
-halt/label m255|P2 1539
+halt/label m256|P4 { line: 1539 }
+halt/label m255|P2 { line: 1539 }
 ";
 
 #[test]
@@ -89,11 +89,11 @@ const PROCEDURE: &str = " 4\n\
 
 /// Ends of a plan with 16 procedures: 9 lines of main and 10 of each other procedure.
 const BEHIND_PROCEDURES: &str = "\
-proc q16 0|P4 160
-proc q16 5|P3 160
-proc q15 0|P2 160
-proc q15 5|P2 160
-proc q15 x|P1 160
+proc q16 0|P4 { line: 160 }
+proc q16 5|P3 { line: 160 }
+proc q15 0|P2 { line: 160 }
+proc q15 5|P2 { line: 160 }
+proc q15 x|P1 { line: 160 }
 ";
 
 #[test]
@@ -118,11 +118,11 @@ const BEHIND_CODE: &str = "\
 push 1|right
 add/add/byte 00|right
 jump start|right
-grip 0|P4 4101
-grip -|P3 4101
-down 0 start|P4 4101
-pick start none|P4 4101
-jump start/byte 00|P4 4102
+grip 0|P4 { line: 4101 }
+grip -|P3 { line: 4101 }
+down 0 start|P4 { line: 4101 }
+pick start none|P4 { line: 4101 }
+jump start/byte 00|P4 { line: 4102 }
 ";
 
 #[test]

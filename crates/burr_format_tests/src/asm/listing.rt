@@ -188,7 +188,7 @@ const BEFORE_CODE: &str = "plan duo 2 3\n\
 /// Whether a line of the table holds.
 fn is_code_listed(alloc: Global, case: &str) -> Result<bool, AsmFault> {
     let Some((raw, want)) = case.split_once('|') else {
-        return Ok(false);
+        return Ok(is_heading(case));
     };
     let bytes = with_code(alloc, raw)?;
     let listing = before_code(alloc, want)?;
@@ -211,9 +211,7 @@ fn before_code(alloc: Global, lines: &str) -> Result<Vec<u8>, AllocError> {
 #[test]
 fn lists_what_stands_where_it_can_be_named(rt: HostRuntime) -> Result<(), Fail> {
     for case in CODES.lines() {
-        if is_case(case) {
-            assert_case(&rt, is_code_listed(rt.alloc(), case)?, case);
-        }
+        assert_case(&rt, is_code_listed(rt.alloc(), case)?, case);
     }
     Ok(())
 }

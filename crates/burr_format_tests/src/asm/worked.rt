@@ -72,19 +72,15 @@ fn labels_of_main(container: &Container<'_>) -> Option<[u16; 3]> {
 
 #[test]
 fn refuses_the_worked_damages(rt: HostRuntime) -> Result<(), Fail> {
-    let table = "14 cost 4+2v1|P3 14\n18 down 0 M|P2 18";
-    Ok(assert_faults(&rt, rt.alloc(), RING, table)?)
-}
-
-#[test]
-fn refuses_a_worked_text_that_is_cut_off(rt: HostRuntime) -> Result<(), Fail> {
+    let table = "14 cost 4+2v1|P3 { line: 14 }\n18 down 0 M|P2 { line: 18 }";
     let alloc = rt.alloc();
+    assert_faults(&rt, alloc, RING, table)?;
     let without_label = b"plan ring 2 11\nproc main 0\nframe 0 -\ncost 11\n\
           at 0 0 0 0 0\nat 1 0 0 0 0\ngrip 0\npush 2\nstore 0\n";
-    assert!(rt; is_judged(alloc, without_label, "P5 3"));
+    assert!(rt; is_judged(alloc, without_label, "P5 { line: 3 }")?);
     let (front, _rest) = RING.split_once("frame 0 0\n").unwrap_or(("", ""));
-    assert!(rt; is_judged(alloc, front.as_bytes(), "P5 12"));
-    assert!(rt; is_judged(alloc, b"plan ring 2 11\n", "P1 2"));
+    assert!(rt; is_judged(alloc, front.as_bytes(), "P5 { line: 12 }")?);
+    assert!(rt; is_judged(alloc, b"plan ring 2 11\n", "P1 { line: 2 }")?);
     Ok(())
 }
 
