@@ -1,3 +1,4 @@
+use crate::tables::{assert_at, assert_case, is_heading, spread};
 use burr_asm::*;
 use burr_container::{Container, Plan, write};
 use std::alloc::{AllocError, Global};
@@ -144,8 +145,7 @@ fn add_lines(text: &mut Vec<u8>, lines: &str) -> Result<(), AllocError> {
     Ok(())
 }
 
-/// Asserts each line of a table that isn't a heading with `#`: edits of the text, and behind the last
-/// `|` what is then wrong with it.
+/// Asserts each case of a table: edits of the text, and what is then wrong with it.
 fn assert_faults(
     rt: &impl Abort,
     alloc: Global,
@@ -153,68 +153,66 @@ fn assert_faults(
     table: &str,
 ) -> Result<(), AllocError> {
     for case in table.lines() {
-        if !case.starts_with('#') {
-            assert_case(rt, alloc, text, case)?;
-        }
+        assert_case(rt, is_case_judged(alloc, text, case)?, case);
     }
     Ok(())
 }
 
-/// Asserts a line of a table.
-fn assert_case(rt: &impl Abort, alloc: Global, text: &str, case: &str) -> Result<(), AllocError> {
-    match case.rsplit_once('|') {
-        Some((edits, want)) => {
-            let changed = edited(alloc, text, edits)?;
-            assert!(rt; is_judged(alloc, &changed, want), "{case}");
-        }
-        None => assert!(rt; false, "{case}"),
-    }
-    Ok(())
+/// Whether a case holds of a text.
+fn is_case_judged(alloc: Global, text: &str, case: &str) -> Result<bool, AllocError> {
+    let Some((edits, want)) = case.rsplit_once('|') else {
+        return Ok(is_heading(case));
+    };
+    let changed = edited(alloc, text, edits)?;
+    is_judged(alloc, &changed, want)
 }
 
-/// Whether a text is `right`, or has the fault and the line that words name, as `P1 15`.
-fn is_judged(alloc: Global, text: &[u8], want: &str) -> bool {
+/// Whether a text is `right`, or has this fault.
+fn is_judged(alloc: Global, text: &[u8], want: &str) -> Result<bool, AllocError> {
     match assemble(alloc, text) {
-        Ok(_bytes) => want == "right",
-        Err(found) => fault(want) == Some(found),
+        Ok(_bytes) => Ok(want == "right"),
+        Err(found) => Ok(format!(in alloc; "{found:?}")?.as_str() == want),
     }
 }
 
-/// The fault that words name.
-fn fault(words: &str) -> Option<AsmFault> {
-    let (kind, line) = words.split_once(' ')?;
-    let line = line.parse().ok()?;
-    match kind {
-        "P1" => Some(AsmFault::P1 { line }),
-        "P2" => Some(AsmFault::P2 { line }),
-        "P3" => Some(AsmFault::P3 { line }),
-        "P4" => Some(AsmFault::P4 { line }),
-        "P5" => Some(AsmFault::P5 { line }),
-        _ => None,
-    }
-}
-
-/// Asserts that a text is right, and that its container is listed.
-fn assert_right(rt: &impl Abort, alloc: Global, text: &[u8]) -> Result<(), AllocError> {
+/// Whether a text is right, and its container is listed as a text from which it is assembled again.
+fn is_right(alloc: Global, text: &[u8]) -> Result<bool, AllocError> {
     match assemble(alloc, text) {
-        Ok(bytes) => assert_listed(rt, alloc, &bytes),
-        Err(fault) => {
-            assert!(rt; false, "{fault:?}");
-            Ok(())
-        }
+        Ok(bytes) => is_listed(alloc, &bytes),
+        Err(_fault) => Ok(false),
     }
 }
 
-/// Asserts that a container is listed as a text from which it is assembled again.
-fn assert_listed(rt: &impl Abort, alloc: Global, bytes: &[u8]) -> Result<(), AllocError> {
+/// Whether a container is listed as a text from which it is assembled again.
+fn is_listed(alloc: Global, bytes: &[u8]) -> Result<bool, AllocError> {
+    match listing_of(alloc, bytes)? {
+        Some(text) => Ok(is_assembled(alloc, &text, bytes)),
+        None => Ok(false),
+    }
+}
+
+/// The listing of a container; None where the bytes are none.
+fn listing_of(alloc: Global, bytes: &[u8]) -> Result<Option<Vec<u8>>, AllocError> {
     match Container::parse(bytes) {
-        Ok(container) => {
-            let text = list(alloc, &container)?;
-            assert!(rt; is_assembled(alloc, &text, bytes));
-        }
-        Err(fault) => assert!(rt; false, "{fault:?}"),
+        Ok(container) => Ok(Some(list(alloc, &container)?)),
+        Err(_fault) => Ok(None),
     }
-    Ok(())
+}
+
+/// Whether bytes are a container of so many procedures.
+fn has_procedures(bytes: &[u8], count: usize) -> bool {
+    match Container::parse(bytes) {
+        Ok(container) => container.proc_count() == count,
+        Err(_fault) => false,
+    }
+}
+
+/// Whether bytes are a container in which a procedure has this code.
+fn has_code(bytes: &[u8], procedure: usize, code: &[u8]) -> bool {
+    match Container::parse(bytes) {
+        Ok(container) => { procedure < container.proc_count() && container.code(procedure) == code }
+        Err(_fault) => false,
+    }
 }
 
 /// Whether a text is assembled to these bytes.

@@ -1,6 +1,8 @@
+use crate::tables::{assert_at, assert_case, is_heading, joined, repeated, spread};
 use burr_assembly::*;
 use std::alloc::{AllocError, Global};
 use std::process::Abort;
+use std::test::Fail;
 
 mod cells;
 mod damage;
@@ -27,14 +29,6 @@ fn line_ends(text: &[u8]) -> usize {
     text.iter().filter(|byte| **byte == b'\n').count()
 }
 
-/// The three parts of a text in one.
-fn joined(alloc: Global, front: &[u8], middle: &[u8], rest: &[u8]) -> Result<Vec<u8>, AllocError> {
-    let mut text = Vec::from_slice(alloc, front)?;
-    text.extend_from_slice(middle)?;
-    text.extend_from_slice(rest)?;
-    Ok(text)
-}
-
 /// The duo with other bytes in the place of one of its lines; lines are numbered from 1.
 fn duo_with(alloc: Global, number: usize, line: &[u8]) -> Result<Vec<u8>, AllocError> {
     let mut text = Vec::new(alloc);
@@ -46,20 +40,66 @@ fn duo_with(alloc: Global, number: usize, line: &[u8]) -> Result<Vec<u8>, AllocE
     Ok(text)
 }
 
-/// A part of a text, and the fault of that text; None where it is right.
-type Case = (&'static str, Option<AssemblyFault>);
+/// The first fault of a text; None where it is right.
+fn fault_of(alloc: Global, text: &[u8]) -> Option<AssemblyFault> {
+    Assembly::read(alloc, text).err()
+}
 
-/// Asserts the fault of each text that has a case between these two parts.
+/// Whether a text is `right`, or has this fault.
+fn is_judged(alloc: Global, text: &[u8], want: &str) -> Result<bool, AllocError> {
+    match fault_of(alloc, text) {
+        Some(found) => Ok(format!(in alloc; "{found:?}")?.as_str() == want),
+        None => Ok(want == "right"),
+    }
+}
+
+/// Asserts each case of a table: what stands between these two parts of a text, and what is wrong
+/// with it.
 fn assert_faults(
     rt: &impl Abort,
     alloc: Global,
     front: &[u8],
-    cases: &[Case],
-    rest: &[u8],
+    table: &str,
+    rest: &str,
 ) -> Result<(), AllocError> {
-    for (part, want) in cases {
-        let text = joined(alloc, front, part.as_bytes(), rest)?;
-        assert_eq!(rt; Assembly::read(alloc, &text).err(), *want, "{part:?}");
+    for case in table.lines() {
+        assert_case(rt, is_part_judged(alloc, front, case, rest)?, case);
     }
     Ok(())
+}
+
+/// Whether a case holds between these two parts of a text.
+fn is_part_judged(alloc: Global, front: &[u8], case: &str, rest: &str) -> Result<bool, AllocError> {
+    let Some((part, want)) = case.rsplit_once('|') else {
+        return Ok(is_heading(case));
+    };
+    let part = spread(alloc, part)?;
+    let text = joined(alloc, front, &part, rest.as_bytes())?;
+    is_judged(alloc, &text, want)
+}
+
+/// Asserts each case of a table: the number of a line of the duo, what stands in its place, and what
+/// is wrong with it.
+fn assert_changes(rt: &impl Abort, alloc: Global, table: &str) -> Result<(), AllocError> {
+    for case in table.lines() {
+        assert_case(rt, is_change_judged(alloc, case)?, case);
+    }
+    Ok(())
+}
+
+/// Whether a case holds of the duo.
+fn is_change_judged(alloc: Global, case: &str) -> Result<bool, AllocError> {
+    let Some((number, line, want)) = change(case) else {
+        return Ok(is_heading(case));
+    };
+    let line = spread(alloc, line)?;
+    let text = duo_with(alloc, number, &line)?;
+    is_judged(alloc, &text, want)
+}
+
+/// The number of a line, what stands in its place, and what is then wrong.
+fn change(case: &str) -> Option<(usize, &str, &str)> {
+    let (number, rest) = case.split_once(' ')?;
+    let (line, want) = rest.rsplit_once('|')?;
+    Some((number.parse().ok()?, line, want))
 }

@@ -9,3 +9,7 @@ mod assembly;
 mod code;
 #[cfg(test)]
 mod container;
+#[cfg(test)]
+mod memory;
+#[cfg(test)]
+mod tables;

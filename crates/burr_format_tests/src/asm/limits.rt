@@ -1,6 +1,6 @@
 //! Plans at their limits, and one past them.
 use super::*;
-use crate::asm::making::Random;
+use crate::asm::making::{Random, written};
 use burr_container::{ExitFrame, Frame, Place, PlanForm, Procedure};
 
 /// The front of a text with a main procedure of one label.
@@ -27,24 +27,22 @@ fn add_numbered(
 /// it.
 fn assert_ends(rt: &impl Abort, alloc: Global, text: &[u8], table: &str) -> Result<(), AllocError> {
     for case in table.lines() {
-        assert_end(rt, alloc, text, case)?;
+        assert_case(rt, is_end_judged(alloc, text, case)?, case);
     }
     Ok(())
 }
 
-/// Asserts a line of a table.
-fn assert_end(rt: &impl Abort, alloc: Global, text: &[u8], case: &str) -> Result<(), AllocError> {
+/// Whether a line of a table holds.
+fn is_end_judged(alloc: Global, text: &[u8], case: &str) -> Result<bool, AllocError> {
     let Some((end, want)) = case.rsplit_once('|') else {
-        assert!(rt; false, "{case}");
-        return Ok(());
+        return Ok(false);
     };
     let mut longer = Vec::from_slice(alloc, text)?;
     add_lines(&mut longer, end)?;
-    assert!(rt; is_judged(alloc, &longer, want), "{case}");
     if want == "right" {
-        assert_right(rt, alloc, &longer)?;
+        return is_right(alloc, &longer);
     }
-    Ok(())
+    is_judged(alloc, &longer, want)
 }
 
 /// A plan with 256 labels, but for the last line of its code.
@@ -58,8 +56,8 @@ fn labels_256(alloc: Global) -> Result<Vec<u8>, AllocError> {
 /// Ends of a plan with 256 labels: line 7 + 6 * 255 is the last of the last frame.
 const BEHIND_LABELS: &str = "\
 halt|right
-halt/label m256|P4 1539
-halt/label m255|P2 1539
+halt/label m256|P4 { line: 1539 }
+halt/label m255|P2 { line: 1539 }
 ";
 
 #[test]
@@ -91,18 +89,18 @@ const PROCEDURE: &str = " 4\n\
 
 /// Ends of a plan with 16 procedures: 9 lines of main and 10 of each other procedure.
 const BEHIND_PROCEDURES: &str = "\
-proc q16 0|P4 160
-proc q16 5|P3 160
-proc q15 0|P2 160
-proc q15 5|P2 160
-proc q15 x|P1 160
+proc q16 0|P4 { line: 160 }
+proc q16 5|P3 { line: 160 }
+proc q15 0|P2 { line: 160 }
+proc q15 5|P2 { line: 160 }
+proc q15 x|P1 { line: 160 }
 ";
 
 #[test]
 fn takes_16_procedures(rt: HostRuntime) -> Result<(), Fail> {
     let alloc = rt.alloc();
     let text = procedures_16(alloc)?;
-    assert_right(&rt, alloc, &text)?;
+    assert!(rt; is_right(alloc, &text)?);
     Ok(assert_ends(&rt, alloc, &text, BEHIND_PROCEDURES)?)
 }
 
@@ -120,11 +118,11 @@ const BEHIND_CODE: &str = "\
 push 1|right
 add/add/byte 00|right
 jump start|right
-grip 0|P4 4101
-grip -|P3 4101
-down 0 start|P4 4101
-pick start none|P4 4101
-jump start/byte 00|P4 4102
+grip 0|P4 { line: 4101 }
+grip -|P3 { line: 4101 }
+down 0 start|P4 { line: 4101 }
+pick start none|P4 { line: 4101 }
+jump start/byte 00|P4 { line: 4102 }
 ";
 
 #[test]
@@ -215,12 +213,21 @@ fn plan(alloc: Global) -> Result<Plan, AllocError> {
     })
 }
 
+/// How many labels the last procedure has.
+fn labels_of_last(plan: &Plan) -> usize {
+    match plan.procs.last() {
+        Some(last) => last.labels.len(),
+        None => 0,
+    }
+}
+
 #[test]
 fn lists_a_plan_at_its_limits(rt: HostRuntime) -> Result<(), Fail> {
     let alloc = rt.alloc();
     let plan = plan(alloc)?;
-    assert!(rt; plan.fits());
-    assert_eq!(rt; plan.procs.last().map(|last| last.labels.len()), Some(256));
-    let bytes = write(alloc, &plan)?;
-    Ok(assert_listed(&rt, alloc, &bytes)?)
+    assert!(rt; labels_of_last(&plan) == 256);
+    let bytes = written(alloc, &plan)?;
+    assert!(rt; !bytes.is_empty());
+    assert!(rt; is_listed(alloc, &bytes)?);
+    Ok(())
 }

@@ -226,3 +226,12 @@ impl Random {
         })
     }
 }
+
+/// The bytes of a plan; none where it doesn't fit.
+pub fn written(alloc: Global, plan: &Plan) -> Result<Vec<u8>, AllocError> {
+    if plan.fits() {
+        write(alloc, plan)
+    } else {
+        Ok(Vec::new(alloc))
+    }
+}

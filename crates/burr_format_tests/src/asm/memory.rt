@@ -1,24 +1,6 @@
 //! What a want of memory gives.
 use super::*;
-
-/// Takes all memory that can be had, in blocks of halving sizes.
-fn take_all_memory(alloc: Global, blocks: &mut Vec<Vec<u8>>) {
-    let mut size = 1usize << 46;
-    for _ in 0..47 {
-        for _ in 0..100_000 {
-            if blocks.len() >= 60_000 {
-                break;
-            }
-            let Ok(block) = Vec::with_capacity(alloc, size) else {
-                break;
-            };
-            if blocks.push(block).is_err() {
-                break;
-            }
-        }
-        size = (size / 2).max(1);
-    }
-}
+use crate::memory::take_all_memory;
 
 /// A text with an unknown name in it, and a container with its listing.
 #[derive(Clone, Copy)]

@@ -43,53 +43,58 @@ fn assembles_a_counted_loop(rt: HostRuntime) -> Result<(), Fail> {
 #[test]
 fn assembles_a_question(rt: HostRuntime) -> Result<(), Fail> {
     let bytes = assemble(rt.alloc(), CUP.as_bytes())?;
-    assert_eq!(rt; bytes.len(), 258);
-    let Ok(container) = Container::parse(&bytes) else {
-        assert!(rt; false, "a container");
-        return Ok(());
-    };
-    assert_eq!(rt; container.proc_count(), 1);
-    assert!(rt; container.code(0) == CUP_CODE.as_slice());
-    assert_eq!(rt; container.label_count(0), 3);
-    assert_eq!(rt; container.label(0, 0), 0);
-    assert_eq!(rt; container.label(0, 1), 16);
-    assert_eq!(rt; container.label(0, 2), 24);
+    assert!(rt; bytes.len() == 258);
+    assert!(rt; has_procedures(&bytes, 1));
+    assert!(rt; has_code(&bytes, 0, &CUP_CODE));
+    assert!(rt; has_labels(&bytes, [0, 16, 24]));
     Ok(())
+}
+
+/// Whether bytes are a container whose main has labels at these three places.
+fn has_labels(bytes: &[u8], places: [u16; 3]) -> bool {
+    match Container::parse(bytes) {
+        Ok(container) => labels_of_main(&container) == Some(places),
+        Err(_fault) => false,
+    }
+}
+
+/// Where the labels of main stand, if they are three.
+fn labels_of_main(container: &Container<'_>) -> Option<[u16; 3]> {
+    if container.proc_count() == 0 || container.label_count(0) != 3 {
+        return None;
+    }
+    Some([
+        container.label(0, 0),
+        container.label(0, 1),
+        container.label(0, 2),
+    ])
 }
 
 #[test]
 fn refuses_the_worked_damages(rt: HostRuntime) -> Result<(), Fail> {
+    let table = "14 cost 4+2v1|P3 { line: 14 }\n18 down 0 M|P2 { line: 18 }";
     let alloc = rt.alloc();
-    assert_faults(&rt, alloc, RING, "14 cost 4+2v1|P3 14\n18 down 0 M|P2 18")?;
+    assert_faults(&rt, alloc, RING, table)?;
     let without_label = b"plan ring 2 11\nproc main 0\nframe 0 -\ncost 11\n\
           at 0 0 0 0 0\nat 1 0 0 0 0\ngrip 0\npush 2\nstore 0\n";
-    assert_eq!(rt;
-        assemble(alloc, without_label).err(),
-        Some(AsmFault::P5 { line: 3 })
-    );
-    let Some((front, _rest)) = RING.split_once("frame 0 0\n") else {
-        assert!(rt; false, "a second frame");
-        return Ok(());
-    };
-    assert_eq!(rt;
-        assemble(alloc, front.as_bytes()).err(),
-        Some(AsmFault::P5 { line: 12 })
-    );
-    assert_eq!(rt;
-        assemble(alloc, b"plan ring 2 11\n").err(),
-        Some(AsmFault::P1 { line: 2 })
-    );
+    assert!(rt; is_judged(alloc, without_label, "P5 { line: 3 }")?);
+    let (front, _rest) = RING.split_once("frame 0 0\n").unwrap_or(("", ""));
+    assert!(rt; is_judged(alloc, front.as_bytes(), "P5 { line: 12 }")?);
+    assert!(rt; is_judged(alloc, b"plan ring 2 11\n", "P1 { line: 2 }")?);
     Ok(())
+}
+
+/// The listing of the counted loop, with places.
+fn ring_with_places(alloc: Global) -> Result<Vec<u8>, Fail> {
+    let container = Container::parse(&RING_BYTES)?;
+    Ok(list_with_places(alloc, &container)?)
 }
 
 #[test]
 fn lists_places_of_code(rt: HostRuntime) -> Result<(), Fail> {
-    let alloc = rt.alloc();
-    let container = Container::parse(&RING_BYTES)?;
-    let text = list_with_places(alloc, &container)?;
+    let text = ring_with_places(rt.alloc())?;
     let lines = "down 0 L1\n; proc 0 pc 16\naside +z 1\n; proc 0 pc 19\nhalt\n";
     assert!(rt; text.ends_with(lines.as_bytes()));
-    let again = assemble(alloc, &text)?;
-    assert_eq!(rt; again.as_slice(), RING_BYTES.as_slice());
+    assert!(rt; is_assembled(rt.alloc(), &text, &RING_BYTES));
     Ok(())
 }

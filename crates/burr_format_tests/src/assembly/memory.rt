@@ -1,76 +1,119 @@
 //! What a want of memory gives.
 use super::*;
-use std::test::Fail;
+use crate::memory::take_all_memory;
 
-/// Takes all memory that can be had, in blocks of halving sizes.
-fn take_all_memory(alloc: Global, blocks: &mut Vec<Vec<u8>>) {
-    let mut size = 1usize << 46;
-    for _ in 0..47 {
-        for _ in 0..100_000 {
-            if blocks.len() >= 60_000 {
-                break;
-            }
-            let Ok(block) = Vec::with_capacity(alloc, size) else {
-                break;
-            };
-            if blocks.push(block).is_err() {
-                break;
+/// The fault of the crowded text: two pieces in one place.
+const CROWD: AssemblyFault = AssemblyFault::A8 {
+    line: 7,
+    earlier: 0,
+    piece: 1,
+};
+
+/// Which of the answers have come, and whether one was neither right nor the want of memory.
+#[derive(Clone, Copy)]
+struct Seen {
+    reads: bool,
+    reads_crowded: bool,
+    writes: bool,
+    is_wrong: bool,
+}
+
+impl Seen {
+    /// No answer yet.
+    fn new() -> Seen {
+        Seen {
+            reads: false,
+            reads_crowded: false,
+            writes: false,
+            is_wrong: false,
+        }
+    }
+
+    fn has_all(&self) -> bool {
+        self.reads && self.reads_crowded && self.writes
+    }
+
+    fn has_any(&self) -> bool {
+        self.reads || self.reads_crowded || self.writes
+    }
+
+    fn ask(&mut self, alloc: Global, crowded: &[u8], duo: &Assembly) {
+        self.ask_for_duo(alloc);
+        self.ask_for_fault(alloc, crowded);
+        self.ask_for_text(alloc, duo);
+    }
+
+    fn ask_for_duo(&mut self, alloc: Global) {
+        match fault_of(alloc, DUO.as_bytes()) {
+            None => self.reads = true,
+            Some(AssemblyFault::Memory) => {}
+            Some(_fault) => self.is_wrong = true,
+        }
+    }
+
+    fn ask_for_fault(&mut self, alloc: Global, crowded: &[u8]) {
+        match fault_of(alloc, crowded) {
+            Some(AssemblyFault::Memory) => {}
+            found => {
+                self.reads_crowded = true;
+                self.is_wrong |= found != Some(CROWD);
             }
         }
-        size = (size / 2).max(1);
     }
+
+    fn ask_for_text(&mut self, alloc: Global, duo: &Assembly) {
+        if let Ok(text) = duo.write(alloc) {
+            self.writes = true;
+            self.is_wrong |= text.as_slice() != DUO.as_bytes();
+        }
+    }
+}
+
+/// The answers with no memory, and those that come as block after block of it is freed, until all
+/// have come.
+fn answers(
+    alloc: Global,
+    crowded: &[u8],
+    duo: &Assembly,
+    mut blocks: Vec<Vec<u8>>,
+) -> (Seen, Seen) {
+    take_all_memory(alloc, &mut blocks);
+    let mut first = Seen::new();
+    first.ask(alloc, crowded, duo);
+    let mut seen = first;
+    for _ in 0..60_000 {
+        seen.ask(alloc, crowded, duo);
+        if seen.has_all() || blocks.pop().is_none() {
+            break;
+        }
+    }
+    (first, seen)
+}
+
+/// Asserts what comes of the duo and of the crowded text under a want of memory.
+fn assert_told(
+    rt: &impl Abort,
+    alloc: Global,
+    crowded: &[u8],
+    duo: &Assembly,
+) -> Result<(), AllocError> {
+    // with ample memory first: then the stack has grown as far as the calls need, which it can't do
+    // while all memory is taken
+    let mut ample = Seen::new();
+    ample.ask(alloc, crowded, duo);
+    assert!(rt; ample.has_all() && !ample.is_wrong, "with ample memory");
+    // asserts may want memory, so they stand behind the blocks
+    let blocks = Vec::with_capacity(alloc, 60_000)?;
+    let (first, seen) = answers(alloc, crowded, duo, blocks);
+    assert!(rt; !first.has_any() && !first.is_wrong, "with no memory");
+    assert!(rt; seen.has_all() && !seen.is_wrong, "as memory is freed");
+    Ok(())
 }
 
 #[test]
 fn reports_a_want_of_memory(rt: HostRuntime) -> Result<(), Fail> {
     let alloc = rt.alloc();
-    // two pieces in one place: with memory, a fault of the text
     let crowded = duo_with(alloc, 7, b"piece B cube +x+y+z 0 0 0")?;
-    let crowd = AssemblyFault::A8 {
-        line: 7,
-        earlier: 0,
-        piece: 1,
-    };
     let duo = Assembly::read(alloc, DUO.as_bytes())?;
-    // with ample memory first: then the stack has grown as far as the calls need, which it can't do
-    // while all memory is taken
-    assert_eq!(rt; Assembly::read(alloc, &crowded).err(), Some(crowd));
-    assert_eq!(rt; duo.write(alloc)?.as_slice(), DUO.as_bytes());
-    let mut blocks: Vec<Vec<u8>> = Vec::with_capacity(alloc, 60_000)?;
-    take_all_memory(alloc, &mut blocks);
-    // asserts may want memory, so they stand behind the blocks
-    let refused = Assembly::read(alloc, DUO.as_bytes()).err();
-    let crowded_refused = Assembly::read(alloc, &crowded).err();
-    let is_write_refused = duo.write(alloc).is_err();
-    // with each block that is freed, an answer is the want of memory or the right one
-    let mut other = None;
-    let (mut reads, mut reads_crowded, mut writes) = (false, false, false);
-    let mut is_wrong = false;
-    for _ in 0..60_000 {
-        match Assembly::read(alloc, DUO.as_bytes()) {
-            Ok(_) => reads = true,
-            Err(AssemblyFault::Memory) => {}
-            Err(fault) => other = Some(fault),
-        }
-        match Assembly::read(alloc, &crowded).err() {
-            Some(AssemblyFault::Memory) => {}
-            Some(fault) if fault == crowd => reads_crowded = true,
-            fault => other = fault.or(Some(crowd)),
-        }
-        if let Ok(text) = duo.write(alloc) {
-            writes = true;
-            is_wrong |= text.as_slice() != DUO.as_bytes();
-        }
-        if (reads && reads_crowded && writes) || blocks.pop().is_none() {
-            break;
-        }
-    }
-    drop(blocks);
-    assert!(rt; !is_wrong);
-    assert_eq!(rt; refused, Some(AssemblyFault::Memory));
-    assert_eq!(rt; crowded_refused, Some(AssemblyFault::Memory));
-    assert!(rt; is_write_refused);
-    assert_eq!(rt; other, None);
-    assert!(rt; reads && reads_crowded && writes);
-    Ok(())
+    Ok(assert_told(&rt, alloc, &crowded, &duo)?)
 }

@@ -15,19 +15,25 @@ fn stands_in_turn(code: &[u8], wanted: &[Instr<'_>]) -> bool {
     pc == code.len()
 }
 
+/// A grip, an aside and a halt.
+const TAKEN: [u8; 9] = [0x10, 0x00, 0x00, 0x00, 0x01, 0x12, 0x01, 0x01, 0x00];
+
 #[test]
 fn finds_a_grip_an_aside_and_a_halt(rt: HostRuntime) {
-    let code = [0x10, 0x00, 0x00, 0x00, 0x01, 0x12, 0x01, 0x01, 0x00];
     let instrs = [
         Instr::Grip(1),
         Instr::Aside(Direction::MinusX, 1),
         Instr::Halt,
     ];
-    assert!(rt; stands_in_turn(&code, &instrs));
+    assert!(rt; stands_in_turn(&TAKEN, &instrs));
+}
+
+#[test]
+fn finds_nothing_behind_the_end(rt: HostRuntime) {
     for pc in [9, 10, usize::MAX] {
-        assert_eq!(rt; fetch(&code, pc), None, "at {pc}");
+        assert_at(&rt, is_nothing_at(&TAKEN, pc), pc);
     }
-    assert_eq!(rt; fetch(&[], 0), None);
+    assert!(rt; is_nothing_at(b"", 0));
 }
 
 #[test]
@@ -65,60 +71,76 @@ fn finds_a_counted_step(rt: HostRuntime) {
     assert!(rt; stands_in_turn(&code, &instrs));
 }
 
+/// Instructions with operands at the edges, and how they are written.
+const EDGES: &str = "\
+01 80 01|Push(-32767)
+01 7f ff|Push(32767)
+02 07|Load(7)
+03 07|Store(7)
+04|Add
+05|Sub
+06|Drop
+10 81 02 03 04|Grip(2164392708)
+11 05|Step(MinusZ)
+12 05 1f|Aside(MinusZ, 31)
+13 1f|Tray(31)
+20 ff fe|Jump(65534)
+21 07 01 02|Down(7, 258)
+22 80 01 80 01|Ask(-32767, -32767)
+22 ff ff 7f ff|Ask(-1, 32767)
+24 ff|Call(255)
+25|Ret
+";
+
 #[test]
-fn finds_operands_at_the_edges(rt: HostRuntime) {
-    let labels = [0x01, 0x02, 0xff, 0xfe];
-    let rows: [(&[u8], Instr<'_>); 17] = [
-        (&[0x01, 0x80, 0x01], Instr::Push(-32767)),
-        (&[0x01, 0x7f, 0xff], Instr::Push(32767)),
-        (&[0x02, 0x07], Instr::Load(7)),
-        (&[0x03, 0x07], Instr::Store(7)),
-        (&[0x04], Instr::Add),
-        (&[0x05], Instr::Sub),
-        (&[0x06], Instr::Drop),
-        (&[0x10, 0x81, 0x02, 0x03, 0x04], Instr::Grip(0x8102_0304)),
-        (&[0x11, 0x05], Instr::Step(Direction::MinusZ)),
-        (&[0x12, 0x05, 0x1f], Instr::Aside(Direction::MinusZ, 31)),
-        (&[0x13, 0x1f], Instr::Tray(31)),
-        (&[0x20, 0xff, 0xfe], Instr::Jump(0xfffe)),
-        (&[0x21, 0x07, 0x01, 0x02], Instr::Down(7, 0x0102)),
-        (&[0x22, 0x80, 0x01, 0x80, 0x01], Instr::Ask(-32767, -32767)),
-        (&[0x22, 0xff, 0xff, 0x7f, 0xff], Instr::Ask(-1, 32767)),
-        (&[0x24, 0xff], Instr::Call(255)),
-        (&[0x25], Instr::Ret),
-    ];
-    for (which, (code, instr)) in rows.iter().enumerate() {
-        match fetch(code, 0) {
-            Some((found, size)) => {
-                assert!(rt; found == *instr, "at {which}");
-                assert_eq!(rt; size, code.len(), "at {which}");
-            }
-            None => assert!(rt; false, "at {which}"),
-        }
-        assert_eq!(rt; fetch(&code[..code.len() - 1], 0), None, "at {which}");
+fn finds_operands_at_the_edges(rt: HostRuntime) -> Result<(), Fail> {
+    for case in EDGES.lines() {
+        let (words, want) = case.split_once('|').unwrap_or((case, ""));
+        let code = hex(&rt, rt.alloc(), words)?;
+        assert_case(&rt, is_instr(rt.alloc(), &code, want)?, case);
+    }
+    Ok(())
+}
+
+/// The front of code that offers this many labels.
+fn pick_of(alloc: Global, count: u8) -> Result<Vec<u8>, AllocError> {
+    let labels = [0, 1, 2, 0, 3, 4, 5, 0, 6, 7, 8, 0, 9, 10, 11, 0, 12, 13];
+    let mut code = Vec::from_slice(alloc, &[0x23, count])?;
+    for label in labels.iter().take(2usize.wrapping_mul(usize::from(count))) {
+        code.push(*label)?;
+    }
+    Ok(code)
+}
+
+/// Whether code is one pick of the labels that stand behind its first two bytes.
+fn is_pick(code: &[u8]) -> bool {
+    let Some((found, size)) = fetch(code, 0) else {
+        return false;
+    };
+    match found {
+        Instr::Pick(labels) => size == code.len() && Some(labels.as_bytes()) == code.get(2..),
+        _other => false,
     }
 }
 
 #[test]
-fn finds_picks_of_two_to_eight(rt: HostRuntime) {
-    let code: [u8; 20] = [
-        0x23, 0, 0, 1, 2, 0, 3, 4, 5, 0, 6, 7, 8, 0, 9, 10, 11, 0, 12, 13,
-    ];
+fn finds_picks_of_two_to_eight(rt: HostRuntime) -> Result<(), Fail> {
     for count in 0..10u8 {
-        let mut code = code;
-        code[1] = count;
-        let size = 2 + 2 * usize::from(count);
-        let found = fetch(&code[..size], 0);
-        match (&found, (2..=8).contains(&count)) {
-            (Some((Instr::Pick(labels), bytes)), true) => {
-                assert_eq!(rt; *bytes, size);
-                assert!(rt; labels.as_bytes() == &code[2..size], "at {count}");
-            }
-            (None, false) => {}
-            _ => assert!(rt; false, "at {count}"),
-        }
-        assert_eq!(rt; fetch(&code[..size - 1], 0), None, "at {count}");
+        let code = pick_of(rt.alloc(), count)?;
+        assert_at(&rt, is_offer(count, &code), usize::from(count));
     }
+    Ok(())
+}
+
+/// Whether code offers this many labels where they are two to eight, and is nothing otherwise; and
+/// without its last byte nothing.
+fn is_offer(count: u8, code: &[u8]) -> bool {
+    let is_right = if 2 <= count && count <= 8 {
+        is_pick(code)
+    } else {
+        is_nothing_at(code, 0)
+    };
+    is_right && is_nothing_at(front_of(code), 0)
 }
 
 #[test]
@@ -126,32 +148,34 @@ fn finds_nothing_behind_another_first_byte(rt: HostRuntime) {
     for first in 0..=255u8 {
         if !matches!(first, 0x00..=0x06 | 0x10..=0x13 | 0x20..=0x25) {
             let code = [first, 2, 1, 1, 1, 1, 1, 1, 1];
-            assert_eq!(rt; fetch(&code, 0), None, "at {first}");
+            assert_at(&rt, is_nothing_at(&code, 0), usize::from(first));
         }
     }
 }
 
+/// Instructions with operands out of range.
+const OUT_OF_RANGE: &str = "\
+01 80 00
+02 08
+03 08
+10 00 00 00 00
+11 06
+12 06 01
+12 00 20
+13 20
+21 08 00 00
+22 80 00 00 00
+22 00 01 00 00
+22 00 00 ff ff
+23 01 00 01
+23 09 00 01 00 02 00 03 00 04 00 05 00 06 00 07 00 08 00 09
+";
+
 #[test]
-fn finds_nothing_with_operands_out_of_range(rt: HostRuntime) {
-    let wrong: [&[u8]; 14] = [
-        &[0x01, 0x80, 0x00],
-        &[0x02, 0x08],
-        &[0x03, 0x08],
-        &[0x10, 0x00, 0x00, 0x00, 0x00],
-        &[0x11, 0x06],
-        &[0x12, 0x06, 0x01],
-        &[0x12, 0x00, 0x20],
-        &[0x13, 0x20],
-        &[0x21, 0x08, 0x00, 0x00],
-        &[0x22, 0x80, 0x00, 0x00, 0x00],
-        &[0x22, 0x00, 0x01, 0x00, 0x00],
-        &[0x22, 0x00, 0x00, 0xff, 0xff],
-        &[0x23, 0x01, 0x00, 0x01],
-        &[
-            0x23, 0x09, 0, 1, 0, 2, 0, 3, 0, 4, 0, 5, 0, 6, 0, 7, 0, 8, 0, 9,
-        ],
-    ];
-    for (which, code) in wrong.iter().enumerate() {
-        assert_eq!(rt; fetch(code, 0), None, "at {which}");
+fn finds_nothing_with_operands_out_of_range(rt: HostRuntime) -> Result<(), Fail> {
+    for words in OUT_OF_RANGE.lines() {
+        let code = hex(&rt, rt.alloc(), words)?;
+        assert_case(&rt, is_nothing_at(&code, 0), words);
     }
+    Ok(())
 }

@@ -20,11 +20,8 @@ fn takes_two_to_eight_labels(rt: HostRuntime) {
     let bytes = [0u8; 20];
     for size in 0..20usize {
         let is_offer = size % 2 == 0 && 4 <= size && size <= 16;
-        assert_eq!(rt;
-            Labels::new(&bytes[..size]).is_some(),
-            is_offer,
-            "at {size}"
-        );
+        let found = Labels::new(&bytes[..size]).is_some();
+        assert_at(&rt, found == is_offer, size);
     }
 }
 

@@ -3,15 +3,13 @@
 use super::vectors::{DUO, RING};
 use super::*;
 
-/// The bytes of the two cubes, these of them written over.
-fn changed(at: usize, bytes: &[u8]) -> [u8; 70] {
-    let mut all = DUO;
-    for (offset, byte) in bytes.iter().enumerate() {
-        if let Some(place) = all.get_mut(at.saturating_add(offset)) {
-            *place = *byte;
-        }
+/// The bytes with these of them written over.
+fn changed(alloc: Global, bytes: &[u8], at: usize, put: &[u8]) -> Result<Vec<u8>, AllocError> {
+    let mut all = Vec::from_slice(alloc, bytes)?;
+    for (place, byte) in all.iter_mut().skip(at).zip(put.iter()) {
+        *place = *byte;
     }
-    all
+    Ok(all)
 }
 
 /// The first fault of some bytes.
@@ -19,89 +17,126 @@ fn fault_of(bytes: &[u8]) -> Option<ContainerFault> {
     Container::parse(bytes).err()
 }
 
+/// Whether bytes have this fault.
+fn is_judged(alloc: Global, bytes: &[u8], want: &str) -> Result<bool, AllocError> {
+    match fault_of(bytes) {
+        Some(found) => Ok(format!(in alloc; "{found:?}")?.as_str() == want),
+        None => Ok(false),
+    }
+}
+
+/// Whether bytes end too early, where they end.
+fn is_end(front: &[u8]) -> bool {
+    fault_of(front) == Some(ContainerFault::C1 { at: front.len() })
+}
+
+/// Asserts where each front of some bytes ends.
+fn assert_ends(rt: &impl Abort, bytes: &[u8]) {
+    for n in 0..bytes.len() {
+        assert_at(rt, is_end(&bytes[..n]), n);
+    }
+}
+
 #[test]
 fn names_where_bytes_end(rt: HostRuntime) {
-    for n in 0..70usize {
-        let fault = fault_of(&DUO[..n]);
-        assert_eq!(rt; fault, Some(ContainerFault::C1 { at: n }), "at {n}");
+    assert_ends(&rt, &DUO);
+    assert_ends(&rt, &RING);
+}
+
+#[test]
+fn names_bytes_behind_the_end(rt: HostRuntime) -> Result<(), Fail> {
+    let all = joined(rt.alloc(), &DUO, &[0], b"")?;
+    assert!(rt; is_judged(rt.alloc(), &all, "C6 { at: 70 }")?);
+    Ok(())
+}
+
+/// Where bytes of the two cubes are written over, what stands there then, and the fault.
+const OF_DUO: &str = "\
+; magic and version
+0 58 50 4c 4e|C2 { at: 0 }
+4 00 02|C3 { at: 4 }
+; numbers out of range
+6 00 00 00 00|C4 { at: 6 }
+6 00 0f 42 41|C4 { at: 6 }
+10 01|C4 { at: 10 }
+10 21|C4 { at: 10 }
+11 00|C4 { at: 11 }
+11 21|C4 { at: 11 }
+12 31 61 62|C4 { at: 12 }
+15 00|C4 { at: 15 }
+15 11|C4 { at: 15 }
+16 01|C4 { at: 16 }
+17 00 00|C4 { at: 17 }
+17 01 01|C4 { at: 17 }
+21 20|C4 { at: 21 }
+22 00 00 00 04|C4 { at: 22 }
+27 05|C4 { at: 27 }
+28 09|C4 { at: 28 }
+33 20|C4 { at: 33 }
+59 00 00|C4 { at: 59 }
+59 10 01|C4 { at: 59 }
+33 fe|C4 { at: 33 }
+; a first label that isn't at 0
+19 00 01|C5 { at: 19 }
+";
+
+/// The same of the rod in a ring.
+const OF_RING: &str = "\
+; labels that don't rise, and a label behind the end of the code
+61 00|C5 { at: 60 }
+60 ff ff|C4 { at: 118 }
+; ends of ranges
+68 80 00|C4 { at: 68 }
+70 ff ff|C4 { at: 70 }
+";
+
+/// Asserts each line of a table.
+fn assert_faults(
+    rt: &impl Abort,
+    alloc: Global,
+    bytes: &[u8],
+    table: &str,
+) -> Result<(), AllocError> {
+    for case in table.lines() {
+        assert_case(rt, is_case_judged(rt, alloc, bytes, case)?, case);
     }
-    for n in 0..140usize {
-        let fault = fault_of(&RING[..n]);
-        assert_eq!(rt; fault, Some(ContainerFault::C1 { at: n }), "at {n}");
-    }
+    Ok(())
+}
+
+/// Whether a line of a table holds.
+fn is_case_judged(
+    rt: &impl Abort,
+    alloc: Global,
+    bytes: &[u8],
+    case: &str,
+) -> Result<bool, AllocError> {
+    let Some((at, words, want)) = place_of(case) else {
+        return Ok(is_heading(case));
+    };
+    let put = hex(rt, alloc, words)?;
+    let all = changed(alloc, bytes, at, &put)?;
+    is_judged(alloc, &all, want)
+}
+
+/// A place, the bytes that are put there, and the fault.
+fn place_of(case: &str) -> Option<(usize, &str, &str)> {
+    let (put, want) = case.split_once('|')?;
+    let (at, words) = put.split_once(' ')?;
+    Some((at.parse().ok()?, words, want))
 }
 
 #[test]
-fn names_bytes_behind_the_end(rt: HostRuntime) {
-    let mut all = [0; 71];
-    for (place, byte) in all.iter_mut().zip(DUO.iter()) {
-        *place = *byte;
-    }
-    assert_eq!(rt; fault_of(&all), Some(ContainerFault::C6 { at: 70 }));
+fn names_what_is_written_over(rt: HostRuntime) -> Result<(), Fail> {
+    assert!(rt; is_judged(rt.alloc(), b"XX", "C1 { at: 2 }")?);
+    assert_faults(&rt, rt.alloc(), &DUO, OF_DUO)?;
+    Ok(assert_faults(&rt, rt.alloc(), &RING, OF_RING)?)
 }
 
 #[test]
-fn names_magic_and_version(rt: HostRuntime) {
-    let magic = changed(0, b"XPLN");
-    assert_eq!(rt; fault_of(&magic), Some(ContainerFault::C2 { at: 0 }));
-    assert_eq!(rt; fault_of(b"XX"), Some(ContainerFault::C1 { at: 2 }));
-    let version = changed(4, &[0, 2]);
-    assert_eq!(rt; fault_of(&version), Some(ContainerFault::C3 { at: 4 }));
-}
-
-#[test]
-fn names_numbers_out_of_range(rt: HostRuntime) {
-    let cases: [(usize, &[u8]); 18] = [
-        (6, &[0, 0, 0, 0]),
-        (6, &[0, 0x0f, 0x42, 0x41]),
-        (10, &[1]),
-        (10, &[33]),
-        (11, &[0]),
-        (11, &[33]),
-        (12, b"1ab"),
-        (15, &[0]),
-        (15, &[17]),
-        (16, &[1]),
-        (17, &[0, 0]),
-        (17, &[1, 1]),
-        (21, &[32]),
-        (22, &[0, 0, 0, 4]),
-        (27, &[5]),
-        (28, &[9]),
-        (33, &[32]),
-        (59, &[0, 0]),
-    ];
-    for (at, bytes) in cases {
-        let all = changed(at, bytes);
-        assert_eq!(rt; fault_of(&all), Some(ContainerFault::C4 { at }), "at {at}");
-    }
-    let long = changed(59, &[0x10, 0x01]);
-    assert_eq!(rt; fault_of(&long), Some(ContainerFault::C4 { at: 59 }));
-    let tray = changed(33, &[254]);
-    assert_eq!(rt; fault_of(&tray), Some(ContainerFault::C4 { at: 33 }));
-}
-
-#[test]
-fn names_labels_that_do_not_rise(rt: HostRuntime) {
-    let first = changed(19, &[0, 1]);
-    assert_eq!(rt; fault_of(&first), Some(ContainerFault::C5 { at: 19 }));
-    let mut second = RING;
-    second[61] = 0;
-    assert_eq!(rt; fault_of(&second), Some(ContainerFault::C5 { at: 60 }));
-    second[60] = 0xff;
-    second[61] = 0xff;
-    assert_eq!(rt; fault_of(&second), Some(ContainerFault::C4 { at: 118 }));
-}
-
-#[test]
-fn names_ends_of_ranges(rt: HostRuntime) {
-    let mut low = RING;
-    low[68] = 0x80;
-    low[69] = 0;
-    assert_eq!(rt; fault_of(&low), Some(ContainerFault::C4 { at: 68 }));
-    assert_eq!(rt; fault_of(&low[..70]), Some(ContainerFault::C4 { at: 68 }));
-    let mut high = RING;
-    high[70] = 0xff;
-    high[71] = 0xff;
-    assert_eq!(rt; fault_of(&high), Some(ContainerFault::C4 { at: 70 }));
+fn names_a_fault_before_the_end(rt: HostRuntime) -> Result<(), Fail> {
+    let low = changed(rt.alloc(), &RING, 68, &[0x80, 0])?;
+    let front = low.get(..70).unwrap_or(b"");
+    assert!(rt; front.len() == 70);
+    assert!(rt; is_judged(rt.alloc(), front, "C4 { at: 68 }")?);
+    Ok(())
 }

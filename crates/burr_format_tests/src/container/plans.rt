@@ -2,8 +2,7 @@
 
 use super::vectors::DUO;
 use super::*;
-use std::alloc::{AllocError, Global};
-use std::test::Fail;
+use crate::memory::take_all_memory;
 
 /// A form of a plan without coefficients.
 fn constant(constant: i32) -> PlanForm {
@@ -43,73 +42,64 @@ fn duo(alloc: Global) -> Result<Plan, AllocError> {
     })
 }
 
-#[test]
-fn writes_two_cubes(rt: HostRuntime) -> Result<(), Fail> {
-    let plan = duo(rt.alloc())?;
-    if !plan.fits() {
-        panic!(rt; "the plan is within the format");
-    }
-    let bytes = write(rt.alloc(), &plan)?;
-    assert_eq!(rt; bytes.as_slice(), DUO.as_slice());
-    Ok(())
+/// Whether a plan with other counts is within the format.
+fn fits_with(plan: &mut Plan, pieces: u8, budget: u32) -> bool {
+    plan.pieces = pieces;
+    plan.budget = budget;
+    plan.fits()
 }
 
 #[test]
 fn knows_a_plan_outside_the_format(rt: HostRuntime) -> Result<(), Fail> {
     let mut plan = duo(rt.alloc())?;
-    plan.budget = 1_000_001;
-    assert!(rt; !plan.fits());
-    plan.budget = 1_000_000;
-    assert!(rt; plan.fits());
-    plan.pieces = 3;
-    assert!(rt; !plan.fits());
+    assert!(rt; !fits_with(&mut plan, 2, 1_000_001));
+    assert!(rt; fits_with(&mut plan, 2, 1_000_000));
+    assert!(rt; !fits_with(&mut plan, 3, 1_000_000));
     Ok(())
+}
+
+/// Whether a plan is written as the two cubes; None where memory is refused.
+fn is_written(alloc: Global, plan: &Plan) -> Option<bool> {
+    if !plan.fits() {
+        return Some(false);
+    }
+    match write(alloc, plan) {
+        Ok(bytes) => Some(bytes.as_slice() == DUO.as_slice()),
+        Err(_refused) => None,
+    }
+}
+
+#[test]
+fn writes_two_cubes(rt: HostRuntime) -> Result<(), Fail> {
+    let plan = duo(rt.alloc())?;
+    assert!(rt; is_written(rt.alloc(), &plan) == Some(true));
+    Ok(())
+}
+
+/// The answer with no memory, and the first that comes as block after block of it is freed.
+fn answers(alloc: Global, plan: &Plan, mut blocks: Vec<Vec<u8>>) -> (Option<bool>, Option<bool>) {
+    take_all_memory(alloc, &mut blocks);
+    let first = is_written(alloc, plan);
+    let mut seen = first;
+    for _ in 0..60_000 {
+        seen = is_written(alloc, plan);
+        if seen.is_some() || blocks.pop().is_none() {
+            break;
+        }
+    }
+    (first, seen)
 }
 
 #[test]
 fn tells_a_want_of_memory(rt: HostRuntime) -> Result<(), Fail> {
     let alloc = rt.alloc();
     let plan = duo(alloc)?;
-    if !plan.fits() {
-        panic!(rt; "the plan is within the format");
-    }
     // with ample memory first: then the stack has grown as far as the calls need, which it can't do
     // while all memory is taken
-    assert_eq!(rt; write(alloc, &plan)?.as_slice(), DUO.as_slice());
-    let mut blocks: Vec<Vec<u8>> = Vec::with_capacity(alloc, 60_000)?;
-    take_all_memory(alloc, &mut blocks);
-    let is_refused = write(alloc, &plan).is_err();
-    // with each block that is freed, the answer is the want of memory or the right one
-    let (mut is_written, mut is_wrong) = (false, false);
-    for _ in 0..60_000 {
-        if let Ok(bytes) = write(alloc, &plan) {
-            is_written = true;
-            is_wrong |= bytes.as_slice() != DUO.as_slice();
-        }
-        if is_written || blocks.pop().is_none() {
-            break;
-        }
-    }
-    drop(blocks);
-    assert!(rt; is_refused && is_written && !is_wrong);
+    assert!(rt; is_written(alloc, &plan) == Some(true));
+    // asserts may want memory, so they stand behind the blocks
+    let (first, seen) = answers(alloc, &plan, Vec::with_capacity(alloc, 60_000)?);
+    assert!(rt; first.is_none());
+    assert!(rt; seen == Some(true));
     Ok(())
-}
-
-/// Takes all memory that can be had, in blocks of halving sizes.
-fn take_all_memory(alloc: Global, blocks: &mut Vec<Vec<u8>>) {
-    let mut size = 1usize << 46;
-    for _ in 0..47 {
-        for _ in 0..100_000 {
-            if blocks.len() >= 60_000 {
-                break;
-            }
-            let Ok(block) = Vec::with_capacity(alloc, size) else {
-                break;
-            };
-            if blocks.push(block).is_err() {
-                break;
-            }
-        }
-        size = (size / 2).max(1);
-    }
 }
