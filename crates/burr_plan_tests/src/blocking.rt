@@ -29,23 +29,58 @@ fn displacement(x: i32, y: i32, z: i32) -> Option<Cell>
     Some(Cell { x, y, z })
 }
 
+/// Whether the first of two pieces, at a displacement, overlaps the other; None where there are no such
+/// pieces.
+fn blocked<B: Blocking>(cells: &B, piece: u8, other: u8, at: Cell) -> Option<bool>
+    requires near { IsWithin 512 at }
+{
+    let count = cells.assembly().piece_count();
+    if piece >= count {
+        return None;
+    }
+    if other >= count {
+        return None;
+    }
+    if piece == other {
+        return None;
+    }
+    Some(cells.blocked(piece, other, at))
+}
+
+/// Whether it is free of the other from there, along a direction.
+fn free<B: Blocking>(
+    cells: &B,
+    piece: u8,
+    other: u8,
+    at: Cell,
+    direction: Direction,
+) -> Option<bool>
+    requires near { IsWithin 512 at }
+{
+    let count = cells.assembly().piece_count();
+    if piece >= count {
+        return None;
+    }
+    if other >= count {
+        return None;
+    }
+    if piece == other {
+        return None;
+    }
+    Some(cells.free(piece, other, at, direction))
+}
+
 /// Whether the first of two pieces, at a displacement, overlaps the other; with a direction, whether it is
 /// free from there. None where there are no such pieces or the displacement is too large.
 fn answer<B: Blocking>(
     cells: &B,
-    pieces: (u8, u8),
-    at: (i32, i32, i32),
+    (piece, other): (u8, u8),
+    (x, y, z): (i32, i32, i32),
     direction: Option<Direction>,
 ) -> Option<bool> {
-    let (piece, other) = pieces;
-    let count = cells.assembly().piece_count();
-    if piece >= count || other >= count || piece == other {
-        return None;
-    }
-    let (x, y, z) = at;
     let at = displacement(x, y, z)?;
     match direction {
-        None => Some(cells.blocked(piece, other, at)),
-        Some(direction) => Some(cells.free(piece, other, at, direction)),
+        None => blocked(cells, piece, other, at),
+        Some(direction) => free(cells, piece, other, at, direction),
     }
 }

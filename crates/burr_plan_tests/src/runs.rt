@@ -56,7 +56,9 @@ fn ran<B: Blocking, W: Write>(
     answers: &[i32],
     writer: &mut W,
 ) -> Option<Result<Outcome, WriteFault>> {
-    let accepted = accept(container, blocking).ok()?;
+    let Ok(accepted) = accept(container, blocking) else {
+        return None;
+    };
     Some(run_plan(&accepted, answers, &mut Writing::new(writer)))
 }
 

@@ -10,7 +10,7 @@ const STAIRS: &str =
     "assembly stairs\nshape stair\nlayer\n##..\n#...\n....\nlayer\n.##.\n....\n....\nlayer\n..##\n...#\n...#\nend\npiece A stair +x+y+z 0 0 0\npiece B stair +y-x+z 2 2 0\npiece C stair -z+y+x -3 5 5\npiece D stair -x+z+y -1 2 1\n";
 
 /// The number of coordinates from -17 to 17.
-const COORDINATES: i32 = 35;
+const COORDINATES: u16 = 35;
 
 const DIRECTIONS: [Direction; 6] = [
     Direction::PlusX,
@@ -51,13 +51,18 @@ impl Both<'_> {
     }
 }
 
+/// A coordinate of -17 to 17.
+fn coordinate(number: u16) -> i32 {
+    i32::from(number % COORDINATES) - 17
+}
+
 /// Asserts that the answers for two pieces are the same at all displacements of -17 to 17 a
 /// coordinate.
 fn assert_same_for(rt: &impl Abort, both: &Both<'_>, pieces: (u8, u8)) {
     for number in 0..COORDINATES * COORDINATES * COORDINATES {
-        let x = number / COORDINATES / COORDINATES - 17;
-        let y = number / COORDINATES % COORDINATES - 17;
-        let z = number % COORDINATES - 17;
+        let x = coordinate(number / COORDINATES / COORDINATES);
+        let y = coordinate(number / COORDINATES);
+        let z = coordinate(number);
         assert!(rt;
             both.are_alike_at(pieces, (x, y, z)),
             "{pieces:?} {x} {y} {z}"
