@@ -1,5 +1,6 @@
 //! Rules, states of frames, and their arrival at frames.
-use burr_assembly::Assembly;
+use crate::calls::{assembly_of, cells_of, container_of};
+use crate::texts::{RING, bytes_of};
 use burr_blocking::PlainCells;
 use burr_container::Container;
 use burr_forms::Point;
@@ -11,28 +12,25 @@ use std::test::Fail;
 
 /// A rod in a ring, as a container: label 0 is the start, label 1 the loop that moves it up. There slot
 /// 0 is live in 0 to 2, the cost is `4+2v0`, and piece 0 is gripped at z `2-1v0`.
-const RING: [u8; 140] = [
-    0x42, 0x50, 0x4c, 0x4e, 0x00, 0x01, 0x00, 0x00, 0x00, 0x0b, 0x02, 0x04, 0x72, 0x69, 0x6e, 0x67,
-    0x01, 0x00, 0x00, 0x02, 0x00, 0x00, 0x00, 0x00, 0x00, 0x00, 0x00, 0x00, 0x00, 0x00, 0x00, 0x00,
-    0x00, 0x0b, 0x00, 0x00, 0x00, 0x00, 0x00, 0x00, 0x00, 0x00, 0x00, 0x00, 0x00, 0x00, 0x00, 0x00,
-    0x00, 0x00, 0x00, 0x00, 0x00, 0x00, 0x00, 0x00, 0x00, 0x00, 0x00, 0x00, 0x00, 0x0a, 0x00, 0x00,
-    0x00, 0x00, 0x01, 0x01, 0x00, 0x00, 0x00, 0x02, 0x00, 0x00, 0x00, 0x00, 0x00, 0x04, 0x00, 0x02,
-    0x00, 0x00, 0x00, 0x00, 0x00, 0x00, 0x00, 0x00, 0x00, 0x00, 0x00, 0x00, 0x00, 0x00, 0x00, 0x00,
-    0x02, 0xff, 0xff, 0x00, 0x00, 0x00, 0x00, 0x00, 0x00, 0x00, 0x00, 0x00, 0x00, 0x00, 0x00, 0x00,
-    0x00, 0x00, 0x00, 0x00, 0x00, 0x00, 0x00, 0x14, 0x10, 0x00, 0x00, 0x00, 0x01, 0x01, 0x00, 0x02,
-    0x03, 0x00, 0x11, 0x04, 0x21, 0x00, 0x00, 0x01, 0x12, 0x04, 0x01, 0x00,
-];
+const PLAN: &str = "42504c4e 0001 0000000b 02 04 72696e67 01 00 0002 \
+    0000 00 00000000 00 00 00 0000000b \
+    00 00000000 00000000 00000000 00 00000000 00000000 00000000 \
+    000a 00 00000001 01 0000 0002 00 00 00000004 0002 \
+    00 00000000 0000 00000000 0000 00000002 ffff \
+    00 00000000 0000 00000000 0000 00000000 0000 \
+    0014 10 00000001 01 0002 03 00 11 04 21 00 0001 12 04 01 00";
 
-/// The ring, where the loop costs `4+1v0`.
-fn cheaper_ring() -> [u8; 140] {
-    let mut ring = RING;
-    ring[79] = 1;
-    ring
-}
+/// The same, where the loop costs `4+1v0`.
+const CHEAPER: &str = "42504c4e 0001 0000000b 02 04 72696e67 01 00 0002 \
+    0000 00 00000000 00 00 00 0000000b \
+    00 00000000 00000000 00000000 00 00000000 00000000 00000000 \
+    000a 00 00000001 01 0000 0002 00 00 00000004 0001 \
+    00 00000000 0000 00000000 0000 00000002 ffff \
+    00 00000000 0000 00000000 0000 00000000 0000 \
+    0014 10 00000001 01 0002 03 00 11 04 21 00 0001 12 04 01 00";
 
 /// The state of a frame of main.
-fn state_at(bytes: &[u8], label: usize) -> Option<State> {
-    let container = Container::parse(bytes).ok()?;
+fn state_at(container: &Container<'_>, label: usize) -> Option<State> {
     if container.proc_count() == 0 || container.label_count(0) <= label {
         return None;
     }
@@ -40,8 +38,7 @@ fn state_at(bytes: &[u8], label: usize) -> Option<State> {
 }
 
 /// Whether a state arrives at a frame of main.
-fn arrival(state: &State, bytes: &[u8], label: usize) -> Option<Result<(), Miss>> {
-    let container = Container::parse(bytes).ok()?;
+fn arrival(state: &State, container: &Container<'_>, label: usize) -> Option<Result<(), Miss>> {
     if container.proc_count() == 0 || container.label_count(0) <= label {
         return None;
     }
@@ -50,9 +47,9 @@ fn arrival(state: &State, bytes: &[u8], label: usize) -> Option<Result<(), Miss>
 
 /// A miss at a point of one symbol.
 fn miss_at(number: i32) -> Option<Result<(), Miss>> {
-    let mut point = Point::new();
-    point.push(number);
-    Some(Err(Miss { point: Some(point) }))
+    Some(Err(Miss {
+        point: Some(point_of(number)),
+    }))
 }
 
 /// A miss without regard to points.
@@ -60,72 +57,96 @@ fn plain_miss() -> Option<Result<(), Miss>> {
     Some(Err(Miss { point: None }))
 }
 
+/// A point of one symbol.
+fn point_of(number: i32) -> Point {
+    let mut point = Point::new();
+    point.push(number);
+    point
+}
+
+/// What is said where the state of a frame, of a plan and a label, comes to another one.
+fn arrival_at(
+    from: &Container<'_>,
+    to: &Container<'_>,
+    labels: (usize, usize),
+) -> Option<Result<(), Miss>> {
+    let state = state_at(from, labels.0)?;
+    arrival(&state, to, labels.1)
+}
+
+/// Asserts what is said where the state of a plan's frame comes to a frame of another plan.
 fn assert_arrival(
     rt: &impl Abort,
-    from: (&[u8], usize),
-    to: (&[u8], usize),
+    alloc: Global,
+    plans: (&str, &str),
+    labels: (usize, usize),
     wanted: Option<Result<(), Miss>>,
-) {
-    let Some(state) = state_at(from.0, from.1) else {
-        panic!(rt; "no such frame");
-    };
-    assert!(rt; arrival(&state, to.0, to.1) == wanted);
+) -> Result<(), Fail> {
+    let from = bytes_of(alloc, plans.0)?;
+    let to = bytes_of(alloc, plans.1)?;
+    let arrival = arrival_at(&container_of(&from)?, &container_of(&to)?, labels);
+    assert!(rt; arrival == wanted);
+    Ok(())
 }
 
 #[test]
-fn arrives_at_its_own_frame(rt: HostRuntime) {
-    assert_arrival(&rt, (&RING, 0), (&RING, 0), Some(Ok(())));
-    assert_arrival(&rt, (&RING, 1), (&RING, 1), Some(Ok(())));
+fn arrives_at_its_own_frame(rt: HostRuntime) -> Result<(), Fail> {
+    assert_arrival(&rt, rt.alloc(), (PLAN, PLAN), (0, 0), Some(Ok(())))?;
+    assert_arrival(&rt, rt.alloc(), (PLAN, PLAN), (1, 1), Some(Ok(())))
 }
 
 #[test]
-fn arrives_where_less_is_asked(rt: HostRuntime) {
-    let cheaper = cheaper_ring();
-    assert_arrival(&rt, (&RING, 1), (&cheaper, 1), Some(Ok(())));
-    assert_arrival(&rt, (&cheaper, 1), (&RING, 1), miss_at(1));
+fn arrives_where_less_is_asked(rt: HostRuntime) -> Result<(), Fail> {
+    assert_arrival(&rt, rt.alloc(), (PLAN, CHEAPER), (1, 1), Some(Ok(())))?;
+    assert_arrival(&rt, rt.alloc(), (CHEAPER, PLAN), (1, 1), miss_at(1))
 }
 
+/// Slot 0 is not known at the start, and nothing is gripped there.
 #[test]
-fn misses_other_structure(rt: HostRuntime) {
-    // slot 0 is not known at the start, and nothing is gripped there
-    assert_arrival(&rt, (&RING, 0), (&RING, 1), plain_miss());
-    assert_arrival(&rt, (&RING, 1), (&RING, 0), plain_miss());
+fn misses_other_structure(rt: HostRuntime) -> Result<(), Fail> {
+    assert_arrival(&rt, rt.alloc(), (PLAN, PLAN), (0, 1), plain_miss())?;
+    assert_arrival(&rt, rt.alloc(), (PLAN, PLAN), (1, 0), plain_miss())
 }
 
-/// The text of the ring's assembly.
-const RING_TEXT: &[u8] =
-    b"assembly ring\nshape rod\nlayer\n#\nlayer\n#\nlayer\n#\nend\nshape ring\nlayer\n###\n#.#\n###\nend\npiece A rod +x+y+z 1 1 0\npiece B ring +x+y+z 0 0 0\n";
+/// Moves a state a unit up; tells whether the rule allows it.
+fn goes_up(state: &mut State, cells: &PlainCells<'_>) -> bool {
+    state.step(cells, Direction::PlusZ).is_ok()
+}
 
-/// Asserts where a turn of a ring's loop fails to arrive at the loop again: the rod goes a unit up, and the
-/// counter down.
+/// Counts slot 0 of a state of main down, and goes to label 1.
+fn counts_down(state: &mut State, container: &Container<'_>) -> Option<Result<(), Miss>> {
+    if container.proc_count() == 0 {
+        return None;
+    }
+    match state.down(container, 0, 0, 1) {
+        Ok(()) => Some(Ok(())),
+        Err(broken) => Some(Err(Miss {
+            point: broken.point,
+        })),
+    }
+}
+
+/// Asserts what is said where a turn of a plan's loop comes to the loop again: the rod goes a unit up, and
+/// the counter down.
 fn assert_turn(
     rt: &impl Abort,
     alloc: Global,
-    ring: &[u8],
-    wanted: Option<Point>,
+    plan: &str,
+    wanted: Option<Result<(), Miss>>,
 ) -> Result<(), Fail> {
-    let assembly = Assembly::read(alloc, RING_TEXT)?;
-    let cells = PlainCells::new(&assembly);
-    let container = Container::parse(ring)?;
-    if container.proc_count() == 0 || container.label_count(0) <= 1 {
-        return Err(Fail::from("no loop"));
-    }
-    let mut state = State::of(&container.frame(0, 1));
-    assert!(rt; state.step(&cells, Direction::PlusZ).is_ok());
-    let point = match state.down(&container, 0, 0, 1) {
-        Ok(()) => None,
-        Err(broken) => broken.point,
-    };
-    assert!(rt; point == wanted);
+    let assembly = assembly_of(alloc, RING)?;
+    let plan = bytes_of(alloc, plan)?;
+    let container = container_of(&plan)?;
+    let mut state = state_at(&container, 1).expect(rt, "a loop");
+    assert!(rt; goes_up(&mut state, &cells_of(&assembly)));
+    assert!(rt; counts_down(&mut state, &container) == wanted);
     Ok(())
 }
 
 #[test]
 fn a_turn_costs_two(rt: HostRuntime) -> Result<(), Fail> {
-    let mut point = Point::new();
-    point.push(1);
-    assert_turn(&rt, rt.alloc(), &RING, None)?;
-    assert_turn(&rt, rt.alloc(), &cheaper_ring(), Some(point))
+    assert_turn(&rt, rt.alloc(), PLAN, Some(Ok(())))?;
+    assert_turn(&rt, rt.alloc(), CHEAPER, miss_at(1))
 }
 
 #[test]

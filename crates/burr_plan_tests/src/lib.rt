@@ -6,8 +6,14 @@ mod bench;
 #[cfg(test)]
 mod blocking;
 #[cfg(test)]
+mod calls;
+#[cfg(test)]
 mod frames;
 #[cfg(test)]
 mod runs;
 #[cfg(test)]
+mod texts;
+#[cfg(test)]
 mod verify;
+#[cfg(test)]
+mod want;

@@ -1,11 +1,12 @@
-use burr_assembly::Assembly;
+use crate::calls::{assembly_of, cells_of, container_of, tables_of};
+use crate::texts::{CUP, DUO, RING, bytes_of, lines_of};
 use burr_blocking::{Blocking, CellTables, PlainCells};
 use burr_container::Container;
-use burr_io::{Reading, Sink, Source, WriteFault, Writing};
+use burr_io::{Reading, Sink, WriteFault, Writing};
 use burr_runs::{AnswersFault, BenchFault, Outcome, bench_text, check, read_answers, run_plan};
 use burr_verify::accept;
 use std::alloc::{AllocError, Global};
-use std::io::{self, Read};
+use std::io::{self, Read, Write};
 use std::process::Abort;
 use std::test::Fail;
 
@@ -16,10 +17,6 @@ mod refusals;
 mod rows;
 mod sinks;
 mod sources;
-
-/// Two cubes side by side.
-const DUO: &str =
-    "assembly duo\nshape cube\nlayer\n#\nend\npiece A cube +x+y+z 0 0 0\npiece B cube +x+y+z 1 0 0\n";
 
 /// Code that takes the duo apart.
 const APART: &str = "100000000112010100";
@@ -34,42 +31,42 @@ fn input_of(alloc: Global, text: &str, code: &str) -> Result<String, AllocError>
 
 // Calls whose contracts no test needs: here they end, and tests are proved sooner.
 
-/// Runs an input's bare code and puts its sheet.
-fn benched<R: Source, W: Sink>(
+/// Runs an input's bare code and writes its sheet.
+fn benched<R: Read, W: Write>(
     alloc: Global,
-    source: &mut R,
-    sink: &mut W,
+    reader: &mut R,
+    writer: &mut W,
 ) -> Result<Outcome, BenchFault> {
-    bench_text(alloc, source, sink)
+    bench_text(alloc, &mut Reading::new(reader), &mut Writing::new(writer))
 }
 
-/// Checks a plan and puts the line of it.
-fn checked<B: Blocking, W: Sink>(
+/// Checks a plan and writes the line of it.
+fn checked<B: Blocking, W: Write>(
     container: &Container<'_>,
     blocking: &B,
-    sink: &mut W,
+    writer: &mut W,
 ) -> Result<bool, WriteFault> {
-    check(container, blocking, sink)
+    check(container, blocking, &mut Writing::new(writer))
 }
 
 /// Checks a plan, and runs it where it is accepted.
-fn ran<B: Blocking, W: Sink>(
+fn ran<B: Blocking, W: Write>(
     container: &Container<'_>,
     blocking: &B,
     answers: &[i32],
-    sink: &mut W,
+    writer: &mut W,
 ) -> Option<Result<Outcome, WriteFault>> {
     let Ok(accepted) = accept(container, blocking) else {
         return None;
     };
-    Some(run_plan(&accepted, answers, sink))
+    Some(run_plan(&accepted, answers, &mut Writing::new(writer)))
 }
 
 /// Asserts that an input ends so, with this output.
 fn assert_output(rt: &impl Abort, alloc: Global, input: &str, outcome: Outcome, output: &str) {
-    let mut source = Reading::new(input.as_bytes());
+    let mut rest = input.as_bytes();
     let mut written = Vec::new(alloc);
-    let result = benched(alloc, &mut source, &mut Writing::new(&mut written));
+    let result = benched(alloc, &mut rest, &mut written);
     assert_eq!(rt; result, Ok(outcome), "{input}");
     assert_eq!(rt; written.as_slice(), output.as_bytes(), "{input}");
 }

@@ -1,3 +1,5 @@
+use crate::calls::{assembly_of, container_of, tables_of};
+use crate::texts::{CUP, DUO, RING, bytes_of};
 use burr_assembly::Assembly;
 use burr_blocking::CellTables;
 use burr_container::Container;
@@ -13,34 +15,24 @@ mod labels;
 mod plans;
 mod worked;
 
-/// The container of a plan for the duo, which has two pieces.
-const DUO_PLAN: [u8; 70] = [
-    0x42, 0x50, 0x4c, 0x4e, 0x00, 0x01, 0x00, 0x00, 0x00, 0x03, 0x02, 0x03, 0x64, 0x75, 0x6f, 0x01,
-    0x00, 0x00, 0x01, 0x00, 0x00, 0x00, 0x00, 0x00, 0x00, 0x00, 0x00, 0x00, 0x00, 0x00, 0x00, 0x00,
-    0x03, 0x00, 0x00, 0x00, 0x00, 0x00, 0x00, 0x00, 0x00, 0x00, 0x00, 0x00, 0x00, 0x00, 0x00, 0x00,
-    0x00, 0x00, 0x00, 0x00, 0x00, 0x00, 0x00, 0x00, 0x00, 0x00, 0x00, 0x00, 0x09, 0x10, 0x00, 0x00,
-    0x00, 0x01, 0x12, 0x01, 0x01, 0x00,
-];
+/// A plan for the duo, which has two pieces.
+const DUO_PLAN: &str = "42504c4e 0001 00000003 02 03 64756f 01 00 0001 \
+    0000 00 00000000 00 00 00 00000003 \
+    00 00000000 00000000 00000000 00 00000000 00000000 00000000 \
+    0009 10 00000001 12 01 01 00";
 
-/// Two cubes side by side.
-const DUO: &str =
-    "assembly duo\nshape cube\nlayer\n#\nend\npiece A cube +x+y+z 0 0 0\npiece B cube +x+y+z 1 0 0\n";
-
-/// The same with a third cube.
+/// Three cubes, by the name of the duo.
 const DUO_OF_THREE: &str =
     "assembly duo\nshape cube\nlayer\n#\nend\npiece A cube +x+y+z 0 0 0\npiece B cube +x+y+z 1 0 0\npiece C cube +x+y+z 2 0 0\n";
-
-/// A dot in a bowl: two pieces, too.
-const CUP: &str =
-    "assembly cup\nshape dot\nlayer\n#\nend\nshape bowl\nlayer\n###\n###\n###\nlayer\n###\n#.#\n###\nend\npiece A dot +x+y+z 1 1 1\npiece B bowl +x+y+z 0 0 0\n";
-
-/// A rod in the hole of a ring.
-const RING: &str =
-    "assembly ring\nshape rod\nlayer\n#\nlayer\n#\nlayer\n#\nend\nshape ring\nlayer\n###\n#.#\n###\nend\npiece A rod +x+y+z 1 1 0\npiece B ring +x+y+z 0 0 0\n";
 
 /// Four cubes in a square.
 const SQUARE: &str =
     "assembly square\nshape cube\nlayer\n#\nend\npiece A cube +x+y+z 0 0 0\npiece B cube +x+y+z 1 0 0\npiece C cube +x+y+z 0 1 0\npiece D cube +x+y+z 1 1 0\n";
+
+/// Whether a plan is for an assembly.
+fn fit(container: &Container<'_>, assembly: &Assembly) -> Result<(), Refusal> {
+    fits_assembly(container, assembly)
+}
 
 /// Asserts what is said of the duo's plan with the assembly of a text.
 fn assert_fit(
@@ -49,9 +41,9 @@ fn assert_fit(
     text: &str,
     wanted: Result<(), Refusal>,
 ) -> Result<(), Fail> {
-    let container = Container::parse(&DUO_PLAN)?;
-    let assembly = Assembly::read(alloc, text.as_bytes())?;
-    assert_eq!(rt; fits_assembly(&container, &assembly), wanted);
+    let plan = bytes_of(alloc, DUO_PLAN)?;
+    let assembly = assembly_of(alloc, text)?;
+    assert!(rt; fit(&container_of(&plan)?, &assembly) == wanted);
     Ok(())
 }
 

@@ -1,28 +1,16 @@
 //! Both implementations answer alike.
-ghost use Rattle.std.specs.Prelude.{◌≡◌, ◌≢◌, ◌<◌, length};
-ghost use Rattle.burr_voxels.specs.Near.{IsWithin};
-
 use super::*;
-use burr_voxels::{Cell, Direction};
-
-/// A rod in the hole of a ring.
-const RING: &[u8] =
-    b"assembly ring\nshape rod\nlayer\n#\nlayer\n#\nlayer\n#\nend\nshape ring\nlayer\n###\n#.#\n###\nend\npiece A rod +x+y+z 1 1 0\npiece B ring +x+y+z 0 0 0\n";
-
-/// A dot in a bowl.
-const CUP: &[u8] =
-    b"assembly cup\nshape dot\nlayer\n#\nend\nshape bowl\nlayer\n###\n###\n###\nlayer\n###\n#.#\n###\nend\npiece A dot +x+y+z 1 1 1\npiece B bowl +x+y+z 0 0 0\n";
 
 /// Two combs, as long as a shape can be, across each other, and a hook between them.
-const COMBS: &[u8] =
-    b"assembly combs\nshape comb\nlayer\n################\n#.#.#.#.#.#.#.#.\nend\nshape hook\nlayer\n#####\n#....\n#....\nlayer\n#....\n.....\n.....\nlayer\n#....\n....#\n.....\nend\npiece A comb -y+x+z 0 0 0\npiece B hook +z+x+y 3 2 -1\npiece C comb +z-x-y 5 -2 2\n";
+const COMBS: &str =
+    "assembly combs\nshape comb\nlayer\n################\n#.#.#.#.#.#.#.#.\nend\nshape hook\nlayer\n#####\n#....\n#....\nlayer\n#....\n.....\n.....\nlayer\n#....\n....#\n.....\nend\npiece A comb -y+x+z 0 0 0\npiece B hook +z+x+y 3 2 -1\npiece C comb +z-x-y 5 -2 2\n";
 
 /// Four stairs, each turned another way.
-const STAIRS: &[u8] =
-    b"assembly stairs\nshape stair\nlayer\n##..\n#...\n....\nlayer\n.##.\n....\n....\nlayer\n..##\n...#\n...#\nend\npiece A stair +x+y+z 0 0 0\npiece B stair +y-x+z 2 2 0\npiece C stair -z+y+x -3 5 5\npiece D stair -x+z+y -1 2 1\n";
+const STAIRS: &str =
+    "assembly stairs\nshape stair\nlayer\n##..\n#...\n....\nlayer\n.##.\n....\n....\nlayer\n..##\n...#\n...#\nend\npiece A stair +x+y+z 0 0 0\npiece B stair +y-x+z 2 2 0\npiece C stair -z+y+x -3 5 5\npiece D stair -x+z+y -1 2 1\n";
 
 /// The number of coordinates from -17 to 17.
-const COORDINATES: u8 = 35;
+const COORDINATES: u16 = 35;
 
 const DIRECTIONS: [Direction; 6] = [
     Direction::PlusX,
@@ -33,81 +21,74 @@ const DIRECTIONS: [Direction; 6] = [
     Direction::MinusZ,
 ];
 
-/// The displacement whose coordinates lie so many above -17.
-fn displacement(x: u8, y: u8, z: u8) -> Cell
-    ensures { IsWithin 512 result }
-{
-    Cell {
-        x: i32::from(x) - 17,
-        y: i32::from(y) - 17,
-        z: i32::from(z) - 17,
+/// What answers for an assembly, in both ways.
+#[derive(Drop)]
+struct Both<'a> {
+    plain: PlainCells<'a>,
+    tables: CellTables<'a>,
+}
+
+impl Both<'_> {
+    /// Whether both answer, and alike.
+    fn are_alike(
+        &self,
+        pieces: (u8, u8),
+        at: (i32, i32, i32),
+        direction: Option<Direction>,
+    ) -> bool {
+        let plain = answer(&self.plain, pieces, at, direction);
+        plain.is_some() && answer(&self.tables, pieces, at, direction) == plain
+    }
+
+    /// Whether all answers for two pieces at a displacement are alike.
+    fn are_alike_at(&self, pieces: (u8, u8), at: (i32, i32, i32)) -> bool {
+        for direction in DIRECTIONS {
+            if !self.are_alike(pieces, at, Some(direction)) {
+                return false;
+            }
+        }
+        self.are_alike(pieces, at, None)
     }
 }
 
-/// Asserts that the answers for two pieces at a displacement are the same.
-fn assert_same_at(
-    rt: &impl Abort,
-    plain: &PlainCells<'_>,
-    tables: &CellTables<'_>,
-    piece: u8,
-    other: u8,
-    at: Cell,
-)
-    requires same { tables.now ≡ plain.now }
-    requires piece { piece < length plain.now.pieces }
-    requires other { other < length plain.now.pieces }
-    requires two { piece ≢ other }
-    requires near { IsWithin 512 at }
-{
-    let is_blocked = plain.blocked(piece, other, at);
-    assert!(rt;
-        tables.blocked(piece, other, at) == is_blocked,
-        "{piece} {other} {at:?}"
-    );
-    for direction in &DIRECTIONS {
-        let is_free = plain.free(piece, other, at, *direction);
-        assert!(rt;
-            tables.free(piece, other, at, *direction) == is_free,
-            "{piece} {other} {at:?}"
-        );
-    }
+/// A coordinate of -17 to 17.
+fn coordinate(number: u16) -> i32 {
+    i32::from(number % COORDINATES) - 17
 }
 
 /// Asserts that the answers for two pieces are the same at all displacements of -17 to 17 a
 /// coordinate.
-fn assert_same_for(
-    rt: &impl Abort,
-    plain: &PlainCells<'_>,
-    tables: &CellTables<'_>,
-    piece: u8,
-    other: u8,
-)
-    requires same { tables.now ≡ plain.now }
-    requires piece { piece < length plain.now.pieces }
-    requires other { other < length plain.now.pieces }
-    requires two { piece ≢ other }
-{
-    for x in 0..COORDINATES {
-        for y in 0..COORDINATES {
-            for z in 0..COORDINATES {
-                assert_same_at(rt, plain, tables, piece, other, displacement(x, y, z));
-            }
+fn assert_same_for(rt: &impl Abort, both: &Both<'_>, pieces: (u8, u8)) {
+    for number in 0..COORDINATES * COORDINATES * COORDINATES {
+        let x = coordinate(number / COORDINATES / COORDINATES);
+        let y = coordinate(number / COORDINATES);
+        let z = coordinate(number);
+        assert!(rt;
+            both.are_alike_at(pieces, (x, y, z)),
+            "{pieces:?} {x} {y} {z}"
+        );
+    }
+}
+
+/// Asserts that the answers for a piece against each other one are the same.
+fn assert_same_from(rt: &impl Abort, both: &Both<'_>, piece: u8, count: u8) {
+    for other in 0..count {
+        if piece != other {
+            assert_same_for(rt, both, (piece, other));
         }
     }
 }
 
 /// Asserts that the answers are the same for any two pieces of an assembly, in both orders.
-fn assert_same(rt: &impl Abort, alloc: Global, text: &[u8]) -> Result<(), Fail> {
-    let assembly = Assembly::read(alloc, text)?;
-    let plain = PlainCells::new(&assembly);
-    let tables = CellTables::build(alloc, &assembly)?;
+fn assert_same(rt: &impl Abort, alloc: Global, text: &str) -> Result<(), Fail> {
+    let assembly = assembly_of(alloc, text)?;
+    let both = Both {
+        plain: cells_of(&assembly),
+        tables: tables_of(alloc, &assembly)?,
+    };
     let count = assembly.piece_count();
     for piece in 0..count {
-        for other in 0..count {
-            if piece != other {
-                assert_same_for(rt, &plain, &tables, piece, other);
-            }
-        }
+        assert_same_from(rt, &both, piece, count);
     }
     Ok(())
 }

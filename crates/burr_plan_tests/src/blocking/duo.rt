@@ -1,42 +1,58 @@
 //! Answers for two cubes side by side, of both implementations.
-ghost use Rattle.std.specs.Prelude.{◌≡◌, length};
-ghost use Rattle.burr_voxels.specs.Grid.{at as at_of};
-
 use super::*;
-use burr_voxels::{Cell, Direction};
 
-fn at(x: i32, y: i32, z: i32) -> Cell
-    ensures { result ≡ at_of x y z }
-{
-    Cell { x, y, z }
+/// Two pieces, a displacement, and whether the first overlaps the other there.
+const BLOCKED: [((u8, u8), (i32, i32, i32), bool); 5] = [
+    ((0, 1), (1, 0, 0), true),
+    ((0, 1), (0, 0, 0), false),
+    ((0, 1), (512, 0, 0), false),
+    ((1, 0), (-1, 0, 0), true),
+    ((1, 0), (1, 0, 0), false),
+];
+
+/// Two pieces, a displacement, a direction, and whether the first is free of the other along it.
+const FREE: [((u8, u8), (i32, i32, i32), Direction, bool); 7] = [
+    ((0, 1), (0, 0, 0), Direction::PlusX, false),
+    ((0, 1), (0, 0, 0), Direction::MinusX, true),
+    ((0, 1), (1, 0, 0), Direction::PlusX, true),
+    ((0, 1), (-512, 0, 0), Direction::PlusX, false),
+    ((0, 1), (-512, 512, 0), Direction::PlusX, true),
+    ((1, 0), (0, 0, 0), Direction::PlusX, true),
+    ((1, 0), (0, 0, 0), Direction::MinusX, false),
+];
+
+/// Asserts the answers of the duo.
+fn assert_duo<B: Blocking>(rt: &impl Abort, cells: &B) {
+    for (pieces, at, wanted) in BLOCKED {
+        assert!(rt; answer(cells, pieces, at, None) == Some(wanted));
+    }
+    assert_free(rt, cells);
 }
 
-/// Asserts what is answered of the duo.
-fn assert_duo<B: Blocking>(rt: &impl Abort, cells: &B)
-    requires { length (B.subject cells.now).pieces ≡ 2 }
-{
-    assert_eq!(rt; cells.assembly().name(), "duo");
-    assert!(rt; cells.blocked(0, 1, at(1, 0, 0)));
-    assert!(rt; !cells.blocked(0, 1, at(0, 0, 0)));
-    assert!(rt; !cells.blocked(0, 1, at(512, 0, 0)));
-    assert!(rt; cells.blocked(1, 0, at(-1, 0, 0)));
-    assert!(rt; !cells.blocked(1, 0, at(1, 0, 0)));
-    assert!(rt; !cells.free(0, 1, at(0, 0, 0), Direction::PlusX));
-    assert!(rt; cells.free(0, 1, at(0, 0, 0), Direction::MinusX));
-    assert!(rt; cells.free(0, 1, at(1, 0, 0), Direction::PlusX));
-    assert!(rt; !cells.free(0, 1, at(-512, 0, 0), Direction::PlusX));
-    assert!(rt; cells.free(0, 1, at(-512, 512, 0), Direction::PlusX));
-    assert!(rt; cells.free(1, 0, at(0, 0, 0), Direction::PlusX));
-    assert!(rt; !cells.free(1, 0, at(0, 0, 0), Direction::MinusX));
+fn assert_free<B: Blocking>(rt: &impl Abort, cells: &B) {
+    for (pieces, at, direction, wanted) in FREE {
+        assert!(rt; answer(cells, pieces, at, Some(direction)) == Some(wanted));
+    }
+}
+
+fn assert_name<B: Blocking>(rt: &impl Abort, cells: &B) {
+    assert!(rt; cells.assembly().name() == "duo");
 }
 
 #[test]
-fn both_answer_for_two_cubes(rt: HostRuntime) -> Result<(), Fail> {
-    let duo = Assembly::read(rt.alloc(), DUO)?;
-    if duo.piece_count() != 2 {
-        return Err(Fail::from("the duo has two pieces"));
-    }
-    assert_duo(&rt, &PlainCells::new(&duo));
-    assert_duo(&rt, &CellTables::build(rt.alloc(), &duo)?);
+fn plain_cells_answer_for_two_cubes(rt: HostRuntime) -> Result<(), Fail> {
+    let duo = assembly_of(rt.alloc(), DUO)?;
+    let cells = cells_of(&duo);
+    assert_name(&rt, &cells);
+    assert_duo(&rt, &cells);
+    Ok(())
+}
+
+#[test]
+fn tables_answer_for_two_cubes(rt: HostRuntime) -> Result<(), Fail> {
+    let duo = assembly_of(rt.alloc(), DUO)?;
+    let tables = tables_of(rt.alloc(), &duo)?;
+    assert_name(&rt, &tables);
+    assert_duo(&rt, &tables);
     Ok(())
 }

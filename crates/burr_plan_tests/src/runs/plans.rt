@@ -1,14 +1,6 @@
 //! Plans that are checked, and runs of those that are accepted.
 use super::*;
 
-/// A rod in a ring.
-const RING: &str =
-    "assembly ring\nshape rod\nlayer\n#\nlayer\n#\nlayer\n#\nend\nshape ring\nlayer\n###\n#.#\n###\nend\npiece A rod +x+y+z 1 1 0\npiece B ring +x+y+z 0 0 0\n";
-
-/// A dot in a bowl.
-pub const CUP: &str =
-    "assembly cup\nshape dot\nlayer\n#\nend\nshape bowl\nlayer\n###\n###\n###\nlayer\n###\n#.#\n###\nend\npiece A dot +x+y+z 1 1 1\npiece B bowl +x+y+z 0 0 0\n";
-
 // Containers as hexadecimal digits: the header, then each label with its frame, and then the code.
 
 /// The container of examples/duo.plan: A goes out along -x.
@@ -83,23 +75,28 @@ pub const UNGUARDED_CUP_PLAN: &str = "\
     001d1000000001220000000203000200030121010002120401001104200001\
 ";
 
-/// The line that `check` puts for a container's plan and an assembly, and whether the plan is
-/// accepted.
+/// What a check of a plan says and writes.
+fn check_of(
+    alloc: Global,
+    (assembly, plan): (&str, &str),
+) -> Result<(Result<bool, WriteFault>, Vec<u8>), Fail> {
+    let bytes = bytes_of(alloc, plan)?;
+    let assembly = assembly_of(alloc, assembly)?;
+    let mut written = Vec::new(alloc);
+    let said = checked(&container_of(&bytes)?, &cells_of(&assembly), &mut written);
+    Ok((said, written))
+}
+
+/// Asserts the line of a plan and an assembly, and whether the plan is accepted.
 fn assert_checked(
     rt: &impl Abort,
     alloc: Global,
-    assembly: &str,
-    plan: &str,
+    given: (&str, &str),
     is_accepted: bool,
     line: &str,
 ) -> Result<(), Fail> {
-    let bytes = hex::decode(alloc, plan)?;
-    let container = Container::parse(&bytes)?;
-    let assembly = Assembly::read(alloc, assembly.as_bytes())?;
-    let cells = PlainCells::new(&assembly);
-    let mut written = Vec::new(alloc);
-    let result = checked(&container, &cells, &mut Writing::new(&mut written));
-    assert_eq!(rt; result, Ok(is_accepted), "{line}");
+    let (said, written) = check_of(alloc, given)?;
+    assert_eq!(rt; said, Ok(is_accepted), "{line}");
     assert_eq!(rt; written.as_slice(), line.as_bytes(), "{line}");
     Ok(())
 }
@@ -108,55 +105,60 @@ fn assert_checked(
 fn an_accepted_plan_is_told_with_its_cost_and_its_budget(rt: HostRuntime) -> Result<(), Fail> {
     let alloc = rt.alloc();
     let line = "accepted cost 3 budget 3\n";
-    assert_checked(&rt, alloc, DUO, DUO_PLAN, true, line)?;
+    assert_checked(&rt, alloc, (DUO, DUO_PLAN), true, line)?;
     let line = "accepted cost 4 budget 4\n";
-    assert_checked(&rt, alloc, DUO, CHOOSE_PLAN, true, line)?;
+    assert_checked(&rt, alloc, (DUO, CHOOSE_PLAN), true, line)?;
     let line = "accepted cost 11 budget 11\n";
-    assert_checked(&rt, alloc, RING, RING_PLAN, true, line)?;
+    assert_checked(&rt, alloc, (RING, RING_PLAN), true, line)?;
     let line = "accepted cost 14 budget 14\n";
-    assert_checked(&rt, alloc, CUP, CUP_PLAN, true, line)?;
-    Ok(())
+    assert_checked(&rt, alloc, (CUP, CUP_PLAN), true, line)
 }
 
 #[test]
 fn a_refused_plan_is_told_with_its_rule_and_its_place(rt: HostRuntime) -> Result<(), Fail> {
     let alloc = rt.alloc();
     let line = "refused V1 proc 0 pc 0\n";
-    assert_checked(&rt, alloc, CUP, CHOOSE_PLAN, false, line)?;
+    assert_checked(&rt, alloc, (CUP, CHOOSE_PLAN), false, line)?;
     let line = "refused V28 proc 0 pc 0\n";
-    assert_checked(&rt, alloc, RING, SHORT_RING_PLAN, false, line)?;
-    Ok(())
+    assert_checked(&rt, alloc, (RING, SHORT_RING_PLAN), false, line)
 }
 
 #[test]
 fn pieces_and_a_point_are_told_where_they_are_named(rt: HostRuntime) -> Result<(), Fail> {
     let alloc = rt.alloc();
     let line = "refused V16 proc 0 pc 5 pieces A B\n";
-    assert_checked(&rt, alloc, DUO, BLOCKED_PLAN, false, line)?;
+    assert_checked(&rt, alloc, (DUO, BLOCKED_PLAN), false, line)?;
     let line = "refused V21 proc 0 pc 12 point 1\n";
-    assert_checked(&rt, alloc, RING, CHEAP_RING_PLAN, false, line)?;
+    assert_checked(&rt, alloc, (RING, CHEAP_RING_PLAN), false, line)?;
     let line = "refused V15 proc 0 pc 24 pieces A B point 0 1\n";
-    assert_checked(&rt, alloc, CUP, UNGUARDED_CUP_PLAN, false, line)?;
-    Ok(())
+    assert_checked(&rt, alloc, (CUP, UNGUARDED_CUP_PLAN), false, line)
 }
 
-/// The sheet of an accepted plan's run with these answers, and how it ends.
+/// How a run of an accepted plan ends, and what it writes.
+fn run_of(
+    alloc: Global,
+    (assembly, plan): (&str, &str),
+    answers: &[i32],
+) -> Result<(Option<Result<Outcome, WriteFault>>, Vec<u8>), Fail> {
+    let bytes = bytes_of(alloc, plan)?;
+    let assembly = assembly_of(alloc, assembly)?;
+    let container = container_of(&bytes)?;
+    let mut written = Vec::new(alloc);
+    let ended = ran(&container, &cells_of(&assembly), answers, &mut written);
+    Ok((ended, written))
+}
+
+/// Asserts how an accepted plan's run with these answers ends, and its sheet.
 fn assert_run(
     rt: &impl Abort,
     alloc: Global,
-    assembly: &str,
-    plan: &str,
+    given: (&str, &str),
     answers: &[i32],
     outcome: Outcome,
     sheet: &str,
 ) -> Result<(), Fail> {
-    let bytes = hex::decode(alloc, plan)?;
-    let container = Container::parse(&bytes)?;
-    let assembly = Assembly::read(alloc, assembly.as_bytes())?;
-    let cells = PlainCells::new(&assembly);
-    let mut written = Vec::new(alloc);
-    let result = ran(&container, &cells, answers, &mut Writing::new(&mut written));
-    assert_eq!(rt; result, Some(Ok(outcome)), "{sheet}");
+    let (ended, written) = run_of(alloc, given, answers)?;
+    assert_eq!(rt; ended, Some(Ok(outcome)), "{sheet}");
     assert_eq!(rt; written.as_slice(), sheet.as_bytes(), "{sheet}");
     Ok(())
 }
@@ -165,23 +167,22 @@ fn assert_run(
 fn an_accepted_plan_takes_all_pieces_apart(rt: HostRuntime) -> Result<(), Fail> {
     let alloc = rt.alloc();
     let apart = Outcome::Apart;
-    assert_run(&rt, alloc, DUO, DUO_PLAN, &[], apart, SHEET)?;
+    assert_run(&rt, alloc, (DUO, DUO_PLAN), &[], apart, SHEET)?;
     let sheet = "1 t0 A -x 0 out\nlevels 1\napart in 4 steps\n";
-    assert_run(&rt, alloc, DUO, CHOOSE_PLAN, &[0], apart, sheet)?;
+    assert_run(&rt, alloc, (DUO, CHOOSE_PLAN), &[0], apart, sheet)?;
     let sheet = "1 t0 B +x 0 out\nlevels 1\napart in 4 steps\n";
-    assert_run(&rt, alloc, DUO, CHOOSE_PLAN, &[1], apart, sheet)?;
+    assert_run(&rt, alloc, (DUO, CHOOSE_PLAN), &[1], apart, sheet)?;
     let sheet = "1 t0 A +z 3 out\nlevels 1\napart in 11 steps\n";
-    assert_run(&rt, alloc, RING, RING_PLAN, &[0, -3], apart, sheet)?;
+    assert_run(&rt, alloc, (RING, RING_PLAN), &[0, -3], apart, sheet)?;
     let sheet = "1 t0 A +z 0 out\nlevels 1\napart in 8 steps\n";
-    assert_run(&rt, alloc, CUP, CUP_PLAN, &[0], apart, sheet)?;
-    Ok(())
+    assert_run(&rt, alloc, (CUP, CUP_PLAN), &[0], apart, sheet)
 }
 
 #[test]
 fn an_answer_that_does_not_fit_is_passed_over(rt: HostRuntime) -> Result<(), Fail> {
     let sheet = "1 t0 A +z 2 out\nlevels 1\napart in 14 steps\n";
     let apart = Outcome::Apart;
-    assert_run(&rt, rt.alloc(), CUP, CUP_PLAN, &[7, -1, 2], apart, sheet)
+    assert_run(&rt, rt.alloc(), (CUP, CUP_PLAN), &[7, -1, 2], apart, sheet)
 }
 
 #[test]
@@ -189,8 +190,7 @@ fn an_accepted_plan_waits_where_no_answer_is_left(rt: HostRuntime) -> Result<(),
     let alloc = rt.alloc();
     let waiting = Outcome::Waiting;
     let sheet = "levels -\nwaiting 0 2 after 1 steps\n";
-    assert_run(&rt, alloc, CUP, CUP_PLAN, &[], waiting, sheet)?;
+    assert_run(&rt, alloc, (CUP, CUP_PLAN), &[], waiting, sheet)?;
     let sheet = "levels -\nwaiting 0 1 after 0 steps\n";
-    assert_run(&rt, alloc, DUO, CHOOSE_PLAN, &[2], waiting, sheet)?;
-    Ok(())
+    assert_run(&rt, alloc, (DUO, CHOOSE_PLAN), &[2], waiting, sheet)
 }

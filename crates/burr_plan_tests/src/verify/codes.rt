@@ -2,42 +2,41 @@
 use super::plans::{HOME, assert_verdict, measured};
 use super::*;
 
-/// Asserts each line of a table that isn't a heading with `#`: the cost of main, its code, and what
-/// is said of the plan. The other digits stand from the plan's number of pieces up to its number of
-/// procedures, and where the pieces are.
-fn assert_codes(
-    rt: &impl Abort,
-    alloc: Global,
-    assembly: &str,
-    head: &str,
-    homes: &str,
-    table: &str,
-) -> Result<(), Fail> {
-    for line in table.lines() {
-        if let Some((cost, rest)) = line.split_once(" | ") {
-            let (code, wanted) = rest.split_once(" | ").expect(rt, "a code");
-            let plan = plan_of(alloc, head, homes, cost, code)?;
-            assert_verdict(rt, alloc, assembly, &plan, wanted)?;
-        } else {
-            assert!(rt; line.starts_with('#'), "{line}");
-        }
-    }
-    Ok(())
+/// A text's assembly, and digits of its plans: from the number of pieces up to the number of procedures,
+/// and where the pieces are.
+#[derive(Clone, Copy)]
+struct Fixed<'a> {
+    assembly: &'a str,
+    head: &'a str,
+    homes: &'a str,
 }
 
 /// A plan of one procedure without parameters, whose only label is its first, with the start's
 /// frame.
-fn plan_of(
-    alloc: Global,
-    head: &str,
-    homes: &str,
-    cost: &str,
-    code: &str,
-) -> Result<String, AllocError> {
+fn plan_of(alloc: Global, fixed: Fixed<'_>, cost: &str, code: &str) -> Result<String, AllocError> {
+    let Fixed { head, homes, .. } = fixed;
     let code = measured(alloc, code)?;
     format!(in alloc;
         "42504c4e 0001 000f4240 {head} 00 0001 0000 00 00000000 00 00 00 {cost} {homes} {code}"
     )
+}
+
+/// Asserts a line of a table: the cost of main, its code, and what is said of the plan.
+fn assert_case(rt: &impl Abort, alloc: Global, fixed: Fixed<'_>, line: &str) -> Result<(), Fail> {
+    let (cost, rest) = line.split_once(" | ").expect(rt, "a cost");
+    let (code, wanted) = rest.split_once(" | ").expect(rt, "a code");
+    let plan = plan_of(alloc, fixed, cost, code)?;
+    assert_verdict(rt, alloc, fixed.assembly, &plan, wanted)
+}
+
+/// Asserts each line of a table that isn't a heading with `#`.
+fn assert_codes(rt: &impl Abort, alloc: Global, fixed: Fixed<'_>, table: &str) -> Result<(), Fail> {
+    for line in table.lines() {
+        if !line.starts_with('#') {
+            assert_case(rt, alloc, fixed, line)?;
+        }
+    }
+    Ok(())
 }
 
 /// For two cubes side by side.
@@ -129,13 +128,21 @@ const SQUARE_CODES: &str = "\
 
 #[test]
 fn judges_code_for_two_cubes(rt: HostRuntime) -> Result<(), Fail> {
-    assert_codes(&rt, rt.alloc(), DUO, "02 03 64756f 01", HOME, DUO_CODES)
+    let fixed = Fixed {
+        assembly: DUO,
+        head: "02 03 64756f 01",
+        homes: HOME,
+    };
+    assert_codes(&rt, rt.alloc(), fixed, DUO_CODES)
 }
 
 #[test]
 fn judges_code_for_four_cubes(rt: HostRuntime) -> Result<(), Fail> {
-    let alloc = rt.alloc();
-    let homes = format!(in alloc; "{HOME} {HOME}")?;
-    let head = "04 06 737175617265 01";
-    assert_codes(&rt, alloc, SQUARE, head, &homes, SQUARE_CODES)
+    let homes = format!(in rt.alloc(); "{HOME} {HOME}")?;
+    let fixed = Fixed {
+        assembly: SQUARE,
+        head: "04 06 737175617265 01",
+        homes: &homes,
+    };
+    assert_codes(&rt, rt.alloc(), fixed, SQUARE_CODES)
 }

@@ -29,19 +29,33 @@ const INSTRUCTIONS: &str = "\
 18 | 23 08 0001 0001 0001 0001 0001 0001 0001 0001 00 | V23 proc 0 pc 18
 2 | 24 00 00 | V19 proc 0 pc 0";
 
+/// Asserts what is said of code for two cubes whose second label stands at a place.
+fn assert_label(
+    rt: &impl Abort,
+    alloc: Global,
+    place: u16,
+    code: &str,
+    wanted: &str,
+) -> Result<(), Fail> {
+    let plan = plan_with_label(alloc, place, code)?;
+    assert_verdict(rt, alloc, DUO, &plan, wanted)
+}
+
+/// Asserts a line of the instructions: labels inside one, and the label behind it.
+fn assert_instruction(rt: &impl Abort, alloc: Global, line: &str) -> Result<(), Fail> {
+    let (size, rest) = line.split_once(" | ").expect(rt, "a size");
+    let (code, behind) = rest.split_once(" | ").expect(rt, "a code");
+    let size = size.parse()?;
+    for place in 1..size {
+        assert_label(rt, alloc, place, code, "V3 proc 0 pc 0")?;
+    }
+    assert_label(rt, alloc, size, code, behind)
+}
+
 #[test]
 fn refuses_a_label_inside_an_instruction(rt: HostRuntime) -> Result<(), Fail> {
-    let alloc = rt.alloc();
     for line in INSTRUCTIONS.lines() {
-        let (size, rest) = line.split_once(" | ").expect(&rt, "a size");
-        let (code, behind) = rest.split_once(" | ").expect(&rt, "a code");
-        let size: u16 = size.parse()?;
-        for place in 1..size {
-            let plan = plan_with_label(alloc, place, code)?;
-            assert_verdict(&rt, alloc, DUO, &plan, "V3 proc 0 pc 0")?;
-        }
-        let plan = plan_with_label(alloc, size, code)?;
-        assert_verdict(&rt, alloc, DUO, &plan, behind)?;
+        assert_instruction(&rt, rt.alloc(), line)?;
     }
     Ok(())
 }

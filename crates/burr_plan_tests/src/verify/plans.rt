@@ -1,40 +1,13 @@
 //! Plans as hexadecimal digits, and what is said of them in words.
 use super::*;
+use burr_forms::Point;
 
 /// Where the two pieces of an assembly are at the start, without symbols.
 pub const HOME: &str = "00 00000000 00000000 00000000 00 00000000 00000000 00000000";
 
-/// Adds the bytes that hexadecimal digits name; all else is passed over.
-fn push_bytes(bytes: &mut Vec<u8>, digits: &str) -> Result<(), AllocError> {
-    let mut high = None;
-    for digit in digits.bytes() {
-        if let Some(low) = value_of(digit) {
-            match high {
-                None => high = Some(low),
-                Some(front) => {
-                    bytes.push(front << 4 | low)?;
-                    high = None;
-                }
-            }
-        }
-    }
-    Ok(())
-}
-
-/// The value of a hexadecimal digit.
-fn value_of(digit: u8) -> Option<u8> {
-    match digit {
-        b'0'..=b'9' => Some(digit - b'0'),
-        b'a'..=b'f' => Some(digit - b'a' + 10),
-        _ => None,
-    }
-}
-
 /// Digits of code, with its length before it.
 pub fn measured(alloc: Global, code: &str) -> Result<String, AllocError> {
-    let mut bytes = Vec::new(alloc);
-    push_bytes(&mut bytes, code)?;
-    let size = bytes.len();
+    let size = bytes_of(alloc, code)?.len();
     format!(in alloc; "{size:04x} {code}")
 }
 
@@ -67,33 +40,49 @@ pub fn assert_verdict(
     digits: &str,
     wanted: &str,
 ) -> Result<(), Fail> {
-    let mut plan = Vec::new(alloc);
-    push_bytes(&mut plan, digits)?;
-    let assembly = Assembly::read(alloc, assembly.as_bytes())?;
-    let tables = CellTables::build(alloc, &assembly)?;
-    let container = Container::parse(&plan)?;
-    match verify(&container, &tables) {
-        Ok(()) => assert_eq!(rt; "accepted", wanted),
-        Err(refusal) => {
-            let said = words_of(alloc, &refusal)?;
-            assert_eq!(rt; said.as_str(), wanted);
-        }
-    }
+    let plan = bytes_of(alloc, digits)?;
+    let assembly = assembly_of(alloc, assembly)?;
+    let tables = tables_of(alloc, &assembly)?;
+    let said = words_of(alloc, &container_of(&plan)?, &tables)?;
+    assert_eq!(rt; said.as_str(), wanted);
     Ok(())
 }
 
+/// What is said of a plan.
+fn verdict(container: &Container<'_>, tables: &CellTables<'_>) -> Result<(), Refusal> {
+    verify(container, tables)
+}
+
+/// What is said of a plan, in words.
+fn words_of(
+    alloc: Global,
+    container: &Container<'_>,
+    tables: &CellTables<'_>,
+) -> Result<String, AllocError> {
+    match verdict(container, tables) {
+        Ok(()) => String::from_str(alloc, "accepted"),
+        Err(refusal) => words_of_refusal(alloc, &refusal),
+    }
+}
+
 /// A refusal in words, as `V15 proc 0 pc 24 pieces 0 1 point 0 1`.
-fn words_of(alloc: Global, refusal: &Refusal) -> Result<String, AllocError> {
+fn words_of_refusal(alloc: Global, refusal: &Refusal) -> Result<String, AllocError> {
     let Refusal { proc, pc, rule, .. } = refusal;
     let mut words = format!(in alloc; "{rule} proc {proc} pc {pc}")?;
     if let Some((piece, other)) = refusal.pieces {
-        words = format!(in alloc; "{words} pieces {piece} {other}")?;
+        write!(words, " pieces {piece} {other}")?;
     }
     if let Some(point) = &refusal.point {
-        words = format!(in alloc; "{words} point")?;
-        for number in point.iter() {
-            words = format!(in alloc; "{words} {number}")?;
-        }
+        push_point(&mut words, point)?;
     }
     Ok(words)
+}
+
+/// Adds a point in words, as ` point 0 1`.
+fn push_point(words: &mut String, point: &Point) -> Result<(), AllocError> {
+    words.push_str(" point")?;
+    for number in point.iter() {
+        write!(words, " {number}")?;
+    }
+    Ok(())
 }

@@ -2,8 +2,20 @@
 use super::plans::{assert_verdict, edited};
 use super::*;
 
-/// Asserts each line of a table that isn't a heading with `#`: edits of a plan's digits, and what
-/// is said of it then.
+/// Asserts a line of a table: edits of a plan's digits, and what is said of it then.
+fn assert_edit(
+    rt: &impl Abort,
+    alloc: Global,
+    assembly: &str,
+    plan: &str,
+    line: &str,
+) -> Result<(), Fail> {
+    let (edits, wanted) = line.split_once(" | ").expect(rt, "edits");
+    let digits = edited(alloc, plan, edits)?;
+    assert_verdict(rt, alloc, assembly, &digits, wanted)
+}
+
+/// Asserts each line of a table that isn't a heading with `#`.
 fn assert_edits(
     rt: &impl Abort,
     alloc: Global,
@@ -12,11 +24,8 @@ fn assert_edits(
     table: &str,
 ) -> Result<(), Fail> {
     for line in table.lines() {
-        if let Some((edits, wanted)) = line.split_once(" | ") {
-            let digits = edited(alloc, plan, edits)?;
-            assert_verdict(rt, alloc, assembly, &digits, wanted)?;
-        } else {
-            assert!(rt; line.starts_with('#'), "{line}");
+        if !line.starts_with('#') {
+            assert_edit(rt, alloc, assembly, plan, line)?;
         }
     }
     Ok(())
