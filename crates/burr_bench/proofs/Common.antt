@@ -2,8 +2,11 @@ pub mod CallLaws
 pub mod Calls
 pub mod FramedSetup
 pub mod Leading
+pub mod Machine
 pub mod OneRun
 pub mod Outcomes
 pub mod Pieces
 pub mod Reached
 pub mod SomeRun
+pub mod StepCalls
+pub mod Undo

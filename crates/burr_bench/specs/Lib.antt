@@ -5,6 +5,7 @@ pub mod Control
 pub mod Effects
 pub mod Framing
 pub mod Invariant
+pub mod Machine
 pub mod Next
 pub mod Numbers
 pub mod Offsets
@@ -23,4 +24,5 @@ pub mod StateViews
 pub mod Step
 pub mod StepLaws
 pub mod TrapNames
+pub mod Undo
 pub mod Ways

@@ -9,6 +9,12 @@ use Rattle.burr_bench.specs.Bench.{BenchState, Setup}
 use Rattle.burr_bench.specs.RunLaws.{Calls}
 use Rattle.burr_bench.specs.Step.{AsksFor}
 
+-- The run has ended within its budget, with every piece apart.
+pub record HasEnded (budget : ℕ) (s : BenchState) : Type 0 where
+  pub mode : s.mode ≡ Ended
+  pub apart : AllApart s.places
+  pub within : s.steps ≤ budget
+
 -- Where a run closes well, with these answers left: apart, it has ended with every piece apart,
 -- within the budget; waiting, it has used all answers, stands at a question, and has made fewer
 -- steps than the budget. It is never trapped, and never stopped.

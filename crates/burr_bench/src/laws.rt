@@ -1,3 +1,7 @@
+ghost use Rattle.burr_verify.specs.VerifyLaws.{FittingIsFromContainer};
+ghost use Rattle.burr_bench.specs.Machine.{CallIsSafe, SomeSafeCall, NoTrapIsNext};
+ghost use Rattle.burr_bench.specs.Machine.{StepIsSafe, AsideIsSafe, StartIsSafe};
+ghost use Rattle.burr_bench.specs.Undo.{RecordsGoBack, RecordsTell, StepIsRecorded};
 ghost use Rattle.burr_bench.specs.AsideLaws.{GroupGoesAside};
 ghost use Rattle.burr_bench.specs.SpaceLaws.{GripStays, NoOverlapStays, NoneLoneStays};
 ghost use Rattle.burr_bench.specs.SpaceLaws.{HomesAreDisjoint, GripIsHere, PiecesNeverOverlap, NoPieceIsLone};
@@ -66,4 +70,21 @@ pub fn pieces_never_overlap()
 pub fn a_well_framed_plan_runs_safely()
     ensures safe { VerifierIsSound }
     ensures some { AcceptedHasRuns }
+{}
+
+/// A bench that runs an accepted plan meets no trap, and stays one.
+pub fn an_accepted_bench_never_traps()
+    ensures start { FittingIsFromContainer → HomesAreDisjoint → StartIsSafe }
+    ensures call { FittingIsFromContainer → CallIsSafe }
+    ensures some { FittingIsFromContainer → SomeSafeCall }
+    ensures next { FittingIsFromContainer → NoTrapIsNext }
+    ensures step { FittingIsFromContainer → StepIsSafe }
+    ensures aside { FittingIsFromContainer → AsideIsSafe }
+{}
+
+/// A step's record gives back the state before it.
+pub fn records_go_back()
+    ensures back { RecordsGoBack }
+    ensures tell { RecordsTell }
+    ensures recorded { FittingIsFromContainer → StepIsRecorded }
 {}

@@ -3,3 +3,7 @@ pub mod Hulls
 pub mod Reaches
 pub mod Marks
 pub mod Rows
+pub mod Shifts
+pub mod Joins
+pub mod Sets
+pub mod Made

@@ -11,7 +11,7 @@ use Rattle.burr_voxels.specs.declared.cell.Cell.{Cell}
 use Rattle.burr_voxels.specs.Grid.{plus, minus}
 use Rattle.burr_voxels.proofs.Common.Ahead.{same_cell}
 use Rattle.burr_voxels.proofs.Common.Freedom.{Contains-map, Contains-from_map}
-use Rattle.burr_blocking.specs.declared.cell_tables.extent.Extent.{Extent}
+use Rattle.burr_blocking.specs.declared.extent.Extent.{Extent}
 use Rattle.burr_blocking.specs.Boxes.{IsInBox, wide_of, deep_of, high_of, size_of, place_of}
 use Rattle.burr_blocking.specs.Corners.{IsBetween, AreCorners}
 use Rattle.burr_blocking.specs.Tables.{HasMark, SetsMarks, IsMarked, IsTableOf}
@@ -41,13 +41,13 @@ set_cases (b ∷ m) (suc i) (suc k) h = elim (set_cases m i k h) [ inl t ↦ inl
 
 -- Places: no two displacements of a box stand in one
 
-gap_once : (l a b : ℤ) → l ≤ℤ a → l ≤ℤ b → int_gap l a ≡ int_gap l b → a ≡ b
+pub gap_once : (l a b : ℤ) → l ≤ℤ a → l ≤ℤ b → int_gap l a ≡ int_gap l b → a ≡ b
 gap_once l a b from also same =
     let one = gap_value l a from in
     let other = gap_value l b also in
     omega (arith, ints)
 
-parts_once : (w a b x y : ℕ) → x < w → y < w → a * w + x ≡ b * w + y → (a ≡ b) × (x ≡ y)
+pub parts_once : (w a b x y : ℕ) → x < w → y < w → a * w + x ≡ b * w + y → (a ≡ b) × (x ≡ y)
 parts_once w a b x y p q e =
     (sym (div-mul-add a w x p) ∙ ap (λ n. n / w) e ∙ div-mul-add b w y q, sym (mod-mul-add a w x p) ∙ ap (λ n. n % w) e ∙ mod-mul-add b w y q)
 
@@ -61,10 +61,10 @@ place_once e a b p q is =
 
 -- Ways from cell to cell
 
-plus_minus : (x y : Cell) → plus x (minus y x) ≡ y
+pub plus_minus : (x y : Cell) → plus x (minus y x) ≡ y
 plus_minus x y = same_cell _ _ (omega (arith, ints)) (omega (arith, ints)) (omega (arith, ints))
 
-minus_plus : (x d : Cell) → minus (plus x d) x ≡ d
+pub minus_plus : (x d : Cell) → minus (plus x d) x ≡ d
 minus_plus x d = same_cell _ _ (omega (arith, ints)) (omega (arith, ints)) (omega (arith, ints))
 
 -- The marks of one cell
@@ -102,7 +102,7 @@ sets_all old marks first places i le sets = subst (SetsMarks old marks first) (t
 
 -- A place is a sum of two: from a cell to the least corner of the other hull, and from the greatest corner of this hull to the other cell
 
-gap_sum : (l d a b : ℤ) → l ≤ℤ d → l ≤ℤ a → l ≤ℤ b → (d +ℤ l) ≡ (a +ℤ b) → int_gap l d ≡ int_gap l a + int_gap l b
+pub gap_sum : (l d a b : ℤ) → l ≤ℤ d → l ≤ℤ a → l ≤ℤ b → (d +ℤ l) ≡ (a +ℤ b) → int_gap l d ≡ int_gap l a + int_gap l b
 gap_sum l d a b on also too is =
     let one = gap_value l d on in
     let two = gap_value l a also in
@@ -112,6 +112,9 @@ gap_sum l d a b on also too is =
 parts_sum : (deep wide x y z a b c : ℕ) → ((c + z) * deep + (b + y)) * wide + (a + x) ≡ ((c * deep + b) * wide + a) + ((z * deep + y) * wide + x)
 parts_sum deep wide x y z a b c = omega arith
 
+pub corner_sum : (l to from least greatest : ℤ) → l ≡ least -ℤ greatest → ((to -ℤ from) +ℤ l) ≡ ((least -ℤ from) +ℤ (to -ℤ greatest))
+corner_sum l to from least greatest is = omega (arith, ints)
+
 pub place_sum : (e : Extent) (from to greatest least : Cell) → e.least ≡ minus least greatest → IsInBox e (minus to from) → IsInBox e (minus least from) → IsInBox e (minus to greatest) → place_of e (minus to from) ≡ place_of e (minus least from) + place_of e (minus to greatest)
 place_sum e from to greatest least corner whole one two =
     let l = e.least in
@@ -119,9 +122,6 @@ place_sum e from to greatest least corner whole one two =
     let y = gap_sum l.y (to.y -ℤ from.y) (least.y -ℤ from.y) (to.y -ℤ greatest.y) whole.y_from one.y_from two.y_from (corner_sum l.y to.y from.y least.y greatest.y (ap (λ (c : Cell). c.y) corner)) in
     let z = gap_sum l.z (to.z -ℤ from.z) (least.z -ℤ from.z) (to.z -ℤ greatest.z) whole.z_from one.z_from two.z_from (corner_sum l.z to.z from.z least.z greatest.z (ap (λ (c : Cell). c.z) corner)) in
     rw (x, y, z) (parts_sum (deep_of e) (wide_of e) _ _ _ _ _ _)
-  where
-    corner_sum : (l to from least greatest : ℤ) → l ≡ least -ℤ greatest → ((to -ℤ from) +ℤ l) ≡ ((least -ℤ from) +ℤ (to -ℤ greatest))
-    corner_sum l to from least greatest is = omega (arith, ints)
 
 -- what has been set at the places of one cell's displacements to the others
 pub adds_places : (e : Extent) (old new : List Bool) (from least greatest : Cell) (tos : List Cell) (first : ℕ) (places : List ℕ) → e.least ≡ minus least greatest → IsInBox e (minus least from) → All (λ to. IsInBox e (minus to from)) tos → All (λ to. IsInBox e (minus to greatest)) tos → first ≡ place_of e (minus least from) → places ≡ map (λ to. place_of e (minus to greatest)) tos → SetsMarks old new first places → Adds e old new from tos
@@ -169,7 +169,7 @@ pub record IsBoxOf (e hull other : Extent) (ps qs : List Cell) : Type 0 where
   pub cells : All (IsInBox hull) ps
   pub others : All (IsInBox other) qs
 
-least_inside : (l g : Cell) → AreCorners 15 l g → IsBetween l g l
+pub least_inside : (l g : Cell) → AreCorners 15 l g → IsBetween l g l
 least_inside l g corners = record {
   x_from = omega (arith, ints);
   x_to = corners.x_rises;
@@ -179,7 +179,7 @@ least_inside l g corners = record {
   z_to = corners.z_rises;
 }
 
-greatest_inside : (l g : Cell) → AreCorners 15 l g → IsBetween l g g
+pub greatest_inside : (l g : Cell) → AreCorners 15 l g → IsBetween l g g
 greatest_inside l g corners = record {
   x_from = corners.x_rises;
   x_to = omega (arith, ints);

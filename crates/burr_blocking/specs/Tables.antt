@@ -3,7 +3,7 @@ use Rattle.std.specs.Prelude.{◌≡◌, ◌↔◌, ◌⊎◌, ℕ, ◌+◌, ◌
 use Rattle.burr_voxels.specs.declared.cell.Cell.{Cell}
 use Rattle.burr_voxels.specs.declared.direction.Direction.{Direction}
 use Rattle.burr_voxels.specs.Grid.{plus, along}
-use Rattle.burr_blocking.specs.declared.cell_tables.extent.Extent.{Extent}
+use Rattle.burr_blocking.specs.declared.extent.Extent.{Extent}
 use Rattle.burr_blocking.specs.Boxes.{IsInBox, place_of}
 use Rattle.burr_blocking.specs.Pairs.{IsBlocked}
 

@@ -1,7 +1,6 @@
 ghost use Rattle.std.specs.Prelude.{◌≡◌, ◌<◌, length, IfOk};
 ghost use Rattle.burr_assembly.specs.Homes.{homes_of};
 
-mod extent;
 mod pair_table;
 mod table_row;
 

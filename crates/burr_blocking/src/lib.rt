@@ -3,8 +3,11 @@
 
 mod blocking;
 mod cell_tables;
+mod extent;
 mod plain_cells;
+mod row_tables;
 
 pub use blocking::Blocking;
 pub use cell_tables::CellTables;
 pub use plain_cells::PlainCells;
+pub use row_tables::RowTables;

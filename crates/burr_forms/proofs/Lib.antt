@@ -2,6 +2,7 @@ mod Boxes
 mod Carrying
 mod Containing
 mod Counting
+mod Counts
 mod Going
 mod GuardTests
 mod Listing

@@ -1,4 +1,5 @@
 pub mod Conditions
+pub mod Counting
 pub mod Forms
 pub mod PointLaws
 pub mod Points

@@ -17,7 +17,7 @@ mod searching;
 mod tests;
 mod wide;
 
-pub use condition::{Condition, NotNegative};
+pub use condition::{Asking, Condition, NotNegative};
 pub use form::{Form, FormTooLarge};
 pub use guards::Guards;
 pub use laws::the_points_are_given;
@@ -25,3 +25,4 @@ pub use points::Points;
 pub use ranges::Box8;
 pub use relevant::first_failing;
 pub use rows::{Point, Row};
+pub use searching::first_refused;

@@ -6,10 +6,10 @@ ghost use Rattle.burr_forms.specs.Points.{AreRanges};
 ghost use Rattle.burr_forms.specs.Searching.{AllLack, AreNarrowRanges, IsNarrowRange};
 ghost use Rattle.burr_forms.specs.Conditions.{region, at_values, Throughout, FailsFirstAt};
 
-use crate::condition::Condition;
+use crate::condition::{Condition, Plain};
 use crate::form::Form;
 use crate::rows::Point;
-use crate::searching::search;
+use crate::searching::first_refused;
 use arrayvec::ArrayVec;
 
 /// The first point of a box, rising, at which no guard is negative and the condition fails; None
@@ -35,7 +35,7 @@ pub fn first_failing<C: Condition>(
         (at_values (C.Holds condition.now) (C.asked condition.now)) point.items) }
 {
     let narrowed = narrowed(ranges, guards, condition.forms());
-    search(narrowed.as_slice(), guards, condition)
+    first_refused(narrowed.as_slice(), guards, &mut Plain { condition })
 }
 
 /// The ranges; of one whose symbol no guard and no form has, the lowest number alone.

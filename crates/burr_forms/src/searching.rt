@@ -1,10 +1,12 @@
-ghost use Rattle.std.specs.Prelude.{◌≤◌, length, MatchOption};
-ghost use Rattle.burr_forms.specs.Forms.{AllSmallForms};
+ghost use Rattle.std.specs.Prelude.{◌≡◌, ◌≤◌, ◌+◌, ◌*◌, ◌^◌, length, MatchOption};
+ghost use Rattle.burr_forms.specs.Counting.{Counted, looks_at_values};
+ghost use Rattle.burr_forms.specs.Rising.{count_in};
+ghost use Rattle.burr_forms.specs.Forms.{AllSmallForms, values};
 ghost use Rattle.burr_forms.specs.Points.{AreRanges};
 ghost use Rattle.burr_forms.specs.Conditions.{region, at_values, Throughout, FailsFirstAt};
 
 use crate::along::{carry, raise_last};
-use crate::condition::{Condition, passes};
+use crate::condition::{Asking, passes};
 use crate::form::Form;
 use crate::line::Line;
 use crate::rows::{Point, advance_point, evaluate, lowest_point, steps_along};
@@ -12,22 +14,36 @@ use arrayvec::ArrayVec;
 
 /// The first failing point of a box, as `first_failing` gives it, by a look at each point. Along the
 /// last symbol values are carried on by addition.
-pub fn search<C: Condition>(ranges: &[(i32, i32)], guards: &[Form], condition: &C) -> Option<Point>
+pub fn first_refused<C: Asking>(
+    ranges: &[(i32, i32)],
+    guards: &[Form],
+    condition: &mut C,
+) -> Option<Point>
     requires few { length ranges.now ≤ 8 }
     requires few_guards { length guards.now ≤ 120 }
-    requires few_forms { length (C.asked condition.now) ≤ 120 }
+    requires few_forms { length (C.wanted (C.subject condition.old)) ≤ 120 }
     requires ranges { AreRanges ranges.now }
     requires guards { AllSmallForms guards.now }
-    requires forms { AllSmallForms (C.asked condition.now) }
-    ensures { MatchOption result
+    requires forms { AllSmallForms (C.wanted (C.subject condition.old)) }
+    requires promised { Throughout (region ranges.now guards.now)
+        (at_values (C.Promised (C.subject condition.old)) (C.wanted (C.subject condition.old))) }
+    requires room { C.count condition.old + C.most (C.subject condition.old) * count_in ranges.now ≤ 2 ^ 61 }
+    ensures found { MatchOption result
         (Throughout (region ranges.now guards.now)
-        (at_values (C.Holds condition.now) (C.asked condition.now)))
+        (at_values (C.Says (C.subject condition.old)) (C.wanted (C.subject condition.old))))
         (λ point. FailsFirstAt (region ranges.now guards.now)
-        (at_values (C.Holds condition.now) (C.asked condition.now)) point.items) }
+        (at_values (C.Says (C.subject condition.old)) (C.wanted (C.subject condition.old))) point.items) }
+    ensures kept { MatchOption result (Unit {0}) (λ point. C.Kept condition.new
+        (C.subject condition.old) (values point.items (C.wanted (C.subject condition.old)))) }
+    ensures same { C.subject condition.new ≡ C.subject condition.old }
+    ensures counted { Counted (region ranges.now guards.now)
+        (at_values (C.Says (C.subject condition.old)) (C.wanted (C.subject condition.old)))
+        (looks_at_values (C.Counts (C.subject condition.old)) (C.wanted (C.subject condition.old)))
+        (C.count condition.old) (C.count condition.new) }
 {
     let last = ranges.len().saturating_sub(1);
     let sign_steps = steps_along(guards, last);
-    let steps = steps_along(condition.forms(), last);
+    let steps = steps_along(condition.wanted_forms(), last);
     let mut point = lowest_point(ranges);
     let mut signs = ArrayVec::new();
     evaluate(guards, &point, &mut signs);

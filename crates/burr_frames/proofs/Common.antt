@@ -1,6 +1,10 @@
 pub mod Conditions
-pub mod Freedom
-pub mod Search
 pub mod Decided
-pub mod Unique
+pub mod Freedom
+pub mod Room
+pub mod RuleLooks
+pub mod Search
+pub mod Sizes
 pub mod SomeVerdict
+pub mod Unique
+pub mod Until

@@ -8,6 +8,8 @@ pub mod CallMeetings
 pub mod CallVerdicts
 pub mod CalleesRead
 pub mod Clearances
+pub mod ClearingLooks
+pub mod ClearingLoops
 pub mod Common
 pub mod Comparisons
 pub mod Counters
@@ -26,5 +28,8 @@ pub mod PlacesRead
 pub mod Reaches
 pub mod Reading
 pub mod Rooms
+pub mod SearchedPairs
 pub mod TopTwo
+pub mod WholeLooks
 pub mod WideValues
+pub mod WorkedLooks

@@ -1,7 +1,17 @@
+ghost use Rattle.burr_frames.specs.LookLaws.{OneRuleLooks, SomeRuleLooks, FewRuleLooks, AllAreMade};
+ghost use Rattle.burr_forms.specs.PointLaws.{ThePointsAreGiven};
 ghost use Rattle.burr_frames.specs.TransferLaws.{OneVerdict};
 
 /// An instruction has exactly one verdict in a state: so whoever finds a rule broken, and where,
 /// finds the only one that is, and whoever finds none knows the state behind.
 pub fn an_instruction_has_one_verdict()
     ensures { OneVerdict }
+{}
+
+/// An instruction's rule has one number of looks, at most 4,096 times 256.
+pub fn a_rule_has_so_many_looks()
+    ensures some { SomeRuleLooks }
+    ensures one { OneRuleLooks }
+    ensures few { FewRuleLooks }
+    ensures made { ThePointsAreGiven → AllAreMade }
 {}

@@ -14,6 +14,6 @@ mod wide;
 mod within;
 
 pub use breaking::Break;
-pub use laws::an_instruction_has_one_verdict;
+pub use laws::{a_rule_has_so_many_looks, an_instruction_has_one_verdict};
 pub use rule::Rule;
 pub use state::{Miss, State, arrives, meets_entry, meets_exit};

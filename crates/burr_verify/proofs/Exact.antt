@@ -138,7 +138,7 @@ exit_good n (Some g) rest judged =
       formed.1,
     )
 
-frames_good : (n : ℕ) (procedures : List FramedProcedure) (rest : Answer) → judging_frames n procedures rest Passed
+pub frames_good : (n : ℕ) (procedures : List FramedProcedure) (rest : Answer) → judging_frames n procedures rest Passed
     → Each HasGoodFrames procedures × rest Passed
 frames_good n [] rest judged = ((λ k here e. absurd (none-some here e)), judged)
 frames_good n (here ∷ procedures) rest judged =

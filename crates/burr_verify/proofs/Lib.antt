@@ -1,22 +1,26 @@
 mod AcceptingCosts
 mod Before
 mod Beginnings
+pub mod Common
 mod Containers
 mod Exact
 mod Failure
+mod FewLooks
 mod Formed
 mod Framings
 mod Heres
 mod JudgedOn
 mod LabelPlaces
 mod LabelsJudged
+mod LookedOn
+mod Looking
 mod OneContainer
 mod OnePass
 mod Parts
 mod PassCuts
+mod PassLooks
 mod SomePass
 mod Stages
 mod Trays
 mod VerifyLaws
 mod Worked
-pub mod Common

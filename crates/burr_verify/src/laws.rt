@@ -1,3 +1,5 @@
+ghost use Rattle.burr_verify.specs.LookingLaws.{SomePassLooks, OnePassLooks, SomeLooking};
+ghost use Rattle.burr_verify.specs.LookingLaws.{OneLooking, LookingIsJudging, FewLooks};
 ghost use Rattle.burr_verify.specs.VerifyLaws.{OnePass, PassIsCut, RefusalIsFirst, OneJudging, JudgingIsFraming, JudgingRefuses};
 ghost use Rattle.burr_verify.specs.VerifyLaws.{FittingIsFromContainer};
 
@@ -23,4 +25,18 @@ pub fn a_plan_is_judged_in_one_way()
 /// an exit frame, and a budget below 2^64 - 1.
 pub fn a_fitting_plan_is_from_a_container()
     ensures { FittingIsFromContainer }
+{}
+
+/// Passes from one stage on have one number of looks.
+pub fn a_pass_has_so_many_looks()
+    ensures some { SomePassLooks }
+    ensures one { OnePassLooks }
+{}
+
+/// A plan has one judgement with its looks, which are few.
+pub fn a_plan_has_so_many_looks()
+    ensures some { SomeLooking }
+    ensures one { OneLooking }
+    ensures judged { LookingIsJudging }
+    ensures few { FewLooks }
 {}

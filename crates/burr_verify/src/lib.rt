@@ -15,6 +15,7 @@ pub use accepting::{Accepted, accept};
 pub use fitting::fits_assembly;
 pub use judging::verify;
 pub use laws::{
-    a_fitting_plan_is_from_a_container, a_pass_has_one_judgement, a_plan_is_judged_in_one_way,
+    a_fitting_plan_is_from_a_container, a_pass_has_one_judgement, a_pass_has_so_many_looks,
+    a_plan_has_so_many_looks, a_plan_is_judged_in_one_way,
 };
 pub use refusal::Refusal;

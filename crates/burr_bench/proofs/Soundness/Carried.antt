@@ -18,7 +18,8 @@ use Rattle.burr_bench.specs.Step.{Executes, NextIs}
 use Rattle.burr_bench.specs.Questions.{Takes, Fits}
 use Rattle.burr_bench.specs.Framing.{bench_part, framed_setup, HasFraming}
 use Rattle.burr_bench.specs.Standing.{Stands}
-use Rattle.burr_bench.proofs.Soundness.StepOutcomes.{FallsOn, SentOn, EndsOn, HasEnded, Carries}
+use Rattle.burr_bench.proofs.Soundness.StepOutcomes.{FallsOn, SentOn, EndsOn, Carries}
+use Rattle.burr_bench.specs.SafeRuns.{HasEnded}
 use Rattle.burr_bench.specs.Invariant.{IsGood, IsSafeState}
 use Rattle.burr_verify.proofs.Common.FineVerdicts.{IsFine}
 use Rattle.burr_bench.proofs.Soundness.Asks.{sound_ask}

@@ -11,10 +11,10 @@ use Rattle.burr_bench.specs.Bench.{BenchState, Setup}
 use Rattle.burr_bench.specs.Step.{CallIn}
 use Rattle.burr_bench.specs.Run.{Run, IsGoing}
 use Rattle.burr_bench.specs.RunLaws.{Calls, begun, went, answered, ClosesAt}
-use Rattle.burr_bench.specs.SafeRuns.{ClosesWell, IsSafeRun}
+use Rattle.burr_bench.specs.SafeRuns.{HasEnded, ClosesWell, IsSafeRun}
 use Rattle.burr_bench.proofs.Common.Calls.{tells}
 use Rattle.burr_bench.proofs.Common.CallLaws.{run_is_calls}
-use Rattle.burr_bench.proofs.Soundness.StepOutcomes.{HasEnded, Carries}
+use Rattle.burr_bench.proofs.Soundness.StepOutcomes.{Carries}
 
 running-ended : Running ≡ Ended → ⊥
 running-ended e = subst IsRunning e tt

@@ -17,6 +17,7 @@ use Rattle.burr_bench.specs.Next.{Next, Goes, Traps}
 use Rattle.burr_bench.specs.Step.{NextIs, TakesAnswer}
 use Rattle.burr_bench.specs.Standing.{Stands}
 use Rattle.burr_bench.specs.Invariant.{IsGood}
+use Rattle.burr_bench.specs.SafeRuns.{HasEnded}
 
 -- the step was made, and control went on behind the instruction
 pub record IsBehind (i : Instruction) (b new : BenchState) : Type 0 where
@@ -83,12 +84,6 @@ pub record EndsOn (s : AbstractState) (point : Point) (b : BenchState) (next : N
   pub apart : AllApart new.places
   pub enough : pos 1 ≤ℤ value point s.cost
   pub steps : new.steps ≡ min (b.steps + 1) (2 ^ 64 - 1)
-
--- The run has ended within its budget, with every piece apart.
-pub record HasEnded (budget : ℕ) (s : BenchState) : Type 0 where
-  pub mode : s.mode ≡ Ended
-  pub apart : AllApart s.places
-  pub within : s.steps ≤ budget
 
 -- what a fact that holds of running states must give, so that runs close well
 pub record Carries (setup : Setup) (budget : ℕ) (Fact : BenchState → Type 0) : Type 0 where

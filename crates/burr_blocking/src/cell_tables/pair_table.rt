@@ -6,7 +6,7 @@ ghost use Rattle.burr_assembly.specs.Homes.{DiameterAtMost};
 ghost use Rattle.burr_blocking.specs.Boxes.{IsInBox, place_of, size_of};
 ghost use Rattle.burr_blocking.specs.Tables.{IsMarked, IsTableOf, IsUnmarkedAhead, SetsMarks};
 
-use crate::cell_tables::extent::Extent;
+use crate::extent::Extent;
 use burr_voxels::{Cell, Direction};
 use std::alloc::{AllocError, Global};
 

@@ -4,7 +4,7 @@ use Rattle.burr_forms.specs.Searching.{AllBounded}
 use Rattle.burr_forms.proofs.RowValues.{values_bounded}
 use Rattle.burr_forms.proofs.condition.passes.Goals as goal
 
-pub holds-requires-clause-bounded : goal.holds-requires-clause-bounded
-holds-requires-clause-bounded g c =
-    let are = c.as_slice-2.ensures.value ∙ c.bring.ensures.values ∙ ap (values c.args.point.now.items) c.forms.ensures in
-    subst AllBounded (sym are) (values_bounded c.args.point.now.items (g.C.Condition.asked c.args.condition.now) c.requires.small c.requires.near c.requires.few)
+pub ask-requires-clause-bounded : goal.ask-requires-clause-bounded
+ask-requires-clause-bounded g c =
+    let are = c.as_slice-2.ensures.value ∙ c.bring.ensures.values ∙ ap (values c.args.point.now.items) c.wanted_forms.ensures in
+    subst AllBounded (sym are) (values_bounded c.args.point.now.items (g.C.Asking.wanted (g.C.Asking.subject c.args.condition.now)) c.requires.small c.requires.near c.requires.few)

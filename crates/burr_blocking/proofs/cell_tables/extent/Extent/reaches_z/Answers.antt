@@ -1,9 +1,0 @@
-use Rattle.std.proofs.Common.{rules, to_z-of_z, w32, FitsSigned}
-use Rattle.burr_blocking.proofs.cell_tables.extent.Extent.reaches_z.Goals as goal
-
-pub returns : goal.returns
-returns c =
-    let number : FitsSigned w32 c.args.displacement.z = search rules in
-    let from : FitsSigned w32 c.args.self.least.z = search rules in
-    let to : FitsSigned w32 c.args.self.greatest.z = search rules in
-    simp to_z-of_z at c.is_from_to.ensures

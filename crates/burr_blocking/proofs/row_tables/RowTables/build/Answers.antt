@@ -1,0 +1,23 @@
+use Rattle.std.proofs.Common.{◌≡◌, ℕ, length, subst, sym, arith}
+use Rattle.std.proofs.lemmas.List.{length-map}
+use Rattle.burr_assembly.specs.Homes.{homes_of, home_of}
+use Rattle.burr_blocking.specs.declared.row_tables.piece_rows.PieceRows.{PieceRows}
+use Rattle.burr_blocking.specs.PieceRows.{IsPieceOf, AreFirstPieces}
+use Rattle.burr_blocking.proofs.Rows.{one_pushed}
+use Rattle.burr_blocking.proofs.row_tables.RowTables.build.Goals as goal
+
+pub loop-later-preserved : goal.loop-later-preserved
+loop-later-preserved c =
+    let homes = homes_of c.args.assembly.now in
+    let pieces = c.loop-later.pieces.items in
+    let next : length pieces ≡ c.loop-later.later = omega (arith, c.loop-later.invariant.0, c.loop-later.pieces.ok.0) in
+    let made : IsPieceOf homes (length pieces) c.in_ok-build.field-0 = subst (λ (k : ℕ). IsPieceOf homes k c.in_ok-build.field-0) (sym next) c.in_ok-build.ensures in (
+      omega (arith, c.in_ok-push.ensures.len, c.loop-later.invariant.0),
+      subst (AreFirstPieces homes) (sym c.in_ok-push.ensures.items) (one_pushed (λ (q : ℕ) (piece : PieceRows). IsPieceOf homes q piece) pieces c.in_ok-build.field-0 c.loop-later.invariant.1 made),
+    )
+
+pub invariant_of-result : goal.invariant_of-result
+invariant_of-result c = record {
+  count = omega (arith, c.loop-later.invariant.0, c.loop-later.pieces.ok.0, c.loop-later-test.false, c.piece_count-count.ensures.count, length-map c.args.assembly.now.pieces (home_of c.args.assembly.now.shapes));
+  each = c.loop-later.invariant.1;
+}

@@ -1,0 +1,40 @@
+-- The looks of one question to all pairs, of the values that a search carries.
+use Rattle.std.specs.Prelude.{ℕ, suc, ℤ, List, [], ◌∷◌, ◌++◌, map, drop}
+use Rattle.burr_voxels.specs.declared.cell.Cell.{Cell}
+use Rattle.burr_frames.specs.declared.clearing.Question.{Question}
+use Rattle.burr_frames.specs.declared.clearing.Side.{Side}
+use Rattle.burr_frames.specs.declared.clearing.Side.TheVariants as sides
+use Rattle.burr_frames.specs.Clearing.{IsPairClear}
+use Rattle.burr_frames.specs.Looks.{until_one_fails, pairs_of}
+
+-- the pieces that are gripped, rising; the first side is that of piece p
+abbrev pub gripped_sides : ℕ → List Side → List ℕ
+gripped_sides p [] = []
+gripped_sides p (sides.Gripped ∷ pieces) = p ∷ gripped_sides (suc p) pieces
+gripped_sides p (side ∷ pieces) = gripped_sides (suc p) pieces
+
+-- those that are left in the tray
+abbrev pub left_sides : ℕ → List Side → List ℕ
+left_sides p [] = []
+left_sides p (sides.Left ∷ pieces) = p ∷ left_sides (suc p) pieces
+left_sides p (side ∷ pieces) = left_sides (suc p) pieces
+
+abbrev pub side_pairs : List Side → List (ℕ × ℕ)
+side_pairs pieces = pairs_of (gripped_sides 0 pieces) (left_sides 0 pieces)
+
+-- so many looks, where the offsets have these values
+abbrev pub ClearLooks : Question → List (List Cell) → List Side → List ℤ → ℕ → Type 0
+ClearLooks question homes pieces values looks =
+    until_one_fails (λ pair. IsPairClear question homes values pair.0 pair.1) (side_pairs pieces)
+    looks
+
+-- For loops: what is still to be asked of
+
+-- the pairs of the gripped pieces from piece p on
+abbrev pub pairs_from : List Side → ℕ → List (ℕ × ℕ)
+pairs_from pieces p = pairs_of (gripped_sides p (drop p pieces)) (left_sides 0 pieces)
+
+-- those of gripped piece p with the pieces from piece q on, and of the gripped ones behind it
+abbrev pub pairs_behind : List Side → ℕ → ℕ → List (ℕ × ℕ)
+pairs_behind pieces p q =
+    map (λ other. (p, other)) (left_sides q (drop q pieces)) ++ pairs_from pieces (suc p)

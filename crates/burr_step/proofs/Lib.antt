@@ -1,0 +1,6 @@
+mod Lines
+mod OneLine
+mod SomeCommand
+mod Stepper
+mod UndoRing
+mod WorkedTexts

@@ -1,0 +1,4 @@
+pub mod StepTexts
+pub mod Stepper
+pub mod StepperLaws
+pub mod UndoRing
