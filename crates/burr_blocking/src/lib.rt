@@ -4,10 +4,12 @@
 mod blocking;
 mod cell_tables;
 mod extent;
+mod looks;
 mod plain_cells;
 mod row_tables;
 
 pub use blocking::Blocking;
 pub use cell_tables::CellTables;
+pub use looks::Looks;
 pub use plain_cells::PlainCells;
 pub use row_tables::RowTables;

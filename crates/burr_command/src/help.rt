@@ -57,8 +57,9 @@ Example: ./burr list /tmp/ring.bpln";
 /// What help says of `check` last.
 pub const CHECK: &str = "\
 The plan is judged, and not run: standard input is not read. `accepted cost 14
-budget 14` says that no run of it meets a trap or makes more than 14 steps. Else
-the first rule that fails is named, as `refused V28 proc 0 pc 0`, with status 1.
+budget 14 looks 6` says that no run of it meets a trap or makes more than 14
+steps, and that the check looked at two pieces 6 times. Else the first rule that
+fails is named, as `refused V28 proc 0 pc 0`, with status 1.
 
 Example: ./burr check examples/cup.assembly /tmp/cup.bpln";
 

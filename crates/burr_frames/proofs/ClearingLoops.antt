@@ -1,5 +1,5 @@
 -- A loop over pairs of sides, a gripped piece and one that is left: what is still to be asked of.
-use Rattle.std.proofs.Common.{◌≡◌, ◌≢◌, ℕ, zero, suc, ◌≤◌, List, [], ◌∷◌, ◌++◌, length, Some, refl, ap, ◌∙◌, arith}
+use Rattle.std.proofs.Common.{◌≡◌, ◌≢◌, ℕ, zero, suc, ◌+◌, ◌<◌, ◌≤◌, List, [], ◌∷◌, ◌++◌, length, Some, refl, sym, ap, ◌∙◌, arith, add-one}
 use Rattle.std.specs.Prelude.{slice_get, map, drop}
 use Rattle.std.proofs.lemmas.Option.{none-some, same_Some}
 use Rattle.burr_frames.specs.declared.clearing.Side.{Side}
@@ -7,6 +7,7 @@ use Rattle.burr_frames.specs.declared.clearing.Side.TheVariants.{Elsewhere, Grip
 use Rattle.burr_frames.specs.Clearing.{IsSide}
 use Rattle.burr_frames.specs.ClearingLooks.{gripped_sides, left_sides, side_pairs, pairs_from, pairs_behind}
 use Rattle.burr_frames.specs.Looks.{pairs_of}
+use Rattle.burr_frames.proofs.ClearingLooks.{element_below}
 
 drop_at : {A : Type 0} (xs : List A) (i : ℕ) (x : A) → slice_get xs i ≡ Some x → drop i xs ≡ x ∷ drop (suc i) xs
 drop_at [] i x e = absurd (none-some x e)
@@ -30,6 +31,17 @@ skip_left : (q : ℕ) (side : Side) (pieces : List Side) → side ≢ Left
 skip_left q Elsewhere pieces other = refl
 skip_left q Gripped pieces other = refl
 skip_left q Left pieces other = absurd (other refl)
+
+-- the same by the number that follows
+one_behind : {A : Type 0} (f : ℕ → List A) (xs : List A) (n : ℕ) → xs ≡ f (suc n) → xs ≡ f (n + 1)
+one_behind f xs n e = e ∙ ap f (sym (add-one n))
+
+-- the side of a piece is another one than this
+other_side : (pieces : List Side) (p : ℕ) (side : Side) → p < length pieces → (¬ IsSide pieces p side)
+    → (found : Side) × IsSide pieces p found × (found ≢ side)
+other_side pieces p side inside other =
+    let found = element_below pieces p inside in
+    (found.0, found.1, (λ e. other (found.1 ∙ ap Some e)))
 
 -- at first all pairs are
 pub all_first : (pieces : List Side) → pairs_from pieces 0 ≡ side_pairs pieces
@@ -83,3 +95,23 @@ module _ (pieces : List Side) (p : ℕ) where
   all_end l =
       ap (λ ps. pairs_of ps (left_sides 0 pieces))
       (ap (λ (rest : List Side). gripped_sides p rest) (drop_all pieces p l))
+
+  -- The same, as a loop comes to them
+
+  pub not_gripped : p < length pieces → (¬ IsSide pieces p Gripped) → pairs_from pieces p ≡ pairs_from pieces (p + 1)
+  not_gripped inside other =
+      let side = other_side pieces p Gripped inside other in
+      one_behind (pairs_from pieces) (pairs_from pieces p) p (past_piece side.0 side.1 side.2)
+
+  pub not_left : (q : ℕ) → q < length pieces → (¬ IsSide pieces q Left)
+      → pairs_behind pieces p q ≡ pairs_behind pieces p (q + 1)
+  not_left q inside other =
+      let side = other_side pieces q Left inside other in
+      one_behind (pairs_behind pieces p) (pairs_behind pieces p q) q (past_other q side.0 side.1 side.2)
+
+  pub one_left : (q : ℕ) → IsSide pieces q Left → pairs_behind pieces p q ≡ (p, q) ∷ pairs_behind pieces p (q + 1)
+  one_left q is =
+      one_behind (λ k. (p, q) ∷ pairs_behind pieces p k) (pairs_behind pieces p q) q (next_pair q is)
+
+  pub behind_row : pairs_from pieces (suc p) ≡ pairs_from pieces (p + 1)
+  behind_row = ap (pairs_from pieces) (sym (add-one p))

@@ -13,8 +13,10 @@ pub mod ClearingLoops
 pub mod Common
 pub mod Comparisons
 pub mod Counters
+pub mod GripLooks
 pub mod Heres
 pub mod LiveForms
+pub mod LooksSoFar
 pub mod MoveVerdicts
 pub mod MovedPlaces
 pub mod Negatives

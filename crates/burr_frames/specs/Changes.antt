@@ -1,5 +1,5 @@
 -- States with a part changed.
-use Rattle.std.specs.Prelude.{ℕ, List, [], ◌∷◌, Option, Some, set, drop}
+use Rattle.std.specs.Prelude.{ℕ, List, ◌∷◌, Some, set, drop}
 use Rattle.burr_code.specs.Places.{Placement}
 use Rattle.burr_forms.specs.Forms.{Form}
 use Rattle.burr_container.specs.Plans.{FormCell}

@@ -1,11 +1,31 @@
 -- The looks of one question to all pairs, of the values that a search carries.
-use Rattle.std.specs.Prelude.{ℕ, suc, ℤ, List, [], ◌∷◌, ◌++◌, map, drop}
+use Rattle.std.specs.Prelude.{ℕ, suc, ◌+◌, ℤ, List, [], ◌∷◌, ◌++◌, map, drop, Option, MatchOption}
 use Rattle.burr_voxels.specs.declared.cell.Cell.{Cell}
+use Rattle.burr_assembly.specs.Text.{Assembly}
+use Rattle.burr_forms.specs.Forms.{Form}
 use Rattle.burr_frames.specs.declared.clearing.Question.{Question}
 use Rattle.burr_frames.specs.declared.clearing.Side.{Side}
 use Rattle.burr_frames.specs.declared.clearing.Side.TheVariants as sides
 use Rattle.burr_frames.specs.Clearing.{IsPairClear}
 use Rattle.burr_frames.specs.Looks.{until_one_fails, pairs_of}
+
+-- what is asked: of an assembly's pieces, by the forms of their offsets, on these sides; and which
+-- reference counts, by its ghost name
+pub record Asked : Type 0 where
+  pub counter : ℕ
+  pub assembly : Assembly
+  pub forms : List Form
+  pub sides : List Side
+  pub question : Question
+
+abbrev pub asked_of : ℕ → Assembly → List Form → List Side → Question → Asked
+asked_of counter assembly forms pieces question = record {
+  counter = counter;
+  assembly = assembly;
+  forms = forms;
+  sides = pieces;
+  question = question;
+}
 
 -- the pieces that are gripped, rising; the first side is that of piece p
 abbrev pub gripped_sides : ℕ → List Side → List ℕ
@@ -38,3 +58,18 @@ pairs_from pieces p = pairs_of (gripped_sides p (drop p pieces)) (left_sides 0 p
 abbrev pub pairs_behind : List Side → ℕ → ℕ → List (ℕ × ℕ)
 pairs_behind pieces p q =
     map (λ other. (p, other)) (left_sides q (drop q pieces)) ++ pairs_from pieces (suc p)
+
+-- so many have been asked of: what comes of those that are left, comes of the whole with so many more
+abbrev pub AsksOn : {A : Type 0} → (A → Type 0) → List A → List A → ℕ → Type 0
+AsksOn IsSo whole left asked =
+    (n : ℕ) → until_one_fails IsSo left n → until_one_fails IsSo whole (asked + n)
+
+-- the looks at the pairs of gripped piece p: up to the one that is not clear, or at each
+abbrev pub RowLooks : Question → List (List Cell) → List Side → List ℤ → ℕ → Option ℕ → ℕ
+    → Type 0
+RowLooks question homes pieces values p found looks =
+    MatchOption found
+    (AsksOn (λ pair. IsPairClear question homes values pair.0 pair.1) (pairs_behind pieces p 0)
+    (pairs_from pieces (suc p)) looks)
+    (λ q. until_one_fails (λ pair. IsPairClear question homes values pair.0 pair.1)
+    (pairs_behind pieces p 0) looks)

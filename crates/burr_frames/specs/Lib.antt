@@ -18,7 +18,6 @@ pub mod Over
 pub mod QuestionRules
 pub mod Ranges
 pub mod RuleNumbers
-pub mod Searches
 pub mod SpaceRules
 pub mod Spots
 pub mod Starts

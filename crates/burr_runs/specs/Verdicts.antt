@@ -10,15 +10,17 @@ use Rattle.burr_frames.specs.FramedPlans.{framed_plan}
 use Rattle.burr_io.specs.Sink.{SinkView, Takes, FailsWithin}
 use Rattle.burr_verify.specs.Accepting.{judged, IsAccepted, MainCosts}
 use Rattle.burr_verify.specs.Judging.{Judging}
-use Rattle.burr_verify.specs.Pass.{Refuses}
+use Rattle.burr_verify.specs.Pass.{Passed, Refuses}
+use Rattle.burr_verify.specs.PassLooks.{Looking}
 use Rattle.burr_verify.specs.Views.{failed_check}
 use Rattle.burr_frames.specs.RuleNumbers.{rule_number}
 use Rattle.burr_verify.specs.declared.refusal.Refusal.{Refusal}
 
 -- the line of an accepted plan
-abbrev pub accepted_line : ℕ → ℕ → List ℕ
-accepted_line cost budget =
-    codes "accepted cost " ++ (decimal cost ++ (codes " budget " ++ (decimal budget ++ 10 ∷ [])))
+abbrev pub accepted_line : ℕ → ℕ → ℕ → List ℕ
+accepted_line cost budget looks =
+    codes "accepted cost " ++ (decimal cost ++ (codes " budget " ++ (decimal budget
+    ++ (codes " looks " ++ (decimal looks ++ 10 ∷ [])))))
 
 -- the name of piece p; nothing where there is no such piece
 abbrev pub name_or_none : Assembly → ℕ → List ℕ
@@ -58,12 +60,17 @@ IsRefusedBy kept a r =
     × ((p : Plan) → IsContainer kept p
     → Judging a.name (homes_of a) (framed_plan p) (Refuses (failed_check r)))
 
--- the line that is put for a container's plan: its cost and its budget where it is accepted, and else
--- the first check that fails
+-- the container's plan is passed, by so many looks at the pieces
+abbrev pub IsPassedBy : KeptContainer → Assembly → ℕ → Type 0
+IsPassedBy kept a looks =
+    (p : Plan) → IsContainer kept p → Looking a.name (homes_of a) (framed_plan p) Passed looks
+
+-- the line that is put for a container's plan: its cost, its budget and its looks where it is accepted,
+-- and else the first check that fails
 abbrev pub IsVerdictLine : KeptContainer → Assembly → Bool → List ℕ → Type 0
 IsVerdictLine kept a true line =
-    IsAccepted (judged kept a) × (cost : ℕ) × MainCosts (judged kept a) cost
-    × (line ≡ accepted_line cost kept.header.budget)
+    IsAccepted (judged kept a) × (cost looks : ℕ) × MainCosts (judged kept a) cost
+    × IsPassedBy kept a looks × (line ≡ accepted_line cost kept.header.budget looks)
 IsVerdictLine kept a false line =
     (r : Refusal) × IsRefusedBy kept a r × (line ≡ plan_refusal a r)
 

@@ -10,10 +10,10 @@ use burr_blocking::Blocking;
 use burr_container::Container;
 use burr_forms::Point;
 use burr_io::{Sink, WriteFault, put_all, put_number};
-use burr_verify::{Refusal, accept};
+use burr_verify::{Refusal, accept_counted};
 
 /// Judges a container's plan for the pieces of an assembly, and puts the line that says so: `accepted
-/// cost 4 budget 4`, or the refusal. Whether the plan is accepted.
+/// cost 4 budget 4 looks 2`, or the refusal. Whether the plan is accepted.
 pub fn check<B: Blocking, W: Sink>(
     container: &Container<'_>,
     blocking: &B,
@@ -25,9 +25,9 @@ pub fn check<B: Blocking, W: Sink>(
         (B.subject blocking.now)) }
 {
     let budget = container.header().budget;
-    match accept(container, blocking) {
-        Ok(accepted) => {
-            put_accepted(accepted.cost(), budget, sink)?;
+    match accept_counted(container, blocking) {
+        Ok((accepted, looks)) => {
+            put_accepted(accepted.cost(), budget, looks, sink)?;
             Ok(true)
         }
         Err(refusal) => {
@@ -37,14 +37,21 @@ pub fn check<B: Blocking, W: Sink>(
     }
 }
 
-/// Puts the line of an accepted plan, as `accepted cost 4 budget 4`.
-fn put_accepted<W: Sink>(cost: u32, budget: u32, sink: &mut W) -> Result<(), WriteFault>
-    ensures { Puts W.Sink sink.old sink.new (accepted_line cost budget) result }
+/// Puts the line of an accepted plan, as `accepted cost 4 budget 4 looks 2`.
+fn put_accepted<W: Sink>(
+    cost: u32,
+    budget: u32,
+    looks: u64,
+    sink: &mut W,
+) -> Result<(), WriteFault>
+    ensures { Puts W.Sink sink.old sink.new (accepted_line cost budget looks) result }
 {
     put_all(b"accepted cost ", sink)?;
     put_number(cost, sink)?;
     put_all(b" budget ", sink)?;
     put_number(budget, sink)?;
+    put_all(b" looks ", sink)?;
+    put_number(looks, sink)?;
     put_all(b"\n", sink)
 }
 

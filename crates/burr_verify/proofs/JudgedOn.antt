@@ -5,10 +5,9 @@ use Rattle.burr_container.specs.Plans.{Plan}
 use Rattle.burr_verify.proofs.Heres.{element_at}
 use Rattle.std.specs.Prelude.{slice_get, drop}
 use Rattle.std.proofs.lemmas.Option.{none-some, same_Some}
-use Rattle.burr_voxels.specs.declared.cell.Cell.{Cell}
-use Rattle.burr_frames.specs.FramedPlans.{FramedProcedure, FramedPlan, framed_procedure, framed_plan}
-use Rattle.burr_verify.specs.Judging.{Answer, judging_exit, judging_entry, judging_frames, judging_code, passes}
-use Rattle.burr_verify.specs.Pass.{Judgement, Passed, Refuses, FailedCheck, outset, Pass}
+use Rattle.burr_frames.specs.FramedPlans.{FramedProcedure, framed_procedure, framed_plan}
+use Rattle.burr_verify.specs.Judging.{Answer, judging_exit, judging_entry, judging_frames, passes}
+use Rattle.burr_verify.specs.Pass.{Judgement, Passed, Refuses, FailedCheck}
 use Rattle.burr_verify.specs.VerifyLaws.{nothing}
 use Rattle.burr_verify.specs.Views.{PartFrom}
 use Rattle.burr_verify.proofs.Before.{over_exit, over_entry, carry_exit, carry_entry}
@@ -58,32 +57,6 @@ frames_stop ps i here part r e refused from =
     subst (λ (qs : List FramedProcedure). PartFrom (judging_frames i qs) part) (drop_at ps i here e) from in
     on.1 r (refused_by_one i here (judging_frames (suc i) (drop (suc i) ps) nothing) r refused)
 
--- the code of the procedures from i on gives the code of all
-abbrev pub CodeFrom : List (List Cell) → FramedPlan → ℕ → Type 0
-CodeFrom homes plan i =
-    (j : Judgement) → judging_code homes plan i (drop i plan.procedures) passes j
-    → judging_code homes plan 0 plan.procedures passes j
-
-code_here : (homes : List (List Cell)) (plan : FramedPlan) (i : ℕ) (here : FramedProcedure)
-    → slice_get plan.procedures i ≡ Some here → CodeFrom homes plan i → (j : Judgement)
-    → judging_code homes plan i (here ∷ drop (suc i) plan.procedures) passes j
-    → judging_code homes plan 0 plan.procedures passes j
-code_here homes plan i here e from j =
-    subst (λ (qs : List FramedProcedure). judging_code homes plan i qs passes j
-    → judging_code homes plan 0 plan.procedures passes j) (drop_at plan.procedures i here e) (from j)
-
-pub code_on : (homes : List (List Cell)) (plan : FramedPlan) (i : ℕ) (here : FramedProcedure)
-    → slice_get plan.procedures i ≡ Some here → Pass homes plan i here outset Passed → CodeFrom homes plan i
-    → CodeFrom homes plan (i + 1)
-code_on homes plan i here e pass from =
-    subst (λ (n : ℕ). CodeFrom homes plan n) (sym (add-one i))
-    (λ j well. code_here homes plan i here e from j (Passed, pass, well))
-
-pub code_stops : (homes : List (List Cell)) (plan : FramedPlan) (i : ℕ) (here : FramedProcedure) (r : FailedCheck)
-    → slice_get plan.procedures i ≡ Some here → Pass homes plan i here outset (Refuses r) → CodeFrom homes plan i
-    → judging_code homes plan 0 plan.procedures passes (Refuses r)
-code_stops homes plan i here r e pass from = code_here homes plan i here e from (Refuses r) (Refuses r, pass, refl)
-
 -- the procedure that stands at a number of the plan
 pub here_at : (p : Plan) (i : ℕ) → i < length p.procedures
     → (here : FramedProcedure) × (slice_get (framed_plan p).procedures i ≡ Some here)
@@ -95,7 +68,7 @@ drop_all [] (suc i) l = refl
 drop_all (x ∷ xs) zero l = absurd (omega (arith, l))
 drop_all (x ∷ xs) (suc i) l = drop_all xs i (omega (arith, l))
 
-none_behind : (p : Plan) (i : ℕ) → length p.procedures ≤ i → drop i (framed_plan p).procedures ≡ []
+pub none_behind : (p : Plan) (i : ℕ) → length p.procedures ≤ i → drop i (framed_plan p).procedures ≡ []
 none_behind p i l =
     drop_all (framed_plan p).procedures i (subst (λ (m : ℕ). m ≤ i) (sym (length-map p.procedures framed_procedure)) l)
 
@@ -105,9 +78,3 @@ pub frames_end : (p : Plan) (i : ℕ) (part : Answer → Answer) → length p.pr
 frames_end p i part l from =
     let on : PartFrom (judging_frames i []) part =
     subst (λ (qs : List FramedProcedure). PartFrom (judging_frames i qs) part) (none_behind p i l) from in on.0 refl
-
-pub code_ends : (homes : List (List Cell)) (p : Plan) (i : ℕ) → length p.procedures ≤ i
-    → CodeFrom homes (framed_plan p) i → judging_code homes (framed_plan p) 0 (framed_plan p).procedures passes Passed
-code_ends homes p i l from =
-    (subst (λ (qs : List FramedProcedure). judging_code homes (framed_plan p) i qs passes Passed
-    → judging_code homes (framed_plan p) 0 (framed_plan p).procedures passes Passed) (none_behind p i l) (from Passed)) refl

@@ -1,4 +1,4 @@
--- How a pass goes on from one stage to another, and where it stops.
+-- How a pass goes on from one stage to another, and where it stops, each with its looks.
 use Rattle.std.proofs.Common.{◌≡◌, ◌≢◌, ℕ, ◌+◌, ◌<◌, ◌≤◌, List, length, Option, Some, None, refl, sym, subst, ap, ◌∙◌, arith}
 use Rattle.std.specs.Prelude.{slice_get, true, false}
 use Rattle.std.specs.Option.{is_some}
@@ -14,6 +14,7 @@ use Rattle.burr_container.specs.Containers.{KeptContainer, IsContainer, OfLabel,
 use Rattle.burr_frames.specs.ArrivalViews.{missed_at}
 use Rattle.burr_frames.specs.Breaks.{missed_break}
 use Rattle.burr_frames.specs.FramedPlans.{FramedProcedure, FramedPlan, framed, framed_label, framed_plan}
+use Rattle.burr_frames.specs.Looks.{RuleLooks}
 use Rattle.burr_frames.specs.States.{AbstractState, state_of}
 use Rattle.burr_frames.specs.Transfer.{Transfer}
 use Rattle.burr_frames.specs.Verdicts.{Breaks, Falls, Leaves, arriving, leaves}
@@ -21,9 +22,12 @@ use Rattle.burr_frames.specs.declared.rule.Rule.TheVariants as rules
 use Rattle.burr_verify.specs.declared.refusal.Refusal.{Refusal}
 use Rattle.burr_verify.specs.Refusals.{plain_refusal}
 use Rattle.burr_verify.specs.WellFramed.{IsLabelled, HasNoLabel}
-use Rattle.burr_verify.specs.Pass.{Judgement, Passed, Refuses, Stage, Comes, Judges, Hides, Pass, broken, resumes, misses, arrives, falls, stops, ends, falls_off}
-use Rattle.burr_verify.specs.Views.{GoesOn, Stops, IsLabelWithin, failed_check}
+use Rattle.burr_verify.specs.LookViews.{LooksOn, LooksStop}
+use Rattle.burr_verify.specs.Pass.{Judgement, Passed, Refuses, Stage, Comes, Judges, Hides, broken, misses, ends, falls_off}
+use Rattle.burr_verify.specs.PassLooks.{LookedPass}
+use Rattle.burr_verify.specs.Views.{IsLabelWithin, failed_check}
 use Rattle.burr_verify.proofs.Heres.{procedure_here, label_here, element_at, as_many_labels}
+use Rattle.burr_verify.proofs.LookedOn.{looks_resumed, looks_arrived, looks_fallen, looks_left}
 use Rattle.burr_verify.proofs.OnePass.{arrives_where_leaves}
 
 -- Labels
@@ -58,24 +62,32 @@ missed s f (Some point) h = h
 
 pub enters_resumes : (homes : List (List Cell)) (plan : FramedPlan) (n : ℕ) (here : FramedProcedure) (last pc : ℕ) (f : Frame)
     (s : AbstractState) → pc ≢ length here.code → IsLabelled here pc f → s ≡ state_of f
-    → GoesOn homes plan n here (Comes last pc None) (Judges pc s)
-enters_resumes homes plan n here last pc f s more labelled same j pass =
-    resumes last pc f j more labelled (subst (λ (t : AbstractState). Pass homes plan n here (Judges pc t) j) same pass)
+    → LooksOn homes plan n here (Comes last pc None) (Judges pc s) 0
+enters_resumes homes plan n here last pc f s more labelled same =
+    subst (λ (t : AbstractState). LooksOn homes plan n here (Comes last pc None) (Judges pc t) 0) (sym same)
+    (looks_resumed homes plan n here last pc f more labelled)
 
 pub enters_arrives : (homes : List (List Cell)) (plan : FramedPlan) (n : ℕ) (here : FramedProcedure) (last pc : ℕ) (f : Frame)
     (t s : AbstractState) → pc ≢ length here.code → IsLabelled here pc f → arriving t f leaves Leaves → s ≡ state_of f
-    → GoesOn homes plan n here (Comes last pc (Some t)) (Judges pc s)
-enters_arrives homes plan n here last pc f t s more labelled arrived same j pass =
-    arrives last pc t f j more labelled (arrives_where_leaves t f arrived)
-    (subst (λ (u : AbstractState). Pass homes plan n here (Judges pc u) j) same pass)
+    → LooksOn homes plan n here (Comes last pc (Some t)) (Judges pc s) 0
+enters_arrives homes plan n here last pc f t s more labelled arrived same =
+    subst (λ (u : AbstractState). LooksOn homes plan n here (Comes last pc (Some t)) (Judges pc u) 0) (sym same)
+    (looks_arrived homes plan n here last pc t f more labelled (arrives_where_leaves t f arrived))
+
+-- a pass that comes to this judgement stops by the refusal of which that is told
+pub stops_by : (homes : List (List Cell)) (plan : FramedPlan) (n : ℕ) (here : FramedProcedure) (stage : Stage) (r : Refusal)
+    (j : Judgement) (looks : ℕ) → Refuses (failed_check r) ≡ j → LookedPass homes plan n here stage j looks
+    → LooksStop homes plan n here stage r looks
+stops_by homes plan n here stage r j looks same pass =
+    subst (λ (k : Judgement). LookedPass homes plan n here stage k looks) (sym same) pass
 
 pub enters_misses : (homes : List (List Cell)) (plan : FramedPlan) (n : ℕ) (here : FramedProcedure) (last pc : ℕ) (f : Frame)
     (t : AbstractState) (o : Option Point) (r : Refusal) → pc ≢ length here.code → IsLabelled here pc f
     → arriving t f leaves (missed_at o) → Refuses (failed_check r) ≡ broken n last (missed_break rules.V21 o)
-    → Stops homes plan n here (Comes last pc (Some t)) r
+    → LooksStop homes plan n here (Comes last pc (Some t)) r 0
 enters_misses homes plan n here last pc f t o r more labelled miss same =
-    subst (λ (j : Judgement). Pass homes plan n here (Comes last pc (Some t)) j) (sym same)
-    (misses last pc t f (missed_break rules.V21 o) more labelled (missed t f o miss))
+    stops_by homes plan n here (Comes last pc (Some t)) r _ 0 same
+    (misses last pc t f (missed_break rules.V21 o) more labelled (missed t f o miss), refl)
 
 -- At a place
 
@@ -91,41 +103,35 @@ hides_one here pc size n i l same e from before =
     (l.0, l.1, (n, e), omega (arith, from), omega (arith, before, same))
 
 pub judges_falls : (homes : List (List Cell)) (plan : FramedPlan) (n : ℕ) (here : FramedProcedure) (pc size : ℕ)
-    (s t : AbstractState) (i : Instruction) → StandsAt here.code pc i → size ≡ length (spelled i) → (¬ Hides here pc i)
-    → Transfer homes plan n here s i (Falls t)
-    → GoesOn homes plan n here (Judges pc s) (Comes pc (pc + size) (Some t))
-judges_falls homes plan n here pc size s t i stands same bare rule j pass =
-    falls pc s t i j stands bare rule
-    (subst (λ (m : ℕ). Pass homes plan n here (Comes pc (pc + m) (Some t)) j) same pass)
+    (s t : AbstractState) (i : Instruction) (looks : ℕ) → StandsAt here.code pc i → size ≡ length (spelled i)
+    → (¬ Hides here pc i) → Transfer homes plan n here s i (Falls t) → RuleLooks homes s i looks
+    → LooksOn homes plan n here (Judges pc s) (Comes pc (pc + size) (Some t)) looks
+judges_falls homes plan n here pc size s t i looks stands same bare rule own =
+    subst (λ (m : ℕ). LooksOn homes plan n here (Judges pc s) (Comes pc (pc + m) (Some t)) looks) (sym same)
+    (looks_fallen homes plan n here pc s t i looks stands bare rule own)
 
 pub judges_stops : (homes : List (List Cell)) (plan : FramedPlan) (n : ℕ) (here : FramedProcedure) (pc size : ℕ)
-    (s : AbstractState) (i : Instruction) → StandsAt here.code pc i → size ≡ length (spelled i) → (¬ Hides here pc i)
-    → Transfer homes plan n here s i Leaves
-    → GoesOn homes plan n here (Judges pc s) (Comes pc (pc + size) None)
-judges_stops homes plan n here pc size s i stands same bare rule j pass =
-    stops pc s i j stands bare rule
-    (subst (λ (m : ℕ). Pass homes plan n here (Comes pc (pc + m) None) j) same pass)
+    (s : AbstractState) (i : Instruction) (looks : ℕ) → StandsAt here.code pc i → size ≡ length (spelled i)
+    → (¬ Hides here pc i) → Transfer homes plan n here s i Leaves → RuleLooks homes s i looks
+    → LooksOn homes plan n here (Judges pc s) (Comes pc (pc + size) None) looks
+judges_stops homes plan n here pc size s i looks stands same bare rule own =
+    subst (λ (m : ℕ). LooksOn homes plan n here (Judges pc s) (Comes pc (pc + m) None) looks) (sym same)
+    (looks_left homes plan n here pc s i looks stands bare rule own)
 
 -- What falls in
 
 pub on_from : (homes : List (List Cell)) (plan : FramedPlan) (n : ℕ) (here : FramedProcedure) (last pc : ℕ)
     (falling to : Option AbstractState) (s : AbstractState) → falling ≡ to
-    → GoesOn homes plan n here (Comes last pc to) (Judges pc s)
-    → GoesOn homes plan n here (Comes last pc falling) (Judges pc s)
+    → LooksOn homes plan n here (Comes last pc to) (Judges pc s) 0
+    → LooksOn homes plan n here (Comes last pc falling) (Judges pc s) 0
 on_from homes plan n here last pc falling to s same on =
-    subst (λ (o : Option AbstractState). GoesOn homes plan n here (Comes last pc o) (Judges pc s)) (sym same) on
+    subst (λ (o : Option AbstractState). LooksOn homes plan n here (Comes last pc o) (Judges pc s) 0) (sym same) on
 
 pub stops_from : (homes : List (List Cell)) (plan : FramedPlan) (n : ℕ) (here : FramedProcedure) (last pc : ℕ)
-    (falling to : Option AbstractState) (r : Refusal) → falling ≡ to → Stops homes plan n here (Comes last pc to) r
-    → Stops homes plan n here (Comes last pc falling) r
+    (falling to : Option AbstractState) (r : Refusal) → falling ≡ to
+    → LooksStop homes plan n here (Comes last pc to) r 0 → LooksStop homes plan n here (Comes last pc falling) r 0
 stops_from homes plan n here last pc falling to r same stop =
-    subst (λ (o : Option AbstractState). Stops homes plan n here (Comes last pc o) r) (sym same) stop
-
--- a pass that comes to this judgement stops by the refusal of which that is told
-pub stops_by : (homes : List (List Cell)) (plan : FramedPlan) (n : ℕ) (here : FramedProcedure) (stage : Stage) (r : Refusal)
-    (j : Judgement) → Refuses (failed_check r) ≡ j → Pass homes plan n here stage j → Stops homes plan n here stage r
-stops_by homes plan n here stage r j same pass =
-    subst (λ (k : Judgement). Pass homes plan n here stage k) (sym same) pass
+    subst (λ (o : Option AbstractState). LooksStop homes plan n here (Comes last pc o) r 0) (sym same) stop
 
 -- A label that was looked for
 
@@ -163,14 +169,15 @@ at_end code kept pc same from within = omega (arith, from, within, ap length sam
 
 pub well_ended : (homes : List (List Cell)) (plan : FramedPlan) (n : ℕ) (here : FramedProcedure) (last pc : ℕ)
     (falling : Option AbstractState) → falling ≡ None → pc ≡ length here.code
-    → Pass homes plan n here (Comes last pc falling) Passed
+    → LookedPass homes plan n here (Comes last pc falling) Passed 0
 well_ended homes plan n here last pc falling same is =
-    subst (λ (o : Option AbstractState). Pass homes plan n here (Comes last pc o) Passed) (sym same) (ends last pc is)
+    subst (λ (o : Option AbstractState). LookedPass homes plan n here (Comes last pc o) Passed 0) (sym same)
+    (ends last pc is, refl)
 
 pub fallen_off : (homes : List (List Cell)) (plan : FramedPlan) (n : ℕ) (here : FramedProcedure) (last pc : ℕ)
     (falling : Option AbstractState) (s : AbstractState) (r : Refusal) → falling ≡ Some s → pc ≡ length here.code
-    → r ≡ plain_refusal n last rules.V5 → Stops homes plan n here (Comes last pc falling) r
+    → r ≡ plain_refusal n last rules.V5 → LooksStop homes plan n here (Comes last pc falling) r 0
 fallen_off homes plan n here last pc falling s r same is told =
-    subst (λ (o : Option AbstractState). Stops homes plan n here (Comes last pc o) r) (sym same)
-    (stops_by homes plan n here (Comes last pc (Some s)) r _ (ap (λ q. Refuses (failed_check q)) told)
-    (falls_off last pc s is))
+    subst (λ (o : Option AbstractState). LooksStop homes plan n here (Comes last pc o) r 0) (sym same)
+    (stops_by homes plan n here (Comes last pc (Some s)) r _ 0 (ap (λ q. Refuses (failed_check q)) told)
+    (falls_off last pc s is, refl))

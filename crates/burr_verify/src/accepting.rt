@@ -7,13 +7,14 @@ ghost use Rattle.burr_container.specs.Containers.{IsContainer};
 ghost use Rattle.burr_frames.specs.FramedPlans.{framed_plan};
 ghost use Rattle.burr_verify.specs.Accepting.{judged, IsAccepted, MainCosts};
 ghost use Rattle.burr_verify.specs.Judging.{Judging};
-ghost use Rattle.burr_verify.specs.Pass.{Refuses};
+ghost use Rattle.burr_verify.specs.Pass.{Passed, Refuses};
+ghost use Rattle.burr_verify.specs.PassLooks.{Looking};
 ghost use Rattle.burr_verify.specs.Views.{failed_check};
 
-use crate::judging::verify;
+use crate::judging::verify_counted;
 use crate::refusal::Refusal;
 use burr_assembly::Assembly;
-use burr_blocking::Blocking;
+use burr_blocking::{Blocking, Looks};
 use burr_container::Container;
 use std::marker::Model;
 
@@ -47,11 +48,33 @@ pub fn accept<'a, 'c: 'a, B: Blocking>(
         → Judging (B.subject blocking.entry.now).name (homes_of (B.subject blocking.entry.now))
         (framed_plan p) (Refuses (failed_check refusal))) }
 {
-    verify(container, blocking)?;
-    Ok(Accepted {
+    let (accepted, _looks) = accept_counted(container, blocking)?;
+    Ok(accepted)
+}
+
+/// Accepts as `accept` does, and tells how many looks at the pieces the judgement took, as
+/// `verify_counted` counts them.
+pub fn accept_counted<'a, 'c: 'a, B: Blocking>(
+    container: &'a Container<'c>,
+    blocking: &'a B,
+) -> Result<(Accepted<'a, 'c, B>, u64), Refusal>
+    ensures ok { IfOk result (λ counted.
+        counted.0 ≡ judged container.entry.now (B.subject blocking.entry.now)) }
+    ensures accepted { IfOk result (λ counted. IsAccepted counted.0) }
+    ensures looked { IfOk result (λ counted. (p : Plan) → IsContainer container.entry.now p
+        → Looking (B.subject blocking.entry.now).name (homes_of (B.subject blocking.entry.now))
+        (framed_plan p) Passed counted.1) }
+    ensures err { IfErr result (λ refusal. (p : Plan) → IsContainer container.entry.now p
+        → Judging (B.subject blocking.entry.now).name (homes_of (B.subject blocking.entry.now))
+        (framed_plan p) (Refuses (failed_check refusal))) }
+{
+    let mut looks = Looks::new(blocking);
+    verify_counted(container, &mut looks)?;
+    let accepted = Accepted {
         container,
         blocking,
-    })
+    };
+    Ok((accepted, looks.count()))
 }
 
 impl<'a, 'c: 'a, B: Blocking> Accepted<'a, 'c, B> {

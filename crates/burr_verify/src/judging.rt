@@ -1,21 +1,24 @@
 //! The whole judgement of a plan.
 
-ghost use Rattle.std.specs.Prelude.{◌≡◌, ◌≤◌, ◌↔◌, IsOk, List, length};
+ghost use Rattle.std.specs.Prelude.{◌≡◌, ◌≤◌, ◌*◌, ◌↔◌, IsOk, List, length};
 ghost use Rattle.burr_container.specs.Plans.{Plan};
 ghost use Rattle.burr_voxels.specs.declared.cell.Cell.{Cell as CellOf};
 ghost use Rattle.burr_container.specs.Containers.{IsContainer, HasPlan};
 ghost use Rattle.burr_assembly.specs.Text.{IsAssembly};
 ghost use Rattle.burr_assembly.specs.Homes.{homes_of};
 ghost use Rattle.burr_frames.specs.FramedPlans.{framed_plan};
-ghost use Rattle.burr_verify.specs.Judging.{Judging, judging_frames, judging_start, judging_code, passes};
+ghost use Rattle.burr_verify.specs.Judging.{Judging, judging_frames, judging_start, passes};
+ghost use Rattle.burr_verify.specs.Pass.{Passed};
+ghost use Rattle.burr_verify.specs.PassLooks.{Looking, looking_code, code_size};
 ghost use Rattle.burr_verify.specs.WellFramed.{IsWellFramed};
 ghost use Rattle.burr_verify.specs.Views.{judgement_of, AnswersPart};
 
 use crate::fitting::fits_assembly;
 use crate::forming::judge_frames;
+use crate::laws::a_plan_has_so_many_looks;
 use crate::passing::judge_code;
 use crate::refusal::Refusal;
-use burr_blocking::Blocking;
+use burr_blocking::{Blocking, Looks};
 use burr_container::Container;
 use burr_frames::{Rule, State, meets_entry};
 
@@ -33,21 +36,54 @@ pub fn verify<B: Blocking>(container: &Container<'_>, blocking: &B) -> Result<()
     // What references to a container and to an assembly hold.
     ensures known { HasPlan container.now × IsAssembly (B.subject blocking.now) }
 {
+    verify_counted(container, &mut Looks::new(blocking))
+}
+
+/// Judges as `verify` does, and leaves the number of its looks at the pieces: of each `step` and `aside`
+/// that it comes to, one for each point and each pair of a gripped piece and one that is left in the tray,
+/// in order, until one fails; none else. They are at most 4,096 times 256 for each byte of the plan's
+/// code. No look was made before, the caller's condition.
+pub fn verify_counted<B: Blocking>(
+    container: &Container<'_>,
+    looks: &mut Looks<'_, B>,
+) -> Result<(), Refusal>
+    requires none { looks.old.count ≡ 0 }
+    ensures looked { (p : Plan) → IsContainer container.now p
+        → Looking looks.old.assembly.name (homes_of looks.old.assembly) (framed_plan p)
+        (judgement_of result) looks.new.count }
+    ensures few { (p : Plan) → IsContainer container.now p
+        → looks.new.count ≤ code_size (framed_plan p).procedures * (4096 * 256) }
+    ensures judged { (p : Plan) → IsContainer container.now p
+        → Judging looks.old.assembly.name (homes_of looks.old.assembly) (framed_plan p)
+        (judgement_of result) }
+    ensures framed { (p : Plan) → IsContainer container.now p
+        → IsOk result ↔ IsWellFramed looks.old.assembly.name (homes_of looks.old.assembly)
+        (framed_plan p) }
+    ensures same { looks.new.assembly ≡ looks.old.assembly }
+    // What references to a container and to an assembly hold.
+    ensures known { HasPlan container.now × IsAssembly looks.old.assembly }
+{
     let _header = container.header();
-    let _count = blocking.assembly().piece_count();
-    judge_plan(container, blocking)
+    let _count = looks.assembly().piece_count();
+    a_plan_has_so_many_looks();
+    judge_plan(container, looks)
 }
 
 /// The checks of `verify`, in their order.
-fn judge_plan<B: Blocking>(container: &Container<'_>, blocking: &B) -> Result<(), Refusal>
-    ensures { (p : Plan) → IsContainer container.now p
-        → Judging (B.subject blocking.now).name (homes_of (B.subject blocking.now))
-        (framed_plan p) (judgement_of result) }
+fn judge_plan<B: Blocking>(
+    container: &Container<'_>,
+    looks: &mut Looks<'_, B>,
+) -> Result<(), Refusal>
+    requires none { looks.old.count ≡ 0 }
+    ensures looked { (p : Plan) → IsContainer container.now p
+        → Looking looks.old.assembly.name (homes_of looks.old.assembly) (framed_plan p)
+        (judgement_of result) looks.new.count }
+    ensures same { looks.new.assembly ≡ looks.old.assembly }
 {
-    fits_assembly(container, blocking.assembly())?;
+    fits_assembly(container, looks.assembly())?;
     judge_all_frames(container)?;
-    judge_start(container, blocking.assembly().piece_count())?;
-    judge_all_code(container, blocking)
+    judge_start(container, looks.assembly().piece_count())?;
+    judge_all_code(container, looks)
 }
 
 /// Judges the frames of each procedure.
@@ -82,14 +118,24 @@ fn judge_start(container: &Container<'_>, pieces: u8) -> Result<(), Refusal>
     Ok(())
 }
 
-/// Judges the code of each procedure.
-fn judge_all_code<B: Blocking>(container: &Container<'_>, blocking: &B) -> Result<(), Refusal>
-    ensures { (p : Plan) → IsContainer container.now p
-        → judging_code (homes_of (B.subject blocking.now)) (framed_plan p) 0
-        (framed_plan p).procedures passes (judgement_of result) }
+/// Judges the code of each procedure. All frames hold by themselves, and no look was made before: the
+/// caller's conditions.
+fn judge_all_code<B: Blocking>(
+    container: &Container<'_>,
+    looks: &mut Looks<'_, B>,
+) -> Result<(), Refusal>
+    requires none { looks.old.count ≡ 0 }
+    requires framed { (p : Plan) → IsContainer container.now p
+        → judging_frames 0 (framed_plan p).procedures passes Passed }
+    ensures looked { (p : Plan) → IsContainer container.now p
+        → looking_code (homes_of looks.old.assembly) (framed_plan p) 0 (framed_plan p).procedures
+        (judgement_of result) looks.new.count }
+    ensures same { looks.new.assembly ≡ looks.old.assembly }
 {
+    // A container has a plan.
+    let _header = container.header();
     for procedure in 0..container.proc_count() {
-        judge_code(container, procedure, blocking)?;
+        judge_code(container, procedure, looks)?;
     }
     Ok(())
 }

@@ -11,9 +11,9 @@ mod passing;
 mod refusal;
 mod transfer;
 
-pub use accepting::{Accepted, accept};
+pub use accepting::{Accepted, accept, accept_counted};
 pub use fitting::fits_assembly;
-pub use judging::verify;
+pub use judging::{verify, verify_counted};
 pub use laws::{
     a_fitting_plan_is_from_a_container, a_pass_has_one_judgement, a_pass_has_so_many_looks,
     a_plan_has_so_many_looks, a_plan_is_judged_in_one_way,

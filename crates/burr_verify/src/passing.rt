@@ -1,39 +1,51 @@
 //! The pass over a procedure's code and frames.
 
-ghost use Rattle.std.specs.Prelude.{◌≡◌, ◌≢◌, ◌<◌, ◌≤◌, List, IfOk, MatchResult, length};
+ghost use Rattle.std.specs.Prelude.{◌≡◌, ◌≢◌, ◌<◌, ◌≤◌, ◌+◌, ◌^◌, List, IfOk, MatchResult, length};
 ghost use Rattle.burr_assembly.specs.Homes.{homes_of};
+ghost use Rattle.burr_blocking.specs.Counted.{HasCounted};
 ghost use Rattle.burr_code.specs.declared.limits.TheConstants.{MOST_CODE, MOST_PROCEDURES};
 ghost use Rattle.burr_voxels.specs.declared.cell.Cell.{Cell};
 ghost use Rattle.burr_frames.specs.Here.{OfHere};
-ghost use Rattle.burr_verify.specs.Pass.{Pass, Comes, Judges, outset};
-ghost use Rattle.burr_verify.specs.Views.{judgement_of, GoesOn, Stops};
+ghost use Rattle.burr_frames.specs.Looks.{HasRoom};
+ghost use Rattle.burr_verify.specs.LookViews.{LooksOn, LooksStop, HasRoomBefore, HasRoomyFrames};
+ghost use Rattle.burr_verify.specs.Pass.{Comes, Judges, outset};
+ghost use Rattle.burr_verify.specs.PassLooks.{LookedPass};
+ghost use Rattle.burr_verify.specs.Views.{judgement_of};
 
 use crate::labels::label_within;
 use crate::refusal::Refusal;
 use crate::transfer::{Flow, transfer};
-use burr_blocking::Blocking;
+use burr_blocking::{Blocking, Looks};
 use burr_code::fetch;
 use burr_container::Container;
 use burr_frames::{Rule, State, arrives};
 
-/// Judges a procedure's code in one pass from its first byte, with one state at a time.
+/// Judges a procedure's code in one pass from its first byte, with one state at a time. The boxes of
+/// its frames have at most 4,096 points, and the count of looks leaves room for 2^32 more, as many as
+/// 4,096 bytes of code can ask for: the caller's conditions.
 pub fn judge_code<B: Blocking>(
     container: &Container<'_>,
     procedure: usize,
-    blocking: &B,
+    looks: &mut Looks<'_, B>,
 ) -> Result<(), Refusal>
-    requires { procedure < length container.now.procedures }
-    ensures { OfHere container.now procedure (λ plan here.
-        Pass (homes_of (B.subject blocking.now)) plan procedure here outset (judgement_of result)) }
+    requires procedure { procedure < length container.now.procedures }
+    requires framed { HasRoomyFrames container.now procedure }
+    requires room { looks.old.count + 2 ^ 32 ≤ 2 ^ 40 }
+    ensures passed { OfHere container.now procedure (λ plan here. HasCounted
+        (LookedPass (homes_of looks.old.assembly) plan procedure here outset (judgement_of result))
+        looks.old looks.new) }
+    ensures few { looks.new.count ≤ looks.old.count + 2 ^ 32 }
+    ensures same { looks.new.assembly ≡ looks.old.assembly }
 {
     let _most = container.proc_count();
+    let _few = looks.assembly().piece_count();
     let size = container.code(procedure).len();
     let mut last = 0;
     let mut pc = 0;
     let mut falling = None;
     while pc < size {
         let state = enter(container, procedure, last, pc, falling)?;
-        let (behind, next) = judge_at(container, procedure, pc, state, blocking)?;
+        let (behind, next) = judge_at(container, procedure, pc, state, looks)?;
         last = pc;
         pc = behind;
         falling = next;
@@ -57,10 +69,13 @@ fn enter(
     requires few { procedure < MOST_PROCEDURES }
     requires short { pc < MOST_CODE }
     requires rising { last ≤ pc }
-    ensures { (homes : List (List Cell)) → OfHere container.now procedure (λ plan here.
+    requires framed { HasRoomyFrames container.now procedure }
+    requires room { HasRoomBefore falling }
+    ensures passes { (homes : List (List Cell)) → OfHere container.now procedure (λ plan here.
         pc ≢ length here.code → MatchResult result
-        (λ s. GoesOn homes plan procedure here (Comes last pc falling) (Judges pc s))
-        (Stops homes plan procedure here (Comes last pc falling))) }
+        (λ s. LooksOn homes plan procedure here (Comes last pc falling) (Judges pc s) 0)
+        (λ r. LooksStop homes plan procedure here (Comes last pc falling) r 0)) }
+    ensures room { IfOk result HasRoom }
 {
     let label = label_within(container, procedure, pc, pc + 1);
     match (label, falling) {
@@ -78,23 +93,34 @@ fn enter(
 }
 
 /// Judges the instruction at pc in this state: the place behind it, and the state that falls out of it.
+/// The looks of its rule are counted, at most 2^20. The state has at most 4,096 points, the assembly at
+/// most 32 pieces, and at most 2^40 looks were made so far: the caller's conditions.
 fn judge_at<B: Blocking>(
     container: &Container<'_>,
     procedure: usize,
     pc: usize,
     state: State,
-    blocking: &B,
+    looks: &mut Looks<'_, B>,
 ) -> Result<(usize, Option<State>), Refusal>
     requires procedure { procedure < length container.now.procedures }
     requires few { procedure < MOST_PROCEDURES }
     requires short { pc < MOST_CODE }
+    requires framed { HasRoomyFrames container.now procedure }
+    requires points { HasRoom state }
+    requires few_pieces { length looks.old.assembly.pieces ≤ 32 }
+    requires room { looks.old.count ≤ 2 ^ 40 }
     ensures behind { IfOk result (λ ok. pc < ok.0) }
     ensures within { OfHere container.now procedure (λ plan here.
         IfOk result (λ ok. ok.0 ≤ length here.code)) }
-    ensures passes { OfHere container.now procedure (λ plan here. MatchResult result
-        (λ ok. GoesOn (homes_of (B.subject blocking.now)) plan procedure here (Judges pc state)
-        (Comes pc ok.0 ok.1))
-        (Stops (homes_of (B.subject blocking.now)) plan procedure here (Judges pc state))) }
+    ensures passes { OfHere container.now procedure (λ plan here. HasCounted (λ n.
+        MatchResult result
+        (λ ok. LooksOn (homes_of looks.old.assembly) plan procedure here (Judges pc state)
+        (Comes pc ok.0 ok.1) n)
+        (λ r. LooksStop (homes_of looks.old.assembly) plan procedure here (Judges pc state) r n))
+        looks.old looks.new) }
+    ensures points { IfOk result (λ ok. HasRoomBefore ok.1) }
+    ensures few { looks.new.count ≤ looks.old.count + 2 ^ 20 }
+    ensures same { looks.new.assembly ≡ looks.old.assembly }
 {
     let Some((instruction, size)) = fetch(container.code(procedure), pc) else {
         return Err(Refusal::plain(procedure as u8, pc as u16, Rule::V2));
@@ -103,7 +129,7 @@ fn judge_at<B: Blocking>(
         return Err(Refusal::plain(procedure as u8, pc as u16, Rule::V3));
     }
     let mut state = state;
-    match transfer(&mut state, &instruction, container, procedure, blocking) {
+    match transfer(&mut state, &instruction, container, procedure, looks) {
         Ok(Flow::Falls) => Ok((pc + size, Some(state))),
         Ok(Flow::Leaves) => Ok((pc + size, None)),
         Err(broken) => Err(Refusal::of(procedure as u8, pc as u16, broken)),

@@ -1,12 +1,14 @@
 //! The rules of the instructions that grip and move pieces.
 
-ghost use Rattle.std.specs.Prelude.{◌≡◌, ◌<◌, ◌≤◌, ◌↔◌, IsTrue, IfErr, MatchResult, length};
+ghost use Rattle.std.specs.Prelude.{◌≡◌, ◌≤◌, ◌^◌, ◌↔◌, IsTrue, IfErr, MatchResult, length};
 ghost use Rattle.burr_code.specs.Places.{LiesIn, AllLieIn, IsPartOfTray, IsEmptyTray, aside_places};
 ghost use Rattle.burr_assembly.specs.Homes.{homes_of};
+ghost use Rattle.burr_blocking.specs.Counted.{HasCounted};
 ghost use Rattle.burr_frames.specs.Changes.{with_grip, with_places};
 ghost use Rattle.burr_frames.specs.SpaceRules.{grip_rule, step_rule, aside_rule, tray_rule};
 ghost use Rattle.burr_frames.specs.SpaceRules.{moved, AllSmallPlaces};
 ghost use Rattle.burr_frames.specs.Breaks.{fallen};
+ghost use Rattle.burr_frames.specs.Looks.{HasRoom, step_looks, aside_looks, clearing_looks};
 ghost use Rattle.burr_frames.specs.Moving.{ClearOrBreaks, LeavesSome};
 
 use super::places::{count_in_tray, moved_places, offsets_in, sides_in, take_aside};
@@ -16,9 +18,9 @@ use crate::clearing::{Clearing, Question};
 use crate::lying::Lying;
 use crate::rule::Rule;
 use arrayvec::ArrayVec;
-use burr_blocking::Blocking;
+use burr_blocking::{Blocking, Looks};
 use burr_code::is_in_set;
-use burr_forms::{FormTooLarge, first_failing};
+use burr_forms::{FormTooLarge, first_refused, the_points_are_given};
 use burr_voxels::Direction;
 
 /// A piece on the bench lies at most so far from home, a coordinate.
@@ -51,11 +53,21 @@ impl State {
     }
 
     /// `step`: the grip goes one unit along a direction; behind it each piece of the tray is on the
-    /// bench, and no gripped piece overlaps another one of the tray.
-    pub fn step<B: Blocking>(&mut self, blocking: &B, direction: Direction) -> Result<(), Break>
-        ensures verdict { step_rule (homes_of (B.subject blocking.now)) self.old direction
+    /// bench, and no gripped piece overlaps another one of the tray. At each point, in order, each
+    /// such pair is a look, up to the first that overlaps. The state has at most 4,096 points, and
+    /// at most 2^40 looks were made so far, the caller's conditions.
+    pub fn step<B: Blocking>(
+        &mut self,
+        looks: &mut Looks<'_, B>,
+        direction: Direction,
+    ) -> Result<(), Break>
+        requires points { HasRoom self.old }
+        requires room { looks.old.count ≤ 2 ^ 40 }
+        ensures verdict { step_rule (homes_of looks.old.assembly) self.old direction
             (fallen self.new result) }
         ensures kept { IfErr result (λ _. self.new ≡ self.old) }
+        ensures counted { HasCounted (step_looks (homes_of looks.old.assembly) self.old direction)
+            looks.old looks.new }
     {
         if self.grip == 0 {
             return Err(Break::plain(Rule::V14));
@@ -63,7 +75,7 @@ impl State {
         let Ok(places) = self.moved(direction) else {
             return Err(Break::plain(Rule::V26));
         };
-        self.goes_clear(places.as_slice(), blocking, Question::Blocked, Rule::V15)?;
+        self.goes_clear(places.as_slice(), looks, Question::Blocked, Rule::V15)?;
         let cost = self.paid()?;
         self.set_cost(cost);
         self.set_places(places);
@@ -71,16 +83,22 @@ impl State {
     }
 
     /// `aside`: the grip, which is not the whole tray, goes out along a direction to an empty tray,
-    /// free of the rest of its tray. A piece that is alone in a tray then is apart.
+    /// free of the rest of its tray. A piece that is alone in a tray then is apart. Each pair at each
+    /// point is a look, and the caller's conditions are those of `step`.
     pub fn aside<B: Blocking>(
         &mut self,
-        blocking: &B,
+        looks: &mut Looks<'_, B>,
         direction: Direction,
         tray: u8,
     ) -> Result<(), Break>
-        ensures verdict { aside_rule (homes_of (B.subject blocking.now)) self.old direction tray
+        requires points { HasRoom self.old }
+        requires room { looks.old.count ≤ 2 ^ 40 }
+        ensures verdict { aside_rule (homes_of looks.old.assembly) self.old direction tray
             (fallen self.new result) }
         ensures kept { IfErr result (λ _. self.new ≡ self.old) }
+        ensures counted { HasCounted
+            (aside_looks (homes_of looks.old.assembly) self.old direction tray)
+            looks.old looks.new }
     {
         if !self.is_part_gripped() {
             return Err(Break::plain(Rule::V14));
@@ -89,7 +107,7 @@ impl State {
             return Err(Break::plain(Rule::V17));
         }
         let question = Question::Free(direction);
-        self.goes_clear(self.places.as_slice(), blocking, question, Rule::V16)?;
+        self.goes_clear(self.places.as_slice(), looks, question, Rule::V16)?;
         let cost = self.paid()?;
         self.set_cost(cost);
         self.go_aside(tray);
@@ -99,32 +117,47 @@ impl State {
     /// That where the pieces lie at these places each of the tray is on the bench, and no gripped
     /// piece is in the way of one left in the tray; else a rule is broken at the first point where
     /// that does not hold, and this one there for the first pair. There are at most 32 places, and
-    /// the numbers of all forms lie within ±2^40: the caller's condition.
+    /// the numbers of all forms lie within ±2^40; the caller's conditions, with those of `step`.
     fn goes_clear<B: Blocking>(
         &self,
         places: &[Lying],
-        blocking: &B,
+        looks: &mut Looks<'_, B>,
         question: Question,
         rule: Rule,
     ) -> Result<(), Break>
         requires few { length places.now ≤ 32 }
         requires small { AllSmallPlaces places.now }
-        ensures { ClearOrBreaks (homes_of (B.subject blocking.now)) self.now places.now question
+        requires points { HasRoom self.now }
+        requires room { looks.old.count ≤ 2 ^ 40 }
+        ensures verdict { ClearOrBreaks (homes_of looks.old.assembly) self.now places.now question
             rule result }
+        ensures counted { HasCounted
+            (clearing_looks (homes_of looks.old.assembly) self.now places.now question)
+            looks.old looks.new }
     {
+        the_points_are_given();
         let offsets = offsets_in(self.tray, places);
         self.stays_within(offsets.as_slice(), BENCH, Rule::V18)?;
-        let pieces = blocking.assembly().piece_count();
+        let pieces = looks.assembly().piece_count();
         let sides = sides_in(self.tray, self.grip, places, pieces);
-        let clearing = Clearing {
+        let mut clearing = Clearing {
             forms: offsets.as_slice(),
             sides: sides.as_slice(),
-            blocking,
             question,
+            looks,
+            found: None,
         };
-        match first_failing(self.ranges.as_slice(), self.guards.as_slice(), &clearing) {
+        match first_refused(
+            self.ranges.as_slice(),
+            self.guards.as_slice(),
+            &mut clearing,
+        ) {
             None => Ok(()),
-            Some(point) => Err(clearing.broken_at(rule, point)),
+            Some(point) => Err(Break {
+                rule,
+                pieces: clearing.found,
+                point: Some(point),
+            }),
         }
     }
 

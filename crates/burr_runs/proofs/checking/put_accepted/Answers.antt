@@ -14,5 +14,11 @@ returns-in_err-put_all-2 g c = Puts-more c.in_ok-put_all.ensures.puts (Puts-more
 pub returns-in_err-put_number-2 : goal.returns-in_err-put_number-2
 returns-in_err-put_number-2 g c = Puts-more c.in_ok-put_all.ensures.puts (Puts-more c.in_ok-put_number.ensures (Puts-more c.in_ok-put_all-2.ensures.puts (Puts-fails _ c.in_err-put_number-2.ensures c.from_residual-in_err-put_number-2.ensures.0)))
 
+pub returns-in_err-put_all-3 : goal.returns-in_err-put_all-3
+returns-in_err-put_all-3 g c = Puts-more c.in_ok-put_all.ensures.puts (Puts-more c.in_ok-put_number.ensures (Puts-more c.in_ok-put_all-2.ensures.puts (Puts-more c.in_ok-put_number-2.ensures (Puts-fails _ c.in_err-put_all-3.ensures.puts c.from_residual-in_err-put_all-3.ensures.0))))
+
+pub returns-in_err-put_number-3 : goal.returns-in_err-put_number-3
+returns-in_err-put_number-3 g c = Puts-more c.in_ok-put_all.ensures.puts (Puts-more c.in_ok-put_number.ensures (Puts-more c.in_ok-put_all-2.ensures.puts (Puts-more c.in_ok-put_number-2.ensures (Puts-more c.in_ok-put_all-3.ensures.puts (Puts-fails _ c.in_err-put_number-3.ensures c.from_residual-in_err-put_number-3.ensures.0)))))
+
 pub returns : goal.returns
-returns g c = Puts-more c.in_ok-put_all.ensures.puts (Puts-more c.in_ok-put_number.ensures (Puts-more c.in_ok-put_all-2.ensures.puts (Puts-more c.in_ok-put_number-2.ensures (c.put_all-3.ensures.puts))))
+returns g c = Puts-more c.in_ok-put_all.ensures.puts (Puts-more c.in_ok-put_number.ensures (Puts-more c.in_ok-put_all-2.ensures.puts (Puts-more c.in_ok-put_number-2.ensures (Puts-more c.in_ok-put_all-3.ensures.puts (Puts-more c.in_ok-put_number-3.ensures (c.put_all-4.ensures.puts))))))

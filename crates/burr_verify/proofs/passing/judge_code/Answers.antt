@@ -1,39 +1,119 @@
-use Rattle.std.proofs.Common.{arith}
+use Rattle.std.proofs.Common.{◌≡◌, ◌+◌, ℕ, List, ap, subst, ◌∙◌, arith}
 use Rattle.std.proofs.lemmas.Result.{err_from_is_err_and}
+use Rattle.burr_voxels.specs.declared.cell.Cell.{Cell}
 use Rattle.burr_assembly.specs.Homes.{homes_of}
-use Rattle.burr_frames.specs.FramedPlans.{framed_plan}
+use Rattle.burr_blocking.specs.Counted.{Counted, HasCounted, with_more}
+use Rattle.burr_blocking.proofs.Common.Counts.{none_more, both_more}
+use Rattle.burr_frames.specs.FramedPlans.{FramedProcedure, FramedPlan, framed_plan}
+use Rattle.burr_verify.specs.LookViews.{LooksOn, LooksStop}
+use Rattle.burr_verify.specs.Pass.{Judgement, Refuses, Stage, outset}
+use Rattle.burr_verify.specs.PassLooks.{LookedPass}
+use Rattle.burr_verify.specs.Views.{failed_check}
+use Rattle.burr_verify.specs.declared.refusal.Refusal.{Refusal}
+use Rattle.burr_verify.proofs.LookedOn.{looks_none, looks_both}
 use Rattle.burr_verify.proofs.Stages.{code_read, before_end, at_end, well_ended, fallen_off}
 use Rattle.burr_verify.proofs.passing.judge_code.Goals as goal
 
-pub returns-in_err-state : goal.returns-in_err-state
-returns-in_err-state g c =
+module _ (homes : List (List Cell)) (plan : FramedPlan) (n : ℕ) (here : FramedProcedure) where
+  -- what follows the looks so far, and ends
+  ends_by : (from to : Stage) (j : Judgement) (old mid new : Counted)
+      → HasCounted (LooksOn homes plan n here from to) old mid
+      → HasCounted (LookedPass homes plan n here to j) mid new
+      → HasCounted (LookedPass homes plan n here from j) old new
+  ends_by from to j old mid new (a, on, e) (b, pass, f) =
+      (a + b, on j b pass, both_more old mid new a b e f)
+
+  goes_by : (from between to : Stage) (old mid new : Counted)
+      → HasCounted (LooksOn homes plan n here from between) old mid
+      → HasCounted (LooksOn homes plan n here between to) mid new
+      → HasCounted (LooksOn homes plan n here from to) old new
+  goes_by from between to old mid new (a, on, e) (b, then, f) =
+      (a + b, looks_both homes plan n here from between to a b on then, both_more old mid new a b e f)
+
+  by_none : (from : Stage) (j : Judgement) (looks : Counted) → LookedPass homes plan n here from j 0
+      → HasCounted (LookedPass homes plan n here from j) looks looks
+  by_none from j looks pass = (0, pass, none_more looks)
+
+  on_by_none : (from to : Stage) (looks : Counted) → LooksOn homes plan n here from to 0
+      → HasCounted (LooksOn homes plan n here from to) looks looks
+  on_by_none from to looks on = (0, on, none_more looks)
+
+-- the same of homes that are these
+stopped_like : (plan : FramedPlan) (n : ℕ) (here : FramedProcedure) (from : Stage) (r : Refusal) (mid new : Counted)
+    (hs homes : List (List Cell)) → hs ≡ homes → HasCounted (λ k. LooksStop hs plan n here from r k) mid new
+    → HasCounted (LookedPass homes plan n here from (Refuses (failed_check r))) mid new
+stopped_like plan n here from r mid new hs homes same counted =
+    subst (λ (xs : List (List Cell)). HasCounted (λ k. LooksStop xs plan n here from r k) mid new) same counted
+
+went_like : (plan : FramedPlan) (n : ℕ) (here : FramedProcedure) (from to : Stage) (mid new : Counted)
+    (hs homes : List (List Cell)) → hs ≡ homes → HasCounted (λ k. LooksOn hs plan n here from to k) mid new
+    → HasCounted (LooksOn homes plan n here from to) mid new
+went_like plan n here from to mid new hs homes same counted =
+    subst (λ (xs : List (List Cell)). HasCounted (λ k. LooksOn xs plan n here from to k) mid new) same counted
+
+pub returns-in_err-state-clause-passed : goal.returns-in_err-state-clause-passed
+returns-in_err-state-clause-passed g c =
     let e = err_from_is_err_and c.from_residual.result c.from_residual.ensures.1 in
     rw (e.1, e.2)
     (λ p here kept at. (let code = code_read c.args.container.now c.args.procedure c.code-size.result.now c.code-size.ensures.plan p here kept at in
-    (c.loop-pc.invariant.0 p here kept at).0 _
-    (c.in_err-state.ensures (homes_of (g.B.Blocking.subject c.args.blocking.now)) p here kept at
-    (before_end c.code-size.result.now here.code c.loop-pc.pc code c.loop-pc-test.true))))
+    let homes = homes_of c.args.looks.now.assembly in
+    let so_far = c.loop-pc.invariant.0 p here kept at in
+    ends_by homes (framed_plan p) c.args.procedure here outset _ _ c.args.looks.now c.loop-pc.looks c.loop-pc.looks so_far.0
+    (by_none homes (framed_plan p) c.args.procedure here _ _ c.loop-pc.looks
+    (c.in_err-state.ensures homes p here kept at
+    (before_end c.code-size.result.now here.code c.loop-pc.pc code c.loop-pc-test.true)))))
 
-pub returns-in_err-behind : goal.returns-in_err-behind
-returns-in_err-behind g c =
+pub returns-in_err-behind-clause-passed : goal.returns-in_err-behind-clause-passed
+returns-in_err-behind-clause-passed g c =
     let e = err_from_is_err_and c.from_residual-in_err-behind.result c.from_residual-in_err-behind.ensures.1 in
     rw (e.1, e.2)
     (λ p here kept at. (let code = code_read c.args.container.now c.args.procedure c.code-size.result.now c.code-size.ensures.plan p here kept at in
-    (c.loop-pc.invariant.0 p here kept at).0 _
-    (c.in_ok-state.ensures (homes_of (g.B.Blocking.subject c.args.blocking.now)) p here kept at
-    (before_end c.code-size.result.now here.code c.loop-pc.pc code c.loop-pc-test.true) _
-    (c.in_err-behind.ensures.passes p here kept at))))
-
-pub returns-in-None : goal.returns-in-None
-returns-in-None g c = λ p here kept at.
-    (let code = code_read c.args.container.now c.args.procedure c.code-size.result.now c.code-size.ensures.plan p here kept at in
+    let homes = homes_of c.args.looks.now.assembly in
     let so_far = c.loop-pc.invariant.0 p here kept at in
-    so_far.0 _ (well_ended (homes_of (g.B.Blocking.subject c.args.blocking.now)) (framed_plan p) c.args.procedure here c.loop-pc.last c.loop-pc.pc c.loop-pc.falling c.in-None.is
-    (at_end c.code-size.result.now here.code c.loop-pc.pc code (omega (arith, c.loop-pc-test.false)) so_far.1)))
+    let same = ap homes_of c.loop-pc.invariant.5 in
+    let entered = c.in_ok-state.ensures.passes homes p here kept at (before_end c.code-size.result.now here.code c.loop-pc.pc code c.loop-pc-test.true) in
+    ends_by homes (framed_plan p) c.args.procedure here outset _ _ c.args.looks.now c.loop-pc.looks c.judge_at.new.looks so_far.0
+    (ends_by homes (framed_plan p) c.args.procedure here _ _ _ c.loop-pc.looks c.loop-pc.looks c.judge_at.new.looks
+    (on_by_none homes (framed_plan p) c.args.procedure here _ _ c.loop-pc.looks entered)
+    (stopped_like (framed_plan p) c.args.procedure here _ _ c.loop-pc.looks c.judge_at.new.looks _ _ same (c.in_err-behind.ensures.passes p here kept at)))))
 
-pub returns-in-Some : goal.returns-in-Some
-returns-in-Some g c = λ p here kept at.
-    (let code = code_read c.args.container.now c.args.procedure c.code-size.result.now c.code-size.ensures.plan p here kept at in
+pub loop-pc-preserved : goal.loop-pc-preserved
+loop-pc-preserved g c = (
+  (λ p here kept at. (let code = code_read c.args.container.now c.args.procedure c.code-size.result.now c.code-size.ensures.plan p here kept at in
+    let homes = homes_of c.args.looks.now.assembly in
     let so_far = c.loop-pc.invariant.0 p here kept at in
-    so_far.0 _ (fallen_off (homes_of (g.B.Blocking.subject c.args.blocking.now)) (framed_plan p) c.args.procedure here c.loop-pc.last c.loop-pc.pc c.loop-pc.falling c.in-Some.field-0 c.plain.result c.in-Some.is
-    (at_end c.code-size.result.now here.code c.loop-pc.pc code (omega (arith, c.loop-pc-test.false)) so_far.1) c.plain.ensures))
+    let same = ap homes_of c.loop-pc.invariant.5 in
+    let entered = c.in_ok-state.ensures.passes homes p here kept at (before_end c.code-size.result.now here.code c.loop-pc.pc code c.loop-pc-test.true) in
+    (
+      goes_by homes (framed_plan p) c.args.procedure here outset _ _ c.args.looks.now c.loop-pc.looks c.judge_at.new.looks so_far.0
+          (goes_by homes (framed_plan p) c.args.procedure here _ _ _ c.loop-pc.looks c.loop-pc.looks c.judge_at.new.looks
+          (on_by_none homes (framed_plan p) c.args.procedure here _ _ c.loop-pc.looks entered)
+          (went_like (framed_plan p) c.args.procedure here _ _ c.loop-pc.looks c.judge_at.new.looks _ _ same (c.in_ok-behind.ensures.passes p here kept at))),
+      c.in_ok-behind.ensures.within p here kept at,
+    ))),
+  omega (arith, c.in_ok-behind.ensures.behind),
+  MISSING,
+  c.in_ok-behind.ensures.points,
+  (let few = c.in_ok-behind.ensures.few in let so_far = c.loop-pc.invariant.4 in let on = c.in_ok-behind.ensures.behind in omega (arith, few, so_far, on)),
+  c.in_ok-behind.ensures.same ∙ c.loop-pc.invariant.5,
+)
+
+pub returns-in-None-clause-passed : goal.returns-in-None-clause-passed
+returns-in-None-clause-passed g c = λ p here kept at.
+    (let code = code_read c.args.container.now c.args.procedure c.code-size.result.now c.code-size.ensures.plan p here kept at in
+    let homes = homes_of c.args.looks.now.assembly in
+    let so_far = c.loop-pc.invariant.0 p here kept at in
+    ends_by homes (framed_plan p) c.args.procedure here outset _ _ c.args.looks.now c.loop-pc.looks c.loop-pc.looks so_far.0
+    (by_none homes (framed_plan p) c.args.procedure here _ _ c.loop-pc.looks
+    (well_ended homes (framed_plan p) c.args.procedure here c.loop-pc.last c.loop-pc.pc c.loop-pc.falling c.in-None.is
+    (at_end c.code-size.result.now here.code c.loop-pc.pc code (omega (arith, c.loop-pc-test.false)) so_far.1))))
+
+pub returns-in-Some-clause-passed : goal.returns-in-Some-clause-passed
+returns-in-Some-clause-passed g c = λ p here kept at.
+    (let code = code_read c.args.container.now c.args.procedure c.code-size.result.now c.code-size.ensures.plan p here kept at in
+    let homes = homes_of c.args.looks.now.assembly in
+    let so_far = c.loop-pc.invariant.0 p here kept at in
+    ends_by homes (framed_plan p) c.args.procedure here outset _ _ c.args.looks.now c.loop-pc.looks c.loop-pc.looks so_far.0
+    (by_none homes (framed_plan p) c.args.procedure here _ _ c.loop-pc.looks
+    (fallen_off homes (framed_plan p) c.args.procedure here c.loop-pc.last c.loop-pc.pc c.loop-pc.falling c.in-Some.field-0 c.plain.result c.in-Some.is
+    (at_end c.code-size.result.now here.code c.loop-pc.pc code (omega (arith, c.loop-pc-test.false)) so_far.1) c.plain.ensures)))

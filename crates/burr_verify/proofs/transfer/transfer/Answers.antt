@@ -1,13 +1,16 @@
 -- The rule of each instruction is that which was asked.
-use Rattle.std.proofs.Common.{◌≡◌, ℕ, List, sym, subst}
+use Rattle.std.proofs.Common.{◌≡◌, ℕ, List, refl, sym, subst}
 use Rattle.burr_voxels.specs.declared.cell.Cell.{Cell}
 use Rattle.burr_code.specs.declared.instr.Instr.{Instr}
 use Rattle.burr_code.specs.declared.instr.Instr.TheVariants as instr
 use Rattle.burr_code.specs.Meaning.{meaning}
 use Rattle.burr_assembly.specs.Homes.{homes_of}
+use Rattle.burr_blocking.specs.Counted.{Counted, HasCounted}
+use Rattle.burr_blocking.proofs.Common.Counts.{none_more}
 use Rattle.burr_frames.specs.FramedPlans.{FramedProcedure, FramedPlan, framed_plan}
 use Rattle.burr_frames.specs.States.{AbstractState}
 use Rattle.burr_frames.specs.Breaks.{fallen, left}
+use Rattle.burr_frames.specs.Looks.{RuleLooks}
 use Rattle.burr_frames.specs.Transfer.{Transfer}
 use Rattle.burr_frames.specs.Verdicts.{Verdict}
 use Rattle.burr_verify.specs.Views.{verdict_of}
@@ -20,48 +23,110 @@ by_rule homes plan n here s given told v w is same rule =
     subst (λ (i : Instr). Transfer homes plan n here s (meaning i) w) (sym is)
     (subst (λ (u : Verdict). Transfer homes plan n here s (meaning told) u) (sym same) rule)
 
-pub returns-in-Add : goal.returns-in-Add
-returns-in-Add g c p here kept at =
-    by_rule (homes_of (g.B.Blocking.subject c.args.blocking.now)) (framed_plan p) c.args.procedure here c.args.state.now c.args.instruction.now instr.Add (fallen c.add.new.self c.add.result) (verdict_of c.add.new.self c.falling-in-Add.result)
+-- so many looks, where they are those of the instruction that was asked
+looks_like : (homes : List (List Cell)) (s : AbstractState) (given told : Instr) (old new : Counted) → given ≡ told
+    → HasCounted (RuleLooks homes s (meaning told)) old new → HasCounted (RuleLooks homes s (meaning given)) old new
+looks_like homes s given told old new is counted =
+    subst (λ (i : Instr). HasCounted (RuleLooks homes s (meaning i)) old new) (sym is) counted
+
+-- a rule that moves no piece has none
+none_looked : (homes : List (List Cell)) (s : AbstractState) (given told : Instr) (looks : Counted) → given ≡ told
+    → RuleLooks homes s (meaning told) 0 → HasCounted (RuleLooks homes s (meaning given)) looks looks
+none_looked homes s given told looks is none = looks_like homes s given told looks looks is (0, none, none_more looks)
+
+pub returns-in-Add-clause-verdict : goal.returns-in-Add-clause-verdict
+returns-in-Add-clause-verdict g c p here kept at =
+    by_rule (homes_of c.args.looks.now.assembly) (framed_plan p) c.args.procedure here c.args.state.now c.args.instruction.now instr.Add (fallen c.add.new.self c.add.result) (verdict_of c.add.new.self c.falling-in-Add.result)
     c.in-Add.is (c.falling-in-Add.ensures c.add.new.self) c.add.ensures.verdict
 
-pub returns-in-Sub : goal.returns-in-Sub
-returns-in-Sub g c p here kept at =
-    by_rule (homes_of (g.B.Blocking.subject c.args.blocking.now)) (framed_plan p) c.args.procedure here c.args.state.now c.args.instruction.now instr.Sub (fallen c.sub.new.self c.sub.result) (verdict_of c.sub.new.self c.falling-in-Sub.result)
+pub returns-in-Sub-clause-verdict : goal.returns-in-Sub-clause-verdict
+returns-in-Sub-clause-verdict g c p here kept at =
+    by_rule (homes_of c.args.looks.now.assembly) (framed_plan p) c.args.procedure here c.args.state.now c.args.instruction.now instr.Sub (fallen c.sub.new.self c.sub.result) (verdict_of c.sub.new.self c.falling-in-Sub.result)
     c.in-Sub.is (c.falling-in-Sub.ensures c.sub.new.self) c.sub.ensures.verdict
 
-pub returns-in-Step : goal.returns-in-Step
-returns-in-Step g c p here kept at =
-    by_rule (homes_of (g.B.Blocking.subject c.args.blocking.now)) (framed_plan p) c.args.procedure here c.args.state.now c.args.instruction.now (instr.Step c.in-Step.direction) (fallen c.step.new.self c.step.result) (verdict_of c.step.new.self c.falling-in-Step.result)
+pub returns-in-Step-clause-verdict : goal.returns-in-Step-clause-verdict
+returns-in-Step-clause-verdict g c p here kept at =
+    by_rule (homes_of c.args.looks.now.assembly) (framed_plan p) c.args.procedure here c.args.state.now c.args.instruction.now (instr.Step c.in-Step.direction) (fallen c.step.new.self c.step.result) (verdict_of c.step.new.self c.falling-in-Step.result)
     c.in-Step.is (c.falling-in-Step.ensures c.step.new.self) c.step.ensures.verdict
 
-pub returns-in-Aside : goal.returns-in-Aside
-returns-in-Aside g c p here kept at =
-    by_rule (homes_of (g.B.Blocking.subject c.args.blocking.now)) (framed_plan p) c.args.procedure here c.args.state.now c.args.instruction.now (instr.Aside c.in-Aside.direction c.in-Aside.tray) (fallen c.aside.new.self c.aside.result) (verdict_of c.aside.new.self c.falling-in-Aside.result)
+pub returns-in-Aside-clause-verdict : goal.returns-in-Aside-clause-verdict
+returns-in-Aside-clause-verdict g c p here kept at =
+    by_rule (homes_of c.args.looks.now.assembly) (framed_plan p) c.args.procedure here c.args.state.now c.args.instruction.now (instr.Aside c.in-Aside.direction c.in-Aside.tray) (fallen c.aside.new.self c.aside.result) (verdict_of c.aside.new.self c.falling-in-Aside.result)
     c.in-Aside.is (c.falling-in-Aside.ensures c.aside.new.self) c.aside.ensures.verdict
 
-pub returns-in-Jump : goal.returns-in-Jump
-returns-in-Jump g c p here kept at =
-    by_rule (homes_of (g.B.Blocking.subject c.args.blocking.now)) (framed_plan p) c.args.procedure here c.args.state.now c.args.instruction.now (instr.Jump c.in-Jump.label) (left c.jump.result) (verdict_of c.args.state.now c.leaving-in-Jump.result)
+pub returns-in-Jump-clause-verdict : goal.returns-in-Jump-clause-verdict
+returns-in-Jump-clause-verdict g c p here kept at =
+    by_rule (homes_of c.args.looks.now.assembly) (framed_plan p) c.args.procedure here c.args.state.now c.args.instruction.now (instr.Jump c.in-Jump.label) (left c.jump.result) (verdict_of c.args.state.now c.leaving-in-Jump.result)
     c.in-Jump.is (c.leaving-in-Jump.ensures c.args.state.now) (c.jump.ensures p here kept at)
 
-pub returns-in-Down : goal.returns-in-Down
-returns-in-Down g c p here kept at =
-    by_rule (homes_of (g.B.Blocking.subject c.args.blocking.now)) (framed_plan p) c.args.procedure here c.args.state.now c.args.instruction.now (instr.Down c.in-Down.slot c.in-Down.label) (fallen c.down.new.self c.down.result) (verdict_of c.down.new.self c.falling-in-Down.result)
+pub returns-in-Down-clause-verdict : goal.returns-in-Down-clause-verdict
+returns-in-Down-clause-verdict g c p here kept at =
+    by_rule (homes_of c.args.looks.now.assembly) (framed_plan p) c.args.procedure here c.args.state.now c.args.instruction.now (instr.Down c.in-Down.slot c.in-Down.label) (fallen c.down.new.self c.down.result) (verdict_of c.down.new.self c.falling-in-Down.result)
     c.in-Down.is (c.falling-in-Down.ensures c.down.new.self) (c.down.ensures.verdict p here kept at)
 
-pub returns-in-Call : goal.returns-in-Call
-returns-in-Call g c p here kept at =
-    by_rule (homes_of (g.B.Blocking.subject c.args.blocking.now)) (framed_plan p) c.args.procedure here c.args.state.now c.args.instruction.now (instr.Call c.in-Call.callee) (fallen c.call.new.self c.call.result) (verdict_of c.call.new.self c.falling-in-Call.result)
+pub returns-in-Call-clause-verdict : goal.returns-in-Call-clause-verdict
+returns-in-Call-clause-verdict g c p here kept at =
+    by_rule (homes_of c.args.looks.now.assembly) (framed_plan p) c.args.procedure here c.args.state.now c.args.instruction.now (instr.Call c.in-Call.callee) (fallen c.call.new.self c.call.result) (verdict_of c.call.new.self c.falling-in-Call.result)
     c.in-Call.is (c.falling-in-Call.ensures c.call.new.self) (c.call.ensures.verdict p here kept at)
 
-pub returns-in-Ret : goal.returns-in-Ret
-returns-in-Ret g c p here kept at =
-    by_rule (homes_of (g.B.Blocking.subject c.args.blocking.now)) (framed_plan p) c.args.procedure here c.args.state.now c.args.instruction.now instr.Ret (left c.ret.result) (verdict_of c.args.state.now c.leaving-in-Ret.result)
+pub returns-in-Ret-clause-verdict : goal.returns-in-Ret-clause-verdict
+returns-in-Ret-clause-verdict g c p here kept at =
+    by_rule (homes_of c.args.looks.now.assembly) (framed_plan p) c.args.procedure here c.args.state.now c.args.instruction.now instr.Ret (left c.ret.result) (verdict_of c.args.state.now c.leaving-in-Ret.result)
     c.in-Ret.is (c.leaving-in-Ret.ensures c.args.state.now) (c.ret.ensures p here kept at)
 
-pub returns-in-Store : goal.returns-in-Store
-returns-in-Store g c p here kept at =
+pub returns-in-Store-clause-verdict : goal.returns-in-Store-clause-verdict
+returns-in-Store-clause-verdict g c p here kept at =
     let found = procedure_here p c.args.procedure here at in
-    by_rule (homes_of (g.B.Blocking.subject c.args.blocking.now)) (framed_plan p) c.args.procedure here c.args.state.now c.args.instruction.now (instr.Store c.in-Store.slot) (fallen c.store.new.self c.store.result) (verdict_of c.store.new.self c.falling-in-Store.result)
+    by_rule (homes_of c.args.looks.now.assembly) (framed_plan p) c.args.procedure here c.args.state.now c.args.instruction.now (instr.Store c.in-Store.slot) (fallen c.store.new.self c.store.result) (verdict_of c.store.new.self c.falling-in-Store.result)
     c.in-Store.is (c.falling-in-Store.ensures c.store.new.self) (c.store.ensures.verdict here (parameters_here found.0 here c.params.result found.2 (c.params.ensures p found.0 kept found.1)))
+
+pub returns-in-Halt-clause-counted : goal.returns-in-Halt-clause-counted
+returns-in-Halt-clause-counted g c = none_looked (homes_of c.args.looks.now.assembly) c.args.state.now c.args.instruction.now instr.Halt c.args.looks.now c.in-Halt.is refl
+
+pub returns-in-Push-clause-counted : goal.returns-in-Push-clause-counted
+returns-in-Push-clause-counted g c = none_looked (homes_of c.args.looks.now.assembly) c.args.state.now c.args.instruction.now (instr.Push c.in-Push.number) c.args.looks.now c.in-Push.is refl
+
+pub returns-in-Load-clause-counted : goal.returns-in-Load-clause-counted
+returns-in-Load-clause-counted g c = none_looked (homes_of c.args.looks.now.assembly) c.args.state.now c.args.instruction.now (instr.Load c.in-Load.slot) c.args.looks.now c.in-Load.is refl
+
+pub returns-in-Store-clause-counted : goal.returns-in-Store-clause-counted
+returns-in-Store-clause-counted g c = none_looked (homes_of c.args.looks.now.assembly) c.args.state.now c.args.instruction.now (instr.Store c.in-Store.slot) c.args.looks.now c.in-Store.is refl
+
+pub returns-in-Add-clause-counted : goal.returns-in-Add-clause-counted
+returns-in-Add-clause-counted g c = none_looked (homes_of c.args.looks.now.assembly) c.args.state.now c.args.instruction.now instr.Add c.args.looks.now c.in-Add.is refl
+
+pub returns-in-Sub-clause-counted : goal.returns-in-Sub-clause-counted
+returns-in-Sub-clause-counted g c = none_looked (homes_of c.args.looks.now.assembly) c.args.state.now c.args.instruction.now instr.Sub c.args.looks.now c.in-Sub.is refl
+
+pub returns-in-Drop-clause-counted : goal.returns-in-Drop-clause-counted
+returns-in-Drop-clause-counted g c = none_looked (homes_of c.args.looks.now.assembly) c.args.state.now c.args.instruction.now instr.Drop c.args.looks.now c.in-Drop.is refl
+
+pub returns-in-Grip-clause-counted : goal.returns-in-Grip-clause-counted
+returns-in-Grip-clause-counted g c = none_looked (homes_of c.args.looks.now.assembly) c.args.state.now c.args.instruction.now (instr.Grip c.in-Grip.group) c.args.looks.now c.in-Grip.is refl
+
+pub returns-in-Tray-clause-counted : goal.returns-in-Tray-clause-counted
+returns-in-Tray-clause-counted g c = none_looked (homes_of c.args.looks.now.assembly) c.args.state.now c.args.instruction.now (instr.Tray c.in-Tray.tray) c.args.looks.now c.in-Tray.is refl
+
+pub returns-in-Jump-clause-counted : goal.returns-in-Jump-clause-counted
+returns-in-Jump-clause-counted g c = none_looked (homes_of c.args.looks.now.assembly) c.args.state.now c.args.instruction.now (instr.Jump c.in-Jump.label) c.args.looks.now c.in-Jump.is refl
+
+pub returns-in-Down-clause-counted : goal.returns-in-Down-clause-counted
+returns-in-Down-clause-counted g c = none_looked (homes_of c.args.looks.now.assembly) c.args.state.now c.args.instruction.now (instr.Down c.in-Down.slot c.in-Down.label) c.args.looks.now c.in-Down.is refl
+
+pub returns-in-Ask-clause-counted : goal.returns-in-Ask-clause-counted
+returns-in-Ask-clause-counted g c = none_looked (homes_of c.args.looks.now.assembly) c.args.state.now c.args.instruction.now (instr.Ask c.in-Ask.low c.in-Ask.high) c.args.looks.now c.in-Ask.is refl
+
+pub returns-in-Pick-clause-counted : goal.returns-in-Pick-clause-counted
+returns-in-Pick-clause-counted g c = none_looked (homes_of c.args.looks.now.assembly) c.args.state.now c.args.instruction.now (instr.Pick c.in-Pick.labels) c.args.looks.now c.in-Pick.is refl
+
+pub returns-in-Call-clause-counted : goal.returns-in-Call-clause-counted
+returns-in-Call-clause-counted g c = none_looked (homes_of c.args.looks.now.assembly) c.args.state.now c.args.instruction.now (instr.Call c.in-Call.callee) c.args.looks.now c.in-Call.is refl
+
+pub returns-in-Ret-clause-counted : goal.returns-in-Ret-clause-counted
+returns-in-Ret-clause-counted g c = none_looked (homes_of c.args.looks.now.assembly) c.args.state.now c.args.instruction.now instr.Ret c.args.looks.now c.in-Ret.is refl
+
+pub returns-in-Step-clause-counted : goal.returns-in-Step-clause-counted
+returns-in-Step-clause-counted g c = looks_like (homes_of c.args.looks.now.assembly) c.args.state.now c.args.instruction.now (instr.Step c.in-Step.direction) c.args.looks.now c.step.new.looks c.in-Step.is c.step.ensures.counted
+
+pub returns-in-Aside-clause-counted : goal.returns-in-Aside-clause-counted
+returns-in-Aside-clause-counted g c = looks_like (homes_of c.args.looks.now.assembly) c.args.state.now c.args.instruction.now (instr.Aside c.in-Aside.direction c.in-Aside.tray) c.args.looks.now c.aside.new.looks c.in-Aside.is c.aside.ensures.counted

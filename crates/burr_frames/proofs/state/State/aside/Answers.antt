@@ -1,7 +1,7 @@
 -- A piece off the bench or in another's way, a step that can't be paid for, and one that is made.
 use Rattle.std.proofs.Common.{◌≡◌, ◌∙◌, List, ap, subst, inr}
 use Rattle.std.proofs.lemmas.Result.{err_from_is_err_and}
-use Rattle.burr_text.proofs.Common.Tests.{yes_of}
+use Rattle.burr_text.proofs.Common.Tests.{yes_of, no_of}
 use Rattle.burr_code.specs.Places.{Placement, aside_places}
 use Rattle.burr_assembly.specs.Homes.{homes_of}
 use Rattle.burr_container.specs.Plans.{FormCell}
@@ -12,6 +12,7 @@ use Rattle.burr_frames.specs.Changes.{at_cost, with_grip, with_places}
 use Rattle.burr_frames.specs.SpaceRules.{OnBenchAt, PairAt, GoesFree}
 use Rattle.burr_frames.specs.States.{AbstractState}
 use Rattle.burr_frames.specs.Verdicts.{Breaks, Falls, Leaves, falls, paying}
+use Rattle.burr_frames.proofs.GripLooks.{aside_looks_on, aside_looks_whole, aside_looks_in_use}
 use Rattle.burr_frames.proofs.MoveVerdicts.{Says, clear_on, clear_breaks}
 use Rattle.burr_frames.proofs.Paying.{paying_on, paying_breaks}
 use Rattle.burr_frames.proofs.state.State.aside.Goals as goal
@@ -19,7 +20,7 @@ use Rattle.burr_frames.proofs.state.State.aside.Goals as goal
 pub returns-in_err-goes_clear-clause-verdict : goal.returns-in_err-goes_clear-clause-verdict
 returns-in_err-goes_clear-clause-verdict g c =
     let s = c.args.self.now in
-    let homes = homes_of (g.B.Blocking.subject c.args.blocking.now) in
+    let homes = homes_of c.args.looks.now.assembly in
     let new = aside_places s.grip s.tray c.args.tray s.places in
     let broken = c.in_err-goes_clear.field-0.0 in
     let p = err_from_is_err_and c.from_residual.result c.from_residual.ensures.1 in
@@ -31,14 +32,14 @@ returns-in_err-goes_clear-clause-verdict g c =
         clear_breaks s (OnBenchAt s.places s.tray) (PairAt (GoesFree c.args.direction) homes s.places s.tray s.grip) rules.V18 rules.V16
             (paying s λ paid. falls (with_grip 0 (with_places new paid))) (broken_of broken)
             (subst (λ (places : List (Placement FormCell)). Says homes s places (questions.Free c.args.direction) rules.V16 (Breaks (broken_of broken)))
-            (c.as_slice.ensures.value ∙ ap (λ (a : AbstractState). a.places) c.self.view_is) c.in_err-goes_clear.ensures),
+            (c.as_slice.ensures.value ∙ ap (λ (a : AbstractState). a.places) c.self.view_is) c.in_err-goes_clear.ensures.verdict),
       ),
     ))
 
 pub returns-in_err-cost-clause-verdict : goal.returns-in_err-cost-clause-verdict
 returns-in_err-cost-clause-verdict g c =
     let s = c.args.self.now in
-    let homes = homes_of (g.B.Blocking.subject c.args.blocking.now) in
+    let homes = homes_of c.args.looks.now.assembly in
     let new = aside_places s.grip s.tray c.args.tray s.places in
     let broken = c.in_err-cost.field-0.0 in
     let p = err_from_is_err_and c.from_residual-in_err-cost.result c.from_residual-in_err-cost.ensures.1 in
@@ -50,7 +51,7 @@ returns-in_err-cost-clause-verdict g c =
         clear_on s (OnBenchAt s.places s.tray) (PairAt (GoesFree c.args.direction) homes s.places s.tray s.grip) rules.V18 rules.V16
             (paying s λ paid. falls (with_grip 0 (with_places new paid))) (Breaks (broken_of broken))
             (subst (λ (places : List (Placement FormCell)). Says homes s places (questions.Free c.args.direction) rules.V16 Leaves)
-            (c.as_slice.ensures.value ∙ ap (λ (a : AbstractState). a.places) c.self.view_is) c.in_ok-goes_clear.ensures)
+            (c.as_slice.ensures.value ∙ ap (λ (a : AbstractState). a.places) c.self.view_is) c.in_ok-goes_clear.ensures.verdict)
             (paying_breaks s broken (λ paid. falls (with_grip 0 (with_places new paid))) c.in_err-cost.ensures),
       ),
     ))
@@ -58,7 +59,7 @@ returns-in_err-cost-clause-verdict g c =
 pub returns-clause-verdict : goal.returns-clause-verdict
 returns-clause-verdict g c =
     let s = c.args.self.now in
-    let homes = homes_of (g.B.Blocking.subject c.args.blocking.now) in
+    let homes = homes_of c.args.looks.now.assembly in
     let new = aside_places s.grip s.tray c.args.tray s.places in
     let cost = c.in_ok-cost.cost in
     let changed : c.go_aside.new.self ≡ with_grip 0 (with_places new (at_cost cost s)) =
@@ -71,7 +72,35 @@ returns-clause-verdict g c =
         clear_on s (OnBenchAt s.places s.tray) (PairAt (GoesFree c.args.direction) homes s.places s.tray s.grip) rules.V18 rules.V16
             (paying s λ paid. falls (with_grip 0 (with_places new paid))) (Falls c.go_aside.new.self)
             (subst (λ (places : List (Placement FormCell)). Says homes s places (questions.Free c.args.direction) rules.V16 Leaves)
-            (c.as_slice.ensures.value ∙ ap (λ (a : AbstractState). a.places) c.self.view_is) c.in_ok-goes_clear.ensures)
+            (c.as_slice.ensures.value ∙ ap (λ (a : AbstractState). a.places) c.self.view_is) c.in_ok-goes_clear.ensures.verdict)
             (paying_on s cost (λ paid. falls (with_grip 0 (with_places new paid))) (Falls c.go_aside.new.self) c.in_ok-cost.ensures (ap Falls changed)),
       ),
     )
+
+pub returns-then-not-is_part_gripped-clause-counted : goal.returns-then-not-is_part_gripped-clause-counted
+returns-then-not-is_part_gripped-clause-counted g c =
+    aside_looks_whole (homes_of c.args.looks.now.assembly) c.args.self.now c.args.direction c.args.tray c.args.looks.now
+    (no_of c.if-not-is_part_gripped.ensures)
+
+pub returns-then-not-is_empty-clause-counted : goal.returns-then-not-is_empty-clause-counted
+returns-then-not-is_empty-clause-counted g c =
+    aside_looks_in_use (homes_of c.args.looks.now.assembly) c.args.self.now c.args.direction c.args.tray c.args.looks.now
+    (yes_of c.if-not-is_part_gripped.ensures) (no_of c.if-not-is_empty.ensures)
+
+pub returns-in_err-goes_clear-clause-counted : goal.returns-in_err-goes_clear-clause-counted
+returns-in_err-goes_clear-clause-counted g c =
+    aside_looks_on (homes_of c.args.looks.now.assembly) c.args.self.now c.args.direction c.args.tray c.as_slice.result.now c.args.looks.now
+    c.goes_clear.new.looks (yes_of c.if-not-is_part_gripped.ensures) (yes_of c.if-not-is_empty.ensures)
+    (c.as_slice.ensures.value ∙ ap (λ (a : AbstractState). a.places) c.self.view_is) c.in_err-goes_clear.ensures.counted
+
+pub returns-in_err-cost-clause-counted : goal.returns-in_err-cost-clause-counted
+returns-in_err-cost-clause-counted g c =
+    aside_looks_on (homes_of c.args.looks.now.assembly) c.args.self.now c.args.direction c.args.tray c.as_slice.result.now c.args.looks.now
+    c.goes_clear.new.looks (yes_of c.if-not-is_part_gripped.ensures) (yes_of c.if-not-is_empty.ensures)
+    (c.as_slice.ensures.value ∙ ap (λ (a : AbstractState). a.places) c.self.view_is) c.in_ok-goes_clear.ensures.counted
+
+pub returns-clause-counted : goal.returns-clause-counted
+returns-clause-counted g c =
+    aside_looks_on (homes_of c.args.looks.now.assembly) c.args.self.now c.args.direction c.args.tray c.as_slice.result.now c.args.looks.now
+    c.goes_clear.new.looks (yes_of c.if-not-is_part_gripped.ensures) (yes_of c.if-not-is_empty.ensures)
+    (c.as_slice.ensures.value ∙ ap (λ (a : AbstractState). a.places) c.self.view_is) c.in_ok-goes_clear.ensures.counted

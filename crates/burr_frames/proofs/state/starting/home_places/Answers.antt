@@ -1,8 +1,8 @@
 -- One more piece at home.
 use Rattle.std.proofs.Common.{◌≡◌, ◌+◌, ℕ, zero, suc, List, [], ◌∷◌, ◌++◌, sym, subst, ap, ◌∙◌, refl, add-one}
-use Rattle.std.specs.Prelude.{replicate, Some, pos}
+use Rattle.std.specs.Prelude.{replicate, Some}
 use Rattle.burr_code.specs.Places.{Placement, On}
-use Rattle.burr_forms.specs.Forms.{Form, number}
+use Rattle.burr_forms.specs.Forms.{Form}
 use Rattle.burr_container.specs.Plans.{FormCell}
 use Rattle.burr_container.specs.Refs.{told}
 use Rattle.burr_frames.specs.SpaceRules.{AllSmallPlaces}

@@ -1,5 +1,5 @@
 -- So many pieces lie at home so far.
-use Rattle.std.proofs.Common.{◌≡◌, ◌≤◌}
+use Rattle.std.proofs.Common.{◌≡◌}
 use Rattle.std.specs.Prelude.{replicate}
 use Rattle.burr_code.specs.Places.{On}
 use Rattle.burr_frames.specs.SpaceRules.{AllSmallPlaces}

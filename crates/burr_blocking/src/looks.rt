@@ -1,0 +1,81 @@
+ghost use Rattle.std.specs.Prelude.{◌≡◌, ◌≢◌, ◌↔◌, ◌<◌, ◌^◌, length, IsTrue};
+ghost use Rattle.burr_voxels.specs.Near.{IsWithin};
+ghost use Rattle.burr_assembly.specs.Homes.{homes_of, home_at};
+ghost use Rattle.burr_blocking.specs.Pairs.{IsBlocked, IsFreeFrom};
+ghost use Rattle.burr_blocking.specs.Counted.{counted, with_more};
+
+use crate::blocking::Blocking;
+use burr_assembly::Assembly;
+use burr_voxels::{Cell, Direction};
+use std::marker::Model;
+
+/// What answers for the pieces of an assembly, each question counted. It is lent to nobody, so that
+/// no question passes uncounted.
+#[derive(Drop)]
+pub struct Looks<'a, B: Blocking> {
+    blocking: &'a B,
+    count: u64,
+}
+
+impl<'a, B: Blocking> Model for Looks<'a, B> {
+    ghost use Rattle.burr_blocking.specs.Counted.{Counted, counted};
+
+    ghost Value = { Counted };
+
+    ghost view = { λ l. counted (B.subject l.blocking.now) l.count };
+}
+
+impl<'a, B: Blocking> Looks<'a, B> {
+    /// No question was put yet.
+    pub fn new(blocking: &'a B) -> Looks<'a, B>
+        ensures { result ≡ counted (B.subject blocking.entry.now) 0 }
+    {
+        Looks { blocking, count: 0 }
+    }
+
+    /// The assembly whose pieces are asked of.
+    pub fn assembly(&self) -> &'a Assembly
+        ensures { result.now ≡ self.now.assembly }
+    {
+        self.blocking.assembly()
+    }
+
+    /// How many questions were put.
+    pub fn count(&self) -> u64
+        ensures { result ≡ self.now.count }
+    {
+        self.count
+    }
+
+    /// Whether a piece, displaced, overlaps another one at home, as `Blocking::blocked`; the same
+    /// conditions, and fewer than 2^62 questions so far.
+    pub fn blocked(&mut self, piece: u8, other: u8, displacement: Cell) -> bool
+        requires piece { piece < length self.old.assembly.pieces }
+        requires other { other < length self.old.assembly.pieces }
+        requires two { piece ≢ other }
+        requires near { IsWithin 512 displacement }
+        requires room { self.old.count < 2 ^ 62 }
+        ensures answer { IsTrue result ↔ IsBlocked (home_at (homes_of self.old.assembly) piece)
+            (home_at (homes_of self.old.assembly) other) displacement }
+        ensures counted { self.new ≡ with_more 1 self.old }
+    {
+        self.count += 1;
+        self.blocking.blocked(piece, other, displacement)
+    }
+
+    /// Whether a piece, displaced and from there shifted along a direction, never overlaps another
+    /// one at home, as `Blocking::free`; the same conditions.
+    pub fn free(&mut self, piece: u8, other: u8, displacement: Cell, direction: Direction) -> bool
+        requires piece { piece < length self.old.assembly.pieces }
+        requires other { other < length self.old.assembly.pieces }
+        requires two { piece ≢ other }
+        requires near { IsWithin 512 displacement }
+        requires room { self.old.count < 2 ^ 62 }
+        ensures answer { IsTrue result ↔ IsFreeFrom (home_at (homes_of self.old.assembly) piece)
+            (home_at (homes_of self.old.assembly) other) displacement direction }
+        ensures counted { self.new ≡ with_more 1 self.old }
+    {
+        self.count += 1;
+        self.blocking.free(piece, other, displacement, direction)
+    }
+}

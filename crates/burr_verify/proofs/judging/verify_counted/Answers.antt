@@ -1,0 +1,28 @@
+use Rattle.std.proofs.Common.{◌≡◌, ◌≤◌, length, sym, ap, subst, ◌∙◌, arith}
+use Rattle.burr_assembly.specs.Homes.{homes_of}
+use Rattle.burr_assembly.specs.Text.{Assembly}
+use Rattle.burr_frames.specs.FramedPlans.{framed_plan}
+use Rattle.burr_verify.specs.Views.{judgement_of}
+use Rattle.burr_verify.proofs.Framings.{framed_exactly}
+use Rattle.burr_verify.proofs.Parts.{as_many_homes}
+use Rattle.burr_verify.proofs.judging.verify_counted.Goals as goal
+
+pub returns-clause-judged : goal.returns-clause-judged
+returns-clause-judged g c =
+    λ p is. c.a_plan_has_so_many_looks.ensures.judged _ _ _ _ _ (c.judge_plan.ensures.looked p is)
+
+pub returns-clause-few : goal.returns-clause-few
+returns-clause-few g c =
+    let a = c.args.looks.now.assembly in
+    let same = ap (λ (b : Assembly). length b.pieces) c.assembly.ensures in
+    let count = c.piece_count-count.ensures.count in
+    let most = c.piece_count-count.ensures.few in
+    let few : length (homes_of a) ≤ 32 = omega (arith, as_many_homes a, same, count, most) in
+    λ p is. c.a_plan_has_so_many_looks.ensures.few a.name (homes_of a) (framed_plan p) (judgement_of c.judge_plan.result) _ few
+    (c.judge_plan.ensures.looked p is)
+
+pub returns-clause-framed : goal.returns-clause-framed
+returns-clause-framed g c =
+    let a = c.args.looks.now.assembly in
+    λ p is. framed_exactly c.args.container.now a.name (homes_of a) p c.judge_plan.result c.header-header.ensures.container is
+    (c.a_plan_has_so_many_looks.ensures.judged _ _ _ _ _ (c.judge_plan.ensures.looked p is))
