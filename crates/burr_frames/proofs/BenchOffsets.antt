@@ -10,7 +10,6 @@ use Rattle.burr_voxels.specs.Near.{IsWithin}
 use Rattle.burr_voxels.proofs.Common.Ahead.{same_cell}
 use Rattle.burr_code.specs.Places.{Placement, Apart, On, LiesAt}
 use Rattle.burr_forms.specs.Forms.{Form, Point, dot, value, values, number}
-use Rattle.burr_forms.specs.Searching.{IsBounded, AllBounded}
 use Rattle.burr_container.specs.Plans.{FormCell}
 use Rattle.burr_frames.specs.States.{cell_at}
 use Rattle.burr_frames.specs.Ranges.{IsInReach, AllInReach}
@@ -144,14 +143,6 @@ on_bench_of_reach (place ∷ places) tray point all (suc p) c lies =
     on_bench_of_reach places tray point
     (rest_in_reach first.0 first.1 first.2 (offsets_in tray places) (offsets_in tray (place ∷ places)) point first.3 all) p c lies
 
--- values on the bench are bounded
-pub bounded_of_reach : (numbers : List ℤ) → AllInReach 256 numbers → AllBounded numbers
-bounded_of_reach [] all = All-nil IsBounded
-bounded_of_reach (n ∷ numbers) all =
-    let near = All-head (IsInReach 256) n numbers all in
-    let low = near.0 in
-    let high = near.1 in
-    All-cons IsBounded n numbers (omega (arith, ints)) (bounded_of_reach numbers (All-tail (IsInReach 256) n numbers all))
 
 -- Values three by three
 

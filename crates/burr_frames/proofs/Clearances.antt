@@ -1,5 +1,5 @@
 -- What the tests of pairs of pieces come to.
-use Rattle.std.proofs.Common.{◌≡◌, ◌≢◌, ◌↔◌, ◌∙◌, ◌<◌, ◌≤◌, ◌==◌, ℕ, ℤ, List, [], length, Bool, true, IsTrue, Some, if◌then◌else◌, sym, subst, ap, arith}
+use Rattle.std.proofs.Common.{◌≡◌, ◌≢◌, ◌∙◌, ◌<◌, ◌≤◌, ◌==◌, ℕ, ℤ, List, [], length, Bool, true, Some, if◌then◌else◌, sym, subst, ap, arith}
 use Rattle.std.specs.Prelude.{slice_get, slice_index_or, pos, neg_ℤ, ◌-ℤ◌, ◌≤ℤ◌, ◌+◌}
 use Rattle.std.proofs.lemmas.Bool.{cond_both}
 use Rattle.std.proofs.lemmas.Bool.Decides.{nat_tests}
@@ -34,15 +34,6 @@ gripped-left e = cc
 pub two_sides : (pieces : List Side) (p q : ℕ) → IsSide pieces p Gripped → IsSide pieces q Left → p ≢ q
 two_sides pieces p q gripped left e =
     gripped-left (same_Some Gripped Left (sym gripped ∙ ap (slice_get pieces) e ∙ left))
-
--- what is asked at the offsets of two pieces is asked of the pieces
-pub at_offsets : (question : Question) (homes : List (List Cell)) (values : List ℤ) (p q : ℕ) (from there : Cell) (test : Bool)
-    → from ≡ cell_of values p → there ≡ cell_of values q
-    → IsTrue test ↔ IsClearAt question (home_at homes p) (home_at homes q) (minus from there)
-    → IsTrue test ↔ IsPairClear question homes values p q
-at_offsets question homes values p q from there test here other tells =
-    subst (λ (x : Cell). IsTrue test ↔ IsClearAt question (home_at homes p) (home_at homes q) (minus x (cell_of values q))) here
-    (subst (λ (y : Cell). IsTrue test ↔ IsClearAt question (home_at homes p) (home_at homes q) (minus from y)) other tells)
 
 -- Sides
 

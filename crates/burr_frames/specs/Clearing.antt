@@ -8,7 +8,6 @@ use Rattle.burr_code.specs.Places.{Placement, Apart, On, is_in}
 use Rattle.burr_assembly.specs.Homes.{home_at}
 use Rattle.burr_blocking.specs.Pairs.{IsBlocked, IsFreeFrom}
 use Rattle.burr_forms.specs.Forms.{Form, number}
-use Rattle.burr_forms.specs.Searching.{IsBounded}
 use Rattle.burr_container.specs.Plans.{FormCell}
 use Rattle.burr_frames.specs.declared.clearing.Question.{Question}
 use Rattle.burr_frames.specs.declared.clearing.Question.TheVariants as questions
@@ -29,10 +28,6 @@ abbrev pub cell_of : List ℤ → ℕ → Cell
 cell_of values p =
     at (slice_index_or values (3 * p) (pos 0)) (slice_index_or values (3 * p + 1) (pos 0))
     (slice_index_or values (3 * p + 2) (pos 0))
-
--- each coordinate is one of a small form at a near point
-abbrev pub IsBoundedCell : Cell → Type 0
-IsBoundedCell c = IsBounded c.x × IsBounded c.y × IsBounded c.z
 
 -- what is asked of two pieces, one displaced against the other, has the right answer
 abbrev pub IsClear : Question → List Cell → List Cell → Cell → Type 0

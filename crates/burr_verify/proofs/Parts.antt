@@ -45,10 +45,10 @@ for_homes p a fits = (fits.0, fits.1 ∙ sym (as_many_homes a))
 
 pub fits_refused : (p : Plan) (a : Assembly) (r : Refusal) (looks : ℕ) → looks ≡ 0 → (¬ FitsAssembly p a)
     → r ≡ plain_refusal 0 0 rules.V1 → LookedFor p a (Refuses (failed_check r)) looks
-fits_refused p a r looks none no is =
+fits_refused p a r looks none other is =
     inl (
       inl (
-        (λ fits. no (fits.0, fits.1 ∙ as_many_homes a)),
+        (λ fits. other (fits.0, fits.1 ∙ as_many_homes a)),
         ap (λ q. Refuses (failed_check q)) is,
       ),
       none,

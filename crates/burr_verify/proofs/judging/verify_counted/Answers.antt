@@ -1,4 +1,4 @@
-use Rattle.std.proofs.Common.{◌≡◌, ◌≤◌, length, sym, ap, subst, ◌∙◌, arith}
+use Rattle.std.proofs.Common.{◌≤◌, length, ap, arith}
 use Rattle.burr_assembly.specs.Homes.{homes_of}
 use Rattle.burr_assembly.specs.Text.{Assembly}
 use Rattle.burr_frames.specs.FramedPlans.{framed_plan}

@@ -1,9 +1,8 @@
-use Rattle.std.proofs.Common.{◌≡◌, ◌+◌, ◌^◌, ◌≤◌, ℕ, List, length, refl, ap, subst, sym, ◌∙◌, arith}
+use Rattle.std.proofs.Common.{◌≡◌, ◌+◌, ◌^◌, ◌≤◌, ℕ, List, length, refl, ap, subst, ◌∙◌, arith}
 use Rattle.std.specs.Prelude.{Result, Ok}
 use Rattle.std.proofs.lemmas.List.{length-map}
 use Rattle.burr_assembly.specs.Homes.{homes_of, home_of}
-use Rattle.burr_assembly.specs.Text.{Assembly}
-use Rattle.burr_blocking.specs.Counted.{Counted, HasCounted, with_more}
+use Rattle.burr_blocking.specs.Counted.{Counted, HasCounted}
 use Rattle.burr_blocking.proofs.Common.Counts.{none_more}
 use Rattle.burr_code.specs.Instruction.{Instruction, StandsAt}
 use Rattle.burr_code.specs.Meaning.{meaning, NoneStandsAt}
@@ -36,8 +35,7 @@ rule_is_few s i old new few room (n, looks, counted) =
 
 pub returns-in_default-clause-passes : goal.returns-in_default-clause-passes
 returns-in_default-clause-passes g c = λ p here kept at.
-    (let code = code_read c.args.container.now c.args.procedure c.code.result.now c.code.ensures.plan p here kept at in
-    (
+    (let code = code_read c.args.container.now c.args.procedure c.code.result.now c.code.ensures.plan p here kept at in (
       0,
       stops_by (homes_of c.args.looks.now.assembly) (framed_plan p) c.args.procedure here _ c.plain.result _ 0 (ap (λ r. Refuses (failed_check r)) c.plain.ensures)
           (lacks_instruction c.args.pc c.args.state (subst (λ (bytes : List ℕ). NoneStandsAt bytes c.args.pc) code c.in_default.ensures.stands), refl),
@@ -48,12 +46,13 @@ pub returns-then-is_some-clause-passes : goal.returns-then-is_some-clause-passes
 returns-then-is_some-clause-passes g c = λ p here kept at.
     (let found = some_where c.label_within.result c.if-is_some.ensures in
     let l = one_found here (c.args.pc + 1) (c.args.pc + c.in-Some.size) found.0 c.label_within.result found.1 (c.label_within.ensures.found p here kept at) in
-    let stands = subst (λ (bytes : List ℕ). StandsAt bytes c.args.pc (meaning c.in-Some.instruction)) (code_read c.args.container.now c.args.procedure c.code.result.now c.code.ensures.plan p here kept at) c.in-Some.ensures.stands.0 in
-    (
+    let stands = subst (λ (bytes : List ℕ). StandsAt bytes c.args.pc (meaning c.in-Some.instruction)) (code_read c.args.container.now c.args.procedure c.code.result.now c.code.ensures.plan p here kept at) c.in-Some.ensures.stands.0 in (
       0,
-      stops_by (homes_of c.args.looks.now.assembly) (framed_plan p) c.args.procedure here _ c.plain-then-is_some.result _ 0 (ap (λ r. Refuses (failed_check r)) c.plain-then-is_some.ensures)
-          (hides c.args.pc c.args.state (meaning c.in-Some.instruction) stands
-          (hides_one here c.args.pc c.in-Some.size found.0 (meaning c.in-Some.instruction) l.0 c.in-Some.ensures.stands.1 l.1 l.2 l.3), refl),
+      stops_by (homes_of c.args.looks.now.assembly) (framed_plan p) c.args.procedure here _ c.plain-then-is_some.result _ 0 (ap (λ r. Refuses (failed_check r)) c.plain-then-is_some.ensures) (
+        hides c.args.pc c.args.state (meaning c.in-Some.instruction) stands
+            (hides_one here c.args.pc c.in-Some.size found.0 (meaning c.in-Some.instruction) l.0 c.in-Some.ensures.stands.1 l.1 l.2 l.3),
+        refl,
+      ),
       none_more c.args.looks.now,
     ))
 
@@ -68,8 +67,7 @@ returns-in-Ok-Falls-clause-passes g c = λ p here kept at.
     let bare = hides_none here c.args.pc c.in-Some.size (meaning c.in-Some.instruction) c.in-Some.ensures.stands.1 (none_found here (c.args.pc + 1) (c.args.pc + c.in-Some.size) c.label_within.result (none_where c.label_within.result c.if-is_some.ensures) (c.label_within.ensures.found p here kept at)) in
     let homes = homes_of c.args.looks.now.assembly in
     let rule = subst (λ (r : Result Flow Break). Transfer homes (framed_plan p) c.args.procedure here c.args.state (meaning c.in-Some.instruction) (verdict_of c.transfer.new.state r)) (c.in-Ok-Falls.is ∙ ap Ok c.in-Ok-Falls.field-0-is) (c.transfer.ensures.verdict p here kept at) in
-    let counted = c.transfer.ensures.counted in
-    (
+    let counted = c.transfer.ensures.counted in (
       counted.0,
       judges_falls homes (framed_plan p) c.args.procedure here c.args.pc c.in-Some.size c.args.state c.transfer.new.state (meaning c.in-Some.instruction) counted.0 stands c.in-Some.ensures.stands.1 bare rule counted.1,
       counted.2,
@@ -102,8 +100,7 @@ returns-in-Ok-Leaves-clause-passes g c = λ p here kept at.
     let bare = hides_none here c.args.pc c.in-Some.size (meaning c.in-Some.instruction) c.in-Some.ensures.stands.1 (none_found here (c.args.pc + 1) (c.args.pc + c.in-Some.size) c.label_within.result (none_where c.label_within.result c.if-is_some.ensures) (c.label_within.ensures.found p here kept at)) in
     let homes = homes_of c.args.looks.now.assembly in
     let rule = subst (λ (r : Result Flow Break). Transfer homes (framed_plan p) c.args.procedure here c.args.state (meaning c.in-Some.instruction) (verdict_of c.transfer.new.state r)) (c.in-Ok-Leaves.is ∙ ap Ok c.in-Ok-Leaves.field-0-is) (c.transfer.ensures.verdict p here kept at) in
-    let counted = c.transfer.ensures.counted in
-    (
+    let counted = c.transfer.ensures.counted in (
       counted.0,
       judges_stops homes (framed_plan p) c.args.procedure here c.args.pc c.in-Some.size c.args.state (meaning c.in-Some.instruction) counted.0 stands c.in-Some.ensures.stands.1 bare rule counted.1,
       counted.2,
@@ -121,8 +118,7 @@ returns-in-Err-clause-passes g c = λ p here kept at.
     let bare = hides_none here c.args.pc c.in-Some.size (meaning c.in-Some.instruction) c.in-Some.ensures.stands.1 (none_found here (c.args.pc + 1) (c.args.pc + c.in-Some.size) c.label_within.result (none_where c.label_within.result c.if-is_some.ensures) (c.label_within.ensures.found p here kept at)) in
     let homes = homes_of c.args.looks.now.assembly in
     let rule = subst (λ (r : Result Flow Break). Transfer homes (framed_plan p) c.args.procedure here c.args.state (meaning c.in-Some.instruction) (verdict_of c.transfer.new.state r)) (c.in-Err.is) (c.transfer.ensures.verdict p here kept at) in
-    let counted = c.transfer.ensures.counted in
-    (
+    let counted = c.transfer.ensures.counted in (
       counted.0,
       stops_by homes (framed_plan p) c.args.procedure here _ c.of.result _ counted.0 c.of.ensures
           (breaks c.args.pc c.args.state (meaning c.in-Some.instruction) (broken_of c.in-Err.broken) stands bare rule, counted.1),
