@@ -1,8 +1,7 @@
 -- What the code's answers say of a judgement.
-use Rattle.std.specs.Prelude.{◌≡◌, ⊤, ℕ, List, Option, Some, Result, Ok, Err, MatchResult, MatchOption, ◌↔◌, ◌<◌, ◌≤◌, slice_get, option_map}
-use Rattle.burr_voxels.specs.declared.cell.Cell.{Cell}
+use Rattle.std.specs.Prelude.{◌≡◌, ⊤, ℕ, Option, Some, Result, Ok, Err, MatchResult, MatchOption, ◌↔◌, ◌<◌, ◌≤◌, slice_get, option_map}
 use Rattle.burr_container.specs.Plans.{Frame}
-use Rattle.burr_frames.specs.FramedPlans.{FramedProcedure, FramedPlan}
+use Rattle.burr_frames.specs.FramedPlans.{FramedProcedure}
 use Rattle.burr_frames.specs.States.{AbstractState}
 use Rattle.burr_frames.specs.Breaks.{broken_of}
 use Rattle.burr_frames.specs.Verdicts.{Verdict, Breaks, Falls, Leaves}
@@ -12,7 +11,7 @@ use Rattle.burr_verify.specs.declared.transfer.Flow.{Flow}
 use Rattle.burr_verify.specs.declared.transfer.Flow.TheVariants as flows
 use Rattle.burr_verify.specs.Judging.{Answer, passes}
 use Rattle.burr_verify.specs.VerifyLaws.{nothing}
-use Rattle.burr_verify.specs.Pass.{Judgement, Passed, Refuses, FailedCheck, Stage, Pass}
+use Rattle.burr_verify.specs.Pass.{Judgement, Passed, Refuses, FailedCheck}
 
 abbrev pub failed_check : Refusal → FailedCheck
 failed_check r = record {
@@ -44,15 +43,6 @@ abbrev pub PartFrom : (Answer → Answer) → (Answer → Answer) → Type 0
 PartFrom later part =
     (later passes Passed → part passes Passed)
     × ((r : FailedCheck) → later nothing (Refuses r) → part nothing (Refuses r))
-
--- the pass goes on from one stage to another, whatever it comes to from there
-abbrev pub GoesOn : List (List Cell) → FramedPlan → ℕ → FramedProcedure → Stage → Stage → Type 0
-GoesOn homes plan n here from to =
-    (j : Judgement) → Pass homes plan n here to j → Pass homes plan n here from j
-
--- the pass ends at this stage, by this refusal
-abbrev pub Stops : List (List Cell) → FramedPlan → ℕ → FramedProcedure → Stage → Refusal → Type 0
-Stops homes plan n here from r = Pass homes plan n here from (Refuses (failed_check r))
 
 -- so many labels stand before a place: those of the numbers below
 abbrev pub AreBefore : FramedProcedure → ℕ → ℕ → Type 0
