@@ -1,18 +1,18 @@
 //! Calls whose contracts no test needs: here they end, and tests are proved sooner.
 use burr_assembly::Assembly;
-use burr_blocking::{CellTables, PlainCells};
+use burr_blocking::{CellTables, PlainCells, RowTables};
 use burr_container::Container;
-use std::alloc::{AllocError, Global};
-use std::test::Fail;
+use std::alloc::Global;
+use std::process::Abort;
 
 /// The assembly of a text.
-pub fn assembly_of(alloc: Global, text: &str) -> Result<Assembly, Fail> {
-    Ok(Assembly::read(alloc, text.as_bytes())?)
+pub fn assembly_of(rt: &impl Abort, alloc: Global, text: &str) -> Assembly {
+    Assembly::read(alloc, text.as_bytes()).expect(rt, "an assembly")
 }
 
 /// The container with these bytes.
-pub fn container_of(bytes: &[u8]) -> Result<Container<'_>, Fail> {
-    Ok(Container::parse(bytes)?)
+pub fn container_of<'a>(rt: &impl Abort, bytes: &'a [u8]) -> Container<'a> {
+    Container::parse(bytes).expect(rt, "a container")
 }
 
 /// What answers for an assembly by its cells.
@@ -21,6 +21,11 @@ pub fn cells_of(assembly: &Assembly) -> PlainCells<'_> {
 }
 
 /// What answers for an assembly by tables.
-pub fn tables_of(alloc: Global, assembly: &Assembly) -> Result<CellTables<'_>, AllocError> {
-    CellTables::build(alloc, assembly)
+pub fn tables_of<'a>(rt: &impl Abort, alloc: Global, assembly: &'a Assembly) -> CellTables<'a> {
+    CellTables::build(alloc, assembly).expect(rt, "tables")
+}
+
+/// What answers for an assembly by rows of bits.
+pub fn rows_of<'a>(rt: &impl Abort, alloc: Global, assembly: &'a Assembly) -> RowTables<'a> {
+    RowTables::build(alloc, assembly).expect(rt, "rows")
 }

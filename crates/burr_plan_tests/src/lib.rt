@@ -1,19 +1,34 @@
-//! Tests of what judges plans and runs them. A crate with tests is proved twice, so they stand here.
+//! Tests of what judges plans and runs them. A crate with tests is proved twice, so they stand
+//! here.
 #![tactic(auto)]
 
 #[cfg(test)]
-mod bench;
+mod arrivals;
 #[cfg(test)]
-mod blocking;
+mod assemblies;
+#[cfg(test)]
+mod bench;
 #[cfg(test)]
 mod calls;
 #[cfg(test)]
-mod frames;
+mod cases;
 #[cfg(test)]
-mod runs;
+mod looks;
+#[cfg(test)]
+mod plans;
+#[cfg(test)]
+mod puts;
+#[cfg(test)]
+mod sinks;
+#[cfg(test)]
+mod sources;
+#[cfg(test)]
+mod tables;
 #[cfg(test)]
 mod texts;
 #[cfg(test)]
-mod verify;
+mod verdicts;
 #[cfg(test)]
 mod want;
+#[cfg(test)]
+mod ways;

@@ -1,50 +1,57 @@
-//! Assemblies, and texts as other texts write them.
-use std::alloc::{AllocError, Global};
+//! Texts as other texts write them.
+use std::alloc::Global;
+use std::process::Abort;
 
-/// Two cubes side by side along x.
-pub const DUO: &str =
-    "assembly duo\nshape cube\nlayer\n#\nend\npiece A cube +x+y+z 0 0 0\npiece B cube +x+y+z 1 0 0\n";
+/// Words that stand for a text many times.
+const MANY: [(&str, usize, &str); 6] = [
+    ("doubled39", 39, "02 00 02 00 04 03 00"),
+    ("doubled40", 40, "02 00 02 00 04 03 00"),
+    ("doubled41", 41, "02 00 02 00 04 03 00"),
+    ("far", 256, "11 00"),
+    ("units", 257, "11 01"),
+    ("moves\n", 256, UNIT),
+];
 
-/// A rod in the hole of a ring.
-pub const RING: &str =
-    "assembly ring\nshape rod\nlayer\n#\nlayer\n#\nlayer\n#\nend\nshape ring\nlayer\n###\n#.#\n###\nend\npiece A rod +x+y+z 1 1 0\npiece B ring +x+y+z 0 0 0\n";
+/// What the bench tells of a unit.
+const UNIT: &str = "call | Ok(Went(Some(Motion { group: 1, tray: 0, dir: MinusX, out: false })))\n";
 
-/// A dot in a bowl.
-pub const CUP: &str =
-    "assembly cup\nshape dot\nlayer\n#\nend\nshape bowl\nlayer\n###\n###\n###\nlayer\n###\n#.#\n###\nend\npiece A dot +x+y+z 1 1 1\npiece B bowl +x+y+z 0 0 0\n";
+/// A text in which each word that stands for another text many times has given place to that.
+pub fn expanded(rt: &impl Abort, alloc: Global, text: &str) -> String {
+    let mut changed = text.to_string(alloc).expect(rt, "memory");
+    for (word, count, unit) in MANY {
+        let many = unit.repeat(alloc, count).expect(rt, "memory");
+        changed = changed.replace(alloc, word, &many).expect(rt, "memory");
+    }
+    changed
+}
 
 /// A text in which `/` stands for each line end.
-pub fn lines_of(alloc: Global, text: &str) -> Result<String, AllocError> {
-    let mut lines = String::new(alloc);
-    for character in text.chars() {
-        lines.push(if character == '/' { '\n' } else { character })?;
-    }
-    Ok(lines)
+pub fn lines_of(rt: &impl Abort, alloc: Global, text: &str) -> String {
+    text.replace(alloc, "/", "\n").expect(rt, "memory")
 }
 
-/// The bytes that hexadecimal digits name; all else is passed over.
-pub fn bytes_of(alloc: Global, digits: &str) -> Result<Vec<u8>, AllocError> {
-    let mut bytes = Vec::new(alloc);
-    let mut high = None;
-    for digit in digits.bytes() {
-        if let Some(low) = value_of(digit) {
-            match high {
-                None => high = Some(low),
-                Some(front) => {
-                    bytes.push(front << 4 | low)?;
-                    high = None;
-                }
-            }
+/// The bytes that hexadecimal digits name, between which blanks may stand.
+pub fn bytes_of(rt: &impl Abort, alloc: Global, digits: &str) -> Vec<u8> {
+    let digits = digits.replace(alloc, " ", "").expect(rt, "memory");
+    hex::decode(alloc, digits).expect(rt, "digits")
+}
+
+/// A text behind edits, which a comma and a blank join: `OLD > NEW` puts other words in the place
+/// of some where they first stand, any other words fill the first `?`, and `none` is no edit.
+/// Behind that it is expanded.
+pub fn edited(rt: &impl Abort, alloc: Global, text: &str, edits: &str) -> String {
+    let mut changed = text.to_string(alloc).expect(rt, "memory");
+    for edit in edits.split(", ") {
+        if edit != "none" {
+            changed = edited_once(rt, alloc, &changed, edit);
         }
     }
-    Ok(bytes)
+    expanded(rt, alloc, &changed)
 }
 
-/// The value of a hexadecimal digit.
-fn value_of(digit: u8) -> Option<u8> {
-    match digit {
-        b'0'..=b'9' => Some(digit - b'0'),
-        b'a'..=b'f' => Some(digit - b'a' + 10),
-        _ => None,
-    }
+/// A text behind one edit.
+fn edited_once(rt: &impl Abort, alloc: Global, text: &str, edit: &str) -> String {
+    let (old, new) = edit.split_once(" > ").unwrap_or(("?", edit));
+    assert!(rt; text.contains(old), "{edit}");
+    text.replacen(alloc, old, new, 1).expect(rt, "memory")
 }

@@ -9,7 +9,7 @@ const OVER: &str = "\
 $burr asm cup.plan duo.bpln
 ?0
 $burr check cup duo.bpln
->accepted cost 14 budget 14
+>accepted cost 14 budget 14 looks 6
 ?0
 @ring.plan
 /proc main 0/proc main zero
@@ -18,7 +18,7 @@ $burr asm wrong.plan duo.bpln
 >refused P1 line 2
 ?1
 $burr check cup duo.bpln
->accepted cost 14 budget 14
+>accepted cost 14 budget 14 looks 6
 ?0
 $burr asm ring.plan ring.plan
 !error: OUT is TEXT itself: ring.plan
@@ -35,7 +35,7 @@ $burr asm ring.plan none/ring.bpln
 $burr asm ring.plan ring.bpln
 ?0
 $burr check ring ring.bpln
->accepted cost 11 budget 11
+>accepted cost 11 budget 11 looks 4
 ?0
 ";
 

@@ -210,7 +210,7 @@ fn reads_no_file_that_is_too_long(rt: HostRuntime) -> Result<(), Fail> {
 /// not fit is passed over.
 const ACCEPTED: &str = "\
 $burr check duo duo.bpln
->accepted cost 3 budget 3
+>accepted cost 3 budget 3 looks 1
 ?0
 $burr run duo duo.bpln
 >1 t0 A -x 0 out
@@ -218,7 +218,7 @@ $burr run duo duo.bpln
 >apart in 3 steps
 ?0
 $burr check ring ring.bpln
->accepted cost 11 budget 11
+>accepted cost 11 budget 11 looks 4
 ?0
 <0
 <-3
@@ -229,7 +229,7 @@ $burr run ring ring.bpln
 ?0
 <x
 $burr check cup cup.bpln
->accepted cost 14 budget 14
+>accepted cost 14 budget 14 looks 6
 ?0
 <0
 $burr run cup cup.bpln
@@ -456,7 +456,7 @@ $burr try duo bpln
 $burr asm plan bpln
 ?0
 $burr check duo bpln
->accepted cost 5 budget 5
+>accepted cost 5 budget 5 looks 4096
 ?0
 <4096
 <4095
@@ -499,7 +499,7 @@ const FAR: &str = "\
 $burr asm plan bpln
 ?0
 $burr check ring bpln
->accepted cost 517 budget 517
+>accepted cost 517 budget 517 looks 257
 ?0
 $burr run ring bpln
 >1 t0 A +z 256 out
@@ -565,7 +565,7 @@ const CALLS: &str = "\
 $burr asm plan bpln
 ?0
 $burr check cup bpln
->accepted cost 11 budget 11
+>accepted cost 11 budget 11 looks 5
 ?0
 $burr run cup bpln
 >1 t0 A +z 2 out
@@ -618,7 +618,7 @@ const CHOICES: &str = "\
 $burr asm plan bpln
 ?0
 $burr check duo bpln
->accepted cost 4 budget 4
+>accepted cost 4 budget 4 looks 2
 ?0
 <2
 <1

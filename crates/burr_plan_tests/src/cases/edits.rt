@@ -1,49 +1,7 @@
-//! Plans with several frames, worked by hand, and what is said where something of them is another.
-use super::plans::{assert_verdict, edited};
-use super::*;
+//! Edits of whole plans, and what is said of these.
 
-/// Asserts a line of a table: edits of a plan's digits, and what is said of it then.
-fn assert_edit(
-    rt: &impl Abort,
-    alloc: Global,
-    assembly: &str,
-    plan: &str,
-    line: &str,
-) -> Result<(), Fail> {
-    let (edits, wanted) = line.split_once(" | ").expect(rt, "edits");
-    let digits = edited(alloc, plan, edits)?;
-    assert_verdict(rt, alloc, assembly, &digits, wanted)
-}
-
-/// Asserts each line of a table that isn't a heading with `#`.
-fn assert_edits(
-    rt: &impl Abort,
-    alloc: Global,
-    assembly: &str,
-    plan: &str,
-    table: &str,
-) -> Result<(), Fail> {
-    for line in table.lines() {
-        if !line.starts_with('#') {
-            assert_edit(rt, alloc, assembly, plan, line)?;
-        }
-    }
-    Ok(())
-}
-
-/// A rod in a ring is moved up by three units in a loop, and then taken out. At the loop, at 10,
-/// slot 0 is 0 to 2, the cost `4+2v0`, and the rod at z `2-1v0`.
-const RING_PLAN: &str = "42504c4e 0001 0000000b 02 04 72696e67 01 \
-    00 0002 \
-    0000 00 00000000 00 00 00 0000000b \
-    00 00000000 00000000 00000000 \
-    00 00000000 00000000 00000000 \
-    000a 00 00000001 01 0000 0002 00 00 00000004 0002 \
-    00 00000000 0000 00000000 0000 00000002 ffff \
-    00 00000000 0000 00000000 0000 00000000 0000 \
-    0014 10 00000001 01 0002 03 00 11 04 21 00 0001 12 04 01 00";
-
-const RING_EDITS: &str = "\
+/// Of the rod in the ring.
+pub const RING_EDITS: &str = "\
 # as it stands, and with a budget below the cost of main
 none | accepted
 0001 0000000b > 0001 0000000a | V28 proc 0 pc 0
@@ -79,26 +37,8 @@ none | accepted
 000a 00 00000001 > 000a 00 00000002 | V21 proc 0 pc 8
 01 0002 03 00 > 01 0002 03 01 | V21 proc 0 pc 8";
 
-#[test]
-fn judges_a_counted_loop(rt: HostRuntime) -> Result<(), Fail> {
-    assert_edits(&rt, rt.alloc(), RING, RING_PLAN, RING_EDITS)
-}
-
-/// A dot in a cup is lifted as far as the operator says, and then taken out.
-const CUP_PLAN: &str = "42504c4e 0001 0000000e 02 03 637570 01 \
-    00 0003 \
-    0000 00 00000000 00 00 00 0000000e \
-    00 00000000 00000000 00000000 \
-    00 00000000 00000000 00000000 \
-    0010 00 00000001 03 0000 0002 0000 0002 01 00000000 0001 ffff 00 00000003 0000 0003 \
-    00 00000000 0000 0000 00000000 0000 0000 00000000 0001 ffff \
-    00 00000000 0000 0000 00000000 0000 0000 00000000 0000 0000 \
-    0018 00 00000001 03 0000 0002 0000 0001 01 ffffffff 0001 ffff 00 00000005 0000 0003 \
-    00 00000000 0000 0000 00000000 0000 0000 ffffffff 0001 ffff \
-    00 00000000 0000 0000 00000000 0000 0000 00000000 0000 0000 \
-    001d 10 00000001 22 0000 0002 03 00 02 00 03 01 21 01 0002 12 04 01 00 11 04 20 0001";
-
-const CUP_EDITS: &str = "\
+/// Of the dot in the cup that is lifted as far as the operator says.
+pub const CUP_EDITS: &str = "\
 none | accepted
 # without both guards, without the second, without the first
 01 00000000 0001 ffff 00 > 00 00, 01 ffffffff 0001 ffff 00 > 00 00 \
@@ -108,29 +48,8 @@ none | accepted
 # an answer more
 22 0000 0002 > 22 0000 0003 | V21 proc 0 pc 14 point 3";
 
-#[test]
-fn judges_a_question(rt: HostRuntime) -> Result<(), Fail> {
-    assert_edits(&rt, rt.alloc(), CUP, CUP_PLAN, CUP_EDITS)
-}
-
-/// A dot in a cup is lifted twice, by a procedure: its parameter is 0 to 3, the dot comes at z
-/// `0+1v0` and leaves at `1+1v0`, at a cost of 2.
-pub const LIFT_PLAN: &str = "42504c4e 0001 0000000b 02 03 637570 02 \
-    00 0001 \
-    0000 00 00000000 00 00 00 0000000b \
-    00 00000000 00000000 00000000 \
-    00 00000000 00000000 00000000 \
-    0013 10 00000001 01 0000 24 01 01 0001 24 01 12 04 01 00 \
-    01 00 00000001 \
-    00 00000000 0000 00000000 0000 00000001 0001 \
-    00 00000000 0000 00000000 0000 00000000 0000 \
-    0001 \
-    0000 00 00000001 01 0000 0003 00 00 00000002 0000 \
-    00 00000000 0000 00000000 0000 00000000 0001 \
-    00 00000000 0000 00000000 0000 00000000 0000 \
-    0003 11 04 25";
-
-const LIFT_EDITS: &str = "\
+/// Of the dot that a procedure lifts.
+pub const LIFT_EDITS: &str = "\
 none | accepted
 # the first argument is 1; it is an answer of 0 or 1
 01 0000 24 > 01 0001 24 | V20 proc 0 pc 8 point
@@ -161,23 +80,8 @@ none | accepted
 00000002 0000 > 00000001 0000, 0003 11 04 25 > 0003 13 00 25 | V24 proc 1 pc 2 point 0
 0003 11 04 25 > 0003 11 02 25 | V15 proc 1 pc 0 pieces 0 1 point 0";
 
-#[test]
-fn judges_calls(rt: HostRuntime) -> Result<(), Fail> {
-    assert_edits(&rt, rt.alloc(), CUP, LIFT_PLAN, LIFT_EDITS)
-}
-
-/// The operator says which of two cubes is taken out.
-const CHOICE_PLAN: &str = "42504c4e 0001 00000004 02 03 64756f 01 \
-    00 0003 \
-    0000 00 00000000 00 00 00 00000004 \
-    00 00000000 00000000 00000000 00 00000000 00000000 00000000 \
-    0006 00 00000000 00 00 00 00000003 \
-    00 00000000 00000000 00000000 00 00000000 00000000 00000000 \
-    000f 00 00000000 00 00 00 00000003 \
-    00 00000000 00000000 00000000 00 00000000 00000000 00000000 \
-    0018 23 02 0001 0002 10 00000001 12 01 01 00 10 00000002 12 00 01 00";
-
-const CHOICE_EDITS: &str = "\
+/// Of two cubes of which the operator picks one.
+pub const CHOICE_EDITS: &str = "\
 none | accepted
 # another name, a label inside an instruction, a label that is missing
 64756f > 64756e | V1 proc 0 pc 0
@@ -190,21 +94,8 @@ none | accepted
 23 02 0001 0002 > 23 02 0002 0001, 0006 00 00000000 > 0006 00 00000001, \
 000f 00 00000000 00 00 00 00000003 > 000f 00 00000000 00 00 00 00000004 | V21 proc 0 pc 0 point";
 
-#[test]
-fn judges_a_choice(rt: HostRuntime) -> Result<(), Fail> {
-    assert_edits(&rt, rt.alloc(), DUO, CHOICE_PLAN, CHOICE_EDITS)
-}
-
-/// Two cubes are taken apart. Behind that stands a frame to which nothing comes, with its own
-/// `halt`.
-const FRAME_PLAN: &str = "42504c4e 0001 00000003 02 03 64756f 01 \
-    00 0002 \
-    0000 00 00000000 00 00 00 00000003 \
-    00 00000000 00000000 00000000 00 00000000 00000000 00000000 \
-    0009 00 00000000 00 00 00 00000001 ff ff \
-    000a 10 00000001 12 01 01 00 00";
-
-const FRAME_EDITS: &str = "\
+/// Of the frame to which nothing comes.
+pub const FRAME_EDITS: &str = "\
 none | accepted
 # 4,096 points, and 4,097
 00 00 00 00000001 ff > 01 0000 0fff 00 00 00000001 0000 ff | accepted
@@ -244,7 +135,11 @@ none | accepted
 00 00 00 00000003 > 00 00 00 00000004 | V28 proc 0 pc 0
 00 00 00 00000003 > 00 00 00 00000002 | V24 proc 0 pc 8 point";
 
-#[test]
-fn judges_frames(rt: HostRuntime) -> Result<(), Fail> {
-    assert_edits(&rt, rt.alloc(), DUO, FRAME_PLAN, FRAME_EDITS)
-}
+/// Of the dot that a procedure lifts, where `0+2^40v0` is handed to it, which leaves the dot at its
+/// parameter and one or, at the second, twice that and one.
+pub const LIFT_FAR: &str = "\
+0001 0000000b > 0001 00000200, 00 00 00 0000000b > 00 00 00 00000200, \
+0013 10 00000001 01 0000 24 > 0131 10 00000001 22 0000 0000 03 00 doubled40 02 00 24 | accepted
+0001 0000000b > 0001 00000200, 00 00 00 0000000b > 00 00 00 00000200, \
+0013 10 00000001 01 0000 24 > 0131 10 00000001 22 0000 0000 03 00 doubled40 02 00 24, \
+00000001 0001 > 00000001 0002 | V26 proc 0 pc 294";
