@@ -143,7 +143,6 @@ on_bench_of_reach (place ∷ places) tray point all (suc p) c lies =
     on_bench_of_reach places tray point
     (rest_in_reach first.0 first.1 first.2 (offsets_in tray places) (offsets_in tray (place ∷ places)) point first.3 all) p c lies
 
-
 -- Values three by three
 
 third_on : {A : Type 0} (a b d e : A) (xs : List A) (i j : ℕ) → i ≡ suc (suc (suc j))

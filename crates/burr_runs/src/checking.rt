@@ -38,12 +38,7 @@ pub fn check<B: Blocking, W: Sink>(
 }
 
 /// Puts the line of an accepted plan, as `accepted cost 4 budget 4 looks 2`.
-fn put_accepted<W: Sink>(
-    cost: u32,
-    budget: u32,
-    looks: u64,
-    sink: &mut W,
-) -> Result<(), WriteFault>
+fn put_accepted<W: Sink>(cost: u32, budget: u32, looks: u64, sink: &mut W) -> Result<(), WriteFault>
     ensures { Puts W.Sink sink.old sink.new (accepted_line cost budget looks) result }
 {
     put_all(b"accepted cost ", sink)?;
