@@ -51,24 +51,32 @@ fn plan_of(rt: &impl Abort, alloc: Global, edits: &str) -> Vec<u8> {
 
 /// A miss in words: the first point at which a frame is not met, or that no point is named.
 fn words_of_miss(point: Option<Point>) -> &'static str {
-    match point {
-        None => "misses",
-        Some(point) if point.as_slice() == [1].as_slice() => "misses at 1",
-        Some(_) => "misses elsewhere",
+    let Some(point) = point else {
+        return "misses";
+    };
+    match point.as_slice() {
+        [1] => "misses at 1",
+        _ => "misses elsewhere",
     }
 }
 
-/// What is said where the state of a plan's frame comes to a frame of another plan.
+/// The state of a plan's frame.
+fn state_of(rt: &impl Abort, alloc: Global, (edits, label): (&str, usize)) -> State {
+    let plan = plan_of(rt, alloc, edits);
+    let container = container_of(rt, &plan);
+    State::of(&frame_of(rt, &container, label))
+}
+
+/// What is said where a state comes to a plan's frame.
 fn arrival(
     rt: &impl Abort,
     alloc: Global,
-    (from, label): (&str, usize),
-    (to, there): (&str, usize),
+    state: &State,
+    (edits, label): (&str, usize),
 ) -> &'static str {
-    let from = plan_of(rt, alloc, from);
-    let to = plan_of(rt, alloc, to);
-    let state = State::of(&frame_of(rt, &container_of(rt, &from), label));
-    match arrives(&state, &frame_of(rt, &container_of(rt, &to), there)) {
+    let plan = plan_of(rt, alloc, edits);
+    let container = container_of(rt, &plan);
+    match arrives(state, &frame_of(rt, &container, label)) {
         Ok(()) => "arrives",
         Err(miss) => words_of_miss(miss.point),
     }
@@ -76,9 +84,7 @@ fn arrival(
 
 /// What is said where a turn of a plan's loop comes to the loop again.
 fn turn(rt: &impl Abort, alloc: Global, edits: &str) -> &'static str {
-    let plan = plan_of(rt, alloc, edits);
-    let container = container_of(rt, &plan);
-    let mut state = State::of(&frame_of(rt, &container, 1));
+    let mut state = state_of(rt, alloc, (edits, 1));
     let assembly = assembly_of(rt, alloc, RING);
     let cells = cells_of(&assembly);
     assert!(rt; state.has_room_for_points());
@@ -87,6 +93,8 @@ fn turn(rt: &impl Abort, alloc: Global, edits: &str) -> &'static str {
             .step(&mut Looks::new(&cells), Direction::PlusZ)
             .is_ok()
     );
+    let plan = plan_of(rt, alloc, edits);
+    let container = container_of(rt, &plan);
     assert!(rt; container.proc_count() > 0);
     match state.down(&container, 0, 0, 1) {
         Ok(()) => "arrives",
@@ -96,18 +104,19 @@ fn turn(rt: &impl Abort, alloc: Global, edits: &str) -> &'static str {
 
 #[test]
 fn states_arrive_at_frames(rt: HostRuntime) {
-    for (from, to, wanted) in ARRIVALS {
+    for (from, to, wanted) in &ARRIVALS {
+        let state = state_of(&rt, rt.alloc(), *from);
         assert!(rt;
-            arrival(&rt, rt.alloc(), from, to) == wanted,
-            "{from:?} {to:?}"
+            arrival(&rt, rt.alloc(), &state, *to) == *wanted,
+            "{wanted}"
         );
     }
 }
 
 #[test]
 fn turns_arrive_at_their_loop(rt: HostRuntime) {
-    for (edits, wanted) in TURNS {
-        assert!(rt; turn(&rt, rt.alloc(), edits) == wanted, "{edits}");
+    for (edits, wanted) in &TURNS {
+        assert!(rt; turn(&rt, rt.alloc(), edits) == *wanted, "{edits}");
     }
 }
 

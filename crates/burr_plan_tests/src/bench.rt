@@ -5,6 +5,7 @@ use crate::cases::{SCRIPTS, TRAPS};
 use crate::texts::{bytes_of, expanded};
 use burr_bench::Checked;
 use burr_blocking::PlainCells;
+use burr_voxels::Cell;
 use std::alloc::{AllocError, Global};
 use std::process::Abort;
 
@@ -21,16 +22,19 @@ fn words_of_call(
     format!(in alloc; "{told:?}")
 }
 
+/// Where a piece is; None where there is no such piece.
+fn place(bench: &Bench<'_, '_>, piece: u8) -> Option<Option<(u8, Cell)>> {
+    if piece >= bench.assembly().piece_count() {
+        return None;
+    }
+    Some(bench.place(piece))
+}
+
 /// Where the pieces of the duo are, and that it has no third.
 fn words_of_places(alloc: Global, bench: &Bench<'_, '_>) -> Result<String, AllocError> {
     let mut words = String::new(alloc);
     for piece in 0..3 {
-        let place = if piece < bench.assembly().piece_count() {
-            Some(bench.place(piece))
-        } else {
-            None
-        };
-        write!(words, "{place:?};")?;
+        write!(words, "{:?};", place(bench, piece))?;
     }
     Ok(words)
 }

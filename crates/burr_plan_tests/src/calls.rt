@@ -7,12 +7,18 @@ use std::process::Abort;
 
 /// The assembly of a text.
 pub fn assembly_of(rt: &impl Abort, alloc: Global, text: &str) -> Assembly {
-    Assembly::read(alloc, text.as_bytes()).expect(rt, "an assembly")
+    match Assembly::read(alloc, text.as_bytes()) {
+        Ok(assembly) => assembly,
+        Err(_) => panic!(rt; "no assembly"),
+    }
 }
 
 /// The container with these bytes.
 pub fn container_of<'a>(rt: &impl Abort, bytes: &'a [u8]) -> Container<'a> {
-    Container::parse(bytes).expect(rt, "a container")
+    match Container::parse(bytes) {
+        Ok(container) => container,
+        Err(_) => panic!(rt; "no container"),
+    }
 }
 
 /// What answers for an assembly by its cells.

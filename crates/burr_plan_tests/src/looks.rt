@@ -57,6 +57,6 @@ pub fn said_of_looks(rt: &impl Abort, alloc: Global, table: &Table, edits: &str)
     let count = looks.count();
     assert!(rt; watched.asked.get() == count, "{edits}");
     assert!(rt; looks.assembly().name() == assembly.name(), "{edits}");
-    let words = words_of(alloc, &verdict).expect(rt, "memory");
+    let words = words_of(alloc, verdict).expect(rt, "memory");
     format!(in alloc; "{words} looks {count}").expect(rt, "memory")
 }

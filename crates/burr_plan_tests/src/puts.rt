@@ -10,7 +10,7 @@ use burr_io::{Reading, Writing};
 use burr_runs::{BenchFault, Outcome, bench_text, check, read_answers, run_plan};
 use burr_verify::accept;
 use std::alloc::Global;
-use std::io::{Cursor, Write};
+use std::io::{Cursor, Read, Write};
 use std::process::Abort;
 
 /// How a run ended, in a word.
@@ -29,12 +29,8 @@ fn word_of(end: Result<Outcome, BenchFault>) -> &'static str {
 }
 
 /// Runs an input's bare code and puts its sheet.
-pub fn put_bare<W: Write>(
-    alloc: Global,
-    source: &mut Portions<'_>,
-    writer: &mut W,
-) -> &'static str {
-    word_of(bench_text(alloc, &mut Reading::new(source), &mut Writing::new(writer)))
+pub fn put_bare<R: Read, W: Write>(alloc: Global, reader: &mut R, writer: &mut W) -> &'static str {
+    word_of(bench_text(alloc, &mut Reading::new(reader), &mut Writing::new(writer)))
 }
 
 /// Checks a plan and puts the line of it.
@@ -118,6 +114,15 @@ fn put_plan<W: Write>(
         return put_judged(table.kind, &container, &cells, &answers, writer);
     }
     let tables = tables_of(rt, alloc, &assembly);
+    // with ample memory first: then the stack has grown as far as the calls need, which it can't do
+    // while all memory is taken
+    put_judged(
+        table.kind,
+        &container,
+        &tables,
+        &answers,
+        &mut Vec::new(alloc),
+    );
     let _taken = memory_taken(rt, alloc);
     put_judged(table.kind, &container, &tables, &answers, writer)
 }
@@ -148,19 +153,8 @@ pub fn said_of_put(rt: &impl Abort, alloc: Global, table: &Table, given: &str) -
 }
 
 /// Asserts what a case puts while no memory can be had, where all that it works on was made before.
-/// It is put with ample memory first: then the stack has grown as far as the calls need, which it
-/// can't do while all memory is taken.
 pub fn assert_poor(rt: &impl Abort, alloc: Global, table: &Table, given: &str, wanted: &str) {
     let (wanted_word, text) = wanted.split_once(" | ").expect(rt, "a text");
-    let mut room = [0; 128];
-    put_plan(
-        rt,
-        alloc,
-        table,
-        given,
-        false,
-        &mut Cursor::new(room.as_mut_slice()),
-    );
     let mut room = [0; 128];
     let mut written = Cursor::new(room.as_mut_slice());
     let word = put_plan(rt, alloc, table, given, true, &mut written);

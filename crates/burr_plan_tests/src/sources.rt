@@ -89,8 +89,13 @@ const BLANKS: [(usize, usize, bool, (&str, &str)); 7] = [
 fn tells_that_a_source_fails_or_is_too_long(rt: HostRuntime) {
     let few = "\n".repeat(rt.alloc(), 4096).expect(&rt, "memory");
     let many = few.repeat(rt.alloc(), 4097).expect(&rt, "memory");
-    for (count, each, fails, wanted) in BLANKS {
-        let blanks = many.get(..count).expect(&rt, "so many");
-        assert_end(&rt, rt.alloc(), Portions::new(blanks, each, fails), wanted);
+    for (count, each, fails, wanted) in &BLANKS {
+        let blanks = many.get(..*count).expect(&rt, "so many");
+        assert_end(
+            &rt,
+            rt.alloc(),
+            Portions::new(blanks, *each, *fails),
+            *wanted,
+        );
     }
 }

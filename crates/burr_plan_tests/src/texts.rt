@@ -18,9 +18,9 @@ const UNIT: &str = "call | Ok(Went(Some(Motion { group: 1, tray: 0, dir: MinusX,
 /// A text in which each word that stands for another text many times has given place to that.
 pub fn expanded(rt: &impl Abort, alloc: Global, text: &str) -> String {
     let mut changed = text.to_string(alloc).expect(rt, "memory");
-    for (word, count, unit) in MANY {
-        let many = unit.repeat(alloc, count).expect(rt, "memory");
-        changed = changed.replace(alloc, word, &many).expect(rt, "memory");
+    for (word, count, unit) in &MANY {
+        let many = unit.repeat(alloc, *count).expect(rt, "memory");
+        changed = changed.replace(alloc, *word, &many).expect(rt, "memory");
     }
     changed
 }

@@ -13,18 +13,24 @@ pub fn said_of_judge(rt: &impl Abort, alloc: Global, table: &Table, edits: &str)
     let bytes = bytes_of(rt, alloc, &edited(rt, alloc, table.plan, edits));
     let container = container_of(rt, &bytes);
     let assembly = assembly_of(rt, alloc, table.assembly);
+    let tables = tables_of(rt, alloc, &assembly);
     let verdict = match table.kind {
         Kind::Fit => fits_assembly(&container, &assembly),
-        _ => verify(&container, &tables_of(rt, alloc, &assembly)),
+        _ => verify(&container, &tables),
     };
-    words_of(alloc, &verdict).expect(rt, "memory")
+    words_of(alloc, verdict).expect(rt, "memory")
 }
 
-/// A verdict in words, as `V15 proc 0 pc 24 pieces 0 1 point 0 1`.
-pub fn words_of(alloc: Global, verdict: &Result<(), Refusal>) -> Result<String, AllocError> {
-    let Err(refusal) = verdict else {
-        return String::from_str(alloc, "accepted");
-    };
+/// A verdict in words.
+pub fn words_of(alloc: Global, verdict: Result<(), Refusal>) -> Result<String, AllocError> {
+    match verdict {
+        Ok(()) => String::from_str(alloc, "accepted"),
+        Err(refusal) => words_of_refusal(alloc, &refusal),
+    }
+}
+
+/// A refusal in words, as `V15 proc 0 pc 24 pieces 0 1 point 0 1`.
+fn words_of_refusal(alloc: Global, refusal: &Refusal) -> Result<String, AllocError> {
     let Refusal { proc, pc, rule, .. } = refusal;
     let mut words = format!(in alloc; "{rule} proc {proc} pc {pc}")?;
     if let Some((piece, other)) = refusal.pieces {

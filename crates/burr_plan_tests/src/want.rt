@@ -93,7 +93,7 @@ enum Came {
 }
 
 /// What of all that came so far.
-#[derive(Clone, Copy, PartialEq, Eq)]
+#[derive(Clone, Copy)]
 struct Seen {
     want_before: bool,
     want: bool,
@@ -231,13 +231,8 @@ fn assert_wants(rt: &impl Abort, alloc: Global, jobs: &[Job<'_>], has_source: bo
     for job in jobs {
         job.do_in_want(rt, alloc, &mut seen);
     }
-    let wanted = Seen {
-        want_before: has_source,
-        want: true,
-        right: true,
-        wrong: false,
-    };
-    assert!(rt; seen == wanted);
+    assert!(rt; seen.want_before == has_source);
+    assert!(rt; seen.want && seen.right && !seen.wrong);
 }
 
 /// Asserts what comes of a case's input, whole and a byte a call, while memory is wanting.

@@ -114,13 +114,13 @@ fn all_ways_answer_for_two_cubes(rt: HostRuntime) {
     let duo = assembly_of(&rt, rt.alloc(), DUO);
     let ways = ways_of(&rt, rt.alloc(), &duo);
     assert!(rt; ways.has_name("duo"));
-    for (pieces, at, direction, wanted) in DUO_ANSWERS {
+    for (pieces, at, direction, wanted) in &DUO_ANSWERS {
         let question = Question {
-            pieces,
-            at,
-            direction,
+            pieces: *pieces,
+            at: *at,
+            direction: *direction,
         };
-        assert!(rt; ways.answer(&question) == Some(wanted), "{question:?}");
+        assert!(rt; ways.answer(&question) == Some(*wanted), "{question:?}");
     }
 }
 
