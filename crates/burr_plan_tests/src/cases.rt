@@ -101,7 +101,7 @@ const LIFTED: [Table; 2] = [
 ];
 
 /// More plans that are checked and run.
-const PLANS: [Table; 7] = [
+const PLANS: [Table; 8] = [
     Table {
         kind: Kind::Check,
         assembly: DUO,
@@ -125,6 +125,12 @@ const PLANS: [Table; 7] = [
         assembly: CUP,
         plan: CHOICE_PLAN,
         cases: runs::OTHER_CHECKS,
+    },
+    Table {
+        kind: Kind::Check,
+        assembly: SQUARE,
+        plan: SQUARE_CODE,
+        cases: runs::SQUARE_CHECKS,
     },
     Table {
         kind: Kind::Run,

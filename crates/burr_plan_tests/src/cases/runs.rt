@@ -36,7 +36,12 @@ none | accepted | accepted cost 14 budget 14 looks 6/
 pub const CHOICE_CHECKS: &str = "\
 none | accepted | accepted cost 4 budget 4 looks 2/";
 
-/// A check of the same for another assembly.
+/// A check of code for four cubes in a square.
+pub const SQUARE_CHECKS: &str = "\
+00000008, 001b 10 0000000c 12 02 01 10 00000001 12 01 02 13 01 10 00000004 12 01 02 00 | accepted \
+| accepted cost 8 budget 1000000 looks 6/";
+
+/// A check of the choice for another assembly.
 pub const OTHER_CHECKS: &str = "\
 none | refused | refused V1 proc 0 pc 0/";
 
