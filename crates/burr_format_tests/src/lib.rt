@@ -1,6 +1,11 @@
-//! Tests of what reads and writes texts, code and containers. A crate with tests is proved twice, so they stand here.
+//! Tests of what reads and writes texts, code and containers. A crate with tests is proved twice,
+//! so they stand here. Each function costs a proof, so there are few of them: what a case takes and
+//! gives is text, the cases are tables, and what the other crates say of an input is told by
+//! `answers` alone.
 #![tactic(auto)]
 
+#[cfg(test)]
+mod answers;
 #[cfg(test)]
 mod asm;
 #[cfg(test)]
@@ -10,6 +15,12 @@ mod code;
 #[cfg(test)]
 mod container;
 #[cfg(test)]
+mod damage;
+#[cfg(test)]
+mod inputs;
+#[cfg(test)]
 mod memory;
+#[cfg(test)]
+mod random;
 #[cfg(test)]
 mod tables;

@@ -1,7 +1,7 @@
-//! Each fault with its line, and which comes first, in a text of one procedure.
-use super::*;
+//! Each fault with its line, and which comes first, in the plan of a counted loop.
 
-const HEADINGS: &str = "\
+/// The lines up to the first frame.
+pub const HEADINGS: &str = "\
 ; the plan's line
 1 plan ring 2|P1 { line: 1 }
 1 plan ring 2 11 |P1 { line: 1 }
@@ -81,7 +81,8 @@ const HEADINGS: &str = "\
 3 label L|P2 { line: 11 }
 ";
 
-const FRAMES: &str = "\
+/// Frames, up to the operands.
+pub const FRAMES: &str = "\
 ; the frame's line
 4 frame 0|P1 { line: 4 }
 4 frame  0 -|P1 { line: 4 }
@@ -159,13 +160,16 @@ const FRAMES: &str = "\
 13 slot 0 0 2/guard 1 1|P1 { line: 14 }
 13 slot 0 0 2/guard 1+1v1|P3 { line: 14 }
 13 slot 0 0 2/stack 1/stack 1/stack 1/stack 1/stack 1/stack 1/stack 1/stack 1|right
-13 slot 0 0 2/stack 1/stack 1/stack 1/stack 1/stack 1/stack 1/stack 1/stack 1/stack 1|P4 { line: 22 }
-13 slot 0 0 2/stack 1/stack 1/stack 1/stack 1/stack 1/stack 1/stack 1/stack 1/stack 1+1v1|P3 { line: 22 }
+13 slot 0 0 2/stack 1/stack 1/stack 1/stack 1/stack 1/stack 1/stack 1/stack 1/stack 1|\
+P4 { line: 22 }
+13 slot 0 0 2/stack 1/stack 1/stack 1/stack 1/stack 1/stack 1/stack 1/stack 1/stack 1+1v1|\
+P3 { line: 22 }
 13 slot 0 0 2/stack 1/guard 1|P1 { line: 15 }
 13 slot 0 0 2/guard 1/stack 1/stack 0-1v0|right
 ";
 
-const FORMS: &str = "\
+/// Forms, and the pieces of a frame.
+pub const FORMS: &str = "\
 ; the cost, by all forms
 14 cost|P1 { line: 14 }
 14 cost 4+2v01|P1 { line: 14 }
@@ -261,7 +265,8 @@ const FORMS: &str = "\
 7 ; nothing/at 1 apart|right
 ";
 
-const CODE: &str = "\
+/// Lines of code, labels, and names that are unknown.
+pub const CODE: &str = "\
 ; operands
 8 grip|P1 { line: 8 }
 8 grip 0,|P1 { line: 8 }
@@ -432,18 +437,8 @@ const CODE: &str = "\
 8 call no|18 down 0 none|P2 { line: 8 }
 ";
 
-#[test]
-fn judges_each_line(rt: HostRuntime) -> Result<(), Fail> {
-    let alloc = rt.alloc();
-    assert_faults(&rt, alloc, RING, HEADINGS)?;
-    assert_faults(&rt, alloc, RING, FRAMES)?;
-    assert_faults(&rt, alloc, RING, FORMS)?;
-    Ok(assert_faults(&rt, alloc, RING, CODE)?)
-}
-
-/// Fronts of the text that end without the end of a line, or too early, and their faults: `/` stands
-/// for the end of a line.
-const ENDS: &str = "\
+/// Fronts of a plan that end without the end of a line, or too early.
+pub const ENDS: &str = "\
 |P1 { line: 1 }
 /|P1 { line: 2 }
 ; x/|P1 { line: 2 }
@@ -470,41 +465,21 @@ plan ring 2 11/proc main 0/label start/frame 0 -/cost 1/|P1 { line: 6 }
 plan ring 2 11/proc main 0/label start/frame 0 -/cost 1/at 0 apart/|P1 { line: 7 }
 plan ring 2 11/proc main 0/label start/frame 0 -/cost 1/at 0 apart/at 1 apart/|P4 { line: 3 }
 plan ring 2 11/proc main 0/label start/frame 0 -/cost 1/at 0 apart/at 1 apart/halt|P1 { line: 8 }
-plan ring 2 11/proc main 0/label start/frame 0 -/cost 1/at 0 apart/at 1 apart/halt/; x|P1 { line: 9 }
+plan ring 2 11/proc main 0/label start/frame 0 -/cost 1/at 0 apart/at 1 apart/halt/; x|\
+P1 { line: 9 }
 ";
 
-#[test]
-fn judges_ends(rt: HostRuntime) -> Result<(), Fail> {
-    for case in ENDS.lines() {
-        assert_case(&rt, is_whole_judged(rt.alloc(), case)?, case);
-    }
-    Ok(())
-}
+/// Worked damages.
+pub const WORKED: &str = "\
+14 cost 4+2v1|P3 { line: 14 }
+18 down 0 M|P2 { line: 18 }
+";
 
-/// Whether a case holds of a whole text.
-fn is_whole_judged(alloc: Global, case: &str) -> Result<bool, AllocError> {
-    let Some((text, want)) = case.rsplit_once('|') else {
-        return Ok(false);
-    };
-    let text = spread(alloc, text)?;
-    is_judged(alloc, &text, want)
-}
-
-/// A text with a line before each of its own that says nothing.
-fn commented(alloc: Global, text: &str) -> Result<Vec<u8>, AllocError> {
-    let mut changed = Vec::new(alloc);
-    for line in text.split_terminator('\n') {
-        changed.extend_from_slice(b";\x00\x09\x0d\x7f\x80\xff\n\n")?;
-        add_lines(&mut changed, line)?;
-    }
-    Ok(changed)
-}
-
-#[test]
-fn takes_any_bytes_behind_a_semicolon(rt: HostRuntime) -> Result<(), Fail> {
-    let alloc = rt.alloc();
-    let bytes = assemble(alloc, RING.as_bytes())?;
-    let text = commented(alloc, RING)?;
-    assert!(rt; is_assembled(alloc, &text, &bytes));
-    Ok(())
-}
+/// Plans without a label, without its frame, and without code.
+pub const WORKED_FRONTS: &str = "\
+plan ring 2 11/proc main 0/frame 0 -/cost 11/at 0 0 0 0 0/at 1 0 0 0 0/\
+grip 0/push 2/store 0/|P5 { line: 3 }
+plan ring 2 11/proc main 0/label start/frame 0 -/cost 11/at 0 0 0 0 0/at 1 0 0 0 0/\
+grip 0/push 2/store 0/label L/|P5 { line: 12 }
+plan ring 2 11/|P1 { line: 2 }
+";

@@ -1,29 +1,128 @@
-//! How containers are listed.
-use super::*;
+//! How containers are listed, and the bytes that texts are assembled to.
 
-/// The container of two cubes with a second label at its second byte, listed.
-const SECOND_LABEL: &str = "plan duo 2 3\n\
+/// Two cubes, listed with places.
+pub const DUO_PLACES: &str = "version 1, 70 bytes\n\
+     plan duo 2 3\n\
      proc p0 0\n\
      label L0\n\
      frame 0 -\n\
      cost 3\n\
      at 0 0 0 0 0\n\
      at 1 0 0 0 0\n\
+     ; proc 0 pc 0\n\
+     grip 0\n\
+     ; proc 0 pc 5\n\
+     aside -x 1\n\
+     ; proc 0 pc 8\n\
+     halt\n";
+
+/// The counted loop, listed with places.
+pub const RING_PLACES: &str = "version 1, 140 bytes\n\
+     plan ring 2 11\n\
+     proc p0 0\n\
+     label L0\n\
+     frame 0 -\n\
+     cost 11\n\
+     at 0 0 0 0 0\n\
+     at 1 0 0 0 0\n\
+     ; proc 0 pc 0\n\
+     grip 0\n\
+     ; proc 0 pc 5\n\
+     push 2\n\
+     ; proc 0 pc 8\n\
+     store 0\n\
+     label L1\n\
+     frame 0 0\n\
+     slot 0 0 2\n\
+     cost 4+2v0\n\
+     at 0 0 0 0 2-1v0\n\
+     at 1 0 0 0 0\n\
+     ; proc 0 pc 10\n\
+     step +z\n\
+     ; proc 0 pc 12\n\
+     down 0 L1\n\
+     ; proc 0 pc 16\n\
+     aside +z 1\n\
+     ; proc 0 pc 19\n\
+     halt\n";
+
+/// The question, listed with places: its labels are at 0, 16 and 24.
+pub const CUP_PLACES: &str = "version 1, 258 bytes\n\
+     plan cup 2 14\n\
+     proc p0 0\n\
+     label L0\n\
+     frame 0 -\n\
+     cost 14\n\
+     at 0 0 0 0 0\n\
+     at 1 0 0 0 0\n\
+     ; proc 0 pc 0\n\
+     grip 0\n\
+     ; proc 0 pc 5\n\
+     ask 0 2\n\
+     ; proc 0 pc 10\n\
+     store 0\n\
+     ; proc 0 pc 12\n\
+     load 0\n\
+     ; proc 0 pc 14\n\
+     store 1\n\
+     label L1\n\
+     frame 0 0\n\
+     slot 0 0 2\n\
+     slot 1 0 2\n\
+     guard 0+1v0-1v1\n\
+     cost 3+3v1\n\
+     at 0 0 0 0 0+1v0-1v1\n\
+     at 1 0 0 0 0\n\
+     ; proc 0 pc 16\n\
+     down 1 L2\n\
+     ; proc 0 pc 20\n\
+     aside +z 1\n\
+     ; proc 0 pc 23\n\
+     halt\n\
+     label L2\n\
+     frame 0 0\n\
+     slot 0 0 2\n\
+     slot 1 0 1\n\
+     guard -1+1v0-1v1\n\
+     cost 5+3v1\n\
+     at 0 0 0 0 -1+1v0-1v1\n\
+     at 1 0 0 0 0\n\
+     ; proc 0 pc 24\n\
+     step +z\n\
+     ; proc 0 pc 26\n\
+     jump L1\n";
+
+/// The container of two cubes with a second label at its second byte, listed with places.
+pub const SECOND_LABEL_PLACES: &str = "version 1, 110 bytes\n\
+     plan duo 2 3\n\
+     proc p0 0\n\
+     label L0\n\
+     frame 0 -\n\
+     cost 3\n\
+     at 0 0 0 0 0\n\
+     at 1 0 0 0 0\n\
+     ; proc 0 pc 0\n\
      byte 10\n\
      label L1\n\
      frame 0 -\n\
      cost 3\n\
      at 0 0 0 0 0\n\
      at 1 0 0 0 0\n\
+     ; proc 0 pc 1\n\
      halt\n\
+     ; proc 0 pc 2\n\
      halt\n\
+     ; proc 0 pc 3\n\
      halt\n\
+     ; proc 0 pc 4\n\
      push 4609\n\
+     ; proc 0 pc 7\n\
      byte 01\n\
+     ; proc 0 pc 8\n\
      halt\n";
 
 /// A lift by a procedure, listed.
-const LISTED_LIFT: &str = "plan cup 2 11\n\
+pub const LISTED_LIFT: &str = "plan cup 2 11\n\
      proc p0 0\n\
      label L0\n\
      frame 0 -\n\
@@ -50,8 +149,45 @@ const LISTED_LIFT: &str = "plan cup 2 11\n\
      step +z\n\
      ret\n";
 
+/// A label of the same name in each of two procedures, second in one and first in the other.
+pub const UPS: &str = "10 call lift/label up/frame 0 -/cost 1/at 0 apart/at 1 apart\
+|12 jump up|19 label up|25 jump up|";
+
+/// The listing of that: each goes to the label of its own procedure.
+pub const LISTED_UPS: &str = "plan cup 2 11\n\
+     proc p0 0\n\
+     label L0\n\
+     frame 0 -\n\
+     cost 11\n\
+     at 0 0 0 0 0\n\
+     at 1 0 0 0 0\n\
+     grip 0\n\
+     push 0\n\
+     call p1\n\
+     label L1\n\
+     frame 0 -\n\
+     cost 1\n\
+     at 0 apart\n\
+     at 1 apart\n\
+     push 1\n\
+     jump L1\n\
+     aside +z 1\n\
+     halt\n\
+     proc p1 1\n\
+     exit 0 0\n\
+     at 0 0 0 0 1+1v0\n\
+     at 1 0 0 0 0\n\
+     label L0\n\
+     frame 0 0\n\
+     slot 0 0 3\n\
+     cost 2\n\
+     at 0 0 0 0 0+1v0\n\
+     at 1 0 0 0 0\n\
+     jump L0\n\
+     ret\n";
+
 /// All that a frame may say, and all instructions.
-const ALL: &str = "plan All_9- 3 1000000\n\
+pub const ALL: &str = "plan All_9- 3 1000000\n\
      proc p0 0\n\
      label L0\n\
      frame 31 -\n\
@@ -106,58 +242,16 @@ const ALL: &str = "plan All_9- 3 1000000\n\
      at 2 apart\n\
      ret\n";
 
-/// Whether this is the listing of a container.
-fn has_listing(alloc: Global, bytes: &[u8], want: &[u8]) -> Result<bool, AllocError> {
-    match listing_of(alloc, bytes)? {
-        Some(text) => Ok(text.as_slice() == want),
-        None => Ok(false),
-    }
-}
+/// The text of two cubes around its code.
+pub const CODE_OF_DUO: &str = "\
+plan duo 2 3/proc main 0/label start/frame 0 -/cost 3/at 0 0 0 0 0/at 1 0 0 0 0/@/;/;/";
 
-/// Whether a text is assembled to a container with this listing.
-fn is_listed_as(alloc: Global, text: &str, want: &str) -> Result<bool, AllocError> {
-    match assemble(alloc, text.as_bytes()) {
-        Ok(bytes) => has_listing(alloc, &bytes, want.as_bytes()),
-        Err(_fault) => Ok(false),
-    }
-}
+/// Its listing around the code.
+pub const LISTED_CODE_OF_DUO: &str = "\
+plan duo 2 3/proc p0 0/label L0/frame 0 -/cost 3/at 0 0 0 0 0/at 1 0 0 0 0/@/";
 
-/// The container of two cubes with its label's frame once more, at position 1, and so two labels in
-/// place of one.
-fn with_second_label(alloc: Global, bytes: &[u8]) -> Result<Vec<u8>, AllocError> {
-    let mut changed = Vec::from_slice(alloc, bytes.get(..18).unwrap_or(&[]))?;
-    changed.push(2)?;
-    changed.extend_from_slice(bytes.get(19..59).unwrap_or(&[]))?;
-    changed.extend_from_slice(&[0, 1])?;
-    changed.extend_from_slice(bytes.get(21..).unwrap_or(&[]))?;
-    Ok(changed)
-}
-
-#[test]
-fn lists_a_label_inside_an_instruction(rt: HostRuntime) -> Result<(), Fail> {
-    let alloc = rt.alloc();
-    let bytes = assemble(alloc, DUO.as_bytes())?;
-    let changed = with_second_label(alloc, &bytes)?;
-    assert!(rt; has_listing(alloc, &changed, SECOND_LABEL.as_bytes())?);
-    assert!(rt; is_listed(alloc, &changed)?);
-    Ok(())
-}
-
-#[test]
-fn lists_procedures_by_number(rt: HostRuntime) -> Result<(), Fail> {
-    assert!(rt; is_listed_as(rt.alloc(), LIFT, LISTED_LIFT)?);
-    Ok(())
-}
-
-#[test]
-fn lists_all_that_a_plan_may_say(rt: HostRuntime) -> Result<(), Fail> {
-    assert!(rt; is_listed_as(rt.alloc(), ALL, ALL)?);
-    Ok(())
-}
-
-/// Raw bytes in the place of the code of two cubes, and how they are listed: `/` stands for the end
-/// of a line.
-const CODES: &str = "\
+/// Raw bytes in the place of the code of two cubes, and how they are listed.
+pub const CODES: &str = "\
 ; no such label, no such procedure
 byte 20/byte 00/byte 01|byte 20/halt/byte 01
 byte 20/byte 00/byte 00|jump L0
@@ -175,43 +269,3 @@ byte 01/byte 80/byte 01|push -32767
 byte 11/byte 06|byte 11/drop
 byte 05/byte 11|sub/byte 11
 ";
-
-/// What stands in the listings before that code.
-const BEFORE_CODE: &str = "plan duo 2 3\n\
-     proc p0 0\n\
-     label L0\n\
-     frame 0 -\n\
-     cost 3\n\
-     at 0 0 0 0 0\n\
-     at 1 0 0 0 0\n";
-
-/// Whether a line of the table holds.
-fn is_code_listed(alloc: Global, case: &str) -> Result<bool, AsmFault> {
-    let Some((raw, want)) = case.split_once('|') else {
-        return Ok(is_heading(case));
-    };
-    let bytes = with_code(alloc, raw)?;
-    let listing = before_code(alloc, want)?;
-    Ok(has_listing(alloc, &bytes, &listing)? && is_listed(alloc, &bytes)?)
-}
-
-/// The container of two cubes with other lines in the place of its code.
-fn with_code(alloc: Global, lines: &str) -> Result<Vec<u8>, AsmFault> {
-    let edits = format!(in alloc; "8 {lines}|9 ;|10 ;")?;
-    assemble(alloc, &edited(alloc, DUO, &edits)?)
-}
-
-/// The listing of that container, with these lines of code.
-fn before_code(alloc: Global, lines: &str) -> Result<Vec<u8>, AllocError> {
-    let mut listing = Vec::from_slice(alloc, BEFORE_CODE.as_bytes())?;
-    add_lines(&mut listing, lines)?;
-    Ok(listing)
-}
-
-#[test]
-fn lists_what_stands_where_it_can_be_named(rt: HostRuntime) -> Result<(), Fail> {
-    for case in CODES.lines() {
-        assert_case(&rt, is_code_listed(rt.alloc(), case)?, case);
-    }
-    Ok(())
-}

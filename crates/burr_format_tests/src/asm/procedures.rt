@@ -1,7 +1,7 @@
-//! Each fault with its line, and which comes first, in a text of two procedures.
-use super::*;
+//! Each fault with its line, and which comes first, in a plan of two procedures.
 
-const PROCEDURES: &str = "\
+/// Lines of both procedures, and names that one of them has.
+pub const PROCEDURES: &str = "\
 ; the line of a procedure
 15 proc 9 1|P1 { line: 15 }
 15 proc lift|P1 { line: 15 }
@@ -97,27 +97,3 @@ const PROCEDURES: &str = "\
 14 halt/proc lid 0/exit 0 -|P1 { line: 17 }
 8 ;|9 ;|10 ;|11 ;|12 ;|13 ;|14 ;|P4 { line: 3 }
 ";
-
-#[test]
-fn judges_two_procedures(rt: HostRuntime) -> Result<(), Fail> {
-    Ok(assert_faults(&rt, rt.alloc(), LIFT, PROCEDURES)?)
-}
-
-/// The code of main that lifts twice, with a jump to its second label before the last two lines.
-const MAIN_CODE: [u8; 20] = [
-    0x10, 0, 0, 0, 1, 0x01, 0, 0, 0x24, 1, 0x01, 0, 1, 0x20, 0, 1, 0x12, 4, 1, 0,
-];
-
-#[test]
-fn finds_labels_of_the_procedure_that_runs(rt: HostRuntime) -> Result<(), Fail> {
-    let alloc = rt.alloc();
-    // a label of the same name in each, second in one and first in the other
-    let edits = "10 call lift/label up/frame 0 -/cost 1/at 0 apart/at 1 apart\
-        |12 jump up|19 label up|25 jump up";
-    let text = edited(alloc, LIFT, edits)?;
-    let bytes = assemble(alloc, &text)?;
-    assert!(rt; has_procedures(&bytes, 2));
-    assert!(rt; has_code(&bytes, 0, &MAIN_CODE));
-    assert!(rt; has_code(&bytes, 1, &[0x20, 0, 0, 0x25]));
-    Ok(())
-}

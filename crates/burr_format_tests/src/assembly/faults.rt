@@ -1,8 +1,7 @@
 //! Each fault with its line, and which comes first on a line.
-use super::*;
 
 /// The number of a line of the duo, what stands in its place, and the fault.
-const CHANGES: &str = "\
+pub const CHANGES: &str = "\
 ; names of the assembly and of shapes
 1 assembly 1|A2 { line: 1 }
 1 assembly -|A2 { line: 1 }
@@ -72,7 +71,7 @@ const CHANGES: &str = "\
 ";
 
 /// Texts that end too early.
-const FRONTS: &str = "\
+pub const FRONTS: &str = "\
 |A1 { line: 1 }
 assembly duo|A1 { line: 1 }
 assembly 1|A1 { line: 1 }
@@ -85,10 +84,10 @@ assembly duo/shape cube/layer/#/end/|A7 { line: 6 }
 ";
 
 /// The duo up to its pieces.
-const UP_TO_PIECES: &[u8] = b"assembly duo\nshape cube\nlayer\n#\nend\n";
+pub const UP_TO_PIECES: &str = "assembly duo/shape cube/layer/#/end/@";
 
 /// What stands behind the duo's shape, up to the end.
-const ENDS: &str = "\
+pub const ENDS: &str = "\
 shape rod/|A1 { line: 7 }
 shape rod/layer/|A1 { line: 8 }
 shape rod/layer/#/|A1 { line: 9 }
@@ -105,14 +104,12 @@ piece A cube +x+y+z 65 0 0/piece B cube +x+y+z 1 0 0|A5 { line: 6 }
 piece A cube +x+y+z 0 0 0/piece B cube +x+y+z 1 0 0//|A1 { line: 8 }
 ";
 
-/// A text up to the drawing of its shape.
-const UP_TO_DRAWING: &[u8] = b"assembly drawn\nshape drawn\n";
-
-/// What stands behind the drawing.
-const BEHIND_DRAWING: &str = "piece A drawn +x+y+z 0 0 0\npiece B drawn +x+y+z 9 9 9\n";
+/// A text around the drawing of its shape.
+pub const DRAWN: &str = "\
+assembly drawn/shape drawn/@piece A drawn +x+y+z 0 0 0/piece B drawn +x+y+z 9 9 9/";
 
 /// What stands behind the line of a shape, the second of its text.
-const DRAWINGS: &str = "\
+pub const DRAWINGS: &str = "\
 layer/#/end/|right
 layer/##/../.#/layer/../#./../end/|right
 layer/./layer/#/layer/./end/|right
@@ -162,30 +159,25 @@ layer/#//end/|A1 { line: 5 }
 ";
 
 /// A text up to its pieces of two cells.
-const UP_TO_BARS: &[u8] = b"assembly bars\nshape bar\nlayer\n##\nend\n";
+pub const UP_TO_BARS: &str = "assembly bars/shape bar/layer/##/end/@";
 
 /// Pieces of two cells each, from line 6 on.
-const BARS: &str = "\
+pub const BARS: &str = "\
 piece A bar +x+y+z 0 0 0/piece B bar +x+y+z 2 0 0/piece C bar +y-x+z 4 0 0/|right
 ; the third shares a cell with both, in either order of its cells and of theirs
-piece A bar +x+y+z 0 0 0/piece B bar +x+y+z 2 0 0/piece C bar +x+y+z 1 0 0/|A8 { line: 8, earlier: 0, piece: 2 }
-piece A bar +x+y+z 0 0 0/piece B bar +x+y+z 2 0 0/piece C bar -x-y+z 2 0 0/|A8 { line: 8, earlier: 0, piece: 2 }
-piece A bar +x+y+z 2 0 0/piece B bar +x+y+z 0 0 0/piece C bar +x+y+z 1 0 0/|A8 { line: 8, earlier: 0, piece: 2 }
+piece A bar +x+y+z 0 0 0/piece B bar +x+y+z 2 0 0/piece C bar +x+y+z 1 0 0/|\
+A8 { line: 8, earlier: 0, piece: 2 }
+piece A bar +x+y+z 0 0 0/piece B bar +x+y+z 2 0 0/piece C bar -x-y+z 2 0 0/|\
+A8 { line: 8, earlier: 0, piece: 2 }
+piece A bar +x+y+z 2 0 0/piece B bar +x+y+z 0 0 0/piece C bar +x+y+z 1 0 0/|\
+A8 { line: 8, earlier: 0, piece: 2 }
 ; with two of three
-piece A bar +x+y+z 9 0 0/piece B bar +x+y+z 2 0 0/piece C bar +x+y+z 0 0 0/piece D bar +x+y+z 1 0 0/|A8 { line: 9, earlier: 1, piece: 3 }
+piece A bar +x+y+z 9 0 0/piece B bar +x+y+z 2 0 0/piece C bar +x+y+z 0 0 0/\
+piece D bar +x+y+z 1 0 0/|A8 { line: 9, earlier: 1, piece: 3 }
 ; with one
-piece A bar +x+y+z 0 0 0/piece B bar +x+y+z 2 0 0/piece C bar +x+y+z 3 0 0/|A8 { line: 8, earlier: 1, piece: 2 }
+piece A bar +x+y+z 0 0 0/piece B bar +x+y+z 2 0 0/piece C bar +x+y+z 3 0 0/|\
+A8 { line: 8, earlier: 1, piece: 2 }
 piece A bar +x+y+z 0 0 0/piece B bar +y-x+z 1 -1 0/|A8 { line: 7, earlier: 0, piece: 1 }
 ; a cell that both have, and a position out of reach
 piece A bar +x+y+z 64 0 0/piece B bar +x+y+z 65 0 0/|A5 { line: 7 }
 ";
-
-#[test]
-fn names_the_first_fault_of_a_line(rt: HostRuntime) -> Result<(), Fail> {
-    let alloc = rt.alloc();
-    assert_changes(&rt, alloc, CHANGES)?;
-    assert_faults(&rt, alloc, b"", FRONTS, "")?;
-    assert_faults(&rt, alloc, UP_TO_PIECES, ENDS, "")?;
-    assert_faults(&rt, alloc, UP_TO_DRAWING, DRAWINGS, BEHIND_DRAWING)?;
-    Ok(assert_faults(&rt, alloc, UP_TO_BARS, BARS, "")?)
-}

@@ -1,8 +1,7 @@
 //! Lines of no form, and words that a line may have.
-use super::*;
 
 /// A number of a line of the duo, and what may not stand in its place.
-const FORMLESS: &str = "\
+pub const FORMLESS: &str = "\
 1 |A1 { line: 1 }
 1  |A1 { line: 1 }
 1 #|A1 { line: 1 }
@@ -136,131 +135,8 @@ const FORMLESS: &str = "\
 7 piece 1 block -x+y+z 99 0 x|A1 { line: 7 }
 ";
 
-#[test]
-fn refuses_lines_that_may_not_stand_there(rt: HostRuntime) -> Result<(), Fail> {
-    Ok(assert_changes(&rt, rt.alloc(), FORMLESS)?)
-}
-
-/// A number of a line of the duo, what stands in its place before a byte and behind it, the bytes
-/// that are right there, and the fault of any other byte of a word.
-const PLACES: &str = "\
-1 |ssembly duo|a|A1 { line: 1 }
-1 assembl| duo|y|A1 { line: 1 }
-1 assembly|duo| |A1 { line: 1 }
-2 |hape cube|s|A1 { line: 2 }
-2 shap| cube|e|A1 { line: 2 }
-2 shape|cube| |A1 { line: 2 }
-3 |layer||A1 { line: 3 }
-3 |ayer|l|A1 { line: 3 }
-3 laye||r|A1 { line: 3 }
-3 layer|||A1 { line: 3 }
-4 #/||#.|A1 { line: 5 }
-4 #./|.|#.|A1 { line: 5 }
-4 #./.||#.|A1 { line: 5 }
-5 |end||A1 { line: 5 }
-5 |nd|e|A1 { line: 5 }
-5 en||d|A1 { line: 5 }
-5 end|||A1 { line: 5 }
-7 |iece B cube +x+y+z 1 0 0|p|A1 { line: 7 }
-7 piec| B cube +x+y+z 1 0 0|e|A1 { line: 7 }
-7 piece|B cube +x+y+z 1 0 0| |A1 { line: 7 }
-7 piece x|x cube +x+y+z 1 0 0|ABCDEFGHIJKLMNOPQRSTUVWXYZabcdefghijklmnopqrstuvwxyz0123456789_-|A2 { line: 7 }
-7 piece B|cube +x+y+z 1 0 0| |A1 { line: 7 }
-7 piece B |ube +x+y+z 1 0 0|c|A6 { line: 7 }
-7 piece B cub| +x+y+z 1 0 0|e|A6 { line: 7 }
-7 piece B cube|+x+y+z 1 0 0| |A1 { line: 7 }
-7 piece B cube |x+y+z 1 0 0|+|A4 { line: 7 }
-7 piece B cube +x+|+z 1 0 0|y|A4 { line: 7 }
-7 piece B cube +x+y+| 1 0 0|z|A4 { line: 7 }
-7 piece B cube +x+y+z|1 0 0| |A1 { line: 7 }
-7 piece B cube +x+y+z 1| 5 5|0123456789|A1 { line: 7 }
-7 piece B cube +x+y+z 1|0 0| |A1 { line: 7 }
-7 piece B cube +x+y+z 1 0|0| |A1 { line: 7 }
-";
-
-#[test]
-fn judges_each_byte(rt: HostRuntime) -> Result<(), Fail> {
-    for row in PLACES.lines() {
-        assert_case(&rt, is_place_judged(rt.alloc(), row)?, row);
-    }
-    Ok(())
-}
-
-/// A row of the table.
-#[derive(Clone, Copy)]
-struct Place<'a> {
-    number: usize,
-    before: &'a str,
-    after: &'a str,
-    right: &'a str,
-    other: &'a str,
-}
-
-/// What a row of the table says.
-fn read_place(row: &str) -> Option<Place<'_>> {
-    let (number, rest) = row.split_once(' ')?;
-    let (before, rest) = rest.split_once('|')?;
-    let (after, rest) = rest.split_once('|')?;
-    let (right, other) = rest.split_once('|')?;
-    Some(Place {
-        number: number.parse().ok()?,
-        before,
-        after,
-        right,
-        other,
-    })
-}
-
-/// Whether a row of the table holds.
-fn is_place_judged(alloc: Global, row: &str) -> Result<bool, AllocError> {
-    let Some(place) = read_place(row) else {
-        return Ok(false);
-    };
-    let front = spread(alloc, place.before)?;
-    let line = place.number.wrapping_add(line_ends(&front));
-    let none = format!(in alloc; "A1 {{ line: {line} }}")?;
-    are_bytes_judged(alloc, &place, &front, &none)
-}
-
-/// Whether each byte at a place is judged as it should be, where this is the fault of a byte of no
-/// word.
-fn are_bytes_judged(
-    alloc: Global,
-    place: &Place<'_>,
-    front: &[u8],
-    none: &str,
-) -> Result<bool, AllocError> {
-    for byte in 0..=u8::MAX {
-        // an LF is the end of a line, and no byte of one
-        if byte != b'\n' && !is_byte_judged(alloc, place, front, byte, none)? {
-            return Ok(false);
-        }
-    }
-    Ok(true)
-}
-
-/// Whether the duo with a byte at a place, behind the front of its line, is judged as it should be.
-fn is_byte_judged(
-    alloc: Global,
-    place: &Place<'_>,
-    front: &[u8],
-    byte: u8,
-    none: &str,
-) -> Result<bool, AllocError> {
-    let want = if place.right.as_bytes().contains(&byte) {
-        "right"
-    } else if byte.is_ascii_graphic() {
-        place.other
-    } else {
-        none
-    };
-    let line = joined(alloc, front, &[byte], place.after.as_bytes())?;
-    let text = duo_with(alloc, place.number, &line)?;
-    is_judged(alloc, &text, want)
-}
-
 /// Words in the place of a coordinate, and what is wrong with them.
-const NUMBERS: &str = "\
+pub const NUMBERS: &str = "\
 0|right
 1|right
 -1|right
@@ -301,7 +177,8 @@ const NUMBERS: &str = "\
 -99999999999999999999|A5 { line: 7 }
 340282366920938463463374607431768211456|A5 { line: 7 }
 -340282366920938463463374607431768211455|A5 { line: 7 }
-1000000000000000000000000000000000000000000000000000000000000000000000000000000000000000000000000001|A5 { line: 7 }
+100000000000000000000000000000000000000000000000000000000000000000000000000000000000000000\
+0000000001|A5 { line: 7 }
 |A1 { line: 7 }
 -|A1 { line: 7 }
 -0|A1 { line: 7 }
@@ -313,7 +190,7 @@ a|A1 { line: 7 }
 ";
 
 /// Positions by more than one of their coordinates.
-const POSITIONS: &str = "\
+pub const POSITIONS: &str = "\
 64 64 64|right
 -64 -64 -64|right
 65 0 -0|A1 { line: 7 }
@@ -321,26 +198,47 @@ const POSITIONS: &str = "\
 65 -65 65|A5 { line: 7 }
 ";
 
-/// The duo up to its last position.
-const UP_TO_POSITION: &str =
-    "assembly duo\nshape cube\nlayer\n#\nend\npiece A cube +x+y+z 0 0 0\npiece B cube +x+y+z ";
-
-/// Asserts the numbers behind the first coordinates of the last position.
-fn assert_numbers(
-    rt: &impl Abort,
-    alloc: Global,
-    first: &[u8],
-    rest: &str,
-) -> Result<(), AllocError> {
-    let front = joined(alloc, UP_TO_POSITION.as_bytes(), first, b"")?;
-    assert_faults(rt, alloc, &front, NUMBERS, rest)
-}
-
-#[test]
-fn reads_numbers(rt: HostRuntime) -> Result<(), Fail> {
-    let alloc = rt.alloc();
-    assert_numbers(&rt, alloc, b"", " 5 5\n")?;
-    assert_numbers(&rt, alloc, b"5 ", " 5\n")?;
-    assert_numbers(&rt, alloc, b"5 5 ", "\n")?;
-    Ok(assert_faults(&rt, alloc, UP_TO_POSITION.as_bytes(), POSITIONS, "\n")?)
-}
+/// Words of 1 to 32 letters, and longer ones, in lines of the duo.
+pub const LONG_WORDS: &str = "\
+1 assembly <1 n>|right
+1 assembly <2 n>|right
+1 assembly <31 n>|right
+1 assembly <32 n>|right
+1 assembly <33 n>|A2 { line: 1 }
+1 assembly <34 n>|A2 { line: 1 }
+1 assembly <64 n>|A2 { line: 1 }
+1 assembly <1000 n>|A2 { line: 1 }
+5 end/shape <1 n>/layer/#/end|right
+5 end/shape <2 n>/layer/#/end|right
+5 end/shape <31 n>/layer/#/end|right
+5 end/shape <32 n>/layer/#/end|right
+5 end/shape <33 n>/layer/#/end|A2 { line: 6 }
+5 end/shape <34 n>/layer/#/end|A2 { line: 6 }
+5 end/shape <64 n>/layer/#/end|A2 { line: 6 }
+5 end/shape <1000 n>/layer/#/end|A2 { line: 6 }
+7 piece <1 n> cube +x+y+z 1 0 0|right
+7 piece <2 n> cube +x+y+z 1 0 0|right
+7 piece <31 n> cube +x+y+z 1 0 0|right
+7 piece <32 n> cube +x+y+z 1 0 0|right
+7 piece <33 n> cube +x+y+z 1 0 0|A2 { line: 7 }
+7 piece <34 n> cube +x+y+z 1 0 0|A2 { line: 7 }
+7 piece <64 n> cube +x+y+z 1 0 0|A2 { line: 7 }
+7 piece <1000 n> cube +x+y+z 1 0 0|A2 { line: 7 }
+; words that are judged otherwise
+7 piece B <1 n> +x+y+z 1 0 0|A6 { line: 7 }
+7 piece B <2 n> +x+y+z 1 0 0|A6 { line: 7 }
+7 piece B <31 n> +x+y+z 1 0 0|A6 { line: 7 }
+7 piece B <32 n> +x+y+z 1 0 0|A6 { line: 7 }
+7 piece B <33 n> +x+y+z 1 0 0|A6 { line: 7 }
+7 piece B <34 n> +x+y+z 1 0 0|A6 { line: 7 }
+7 piece B <64 n> +x+y+z 1 0 0|A6 { line: 7 }
+7 piece B <1000 n> +x+y+z 1 0 0|A6 { line: 7 }
+7 piece B cube <1 n> 1 0 0|A4 { line: 7 }
+7 piece B cube <2 n> 1 0 0|A4 { line: 7 }
+7 piece B cube <31 n> 1 0 0|A4 { line: 7 }
+7 piece B cube <32 n> 1 0 0|A4 { line: 7 }
+7 piece B cube <33 n> 1 0 0|A4 { line: 7 }
+7 piece B cube <34 n> 1 0 0|A4 { line: 7 }
+7 piece B cube <64 n> 1 0 0|A4 { line: 7 }
+7 piece B cube <1000 n> 1 0 0|A4 { line: 7 }
+";

@@ -1,0 +1,86 @@
+//! How inputs and wanted answers are written. In them `/` is the end of a line, and `<3 ab%>` is
+//! `ab1ab2ab3`: what stands there is repeated, and `%` is the number of the repetition. What an
+//! input is made of is a text with an `@`, in whose place the input is put, or a text without one,
+//! of which the input edits lines: `4 cost 7|9 halt` puts `cost 7` in the place of the fourth line
+//! and `halt` in that of the ninth.
+use std::alloc::{AllocError, Global};
+
+/// The bytes of an input to answers of a kind.
+pub fn input_of(alloc: Global, kind: &str, base: &str, input: &str) -> Result<Vec<u8>, AllocError> {
+    let text = text_of(alloc, base, input)?;
+    match kind {
+        "code" | "labels" | "container" | "plan" => bytes_of(alloc, &text),
+        _ => Vec::from_slice(alloc, text.as_bytes()),
+    }
+}
+
+/// The bytes that words name by two hexadecimal digits each.
+fn bytes_of(alloc: Global, text: &str) -> Result<Vec<u8>, AllocError> {
+    let mut bytes = Vec::new(alloc);
+    for word in text.split_whitespace() {
+        // a word that is no number would be the fault of a table, and shows as another byte
+        bytes.push(u8::from_str_radix(word, 16).unwrap_or(0xee))?;
+    }
+    Ok(bytes)
+}
+
+/// The text that is made of another one and an input.
+pub fn text_of(alloc: Global, base: &str, input: &str) -> Result<String, AllocError> {
+    let mut text = match base.split_once('@') {
+        Some((front, rest)) => format!(in alloc; "{front}{input}{rest}")?,
+        None => edited(alloc, base, input)?,
+    };
+    // as often as there is something to repeat
+    for _ in 0..100u32 {
+        match with_repetition(alloc, &text)? {
+            Some(longer) => text = longer,
+            None => break,
+        }
+    }
+    text.replace(alloc, '/', "\n")
+}
+
+/// A text with others in the place of some of its lines, which are counted from 1.
+fn edited(alloc: Global, base: &str, edits: &str) -> Result<String, AllocError> {
+    let mut text = String::new(alloc);
+    for (index, kept) in base.split_terminator('\n').enumerate() {
+        text.push_str(edit_of(edits, index.wrapping_add(1)).unwrap_or(kept))?;
+        text.push('\n')?;
+    }
+    Ok(text)
+}
+
+/// What edits put in the place of the line with this number.
+fn edit_of(edits: &str, number: usize) -> Option<&str> {
+    for edit in edits.split('|') {
+        let (place, put) = edit.split_once(' ')?;
+        if place.parse() == Ok(number) {
+            return Some(put);
+        }
+    }
+    None
+}
+
+/// A text in which the last of what is to be repeated is; None where there is nothing of that.
+fn with_repetition(alloc: Global, text: &str) -> Result<Option<String>, AllocError> {
+    let Some((front, count, part, rest)) = repetition(text) else {
+        return Ok(None);
+    };
+    let mut longer = String::from_str(alloc, front)?;
+    for number in 1..=count {
+        let number = format!(in alloc; "{number}")?;
+        let part = part.replace(alloc, '%', &number)?;
+        longer.push_str(&part)?;
+    }
+    longer.push_str(rest)?;
+    Ok(Some(longer))
+}
+
+/// What stands before the last repetition of a text, how often it is, what it is of, and what
+/// stands behind it.
+fn repetition(text: &str) -> Option<(&str, u32, &str, &str)> {
+    let (front, rest) = text.rsplit_once('<')?;
+    let (repeated, rest) = rest.split_once('>')?;
+    let (count, part) = repeated.split_once(' ')?;
+    Some((front, count.parse().ok()?, part, rest))
+}
