@@ -100,11 +100,11 @@ const LINES: &[Explanation] = &[
     Explanation {
         subject: Subject::Line("accepted"),
         meaning: &[
-            "`accepted cost C budget B looks N`: no run of the plan meets a trap or makes more",
-            "than C steps, whatever it is answered. A step is one instruction carried out. C is",
-            "the cost of main's first frame, and B the budget in the `plan` line, which is not",
-            "below C. N says how much work the check was: a look is one question of two pieces",
-            "at one point, at a `step` or an `aside`. Status 0.",
+            "`accepted cost C budget B looks N`: no run of the plan meets a trap or makes",
+            "more than C steps, whatever it is answered. A step is one instruction carried",
+            "out. C is the cost of main's first frame, and B the budget in the `plan` line,",
+            "which is not below C. N says how much work the check was: a look is one question",
+            "of two pieces at one point, at a `step` or an `aside`. Status 0.",
         ],
         cause: &[],
         remedy: &[],
