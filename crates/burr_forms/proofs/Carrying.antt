@@ -53,7 +53,7 @@ suc_is (pos n) = omega (arith, ints)
 suc_is (negsuc zero) = refl
 suc_is (negsuc (suc n)) = omega (arith, ints)
 
-times_more : (c x : ℤ) → (c *ℤ (x +ℤ pos 1)) ≡ ((c *ℤ x) +ℤ c)
+pub times_more : (c x : ℤ) → (c *ℤ (x +ℤ pos 1)) ≡ ((c *ℤ x) +ℤ c)
 times_more c x = *ℤ_comm c (x +ℤ pos 1) ∙ ap (λ k. k *ℤ c) (sym (suc_is x)) ∙ suc_ℤ-*ℤ x c ∙ ap (λ k. k +ℤ c) (*ℤ_comm x c)
 
 first_more : (a b c d : ℤ) → a ≡ (b +ℤ c) → (a +ℤ d) ≡ ((b +ℤ d) +ℤ c)

@@ -1,6 +1,7 @@
 mod Boxes
 mod Carrying
 mod Containing
+mod Corners
 mod Counting
 mod Counts
 mod Going

@@ -1,3 +1,4 @@
+pub mod Bounds
 pub mod Conditions
 pub mod Counting
 pub mod Forms

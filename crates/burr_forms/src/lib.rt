@@ -3,6 +3,7 @@
 
 mod advancing;
 mod along;
+mod bounds;
 mod condition;
 mod form;
 mod guards;

@@ -1,10 +1,14 @@
 -- Numbers within so much from 0.
-use Rattle.std.proofs.Common.{◌≡◌, List, [], ◌∷◌, drop, refl}
-use Rattle.std.proofs.lemmas.List.Elements.{All-nil, All-cons, All-head}
+use Rattle.std.proofs.Common.{◌≡◌, ℕ, ℤ, List, [], ◌∷◌, drop, refl, sym, subst, arith}
+use Rattle.std.specs.Prelude.{All}
+use Rattle.std.proofs.lemmas.Int.{ints}
+use Rattle.std.proofs.lemmas.List.Elements.{All-nil, All-cons, All-head, All-map, All-weaker}
 use Rattle.burr_code.specs.Instruction.{IsInNumberRange}
 use Rattle.burr_forms.specs.Forms.{Form, Point, value, values}
+use Rattle.burr_forms.specs.Bounds.{IsLeastIn, IsGreatestIn}
+use Rattle.burr_forms.specs.Conditions.{Region, Throughout}
 use Rattle.burr_frames.specs.States.{AbstractState, Everywhere, IsFirstFailing}
-use Rattle.burr_frames.specs.Ranges.{IsInReach, AllInReach}
+use Rattle.burr_frames.specs.Ranges.{IsInReach, AllInReach, LiesWithin}
 
 pub one_in_range : (s : AbstractState) (f : Form) → Everywhere s (λ point. AllInReach 32767 (values point (f ∷ [])))
     → Everywhere s (λ point. IsInNumberRange (value point f))
@@ -23,3 +27,28 @@ pub two_dropped : {A : Type 0} (xs : List A) → drop 1 (drop 1 xs) ≡ drop 2 x
 two_dropped [] = refl
 two_dropped (x ∷ []) = refl
 two_dropped (x ∷ y ∷ xs) = refl
+
+-- Ends
+
+-- a form lies within so much where its least and its greatest value do
+pub lies_within : (ranges : List (ℤ × ℤ)) (f : Form) (reach : ℕ) (least greatest : ℤ) → IsLeastIn ranges f least → IsGreatestIn ranges f greatest
+    → IsInReach reach least → IsInReach reach greatest → LiesWithin ranges reach f
+lies_within ranges f reach least greatest l g low high point inside =
+    let above = l.below point inside in
+    let below = g.above point inside in
+    let over = low.0 in
+    let under = high.1 in
+    (omega (arith, ints), omega (arith, ints))
+
+pub least_in_reach : (ranges : List (ℤ × ℤ)) (f : Form) (reach : ℕ) (least : ℤ) → IsLeastIn ranges f least → LiesWithin ranges reach f → IsInReach reach least
+least_in_reach ranges f reach least l within = subst (IsInReach reach) (sym l.met.2) (within l.met.0 l.met.1)
+
+pub greatest_in_reach : (ranges : List (ℤ × ℤ)) (f : Form) (reach : ℕ) (greatest : ℤ) → IsGreatestIn ranges f greatest → LiesWithin ranges reach f → IsInReach reach greatest
+greatest_in_reach ranges f reach greatest g within = subst (IsInReach reach) (sym g.met.2) (within g.met.0 g.met.1)
+
+-- forms that lie within so much in the whole box do so at each point of a region
+pub throughout_within : (r : Region) (forms : List Form) (reach : ℕ) → All (LiesWithin r.ranges reach) forms
+    → Throughout r (λ point. AllInReach reach (values point forms))
+throughout_within r forms reach all = λ point is.
+    All-map (IsInReach reach) (value point) forms
+    (All-weaker (LiesWithin r.ranges reach) (λ f. IsInReach reach (value point f)) (λ f within. within point is.0) forms all)

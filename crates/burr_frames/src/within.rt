@@ -1,5 +1,7 @@
-ghost use Rattle.std.specs.Prelude.{◌≡◌, ◌↔◌, IsTrue};
-ghost use Rattle.burr_frames.specs.Ranges.{IsInReach, AllInReach};
+ghost use Rattle.std.specs.Prelude.{◌≡◌, ◌≤◌, ◌↔◌, IsTrue, length, All};
+ghost use Rattle.burr_forms.specs.Forms.{IsSmallForm, AllSmallForms};
+ghost use Rattle.burr_forms.specs.Points.{AreRanges};
+ghost use Rattle.burr_frames.specs.Ranges.{IsInReach, AllInReach, LiesWithin};
 
 use burr_forms::{Condition, Form};
 
@@ -24,6 +26,27 @@ impl<'a> Condition for Within<'a> {
         let reach = self.reach;
         values.iter().all(|value| is_in_reach(*value, reach))
     }
+}
+
+/// Whether no value of some forms is farther than this from 0 at a point of a box, guards not
+/// counted. The caller's conditions are those of `Form::least_in`.
+pub fn lie_within(ranges: &[(i32, i32)], forms: &[Form], reach: u16) -> bool
+    requires few { length ranges.now ≤ 8 }
+    requires ranges { AreRanges ranges.now }
+    requires small { AllSmallForms forms.now }
+    ensures { IsTrue result ↔ All (LiesWithin ranges.now reach) forms.now }
+{
+    forms.iter().all(|form| lies_within(ranges, form, reach))
+}
+
+/// The same of one form.
+fn lies_within(ranges: &[(i32, i32)], form: &Form, reach: u16) -> bool
+    requires few { length ranges.now ≤ 8 }
+    requires ranges { AreRanges ranges.now }
+    requires small { IsSmallForm form.now }
+    ensures { IsTrue result ↔ LiesWithin ranges.now reach form.now }
+{
+    is_in_reach(form.least_in(ranges), reach) && is_in_reach(form.greatest_in(ranges), reach)
 }
 
 /// Whether a number is not farther than this from 0.

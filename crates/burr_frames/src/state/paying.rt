@@ -9,7 +9,7 @@ use super::State;
 use crate::breaking::Break;
 use crate::raising::raised_by;
 use crate::rule::Rule;
-use crate::within::Within;
+use crate::within::{Within, lie_within};
 use burr_forms::{Form, NotNegative, first_failing};
 
 impl State {
@@ -18,9 +18,14 @@ impl State {
         requires { IsSmallForm form.now }
         ensures { HoldsOrBreaks self.now (λ point. pos 0 ≤ℤ value point form.now) rule result }
     {
+        let ranges = self.ranges.as_slice();
+        // where its least value in the whole box tells, no point is looked at
+        if form.least_in(ranges) >= 0 {
+            return Ok(());
+        }
         let forms = [*form];
         let condition = NotNegative { forms: &forms };
-        match first_failing(self.ranges.as_slice(), self.guards.as_slice(), &condition) {
+        match first_failing(ranges, self.guards.as_slice(), &condition) {
             None => Ok(()),
             Some(point) => Err(Break::at(rule, point)),
         }
@@ -34,8 +39,12 @@ impl State {
         ensures { HoldsOrBreaks self.now (λ point. AllInReach reach (values point forms.now))
             rule result }
     {
+        let ranges = self.ranges.as_slice();
+        if lie_within(ranges, forms, reach) {
+            return Ok(());
+        }
         let condition = Within { forms, reach };
-        match first_failing(self.ranges.as_slice(), self.guards.as_slice(), &condition) {
+        match first_failing(ranges, self.guards.as_slice(), &condition) {
             None => Ok(()),
             Some(point) => Err(Break::at(rule, point)),
         }

@@ -11,9 +11,9 @@ use Rattle.burr_frames.proofs.state.State.never_negative.Goals as goal
 pub returns-in-None : goal.returns-in-None
 returns-in-None c =
     let s = c.args.self.now in
-    let searched : Region = record { ranges = c.as_slice.result.now; guards = c.as_slice-2.result.now } in
-    let ranges = c.as_slice.ensures.value ∙ ap (λ (a : AbstractState). a.ranges) c.self.view_is in
-    let guards = c.as_slice-2.ensures.value ∙ ap (λ (a : AbstractState). a.guards) c.self.view_is in
+    let searched : Region = record { ranges = c.as_slice-ranges.result.now; guards = c.as_slice.result.now } in
+    let ranges = c.as_slice-ranges.ensures.value ∙ ap (λ (a : AbstractState). a.ranges) c.self.view_is in
+    let guards = c.as_slice.ensures.value ∙ ap (λ (a : AbstractState). a.guards) c.self.view_is in
     let same : searched ≡ region_of s = λ i. record { ranges = ranges i; guards = guards i } in
     subst (λ (r : Region). Throughout r (λ (point : Point). pos 0 ≤ℤ value point c.args.form.now)) same
     (never_negative searched c.args.form.now c.in-None.ensures)
@@ -22,9 +22,9 @@ pub returns-in-Some : goal.returns-in-Some
 returns-in-Some c =
     let s = c.args.self.now in
     let point = c.in-Some.point.items in
-    let searched : Region = record { ranges = c.as_slice.result.now; guards = c.as_slice-2.result.now } in
-    let ranges = c.as_slice.ensures.value ∙ ap (λ (a : AbstractState). a.ranges) c.self.view_is in
-    let guards = c.as_slice-2.ensures.value ∙ ap (λ (a : AbstractState). a.guards) c.self.view_is in
+    let searched : Region = record { ranges = c.as_slice-ranges.result.now; guards = c.as_slice.result.now } in
+    let ranges = c.as_slice-ranges.ensures.value ∙ ap (λ (a : AbstractState). a.ranges) c.self.view_is in
+    let guards = c.as_slice.ensures.value ∙ ap (λ (a : AbstractState). a.guards) c.self.view_is in
     let same : searched ≡ region_of s = λ i. record { ranges = ranges i; guards = guards i } in (
       point,
       subst (λ (r : Region). FailsFirstAt r (λ (x : Point). pos 0 ≤ℤ value x c.args.form.now) point) same
