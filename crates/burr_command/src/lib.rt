@@ -8,6 +8,3 @@ mod request;
 
 pub use job::{Job, PlanTask};
 pub use request::{Reply, Request, request_of};
-
-#[cfg(test)]
-mod tests;

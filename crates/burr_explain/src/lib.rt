@@ -17,6 +17,3 @@ pub use explanation::{Explanation, Subject};
 pub use finding::explanation_of;
 pub use laws::each_line_has_one_key;
 pub use putting::put_explanation;
-
-#[cfg(test)]
-mod tests;

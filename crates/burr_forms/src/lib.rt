@@ -14,8 +14,6 @@ mod ranges;
 mod relevant;
 mod rows;
 mod searching;
-#[cfg(test)]
-mod tests;
 mod wide;
 
 pub use condition::{Asking, Condition, NotNegative};

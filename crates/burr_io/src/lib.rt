@@ -16,6 +16,3 @@ pub use sink::Sink;
 pub use source::Source;
 pub use whole_lines::WholeLines;
 pub use writing::Writing;
-
-#[cfg(test)]
-mod tests;

@@ -19,6 +19,8 @@ mod plans;
 #[cfg(test)]
 mod puts;
 #[cfg(test)]
+mod sheet;
+#[cfg(test)]
 mod sinks;
 #[cfg(test)]
 mod sources;

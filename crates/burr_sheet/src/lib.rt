@@ -7,6 +7,3 @@ mod sheet;
 pub use burr_bench::Closing;
 pub use laws::a_sheet_closes_once;
 pub use sheet::Sheet;
-
-#[cfg(test)]
-mod tests;

@@ -8,6 +8,3 @@ mod words;
 pub use name::{Name, is_name};
 pub use numbers::{integer, is_number};
 pub use words::{cut_at, is_word};
-
-#[cfg(test)]
-mod tests;

@@ -16,6 +16,3 @@ pub use laws::a_group_that_overlaps_is_not_free;
 pub use meeting::{meets, overlap_at};
 pub use orientation::Orientation;
 pub use shape::Shape;
-
-#[cfg(test)]
-mod tests;

@@ -1,10 +1,9 @@
 //! Whole lines: what each call of the sink below takes.
 use super::Narrow;
-use crate::{IoFailed, Sink, WholeLines, Writing, put_all};
+use burr_io::{IoFailed, Sink, WholeLines, Writing, put_all};
 use std::alloc::{AllocError, Global};
 use std::io::{self, ErrorKind, Write};
 use std::process::Abort;
-use std::test::Fail;
 
 /// A writer that takes all that a call brings, and keeps a `|` after it.
 #[derive(Drop)]
@@ -56,15 +55,13 @@ a;bcdefghijkl;=a;|bcdefghi|jkl;|
 ";
 
 #[test]
-fn hands_on_whole_lines(rt: HostRuntime) -> Result<(), Fail> {
-    let alloc = rt.alloc();
-    for case in CALLS.lines() {
+fn hands_on_whole_lines(rt: HostRuntime) {
+    for line in CALLS.lines() {
+        let case = line.replace(rt.alloc(), ";", "\n").expect(&rt, "memory");
         let (portions, wanted) = case.split_once('=').expect(&rt, "a case has calls");
-        let got = calls_of(alloc, portions.replace(alloc, ";", "\n")?.as_str())?;
-        let wanted = wanted.replace(alloc, ";", "\n")?;
-        assert_eq!(rt; got.as_slice(), wanted.as_bytes(), "{portions}");
+        let calls = calls_of(rt.alloc(), portions).expect(&rt, "memory");
+        assert!(rt; calls.as_slice() == wanted.as_bytes(), "{line}");
     }
-    Ok(())
 }
 
 /// Puts a text and flushes it, over a writer that takes a byte a call, so many of them, and then fails
@@ -80,12 +77,9 @@ fn is_put_into(writer: &mut Narrow, text: &[u8]) -> bool {
 fn assert_front(rt: &impl Abort, writer: &mut Narrow, text: &[u8]) {
     let room = writer.refuses_at;
     let all = is_put_into(writer, text);
-    assert_eq!(rt; all, room >= text.len(), "{room}");
-    assert_eq!(rt;
-        Some(writer.taken.as_slice()),
-        text.get(..room.min(text.len())),
-        "{room}"
-    );
+    assert!(rt; all == (room >= text.len()), "{room}");
+    let front = text.get(..room.min(text.len()));
+    assert!(rt; Some(writer.taken.as_slice()) == front, "{room}");
 }
 
 #[test]
@@ -93,12 +87,7 @@ fn hands_on_a_front_where_the_sink_below_fails(rt: HostRuntime) {
     let text = b"a\nbc\ndefghijk\n\nl";
     for refuses_at in 0..=text.len() {
         for fault in [Some(ErrorKind::Other), None] {
-            let mut writer = Narrow {
-                taken: Vec::new(rt.alloc()),
-                calls: 0,
-                refuses_at,
-                fault,
-            };
+            let mut writer = Narrow::new(rt.alloc(), refuses_at, fault);
             assert_front(&rt, &mut writer, text);
         }
     }
@@ -107,18 +96,13 @@ fn hands_on_a_front_where_the_sink_below_fails(rt: HostRuntime) {
 /// After a failure nothing more is handed on, and every call fails.
 #[test]
 fn stays_failed_where_the_sink_below_fails(rt: HostRuntime) {
-    let mut writer = Narrow {
-        taken: Vec::new(rt.alloc()),
-        calls: 0,
-        refuses_at: 1,
-        fault: None,
-    };
+    let mut writer = Narrow::new(rt.alloc(), 1, None);
     let mut sink: WholeLines<_, 4> = WholeLines::new(Writing::new(&mut writer));
-    assert_eq!(rt; sink.put(b"ab"), Ok(2));
+    assert!(rt; sink.put(b"ab") == Ok(2));
     assert!(rt; sink.flush().is_err());
     assert!(rt; sink.failed());
-    assert_eq!(rt; sink.put(b"c"), Err(IoFailed));
+    assert!(rt; sink.put(b"c") == Err(IoFailed));
     assert!(rt; sink.flush().is_err());
-    assert_eq!(rt; writer.taken.as_slice(), b"a".as_slice());
-    assert_eq!(rt; writer.calls, 2);
+    assert!(rt; writer.taken.as_slice() == b"a".as_slice());
+    assert!(rt; writer.calls == 2);
 }

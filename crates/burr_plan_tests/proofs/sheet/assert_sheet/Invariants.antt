@@ -1,5 +1,5 @@
 use Rattle.std.proofs.Common.{◌≡◌, ◌≤◌, length}
-use Rattle.burr_sheet.proofs.tests.assert_sheet.Given as goal
+use Rattle.burr_plan_tests.proofs.sheet.assert_sheet.Given as goal
 
 -- each motion so far was counted, and each was one out at most
 abbrev pub invariant-loop-motion : goal.invariant-loop-motion

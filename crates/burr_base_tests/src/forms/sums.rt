@@ -2,15 +2,18 @@
 ghost use Rattle.std.specs.Prelude.{◌↔◌, IsTrue};
 ghost use Rattle.burr_forms.specs.Forms.{IsNear};
 
-use super::*;
+use super::{MOST, form, is_small, number};
+use burr_forms::{Form, FormTooLarge, Guards};
+use std::process::Abort;
 
 /// Asserts the value of a form at a point, in the front of which these numbers stand.
-fn assert_value<T: Abort>(rt: &T, form: Form, point: [i32; 8], value: i64) {
+fn assert_value(rt: &impl Abort, form: Form, point: [i32; 8], value: i64) {
     assert!(rt; is_small(&form));
     assert!(rt; point.iter().all(|number| is_near(*number)));
-    assert_eq!(rt; form.eval(&point), value);
+    assert!(rt; form.eval(&point) == value);
 }
 
+/// What is asked of a number of a point: that it lies within ±32,767.
 fn is_near(number: i32) -> bool
     ensures { IsTrue result ↔ IsNear number }
 {
@@ -18,7 +21,7 @@ fn is_near(number: i32) -> bool
 }
 
 #[test]
-fn gives_values(rt: HostRuntime) -> Result<(), Fail> {
+fn gives_values(rt: HostRuntime) {
     assert_value(&rt, form(1, 2, -3), [4, 5, 9, 9, 9, 9, 9, 9], -6);
     assert_value(&rt, number(-MOST), [0; 8], -MOST);
     let most = Form {
@@ -27,19 +30,18 @@ fn gives_values(rt: HostRuntime) -> Result<(), Fail> {
     };
     assert_value(&rt, most, [32767; 8], MOST * (1 + 8 * 32767));
     assert_value(&rt, most, [-32767; 8], MOST * (1 - 8 * 32767));
-    Ok(())
 }
 
 /// Asserts what a form is with these arguments in place of its symbols.
-fn assert_substituted<T: Abort>(
-    rt: &T,
+fn assert_substituted(
+    rt: &impl Abort,
     form: Form,
     arguments: &[Form; 8],
     given: Result<Form, FormTooLarge>,
 ) {
     assert!(rt; is_small(&form));
     assert!(rt; Guards::new(arguments).is_some());
-    assert_eq!(rt; form.substitute(arguments), given);
+    assert!(rt; form.substitute(arguments) == given);
 }
 
 /// Two arguments, and 0 in place of the other symbols.
@@ -49,7 +51,7 @@ fn arguments(first: Form, second: Form) -> [Form; 8] {
 }
 
 #[test]
-fn puts_forms_in_place_of_symbols(rt: HostRuntime) -> Result<(), Fail> {
+fn puts_forms_in_place_of_symbols(rt: HostRuntime) {
     let zero = number(0);
     let one = arguments(form(3, 0, -1), zero);
     assert_substituted(&rt, form(1, 2, 0), &one, Ok(form(7, 0, -2)));
@@ -70,12 +72,11 @@ fn puts_forms_in_place_of_symbols(rt: HostRuntime) -> Result<(), Fail> {
     // What lies between may be far larger.
     let far = arguments(number(MOST), number(-MOST));
     assert_substituted(&rt, form(1, MOST, MOST), &far, Ok(number(1)));
-    Ok(())
 }
 
 /// Asserts the sum and the difference of two forms.
-fn assert_added<T: Abort>(
-    rt: &T,
+fn assert_added(
+    rt: &impl Abort,
     one: Form,
     other: Form,
     sum: Result<Form, FormTooLarge>,
@@ -83,12 +84,12 @@ fn assert_added<T: Abort>(
 ) {
     assert!(rt; is_small(&one));
     assert!(rt; is_small(&other));
-    assert_eq!(rt; one.add(&other), sum);
-    assert_eq!(rt; one.sub(&other), difference);
+    assert!(rt; one.add(&other) == sum);
+    assert!(rt; one.sub(&other) == difference);
 }
 
 #[test]
-fn adds_and_subtracts(rt: HostRuntime) -> Result<(), Fail> {
+fn adds_and_subtracts(rt: HostRuntime) {
     let (one, other) = (form(1, 2, 3), form(10, -2, 30));
     assert_added(&rt, one, other, Ok(form(11, 0, 33)), Ok(form(-9, 4, -27)));
     let (most, least) = (number(MOST), number(-MOST));
@@ -107,5 +108,4 @@ fn adds_and_subtracts(rt: HostRuntime) -> Result<(), Fail> {
         Err(FormTooLarge),
     );
     assert_added(&rt, most, least, Ok(number(0)), Err(FormTooLarge));
-    Ok(())
 }

@@ -1,20 +1,13 @@
 //! Worked sheets.
-use crate::{Closing, Sheet};
+use crate::assemblies::{DUO, FOUR};
 use burr_assembly::Assembly;
 use burr_bench::{Motion, Trap};
 use burr_io::Writing;
+use burr_sheet::{Closing, Sheet};
 use burr_voxels::Direction;
 use std::alloc::Global;
 use std::process::Abort;
 use std::test::Fail;
-
-/// Two cubes side by side.
-const DUO: &str =
-    "assembly duo\nshape cube\nlayer\n#\nend\npiece A cube +x+y+z 0 0 0\npiece B cube +x+y+z 1 0 0\n";
-
-/// Four cubes in a square.
-const FOUR: &str =
-    "assembly cubes\nshape cube\nlayer\n#\nend\npiece A cube +x+y+z 0 0 0\npiece B cube +x+y+z 1 0 0\npiece C cube +x+y+z 0 1 0\npiece D cube +x+y+z 1 1 0\n";
 
 /// A unit step of the first piece.
 const fn step(dir: Direction) -> Motion {
@@ -108,7 +101,7 @@ fn counts_levels_between_outs(rt: HostRuntime) -> Result<(), Fail> {
         out(1, 0, Direction::MinusX),
         out(4, 1, Direction::MinusX),
     ];
-    let output =
-        "1 t0 C,D +y 0 out\n2 t0 A +z 1\n3 t0 A +x 1\n4 t0 A -x 0 out\n5 t1 C -x 0 out\nlevels 1.3.1\napart in 9 steps\n";
+    let output = "1 t0 C,D +y 0 out\n2 t0 A +z 1\n3 t0 A +x 1\n4 t0 A -x 0 out\n\
+        5 t1 C -x 0 out\nlevels 1.3.1\napart in 9 steps\n";
     assert_sheet(&rt, rt.alloc(), FOUR, &motions, Closing::Apart, 9, output)
 }

@@ -1,8 +1,7 @@
 //! Words, and what they ask for: help, the version, faults, jobs.
-use super::*;
+use burr_command::{Job, PlanTask, Request, request_of};
 use std::alloc::{AllocError, Global};
 use std::process::Abort;
-use std::test::Fail;
 
 /// The words of a command line, the program's name first; a blank stands between two of them.
 fn words_of(alloc: Global, line: &str) -> Result<Vec<String>, AllocError> {
@@ -55,14 +54,13 @@ fn job_text(alloc: Global, job: &Job<'_>) -> Result<String, AllocError> {
     }
 }
 
-/// Goes through command lines, each after `$` and before the lines of its answer.
-fn assert_answers<T: Abort + AllocGlobal>(rt: &T, cases: &str) -> Result<(), Fail> {
+/// Asserts the answers to command lines, each after `$` and before the lines of its answer.
+fn assert_answers(rt: &impl Abort, alloc: Global, cases: &str) {
     for case in cases.split('$').skip(1) {
         let (line, wanted) = case.split_once('\n').expect(rt, "a case has a first line");
-        let got = answer_of(rt.alloc(), line)?;
-        assert_eq!(rt; got.as_str(), wanted, "{line}");
+        let answer = answer_of(alloc, line).expect(rt, "memory");
+        assert!(rt; answer.as_str() == wanted, "{line}: {answer}");
     }
-    Ok(())
 }
 
 /// What the program says of itself.
@@ -369,20 +367,13 @@ $burr explain -
 =explain -
 ";
 
-#[test]
-fn gives_help_and_the_version(rt: HostRuntime) -> Result<(), Fail> {
-    assert_answers(&rt, HELP)?;
-    assert_answers(&rt, COMMAND_HELP)
-}
+const ANSWERS: [&str; 4] = [HELP, COMMAND_HELP, FAULTS, JOBS];
 
 #[test]
-fn says_what_is_wrong_with_words(rt: HostRuntime) -> Result<(), Fail> {
-    assert_answers(&rt, FAULTS)
-}
-
-#[test]
-fn asks_for_jobs(rt: HostRuntime) -> Result<(), Fail> {
-    assert_answers(&rt, JOBS)
+fn answers_words(rt: HostRuntime) {
+    for cases in &ANSWERS {
+        assert_answers(&rt, rt.alloc(), cases);
+    }
 }
 
 /// Pairs of command lines that are answered alike.
@@ -400,14 +391,12 @@ burr explain --help=burr help explain
 ";
 
 #[test]
-fn gives_help_by_other_words(rt: HostRuntime) -> Result<(), Fail> {
-    let alloc = rt.alloc();
+fn gives_help_by_other_words(rt: HostRuntime) {
     for line in ALIKE.lines() {
         let (first, second) = line.split_once('=').expect(&rt, "a pair is two lines");
-        let answer = answer_of(alloc, first)?;
-        let other = answer_of(alloc, second)?;
+        let answer = answer_of(rt.alloc(), first).expect(&rt, "memory");
+        let other = answer_of(rt.alloc(), second).expect(&rt, "memory");
         assert!(rt; answer.starts_with(">"), "{line}");
-        assert_eq!(rt; answer.as_str(), other.as_str(), "{line}");
+        assert!(rt; answer.as_str() == other.as_str(), "{line}");
     }
-    Ok(())
 }
