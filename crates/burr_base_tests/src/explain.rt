@@ -176,7 +176,7 @@ fn assert_heading(rt: &impl Abort, alloc: Global, case: &str) {
     let bytes = written(rt, alloc, line);
     let text = str::from_utf8(&bytes).expect(rt, "a text");
     let (first, _rest) = text.split_once('\n').expect(rt, "a line");
-    assert!(rt; first == heading, "{line}: {first}");
+    assert!(rt; first == heading, "{line}");
     for part in text.lines() {
         assert!(rt; part.len() <= 80, "{line}");
     }
