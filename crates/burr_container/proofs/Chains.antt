@@ -1,5 +1,5 @@
 -- Reading one part behind another.
-use Rattle.std.proofs.Common.{◌≡◌, ℕ, suc, ◌+◌, ◌%◌, ◌^◌, ◌<◌, Bool, ◌&&◌, IsTrue, nat_lt, nat_le, List, [], ◌∷◌, length, inr, ap, ◌∙◌, subst, arith, length-append, lt-ltb}
+use Rattle.std.proofs.Common.{◌≡◌, ℕ, suc, ◌+◌, ◌%◌, ◌^◌, ◌<◌, ◌≤◌, Bool, ◌&&◌, IsTrue, nat_lt, nat_le, List, [], ◌∷◌, length, inr, ap, ◌∙◌, subst, arith, length-append, leb-true, lt-ltb}
 use Rattle.std.proofs.lemmas.Bool.{and_parts, and_from}
 use Rattle.burr_container.specs.declared.fault.ContainerFault.{ContainerFault}
 use Rattle.burr_container.specs.declared.fault.ContainerFault.TheVariants.{C4}
@@ -43,6 +43,12 @@ at_most most cursor next n here =
           (and_parts (nat_le 0 n) (nat_le n most) both.1).1;
       cut = here.cut;
     }
+
+pub count_most : (most : ℕ) (cursor next : Cursor) (n : ℕ)
+    → IsAt (number 1 C4 (λ n. nat_le 0 n && nat_le n most)) cursor n next → n ≤ most
+count_most most cursor next n here =
+    let both = and_parts (nat_lt n (256 ^ 1)) (nat_le 0 n && nat_le n most) here.fits in
+    leb-true n most (and_parts (nat_le 0 n) (nat_le n most) both.1).1
 
 module _ {A : Type 0} (part : Part A) (cursor next : Cursor) (a : A) where
   pub behind_part : IsAt part cursor a next → IsBehind cursor next

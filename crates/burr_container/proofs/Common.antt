@@ -1,4 +1,5 @@
 pub mod Containers
+pub mod Exits
 pub mod Fields
 pub mod FormSpelling
 pub mod Frames

@@ -5,14 +5,14 @@ use Rattle.burr_forms.specs.Forms.{Form}
 use Rattle.burr_container.specs.declared.fault.ContainerFault.{ContainerFault}
 use Rattle.burr_container.specs.declared.fault.ContainerFault.TheVariants.{C4}
 use Rattle.burr_container.specs.declared.reading.cursor.Cursor.{Cursor}
-use Rattle.burr_container.specs.Plans.{Range, live_slots, parameter_slots}
+use Rattle.burr_container.specs.Plans.{Range, live_slots}
 use Rattle.burr_container.specs.Fitting.{is_tray, is_set_of}
-use Rattle.burr_container.specs.Faults.{Failing, number, slots, form, forms, place, places, each, first, frame, exit_frame}
+use Rattle.burr_container.specs.Faults.{Failing, number, slots, form, forms, place, places, each, first, frame}
 use Rattle.burr_container.specs.Reading.{IsAt}
 use Rattle.burr_container.proofs.Common.Lawful.{Front, OfFirst}
 use Rattle.burr_container.proofs.Common.Lists.{OfEach}
-use Rattle.burr_container.proofs.Common.Frames.{FormPlaces, BehindHead, OfCost, cost_fails, OfStack, stack_fails, OfGuards, guards_fail, OfSlotsOn, slots_fail, OfHead, head_fails, frame_of, exit_frame_of, places_made}
-use Rattle.burr_container.proofs.Common.Judging.Frames.{frame_back, exit_back}
+use Rattle.burr_container.proofs.Common.Frames.{FormPlaces, BehindHead, OfCost, cost_fails, OfStack, stack_fails, OfGuards, guards_fail, OfSlotsOn, slots_fail, OfHead, head_fails, frame_of, places_made}
+use Rattle.burr_container.proofs.Common.Judging.Frames.{frame_back}
 use Rattle.burr_container.proofs.Chains.{IsBehind, small_of, behind_part, stands_at, then_fails, then_stands}
 
 -- a tray and a set of pieces
@@ -28,7 +28,7 @@ module _ (pieces tray grip : ℕ) (cursor behind_tray behind_grip : Cursor)
       (then_fails (number 4 C4 (is_set_of pieces)) behind_tray behind_grip grip (λ grip. more)
       fault grip_at fails)
 
-  head_then_stands : {B : Type 0} (More : Front B) (b : B) (r : List ℕ)
+  pub head_then_stands : {B : Type 0} (More : Front B) (b : B) (r : List ℕ)
       → More b behind_grip.rest.now r → OfHead pieces More (tray, (grip, b)) cursor.rest.now r
   head_then_stands More b r more =
       then_stands (number 1 C4 is_tray) cursor behind_tray tray
@@ -36,25 +36,10 @@ module _ (pieces tray grip : ℕ) (cursor behind_tray behind_grip : Cursor)
       (then_stands (number 4 C4 (is_set_of pieces)) behind_tray behind_grip grip (λ grip. More) b r
       grip_at more)
 
-  head_behind : IsBehind cursor behind_grip
+  pub head_behind : IsBehind cursor behind_grip
   head_behind =
       behind_part (number 4 C4 (is_set_of pieces)) behind_tray behind_grip grip grip_at
       ∙ behind_part (number 1 C4 is_tray) cursor behind_tray tray tray_at
-
-  -- places behind them
-  pub exit_frame_at : (parameters : ℕ) (next : Cursor) (ps : FormPlaces)
-      → IsAt (places pieces (parameter_slots parameters)) behind_grip ps next
-      → IsAt (exit_frame pieces parameters) cursor (exit_frame_of (tray, (grip, ps))) next
-  exit_frame_at parameters next ps places_at =
-      let live = parameter_slots parameters in
-      let stand =
-      head_then_stands (OfEach pieces (place live)) ps next.rest.now
-      (places_made pieces live ps behind_grip.rest.now next.rest.now places_at.fits
-      places_at.cut.parts) in
-      stands_at (exit_frame pieces parameters) cursor next (exit_frame_of (tray, (grip, ps)))
-      (exit_back pieces parameters (tray, (grip, ps)) cursor.rest.now next.rest.now
-      (small_of cursor.rest.now cursor.bytes) stand)
-      (behind_part (places pieces live) behind_grip next ps places_at ∙ head_behind)
 
   pub slots_fail_in_frame : (fault : ContainerFault)
       → slots.Fails behind_grip.at behind_grip.rest.now fault

@@ -1,5 +1,5 @@
 -- Reading the header.
-use Rattle.std.proofs.Common.{◌≡◌, ℕ, ◌+◌, ◌==◌, Bool, List, ◌∷◌, ◌++◌, length, codes, inl, sym, ap, ◌∙◌, arith, append_assoc, length-append, eqb-true}
+use Rattle.std.proofs.Common.{◌≡◌, ℕ, ◌+◌, ◌==◌, List, ◌∷◌, ◌++◌, length, codes, inl, sym, ap, ◌∙◌, arith, append_assoc, length-append}
 use Rattle.std.proofs.lemmas.Bool.{and_parts}
 use Rattle.std.proofs.lemmas.Slice.Eq.{bytes_eq-Decides}
 use Rattle.byteorder.specs.Endian.{big_bytes}
@@ -8,7 +8,7 @@ use Rattle.burr_container.specs.declared.fault.ContainerFault.TheVariants.{C2, C
 use Rattle.burr_container.specs.declared.reading.cursor.Cursor.{Cursor}
 use Rattle.burr_container.specs.declared.header.Header.{Header}
 use Rattle.burr_container.specs.Spelling.{front_bytes}
-use Rattle.burr_container.specs.Fitting.{is_budget, is_piece_count}
+use Rattle.burr_container.specs.Fitting.{is_version, is_budget, is_piece_count}
 use Rattle.burr_container.specs.Faults.{Failing, number, raw, first, name, is_magic, ProceduresFail, ContainerFails}
 use Rattle.burr_container.specs.Reading.{IsAt}
 use Rattle.burr_container.specs.InPlace.{IsHeaderAt}
@@ -17,20 +17,17 @@ use Rattle.burr_container.proofs.Chains.{IsBehind, behind_part, stands, then_fai
 
 -- what follows each part of the header
 
-abbrev named_fails : ℕ → Failing
-named_fails pieces = first name (λ text. ProceduresFail pieces)
+abbrev named_fails : ℕ → ℕ → Failing
+named_fails version pieces = first name (λ text. ProceduresFail version pieces)
 
-abbrev pieces_fail : Failing
-pieces_fail = first (number 1 C4 is_piece_count) named_fails
+abbrev pieces_fail : ℕ → Failing
+pieces_fail version = first (number 1 C4 is_piece_count) (named_fails version)
 
-abbrev budget_fails : Failing
-budget_fails = first (number 4 C4 is_budget) (λ budget. pieces_fail)
-
-abbrev is_version : ℕ → Bool
-is_version version = version == 1
+abbrev budget_fails : ℕ → Failing
+budget_fails version = first (number 4 C4 is_budget) (λ budget. pieces_fail version)
 
 abbrev version_fails : Failing
-version_fails = first (number 2 C3 is_version) (λ version. budget_fails)
+version_fails = first (number 2 C3 is_version) budget_fails
 
 front_apart : (magic version budget : List ℕ) (pieces size : ℕ) (text r : List ℕ)
     → (magic ++ version ++ budget ++ pieces ∷ size ∷ text) ++ r
@@ -41,12 +38,12 @@ module _ (c0 c1 c2 c3 : Cursor) (magic : List ℕ) (version budget : ℕ)
     (magic_at : IsAt (raw 4 C2 is_magic) c0 magic c1)
     (version_at : IsAt (number 2 C3 is_version) c1 version c2)
     (budget_at : IsAt (number 4 C4 is_budget) c2 budget c3) where
-  then_pieces_fail : (fault : ContainerFault) → pieces_fail c3.at c3.rest.now fault
+  then_pieces_fail : (fault : ContainerFault) → pieces_fail version c3.at c3.rest.now fault
       → ContainerFails c0.at c0.rest.now fault
   then_pieces_fail fault fails =
       then_fails (raw 4 C2 is_magic) c0 c1 magic (λ magic. version_fails) fault magic_at
-      (then_fails (number 2 C3 is_version) c1 c2 version (λ version. budget_fails) fault version_at
-      (then_fails (number 4 C4 is_budget) c2 c3 budget (λ budget. pieces_fail) fault budget_at
+      (then_fails (number 2 C3 is_version) c1 c2 version budget_fails fault version_at
+      (then_fails (number 4 C4 is_budget) c2 c3 budget (λ budget. pieces_fail version) fault budget_at
       fails))
 
   pub piece_count_fails : (fault : ContainerFault)
@@ -56,26 +53,22 @@ module _ (c0 c1 c2 c3 : Cursor) (magic : List ℕ) (version budget : ℕ)
 
   module _ (c4 : Cursor) (pieces : ℕ) (pieces_at : IsAt (number 1 C4 is_piece_count) c3 pieces c4)
     where
-      then_name_fails : (fault : ContainerFault) → named_fails pieces c4.at c4.rest.now fault
+      then_name_fails : (fault : ContainerFault) → named_fails version pieces c4.at c4.rest.now fault
           → ContainerFails c0.at c0.rest.now fault
       then_name_fails fault fails =
           then_pieces_fail fault
-          (then_fails (number 1 C4 is_piece_count) c3 c4 pieces named_fails fault pieces_at fails)
+          (then_fails (number 1 C4 is_piece_count) c3 c4 pieces (named_fails version) fault pieces_at fails)
 
       pub name_fails : (fault : ContainerFault) → name.Fails c4.at c4.rest.now fault
           → ContainerFails c0.at c0.rest.now fault
       name_fails fault fails = then_name_fails fault (inl fails)
 
       module _ (c5 : Cursor) (text : List ℕ) (name_at : IsAt name c4 text c5) where
-        all_parts : c0.rest.now ≡ front_bytes budget pieces text ++ c5.rest.now
+        all_parts : c0.rest.now ≡ front_bytes version budget pieces text ++ c5.rest.now
         all_parts =
             let text_there =
             (bytes_eq-Decides magic (codes "BPLN")).0
             (and_parts (length magic == 4) (is_magic magic) magic_at.fits).1 in
-            let is_one =
-            eqb-true version 1
-            (number_so 2 C3 is_version version c1.rest.now c2.rest.now
-            (stands (number 2 C3 is_version) c1 c2 version version_at)) in
             let piece =
             byte_back C4 is_piece_count pieces c3.rest.now c4.rest.now
             (stands (number 1 C4 is_piece_count) c3 c4 pieces pieces_at) in
@@ -83,11 +76,10 @@ module _ (c0 c1 c2 c3 : Cursor) (magic : List ℕ) (version budget : ℕ)
             let behind_version =
             budget_at.cut.parts ∙ ap (λ (r : List ℕ). big_bytes 4 budget ++ r) behind_budget in
             let behind_magic =
-            version_at.cut.parts ∙ ap (λ (n : ℕ). big_bytes 2 n ++ c2.rest.now) is_one
-            ∙ ap (λ (r : List ℕ). big_bytes 2 1 ++ r) behind_version in
+            version_at.cut.parts ∙ ap (λ (r : List ℕ). big_bytes 2 version ++ r) behind_version in
             magic_at.cut.parts ∙ ap (λ (front : List ℕ). front ++ c1.rest.now) text_there
             ∙ ap (λ (r : List ℕ). codes "BPLN" ++ r) behind_magic
-            ∙ sym (front_apart (codes "BPLN") (big_bytes 2 1) (big_bytes 4 budget) pieces
+            ∙ sym (front_apart (codes "BPLN") (big_bytes 2 version) (big_bytes 4 budget) pieces
             (length text) text c5.rest.now)
 
         all_behind : IsBehind c0 c5
@@ -101,17 +93,16 @@ module _ (c0 c1 c2 c3 : Cursor) (magic : List ℕ) (version budget : ℕ)
         pub header_at : (h : Header) → h.version ≡ version → h.budget ≡ budget → h.pieces ≡ pieces
             → h.name.now ≡ text → IsHeaderAt c0 h c5
         header_at h v b p t =
-            let size : length c0.rest.now ≡ length (front_bytes budget pieces text)
+            let size : length c0.rest.now ≡ length (front_bytes version budget pieces text)
             + length c5.rest.now =
             ap (λ (all : List ℕ). length all) all_parts
-            ∙ length-append (front_bytes budget pieces text) c5.rest.now in
-            let moved : c5.at ≡ c0.at + length (front_bytes budget pieces text) =
+            ∙ length-append (front_bytes version budget pieces text) c5.rest.now in
+            let moved : c5.at ≡ c0.at + length (front_bytes version budget pieces text) =
             omega (arith, size, all_behind) in
             rw (v, b, p, t)
             (record {
-              version = eqb-true version 1
-                  (number_so 2 C3 is_version version c1.rest.now c2.rest.now
-                  (stands (number 2 C3 is_version) c1 c2 version version_at));
+              version = number_so 2 C3 is_version version c1.rest.now c2.rest.now
+                  (stands (number 2 C3 is_version) c1 c2 version version_at);
               budget = number_so 4 C4 is_budget budget c2.rest.now c3.rest.now
                   (stands (number 4 C4 is_budget) c2 c3 budget budget_at);
               pieces = number_so 1 C4 is_piece_count pieces c3.rest.now c4.rest.now
@@ -119,5 +110,5 @@ module _ (c0 c1 c2 c3 : Cursor) (magic : List ℕ) (version budget : ℕ)
               name = name_at.fits;
               cut = record { parts = all_parts; moved = moved };
               fails = λ fault fails. then_name_fails fault
-                  (then_fails name c4 c5 text (λ text. ProceduresFail pieces) fault name_at fails);
+                  (then_fails name c4 c5 text (λ text. ProceduresFail version pieces) fault name_at fails);
             })

@@ -2,8 +2,11 @@ pub mod Chains
 pub mod Common
 pub mod Decoded
 pub mod EachWalk
+pub mod FewCounts
 pub mod Fits
 pub mod FormsRead
+pub mod ExitsRead
+pub mod RangesWalk
 pub mod FramesRead
 pub mod ContainerRead
 pub mod Forms

@@ -1,5 +1,5 @@
 -- Reading procedures.
-use Rattle.std.proofs.Common.{◌≡◌, ℕ, zero, suc, pred, ◌-◌, ◌≤◌, ◌^◌, ◌&&◌, ◌==◌, true, false, IsTrue, nat_lt, nat_le, Option, Some, None, List, ◌∷◌, ◌++◌, length, inl, refl, sym, ap, ◌∙◌, subst, arith, append_assoc, leb-true, eq-eqb}
+use Rattle.std.proofs.Common.{◌≡◌, ℕ, zero, suc, pred, ◌-◌, ◌≤◌, ◌^◌, ◌&&◌, ◌==◌, Bool, true, false, IsTrue, nat_lt, nat_le, Option, Some, None, List, ◌∷◌, ◌++◌, length, inl, refl, sym, ap, ◌∙◌, subst, arith, append_assoc, leb-true, eq-eqb}
 use Rattle.std.specs.List.{list_all}
 use Rattle.std.proofs.lemmas.Bool.{and_parts, and_from}
 use Rattle.burr_code.specs.declared.limits.TheConstants.{MOST_CODE}
@@ -9,12 +9,12 @@ use Rattle.burr_container.specs.declared.reading.cursor.Cursor.{Cursor}
 use Rattle.burr_container.specs.Plans.{Frame, ExitFrame, PlanProcedure}
 use Rattle.burr_container.specs.Spelling.{labels_bytes, code_bytes}
 use Rattle.burr_container.specs.Fitting.{are_parameters, is_code, is_procedure}
-use Rattle.burr_container.specs.Faults.{number, first, by_test, each, exit_frame, labels, last_label, is_above, code, CodeFails, BodyFails, body, procedure, others, procedures, IsFollowed, ProceduresFail}
+use Rattle.burr_container.specs.Faults.{Failing, number, first, each, exit_frame, labels, last_label, is_above, code, CodeFails, BodyFails, body, result_count, ExitFails, procedure, others, procedures, IsFollowed, ProceduresFail}
 use Rattle.burr_container.specs.Reading.{IsAt}
-use Rattle.burr_container.proofs.Common.Lawful.{OfNothing}
+use Rattle.burr_container.proofs.Common.Lawful.{Front, OfFirst, OfNothing}
 use Rattle.burr_container.proofs.Common.Fields.{of_number}
 use Rattle.burr_container.proofs.Common.Lists.{OfEach}
-use Rattle.burr_container.proofs.Common.Procedures.{is_length, OfCode, Body, OfBody, main_of, other_of, OfExit, exit_fails}
+use Rattle.burr_container.proofs.Common.Procedures.{is_length, OfCode, Body, OfBody, OfCounts, counts_fail, main_of, other_of, OfExit, exit_fails}
 use Rattle.burr_container.proofs.Common.Containers.{is_procedure_count, OfOthers, others_fail, OfProcedures, procedures_fail}
 use Rattle.burr_container.proofs.Common.Judging.Procedures.{main_back, other_back}
 use Rattle.burr_container.proofs.Common.Judging.Containers.{counted_back}
@@ -77,131 +77,201 @@ body_front pieces ls bytes cursor next here =
       code_front (last_label ls) bytes rest next.rest.now both.1 refl,
     )
 
--- a body behind the parameters of main
-pub main_at : (pieces parameters : ℕ) (ls : List (ℕ × Frame)) (bytes : List ℕ)
-    (cursor behind next : Cursor)
+-- parameters and results
+module _ (version : ℕ) (main : Bool) (parameters results : ℕ)
+    (cursor behind behind_results : Cursor)
+    (head : IsAt (number 1 C4 (are_parameters main)) cursor parameters behind)
+    (results_at : IsAt (result_count version main) behind results behind_results) where
+  counts_then_fail : (more : ℕ → ℕ → Failing) (fault : ContainerFault)
+      → more parameters results behind_results.at behind_results.rest.now fault
+      → counts_fail version main more cursor.at cursor.rest.now fault
+  counts_then_fail more fault fails =
+      then_fails (number 1 C4 (are_parameters main)) cursor behind parameters
+      (λ parameters. first (result_count version main) (λ results. more parameters results)) fault
+      head
+      (then_fails (result_count version main) behind behind_results results
+      (λ results. more parameters results) fault results_at fails)
+
+  counts_then_stand : {B : Type 0} (More : ℕ → ℕ → Front B) (b : B) (r : List ℕ)
+      → More parameters results b behind_results.rest.now r
+      → OfCounts version main More (parameters, (results, b)) cursor.rest.now r
+  counts_then_stand More b r more =
+      then_stands (number 1 C4 (are_parameters main)) cursor behind parameters
+      (λ parameters. OfFirst (result_count version main) (λ results. More parameters results))
+      (results, b) r head
+      (then_stands (result_count version main) behind behind_results results
+      (λ results. More parameters results) b r results_at more)
+
+  counts_behind : IsBehind cursor behind_results
+  counts_behind =
+      behind_part (result_count version main) behind behind_results results results_at
+      ∙ behind_part (number 1 C4 (are_parameters main)) cursor behind parameters head
+
+-- the count of results fails
+pub count_fails : (version pieces : ℕ) (main : Bool) (parameters : ℕ) (cursor behind : Cursor)
+    (fault : ContainerFault)
+    → IsAt (number 1 C4 (are_parameters main)) cursor parameters behind
+    → (result_count version main).Fails behind.at behind.rest.now fault
+    → (procedure version pieces main).Fails cursor.at cursor.rest.now fault
+count_fails version pieces main parameters cursor behind fault head fails =
+    then_fails (number 1 C4 (are_parameters main)) cursor behind parameters
+    (λ parameters. first (result_count version main) (λ results.
+    ExitFails version pieces main parameters results)) fault head (inl fails)
+
+-- parameters, of main and of another procedure
+pub main_head : (parameters : ℕ) (cursor behind : Cursor)
     → IsAt (number 1 C4 (λ n. nat_le 0 n && nat_le n 0)) cursor parameters behind
-    → IsAt (body pieces) behind (ls, bytes) next
-    → IsAt (procedure pieces true) cursor
-    (record { parameters = parameters; exit = None; labels = ls; code = bytes }) next
-main_at pieces parameters ls bytes cursor behind next counted body_at =
-    let head = at_most 0 cursor behind parameters counted in
-    let values : ℕ × Body = (parameters, (ls, (length bytes, bytes))) in
-    stands_at (procedure pieces true) cursor next (main_of values)
-    (main_back pieces values cursor.rest.now next.rest.now
-    (small_of cursor.rest.now cursor.bytes)
-    (then_stands (number 1 C4 (are_parameters true)) cursor behind parameters
-    (λ parameters. OfBody pieces) (ls, (length bytes, bytes)) next.rest.now head
-    (body_front pieces ls bytes behind next body_at)))
-    (behind_part (body pieces) behind next (ls, bytes) body_at
-    ∙ behind_part (number 1 C4 (are_parameters true)) cursor behind parameters head)
+    → IsAt (number 1 C4 (are_parameters true)) cursor parameters behind
+main_head parameters cursor behind counted = at_most 0 cursor behind parameters counted
 
-pub main_fails : (pieces parameters : ℕ) (cursor behind : Cursor) (fault : ContainerFault)
-    → IsAt (number 1 C4 (λ n. nat_le 0 n && nat_le n 0)) cursor parameters behind
-    → BodyFails pieces behind.at behind.rest.now fault
-    → (procedure pieces true).Fails cursor.at cursor.rest.now fault
-main_fails pieces parameters cursor behind fault counted fails =
-    then_fails (number 1 C4 (are_parameters true)) cursor behind parameters
-    (λ parameters. by_test true (BodyFails pieces)
-    (first (exit_frame pieces parameters) (λ exit. BodyFails pieces))) fault
-    (at_most 0 cursor behind parameters counted) fails
+pub other_head : (parameters : ℕ) (cursor behind : Cursor)
+    → IsAt (number 1 C4 (λ n. nat_le 0 n && nat_le n 4)) cursor parameters behind
+    → IsAt (number 1 C4 (are_parameters false)) cursor parameters behind
+other_head parameters cursor behind counted = at_most 4 cursor behind parameters counted
 
--- an exit frame and a body behind the parameters of another procedure
-module _ (pieces parameters : ℕ) (cursor behind : Cursor)
-    (counted : IsAt (number 1 C4 (λ n. nat_le 0 n && nat_le n 4)) cursor parameters behind) where
-  other_head : IsAt (number 1 C4 (are_parameters false)) cursor parameters behind
-  other_head = at_most 4 cursor behind parameters counted
+-- a body behind the counts of main
+module _ (version pieces parameters results : ℕ) (cursor behind behind_results : Cursor)
+    (counted : IsAt (number 1 C4 (λ n. nat_le 0 n && nat_le n 0)) cursor parameters behind)
+    (results_at : IsAt (result_count version true) behind results behind_results) where
+  pub main_at : (ls : List (ℕ × Frame)) (bytes : List ℕ) (next : Cursor)
+      → IsAt (body pieces) behind_results (ls, bytes) next
+      → IsAt (procedure version pieces true) cursor
+      (record {
+        parameters = parameters;
+        results = results;
+        exit = None;
+        labels = ls;
+        code = bytes;
+      }) next
+  main_at ls bytes next body_at =
+      let head = main_head parameters cursor behind counted in
+      let whole : Body = (ls, (length bytes, bytes)) in
+      let values : ℕ × (ℕ × Body) = (parameters, (results, whole)) in
+      stands_at (procedure version pieces true) cursor next (main_of values)
+      (main_back version pieces values cursor.rest.now next.rest.now
+      (small_of cursor.rest.now cursor.bytes)
+      (counts_then_stand version true parameters results cursor behind behind_results head
+      results_at (λ parameters results. OfBody pieces) whole next.rest.now
+      (body_front pieces ls bytes behind_results next body_at)))
+      (behind_part (body pieces) behind_results next (ls, bytes) body_at
+      ∙ counts_behind version true parameters results cursor behind behind_results head
+      results_at)
 
+  pub main_fails : (fault : ContainerFault)
+      → BodyFails pieces behind_results.at behind_results.rest.now fault
+      → (procedure version pieces true).Fails cursor.at cursor.rest.now fault
+  main_fails fault fails =
+      counts_then_fail version true parameters results cursor behind behind_results
+      (main_head parameters cursor behind counted) results_at (ExitFails version pieces true)
+      fault fails
+
+-- an exit frame and a body behind the counts of another procedure
+module _ (version pieces parameters results : ℕ) (cursor behind behind_results : Cursor)
+    (counted : IsAt (number 1 C4 (λ n. nat_le 0 n && nat_le n 4)) cursor parameters behind)
+    (results_at : IsAt (result_count version false) behind results behind_results) where
   pub other_then_fails : (fault : ContainerFault)
-      → exit_fails pieces parameters behind.at behind.rest.now fault
-      → (procedure pieces false).Fails cursor.at cursor.rest.now fault
+      → exit_fails version pieces parameters results behind_results.at behind_results.rest.now fault
+      → (procedure version pieces false).Fails cursor.at cursor.rest.now fault
   other_then_fails fault fails =
-      then_fails (number 1 C4 (are_parameters false)) cursor behind parameters
-      (λ parameters. by_test false (BodyFails pieces)
-      (first (exit_frame pieces parameters) (λ exit. BodyFails pieces))) fault other_head fails
+      counts_then_fail version false parameters results cursor behind behind_results
+      (other_head parameters cursor behind counted) results_at (ExitFails version pieces false)
+      fault fails
 
   pub exit_frame_fails : (fault : ContainerFault)
-      → (exit_frame pieces parameters).Fails behind.at behind.rest.now fault
-      → (procedure pieces false).Fails cursor.at cursor.rest.now fault
+      → (exit_frame version pieces parameters results).Fails behind_results.at
+      behind_results.rest.now fault
+      → (procedure version pieces false).Fails cursor.at cursor.rest.now fault
   exit_frame_fails fault fails = other_then_fails fault (inl fails)
 
   module _ (exit : ExitFrame) (behind_exit : Cursor)
-      (exit_at : IsAt (exit_frame pieces parameters) behind exit behind_exit) where
+      (exit_at : IsAt (exit_frame version pieces parameters results) behind_results exit
+      behind_exit) where
     pub other_body_fails : (fault : ContainerFault)
         → BodyFails pieces behind_exit.at behind_exit.rest.now fault
-        → (procedure pieces false).Fails cursor.at cursor.rest.now fault
+        → (procedure version pieces false).Fails cursor.at cursor.rest.now fault
     other_body_fails fault fails =
         other_then_fails fault
-        (then_fails (exit_frame pieces parameters) behind behind_exit exit
+        (then_fails (exit_frame version pieces parameters results) behind_results behind_exit exit
         (λ exit. BodyFails pieces) fault exit_at fails)
 
     pub other_at : (ls : List (ℕ × Frame)) (bytes : List ℕ) (next : Cursor)
         → IsAt (body pieces) behind_exit (ls, bytes) next
-        → IsAt (procedure pieces false) cursor
-        (record { parameters = parameters; exit = Some exit; labels = ls; code = bytes }) next
+        → IsAt (procedure version pieces false) cursor
+        (record {
+          parameters = parameters;
+          results = results;
+          exit = Some exit;
+          labels = ls;
+          code = bytes;
+        }) next
     other_at ls bytes next body_at =
+        let head = other_head parameters cursor behind counted in
         let whole : Body = (ls, (length bytes, bytes)) in
-        let values : ℕ × (ExitFrame × Body) = (parameters, (exit, whole)) in
-        stands_at (procedure pieces false) cursor next (other_of values)
-        (other_back pieces values cursor.rest.now next.rest.now
-        (small_of cursor.rest.now cursor.bytes)
-        (then_stands (number 1 C4 (are_parameters false)) cursor behind parameters
-        (λ parameters. OfExit pieces parameters) (exit, whole) next.rest.now other_head
-        (then_stands (exit_frame pieces parameters) behind behind_exit exit
+        let values : ℕ × (ℕ × (ExitFrame × Body)) = (parameters, (results, (exit, whole))) in
+        let from_exit : OfExit version pieces parameters results (exit, whole)
+        behind_results.rest.now next.rest.now =
+        then_stands (exit_frame version pieces parameters results) behind_results behind_exit exit
         (λ exit. OfBody pieces) whole next.rest.now exit_at
-        (body_front pieces ls bytes behind_exit next body_at))))
+        (body_front pieces ls bytes behind_exit next body_at) in
+        stands_at (procedure version pieces false) cursor next (other_of values)
+        (other_back version pieces values cursor.rest.now next.rest.now
+        (small_of cursor.rest.now cursor.bytes)
+        (counts_then_stand version false parameters results cursor behind behind_results head
+        results_at (OfExit version pieces) (exit, whole) next.rest.now from_exit))
         (behind_part (body pieces) behind_exit next (ls, bytes) body_at
-        ∙ behind_part (exit_frame pieces parameters) behind behind_exit exit exit_at
-        ∙ behind_part (number 1 C4 (are_parameters false)) cursor behind parameters other_head)
+        ∙ behind_part (exit_frame version pieces parameters results) behind_results behind_exit
+        exit exit_at
+        ∙ counts_behind version false parameters results cursor behind behind_results head
+        results_at)
 
 -- All procedures
 
-module _ (pieces count : ℕ) (cursor behind_count : Cursor)
+module _ (version pieces count : ℕ) (cursor behind_count : Cursor)
     (counted : IsAt (number 1 C4 is_procedure_count) cursor count behind_count) where
   pub main_fails_first : (fault : ContainerFault)
-      → (procedure pieces true).Fails behind_count.at behind_count.rest.now fault
-      → ProceduresFail pieces cursor.at cursor.rest.now fault
+      → (procedure version pieces true).Fails behind_count.at behind_count.rest.now fault
+      → ProceduresFail version pieces cursor.at cursor.rest.now fault
   main_fails_first fault fails =
       then_fails (number 1 C4 is_procedure_count) cursor behind_count count
-      (λ count. procedures_fail pieces count IsFollowed) fault counted (inl fails)
+      (λ count. procedures_fail version pieces count IsFollowed) fault counted (inl fails)
 
   module _ (main : PlanProcedure) (behind_main : Cursor)
-      (main_at : IsAt (procedure pieces true) behind_count main behind_main) where
+      (main_at : IsAt (procedure version pieces true) behind_count main behind_main) where
     pub others_fail_then : (more : ℕ) (fault : ContainerFault) → more ≡ pred count
-        → each more (procedure pieces false) behind_main.at behind_main.rest.now fault
-        → ProceduresFail pieces cursor.at cursor.rest.now fault
+        → each more (procedure version pieces false) behind_main.at behind_main.rest.now fault
+        → ProceduresFail version pieces cursor.at cursor.rest.now fault
     others_fail_then more fault e fails =
         then_fails (number 1 C4 is_procedure_count) cursor behind_count count
-        (λ count. procedures_fail pieces count IsFollowed) fault counted
-        (then_fails (procedure pieces true) behind_count behind_main main
-        (λ main. others_fail pieces (pred count) IsFollowed) fault main_at
+        (λ count. procedures_fail version pieces count IsFollowed) fault counted
+        (then_fails (procedure version pieces true) behind_count behind_main main
+        (λ main. others_fail version pieces (pred count) IsFollowed) fault main_at
         (inl (subst
-        (λ (k : ℕ). each k (procedure pieces false) behind_main.at behind_main.rest.now fault) e
+        (λ (k : ℕ). each k (procedure version pieces false) behind_main.at behind_main.rest.now fault) e
         fails)))
 
     pub procedures_at : (more : ℕ) (ps : List PlanProcedure) (next : Cursor) → more ≡ pred count
-        → OfEach more (procedure pieces false) ps behind_main.rest.now next.rest.now
-        → IsBehind behind_main next → IsAt (procedures pieces) cursor (main ∷ ps) next
+        → OfEach more (procedure version pieces false) ps behind_main.rest.now next.rest.now
+        → IsBehind behind_main next → IsAt (procedures version pieces) cursor (main ∷ ps) next
     procedures_at more ps next e here behind =
         let r = next.rest.now in
-        let others_fit : IsTrue ((others pieces (pred count)).fits ps) =
-        and_from (length ps == pred count) (list_all (is_procedure pieces false) ps)
+        let others_fit : IsTrue ((others version pieces (pred count)).fits ps) =
+        and_from (length ps == pred count) (list_all (is_procedure version pieces false) ps)
         (eq-eqb (length ps) (pred count) (here.0 ∙ e)) here.1 in
-        let from_others : OfOthers pieces (pred count) OfNothing (ps, tt) behind_main.rest.now r =
+        let from_others : OfOthers version pieces (pred count) OfNothing (ps, tt) behind_main.rest.now r =
         (r, (others_fit, here.2), refl) in
-        let from_main : OfProcedures pieces count OfNothing (main, (ps, tt))
+        let from_main : OfProcedures version pieces count OfNothing (main, (ps, tt))
         behind_count.rest.now r =
-        then_stands (procedure pieces true) behind_count behind_main main
-        (λ main. OfOthers pieces (pred count) OfNothing) (ps, tt) r main_at from_others in
+        then_stands (procedure version pieces true) behind_count behind_main main
+        (λ main. OfOthers version pieces (pred count) OfNothing) (ps, tt) r main_at from_others in
         let all =
-        counted_back pieces OfNothing (count, (main, (ps, tt))) cursor.rest.now r
+        counted_back version pieces OfNothing (count, (main, (ps, tt))) cursor.rest.now r
         (then_stands (number 1 C4 is_procedure_count) cursor behind_count count
-        (λ count. OfProcedures pieces count OfNothing) (main, (ps, tt)) r counted from_main) in
-        stands_at (procedures pieces) cursor next (main ∷ ps) (
+        (λ count. OfProcedures version pieces count OfNothing) (main, (ps, tt)) r counted from_main) in
+        stands_at (procedures version pieces) cursor next (main ∷ ps) (
           all.1,
-          all.2 ∙ ap (λ (rest : List ℕ). (procedures pieces).bytes (main ∷ ps) ++ rest) all.3,
+          all.2 ∙ ap (λ (rest : List ℕ). (procedures version pieces).bytes (main ∷ ps) ++ rest) all.3,
         )
-        (behind ∙ behind_part (procedure pieces true) behind_count behind_main main main_at
+        (behind ∙ behind_part (procedure version pieces true) behind_count behind_main main main_at
         ∙ behind_part (number 1 C4 is_procedure_count) cursor behind_count count counted)
 
 -- how many procedures there are

@@ -5,8 +5,10 @@ use Rattle.std.proofs.lemmas.Bool.{and_parts, leb-true, false≢true}
 use Rattle.std.proofs.lemmas.Option.{none-some, same_Some}
 use Rattle.burr_code.specs.declared.limits.TheConstants.{MOST_CODE}
 use Rattle.burr_container.specs.declared.procedure_ref.ProcedureRef.{ProcedureRef}
-use Rattle.burr_container.specs.Plans.{Plan, PlanProcedure}
-use Rattle.burr_container.specs.Fitting.{is_fitting, are_procedures, is_procedure, is_code, is_budget, is_piece_count, is_name_text, are_parameters, is_exit, are_labels}
+use Rattle.burr_container.specs.Plans.{PlanProcedure}
+use Rattle.burr_container.specs.Fitting.{are_procedures, is_procedure}
+use Rattle.burr_container.proofs.Common.Procedures.{procedure_fits}
+use Rattle.burr_container.proofs.Common.Containers.{plan_fits}
 use Rattle.burr_container.specs.InPlace.{AreFor, IsProcedure}
 use Rattle.burr_container.specs.Containers.{KeptContainer, HasPlan}
 
@@ -24,37 +26,33 @@ for_there Is (z ∷ xs) [] i x are at = absurd are
 for_there Is (z ∷ xs) (y ∷ ys) zero x are at = (y, refl, subst (λ w. Is w y) (same_Some _ _ at) are.0)
 for_there Is (z ∷ xs) (y ∷ ys) (suc i) x are at = for_there Is xs ys i x are.1 at
 
--- the procedures of a plan within the format
-fitting_procedures : (p : Plan) → is_fitting p ≡ true → are_procedures p.pieces p.procedures ≡ true
-fitting_procedures p fits = (and_parts (is_budget p.budget && is_piece_count p.pieces && is_name_text p.name) (are_procedures p.pieces p.procedures) fits).1
-
 -- a procedure's code
-fitting_code : (pieces : ℕ) (main : Bool) (q : PlanProcedure) → is_procedure pieces main q ≡ true → length q.code ≤ MOST_CODE
-fitting_code pieces main q fits =
-    let code = (and_parts (are_parameters main q.parameters && is_exit main pieces q.parameters q.exit && are_labels pieces (length q.code) q.labels) (is_code q.code) fits).1 in
+fitting_code : (version pieces : ℕ) (main : Bool) (q : PlanProcedure) → is_procedure version pieces main q ≡ true → length q.code ≤ MOST_CODE
+fitting_code version pieces main q fits =
+    let code = (procedure_fits version pieces main q fits).code in
     leb-true (length q.code) MOST_CODE (and_parts (nat_le (length q.code) MOST_CODE) _ code).0
 
 -- each of the procedures
-each_code : (pieces : ℕ) (qs : List PlanProcedure) (i : ℕ) (q : PlanProcedure) → are_procedures pieces qs ≡ true → slice_get qs i ≡ Some q → length q.code ≤ MOST_CODE
-each_code pieces [] i q fits at = absurd (none-some _ at)
-each_code pieces (main ∷ others) zero q fits at =
-    let both = and_parts (is_procedure pieces true main && list_all (is_procedure pieces false) others) _ fits in
-    subst (λ (x : PlanProcedure). length x.code ≤ MOST_CODE) (same_Some _ _ at) (fitting_code pieces true main (and_parts (is_procedure pieces true main) _ both.0).0)
-each_code pieces (main ∷ others) (suc i) q fits at =
-    let both = and_parts (is_procedure pieces true main && list_all (is_procedure pieces false) others) _ fits in
-    fitting_code pieces false q (one_of_all (is_procedure pieces false) others i q (and_parts (is_procedure pieces true main) _ both.0).1 at)
+each_code : (version pieces : ℕ) (qs : List PlanProcedure) (i : ℕ) (q : PlanProcedure) → are_procedures version pieces qs ≡ true → slice_get qs i ≡ Some q → length q.code ≤ MOST_CODE
+each_code version pieces [] i q fits at = absurd (none-some _ at)
+each_code version pieces (main ∷ others) zero q fits at =
+    let both = and_parts (is_procedure version pieces true main && list_all (is_procedure version pieces false) others) _ fits in
+    subst (λ (x : PlanProcedure). length x.code ≤ MOST_CODE) (same_Some _ _ at) (fitting_code version pieces true main (and_parts (is_procedure version pieces true main) _ both.0).0)
+each_code version pieces (main ∷ others) (suc i) q fits at =
+    let both = and_parts (is_procedure version pieces true main && list_all (is_procedure version pieces false) others) _ fits in
+    fitting_code version pieces false q (one_of_all (is_procedure version pieces false) others i q (and_parts (is_procedure version pieces true main) _ both.0).1 at)
 
 -- the code of a container's procedure
 pub code_short : (kept : KeptContainer) (i : ℕ) (r : ProcedureRef) → HasPlan kept → slice_get kept.procedures i ≡ Some r → length r.code.now ≤ MOST_CODE
 code_short kept i r (p, fits, is) at =
     let q = for_there (IsProcedure p.pieces) kept.procedures p.procedures i r is.procedures at in
-    subst (λ (bytes : List ℕ). length bytes ≤ MOST_CODE) (sym q.2.code) (each_code p.pieces p.procedures i q.0 (fitting_procedures p fits) q.1)
+    subst (λ (bytes : List ℕ). length bytes ≤ MOST_CODE) (sym q.2.code) (each_code p.version p.pieces p.procedures i q.0 (plan_fits p fits).procedures q.1)
 
 -- a container has a procedure
 pub some_procedure : (kept : KeptContainer) → HasPlan kept → 1 ≤ length kept.procedures
-some_procedure kept (p, fits, is) = at_least_one kept.procedures p.procedures is.procedures (fitting_procedures p fits)
+some_procedure kept (p, fits, is) = at_least_one kept.procedures p.procedures is.procedures (plan_fits p fits).procedures
   where
-    at_least_one : (rs : List ProcedureRef) (qs : List PlanProcedure) → AreFor (IsProcedure p.pieces) rs qs → are_procedures p.pieces qs ≡ true → 1 ≤ length rs
+    at_least_one : (rs : List ProcedureRef) (qs : List PlanProcedure) → AreFor (IsProcedure p.pieces) rs qs → are_procedures p.version p.pieces qs ≡ true → 1 ≤ length rs
     at_least_one rs [] are fits = absurd (false≢true fits)
     at_least_one [] (q ∷ qs) are fits = absurd are
     at_least_one (r ∷ rs) (q ∷ qs) are fits = omega arith

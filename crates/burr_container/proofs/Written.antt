@@ -1,14 +1,19 @@
 -- Coefficients and masks, one slot after the other; counts of plans that fit.
 use Rattle.std.proofs.Common.{◌≡◌, ℕ, zero, suc, ◌+◌, ◌*◌, ◌<◌, ◌≤◌, List, [], ◌∷◌, ◌++◌, length, drop, get_or, refl, sym, ap, ◌∙◌, arith, append_assoc}
-use Rattle.std.specs.Prelude.{Bool, true, false, ◌&&◌, ℤ, pos, IsTrue, if◌then◌else◌, nat_le, nat_lt, ◌^◌}
+use Rattle.std.specs.Prelude.{Option, Some, None, ◌==◌, Bool, true, false, ◌&&◌, ℤ, pos, IsTrue, if◌then◌else◌, nat_le, nat_lt, ◌^◌}
 use Rattle.std.specs.List.{flat_map, list_all}
 use Rattle.std.proofs.lemmas.Bool.Decides.{nat_tests}
 use Rattle.burr_code.specs.Instruction.{signed_word}
-use Rattle.burr_container.specs.Plans.{of_live, Frame, PlanProcedure, Plan}
+use Rattle.burr_container.specs.Plans.{of_live, Frame, ExitFrame, PlanProcedure, Plan, exit_symbols}
 use Rattle.burr_container.specs.Spelling.{mask_of}
-use Rattle.burr_container.specs.Counts.{coef_bytes, has_room, has_room_in_label}
+use Rattle.burr_container.specs.Counts.{coef_bytes, has_room, has_room_in_exit, has_room_in_label}
 use Rattle.burr_container.specs.Plans.{live_slots}
-use Rattle.burr_container.specs.Fitting.{are_parameters, is_budget, is_piece_count, is_name_text, is_frame, are_forms, are_labels, is_procedure, are_procedures, is_fitting}
+use Rattle.burr_code.specs.declared.limits.TheConstants.{MOST_GUARDS}
+use Rattle.burr_container.proofs.Common.Exits.{exit_fits}
+use Rattle.burr_container.proofs.Common.Procedures.{procedure_fits}
+use Rattle.burr_container.proofs.Common.Containers.{plan_fits}
+use Rattle.std.proofs.lemmas.Bool.{false≢true}
+use Rattle.burr_container.specs.Fitting.{are_parameters, are_results, is_exit, is_frame, are_forms, are_labels, is_procedure, are_procedures, is_fitting}
 
 abbrev bit : Bool → ℕ
 bit l = if l then 1 else 0
@@ -91,22 +96,60 @@ few_parameters : (main : Bool) (n : ℕ) → IsTrue (are_parameters main n) → 
 few_parameters true n fits = let none : n ≤ 0 = le_of n 0 fits in at_most n 4 (omega arith)
 few_parameters false n fits = fits
 
-procedure_has_room : (pieces : ℕ) (main : Bool) (p : PlanProcedure) → IsTrue (is_procedure pieces main p) → IsTrue (has_room p)
-procedure_has_room pieces main p fits =
-    let head = first_test _ _ (first_test _ _ (first_test _ _ fits)) in
-    let room = labels_have_room pieces (length p.code) p.labels (second_test _ _ (first_test _ _ fits)) in
-    let short : length p.code ≤ 4096 = le_of _ _ (first_test _ _ (second_test _ _ fits)) in
-    both_tests _ _ (both_tests _ _ (both_tests _ _ (few_parameters main p.parameters head) (first_test _ _ room)) (second_test (nat_lt (length p.labels) 65536) _ room)) (below (length p.code) 65536 (omega arith))
+few_by : (second main : Bool) (n : ℕ)
+    → IsTrue (nat_le n (if main then 0 else (if second then 2 else 0))) → IsTrue (nat_le n 2)
+few_by second true n fits = let none : n ≤ 0 = le_of n 0 fits in at_most n 2 (omega arith)
+few_by true false n fits = fits
+few_by false false n fits = let none : n ≤ 0 = le_of n 0 fits in at_most n 2 (omega arith)
 
-pub procedures_have_room : (pieces : ℕ) (ps : List PlanProcedure) → IsTrue (are_procedures pieces ps) → IsTrue (list_all has_room ps)
-procedures_have_room pieces [] fits = refl
-procedures_have_room pieces (main ∷ others) fits =
+few_results : (version : ℕ) (main : Bool) (n : ℕ) → IsTrue (are_results version main n)
+    → IsTrue (nat_le n 2)
+few_results version main n fits = few_by (version == 2) main n fits
+
+few_guards : (second : Bool) (n : ℕ) → IsTrue (nat_le n (if second then MOST_GUARDS else 0))
+    → IsTrue (nat_lt n 256)
+few_guards true n fits = let few : n ≤ 4 = le_of n 4 fits in below n 256 (omega arith)
+few_guards false n fits = let few : n ≤ 0 = le_of n 0 fits in below n 256 (omega arith)
+
+exit_has_room : (version pieces parameters results : ℕ) (main : Bool) (exit : Option ExitFrame)
+    → IsTrue (is_exit version main pieces parameters results exit)
+    → IsTrue (has_room_in_exit exit)
+exit_has_room version pieces parameters results main None fits = refl
+exit_has_room version pieces parameters results true (Some f) fits = absurd (false≢true fits)
+exit_has_room version pieces parameters results false (Some f) fits =
+    let live = exit_symbols parameters results in
+    let guards = (exit_fits version pieces results live f fits).guards in
+    few_guards (version == 2) (length f.guards) (first_test _ _ guards)
+
+procedure_has_room : (version pieces : ℕ) (main : Bool) (p : PlanProcedure)
+    → IsTrue (is_procedure version pieces main p) → IsTrue (has_room p)
+procedure_has_room version pieces main p all =
+    let fits = procedure_fits version pieces main p all in
+    let room = labels_have_room pieces (length p.code) p.labels fits.labels in
+    let short : length p.code ≤ 4096 = le_of _ _ (first_test _ _ fits.code) in
+    let counts =
+    both_tests (nat_le p.parameters 4) (nat_le p.results 2)
+    (few_parameters main p.parameters fits.parameters)
+    (few_results version main p.results fits.results) in
+    let exit = exit_has_room version pieces p.parameters p.results main p.exit fits.exit in
+    both_tests _ _
+    (both_tests _ _
+    (both_tests _ _ (both_tests _ (has_room_in_exit p.exit) counts exit) (first_test _ _ room))
+    (second_test (nat_lt (length p.labels) 65536) _ room))
+    (below (length p.code) 65536 (omega arith))
+
+pub procedures_have_room : (version pieces : ℕ) (ps : List PlanProcedure)
+    → IsTrue (are_procedures version pieces ps) → IsTrue (list_all has_room ps)
+procedures_have_room version pieces [] fits = refl
+procedures_have_room version pieces (main ∷ others) fits =
     let head = first_test _ _ fits in
-    both_tests _ _ (procedure_has_room pieces true main (first_test _ _ head)) (all_also _ has_room (procedure_has_room pieces false) others (second_test _ _ head))
+    both_tests _ _ (procedure_has_room version pieces true main (first_test _ _ head))
+    (all_also _ has_room (procedure_has_room version pieces false) others (second_test _ _ head))
 
-pub few_procedures : (pieces : ℕ) (ps : List PlanProcedure) → IsTrue (are_procedures pieces ps) → length ps ≤ 16
-few_procedures pieces [] fits = omega arith
-few_procedures pieces (main ∷ others) fits = le_of _ _ (second_test _ _ fits)
+pub few_procedures : (version pieces : ℕ) (ps : List PlanProcedure)
+    → IsTrue (are_procedures version pieces ps) → length ps ≤ 16
+few_procedures version pieces [] fits = omega arith
+few_procedures version pieces (main ∷ others) fits = le_of _ _ (second_test _ _ fits)
 
 -- what is asked of a plan to be written
 pub record HasRoom (plan : Plan) : Type 0 where
@@ -115,11 +158,10 @@ pub record HasRoom (plan : Plan) : Type 0 where
   pub room : IsTrue (list_all has_room plan.procedures)
 
 pub plan_has_room : (plan : Plan) → IsTrue (is_fitting plan) → HasRoom plan
-plan_has_room plan fits =
-    let procedures = second_test (is_budget plan.budget && is_piece_count plan.pieces && is_name_text plan.name) (are_procedures plan.pieces plan.procedures) fits in
-    let name = second_test _ (is_name_text plan.name) (first_test _ _ fits) in
+plan_has_room plan all =
+    let fits = plan_fits plan all in
     record {
-      name = le_of _ _ (second_test _ (nat_le (length plan.name) 32) name);
-      few = few_procedures plan.pieces plan.procedures procedures;
-      room = procedures_have_room plan.pieces plan.procedures procedures;
+      name = le_of _ _ (second_test _ (nat_le (length plan.name) 32) fits.name);
+      few = few_procedures plan.version plan.pieces plan.procedures fits.procedures;
+      room = procedures_have_room plan.version plan.pieces plan.procedures fits.procedures;
     }

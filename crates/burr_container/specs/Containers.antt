@@ -18,7 +18,7 @@ abbrev pub kept_container : Header → List ProcedureRef → KeptContainer
 kept_container header procedures = record { header = header; procedures = procedures }
 
 pub record IsHeader (h : Header) (p : Plan) : Type 0 where
-  pub version : h.version ≡ 1
+  pub version : h.version ≡ p.version
   pub budget : h.budget ≡ p.budget
   pub pieces : h.pieces ≡ p.pieces
   pub name : h.name.now ≡ p.name

@@ -11,9 +11,9 @@ use Rattle.burr_code.specs.declared.limits.TheConstants.{SLOTS, MOST_OPERANDS, M
 use Rattle.burr_forms.specs.Forms.{Form}
 use Rattle.burr_container.specs.declared.fault.ContainerFault.{ContainerFault}
 use Rattle.burr_container.specs.declared.fault.ContainerFault.TheVariants.{C1, C2, C3, C4, C5, C6}
-use Rattle.burr_container.specs.Plans.{FormCell, Range, Frame, ExitFrame, PlanProcedure, live_slots, parameter_slots}
-use Rattle.burr_container.specs.Spelling.{counted_bytes, form_size, form_bytes, forms_bytes, range_bytes, slots_bytes, place_bytes, places_bytes, frame_bytes, exit_frame_bytes, label_bytes, labels_bytes, code_bytes, procedure_bytes}
-use Rattle.burr_container.specs.Fitting.{is_form, are_forms, is_number, is_range, are_slots, is_tray, is_set_of, is_place, are_places, is_frame, is_exit_frame, is_code, are_parameters, is_procedure, are_procedures, is_piece_count, is_budget, is_name_text}
+use Rattle.burr_container.specs.Plans.{FormCell, Range, Frame, ExitFrame, PlanProcedure, live_slots, exit_symbols}
+use Rattle.burr_container.specs.Spelling.{counted_bytes, form_size, form_bytes, forms_bytes, range_bytes, ranges_bytes, slots_bytes, place_bytes, places_bytes, frame_bytes, exit_guards_bytes, exit_frame_bytes, label_bytes, labels_bytes, code_bytes, result_count_bytes, procedure_bytes}
+use Rattle.burr_container.specs.Fitting.{is_form, are_forms, is_number, is_range, are_ranges, are_slots, is_tray, is_set_of, is_place, are_places, is_frame, most_exit_guards, is_exit_frame, is_code, are_parameters, are_results, is_procedure, are_procedures, is_piece_count, is_budget, is_version, is_name_text}
 
 -- how bytes that begin at a position of the container fail
 abbrev pub Failing : Type 1
@@ -104,6 +104,14 @@ range = record {
       (signed (λ high. is_number high && int_le low high)).Fails);
 }
 
+-- so many ranges
+abbrev pub ranges : ℕ → Part (List Range)
+ranges count = record {
+  bytes = ranges_bytes;
+  fits = are_ranges count;
+  Fails = each count range;
+}
+
 -- the ranges of the live slots
 abbrev pub RangesFail : List Bool → Failing
 RangesFail [] = passes
@@ -152,13 +160,28 @@ frame pieces = record {
       (places pieces (live_slots s)).Fails))))));
 }
 
-abbrev pub exit_frame : ℕ → ℕ → Part ExitFrame
-exit_frame pieces parameters = record {
-  bytes = exit_frame_bytes parameters;
-  fits = is_exit_frame pieces parameters;
+-- the guards of an exit frame, in version 2 alone
+abbrev pub exit_guards : ℕ → List Bool → Part (List Form)
+exit_guards version live = record {
+  bytes = exit_guards_bytes version live;
+  fits = are_forms (most_exit_guards version) live;
+  Fails = by_test (version == 2) (forms MOST_GUARDS live).Fails passes;
+}
+
+-- what follows the grip of an exit frame over these symbols
+abbrev pub ExitRestFails : ℕ → ℕ → ℕ → List Bool → Failing
+ExitRestFails version pieces results live =
+    first (ranges results) (λ _.
+    first (exit_guards version live) (λ _.
+    (places pieces live).Fails))
+
+abbrev pub exit_frame : ℕ → ℕ → ℕ → ℕ → Part ExitFrame
+exit_frame version pieces parameters results = record {
+  bytes = exit_frame_bytes version parameters results;
+  fits = is_exit_frame version pieces parameters results;
   Fails = first (number 1 C4 is_tray) (λ tray.
       first (number 4 C4 (is_set_of pieces)) (λ grip.
-      (places pieces (parameter_slots parameters)).Fails));
+      ExitRestFails version pieces results (exit_symbols parameters results)));
 }
 
 -- a label at such a position
@@ -232,21 +255,35 @@ body pieces = record {
   Fails = BodyFails pieces;
 }
 
-abbrev pub procedure : ℕ → Bool → Part PlanProcedure
-procedure pieces main = record {
-  bytes = procedure_bytes;
-  fits = is_procedure pieces main;
+-- how many results, in version 2 alone
+abbrev pub result_count : ℕ → Bool → Part ℕ
+result_count version main = record {
+  bytes = result_count_bytes version;
+  fits = are_results version main;
+  Fails = by_test (version == 2) (number 1 C4 (are_results version main)).Fails passes;
+}
+
+-- what follows the parameters and the count of the results
+abbrev pub ExitFails : ℕ → ℕ → Bool → ℕ → ℕ → Failing
+ExitFails version pieces main parameters results =
+    by_test main (BodyFails pieces)
+    (first (exit_frame version pieces parameters results) (λ exit. BodyFails pieces))
+
+abbrev pub procedure : ℕ → ℕ → Bool → Part PlanProcedure
+procedure version pieces main = record {
+  bytes = procedure_bytes version;
+  fits = is_procedure version pieces main;
   Fails = first (number 1 C4 (are_parameters main)) (λ parameters.
-      by_test main (BodyFails pieces)
-      (first (exit_frame pieces parameters) (λ exit. BodyFails pieces)));
+      first (result_count version main) (λ results.
+      ExitFails version pieces main parameters results));
 }
 
 -- procedures other than main, so many
-abbrev pub others : ℕ → ℕ → Part (List PlanProcedure)
-others pieces count = record {
-  bytes = flat_map procedure_bytes;
-  fits = λ ps. (length ps == count) && list_all (is_procedure pieces false) ps;
-  Fails = each count (procedure pieces false);
+abbrev pub others : ℕ → ℕ → ℕ → Part (List PlanProcedure)
+others version pieces count = record {
+  bytes = flat_map (procedure_bytes version);
+  fits = λ ps. (length ps == count) && list_all (is_procedure version pieces false) ps;
+  Fails = each count (procedure version pieces false);
 }
 
 -- bytes follow
@@ -254,17 +291,17 @@ abbrev pub IsFollowed : Failing
 IsFollowed at bytes fault = (bytes ≢ []) × (fault ≡ C6 at)
 
 -- the procedures behind their count, main first, and nothing behind the last
-abbrev pub ProceduresFail : ℕ → Failing
-ProceduresFail pieces =
+abbrev pub ProceduresFail : ℕ → ℕ → Failing
+ProceduresFail version pieces =
     first (number 1 C4 (λ count. nat_le 1 count && nat_le count MOST_PROCEDURES)) (λ count.
-    first (procedure pieces true) (λ main.
-    first (others pieces (pred count)) (λ _. IsFollowed)))
+    first (procedure version pieces true) (λ main.
+    first (others version pieces (pred count)) (λ _. IsFollowed)))
 
-abbrev pub procedures : ℕ → Part (List PlanProcedure)
-procedures pieces = record {
-  bytes = counted_bytes procedure_bytes;
-  fits = are_procedures pieces;
-  Fails = ProceduresFail pieces;
+abbrev pub procedures : ℕ → ℕ → Part (List PlanProcedure)
+procedures version pieces = record {
+  bytes = counted_bytes (procedure_bytes version);
+  fits = are_procedures version pieces;
+  Fails = ProceduresFail version pieces;
 }
 
 -- a name behind its length
@@ -284,8 +321,8 @@ is_magic bytes = bytes_eq bytes (codes "BPLN")
 abbrev pub ContainerFails : Failing
 ContainerFails =
     first (raw 4 C2 is_magic) (λ _.
-    first (number 2 C3 (λ version. version == 1)) (λ _.
+    first (number 2 C3 is_version) (λ version.
     first (number 4 C4 is_budget) (λ budget.
     first (number 1 C4 is_piece_count) (λ pieces.
     first name (λ _.
-    ProceduresFail pieces)))))
+    ProceduresFail version pieces)))))

@@ -1,11 +1,11 @@
 -- Which plans are within the format. They are tests, so that there is one proof of each at most.
-use Rattle.std.specs.Prelude.{ℕ, suc, ◌^◌, ℤ, pos, neg_ℤ, int_le, List, [], ◌∷◌, length, Option, Some, None, is_none, Bool, true, false, ◌&&◌, ◌==◌, nat_le, nat_lt, slice_index, if◌then◌else◌}
+use Rattle.std.specs.Prelude.{ℕ, suc, ◌^◌, ℤ, pos, neg_ℤ, int_le, List, [], ◌∷◌, length, Option, Some, None, is_none, Bool, true, false, ◌&&◌, ◌||◌, ◌==◌, nat_le, nat_lt, slice_index, if◌then◌else◌}
 use Rattle.std.specs.List.{list_all}
 use Rattle.burr_text.specs.Names.{is_letter, is_name_byte}
 use Rattle.burr_code.specs.Places.{Placement, Apart, On}
 use Rattle.burr_code.specs.declared.limits.TheConstants.{TRAYS, SLOTS, MOST_OPERANDS, MOST_CODE, MOST_LABELS, MOST_PROCEDURES, MOST_BUDGET, MOST_PARAMETERS, MOST_GUARDS}
 use Rattle.burr_forms.specs.Forms.{Form}
-use Rattle.burr_container.specs.Plans.{FormCell, Range, Frame, ExitFrame, PlanProcedure, Plan, live_slots, parameter_slots}
+use Rattle.burr_container.specs.Plans.{FormCell, Range, Frame, ExitFrame, PlanProcedure, Plan, live_slots, exit_symbols}
 
 -- the number is in this range, both ends in it
 abbrev pub is_between : ℤ → ℤ → ℤ → Bool
@@ -35,6 +35,10 @@ is_number n = is_between (neg_ℤ (pos 32767)) (pos 32767) n
 abbrev pub is_range : Option Range → Bool
 is_range None = true
 is_range (Some range) = is_number range.0 && is_number range.1 && int_le range.0 range.1
+
+-- a range for each of so many
+abbrev pub are_ranges : ℕ → List Range → Bool
+are_ranges count ranges = (length ranges == count) && list_all (λ r. is_range (Some r)) ranges
 
 abbrev pub are_slots : List (Option Range) → Bool
 are_slots slots = (length slots == SLOTS) && list_all is_range slots
@@ -70,16 +74,27 @@ is_frame pieces f =
     is_tray f.tray && is_set_of pieces f.grip && are_slots f.slots
     && is_frame_rest pieces (live_slots f.slots) f
 
-abbrev pub is_exit_frame : ℕ → ℕ → ExitFrame → Bool
-is_exit_frame pieces parameters f =
+-- an exit frame has guards in version 2 alone
+abbrev pub most_exit_guards : ℕ → ℕ
+most_exit_guards version = if version == 2 then MOST_GUARDS else 0
+
+-- what follows the grip of an exit frame over these symbols: a range for each result, guards, places
+abbrev pub is_exit_rest : ℕ → ℕ → ℕ → List Bool → ExitFrame → Bool
+is_exit_rest version pieces results live f =
+    are_ranges results f.results && are_forms (most_exit_guards version) live f.guards
+    && are_places pieces live f.places
+
+abbrev pub is_exit_frame : ℕ → ℕ → ℕ → ℕ → ExitFrame → Bool
+is_exit_frame version pieces parameters results f =
     is_tray f.tray && is_set_of pieces f.grip
-    && are_places pieces (parameter_slots parameters) f.places
+    && is_exit_rest version pieces results (exit_symbols parameters results) f
 
 -- main has no exit frame, each other procedure has one
-abbrev pub is_exit : Bool → ℕ → ℕ → Option ExitFrame → Bool
-is_exit true pieces parameters exit = is_none exit
-is_exit false pieces parameters None = false
-is_exit false pieces parameters (Some f) = is_exit_frame pieces parameters f
+abbrev pub is_exit : ℕ → Bool → ℕ → ℕ → ℕ → Option ExitFrame → Bool
+is_exit version true pieces parameters results exit = is_none exit
+is_exit version false pieces parameters results None = false
+is_exit version false pieces parameters results (Some f) =
+    is_exit_frame version pieces parameters results f
 
 -- positions that rise, each at least this and below the end
 abbrev pub rise_from : ℕ → ℕ → List (ℕ × Frame) → Bool
@@ -99,19 +114,27 @@ are_labels pieces end (first ∷ labels) =
 abbrev pub are_parameters : Bool → ℕ → Bool
 are_parameters main parameters = nat_le parameters (if main then 0 else MOST_PARAMETERS)
 
+-- results: at most two and in version 2 alone, of main none
+abbrev pub most_results : ℕ → Bool → ℕ
+most_results version main = if main then 0 else (if version == 2 then 2 else 0)
+
+abbrev pub are_results : ℕ → Bool → ℕ → Bool
+are_results version main results = nat_le results (most_results version main)
+
 abbrev pub is_code : List ℕ → Bool
 is_code code = nat_le (length code) MOST_CODE && list_all (λ b. nat_lt b 256) code
 
 -- a procedure; the first is main
-abbrev pub is_procedure : ℕ → Bool → PlanProcedure → Bool
-is_procedure pieces main p =
-    are_parameters main p.parameters && is_exit main pieces p.parameters p.exit
+abbrev pub is_procedure : ℕ → ℕ → Bool → PlanProcedure → Bool
+is_procedure version pieces main p =
+    are_parameters main p.parameters && are_results version main p.results
+    && is_exit version main pieces p.parameters p.results p.exit
     && are_labels pieces (length p.code) p.labels && is_code p.code
 
-abbrev pub are_procedures : ℕ → List PlanProcedure → Bool
-are_procedures pieces [] = false
-are_procedures pieces (main ∷ others) =
-    is_procedure pieces true main && list_all (is_procedure pieces false) others
+abbrev pub are_procedures : ℕ → ℕ → List PlanProcedure → Bool
+are_procedures version pieces [] = false
+are_procedures version pieces (main ∷ others) =
+    is_procedure version pieces true main && list_all (is_procedure version pieces false) others
     && nat_le (length (main ∷ others)) MOST_PROCEDURES
 
 abbrev pub is_piece_count : ℕ → Bool
@@ -125,8 +148,12 @@ is_name_text name =
 abbrev pub is_budget : ℕ → Bool
 is_budget budget = nat_le 1 budget && nat_le budget MOST_BUDGET
 
+-- a version of the format
+abbrev pub is_version : ℕ → Bool
+is_version version = (version == 1) || (version == 2)
+
 -- The plan is within the format.
 abbrev pub is_fitting : Plan → Bool
 is_fitting plan =
-    is_budget plan.budget && is_piece_count plan.pieces && is_name_text plan.name
-    && are_procedures plan.pieces plan.procedures
+    is_version plan.version && is_budget plan.budget && is_piece_count plan.pieces
+    && is_name_text plan.name && are_procedures plan.version plan.pieces plan.procedures

@@ -1,5 +1,5 @@
 -- What stands for the procedures of a plan that are read in place.
-use Rattle.std.specs.Prelude.{◌≡◌, ℕ, List, [], ◌∷◌, ◌++◌, Option, Some, None, Result, MatchResult, true, IsTrue}
+use Rattle.std.specs.Prelude.{◌≡◌, ℕ, List, [], ◌∷◌, ◌++◌, length, Option, Some, None, Result, MatchResult, true, IsTrue}
 use Rattle.std.specs.Borrow.{Bor}
 use Rattle.burr_container.specs.declared.fault.ContainerFault.{ContainerFault}
 use Rattle.burr_container.specs.declared.reading.cursor.Cursor.{Cursor}
@@ -7,10 +7,10 @@ use Rattle.burr_container.specs.declared.header.Header.{Header}
 use Rattle.burr_container.specs.declared.labels.Labels.{Labels}
 use Rattle.burr_container.specs.declared.exit_ref.ExitRef.{ExitRef}
 use Rattle.burr_container.specs.declared.procedure_ref.ProcedureRef.{ProcedureRef}
-use Rattle.burr_container.specs.Plans.{Frame, ExitFrame, PlanProcedure, parameter_slots}
+use Rattle.burr_container.specs.Plans.{Frame, ExitFrame, PlanProcedure, exit_symbols}
 use Rattle.burr_container.specs.Cuts.{IsCut}
 use Rattle.burr_container.specs.Spelling.{front_bytes}
-use Rattle.burr_container.specs.Fitting.{is_budget, is_piece_count, is_name_text}
+use Rattle.burr_container.specs.Fitting.{is_version, is_budget, is_piece_count, is_name_text}
 use Rattle.burr_container.specs.Faults.{Part, label, last_label, ProceduresFail, ContainerFails}
 use Rattle.burr_container.specs.Refs.{exit_frame_of}
 
@@ -34,13 +34,14 @@ IsLabel pieces start l = BeginWith (label (λ position. true) pieces) start.now 
 -- a header stands at the cursor, and behind it the next one; how the procedures fail there is how the
 -- container fails
 pub record IsHeaderAt (cursor : Cursor) (h : Header) (next : Cursor) : Type 0 where
-  pub version : h.version ≡ 1
+  pub version : IsTrue (is_version h.version)
   pub budget : IsTrue (is_budget h.budget)
   pub pieces : IsTrue (is_piece_count h.pieces)
   pub name : IsTrue (is_name_text h.name.now)
-  pub cut : IsCut cursor.at cursor.rest.now (front_bytes h.budget h.pieces h.name.now) next.at
-      next.rest.now
-  pub fails : (fault : ContainerFault) → ProceduresFail h.pieces next.at next.rest.now fault
+  pub cut : IsCut cursor.at cursor.rest.now
+      (front_bytes h.version h.budget h.pieces h.name.now) next.at next.rest.now
+  pub fails : (fault : ContainerFault)
+      → ProceduresFail h.version h.pieces next.at next.rest.now fault
       → ContainerFails cursor.at cursor.rest.now fault
 
 -- the header is read; or how the container fails
@@ -60,20 +61,25 @@ pub record IsBody (pieces : ℕ) (kept : Labels × Bor (List ℕ))
   pub labels : AreFor (IsLabel pieces) kept.0.starts.items body.0
   pub code : kept.1.now ≡ body.1
 
--- the exit frame of a procedure with so many parameters
-pub record IsExitFrame (pieces parameters : ℕ) (kept : ExitRef) (f : ExitFrame) : Type 0 where
-  pub frame : exit_frame_of kept ≡ f
-  pub live : kept.places.live ≡ parameter_slots parameters
-  pub count : kept.places.count ≡ pieces
+-- the exit frame of a procedure with so many parameters and results
+pub record IsExitFrame (pieces parameters results : ℕ) (kept : ExitRef) (f : ExitFrame) : Type 0
+  where
+    pub frame : exit_frame_of kept ≡ f
+    -- as many as the procedure has
+    pub many : length f.results ≡ results
+    pub live : kept.places.live ≡ exit_symbols parameters results
+    pub count : kept.places.count ≡ pieces
 
-abbrev pub IsExit : ℕ → ℕ → Option ExitRef → Option ExitFrame → Type 0
-IsExit pieces parameters None None = Unit {0}
-IsExit pieces parameters (Some kept) (Some f) = IsExitFrame pieces parameters kept f
-IsExit pieces parameters None (Some f) = ⊥
-IsExit pieces parameters (Some kept) None = ⊥
+abbrev pub IsExit : ℕ → ℕ → ℕ → Option ExitRef → Option ExitFrame → Type 0
+IsExit pieces parameters results None None = Unit {0}
+IsExit pieces parameters results (Some kept) (Some f) =
+    IsExitFrame pieces parameters results kept f
+IsExit pieces parameters results None (Some f) = ⊥
+IsExit pieces parameters results (Some kept) None = ⊥
 
 pub record IsProcedure (pieces : ℕ) (kept : ProcedureRef) (p : PlanProcedure) : Type 0 where
   pub parameters : kept.parameters ≡ p.parameters
-  pub exit : IsExit pieces p.parameters kept.exit p.exit
+  pub results : kept.results ≡ p.results
+  pub exit : IsExit pieces p.parameters p.results kept.exit p.exit
   pub labels : AreFor (IsLabel pieces) kept.labels.starts.items p.labels
   pub code : kept.code.now ≡ p.code

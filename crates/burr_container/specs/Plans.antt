@@ -1,6 +1,6 @@
 -- What a plan is: procedures of code with a frame at each label, as the stack map frames of the JVM
 -- Specification, 4.10.1. That frames hold forms, ranges, guards and a cost is this project's own.
-use Rattle.std.specs.Prelude.{ℕ, ℤ, pos, List, Option, Bool, is_some, map, true, false, ◌++◌, ◌-◌, replicate, [], ◌∷◌, length, if◌then◌else◌}
+use Rattle.std.specs.Prelude.{ℕ, ℤ, pos, List, Option, Bool, is_some, map, true, false, ◌++◌, ◌+◌, ◌-◌, replicate, [], ◌∷◌, length, if◌then◌else◌}
 use Rattle.burr_code.specs.Places.{Placement, at_position}
 use Rattle.burr_code.specs.declared.limits.TheConstants.{SLOTS}
 use Rattle.burr_forms.specs.Forms.{Form}
@@ -27,14 +27,18 @@ pub record Frame : Type 0 where
   pub cost : Form
   pub places : List (Placement FormCell)
 
--- What holds where a procedure returns. Coefficient v of a form is parameter v's.
+-- What holds where a procedure returns. A form is over the parameters, and behind them the results.
 pub record ExitFrame : Type 0 where
   pub tray : ℕ
   pub grip : ℕ
+  -- the range of each result
+  pub results : List Range
+  pub guards : List Form
   pub places : List (Placement FormCell)
 
 pub record PlanProcedure : Type 0 where
   pub parameters : ℕ
+  pub results : ℕ
   -- main has none
   pub exit : Option ExitFrame
   -- the position and the frame of each
@@ -42,6 +46,8 @@ pub record PlanProcedure : Type 0 where
   pub code : List ℕ
 
 pub record Plan : Type 0 where
+  -- 1, or 2, where procedures may have results
+  pub version : ℕ
   pub name : List ℕ
   pub pieces : ℕ
   pub budget : ℕ
@@ -52,9 +58,10 @@ pub record Plan : Type 0 where
 abbrev pub live_slots : List (Option Range) → List Bool
 live_slots slots = map is_some slots
 
--- which slots are a procedure's parameters: the first ones
-abbrev pub parameter_slots : ℕ → List Bool
-parameter_slots parameters = replicate parameters true ++ replicate (SLOTS - parameters) false
+-- which symbols an exit frame has: the first ones
+abbrev pub exit_symbols : ℕ → ℕ → List Bool
+exit_symbols parameters results =
+    replicate (parameters + results) true ++ replicate (SLOTS - (parameters + results)) false
 
 -- of a list with an element for each slot, those of the live ones
 abbrev pub of_live : {A : Type 0} → List Bool → List A → List A

@@ -1,5 +1,5 @@
 -- What the frames stand for that are read in place.
-use Rattle.std.specs.Prelude.{ℕ, List, Option, Some, None, Result, MatchResult, IfSome}
+use Rattle.std.specs.Prelude.{ℕ, List, take, Option, Some, None, Result, MatchResult, IfSome}
 use Rattle.burr_code.specs.Places.{Placement, Apart, On}
 use Rattle.burr_forms.specs.Forms.{Form, IsSmallForm}
 use Rattle.burr_container.specs.declared.fault.ContainerFault.{ContainerFault}
@@ -35,7 +35,13 @@ frame_of f = record {
 }
 
 abbrev pub exit_frame_of : ExitRef → ExitFrame
-exit_frame_of f = record { tray = f.tray; grip = f.grip; places = places_of f.places }
+exit_frame_of f = record {
+  tray = f.tray;
+  grip = f.grip;
+  results = take f.result_count f.results;
+  guards = forms_of f.guards;
+  places = places_of f.places;
+}
 
 -- a part is read in place: what is kept stands for the value at the cursor; or how the part fails
 abbrev pub ReadsInPlace : {A V : Type 0} → (V → A) → Part A → Cursor

@@ -6,7 +6,8 @@ use arrayvec::ArrayVec;
 use burr_code::limits::MOST_PROCEDURES;
 use std::marker::Model;
 
-/// A plan in its binary format, read in place: version 1. There is a plan that it is the container of.
+/// A plan in its binary format of version 1 or 2, read in place. There is a plan that it is the
+/// container of.
 #[derive(Drop)]
 pub struct Container<'a> {
     pub(crate) header: Header<'a>,

@@ -1,7 +1,7 @@
 //! Reading a container.
 
 ghost use Rattle.std.specs.Prelude.{◌≡◌, ◌≤◌, ◌<◌, length, slice_get, IfSome};
-ghost use Rattle.burr_code.specs.declared.limits.TheConstants.{MOST_BUDGET, MOST_CODE, MOST_PROCEDURES};
+ghost use Rattle.burr_code.specs.declared.limits.TheConstants.{MOST_BUDGET, MOST_CODE, MOST_PARAMETERS, MOST_PROCEDURES};
 ghost use Rattle.burr_container.specs.Plans.{Plan};
 ghost use Rattle.burr_container.specs.Faults.{procedures as procedures_part};
 ghost use Rattle.burr_container.specs.Reading.{ReadsAs};
@@ -27,7 +27,7 @@ impl<'a> Container<'a> {
     {
         let begin = Cursor::new(bytes);
         let (header, behind_header) = header(begin)?;
-        let (procedures, end) = procedures(header.pieces, behind_header)?;
+        let (procedures, end) = procedures(header.version, header.pieces, behind_header)?;
         if !end.rest.is_empty() {
             return Err(ContainerFault::C6 { at: end.at });
         }
@@ -57,9 +57,19 @@ impl<'a> Container<'a> {
     /// How many parameters procedure i has, 0 to 4.
     pub fn params(&self, i: usize) -> u8
         requires { i < length self.now.procedures }
-        ensures { OfProcedure self.now i (λ p q. result ≡ q.parameters) }
+        ensures few { result ≤ MOST_PARAMETERS }
+        ensures plan { OfProcedure self.now i (λ p q. result ≡ q.parameters) }
     {
         self.procedures[i].parameters
+    }
+
+    /// How many results procedure i has, 0 to 2.
+    pub fn results(&self, i: usize) -> u8
+        requires { i < length self.now.procedures }
+        ensures few { result ≤ 2 }
+        ensures plan { OfProcedure self.now i (λ p q. result ≡ q.results) }
+    {
+        self.procedures[i].results
     }
 
     /// How many labels procedure i has, 1 to 256.
@@ -96,7 +106,8 @@ impl<'a> Container<'a> {
     /// The exit frame of procedure i; None for main.
     pub fn exit(&self, i: usize) -> Option<ExitRef<'a>>
         requires { i < length self.now.procedures }
-        ensures { OfProcedure self.now i (λ p q. IsExit p.pieces q.parameters result q.exit) }
+        ensures { OfProcedure self.now i
+            (λ p q. IsExit p.pieces q.parameters q.results result q.exit) }
     {
         self.procedures[i].exit
     }
@@ -111,22 +122,24 @@ impl<'a> Container<'a> {
     }
 }
 
-/// The procedures of a plan of so many pieces, with their count in front of them.
+/// The procedures of a plan of this version and of so many pieces, with their count in front of
+/// them.
 fn procedures(
+    version: u16,
     pieces: u8,
     cursor: Cursor<'_>,
 ) -> Result<(ArrayVec<ProcedureRef<'_>, MOST_PROCEDURES>, Cursor<'_>), ContainerFault>
     requires { pieces ≤ 32 }
-    ensures { ReadsAs (λ kept ps. AreFor (IsProcedure pieces) kept.items ps) (procedures_part pieces)
-        cursor.entry result }
+    ensures { ReadsAs (λ kept ps. AreFor (IsProcedure pieces) kept.items ps)
+        (procedures_part version pieces) cursor.entry result }
 {
     let (count, behind_count) = count_within(cursor, 1, MOST_PROCEDURES)?;
-    let (main, behind_main) = main_procedure(pieces, behind_count)?;
+    let (main, behind_main) = main_procedure(version, pieces, behind_count)?;
     let mut procedures = ArrayVec::new();
     procedures.push(main);
     let mut cursor = behind_main;
     for _ in 0..count - 1 {
-        let (procedure, next) = other_procedure(pieces, cursor)?;
+        let (procedure, next) = other_procedure(version, pieces, cursor)?;
         procedures.push(procedure);
         cursor = next;
     }

@@ -1,13 +1,23 @@
-ghost use Rattle.std.specs.Prelude.{◌≡◌, ◌≤◌, ◌<◌};
+ghost use Rattle.std.specs.Prelude.{◌≡◌, ◌≤◌, ◌<◌, IsTrue};
+ghost use Rattle.burr_code.specs.declared.limits.TheConstants.{MOST_GUARDS};
+ghost use Rattle.burr_container.specs.Fitting.{are_ranges};
 
-use crate::runs::PlaceRun;
+use crate::runs::{FormRun, PlaceRun};
 
-/// The exit frame of a procedure, read in place. Coefficient j of its forms belongs to parameter j;
-/// further ones are 0.
+/// The exit frame of a procedure, read in place. Coefficient j of its forms belongs to parameter j,
+/// and those behind them to the results; further ones are 0.
 #[derive(Clone, Copy)]
 pub struct ExitRef<'a> {
     pub(crate) tray: u8,
     pub(crate) grip: u32,
+    /// The ranges of the results, the first so many.
+    pub(crate) results: [(i16, i16); 2],
+    pub(crate) result_count: u8,
+    pub(crate) guards: FormRun<'a>,
     pub(crate) places: PlaceRun<'a>,
+    ghost few_results: { result_count ≤ 2 },
+    ghost ranges: { IsTrue (are_ranges 2 results) },
+    ghost guards_live: { guards.live ≡ places.live },
+    ghost few_guards: { guards.count ≤ MOST_GUARDS },
     ghost few_places: { places.count ≤ 32 },
 }

@@ -9,7 +9,7 @@ pub enum ContainerFault {
     C1 { at: usize },
     #[error("at {at}: the bytes don't begin with `BPLN`")]
     C2 { at: usize },
-    #[error("at {at}: the version isn't 1")]
+    #[error("at {at}: the version isn't 1 or 2")]
     C3 { at: usize },
     #[error("at {at}: a number, or the name, is out of its range")]
     C4 { at: usize },

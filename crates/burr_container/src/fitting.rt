@@ -1,12 +1,12 @@
 //! Whether plans are within the format.
 
-ghost use Rattle.std.specs.Prelude.{◌≡◌, ◌≤◌, ◌&&◌, length, false, pos, neg_ℤ, IsTrue};
+ghost use Rattle.std.specs.Prelude.{◌≡◌, ◌≤◌, ◌&&◌, length, false, Some, pos, neg_ℤ, IsTrue};
 ghost use Rattle.std.specs.List.{list_all};
-ghost use Rattle.burr_container.specs.Fitting.{is_fitting, is_budget as fits_budget, is_piece_count as fits_piece_count, is_name_text as fits_name, are_procedures as fit_procedures, is_procedure as fits_procedure, is_exit as fits_exit, are_labels as fit_labels, are_parameters as fit_parameters, is_code, rise_from, is_exit_frame as fits_exit_frame, is_frame as fits_frame, is_frame_rest as fits_frame_rest, is_between, is_set_of as fits_set, is_range as fits_range, are_forms as fit_forms, is_form as fits_form, are_coefficients, is_coefficient, are_places as fit_places, is_place as fits_place};
+ghost use Rattle.burr_container.specs.Fitting.{is_fitting, is_version as fits_version, is_budget as fits_budget, is_piece_count as fits_piece_count, is_name_text as fits_name, are_procedures as fit_procedures, is_procedure as fits_procedure, is_exit as fits_exit, are_labels as fit_labels, are_parameters as fit_parameters, most_results as most_of_results, are_results as fit_results, most_exit_guards as most_of_exit_guards, is_code, rise_from, is_exit_frame as fits_exit_frame, is_exit_rest as fits_exit_rest, is_frame as fits_frame, is_frame_rest as fits_frame_rest, is_between, is_set_of as fits_set, is_range as fits_range, are_ranges as fit_ranges, are_forms as fit_forms, is_form as fits_form, are_coefficients, is_coefficient, are_places as fit_places, is_place as fits_place};
 ghost use Rattle.burr_container.specs.Views.{placement_of, placements_of};
 
 use crate::frame::{ExitFrame, Frame};
-use crate::live::{live_slots, parameter_slots};
+use crate::live::{exit_symbols, live_slots};
 use crate::place::Place;
 use crate::plan::{Plan, Procedure};
 use crate::plan_form::PlanForm;
@@ -21,11 +21,18 @@ impl Plan {
     pub fn fits(&self) -> bool
         ensures { result ≡ is_fitting self.now }
     {
-        is_budget(self.budget)
+        is_version(self.version)
+            && is_budget(self.budget)
             && is_piece_count(self.pieces)
             && is_name_text(&self.name)
-            && are_procedures(self.pieces, &self.procs)
+            && are_procedures(self.version, self.pieces, &self.procs)
     }
+}
+
+fn is_version(version: u16) -> bool
+    ensures { result ≡ fits_version version }
+{
+    version == 1 || version == 2
 }
 
 fn is_budget(budget: u32) -> bool
@@ -48,37 +55,41 @@ fn is_name_text(name: &[u8]) -> bool
 }
 
 /// Main first, and then other procedures.
-fn are_procedures(pieces: u8, procedures: &[Procedure]) -> bool
+fn are_procedures(version: u16, pieces: u8, procedures: &[Procedure]) -> bool
     requires { pieces ≤ 32 }
-    ensures { result ≡ fit_procedures pieces procedures.now }
+    ensures { result ≡ fit_procedures version pieces procedures.now }
 {
     match procedures {
         [] => false,
         [main, others @ ..] => {
-            is_procedure(pieces, true, main)
-                && all_others(pieces, others)
+            is_procedure(version, pieces, true, main)
+                && all_others(version, pieces, others)
                 && procedures.len() <= MOST_PROCEDURES
         }
     }
 }
 
-fn all_others(pieces: u8, procedures: &[Procedure]) -> bool
+fn all_others(version: u16, pieces: u8, procedures: &[Procedure]) -> bool
     requires { pieces ≤ 32 }
-    ensures { result ≡ list_all (fits_procedure pieces false) procedures.now }
+    ensures { result ≡ list_all (fits_procedure version pieces false) procedures.now }
 {
     procedures
         .iter()
-        .all(|other| is_procedure(pieces, false, other))
+        .all(|other| is_procedure(version, pieces, false, other))
 }
 
-fn is_procedure(pieces: u8, main: bool, procedure: &Procedure) -> bool
+fn is_procedure(version: u16, pieces: u8, main: bool, procedure: &Procedure) -> bool
     requires { pieces ≤ 32 }
-    ensures { result ≡ fits_procedure pieces main procedure.now }
+    ensures { result ≡ fits_procedure version pieces main procedure.now }
 {
     if !are_parameters(main, procedure.params) {
         return false;
     }
-    if !is_exit(pieces, main, procedure.params, &procedure.exit) {
+    if !are_results(version, main, procedure.results) {
+        return false;
+    }
+    let (parameters, results) = (procedure.params, procedure.results);
+    if !is_exit(version, pieces, main, parameters, results, &procedure.exit) {
         return false;
     }
     is_body(pieces, &procedure.labels, &procedure.code)
@@ -92,6 +103,22 @@ fn are_parameters(main: bool, parameters: u8) -> bool
     parameters <= if main { 0 } else { MOST_PARAMETERS }
 }
 
+/// Whether so many results may be; main has none, and in version 1 no procedure has one.
+fn are_results(version: u16, main: bool, results: u8) -> bool
+    ensures test { result ≡ fit_results version main results }
+    ensures few { IsTrue result → results ≤ 2 }
+{
+    results <= most_results(version, main)
+}
+
+/// How many results there may be.
+pub fn most_results(version: u16, main: bool) -> u8
+    ensures most { result ≡ most_of_results version main }
+    ensures few { result ≤ 2 }
+{
+    if main || version != 2 { 0 } else { 2 }
+}
+
 fn is_body(pieces: u8, labels: &[(u16, Frame)], code: &[u8]) -> bool
     requires { pieces ≤ 32 }
     ensures { result ≡ (fit_labels pieces (length code.now) labels.now && is_code code.now) }
@@ -99,16 +126,24 @@ fn is_body(pieces: u8, labels: &[(u16, Frame)], code: &[u8]) -> bool
     are_labels(pieces, code.len(), labels) && code.len() <= MOST_CODE
 }
 
-fn is_exit(pieces: u8, main: bool, parameters: u8, exit: &Option<ExitFrame>) -> bool
+fn is_exit(
+    version: u16,
+    pieces: u8,
+    main: bool,
+    parameters: u8,
+    results: u8,
+    exit: &Option<ExitFrame>,
+) -> bool
     requires pieces { pieces ≤ 32 }
     requires parameters { parameters ≤ 4 }
-    ensures { result ≡ fits_exit main pieces parameters exit.now }
+    requires results { results ≤ 2 }
+    ensures { result ≡ fits_exit version main pieces parameters results exit.now }
 {
     match (main, exit) {
         (true, None) => true,
         (true, Some(_)) => false,
         (false, None) => false,
-        (false, Some(exit)) => is_exit_frame(pieces, parameters, exit),
+        (false, Some(exit)) => is_exit_frame(version, pieces, parameters, results, exit),
     }
 }
 
@@ -149,10 +184,11 @@ fn rise(labels: &[(u16, Frame)], end: usize) -> bool
     true
 }
 
-fn is_exit_frame(pieces: u8, parameters: u8, exit: &ExitFrame) -> bool
+fn is_exit_frame(version: u16, pieces: u8, parameters: u8, results: u8, exit: &ExitFrame) -> bool
     requires pieces { pieces ≤ 32 }
     requires parameters { parameters ≤ 4 }
-    ensures { result ≡ fits_exit_frame pieces parameters exit.now }
+    requires results { results ≤ 2 }
+    ensures { result ≡ fits_exit_frame version pieces parameters results exit.now }
 {
     if TRAYS <= exit.tray {
         return false;
@@ -160,7 +196,41 @@ fn is_exit_frame(pieces: u8, parameters: u8, exit: &ExitFrame) -> bool
     if !is_set_of(pieces, exit.grip) {
         return false;
     }
-    are_places(pieces, &parameter_slots(parameters), &exit.places)
+    let live = exit_symbols(parameters, results);
+    is_exit_rest(version, pieces, results, &live, exit)
+}
+
+/// Whether what follows the grip of an exit frame is within the format.
+fn is_exit_rest(version: u16, pieces: u8, results: u8, live: &[bool; 8], exit: &ExitFrame) -> bool
+    ensures { result ≡ fits_exit_rest version pieces results live.now exit.now }
+{
+    if !are_result_ranges(results, &exit.results) {
+        return false;
+    }
+    if !are_forms(most_exit_guards(version), live, &exit.guards) {
+        return false;
+    }
+    are_places(pieces, live, &exit.places)
+}
+
+/// How many guards an exit frame may have.
+fn most_exit_guards(version: u16) -> usize
+    ensures { result ≡ most_of_exit_guards version }
+{
+    if version == 2 { MOST_GUARDS } else { 0 }
+}
+
+/// A range for each result.
+fn are_result_ranges(results: u8, ranges: &[(i16, i16)]) -> bool
+    ensures { result ≡ fit_ranges results ranges.now }
+{
+    ranges.len() == usize::from(results) && all_ranges(ranges)
+}
+
+fn all_ranges(ranges: &[(i16, i16)]) -> bool
+    ensures { result ≡ list_all (λ r. fits_range (Some r)) ranges.now }
+{
+    ranges.iter().all(|range| is_range(Some(*range)))
 }
 
 fn is_frame(pieces: u8, frame: &Frame) -> bool

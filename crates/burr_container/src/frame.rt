@@ -40,13 +40,17 @@ impl Model for Frame {
 }
 
 /// What holds where a procedure returns. Its forms are over the parameters, which are the first
-/// slots.
+/// symbols, and behind them the results.
 #[derive(Debug, Drop)]
 pub struct ExitFrame {
     /// The current tray, 0 to 31.
     pub tray: u8,
     /// The grip: bit p is piece p.
     pub grip: u32,
+    /// Of each result, the lowest and the highest number that it may be.
+    pub results: Vec<(i16, i16)>,
+    /// At most four forms that are at least 0; in version 1 none.
+    pub guards: Vec<PlanForm>,
     /// Where each piece lies.
     pub places: Vec<Place>,
 }
@@ -58,5 +62,11 @@ impl Model for ExitFrame {
     ghost Value = { ExitFrameOf };
 
     ghost view = { λ f.
-        record { tray = f.tray; grip = f.grip; places = placements_of f.places.items } };
+        record {
+          tray = f.tray;
+          grip = f.grip;
+          results = f.results.items;
+          guards = f.guards.items;
+          places = placements_of f.places.items;
+        } };
 }

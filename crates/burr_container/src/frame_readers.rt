@@ -1,13 +1,12 @@
-//! Readers of frames.
+//! Readers of frames of labels.
 
 ghost use Rattle.std.specs.Prelude.{◌≡◌, ◌≤◌, ◌<◌, length, Some, slice_get, map, IfSome};
 ghost use Rattle.burr_code.specs.declared.limits.TheConstants.{MOST_GUARDS, MOST_OPERANDS};
 ghost use Rattle.burr_forms.specs.Forms.{IsSmallForm};
 ghost use Rattle.burr_forms.specs.Points.{IsRange};
 ghost use Rattle.burr_container.specs.Plans.{live_slots, over_symbols, place_over_symbols};
-ghost use Rattle.burr_container.specs.Refs.{frame_of, exit_frame_of, told, IsSmallPlace};
+ghost use Rattle.burr_container.specs.Refs.{frame_of, told, IsSmallPlace};
 
-use crate::exit_ref::ExitRef;
 use crate::frame_ref::FrameRef;
 use burr_forms::Form;
 
@@ -94,42 +93,6 @@ impl FrameRef<'_> {
         requires { p < self.now.places.count }
         ensures place { slice_get
             (map (place_over_symbols (live_slots self.now.slots)) (frame_of self.now).places) p
-            ≡ Some (told result) }
-        ensures small { IsSmallPlace result }
-    {
-        self.places.place(p)
-    }
-}
-
-impl ExitRef<'_> {
-    /// How many pieces the exit frame tells of: those of the plan, 32 at most.
-    pub fn piece_count(&self) -> usize
-        ensures count { result ≡ self.now.places.count }
-        ensures places { result ≡ length (exit_frame_of self.now).places }
-        ensures few { result ≤ 32 }
-    {
-        self.places.count
-    }
-
-    /// The current tray, 0 to 31.
-    pub fn tray(&self) -> u8
-        ensures { result ≡ (exit_frame_of self.now).tray }
-    {
-        self.tray
-    }
-
-    /// The grip: bit p is piece p.
-    pub fn grip(&self) -> u32
-        ensures { result ≡ (exit_frame_of self.now).grip }
-    {
-        self.grip
-    }
-
-    /// The tray and the offset of piece p, which the plan has; None where it is apart.
-    pub fn place(&self, p: usize) -> Option<(u8, Form, Form, Form)>
-        requires { p < self.now.places.count }
-        ensures place { slice_get
-            (map (place_over_symbols self.now.places.live) (exit_frame_of self.now).places) p
             ≡ Some (told result) }
         ensures small { IsSmallPlace result }
     {

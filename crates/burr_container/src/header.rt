@@ -1,7 +1,7 @@
 /// What stands at the front of a container.
 #[derive(Clone, Copy, Debug)]
 pub struct Header<'a> {
-    /// The version of the format: 1.
+    /// The version of the format: 1, or 2, where procedures may have results.
     pub version: u16,
     /// How many steps a run may take, 1 to 1,000,000.
     pub budget: u32,

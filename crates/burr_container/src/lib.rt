@@ -3,6 +3,7 @@
 
 mod container;
 mod container_readers;
+mod exit_readers;
 mod exit_ref;
 mod fault;
 mod fitting;

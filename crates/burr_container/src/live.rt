@@ -1,9 +1,7 @@
 //! Which slots are live.
 
 ghost use Rattle.std.specs.Prelude.{◌≡◌, ◌≤◌};
-ghost use Rattle.burr_container.specs.Plans.{live_slots as live_ones, parameter_slots as first_ones};
-
-use burr_code::limits::{MOST_PARAMETERS, SLOTS};
+ghost use Rattle.burr_container.specs.Plans.{live_slots as live_ones, exit_symbols as first_ones};
 
 /// The slots that have a range.
 pub fn live_slots(slots: &[Option<(i16, i16)>; 8]) -> [bool; 8]
@@ -22,16 +20,19 @@ pub fn live_slots(slots: &[Option<(i16, i16)>; 8]) -> [bool; 8]
     ]
 }
 
-/// The parameters of a procedure with so many: the first slots.
-pub fn parameter_slots(parameters: u8) -> [bool; 8]
-    requires { parameters ≤ 4 }
-    ensures { result ≡ first_ones parameters }
+/// The symbols of an exit frame with so many parameters and results: the first ones.
+pub fn exit_symbols(parameters: u8, results: u8) -> [bool; 8]
+    requires parameters { parameters ≤ 4 }
+    requires results { results ≤ 2 }
+    ensures { result ≡ first_ones parameters results }
 {
-    match parameters {
+    match parameters + results {
         0 => [false; 8],
         1 => [true, false, false, false, false, false, false, false],
         2 => [true, true, false, false, false, false, false, false],
         3 => [true, true, true, false, false, false, false, false],
-        _ => [true, true, true, true, false, false, false, false],
+        4 => [true, true, true, true, false, false, false, false],
+        5 => [true, true, true, true, true, false, false, false],
+        _ => [true, true, true, true, true, true, false, false],
     }
 }

@@ -4,6 +4,8 @@ use std::marker::Model;
 /// A plan.
 #[derive(Debug, Drop)]
 pub struct Plan {
+    /// The version of the format: 1, or 2, where procedures may have results.
+    pub version: u16,
     /// The name of the assembly that it takes apart.
     pub name: Vec<u8>,
     /// How many pieces the assembly has, 2 to 32.
@@ -21,6 +23,7 @@ impl Model for Plan {
 
     ghost view = { λ p.
         record {
+          version = p.version;
           name = p.name.items;
           pieces = p.pieces;
           budget = p.budget;
@@ -33,6 +36,8 @@ impl Model for Plan {
 pub struct Procedure {
     /// How many of the first slots are parameters: 0 to 4, of main 0.
     pub params: u8,
+    /// How many results it has: 0 to 2, of main and in version 1 0.
+    pub results: u8,
     /// What holds where it returns; main has none.
     pub exit: Option<ExitFrame>,
     /// 1 to 256 labels: their positions in the code, which begin at 0 and rise, and their frames.
@@ -49,6 +54,7 @@ impl Model for Procedure {
     ghost view = { λ p.
         record {
           parameters = p.params;
+          results = p.results;
           exit = p.exit;
           labels = p.labels.items;
           code = p.code.items;

@@ -5,6 +5,7 @@ use crate::labels::Labels;
 #[derive(Drop, Default)]
 pub struct ProcedureRef<'a> {
     pub parameters: u8,
+    pub results: u8,
     pub exit: Option<ExitRef<'a>>,
     pub labels: Labels<'a>,
     pub code: &'a [u8],

@@ -1,6 +1,6 @@
 -- For crates above: a plan has one spelling, its bytes have no fault, and bytes have one fault at
 -- most.
-use Rattle.std.proofs.Common.{◌≡◌, ℕ, pred, ◌≤◌, ◌&&◌, ◌==◌, Bool, true, false, IsTrue, nat_le, List, [], ◌∷◌, ◌++◌, length, codes, flat_map, refl, sym, ap, ◌∙◌, arith, append_assoc, append-nil, eqb-true, leb-true, eq-eqb, le-leb}
+use Rattle.std.proofs.Common.{◌≡◌, ℕ, pred, ◌<◌, ◌≤◌, ◌^◌, ◌&&◌, ◌||◌, ◌==◌, Bool, true, false, IsTrue, nat_le, List, [], ◌∷◌, ◌++◌, length, codes, flat_map, refl, sym, ap, ◌∙◌, arith, append_assoc, append-nil, eqb-true, leb-true, eq-eqb, le-leb}
 use Rattle.std.specs.List.{list_all}
 use Rattle.std.proofs.lemmas.Bool.{and_parts, and_from, false≢true}
 use Rattle.byteorder.specs.Endian.{big_bytes}
@@ -8,7 +8,7 @@ use Rattle.burr_code.specs.declared.limits.TheConstants.{MOST_PROCEDURES, MOST_B
 use Rattle.burr_container.specs.declared.fault.ContainerFault.TheVariants.{C2, C3, C4}
 use Rattle.burr_container.specs.Plans.{PlanProcedure, Plan}
 use Rattle.burr_container.specs.Spelling.{counted_bytes, procedure_bytes, plan_bytes}
-use Rattle.burr_container.specs.Fitting.{is_procedure, are_procedures, is_piece_count, is_name_text, is_budget, is_fitting}
+use Rattle.burr_container.specs.Fitting.{is_procedure, are_procedures, is_piece_count, is_name_text, is_version, is_budget, is_fitting}
 use Rattle.burr_container.specs.Faults.{Failing, number, raw, passes, first, procedure, others, each, IsFollowed, name, is_magic}
 use Rattle.burr_container.specs.Laws.{OnePlan, NoFaultOfPlan, OneFault}
 use Rattle.burr_container.proofs.Common.Lawful.{Front, Lawful, OfPart, OfFirst, OfNothing, OfEnd, Sound, first_lawful, lawful_as, passes_lawful, end_lawful}
@@ -65,83 +65,90 @@ Nothing = Unit {0}
 abbrev pub is_procedure_count : ℕ → Bool
 is_procedure_count count = nat_le 1 count && nat_le count MOST_PROCEDURES
 
-others_sound : (pieces count : ℕ) → pieces ≤ 32 → Sound (others pieces count)
-others_sound pieces count few =
-    lawful_as (λ (ps : List PlanProcedure). ps) (OfPart (others pieces count))
-    (OfEach count (procedure pieces false)) (others pieces count).Fails
-    (each count (procedure pieces false))
-    (λ ps bytes r here.
-    let parts = and_parts (length ps == count) (list_all (is_procedure pieces false) ps) here.0 in
-    (ps, refl, (eqb-true (length ps) count parts.0, parts.1, here.1)))
+others_made : (version pieces count : ℕ) (ps : List PlanProcedure) (bytes r : List ℕ)
+    → OfPart (others version pieces count) ps bytes r
+    → (all : List PlanProcedure) × (all ≡ ps)
+    × OfEach count (procedure version pieces false) all bytes r
+others_made version pieces count ps bytes r here =
+    let parts =
+    and_parts (length ps == count) (list_all (is_procedure version pieces false) ps) here.0 in
+    (ps, refl, (eqb-true (length ps) count parts.0, parts.1, here.1))
+
+others_sound : (version pieces count : ℕ) → pieces ≤ 32 → Sound (others version pieces count)
+others_sound version pieces count few =
+    lawful_as (λ (ps : List PlanProcedure). ps) (OfPart (others version pieces count))
+    (OfEach count (procedure version pieces false)) (others version pieces count).Fails
+    (each count (procedure version pieces false)) (others_made version pieces count)
     (λ at bytes fault fails. fails)
-    (each_lawful (procedure pieces false) count (other_sound pieces few))
+    (each_lawful (procedure version pieces false) count (other_sound version pieces few))
 
-abbrev pub OfOthers : ℕ → ℕ → Front Nothing → Front (List PlanProcedure × Nothing)
-OfOthers pieces count Last = OfFirst (others pieces count) (λ ps. Last)
+abbrev pub OfOthers : ℕ → ℕ → ℕ → Front Nothing → Front (List PlanProcedure × Nothing)
+OfOthers version pieces count Last = OfFirst (others version pieces count) (λ ps. Last)
 
-abbrev pub others_fail : ℕ → ℕ → Failing → Failing
-others_fail pieces count last = first (others pieces count) (λ ps. last)
+abbrev pub others_fail : ℕ → ℕ → ℕ → Failing → Failing
+others_fail version pieces count last = first (others version pieces count) (λ ps. last)
 
-abbrev pub OfProcedures : ℕ → ℕ → Front Nothing
+abbrev pub OfProcedures : ℕ → ℕ → ℕ → Front Nothing
     → Front (PlanProcedure × (List PlanProcedure × Nothing))
-OfProcedures pieces count Last =
-    OfFirst (procedure pieces true) (λ main. OfOthers pieces (pred count) Last)
+OfProcedures version pieces count Last =
+    OfFirst (procedure version pieces true) (λ main. OfOthers version pieces (pred count) Last)
 
-abbrev pub procedures_fail : ℕ → ℕ → Failing → Failing
-procedures_fail pieces count last =
-    first (procedure pieces true) (λ main. others_fail pieces (pred count) last)
+abbrev pub procedures_fail : ℕ → ℕ → ℕ → Failing → Failing
+procedures_fail version pieces count last =
+    first (procedure version pieces true) (λ main. others_fail version pieces (pred count) last)
 
-abbrev pub OfCounted : ℕ → Front Nothing
+abbrev pub OfCounted : ℕ → ℕ → Front Nothing
     → Front (ℕ × (PlanProcedure × (List PlanProcedure × Nothing)))
-OfCounted pieces Last =
-    OfFirst (number 1 C4 is_procedure_count) (λ count. OfProcedures pieces count Last)
+OfCounted version pieces Last =
+    OfFirst (number 1 C4 is_procedure_count) (λ count. OfProcedures version pieces count Last)
 
-abbrev pub counted_fail : ℕ → Failing → Failing
-counted_fail pieces last =
-    first (number 1 C4 is_procedure_count) (λ count. procedures_fail pieces count last)
+abbrev pub counted_fail : ℕ → ℕ → Failing → Failing
+counted_fail version pieces last =
+    first (number 1 C4 is_procedure_count) (λ count. procedures_fail version pieces count last)
 
-counted_lawful : (pieces : ℕ) (Last : Front Nothing) (last : Failing) → pieces ≤ 32
-    → Lawful Last last → Lawful (OfCounted pieces Last) (counted_fail pieces last)
-counted_lawful pieces Last last few lawful =
-    first_lawful (number 1 C4 is_procedure_count) (λ count. OfProcedures pieces count Last)
-    (λ count. procedures_fail pieces count last) (number_sound 1 C4 is_procedure_count)
+counted_lawful : (version pieces : ℕ) (Last : Front Nothing) (last : Failing) → pieces ≤ 32
+    → Lawful Last last
+    → Lawful (OfCounted version pieces Last) (counted_fail version pieces last)
+counted_lawful version pieces Last last few lawful =
+    first_lawful (number 1 C4 is_procedure_count) (λ count. OfProcedures version pieces count Last)
+    (λ count. procedures_fail version pieces count last) (number_sound 1 C4 is_procedure_count)
     (λ count fits.
-    first_lawful (procedure pieces true) (λ main. OfOthers pieces (pred count) Last)
-    (λ main. others_fail pieces (pred count) last) (main_sound pieces few)
-    (λ main is. first_lawful (others pieces (pred count)) (λ ps. Last) (λ ps. last)
-    (others_sound pieces (pred count) few) (λ ps are. lawful)))
+    first_lawful (procedure version pieces true)
+    (λ main. OfOthers version pieces (pred count) Last)
+    (λ main. others_fail version pieces (pred count) last) (main_sound version pieces few)
+    (λ main is. first_lawful (others version pieces (pred count)) (λ ps. Last) (λ ps. last)
+    (others_sound version pieces (pred count) few) (λ ps are. lawful)))
 
 -- The header
 
 abbrev pub Counted : Type 0
 Counted = ℕ × (PlanProcedure × (List PlanProcedure × Nothing))
 
-abbrev pub OfNamed : ℕ → Front Nothing → Front (List ℕ × Counted)
-OfNamed pieces Last = OfFirst name (λ text. OfCounted pieces Last)
+abbrev pub OfNamed : ℕ → ℕ → Front Nothing → Front (List ℕ × Counted)
+OfNamed version pieces Last = OfFirst name (λ text. OfCounted version pieces Last)
 
-abbrev pub named_fails : ℕ → Failing → Failing
-named_fails pieces last = first name (λ text. counted_fail pieces last)
+abbrev pub named_fails : ℕ → ℕ → Failing → Failing
+named_fails version pieces last = first name (λ text. counted_fail version pieces last)
 
-abbrev pub OfPieces : Front Nothing → Front (ℕ × (List ℕ × Counted))
-OfPieces Last = OfFirst (number 1 C4 is_piece_count) (λ pieces. OfNamed pieces Last)
+abbrev pub OfPieces : ℕ → Front Nothing → Front (ℕ × (List ℕ × Counted))
+OfPieces version Last =
+    OfFirst (number 1 C4 is_piece_count) (λ pieces. OfNamed version pieces Last)
 
-abbrev pub pieces_fail : Failing → Failing
-pieces_fail last = first (number 1 C4 is_piece_count) (λ pieces. named_fails pieces last)
+abbrev pub pieces_fail : ℕ → Failing → Failing
+pieces_fail version last =
+    first (number 1 C4 is_piece_count) (λ pieces. named_fails version pieces last)
 
-abbrev pub OfBudget : Front Nothing → Front (ℕ × (ℕ × (List ℕ × Counted)))
-OfBudget Last = OfFirst (number 4 C4 is_budget) (λ budget. OfPieces Last)
+abbrev pub OfBudget : ℕ → Front Nothing → Front (ℕ × (ℕ × (List ℕ × Counted)))
+OfBudget version Last = OfFirst (number 4 C4 is_budget) (λ budget. OfPieces version Last)
 
-abbrev pub budget_fails : Failing → Failing
-budget_fails last = first (number 4 C4 is_budget) (λ budget. pieces_fail last)
-
-abbrev pub is_version : ℕ → Bool
-is_version version = version == 1
+abbrev pub budget_fails : ℕ → Failing → Failing
+budget_fails version last = first (number 4 C4 is_budget) (λ budget. pieces_fail version last)
 
 abbrev pub OfVersion : Front Nothing → Front (ℕ × (ℕ × (ℕ × (List ℕ × Counted))))
-OfVersion Last = OfFirst (number 2 C3 is_version) (λ version. OfBudget Last)
+OfVersion Last = OfFirst (number 2 C3 is_version) (λ version. OfBudget version Last)
 
 abbrev pub version_fails : Failing → Failing
-version_fails last = first (number 2 C3 is_version) (λ version. budget_fails last)
+version_fails last = first (number 2 C3 is_version) (λ version. budget_fails version last)
 
 -- the values of a container
 abbrev pub Values : Type 0
@@ -156,29 +163,41 @@ values_fail last = first (raw 4 C2 is_magic) (λ magic. version_fails last)
 pieces_few : (pieces : ℕ) → IsTrue (is_piece_count pieces) → pieces ≤ 32
 pieces_few pieces are = leb-true pieces 32 (and_parts (nat_le 2 pieces) (nat_le pieces 32) are).1
 
-module _ (Last : Front Nothing) (last : Failing) (lawful : Lawful Last last) where
-  named_lawful : (pieces : ℕ) → pieces ≤ 32 → Lawful (OfNamed pieces Last) (named_fails pieces last)
-  named_lawful pieces few =
-      first_lawful name (λ text. OfCounted pieces Last) (λ text. counted_fail pieces last)
-      name_sound (λ text fits. counted_lawful pieces Last last few lawful)
+version_few : (version : ℕ) → IsTrue (is_version version) → version < 256 ^ 2
+version_few version is = small_version version (version == 1) (version == 2) refl refl is
+  where
+    small_version : (version : ℕ) (one two : Bool) → (version == 1) ≡ one → (version == 2) ≡ two
+        → IsTrue (one || two) → version < 256 ^ 2
+    small_version version true two e f is = let n = eqb-true version 1 e in omega (arith, n)
+    small_version version false true e f is = let n = eqb-true version 2 f in omega (arith, n)
+    small_version version false false e f is = absurd (false≢true is)
 
-  pieces_lawful : Lawful (OfPieces Last) (pieces_fail last)
-  pieces_lawful =
-      first_lawful (number 1 C4 is_piece_count) (λ pieces. OfNamed pieces Last)
-      (λ pieces. named_fails pieces last) (number_sound 1 C4 is_piece_count)
-      (λ pieces fits. named_lawful pieces
+module _ (Last : Front Nothing) (last : Failing) (lawful : Lawful Last last) where
+  named_lawful : (version pieces : ℕ) → pieces ≤ 32
+      → Lawful (OfNamed version pieces Last) (named_fails version pieces last)
+  named_lawful version pieces few =
+      first_lawful name (λ text. OfCounted version pieces Last)
+      (λ text. counted_fail version pieces last) name_sound
+      (λ text fits. counted_lawful version pieces Last last few lawful)
+
+  pieces_lawful : (version : ℕ) → Lawful (OfPieces version Last) (pieces_fail version last)
+  pieces_lawful version =
+      first_lawful (number 1 C4 is_piece_count) (λ pieces. OfNamed version pieces Last)
+      (λ pieces. named_fails version pieces last) (number_sound 1 C4 is_piece_count)
+      (λ pieces fits. named_lawful version pieces
       (pieces_few pieces (and_parts _ (is_piece_count pieces) fits).1))
 
-  budget_lawful : Lawful (OfBudget Last) (budget_fails last)
-  budget_lawful =
-      first_lawful (number 4 C4 is_budget) (λ budget. OfPieces Last) (λ budget. pieces_fail last)
-      (number_sound 4 C4 is_budget) (λ budget fits. pieces_lawful)
+  budget_lawful : (version : ℕ) → Lawful (OfBudget version Last) (budget_fails version last)
+  budget_lawful version =
+      first_lawful (number 4 C4 is_budget) (λ budget. OfPieces version Last)
+      (λ budget. pieces_fail version last) (number_sound 4 C4 is_budget)
+      (λ budget fits. pieces_lawful version)
 
   version_lawful : Lawful (OfVersion Last) (version_fails last)
   version_lawful =
-      first_lawful (number 2 C3 is_version) (λ version. OfBudget Last)
-      (λ version. budget_fails last) (number_sound 2 C3 is_version)
-      (λ version fits. budget_lawful)
+      first_lawful (number 2 C3 is_version) (λ version. OfBudget version Last)
+      (λ version. budget_fails version last) (number_sound 2 C3 is_version)
+      (λ version fits. budget_lawful version)
 
   values_lawful : Lawful (OfValues Last) (values_fail last)
   values_lawful =
@@ -190,6 +209,7 @@ module _ (Last : Front Nothing) (last : Failing) (lawful : Lawful Last last) whe
 abbrev pub plan_of : Values → Plan
 plan_of v =
     record {
+      version = v.1.0;
       name = v.1.1.1.1.0;
       pieces = v.1.1.1.0;
       budget = v.1.1.0;
@@ -202,107 +222,134 @@ abbrev pub OfPlan : Front Nothing → Front Plan
 OfPlan Last plan bytes r =
     (rest : List ℕ) × IsTrue (is_fitting plan) × (bytes ≡ plan_bytes plan ++ rest) × Last tt rest r
 
-some_main : (pieces : ℕ) (ps : List PlanProcedure) → IsTrue (are_procedures pieces ps)
+some_main : (version pieces : ℕ) (ps : List PlanProcedure)
+    → IsTrue (are_procedures version pieces ps)
     → (main : PlanProcedure) × (more : List PlanProcedure) × (ps ≡ main ∷ more)
-    × IsTrue (is_procedure pieces true main) × IsTrue (list_all (is_procedure pieces false) more)
+    × IsTrue (is_procedure version pieces true main)
+    × IsTrue (list_all (is_procedure version pieces false) more)
     × IsTrue (nat_le (length (main ∷ more)) MOST_PROCEDURES)
-some_main pieces [] are = absurd (false≢true are)
-some_main pieces (main ∷ more) are =
-    let a =
-    and_parts (is_procedure pieces true main && list_all (is_procedure pieces false) more)
-    (nat_le (length (main ∷ more)) MOST_PROCEDURES) are in
-    let b =
-    and_parts (is_procedure pieces true main) (list_all (is_procedure pieces false) more) a.0 in
+some_main version pieces [] are = absurd (false≢true are)
+some_main version pieces (main ∷ more) are =
+    let is = is_procedure version pieces true main in
+    let all = list_all (is_procedure version pieces false) more in
+    let a = and_parts (is && all) (nat_le (length (main ∷ more)) MOST_PROCEDURES) are in
+    let b = and_parts is all a.0 in
     (main, more, refl, b.0, b.1, a.1)
 
-counted_made : (pieces : ℕ) (Last : Front Nothing) (main : PlanProcedure)
+counted_made : (version pieces : ℕ) (Last : Front Nothing) (main : PlanProcedure)
     (more : List PlanProcedure) (bytes rest r : List ℕ)
-    → IsTrue (is_procedure pieces true main) → IsTrue (list_all (is_procedure pieces false) more)
+    → IsTrue (is_procedure version pieces true main)
+    → IsTrue (list_all (is_procedure version pieces false) more)
     → IsTrue (nat_le (length (main ∷ more)) MOST_PROCEDURES)
-    → bytes ≡ counted_bytes procedure_bytes (main ∷ more) ++ rest → Last tt rest r
-    → OfCounted pieces Last (length (main ∷ more), (main, (more, tt))) bytes r
-counted_made pieces Last main more bytes rest r is are many e last =
+    → bytes ≡ counted_bytes (procedure_bytes version) (main ∷ more) ++ rest → Last tt rest r
+    → OfCounted version pieces Last (length (main ∷ more), (main, (more, tt))) bytes r
+counted_made version pieces Last main more bytes rest r is are many e last =
     let few = leb-true (length (main ∷ more)) 16 many in
     let so =
     and_from (nat_le 1 (length (main ∷ more))) (nat_le (length (main ∷ more)) MOST_PROCEDURES)
     (le-leb 1 (length (main ∷ more)) (omega arith)) many in
     let others_fit =
-    and_from (length more == length more) (list_all (is_procedure pieces false) more)
+    and_from (length more == length more) (list_all (is_procedure version pieces false) more)
     (eq-eqb (length more) (length more) refl) are in
-    let behind = flat_map procedure_bytes (main ∷ more) ++ rest in (
+    let behind = flat_map (procedure_bytes version) (main ∷ more) ++ rest in (
       behind,
       of_byte C4 is_procedure_count (length (main ∷ more)) bytes behind (omega (arith, few)) so e,
       (
-        flat_map procedure_bytes more ++ rest,
-        (is, append_assoc (procedure_bytes main) (flat_map procedure_bytes more) rest),
+        flat_map (procedure_bytes version) more ++ rest,
+        (
+          is,
+          append_assoc (procedure_bytes version main) (flat_map (procedure_bytes version) more)
+              rest,
+        ),
         (rest, (others_fit, refl), last),
       ),
     )
+
+-- the bytes of a plan's procedures
+abbrev pub all_bytes_of : Plan → List ℕ
+all_bytes_of plan = counted_bytes (procedure_bytes plan.version) plan.procedures
 
 pub plan_apart : (plan : Plan) (rest : List ℕ)
     → plan_bytes plan ++ rest
     ≡ codes
     "BPLN" ++ (big_bytes 2
-    1 ++ (big_bytes 4
+    plan.version ++ (big_bytes 4
     plan.budget ++ (plan.pieces ∷ length
-    plan.name ∷ (plan.name ++ (counted_bytes procedure_bytes
-    plan.procedures ++ rest)))))
+    plan.name ∷ (plan.name ++ (all_bytes_of plan ++ rest)))))
 plan_apart plan rest =
     ap (λ (all : List ℕ). codes
     "BPLN" ++ (big_bytes 2
-    1 ++ (big_bytes 4 plan.budget ++ (plan.pieces ∷ length plan.name ∷ all))))
-    (append_assoc plan.name (counted_bytes procedure_bytes plan.procedures) rest)
+    plan.version ++ (big_bytes 4 plan.budget ++ (plan.pieces ∷ length plan.name ∷ all))))
+    (append_assoc plan.name (all_bytes_of plan) rest)
 
 with_procedures : (plan : Plan) (ps : List PlanProcedure) → plan.procedures ≡ ps
     → record plan { procedures = ps } ≡ plan
 with_procedures plan ps e = λ i. record plan { procedures = sym e i }
 
+-- what a plan that fits is asked
+pub record PlanFits (plan : Plan) : Type 0 where
+  pub version : IsTrue (is_version plan.version)
+  pub budget : IsTrue (is_budget plan.budget)
+  pub pieces : IsTrue (is_piece_count plan.pieces)
+  pub name : IsTrue (is_name_text plan.name)
+  pub procedures : IsTrue (are_procedures plan.version plan.pieces plan.procedures)
+
+pub plan_fits : (plan : Plan) → IsTrue (is_fitting plan) → PlanFits plan
+plan_fits plan fits =
+    let version = is_version plan.version in
+    let budget = is_budget plan.budget in
+    let pieces = is_piece_count plan.pieces in
+    let name = is_name_text plan.name in
+    let a =
+    and_parts (version && budget && pieces && name)
+    (are_procedures plan.version plan.pieces plan.procedures) fits in
+    let b = and_parts (version && budget && pieces) name a.0 in
+    let c = and_parts (version && budget) pieces b.0 in
+    let d = and_parts version budget c.0 in
+    record { version = d.0; budget = d.1; pieces = c.1; name = b.1; procedures = a.1 }
+
 of_plan : (Last : Front Nothing) (plan : Plan) (bytes r : List ℕ) → OfPlan Last plan bytes r
     → (v : Values) × (plan_of v ≡ plan) × OfValues Last v bytes r
 of_plan Last plan bytes r here =
-    let a =
-    and_parts (is_budget plan.budget && is_piece_count plan.pieces && is_name_text plan.name)
-    (are_procedures plan.pieces plan.procedures) here.1 in
-    let b =
-    and_parts (is_budget plan.budget && is_piece_count plan.pieces) (is_name_text plan.name)
-    a.0 in
-    let c = and_parts (is_budget plan.budget) (is_piece_count plan.pieces) b.0 in
+    let version = plan.version in
+    let fits = plan_fits plan here.1 in
     let most =
     leb-true plan.budget MOST_BUDGET
-    (and_parts (nat_le 1 plan.budget) (nat_le plan.budget MOST_BUDGET) c.0).1 in
-    let few = pieces_few plan.pieces c.1 in
-    let some = some_main plan.pieces plan.procedures a.1 in
-    let behind_name = counted_bytes procedure_bytes plan.procedures ++ here.0 in
+    (and_parts (nat_le 1 plan.budget) (nat_le plan.budget MOST_BUDGET) fits.budget).1 in
+    let few = pieces_few plan.pieces fits.pieces in
+    let some = some_main version plan.pieces plan.procedures fits.procedures in
+    let behind_name = all_bytes_of plan ++ here.0 in
     let behind_pieces = length plan.name ∷ (plan.name ++ behind_name) in
     let behind_budget = plan.pieces ∷ behind_pieces in
     let behind_version = big_bytes 4 plan.budget ++ behind_budget in
-    let behind_magic = big_bytes 2 1 ++ behind_version in
+    let behind_magic = big_bytes 2 version ++ behind_version in
     let after_name =
-    ap (λ (ps : List PlanProcedure). counted_bytes procedure_bytes ps ++ here.0) some.2 in
+    ap (λ (ps : List PlanProcedure). counted_bytes (procedure_bytes version) ps ++ here.0) some.2 in
     let counted =
-    counted_made plan.pieces Last some.0 some.1 behind_name here.0 r some.3 some.4 some.5
+    counted_made version plan.pieces Last some.0 some.1 behind_name here.0 r some.3 some.4 some.5
     after_name here.3 in
     let named : List ℕ × Counted =
     (plan.name, (length (some.0 ∷ some.1), (some.0, (some.1, tt)))) in
-    let from_pieces : OfPieces Last (plan.pieces, named) behind_budget r = (
+    let from_pieces : OfPieces version Last (plan.pieces, named) behind_budget r = (
       behind_pieces,
       of_byte C4 is_piece_count plan.pieces behind_budget behind_pieces
-          (omega (arith, few)) c.1 refl,
-      (behind_name, (b.1, refl), counted),
+          (omega (arith, few)) fits.pieces refl,
+      (behind_name, (fits.name, refl), counted),
     ) in
-    let from_budget : OfBudget Last (plan.budget, (plan.pieces, named)) behind_version r = (
+    let from_budget : OfBudget version Last (plan.budget, (plan.pieces, named)) behind_version r = (
       behind_budget,
       of_number 4 C4 is_budget plan.budget behind_version behind_budget
-          (omega (arith, most)) c.0 refl,
+          (omega (arith, most)) fits.budget refl,
       from_pieces,
     ) in
-    let from_version : OfVersion Last (1, (plan.budget, (plan.pieces, named))) behind_magic r = (
+    let from_version : OfVersion Last (version, (plan.budget, (plan.pieces, named))) behind_magic
+    r = (
       behind_version,
-      of_number 2 C3 is_version 1 behind_magic behind_version (omega arith) refl
-          refl,
+      of_number 2 C3 is_version version behind_magic behind_version
+          (version_few version fits.version) fits.version refl,
       from_budget,
     ) in (
-      (codes "BPLN", (1, (plan.budget, (plan.pieces, named)))),
+      (codes "BPLN", (version, (plan.budget, (plan.pieces, named)))),
       with_procedures plan _ some.2,
       (behind_magic, (refl, here.2 ∙ plan_apart plan here.0), from_version),
     )

@@ -1,5 +1,5 @@
 -- For crates above: frames are lawful parts, of up to 32 pieces.
-use Rattle.std.proofs.Common.{◌≡◌, ℕ, ◌^◌, ◌<◌, ◌≤◌, ◌&&◌, ◌==◌, Bool, IsTrue, Option, List, ◌∷◌, ◌++◌, length, refl, ap, ◌∙◌, arith, append_assoc, eqb-true, ltb-true, pow_mono}
+use Rattle.std.proofs.Common.{◌≡◌, ℕ, ◌^◌, ◌<◌, ◌≤◌, ◌&&◌, ◌==◌, Bool, IsTrue, Option, List, ◌∷◌, ◌++◌, length, refl, ap, ◌∙◌, arith, eqb-true, ltb-true, pow_mono}
 use Rattle.std.specs.List.{list_all}
 use Rattle.std.proofs.lemmas.Bool.{and_parts}
 use Rattle.byteorder.specs.Endian.{big_bytes}
@@ -7,10 +7,10 @@ use Rattle.burr_code.specs.Places.{Placement}
 use Rattle.burr_code.specs.declared.limits.TheConstants.{MOST_OPERANDS, MOST_GUARDS}
 use Rattle.burr_forms.specs.Forms.{Form}
 use Rattle.burr_container.specs.declared.fault.ContainerFault.TheVariants.{C4}
-use Rattle.burr_container.specs.Plans.{FormCell, Range, Frame, ExitFrame, live_slots, parameter_slots}
+use Rattle.burr_container.specs.Plans.{FormCell, Range, Frame, live_slots}
 use Rattle.burr_container.specs.Spelling.{form_bytes, forms_bytes, slots_bytes, places_bytes}
 use Rattle.burr_container.specs.Fitting.{is_form, are_forms, are_slots, is_tray, is_set_of, is_place, are_places, is_frame_rest}
-use Rattle.burr_container.specs.Faults.{Failing, number, form, forms, slots, place, frame, exit_frame, first, each}
+use Rattle.burr_container.specs.Faults.{Failing, number, form, forms, slots, place, frame, first, each}
 use Rattle.burr_container.proofs.Common.Spelled.{apart_three, apart_four}
 use Rattle.burr_container.proofs.Common.FormSpelling.{tray_small}
 use Rattle.burr_container.proofs.Common.Lawful.{Front, Lawful, OfPart, OfFirst, Sound, first_lawful, lawful_as}
@@ -94,7 +94,7 @@ abbrev pub head_fails : ℕ → Failing → Failing
 head_fails pieces more =
     first (number 1 C4 is_tray) (λ tray. first (number 4 C4 (is_set_of pieces)) (λ grip. more))
 
-head_lawful : {B : Type 0} (pieces : ℕ) (More : Front B) (more : Failing) → Lawful More more
+pub head_lawful : {B : Type 0} (pieces : ℕ) (More : Front B) (more : Failing) → Lawful More more
     → Lawful (OfHead pieces More) (head_fails pieces more)
 head_lawful pieces More more lawful =
     first_lawful (number 1 C4 is_tray)
@@ -206,40 +206,3 @@ frame_sound pieces few =
     (frame pieces).Fails (head_fails pieces (slots_fail pieces)) (of_frame pieces few)
     (λ at bytes fault fails. fails)
     (head_lawful pieces (OfSlotsOn pieces) (slots_fail pieces) (slots_lawful pieces))
-
--- Exit frames
-
-abbrev pub exit_frame_of : ℕ × (ℕ × FormPlaces) → ExitFrame
-exit_frame_of v = record { tray = v.0; grip = v.1.0; places = v.1.1 }
-
-pub exit_apart : (tray : ℕ) (grip places r : List ℕ)
-    → (tray ∷ grip ++ places) ++ r ≡ tray ∷ (grip ++ (places ++ r))
-exit_apart tray grip places r = simp append_assoc
-
-of_exit_frame : (pieces parameters : ℕ) → pieces ≤ 32 → (f : ExitFrame) (bytes r : List ℕ)
-    → OfPart (exit_frame pieces parameters) f bytes r
-    → (v : ℕ × (ℕ × FormPlaces)) × (exit_frame_of v ≡ f)
-    × OfHead pieces (OfEach pieces (place (parameter_slots parameters))) v bytes r
-of_exit_frame pieces parameters few f bytes r here =
-    let live = parameter_slots parameters in
-    let a =
-    and_parts (is_tray f.tray && is_set_of pieces f.grip) (are_places pieces live f.places)
-    here.0 in
-    let b = and_parts (is_tray f.tray) (is_set_of pieces f.grip) a.0 in
-    let rest = places_bytes live f.places ++ r in (
-      (f.tray, (f.grip, f.places)),
-      refl,
-      of_head pieces f.tray f.grip (OfEach pieces (place live)) f.places bytes rest r few b.0 b.1
-          (here.1 ∙ exit_apart f.tray (big_bytes 4 f.grip) (places_bytes live f.places) r)
-          (places_made pieces live f.places rest r a.1 refl),
-    )
-
-pub exit_frame_sound : (pieces parameters : ℕ) → pieces ≤ 32 → Sound (exit_frame pieces parameters)
-exit_frame_sound pieces parameters few =
-    let live = parameter_slots parameters in
-    lawful_as exit_frame_of (OfPart (exit_frame pieces parameters))
-    (OfHead pieces (OfEach pieces (place live))) (exit_frame pieces parameters).Fails
-    (head_fails pieces (each pieces (place live))) (of_exit_frame pieces parameters few)
-    (λ at bytes fault fails. fails)
-    (head_lawful pieces (OfEach pieces (place live)) (each pieces (place live))
-    (each_lawful (place live) pieces (place_sound live)))

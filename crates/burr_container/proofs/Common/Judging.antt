@@ -1,4 +1,5 @@
 pub mod Containers
+pub mod Exits
 pub mod Fields
 pub mod Frames
 pub mod Fronts

@@ -1,16 +1,16 @@
 -- For crates above: procedures are lawful parts, of up to 32 pieces.
-use Rattle.std.proofs.Common.{◌≡◌, ℕ, ◌<◌, ◌≤◌, ◌&&◌, ◌==◌, Bool, true, false, IsTrue, nat_le, is_none, Option, Some, None, List, ◌∷◌, ◌++◌, length, refl, sym, ap, ◌∙◌, arith, leb-true, eq-eqb}
+use Rattle.std.proofs.Common.{◌≡◌, ℕ, ◌<◌, ◌≤◌, ◌&&◌, ◌==◌, Bool, true, false, IsTrue, nat_le, is_none, Option, Some, None, List, [], ◌∷◌, ◌++◌, length, refl, sym, ap, ◌∙◌, arith, leb-true, eq-eqb, if◌then◌else◌}
 use Rattle.std.proofs.lemmas.Bool.{and_parts, and_from, false≢true}
 use Rattle.burr_code.specs.declared.limits.TheConstants.{MOST_CODE}
 use Rattle.burr_container.specs.declared.fault.ContainerFault.TheVariants.{C4}
 use Rattle.burr_container.specs.Plans.{Frame, ExitFrame, PlanProcedure}
-use Rattle.burr_container.specs.Spelling.{exit_bytes, exit_frame_bytes, labels_bytes, code_bytes}
-use Rattle.burr_container.specs.Fitting.{is_exit_frame, is_exit, are_labels, are_parameters, is_code}
-use Rattle.burr_container.specs.Faults.{Failing, number, raw, first, exit_frame, labels, last_label, is_above, CodeFails, BodyFails, procedure}
-use Rattle.burr_container.proofs.Common.Spelled.{apart_three}
-use Rattle.burr_container.proofs.Common.Lawful.{Front, Lawful, OfPart, OfFirst, Sound, first_lawful, lawful_as}
+use Rattle.burr_container.specs.Spelling.{result_count_bytes, exit_bytes, exit_frame_bytes, labels_bytes, code_bytes}
+use Rattle.burr_container.specs.Fitting.{is_procedure, is_exit_frame, is_exit, are_labels, are_parameters, are_results, is_code}
+use Rattle.burr_container.specs.Faults.{Failing, Part, number, raw, first, by_test, passes, exit_frame, labels, last_label, is_above, CodeFails, BodyFails, result_count, ExitFails, procedure}
+use Rattle.burr_container.proofs.Common.Spelled.{apart_four}
+use Rattle.burr_container.proofs.Common.Lawful.{Front, Lawful, OfPart, OfFirst, OfNothing, Sound, first_lawful, lawful_as, passes_lawful}
 use Rattle.burr_container.proofs.Common.Fields.{number_sound, raw_sound, of_number, of_byte}
-use Rattle.burr_container.proofs.Common.Frames.{exit_frame_sound}
+use Rattle.burr_container.proofs.Common.Exits.{exit_frame_sound}
 use Rattle.burr_container.proofs.Common.LabelLists.{labels_sound}
 use Rattle.burr_container.proofs.Common.Rising.{labels_are_rising}
 
@@ -62,131 +62,239 @@ body_made pieces ls code bytes r are is e =
       ),
     )
 
--- Main
+-- The count of the results, by whether the version is 2
 
-abbrev pub main_of : ℕ × Body → PlanProcedure
-main_of v = record { parameters = v.0; exit = None; labels = v.1.0; code = v.1.1.1 }
+abbrev pub few_by : Bool → Bool → ℕ → Bool
+few_by second main n = nat_le n (if main then 0 else (if second then 2 else 0))
 
-abbrev pub OfMain : ℕ → Front (ℕ × Body)
-OfMain pieces = OfFirst (number 1 C4 (are_parameters true)) (λ parameters. OfBody pieces)
+abbrev pub count_by : Bool → Bool → Part ℕ
+count_by second main = record {
+  bytes = λ n. if second then n ∷ [] else [];
+  fits = few_by second main;
+  Fails = by_test second (number 1 C4 (few_by second main)).Fails passes;
+}
 
-no_exit : (exit : Option ExitFrame) → IsTrue (is_none exit) → exit ≡ None
-no_exit None is = refl
-no_exit (Some f) is = absurd (false≢true is)
+count_small : (main : Bool) (n : ℕ) → IsTrue (few_by true main n) → n < 256
+count_small true n are = let few = leb-true n 0 are in omega (arith, few)
+count_small false n are = let few = leb-true n 2 are in omega (arith, few)
+
+count_none : (main : Bool) (n : ℕ) → IsTrue (few_by false main n) → 0 ≡ n
+count_none true n are = let few = leb-true n 0 are in omega (arith, few)
+count_none false n are = let few = leb-true n 0 are in omega (arith, few)
+
+count_by_sound : (second main : Bool) → Sound (count_by second main)
+count_by_sound true main =
+    lawful_as (λ (n : ℕ). n) (OfPart (count_by true main))
+    (OfPart (number 1 C4 (few_by true main))) (count_by true main).Fails
+    (number 1 C4 (few_by true main)).Fails
+    (λ n bytes r here. (
+      n,
+      refl,
+      of_byte C4 (few_by true main) n bytes r (count_small main n here.0) here.0 here.1,
+    ))
+    (λ at bytes fault fails. fails) (number_sound 1 C4 (few_by true main))
+count_by_sound false main =
+    lawful_as (λ (u : Unit {0}). 0) (OfPart (count_by false main)) OfNothing passes passes
+    (λ n bytes r here. (tt, count_none main n here.0, here.1)) (λ at bytes fault fails. fails)
+    passes_lawful
+
+pub result_count_sound : (version : ℕ) (main : Bool) → Sound (result_count version main)
+result_count_sound version main = count_by_sound (version == 2) main
+
+-- parameters and results, and what follows
+abbrev pub OfCounts : {B : Type 0} → ℕ → Bool → (ℕ → ℕ → Front B) → Front (ℕ × (ℕ × B))
+OfCounts version main More =
+    OfFirst (number 1 C4 (are_parameters main)) (λ parameters.
+    OfFirst (result_count version main) (λ results. More parameters results))
+
+abbrev pub counts_fail : ℕ → Bool → (ℕ → ℕ → Failing) → Failing
+counts_fail version main more =
+    first (number 1 C4 (are_parameters main)) (λ parameters.
+    first (result_count version main) (λ results. more parameters results))
+
+counts_lawful : {B : Type 0} (version : ℕ) (main : Bool) (More : ℕ → ℕ → Front B)
+    (more : ℕ → ℕ → Failing)
+    → ((parameters results : ℕ) → Lawful (More parameters results) (more parameters results))
+    → Lawful (OfCounts version main More) (counts_fail version main more)
+counts_lawful version main More more lawful =
+    first_lawful (number 1 C4 (are_parameters main))
+    (λ parameters. OfFirst (result_count version main) (λ results. More parameters results))
+    (λ parameters. first (result_count version main) (λ results. more parameters results))
+    (number_sound 1 C4 (are_parameters main))
+    (λ parameters fits.
+    first_lawful (result_count version main) (λ results. More parameters results)
+    (λ results. more parameters results) (result_count_sound version main)
+    (λ results fit. lawful parameters results))
 
 parameters_small : (main : Bool) (parameters : ℕ) → IsTrue (are_parameters main parameters)
     → parameters < 256
 parameters_small true parameters are = let few = leb-true parameters 0 are in omega (arith, few)
 parameters_small false parameters are = let few = leb-true parameters 4 are in omega (arith, few)
 
-pub procedure_apart : (parameters : ℕ) (exit labels code r : List ℕ)
-    → (parameters ∷ exit ++ labels ++ code) ++ r ≡ parameters ∷ (exit ++ (labels ++ (code ++ r)))
-procedure_apart parameters exit labels code r =
-    ap (λ (all : List ℕ). parameters ∷ all) (apart_three exit labels code r)
+of_counts : {B : Type 0} (version : ℕ) (main : Bool) (More : ℕ → ℕ → Front B)
+    (parameters results : ℕ) (b : B) (bytes rest r : List ℕ)
+    → IsTrue (are_parameters main parameters) → IsTrue (are_results version main results)
+    → bytes ≡ parameters ∷ (result_count_bytes version results ++ rest)
+    → More parameters results b rest r
+    → OfCounts version main More (parameters, (results, b)) bytes r
+of_counts version main More parameters results b bytes rest r are also e more = (
+  result_count_bytes version results ++ rest,
+  of_byte C4 (are_parameters main) parameters bytes (result_count_bytes version results ++ rest)
+      (parameters_small main parameters are) are e,
+  (rest, (also, refl), more),
+)
 
-of_main : (pieces : ℕ) (p : PlanProcedure) (bytes r : List ℕ)
-    → OfPart (procedure pieces true) p bytes r → (v : ℕ × Body) × (main_of v ≡ p)
-    × OfMain pieces v bytes r
-of_main pieces p bytes r here =
-    let a =
-    and_parts
-    (are_parameters true p.parameters && is_none p.exit
-    && are_labels pieces (length p.code) p.labels) (is_code p.code) here.0 in
-    let b =
-    and_parts (are_parameters true p.parameters && is_none p.exit)
-    (are_labels pieces (length p.code) p.labels) a.0 in
-    let c = and_parts (are_parameters true p.parameters) (is_none p.exit) b.0 in
-    let none = no_exit p.exit c.1 in
+pub procedure_apart : (parameters : ℕ) (results exit labels code r : List ℕ)
+    → (parameters ∷ results ++ exit ++ labels ++ code) ++ r
+    ≡ parameters ∷ (results ++ (exit ++ (labels ++ (code ++ r))))
+procedure_apart parameters results exit labels code r =
+    ap (λ (all : List ℕ). parameters ∷ all) (apart_four results exit labels code r)
+
+-- what a procedure that fits is asked
+pub record ProcedureFits (version pieces : ℕ) (main : Bool) (p : PlanProcedure) : Type 0 where
+  pub parameters : IsTrue (are_parameters main p.parameters)
+  pub results : IsTrue (are_results version main p.results)
+  pub exit : IsTrue (is_exit version main pieces p.parameters p.results p.exit)
+  pub labels : IsTrue (are_labels pieces (length p.code) p.labels)
+  pub code : IsTrue (is_code p.code)
+
+pub procedure_fits : (version pieces : ℕ) (main : Bool) (p : PlanProcedure)
+    → IsTrue (is_procedure version pieces main p) → ProcedureFits version pieces main p
+procedure_fits version pieces main p fits =
+    let exits = is_exit version main pieces p.parameters p.results p.exit in
+    let counts = are_parameters main p.parameters && are_results version main p.results in
+    let labels = are_labels pieces (length p.code) p.labels in
+    let a = and_parts (counts && exits && labels) (is_code p.code) fits in
+    let b = and_parts (counts && exits) labels a.0 in
+    let c = and_parts counts exits b.0 in
+    let d = and_parts (are_parameters main p.parameters) (are_results version main p.results) c.0 in
+    record { parameters = d.0; results = d.1; exit = c.1; labels = b.1; code = a.1 }
+
+-- Main
+
+abbrev pub main_of : ℕ × (ℕ × Body) → PlanProcedure
+main_of v =
+    record {
+      parameters = v.0;
+      results = v.1.0;
+      exit = None;
+      labels = v.1.1.0;
+      code = v.1.1.1.1;
+    }
+
+abbrev pub OfMain : ℕ → ℕ → Front (ℕ × (ℕ × Body))
+OfMain version pieces = OfCounts version true (λ parameters results. OfBody pieces)
+
+no_exit : (exit : Option ExitFrame) → IsTrue (is_none exit) → exit ≡ None
+no_exit None is = refl
+no_exit (Some f) is = absurd (false≢true is)
+
+-- the procedure with an exit frame
+abbrev with_exit : PlanProcedure → Option ExitFrame → PlanProcedure
+with_exit p exit = record {
+  parameters = p.parameters;
+  results = p.results;
+  exit = exit;
+  labels = p.labels;
+  code = p.code;
+}
+
+of_main : (version pieces : ℕ) (p : PlanProcedure) (bytes r : List ℕ)
+    → OfPart (procedure version pieces true) p bytes r
+    → (v : ℕ × (ℕ × Body)) × (main_of v ≡ p) × OfMain version pieces v bytes r
+of_main version pieces p bytes r here =
+    let fits = procedure_fits version pieces true p here.0 in
+    let none = no_exit p.exit fits.exit in
+    let count = result_count_bytes version p.results in
     let rest = labels_bytes p.labels ++ (code_bytes p.code ++ r) in
     let e =
     here.1
-    ∙ procedure_apart p.parameters (exit_bytes p.parameters p.exit) (labels_bytes p.labels)
-    (code_bytes p.code) r
-    ∙ ap (λ (exit : Option ExitFrame). p.parameters ∷ (exit_bytes p.parameters exit ++ rest))
+    ∙ procedure_apart p.parameters count (exit_bytes version p.parameters p.results p.exit)
+    (labels_bytes p.labels) (code_bytes p.code) r
+    ∙ ap
+    (λ (exit : Option ExitFrame).
+    p.parameters ∷ (count ++ (exit_bytes version p.parameters p.results exit ++ rest)))
     none in (
-      (p.parameters, (p.labels, (length p.code, p.code))),
-      (λ i. record
-          { parameters = p.parameters; exit = sym none i; labels = p.labels; code = p.code }),
-      (
-        rest,
-        of_byte C4 (are_parameters true) p.parameters bytes rest
-            (parameters_small true p.parameters c.0) c.0 e,
-        body_made pieces p.labels p.code rest r
-            b.1 a.1 refl,
-      ),
+      (p.parameters, (p.results, (p.labels, (length p.code, p.code)))),
+      ap (λ (exit : Option ExitFrame). with_exit p exit) (sym none),
+      of_counts version true (λ parameters results. OfBody pieces) p.parameters p.results
+          (p.labels, (length p.code, p.code)) bytes rest r fits.parameters fits.results e
+          (body_made pieces p.labels p.code rest r fits.labels fits.code refl),
     )
 
-pub main_sound : (pieces : ℕ) → pieces ≤ 32 → Sound (procedure pieces true)
-main_sound pieces few =
-    lawful_as main_of (OfPart (procedure pieces true)) (OfMain pieces)
-    (procedure pieces true).Fails (procedure pieces true).Fails (of_main pieces)
-    (λ at bytes fault fails. fails)
-    (first_lawful (number 1 C4 (are_parameters true)) (λ parameters. OfBody pieces)
-    (λ parameters. BodyFails pieces) (number_sound 1 C4 (are_parameters true))
-    (λ parameters fits. body_lawful pieces few))
+pub main_sound : (version pieces : ℕ) → pieces ≤ 32 → Sound (procedure version pieces true)
+main_sound version pieces few =
+    lawful_as main_of (OfPart (procedure version pieces true)) (OfMain version pieces)
+    (procedure version pieces true).Fails (procedure version pieces true).Fails
+    (of_main version pieces) (λ at bytes fault fails. fails)
+    (counts_lawful version true (λ parameters results. OfBody pieces)
+    (ExitFails version pieces true) (λ parameters results. body_lawful pieces few))
 
 -- Other procedures
 
-abbrev pub other_of : ℕ × (ExitFrame × Body) → PlanProcedure
-other_of v = record { parameters = v.0; exit = Some v.1.0; labels = v.1.1.0; code = v.1.1.1.1 }
+abbrev pub other_of : ℕ × (ℕ × (ExitFrame × Body)) → PlanProcedure
+other_of v =
+    record {
+      parameters = v.0;
+      results = v.1.0;
+      exit = Some v.1.1.0;
+      labels = v.1.1.1.0;
+      code = v.1.1.1.1.1;
+    }
 
-abbrev pub OfExit : ℕ → ℕ → Front (ExitFrame × Body)
-OfExit pieces parameters = OfFirst (exit_frame pieces parameters) (λ exit. OfBody pieces)
+abbrev pub OfExit : ℕ → ℕ → ℕ → ℕ → Front (ExitFrame × Body)
+OfExit version pieces parameters results =
+    OfFirst (exit_frame version pieces parameters results) (λ exit. OfBody pieces)
 
-abbrev pub exit_fails : ℕ → ℕ → Failing
-exit_fails pieces parameters = first (exit_frame pieces parameters) (λ exit. BodyFails pieces)
+abbrev pub exit_fails : ℕ → ℕ → ℕ → ℕ → Failing
+exit_fails version pieces parameters results =
+    first (exit_frame version pieces parameters results) (λ exit. BodyFails pieces)
 
-abbrev pub OfOther : ℕ → Front (ℕ × (ExitFrame × Body))
-OfOther pieces =
-    OfFirst (number 1 C4 (are_parameters false)) (λ parameters. OfExit pieces parameters)
+abbrev pub OfOther : ℕ → ℕ → Front (ℕ × (ℕ × (ExitFrame × Body)))
+OfOther version pieces = OfCounts version false (OfExit version pieces)
 
-an_exit : (pieces parameters : ℕ) (exit : Option ExitFrame)
-    → IsTrue (is_exit false pieces parameters exit) → (f : ExitFrame) × (exit ≡ Some f)
-    × IsTrue (is_exit_frame pieces parameters f)
-an_exit pieces parameters None is = absurd (false≢true is)
-an_exit pieces parameters (Some f) is = (f, refl, is)
+an_exit : (version pieces parameters results : ℕ) (exit : Option ExitFrame)
+    → IsTrue (is_exit version false pieces parameters results exit)
+    → (f : ExitFrame) × (exit ≡ Some f)
+    × IsTrue (is_exit_frame version pieces parameters results f)
+an_exit version pieces parameters results None is = absurd (false≢true is)
+an_exit version pieces parameters results (Some f) is = (f, refl, is)
 
-of_other : (pieces : ℕ) (p : PlanProcedure) (bytes r : List ℕ)
-    → OfPart (procedure pieces false) p bytes r → (v : ℕ × (ExitFrame × Body)) × (other_of v ≡ p)
-    × OfOther pieces v bytes r
-of_other pieces p bytes r here =
-    let a =
-    and_parts
-    (are_parameters false p.parameters && is_exit false pieces p.parameters p.exit
-    && are_labels pieces (length p.code) p.labels) (is_code p.code) here.0 in
-    let b =
-    and_parts (are_parameters false p.parameters && is_exit false pieces p.parameters p.exit)
-    (are_labels pieces (length p.code) p.labels) a.0 in
-    let c =
-    and_parts (are_parameters false p.parameters) (is_exit false pieces p.parameters p.exit)
-    b.0 in
-    let some = an_exit pieces p.parameters p.exit c.1 in
+of_other : (version pieces : ℕ) (p : PlanProcedure) (bytes r : List ℕ)
+    → OfPart (procedure version pieces false) p bytes r
+    → (v : ℕ × (ℕ × (ExitFrame × Body))) × (other_of v ≡ p) × OfOther version pieces v bytes r
+of_other version pieces p bytes r here =
+    let fits = procedure_fits version pieces false p here.0 in
+    let some = an_exit version pieces p.parameters p.results p.exit fits.exit in
+    let count = result_count_bytes version p.results in
     let behind = labels_bytes p.labels ++ (code_bytes p.code ++ r) in
-    let rest = exit_frame_bytes p.parameters some.0 ++ behind in
+    let rest = exit_frame_bytes version p.parameters p.results some.0 ++ behind in
     let e =
     here.1
-    ∙ procedure_apart p.parameters (exit_bytes p.parameters p.exit) (labels_bytes p.labels)
-    (code_bytes p.code) r
-    ∙ ap (λ (exit : Option ExitFrame). p.parameters ∷ (exit_bytes p.parameters exit ++ behind))
+    ∙ procedure_apart p.parameters count (exit_bytes version p.parameters p.results p.exit)
+    (labels_bytes p.labels) (code_bytes p.code) r
+    ∙ ap
+    (λ (exit : Option ExitFrame).
+    p.parameters ∷ (count ++ (exit_bytes version p.parameters p.results exit ++ behind)))
     some.1 in (
-      (p.parameters, (some.0, (p.labels, (length p.code, p.code)))),
-      (λ i. record
-          { parameters = p.parameters; exit = sym some.1 i; labels = p.labels; code = p.code }),
-      (
-        rest,
-        of_byte C4 (are_parameters false) p.parameters bytes rest
-            (parameters_small false p.parameters c.0) c.0 e,
-        (behind, (some.2, refl), body_made pieces p.labels p.code behind r b.1 a.1 refl),
-      ),
+      (p.parameters, (p.results, (some.0, (p.labels, (length p.code, p.code))))),
+      ap (λ (exit : Option ExitFrame). with_exit p exit) (sym some.1),
+      of_counts version false (OfExit version pieces) p.parameters p.results
+          (some.0, (p.labels, (length p.code, p.code))) bytes rest r fits.parameters fits.results
+          e (
+            behind,
+            (some.2, refl),
+            body_made pieces p.labels p.code behind r fits.labels fits.code refl,
+          ),
     )
 
-pub other_sound : (pieces : ℕ) → pieces ≤ 32 → Sound (procedure pieces false)
-other_sound pieces few =
-    lawful_as other_of (OfPart (procedure pieces false)) (OfOther pieces)
-    (procedure pieces false).Fails (procedure pieces false).Fails (of_other pieces)
-    (λ at bytes fault fails. fails)
-    (first_lawful (number 1 C4 (are_parameters false)) (λ parameters. OfExit pieces parameters)
-    (λ parameters. exit_fails pieces parameters) (number_sound 1 C4 (are_parameters false))
-    (λ parameters fits.
-    first_lawful (exit_frame pieces parameters) (λ exit. OfBody pieces) (λ exit. BodyFails pieces)
-    (exit_frame_sound pieces parameters few) (λ exit is. body_lawful pieces few)))
+pub other_sound : (version pieces : ℕ) → pieces ≤ 32 → Sound (procedure version pieces false)
+other_sound version pieces few =
+    lawful_as other_of (OfPart (procedure version pieces false)) (OfOther version pieces)
+    (procedure version pieces false).Fails (procedure version pieces false).Fails
+    (of_other version pieces) (λ at bytes fault fails. fails)
+    (counts_lawful version false (OfExit version pieces) (ExitFails version pieces false)
+    (λ parameters results.
+    first_lawful (exit_frame version pieces parameters results) (λ exit. OfBody pieces)
+    (λ exit. BodyFails pieces) (exit_frame_sound version pieces parameters results few)
+    (λ exit is. body_lawful pieces few)))

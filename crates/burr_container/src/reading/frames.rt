@@ -1,6 +1,8 @@
-ghost use Rattle.std.specs.Prelude.{◌≡◌, ◌≤◌, ◌+◌, IfOk};
-ghost use Rattle.burr_container.specs.Plans.{parameter_slots as first_ones};
-ghost use Rattle.burr_container.specs.Faults.{forms as forms_part, form as form_part, slots as slots_part, place as place_part, places as places_part, frame as frame_part, exit_frame as exit_frame_part};
+ghost use Rattle.std.specs.Prelude.{◌≡◌, ◌≤◌, ◌+◌, IfOk, IsTrue, take};
+ghost use Rattle.burr_container.specs.Plans.{exit_symbols as first_ones};
+ghost use Rattle.burr_container.specs.Faults.{forms as forms_part, ranges as ranges_part, exit_guards as exit_guards_part, form as form_part, slots as slots_part, place as place_part, places as places_part, frame as frame_part, exit_frame as exit_frame_part};
+ghost use Rattle.burr_code.specs.declared.limits.TheConstants.{MOST_GUARDS};
+ghost use Rattle.burr_container.specs.Fitting.{are_ranges};
 ghost use Rattle.burr_container.specs.Decoding.{IsOver};
 ghost use Rattle.burr_container.specs.Reading.{Reads, GoesOver};
 ghost use Rattle.burr_container.specs.Refs.{ReadsInPlace, form_in_run, forms_of, places_of, frame_of, exit_frame_of};
@@ -8,7 +10,7 @@ ghost use Rattle.burr_container.specs.Refs.{ReadsInPlace, form_in_run, forms_of,
 use crate::exit_ref::ExitRef;
 use crate::fault::ContainerFault;
 use crate::frame_ref::FrameRef;
-use crate::live::{live_slots, parameter_slots};
+use crate::live::{exit_symbols, live_slots};
 use crate::reading::cursor::Cursor;
 use crate::reading::fields::{count_within, piece_set, range, tray};
 use crate::runs::{FormRun, PlaceRun, form_size};
@@ -40,24 +42,76 @@ pub fn frame(pieces: u8, cursor: Cursor<'_>) -> Result<(FrameRef<'_>, Cursor<'_>
     Ok((frame, next))
 }
 
-/// The exit frame of a procedure with so many parameters, in a plan with so many pieces.
+/// The exit frame of a procedure with so many parameters and results, in a plan of this version with
+/// so many pieces.
 pub fn exit_frame(
+    version: u16,
     pieces: u8,
     parameters: u8,
+    results: u8,
     cursor: Cursor<'_>,
 ) -> Result<(ExitRef<'_>, Cursor<'_>), ContainerFault>
     requires pieces { pieces ≤ 32 }
     requires parameters { parameters ≤ 4 }
+    requires results { results ≤ 2 }
     ensures places { IfOk result (λ ok. (ok.0.places.count ≡ pieces)
-        × (ok.0.places.live ≡ first_ones parameters)) }
-    ensures reads { ReadsInPlace exit_frame_of (exit_frame_part pieces parameters) cursor.entry result }
+        × (ok.0.places.live ≡ first_ones parameters results)) }
+    ensures reads { ReadsInPlace exit_frame_of (exit_frame_part version pieces parameters results)
+        cursor.entry result }
 {
     let (tray, behind_tray) = tray(cursor)?;
     let (grip, behind_grip) = piece_set(pieces, behind_tray)?;
-    let live = parameter_slots(parameters);
-    let (places, next) = places(pieces, live, behind_grip)?;
-    let exit = ExitRef { tray, grip, places };
+    let live = exit_symbols(parameters, results);
+    let result_count = results;
+    let (results, behind_results) = ranges(result_count, behind_grip)?;
+    let (guards, behind_guards) = exit_guards(version, live, behind_results)?;
+    let (places, next) = places(pieces, live, behind_guards)?;
+    let exit = ExitRef {
+        tray,
+        grip,
+        results,
+        result_count,
+        guards,
+        places,
+    };
     Ok((exit, next))
+}
+
+/// So many ranges, two at most; those behind them are of no meaning.
+fn ranges(count: u8, cursor: Cursor<'_>) -> Result<([(i16, i16); 2], Cursor<'_>), ContainerFault>
+    requires { count ≤ 2 }
+    ensures fit { IfOk result (λ ok. IsTrue (are_ranges 2 ok.0)) }
+    ensures reads { ReadsInPlace (take count) (ranges_part count) cursor.entry result }
+{
+    let mut ranges = [(0, 0); 2];
+    let mut cursor = cursor;
+    for n in 0..usize::from(count) {
+        let (range, next) = range(cursor)?;
+        ranges[n] = range;
+        cursor = next;
+    }
+    Ok((ranges, cursor))
+}
+
+/// The guards of an exit frame over these symbols, in version 2 alone.
+fn exit_guards(
+    version: u16,
+    live: [bool; 8],
+    cursor: Cursor<'_>,
+) -> Result<(FormRun<'_>, Cursor<'_>), ContainerFault>
+    ensures live { IfOk result (λ ok. ok.0.live ≡ live) }
+    ensures few { IfOk result (λ ok. ok.0.count ≤ MOST_GUARDS) }
+    ensures reads { ReadsInPlace forms_of (exit_guards_part version live) cursor.entry result }
+{
+    if version != 2 {
+        let none = FormRun {
+            live,
+            count: 0,
+            bytes: &[],
+        };
+        return Ok((none, cursor));
+    }
+    forms(live, MOST_GUARDS, cursor)
 }
 
 /// Which slots are live, and their ranges.
@@ -86,6 +140,7 @@ fn forms(
     cursor: Cursor<'_>,
 ) -> Result<(FormRun<'_>, Cursor<'_>), ContainerFault>
     ensures live { IfOk result (λ ok. ok.0.live ≡ live) }
+    ensures few { IfOk result (λ ok. ok.0.count ≤ most) }
     ensures reads { ReadsInPlace forms_of (forms_part most live) cursor.entry result }
 {
     let (count, behind_count) = count_within(cursor, 0, most)?;

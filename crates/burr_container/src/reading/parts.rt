@@ -1,12 +1,13 @@
 ghost use Rattle.std.specs.Prelude.{◌≡◌, ◌≤◌, ◌==◌, IfOk, true, false};
 ghost use Rattle.burr_container.specs.declared.fault.ContainerFault.TheVariants.{C2 as C2_at, C3 as C3_at, C4 as C4_at, C5 as C5_at};
-ghost use Rattle.burr_container.specs.Fitting.{is_budget, is_name_text};
-ghost use Rattle.burr_container.specs.Faults.{number, raw, is_magic, is_next_label, name as name_part, label as label_part, labels as labels_part, code as code_part, body as body_part, procedure as procedure_part};
+ghost use Rattle.burr_container.specs.Fitting.{is_version, is_budget, is_name_text};
+ghost use Rattle.burr_container.specs.Faults.{number, raw, is_magic, is_next_label, name as name_part, label as label_part, labels as labels_part, code as code_part, body as body_part, result_count as result_count_part, procedure as procedure_part};
 ghost use Rattle.burr_container.specs.Reading.{Reads, GoesOver, ReadsAs};
 ghost use Rattle.burr_container.specs.Refs.{ReadsInPlace};
 ghost use Rattle.burr_container.specs.InPlace.{ReadsHeader, AreLabels, IsBody, IsProcedure};
 
 use crate::fault::ContainerFault;
+use crate::fitting::most_results;
 use crate::header::Header;
 use crate::labels::Labels;
 use crate::procedure_ref::ProcedureRef;
@@ -47,12 +48,12 @@ fn magic(cursor: Cursor<'_>) -> Result<Cursor<'_>, ContainerFault>
     Ok(next)
 }
 
-/// The version, which is 1; else C3 at it.
+/// The version, which is 1 or 2; else C3 at it.
 fn version(cursor: Cursor<'_>) -> Result<(u16, Cursor<'_>), ContainerFault>
-    ensures { Reads (number 2 C3_at (λ version. version == 1)) cursor.entry result }
+    ensures { Reads (number 2 C3_at is_version) cursor.entry result }
 {
     let (version, next) = cursor.word()?;
-    if version != 1 {
+    if version != 1 && version != 2 {
         return Err(ContainerFault::C3 { at: cursor.at });
     }
     Ok((version, next))
@@ -88,18 +89,22 @@ fn name_text(length: usize, cursor: Cursor<'_>) -> Result<(&[u8], Cursor<'_>), C
     Ok((name, next))
 }
 
-/// Main in a plan of so many pieces: it has no parameters and no exit frame.
+/// Main in a plan of this version and of so many pieces: it has no parameters, no results and no exit
+/// frame.
 pub fn main_procedure(
+    version: u16,
     pieces: u8,
     cursor: Cursor<'_>,
 ) -> Result<(ProcedureRef<'_>, Cursor<'_>), ContainerFault>
     requires { pieces ≤ 32 }
-    ensures { ReadsAs (IsProcedure pieces) (procedure_part pieces true) cursor.entry result }
+    ensures { ReadsAs (IsProcedure pieces) (procedure_part version pieces true) cursor.entry result }
 {
     let (parameters, behind_parameters) = byte_within(cursor, 0, 0)?;
-    let ((labels, code), next) = body(pieces, behind_parameters)?;
+    let (results, behind_results) = result_count(version, true, behind_parameters)?;
+    let ((labels, code), next) = body(pieces, behind_results)?;
     let procedure = ProcedureRef {
         parameters,
+        results,
         exit: None,
         labels,
         code,
@@ -107,19 +112,22 @@ pub fn main_procedure(
     Ok((procedure, next))
 }
 
-/// A procedure other than main in a plan of so many pieces.
+/// A procedure other than main in a plan of this version and of so many pieces.
 pub fn other_procedure(
+    version: u16,
     pieces: u8,
     cursor: Cursor<'_>,
 ) -> Result<(ProcedureRef<'_>, Cursor<'_>), ContainerFault>
     requires { pieces ≤ 32 }
-    ensures { ReadsAs (IsProcedure pieces) (procedure_part pieces false) cursor.entry result }
+    ensures { ReadsAs (IsProcedure pieces) (procedure_part version pieces false) cursor.entry result }
 {
     let (parameters, behind_parameters) = byte_within(cursor, 0, MOST_PARAMETERS)?;
-    let (exit, behind_exit) = exit_frame(pieces, parameters, behind_parameters)?;
+    let (results, behind_results) = result_count(version, false, behind_parameters)?;
+    let (exit, behind_exit) = exit_frame(version, pieces, parameters, results, behind_results)?;
     let ((labels, code), next) = body(pieces, behind_exit)?;
     let procedure = ProcedureRef {
         parameters,
+        results,
         exit: Some(exit),
         labels,
         code,
@@ -127,7 +135,22 @@ pub fn other_procedure(
     Ok((procedure, next))
 }
 
-/// What follows the parameters and the exit frame of a procedure: its labels and its code.
+/// How many results a procedure has, which version 2 alone tells.
+fn result_count(
+    version: u16,
+    main: bool,
+    cursor: Cursor<'_>,
+) -> Result<(u8, Cursor<'_>), ContainerFault>
+    ensures few { IfOk result (λ ok. ok.0 ≤ 2) }
+    ensures reads { Reads (result_count_part version main) cursor.entry result }
+{
+    if version != 2 {
+        return Ok((0, cursor));
+    }
+    byte_within(cursor, 0, most_results(version, main))
+}
+
+/// What follows the parameters, the results and the exit frame of a procedure: its labels and its code.
 fn body(pieces: u8, cursor: Cursor<'_>) -> Result<((Labels<'_>, &[u8]), Cursor<'_>), ContainerFault>
     requires { pieces ≤ 32 }
     ensures { ReadsAs (IsBody pieces) (body_part pieces) cursor.entry result }

@@ -3,27 +3,76 @@
 ghost use Rattle.std.specs.Prelude.{◌≡◌, ◌<◌, ◌≤◌, ◌++◌, length, OnOk, if◌then◌else◌};
 ghost use Rattle.std.specs.List.{flat_map};
 ghost use Rattle.burr_container.specs.Plans.{live_slots as live_ones};
-ghost use Rattle.burr_container.specs.Spelling.{mask_of as mask_of_live, range_bytes, slots_bytes, frame_bytes, exit_frame_bytes};
+ghost use Rattle.burr_container.specs.Spelling.{mask_of as mask_of_live, range_bytes, ranges_bytes, slots_bytes, frame_bytes, exit_guards_bytes, exit_rest, exit_frame_bytes};
 
 use crate::frame::{ExitFrame, Frame};
-use crate::live::{live_slots, parameter_slots};
+use crate::live::{exit_symbols, live_slots};
+use crate::plan_form::PlanForm;
 use crate::writing::forms::{add_form, add_forms, add_places};
 use crate::writing::numbers::{add_long, add_signed};
 use std::alloc::AllocError;
 
-/// The exit frame of a procedure with so many parameters.
+/// The exit frame of a procedure with so many parameters and results.
 pub fn add_exit_frame(
     bytes: &mut Vec<u8>,
+    version: u16,
     parameters: u8,
+    results: u8,
     exit: &ExitFrame,
 ) -> Result<(), AllocError>
-    requires { parameters ≤ 4 }
-    ensures { OnOk result (bytes.new.items ≡ bytes.old.items ++ exit_frame_bytes parameters exit.now) }
+    requires parameters { parameters ≤ 4 }
+    requires results { results ≤ 2 }
+    requires guards { length exit.now.guards < 256 }
+    ensures { OnOk result
+        (bytes.new.items ≡ bytes.old.items ++ exit_frame_bytes version parameters results exit.now) }
 {
-    let live = parameter_slots(parameters);
+    let live = exit_symbols(parameters, results);
     bytes.push(exit.tray)?;
     add_long(bytes, exit.grip)?;
-    add_places(bytes, &live, &exit.places)
+    add_exit_rest(bytes, version, &live, exit)
+}
+
+/// What follows the grip of an exit frame.
+fn add_exit_rest(
+    bytes: &mut Vec<u8>,
+    version: u16,
+    live: &[bool; 8],
+    exit: &ExitFrame,
+) -> Result<(), AllocError>
+    requires { length exit.now.guards < 256 }
+    ensures { OnOk result
+        (bytes.new.items ≡ bytes.old.items ++ exit_rest version live.now exit.now) }
+{
+    add_ranges(bytes, &exit.results)?;
+    add_exit_guards(bytes, version, live, &exit.guards)?;
+    add_places(bytes, live, &exit.places)
+}
+
+/// The guards of an exit frame, in version 2 alone.
+fn add_exit_guards(
+    bytes: &mut Vec<u8>,
+    version: u16,
+    live: &[bool; 8],
+    guards: &[PlanForm],
+) -> Result<(), AllocError>
+    requires { length guards.now < 256 }
+    ensures { OnOk result
+        (bytes.new.items ≡ bytes.old.items ++ exit_guards_bytes version live.now guards.now) }
+{
+    if version != 2 {
+        return Ok(());
+    }
+    add_forms(bytes, live, guards)
+}
+
+/// The ranges of results.
+fn add_ranges(bytes: &mut Vec<u8>, ranges: &[(i16, i16)]) -> Result<(), AllocError>
+    ensures { OnOk result (bytes.new.items ≡ bytes.old.items ++ ranges_bytes ranges.now) }
+{
+    for range in ranges {
+        add_range(bytes, &Some(*range))?;
+    }
+    Ok(())
 }
 
 /// The frame of a label.

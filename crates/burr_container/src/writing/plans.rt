@@ -2,9 +2,9 @@
 
 ghost use Rattle.std.specs.Prelude.{◌≡◌, ◌<◌, ◌≤◌, ◌^◌, ◌++◌, length, OnOk, IfOk, IsTrue};
 ghost use Rattle.std.specs.List.{list_all};
-ghost use Rattle.burr_container.specs.Spelling.{counted_bytes, exit_bytes, label_bytes, labels_bytes, procedure_bytes, plan_bytes};
+ghost use Rattle.burr_container.specs.Spelling.{counted_bytes, result_count_bytes, exit_bytes, label_bytes, labels_bytes, procedure_bytes, plan_bytes};
 ghost use Rattle.burr_container.specs.Fitting.{is_fitting};
-ghost use Rattle.burr_container.specs.Counts.{has_room, has_room_in_label};
+ghost use Rattle.burr_container.specs.Counts.{has_room, has_room_in_exit, has_room_in_label};
 
 use crate::frame::{ExitFrame, Frame};
 use crate::plan::{Plan, Procedure};
@@ -18,48 +18,76 @@ pub fn write(alloc: Global, plan: &Plan) -> Result<Vec<u8>, AllocError>
     ensures { IfOk result (λ bytes. bytes.items ≡ plan_bytes plan.now) }
 {
     let mut bytes = Vec::from_slice(alloc, b"BPLN")?;
-    add_word(&mut bytes, 1)?;
+    add_word(&mut bytes, plan.version)?;
     add_long(&mut bytes, plan.budget)?;
     bytes.push(plan.pieces)?;
     add_count(&mut bytes, plan.name.len())?;
     bytes.extend_from_slice(&plan.name)?;
-    add_procedures(&mut bytes, &plan.procs)?;
+    add_procedures(&mut bytes, plan.version, &plan.procs)?;
     Ok(bytes)
 }
 
 /// Procedures, with their count in front of them.
-fn add_procedures(bytes: &mut Vec<u8>, procedures: &[Procedure]) -> Result<(), AllocError>
+fn add_procedures(
+    bytes: &mut Vec<u8>,
+    version: u16,
+    procedures: &[Procedure],
+) -> Result<(), AllocError>
     requires few { length procedures.now < 256 }
     requires room { IsTrue (list_all has_room procedures.now) }
     ensures { OnOk result
-        (bytes.new.items ≡ bytes.old.items ++ counted_bytes procedure_bytes procedures.now) }
+        (bytes.new.items ≡ bytes.old.items
+        ++ counted_bytes (procedure_bytes version) procedures.now) }
 {
     add_count(bytes, procedures.len())?;
     for procedure in procedures {
-        add_procedure(bytes, procedure)?;
+        add_procedure(bytes, version, procedure)?;
     }
     Ok(())
 }
 
-fn add_procedure(bytes: &mut Vec<u8>, procedure: &Procedure) -> Result<(), AllocError>
+fn add_procedure(bytes: &mut Vec<u8>, version: u16, procedure: &Procedure) -> Result<(), AllocError>
     requires { IsTrue (has_room procedure.now) }
-    ensures { OnOk result (bytes.new.items ≡ bytes.old.items ++ procedure_bytes procedure.now) }
+    ensures { OnOk result
+        (bytes.new.items ≡ bytes.old.items ++ procedure_bytes version procedure.now) }
 {
     bytes.push(procedure.params)?;
-    add_exit(bytes, procedure.params, &procedure.exit)?;
+    add_result_count(bytes, version, procedure.results)?;
+    let (parameters, results) = (procedure.params, procedure.results);
+    add_exit(bytes, version, parameters, results, &procedure.exit)?;
     add_labels(bytes, &procedure.labels)?;
     add_long_count(bytes, procedure.code.len())?;
     bytes.extend_from_slice(&procedure.code)
 }
 
-/// The exit frame of a procedure with so many parameters, if it has one.
-fn add_exit(bytes: &mut Vec<u8>, parameters: u8, exit: &Option<ExitFrame>) -> Result<(), AllocError>
-    requires { parameters ≤ 4 }
-    ensures { OnOk result (bytes.new.items ≡ bytes.old.items ++ exit_bytes parameters exit.now) }
+/// How many results a procedure has, in version 2 alone.
+fn add_result_count(bytes: &mut Vec<u8>, version: u16, results: u8) -> Result<(), AllocError>
+    ensures { OnOk result
+        (bytes.new.items ≡ bytes.old.items ++ result_count_bytes version results) }
+{
+    if version == 2 {
+        bytes.push(results)?;
+    }
+    Ok(())
+}
+
+/// The exit frame of a procedure with so many parameters and results, if it has one.
+fn add_exit(
+    bytes: &mut Vec<u8>,
+    version: u16,
+    parameters: u8,
+    results: u8,
+    exit: &Option<ExitFrame>,
+) -> Result<(), AllocError>
+    requires parameters { parameters ≤ 4 }
+    requires results { results ≤ 2 }
+    requires room { IsTrue (has_room_in_exit exit.now) }
+    ensures { OnOk result
+        (bytes.new.items ≡ bytes.old.items ++ exit_bytes version parameters results exit.now) }
 {
     match exit {
         None => Ok(()),
-        Some(exit) => add_exit_frame(bytes, parameters, exit),
+        Some(exit) => add_exit_frame(bytes, version, parameters, results, exit),
     }
 }
 

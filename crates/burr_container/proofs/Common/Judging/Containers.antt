@@ -10,13 +10,13 @@ use Rattle.burr_container.specs.declared.fault.ContainerFault.{ContainerFault}
 use Rattle.burr_container.specs.declared.fault.ContainerFault.TheVariants.{C2, C3, C4}
 use Rattle.burr_container.specs.Plans.{PlanProcedure}
 use Rattle.burr_container.specs.Spelling.{counted_bytes, procedure_bytes, plan_bytes}
-use Rattle.burr_container.specs.Fitting.{is_procedure, are_procedures, is_piece_count, is_name_text, is_budget}
+use Rattle.burr_container.specs.Fitting.{is_procedure, are_procedures, is_piece_count, is_name_text, is_version, is_budget}
 use Rattle.burr_container.specs.Faults.{Failing, number, raw, procedure, others, each, IsFollowed, name, is_magic, ContainerFails}
 use Rattle.burr_container.specs.Laws.{IsSpelled, FaultOrPlan}
 use Rattle.burr_container.proofs.Common.Fields.{byte_back, number_so}
 use Rattle.burr_container.proofs.Common.Lawful.{Front, OfPart, OfEnd}
 use Rattle.burr_container.proofs.Common.Lists.{OfEach}
-use Rattle.burr_container.proofs.Common.Containers.{is_name_length, OfName, Nothing, is_procedure_count, OfOthers, others_fail, OfProcedures, procedures_fail, OfCounted, counted_fail, OfNamed, named_fails, OfPieces, pieces_fail, OfBudget, budget_fails, is_version, OfVersion, version_fails, Values, OfValues, values_fail, plan_of, OfPlan, plan_apart}
+use Rattle.burr_container.proofs.Common.Containers.{is_name_length, OfName, Nothing, is_procedure_count, OfOthers, others_fail, OfProcedures, procedures_fail, OfCounted, counted_fail, OfNamed, named_fails, OfPieces, pieces_fail, OfBudget, budget_fails, OfVersion, version_fails, Values, OfValues, values_fail, plan_of, OfPlan, all_bytes_of, plan_apart}
 use Rattle.burr_container.proofs.Common.Judging.Fronts.{AreSmall, Found, Faulted, Judged, JudgedPart, first_judged, judged_as, end_judged}
 use Rattle.burr_container.proofs.Common.Judging.Fields.{number_judged, raw_judged, digits_1, digits_2, digits_4}
 use Rattle.burr_container.proofs.Common.Judging.Lists.{each_judged}
@@ -45,52 +45,58 @@ name_judged =
 
 -- Procedures
 
-others_judged : (pieces count : ℕ) → JudgedPart (others pieces count)
-others_judged pieces count =
-    judged_as (λ (ps : List PlanProcedure). ps) (OfPart (others pieces count))
-    (OfEach count (procedure pieces false)) (others pieces count).Fails
-    (each count (procedure pieces false))
+others_judged : (version pieces count : ℕ) → JudgedPart (others version pieces count)
+others_judged version pieces count =
+    judged_as (λ (ps : List PlanProcedure). ps) (OfPart (others version pieces count))
+    (OfEach count (procedure version pieces false)) (others version pieces count).Fails
+    (each count (procedure version pieces false))
     (λ ps bytes r small here. (
-      and_from (length ps == count) (list_all (is_procedure pieces false) ps)
+      and_from (length ps == count) (list_all (is_procedure version pieces false) ps)
           (eq-eqb (length ps) count here.0) here.1,
       here.2,
     ))
     (λ at bytes fault fails. fails)
-    (each_judged (procedure pieces false) count (other_judged pieces))
+    (each_judged (procedure version pieces false) count (other_judged version pieces))
 
 module _ (Last : Front Nothing) (last : Failing) (judged : Judged Last last) where
-  counted_judged : (pieces : ℕ) → Judged (OfCounted pieces Last) (counted_fail pieces last)
-  counted_judged pieces =
-      first_judged (number 1 C4 is_procedure_count) (λ count. OfProcedures pieces count Last)
-      (λ count. procedures_fail pieces count last)
+  counted_judged : (version pieces : ℕ)
+      → Judged (OfCounted version pieces Last) (counted_fail version pieces last)
+  counted_judged version pieces =
+      first_judged (number 1 C4 is_procedure_count)
+      (λ count. OfProcedures version pieces count Last)
+      (λ count. procedures_fail version pieces count last)
       (number_judged 1 C4 is_procedure_count digits_1)
       (λ count fits.
-      first_judged (procedure pieces true) (λ main. OfOthers pieces (pred count) Last)
-      (λ main. others_fail pieces (pred count) last) (main_judged pieces)
-      (λ main is. first_judged (others pieces (pred count)) (λ ps. Last) (λ ps. last)
-      (others_judged pieces (pred count)) (λ ps are. judged)))
+      first_judged (procedure version pieces true)
+      (λ main. OfOthers version pieces (pred count) Last)
+      (λ main. others_fail version pieces (pred count) last) (main_judged version pieces)
+      (λ main is. first_judged (others version pieces (pred count)) (λ ps. Last) (λ ps. last)
+      (others_judged version pieces (pred count)) (λ ps are. judged)))
 
-  named_judged : (pieces : ℕ) → Judged (OfNamed pieces Last) (named_fails pieces last)
-  named_judged pieces =
-      first_judged name (λ text. OfCounted pieces Last) (λ text. counted_fail pieces last)
-      name_judged (λ text fits. counted_judged pieces)
+  named_judged : (version pieces : ℕ)
+      → Judged (OfNamed version pieces Last) (named_fails version pieces last)
+  named_judged version pieces =
+      first_judged name (λ text. OfCounted version pieces Last)
+      (λ text. counted_fail version pieces last) name_judged
+      (λ text fits. counted_judged version pieces)
 
-  pieces_judged : Judged (OfPieces Last) (pieces_fail last)
-  pieces_judged =
-      first_judged (number 1 C4 is_piece_count) (λ pieces. OfNamed pieces Last)
-      (λ pieces. named_fails pieces last) (number_judged 1 C4 is_piece_count digits_1)
-      (λ pieces fits. named_judged pieces)
+  pieces_judged : (version : ℕ) → Judged (OfPieces version Last) (pieces_fail version last)
+  pieces_judged version =
+      first_judged (number 1 C4 is_piece_count) (λ pieces. OfNamed version pieces Last)
+      (λ pieces. named_fails version pieces last) (number_judged 1 C4 is_piece_count digits_1)
+      (λ pieces fits. named_judged version pieces)
 
-  budget_judged : Judged (OfBudget Last) (budget_fails last)
-  budget_judged =
-      first_judged (number 4 C4 is_budget) (λ budget. OfPieces Last) (λ budget. pieces_fail last)
-      (number_judged 4 C4 is_budget digits_4) (λ budget fits. pieces_judged)
+  budget_judged : (version : ℕ) → Judged (OfBudget version Last) (budget_fails version last)
+  budget_judged version =
+      first_judged (number 4 C4 is_budget) (λ budget. OfPieces version Last)
+      (λ budget. pieces_fail version last) (number_judged 4 C4 is_budget digits_4)
+      (λ budget fits. pieces_judged version)
 
   version_judged : Judged (OfVersion Last) (version_fails last)
   version_judged =
-      first_judged (number 2 C3 is_version) (λ version. OfBudget Last)
-      (λ version. budget_fails last) (number_judged 2 C3 is_version digits_2)
-      (λ version fits. budget_judged)
+      first_judged (number 2 C3 is_version) (λ version. OfBudget version Last)
+      (λ version. budget_fails version last) (number_judged 2 C3 is_version digits_2)
+      (λ version fits. budget_judged version)
 
   values_judged : Judged (OfValues Last) (values_fail last)
   values_judged =
@@ -104,34 +110,35 @@ one_and_more count n is e = let some =
     leb-true 1 count (and_parts (nat_le 1 count) (nat_le count MOST_PROCEDURES) is).0 in
     omega (arith, some, e)
 
-pub counted_back : (pieces : ℕ) (Last : Front Nothing)
+pub counted_back : (version pieces : ℕ) (Last : Front Nothing)
     (v : ℕ × (PlanProcedure × (List PlanProcedure × Nothing))) (bytes r : List ℕ)
-    → OfCounted pieces Last v bytes r
-    → (rest : List ℕ) × IsTrue (are_procedures pieces (v.1.0 ∷ v.1.1.0))
-    × (bytes ≡ counted_bytes procedure_bytes (v.1.0 ∷ v.1.1.0) ++ rest) × Last v.1.1.1 rest r
-counted_back pieces Last v bytes r here =
+    → OfCounted version pieces Last v bytes r
+    → (rest : List ℕ) × IsTrue (are_procedures version pieces (v.1.0 ∷ v.1.1.0))
+    × (bytes ≡ counted_bytes (procedure_bytes version) (v.1.0 ∷ v.1.1.0) ++ rest)
+    × Last v.1.1.1 rest r
+counted_back version pieces Last v bytes r here =
     let main = v.1.0 in
     let more = v.1.1.0 in
+    let spell = procedure_bytes version in
     let head = byte_back C4 is_procedure_count v.0 bytes here.0 here.1 in
     let inner = here.2 in
     let end = inner.2 in
-    let others_fit =
-    and_parts (length more == pred v.0) (list_all (is_procedure pieces false) more) end.1.0 in
+    let all = list_all (is_procedure version pieces false) more in
+    let others_fit = and_parts (length more == pred v.0) all end.1.0 in
     let count =
     one_and_more v.0 (length more) head.0 (eqb-true (length more) (pred v.0) others_fit.0) in
     let many =
     (and_parts (nat_le 1 (suc (length more))) (nat_le (suc (length more)) MOST_PROCEDURES)
     (subst (λ n. IsTrue (is_procedure_count n)) count head.0)).1 in (
       end.0,
-      and_from (is_procedure pieces true main && list_all (is_procedure pieces false) more)
+      and_from (is_procedure version pieces true main && all)
           (nat_le (length (main ∷ more)) MOST_PROCEDURES)
-          (and_from (is_procedure pieces true main) (list_all (is_procedure pieces false) more)
-          inner.1.0 others_fit.1) many,
+          (and_from (is_procedure version pieces true main) all inner.1.0 others_fit.1) many,
       head.1 ∙ ap (λ n. n ∷ here.0) count
           ∙ ap (λ (rest : List ℕ). suc (length more) ∷ rest)
-          (inner.1.1 ∙ ap (λ (rest : List ℕ). procedure_bytes main ++ rest) end.1.1
-          ∙ sym (append_assoc (procedure_bytes main) (flat_map procedure_bytes more)
-          end.0)),
+          (inner.1.1 ∙ ap (λ (rest : List ℕ). procedure_bytes version main ++ rest) end.1.1
+          ∙ sym (append_assoc (procedure_bytes version main)
+          (flat_map (procedure_bytes version) more) end.0)),
       end.2,
     )
 
@@ -146,27 +153,29 @@ plan_back Last v bytes r small here =
     let magic =
     (bytes_eq-Decides v.0 (codes "BPLN")).0
     (and_parts (length v.0 == 4) (is_magic v.0) here.1.0).1 in
-    let version =
-    eqb-true v.1.0 1 (number_so 2 C3 is_version v.1.0 here.0 from_version.0 from_version.1) in
+    let version = number_so 2 C3 is_version v.1.0 here.0 from_version.0 from_version.1 in
     let budget = number_so 4 C4 is_budget v.1.1.0 from_version.0 from_budget.0 from_budget.1 in
     let pieces = byte_back C4 is_piece_count v.1.1.1.0 from_budget.0 from_pieces.0 from_pieces.1 in
-    let counted = counted_back plan.pieces Last v.1.1.1.1.1 from_name.0 r from_name.2 in
+    let counted =
+    counted_back plan.version plan.pieces Last v.1.1.1.1.1 from_name.0 r from_name.2 in
     let behind_pieces : from_pieces.0 ≡ length
-    plan.name ∷ (plan.name ++ (counted_bytes procedure_bytes plan.procedures ++ counted.0)) =
+    plan.name ∷ (plan.name ++ (all_bytes_of plan ++ counted.0)) =
     from_name.1.1 ∙ ap (λ (rest : List ℕ). length plan.name ∷ (plan.name ++ rest)) counted.2 in
     let behind_budget : from_budget.0 ≡ plan.pieces ∷ length
-    plan.name ∷ (plan.name ++ (counted_bytes procedure_bytes plan.procedures ++ counted.0)) =
+    plan.name ∷ (plan.name ++ (all_bytes_of plan ++ counted.0)) =
     pieces.1 ∙ ap (λ (rest : List ℕ). plan.pieces ∷ rest) behind_pieces in
     let behind_version =
     from_budget.1.1 ∙ ap (λ (rest : List ℕ). big_bytes 4 plan.budget ++ rest) behind_budget in
     let behind_magic =
-    from_version.1.1 ∙ ap (λ n. big_bytes 2 n ++ from_version.0) version
-    ∙ ap (λ (rest : List ℕ). big_bytes 2 1 ++ rest) behind_version in (
+    from_version.1.1 ∙ ap (λ (rest : List ℕ). big_bytes 2 plan.version ++ rest) behind_version in
+    let head = is_version plan.version in
+    let steps = is_budget plan.budget in (
       counted.0,
-      and_from (is_budget plan.budget && is_piece_count plan.pieces && is_name_text plan.name)
-          (are_procedures plan.pieces plan.procedures)
-          (and_from (is_budget plan.budget && is_piece_count plan.pieces) (is_name_text plan.name)
-          (and_from (is_budget plan.budget) (is_piece_count plan.pieces) budget pieces.0)
+      and_from (head && steps && is_piece_count plan.pieces && is_name_text plan.name)
+          (are_procedures plan.version plan.pieces plan.procedures)
+          (and_from (head && steps && is_piece_count plan.pieces) (is_name_text plan.name)
+          (and_from (head && steps) (is_piece_count plan.pieces)
+          (and_from head steps version budget) pieces.0)
           from_name.1.0) counted.1,
       here.1.1 ∙ ap (λ (front : List ℕ). front ++ here.0) magic
           ∙ ap (λ (rest : List ℕ). codes "BPLN" ++ rest) behind_magic

@@ -5,14 +5,14 @@ use Rattle.std.proofs.lemmas.Bool.{and_from}
 use Rattle.byteorder.specs.Endian.{big_bytes}
 use Rattle.burr_code.specs.declared.limits.TheConstants.{MOST_OPERANDS, MOST_GUARDS}
 use Rattle.burr_container.specs.declared.fault.ContainerFault.TheVariants.{C4}
-use Rattle.burr_container.specs.Plans.{live_slots, parameter_slots}
+use Rattle.burr_container.specs.Plans.{live_slots}
 use Rattle.burr_container.specs.Spelling.{form_bytes, forms_bytes, slots_bytes, places_bytes}
 use Rattle.burr_container.specs.Fitting.{is_form, are_forms, are_slots, is_tray, is_set_of, is_place, are_places, is_frame_rest}
-use Rattle.burr_container.specs.Faults.{Failing, number, form, forms, slots, place, frame, exit_frame, first, each}
+use Rattle.burr_container.specs.Faults.{Failing, number, form, forms, slots, place, frame, first, each}
 use Rattle.burr_container.proofs.Common.Fields.{byte_back, number_so}
 use Rattle.burr_container.proofs.Common.Lawful.{Front, OfPart, OfFirst}
 use Rattle.burr_container.proofs.Common.Lists.{OfEach}
-use Rattle.burr_container.proofs.Common.Frames.{FormPlaces, BehindHead, OfCost, cost_fails, OfStack, stack_fails, OfGuards, guards_fail, OfSlotsOn, slots_fail, OfHead, head_fails, frame_of, frame_apart, exit_frame_of, exit_apart}
+use Rattle.burr_container.proofs.Common.Frames.{FormPlaces, BehindHead, OfCost, cost_fails, OfStack, stack_fails, OfGuards, guards_fail, OfSlotsOn, slots_fail, OfHead, head_fails, frame_of, frame_apart}
 use Rattle.burr_container.proofs.Common.Judging.Fronts.{AreSmall, Judged, JudgedPart, first_judged, judged_as}
 use Rattle.burr_container.proofs.Common.Judging.Fields.{number_judged, digits_1, digits_4}
 use Rattle.burr_container.proofs.Common.Judging.Lists.{each_judged}
@@ -45,7 +45,7 @@ ranges_on_judged pieces =
     (λ s. guards_fail pieces (live_slots s)) slots_judged
     (λ s fits. guards_judged pieces (live_slots s))
 
-head_judged : {B : Type 0} (pieces : ℕ) (More : Front B) (more : Failing) → Judged More more
+pub head_judged : {B : Type 0} (pieces : ℕ) (More : Front B) (more : Failing) → Judged More more
     → Judged (OfHead pieces More) (head_fails pieces more)
 head_judged pieces More more judged =
     first_judged (number 1 C4 is_tray)
@@ -56,7 +56,7 @@ head_judged pieces More more judged =
     (number_judged 4 C4 (is_set_of pieces) digits_4) (λ grip fits. judged))
 
 -- what stands at the head, with what follows it
-head_back : {B : Type 0} (pieces : ℕ) (More : Front B) (v : ℕ × (ℕ × B)) (bytes r : List ℕ)
+pub head_back : {B : Type 0} (pieces : ℕ) (More : Front B) (v : ℕ × (ℕ × B)) (bytes r : List ℕ)
     → OfHead pieces More v bytes r
     → (rest : List ℕ) × IsTrue (is_tray v.0) × IsTrue (is_set_of pieces v.1.0)
     × (bytes ≡ v.0 ∷ (big_bytes 4 v.1.0 ++ rest)) × More v.1.1 rest r
@@ -128,27 +128,3 @@ frame_judged pieces =
     (frame pieces).Fails (head_fails pieces (slots_fail pieces)) (frame_back pieces)
     (λ at bytes fault fails. fails)
     (head_judged pieces (OfSlotsOn pieces) (slots_fail pieces) (ranges_on_judged pieces))
-
-pub exit_back : (pieces parameters : ℕ) (v : ℕ × (ℕ × FormPlaces)) (bytes r : List ℕ) → AreSmall bytes
-    → OfHead pieces (OfEach pieces (place (parameter_slots parameters))) v bytes r
-    → OfPart (exit_frame pieces parameters) (exit_frame_of v) bytes r
-exit_back pieces parameters v bytes r small here =
-    let f = exit_frame_of v in
-    let live = parameter_slots parameters in
-    let head = head_back pieces (OfEach pieces (place live)) v bytes r here in (
-      and_from (is_tray f.tray && is_set_of pieces f.grip) (are_places pieces live f.places)
-          (and_from (is_tray f.tray) (is_set_of pieces f.grip) head.1 head.2)
-          (places_back pieces live f.places head.0 r head.4),
-      head.3 ∙ ap (λ (rest : List ℕ). f.tray ∷ (big_bytes 4 f.grip ++ rest)) head.4.2
-          ∙ sym (exit_apart f.tray (big_bytes 4 f.grip) (places_bytes live f.places) r),
-    )
-
-pub exit_frame_judged : (pieces parameters : ℕ) → JudgedPart (exit_frame pieces parameters)
-exit_frame_judged pieces parameters =
-    let live = parameter_slots parameters in
-    judged_as exit_frame_of (OfPart (exit_frame pieces parameters))
-    (OfHead pieces (OfEach pieces (place live))) (exit_frame pieces parameters).Fails
-    (head_fails pieces (each pieces (place live))) (exit_back pieces parameters)
-    (λ at bytes fault fails. fails)
-    (head_judged pieces (OfEach pieces (place live)) (each pieces (place live))
-    (each_judged (place live) pieces (place_judged live)))

@@ -1,20 +1,20 @@
 -- For crates above: bytes have a procedure at their front, or fail to.
-use Rattle.std.proofs.Common.{◌≡◌, ℕ, ◌&&◌, ◌==◌, true, false, IsTrue, nat_le, nat_lt, Option, List, [], ◌∷◌, ◌++◌, length, refl, sym, ap, ◌∙◌, subst, eqb-true, lt-ltb}
+use Rattle.std.proofs.Common.{◌≡◌, ℕ, ◌&&◌, ◌==◌, Bool, true, false, IsTrue, nat_le, nat_lt, Option, List, [], ◌∷◌, ◌++◌, length, refl, sym, ap, ◌∙◌, subst, eqb-true, lt-ltb}
 use Rattle.std.specs.List.{list_all}
 use Rattle.std.proofs.lemmas.Bool.{and_parts, and_from}
 use Rattle.byteorder.specs.Endian.{big_bytes}
 use Rattle.burr_code.specs.declared.limits.TheConstants.{MOST_CODE}
 use Rattle.burr_container.specs.declared.fault.ContainerFault.TheVariants.{C4}
-use Rattle.burr_container.specs.Plans.{ExitFrame}
-use Rattle.burr_container.specs.Spelling.{exit_frame_bytes, labels_bytes, code_bytes}
-use Rattle.burr_container.specs.Fitting.{is_exit_frame, are_labels, are_parameters, is_code}
-use Rattle.burr_container.specs.Faults.{number, raw, exit_frame, labels, last_label, is_above, CodeFails, BodyFails, procedure}
+use Rattle.burr_container.specs.Plans.{ExitFrame, PlanProcedure}
+use Rattle.burr_container.specs.Spelling.{result_count_bytes, exit_frame_bytes, labels_bytes, code_bytes}
+use Rattle.burr_container.specs.Fitting.{is_exit, are_labels, are_parameters, are_results, is_code, is_procedure}
+use Rattle.burr_container.specs.Faults.{Failing, number, raw, first, passes, exit_frame, labels, last_label, is_above, CodeFails, BodyFails, result_count, ExitFails, procedure}
 use Rattle.burr_container.proofs.Common.Fields.{byte_back, number_so}
-use Rattle.burr_container.proofs.Common.Lawful.{OfPart}
-use Rattle.burr_container.proofs.Common.Procedures.{is_length, OfCode, Body, OfBody, main_of, OfMain, procedure_apart, other_of, OfExit, exit_fails, OfOther}
-use Rattle.burr_container.proofs.Common.Judging.Fronts.{AreSmall, small_parts, Judged, JudgedPart, first_judged, judged_as}
+use Rattle.burr_container.proofs.Common.Lawful.{Front, OfPart, OfFirst, OfNothing}
+use Rattle.burr_container.proofs.Common.Procedures.{is_length, OfCode, Body, OfBody, few_by, count_by, OfCounts, counts_fail, ProcedureFits, main_of, OfMain, procedure_apart, other_of, OfExit, OfOther}
+use Rattle.burr_container.proofs.Common.Judging.Fronts.{AreSmall, small_parts, Judged, JudgedPart, first_judged, judged_as, passes_judged}
 use Rattle.burr_container.proofs.Common.Judging.Fields.{number_judged, raw_judged, digits_1, digits_2}
-use Rattle.burr_container.proofs.Common.Judging.Frames.{exit_frame_judged}
+use Rattle.burr_container.proofs.Common.Judging.Exits.{exit_frame_judged}
 use Rattle.burr_container.proofs.Common.Judging.LabelLists.{labels_judged, labels_of_code}
 
 code_judged : (last : Option ℕ) → Judged (OfCode last) (CodeFails last)
@@ -66,66 +66,131 @@ body_back pieces v bytes r small here =
           ∙ ap (λ (rest : List ℕ). big_bytes 2 (length code) ++ rest) inner.2.1),
     )
 
-pub main_back : (pieces : ℕ) (v : ℕ × Body) (bytes r : List ℕ) → AreSmall bytes
-    → OfMain pieces v bytes r → OfPart (procedure pieces true) (main_of v) bytes r
-main_back pieces v bytes r small here =
-    let p = main_of v in
-    let head = byte_back C4 (are_parameters true) v.0 bytes here.0 here.1 in
-    let body =
-    body_back pieces v.1 here.0 r (subst (λ (all : List ℕ). AreSmall all) head.1 small).1
-    here.2 in (
-      and_from
-          (are_parameters true p.parameters && true && are_labels pieces (length p.code) p.labels)
-          (is_code p.code)
-          (and_from (are_parameters true p.parameters && true)
-          (are_labels pieces (length p.code) p.labels)
-          (and_from (are_parameters true p.parameters) true head.0 refl) body.0) body.1,
-      head.1 ∙ ap (λ (rest : List ℕ). v.0 ∷ rest) body.2
-          ∙ sym (procedure_apart p.parameters [] (labels_bytes p.labels) (code_bytes p.code) r),
+count_by_judged : (second main : Bool) → JudgedPart (count_by second main)
+count_by_judged true main =
+    judged_as (λ (n : ℕ). n) (OfPart (count_by true main)) (OfPart (number 1 C4 (few_by true main)))
+    (count_by true main).Fails (number 1 C4 (few_by true main)).Fails
+    (λ n bytes r small here. byte_back C4 (few_by true main) n bytes r here)
+    (λ at bytes fault fails. fails) (number_judged 1 C4 (few_by true main) digits_1)
+count_by_judged false main =
+    judged_as (λ (u : Unit {0}). 0) (OfPart (count_by false main)) OfNothing passes passes
+    (λ u bytes r small here. (none_fits main, here)) (λ at bytes fault fails. fails) passes_judged
+  where
+    none_fits : (main : Bool) → IsTrue (few_by false main 0)
+    none_fits true = refl
+    none_fits false = refl
+
+result_count_judged : (version : ℕ) (main : Bool) → JudgedPart (result_count version main)
+result_count_judged version main = count_by_judged (version == 2) main
+
+counts_judged : {B : Type 0} (version : ℕ) (main : Bool) (More : ℕ → ℕ → Front B)
+    (more : ℕ → ℕ → Failing)
+    → ((parameters results : ℕ) → Judged (More parameters results) (more parameters results))
+    → Judged (OfCounts version main More) (counts_fail version main more)
+counts_judged version main More more judged =
+    first_judged (number 1 C4 (are_parameters main))
+    (λ parameters. OfFirst (result_count version main) (λ results. More parameters results))
+    (λ parameters. first (result_count version main) (λ results. more parameters results))
+    (number_judged 1 C4 (are_parameters main) digits_1)
+    (λ parameters fits.
+    first_judged (result_count version main) (λ results. More parameters results)
+    (λ results. more parameters results) (result_count_judged version main)
+    (λ results fit. judged parameters results))
+
+-- the parameters and the results, and what follows them
+counts_back : {B : Type 0} (version : ℕ) (main : Bool) (More : ℕ → ℕ → Front B)
+    (v : ℕ × (ℕ × B)) (bytes r : List ℕ) → AreSmall bytes → OfCounts version main More v bytes r
+    → (rest : List ℕ) × IsTrue (are_parameters main v.0) × IsTrue (are_results version main v.1.0)
+    × (bytes ≡ v.0 ∷ (result_count_bytes version v.1.0 ++ rest)) × AreSmall rest
+    × More v.0 v.1.0 v.1.1 rest r
+counts_back version main More v bytes r small here =
+    let head = byte_back C4 (are_parameters main) v.0 bytes here.0 here.1 in
+    let inner = here.2 in
+    let behind_head = (subst (λ (all : List ℕ). AreSmall all) head.1 small).1 in (
+      inner.0,
+      head.0,
+      inner.1.0,
+      head.1 ∙ ap (λ (rest : List ℕ). v.0 ∷ rest) inner.1.1,
+      small_behind here.0 (result_count_bytes version v.1.0) inner.0 behind_head inner.1.1,
+      inner.2,
     )
 
-pub main_judged : (pieces : ℕ) → JudgedPart (procedure pieces true)
-main_judged pieces =
-    judged_as main_of (OfPart (procedure pieces true)) (OfMain pieces)
-    (procedure pieces true).Fails (procedure pieces true).Fails (main_back pieces)
-    (λ at bytes fault fails. fails)
-    (first_judged (number 1 C4 (are_parameters true)) (λ parameters. OfBody pieces)
-    (λ parameters. BodyFails pieces) (number_judged 1 C4 (are_parameters true) digits_1)
-    (λ parameters fits. body_judged pieces))
+pub procedure_from : (version pieces : ℕ) (main : Bool) (p : PlanProcedure)
+    → ProcedureFits version pieces main p → IsTrue (is_procedure version pieces main p)
+procedure_from version pieces main p fits =
+    let parameters = are_parameters main p.parameters in
+    let results = are_results version main p.results in
+    let exit = is_exit version main pieces p.parameters p.results p.exit in
+    let labels = are_labels pieces (length p.code) p.labels in
+    and_from (parameters && results && exit && labels) (is_code p.code)
+    (and_from (parameters && results && exit) labels
+    (and_from (parameters && results) exit
+    (and_from parameters results fits.parameters fits.results) fits.exit) fits.labels) fits.code
 
-pub other_back : (pieces : ℕ) (v : ℕ × (ExitFrame × Body)) (bytes r : List ℕ) → AreSmall bytes
-    → OfOther pieces v bytes r → OfPart (procedure pieces false) (other_of v) bytes r
-other_back pieces v bytes r small here =
+pub main_back : (version pieces : ℕ) (v : ℕ × (ℕ × Body)) (bytes r : List ℕ) → AreSmall bytes
+    → OfMain version pieces v bytes r
+    → OfPart (procedure version pieces true) (main_of v) bytes r
+main_back version pieces v bytes r small here =
+    let p = main_of v in
+    let count = result_count_bytes version v.1.0 in
+    let head =
+    counts_back version true (λ parameters results. OfBody pieces) v bytes r small here in
+    let body = body_back pieces v.1.1 head.0 r head.4 head.5 in (
+      procedure_from version pieces true p
+          (record {
+            parameters = head.1;
+            results = head.2;
+            exit = refl;
+            labels = body.0;
+            code = body.1;
+          }),
+      head.3 ∙ ap (λ (rest : List ℕ). v.0 ∷ (count ++ rest)) body.2
+          ∙ sym (procedure_apart p.parameters count [] (labels_bytes p.labels) (code_bytes p.code)
+          r),
+    )
+
+pub main_judged : (version pieces : ℕ) → JudgedPart (procedure version pieces true)
+main_judged version pieces =
+    judged_as main_of (OfPart (procedure version pieces true)) (OfMain version pieces)
+    (procedure version pieces true).Fails (procedure version pieces true).Fails
+    (main_back version pieces) (λ at bytes fault fails. fails)
+    (counts_judged version true (λ parameters results. OfBody pieces)
+    (ExitFails version pieces true) (λ parameters results. body_judged pieces))
+
+pub other_back : (version pieces : ℕ) (v : ℕ × (ℕ × (ExitFrame × Body))) (bytes r : List ℕ)
+    → AreSmall bytes → OfOther version pieces v bytes r
+    → OfPart (procedure version pieces false) (other_of v) bytes r
+other_back version pieces v bytes r small here =
     let p = other_of v in
-    let head = byte_back C4 (are_parameters false) v.0 bytes here.0 here.1 in
-    let inner = here.2 in
-    let behind_head = (subst (λ (all : List ℕ). AreSmall all) head.1 small).1 in
+    let count = result_count_bytes version v.1.0 in
+    let exit = exit_frame_bytes version v.0 v.1.0 v.1.1.0 in
+    let head = counts_back version false (OfExit version pieces) v bytes r small here in
+    let inner = head.5 in
     let body =
-    body_back pieces v.1.1 inner.0 r
-    (small_behind here.0 (exit_frame_bytes v.0 v.1.0) inner.0 behind_head inner.1.1)
-    inner.2 in (
-      and_from
-          (are_parameters false p.parameters && is_exit_frame pieces v.0 v.1.0
-          && are_labels pieces (length p.code) p.labels) (is_code p.code)
-          (and_from (are_parameters false p.parameters && is_exit_frame pieces v.0 v.1.0)
-          (are_labels pieces (length p.code) p.labels)
-          (and_from (are_parameters false p.parameters) (is_exit_frame pieces v.0 v.1.0) head.0
-          inner.1.0) body.0) body.1,
-      head.1
-          ∙ ap (λ (rest : List ℕ). v.0 ∷ rest)
-          (inner.1.1 ∙ ap (λ (rest : List ℕ). exit_frame_bytes v.0 v.1.0 ++ rest) body.2)
-          ∙ sym (procedure_apart p.parameters (exit_frame_bytes v.0 v.1.0) (labels_bytes p.labels)
+    body_back pieces v.1.1.1 inner.0 r (small_behind head.0 exit inner.0 head.4 inner.1.1) inner.2
+    in (
+      procedure_from version pieces false p
+          (record {
+            parameters = head.1;
+            results = head.2;
+            exit = inner.1.0;
+            labels = body.0;
+            code = body.1;
+          }),
+      head.3
+          ∙ ap (λ (rest : List ℕ). v.0 ∷ (count ++ rest))
+          (inner.1.1 ∙ ap (λ (rest : List ℕ). exit ++ rest) body.2)
+          ∙ sym (procedure_apart p.parameters count exit (labels_bytes p.labels)
           (code_bytes p.code) r),
     )
 
-pub other_judged : (pieces : ℕ) → JudgedPart (procedure pieces false)
-other_judged pieces =
-    judged_as other_of (OfPart (procedure pieces false)) (OfOther pieces)
-    (procedure pieces false).Fails (procedure pieces false).Fails (other_back pieces)
-    (λ at bytes fault fails. fails)
-    (first_judged (number 1 C4 (are_parameters false)) (λ parameters. OfExit pieces parameters)
-    (λ parameters. exit_fails pieces parameters)
-    (number_judged 1 C4 (are_parameters false) digits_1)
-    (λ parameters fits.
-    first_judged (exit_frame pieces parameters) (λ exit. OfBody pieces) (λ exit. BodyFails pieces)
-    (exit_frame_judged pieces parameters) (λ exit is. body_judged pieces)))
+pub other_judged : (version pieces : ℕ) → JudgedPart (procedure version pieces false)
+other_judged version pieces =
+    judged_as other_of (OfPart (procedure version pieces false)) (OfOther version pieces)
+    (procedure version pieces false).Fails (procedure version pieces false).Fails
+    (other_back version pieces) (λ at bytes fault fails. fails)
+    (counts_judged version false (OfExit version pieces) (ExitFails version pieces false)
+    (λ parameters results.
+    first_judged (exit_frame version pieces parameters results) (λ exit. OfBody pieces)
+    (λ exit. BodyFails pieces) (exit_frame_judged version pieces parameters results)
+    (λ exit is. body_judged pieces)))

@@ -21,7 +21,7 @@ returns-then-not-is_empty c =
     let more : c.in_ok-procedures.end.rest.now ≢ [] = search rules in
     subst₂ (λ (at : ℕ) (b : List ℕ). ContainerFails at b (C6 c.in_ok-procedures.end.at)) begin.at begin.rest
     (c.in_ok-header.ensures.reads.fails _
-    (followed c.in_ok-header.header.pieces c.in_ok-header.behind_header c.in_ok-procedures.end here.0 here.2 more))
+    (followed c.in_ok-header.header.version c.in_ok-header.header.pieces c.in_ok-header.behind_header c.in_ok-procedures.end here.0 here.2 more))
 
 pub returns : goal.returns
 returns c =
@@ -35,7 +35,7 @@ returns c =
       plan.0,
       sym begin.rest ∙ plan.1,
       record {
-        header = record { version = c.in_ok-header.ensures.reads.version; budget = refl; pieces = refl; name = refl };
+        header = record { version = refl; budget = refl; pieces = refl; name = refl };
         procedures = here.1;
       },
     )
@@ -50,7 +50,7 @@ invariant_of-result-2 c =
       _,
       plan.0,
       record {
-        header = record { version = c.in_ok-header.ensures.reads.version; budget = refl; pieces = refl; name = refl };
+        header = record { version = refl; budget = refl; pieces = refl; name = refl };
         procedures = here.1;
       },
     )

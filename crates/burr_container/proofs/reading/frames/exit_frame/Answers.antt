@@ -1,12 +1,30 @@
--- Places follow the head.
+-- The parts of an exit frame stand one behind the other.
 use Rattle.std.proofs.lemmas.Result.{err_from_is_err_and}
-use Rattle.burr_container.specs.Plans.{parameter_slots}
-use Rattle.burr_container.specs.Faults.{places}
-use Rattle.burr_container.proofs.FramesRead.{head_then_fails}
+use Rattle.burr_container.proofs.ExitsRead.{ranges_fail_in_exit, guards_fail_in_exit, places_fail_in_exit, exit_frame_at}
 use Rattle.burr_container.proofs.reading.frames.exit_frame.Goals as goal
+
+pub returns-in_err-results-clause-reads : goal.returns-in_err-results-clause-reads
+returns-in_err-results-clause-reads c =
+    let p = err_from_is_err_and c.from_residual-in_err-results.result c.from_residual-in_err-results.ensures.1 in
+    rw (p.1, p.2)
+    (ranges_fail_in_exit c.args.version c.args.pieces c.args.parameters c.args.results _ _ _ _ _ c.in_ok-tray.ensures c.in_ok-grip.ensures _
+    c.in_err-results.ensures.reads)
+
+pub returns-in_err-guards-clause-reads : goal.returns-in_err-guards-clause-reads
+returns-in_err-guards-clause-reads c =
+    let p = err_from_is_err_and c.from_residual-in_err-guards.result c.from_residual-in_err-guards.ensures.1 in
+    rw (p.1, p.2)
+    (guards_fail_in_exit c.args.version c.args.pieces c.args.parameters c.args.results _ _ _ _ _ c.in_ok-tray.ensures c.in_ok-grip.ensures _
+    c.exit_symbols-live.ensures _ _ c.in_ok-results.ensures.reads _ c.in_err-guards.ensures.reads)
 
 pub returns-in_err-places-clause-reads : goal.returns-in_err-places-clause-reads
 returns-in_err-places-clause-reads c =
     let p = err_from_is_err_and c.from_residual-in_err-places.result c.from_residual-in_err-places.ensures.1 in
     rw (p.1, p.2)
-    (head_then_fails _ _ _ _ _ _ c.in_ok-tray.ensures c.in_ok-grip.ensures (places c.args.pieces (parameter_slots c.args.parameters)).Fails _ (rw (← c.parameter_slots-live.ensures) c.in_err-places.ensures.reads))
+    (places_fail_in_exit c.args.version c.args.pieces c.args.parameters c.args.results _ _ _ _ _ c.in_ok-tray.ensures c.in_ok-grip.ensures _
+    c.exit_symbols-live.ensures _ _ c.in_ok-results.ensures.reads _ _ c.in_ok-guards.ensures.reads _ c.in_err-places.ensures.reads)
+
+pub returns-clause-reads : goal.returns-clause-reads
+returns-clause-reads c =
+    exit_frame_at c.args.version c.args.pieces c.args.parameters c.args.results _ _ _ _ _ c.in_ok-tray.ensures c.in_ok-grip.ensures _
+    c.exit_symbols-live.ensures _ _ c.in_ok-results.ensures.reads _ _ c.in_ok-guards.ensures.reads _ _ c.in_ok-places.ensures.reads

@@ -1,7 +1,7 @@
 -- So many forms stand behind their count.
 use Rattle.std.proofs.Common.{◌*◌, ap, ◌∙◌, ℕ}
 use Rattle.std.proofs.lemmas.Result.{err_from_is_err_and}
-use Rattle.burr_container.proofs.Chains.{at_most}
+use Rattle.burr_container.proofs.Chains.{at_most, count_most}
 use Rattle.burr_container.proofs.FormsRead.{forms_at, forms_fail}
 use Rattle.burr_container.proofs.reading.frames.forms.Goals as goal
 
@@ -17,3 +17,6 @@ returns-clause-reads c =
     let took = c.in_ok-bytes.ensures in
     forms_at c.args.most c.args.live c.args.cursor c.in_ok-count.behind_count c.in_ok-bytes.next c.in_ok-count.count c.in_ok-bytes.bytes.now
     (at_most c.args.most c.args.cursor c.in_ok-count.behind_count c.in_ok-count.count c.in_ok-count.ensures) (took.taken.0 ∙ ap (λ (n : ℕ). c.in_ok-count.count * n) c.form_size.ensures.size) took.small took.taken.1
+
+pub returns-clause-few : goal.returns-clause-few
+returns-clause-few c = count_most c.args.most c.args.cursor c.in_ok-count.behind_count c.in_ok-count.count c.in_ok-count.ensures
