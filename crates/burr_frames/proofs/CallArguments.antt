@@ -42,6 +42,12 @@ top_many_of k xs some =
 pub no_top_many : {X : Type 0} (k : ℕ) (xs : List X) → length xs < k → top_many k (reverse xs) ≡ None
 no_top_many k xs few = rw (length-reverse xs, lt-leb k (length xs) few) refl
 
+-- how many operands are left where so many are gone
+pub left_many : {X : Type 0} (count : ℕ) (items operands : List X) → reverse items ≡ operands
+    → length (drop count operands) ≡ length items - count
+left_many count items operands same =
+    length-drop count operands ∙ ap (λ xs. length xs - count) (sym same) ∙ ap (λ n. n - count) (length-reverse items)
+
 -- from the n-th on, cut at the end
 pub cut_at_end : {X : Type 0} (n : ℕ) (xs : List X) → take (length xs - n) (drop n xs) ≡ drop n xs
 cut_at_end n xs = let many = length-drop n xs in take_all (length xs - n) (drop n xs) (omega (arith, many))

@@ -1,25 +1,20 @@
 -- A state and a frame that it meets: values of the state's forms beside those of the frame's, no
 -- cost asked; and what is found of it says the verdict.
-use Rattle.std.proofs.Common.{◌≡◌, List, [], ◌++◌, length, take, drop, map, refl, sym, ap, subst, ◌∙◌, inl, inr, ℤ}
-use Rattle.std.specs.Prelude.{reverse, Option, Some, None, pos, ◌≤ℤ◌}
+use Rattle.std.proofs.Common.{◌≡◌, List, [], ◌++◌, length, take, drop, refl, sym, ap, subst, ◌∙◌, inl, inr, ℤ}
+use Rattle.std.specs.Prelude.{reverse, Option, Some, None}
 use Rattle.arrayvec.specs.ArrayVec.{ArrayVec}
-use Rattle.std.proofs.lemmas.List.{length-map, map-append, append-nil}
-use Rattle.std.proofs.lemmas.List.Elements.{All-nil}
-use Rattle.burr_code.specs.Places.{Placement, tray_of}
+use Rattle.std.proofs.lemmas.List.{length-map, map-append}
 use Rattle.burr_forms.specs.Forms.{Form, Point, value, values}
 use Rattle.burr_forms.specs.Conditions.{at_values}
-use Rattle.burr_container.specs.declared.exit_ref.ExitRef.{ExitRef}
-use Rattle.burr_container.specs.Plans.{FormCell, Frame}
+use Rattle.burr_container.specs.Plans.{Frame}
 use Rattle.burr_frames.specs.declared.rule.Rule.{Rule}
-use Rattle.burr_frames.specs.States.{AbstractState, Everywhere, IsFirstFailing, region_of, places_at}
+use Rattle.burr_frames.specs.States.{AbstractState, region_of}
 use Rattle.burr_frames.specs.Arrival.{IsAlike, Agrees, Meets}
 use Rattle.burr_frames.specs.Breaks.{missed_break}
 use Rattle.burr_frames.specs.Comparing.{offset_forms, Target, IsMetAt, IsMetBy}
 use Rattle.burr_frames.specs.Verdicts.{Rest, Verdict, Breaks, meeting}
 use Rattle.burr_frames.specs.CallViews.{IsMissed}
-use Rattle.burr_frames.specs.ControlRules.{MeetsExitAt}
-use Rattle.burr_frames.specs.Exits.{AreValuesAt, framed_ref}
-use Rattle.burr_frames.proofs.Agreement.{take_front, drop_front, met_of_same, same_of_met, same_places, same_offsets, FirstFailure}
+use Rattle.burr_frames.proofs.Agreement.{take_front, drop_front, met_of_same, same_of_met, FirstFailure}
 
 -- States
 
@@ -81,52 +76,6 @@ difference s t live alike many (Some point) h = record {
   before = λ q is before. met_agrees s t live alike many q (h.before q is before);
 }
 
--- Places
-
--- the pieces lie as these places say, the symbols of those having the values of these forms
-abbrev pub LieAs : List (Placement FormCell) → List (Placement FormCell) → List Form → Point → Type 0
-LieAs places there symbols point = places_at point places ≡ places_at (values point symbols) there
-
--- the values are those of the symbols, and those of the offsets
-parts_valued : (places there : List (Placement FormCell)) (symbols : List Form) (point : Point)
-    → AreValuesAt (length symbols) (offset_forms there) (values point (symbols ++ offset_forms places))
-    ≡ (values (values point symbols) (offset_forms there) ≡ values point (offset_forms places))
-parts_valued places there symbols point =
-    let others = values point (offset_forms places) in
-    let n = length symbols in
-    let whole = map-append (value point) symbols (offset_forms places) in
-    let l = length-map symbols (value point) in
-    let front = ap (take n) whole ∙ take_front (values point symbols) others n l in
-    let behind = ap (drop n) whole ∙ drop_front (values point symbols) others n l in
-    λ i. map (value (front i)) (offset_forms there) ≡ behind i
-
-valued_lies : (places there : List (Placement FormCell)) (symbols : List Form) → map tray_of places ≡ map tray_of there
-    → (point : Point) → AreValuesAt (length symbols) (offset_forms there) (values point (symbols ++ offset_forms places))
-    → LieAs places there symbols point
-valued_lies places there symbols trays point valued =
-    same_places point (values point symbols) places there trays
-    (subst (λ (X : Type 0). X) (parts_valued places there symbols point) valued)
-
-lies_valued : (places there : List (Placement FormCell)) (symbols : List Form) → map tray_of places ≡ map tray_of there
-    → (point : Point) → LieAs places there symbols point
-    → AreValuesAt (length symbols) (offset_forms there) (values point (symbols ++ offset_forms places))
-lies_valued places there symbols trays point lies =
-    subst (λ (X : Type 0). X) (sym (parts_valued places there symbols point))
-    (same_offsets point (values point symbols) places there trays lies)
-
--- the first point at which the values are others is the first at which the pieces do not lie so
-pub displacement : (s : AbstractState) (there : List (Placement FormCell)) (symbols : List Form)
-    → map tray_of s.places ≡ map tray_of there → (found : Option (ArrayVec ℤ))
-    → FirstFailure (region_of s)
-    (at_values (AreValuesAt (length symbols) (offset_forms there)) (symbols ++ offset_forms s.places)) found
-    → FirstFailure (region_of s) (LieAs s.places there symbols) found
-displacement s there symbols trays None h = λ point is. valued_lies s.places there symbols trays point (h point is)
-displacement s there symbols trays (Some point) h = record {
-  is_point = h.is_point;
-  fails = λ lies. h.fails (lies_valued s.places there symbols trays point.items lies);
-  before = λ q is before. valued_lies s.places there symbols trays q (h.before q is before);
-}
-
 -- Verdicts
 
 -- a frame that is met, and what follows
@@ -142,32 +91,3 @@ meeting_breaks s f rule rest None (inl none) = inl (none, refl)
 meeting_breaks s f rule rest None (inr (forms, known, unlike)) = inr (forms, known, inl (unlike, refl))
 meeting_breaks s f rule rest (Some point) (forms, known, alike, first) =
     inr (forms, known, inr (alike, inl (point, first, refl)))
-
--- Exit frames
-
--- the pieces lie as an exit frame says that is read in place
-exit_met : (s : AbstractState) (kept : ExitRef) (forms : List Form) (point : Point)
-    → LieAs s.places (framed_ref kept).places forms point → MeetsExitAt s (framed_ref kept) forms [] point
-exit_met s kept forms point lies = (
-  tt,
-  All-nil (λ g. pos 0 ≤ℤ value (values point (forms ++ [])) g),
-  subst (λ (fs : List Form). LieAs s.places (framed_ref kept).places fs point) (sym (append-nil forms)) lies,
-)
-
-exit_lies : (s : AbstractState) (kept : ExitRef) (forms : List Form) (point : Point)
-    → MeetsExitAt s (framed_ref kept) forms [] point → LieAs s.places (framed_ref kept).places forms point
-exit_lies s kept forms point met =
-    subst (λ (fs : List Form). LieAs s.places (framed_ref kept).places fs point) (append-nil forms) met.2
-
-pub exit_met_everywhere : (s : AbstractState) (kept : ExitRef) (forms : List Form)
-    → Everywhere s (LieAs s.places (framed_ref kept).places forms) → Everywhere s (MeetsExitAt s (framed_ref kept) forms [])
-exit_met_everywhere s kept forms all = λ point is. exit_met s kept forms point (all point is)
-
-pub exit_first_missed : (s : AbstractState) (kept : ExitRef) (forms : List Form) (point : Point)
-    → IsFirstFailing s (LieAs s.places (framed_ref kept).places forms) point
-    → IsFirstFailing s (MeetsExitAt s (framed_ref kept) forms []) point
-exit_first_missed s kept forms point first = record {
-  is_point = first.is_point;
-  fails = λ met. first.fails (exit_lies s kept forms point met);
-  before = λ q is before. exit_met s kept forms q (first.before q is before);
-}

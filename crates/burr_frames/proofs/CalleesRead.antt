@@ -1,16 +1,12 @@
 -- Procedures of a container that are called: what is read of them in place is the plan's.
-use Rattle.std.proofs.Common.{◌≡◌, ℕ, zero, suc, ◌<◌, List, [], ◌∷◌, length, map, Option, Some, None, refl, sym, ap, ◌∙◌, arith, slice_get, lt-ltb}
-use Rattle.std.specs.Prelude.{option_map}
+use Rattle.std.proofs.Common.{◌≡◌, ℕ, zero, suc, ◌<◌, List, [], ◌∷◌, length, map, Some, None, refl, sym, ap, ◌∙◌, arith, slice_get, lt-ltb}
 use Rattle.std.proofs.lemmas.Option.{none-some, same_Some}
 use Rattle.burr_code.specs.Labels.{callee_of}
-use Rattle.burr_container.specs.declared.exit_ref.ExitRef.{ExitRef}
 use Rattle.burr_container.specs.declared.frame_ref.FrameRef.{FrameRef}
-use Rattle.burr_container.specs.Plans.{Frame, ExitFrame, PlanProcedure, place_over_symbols}
-use Rattle.burr_container.specs.InPlace.{IsExit}
+use Rattle.burr_container.specs.Plans.{Frame, PlanProcedure}
 use Rattle.burr_container.specs.Refs.{frame_of}
-use Rattle.burr_frames.specs.FramedPlans.{FramedProcedure, framed, framed_exit, framed_procedure}
+use Rattle.burr_frames.specs.FramedPlans.{FramedProcedure, framed, framed_procedure}
 use Rattle.burr_frames.specs.ControlRules.{first_frame}
-use Rattle.burr_frames.specs.Exits.{framed_ref}
 use Rattle.burr_frames.specs.Here.{IsFrameFound}
 
 -- Procedures
@@ -56,24 +52,6 @@ callee_at procedures n callee higher l =
   where
     called_higher : (all : List FramedProcedure) (n callee : ℕ) → n < callee → callee_of all n callee ≡ slice_get all callee
     called_higher all n callee higher = rw (lt-ltb n callee higher) refl
-
--- Exit frames
-
-pub no_exit : (pieces parameters : ℕ) (exit : Option ExitFrame) → IsExit pieces parameters None exit
-    → option_map (framed_exit parameters) exit ≡ None
-no_exit pieces parameters None is = refl
-no_exit pieces parameters (Some f) is = absurd is
-
-pub exit_there : (pieces parameters : ℕ) (kept : ExitRef) (exit : Option ExitFrame) → IsExit pieces parameters (Some kept) exit
-    → option_map (framed_exit parameters) exit ≡ Some (framed_ref kept)
-exit_there pieces parameters kept None is = absurd is
-exit_there pieces parameters kept (Some f) is = λ i. Some (record {
-  tray = (sym is.frame i).tray;
-  grip = (sym is.frame i).grip;
-  results = [];
-  guards = [];
-  places = map (place_over_symbols (sym is.live i)) (sym is.frame i).places;
-})
 
 -- Entry frames
 

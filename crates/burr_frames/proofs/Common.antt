@@ -1,5 +1,6 @@
 pub mod Conditions
 pub mod Decided
+pub mod ExitsRead
 pub mod Freedom
 pub mod Room
 pub mod RuleLooks

@@ -1,10 +1,12 @@
 pub mod Agreement
 pub mod Arrivals
 pub mod AsidePlaces
+pub mod Behind
 pub mod BenchOffsets
 pub mod CallArguments
 pub mod CallForms
 pub mod CallMeetings
+pub mod CallReturns
 pub mod CallVerdicts
 pub mod CalleesRead
 pub mod Clearances
@@ -13,6 +15,7 @@ pub mod ClearingLoops
 pub mod Common
 pub mod Comparisons
 pub mod Counters
+pub mod ExitMeetings
 pub mod GripLooks
 pub mod Heres
 pub mod LiveForms

@@ -1,17 +1,19 @@
 -- What the parts of a call say of the verdict.
-use Rattle.std.specs.Prelude.{◌≡◌, ◌⊎◌, ℕ, List, length, drop, reverse, Option, Some, None, MatchOption, Result, MatchResult, option_map, pos, ◌≤ℤ◌}
+use Rattle.std.specs.Prelude.{◌≡◌, ◌⊎◌, ◌≤◌, ℕ, ℤ, List, length, map, drop, reverse, Option, Some, None, MatchOption, Result, MatchResult, option_map, pos, ◌≤ℤ◌}
 use Rattle.arrayvec.specs.ArrayVec.{ArrayVec}
-use Rattle.burr_code.specs.Places.{Placement}
 use Rattle.burr_code.specs.Stacks.{top_many}
-use Rattle.burr_forms.specs.Forms.{Form, Point, value, values, one_less, IsSmallForm, AllSmallForms}
-use Rattle.burr_container.specs.Plans.{FormCell, Frame}
+use Rattle.burr_forms.specs.Forms.{Form, Point, value, values, one_less, substituted, IsSmallForm, AllSmallForms}
+use Rattle.burr_forms.specs.Points.{AreRanges, box_size}
+use Rattle.burr_forms.specs.declared.form.FormTooLarge.{FormTooLarge}
+use Rattle.burr_container.specs.Plans.{Range, Frame}
 use Rattle.burr_frames.specs.declared.rule.Rule.TheVariants as rules
 use Rattle.burr_frames.specs.declared.breaking.Break.{Break}
 use Rattle.burr_frames.specs.declared.state.arriving.Miss.{Miss}
 use Rattle.burr_frames.specs.States.{AbstractState, Everywhere, IsFirstFailing, state_of}
 use Rattle.burr_frames.specs.Arrival.{live_forms, IsAlike, Agrees, Meets}
 use Rattle.burr_frames.specs.Breaks.{broken_of, plain_break, break_at}
-use Rattle.burr_frames.specs.ControlRules.{left_of, first_forms}
+use Rattle.burr_frames.specs.SpaceRules.{AllSmallPlaces}
+use Rattle.burr_frames.specs.ControlRules.{HasRoomForSymbols, left_of, first_forms}
 
 -- Meeting an entry frame
 
@@ -58,14 +60,14 @@ abbrev pub PaysBeside : AbstractState → Form → Result Form Break → Type 0
 PaysBeside s callee_cost result =
     MatchResult result (IsPaidBeside s callee_cost) (CannotPayBeside s callee_cost)
 
--- Arguments and parameters
+-- Arguments, parameters and results
 
 -- the topmost operands, the bottom first, so many and all small; or there are fewer
-abbrev pub GivesArguments : ℕ → List Form → Option (ArrayVec Form) → Type 0
-GivesArguments count operands result =
+abbrev pub GivesTopmost : ℕ → List Form → Option (ArrayVec Form) → Type 0
+GivesTopmost count operands result =
     MatchOption result (top_many count operands ≡ None)
-    (λ arguments. (top_many count operands ≡ Some (reverse arguments.items, drop count operands))
-    × (length arguments.items ≡ count) × AllSmallForms arguments.items)
+    (λ forms. (top_many count operands ≡ Some (reverse forms.items, drop count operands))
+    × (length forms.items ≡ count) × AllSmallForms forms.items)
 
 -- the forms in the first slots, so many and all small; or there is nothing known of one of them
 abbrev pub GivesFirstForms : ℕ → List (Option Form) → Option (ArrayVec Form) → Type 0
@@ -76,11 +78,35 @@ GivesFirstForms count slots result =
 
 -- Behind a call
 
--- so many operands are gone, and the pieces lie so, with this current tray and grip
-abbrev pub behind_at : ℕ → List (Placement FormCell) → ℕ → ℕ → AbstractState → AbstractState
-behind_at count places tray grip s = record s {
-  operands = drop count s.operands;
-  places = places;
-  tray = tray;
-  grip = grip;
-}
+-- the places and the guards behind a call are small
+abbrev pub IsSmallBehind : AbstractState → Type 0
+IsSmallBehind behind = AllSmallPlaces behind.places × AllSmallForms behind.guards
+
+-- there is none, and how
+abbrev pub CannotGoBehind : AbstractState → Break → Type 0
+CannotGoBehind behind b =
+    ((¬ HasRoomForSymbols behind) × (broken_of b ≡ plain_break rules.V25))
+    ⊎ (HasRoomForSymbols behind × (¬ IsSmallBehind behind) × (broken_of b ≡ plain_break rules.V26))
+
+-- the state behind a call, which has room for its symbols, places and guards small; or how not
+abbrev pub GivesBehind : AbstractState → Result AbstractState Break → Type 0
+GivesBehind behind result =
+    MatchResult result
+    (λ state. (state ≡ behind) × HasRoomForSymbols behind × IsSmallBehind behind)
+    (CannotGoBehind behind)
+
+-- the ranges, where they and their points are few; or they are not
+abbrev pub AreFewRanges : List Range → Type 0
+AreFewRanges ranges = (length ranges ≤ 8) × (box_size ranges ≤ 4096)
+
+abbrev pub GivesRanges : List Range → Option (ArrayVec (ℤ × ℤ)) → Type 0
+GivesRanges ranges result =
+    MatchOption result (¬ AreFewRanges ranges)
+    (λ given. (given.items ≡ ranges) × AreFewRanges ranges × AreRanges ranges)
+
+-- forms with others in place of their symbols, all small; or one of them is not
+abbrev pub GivesSubstituted : List Form → List Form → Result (ArrayVec Form) FormTooLarge → Type 0
+GivesSubstituted symbols forms result =
+    MatchResult result
+    (λ given. (given.items ≡ map (substituted symbols) forms) × AllSmallForms given.items)
+    (λ _. ¬ AllSmallForms (map (substituted symbols) forms))

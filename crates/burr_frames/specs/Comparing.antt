@@ -1,8 +1,8 @@
 -- Values of a state's forms beside those of a frame's forms, at the point that they give there.
-use Rattle.std.specs.Prelude.{◌≡◌, ℤ, ◌≤ℤ◌, List, [], ◌∷◌, length, take, drop}
+use Rattle.std.specs.Prelude.{◌≡◌, ◌+◌, ℕ, ℤ, ◌≤ℤ◌, List, [], ◌∷◌, length, take, drop}
 use Rattle.burr_code.specs.Places.{Placement, Apart, On}
 use Rattle.burr_forms.specs.Forms.{Form, Point, values}
-use Rattle.burr_forms.specs.Points.{IsPointOf}
+use Rattle.burr_forms.specs.Points.{IsPointOf, InBox, GuardsHold}
 use Rattle.burr_container.specs.Plans.{FormCell, Range}
 
 -- the forms of the offsets, piece by piece
@@ -38,3 +38,16 @@ IsMetBy t numbers =
     IsMetAt t (take (length t.ranges) numbers)
     (take (length t.least) (drop (length t.ranges) numbers))
     (drop (length t.least) (drop (length t.ranges) numbers))
+
+-- the same by the values of an exit frame's symbols, so many parameters and then the results, which
+-- are to be in the ranges
+pub record IsExitMetAt (parameters : ℕ) (t : Target) (symbols equal : List ℤ) : Type 0 where
+  pub results : InBox t.ranges (drop parameters symbols)
+  pub guards : GuardsHold t.guards symbols
+  pub same : values symbols t.same ≡ equal
+
+-- by all of these values, one behind the other
+abbrev pub IsExitMetBy : ℕ → Target → List ℤ → Type 0
+IsExitMetBy parameters t numbers =
+    IsExitMetAt parameters t (take (parameters + length t.ranges) numbers)
+    (drop (parameters + length t.ranges) numbers)

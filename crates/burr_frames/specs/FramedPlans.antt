@@ -1,10 +1,10 @@
 -- Plans as the verifier reads them. The forms of a frame are over symbols, one for each live slot
 -- in their order; those of an exit frame are over the parameters and then the results. As the stack
 -- map frames of the JVM Specification, 4.10.1; forms, ranges and guards are this project's own.
-use Rattle.std.specs.Prelude.{ℕ, List, [], map, Option, option_map}
+use Rattle.std.specs.Prelude.{ℕ, List, map, Option, option_map}
 use Rattle.burr_code.specs.Places.{Placement}
 use Rattle.burr_forms.specs.Forms.{Form}
-use Rattle.burr_container.specs.Plans.{FormCell, Range, Frame, ExitFrame, PlanProcedure, Plan, live_slots, parameter_slots, over_symbols, place_over_symbols}
+use Rattle.burr_container.specs.Plans.{FormCell, Range, Frame, ExitFrame, PlanProcedure, Plan, live_slots, exit_symbols, over_symbols, place_over_symbols}
 
 -- what holds where a procedure returns
 pub record FramedExit : Type 0 where
@@ -32,7 +32,7 @@ pub record FramedPlan : Type 0 where
   -- main first
   pub procedures : List FramedProcedure
 
--- The plan of a container, which has no results
+-- The plan of a container
 
 -- the frame, its forms over symbols
 abbrev pub framed : Frame → Frame
@@ -43,13 +43,14 @@ framed f = record f {
   places = map (place_over_symbols (live_slots f.slots)) f.places;
 }
 
-abbrev pub framed_exit : ℕ → ExitFrame → FramedExit
-framed_exit parameters f = record {
+-- of a procedure with so many parameters and results
+abbrev pub framed_exit : ℕ → ℕ → ExitFrame → FramedExit
+framed_exit parameters results f = record {
   tray = f.tray;
   grip = f.grip;
-  results = [];
-  guards = [];
-  places = map (place_over_symbols (parameter_slots parameters)) f.places;
+  results = f.results;
+  guards = map (over_symbols (exit_symbols parameters results)) f.guards;
+  places = map (place_over_symbols (exit_symbols parameters results)) f.places;
 }
 
 abbrev pub framed_label : ℕ × Frame → ℕ × Frame
@@ -58,8 +59,8 @@ framed_label label = (label.0, framed label.1)
 abbrev pub framed_procedure : PlanProcedure → FramedProcedure
 framed_procedure p = record {
   parameters = p.parameters;
-  results = 0;
-  exit = option_map (framed_exit p.parameters) p.exit;
+  results = p.results;
+  exit = option_map (framed_exit p.parameters p.results) p.exit;
   labels = map framed_label p.labels;
   code = p.code;
 }

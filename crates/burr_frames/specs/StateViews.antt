@@ -5,6 +5,7 @@ use Rattle.burr_code.specs.Places.{Placement}
 use Rattle.burr_forms.specs.Forms.{Form, IsSmallForm, AllSmallForms}
 use Rattle.burr_forms.specs.Points.{AreRanges}
 use Rattle.burr_container.specs.Plans.{FormCell, Range}
+use Rattle.burr_frames.specs.FramedPlans.{FramedExit}
 use Rattle.burr_frames.specs.States.{AbstractState}
 use Rattle.burr_frames.specs.Arrival.{live_forms}
 use Rattle.burr_frames.specs.SpaceRules.{AllSmallPlaces}
@@ -42,3 +43,20 @@ pub record IsSmallState (s : AbstractState) : Type 0 where
   pub operands : AllSmallForms s.operands
   pub places : AllSmallPlaces s.places
   pub cost : IsSmallForm s.cost
+
+-- an exit frame with these parts
+abbrev pub framed_exit_with : List Range → List Form → List (Placement FormCell) → ℕ → ℕ
+    → FramedExit
+framed_exit_with results guards places tray grip = record {
+  tray = tray;
+  grip = grip;
+  results = results;
+  guards = guards;
+  places = places;
+}
+
+-- the same of an exit frame
+pub record IsSmallExit (exit : FramedExit) : Type 0 where
+  pub results : AreRanges exit.results
+  pub guards : AllSmallForms exit.guards
+  pub places : AllSmallPlaces exit.places

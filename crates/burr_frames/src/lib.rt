@@ -3,7 +3,6 @@
 
 mod breaking;
 mod clearing;
-mod exiting;
 mod finding;
 mod laws;
 mod lying;

@@ -1,23 +1,28 @@
 mod agreeing;
 mod arriving;
 mod asking;
+mod behind;
 mod calling;
 mod changes;
 mod control;
 mod copying;
+mod exit;
+mod exiting;
 mod framing;
 mod matching;
 mod moves;
 mod numbers;
 mod paying;
 mod places;
+mod returning;
 mod starting;
 
 use crate::lying::Lying;
 use arrayvec::ArrayVec;
 pub use arriving::{Miss, arrives};
 use burr_forms::Form;
-pub use calling::{meets_entry, meets_exit};
+pub use calling::meets_entry;
+pub use returning::meets_exit;
 use std::marker::Model;
 
 /// The most pieces of an assembly.

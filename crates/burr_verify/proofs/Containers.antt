@@ -8,8 +8,10 @@ use Rattle.std.proofs.lemmas.List.{length-map}
 use Rattle.burr_code.specs.Places.{Placement, Apart, On}
 use Rattle.burr_code.specs.declared.limits.TheConstants.{SLOTS, MOST_OPERANDS, MOST_GUARDS, MOST_BUDGET, MOST_PROCEDURES}
 use Rattle.burr_forms.specs.Forms.{Form}
-use Rattle.burr_container.specs.Plans.{FormCell, Range, Frame, ExitFrame, PlanProcedure, Plan, live_slots, parameter_slots, of_live, over_symbols, place_over_symbols}
-use Rattle.burr_container.specs.Fitting.{is_form, are_forms, is_tray, is_set_of, are_slots, is_range, is_place, are_places, is_frame, is_frame_rest, is_exit_frame, is_exit, rise_from, are_labels, are_parameters, is_code, is_procedure, are_procedures, is_piece_count, is_budget, is_fitting}
+use Rattle.burr_container.specs.Plans.{FormCell, Range, Frame, ExitFrame, PlanProcedure, Plan, live_slots, exit_symbols, of_live, over_symbols, place_over_symbols}
+use Rattle.burr_container.specs.Fitting.{is_form, are_forms, are_ranges, most_exit_guards, is_tray, is_set_of, are_slots, is_range, is_place, are_places, is_frame, is_frame_rest, is_exit_frame, is_exit_rest, is_exit, rise_from, are_labels, is_procedure, are_procedures, is_fitting}
+use Rattle.burr_container.proofs.Common.Procedures.{procedure_fits}
+use Rattle.burr_container.proofs.Common.Containers.{plan_fits}
 use Rattle.burr_frames.specs.States.{live_ranges}
 use Rattle.burr_frames.specs.Over.{AllZero, ZeroFrom, IsOver, AllOver, AllPlacesOver, IsOverItsOwn}
 use Rattle.burr_frames.specs.FramedPlans.{FramedExit, FramedProcedure, framed, framed_exit, framed_label, framed_procedure, framed_plan}
@@ -24,9 +26,6 @@ first_of_four a b c d e = (and_parts a b (and_parts (a && b) c (and_parts (a && 
 
 second_of_four : (a b c d : Bool) → IsTrue (a && b && c && d) → IsTrue b
 second_of_four a b c d e = (and_parts a b (and_parts (a && b) c (and_parts (a && b && c) d e).0).0).1
-
-third_of_four : (a b c d : Bool) → IsTrue (a && b && c && d) → IsTrue c
-third_of_four a b c d e = (and_parts (a && b) c (and_parts (a && b && c) d e).0).1
 
 last_of_four : (a b c d : Bool) → IsTrue (a && b && c && d) → IsTrue d
 last_of_four a b c d e = (and_parts (a && b && c) d e).1
@@ -125,12 +124,16 @@ frame_places pieces f fits =
     let rest = and_parts forms (are_places pieces live f.places) (slots_and_rest pieces f fits).1 in
     length-map f.places (place_over_symbols live) ∙ as_many_places pieces live f.places rest.1
 
-exit_places : (pieces parameters : ℕ) (f : ExitFrame) → IsTrue (is_exit_frame pieces parameters f)
-    → length (framed_exit parameters f).places ≡ pieces
-exit_places pieces parameters f fits =
-    let live = parameter_slots parameters in
+exit_places : (version pieces parameters results : ℕ) (f : ExitFrame)
+    → IsTrue (is_exit_frame version pieces parameters results f)
+    → length (framed_exit parameters results f).places ≡ pieces
+exit_places version pieces parameters results f fits =
+    let live = exit_symbols parameters results in
+    let head = is_tray f.tray && is_set_of pieces f.grip in
+    let guards = are_ranges results f.results && are_forms (most_exit_guards version) live f.guards in
+    let rest = (and_parts head (is_exit_rest version pieces results live f) fits).1 in
     length-map f.places (place_over_symbols live)
-    ∙ as_many_places pieces live f.places (and_parts _ (are_places pieces live f.places) fits).1
+    ∙ as_many_places pieces live f.places (and_parts guards (are_places pieces live f.places) rest).1
 
 -- Labels
 
@@ -190,38 +193,35 @@ is_first zero = true
 is_first (suc n) = false
 
 -- what the format promises of a procedure
-record IsTold (pieces : ℕ) (main : Bool) (q : PlanProcedure) : Type 0 where
-  exit : IsTrue (is_exit main pieces q.parameters q.exit)
+record IsTold (version pieces : ℕ) (main : Bool) (q : PlanProcedure) : Type 0 where
+  exit : IsTrue (is_exit version main pieces q.parameters q.results q.exit)
   labels : AreLaid pieces (length q.code) q.labels
 
-told : (pieces : ℕ) (main : Bool) (q : PlanProcedure) → IsTrue (is_procedure pieces main q) → IsTold pieces main q
-told pieces main q fits =
-    let exit = is_exit main pieces q.parameters q.exit in
-    let labels = are_labels pieces (length q.code) q.labels in record {
-      exit = second_of_four (are_parameters main q.parameters) exit labels (is_code q.code) fits;
-      labels =
-          laid pieces (length q.code) q.labels
-          (third_of_four (are_parameters main q.parameters) exit labels (is_code q.code) fits);
-    }
+told : (version pieces : ℕ) (main : Bool) (q : PlanProcedure) → IsTrue (is_procedure version pieces main q)
+    → IsTold version pieces main q
+told version pieces main q is =
+    let fits = procedure_fits version pieces main q is in
+    record { exit = fits.exit; labels = laid pieces (length q.code) q.labels fits.labels }
 
-each_told : (pieces : ℕ) (qs : List PlanProcedure) (n : ℕ) (q : PlanProcedure) → IsTrue (are_procedures pieces qs)
-    → slice_get qs n ≡ Some q → IsTold pieces (is_first n) q
-each_told pieces [] n q fits e = absurd (none-some q e)
-each_told pieces (main ∷ others) zero q fits e =
-    let rest = list_all (is_procedure pieces false) others in
-    let both = (and_parts (is_procedure pieces true main && rest) _ fits).0 in
-    subst (λ (x : PlanProcedure). IsTold pieces true x) (same_Some main q e)
-    (told pieces true main (and_parts (is_procedure pieces true main) rest both).0)
-each_told pieces (main ∷ others) (suc n) q fits e =
-    let rest = list_all (is_procedure pieces false) others in
-    let both = (and_parts (is_procedure pieces true main && rest) _ fits).0 in
-    told pieces false q
-    (all_at (is_procedure pieces false) others n q (and_parts (is_procedure pieces true main) rest both).1 e)
+each_told : (version pieces : ℕ) (qs : List PlanProcedure) (n : ℕ) (q : PlanProcedure)
+    → IsTrue (are_procedures version pieces qs) → slice_get qs n ≡ Some q → IsTold version pieces (is_first n) q
+each_told version pieces [] n q fits e = absurd (none-some q e)
+each_told version pieces (main ∷ others) zero q fits e =
+    let rest = list_all (is_procedure version pieces false) others in
+    let both = (and_parts (is_procedure version pieces true main && rest) _ fits).0 in
+    subst (λ (x : PlanProcedure). IsTold version pieces true x) (same_Some main q e)
+    (told version pieces true main (and_parts (is_procedure version pieces true main) rest both).0)
+each_told version pieces (main ∷ others) (suc n) q fits e =
+    let rest = list_all (is_procedure version pieces false) others in
+    let both = (and_parts (is_procedure version pieces true main && rest) _ fits).0 in
+    told version pieces false q
+    (all_at (is_procedure version pieces false) others n q
+    (and_parts (is_procedure version pieces true main) rest both).1 e)
 
-how_many : (pieces : ℕ) (qs : List PlanProcedure) → IsTrue (are_procedures pieces qs)
+how_many : (version pieces : ℕ) (qs : List PlanProcedure) → IsTrue (are_procedures version pieces qs)
     → (1 ≤ length qs) × (length qs ≤ 16)
-how_many pieces [] fits = absurd (false≢true fits)
-how_many pieces (main ∷ others) fits =
+how_many version pieces [] fits = absurd (false≢true fits)
+how_many version pieces (main ∷ others) fits =
     let few = (and_parts _ (nat_le (length (main ∷ others)) MOST_PROCEDURES) fits).1 in
     (omega arith, leb-true (length (main ∷ others)) 16 few)
 
@@ -231,36 +231,36 @@ record IsFramed (pieces : ℕ) (f : Frame) : Type 0 where
   fits : IsTrue (is_frame pieces of)
   is : framed of ≡ f
 
-framed_at : (pieces : ℕ) (main : Bool) (q : PlanProcedure) (pc : ℕ) (f : Frame) → IsTold pieces main q
+framed_at : (version pieces : ℕ) (main : Bool) (q : PlanProcedure) (pc : ℕ) (f : Frame) → IsTold version pieces main q
     → IsLabelled (framed_procedure q) pc f → IsFramed pieces f
-framed_at pieces main q pc f t labelled =
+framed_at version pieces main q pc f t labelled =
     let label = made_from framed_label q.labels labelled.0 (pc, f) labelled.1 in record {
       of = label.0.1;
       fits = all_at (λ (l : ℕ × Frame). is_frame pieces l.1) q.labels labelled.0 label.0 t.labels.frames label.1;
       is = ap (λ (l : ℕ × Frame). l.1) label.2;
     }
 
-eight_at : (pieces : ℕ) (main : Bool) (q : PlanProcedure) (pc : ℕ) (f : Frame) → IsTold pieces main q
+eight_at : (version pieces : ℕ) (main : Bool) (q : PlanProcedure) (pc : ℕ) (f : Frame) → IsTold version pieces main q
     → IsLabelled (framed_procedure q) pc f → length f.slots ≡ 8
-eight_at pieces main q pc f t labelled =
-    let there = framed_at pieces main q pc f t labelled in
+eight_at version pieces main q pc f t labelled =
+    let there = framed_at version pieces main q pc f t labelled in
     subst (λ (g : Frame). length g.slots ≡ 8) there.is (eight_slots pieces there.of there.fits)
 
-own_at : (pieces : ℕ) (main : Bool) (q : PlanProcedure) (pc : ℕ) (f : Frame) → IsTold pieces main q
+own_at : (version pieces : ℕ) (main : Bool) (q : PlanProcedure) (pc : ℕ) (f : Frame) → IsTold version pieces main q
     → IsLabelled (framed_procedure q) pc f → IsOverItsOwn f
-own_at pieces main q pc f t labelled =
-    let there = framed_at pieces main q pc f t labelled in
+own_at version pieces main q pc f t labelled =
+    let there = framed_at version pieces main q pc f t labelled in
     subst (λ (g : Frame). IsOverItsOwn g) there.is (over_its_own there.of)
 
-first_at : (pieces : ℕ) (main : Bool) (q : PlanProcedure) (label : ℕ × Frame) → IsTold pieces main q
+first_at : (version pieces : ℕ) (main : Bool) (q : PlanProcedure) (label : ℕ × Frame) → IsTold version pieces main q
     → slice_get (framed_procedure q).labels 0 ≡ Some label → label.0 ≡ 0
-first_at pieces main q label t e =
+first_at version pieces main q label t e =
     let there = made_from framed_label q.labels 0 label e in
     sym (ap (λ (l : ℕ × Frame). l.0) there.2) ∙ t.labels.first there.0 there.1
 
-laid_out_at : (pieces : ℕ) (main : Bool) (q : PlanProcedure) → IsTold pieces main q
+laid_out_at : (version pieces : ℕ) (main : Bool) (q : PlanProcedure) → IsTold version pieces main q
     → IsLaidOut (framed_procedure q)
-laid_out_at pieces main q t = record {
+laid_out_at version pieces main q t = record {
   rising =
       λ j k a b l e f.
       (let one = made_from framed_label q.labels j a e in
@@ -275,56 +275,51 @@ laid_out_at pieces main q t = record {
       (between 0 (length q.code) q.labels labelled.0 one.0 t.labels.rise one.1).1);
 }
 
-no_exit : (pieces parameters : ℕ) (exit : Option ExitFrame) → IsTrue (is_exit true pieces parameters exit)
-    → option_map (framed_exit parameters) exit ≡ None
-no_exit pieces parameters None is = refl
-no_exit pieces parameters (Some f) is = absurd (false≢true is)
+no_exit : (version pieces parameters results : ℕ) (exit : Option ExitFrame)
+    → IsTrue (is_exit version true pieces parameters results exit)
+    → option_map (framed_exit parameters results) exit ≡ None
+no_exit version pieces parameters results None is = refl
+no_exit version pieces parameters results (Some f) is = absurd (false≢true is)
 
-an_exit : (pieces parameters : ℕ) (exit : Option ExitFrame) → IsTrue (is_exit false pieces parameters exit)
-    → (f : FramedExit) × (option_map (framed_exit parameters) exit ≡ Some f)
-an_exit pieces parameters None is = absurd (false≢true is)
-an_exit pieces parameters (Some f) is = (framed_exit parameters f, refl)
+an_exit : (version pieces parameters results : ℕ) (exit : Option ExitFrame)
+    → IsTrue (is_exit version false pieces parameters results exit)
+    → (f : FramedExit) × (option_map (framed_exit parameters results) exit ≡ Some f)
+an_exit version pieces parameters results None is = absurd (false≢true is)
+an_exit version pieces parameters results (Some f) is = (framed_exit parameters results f, refl)
 
-exit_places_at : (pieces : ℕ) (main : Bool) (parameters : ℕ) (exit : Option ExitFrame) (f : FramedExit)
-    → IsTrue (is_exit main pieces parameters exit) → option_map (framed_exit parameters) exit ≡ Some f
-    → length f.places ≡ pieces
-exit_places_at pieces main parameters None f is e = absurd (none-some f e)
-exit_places_at pieces true parameters (Some g) f is e = absurd (false≢true is)
-exit_places_at pieces false parameters (Some g) f is e =
-    subst (λ (x : FramedExit). length x.places ≡ pieces) (same_Some (framed_exit parameters g) f e)
-    (exit_places pieces parameters g is)
+exit_places_at : (version pieces : ℕ) (main : Bool) (parameters results : ℕ) (exit : Option ExitFrame) (f : FramedExit)
+    → IsTrue (is_exit version main pieces parameters results exit)
+    → option_map (framed_exit parameters results) exit ≡ Some f → length f.places ≡ pieces
+exit_places_at version pieces main parameters results None f is e = absurd (none-some f e)
+exit_places_at version pieces true parameters results (Some g) f is e = absurd (false≢true is)
+exit_places_at version pieces false parameters results (Some g) f is e =
+    subst (λ (x : FramedExit). length x.places ≡ pieces) (same_Some (framed_exit parameters results g) f e)
+    (exit_places version pieces parameters results g is)
 
-places_at : (pieces : ℕ) (main : Bool) (q : PlanProcedure) → IsTold pieces main q
+places_at : (version pieces : ℕ) (main : Bool) (q : PlanProcedure) → IsTold version pieces main q
     → HasPlaces pieces (framed_procedure q)
-places_at pieces main q t = record {
+places_at version pieces main q t = record {
   labels =
       λ pc f labelled.
-      (let there = framed_at pieces main q pc f t labelled in
+      (let there = framed_at version pieces main q pc f t labelled in
       subst (λ (g : Frame). length g.places ≡ pieces) there.is (frame_places pieces there.of there.fits));
-  exit = λ f e. exit_places_at pieces main q.parameters q.exit f t.exit e;
+  exit = λ f e. exit_places_at version pieces main q.parameters q.results q.exit f t.exit e;
 }
 
 -- Plans
 
--- the parts of the test of a plan
-record FitsIn (p : Plan) : Type 0 where
-  budget : p.budget ≤ 1000000
-  procedures : IsTrue (are_procedures p.pieces p.procedures)
-
-fits_in : (p : Plan) → IsTrue (is_fitting p) → FitsIn p
-fits_in p fits =
-    let budget = first_of_four (is_budget p.budget) (is_piece_count p.pieces) _ _ fits in record {
-      budget = leb-true p.budget 1000000 (and_parts (nat_le 1 p.budget) (nat_le p.budget MOST_BUDGET) budget).1;
-      procedures = last_of_four (is_budget p.budget) (is_piece_count p.pieces) _ _ fits;
-    }
+-- Its budget is at most 1,000,000.
+pub fitting_budget : (p : Plan) → IsTrue (is_fitting p) → p.budget ≤ 1000000
+fitting_budget p fits =
+    leb-true p.budget 1000000 (and_parts (nat_le 1 p.budget) (nat_le p.budget MOST_BUDGET) (plan_fits p fits).budget).1
 
 -- what is so of each procedure that is told is so of each procedure of the plan
 told_all : (p : Plan) (P : FramedProcedure → Type 0) → IsTrue (is_fitting p) → (n : ℕ) (here : FramedProcedure)
     → slice_get (framed_plan p).procedures n ≡ Some here
-    → ((q : PlanProcedure) → IsTold p.pieces (is_first n) q → P (framed_procedure q)) → P here
+    → ((q : PlanProcedure) → IsTold p.version p.pieces (is_first n) q → P (framed_procedure q)) → P here
 told_all p P fits n here e each =
     let there = made_from framed_procedure p.procedures n here e in
-    subst P there.2 (each there.0 (each_told p.pieces p.procedures n there.0 (fits_in p fits).procedures there.1))
+    subst P there.2 (each there.0 (each_told p.version p.pieces p.procedures n there.0 (plan_fits p fits).procedures there.1))
 
 small : (budget : ℕ) → budget ≤ 1000000 → budget < 2 ^ 64 - 1
 small budget le = omega (arith, le)
@@ -333,40 +328,36 @@ small budget le = omega (arith, le)
 pub fitting_is_from_container : (p : Plan) → IsTrue (is_fitting p) → IsFromContainer (framed_plan p)
 fitting_is_from_container p fits = record {
   laid_out =
-      λ n here e. told_all p IsLaidOut fits n here e (λ q t. laid_out_at p.pieces (is_first n) q t);
+      λ n here e. told_all p IsLaidOut fits n here e (λ q t. laid_out_at p.version p.pieces (is_first n) q t);
   first =
       λ n here label e at.
       told_all p (λ (x : FramedProcedure). slice_get x.labels 0 ≡ Some label → label.0 ≡ 0) fits n here e
-      (λ q t. first_at p.pieces (is_first n) q label t) at;
+      (λ q t. first_at p.version p.pieces (is_first n) q label t) at;
   eight =
       λ n here e pc f labelled.
       told_all p (λ (x : FramedProcedure). IsLabelled x pc f → length f.slots ≡ 8) fits n here e
-      (λ q t. eight_at p.pieces (is_first n) q pc f t) labelled;
+      (λ q t. eight_at p.version p.pieces (is_first n) q pc f t) labelled;
   own =
       λ n here e pc f labelled.
       told_all p (λ (x : FramedProcedure). IsLabelled x pc f → IsOverItsOwn f) fits n here e
-      (λ q t. own_at p.pieces (is_first n) q pc f t) labelled;
+      (λ q t. own_at p.version p.pieces (is_first n) q pc f t) labelled;
   main =
       λ here e.
       told_all p (λ (x : FramedProcedure). x.exit ≡ None) fits 0 here e
-      (λ q t. no_exit p.pieces q.parameters q.exit t.exit);
-  budget = small p.budget (fits_in p fits).budget;
+      (λ q t. no_exit p.version p.pieces q.parameters q.results q.exit t.exit);
+  budget = small p.budget (fitting_budget p fits);
 }
-
--- Its budget is at most 1,000,000.
-pub fitting_budget : (p : Plan) → IsTrue (is_fitting p) → p.budget ≤ 1000000
-fitting_budget p fits = (fits_in p fits).budget
 
 -- Its frames have a place for each piece.
 pub fitting_places : (p : Plan) → IsTrue (is_fitting p) → AllHavePlaces (framed_plan p)
 fitting_places p fits n here e =
     told_all p (λ (x : FramedProcedure). HasPlaces p.pieces x) fits n here e
-    (λ q t. places_at p.pieces (is_first n) q t)
+    (λ q t. places_at p.version p.pieces (is_first n) q t)
 
 -- It has 1 to 16 procedures, each with a label, and all but main with an exit frame.
 pub fitting_procedures : (p : Plan) → IsTrue (is_fitting p) → HasProcedures (framed_plan p)
 fitting_procedures p fits =
-    let many = how_many p.pieces p.procedures (fits_in p fits).procedures in
+    let many = how_many p.version p.pieces p.procedures (plan_fits p fits).procedures in
     let same = length-map p.procedures framed_procedure in record {
       some = subst (λ (m : ℕ). 1 ≤ m) (sym same) many.0;
       few = subst (λ (m : ℕ). m ≤ 16) (sym same) many.1;
@@ -377,5 +368,5 @@ fitting_procedures p fits =
       exits =
           λ n here e.
           told_all p (λ (x : FramedProcedure). (f : FramedExit) × (x.exit ≡ Some f)) fits (suc n) here e
-          (λ q t. an_exit p.pieces q.parameters q.exit t.exit);
+          (λ q t. an_exit p.version p.pieces q.parameters q.results q.exit t.exit);
     }

@@ -90,8 +90,6 @@ fn parameters_of(container: &Container<'_>, procedure: usize) -> u8
     ensures few { result ≤ MOST_PARAMETERS }
     ensures here { OfHere container.now procedure (λ plan here. result ≡ here.parameters) }
 {
-    let _header = container.header();
-    let _count = container.proc_count();
     container.params(procedure)
 }
 

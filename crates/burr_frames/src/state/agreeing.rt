@@ -57,7 +57,7 @@ impl<'a> Condition for Agreement<'a> {
 }
 
 /// The point with these numbers, if each lies in its range.
-fn point_in(ranges: &[(i32, i32)], numbers: &[i64]) -> Option<Point>
+pub(super) fn point_in(ranges: &[(i32, i32)], numbers: &[i64]) -> Option<Point>
     requires few { length ranges.now ≤ 8 }
     requires ranges { AreRanges ranges.now }
     requires places { length numbers.now ≡ length ranges.now }

@@ -50,7 +50,7 @@ fn copied_places(from: &ArrayVec<Lying, MOST_PIECES>) -> ArrayVec<Lying, MOST_PI
 }
 
 /// The same forms.
-fn copied_slots(from: &[Option<Form>; 8]) -> [Option<Form>; 8]
+pub(super) fn copied_slots(from: &[Option<Form>; 8]) -> [Option<Form>; 8]
     ensures { result ≡ from.now }
 {
     let mut to = [None; 8];

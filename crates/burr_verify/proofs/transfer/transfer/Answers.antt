@@ -78,7 +78,7 @@ pub returns-in-Store-clause-verdict : goal.returns-in-Store-clause-verdict
 returns-in-Store-clause-verdict g c p here kept at =
     let found = procedure_here p c.args.procedure here at in
     by_rule (homes_of c.args.looks.now.assembly) (framed_plan p) c.args.procedure here c.args.state.now c.args.instruction.now (instr.Store c.in-Store.slot) (fallen c.store.new.self c.store.result) (verdict_of c.store.new.self c.falling-in-Store.result)
-    c.in-Store.is (c.falling-in-Store.ensures c.store.new.self) (c.store.ensures.verdict here (parameters_here found.0 here c.params.result found.2 (c.params.ensures p found.0 kept found.1)))
+    c.in-Store.is (c.falling-in-Store.ensures c.store.new.self) (c.store.ensures.verdict here (parameters_here found.0 here c.params.result found.2 (c.params.ensures.plan p found.0 kept found.1)))
 
 pub returns-in-Halt-clause-counted : goal.returns-in-Halt-clause-counted
 returns-in-Halt-clause-counted g c = none_looked (homes_of c.args.looks.now.assembly) c.args.state.now c.args.instruction.now instr.Halt c.args.looks.now c.in-Halt.is refl

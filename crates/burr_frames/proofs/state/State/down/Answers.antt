@@ -19,7 +19,7 @@ pub returns-then-v-params-clause-verdict : goal.returns-then-v-params-clause-ver
 returns-then-v-params-clause-verdict c = λ p here is e.
     let found = c.in-Some.ensures p here is e in
     let q = procedure_here p c.args.procedure here e in
-    let parameters : here.parameters ≡ c.params.result = parameters_here q.0 here c.params.result q.2 (c.params.ensures p q.0 is q.1) in
+    let parameters : here.parameters ≡ c.params.result = parameters_here q.0 here c.params.result q.2 (c.params.ensures.plan p q.0 is q.1) in
     inr (
       (found.0, framed (frame_of c.in-Some.frame)),
       found.1,
@@ -30,7 +30,7 @@ pub returns-in_default-form_in-clause-verdict : goal.returns-in_default-form_in-
 returns-in_default-form_in-clause-verdict c = λ p here is e.
     let found = c.in-Some.ensures p here is e in
     let q = procedure_here p c.args.procedure here e in
-    let parameters : here.parameters ≡ c.params.result = parameters_here q.0 here c.params.result q.2 (c.params.ensures p q.0 is q.1) in
+    let parameters : here.parameters ≡ c.params.result = parameters_here q.0 here c.params.result q.2 (c.params.ensures.plan p q.0 is q.1) in
     inr (
       (found.0, framed (frame_of c.in-Some.frame)),
       found.1,
@@ -41,7 +41,7 @@ pub returns-in_default-raised_by-clause-verdict : goal.returns-in_default-raised
 returns-in_default-raised_by-clause-verdict c = λ p here is e.
     let found = c.in-Some.ensures p here is e in
     let q = procedure_here p c.args.procedure here e in
-    let parameters : here.parameters ≡ c.params.result = parameters_here q.0 here c.params.result q.2 (c.params.ensures p q.0 is q.1) in
+    let parameters : here.parameters ≡ c.params.result = parameters_here q.0 here c.params.result q.2 (c.params.ensures.plan p q.0 is q.1) in
     let to = framed (frame_of c.in-Some.frame) in
     let counts : IsCounting here c.args.self.now c.args.v c.args.label found.0 to c.in-Some-form_in.count =
     record { found = found.1; no_parameter = omega (arith, parameters, c.if-v-params.false); slot = c.in-Some-form_in.ensures.slot } in
@@ -53,7 +53,7 @@ pub returns-in_err-never_negative-clause-verdict : goal.returns-in_err-never_neg
 returns-in_err-never_negative-clause-verdict c = λ p here is e.
     let found = c.in-Some.ensures p here is e in
     let q = procedure_here p c.args.procedure here e in
-    let parameters : here.parameters ≡ c.params.result = parameters_here q.0 here c.params.result q.2 (c.params.ensures p q.0 is q.1) in
+    let parameters : here.parameters ≡ c.params.result = parameters_here q.0 here c.params.result q.2 (c.params.ensures.plan p q.0 is q.1) in
     let to = framed (frame_of c.in-Some.frame) in
     let counts : IsCounting here c.args.self.now c.args.v c.args.label found.0 to c.in-Some-form_in.count =
     record { found = found.1; no_parameter = omega (arith, parameters, c.if-v-params.false); slot = c.in-Some-form_in.ensures.slot } in
@@ -68,7 +68,7 @@ pub returns-then-guards_are_full-clause-verdict : goal.returns-then-guards_are_f
 returns-then-guards_are_full-clause-verdict c = λ p here is e.
     let found = c.in-Some.ensures p here is e in
     let q = procedure_here p c.args.procedure here e in
-    let parameters : here.parameters ≡ c.params.result = parameters_here q.0 here c.params.result q.2 (c.params.ensures p q.0 is q.1) in
+    let parameters : here.parameters ≡ c.params.result = parameters_here q.0 here c.params.result q.2 (c.params.ensures.plan p q.0 is q.1) in
     let to = framed (frame_of c.in-Some.frame) in
     let counts : IsCounting here c.args.self.now c.args.v c.args.label found.0 to c.in-Some-form_in.count =
     record { found = found.1; no_parameter = omega (arith, parameters, c.if-v-params.false); slot = c.in-Some-form_in.ensures.slot } in
@@ -89,7 +89,7 @@ returns-in_err-cost-clause-verdict c = λ p here is e.
     let count = c.in-Some-form_in.count in
     let found = c.in-Some.ensures p here is e in
     let q = procedure_here p c.args.procedure here e in
-    let parameters : here.parameters ≡ c.params.result = parameters_here q.0 here c.params.result q.2 (c.params.ensures p q.0 is q.1) in
+    let parameters : here.parameters ≡ c.params.result = parameters_here q.0 here c.params.result q.2 (c.params.ensures.plan p q.0 is q.1) in
     let to = framed (frame_of c.in-Some.frame) in
     let counts : IsCounting here s v c.args.label found.0 to count =
     record { found = found.1; no_parameter = omega (arith, parameters, c.if-v-params.false); slot = c.in-Some-form_in.ensures.slot } in
@@ -108,7 +108,7 @@ returns-in_err-arrives_or_breaks-clause-verdict c = λ p here is e.
     let cost = c.in_ok-cost.cost in
     let found = c.in-Some.ensures p here is e in
     let q = procedure_here p c.args.procedure here e in
-    let parameters : here.parameters ≡ c.params.result = parameters_here q.0 here c.params.result q.2 (c.params.ensures p q.0 is q.1) in
+    let parameters : here.parameters ≡ c.params.result = parameters_here q.0 here c.params.result q.2 (c.params.ensures.plan p q.0 is q.1) in
     let to = framed (frame_of c.in-Some.frame) in
     let counts : IsCounting here s v c.args.label found.0 to count =
     record { found = found.1; no_parameter = omega (arith, parameters, c.if-v-params.false); slot = c.in-Some-form_in.ensures.slot } in
@@ -129,7 +129,7 @@ returns-clause-verdict c = λ p here is e.
     let cost = c.in_ok-cost.cost in
     let found = c.in-Some.ensures p here is e in
     let q = procedure_here p c.args.procedure here e in
-    let parameters : here.parameters ≡ c.params.result = parameters_here q.0 here c.params.result q.2 (c.params.ensures p q.0 is q.1) in
+    let parameters : here.parameters ≡ c.params.result = parameters_here q.0 here c.params.result q.2 (c.params.ensures.plan p q.0 is q.1) in
     let to = framed (frame_of c.in-Some.frame) in
     let counts : IsCounting here s v c.args.label found.0 to count =
     record { found = found.1; no_parameter = omega (arith, parameters, c.if-v-params.false); slot = c.in-Some-form_in.ensures.slot } in

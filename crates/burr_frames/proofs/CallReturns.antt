@@ -1,0 +1,59 @@
+-- What a return comes to, by what was found on the way.
+use Rattle.std.proofs.Common.{◌≡◌, ℕ, List, length, Some, None, ap, sym, subst, inl, inr}
+use Rattle.std.specs.Prelude.{reverse}
+use Rattle.std.proofs.lemmas.List.{reverse-reverse}
+use Rattle.burr_code.specs.Stacks.{top_many}
+use Rattle.burr_forms.specs.Forms.{Form}
+use Rattle.burr_frames.specs.declared.rule.Rule.TheVariants as rules
+use Rattle.burr_frames.specs.States.{AbstractState}
+use Rattle.burr_frames.specs.FramedPlans.{FramedExit, FramedProcedure}
+use Rattle.burr_frames.specs.Verdicts.{Verdict, Breaks, paying}
+use Rattle.burr_frames.specs.Breaks.{plain_break}
+use Rattle.burr_frames.specs.ControlRules.{first_forms, ret_rule}
+use Rattle.burr_frames.specs.Exits.{meeting_exit, meeting_exit_with}
+
+-- the results in a definition, with the top first, and in the code, with the top last
+back : (s : AbstractState) (exit : FramedExit) (parameters results : List Form) (v : Verdict)
+    → meeting_exit_with s exit parameters results v → meeting_exit_with s exit parameters (reverse (reverse results)) v
+back s exit parameters results v h =
+    subst (λ (fs : List Form). meeting_exit_with s exit parameters fs v) (sym (reverse-reverse results)) h
+
+-- parameters and results are known, and the exit frame is met or not
+pub meeting_exit_on : (s : AbstractState) (exit : FramedExit) (count : ℕ) (parameters results below : List Form) (v : Verdict)
+    → first_forms count s.slots ≡ Some parameters
+    → top_many (length exit.results) s.operands ≡ Some (reverse results, below)
+    → meeting_exit_with s exit parameters results v → meeting_exit count s exit v
+meeting_exit_on s exit count parameters results below v known enough h =
+    inr (parameters, known, inr ((reverse results, below), enough, back s exit parameters results v h))
+
+-- there are fewer operands than results
+pub ret_few : (here : FramedProcedure) (s : AbstractState) (exit : FramedExit) (parameters : List Form) → here.exit ≡ Some exit
+    → first_forms here.parameters s.slots ≡ Some parameters → top_many here.results s.operands ≡ None
+    → ret_rule here s (Breaks (plain_break rules.V6))
+ret_few here s exit parameters there known few =
+    inr (exit, there, inr (parameters, known, inl (few, ap Breaks (λ i. plain_break rules.V6))))
+
+-- a parameter is not known
+pub ret_unknown : (here : FramedProcedure) (s : AbstractState) (exit : FramedExit) → here.exit ≡ Some exit
+    → first_forms here.parameters s.slots ≡ None → ret_rule here s (Breaks (plain_break rules.V22))
+ret_unknown here s exit there none = inr (exit, there, inl (none, ap Breaks (λ i. plain_break rules.V22)))
+
+-- all are there, and what follows where a step is paid for
+pub ret_on : (here : FramedProcedure) (s : AbstractState) (exit : FramedExit) (parameters results below : List Form) (v : Verdict)
+    → here.exit ≡ Some exit → first_forms here.parameters s.slots ≡ Some parameters
+    → top_many here.results s.operands ≡ Some (reverse results, below)
+    → paying s (λ paid. meeting_exit_with s exit parameters results) v → ret_rule here s v
+ret_on here s exit parameters results below v there known enough h =
+    inr (
+      exit,
+      there,
+      inr (
+        parameters,
+        known,
+        inr (
+          (reverse results, below),
+          enough,
+          subst (λ (fs : List Form). paying s (λ paid. meeting_exit_with s exit parameters fs) v) (sym (reverse-reverse results)) h,
+        ),
+      ),
+    )

@@ -1,0 +1,31 @@
+-- For crates above: exit frames that are read in place are the plan's.
+use Rattle.std.proofs.Common.{◌≡◌, ℕ, ◌∙◌, Option, Some, None, length, map, refl, sym, ap}
+use Rattle.std.specs.Prelude.{option_map}
+use Rattle.burr_container.specs.declared.exit_ref.ExitRef.{ExitRef}
+use Rattle.burr_container.specs.Plans.{ExitFrame, over_symbols, place_over_symbols}
+use Rattle.burr_container.specs.InPlace.{IsExit}
+use Rattle.burr_frames.specs.FramedPlans.{framed_exit}
+use Rattle.burr_frames.specs.Exits.{framed_ref}
+
+pub no_exit : (pieces parameters results : ℕ) (exit : Option ExitFrame) → IsExit pieces parameters results None exit
+    → option_map (framed_exit parameters results) exit ≡ None
+no_exit pieces parameters results None is = refl
+no_exit pieces parameters results (Some f) is = absurd is
+
+pub exit_there : (pieces parameters results : ℕ) (kept : ExitRef) (exit : Option ExitFrame)
+    → IsExit pieces parameters results (Some kept) exit
+    → option_map (framed_exit parameters results) exit ≡ Some (framed_ref kept)
+exit_there pieces parameters results kept None is = absurd is
+exit_there pieces parameters results kept (Some f) is = λ i. Some (record {
+  tray = (sym is.frame i).tray;
+  grip = (sym is.frame i).grip;
+  results = (sym is.frame i).results;
+  guards = map (over_symbols (sym is.live i)) (sym is.frame i).guards;
+  places = map (place_over_symbols (sym is.live i)) (sym is.frame i).places;
+})
+
+-- it has a range for each result
+pub ranges_there : (pieces parameters results : ℕ) (kept : ExitRef) (exit : Option ExitFrame)
+    → IsExit pieces parameters results (Some kept) exit → length (framed_ref kept).results ≡ results
+ranges_there pieces parameters results kept None is = absurd is
+ranges_there pieces parameters results kept (Some f) is = ap (λ (e : ExitFrame). length e.results) is.frame ∙ is.many

@@ -1,0 +1,29 @@
+-- One more is read; at the end all are.
+use Rattle.std.proofs.Common.{◌≡◌, ◌+◌, arith, sym, subst, ap, ◌∙◌, [], ◌∷◌, ◌++◌}
+use Rattle.std.proofs.lemmas.List.{length-map}
+use Rattle.burr_code.specs.Places.{Placement}
+use Rattle.burr_container.specs.Plans.{FormCell, place_over_symbols}
+use Rattle.burr_container.specs.Refs.{exit_frame_of, told}
+use Rattle.burr_frames.specs.Exits.{framed_ref}
+use Rattle.burr_frames.specs.SpaceRules.{AllSmallPlaces}
+use Rattle.burr_frames.proofs.Reading.{IsRead, read_on, all_read}
+use Rattle.burr_frames.proofs.PlacesRead.{small_push}
+use Rattle.burr_frames.proofs.state.exit.places.Goals as goal
+
+pub loop-p-preserved : goal.loop-p-preserved
+loop-p-preserved c =
+    let before = c.loop-p.places.items in
+    let element = told c.place.result in
+    let whole = (framed_ref c.args.exit.now).places in
+    let items : c.push.new.self.items ≡ before ++ element ∷ [] = c.push.ensures.items ∙ ap (λ (e : Placement FormCell). before ++ e ∷ []) c.at.ensures in
+    record {
+      read = subst (IsRead whole (c.loop-p.p + 1)) (sym items) (read_on whole c.loop-p.p before element c.place.ensures.place c.loop-p.invariant.read);
+      small = subst AllSmallPlaces (sym items) (small_push before c.place.result c.loop-p.invariant.small c.place.ensures.small);
+    }
+
+pub returns-clause-places : goal.returns-clause-places
+returns-clause-places c =
+    let exit = c.args.exit.now in
+    let places = (exit_frame_of exit).places in
+    all_read (framed_ref exit).places c.loop-p.p c.loop-p.places.items
+    (omega (arith, length-map places (place_over_symbols exit.places.live), c.piece_count-p-end.ensures.places, c.loop-p-test.false, c.loop-p.auto.p-end)) c.loop-p.invariant.read
