@@ -6,6 +6,10 @@ use Rattle.std.proofs.lemmas.List.{take-append-drop, take_at, drop_at, reverse-a
 use Rattle.burr_code.specs.Stacks.{top_many}
 use Rattle.burr_code.specs.Labels.{argument_slots}
 use Rattle.burr_bench.specs.Effects.{slots_with}
+use Rattle.std.specs.Prelude.{Option, Result, Ok, Err, MatchOption, MatchResult}
+use Rattle.std.specs.Result.{result_ok}
+use Rattle.arrayvec.specs.ArrayVec.{ArrayVec}
+use Rattle.arrayvec.specs.declared.errors.CapacityError.{CapacityError}
 
 -- all but the last k, turned round, are all but the first k of all turned round
 pub drop_reverse : {X : Type 0} (k : ℕ) (xs : List X) → k ≤ length xs → drop k (reverse xs) ≡ reverse (take (length xs - k) xs)
@@ -61,3 +65,20 @@ slots_of_arguments k xs some =
 -- from the n-th on, cut at the end
 pub cut_at_end : {X : Type 0} (n : ℕ) (xs : List X) → take (length xs - n) (drop n xs) ≡ drop n xs
 cut_at_end n xs = let many = length-drop n xs in take_all (length xs - n) (drop n xs) (omega (arith, many))
+
+-- the last of the operands, so many, as the topmost
+pub topmost_given : (count : ℕ) (items operands last : List ℤ) (result : Result (ArrayVec ℤ) (CapacityError (Unit {0})))
+    (given : Option (ArrayVec ℤ)) → count ≤ length items → length items ≤ 8 → reverse items ≡ operands
+    → last ≡ drop (length items - count) items → given ≡ result_ok result
+    → MatchResult result (λ v. (v.items ≡ last) × (length last ≤ 8)) (λ _. 8 < length last)
+    → MatchOption given (top_many count operands ≡ None)
+    (λ v. (top_many count operands ≡ Some (reverse v.items, drop count operands)) × (length v.items ≡ count))
+topmost_given count items operands last (Ok v) given some few same is ok h =
+    let taken : v.items ≡ drop (length items - count) items = h.0 ∙ is in
+    let topmost = top_many_of count items some ∙ ap (λ xs. Some (xs, drop count (reverse items))) (take_reverse count items some ∙ ap reverse (sym taken)) in
+    rw ok (
+      subst (λ (xs : List ℤ). top_many count xs ≡ Some (reverse v.items, drop count xs)) same topmost,
+      ap length taken ∙ length-drop (length items - count) items ∙ omega (arith, some),
+    )
+topmost_given count items operands last (Err e) given some few same is ok h =
+    let many = ap length is ∙ length-drop (length items - count) items in absurd (omega (arith, h, many, few))

@@ -1,5 +1,5 @@
 -- What a bench at work stands for, and what its instructions did.
-use Rattle.std.specs.Prelude.{◌≡◌, ◌<◌, ◌≤◌, ◌+◌, ℕ, ℤ, Bool, true, false, if◌then◌else◌, length, Option, Some, None, Result, Ok, Err}
+use Rattle.std.specs.Prelude.{◌≡◌, ◌≤◌, ◌+◌, ℕ, ℤ, Bool, true, false, if◌then◌else◌, length, Option, Some, None, Result, Ok, Err}
 use Rattle.burr_code.specs.Places.{AllLieIn}
 use Rattle.burr_code.specs.Instruction.{Instruction}
 use Rattle.burr_assembly.specs.Text.{Assembly, IsAssembly}
@@ -13,6 +13,7 @@ use Rattle.burr_bench.specs.declared.progress.Progress.TheVariants as progress
 use Rattle.burr_bench.specs.Bench.{running, start, BenchProcedure, BenchState, Program, Setup}
 use Rattle.burr_bench.specs.declared.effect.Effect.{Effect}
 use Rattle.burr_bench.specs.Effects.{next_of}
+use Rattle.burr_bench.specs.Programs.{FitsProgram}
 use Rattle.burr_bench.specs.Space.{NoOverlap}
 use Rattle.burr_bench.specs.StateViews.{StaysOnBench}
 use Rattle.burr_bench.specs.Ways.{GroupPasses}
@@ -41,8 +42,8 @@ pub record IsSound (b : Benched) : Type 0 where
   pub here : AllLieIn b.state.places b.state.tray b.state.grip
   -- the assembly is one
   pub whole : IsAssembly b.assembly
-  -- there is a procedure of the running one's number
-  pub runs : b.state.running.procedure < length b.program.procedures
+  -- it stands in a procedure that there is, and callers have room for results
+  pub fits : FitsProgram b.program.procedures b.state
   -- no two pieces of a tray overlap
   pub apart : NoOverlap (homes_of b.assembly) b.state.places
 

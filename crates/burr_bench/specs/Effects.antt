@@ -1,11 +1,12 @@
 -- What the code's instructions came to.
-use Rattle.std.specs.Prelude.{◌≡◌, ◌-◌, ◌++◌, ℕ, ℤ, pos, List, [], map, take, drop, length, replicate, Bool, true, false, Option, Some, None, MatchOption, Result, Ok, Err, slice_get}
+use Rattle.std.specs.Prelude.{◌≡◌, ◌⊎◌, ◌+◌, ◌-◌, ◌≤◌, ◌++◌, ℕ, ℤ, pos, List, [], ◌∷◌, map, take, drop, length, replicate, Bool, true, false, Option, Some, None, Result, MatchResult, Ok, Err, slice_get}
 use Rattle.burr_code.specs.Instruction.{Instruction, Step, Aside, Ask}
 use Rattle.burr_code.specs.Places.{AllLieIn}
 use Rattle.burr_code.specs.Stacks.{top_many}
 use Rattle.burr_code.specs.Labels.{argument_slots}
 use Rattle.burr_code.specs.declared.limits.TheConstants.{SLOTS}
 use Rattle.burr_bench.specs.declared.trap.Trap.{Trap}
+use Rattle.burr_bench.specs.declared.trap.Trap.TheVariants as traps
 use Rattle.burr_bench.specs.declared.motion.Motion.{Motion}
 use Rattle.burr_bench.specs.declared.effect.Effect.{Effect}
 use Rattle.burr_bench.specs.declared.effect.Effect.TheVariants as effects
@@ -13,7 +14,7 @@ use Rattle.burr_bench.specs.Bench.{Activation, activation, BenchState, BenchProc
 use Rattle.burr_bench.specs.Next.{Next, Goes, Asks, Traps, after, at_label}
 use Rattle.burr_bench.specs.Numbers.{HasRoom, pushed, with_operands}
 use Rattle.burr_bench.specs.Questions.{Fits}
-use Rattle.burr_bench.specs.Programs.{HasLabels}
+use Rattle.burr_bench.specs.Programs.{HasLabels, HasRoomFor, FitsProgram}
 
 -- what an instruction came to, and the state behind it
 abbrev pub next_of : Result Effect Trap → BenchState → Next
@@ -50,31 +51,66 @@ pub record PiecesStay (old new : BenchState) : Type 0 where
   pub places : new.places ≡ old.places
   pub here : AllLieIn new.places new.tray new.grip
 
--- the same, in the same procedure
+-- nothing was called and nothing returned
+pub record StaysWithin (old new : BenchState) : Type 0 where
+  pub procedure : new.running.procedure ≡ old.running.procedure
+  pub callers : new.callers ≡ old.callers
+
+-- no piece moved, the grip lies in the current tray, and nothing was called or returned
 pub record ChoosesPieces (old new : BenchState) : Type 0 where
   pub pieces : PiecesStay old new
-  pub procedure : new.running.procedure ≡ old.running.procedure
+  pub within : StaysWithin old new
 
--- no piece, tray or grip changed, in the same procedure
+-- no piece, tray or grip changed, and nothing was called or returned
 pub record StaysPut (old new : BenchState) : Type 0 where
   pub places : new.places ≡ old.places
   pub tray : new.tray ≡ old.tray
   pub grip : new.grip ≡ old.grip
-  pub procedure : new.running.procedure ≡ old.running.procedure
+  pub within : StaysWithin old new
+
+-- no piece moved, the grip lies in the current tray, and the state still fits what is run
+pub record StaysFitting (procedures : List BenchProcedure) (old new : BenchState) : Type 0 where
+  pub pieces : PiecesStay old new
+  pub fits : FitsProgram procedures new
 
 -- slots with these numbers in the first of them
 abbrev pub slots_with : List ℤ → List (Option ℤ)
 slots_with numbers = map Some numbers ++ replicate (SLOTS - length numbers) None
 
--- a procedure with so many parameters is called: an activation of it, and what is left of the caller
-abbrev pub CallsFor : Activation → ℕ → ℕ → Option Activation → Activation → Type 0
-CallsFor old procedure parameters called new =
-    MatchOption called ((top_many parameters old.operands ≡ None) × (new ≡ old))
-    (λ callee.
-    (top_many parameters old.operands
+-- a procedure with so many parameters and results is called: an activation of it, and what is left
+-- of the caller
+pub record IsCalledFor (old : Activation) (procedure parameters results : ℕ)
+    (begun left : Activation) : Type 0 where
+  pub enough : top_many parameters old.operands
+      ≡ Some (take parameters old.operands, drop parameters old.operands)
+  pub room : HasRoomFor results left
+  pub callee : begun ≡ activation procedure 0 (argument_slots (take parameters old.operands)) []
+  pub caller : left ≡ with_operands (drop parameters old.operands) old
+
+-- it can't be called, by its first trap
+abbrev pub CannotBeCalled : Activation → ℕ → ℕ → Trap → Type 0
+CannotBeCalled old parameters results trap =
+    ((top_many parameters old.operands ≡ None) × (trap ≡ traps.MissingOperand))
+    ⊎ ((top_many parameters old.operands
     ≡ Some (take parameters old.operands, drop parameters old.operands))
-    × (callee ≡ activation procedure 0 (argument_slots (take parameters old.operands)) [])
-    × (new ≡ with_operands (drop parameters old.operands) old))
+    × (¬ (length (drop parameters old.operands) + results ≤ 8)) × (trap ≡ traps.StackFull))
+
+-- which of both; nothing changes where it can't be called
+abbrev pub CallsFor : Activation → ℕ → ℕ → ℕ → Result Activation Trap → Activation → Type 0
+CallsFor old procedure parameters results called new =
+    MatchResult called (λ begun. IsCalledFor old procedure parameters results begun new)
+    (λ trap. CannotBeCalled old parameters results trap × (new ≡ old))
+
+-- where a caller waits, it has room for so many results
+abbrev pub CallerHasRoom : ℕ → List Activation → Type 0
+CallerHasRoom results [] = Unit {0}
+CallerHasRoom results (caller ∷ callers) = HasRoomFor results caller
+
+-- the nearest caller goes on, and the others wait
+pub record CallerGoesOn (old new : BenchState) : Type 0 where
+  pub caller : Activation
+  pub callers : old.callers ≡ caller ∷ new.callers
+  pub procedure : new.running.procedure ≡ caller.procedure
 
 -- a number that answers `ask`: it is taken where there is room and it fits, else nothing changes
 abbrev pub TakesNumber : BenchState → ℤ → ℤ → ℤ → Bool → BenchState → Type 0

@@ -1,10 +1,12 @@
-ghost use Rattle.std.specs.Prelude.{◌≡◌, ◌<◌, ◌≤◌, ◌↔◌, ℤ, List, None, Some, [], ◌∷◌, drop, length, replicate, reverse, get_or, IsTrue, MatchOption};
+ghost use Rattle.std.specs.Prelude.{◌≡◌, ◌<◌, ◌≤◌, ◌↔◌, ℤ, List, None, Some, [], ◌∷◌, ◌++◌, drop, length, replicate, reverse, get_or, IsTrue, MatchOption};
 ghost use Rattle.burr_code.specs.declared.limits.TheConstants.{SLOTS, MOST_OPERANDS};
-ghost use Rattle.burr_code.specs.Stacks.{top, top_two};
+ghost use Rattle.burr_code.specs.Stacks.{top, top_two, top_many};
 ghost use Rattle.burr_bench.specs.Bench.{activation};
 ghost use Rattle.burr_bench.specs.Effects.{CallsFor, slots_with};
+ghost use Rattle.burr_bench.specs.Programs.{HasRoomFor};
 ghost use Rattle.burr_bench.specs.Numbers.{HasRoom, pushed, with_operands, with_slot};
 
+use crate::trap::Trap;
 use arrayvec::ArrayVec;
 use burr_code::limits::{MOST_OPERANDS, SLOTS};
 use std::marker::Model;
@@ -125,21 +127,50 @@ impl Activation {
         self.pc
     }
 
-    /// A call of a procedure with so many parameters, whose arguments are taken off the operands: the
-    /// top becomes the last one's. None where there are fewer operands, and then nothing changes.
-    pub fn calls(&mut self, procedure: u8, parameters: u8) -> Option<Activation>
-        ensures calls { CallsFor self.old procedure parameters result self.new }
+    /// A call of a procedure with so many parameters and results, whose arguments are taken off the
+    /// operands: the top becomes the last one's. Where there are fewer operands it traps with
+    /// `MissingOperand`, where what is left has no room for the results with `StackFull`, and then
+    /// nothing changes.
+    pub fn calls(&mut self, procedure: u8, parameters: u8, results: u8) -> Result<Activation, Trap>
+        ensures calls { CallsFor self.old procedure parameters results result self.new }
         ensures few { length self.old.operands ≤ MOST_OPERANDS }
     {
-        let first = self.operands.len().checked_sub(usize::from(parameters))?;
+        let Some(first) = self.operands.len().checked_sub(usize::from(parameters)) else {
+            return Err(Trap::MissingOperand);
+        };
+        if MOST_OPERANDS < first + usize::from(results) {
+            return Err(Trap::StackFull);
+        }
         let slots = slots_of(&self.operands[first..]);
         self.operands.truncate(first);
-        Some(Activation {
+        Ok(Activation {
             procedure,
             pc: 0,
             slots,
             operands: ArrayVec::new(),
         })
+    }
+
+    /// The so many topmost operands, the top last; None where there are fewer.
+    pub fn top_many(&self, count: u8) -> Option<ArrayVec<i32, MOST_OPERANDS>>
+        ensures { MatchOption result (top_many count self.now.operands ≡ None)
+            (λ numbers. (top_many count self.now.operands
+            ≡ Some (reverse numbers.items, drop count self.now.operands))
+            × (length numbers.items ≡ count)) }
+    {
+        let first = self.operands.len().checked_sub(usize::from(count))?;
+        ArrayVec::try_from(&self.operands[first..]).ok()
+    }
+
+    /// Puts these numbers on top of the operands, the last one topmost.
+    pub fn push_all(&mut self, numbers: &[i32])
+        requires { HasRoomFor (length numbers.now) self.old }
+        ensures { self.new
+            ≡ with_operands (reverse numbers.now ++ self.old.operands) self.old }
+    {
+        if self.operands.try_extend_from_slice(numbers).is_err() {
+            unreachable!();
+        }
     }
 
     /// Goes on at another place of the code.

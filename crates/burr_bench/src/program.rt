@@ -13,11 +13,13 @@ use burr_code::Labels;
 use burr_code::limits::{MOST_BUDGET, MOST_LABELS, MOST_PROCEDURES};
 use std::marker::Model;
 
-/// A procedure: its parameters, the positions of its labels, and its code.
+/// A procedure: its parameters and results, the positions of its labels, and its code.
 #[derive(Debug, Drop)]
 pub struct Procedure<'a> {
     /// How many parameters it has, 0 to 4.
     parameters: u8,
+    /// How many results it has, 0 to 2.
+    results: u8,
     labels: ArrayVec<u16, MOST_LABELS>,
     code: &'a [u8],
 }
@@ -28,37 +30,43 @@ impl<'a> Model for Procedure<'a> {
 
     ghost Value = { BenchProcedure };
 
-    ghost view = { λ p. procedure_of p.parameters p.labels.items p.code.now };
+    ghost view = { λ p. procedure_of p.parameters p.results p.labels.items p.code.now };
 
-    ghost invariant = { λ p. IsRunnable (procedure_of p.parameters p.labels.items p.code.now) };
+    ghost invariant = { λ p. IsRunnable (procedure_of p.parameters p.results p.labels.items p.code.now) };
 }
 
 impl<'a> Procedure<'a> {
-    /// The procedure of bare code: no parameters, no labels, and at most 4,096 bytes.
+    /// The procedure of bare code: no parameters, no results, no labels, and at most 4,096 bytes.
     pub fn bare(code: &'a [u8]) -> Procedure<'a>
         requires { length code.now ≤ MOST_CODE }
         ensures { result ≡ bare_procedure code.entry.now }
     {
         Procedure {
             parameters: 0,
+            results: 0,
             labels: ArrayVec::new(),
             code,
         }
     }
 
-    /// How many parameters it has. It has no results.
+    /// How many parameters it has.
     pub fn parameters(&self) -> u8
-        ensures parameters { result ≡ self.now.parameters }
-        ensures no_results { self.now.results ≡ 0 }
+        ensures { result ≡ self.now.parameters }
     {
         self.parameters
     }
 
-    /// Its code, at most 4,096 bytes. It has no results.
+    /// How many results it has.
+    pub fn results(&self) -> u8
+        ensures { result ≡ self.now.results }
+    {
+        self.results
+    }
+
+    /// Its code, at most 4,096 bytes.
     pub fn code(&self) -> &'a [u8]
         ensures code { result.now ≡ self.now.code }
         ensures short { length result.now ≤ MOST_CODE }
-        ensures no_results { self.now.results ≡ 0 }
     {
         self.code
     }

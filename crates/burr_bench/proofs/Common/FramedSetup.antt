@@ -18,7 +18,7 @@ same_procedures : (procedures : List PlanProcedure)
     → map bench_part (map framed_procedure procedures) ≡ map bench_procedure procedures
 same_procedures [] = refl
 same_procedures (p ∷ procedures) =
-    ap (λ (positions : List ℕ). procedure_of p.parameters positions p.code ∷ map bench_part
+    ap (λ (positions : List ℕ). procedure_of p.parameters p.results positions p.code ∷ map bench_part
     (map framed_procedure procedures))
     (same_positions p.labels)
     ∙ ap (λ (rest : List BenchProcedure). bench_procedure p ∷ rest) (same_procedures procedures)

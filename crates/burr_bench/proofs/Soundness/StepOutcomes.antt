@@ -1,5 +1,5 @@
 -- What a step of the bench comes to, by the verdict of the instruction's rule.
-use Rattle.std.specs.Prelude.{◌≡◌, ◌⊎◌, ℕ, ◌+◌, ◌-◌, ◌^◌, ◌≤◌, ◌<◌, min, ℤ, pos, ◌-ℤ◌, ◌≤ℤ◌, List, length, Option, None, get_or}
+use Rattle.std.specs.Prelude.{◌≡◌, ◌⊎◌, ℕ, ◌+◌, ◌-◌, ◌^◌, ◌<◌, min, ℤ, pos, ◌-ℤ◌, ◌≤ℤ◌, List, length, Option, None, get_or}
 use Rattle.burr_voxels.specs.declared.cell.Cell.{Cell}
 use Rattle.burr_code.specs.Places.{AllApart}
 use Rattle.burr_code.specs.Instruction.{Instruction, spelled}

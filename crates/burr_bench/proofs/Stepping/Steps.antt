@@ -22,13 +22,15 @@ use Rattle.burr_bench.specs.Next.{Goes, Traps}
 use Rattle.burr_bench.specs.Space.{NoOverlapIn, NoOverlap, AllOnBench, IsFreeGroup, moved_places, motion_of}
 use Rattle.burr_bench.specs.Step.{Executes, IsAt}
 use Rattle.burr_bench.specs.Parts.{parts}
-use Rattle.burr_bench.specs.Effects.{PiecesStay, StaysPut, NeverMoves, KeepsUnlessGoes, motion_made}
+use Rattle.burr_bench.specs.Effects.{PiecesStay, StaysPut, StaysWithin, NeverMoves, KeepsUnlessGoes, motion_made}
 use Rattle.burr_bench.specs.declared.trap.Trap.{Trap}
 use Rattle.burr_bench.specs.declared.effect.Effect.{Effect}
 use Rattle.burr_bench.specs.declared.effect.Effect.TheVariants as effects
 use Rattle.std.specs.Prelude.{Result, Ok, Err, OnOk}
 use Rattle.burr_bench.specs.StateViews.{IsOrderly, IsCallChain, behind, moved_grip, at_start, standing, StaysOnBench}
 use Rattle.burr_bench.specs.BenchViews.{Benched, benched, setup_of, IsSound, GoesOn}
+use Rattle.burr_bench.specs.Programs.{FitsProgram}
+use Rattle.burr_bench.proofs.Stepping.Calls.{fits_within}
 use Rattle.burr_bench.proofs.Common.Reached.{disjoint_at_start, homes_are_disjoint}
 use Rattle.burr_bench.proofs.Common.Pieces.{no_overlap_moved, no_overlap_aside}
 use Rattle.burr_bench.proofs.Stepping.Near.{near_after_unit}
@@ -147,41 +149,42 @@ orderly_aside s t there orderly places grip within chain = record {
 }
 
 -- a bench at work of which no piece moved is sound
-pub sound_staying : (old new : Benched) → IsSound old → new.assembly ≡ old.assembly → PiecesStay old.state new.state → new.state.running.procedure < length new.program.procedures → IsSound new
-sound_staying old new sound assembly stays runs = record {
+pub sound_staying : (old new : Benched) → IsSound old → new.assembly ≡ old.assembly → PiecesStay old.state new.state → FitsProgram new.program.procedures new.state → IsSound new
+sound_staying old new sound assembly stays fits = record {
   as_many = ap length stays.places ∙ sound.as_many ∙ ap (λ a. length a.pieces) (sym assembly);
   few = let few = sound.few in let same = ap length stays.places in omega (arith, same, few);
   here = stays.here;
   whole = subst IsAssembly (sym assembly) sound.whole;
-  runs = runs;
+  fits = fits;
   apart = subst (λ (a : Assembly). NoOverlap (homes_of a) new.state.places) (sym assembly) (subst (λ (ps : List (Placement Cell)). NoOverlap (homes_of old.assembly) ps) (sym stays.places) sound.apart);
 }
 
--- the running procedure is there still
-runs_still : (old new : Benched) → IsSound old → new.program ≡ old.program → new.state.running.procedure ≡ old.state.running.procedure → new.state.running.procedure < length new.program.procedures
-runs_still old new sound program same = rw (program, same) sound.runs
+-- where nothing was called and nothing returned, the state still fits what is run
+fits_still : (old new : Benched) → IsSound old → new.program ≡ old.program → StaysWithin old.state new.state → FitsProgram new.program.procedures new.state
+fits_still old new sound program within =
+    subst (λ (p : Program). FitsProgram p.procedures new.state) (sym program) (fits_within old.program.procedures old.state new.state sound.fits within)
 
 -- a bench at work of which nothing but numbers changed is sound
 pub sound_in_place : (old new : Benched) → IsSound old → new.assembly ≡ old.assembly → new.program ≡ old.program → StaysPut old.state new.state → IsSound new
 sound_in_place old new sound assembly program stays =
-    sound_staying old new sound assembly (record { places = stays.places; here = rw (stays.places, stays.tray, stays.grip) sound.here }) (runs_still old new sound program stays.procedure)
+    sound_staying old new sound assembly (record { places = stays.places; here = rw (stays.places, stays.tray, stays.grip) sound.here }) (fits_still old new sound program stays.within)
 
 -- a bench at work whose mode changed is sound
 pub sound_still : (old new : Benched) (mode : Mode) → IsSound old → new.assembly ≡ old.assembly → new.program ≡ old.program → new.state ≡ record old.state { mode = mode } → IsSound new
 sound_still old new mode sound assembly program still =
     sound_staying old new sound assembly (record { places = ap (λ (s : BenchState). s.places) still; here = rw still sound.here })
-    (runs_still old new sound program (ap (λ (s : BenchState). s.running.procedure) still))
+    (fits_still old new sound program (record { procedure = ap (λ (s : BenchState). s.running.procedure) still; callers = ap (λ (s : BenchState). s.callers) still }))
 
 -- a bench at work behind a unit is sound
 pub sound_unit : (old new : Benched) (direction : Direction) → IsSound old → NoOverlapIn (homes_of old.assembly) (moved_places old.state.grip direction old.state.places) old.state.tray → new.assembly ≡ old.assembly → new.program ≡ old.program
-    → new.state.places ≡ moved_places old.state.grip direction old.state.places → new.state.tray ≡ old.state.tray → new.state.grip ≡ old.state.grip → new.state.running.procedure ≡ old.state.running.procedure → IsSound new
-sound_unit old new direction sound none assembly program places tray grip same_one =
+    → new.state.places ≡ moved_places old.state.grip direction old.state.places → new.state.tray ≡ old.state.tray → new.state.grip ≡ old.state.grip → StaysWithin old.state new.state → IsSound new
+sound_unit old new direction sound none assembly program places tray grip within =
     let same : length new.state.places ≡ length old.state.places = ap length places ∙ length-moved old.state.grip direction old.state.places in record {
       as_many = same ∙ sound.as_many ∙ ap (λ a. length a.pieces) (sym assembly);
       few = let few = sound.few in omega (arith, same, few);
       here = rw (places, tray, grip) (λ p bit. lies_after_shift (λ (o : Cell). plus o (along direction (pos 1))) old.state.grip p old.state.tray old.state.places (sound.here p bit));
       whole = subst IsAssembly (sym assembly) sound.whole;
-      runs = runs_still old new sound program same_one;
+      fits = fits_still old new sound program within;
       apart =
           subst (λ (a : Assembly). NoOverlap (homes_of a) new.state.places) (sym assembly)
           (subst (λ (ps : List (Placement Cell)). NoOverlap (homes_of old.assembly) ps) (sym places)
@@ -190,14 +193,14 @@ sound_unit old new direction sound none assembly program places tray grip same_o
 
 -- a bench at work behind an `aside` is sound
 pub sound_aside : (old new : Benched) (there : ℕ) → IsSound old → IsEmptyTray old.state.places there → new.assembly ≡ old.assembly → new.program ≡ old.program → new.state.places ≡ aside_places old.state.grip old.state.tray there old.state.places → new.state.grip ≡ 0
-    → new.state.running.procedure ≡ old.state.running.procedure → IsSound new
-sound_aside old new there sound empty assembly program places grip same_one =
+    → StaysWithin old.state new.state → IsSound new
+sound_aside old new there sound empty assembly program places grip within =
     let same : length new.state.places ≡ length old.state.places = ap length places ∙ length-aside_places old.state.grip old.state.tray there old.state.places in record {
       as_many = same ∙ sound.as_many ∙ ap (λ a. length a.pieces) (sym assembly);
       few = let few = sound.few in omega (arith, same, few);
       here = rw grip (all_lie_in_nothing new.state.places new.state.tray);
       whole = subst IsAssembly (sym assembly) sound.whole;
-      runs = runs_still old new sound program same_one;
+      fits = fits_still old new sound program within;
       apart =
           subst (λ (a : Assembly). NoOverlap (homes_of a) new.state.places) (sym assembly)
           (subst (λ (ps : List (Placement Cell)). NoOverlap (homes_of old.assembly) ps) (sym places)
@@ -223,6 +226,6 @@ sound_start a program count whole is some = record {
   few = let most = whole.pieces.1 in let as_many : length (replicate count (On 0 origin)) ≡ count = length-replicate count (On 0 origin) in omega (arith, most, as_many, is);
   here = all_lie_in_nothing (replicate count (On 0 origin)) 0;
   whole = whole;
-  runs = some;
+  fits = record { runs = some; room = tt };
   apart = rw (places_at_start a count is) (disjoint_at_start (homes_of a) (homes_are_disjoint a whole).0);
 }

@@ -18,6 +18,7 @@ impl<'a> Procedure<'a> {
     {
         Procedure {
             parameters: container.params(number),
+            results: container.results(number),
             labels: label_positions(container, number),
             code: container.code(number),
         }

@@ -8,7 +8,8 @@ ghost use Rattle.burr_code.specs.Instruction.{Down, Call, spelled};
 ghost use Rattle.burr_bench.specs.Bench.{BenchProcedure, running};
 ghost use Rattle.burr_bench.specs.Control.{halting, jumping, counting_down, calling, returning};
 ghost use Rattle.burr_bench.specs.Next.{at_label};
-ghost use Rattle.burr_bench.specs.Effects.{next_of, KeepsUnlessGoes, NeverMoves, StaysPut, PiecesStay};
+ghost use Rattle.burr_bench.specs.Programs.{FitsProgram};
+ghost use Rattle.burr_bench.specs.Effects.{next_of, KeepsUnlessGoes, NeverMoves, StaysPut, PiecesStay, CallerHasRoom, CallerGoesOn};
 
 use crate::effect::Effect;
 use crate::mode::Mode;
@@ -97,13 +98,13 @@ impl BenchState {
     pub fn call(&mut self, callee: u8, program: &Program<'_>, size: usize) -> Result<Effect, Trap>
         requires within { self.old.running.pc + size ≤ MOST_CODE }
         requires size { size ≡ length (spelled (Call callee)) }
+        requires fits { FitsProgram program.now.procedures self.old }
         ensures next { (homes : List (List Cell))
             → calling (running homes program.now) self.old callee (next_of result self.new) }
         ensures kept { KeepsUnlessGoes result self.old self.new }
         ensures no_motion { NeverMoves result }
         ensures stays { PiecesStay self.old self.new }
-        ensures runs { OnOk result (self.new.running.procedure ≡ callee) }
-        ensures exists { OnOk result (callee < length program.now.procedures) }
+        ensures fits { FitsProgram program.now.procedures self.new }
     {
         if callee <= self.running.procedure() {
             return Err(Trap::BadCall);
@@ -111,9 +112,9 @@ impl BenchState {
         let Some(procedure) = program.procedure(callee) else {
             return Err(Trap::BadCall);
         };
-        let Some(called) = self.running.calls(callee, procedure.parameters()) else {
-            return Err(Trap::MissingOperand);
-        };
+        let called = self
+            .running
+            .calls(callee, procedure.parameters(), procedure.results())?;
         self.running.go_to(self.running.pc() + size);
         let caller = replace(&mut self.running, called);
         self.callers.push(caller);
@@ -121,19 +122,27 @@ impl BenchState {
         Ok(Effect::Goes(None))
     }
 
-    /// `ret`: the activation ends, and its caller goes on.
-    pub fn ret(&mut self) -> Result<Effect, Trap>
-        ensures next { (here : BenchProcedure) → here.results ≡ 0
+    /// `ret` of a procedure with so many results: the activation ends, and its caller goes on with
+    /// its topmost operands, so many, on its own.
+    pub fn ret(&mut self, results: u8) -> Result<Effect, Trap>
+        requires room { CallerHasRoom results self.old.callers }
+        ensures next { (here : BenchProcedure) → here.results ≡ results
             → returning here self.old (next_of result self.new) }
         ensures kept { KeepsUnlessGoes result self.old self.new }
         ensures no_motion { NeverMoves result }
         ensures stays { PiecesStay self.old self.new }
-        ensures below { OnOk result
-            (self.new.running.procedure < self.old.running.procedure) }
+        ensures caller { OnOk result (CallerGoesOn self.old self.new) }
     {
-        let Some(caller) = self.callers.pop() else {
+        if self.callers.is_empty() {
+            return Err(Trap::Misplaced);
+        }
+        let Some(results) = self.running.top_many(results) else {
+            return Err(Trap::MissingOperand);
+        };
+        let Some(mut caller) = self.callers.pop() else {
             return Err(Trap::Misplaced);
         };
+        caller.push_all(results.as_slice());
         self.running = caller;
         self.steps = self.steps.saturating_add(1);
         Ok(Effect::Goes(None))

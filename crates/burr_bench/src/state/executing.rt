@@ -6,8 +6,9 @@ ghost use Rattle.burr_code.specs.declared.limits.TheConstants.{MOST_CODE};
 ghost use Rattle.burr_code.specs.Instruction.{IsInRange, spelled};
 ghost use Rattle.burr_code.specs.Meaning.{meaning};
 ghost use Rattle.burr_bench.specs.Bench.{running};
+ghost use Rattle.burr_bench.specs.Programs.{FitsProgram};
 ghost use Rattle.burr_bench.specs.Step.{Executes};
-ghost use Rattle.burr_bench.specs.Effects.{next_of, KeepsUnlessGoes, NeverMoves, PiecesStay, MovesNoPiece};
+ghost use Rattle.burr_bench.specs.Effects.{next_of, KeepsUnlessGoes, NeverMoves, StaysFitting, MovesNoPiece};
 
 use crate::effect::Effect;
 use crate::program::{Procedure, Program};
@@ -29,16 +30,14 @@ impl BenchState {
         requires in_range { IsInRange (meaning instruction.now) }
         requires procedure { slice_get program.now.procedures self.old.running.procedure
             ≡ Some procedure.now }
-        requires no_results { procedure.now.results ≡ 0 }
-        requires runs { self.old.running.procedure < length program.now.procedures }
+        requires fits { FitsProgram program.now.procedures self.old }
         requires within { self.old.running.pc + size ≤ MOST_CODE }
         requires size { size ≡ length (spelled (meaning instruction.now)) }
         ensures next { (homes : List (List Cell)) → Executes (running homes program.now)
             procedure.now self.old (meaning instruction.now) (next_of result self.new) }
         ensures kept { KeepsUnlessGoes result self.old self.new }
         ensures no_motion { NeverMoves result }
-        ensures stays { PiecesStay self.old self.new }
-        ensures runs { self.new.running.procedure < length program.now.procedures }
+        ensures stays { StaysFitting program.now.procedures self.old self.new }
     {
         let _ = &self.places;
         match instruction {
@@ -59,7 +58,7 @@ impl BenchState {
             Instr::Ask(low, high) => self.ask(*low, *high),
             Instr::Pick(labels) => self.pick(labels, procedure),
             Instr::Call(callee) => self.call(*callee, program, size),
-            Instr::Ret => self.ret(),
+            Instr::Ret => self.ret(procedure.results()),
             Instr::Step(_) | Instr::Aside(..) => unreachable!(),
         }
     }

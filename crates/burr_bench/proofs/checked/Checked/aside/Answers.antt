@@ -28,7 +28,7 @@ pub invariant_of-self : goal.invariant_of-self
 invariant_of-self g c =
     let old = benched (g.B.Blocking.subject c.self.inside.blocking.now) c.self.inside.program c.self.inside.state in
     sound_aside old _ c.args.tray c.self.invariant (yes_of c.if-not-is_empty.ensures) refl refl
-    (ap (λ (s : BenchState). s.places) c.go_aside.ensures) (ap (λ (s : BenchState). s.grip) c.go_aside.ensures) (ap (λ (s : BenchState). s.running.procedure) c.go_aside.ensures)
+    (ap (λ (s : BenchState). s.places) c.go_aside.ensures) (ap (λ (s : BenchState). s.grip) c.go_aside.ensures) (record { procedure = ap (λ (s : BenchState). s.running.procedure) c.go_aside.ensures; callers = ap (λ (s : BenchState). s.callers) c.go_aside.ensures })
 
 pub returns-clause-follows : goal.returns-clause-follows
 returns-clause-follows g c here runs =

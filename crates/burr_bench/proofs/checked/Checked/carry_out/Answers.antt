@@ -9,7 +9,7 @@ use Rattle.burr_bench.proofs.checked.Checked.carry_out.Goals as goal
 
 pub invariant_of-self : goal.invariant_of-self
 invariant_of-self g c =
-    sound_staying (benched (g.B.Blocking.subject c.self.inside.blocking.now) c.self.inside.program c.self.inside.state) _ c.self.invariant refl c.execute.ensures.stays c.execute.ensures.runs
+    sound_staying (benched (g.B.Blocking.subject c.self.inside.blocking.now) c.self.inside.program c.self.inside.state) _ c.self.invariant refl c.execute.ensures.stays.pieces c.execute.ensures.stays.fits
 
 pub returns-in_default-instruction : goal.returns-in_default-instruction
 returns-in_default-instruction g c =
@@ -24,5 +24,5 @@ returns-in_default-instruction g c =
       next = inl (here, i, at, c.execute.ensures.next (homes_of (g.B.Blocking.subject old.blocking.now)));
       kept = kept;
       same = record { assembly = refl; program = refl };
-      goes_on = goes_on_plain _ _ c.execute.result c.self.invariant c.execute.ensures.stays.places c.execute.ensures.no_motion;
+      goes_on = goes_on_plain _ _ c.execute.result c.self.invariant c.execute.ensures.stays.pieces.places c.execute.ensures.no_motion;
     })

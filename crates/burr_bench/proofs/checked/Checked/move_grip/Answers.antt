@@ -38,7 +38,7 @@ invariant_of-self g c =
     let passes = subst (λ (b : Benched). GripPasses b (Unit c.args.direction)) (sym c.self.view_is) (yes_of c.if-not-passes.ensures) in
     let none = no_overlap_of_passing (homes_of old.assembly) old.state.places old.state.tray old.state.grip c.args.direction (c.self.invariant.apart old.state.tray) passes in
     sound_unit old _ c.args.direction c.self.invariant none refl refl
-    (ap (λ (s : BenchState). s.places) c.move_grip.ensures) (ap (λ (s : BenchState). s.tray) c.move_grip.ensures) (ap (λ (s : BenchState). s.grip) c.move_grip.ensures) (ap (λ (s : BenchState). s.running.procedure) c.move_grip.ensures)
+    (ap (λ (s : BenchState). s.places) c.move_grip.ensures) (ap (λ (s : BenchState). s.tray) c.move_grip.ensures) (ap (λ (s : BenchState). s.grip) c.move_grip.ensures) (record { procedure = ap (λ (s : BenchState). s.running.procedure) c.move_grip.ensures; callers = ap (λ (s : BenchState). s.callers) c.move_grip.ensures })
 
 pub returns-clause-follows : goal.returns-clause-follows
 returns-clause-follows g c here runs =
