@@ -5,6 +5,7 @@ mod assembling;
 mod fault;
 mod listing;
 mod text;
+mod version;
 
 pub use assembling::assemble;
 pub use fault::AsmFault;

@@ -12,6 +12,7 @@ use crate::listing::code::add_code;
 use crate::listing::frames::add_exit;
 use crate::listing::names::add_procedure_name;
 use crate::listing::numbers::{add_word, end_line};
+use crate::version::Version;
 use burr_container::Container;
 use std::alloc::{AllocError, Global};
 
@@ -35,7 +36,8 @@ fn list_lines(
     places: bool,
 ) -> Result<Vec<u8>, AllocError> {
     let header = container.header();
-    let mut text = Vec::from_slice(alloc, b"plan ")?;
+    let mut text = Vec::from_slice(alloc, Version::numbered(header.version).word())?;
+    text.push(b' ')?;
     text.extend_from_slice(header.name)?;
     add_word(&mut text, header.pieces)?;
     add_word(&mut text, header.budget)?;
@@ -57,9 +59,24 @@ fn add_procedure(
     text.extend_from_slice(b"proc ")?;
     add_procedure_name(text, i)?;
     add_word(text, container.params(i))?;
+    add_result_count(text, container, i)?;
     end_line(text)?;
     if let Some(exit) = container.exit(i) {
         add_exit(text, &exit)?;
     }
     add_code(text, container, i, places)
+}
+
+/// Adds a blank and how many results procedure i has, in version 2 alone.
+fn add_result_count(
+    text: &mut Vec<u8>,
+    container: &Container<'_>,
+    i: usize,
+) -> Result<(), AllocError>
+    requires { i < length container.now.procedures }
+{
+    match Version::numbered(container.header().version) {
+        Version::One => Ok(()),
+        Version::Two => add_word(text, container.results(i)),
+    }
 }

@@ -1,5 +1,6 @@
 mod code;
 mod code_line;
+mod exit;
 mod form;
 mod frame;
 mod front;

@@ -9,6 +9,7 @@
 //! - `asm`: `right`, or the fault of a text
 //! - `listing`: the listing of what a text is assembled to
 //! - `places`: the same with places, behind the version and the size
+//! - `size`: the version and the size of what a text is assembled to
 //! - `container`: the fault of bytes, or what `places` tells of them
 //! - `plan`: whether the plan of two cubes is written as these bytes
 //!
@@ -34,7 +35,7 @@ pub fn answer(
         "code" => add_code(alloc, input, found),
         "labels" => add_labels(input, found),
         "assembly" | "cells" => add_assembly(alloc, kind, input, found),
-        "asm" | "listing" | "places" => add_assembled(alloc, kind, input, found),
+        "asm" | "listing" | "places" | "size" => add_assembled(alloc, kind, input, found),
         "container" => add_container(alloc, kind, input, found),
         "plan" => add_plan(alloc, input, found),
         _ => add_name(kind, input, found),
@@ -167,12 +168,18 @@ fn add_container(
     match kind {
         "asm" => found.push_str("right"),
         "listing" => add_bytes(&text, found),
+        "size" => add_size(&container, bytes, found),
         _ => {
-            let version = container.header().version;
-            write!(found, "version {version}, {} bytes\n", bytes.len())?;
+            add_size(&container, bytes, found)?;
+            found.push('\n')?;
             add_bytes(&text, found)
         }
     }
+}
+
+fn add_size(container: &Container<'_>, bytes: &[u8], found: &mut String) -> Result<(), AllocError> {
+    let version = container.header().version;
+    write!(found, "version {version}, {} bytes", bytes.len())
 }
 
 fn add_plan(alloc: Global, bytes: &[u8], found: &mut String) -> Result<(), AllocError> {

@@ -7,12 +7,15 @@ mod faults;
 mod limits;
 mod listing;
 mod procedures;
+mod results;
 
 use faults::*;
 use limits::*;
 use listing::*;
 pub use listing::{DUO_PLACES, RING_PLACES, SECOND_LABEL_PLACES};
 use procedures::PROCEDURES;
+use results::*;
+pub use results::{ANSWERED_LIFT, ANSWERED_LIFT_PLACES, DUO_2_PLACES};
 
 /// Two cubes side by side: the first is taken aside.
 const DUO: &str = "plan duo 2 3\n\
@@ -134,9 +137,27 @@ const TABLES: [[&str; 4]; 20] = [
     ["asm", LIFT, "@", "|right"],
 ];
 
+/// Of plans with results, and of the same plans in both versions.
+const OF_RESULTS: [[&str; 4]; 9] = [
+    ["asm", LIFT, "@", OF_VERSION_2],
+    ["asm", ANSWERED_LIFT, "@", RESULTS],
+    ["asm", EXIT, "@", BEHIND_EXIT],
+    ["places", ANSWERED_LIFT, ANSWERED_LIFT_PLACES, "|"],
+    ["places", DUO_2, DUO_2_PLACES, "|"],
+    ["listing", ALL_OF_EXITS, ALL_OF_EXITS, "|"],
+    ["size", RING, "@", SIZES_OF_RING],
+    ["size", CUP, "@", SIZES_OF_CUP],
+    ["size", LIFT, "@", SIZES_OF_LIFT],
+];
+
 #[test]
 fn judges_and_lists_plans(rt: HostRuntime) -> Result<(), Fail> {
     Ok(assert_tables(&rt, rt.alloc(), &TABLES)?)
+}
+
+#[test]
+fn judges_and_lists_plans_with_results(rt: HostRuntime) -> Result<(), Fail> {
+    Ok(assert_tables(&rt, rt.alloc(), &OF_RESULTS)?)
 }
 
 #[test]

@@ -1,17 +1,22 @@
 //! Containers: what is read of their bytes, the first fault of bytes that are none, and plans that
 //! are written.
-use crate::asm::{DUO_PLACES, RING_PLACES, SECOND_LABEL_PLACES};
+use crate::asm::{
+    ANSWERED_LIFT_PLACES, DUO_2_PLACES, DUO_PLACES, RING_PLACES, SECOND_LABEL_PLACES,
+};
 use crate::tables::assert_tables;
 use burr_container::{Frame, Place, Plan, PlanForm, Procedure};
 use std::alloc::{AllocError, Global};
 use std::test::Fail;
 
-const TABLES: [[&str; 4]; 7] = [
+const TABLES: [[&str; 4]; 10] = [
     ["container", DUO_FIELDS, DUO_PLACES, "|"],
     ["container", RING_FIELDS, RING_PLACES, "|"],
     ["container", DUO_FIELDS, SECOND_LABEL_PLACES, SECOND_LABEL],
+    ["container", DUO_FIELDS, DUO_2_PLACES, IN_VERSION_2],
+    ["container", ANSWERED_LIFT_FIELDS, ANSWERED_LIFT_PLACES, "|"],
     ["container", DUO_FIELDS, "@", OF_DUO],
     ["container", RING_FIELDS, "@", OF_RING],
+    ["container", ANSWERED_LIFT_FIELDS, "@", OF_ANSWERED_LIFT],
     ["container", "@", "@", FRONTS],
     ["plan", "@", "@", PLANS],
 ];
@@ -28,6 +33,11 @@ fn knows_a_plan_outside_the_format(rt: HostRuntime) -> Result<(), Fail> {
     assert!(rt; !plan.fits());
     plan.budget = 1_000_000;
     assert!(rt; plan.fits());
+    plan.version = 2;
+    assert!(rt; plan.fits());
+    plan.version = 3;
+    assert!(rt; !plan.fits());
+    plan.version = 2;
     plan.pieces = 3;
     assert!(rt; !plan.fits());
     Ok(())
@@ -49,11 +59,13 @@ pub fn two_cubes(alloc: Global) -> Result<Plan, AllocError> {
     };
     let main = Procedure {
         params: 0,
+        results: 0,
         exit: None,
         labels: Vec::from_array(alloc, [(0, frame)])?,
         code: Vec::from_slice(alloc, &[0x10, 0, 0, 0, 1, 0x12, 1, 1, 0])?,
     };
     Ok(Plan {
+        version: 1,
         name: Vec::from_slice(alloc, b"duo")?,
         pieces: 2,
         budget: 3,
@@ -147,11 +159,99 @@ const SECOND_LABEL: &str = "\
 00 00 00 00 00 00 00 00 00 00 00 00/00/00 00 00 00 00 00 00 00 00 00 00 00|
 ";
 
+/// A dot in a bowl, in version 2: the procedure of main calls another, which has a result. From
+/// line 24 on that one has its parameters and its results; of its exit frame the tray, the grip,
+/// the lowest and the highest of the result, the guards, and of each piece the tray and the offset;
+/// and its labels, each as above, the ranges of both slots on one line.
+pub const ANSWERED_LIFT_FIELDS: &str = "\
+42 50 4c 4e
+00 02
+00 00 00 12
+02
+03
+63 75 70
+02
+00
+00
+00 01
+00 00
+00
+00 00 00 00
+00
+00
+00
+00 00 00 12
+00
+<12 00 >
+00
+<12 00 >
+00 0c
+10 00 00 00 01 24 01 06 12 04 01 00
+00
+01
+00
+00 00 00 01
+00 00
+00 02
+00
+00
+00 00 00 00 00 00 00 00 00 00 00 00 00 00 00 00 00 01
+00
+<18 00 >
+00 03
+00 00
+00
+00 00 00 01
+00
+00
+00
+00 00 00 0d
+00
+<12 00 >
+00
+<12 00 >
+00 0b
+00
+00 00 00 01
+03
+00 00 00 02 00 00 00 02
+01
+00 00 00 00 00 01 ff ff
+00
+00 00 00 03 00 00 00 03
+00
+<16 00 >00 00 00 00 00 01 ff ff
+00
+<24 00 >
+00 12
+00
+00 00 00 01
+03
+00 00 00 02 00 00 00 01
+01
+ff ff ff ff 00 01 ff ff
+00
+00 00 00 05 00 00 00 03
+00
+<16 00 >ff ff ff ff 00 01 ff ff
+00
+<24 00 >
+00 17
+22 00 00 00 02 03 00 02 00 03 01 21 01 00 02 02 00 25 11 04 20 00 01
+";
+
+/// Fields of the two cubes that have version 2.
+const IN_VERSION_2: &str = "\
+2 00 02|8 00/00|
+";
+
 /// Fields of the two cubes, and the fault.
 const OF_DUO: &str = "\
 ; magic and version
 1 58 50 4c 4e|C2 { at: 0 }
-2 00 02|C3 { at: 4 }
+2 00 00|C3 { at: 4 }
+2 00 03|C3 { at: 4 }
+2 ff ff|C3 { at: 4 }
 ; numbers out of range
 3 00 00 00 00|C4 { at: 6 }
 3 00 0f 42 41|C4 { at: 6 }
@@ -187,6 +287,21 @@ const OF_RING: &str = "\
 ; ends of ranges
 25 80 00|C4 { at: 68 }
 26 ff ff|C4 { at: 70 }
+";
+
+/// The same of the procedure with a result.
+const OF_ANSWERED_LIFT: &str = "\
+; the version
+2 00 00|C3 { at: 4 }
+2 00 03|C3 { at: 4 }
+2 00 01|C4 { at: 17 }
+; counts of results, of main and of the other
+9 01|C4 { at: 17 }
+25 03|C4 { at: 75 }
+; the range of the result, and the count of guards
+28 80 00|C4 { at: 81 }
+29 ff ff|C4 { at: 83 }
+30 05|C4 { at: 85 }
 ";
 
 /// Bytes that end too early, or have a fault before.

@@ -1,8 +1,8 @@
 //! Texts and containers that are damaged at each of their places in turn.
 use crate::answers::answer;
-use crate::asm::{LIFT, RING as RING_PLAN};
+use crate::asm::{ANSWERED_LIFT, LIFT, RING as RING_PLAN};
 use crate::assembly::{CUP, DUO, RING};
-use crate::container::{DUO_FIELDS, RING_FIELDS};
+use crate::container::{ANSWERED_LIFT_FIELDS, DUO_FIELDS, RING_FIELDS};
 use crate::inputs::{input_of, text_of};
 use std::alloc::{AllocError, Global};
 use std::process::Abort;
@@ -39,17 +39,19 @@ const OF_NO_LINE: &[u8] = b" \t\r\0\x7f\x80\xa0\xff";
 /// Bytes that have a meaning in plans.
 const OF_PLANS: &[u8] = b"\n ;01-,v";
 
-const DAMAGES: [Damage; 10] = [
+const DAMAGES: [Damage; 12] = [
     ("assembly", DUO, REST, b"", Front([5, 6, 6])),
     ("assembly", RING, REST, b"", Front([9, 15, 16])),
     ("assembly", CUP, REST, b"", Front([5, 15, 16])),
     ("container", DUO_FIELDS, REST, b"", Bytes),
     ("container", RING_FIELDS, REST, b"", Bytes),
+    ("container", ANSWERED_LIFT_FIELDS, REST, b"", Bytes),
     ("assembly", DUO, 0, OF_NO_LINE, Byte("", "")),
     ("assembly", RING, 0, OF_NO_LINE, Byte("", "")),
     ("assembly", CUP, 0, OF_NO_LINE, Byte("", "")),
     ("asm", RING_PLAN, 1, OF_PLANS, Anywhere),
     ("asm", LIFT, 1, OF_PLANS, Anywhere),
+    ("asm", ANSWERED_LIFT, 1, OF_PLANS, Anywhere),
 ];
 
 /// No text but one stands for an assembly.

@@ -1,6 +1,6 @@
 //! What a want of memory gives.
 use crate::answers::answer;
-use crate::asm::LIFT;
+use crate::asm::{ANSWERED_LIFT, LIFT};
 use crate::assembly::DUO;
 use crate::container::DUO_FIELDS;
 use crate::inputs::input_of;
@@ -9,7 +9,7 @@ use std::process::Abort;
 use std::test::Fail;
 
 /// A kind of answers, what the input is made of, the input, and the answer with memory.
-const ASKED: [[&str; 4]; 6] = [
+const ASKED: [[&str; 4]; 7] = [
     ["code", "@", "22 00 00 00 02", "Ask(0, 2)"],
     ["assembly", DUO, "", "right"],
     [
@@ -20,6 +20,7 @@ const ASKED: [[&str; 4]; 6] = [
     ],
     ["asm", LIFT, "", "right"],
     ["asm", LIFT, "10 call lid", "P2 { line: 10 }"],
+    ["asm", ANSWERED_LIFT, "15 result 0 2/guard 0+1v0", "right"],
     ["plan", "@", DUO_FIELDS, "right"],
 ];
 

@@ -84,6 +84,9 @@ place2|apart|<tray> <form2> <form2> <form2>|<tray> <form2> <form2> <form2>
 form4|<long>|<long><coef>v0|<long><coef>v0<coef>v1<coef>v2<coef>v3|<long><coef>v3|\
 <long><coef>v1<coef>v2
 place4|apart|<tray> <form4> <form4> <form4>|<tray> <form4> <form4> <form4>
+form6|<form4>|<long><coef>v5|<long><coef>v0<coef>v1<coef>v2<coef>v3<coef>v4<coef>v5|\
+<long><coef>v3<coef>v4
+place6|apart|<tray> <form6> <form6> <form6>|<tray> <form6> <form6> <form6>
 form8|<long>|<long><coef>v0|<long><coef>v0<coef>v1<coef>v2<coef>v3<coef>v4<coef>v5<coef>v6<coef>\
 v7|<long><coef>v7|<long><coef>v1<coef>v2
 place8|apart|<tray> <form8> <form8> <form8>|<tray> <form8> <form8> <form8>
@@ -127,6 +130,12 @@ rest2|0/exit <tray> <set2>/at 0 <place0>/at 1 <place0>/<body2>|\
 4/exit <tray> <set2>/at 0 <place4>/at 1 <place4>/<body2>
 body2|label a/<frame2><code>|label a/<frame2><code>label b/<frame2><code>|\
 label a/<frame2><code>label b/<frame2><code>label c/<frame2><code>label d/<frame2><code>
+guards1||guard <form1>/|guard <form1>/guard <form1>/guard <form1>/guard <form1>/
+guards6||guard <form6>/|guard <form6>/guard <form6>/guard <form6>/guard <form6>/
+given2|0 0/exit <tray> <set2>/at 0 <place0>/at 1 <place0>/<body2>|\
+1 0/exit <tray> <set2>/<guards1>at 0 <place1>/at 1 <place1>/<body2>|\
+0 1/exit <tray> <set2>/result <range>/<guards1>at 0 <place1>/at 1 <place1>/<body2>|\
+4 2/exit <tray> <set2>/result <range>/result <range>/<guards6>at 0 <place6>/at 1 <place6>/<body2>
 set3|-|0|2|0,2|0,1,2
 frame3|frame <tray> <set3>/<slots0><more0>cost <form0>/at 0 <place0>/at 1 <place0>/\
 at 2 <place0>/|frame <tray> <set3>/<slots2><more2>cost <form2>/at 0 <place2>/at 1 <place2>/\
@@ -168,6 +177,9 @@ budget|1|1000000|250
 plan|plan <name> 2 <budget>/proc main 0/<body2>|\
 plan <name> 2 <budget>/proc main 0/<body2>proc q <rest2>|\
 plan <name> 2 <budget>/proc main 0/<body2>proc q <rest2>proc r <rest2>proc s <rest2>|\
+plan2 <name> 2 <budget>/proc main 0 0/<body2>proc q <given2>|\
+plan2 <name> 2 <budget>/proc main 0 0/<body2>proc q <given2>proc r <given2>proc s <given2>|\
+plan2 <name> 2 <budget>/proc main 0 0/<body2>proc q <given2>proc r <given2>|\
 plan <name> 3 <budget>/proc main 0/<body3>|\
 plan <name> 3 <budget>/proc main 0/<body3>proc q <rest3>proc r <rest3>|\
 plan <name> 4 <budget>/proc main 0/<body4>|\

@@ -5,14 +5,31 @@ use burr_container::{ExitRef, FrameRef};
 use burr_forms::Form;
 use std::alloc::AllocError;
 
-/// The parameters' slots.
-const PARAMETERS: [u8; 8] = [0, 1, 2, 3, 4, 5, 6, 7];
+/// The symbols of an exit frame: parameters, and then results.
+const EXIT_SYMBOLS: [u8; 8] = [0, 1, 2, 3, 4, 5, 6, 7];
 
 /// Adds the lines of an exit frame.
 pub fn add_exit(text: &mut Vec<u8>, exit: &ExitRef<'_>) -> Result<(), AllocError> {
     add_grip(text, b"exit", exit.tray(), exit.grip())?;
+    add_results(text, exit)?;
+    add_exit_guards(text, exit)?;
     for piece in 0..exit.piece_count() {
-        add_piece(text, &PARAMETERS, piece, exit.place(piece))?;
+        add_piece(text, &EXIT_SYMBOLS, piece, exit.place(piece))?;
+    }
+    Ok(())
+}
+
+fn add_results(text: &mut Vec<u8>, exit: &ExitRef<'_>) -> Result<(), AllocError> {
+    for n in 0..exit.result_count() {
+        text.extend_from_slice(b"result")?;
+        add_range(text, exit.result(n))?;
+    }
+    Ok(())
+}
+
+fn add_exit_guards(text: &mut Vec<u8>, exit: &ExitRef<'_>) -> Result<(), AllocError> {
+    for n in 0..exit.guard_count() {
+        add_form_line(text, b"guard ", &EXIT_SYMBOLS, &exit.guard(n))?;
     }
     Ok(())
 }
@@ -61,15 +78,20 @@ fn add_grip(text: &mut Vec<u8>, word: &[u8], tray: u8, set: u32) -> Result<(), A
 
 fn add_slots(text: &mut Vec<u8>, frame: &FrameRef<'_>) -> Result<(), AllocError> {
     for slot in 0..8u8 {
-        if let Some((low, high)) = frame.slot(slot) {
+        if let Some(range) = frame.slot(slot) {
             text.extend_from_slice(b"slot")?;
             add_word(text, slot)?;
-            add_word(text, low)?;
-            add_word(text, high)?;
-            end_line(text)?;
+            add_range(text, range)?;
         }
     }
     Ok(())
+}
+
+/// Adds a blank and the two ends of a range, and ends the line.
+fn add_range(text: &mut Vec<u8>, (low, high): (i16, i16)) -> Result<(), AllocError> {
+    add_word(text, low)?;
+    add_word(text, high)?;
+    end_line(text)
 }
 
 fn add_guards(

@@ -8,7 +8,7 @@ use crate::text::numbers::{range, slot, tray};
 use crate::text::places::add_place;
 use crate::text::set::piece_set;
 use burr_code::limits::{MOST_GUARDS, MOST_OPERANDS};
-use burr_container::{ExitFrame, Frame, PlanForm};
+use burr_container::{Frame, PlanForm};
 use std::alloc::Global;
 
 /// The current tray and the grip, with which frames begin.
@@ -79,22 +79,14 @@ impl Conditions {
         if !self.stack.is_empty() {
             return Err(AsmFault::P1 { line });
         }
-        let guard = form_over(&self.slots, form, line)?;
-        if self.guards.len() >= MOST_GUARDS {
-            return Err(AsmFault::P4 { line });
-        }
-        self.guards.push(guard)?;
-        Ok(())
+        let live = live_slots(&self.slots);
+        add_form(&mut self.guards, MOST_GUARDS, &live, form, line)
     }
 
     /// A line `stack`.
     fn add_operand(&mut self, form: FormWords<'_>, line: usize) -> Result<(), AsmFault> {
-        let operand = form_over(&self.slots, form, line)?;
-        if self.stack.len() >= MOST_OPERANDS {
-            return Err(AsmFault::P4 { line });
-        }
-        self.stack.push(operand)?;
-        Ok(())
+        let live = live_slots(&self.slots);
+        add_form(&mut self.stack, MOST_OPERANDS, &live, form, line)
     }
 
     /// A line `cost`: the frame, of which no piece has its place yet.
@@ -104,7 +96,7 @@ impl Conditions {
         form: FormWords<'_>,
         line: usize,
     ) -> Result<Frame, AsmFault> {
-        let cost = form_over(&self.slots, form, line)?;
+        let cost = form_over(&live_slots(&self.slots), form, line)?;
         Ok(Frame {
             tray: self.grip.tray,
             grip: self.grip.set,
@@ -122,7 +114,7 @@ fn slot_above(slots: &[Option<(i16, i16)>; 8], words: SlotWords<'_>) -> Option<(
     ensures { IfSome result (λ found. found.0 < SLOTS) }
 {
     let slot = slot(words.slot)?;
-    let range = range(words.low, words.high)?;
+    let range = range(words.range.low, words.range.high)?;
     let is_above = slots
         .iter()
         .skip(usize::from(slot))
@@ -130,13 +122,25 @@ fn slot_above(slots: &[Option<(i16, i16)>; 8], words: SlotWords<'_>) -> Option<(
     is_above.then_some((slot, range))
 }
 
-/// The form of these words over the live slots.
-fn form_over(
-    slots: &[Option<(i16, i16)>; 8],
+/// Adds the form of a line to others, of which there may be so many, over these live slots.
+pub fn add_form(
+    forms: &mut Vec<PlanForm>,
+    most: usize,
+    live: &[bool; 8],
     words: FormWords<'_>,
     line: usize,
-) -> Result<PlanForm, AsmFault> {
-    match words.value(&live_slots(slots)) {
+) -> Result<(), AsmFault> {
+    let form = form_over(live, words, line)?;
+    if forms.len() >= most {
+        return Err(AsmFault::P4 { line });
+    }
+    forms.push(form)?;
+    Ok(())
+}
+
+/// The form of these words over these live slots.
+fn form_over(live: &[bool; 8], words: FormWords<'_>, line: usize) -> Result<PlanForm, AsmFault> {
+    match words.value(live) {
         Some(form) => Ok(form),
         None => Err(AsmFault::P3 { line }),
     }
@@ -151,28 +155,8 @@ fn live_slots(slots: &[Option<(i16, i16)>; 8]) -> [bool; 8] {
     live
 }
 
-/// The slots that are parameters, where there are so many.
-fn parameter_slots(parameters: u8) -> [bool; 8] {
-    let mut live = [false; 8];
-    for slot in live.iter_mut().take(usize::from(parameters)) {
-        *slot = true;
-    }
-    live
-}
-
 /// A line `at` of the pieces of a frame.
 pub fn add_piece(frame: &mut Frame, words: PieceWords<'_>, line: usize) -> Result<(), AsmFault> {
     let live = live_slots(&frame.slots);
     add_place(&mut frame.places, &live, words, line)
-}
-
-/// A line `at` of the pieces of the exit frame of a procedure with so many parameters.
-pub fn add_exit_piece(
-    exit: &mut ExitFrame,
-    parameters: u8,
-    words: PieceWords<'_>,
-    line: usize,
-) -> Result<(), AsmFault> {
-    let live = parameter_slots(parameters);
-    add_place(&mut exit.places, &live, words, line)
 }

@@ -68,7 +68,7 @@ impl<'a> Front<'a> {
                 _ => Err(AsmFault::P1 { line }),
             },
             Front::AwaitsMain(outline) => match form {
-                LineForm::Procedure(words) => {
+                LineForm::Procedure(words) if words.are_of(outline.version()) => {
                     begin(alloc, outline, words, Stage::AwaitsLabel, line)
                 }
                 _ => Err(AsmFault::P1 { line }),
@@ -113,7 +113,7 @@ fn in_procedure<'a>(
     line: usize,
 ) -> Result<Front<'a>, AsmFault> {
     match (stage, form) {
-        (Stage::InCode, LineForm::Procedure(words)) => {
+        (Stage::InCode, LineForm::Procedure(words)) if words.are_of(outline.version()) => {
             begin(alloc, outline.end(routine)?, words, Stage::AwaitsExit, line)
         }
         (stage, form) => {

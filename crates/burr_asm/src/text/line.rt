@@ -2,18 +2,21 @@ use crate::text::code_line::CodeLine;
 use crate::text::form::FormWords;
 use crate::text::set::is_set;
 use crate::text::words::{cut_name, cut_number, name, number};
+use crate::version::Version;
 use burr_text::cut_at;
 
 /// A line of a plan text by its form alone: its numbers, sets and forms are not judged yet, its
 /// names are not looked for, and whether it may stand where it stands isn't judged either.
 #[derive(Clone, Copy)]
 pub enum LineForm<'a> {
-    /// `plan NAME PIECES BUDGET`
+    /// `plan NAME PIECES BUDGET` or `plan2 NAME PIECES BUDGET`
     Plan(PlanWords<'a>),
-    /// `proc NAME PARAMETERS`
+    /// `proc NAME PARAMETERS` or `proc NAME PARAMETERS RESULTS`
     Procedure(ProcedureWords<'a>),
     /// `exit TRAY SET`
     Exit(GripWords<'a>),
+    /// `result LOW HIGH`
+    Result(RangeWords<'a>),
     /// `label NAME`
     Label(&'a [u8]),
     /// `frame TRAY SET`
@@ -32,9 +35,10 @@ pub enum LineForm<'a> {
     Code(CodeLine<'a>),
 }
 
-/// The words of the plan's line.
+/// The words of the plan's line, the first of which tells its version.
 #[derive(Clone, Copy)]
 pub struct PlanWords<'a> {
+    pub version: Version,
     pub name: &'a [u8],
     pub pieces: &'a [u8],
     pub budget: &'a [u8],
@@ -45,6 +49,8 @@ pub struct PlanWords<'a> {
 pub struct ProcedureWords<'a> {
     pub name: &'a [u8],
     pub parameters: &'a [u8],
+    /// None where the line ends before them.
+    pub results: Option<&'a [u8]>,
 }
 
 /// The words with which a frame begins.
@@ -58,6 +64,12 @@ pub struct GripWords<'a> {
 #[derive(Clone, Copy)]
 pub struct SlotWords<'a> {
     pub slot: &'a [u8],
+    pub range: RangeWords<'a>,
+}
+
+/// The words of a range.
+#[derive(Clone, Copy)]
+pub struct RangeWords<'a> {
     pub low: &'a [u8],
     pub high: &'a [u8],
 }
@@ -87,8 +99,10 @@ impl LineForm<'_> {
 
     /// The line that begins with this word, and what stands behind the blank.
     fn with_words<'a>(word: &[u8], words: &'a [u8]) -> Option<LineForm<'a>> {
+        if let Some(version) = Version::begun_by(word) {
+            return Some(LineForm::Plan(PlanWords::parse(version, words)?));
+        }
         match word {
-            b"plan" => Some(LineForm::Plan(PlanWords::parse(words)?)),
             b"proc" => Some(LineForm::Procedure(ProcedureWords::parse(words)?)),
             b"exit" => Some(LineForm::Exit(GripWords::parse(words)?)),
             b"label" => Some(LineForm::Label(name(words)?)),
@@ -101,6 +115,7 @@ impl LineForm<'_> {
     fn of_frame<'a>(word: &[u8], words: &'a [u8]) -> Option<LineForm<'a>> {
         match word {
             b"slot" => Some(LineForm::Slot(SlotWords::parse(words)?)),
+            b"result" => Some(LineForm::Result(RangeWords::parse(words)?)),
             b"at" => Some(LineForm::At(PieceWords::parse(words)?)),
             _ => LineForm::of_form(word, words),
         }
@@ -124,11 +139,12 @@ impl LineForm<'_> {
 
 impl PlanWords<'_> {
     /// A name and two numbers.
-    fn parse(bytes: &[u8]) -> Option<PlanWords<'_>> {
+    fn parse(version: Version, bytes: &[u8]) -> Option<PlanWords<'_>> {
         let (name, rest) = cut_name(bytes)?;
         let (pieces, rest) = cut_number(rest)?;
         let budget = number(rest)?;
         Some(PlanWords {
+            version,
             name,
             pieces,
             budget,
@@ -137,11 +153,26 @@ impl PlanWords<'_> {
 }
 
 impl ProcedureWords<'_> {
-    /// A name and a number.
+    /// A name and one number or two.
     fn parse(bytes: &[u8]) -> Option<ProcedureWords<'_>> {
         let (name, rest) = cut_name(bytes)?;
-        let parameters = number(rest)?;
-        Some(ProcedureWords { name, parameters })
+        let (parameters, results) = match cut_number(rest) {
+            Some((parameters, results)) => (parameters, Some(number(results)?)),
+            None => (number(rest)?, None),
+        };
+        Some(ProcedureWords {
+            name,
+            parameters,
+            results,
+        })
+    }
+
+    /// Whether the line of a procedure has these words in a plan of this version.
+    pub fn are_of(&self, version: Version) -> bool {
+        match version {
+            Version::One => self.results.is_none(),
+            Version::Two => self.results.is_some(),
+        }
     }
 }
 
@@ -154,12 +185,20 @@ impl GripWords<'_> {
 }
 
 impl SlotWords<'_> {
-    /// Three numbers.
+    /// A number and a range.
     fn parse(bytes: &[u8]) -> Option<SlotWords<'_>> {
-        let (slot, rest) = cut_number(bytes)?;
-        let (low, rest) = cut_number(rest)?;
-        let high = number(rest)?;
-        Some(SlotWords { slot, low, high })
+        let (slot, range) = cut_number(bytes)?;
+        let range = RangeWords::parse(range)?;
+        Some(SlotWords { slot, range })
+    }
+}
+
+impl RangeWords<'_> {
+    /// Two numbers.
+    fn parse(bytes: &[u8]) -> Option<RangeWords<'_>> {
+        let (low, high) = cut_number(bytes)?;
+        let high = number(high)?;
+        Some(RangeWords { low, high })
     }
 }
 

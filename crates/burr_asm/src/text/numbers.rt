@@ -11,6 +11,9 @@ const FEWEST_PIECES: u8 = 2;
 
 const MOST_PIECES: u8 = 32;
 
+/// The most results of a procedure.
+const MOST_RESULTS: u8 = 2;
+
 /// A number of 0 to 255.
 pub fn byte(number: &[u8]) -> Option<u8> {
     str::from_utf8(number).ok()?.parse().ok()
@@ -33,7 +36,21 @@ pub fn budget(number: &[u8]) -> Option<u32> {
 
 /// How many parameters a procedure has: none for main, else 0 to 4.
 pub fn parameter_count(number: &[u8], main: bool) -> Option<u8> {
-    let most = if main { 0 } else { MOST_PARAMETERS };
+    count_of(number, main, MOST_PARAMETERS)
+}
+
+/// How many results a procedure has: none for main, else 0 to 2; none too where nothing is said of
+/// them.
+pub fn result_count(number: Option<&[u8]>, main: bool) -> Option<u8> {
+    match number {
+        Some(number) => count_of(number, main, MOST_RESULTS),
+        None => Some(0),
+    }
+}
+
+/// A number of 0 to so many, for main 0.
+fn count_of(number: &[u8], main: bool, most: u8) -> Option<u8> {
+    let most = if main { 0 } else { most };
     let count = byte(number)?;
     (count <= most).then_some(count)
 }

@@ -1,10 +1,12 @@
 ghost use Rattle.std.specs.Prelude.{◌≤◌};
 
 use crate::fault::AsmFault;
+use crate::text::exit::Signature;
 use crate::text::line::{PlanWords, ProcedureWords};
 use crate::text::names::Names;
-use crate::text::numbers::{budget, parameter_count, piece_count};
+use crate::text::numbers::{budget, parameter_count, piece_count, result_count};
 use crate::text::procedure::Routine;
+use crate::version::Version;
 use burr_code::limits::MOST_PROCEDURES;
 use burr_container::{Plan, Procedure};
 use std::alloc::Global;
@@ -13,6 +15,7 @@ use std::alloc::Global;
 /// have begun, and those that have ended.
 #[derive(Drop)]
 pub struct Outline<'a> {
+    version: Version,
     name: &'a [u8],
     pieces: u8,
     budget: u32,
@@ -26,6 +29,7 @@ impl<'a> Outline<'a> {
     pub fn new(alloc: Global, words: PlanWords<'a>, line: usize) -> Result<Outline<'a>, AsmFault> {
         match (piece_count(words.pieces), budget(words.budget)) {
             (Some(pieces), Some(budget)) => Ok(Outline {
+                version: words.version,
                 name: words.name,
                 pieces,
                 budget,
@@ -36,6 +40,11 @@ impl<'a> Outline<'a> {
         }
     }
 
+    /// The version of the plan.
+    pub fn version(&self) -> Version {
+        self.version
+    }
+
     /// How many pieces the plan is for: 2 to 32.
     pub fn pieces(&self) -> u8
         ensures { result ≤ 32 }
@@ -43,7 +52,7 @@ impl<'a> Outline<'a> {
         self.pieces
     }
 
-    /// A line `proc` behind procedures that have all ended.
+    /// A line `proc`, of the plan's version, behind procedures that have all ended.
     pub fn begin(
         &mut self,
         alloc: Global,
@@ -53,14 +62,24 @@ impl<'a> Outline<'a> {
         if self.names.number(words.name).is_some() {
             return Err(AsmFault::P2 { line });
         }
-        let Some(parameters) = parameter_count(words.parameters, self.ended.is_empty()) else {
+        let Some(signature) = self.signature(words) else {
             return Err(AsmFault::P3 { line });
         };
         if self.names.names.len() >= MOST_PROCEDURES {
             return Err(AsmFault::P4 { line });
         }
         self.names.add(words.name)?;
-        Ok(Routine::new(alloc, parameters))
+        Ok(Routine::new(alloc, signature))
+    }
+
+    /// What the next procedure takes and gives; None where a count is out of its range.
+    fn signature(&self, words: ProcedureWords<'_>) -> Option<Signature> {
+        let main = self.ended.is_empty();
+        Some(Signature {
+            version: self.version,
+            parameters: parameter_count(words.parameters, main)?,
+            results: result_count(words.results, main)?,
+        })
     }
 
     /// The plan with the procedure that has begun last, which ends here.
@@ -78,6 +97,7 @@ impl<'a> Outline<'a> {
         let name = Vec::from_slice(alloc, self.name)?;
         let procs = resolved(alloc, self.ended, &self.names)?;
         Ok(Plan {
+            version: self.version.number(),
             name,
             pieces: self.pieces,
             budget: self.budget,

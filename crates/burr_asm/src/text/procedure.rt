@@ -1,5 +1,6 @@
 use crate::fault::AsmFault;
 use crate::text::code::Code;
+use crate::text::exit::Signature;
 use crate::text::names::Names;
 use crate::text::statement::{Scope, Statement};
 use burr_code::limits::MOST_LABELS;
@@ -9,7 +10,7 @@ use std::alloc::{AllocError, Global};
 /// A procedure as far as it has been read.
 #[derive(Drop)]
 pub struct Routine<'a> {
-    parameters: u8,
+    signature: Signature,
     exit: Option<ExitFrame>,
     names: Names<'a>,
     labels: Vec<(u16, Frame)>,
@@ -20,9 +21,9 @@ pub struct Routine<'a> {
 
 impl<'a> Routine<'a> {
     /// A procedure of which only the first line has been read.
-    pub fn new(alloc: Global, parameters: u8) -> Routine<'a> {
+    pub fn new(alloc: Global, signature: Signature) -> Routine<'a> {
         Routine {
-            parameters,
+            signature,
             exit: None,
             names: Names::new(alloc),
             labels: Vec::new(alloc),
@@ -31,9 +32,9 @@ impl<'a> Routine<'a> {
         }
     }
 
-    /// How many parameters it has: 0 to 4.
-    pub fn parameters(&self) -> u8 {
-        self.parameters
+    /// What it takes and gives.
+    pub fn signature(&self) -> Signature {
+        self.signature
     }
 
     /// Its exit frame.
@@ -84,7 +85,8 @@ impl<'a> Routine<'a> {
     pub fn resolve(self, alloc: Global, procedures: &Names<'_>) -> Result<Procedure, AsmFault> {
         let code = self.encode(alloc, procedures)?;
         Ok(Procedure {
-            params: self.parameters,
+            params: self.signature.parameters,
+            results: self.signature.results,
             exit: self.exit,
             labels: self.labels,
             code,

@@ -1,12 +1,13 @@
 ghost use Rattle.std.specs.Prelude.{◌≤◌};
 
 use crate::fault::AsmFault;
-use crate::text::frame::{Conditions, Grip, add_exit_piece, add_piece};
-use crate::text::line::{GripWords, LineForm, PieceWords};
+use crate::text::exit::Exit;
+use crate::text::frame::{Conditions, Grip, add_piece};
+use crate::text::line::{LineForm, PieceWords};
 use crate::text::procedure::Routine;
 use crate::text::statement::Statement;
 use crate::text::words::first_word;
-use burr_container::{ExitFrame, Frame};
+use burr_container::Frame;
 use std::alloc::Global;
 
 /// What the lines of a procedure so far have been, and so what may stand next.
@@ -14,8 +15,8 @@ use std::alloc::Global;
 pub enum Stage {
     /// The line of a procedure that isn't main: its exit frame is due.
     AwaitsExit,
-    /// An exit frame, of which pieces are due.
-    InExit(ExitFrame),
+    /// An exit frame, of which results, guards or pieces are due.
+    InExit(Exit),
     /// What stands before a procedure's code: its first label is due.
     AwaitsLabel,
     /// A label: its frame is due.
@@ -62,10 +63,11 @@ impl Stage {
         requires { pieces ≤ 32 }
     {
         match (self, form) {
-            (Stage::AwaitsExit, LineForm::Exit(words)) => begin_exit(alloc, words, pieces, line),
-            (Stage::InExit(exit), LineForm::At(words)) => {
-                in_exit(routine, exit, pieces, words, line)
+            (Stage::AwaitsExit, LineForm::Exit(words)) => {
+                let grip = Grip::of(words, pieces, line)?;
+                Ok(Stage::InExit(Exit::new(alloc, routine.signature(), grip)))
             }
+            (Stage::InExit(exit), form) => in_exit(routine, exit, pieces, form, line),
             (Stage::AwaitsLabel, LineForm::Label(name)) => {
                 routine.add_label(name, line)?;
                 Ok(Stage::AwaitsFrame)
@@ -84,36 +86,19 @@ impl Stage {
     }
 }
 
-/// A line `exit`.
-fn begin_exit(
-    alloc: Global,
-    words: GripWords<'_>,
-    pieces: u8,
-    line: usize,
-) -> Result<Stage, AsmFault>
-    requires { pieces ≤ 32 }
-{
-    let grip = Grip::of(words, pieces, line)?;
-    Ok(Stage::InExit(ExitFrame {
-        tray: grip.tray,
-        grip: grip.set,
-        places: Vec::new(alloc),
-    }))
-}
-
-/// A line `at` of an exit frame.
+/// A line of an exit frame, behind its first.
 fn in_exit(
     routine: &mut Routine<'_>,
-    mut exit: ExitFrame,
+    mut exit: Exit,
     pieces: u8,
-    words: PieceWords<'_>,
+    form: LineForm<'_>,
     line: usize,
 ) -> Result<Stage, AsmFault> {
-    add_exit_piece(&mut exit, routine.parameters(), words, line)?;
-    if exit.places.len() < usize::from(pieces) {
+    exit.add(form, line)?;
+    if !exit.is_whole(pieces) {
         return Ok(Stage::InExit(exit));
     }
-    routine.set_exit(exit);
+    routine.set_exit(exit.into_frame());
     Ok(Stage::AwaitsLabel)
 }
 
