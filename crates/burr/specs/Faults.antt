@@ -10,8 +10,8 @@ line_of (faults.Write name) = text_line (codes "cannot" ∷ codes "write" ∷ na
 line_of (faults.Unknown word) =
     text_line (codes "error:" ∷ codes "nothing" ∷ codes "is" ∷ codes "explained" ∷ codes "under"
     ∷ word.now ∷ [])
-line_of (faults.Same name) =
-    text_line (codes "error:" ∷ codes "OUT" ∷ codes "is" ∷ codes "TEXT" ∷ codes "itself:"
+line_of (faults.Same word name) =
+    text_line (codes "error:" ∷ codes "OUT" ∷ codes "is" ∷ word.now ∷ codes "itself:"
     ∷ name.now ∷ [])
 line_of faults.Memory = codes "no memory\n"
 

@@ -14,8 +14,9 @@ pub enum Fault<'a> {
     Write(&'a str),
     /// Nothing is explained under this line.
     Unknown(&'a str),
-    /// A container was to be written over its own plan text.
-    Same(&'a str),
+    /// A container was to be written over the file that it is made of: the word of the usage for
+    /// that file, and its name.
+    Same(&'a str, &'a str),
     Memory,
 }
 
@@ -48,7 +49,7 @@ impl Fault<'_> {
         ensures { Means result (line_of self.now) }
     {
         match self {
-            Fault::Unknown(_) | Fault::Same(_) => 2,
+            Fault::Unknown(_) | Fault::Same(..) => 2,
             Fault::Read(_) | Fault::Write(_) => 3,
             Fault::Memory => 4,
         }
@@ -56,8 +57,8 @@ impl Fault<'_> {
 }
 
 /// Puts the line of standard error for a fault: `cannot read NAME`, `cannot write NAME` or
-/// `no memory`, that nothing is explained under a line, or that a
-/// container was to be written over its plan text.
+/// `no memory`, that nothing is explained under a line, or that a container was to be written over
+/// the file that it is made of.
 pub fn put_fault<W: Sink>(fault: &Fault<'_>, sink: &mut W) -> Result<(), WriteFault>
     ensures { Puts W.Sink sink.old sink.new (line_of fault.now) result }
 {
@@ -75,12 +76,12 @@ pub fn put_fault<W: Sink>(fault: &Fault<'_>, sink: &mut W) -> Result<(), WriteFa
             ],
             sink,
         ),
-        Fault::Same(name) => put_words(
+        Fault::Same(word, name) => put_words(
             &[
                 b"error:",
                 b"OUT",
                 b"is",
-                b"TEXT",
+                word.as_bytes(),
                 b"itself:",
                 name.as_bytes(),
             ],

@@ -10,6 +10,7 @@ use burr_asm::{AsmFault, assemble, list, list_with_places};
 use burr_container::Container;
 use burr_explain::{explanation_of, put_explanation};
 use burr_io::{Sink, put_all};
+use burr_runs::upgrade;
 use std::rt::Files;
 
 /// The status where all went well.
@@ -32,7 +33,7 @@ pub fn assemble_file<'a, F: Files + AllocGlobal, W: Sink>(
     ensures err { OnErr result (LeavesOrFails W.Sink sink.old sink.new) }
 {
     if are_one_file(files, text, out) {
-        return Err(Fault::Same(out));
+        return Err(Fault::Same("TEXT", out));
     }
     let bytes = read_file(files, text)?;
     match assemble(files.alloc(), &bytes) {
@@ -70,6 +71,36 @@ pub fn list_file<'a, F: Files + AllocGlobal, W: Sink>(
                 list(files.alloc(), &container)?
             };
             put_all(&text, sink)?;
+            Ok(DONE)
+        }
+        Err(fault) => {
+            put_container_refusal(fault, sink)?;
+            Ok(REFUSED)
+        }
+    }
+}
+
+/// Makes a file of the container of version 2 of the plan of a container that a file holds; a
+/// refusal is put on the sink, and the file is then left alone. That file may not be the one that is
+/// read.
+pub fn upgrade_file<'a, F: Files + AllocGlobal, W: Sink>(
+    files: &F,
+    plan: &'a str,
+    out: &'a str,
+    sink: &mut W,
+) -> Result<u8, Fault<'a>>
+    ensures status { IfOk result IsDone }
+    ensures ok { OnOk result (TakesSome
+        (took (W.taken sink.old) (W.taken sink.new) (W.has_failed sink.new))) }
+    ensures err { OnErr result (LeavesOrFails W.Sink sink.old sink.new) }
+{
+    if are_one_file(files, plan, out) {
+        return Err(Fault::Same("PLAN", out));
+    }
+    let bytes = read_file(files, plan)?;
+    match Container::parse(&bytes) {
+        Ok(container) => {
+            write_file(files, out, &upgrade(files.alloc(), &container)?)?;
             Ok(DONE)
         }
         Err(fault) => {

@@ -11,7 +11,7 @@ ghost use Rattle.burr.specs.Ends.{complaint_of, status_of, status_of_fault};
 
 use crate::fault::{Fault, put_fault};
 use crate::handing::hand_on;
-use crate::jobs::{assemble_file, explain_line, list_file};
+use crate::jobs::{assemble_file, explain_line, list_file, upgrade_file};
 use crate::plans::use_files;
 use burr_command::{Job, Reply, Request, request_of};
 use burr_io::{Sink, Source, WholeLines, WriteFault, put_all};
@@ -110,6 +110,10 @@ fn do_job<'a, F: Files + AllocGlobal, R: Source, W: Sink, const N: usize>(
         }
         Job::List { plan, places } => {
             let done = list_file(files, plan, *places, sink);
+            hand_on(done, sink)
+        }
+        Job::Upgrade { plan, out } => {
+            let done = upgrade_file(files, plan, out, sink);
             hand_on(done, sink)
         }
         Job::Plan {

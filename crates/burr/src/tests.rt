@@ -13,6 +13,7 @@ mod examples;
 mod files;
 mod memory;
 mod plans;
+mod results;
 mod streams;
 mod transcript;
 mod traps;

@@ -38,6 +38,7 @@ fn job_text(alloc: Global, job: &Job<'_>) -> Result<String, AllocError> {
     match job {
         Job::Assemble { text, out } => format!(in alloc; "=assemble {text} to {out}\n"),
         Job::List { plan, places } => format!(in alloc; "=list {plan} {places}\n"),
+        Job::Upgrade { plan, out } => format!(in alloc; "=upgrade {plan} to {out}\n"),
         Job::Explain { line } => format!(in alloc; "=explain {line}\n"),
         Job::Plan {
             task,
@@ -74,6 +75,7 @@ $burr --help
 >Commands:
 >  asm      Assembles a plan text into a container
 >  list     Prints the plan text of a container
+>  upgrade  Makes the container of version 2 of a plan
 >  check    Says whether a plan is accepted
 >  run      Runs a plan that is accepted
 >  try      Runs a plan on the bench, without accepting it
@@ -156,6 +158,24 @@ $burr list --help
 >assembled to the same bytes again.
 >
 >Example: ./burr list /tmp/ring.bpln
+$burr upgrade --help
+>Makes the container of version 2 of a plan
+>
+>Usage: burr upgrade <PLAN> <OUT>
+>
+>Arguments:
+>  <PLAN>  The container
+>  <OUT>   The container that is made
+>
+>Options:
+>  -h, --help  Print help
+>
+>OUT has the same plan in version 2 of the format, where procedures may have
+>results; of a container of version 2 it has the same bytes. OUT is written last,
+>and left alone where PLAN is refused: `refused C1 at 12`. A file OUT is replaced
+>whole. OUT may not be PLAN itself.
+>
+>Example: ./burr upgrade /tmp/ring.bpln /tmp/ring2.bpln
 $burr check --help
 >Says whether a plan is accepted
 >
@@ -353,6 +373,8 @@ $burr list --places x
 =list x true
 $burr list x --places
 =list x true
+$burr upgrade a b
+=upgrade a to b
 $burr check a -dash
 =check a -dash
 $burr run a b

@@ -21,7 +21,10 @@ fn without_commands<'a>(alloc: Global) -> Command<'a> {
 
 /// A command line with the commands on a file after its own.
 fn with_files<'a>(alloc: Global, command: Command<'a>) -> Result<Command<'a>, AllocError> {
-    command.subcommand(asm(alloc)?)?.subcommand(list(alloc)?)
+    command
+        .subcommand(asm(alloc)?)?
+        .subcommand(list(alloc)?)?
+        .subcommand(upgrade(alloc)?)
 }
 
 /// A command line with the commands on an assembly and a plan after its own.
@@ -48,6 +51,15 @@ fn list<'a>(alloc: Global) -> Result<Command<'a>, AllocError> {
         .after_help(help::LIST)
         .arg(word(alloc, "PLAN", "The container"))?
         .arg(places(alloc))
+}
+
+/// The command `upgrade`.
+fn upgrade<'a>(alloc: Global) -> Result<Command<'a>, AllocError> {
+    Command::new(alloc, "upgrade")
+        .about("Makes the container of version 2 of a plan")
+        .after_help(help::UPGRADE)
+        .arg(word(alloc, "PLAN", "The container"))?
+        .arg(word(alloc, "OUT", "The container that is made"))
 }
 
 /// The flag `--places`.

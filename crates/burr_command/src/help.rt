@@ -54,6 +54,15 @@ assembled to the same bytes again.
 
 Example: ./burr list /tmp/ring.bpln";
 
+/// What help says of `upgrade` last.
+pub const UPGRADE: &str = "\
+OUT has the same plan in version 2 of the format, where procedures may have
+results; of a container of version 2 it has the same bytes. OUT is written last,
+and left alone where PLAN is refused: `refused C1 at 12`. A file OUT is replaced
+whole. OUT may not be PLAN itself.
+
+Example: ./burr upgrade /tmp/ring.bpln /tmp/ring2.bpln";
+
 /// What help says of `check` last.
 pub const CHECK: &str = "\
 The plan is judged, and not run: standard input is not read. `accepted cost 14

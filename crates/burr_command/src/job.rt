@@ -11,6 +11,11 @@ pub enum Job<'a> {
         plan: &'a str,
         places: bool,
     },
+    /// Makes the container of version 2 of a container's plan.
+    Upgrade {
+        plan: &'a str,
+        out: &'a str,
+    },
     /// Judges a plan for an assembly, or runs it.
     Plan {
         task: PlanTask,

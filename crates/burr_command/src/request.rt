@@ -82,6 +82,10 @@ fn file_job<'a>(name: &str, words: &ArgMatches<'a>) -> Option<Job<'a>> {
             plan: words.get_str("PLAN")?,
             places: words.get_flag("places"),
         }),
+        "upgrade" => Some(Job::Upgrade {
+            plan: words.get_str("PLAN")?,
+            out: words.get_str("OUT")?,
+        }),
         "check" => plan_job(PlanTask::Check, words),
         "run" => plan_job(PlanTask::Run, words),
         _ => plan_job(PlanTask::Try, words),

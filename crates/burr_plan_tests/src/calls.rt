@@ -2,6 +2,7 @@
 use burr_assembly::Assembly;
 use burr_blocking::{CellTables, PlainCells, RowTables};
 use burr_container::Container;
+use burr_runs::upgrade;
 use std::alloc::Global;
 use std::process::Abort;
 
@@ -34,4 +35,9 @@ pub fn tables_of<'a>(rt: &impl Abort, alloc: Global, assembly: &'a Assembly) -> 
 /// What answers for an assembly by rows of bits.
 pub fn rows_of<'a>(rt: &impl Abort, alloc: Global, assembly: &'a Assembly) -> RowTables<'a> {
     RowTables::build(alloc, assembly).expect(rt, "rows")
+}
+
+/// The container of version 2 of a container's plan.
+pub fn upgraded(rt: &impl Abort, alloc: Global, bytes: &[u8]) -> Vec<u8> {
+    upgrade(alloc, &container_of(rt, bytes)).expect(rt, "memory")
 }

@@ -8,8 +8,8 @@ mod scripts;
 
 use crate::assemblies::{BOX, CUP, DUO, DUO_OF_THREE, FAR, FOUR, FRONT, RING, ROW, SQUARE, THREE};
 use crate::plans::{
-    CHOICE_PLAN, CUP_PLAN, DUO_CODE, DUO_PLAN, FRAME_PLAN, LABELLED_CODE, LIFT_PLAN, RING_PLAN,
-    SQUARE_CODE,
+    CHOICE_PLAN, CUP_PLAN, DUO_CODE, DUO_PLAN, FRAME_PLAN, LABELLED_CODE, LIFT_PLAN, RESULT_PLAN,
+    RING_PLAN, SQUARE_CODE,
 };
 use crate::tables::{How, Kind, Table, assert_tables};
 pub use scripts::{SCRIPTS, TRAPS};
@@ -234,6 +234,34 @@ const VERDICTS: [Table; 13] = [
     },
 ];
 
+/// A plan of a procedure with a result.
+const RESULTS: [Table; 4] = [
+    Table {
+        kind: Kind::Check,
+        assembly: CUP,
+        plan: RESULT_PLAN,
+        cases: runs::RESULT_CHECKS,
+    },
+    Table {
+        kind: Kind::Run,
+        assembly: CUP,
+        plan: RESULT_PLAN,
+        cases: runs::RESULT_RUNS,
+    },
+    Table {
+        kind: Kind::Verdict,
+        assembly: CUP,
+        plan: RESULT_PLAN,
+        cases: edits::RESULT_EDITS,
+    },
+    Table {
+        kind: Kind::Looks,
+        assembly: CUP,
+        plan: RESULT_PLAN,
+        cases: looks::RESULT_LOOKS,
+    },
+];
+
 /// Plans that are judged, with their looks.
 const LOOKS: [Table; 6] = [
     Table {
@@ -308,6 +336,11 @@ fn counts_looks(rt: HostRuntime) {
 fn checks_and_runs_plans(rt: HostRuntime) {
     assert_tables(&rt, rt.alloc(), How::Plainly, &LIFTED);
     assert_tables(&rt, rt.alloc(), How::Plainly, &PLANS);
+}
+
+#[test]
+fn judges_and_runs_plans_with_results(rt: HostRuntime) {
+    assert_tables(&rt, rt.alloc(), How::Plainly, &RESULTS);
 }
 
 #[test]

@@ -29,6 +29,8 @@ mod tables;
 #[cfg(test)]
 mod texts;
 #[cfg(test)]
+mod upgrades;
+#[cfg(test)]
 mod verdicts;
 #[cfg(test)]
 mod want;

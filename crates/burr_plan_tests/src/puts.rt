@@ -34,7 +34,7 @@ pub fn put_bare<R: Read, W: Write>(alloc: Global, reader: &mut R, writer: &mut W
 }
 
 /// Checks a plan and puts the line of it.
-fn put_check<B: Blocking, W: Write>(
+pub fn put_check<B: Blocking, W: Write>(
     container: &Container<'_>,
     blocking: &B,
     writer: &mut W,
@@ -47,7 +47,7 @@ fn put_check<B: Blocking, W: Write>(
 }
 
 /// Runs a plan, where it is accepted, and puts its sheet.
-fn put_run<B: Blocking, W: Write>(
+pub fn put_run<B: Blocking, W: Write>(
     container: &Container<'_>,
     blocking: &B,
     answers: &[i32],

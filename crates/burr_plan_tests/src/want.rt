@@ -1,14 +1,17 @@
 //! What comes of calls while memory is wanting.
 use crate::assemblies::DUO;
-use crate::calls::assembly_of;
+use crate::calls::{assembly_of, container_of};
+use crate::plans::RESULT_PLAN;
 use crate::puts::put_bare;
 use crate::sources::{Portions, input_of};
 use crate::tables::Table;
+use crate::texts::bytes_of;
 use crate::ways::{Question, answer};
 use burr_assembly::Assembly;
 use burr_blocking::CellTables;
-use burr_runs::{AnswersFault, read_answers};
-use std::alloc::Global;
+use burr_container::Container;
+use burr_runs::{AnswersFault, read_answers, upgrade};
+use std::alloc::{AllocError, Global};
 use std::io::Cursor;
 use std::ops::Range;
 use std::process::Abort;
@@ -77,6 +80,8 @@ enum Job<'a> {
     Answers(&'a str, Result<&'a [i32], AnswersFault>),
     /// The duo, whose tables are built.
     Tables(&'a Assembly),
+    /// A plan, whose container of version 2 is made, and that.
+    Upgrade(&'a Container<'a>, &'a [u8]),
 }
 
 /// What came of a job.
@@ -155,6 +160,15 @@ fn come_of_tables(alloc: Global, duo: &Assembly) -> Came {
     }
 }
 
+/// What comes of a plan's container of version 2.
+fn come_of_upgrade(alloc: Global, plan: &Container<'_>, wanted: &[u8]) -> Came {
+    match upgrade(alloc, plan) {
+        Ok(bytes) if bytes.as_slice() == wanted => Came::Right,
+        Ok(_) => Came::Wrong,
+        Err(AllocError) => Came::Want,
+    }
+}
+
 impl Job<'_> {
     /// Does it, and notes what came; tells whether that was right.
     fn is_done(&self, alloc: Global, seen: &mut Seen) -> bool {
@@ -162,6 +176,7 @@ impl Job<'_> {
             Job::Bare(input, portion, wanted) => come_of_bare(alloc, input, *portion, *wanted),
             Job::Answers(text, wanted) => come_of_answers(alloc, text, *wanted),
             Job::Tables(duo) => come_of_tables(alloc, duo),
+            Job::Upgrade(plan, wanted) => come_of_upgrade(alloc, plan, wanted),
         };
         match came {
             Came::WantBefore => seen.want_before = true,
@@ -266,4 +281,12 @@ fn tells_a_want_of_memory_for_answers(rt: HostRuntime) {
 fn tells_a_want_of_memory_for_tables(rt: HostRuntime) {
     let duo = assembly_of(&rt, rt.alloc(), DUO);
     assert_wants(&rt, rt.alloc(), &[Job::Tables(&duo)], false);
+}
+
+/// A procedure of the plan has a result.
+#[test]
+fn tells_a_want_of_memory_for_upgrades(rt: HostRuntime) {
+    let bytes = bytes_of(&rt, rt.alloc(), RESULT_PLAN);
+    let plan = container_of(&rt, &bytes);
+    assert_wants(&rt, rt.alloc(), &[Job::Upgrade(&plan, &bytes)], false);
 }

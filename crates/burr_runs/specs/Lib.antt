@@ -7,4 +7,5 @@ pub mod OutputLaws
 pub mod ReadWhole
 pub mod Refusals
 pub mod Running
+pub mod UpgradeLaws
 pub mod Verdicts

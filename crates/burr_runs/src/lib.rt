@@ -15,9 +15,13 @@ mod text_runs;
 
 pub use accepted_runs::run_plan;
 pub use answers::{AnswersFault, read_answers};
+pub use burr_upgrade::upgrade;
 pub use checking::check;
 pub use fault::BenchFault;
-pub use laws::{an_input_has_one_output, answers_are_read_in_one_way};
+pub use laws::{
+    an_input_has_one_output, an_upgraded_plan_is_judged_as_before, an_upgraded_plan_runs_as_before,
+    answers_are_read_in_one_way,
+};
 pub use outcome::Outcome;
 pub use reading::{LIMIT, read_whole};
 pub use refusal::put_refusal;

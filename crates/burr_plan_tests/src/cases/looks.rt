@@ -37,6 +37,11 @@ none | accepted looks 6
 pub const LIFT_LOOKS: &str = "\
 none | accepted looks 5";
 
+/// For the dot that a procedure lifts as far as it then says: three points in the procedure, and
+/// three of its result behind it.
+pub const RESULT_LOOKS: &str = "\
+none | accepted looks 6";
+
 /// For four cubes in a square: four pairs, then one in each of two trays; two gripped pieces are no
 /// pair.
 pub const SQUARE_LOOKS: &str = "\

@@ -32,6 +32,21 @@ none | accepted | accepted cost 14 budget 14 looks 6/
 01 00000000 0001 ffff 00 > 00 00, 01 ffffffff 0001 ffff 00 > 00 00 | refused \
 | refused V15 proc 0 pc 24 pieces A B point 0 1/";
 
+/// Checks of the plan of a procedure with a result: as it stands, and with a range of results and
+/// with an exit place that are too small.
+pub const RESULT_CHECKS: &str = "\
+none | accepted | accepted cost 18 budget 18 looks 6/
+00 01 00 00000001 0000 0002 > 00 01 00 00000001 0000 0001 | refused \
+| refused V22 proc 1 pc 17 point 2 0/
+00000000 0000 00000000 0001 > 00000000 0000 00000000 0000 | refused \
+| refused V22 proc 1 pc 17 point 1 0/";
+
+/// Runs of the plan of a procedure with a result.
+pub const RESULT_RUNS: &str = "\
+0/ | Apart | 1 t0 A +z 0 out/levels 1/apart in 12 steps/
+2/ | Apart | 1 t0 A +z 2 out/levels 1/apart in 18 steps/
+ | Waiting | levels -/waiting 0 2 after 2 steps/";
+
 /// A check of the choice between two cubes.
 pub const CHOICE_CHECKS: &str = "\
 none | accepted | accepted cost 4 budget 4 looks 2/";

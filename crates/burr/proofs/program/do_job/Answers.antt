@@ -11,6 +11,11 @@ returns-in-List-clause-err g c =
     less_handed g.W.Sink c.args.sink.now c.list_file-done.new.sink c.hand_on-in-List.new.sink c.list_file-done.result c.hand_on-in-List.result c.requires.fresh c.hand_on-in-List.ensures c.list_file-done.ensures.ok
     c.list_file-done.ensures.err
 
+pub returns-in-Upgrade-clause-err : goal.returns-in-Upgrade-clause-err
+returns-in-Upgrade-clause-err g c =
+    less_handed g.W.Sink c.args.sink.now c.upgrade_file-done.new.sink c.hand_on-in-Upgrade.new.sink c.upgrade_file-done.result c.hand_on-in-Upgrade.result c.requires.fresh c.hand_on-in-Upgrade.ensures
+    c.upgrade_file-done.ensures.ok c.upgrade_file-done.ensures.err
+
 pub returns-in-Explain-clause-ok : goal.returns-in-Explain-clause-ok
 returns-in-Explain-clause-ok g c =
     some_handed g.W.Sink c.args.sink.now c.explain_line-done.new.sink c.hand_on-in-Explain.new.sink c.explain_line-done.result c.hand_on-in-Explain.result c.requires.fresh

@@ -1,0 +1,247 @@
+//! Plans of procedures with results, and plans of version 1 in version 2.
+use super::examples::EXAMPLES;
+use super::transcript::assert_transcript;
+use super::*;
+
+/// A dot in a cup is lifted by a procedure that asks how far and gives that back: its listing, its
+/// runs, and what is said where the range of the result or the exit place is too small.
+const LIFT: &str = "\
+<plan2 cup 2 18
+<proc main 0 0
+<label start
+<frame 0 -
+<cost 18
+<at 0 0 0 0 0
+<at 1 0 0 0 0
+<grip 0
+<call lift
+<drop
+<aside +z 1
+<halt
+<proc lift 0 1
+<exit 0 0
+<result 0 2
+<at 0 0 0 0 0+1v0
+<at 1 0 0 0 0
+<label start
+<frame 0 0
+<cost 13
+<at 0 0 0 0 0
+<at 1 0 0 0 0
+<ask 0 2
+<store 0
+<load 0
+<store 1
+<label L
+<frame 0 0
+<slot 0 0 2
+<slot 1 0 2
+<guard 0+1v0-1v1
+<cost 3+3v1
+<at 0 0 0 0 0+1v0-1v1
+<at 1 0 0 0 0
+<down 1 M
+<load 0
+<ret
+<label M
+<frame 0 0
+<slot 0 0 2
+<slot 1 0 1
+<guard -1+1v0-1v1
+<cost 5+3v1
+<at 0 0 0 0 -1+1v0-1v1
+<at 1 0 0 0 0
+<step +z
+<jump L
+=lift.plan
+$burr asm lift.plan lift.bpln
+?0
+$burr check cup lift.bpln
+>accepted cost 18 budget 18 looks 6
+?0
+<0
+$burr run cup lift.bpln
+>1 t0 A +z 0 out
+>levels 1
+>apart in 12 steps
+?0
+<2
+$burr run cup lift.bpln
+>1 t0 A +z 2 out
+>levels 1
+>apart in 18 steps
+?0
+$burr run cup lift.bpln
+>levels -
+>waiting 0 2 after 2 steps
+?5
+<2
+$burr try cup lift.bpln
+>1 t0 A +z 2 out
+>levels 1
+>apart in 18 steps
+?0
+@lift.plan
+/result 0 2/result 0 1
+=plan
+$burr asm plan bpln
+?0
+$burr check cup bpln
+>refused V22 proc 1 pc 17 point 2 0
+?1
+@lift.plan
+/0+1v0-1v1/S
+/0+1v0/0
+/S/0+1v0-1v1
+=plan
+$burr asm plan bpln
+?0
+$burr check cup bpln
+>refused V22 proc 1 pc 17 point 1 0
+?1
+@lift.plan
+/result 0 2/result 0 2 3
+=plan
+$burr asm plan bpln
+>refused P1 line 15
+?1
+";
+
+#[test]
+fn checks_and_runs_plans_with_results(rt: HostRuntime) -> Result<(), Fail> {
+    assert_transcript(&rt, EXAMPLES)?;
+    assert_transcript(&rt, LIFT)
+}
+
+/// Plans that give back a number that they have not, or one for which there is no room.
+const TRAPS: &str = "\
+<plan2 duo 2 9
+<proc main 0 0
+<label start
+<frame 0 -
+<cost 9
+<at 0 0 0 0 0
+<at 1 0 0 0 0
+<call give
+<halt
+<proc give 0 1
+<exit 0 -
+<result 0 0
+<at 0 0 0 0 0
+<at 1 0 0 0 0
+<label start
+<frame 0 -
+<cost 1
+<at 0 0 0 0 0
+<at 1 0 0 0 0
+<ret
+=plan
+$burr asm plan bpln
+?0
+$burr try duo bpln
+>levels -
+>trap 6 MissingOperand proc 1 pc 0 after 1 steps
+?1
+<plan2 duo 2 9
+<proc main 0 0
+<label start
+<frame 0 -
+<cost 9
+<at 0 0 0 0 0
+<at 1 0 0 0 0
+<push 0
+<push 0
+<push 0
+<push 0
+<push 0
+<push 0
+<push 0
+<push 0
+<call give
+<halt
+<proc give 0 1
+<exit 0 -
+<result 0 0
+<at 0 0 0 0 0
+<at 1 0 0 0 0
+<label start
+<frame 0 -
+<cost 1
+<at 0 0 0 0 0
+<at 1 0 0 0 0
+<ret
+=plan
+$burr asm plan bpln
+?0
+$burr try duo bpln
+>levels -
+>trap 7 StackFull proc 0 pc 24 after 8 steps
+?1
+$burr check duo bpln
+>refused V7 proc 0 pc 24
+?1
+";
+
+#[test]
+fn tells_traps_of_results(rt: HostRuntime) -> Result<(), Fail> {
+    assert_transcript(&rt, EXAMPLES)?;
+    assert_transcript(&rt, TRAPS)
+}
+
+/// Plans of version 1 in version 2, and what is no plan.
+const UPGRADES: &str = "\
+$burr upgrade duo.bpln two.bpln
+?0
+$burr list two.bpln
+>plan2 duo 2 3
+>proc p0 0 0
+>label L0
+>frame 0 -
+>cost 3
+>at 0 0 0 0 0
+>at 1 0 0 0 0
+>grip 0
+>aside -x 1
+>halt
+?0
+$burr run duo two.bpln
+>1 t0 A -x 0 out
+>levels 1
+>apart in 3 steps
+?0
+$burr upgrade two.bpln same.bpln
+?0
+$burr upgrade ring.bpln two.ring
+?0
+$burr check ring two.ring
+>accepted cost 11 budget 11 looks 4
+?0
+<kept
+=kept
+$burr upgrade duo.plan kept
+>refused C2 at 0
+?1
+$burr upgrade none kept
+!cannot read none
+?3
+$burr upgrade duo.bpln duo.bpln
+!error: OUT is PLAN itself: duo.bpln
+?2
+$burr upgrade duo.bpln none/two
+!cannot write none/two
+?3
+";
+
+#[test]
+fn upgrades_containers(rt: HostRuntime) -> Result<(), Fail> {
+    assert_transcript(&rt, EXAMPLES)?;
+    assert_transcript(&rt, UPGRADES)?;
+    assert_eq!(rt; fs::read(&rt, "two.bpln")?.len(), 71);
+    assert_eq!(rt; fs::read(&rt, "two.ring")?.len(), 141);
+    assert_eq!(rt;
+        fs::read(&rt, "same.bpln")?.as_slice(),
+        fs::read(&rt, "two.bpln")?.as_slice()
+    );
+    assert_eq!(rt; fs::read_to_string(&rt, "kept")?.as_str(), "kept\n");
+    Ok(())
+}

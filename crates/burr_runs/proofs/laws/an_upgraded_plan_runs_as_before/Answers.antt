@@ -1,0 +1,38 @@
+-- The version is no part of what a bench runs.
+use Rattle.std.specs.Prelude.{ℤ, List, ℕ}
+use Rattle.burr_assembly.specs.Text.{Assembly}
+use Rattle.burr_container.specs.Plans.{Plan}
+use Rattle.burr_upgrade.specs.Upgrades.{upgraded}
+use Rattle.burr_runs.specs.declared.outcome.Outcome.{Outcome}
+use Rattle.burr_runs.specs.Headline.{IsSafeSheetOf}
+use Rattle.burr_runs.proofs.laws.an_upgraded_plan_runs_as_before.Goals as goal
+
+as_before : (a : Assembly) (p : Plan) (answers : List ℤ) (output : List ℕ) (outcome : Outcome)
+    → IsSafeSheetOf a (upgraded p) answers output outcome → IsSafeSheetOf a p answers output outcome
+as_before a p answers output outcome s = record {
+  motions = s.motions;
+  steps = s.steps;
+  closing = s.closing;
+  run = s.run;
+  safe = s.safe;
+  text = s.text;
+  closes = s.closes;
+}
+
+as_upgraded : (a : Assembly) (p : Plan) (answers : List ℤ) (output : List ℕ) (outcome : Outcome)
+    → IsSafeSheetOf a p answers output outcome → IsSafeSheetOf a (upgraded p) answers output outcome
+as_upgraded a p answers output outcome s = record {
+  motions = s.motions;
+  steps = s.steps;
+  closing = s.closing;
+  run = s.run;
+  safe = s.safe;
+  text = s.text;
+  closes = s.closes;
+}
+
+pub returns : goal.returns
+returns c = record {
+  runs = λ a p answers motions steps closing. (λ h. h, λ h. h);
+  sheet = λ a p answers output outcome. (as_before a p answers output outcome, as_upgraded a p answers output outcome);
+}

@@ -1,0 +1,8 @@
+use Rattle.burr_container.specs.Refs.{exit_frame_of}
+use Rattle.burr_container.specs.Views.{placements_of}
+use Rattle.burr_upgrade.proofs.ReadBack.{IsRead}
+use Rattle.burr_upgrade.proofs.exits.places.Given as goal
+
+-- the first ones are read
+abbrev pub invariant-loop-p : goal.invariant-loop-p
+invariant-loop-p l = IsRead (exit_frame_of l.exit).places l.p (placements_of l.places.items)

@@ -1,0 +1,7 @@
+use Rattle.burr_container.specs.Refs.{exit_frame_of}
+use Rattle.burr_upgrade.proofs.ReadBack.{IsRead}
+use Rattle.burr_upgrade.proofs.exits.results.Given as goal
+
+-- the first ones are read
+abbrev pub invariant-loop-n : goal.invariant-loop-n
+invariant-loop-n l = IsRead (exit_frame_of l.exit).results l.n l.results.items

@@ -1,0 +1,27 @@
+-- One more is read.
+use Rattle.std.proofs.Common.{◌∙◌, ap, List}
+use Rattle.std.specs.Prelude.{Bool}
+use Rattle.burr_container.specs.Plans.{live_slots}
+use Rattle.burr_container.specs.Refs.{frame_of}
+use Rattle.burr_upgrade.specs.Slots.{over_slots}
+use Rattle.burr_upgrade.proofs.ReadBack.{pushed}
+use Rattle.burr_upgrade.proofs.Restored.{same_slots, form_of}
+use Rattle.burr_upgrade.proofs.Fitting.{frame_fits}
+use Rattle.burr_upgrade.proofs.frames.guards.Goals as goal
+
+pub slotted-requires : goal.slotted-requires
+slotted-requires c =
+    let f = frame_of c.args.frame.now in
+    let live = live_slots f.slots in
+    let fits = frame_fits _ f c.requires.fits in
+    (form_of live live (same_slots live) f.guards c.loop-n.n c.guard.result fits.guards c.guard.ensures.guard).narrow
+
+pub loop-n-preserved : goal.loop-n-preserved
+loop-n-preserved c =
+    let f = frame_of c.args.frame.now in
+    let live = live_slots f.slots in
+    let fits = frame_fits _ f c.requires.fits in
+    let form = c.guard.result in
+    let of = form_of live live (same_slots live) f.guards c.loop-n.n form fits.guards c.guard.ensures.guard in
+    pushed f.guards c.loop-n.n c.loop-n.guards.items c.push.new.self.items (over_slots live form) c.slotted.result of.there
+    (c.slotted.ensures ∙ ap (λ (l : List Bool). over_slots l form) c.requires.live) c.in_ok-push.ensures.items c.loop-n.invariant

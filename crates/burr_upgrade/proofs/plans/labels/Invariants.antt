@@ -1,0 +1,7 @@
+use Rattle.burr_container.specs.Containers.{OfProcedure}
+use Rattle.burr_upgrade.proofs.ReadBack.{IsRead}
+use Rattle.burr_upgrade.proofs.plans.labels.Given as goal
+
+-- the first ones are read
+abbrev pub invariant-loop-n : goal.invariant-loop-n
+invariant-loop-n l = OfProcedure l.container l.i (λ p q. IsRead q.labels l.n l.labels.items)

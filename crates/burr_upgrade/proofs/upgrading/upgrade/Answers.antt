@@ -1,0 +1,22 @@
+-- A container's plan is within the format, and so it is in version 2.
+use Rattle.std.proofs.Common.{IsTrue, ◌∙◌, sym, subst}
+use Rattle.burr_container.specs.Plans.{Plan}
+use Rattle.burr_container.specs.Fitting.{is_fitting}
+use Rattle.burr_upgrade.specs.Upgrades.{upgraded}
+use Rattle.burr_upgrade.proofs.OneContainer.{fits_where_kept}
+use Rattle.burr_upgrade.proofs.Upgraded.{stays_fitting}
+use Rattle.burr_upgrade.proofs.upgrading.upgrade.Goals as goal
+
+pub returns-in_err-plan-clause-fits : goal.returns-in_err-plan-clause-fits
+returns-in_err-plan-clause-fits c p of =
+    stays_fitting p (fits_where_kept c.args.container.now p c.plan_of.ensures.container of)
+
+pub write-requires : goal.write-requires
+write-requires c =
+    let has = c.plan_of.ensures.container in
+    let same = c.plan.view_is ∙ c.in_ok-plan.ensures.plan has.0 has.2 in
+    subst (λ (p : Plan). IsTrue (is_fitting (upgraded p))) (sym same) (stays_fitting has.0 has.1)
+
+pub returns-clause-fits : goal.returns-clause-fits
+returns-clause-fits c p of =
+    stays_fitting p (fits_where_kept c.args.container.now p c.plan_of.ensures.container of)

@@ -1,0 +1,22 @@
+ghost use Rattle.std.specs.Prelude.{◌≡◌, IfOk, IsTrue};
+ghost use Rattle.burr_container.specs.Plans.{Plan as PlanOf};
+ghost use Rattle.burr_container.specs.Fitting.{is_fitting};
+ghost use Rattle.burr_container.specs.Spelling.{plan_bytes};
+ghost use Rattle.burr_container.specs.Containers.{IsContainer};
+ghost use Rattle.burr_upgrade.specs.Upgrades.{upgraded};
+
+use crate::plans::plan_of;
+use burr_container::{Container, write};
+use std::alloc::{AllocError, Global};
+
+/// The container of version 2 of the same plan: each procedure has no results and each exit frame
+/// no guards where the container is one of version 1; of one of version 2 its own bytes.
+pub fn upgrade(alloc: Global, container: &Container<'_>) -> Result<Vec<u8>, AllocError>
+    ensures bytes { IfOk result (λ bytes. (p : PlanOf) → IsContainer container.now p
+        → bytes.items ≡ plan_bytes (upgraded p)) }
+    ensures fits { (p : PlanOf) → IsContainer container.now p → IsTrue (is_fitting (upgraded p)) }
+{
+    let mut plan = plan_of(alloc, container)?;
+    plan.version = 2;
+    write(alloc, &plan)
+}
