@@ -33,7 +33,7 @@ const FAULTS: &[Explanation] = &[
     },
     Explanation {
         subject: Subject::Refusal("C3"),
-        meaning: &["The version after the first four bytes is not known."],
+        meaning: &["The version after the first four bytes is neither 1 nor 2."],
         cause: &["a damaged file, or one that another program wrote."],
         remedy: &[],
         setting: "the version is 3; `refused C3 at 4`",
@@ -43,8 +43,9 @@ const FAULTS: &[Explanation] = &[
         subject: Subject::Refusal("C4"),
         meaning: &[
             "A number is out of its range, or the name is badly formed. A range's high end",
-            "may not be below its low end, a frame's grip names the plan's pieces alone, and",
-            "the code goes on after the last label. The position is the field's first byte.",
+            "may not be below its low end, a frame's grip names the plan's pieces alone, a",
+            "procedure has at most 2 results and main none, and the code goes on after the",
+            "last label. The position is the field's first byte.",
         ],
         cause: &["a damaged file, or one that was not made from a plan text."],
         remedy: &[],

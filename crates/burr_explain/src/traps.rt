@@ -67,7 +67,10 @@ const TRAPS: &[Explanation] = &[
     },
     Explanation {
         subject: Subject::Trap("6", "MissingOperand"),
-        meaning: &["The instruction takes more operands than there are."],
+        meaning: &[
+            "The instruction takes more operands than there are. A `call` takes one for each",
+            "parameter of its callee, a `ret` one for each result of its procedure.",
+        ],
         cause: &["a `push` too few, or a value that was stored or dropped before."],
         remedy: &[],
         setting: "`add` takes two operands, and there is one",
@@ -75,7 +78,10 @@ const TRAPS: &[Explanation] = &[
     },
     Explanation {
         subject: Subject::Trap("7", "StackFull"),
-        meaning: &["There are eight operands, and there would be more."],
+        meaning: &[
+            "There would be more than eight operands. A `call` takes its arguments off, and",
+            "then there has to be room for its callee's results.",
+        ],
         cause: &["operands that are kept where a slot would do, by `store`."],
         remedy: &[],
         setting: "with eight operands",

@@ -79,7 +79,10 @@ const RULES: &[Explanation] = &[
     },
     Explanation {
         subject: Subject::Refusal("V6"),
-        meaning: &["The instruction takes more operands than there are."],
+        meaning: &[
+            "The instruction takes more operands than there are. A `call` takes one for each",
+            "parameter of its callee, a `ret` one for each result of its procedure.",
+        ],
         cause: &["a `push` too few, or a value that was stored or dropped before."],
         remedy: &[
             "count the operands from the last frame on, its `stack` lines first;",
@@ -90,7 +93,10 @@ const RULES: &[Explanation] = &[
     },
     Explanation {
         subject: Subject::Refusal("V7"),
-        meaning: &["There are eight operands, and there would be more."],
+        meaning: &[
+            "There would be more than eight operands. A `call` takes its arguments off, and",
+            "then there has to be room for its callee's results.",
+        ],
         cause: &["operands that are kept where a slot would do, by `store`."],
         remedy: &[
             "put operands into slots with `store`, or take those that nothing",
@@ -145,8 +151,8 @@ const RULES: &[Explanation] = &[
         meaning: &["The slot that `down` counts may be below 0 here, at the point that is named."],
         cause: &["a frame or an `ask` that lets the counter begin below 0."],
         remedy: &[
-            "let the range of the `slot` or `ask` line begin at 0, or add a",
-            "`guard` that is below 0 at the point named.",
+            "let the range of the `slot`, `ask` or `result` line begin at 0, or",
+            "add a `guard` that is below 0 at the point named.",
         ],
         setting: "answer -1 makes a counter of -1",
         example: &["ask -1 2", "store 0", "down 0 L"],
@@ -157,10 +163,10 @@ const RULES: &[Explanation] = &[
             "The sum or the difference may lie outside -32,767 to 32,767; the point that is",
             "named shows where it does.",
         ],
-        cause: &["a `slot` or `ask` range that is wider than it has to be."],
+        cause: &["a `slot`, `ask` or `result` range that is wider than it has to be."],
         remedy: &[
-            "make the range of the `slot` or `ask` line smaller, or add a",
-            "`guard` that is below 0 at the point named.",
+            "make the range of the `slot`, `ask` or `result` line smaller, or add",
+            "a `guard` that is below 0 at the point named.",
         ],
         setting: "answer 4 makes 32,768",
         example: &["ask 0 4", "push 32764", "add"],
