@@ -1,6 +1,6 @@
 //! What comes of calls while memory is wanting.
 use crate::assemblies::DUO;
-use crate::calls::{assembly_of, container_of};
+use crate::calls::assembly_of;
 use crate::plans::RESULT_PLAN;
 use crate::puts::put_bare;
 use crate::sources::{Portions, input_of};
@@ -80,8 +80,8 @@ enum Job<'a> {
     Answers(&'a str, Result<&'a [i32], AnswersFault>),
     /// The duo, whose tables are built.
     Tables(&'a Assembly),
-    /// A plan, whose container of version 2 is made, and that.
-    Upgrade(&'a Container<'a>, &'a [u8]),
+    /// A container of version 2, of which that is made again.
+    Upgrade(&'a [u8]),
 }
 
 /// What came of a job.
@@ -160,10 +160,13 @@ fn come_of_tables(alloc: Global, duo: &Assembly) -> Came {
     }
 }
 
-/// What comes of a plan's container of version 2.
-fn come_of_upgrade(alloc: Global, plan: &Container<'_>, wanted: &[u8]) -> Came {
-    match upgrade(alloc, plan) {
-        Ok(bytes) if bytes.as_slice() == wanted => Came::Right,
+/// What comes of a container of version 2 that is made again.
+fn come_of_upgrade(alloc: Global, bytes: &[u8]) -> Came {
+    let Ok(container) = Container::parse(bytes) else {
+        return Came::Wrong;
+    };
+    match upgrade(alloc, &container) {
+        Ok(made) if made.as_slice() == bytes => Came::Right,
         Ok(_) => Came::Wrong,
         Err(AllocError) => Came::Want,
     }
@@ -176,7 +179,7 @@ impl Job<'_> {
             Job::Bare(input, portion, wanted) => come_of_bare(alloc, input, *portion, *wanted),
             Job::Answers(text, wanted) => come_of_answers(alloc, text, *wanted),
             Job::Tables(duo) => come_of_tables(alloc, duo),
-            Job::Upgrade(plan, wanted) => come_of_upgrade(alloc, plan, wanted),
+            Job::Upgrade(bytes) => come_of_upgrade(alloc, bytes),
         };
         match came {
             Came::WantBefore => seen.want_before = true,
@@ -287,6 +290,5 @@ fn tells_a_want_of_memory_for_tables(rt: HostRuntime) {
 #[test]
 fn tells_a_want_of_memory_for_upgrades(rt: HostRuntime) {
     let bytes = bytes_of(&rt, rt.alloc(), RESULT_PLAN);
-    let plan = container_of(&rt, &bytes);
-    assert_wants(&rt, rt.alloc(), &[Job::Upgrade(&plan, &bytes)], false);
+    assert_wants(&rt, rt.alloc(), &[Job::Upgrade(&bytes)], false);
 }
