@@ -1,41 +1,44 @@
 -- How what is done with a plan ends: steps from one stage to the next, and ways out.
-use Rattle.std.proofs.Common.{◌≡◌, List, ℕ, ℤ, refl, subst, inl, inr}
+use Rattle.std.proofs.Common.{◌≡◌, List, ℕ, ℤ, length, refl, ap, ◌∙◌, subst, inl, inr}
+use Rattle.std.proofs.lemmas.List.{length-map}
 use Rattle.std.specs.Prelude.{Result, Ok, Err, IfOk, IfErr, true, false}
 use Rattle.std.specs.Result.{IsErrAnd}
 use Rattle.std.proofs.lemmas.Result.{err_from_is_err_and}
 use Rattle.burr_io.specs.Sink.{SinkView}
 use Rattle.burr_assembly.specs.Text.{Assembly, IsText}
-use Rattle.burr_assembly.specs.Homes.{homes_of}
+use Rattle.burr_assembly.specs.Homes.{home_of, homes_of}
 use Rattle.burr_container.specs.Containers.{KeptContainer, IsContainer, HasPlan}
 use Rattle.burr_container.specs.Plans.{Plan}
-use Rattle.burr_bench.specs.Bench.{Program}
-use Rattle.burr_bench.specs.BenchViews.{Benched}
-use Rattle.burr_bench.specs.Programs.{plan_program}
+use Rattle.burr_state.specs.Bench.{Program}
+use Rattle.burr_state.specs.Benches.{Benched}
+use Rattle.burr_state.specs.Programs.{plan_program}
 use Rattle.burr_verify.specs.Accepting.{Judged, judged, IsAccepted}
-use Rattle.burr_verify.specs.VerifyLaws.{OneJudging, JudgingIsFraming, FittingIsFromContainer}
-use Rattle.burr_verify.specs.Pass.{Passed, Refuses, FailedCheck}
+use Rattle.burr_verify.specs.Refusals.{another_assembly}
 use Rattle.burr_verify.specs.declared.refusal.Refusal.{Refusal}
 use Rattle.burr_runs.specs.Answers.{answers_text}
 use Rattle.burr_runs.specs.Headline.{FailsSafely}
 use Rattle.burr_runs.specs.Output.{IsSheetOf}
 use Rattle.burr_runs.specs.Running.{FailsInSheet}
-use Rattle.burr_runs.specs.Verdicts.{IsRefusedBy, FailsInVerdict}
+use Rattle.burr_runs.specs.Verdicts.{IsRefusedBy, FailsInVerdict, plan_refusal}
 use Rattle.burr.specs.declared.fault.Fault.{Fault}
 use Rattle.burr.specs.Faults.{line_of, output_failed}
 use Rattle.burr_command.specs.declared.job.PlanTask.{PlanTask}
-use Rattle.burr.specs.Ends.{status_of}
-use Rattle.burr.specs.PlanEnds.{Ends, PutsEnd, PutsFrontOfEnd, FailsToEnd, IsRead, IsFor, CheckEnds, RunEnds, TryEnds, AnswersEnd, SafeEnds, BenchEnds, TaskEnds, AssemblyEnds, TextEnds}
+use Rattle.burr_command.specs.declared.job.PlanTask.TheVariants.{Check, Run, Try}
+use Rattle.burr.specs.Statuses.{status_of}
+use Rattle.burr.specs.declared.status.Status.{Status}
+use Rattle.burr.specs.declared.status.Status.TheVariants.{Done, Refused}
+use Rattle.burr.specs.PlanEnds.{Ends, PutsEnd, PutsFrontOfEnd, FailsToEnd, IsRefusal, IsRead, IsFor, IsMisfit, CheckEnds, RunEnds, TryEnds, AnswersEnd, SafeEnds, BenchEnds, TaskEnds, AssemblyEnds, TextEnds}
 
 -- all that may be printed at one stage may be printed at the other
 abbrev pub AreAmong : Ends → Ends → Type 0
-AreAmong These Those = (output : List ℕ) (status : ℕ) → These output status → Those output status
+AreAmong These Those = (output : List ℕ) (status : Status) → These output status → Those output status
 
-pub puts_among : {S : Type 0} (sink : SinkView S) (before behind : S) (These Those : Ends) (r : Result ℕ Fault)
+pub puts_among : {S : Type 0} (sink : SinkView S) (before behind : S) (These Those : Ends) (r : Result Status Fault)
     → AreAmong These Those → IfOk r (PutsEnd sink before behind These) → IfOk r (PutsEnd sink before behind Those)
 puts_among sink before behind These Those (Ok status) among (output, is, takes) = (output, among output status is, takes)
 puts_among sink before behind These Those (Err fault) among puts = tt
 
-pub fails_among : {S : Type 0} (sink : SinkView S) (before behind : S) (These Those : Ends) (r : Result ℕ Fault)
+pub fails_among : {S : Type 0} (sink : SinkView S) (before behind : S) (These Those : Ends) (r : Result Status Fault)
     → AreAmong These Those → IfErr r (λ fault. FailsToEnd sink before behind These (line_of fault))
     → IfErr r (λ fault. FailsToEnd sink before behind Those (line_of fault))
 fails_among sink before behind These Those (Ok status) among fails = tt
@@ -43,7 +46,7 @@ fails_among sink before behind These Those (Err fault) among (inl (line, (output
 fails_among sink before behind These Those (Err fault) among (inr want) = inr want
 
 -- a failed write, with what was to be printed
-pub fails_by_write : {S : Type 0} (sink : SinkView S) (before behind : S) (AreEnds : Ends) (r : Result ℕ Fault)
+pub fails_by_write : {S : Type 0} (sink : SinkView S) (before behind : S) (AreEnds : Ends) (r : Result Status Fault)
     → IsErrAnd r (λ fault. line_of fault ≡ output_failed) → PutsFrontOfEnd sink before behind AreEnds
     → IfErr r (λ fault. FailsToEnd sink before behind AreEnds (line_of fault))
 fails_by_write sink before behind AreEnds r err front = let p = err_from_is_err_and r err in rw p.1 (inl (p.2, front))
@@ -55,8 +58,8 @@ no_end P Q r err = let p = err_from_is_err_and r err in rw p.1 tt
 -- a front of a verdict's line
 pub check_front : {S : Type 0} (sink : SinkView S) (before behind : S) (kept : KeptContainer) (a : Assembly)
     → FailsInVerdict sink before behind kept a → PutsFrontOfEnd sink before behind (CheckEnds kept a)
-check_front sink before behind kept a (true, line, is, fails) = (line, 0, inl (is, refl), fails)
-check_front sink before behind kept a (false, line, is, fails) = (line, 1, inr (is, refl), fails)
+check_front sink before behind kept a (true, line, is, fails) = (line, Done, inl (is, refl), fails)
+check_front sink before behind kept a (false, line, is, fails) = (line, Refused, inr (is, refl), fails)
 
 -- a front of an accepted plan's sheet
 pub safe_front : {S : Type 0} (sink : SinkView S) (before behind : S) (j : Judged) (text : List ℕ) (answers : List ℤ) → text ≡ answers_text answers
@@ -64,30 +67,32 @@ pub safe_front : {S : Type 0} (sink : SinkView S) (before behind : S) (j : Judge
 safe_front sink before behind j text answers read (p, is, output, outcome, safe, fails) =
     (output, status_of outcome, inr (answers, read, (p, is, outcome, safe, refl)), fails)
 
--- what the laws of judgements say
-pub record Laws : Type 0 where
-  pub one : OneJudging
-  pub framed : JudgingIsFraming
-  pub from_container : FittingIsFromContainer
+-- what is printed of a plan that is refused is its refusal
+pub refused_among : (kept : KeptContainer) (a : Assembly) (text : List ℕ) (r : Refusal) → IsRefusedBy kept a r
+    → AreAmong (IsRefusal (plan_refusal a r)) (RunEnds kept a text)
+refused_among kept a text r refused output status (same, is) = inl ((r, refused, same), is)
 
--- nothing wrong is no refusal
-apart : (r : FailedCheck) → Passed ≡ Refuses r → ⊥
-apart r same = cc
+-- what `try` prints of a plan for another assembly is its refusal
+pub try_misfit : (kept : KeptContainer) (a : Assembly) (text : List ℕ) (r : Refusal) → r ≡ another_assembly → IsMisfit kept a
+    → AreAmong (IsRefusal (plan_refusal a r)) (TryEnds kept a text)
+try_misfit kept a text r another misfit output status (same, is) = inl (misfit, (same ∙ ap (plan_refusal a) another, is))
 
--- a plan that is refused is not accepted
-pub never_both : Laws → (kept : KeptContainer) (a : Assembly) (r : Refusal) → IsRefusedBy kept a r → ¬ IsAccepted (judged kept a)
-never_both laws kept a r refused accepted =
-    let p = accepted.plan in
-    let laid = (laws.from_container p accepted.fits).laid_out in
-    let passes = (laws.framed a.name (homes_of a) _ laid).1 accepted.framed in
-    apart _ ((laws.one a.name (homes_of a) _ laid).1 _ _ passes (refused.1 p accepted.is_container))
+-- there are as many homes as pieces
+as_many_homes : (a : Assembly) → length (homes_of a) ≡ length a.pieces
+as_many_homes a = length-map a.pieces (home_of a.shapes)
 
--- what a check prints of a refused plan is its refusal
-pub refused_among : Laws → (kept : KeptContainer) (a : Assembly) (text : List ℕ) (r : Refusal) → (HasPlan kept → IsRefusedBy kept a r)
-    → AreAmong (CheckEnds kept a) (RunEnds kept a text)
-refused_among laws kept a text r refused output status (inl accepted) =
-    absurd (never_both laws kept a r (refused (accepted.0.0.plan, accepted.0.0.fits, accepted.0.0.is_container)) accepted.0.0)
-refused_among laws kept a text r refused output status (inr is) = inl is
+-- a plan for another assembly is refused as such
+pub misfit_refused : (kept : KeptContainer) (a : Assembly) → HasPlan kept → IsMisfit kept a → IsRefusedBy kept a another_assembly
+misfit_refused kept a has misfit = (has, λ p of. inl ((λ fits. misfit p of (fits.0, fits.1 ∙ as_many_homes a)), refl))
+
+-- and its refusal is a way that each of the three ends
+pub misfit_among : (task : PlanTask) (kept : KeptContainer) (a : Assembly) (text : List ℕ) (r : Refusal) → r ≡ another_assembly → HasPlan kept → IsMisfit kept a
+    → AreAmong (IsRefusal (plan_refusal a r)) (TaskEnds task kept a text)
+misfit_among Check kept a text r another has misfit output status (same, is) =
+    inr ((another_assembly, misfit_refused kept a has misfit, same ∙ ap (plan_refusal a) another), is)
+misfit_among Run kept a text r another has misfit output status (same, is) =
+    inl ((another_assembly, misfit_refused kept a has misfit, same ∙ ap (plan_refusal a) another), is)
+misfit_among Try kept a text r another has misfit output status is = try_misfit kept a text r another misfit output status is
 
 -- the run of an accepted plan is a way that `run` ends
 pub accepted_among : (kept : KeptContainer) (a : Assembly) (text : List ℕ) (j : Judged) → j ≡ judged kept a → IsAccepted j → AreAmong (AnswersEnd text (SafeEnds j)) (RunEnds kept a text)
@@ -117,3 +122,9 @@ container_among task bytes answers a b kept same read output status is =
 -- and with an assembly that was read
 pub text_among : (text : List ℕ) (With : Assembly → Ends) (a : Assembly) → IsText text a → AreAmong (With a) (TextEnds text With)
 text_among text With a read output status is = inr (a, read, is)
+
+-- a plan for another assembly, in a container that was read
+pub misfit_ends : (task : PlanTask) (bytes answers : List ℕ) (a : Assembly) (kept : KeptContainer) (r : Refusal) → IsRead bytes kept → r ≡ another_assembly → IsMisfit kept a
+    → AreAmong (IsRefusal (plan_refusal a r)) (AssemblyEnds task bytes answers a)
+misfit_ends task bytes answers a kept r read another misfit output status is =
+    inr (kept, read, misfit_among task kept a answers r another (read.0, read.1, read.3) misfit output status is)

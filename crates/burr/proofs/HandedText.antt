@@ -8,6 +8,8 @@ use Rattle.burr_io.specs.WholeLines.{Lines, lines_view}
 use Rattle.burr_io.proofs.Common.Lines.{append_known-nil, handed_text, held_front, front_front, failed_front}
 use Rattle.burr.specs.declared.fault.Fault.{Fault}
 use Rattle.burr.specs.Faults.{line_of}
+use Rattle.burr.specs.declared.status.Status.{Status}
+use Rattle.burr.specs.Statuses.{code_of}
 use Rattle.burr.specs.Ends.{took, TakesText, TakesSome, FailsInText, FailsInOutput, HasNoOutcome, WritesLess, LeavesOrFails, IsDone}
 use Rattle.burr.specs.HandedOn.{HandsOnDone}
 use Rattle.burr_io.specs.Source.{SourceView}
@@ -49,7 +51,7 @@ failed_early sink old mid text none fails =
     (front_front (sink.taken old.sink) (sink.taken mid.sink) mid.held text (front, rest, parts, put_since sink old mid front none put), fails.fails)
 
 -- what is printed with a status was handed on
-pub ends_handed : {S : Type 0} (sink : SinkView S) (old mid new : Lines S) (AreEnds : Ends) (done result : Result ℕ Fault) → old.held ≡ []
+pub ends_handed : {S : Type 0} (sink : SinkView S) (old mid new : Lines S) (AreEnds : Ends) (done result : Result Status Fault) → old.held ≡ []
     → HandsOnDone sink mid new done result → IfOk done (PutsEnd (lines_view sink) old mid AreEnds) → IfOk result (PutsEnd sink old.sink new.sink AreEnds)
 ends_handed sink old mid new AreEnds (Ok done) (Ok status) none (same, handed) (output, is, put) =
     (output, subst (λ s. AreEnds output s) (sym same) is, went sink old mid new output none put handed)
@@ -58,7 +60,7 @@ ends_handed sink old mid new AreEnds (Err done) (Ok status) none hands put = abs
 ends_handed sink old mid new AreEnds (Err done) (Err fault) none hands put = tt
 
 -- or why it was not
-pub stops_handed : {S : Type 0} (sink : SinkView S) (old mid new : Lines S) (AreEnds : Ends) (done result : Result ℕ Fault) → old.held ≡ []
+pub stops_handed : {S : Type 0} (sink : SinkView S) (old mid new : Lines S) (AreEnds : Ends) (done result : Result Status Fault) → old.held ≡ []
     → HandsOnDone sink mid new done result → IfOk done (PutsEnd (lines_view sink) old mid AreEnds)
     → IfErr done (λ fault. FailsToEnd (lines_view sink) old mid AreEnds (line_of fault))
     → IfErr result (λ fault. StopsBeforeEnd sink old.sink new.sink AreEnds (line_of fault))
@@ -75,7 +77,7 @@ stops_handed sink old mid new AreEnds (Err done) (Err fault) none (same, left) p
     inr (ap line_of same ∙ line, ap (λ l. l.sink) (left ∙ kept))
 
 -- some text was handed on
-pub some_handed : {S : Type 0} (sink : SinkView S) (old mid new : Lines S) (done result : Result ℕ Fault) → old.held ≡ []
+pub some_handed : {S : Type 0} (sink : SinkView S) (old mid new : Lines S) (done result : Result Status Fault) → old.held ≡ []
     → HandsOnDone sink mid new done result → OnOk done (TakesSome (took ((lines_view sink).taken old) ((lines_view sink).taken mid) ((lines_view sink).has_failed mid)))
     → OnOk result (TakesSome (took (sink.taken old.sink) (sink.taken new.sink) (sink.has_failed new.sink)))
 some_handed sink old mid new (Ok done) (Ok status) none (same, handed) (text, put) = (text, went sink old mid new text none put handed)
@@ -84,7 +86,7 @@ some_handed sink old mid new (Err done) (Ok status) none hands some = absurd han
 some_handed sink old mid new (Err done) (Err fault) none hands some = tt
 
 -- nothing was, or the sink below failed
-pub less_handed : {S : Type 0} (sink : SinkView S) (old mid new : Lines S) (done result : Result ℕ Fault) → old.held ≡ []
+pub less_handed : {S : Type 0} (sink : SinkView S) (old mid new : Lines S) (done result : Result Status Fault) → old.held ≡ []
     → HandsOnDone sink mid new done result → OnOk done (TakesSome (took ((lines_view sink).taken old) ((lines_view sink).taken mid) ((lines_view sink).has_failed mid)))
     → OnErr done (LeavesOrFails (lines_view sink) old mid)
     → OnErr result (WritesLess (took (sink.taken old.sink) (sink.taken new.sink) (sink.has_failed new.sink)))
@@ -98,9 +100,9 @@ less_handed {S} sink old mid new (Err done) (Err fault) none (same, left) some (
     inr (text, subst (λ (l : Lines S). FailsInText (took (sink.taken old.sink) (sink.taken l.sink) (sink.has_failed l.sink)) text) (sym left) early)
 
 -- and the status is what it was
-pub done_handed : {S : Type 0} (sink : SinkView S) (mid new : Lines S) (done result : Result ℕ Fault)
-    → HandsOnDone sink mid new done result → IfOk done IsDone → IfOk result IsDone
-done_handed sink mid new (Ok done) (Ok status) (same, handed) is = subst IsDone (sym same) is
+pub done_handed : {S : Type 0} (sink : SinkView S) (mid new : Lines S) (done result : Result Status Fault)
+    → HandsOnDone sink mid new done result → IfOk done (λ status. IsDone (code_of status)) → IfOk result (λ status. IsDone (code_of status))
+done_handed sink mid new (Ok done) (Ok status) (same, handed) is = subst (λ (s : Status). IsDone (code_of s)) (sym same) is
 done_handed sink mid new (Ok done) (Err fault) hands is = tt
 done_handed sink mid new (Err done) (Ok status) hands is = absurd hands
 done_handed sink mid new (Err done) (Err fault) hands is = tt

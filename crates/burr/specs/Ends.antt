@@ -1,37 +1,15 @@
 -- How the program ends: its status, and what it tells on standard error.
 use Rattle.std.specs.Prelude.{◌≡◌, ◌⊎◌, ◌≤◌, ℕ, List, [], ◌∷◌, Bool, true, Option, codes}
-use Rattle.burr_text.specs.Words.{text_line}
 use Rattle.std.specs.Io.KnownBytes.{Appends}
 use Rattle.burr_io.specs.Sink.{SinkView, HoldsFront}
 use Rattle.burr_runs.specs.declared.outcome.Outcome.{Outcome}
-use Rattle.burr_runs.specs.declared.outcome.Outcome.TheVariants.{Apart, Waiting, Trapped, Stopped, Refused}
 use Rattle.burr_runs.specs.declared.fault.BenchFault.{BenchFault}
 use Rattle.burr_runs.specs.declared.fault.BenchFault.TheVariants.{Read, TooLong, Write, Memory}
 use Rattle.burr_runs.specs.ReadWhole.{IsWholeInput}
 use Rattle.burr_runs.specs.Output.{IsOutput}
 use Rattle.burr_runs.specs.BenchText.{Streams, Succeeds, Fails}
-
--- the status of an outcome
-abbrev pub status_of : Outcome → ℕ
-status_of Apart = 0
-status_of Refused = 1
-status_of Trapped = 1
-status_of Stopped = 1
-status_of Waiting = 5
-
--- the status of a fault
-abbrev pub status_of_fault : BenchFault → ℕ
-status_of_fault Read = 3
-status_of_fault TooLong = 3
-status_of_fault Write = 3
-status_of_fault Memory = 4
-
--- the line of standard error for a fault
-abbrev pub complaint_of : BenchFault → List ℕ
-complaint_of Read = codes "cannot read -\n"
-complaint_of TooLong = codes "cannot read -\n"
-complaint_of Write = codes "cannot write -\n"
-complaint_of Memory = codes "no memory\n"
+use Rattle.burr.specs.Faults.{cannot_read, cannot_write, complaint_of, status_of_complaint}
+use Rattle.burr.specs.Statuses.{code_of, status_of}
 
 -- What a sink had taken before and behind, and whether it has failed.
 pub record Taken : Type 0 where
@@ -58,7 +36,7 @@ TakesText t text = Appends t.old t.new text ⊎ FailsInText t text
 -- The run on the streams had an outcome, which the status tells, and standard error took nothing.
 abbrev pub HasOutcome : Streams → Taken → ℕ → Outcome → Type 0
 HasOutcome streams complaints status outcome =
-    Succeeds streams outcome × (status ≡ status_of outcome) × TakesNothing complaints
+    Succeeds streams outcome × (status ≡ code_of (status_of outcome)) × TakesNothing complaints
 
 -- The sink failed in the output of the whole input.
 abbrev pub FailsInOutput : Streams → Type 0
@@ -77,7 +55,7 @@ HasNoOutcome s Write = FailsInOutput s
 -- The run on the streams had a fault, which the status and standard error tell.
 abbrev pub HasFault : Streams → Taken → ℕ → BenchFault → Type 0
 HasFault streams complaints status fault =
-    HasNoOutcome streams fault × (status ≡ status_of_fault fault)
+    HasNoOutcome streams fault × (status ≡ code_of (status_of_complaint fault))
     × TakesText complaints (complaint_of fault)
 
 -- one of the two
@@ -112,8 +90,7 @@ LeavesOrFails sink old new =
 -- the line that tells that a file or a stream failed
 abbrev pub IsFileLine : List ℕ → Type 0
 IsFileLine line =
-    (name : List ℕ) × ((line ≡ text_line (codes "cannot" ∷ codes "read" ∷ name ∷ []))
-    ⊎ (line ≡ text_line (codes "cannot" ∷ codes "write" ∷ name ∷ [])))
+    (name : List ℕ) × ((line ≡ cannot_read name) ⊎ (line ≡ cannot_write name))
 
 -- the status that goes with what is told: 2 for a fault of the words, 3 for a file or a stream that
 -- failed, 4 for want of memory

@@ -3,3 +3,4 @@ pub mod Faults
 pub mod HandedOn
 pub mod PlanEnds
 pub mod Refusals
+pub mod Statuses

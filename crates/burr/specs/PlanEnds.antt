@@ -12,43 +12,44 @@ use Rattle.burr_container.specs.Faults.{ContainerFails}
 use Rattle.burr_container.specs.Containers.{KeptContainer, IsContainer}
 use Rattle.burr_verify.specs.Accepting.{Judged, judged, IsAccepted}
 use Rattle.burr_verify.specs.Fitting.{FitsAssembly}
-use Rattle.burr_bench.specs.BenchViews.{Benched}
-use Rattle.burr_bench.specs.Programs.{plan_program}
+use Rattle.burr_verify.specs.Refusals.{another_assembly}
+use Rattle.burr_state.specs.Benches.{Benched}
+use Rattle.burr_state.specs.Programs.{plan_program}
 use Rattle.burr_runs.specs.declared.outcome.Outcome.{Outcome}
 use Rattle.burr_runs.specs.declared.answers.AnswersFault.{AnswersFault}
 use Rattle.burr_runs.specs.declared.answers.AnswersFault.TheVariants.{Line, Memory}
 use Rattle.burr_runs.specs.Answers.{answers_text, IsAnswersFault}
 use Rattle.burr_runs.specs.Headline.{IsSafeSheetOf}
 use Rattle.burr_runs.specs.Output.{IsSheetOf}
-use Rattle.burr_runs.specs.Refusals.{refusal}
-use Rattle.burr_runs.specs.Verdicts.{IsVerdictLine}
+use Rattle.burr_runs.specs.Refusals.{assembly_refusal, container_refusal, answers_refusal}
+use Rattle.burr_runs.specs.Verdicts.{IsVerdictLine, plan_refusal}
 use Rattle.burr_command.specs.declared.job.PlanTask.{PlanTask}
 use Rattle.burr_command.specs.declared.job.PlanTask.TheVariants.{Check, Run, Try}
-use Rattle.burr.specs.Ends.{status_of}
 use Rattle.burr.specs.Faults.{output_failed}
-use Rattle.burr.specs.Refusals.{place_line, container_refusal, misfit_line}
+use Rattle.burr.specs.Statuses.{status_of}
+use Rattle.burr.specs.declared.status.Status.{Status}
+use Rattle.burr.specs.declared.status.Status.TheVariants.{Done, Refused}
 
 -- what may be printed, and with which status
 abbrev pub Ends : Type 1
-Ends = List ℕ → ℕ → Type 0
+Ends = List ℕ → Status → Type 0
 
--- a refusal by this line has status 1
+-- a refusal by this line
 abbrev pub IsRefusal : List ℕ → Ends
-IsRefusal line output status = (output ≡ line) × (status ≡ 1)
+IsRefusal line output status = (output ≡ line) × (status ≡ Refused)
 
 -- the plan is refused
 abbrev pub RefusedEnds : KeptContainer → Assembly → Ends
-RefusedEnds kept a output status = IsVerdictLine kept a false output × (status ≡ 1)
+RefusedEnds kept a output status = IsVerdictLine kept a false output × (status ≡ Refused)
 
 -- of `check`: the plan is accepted, or refused
 abbrev pub CheckEnds : KeptContainer → Assembly → Ends
 CheckEnds kept a output status =
-    (IsVerdictLine kept a true output × (status ≡ 0)) ⊎ RefusedEnds kept a output status
+    (IsVerdictLine kept a true output × (status ≡ Done)) ⊎ RefusedEnds kept a output status
 
 -- the faulty line of answers is refused; want of memory is no fault of a text
 abbrev pub FaultyEnds : AnswersFault → Ends
-FaultyEnds (Line line) output status =
-    IsRefusal (place_line (codes "answers") (codes "line") line) output status
+FaultyEnds (Line line) output status = IsRefusal (answers_refusal line) output status
 FaultyEnds Memory output status = ⊥
 
 -- the first faulty line of a text of answers is refused, or it is the text of answers with which it
@@ -93,7 +94,7 @@ IsMisfit kept a = (p : Plan) → IsContainer kept p → ¬ FitsAssembly p a
 -- of `try`: the plan is for another assembly; or answers are judged, and it is run
 abbrev pub TryEnds : KeptContainer → Assembly → List ℕ → Ends
 TryEnds kept a text output status =
-    (IsMisfit kept a × IsRefusal misfit_line output status)
+    (IsMisfit kept a × IsRefusal (plan_refusal a another_assembly) output status)
     ⊎ (IsFor kept a × AnswersEnd text (SheetEnds kept a) output status)
 
 -- of each of the three, with a text of answers
@@ -118,7 +119,7 @@ ContainerEnds bytes With output status =
 abbrev pub TextEnds : List ℕ → (Assembly → Ends) → Ends
 TextEnds text With output status =
     ((fault : AssemblyFault) × FirstFault text fault
-    × IsRefusal (refusal text fault) output status)
+    × IsRefusal (assembly_refusal text fault) output status)
     ⊎ ((a : Assembly) × IsText text a × With a output status)
 
 -- a container and a text of answers, for an assembly
@@ -130,14 +131,14 @@ abbrev pub PlanEnds : PlanTask → List ℕ → List ℕ → List ℕ → Ends
 PlanEnds task text bytes answers = TextEnds text (AssemblyEnds task bytes answers)
 
 -- a sink took what is printed with this status
-abbrev pub PutsEnd : {S : Type 0} → SinkView S → S → S → Ends → ℕ → Type 0
+abbrev pub PutsEnd : {S : Type 0} → SinkView S → S → S → Ends → Status → Type 0
 PutsEnd sink before behind AreEnds status =
     (output : List ℕ) × AreEnds output status × Takes sink before behind output
 
 -- a sink failed, and had taken a front of what is to be printed
 abbrev pub PutsFrontOfEnd : {S : Type 0} → SinkView S → S → S → Ends → Type 0
 PutsFrontOfEnd sink before behind AreEnds =
-    (output : List ℕ) × (status : ℕ) × AreEnds output status
+    (output : List ℕ) × (status : Status) × AreEnds output status
     × FailsWithin sink before behind output
 
 -- why there is no end, by what is told on standard error: the sink failed; or memory was refused, and
@@ -150,7 +151,7 @@ FailsToEnd sink before behind AreEnds line =
 -- a sink failed, and holds a front of what it held before and of what is to be printed
 abbrev pub HoldsFrontOfEnd : {S : Type 0} → SinkView S → S → S → Ends → Type 0
 HoldsFrontOfEnd sink before behind AreEnds =
-    (output : List ℕ) × (status : ℕ) × AreEnds output status
+    (output : List ℕ) × (status : Status) × AreEnds output status
     × HoldsFront (sink.taken before) (sink.taken behind) output
     × IsTrue (sink.has_failed behind)
 

@@ -1,8 +1,12 @@
+ghost use Rattle.std.specs.Prelude.{◌≡◌};
 ghost use Rattle.burr_io.specs.Sink.{Puts};
 ghost use Rattle.burr.specs.Ends.{Means};
-ghost use Rattle.burr.specs.Faults.{line_of};
+ghost use Rattle.burr.specs.Faults.{line_of, status_of_fault};
+ghost use Rattle.burr.specs.Statuses.{code_of};
 
+use crate::status::Status;
 use burr_io::{Sink, WriteFault, put_words};
+use burr_runs::BenchFault;
 use std::alloc::AllocError;
 
 /// Why the program stopped before it was done; a standard stream's name is `-`.
@@ -42,16 +46,33 @@ impl From<WriteFault> for Fault<'_> {
     }
 }
 
+/// A fault of a run on the standard streams.
+impl From<BenchFault> for Fault<'_> {
+    ghost use Rattle.std.specs.Prelude.{◌≡◌};
+    ghost use Rattle.burr.specs.Faults.{line_of, status_of_fault, complaint_of, status_of_complaint};
+
+    ghost from_gives = { λ fault e. (line_of e ≡ complaint_of fault)
+        × (status_of_fault e ≡ status_of_complaint fault) };
+
+    fn from(fault: BenchFault) -> Self {
+        match fault {
+            BenchFault::Read | BenchFault::TooLong => Fault::Read("-"),
+            BenchFault::Write => Fault::Write("-"),
+            BenchFault::Memory => Fault::Memory,
+        }
+    }
+}
+
 impl Fault<'_> {
-    /// The status to end with: 2 for a fault of the words, 3 where a file or a stream failed, or gave
-    /// too many bytes, 4 where memory was refused.
-    pub fn status(&self) -> u8
-        ensures { Means result (line_of self.now) }
+    /// The status to end with.
+    pub fn status(&self) -> Status
+        ensures status { result ≡ status_of_fault self.now }
+        ensures means { Means (code_of result) (line_of self.now) }
     {
         match self {
-            Fault::Unknown(_) | Fault::Same(..) => 2,
-            Fault::Read(_) | Fault::Write(_) => 3,
-            Fault::Memory => 4,
+            Fault::Unknown(_) | Fault::Same(..) => Status::CommandLine,
+            Fault::Read(_) | Fault::Write(_) => Status::Failed,
+            Fault::Memory => Status::Memory,
         }
     }
 }

@@ -3,13 +3,14 @@
 ghost use Rattle.burr.specs.HandedOn.{HandsOnDone};
 
 use crate::fault::Fault;
+use crate::status::Status;
 use burr_io::{Sink, WholeLines};
 
 /// What was done, once all that was put for it is handed on; after a fault nothing is.
 pub fn hand_on<'a, W: Sink, const N: usize>(
-    done: Result<u8, Fault<'a>>,
+    done: Result<Status, Fault<'a>>,
     sink: &mut WholeLines<W, N>,
-) -> Result<u8, Fault<'a>>
+) -> Result<Status, Fault<'a>>
     ensures { HandsOnDone W.Sink sink.old sink.new done.entry result }
 {
     match done {

@@ -1,13 +1,15 @@
 //! burr takes interlocking puzzles apart by programs: what the program of this name does.
 #![tactic(auto)]
 
+mod explain_command;
 mod fault;
+mod file_commands;
 mod files;
 mod handing;
-mod jobs;
-mod plans;
+mod plan_commands;
+mod plan_text_refusal;
 mod program;
-mod refusal;
+mod status;
 
 use crate::program::{end_without_words, run_words};
 use burr_io::{Reading, WholeLines, Writing};

@@ -6,22 +6,22 @@ ghost use Rattle.burr_io.specs.Sink.{Takes};
 ghost use Rattle.burr_runs.specs.BenchText.{streams};
 ghost use Rattle.burr.specs.Ends.{took, TakesText, FailsInText, TakesSome, WritesLess};
 ghost use Rattle.burr.specs.Ends.{IsDone, IsRun, IsEnd};
-ghost use Rattle.burr.specs.Faults.{line_of};
-ghost use Rattle.burr.specs.Ends.{complaint_of, status_of, status_of_fault};
+ghost use Rattle.burr.specs.Ends.{Means};
+ghost use Rattle.burr.specs.Faults.{complaint_of, line_of, status_of_fault};
+ghost use Rattle.burr.specs.Statuses.{code_of};
 
+use crate::explain_command::explain_line;
 use crate::fault::{Fault, put_fault};
+use crate::file_commands::{assemble_file, list_file, upgrade_file};
 use crate::handing::hand_on;
-use crate::jobs::{assemble_file, explain_line, list_file, upgrade_file};
-use crate::plans::use_files;
+use crate::plan_commands::use_files;
+use crate::status::Status;
 use burr_command::{Job, Reply, Request, request_of};
 use burr_io::{Sink, Source, WholeLines, WriteFault, put_all};
-use burr_runs::{BenchFault, Outcome, bench_text};
+use burr_runs::{BenchFault, bench_text};
 use std::alloc::{AllocError, Global};
 use std::io::ErrorKind;
 use std::rt::Files;
-
-/// The status of a fault of the command line.
-const COMMAND_LINE: u8 = 2;
 
 /// Does all that the program does, and gives the status to end with. Without a word but the
 /// program's name it writes the output for the source to the sink, as `bench_text` does. With more
@@ -55,12 +55,12 @@ pub fn run_words<F: Files + AllocGlobal, R: Source, W: Sink, E: Sink, const N: u
 {
     let alloc = files.alloc();
     if words.len() <= 1 {
-        return run(alloc, source, sink, complaints);
+        return run(alloc, source, sink, complaints).code();
     }
     match request_of(alloc, words) {
-        Ok(Request::Reply(reply)) => give(&reply, sink, complaints),
-        Ok(Request::Job(job)) => work(files, &job, source, sink, complaints),
-        Err(AllocError) => end_by(BenchFault::Memory, complaints),
+        Ok(Request::Reply(reply)) => give(&reply, sink, complaints).code(),
+        Ok(Request::Job(job)) => work(files, &job, source, sink, complaints).code(),
+        Err(AllocError) => end_by(&Fault::Memory, complaints).code(),
     }
 }
 
@@ -71,21 +71,18 @@ fn work<F: Files + AllocGlobal, R: Source, W: Sink, E: Sink, const N: usize>(
     source: &mut R,
     sink: &mut WholeLines<W, N>,
     complaints: &mut WholeLines<E, N>,
-) -> u8
+) -> Status
     requires fresh { sink.old.held ≡ [] }
     requires told { complaints.old.held ≡ [] }
     ensures { IsEnd
         (took (W.taken sink.old.sink) (W.taken sink.new.sink) (W.has_failed sink.new.sink))
         (took (E.taken complaints.old.sink) (E.taken complaints.new.sink)
         (E.has_failed complaints.new.sink))
-        result }
+        (code_of result) }
 {
     match do_job(files, job, source, sink) {
         Ok(status) => status,
-        Err(fault) => {
-            complain_of(&fault, complaints);
-            fault.status()
-        }
+        Err(fault) => end_by(&fault, complaints),
     }
 }
 
@@ -95,9 +92,9 @@ fn do_job<'a, F: Files + AllocGlobal, R: Source, W: Sink, const N: usize>(
     job: &'a Job<'_>,
     source: &mut R,
     sink: &mut WholeLines<W, N>,
-) -> Result<u8, Fault<'a>>
+) -> Result<Status, Fault<'a>>
     requires fresh { sink.old.held ≡ [] }
-    ensures status { IfOk result IsDone }
+    ensures status { IfOk result (λ status. IsDone (code_of status)) }
     ensures ok { OnOk result (TakesSome
         (took (W.taken sink.old.sink) (W.taken sink.new.sink) (W.has_failed sink.new.sink))) }
     ensures err { OnErr result (WritesLess
@@ -169,13 +166,13 @@ pub fn end_without_words<E: Sink, const N: usize>(
         (codes "error: a word of the command line is not UTF-8\n") }
 {
     if kind == ErrorKind::OutOfMemory {
-        return end_by(BenchFault::Memory, complaints);
+        return end_by(&Fault::Memory, complaints).code();
     }
     complain(
         b"error: a word of the command line is not UTF-8\n",
         complaints,
     );
-    COMMAND_LINE
+    Status::CommandLine.code()
 }
 
 /// Puts a reply where it belongs, and gives the status to end with.
@@ -183,23 +180,23 @@ fn give<W: Sink, E: Sink, const N: usize>(
     reply: &Reply,
     sink: &mut WholeLines<W, N>,
     complaints: &mut WholeLines<E, N>,
-) -> u8
+) -> Status
     requires fresh { sink.old.held ≡ [] }
     requires told { complaints.old.held ≡ [] }
     ensures { IsEnd
         (took (W.taken sink.old.sink) (W.taken sink.new.sink) (W.has_failed sink.new.sink))
         (took (E.taken complaints.old.sink) (E.taken complaints.new.sink)
         (E.has_failed complaints.new.sink))
-        result }
+        (code_of result) }
 {
     let text = reply.text.as_bytes();
     if reply.is_fault {
         complain(text, complaints);
-        return COMMAND_LINE;
+        return Status::CommandLine;
     }
     match put_whole(text, sink) {
-        Ok(()) => 0,
-        Err(WriteFault) => end_by(BenchFault::Write, complaints),
+        Ok(()) => Status::Done,
+        Err(fault) => end_by(&Fault::from(fault), complaints),
     }
 }
 
@@ -223,65 +220,34 @@ fn run<R: Source, W: Sink, E: Sink, const N: usize>(
     source: &mut R,
     sink: &mut WholeLines<W, N>,
     complaints: &mut WholeLines<E, N>,
-) -> u8
+) -> Status
     requires fresh { sink.old.held ≡ [] }
     requires told { complaints.old.held ≡ [] }
     ensures { IsRun
         (streams R.Source source.old source.new W.Sink sink.old.sink sink.new.sink)
         (took (E.taken complaints.old.sink) (E.taken complaints.new.sink)
         (E.has_failed complaints.new.sink))
-        result }
+        (code_of result) }
 {
     match bench_text(alloc, source, sink) {
         Ok(outcome) => match sink.flush() {
-            Ok(()) => outcome_status(outcome),
-            Err(WriteFault) => end_by(BenchFault::Write, complaints),
+            Ok(()) => Status::from(outcome),
+            Err(WriteFault) => end_by(&Fault::from(BenchFault::Write), complaints),
         },
-        Err(fault) => end_by(fault, complaints),
+        Err(fault) => end_by(&Fault::from(fault), complaints),
     }
 }
 
 /// Tells a fault, and gives the status to end with.
-fn end_by<E: Sink, const N: usize>(fault: BenchFault, complaints: &mut WholeLines<E, N>) -> u8
+fn end_by<E: Sink, const N: usize>(fault: &Fault<'_>, complaints: &mut WholeLines<E, N>) -> Status
     requires told { complaints.old.held ≡ [] }
-    ensures status { result ≡ status_of_fault fault }
+    ensures status { result ≡ status_of_fault fault.now }
+    ensures means { Means (code_of result) (line_of fault.now) }
     ensures told { TakesText
         (took (E.taken complaints.old.sink) (E.taken complaints.new.sink)
         (E.has_failed complaints.new.sink))
-        (complaint_of fault) }
+        (line_of fault.now) }
 {
-    complain(complaint(fault), complaints);
-    fault_status(fault)
-}
-
-/// The status of an outcome.
-pub fn outcome_status(outcome: Outcome) -> u8
-    ensures { result ≡ status_of outcome }
-{
-    match outcome {
-        Outcome::Apart => 0,
-        Outcome::Refused | Outcome::Trapped | Outcome::Stopped => 1,
-        Outcome::Waiting => 5,
-    }
-}
-
-/// The status of a fault.
-fn fault_status(fault: BenchFault) -> u8
-    ensures { result ≡ status_of_fault fault }
-{
-    match fault {
-        BenchFault::Read | BenchFault::TooLong | BenchFault::Write => 3,
-        BenchFault::Memory => 4,
-    }
-}
-
-/// The line of standard error for a fault.
-fn complaint(fault: BenchFault) -> &'static [u8]
-    ensures { result.now ≡ complaint_of fault }
-{
-    match fault {
-        BenchFault::Read | BenchFault::TooLong => b"cannot read -\n",
-        BenchFault::Write => b"cannot write -\n",
-        BenchFault::Memory => b"no memory\n",
-    }
+    complain_of(fault, complaints);
+    fault.status()
 }

@@ -1,7 +1,1 @@
-pub mod Callers
-pub mod Calls
-pub mod Conditions
-pub mod Near
-pub mod Questions
-pub mod Steps
 pub mod Ways

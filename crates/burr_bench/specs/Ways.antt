@@ -5,33 +5,35 @@ use Rattle.burr_voxels.specs.Grid.{plus, minus, along}
 use Rattle.burr_code.specs.PieceSets.{IsInSet}
 use Rattle.burr_code.specs.Places.{Placement, LiesAt}
 use Rattle.burr_assembly.specs.Homes.{home_at}
-use Rattle.burr_blocking.specs.Pairs.{IsBlocked, IsFreeFrom}
+use Rattle.burr_blocking.specs.declared.query.Query.{Query}
+use Rattle.burr_blocking.specs.declared.query.Query.TheVariants as queries
+use Rattle.burr_blocking.specs.Pairs.{Clears}
 use Rattle.burr_bench.specs.declared.checked.way.Way.{Way}
 use Rattle.burr_bench.specs.declared.checked.way.Way.TheVariants as ways
 
--- where a piece is asked of: behind its one unit, or where it sets out
+-- what is asked of a gripped piece and another one of the tray
+abbrev pub query_of : Way → Query
+query_of (ways.Unit direction) = queries.Overlap
+query_of (ways.Out direction) = queries.Exit direction
+
+-- where a piece is asked of: after its one unit, or where it sets out
 abbrev pub setting_out : Way → Cell → Cell
 setting_out (ways.Unit direction) offset = plus offset (along direction (pos 1))
 setting_out (ways.Out direction) offset = offset
 
--- the first piece, displaced by d, passes the second: it does not overlap it there, or never from
--- there on
-abbrev pub Passes : Way → List Cell → List Cell → Cell → Type 0
-Passes (ways.Unit direction) ps qs d = ¬ IsBlocked ps qs d
-Passes (ways.Out direction) ps qs d = IsFreeFrom ps qs d direction
-
--- piece p at this offset passes piece q, if that lies in the tray
-abbrev pub PassesPiece : Way → List (List Cell) → List (Placement Cell) → ℕ → ℕ → Cell → ℕ → Type 0
-PassesPiece way homes places tray p from q =
+-- piece p at this offset keeps clear of piece q, if that lies in the tray
+abbrev pub PassesPiece : Query → List (List Cell) → List (Placement Cell) → ℕ → ℕ → Cell → ℕ
+    → Type 0
+PassesPiece query homes places tray p from q =
     (there : Cell) → LiesAt places q tray there
-    → Passes way (home_at homes p) (home_at homes q) (minus from there)
+    → Clears query (home_at homes p) (home_at homes q) (minus from there)
 
 -- piece p, if it lies in the tray, passes each piece that is not in the group
 abbrev pub PassesRest : Way → List (List Cell) → List (Placement Cell) → ℕ → ℕ → ℕ → Type 0
 PassesRest way homes places tray group p =
     (offset : Cell) → LiesAt places p tray offset
     → (q : ℕ) → (¬ IsInSet group q)
-    → PassesPiece way homes places tray p (setting_out way offset) q
+    → PassesPiece (query_of way) homes places tray p (setting_out way offset) q
 
 -- each piece of the group does
 abbrev pub GroupPasses : Way → List (List Cell) → List (Placement Cell) → ℕ → ℕ → Type 0

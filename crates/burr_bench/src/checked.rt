@@ -5,25 +5,24 @@ mod stepping;
 mod way;
 mod ways;
 
-use crate::program::Program;
-use crate::state::BenchState;
 use burr_blocking::Blocking;
+use burr_state::Bench;
 use std::marker::Model;
 
-/// The bench at work on a program. Whether pieces meet is asked of what answers for the assembly.
+/// The bench at work on a program, each move tested first. Whether pieces meet is asked of what
+/// answers for the assembly.
 #[derive(Drop)]
 pub struct Checked<'a, B: Blocking> {
-    program: Program<'a>,
+    bench: Bench<'a>,
     blocking: &'a B,
-    state: BenchState,
 }
 
 impl<'a, B: Blocking> Model for Checked<'a, B> {
-    ghost use Rattle.burr_bench.specs.BenchViews.{Benched, benched, IsSound};
+    ghost use Rattle.burr_state.specs.Benches.{Benched, benched, IsSound};
 
     ghost Value = { Benched };
 
-    ghost view = { λ b. benched (B.subject b.blocking.now) b.program b.state };
+    ghost view = { λ c. benched (B.subject c.blocking.now) c.bench.program c.bench.state };
 
-    ghost invariant = { λ b. IsSound (benched (B.subject b.blocking.now) b.program b.state) };
+    ghost invariant = { λ c. IsSound (benched (B.subject c.blocking.now) c.bench.program c.bench.state) };
 }

@@ -1,4 +1,4 @@
--- Questions about the pieces of an assembly, and how many were put so far.
+-- Looks, which are queries that are counted: of which assembly's pieces, and how many so far.
 use Rattle.std.specs.Prelude.{◌≡◌, ℕ, ◌+◌}
 use Rattle.burr_assembly.specs.Text.{Assembly}
 
@@ -9,10 +9,10 @@ pub record Counted : Type 0 where
 abbrev pub counted : Assembly → ℕ → Counted
 counted assembly count = record { assembly = assembly; count = count }
 
--- so many questions more
+-- so many looks more
 abbrev pub with_more : ℕ → Counted → Counted
 with_more n looks = record looks { count = looks.count + n }
 
--- as many questions as these were put, and nothing else is another
+-- as many looks as these were made, and nothing else is another
 abbrev pub HasCounted : (ℕ → Type 0) → Counted → Counted → Type 0
 HasCounted AreLooks old new = (n : ℕ) × AreLooks n × (new ≡ with_more n old)

@@ -2,8 +2,9 @@ ghost use Rattle.std.specs.Prelude.{◌≡◌, ◌≢◌, ◌↔◌, ◌<◌, le
 ghost use Rattle.burr_voxels.specs.Near.{IsWithin};
 ghost use Rattle.burr_assembly.specs.Text.{Assembly as AssemblyOf};
 ghost use Rattle.burr_assembly.specs.Homes.{homes_of, home_at};
-ghost use Rattle.burr_blocking.specs.Pairs.{IsBlocked, IsFreeFrom};
+ghost use Rattle.burr_blocking.specs.Pairs.{IsBlocked, IsFreeFrom, Clears};
 
+use crate::query::Query;
 use burr_assembly::Assembly;
 use burr_voxels::{Cell, Direction};
 
@@ -37,4 +38,20 @@ pub trait Blocking {
         requires near { IsWithin 512 displacement }
         ensures { IsTrue result ↔ IsFreeFrom (home_at (homes_of (subject self.now)) piece)
             (home_at (homes_of (subject self.now)) other) displacement direction };
+
+    /// Whether a piece, displaced against another one at home, keeps clear of it as a query asks;
+    /// the same conditions.
+    final fn clears(&self, query: Query, piece: u8, other: u8, displacement: Cell) -> bool
+        requires piece { piece < length (subject self.now).pieces }
+        requires other { other < length (subject self.now).pieces }
+        requires two { piece ≢ other }
+        requires near { IsWithin 512 displacement }
+        ensures { IsTrue result ↔ Clears query (home_at (homes_of (subject self.now)) piece)
+            (home_at (homes_of (subject self.now)) other) displacement }
+    {
+        match query {
+            Query::Overlap => !self.blocked(piece, other, displacement),
+            Query::Exit(direction) => self.free(piece, other, displacement, direction),
+        }
+    }
 }

@@ -12,7 +12,7 @@ use std::alloc::{AllocError, Global};
 use std::marker::Model;
 use table_row::TableRow;
 
-/// The questions of overlap, answered by tables: one for each two pieces, with one truth value for
+/// The queries of pieces, answered by tables: one for each two pieces, with one truth value for
 /// each displacement at which they may overlap. To build them takes time in the product of the two
 /// pieces' cells; `blocked` reads one value, `free` at most 31.
 #[derive(Debug, Drop)]

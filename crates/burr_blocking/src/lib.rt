@@ -6,10 +6,12 @@ mod cell_tables;
 mod extent;
 mod looks;
 mod plain_cells;
+mod query;
 mod row_tables;
 
 pub use blocking::Blocking;
 pub use cell_tables::CellTables;
 pub use looks::Looks;
 pub use plain_cells::PlainCells;
+pub use query::Query;
 pub use row_tables::RowTables;

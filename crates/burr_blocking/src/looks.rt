@@ -1,16 +1,17 @@
 ghost use Rattle.std.specs.Prelude.{◌≡◌, ◌≢◌, ◌↔◌, ◌<◌, ◌^◌, length, IsTrue};
 ghost use Rattle.burr_voxels.specs.Near.{IsWithin};
 ghost use Rattle.burr_assembly.specs.Homes.{homes_of, home_at};
-ghost use Rattle.burr_blocking.specs.Pairs.{IsBlocked, IsFreeFrom};
+ghost use Rattle.burr_blocking.specs.Pairs.{IsBlocked, IsFreeFrom, Clears};
 ghost use Rattle.burr_blocking.specs.Counted.{counted, with_more};
 
 use crate::blocking::Blocking;
+use crate::query::Query;
 use burr_assembly::Assembly;
 use burr_voxels::{Cell, Direction};
 use std::marker::Model;
 
-/// What answers for the pieces of an assembly, each question counted. It is lent to nobody, so that
-/// no question passes uncounted.
+/// What answers for the pieces of an assembly, each query counted: a counted one is a look. It is
+/// lent to nobody, so that no query passes uncounted.
 #[derive(Drop)]
 pub struct Looks<'a, B: Blocking> {
     blocking: &'a B,
@@ -26,7 +27,7 @@ impl<'a, B: Blocking> Model for Looks<'a, B> {
 }
 
 impl<'a, B: Blocking> Looks<'a, B> {
-    /// No question was put yet.
+    /// No look was made yet.
     pub fn new(blocking: &'a B) -> Looks<'a, B>
         ensures { result ≡ counted (B.subject blocking.entry.now) 0 }
     {
@@ -40,7 +41,7 @@ impl<'a, B: Blocking> Looks<'a, B> {
         self.blocking.assembly()
     }
 
-    /// How many questions were put.
+    /// How many looks were made.
     pub fn count(&self) -> u64
         ensures { result ≡ self.now.count }
     {
@@ -48,7 +49,7 @@ impl<'a, B: Blocking> Looks<'a, B> {
     }
 
     /// Whether a piece, displaced, overlaps another one at home, as `Blocking::blocked`; the same
-    /// conditions, and fewer than 2^62 questions so far.
+    /// conditions, and fewer than 2^62 looks so far.
     pub fn blocked(&mut self, piece: u8, other: u8, displacement: Cell) -> bool
         requires piece { piece < length self.old.assembly.pieces }
         requires other { other < length self.old.assembly.pieces }
@@ -77,5 +78,21 @@ impl<'a, B: Blocking> Looks<'a, B> {
     {
         self.count += 1;
         self.blocking.free(piece, other, displacement, direction)
+    }
+
+    /// Whether a piece, displaced against another one at home, keeps clear of it as a query asks,
+    /// as `Blocking::clears`; the same conditions. It is one look.
+    pub fn clears(&mut self, query: Query, piece: u8, other: u8, displacement: Cell) -> bool
+        requires piece { piece < length self.old.assembly.pieces }
+        requires other { other < length self.old.assembly.pieces }
+        requires two { piece ≢ other }
+        requires near { IsWithin 512 displacement }
+        requires room { self.old.count < 2 ^ 62 }
+        ensures answer { IsTrue result ↔ Clears query (home_at (homes_of self.old.assembly) piece)
+            (home_at (homes_of self.old.assembly) other) displacement }
+        ensures counted { self.new ≡ with_more 1 self.old }
+    {
+        self.count += 1;
+        self.blocking.clears(query, piece, other, displacement)
     }
 }

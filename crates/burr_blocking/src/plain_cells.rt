@@ -8,7 +8,7 @@ use burr_assembly::Assembly;
 use burr_voxels::{Cell, Direction, meets, overlap_at};
 use std::marker::Model;
 
-/// The questions of overlap, answered by comparing cells. It takes no memory, and each answer takes
+/// The queries of pieces, answered by comparing cells. It takes no memory, and each answer takes
 /// time in the product of the two pieces' cells: it is the reference for every faster one.
 #[derive(Debug, Drop)]
 pub struct PlainCells<'a> {
@@ -24,7 +24,7 @@ impl<'a> Model for PlainCells<'a> {
 }
 
 impl<'a> PlainCells<'a> {
-    /// The questions of the pieces of an assembly.
+    /// The queries of the pieces of an assembly.
     pub fn new(assembly: &'a Assembly) -> PlainCells<'a>
         ensures { result ≡ assembly.entry.now }
     {

@@ -13,7 +13,7 @@ use piece_rows::PieceRows;
 use std::alloc::{AllocError, Global};
 use std::marker::Model;
 
-/// The questions of overlap, answered by rows of bits: for each two pieces one bit for each
+/// The queries of pieces, answered by rows of bits: for each two pieces one bit for each
 /// displacement at which they may overlap, 31 to a row. To build them takes time in the product of
 /// the one piece's cells and the other's rows, an eighth each; `blocked` reads one bit, `free` one
 /// row along x, and at most 31 rows along y and z.

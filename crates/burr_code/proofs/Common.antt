@@ -1,3 +1,4 @@
+pub mod Conditions
 pub mod Labels
 pub mod Orders
 pub mod PieceSets

@@ -88,7 +88,8 @@ fn file_job<'a>(name: &str, words: &ArgMatches<'a>) -> Option<Job<'a>> {
         }),
         "check" => plan_job(PlanTask::Check, words),
         "run" => plan_job(PlanTask::Run, words),
-        _ => plan_job(PlanTask::Try, words),
+        "try" => plan_job(PlanTask::Try, words),
+        _ => None,
     }
 }
 

@@ -7,6 +7,8 @@ pub mod Judging
 pub mod LabelLists
 pub mod Lawful
 pub mod Lists
+pub mod ListsRead
+pub mod OneContainer
 pub mod Places
 pub mod Procedures
 pub mod Rising

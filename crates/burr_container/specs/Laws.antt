@@ -1,10 +1,11 @@
--- The laws of the bytes of plans.
+-- The laws of the bytes of plans, and of containers.
 use Rattle.std.specs.Prelude.{◌≡◌, ℕ, ◌<◌, List, ◌++◌, All, IsTrue, ◌⊎◌}
 use Rattle.burr_container.specs.declared.fault.ContainerFault.{ContainerFault}
 use Rattle.burr_container.specs.Plans.{Plan}
 use Rattle.burr_container.specs.Spelling.{plan_bytes}
 use Rattle.burr_container.specs.Fitting.{is_fitting}
 use Rattle.burr_container.specs.Faults.{ContainerFails}
+use Rattle.burr_container.specs.Containers.{KeptContainer, IsContainer, HasPlan}
 
 -- Two plans that fit have one spelling only where they are one plan, and neither's spelling begins
 -- the other's.
@@ -33,3 +34,14 @@ abbrev pub OneFault : Type 0
 OneFault =
     (bytes : List ℕ) (a b : ContainerFault)
     → ContainerFails 0 bytes a → ContainerFails 0 bytes b → a ≡ b
+
+-- A container is that of one plan: what is said of any plan of it is said of that one.
+abbrev pub OneKeptPlan : Type 0
+OneKeptPlan =
+    (kept : KeptContainer) (p q : Plan) → HasPlan kept → IsContainer kept p → IsContainer kept q
+    → p ≡ q
+
+-- and that plan is within the format
+abbrev pub KeptPlanFits : Type 0
+KeptPlanFits =
+    (kept : KeptContainer) (p : Plan) → HasPlan kept → IsContainer kept p → IsTrue (is_fitting p)

@@ -29,7 +29,7 @@ pub use fault::ContainerFault;
 pub use frame::{ExitFrame, Frame};
 pub use frame_ref::FrameRef;
 pub use header::Header;
-pub use laws::containers_are_unique;
+pub use laws::{a_container_is_of_one_plan, containers_are_unique};
 pub use place::Place;
 pub use plan::{Plan, Procedure};
 pub use plan_form::PlanForm;

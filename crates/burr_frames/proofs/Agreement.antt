@@ -14,7 +14,7 @@ use Rattle.burr_frames.specs.States.{AbstractState, region_of, cell_at, places_a
 use Rattle.burr_frames.specs.Arrival.{IsAlike}
 use Rattle.burr_frames.specs.Comparing.{offset_forms, Target, IsMetAt, IsMetBy}
 use Rattle.burr_frames.specs.ArrivalViews.{AgreesAtCostOf}
-use Rattle.burr_frames.proofs.Common.Conditions.{same_position}
+use Rattle.burr_code.proofs.Common.Conditions.{same_position}
 use Rattle.burr_frames.proofs.Common.Decided.{no_first, same_head, same_tail}
 
 -- Cutting

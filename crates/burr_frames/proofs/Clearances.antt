@@ -12,15 +12,16 @@ use Rattle.burr_code.specs.PieceSets.{IsInSet, is_left_out}
 use Rattle.burr_code.specs.Places.{Placement, Apart, On, LiesAt}
 use Rattle.burr_code.proofs.Common.PieceSets.{not_left_out, left_out, in_set, not_in_set}
 use Rattle.burr_assembly.specs.Homes.{HasHome, home_at}
+use Rattle.burr_blocking.specs.declared.query.Query.{Query}
+use Rattle.burr_blocking.specs.declared.query.Query.TheVariants as queries
+use Rattle.burr_blocking.specs.Pairs.{Clears}
 use Rattle.burr_blocking.proofs.Common.Displaced.{free_of_difference, difference_of_free, blocked_of_overlap, overlap_of_blocked}
 use Rattle.burr_forms.specs.Forms.{Point, values}
 use Rattle.burr_container.specs.Plans.{FormCell}
-use Rattle.burr_frames.specs.declared.clearing.Question.{Question}
-use Rattle.burr_frames.specs.declared.clearing.Question.TheVariants as questions
 use Rattle.burr_frames.specs.declared.clearing.Side.{Side}
 use Rattle.burr_frames.specs.declared.clearing.Side.TheVariants.{Elsewhere, Gripped, Left}
 use Rattle.burr_frames.specs.States.{cell_at}
-use Rattle.burr_frames.specs.Clearing.{IsSide, IsClear, IsClearAt, IsPairClear, AreSides, cell_of, side_of, offsets_in}
+use Rattle.burr_frames.specs.Clearing.{IsSide, IsClearAt, IsPairClear, AreSides, cell_of, side_of, offsets_in}
 use Rattle.burr_frames.specs.SpaceRules.{OnBenchAt, PairAt}
 use Rattle.burr_frames.specs.Moving.{IsApartBy}
 use Rattle.burr_frames.proofs.BenchOffsets.{cell_of_offset}
@@ -107,28 +108,28 @@ near_difference a b near also = record {
   z_below = above_difference 256 a.z b.z near.z_below also.z_above;
 }
 
-clear_where_apart : (question : Question) (a b : Cell) (ps qs : List Cell) → IsApartBy question (shifted a ps) (shifted b qs)
-    → IsClear question ps qs (minus a b)
-clear_where_apart questions.Blocked a b ps qs apart = λ blocked. apart (overlap_of_blocked a b ps qs blocked)
-clear_where_apart (questions.Free direction) a b ps qs apart = difference_of_free a b ps qs direction apart
+clear_where_apart : (query : Query) (a b : Cell) (ps qs : List Cell) → IsApartBy query (shifted a ps) (shifted b qs)
+    → Clears query ps qs (minus a b)
+clear_where_apart queries.Overlap a b ps qs apart = λ blocked. apart (overlap_of_blocked a b ps qs blocked)
+clear_where_apart (queries.Exit direction) a b ps qs apart = difference_of_free a b ps qs direction apart
 
-apart_where_clear : (question : Question) (a b : Cell) (ps qs : List Cell) → IsClear question ps qs (minus a b)
-    → IsApartBy question (shifted a ps) (shifted b qs)
-apart_where_clear questions.Blocked a b ps qs clear = λ overlap. clear (blocked_of_overlap a b ps qs overlap)
-apart_where_clear (questions.Free direction) a b ps qs clear = free_of_difference a b ps qs direction clear
+apart_where_clear : (query : Query) (a b : Cell) (ps qs : List Cell) → Clears query ps qs (minus a b)
+    → IsApartBy query (shifted a ps) (shifted b qs)
+apart_where_clear queries.Overlap a b ps qs clear = λ overlap. clear (blocked_of_overlap a b ps qs overlap)
+apart_where_clear (queries.Exit direction) a b ps qs clear = free_of_difference a b ps qs direction clear
 
 -- A pair at a point
 
 -- what the condition says of a pair of pieces on these sides
-abbrev pub IsPairOfSidesClear : Question → List (List Cell) → List Side → List ℤ → ℕ → ℕ → Type 0
-IsPairOfSidesClear question homes found numbers p q =
-    IsSide found p Gripped → IsSide found q Left → IsPairClear question homes numbers p q
+abbrev pub IsPairOfSidesClear : Query → List (List Cell) → List Side → List ℤ → ℕ → ℕ → Type 0
+IsPairOfSidesClear query homes found numbers p q =
+    IsSide found p Gripped → IsSide found q Left → IsPairClear query homes numbers p q
 
 -- where each piece is on the bench, it holds of a pair that is apart so
-pub clear_of_apart : (question : Question) (homes : List (List Cell)) (places : List (Placement FormCell)) (tray grip n : ℕ) (found : List Side) (point : Point)
+pub clear_of_apart : (query : Query) (homes : List (List Cell)) (places : List (Placement FormCell)) (tray grip n : ℕ) (found : List Side) (point : Point)
     → AreSides tray grip n places found → n ≤ length homes → OnBenchAt places tray point → (p q : ℕ)
-    → PairAt (IsApartBy question) homes places tray grip point p q → IsPairOfSidesClear question homes found (values point (offsets_in tray places)) p q
-clear_of_apart question homes places tray grip n found point are homed on p q apart gripped left =
+    → PairAt (IsApartBy query) homes places tray grip point p q → IsPairOfSidesClear query homes found (values point (offsets_in tray places)) p q
+clear_of_apart query homes places tray grip n found point are homed on p q apart gripped left =
     let numbers = values point (offsets_in tray places) in
     let (c, lies, bit) = stands_so tray grip n places found are p Gripped gripped in
     let (d, lies_q, out) = stands_so tray grip n places found are q Left left in
@@ -139,18 +140,18 @@ clear_of_apart question homes places tray grip n found point are homed on p q ap
     let home_q : HasHome homes q (home_at homes q) = slice_get-get_or homes q [] (omega (arith, inside_q, few, homed)) in
     let a = cell_at point c in
     let b = cell_at point d in
-    subst (λ (x : Cell). IsClearAt question (home_at homes p) (home_at homes q) (minus x (cell_of numbers q))) (sym (cell_of_offset places tray p c point lies))
-    (subst (λ (y : Cell). IsClearAt question (home_at homes p) (home_at homes q) (minus a y)) (sym (cell_of_offset places tray q d point lies_q)) (
+    subst (λ (x : Cell). IsClearAt query (home_at homes p) (home_at homes q) (minus x (cell_of numbers q))) (sym (cell_of_offset places tray p c point lies))
+    (subst (λ (y : Cell). IsClearAt query (home_at homes p) (home_at homes q) (minus a y)) (sym (cell_of_offset places tray q d point lies_q)) (
       near_difference a b (on p c lies) (on q d lies_q),
-      clear_where_apart question a b (home_at homes p) (home_at homes q)
+      clear_where_apart query a b (home_at homes p) (home_at homes q)
           (apart (home_at homes p) (home_at homes q) c d bit out home home_q lies lies_q),
     ))
 
 -- and a pair is apart so where it holds of it
-pub apart_of_clear : (question : Question) (homes : List (List Cell)) (places : List (Placement FormCell)) (tray grip n : ℕ) (found : List Side) (point : Point)
+pub apart_of_clear : (query : Query) (homes : List (List Cell)) (places : List (Placement FormCell)) (tray grip n : ℕ) (found : List Side) (point : Point)
     → AreSides tray grip n places found → length homes ≤ n → (p q : ℕ)
-    → IsPairOfSidesClear question homes found (values point (offsets_in tray places)) p q → PairAt (IsApartBy question) homes places tray grip point p q
-apart_of_clear question homes places tray grip n found point are homed p q clear p_home q_home c d bit out home home_q lies lies_q =
+    → IsPairOfSidesClear query homes found (values point (offsets_in tray places)) p q → PairAt (IsApartBy query) homes places tray grip point p q
+apart_of_clear query homes places tray grip n found point are homed p q clear p_home q_home c d bit out home home_q lies lies_q =
     let numbers = values point (offsets_in tray places) in
     let inside = slice_get_within homes p p_home home in
     let inside_q = slice_get_within homes q q_home home_q in
@@ -159,8 +160,8 @@ apart_of_clear question homes places tray grip n found point are homed p q clear
     let asked = clear gripped left in
     let a = cell_at point c in
     let b = cell_at point d in
-    subst (λ (cells : List Cell). IsApartBy question (shifted a cells) (shifted b q_home)) (get_or_from_slice_get homes p p_home [] home)
-    (subst (λ (cells : List Cell). IsApartBy question (shifted a (home_at homes p)) (shifted b cells)) (get_or_from_slice_get homes q q_home [] home_q)
-    (apart_where_clear question a b (home_at homes p) (home_at homes q)
-    (subst (λ (y : Cell). IsClear question (home_at homes p) (home_at homes q) (minus a y)) (cell_of_offset places tray q d point lies_q)
-    (subst (λ (x : Cell). IsClear question (home_at homes p) (home_at homes q) (minus x (cell_of numbers q))) (cell_of_offset places tray p c point lies) asked.1))))
+    subst (λ (cells : List Cell). IsApartBy query (shifted a cells) (shifted b q_home)) (get_or_from_slice_get homes p p_home [] home)
+    (subst (λ (cells : List Cell). IsApartBy query (shifted a (home_at homes p)) (shifted b cells)) (get_or_from_slice_get homes q q_home [] home_q)
+    (apart_where_clear query a b (home_at homes p) (home_at homes q)
+    (subst (λ (y : Cell). Clears query (home_at homes p) (home_at homes q) (minus a y)) (cell_of_offset places tray q d point lies_q)
+    (subst (λ (x : Cell). Clears query (home_at homes p) (home_at homes q) (minus x (cell_of numbers q))) (cell_of_offset places tray p c point lies) asked.1))))

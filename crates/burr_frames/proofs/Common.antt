@@ -1,7 +1,6 @@
-pub mod Conditions
 pub mod Decided
 pub mod ExitsRead
-pub mod Freedom
+pub mod Heres
 pub mod Room
 pub mod RuleLooks
 pub mod Search

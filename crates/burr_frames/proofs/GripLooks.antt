@@ -5,6 +5,8 @@ use Rattle.std.proofs.lemmas.List.Elements.{All-head, All-tail}
 use Rattle.burr_voxels.specs.declared.cell.Cell.{Cell}
 use Rattle.burr_voxels.specs.declared.direction.Direction.{Direction}
 use Rattle.burr_assembly.specs.Text.{Assembly}
+use Rattle.burr_blocking.specs.declared.query.Query.{Query}
+use Rattle.burr_blocking.specs.declared.query.Query.TheVariants as queries
 use Rattle.burr_blocking.specs.Counted.{Counted, counted, with_more, HasCounted}
 use Rattle.burr_blocking.proofs.Common.Counts.{none_more}
 use Rattle.burr_code.specs.Places.{Placement, IsPartOfTray, IsEmptyTray}
@@ -14,8 +16,6 @@ use Rattle.burr_forms.specs.Counting.{searched, looks_at_values}
 use Rattle.burr_forms.specs.Forms.{Form, Point}
 use Rattle.burr_forms.specs.PointLaws.{ThePointsAreGiven}
 use Rattle.burr_forms.specs.Points.{IsPointOf, AreRanges, points_of}
-use Rattle.burr_frames.specs.declared.clearing.Question.{Question}
-use Rattle.burr_frames.specs.declared.clearing.Question.TheVariants as questions
 use Rattle.burr_frames.specs.Clearing.{AllClear, AreSides, offsets_in}
 use Rattle.burr_frames.specs.ClearingLooks.{ClearLooks}
 use Rattle.burr_frames.specs.Looks.{clearing_looks, step_looks, aside_looks}
@@ -33,36 +33,36 @@ each_point s P (x ∷ points) all are =
     (all x (All-head (IsPointOf s.ranges s.guards) x points are), each_point s P points all (All-tail (IsPointOf s.ranges s.guards) x points are))
 
 -- the looks of a search, of the forms and sides that it is handed
-abbrev pub SearchLooks : Question → List (List Cell) → Searched → ℕ → Type 0
-SearchLooks question homes h looks =
-    searched (at_values (AllClear question homes h.found) h.forms)
-    (looks_at_values (ClearLooks question homes h.found) h.forms)
+abbrev pub SearchLooks : Query → List (List Cell) → Searched → ℕ → Type 0
+SearchLooks query homes h looks =
+    searched (at_values (AllClear query homes h.found) h.forms)
+    (looks_at_values (ClearLooks query homes h.found) h.forms)
     (points_of h.region.ranges h.region.guards) looks
 
 pub looks_of_clearing : ThePointsAreGiven → (s : AbstractState) (places : List (Placement FormCell)) (n : ℕ)
-    (h : Searched) (question : Question) (homes : List (List Cell)) (looks : ℕ) → IsSearchOf s places n h
+    (h : Searched) (query : Query) (homes : List (List Cell)) (looks : ℕ) → IsSearchOf s places n h
     → n ≡ length homes → AreRanges s.ranges → Everywhere s (OnBenchAt places s.tray)
-    → SearchLooks question homes h looks → clearing_looks homes s places question looks
-looks_of_clearing given s places n h question homes looks is homed ranges on made =
+    → SearchLooks query homes h looks → clearing_looks homes s places query looks
+looks_of_clearing given s places n h query homes looks is homed ranges on made =
     inr (
       on,
-      looks_of_search homes s places question h.found
+      looks_of_search homes s places query h.found
           (subst (λ (m : ℕ). AreSides s.tray s.grip m places h.found) homed is.sides)
           (points_of s.ranges s.guards) looks
           (each_point s (OnBenchAt places s.tray) (points_of s.ranges s.guards) on (given s.ranges s.guards ranges).inside)
-          (subst (λ (r : Region). searched (at_values (AllClear question homes h.found) (offsets_in s.tray places))
-          (looks_at_values (ClearLooks question homes h.found) (offsets_in s.tray places)) (points_of r.ranges r.guards) looks)
+          (subst (λ (r : Region). searched (at_values (AllClear query homes h.found) (offsets_in s.tray places))
+          (looks_at_values (ClearLooks query homes h.found) (offsets_in s.tray places)) (points_of r.ranges r.guards) looks)
           is.region
-          (subst (λ (forms : List Form). searched (at_values (AllClear question homes h.found) forms)
-          (looks_at_values (ClearLooks question homes h.found) forms) (points_of h.region.ranges h.region.guards) looks)
+          (subst (λ (forms : List Form). searched (at_values (AllClear query homes h.found) forms)
+          (looks_at_values (ClearLooks query homes h.found) forms) (points_of h.region.ranges h.region.guards) looks)
           is.forms made)),
     )
 
 -- where a piece is off the bench there is none
 pub no_looks_off_bench : (homes : List (List Cell)) (s : AbstractState) (places : List (Placement FormCell))
-    (question : Question) (point : Point) → IsFirstFailing s (OnBenchAt places s.tray) point
-    → clearing_looks homes s places question 0
-no_looks_off_bench homes s places question point first =
+    (query : Query) (point : Point) → IsFirstFailing s (OnBenchAt places s.tray) point
+    → clearing_looks homes s places query 0
+no_looks_off_bench homes s places query point first =
     inl ((λ all. first.fails (all point first.is_point)), refl)
 
 -- of the same assembly, with so many more
@@ -76,7 +76,7 @@ counted_more old new n same more =
 pub step_looks_on : (homes : List (List Cell)) (s : AbstractState) (direction : Direction)
     (places : List (Placement FormCell)) (old new : Counted) → s.grip ≢ 0
     → places ≡ moved s.grip direction s.places → AllSmallPlaces places
-    → HasCounted (clearing_looks homes s places questions.Blocked) old new
+    → HasCounted (clearing_looks homes s places queries.Overlap) old new
     → HasCounted (step_looks homes s direction) old new
 step_looks_on homes s direction places old new some is small (n, looks, more) = (
   n,
@@ -84,7 +84,7 @@ step_looks_on homes s direction places old new some is small (n, looks, more) = 
     some,
     inr (
       subst AllSmallPlaces is small,
-      subst (λ (to : List (Placement FormCell)). clearing_looks homes s to questions.Blocked n) is looks,
+      subst (λ (to : List (Placement FormCell)). clearing_looks homes s to queries.Overlap n) is looks,
     ),
   ),
   more,
@@ -102,7 +102,7 @@ step_looks_large homes s direction looks some large = (0, inr (some, inl (large,
 pub aside_looks_on : (homes : List (List Cell)) (s : AbstractState) (direction : Direction) (tray : ℕ)
     (places : List (Placement FormCell)) (old new : Counted) → IsPartOfTray s.grip s.places s.tray
     → IsEmptyTray s.places tray → places ≡ s.places
-    → HasCounted (clearing_looks homes s places (questions.Free direction)) old new
+    → HasCounted (clearing_looks homes s places (queries.Exit direction)) old new
     → HasCounted (aside_looks homes s direction tray) old new
 aside_looks_on homes s direction tray places old new part empty is (n, looks, more) = (
   n,
@@ -110,7 +110,7 @@ aside_looks_on homes s direction tray places old new part empty is (n, looks, mo
     part,
     inr (
       empty,
-      subst (λ (to : List (Placement FormCell)). clearing_looks homes s to (questions.Free direction) n) is looks,
+      subst (λ (to : List (Placement FormCell)). clearing_looks homes s to (queries.Exit direction) n) is looks,
     ),
   ),
   more,

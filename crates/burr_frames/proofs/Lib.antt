@@ -17,7 +17,6 @@ pub mod Comparisons
 pub mod Counters
 pub mod ExitMeetings
 pub mod GripLooks
-pub mod Heres
 pub mod LiveForms
 pub mod LooksSoFar
 pub mod MoveVerdicts
@@ -31,7 +30,6 @@ pub mod Paying
 pub mod PlaceTests
 pub mod PlacesRead
 pub mod Reaches
-pub mod Reading
 pub mod Rooms
 pub mod SearchedPairs
 pub mod TopTwo

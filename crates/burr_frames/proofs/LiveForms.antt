@@ -8,7 +8,7 @@ use Rattle.burr_forms.specs.Forms.{Form}
 use Rattle.burr_container.specs.Plans.{Range}
 use Rattle.burr_frames.specs.States.{live_ranges}
 use Rattle.burr_frames.specs.Arrival.{live_forms}
-use Rattle.burr_frames.proofs.Reading.{drop_here}
+use Rattle.burr_container.proofs.Common.ListsRead.{drop_here}
 
 -- forms, and behind them others if there are
 abbrev pub in_front : List Form → Option (List Form) → Option (List Form)

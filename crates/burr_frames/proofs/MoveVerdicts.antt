@@ -7,11 +7,11 @@ use Rattle.burr_voxels.specs.declared.cell.Cell.{Cell}
 use Rattle.burr_code.specs.Places.{Placement}
 use Rattle.burr_assembly.specs.Text.{Assembly}
 use Rattle.burr_assembly.specs.Homes.{homes_of, home_of}
+use Rattle.burr_blocking.specs.declared.query.Query.{Query}
 use Rattle.burr_forms.specs.Forms.{Form, Point, values, IsNear, AllNear}
 use Rattle.burr_forms.specs.Points.{IsRange, AreRanges, InBox}
 use Rattle.burr_forms.specs.Conditions.{Region, at_values, Throughout, FailsFirstAt}
 use Rattle.burr_container.specs.Plans.{FormCell}
-use Rattle.burr_frames.specs.declared.clearing.Question.{Question}
 use Rattle.burr_frames.specs.declared.clearing.Side.{Side}
 use Rattle.burr_frames.specs.declared.rule.Rule.{Rule}
 use Rattle.burr_frames.specs.declared.rule.Rule.TheVariants as rules
@@ -67,7 +67,7 @@ near_inside (range ∷ ranges) (x ∷ point) are inside =
 
 -- Pairs
 
--- what the search is handed, but for its question
+-- what the search is handed, but for its query
 pub record Searched : Type 0 where
   pub region : Region
   pub forms : List Form
@@ -88,58 +88,58 @@ search_of s a places n h same region forms sides =
 pub as_many_homes : (a b : Assembly) (n : ℕ) → n ≡ length a.pieces → a ≡ b → n ≡ length (homes_of b)
 as_many_homes a b n count same = count ∙ ap (λ (x : Assembly). length x.pieces) same ∙ sym (length-map b.pieces (home_of b.shapes))
 
-abbrev Asked : Question → List (List Cell) → List Form → List Side → Point → Type 0
-Asked question homes forms found = at_values (AllClear question homes found) forms
+abbrev Asked : Query → List (List Cell) → List Form → List Side → Point → Type 0
+Asked query homes forms found = at_values (AllClear query homes found) forms
 
-holds_of : (s : AbstractState) (places : List (Placement FormCell)) (n : ℕ) (h : Searched) (question : Question) (homes : List (List Cell))
-    → IsSearchOf s places n h → Throughout h.region (Asked question homes h.forms h.found)
-    → Everywhere s (Asked question homes (offsets_in s.tray places) h.found)
-holds_of s places n h question homes is all =
-    subst (λ (r : Region). Throughout r (Asked question homes (offsets_in s.tray places) h.found)) is.region
-    (subst (λ (forms : List Form). Throughout h.region (Asked question homes forms h.found)) is.forms all)
+holds_of : (s : AbstractState) (places : List (Placement FormCell)) (n : ℕ) (h : Searched) (query : Query) (homes : List (List Cell))
+    → IsSearchOf s places n h → Throughout h.region (Asked query homes h.forms h.found)
+    → Everywhere s (Asked query homes (offsets_in s.tray places) h.found)
+holds_of s places n h query homes is all =
+    subst (λ (r : Region). Throughout r (Asked query homes (offsets_in s.tray places) h.found)) is.region
+    (subst (λ (forms : List Form). Throughout h.region (Asked query homes forms h.found)) is.forms all)
 
-fails_of : (s : AbstractState) (places : List (Placement FormCell)) (n : ℕ) (h : Searched) (question : Question) (homes : List (List Cell)) (point : Point)
-    → IsSearchOf s places n h → FailsFirstAt h.region (Asked question homes h.forms h.found) point
-    → IsFirstFailing s (Asked question homes (offsets_in s.tray places) h.found) point
-fails_of s places n h question homes point is first =
-    subst (λ (r : Region). FailsFirstAt r (Asked question homes (offsets_in s.tray places) h.found) point) is.region
-    (subst (λ (forms : List Form). FailsFirstAt h.region (Asked question homes forms h.found) point) is.forms first)
+fails_of : (s : AbstractState) (places : List (Placement FormCell)) (n : ℕ) (h : Searched) (query : Query) (homes : List (List Cell)) (point : Point)
+    → IsSearchOf s places n h → FailsFirstAt h.region (Asked query homes h.forms h.found) point
+    → IsFirstFailing s (Asked query homes (offsets_in s.tray places) h.found) point
+fails_of s places n h query homes point is first =
+    subst (λ (r : Region). FailsFirstAt r (Asked query homes (offsets_in s.tray places) h.found) point) is.region
+    (subst (λ (forms : List Form). FailsFirstAt h.region (Asked query homes forms h.found) point) is.forms first)
 
 -- what is said of the verdict
-abbrev pub Says : List (List Cell) → AbstractState → List (Placement FormCell) → Question → Rule → Verdict → Type 0
-Says homes s places question rule verdict =
+abbrev pub Says : List (List Cell) → AbstractState → List (Placement FormCell) → Query → Rule → Verdict → Type 0
+Says homes s places query rule verdict =
     everywhere s (OnBenchAt places s.tray) rules.V18
-    (everywhere_of_pairs s (PairAt (IsApartBy question) homes places s.tray s.grip) rule leaves) verdict
+    (everywhere_of_pairs s (PairAt (IsApartBy query) homes places s.tray s.grip) rule leaves) verdict
 
 -- no pair is in each other's way
-pub all_clear : (s : AbstractState) (places : List (Placement FormCell)) (n : ℕ) (h : Searched) (question : Question) (homes : List (List Cell)) (rule : Rule)
+pub all_clear : (s : AbstractState) (places : List (Placement FormCell)) (n : ℕ) (h : Searched) (query : Query) (homes : List (List Cell)) (rule : Rule)
     → IsSearchOf s places n h → n ≡ length homes → Everywhere s (OnBenchAt places s.tray)
-    → Throughout h.region (Asked question homes h.forms h.found) → Says homes s places question rule Leaves
-all_clear s places n h question homes rule is homed on all =
-    let clear = holds_of s places n h question homes is all in
+    → Throughout h.region (Asked query homes h.forms h.found) → Says homes s places query rule Leaves
+all_clear s places n h query homes rule is homed on all =
+    let clear = holds_of s places n h query homes is all in
     inr (
       on,
-      inr (λ point at p q. apart_of_clear question homes places s.tray s.grip n h.found point is.sides (omega (arith, homed)) p q (clear point at p q), refl),
+      inr (λ point at p q. apart_of_clear query homes places s.tray s.grip n h.found point is.sides (omega (arith, homed)) p q (clear point at p q), refl),
     )
 
 -- a pair is in each other's way
-pub first_in_way : (s : AbstractState) (places : List (Placement FormCell)) (n : ℕ) (h : Searched) (question : Question) (homes : List (List Cell)) (rule : Rule)
+pub first_in_way : (s : AbstractState) (places : List (Placement FormCell)) (n : ℕ) (h : Searched) (query : Query) (homes : List (List Cell)) (rule : Rule)
     (point : Point) (pieces : Option (ℕ × ℕ)) (broken : Broken)
     → IsSearchOf s places n h → n ≡ length homes → Everywhere s (OnBenchAt places s.tray)
-    → FailsFirstAt h.region (Asked question homes h.forms h.found) point → FirstPairOf question homes h.found (values point h.forms) pieces
-    → broken ≡ break_of_pieces rule pieces point → Says homes s places question rule (Breaks broken)
-first_in_way s places n h question homes rule point None broken is homed on first pair e = absurd (first.fails pair)
-first_in_way s places n h question homes rule point (Some found) broken is homed on first pair e =
-    let asked = fails_of s places n h question homes point is first in
-    let here = subst (λ (forms : List Form). FirstPairOf question homes h.found (values point forms) (Some found)) is.forms pair in
+    → FailsFirstAt h.region (Asked query homes h.forms h.found) point → FirstPairOf query homes h.found (values point h.forms) pieces
+    → broken ≡ break_of_pieces rule pieces point → Says homes s places query rule (Breaks broken)
+first_in_way s places n h query homes rule point None broken is homed on first pair e = absurd (first.fails pair)
+first_in_way s places n h query homes rule point (Some found) broken is homed on first pair e =
+    let asked = fails_of s places n h query homes point is first in
+    let here = subst (λ (forms : List Form). FirstPairOf query homes h.found (values point forms) (Some found)) is.forms pair in
     let few : n ≤ length homes = omega (arith, homed) in
     let many : length homes ≤ n = omega (arith, homed) in
     let tray = s.tray in
     let grip = s.grip in
-    let failing : IsFirstFailing s (λ (x : Point). (r t : ℕ) → PairAt (IsApartBy question) homes places tray grip x r t) point = record {
+    let failing : IsFirstFailing s (λ (x : Point). (r t : ℕ) → PairAt (IsApartBy query) homes places tray grip x r t) point = record {
       is_point = asked.is_point;
-      fails = λ apart. asked.fails (λ r t. clear_of_apart question homes places tray grip n h.found point is.sides few (on point asked.is_point) r t (apart r t));
-      before = λ q at before r t. apart_of_clear question homes places tray grip n h.found q is.sides many r t (asked.before q at before r t);
+      fails = λ apart. asked.fails (λ r t. clear_of_apart query homes places tray grip n h.found point is.sides few (on point asked.is_point) r t (apart r t));
+      before = λ q at before r t. apart_of_clear query homes places tray grip n h.found q is.sides many r t (asked.before q at before r t);
     } in
     inr (
       on,
@@ -149,8 +149,8 @@ first_in_way s places n h question homes rule point (Some found) broken is homed
         found.1,
         failing,
         (
-          λ apart. here.2 (clear_of_apart question homes places tray grip n h.found point is.sides few (on point asked.is_point) found.0 found.1 apart here.0 here.1),
-          λ r t earlier. apart_of_clear question homes places tray grip n h.found point is.sides many r t (here.3 r t earlier),
+          λ apart. here.2 (clear_of_apart query homes places tray grip n h.found point is.sides few (on point asked.is_point) found.0 found.1 apart here.0 here.1),
+          λ r t earlier. apart_of_clear query homes places tray grip n h.found point is.sides many r t (here.3 r t earlier),
         ),
         ap Breaks e,
       ),

@@ -5,7 +5,7 @@ use Rattle.std.proofs.lemmas.List.{drop_all, length_push, set-append_right}
 use Rattle.burr_forms.specs.Forms.{Form, symbol}
 use Rattle.burr_container.specs.Plans.{Range}
 use Rattle.burr_frames.specs.States.{numbered}
-use Rattle.burr_frames.proofs.Reading.{drop_here}
+use Rattle.burr_container.proofs.Common.ListsRead.{drop_here}
 
 pub none_of : {A : Type 0} (o : Option A) → is_some o ≡ false → o ≡ None
 none_of None e = refl

@@ -7,7 +7,7 @@ use Rattle.burr_text.proofs.Common.Decisions.{decide_below}
 use Rattle.burr_code.specs.PieceSets.{IsInSet}
 use Rattle.burr_code.specs.Places.{Placement, Apart, On, LiesIn, AllLieIn, is_in, count_in, IsEmptyTray}
 use Rattle.burr_code.proofs.Common.PieceSets.{no_bit_above}
-use Rattle.burr_frames.proofs.Common.Conditions.{apart-on, same_tray}
+use Rattle.burr_code.proofs.Common.Conditions.{apart-on, same_tray}
 
 -- One piece
 

@@ -6,11 +6,10 @@ use Rattle.burr_voxels.specs.Near.{IsWithin}
 use Rattle.burr_code.specs.PieceSets.{is_left_out}
 use Rattle.burr_code.specs.Places.{Placement, Apart, On, is_in}
 use Rattle.burr_assembly.specs.Homes.{home_at}
-use Rattle.burr_blocking.specs.Pairs.{IsBlocked, IsFreeFrom}
+use Rattle.burr_blocking.specs.declared.query.Query.{Query}
+use Rattle.burr_blocking.specs.Pairs.{Clears}
 use Rattle.burr_forms.specs.Forms.{Form, number}
 use Rattle.burr_container.specs.Plans.{FormCell}
-use Rattle.burr_frames.specs.declared.clearing.Question.{Question}
-use Rattle.burr_frames.specs.declared.clearing.Question.TheVariants as questions
 use Rattle.burr_frames.specs.declared.clearing.Side.{Side}
 use Rattle.burr_frames.specs.declared.clearing.Side.TheVariants as sides
 
@@ -29,19 +28,14 @@ cell_of values p =
     at (slice_index_or values (3 * p) (pos 0)) (slice_index_or values (3 * p + 1) (pos 0))
     (slice_index_or values (3 * p + 2) (pos 0))
 
--- what is asked of two pieces, one displaced against the other, has the right answer
-abbrev pub IsClear : Question → List Cell → List Cell → Cell → Type 0
-IsClear questions.Blocked ps qs d = ¬ IsBlocked ps qs d
-IsClear (questions.Free direction) ps qs d = IsFreeFrom ps qs d direction
+-- displaced by d, which is not too large, the first piece keeps clear of the second
+abbrev pub IsClearAt : Query → List Cell → List Cell → Cell → Type 0
+IsClearAt query ps qs d = IsWithin 512 d × Clears query ps qs d
 
--- so it has of a displacement that is not too large
-abbrev pub IsClearAt : Question → List Cell → List Cell → Cell → Type 0
-IsClearAt question ps qs d = IsWithin 512 d × IsClear question ps qs d
-
--- so it has of pieces p and q where they have these offsets
-abbrev pub IsPairClear : Question → List (List Cell) → List ℤ → ℕ → ℕ → Type 0
-IsPairClear question homes values p q =
-    IsClearAt question (home_at homes p) (home_at homes q)
+-- so piece p does of piece q where they have these offsets
+abbrev pub IsPairClear : Query → List (List Cell) → List ℤ → ℕ → ℕ → Type 0
+IsPairClear query homes values p q =
+    IsClearAt query (home_at homes p) (home_at homes q)
     (minus (cell_of values p) (cell_of values q))
 
 -- piece p stands on this side
@@ -49,10 +43,10 @@ abbrev pub IsSide : List Side → ℕ → Side → Type 0
 IsSide pieces p side = slice_get pieces p ≡ Some side
 
 -- so it is of each gripped piece and each other piece of the tray
-abbrev pub AllClear : Question → List (List Cell) → List Side → List ℤ → Type 0
-AllClear question homes pieces values =
+abbrev pub AllClear : Query → List (List Cell) → List Side → List ℤ → Type 0
+AllClear query homes pieces values =
     (p q : ℕ) → IsSide pieces p sides.Gripped → IsSide pieces q sides.Left
-    → IsPairClear question homes values p q
+    → IsPairClear query homes values p q
 
 -- where each piece stands: elsewhere, in the tray and gripped, or in the tray and not
 abbrev pub side_of : ℕ → ℕ → ℕ → Placement FormCell → Side
@@ -73,18 +67,18 @@ abbrev pub IsEarlierPair : ℕ → ℕ → ℕ → ℕ → Type 0
 IsEarlierPair r t p q = (r < p) ⊎ ((r ≡ p) × (t < q))
 
 -- the first piece left in the tray of which gripped piece p is not clear; none where it is of each
-abbrev pub FirstAgainst : Question → List (List Cell) → List Side → List ℤ → ℕ → Option ℕ → Type 0
-FirstAgainst question homes pieces values p result =
+abbrev pub FirstAgainst : Query → List (List Cell) → List Side → List ℤ → ℕ → Option ℕ → Type 0
+FirstAgainst query homes pieces values p result =
     MatchOption result
-    ((t : ℕ) → IsSide pieces t sides.Left → IsPairClear question homes values p t)
-    (λ q. IsSide pieces q sides.Left × (¬ IsPairClear question homes values p q)
-    × ((t : ℕ) → t < q → IsSide pieces t sides.Left → IsPairClear question homes values p t))
+    ((t : ℕ) → IsSide pieces t sides.Left → IsPairClear query homes values p t)
+    (λ q. IsSide pieces q sides.Left × (¬ IsPairClear query homes values p q)
+    × ((t : ℕ) → t < q → IsSide pieces t sides.Left → IsPairClear query homes values p t))
 
 -- the first pair that is not clear; none where each is
-abbrev pub FirstPairOf : Question → List (List Cell) → List Side → List ℤ → Option (ℕ × ℕ) → Type 0
-FirstPairOf question homes pieces values result =
-    MatchOption result (AllClear question homes pieces values)
+abbrev pub FirstPairOf : Query → List (List Cell) → List Side → List ℤ → Option (ℕ × ℕ) → Type 0
+FirstPairOf query homes pieces values result =
+    MatchOption result (AllClear query homes pieces values)
     (λ found. IsSide pieces found.0 sides.Gripped × IsSide pieces found.1 sides.Left
-    × (¬ IsPairClear question homes values found.0 found.1)
+    × (¬ IsPairClear query homes values found.0 found.1)
     × ((r t : ℕ) → IsEarlierPair r t found.0 found.1 → IsSide pieces r sides.Gripped
-    → IsSide pieces t sides.Left → IsPairClear question homes values r t))
+    → IsSide pieces t sides.Left → IsPairClear query homes values r t))

@@ -1,9 +1,9 @@
--- The looks of one question to all pairs, of the values that a search carries.
+-- The looks of one query of all pairs, of the values that a search carries.
 use Rattle.std.specs.Prelude.{ℕ, suc, ◌+◌, ℤ, List, [], ◌∷◌, ◌++◌, map, drop, Option, MatchOption}
 use Rattle.burr_voxels.specs.declared.cell.Cell.{Cell}
 use Rattle.burr_assembly.specs.Text.{Assembly}
+use Rattle.burr_blocking.specs.declared.query.Query.{Query}
 use Rattle.burr_forms.specs.Forms.{Form}
-use Rattle.burr_frames.specs.declared.clearing.Question.{Question}
 use Rattle.burr_frames.specs.declared.clearing.Side.{Side}
 use Rattle.burr_frames.specs.declared.clearing.Side.TheVariants as sides
 use Rattle.burr_frames.specs.Clearing.{IsPairClear}
@@ -16,15 +16,15 @@ pub record Asked : Type 0 where
   pub assembly : Assembly
   pub forms : List Form
   pub sides : List Side
-  pub question : Question
+  pub query : Query
 
-abbrev pub asked_of : ℕ → Assembly → List Form → List Side → Question → Asked
-asked_of counter assembly forms pieces question = record {
+abbrev pub asked_of : ℕ → Assembly → List Form → List Side → Query → Asked
+asked_of counter assembly forms pieces query = record {
   counter = counter;
   assembly = assembly;
   forms = forms;
   sides = pieces;
-  question = question;
+  query = query;
 }
 
 -- the pieces that are gripped, rising; the first side is that of piece p
@@ -43,9 +43,9 @@ abbrev pub side_pairs : List Side → List (ℕ × ℕ)
 side_pairs pieces = pairs_of (gripped_sides 0 pieces) (left_sides 0 pieces)
 
 -- so many looks, where the offsets have these values
-abbrev pub ClearLooks : Question → List (List Cell) → List Side → List ℤ → ℕ → Type 0
-ClearLooks question homes pieces values looks =
-    until_one_fails (λ pair. IsPairClear question homes values pair.0 pair.1) (side_pairs pieces)
+abbrev pub ClearLooks : Query → List (List Cell) → List Side → List ℤ → ℕ → Type 0
+ClearLooks query homes pieces values looks =
+    until_one_fails (λ pair. IsPairClear query homes values pair.0 pair.1) (side_pairs pieces)
     looks
 
 -- For loops: what is still to be asked of
@@ -65,11 +65,11 @@ AsksOn IsSo whole left asked =
     (n : ℕ) → until_one_fails IsSo left n → until_one_fails IsSo whole (asked + n)
 
 -- the looks at the pairs of gripped piece p: up to the one that is not clear, or at each
-abbrev pub RowLooks : Question → List (List Cell) → List Side → List ℤ → ℕ → Option ℕ → ℕ
+abbrev pub RowLooks : Query → List (List Cell) → List Side → List ℤ → ℕ → Option ℕ → ℕ
     → Type 0
-RowLooks question homes pieces values p found looks =
+RowLooks query homes pieces values p found looks =
     MatchOption found
-    (AsksOn (λ pair. IsPairClear question homes values pair.0 pair.1) (pairs_behind pieces p 0)
+    (AsksOn (λ pair. IsPairClear query homes values pair.0 pair.1) (pairs_behind pieces p 0)
     (pairs_from pieces (suc p)) looks)
-    (λ q. until_one_fails (λ pair. IsPairClear question homes values pair.0 pair.1)
+    (λ q. until_one_fails (λ pair. IsPairClear query homes values pair.0 pair.1)
     (pairs_behind pieces p 0) looks)

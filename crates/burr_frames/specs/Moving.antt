@@ -3,11 +3,11 @@ use Rattle.std.specs.Prelude.{⊤, ℕ, List, Option, Some, Result}
 use Rattle.burr_voxels.specs.declared.cell.Cell.{Cell}
 use Rattle.burr_code.specs.PieceSets.{IsInSet}
 use Rattle.burr_code.specs.Places.{Placement, LiesIn}
+use Rattle.burr_blocking.specs.declared.query.Query.{Query}
+use Rattle.burr_blocking.specs.declared.query.Query.TheVariants as queries
 use Rattle.burr_container.specs.Plans.{FormCell}
 use Rattle.burr_forms.specs.Forms.{Point}
 use Rattle.burr_frames.specs.declared.breaking.Break.{Break}
-use Rattle.burr_frames.specs.declared.clearing.Question.{Question}
-use Rattle.burr_frames.specs.declared.clearing.Question.TheVariants as questions
 use Rattle.burr_frames.specs.declared.rule.Rule.{Rule}
 use Rattle.burr_frames.specs.declared.rule.Rule.TheVariants as rules
 use Rattle.burr_frames.specs.Breaks.{left}
@@ -16,17 +16,17 @@ use Rattle.burr_frames.specs.States.{AbstractState}
 use Rattle.burr_frames.specs.Verdicts.{Broken, everywhere, everywhere_of_pairs, leaves}
 
 -- how a gripped piece is to lie to one that is left in the tray
-abbrev pub IsApartBy : Question → List Cell → List Cell → Type 0
-IsApartBy questions.Blocked = DoesNotOverlap
-IsApartBy (questions.Free direction) = GoesFree direction
+abbrev pub IsApartBy : Query → List Cell → List Cell → Type 0
+IsApartBy queries.Overlap = DoesNotOverlap
+IsApartBy (queries.Exit direction) = GoesFree direction
 
 -- With these places each piece of the tray is on the bench and each pair of it so, or a rule is
 -- broken; nothing is said of what follows.
-abbrev pub ClearOrBreaks : List (List Cell) → AbstractState → List (Placement FormCell) → Question
+abbrev pub ClearOrBreaks : List (List Cell) → AbstractState → List (Placement FormCell) → Query
     → Rule → Result ⊤ Break → Type 0
-ClearOrBreaks homes s places question rule result =
+ClearOrBreaks homes s places query rule result =
     everywhere s (OnBenchAt places s.tray) rules.V18
-    (everywhere_of_pairs s (PairAt (IsApartBy question) homes places s.tray s.grip) rule leaves)
+    (everywhere_of_pairs s (PairAt (IsApartBy query) homes places s.tray s.grip) rule leaves)
     (left result)
 
 -- a rule that is broken at a point, for these pieces

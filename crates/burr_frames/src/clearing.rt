@@ -9,20 +9,12 @@ ghost use Rattle.burr_frames.specs.Ranges.{AllInReach};
 ghost use Rattle.burr_frames.specs.Clearing.{cell_of, IsSide, IsPairClear, FirstPairOf, FirstAgainst};
 ghost use Rattle.burr_frames.specs.ClearingLooks.{ClearLooks, RowLooks};
 
-use burr_blocking::{Blocking, Looks};
+use burr_blocking::{Blocking, Looks, Query};
 use burr_forms::{Asking, Form};
-use burr_voxels::{Cell, Direction};
+use burr_voxels::Cell;
 
-/// What is asked of two pieces: whether one overlaps the other, or whether it goes out past it
-/// along a direction.
-#[derive(Clone, Copy, Debug, PartialEq, Eq)]
-pub enum Question {
-    Blocked,
-    Free(Direction),
-}
-
-/// Where a piece stands in a question: it is in another tray or apart, it is gripped, or it is in
-/// the tray and left there.
+/// Where a piece stands as pairs are asked of: it is in another tray or apart, it is gripped, or it
+/// is in the tray and left there.
 #[derive(Clone, Copy, Debug, Default, PartialEq, Eq)]
 pub enum Side {
     #[default]
@@ -39,7 +31,7 @@ pub struct Clearing<'a, 'b, B: Blocking> {
     pub forms: &'a [Form],
     /// Of the first pieces, each of which the assembly has.
     pub sides: &'a [Side],
-    pub question: Question,
+    pub query: Query,
     pub looks: &'a mut Looks<'b, B>,
     /// The first pair that was not clear where the condition was asked of last.
     pub found: Option<(u8, u8)>,
@@ -57,7 +49,7 @@ impl<'a, 'b, B: Blocking> Asking for Clearing<'a, 'b, B> {
     ghost Subject = { Asked };
 
     ghost subject = { λ c. asked_of c.looks.ghost_name c.looks.now.assembly c.forms.now c.sides.now
-        c.question };
+        c.query };
 
     ghost count = { λ c. c.looks.now.count };
 
@@ -65,13 +57,13 @@ impl<'a, 'b, B: Blocking> Asking for Clearing<'a, 'b, B> {
 
     ghost Promised = { λ _ values. AllInReach 256 values };
 
-    ghost Says = { λ s values. AllClear s.question (homes_of s.assembly) s.sides values };
+    ghost Says = { λ s values. AllClear s.query (homes_of s.assembly) s.sides values };
 
     ghost most = { λ _. 1024 };
 
-    ghost Counts = { λ s values n. ClearLooks s.question (homes_of s.assembly) s.sides values n };
+    ghost Counts = { λ s values n. ClearLooks s.query (homes_of s.assembly) s.sides values n };
 
-    ghost Kept = { λ c s values. FirstPairOf s.question (homes_of s.assembly) s.sides values
+    ghost Kept = { λ c s values. FirstPairOf s.query (homes_of s.assembly) s.sides values
         c.found };
 
     fn wanted_forms(&self) -> &[Form] {
@@ -79,7 +71,7 @@ impl<'a, 'b, B: Blocking> Asking for Clearing<'a, 'b, B> {
     }
 
     fn ask(&mut self, values: &[i64]) -> bool {
-        self.found = first_pair(self.looks, self.question, self.sides, values);
+        self.found = first_pair(self.looks, self.query, self.sides, values);
         self.found.is_none()
     }
 }
@@ -90,7 +82,7 @@ impl<'a, 'b, B: Blocking> Asking for Clearing<'a, 'b, B> {
 /// conditions.
 fn first_pair<B: Blocking>(
     looks: &mut Looks<'_, B>,
-    question: Question,
+    query: Query,
     sides: &[Side],
     values: &[i64],
 ) -> Option<(u8, u8)>
@@ -99,16 +91,16 @@ fn first_pair<B: Blocking>(
     requires few { length sides.now ≤ 32 }
     requires reach { AllInReach 256 values.now }
     requires room { looks.old.count ≤ 2 ^ 61 }
-    ensures found { FirstPairOf question (homes_of looks.old.assembly) sides.now values.now result }
+    ensures found { FirstPairOf query (homes_of looks.old.assembly) sides.now values.now result }
     ensures counted { (n : ℕ) × (n ≤ 1024)
-        × ClearLooks question (homes_of looks.old.assembly) sides.now values.now n
+        × ClearLooks query (homes_of looks.old.assembly) sides.now values.now n
         × (looks.new ≡ with_more n looks.old) }
 {
     for piece in 0..sides.len() {
         if !is_on(sides, piece, Side::Gripped) {
             continue;
         }
-        if let Some(other) = first_against(looks, question, sides, values, piece as u8) {
+        if let Some(other) = first_against(looks, query, sides, values, piece as u8) {
             return Some((piece as u8, other));
         }
     }
@@ -118,7 +110,7 @@ fn first_pair<B: Blocking>(
 /// The first piece left in the tray that a gripped one is in the way of; the same conditions.
 fn first_against<B: Blocking>(
     looks: &mut Looks<'_, B>,
-    question: Question,
+    query: Query,
     sides: &[Side],
     values: &[i64],
     piece: u8,
@@ -130,17 +122,17 @@ fn first_against<B: Blocking>(
     requires room { looks.old.count ≤ 2 ^ 61 + 1024 }
     requires piece { piece < length sides.now }
     requires gripped { IsSide sides.now piece Gripped }
-    ensures found { FirstAgainst question (homes_of looks.old.assembly) sides.now values.now piece
+    ensures found { FirstAgainst query (homes_of looks.old.assembly) sides.now values.now piece
         result }
     ensures counted { (n : ℕ) × (n ≤ 32)
-        × RowLooks question (homes_of looks.old.assembly) sides.now values.now piece result n
+        × RowLooks query (homes_of looks.old.assembly) sides.now values.now piece result n
         × (looks.new ≡ with_more n looks.old) }
 {
     for other in 0..sides.len() {
         if !is_on(sides, other, Side::Left) {
             continue;
         }
-        if !is_clear(looks, question, values, piece, other as u8) {
+        if !is_clear(looks, query, values, piece, other as u8) {
             return Some(other as u8);
         }
     }
@@ -150,7 +142,7 @@ fn first_against<B: Blocking>(
 /// Whether a piece is clear of another one where the offsets have these values; one look.
 fn is_clear<B: Blocking>(
     looks: &mut Looks<'_, B>,
-    question: Question,
+    query: Query,
     values: &[i64],
     piece: u8,
     other: u8,
@@ -163,14 +155,11 @@ fn is_clear<B: Blocking>(
     requires reach { AllInReach 256 values.now }
     requires room { looks.old.count < 2 ^ 62 }
     ensures answer { IsTrue result
-        ↔ IsPairClear question (homes_of looks.old.assembly) values.now piece other }
+        ↔ IsPairClear query (homes_of looks.old.assembly) values.now piece other }
     ensures counted { looks.new ≡ with_more 1 looks.old }
 {
     let displacement = offset_of(values, piece) - offset_of(values, other);
-    match question {
-        Question::Blocked => !looks.blocked(piece, other, displacement),
-        Question::Free(direction) => looks.free(piece, other, displacement, direction),
-    }
+    looks.clears(query, piece, other, displacement)
 }
 
 /// Whether a piece stands on this side.

@@ -16,17 +16,17 @@ use Rattle.burr_verify.specs.Accepting.{Judged, IsAccepted}
 use Rattle.burr_verify.specs.Fitting.{FitsAssembly}
 use Rattle.burr_verify.specs.VerifyLaws.{FittingIsFromContainer}
 use Rattle.burr_verify.specs.WellFramed.{IsWellFramed}
-use Rattle.burr_bench.specs.declared.closing.Closing.{Closing}
-use Rattle.burr_bench.specs.declared.closing.Closing.TheVariants as closings
-use Rattle.burr_bench.specs.declared.motion.Motion.{Motion}
-use Rattle.burr_bench.specs.Bench.{Setup, BenchState, Program, running, start}
-use Rattle.burr_bench.specs.Framing.{framed_setup}
-use Rattle.burr_bench.specs.Programs.{plan_program}
-use Rattle.burr_bench.specs.Run.{Run}
-use Rattle.burr_bench.specs.SafeRuns.{IsSafeRun, ClosesWell}
-use Rattle.burr_bench.specs.Soundness.{VerifierIsSound}
-use Rattle.burr_bench.specs.SpaceLaws.{HomesAreDisjoint}
-use Rattle.burr_bench.proofs.Common.FramedSetup.{same_setup}
+use Rattle.burr_state.specs.declared.closing.Closing.{Closing}
+use Rattle.burr_state.specs.declared.closing.Closing.TheVariants as closings
+use Rattle.burr_state.specs.declared.motion.Motion.{Motion}
+use Rattle.burr_state.specs.Bench.{Setup, BenchState, Program, running, start}
+use Rattle.burr_soundness.specs.Framing.{framed_setup}
+use Rattle.burr_state.specs.Programs.{plan_program}
+use Rattle.burr_state.specs.Run.{Run}
+use Rattle.burr_soundness.specs.SafeRuns.{IsSafeRun, ClosesWell}
+use Rattle.burr_soundness.specs.Soundness.{VerifierIsSound}
+use Rattle.burr_state.specs.SpaceLaws.{HomesAreDisjoint}
+use Rattle.burr_soundness.proofs.Common.FramedSetup.{same_setup}
 use Rattle.burr_runs.specs.declared.outcome.Outcome.{Outcome}
 use Rattle.burr_runs.specs.Headline.{setup_for, IsSafeSheetOf, EndsWell, PutsSafely, FailsSafely}
 use Rattle.burr_runs.specs.Running.{PutsSheet, FailsInSheet}

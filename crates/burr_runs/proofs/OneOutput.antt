@@ -5,15 +5,15 @@ use Rattle.burr_assembly.specs.Text.{Assembly}
 use Rattle.burr_assembly.specs.Drawings.{AreDistinct}
 use Rattle.burr_assembly.proofs.Common.TextLaws.{one_assembly, no_fault_of_assembly, one_fault}
 use Rattle.burr_runs.specs.declared.outcome.Outcome.{Outcome}
-use Rattle.burr_bench.specs.Bench.{start}
-use Rattle.burr_bench.specs.Run.{Run}
+use Rattle.burr_state.specs.Bench.{start}
+use Rattle.burr_state.specs.Run.{Run}
 use Rattle.burr_sheet.specs.SheetText.{sheet}
 use Rattle.burr_runs.specs.Output.{IsSheet, IsTextOutput, outcome_of}
-use Rattle.burr_runs.specs.Refusals.{refusal}
+use Rattle.burr_runs.specs.Refusals.{assembly_refusal}
 use Rattle.burr_assembly.specs.Homes.{names_of}
-use Rattle.burr_bench.specs.Bench.{bare}
+use Rattle.burr_state.specs.Bench.{bare}
 use Rattle.burr_runs.specs.OutputLaws.{OneOutput}
-use Rattle.burr_bench.proofs.Common.OneRun.{one_result}
+use Rattle.burr_state.proofs.Common.OneRun.{one_result}
 use Rattle.burr_runs.proofs.Inputs.OneInput.{one_input}
 use Rattle.burr_assembly.proofs.Common.OneHomes.{one_homes}
 
@@ -31,7 +31,7 @@ one_sheet a code output other outcome ending distinct s t =
 
 -- and a text with code behind it one output
 one_text_output : (text code output other : List ℕ) (outcome ending : Outcome) → IsTextOutput text code output outcome → IsTextOutput text code other ending → Same output other outcome ending
-one_text_output text code output other outcome ending (inl p) (inl q) = (p.2 ∙ ap (refusal text) (one_fault text p.0 q.0 p.1 q.1) ∙ sym q.2, p.3 ∙ sym q.3)
+one_text_output text code output other outcome ending (inl p) (inl q) = (p.2 ∙ ap (assembly_refusal text) (one_fault text p.0 q.0 p.1 q.1) ∙ sym q.2, p.3 ∙ sym q.3)
 one_text_output text code output other outcome ending (inl p) (inr q) = absurd (no_fault_of_assembly text q.0 p.0 q.1 p.1)
 one_text_output text code output other outcome ending (inr p) (inl q) = absurd (no_fault_of_assembly text p.0 q.0 p.1 q.1)
 one_text_output text code output other outcome ending (inr p) (inr q) =

@@ -7,18 +7,18 @@ use Rattle.burr_assembly.proofs.Common.TextLaws.{fault_or_assembly}
 use Rattle.burr_text.proofs.Common.Decisions.{Decided}
 use Rattle.burr_runs.specs.declared.outcome.Outcome.{Outcome}
 use Rattle.burr_runs.specs.declared.outcome.Outcome.TheVariants.{Refused}
-use Rattle.burr_bench.specs.Bench.{Setup, start}
+use Rattle.burr_state.specs.Bench.{Setup, start}
 use Rattle.burr_assembly.specs.Homes.{homes_of}
-use Rattle.burr_bench.specs.RunLaws.{IsUnderWay}
+use Rattle.burr_state.specs.RunLaws.{IsUnderWay}
 use Rattle.burr_sheet.specs.SheetText.{sheet}
 use Rattle.burr_runs.specs.Input.{IsInput}
 use Rattle.burr_runs.specs.Output.{IsSheet, IsTextOutput, IsOutput, outcome_of}
-use Rattle.burr_runs.specs.Refusals.{refusal}
+use Rattle.burr_runs.specs.Refusals.{assembly_refusal}
 use Rattle.burr_assembly.specs.Homes.{names_of}
-use Rattle.burr_bench.specs.Bench.{bare, bare_program}
+use Rattle.burr_state.specs.Bench.{bare, bare_program}
 use Rattle.burr_runs.specs.OutputLaws.{SomeOutput}
 use Rattle.burr_runs.proofs.WholeInput.{sheet_of_run}
-use Rattle.burr_bench.proofs.Common.SomeRun.{some_result}
+use Rattle.burr_state.proofs.Common.SomeRun.{some_result}
 use Rattle.burr_runs.proofs.Inputs.Deciding.{decide_input}
 
 -- something is written, and it ends so
@@ -39,7 +39,7 @@ some_text_output text code = by_text (fault_or_assembly text)
   where
     by_text : ((a : Assembly) × IsText text a) ⊎ ((fault : AssemblyFault) × FirstFault text fault) → HasOutput (IsTextOutput text code)
     by_text (inl (a, is)) = let given = some_sheet text code a is in (given.0, given.1, inr (a, is, given.2))
-    by_text (inr (fault, first)) = (refusal text fault, Refused, inl (fault, first, refl, refl))
+    by_text (inr (fault, first)) = (assembly_refusal text fault, Refused, inl (fault, first, refl, refl))
 
 pub some_output : SomeOutput
 some_output input = by_input (decide_input input)

@@ -7,26 +7,26 @@ use Rattle.burr_io.specs.Sink.{SinkView, FailsWithin}
 use Rattle.burr_io.proofs.Common.Puts.{FailsWithin-more}
 use Rattle.burr_assembly.specs.Text.{Assembly, IsAssembly}
 use Rattle.burr_assembly.specs.Homes.{homes_of, names_of}
-use Rattle.burr_bench.specs.declared.mode.Mode.TheVariants.{Running, Ended, Trapped}
-use Rattle.burr_bench.specs.declared.motion.Motion.{Motion}
-use Rattle.burr_bench.specs.declared.trap.Trap.{Trap}
-use Rattle.burr_bench.specs.declared.closing.Closing.{Closing}
-use Rattle.burr_bench.specs.declared.closing.Closing.TheVariants as closings
-use Rattle.burr_bench.specs.Bench.{Program, BenchState, running}
-use Rattle.burr_bench.specs.Step.{NextIs, TakesAnswer, CallIn, Called}
-use Rattle.burr_bench.specs.declared.mode.Mode.{Mode}
-use Rattle.burr_bench.specs.declared.progress.Progress.{Progress as Told}
+use Rattle.burr_state.specs.declared.mode.Mode.TheVariants.{Running, Ended, Trapped}
+use Rattle.burr_state.specs.declared.motion.Motion.{Motion}
+use Rattle.burr_state.specs.declared.trap.Trap.{Trap}
+use Rattle.burr_state.specs.declared.closing.Closing.{Closing}
+use Rattle.burr_state.specs.declared.closing.Closing.TheVariants as closings
+use Rattle.burr_state.specs.Bench.{Program, BenchState, running}
+use Rattle.burr_state.specs.Step.{NextIs, TakesAnswer, CallIn, Called}
+use Rattle.burr_state.specs.declared.mode.Mode.{Mode}
+use Rattle.burr_state.specs.declared.progress.Progress.{Progress as Told}
 use Rattle.burr_runs.specs.declared.running.Turn.{Turn}
 use Rattle.burr_runs.specs.declared.running.Turn.TheVariants as turns
-use Rattle.burr_bench.specs.Next.{Goes, Asks, Traps}
-use Rattle.burr_bench.specs.Questions.{Fits}
-use Rattle.burr_bench.specs.Run.{Run, IsGoing, traps, waits, passes, takes, goes}
-use Rattle.burr_bench.specs.RunLaws.{RunOf, IsUnderWay}
-use Rattle.burr_bench.specs.StepLaws.{IsStepFrom, Leaves}
-use Rattle.burr_bench.specs.declared.progress.Progress.TheVariants.{Went}
-use Rattle.burr_bench.proofs.Common.CallLaws.{call_leaves}
-use Rattle.burr_bench.specs.BenchViews.{Benched, GoesOn, motion_in, setup_of, IsSameRun, IsAtStart}
-use Rattle.burr_bench.proofs.Common.SomeRun.{counted_step, under_way_on, some_result}
+use Rattle.burr_state.specs.Next.{Goes, Asks, Traps}
+use Rattle.burr_state.specs.Questions.{Fits}
+use Rattle.burr_state.specs.Run.{Run, IsGoing, traps, waits, passes, takes, goes}
+use Rattle.burr_state.specs.RunLaws.{RunOf, IsUnderWay}
+use Rattle.burr_state.specs.StepLaws.{IsStepFrom, Leaves}
+use Rattle.burr_state.specs.declared.progress.Progress.TheVariants.{Went}
+use Rattle.burr_state.proofs.Common.CallLaws.{call_leaves}
+use Rattle.burr_state.specs.Benches.{Benched, GoesOn, motion_in, setup_of, IsSameRun, IsAtStart}
+use Rattle.burr_state.proofs.Common.SomeRun.{counted_step, under_way_on, some_result}
 use Rattle.burr_sheet.specs.SheetUnderWay.{UnderWay, blank, still, outs_of, Closes, FailsInMotion}
 use Rattle.burr_runs.specs.Output.{outcome_of}
 use Rattle.burr_runs.specs.Running.{RunState, run_state, RunsOn, Leads, PutsPart, FailsInRun, ClosesPart, IsInStep, left_to_take, TurnIs, AnswerIs, PutsSheet, FailsInSheet}

@@ -11,16 +11,16 @@ use Rattle.burr_runs.specs.declared.outcome.Outcome.{Outcome}
 use Rattle.burr_runs.specs.declared.outcome.Outcome.TheVariants.{Refused}
 use Rattle.burr_runs.specs.declared.fault.BenchFault.{BenchFault}
 use Rattle.burr_runs.specs.declared.fault.BenchFault.TheVariants.{Read, TooLong, Write, Memory}
-use Rattle.burr_bench.specs.declared.motion.Motion.{Motion}
-use Rattle.burr_bench.specs.Bench.{Program, running, start}
+use Rattle.burr_state.specs.declared.motion.Motion.{Motion}
+use Rattle.burr_state.specs.Bench.{Program, running, start}
 use Rattle.burr_assembly.specs.Homes.{homes_of}
-use Rattle.burr_bench.specs.declared.closing.Closing.{Closing}
+use Rattle.burr_state.specs.declared.closing.Closing.{Closing}
 use Rattle.burr_sheet.specs.SheetText.{sheet}
 use Rattle.burr_runs.specs.Input.{IsInput}
 use Rattle.burr_runs.specs.Output.{IsSheetOf, outcome_of, IsOutput, IsTextOutput}
-use Rattle.burr_runs.specs.Refusals.{refusal}
+use Rattle.burr_runs.specs.Refusals.{assembly_refusal}
 use Rattle.burr_assembly.specs.Homes.{names_of}
-use Rattle.burr_bench.specs.Run.{Run}
+use Rattle.burr_state.specs.Run.{Run}
 use Rattle.burr_runs.specs.ReadWhole.{IsWholeInput}
 use Rattle.burr_runs.specs.BenchText.{Outputs, PutsOutput, PutsFrontOfOutput, OutputFails, Streams, Succeeds, Fails}
 use Rattle.burr_assembly.proofs.Common.HomeCells.{have_homes}
@@ -58,8 +58,8 @@ text_fails old new failed input text code (Err Memory) parts fails = fails
 -- a text with a fault
 
 pub front_of_fault : (old new : Option (List ℕ)) (failed : Bool) (text code : List ℕ) (fault : AssemblyFault)
-    → FirstFault text fault → TakesFront old new (refusal text fault) → failed ≡ true → PutsFrontOfOutput (IsTextOutput text code) old new failed
-front_of_fault old new failed text code fault first front fails = (refusal text fault, Refused, inl (fault, first, refl, refl), front, fails)
+    → FirstFault text fault → TakesFront old new (assembly_refusal text fault) → failed ≡ true → PutsFrontOfOutput (IsTextOutput text code) old new failed
+front_of_fault old new failed text code fault first front fails = (assembly_refusal text fault, Refused, inl (fault, first, refl, refl), front, fails)
 
 -- an assembly's text
 

@@ -5,12 +5,12 @@ use Rattle.burr_assembly.specs.Text.{Assembly}
 use Rattle.burr_assembly.specs.Homes.{homes_of, names_of}
 use Rattle.burr_container.specs.Plans.{Plan}
 use Rattle.burr_container.specs.Containers.{IsContainer}
-use Rattle.burr_bench.specs.declared.closing.Closing.{Closing}
-use Rattle.burr_bench.specs.declared.motion.Motion.{Motion}
-use Rattle.burr_bench.specs.Bench.{Setup, running, start}
-use Rattle.burr_bench.specs.Programs.{plan_program}
-use Rattle.burr_bench.specs.Run.{Run}
-use Rattle.burr_bench.specs.SafeRuns.{IsSafeRun}
+use Rattle.burr_state.specs.declared.closing.Closing.{Closing}
+use Rattle.burr_state.specs.declared.motion.Motion.{Motion}
+use Rattle.burr_state.specs.Bench.{Setup, running, start}
+use Rattle.burr_state.specs.Programs.{plan_program}
+use Rattle.burr_state.specs.Run.{Run}
+use Rattle.burr_soundness.specs.SafeRuns.{IsSafeRun}
 use Rattle.burr_sheet.specs.SheetText.{sheet}
 use Rattle.burr_verify.specs.Accepting.{Judged}
 use Rattle.burr_runs.specs.declared.outcome.Outcome.{Outcome}

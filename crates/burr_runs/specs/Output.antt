@@ -5,16 +5,16 @@ use Rattle.burr_assembly.specs.declared.fault.AssemblyFault.{AssemblyFault}
 use Rattle.burr_assembly.specs.Text.{Assembly, IsText}
 use Rattle.burr_assembly.specs.Faults.{FirstFault}
 use Rattle.burr_assembly.specs.Homes.{names_of, HaveCells}
-use Rattle.burr_bench.specs.declared.motion.Motion.{Motion}
-use Rattle.burr_bench.specs.declared.closing.Closing.{Closing}
-use Rattle.burr_bench.specs.declared.closing.Closing.TheVariants as closings
-use Rattle.burr_bench.specs.Bench.{Program, bare_program, running, start}
-use Rattle.burr_bench.specs.Run.{Run}
+use Rattle.burr_state.specs.declared.motion.Motion.{Motion}
+use Rattle.burr_state.specs.declared.closing.Closing.{Closing}
+use Rattle.burr_state.specs.declared.closing.Closing.TheVariants as closings
+use Rattle.burr_state.specs.Bench.{Program, bare_program, running, start}
+use Rattle.burr_state.specs.Run.{Run}
 use Rattle.burr_sheet.specs.SheetText.{sheet}
 use Rattle.burr_runs.specs.declared.outcome.Outcome.{Outcome}
 use Rattle.burr_runs.specs.declared.outcome.Outcome.TheVariants as outcomes
 use Rattle.burr_runs.specs.Input.{IsInput}
-use Rattle.burr_runs.specs.Refusals.{refusal}
+use Rattle.burr_runs.specs.Refusals.{assembly_refusal}
 
 -- the outcome of a run that closed so
 abbrev pub outcome_of : Closing → Outcome
@@ -45,7 +45,7 @@ IsSheet a code output outcome = IsSheetOf a (bare_program code) [] output outcom
 abbrev pub IsTextOutput : List ℕ → List ℕ → List ℕ → Outcome → Type 0
 IsTextOutput text code output outcome =
     ((fault : AssemblyFault) × FirstFault text fault
-    × (output ≡ refusal text fault) × (outcome ≡ outcomes.Refused))
+    × (output ≡ assembly_refusal text fault) × (outcome ≡ outcomes.Refused))
     ⊎ ((a : Assembly) × IsText text a × IsSheet a code output outcome)
 
 -- What is written for an input, and how it ends: `refused input` where it is no text with code

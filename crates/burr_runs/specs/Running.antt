@@ -2,19 +2,19 @@
 use Rattle.std.specs.Prelude.{◌≡◌, ◌<◌, ◌≤◌, ◌+◌, ◌-◌, ◌++◌, ◌⊎◌, ℕ, ℤ, List, [], ◌∷◌, length, None}
 use Rattle.burr_io.specs.Sink.{SinkView, Takes, FailsWithin}
 use Rattle.burr_assembly.specs.Text.{Assembly}
-use Rattle.burr_bench.specs.declared.mode.Mode.TheVariants.{Running, Ended}
-use Rattle.burr_bench.specs.declared.motion.Motion.{Motion}
+use Rattle.burr_state.specs.declared.mode.Mode.TheVariants.{Running, Ended}
+use Rattle.burr_state.specs.declared.motion.Motion.{Motion}
 use Rattle.burr_runs.specs.declared.outcome.Outcome.{Outcome}
-use Rattle.burr_bench.specs.Bench.{Program}
-use Rattle.burr_bench.specs.Run.{Run}
-use Rattle.burr_bench.specs.declared.closing.Closing.{Closing}
-use Rattle.burr_bench.specs.declared.closing.Closing.TheVariants as closings
-use Rattle.burr_bench.specs.Parts.{parts}
+use Rattle.burr_state.specs.Bench.{Program}
+use Rattle.burr_state.specs.Run.{Run}
+use Rattle.burr_state.specs.declared.closing.Closing.{Closing}
+use Rattle.burr_state.specs.declared.closing.Closing.TheVariants as closings
+use Rattle.burr_state.specs.Parts.{parts}
 use Rattle.burr_sheet.specs.SheetUnderWay.{UnderWay, still}
-use Rattle.burr_bench.specs.BenchViews.{Benched, setup_of, IsSameRun, GoesOn}
-use Rattle.burr_bench.specs.Step.{TakesAnswer}
-use Rattle.burr_bench.specs.StepLaws.{IsStepFrom}
-use Rattle.burr_bench.specs.Questions.{Fits}
+use Rattle.burr_state.specs.Benches.{Benched, setup_of, IsSameRun, GoesOn}
+use Rattle.burr_state.specs.Step.{TakesAnswer}
+use Rattle.burr_state.specs.StepLaws.{IsStepFrom}
+use Rattle.burr_state.specs.Questions.{Fits}
 use Rattle.burr_runs.specs.declared.running.Turn.{Turn}
 use Rattle.burr_runs.specs.declared.running.Turn.TheVariants as turns
 use Rattle.burr_runs.specs.Output.{IsSheetOf}

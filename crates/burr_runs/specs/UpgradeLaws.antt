@@ -7,10 +7,10 @@ use Rattle.burr_frames.specs.FramedPlans.{framed_plan}
 use Rattle.burr_verify.specs.Judging.{Judging}
 use Rattle.burr_verify.specs.Pass.{Judgement}
 use Rattle.burr_verify.specs.WellFramed.{IsWellFramed}
-use Rattle.burr_bench.specs.declared.closing.Closing.{Closing}
-use Rattle.burr_bench.specs.declared.motion.Motion.{Motion}
-use Rattle.burr_bench.specs.Bench.{start}
-use Rattle.burr_bench.specs.Run.{Run}
+use Rattle.burr_state.specs.declared.closing.Closing.{Closing}
+use Rattle.burr_state.specs.declared.motion.Motion.{Motion}
+use Rattle.burr_state.specs.Bench.{start}
+use Rattle.burr_state.specs.Run.{Run}
 use Rattle.burr_upgrade.specs.Upgrades.{upgraded}
 use Rattle.burr_runs.specs.declared.outcome.Outcome.{Outcome}
 use Rattle.burr_runs.specs.Headline.{setup_for, IsSafeSheetOf}

@@ -1,15 +1,17 @@
 //! Runs of accepted plans.
 
 ghost use Rattle.std.specs.Prelude.{IfOk, OnErr};
-ghost use Rattle.burr_bench.specs.BenchViews.{IsAtStart};
+ghost use Rattle.burr_state.specs.Benches.{IsAtStart};
 ghost use Rattle.burr_runs.specs.Headline.{PutsSafely, FailsSafely, EndsWell};
 ghost use Rattle.burr_runs.specs.Running.{PutsSheet, FailsInSheet};
 
 use crate::outcome::Outcome;
 use crate::running::try_plan;
-use burr_bench::{Checked, a_well_framed_plan_runs_safely, pieces_never_overlap};
+use burr_bench::Checked;
 use burr_blocking::Blocking;
 use burr_io::{Sink, WriteFault};
+use burr_soundness::a_well_framed_plan_runs_safely;
+use burr_state::pieces_never_overlap;
 use burr_verify::{Accepted, a_fitting_plan_is_from_a_container};
 
 /// Runs an accepted plan with these answers, and writes the run's sheet. The run meets no trap, and

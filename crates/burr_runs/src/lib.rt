@@ -7,9 +7,9 @@ mod checking;
 mod fault;
 mod input;
 mod laws;
+mod lines;
 mod outcome;
 mod reading;
-mod refusal;
 mod running;
 mod text_runs;
 
@@ -22,8 +22,11 @@ pub use laws::{
     an_input_has_one_output, an_upgraded_plan_is_judged_as_before, an_upgraded_plan_runs_as_before,
     answers_are_read_in_one_way,
 };
+pub use lines::{
+    put_answers_refusal, put_assembly_refusal, put_container_refusal, put_place_line,
+    put_plan_refusal,
+};
 pub use outcome::Outcome;
 pub use reading::{LIMIT, read_whole};
-pub use refusal::put_refusal;
 pub use running::try_plan;
 pub use text_runs::bench_text;

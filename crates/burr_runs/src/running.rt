@@ -2,8 +2,8 @@ mod turns;
 
 ghost use Rattle.std.specs.Prelude.{◌≡◌, ◌≤◌, [], length, IfOk, OnErr};
 ghost use Rattle.burr_code.specs.declared.limits.TheConstants.{MOST_CODE};
-ghost use Rattle.burr_bench.specs.Bench.{bare_program};
-ghost use Rattle.burr_bench.specs.BenchViews.{IsAtStart};
+ghost use Rattle.burr_state.specs.Bench.{bare_program};
+ghost use Rattle.burr_state.specs.Benches.{IsAtStart};
 ghost use Rattle.burr_runs.specs.Output.{outcome_of};
 ghost use Rattle.burr_runs.specs.Running.{PutsSheet, FailsInSheet, FailsInRun, IsInStep, ClosesPart, run_state};
 

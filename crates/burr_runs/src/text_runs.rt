@@ -2,16 +2,16 @@ ghost use Rattle.std.specs.Prelude.{◌≡◌, ◌≢◌, ◌≤◌, length, IfE
 ghost use Rattle.burr_io.specs.Sink.{Puts};
 ghost use Rattle.burr_runs.specs.declared.outcome.Outcome.TheVariants.{Refused};
 ghost use Rattle.burr_runs.specs.declared.fault.BenchFault.TheVariants.{Write};
-ghost use Rattle.burr_runs.specs.Refusals.{refusal};
+ghost use Rattle.burr_runs.specs.Refusals.{assembly_refusal};
 ghost use Rattle.burr_runs.specs.Output.{IsOutput, IsTextOutput};
 ghost use Rattle.burr_code.specs.declared.limits.TheConstants.{MOST_CODE};
 ghost use Rattle.burr_runs.specs.BenchText.{PutsOutput, OutputFails, streams, Succeeds, Fails};
 
 use crate::fault::BenchFault;
 use crate::input::parse_input;
+use crate::lines::put_assembly_refusal;
 use crate::outcome::Outcome;
 use crate::reading::read_whole;
-use crate::refusal::put_refusal;
 use crate::running::run_bare;
 use burr_assembly::{Assembly, AssemblyFault};
 use burr_blocking::CellTables;
@@ -85,10 +85,10 @@ fn refuse_text<W: Sink>(
     fault: AssemblyFault,
     sink: &mut W,
 ) -> Result<Outcome, WriteFault>
-    ensures puts { Puts W.Sink sink.old sink.new (refusal text.now fault) result }
+    ensures puts { Puts W.Sink sink.old sink.new (assembly_refusal text.now fault) result }
     ensures refused { IfOk result (λ outcome. outcome ≡ Refused) }
 {
-    put_refusal(text, fault, sink)?;
+    put_assembly_refusal(text, fault, sink)?;
     Ok(Outcome::Refused)
 }
 

@@ -3,7 +3,7 @@ use Rattle.std.proofs.Common.{◌≡◌, ◌+◌, ◌==◌, ◌&&◌, not, List,
 use Rattle.std.proofs.lemmas.Bool.{and_parts, eqb-true}
 use Rattle.burr_voxels.specs.declared.direction.Direction.{Direction}
 use Rattle.burr_voxels.specs.Grid.{number_of}
-use Rattle.burr_bench.specs.declared.motion.Motion.{Motion}
+use Rattle.burr_state.specs.declared.motion.Motion.{Motion}
 use Rattle.burr_sheet.specs.SheetText.{MoveLine, alone, goes_onto, with_motion}
 use Rattle.burr_sheet.specs.SheetUnderWay.{is_one, with_growing}
 

@@ -4,8 +4,8 @@ use Rattle.std.proofs.KnownBytes.{Appends-nil, Appends-trans}
 use Rattle.std.specs.Io.KnownBytes.{Appends}
 use Rattle.burr_io.specs.Sink.{SinkView, FailsWithin}
 use Rattle.burr_io.proofs.Common.Puts.{FailsWithin-more, FailsWithin-first}
-use Rattle.burr_bench.specs.declared.motion.Motion.{Motion}
-use Rattle.burr_bench.specs.declared.closing.Closing.{Closing}
+use Rattle.burr_state.specs.declared.motion.Motion.{Motion}
+use Rattle.burr_state.specs.declared.closing.Closing.{Closing}
 use Rattle.burr_sheet.specs.SheetText.{MoveLine, alone, with_motion, longest_lines, levels_from, move_line, move_lines, levels_line, closing_line}
 use Rattle.burr_sheet.specs.SheetUnderWay.{UnderWay, is_one, with_growing, to_come, PutsBefore, PutsMotion, FailsInMotion}
 use Rattle.burr_sheet.proofs.GrowingLines.{with_growing-other, with_growing-fresh, with_growing-longer, with_growing-ended}

@@ -2,8 +2,8 @@
 use Rattle.std.specs.Prelude.{◌≡◌, ℕ, List, [], ◌∷◌, ◌++◌}
 use Rattle.std.specs.List.{All}
 use Rattle.burr_text.specs.Lines.{IsUnended, IsLines}
-use Rattle.burr_bench.specs.declared.motion.Motion.{Motion}
-use Rattle.burr_bench.specs.declared.closing.Closing.{Closing}
+use Rattle.burr_state.specs.declared.motion.Motion.{Motion}
+use Rattle.burr_state.specs.declared.closing.Closing.{Closing}
 use Rattle.burr_sheet.specs.SheetText.{sheet, closing_line}
 
 -- a closing line is one line

@@ -2,8 +2,8 @@
 use Rattle.std.specs.Prelude.{◌≡◌, ℕ, ◌+◌, ◌≤◌, ◌==◌, ◌&&◌, List, [], ◌∷◌, ◌++◌, Bool, Option, Some, None, MatchOption, if◌then◌else◌}
 use Rattle.burr_io.specs.Sink.{SinkView, Takes, FailsWithin}
 use Rattle.burr_voxels.specs.Grid.{number_of}
-use Rattle.burr_bench.specs.declared.motion.Motion.{Motion}
-use Rattle.burr_bench.specs.declared.closing.Closing.{Closing}
+use Rattle.burr_state.specs.declared.motion.Motion.{Motion}
+use Rattle.burr_state.specs.declared.closing.Closing.{Closing}
 use Rattle.burr_sheet.specs.declared.sheet.line.GrowingLine.{GrowingLine}
 use Rattle.burr_sheet.specs.SheetText.{MoveLine, with_motion, longest_lines, levels_from, move_lines, levels_line, closing_line}
 

@@ -4,6 +4,6 @@
 mod laws;
 mod sheet;
 
-pub use burr_bench::Closing;
+pub use burr_state::Closing;
 pub use laws::a_sheet_closes_once;
 pub use sheet::Sheet;

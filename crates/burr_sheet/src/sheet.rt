@@ -11,8 +11,8 @@ use crate::sheet::ending::{put_closing, put_levels};
 use crate::sheet::line::{GrowingLine, put_line};
 use arrayvec::ArrayVec;
 use burr_assembly::Assembly;
-use burr_bench::{Closing, Motion};
 use burr_io::{Sink, WriteFault};
+use burr_state::{Closing, Motion};
 use std::marker::Model;
 
 /// The most outs of a run: each makes one group of pieces two, and there are at most 32 pieces.

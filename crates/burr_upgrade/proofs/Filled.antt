@@ -5,7 +5,7 @@ use Rattle.std.proofs.lemmas.List.{drop_all, length_push, set-append_right}
 use Rattle.std.specs.Int.{w16, w64}
 use Rattle.std.proofs.lemmas.Int.{ints, to_z-of_z}
 use Rattle.burr_upgrade.specs.Slots.{at_live}
-use Rattle.burr_upgrade.proofs.ReadBack.{drop_here}
+use Rattle.burr_container.proofs.Common.ListsRead.{drop_here}
 
 -- of eight slots the first v are done, with so many of the numbers, and the others are still 0
 pub record IsFilled (live : List Bool) (numbers : List ℤ) (v count : ℕ) (coefs : List ℤ) : Type 0 where

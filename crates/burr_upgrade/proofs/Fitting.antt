@@ -17,7 +17,7 @@ use Rattle.burr_container.proofs.Common.Procedures.{ProcedureFits, procedure_fit
 use Rattle.burr_container.proofs.Common.Containers.{plan_fits}
 use Rattle.burr_container.proofs.Common.Exits.{exit_fits}
 use Rattle.burr_upgrade.specs.Slots.{IsFittingFrame, IsFittingExit}
-use Rattle.burr_upgrade.proofs.ReadBack.{some_at}
+use Rattle.burr_container.proofs.Common.ListsRead.{some_at}
 use Rattle.burr_upgrade.proofs.Restored.{Restores, all_slots}
 
 -- Lists

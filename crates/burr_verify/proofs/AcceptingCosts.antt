@@ -22,7 +22,7 @@ use Rattle.burr_verify.specs.WellFramed.{StartsWell}
 use Rattle.burr_verify.proofs.Beginnings.{HasEntry, has_entry, value_nowhere}
 use Rattle.burr_verify.proofs.Common.Costs.{entry_costs_one}
 use Rattle.burr_verify.proofs.Containers.{fitting_procedures, fitting_budget}
-use Rattle.burr_verify.proofs.OneContainer.{the_plan}
+use Rattle.burr_container.proofs.Common.OneContainer.{the_plan}
 
 -- Main and its first label are there
 

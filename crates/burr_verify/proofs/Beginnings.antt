@@ -23,7 +23,7 @@ use Rattle.burr_verify.specs.Pass.{Passed, Refuses}
 use Rattle.burr_verify.specs.Refusals.{plain_refusal}
 use Rattle.burr_verify.specs.VerifyLaws.{nothing}
 use Rattle.burr_verify.specs.Views.{failed_check}
-use Rattle.burr_verify.proofs.Heres.{procedure_here}
+use Rattle.burr_frames.proofs.Common.Heres.{procedure_here}
 use Rattle.burr_verify.proofs.JudgedOn.{here_at}
 use Rattle.burr_verify.proofs.OnePass.{breaks-leaves}
 

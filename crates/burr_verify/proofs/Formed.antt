@@ -19,7 +19,7 @@ use Rattle.burr_frames.proofs.Common.ExitsRead.{no_exit, exit_there}
 use Rattle.burr_verify.specs.Forming.{IsLive, IsFormedAt, OfTrays}
 use Rattle.burr_verify.specs.Judging.{HasRoomForPoints}
 use Rattle.burr_verify.specs.WellFramed.{HasNoLonePiece, IsFormedEntry, IsFormedExit}
-use Rattle.burr_verify.proofs.Heres.{procedure_here, label_here, as_many_labels, element_at}
+use Rattle.burr_frames.proofs.Common.Heres.{procedure_here, label_here, as_many_labels, element_at}
 
 -- Exit frames
 

@@ -12,7 +12,7 @@ use Rattle.burr_verify.specs.Views.{judgement_of, failed_check}
 use Rattle.burr_verify.specs.WellFramed.{IsWellFramed}
 use Rattle.burr_verify.proofs.Before.{passed_exactly}
 use Rattle.burr_verify.proofs.Containers.{fitting_is_from_container}
-use Rattle.burr_verify.proofs.OneContainer.{fits_where_kept}
+use Rattle.burr_container.proofs.Common.OneContainer.{fits_where_kept}
 use Rattle.burr_verify.proofs.PassCuts.{refuses-passed}
 
 pub framed_exactly : (kept : KeptContainer) (name : List ℕ) (homes : List (List Cell)) (p : Plan)

@@ -2,7 +2,7 @@
 use Rattle.std.proofs.Common.{◌≡◌, ◌+◌, ◌<◌, ◌≤◌, ℕ, zero, suc, List, [], ◌∷◌, length, Some, refl, sym, subst, ap, arith, add-one, inl, inr}
 use Rattle.std.proofs.lemmas.List.{length-map}
 use Rattle.burr_container.specs.Plans.{Plan}
-use Rattle.burr_verify.proofs.Heres.{element_at}
+use Rattle.burr_frames.proofs.Common.Heres.{element_at}
 use Rattle.std.specs.Prelude.{slice_get, drop}
 use Rattle.std.proofs.lemmas.Option.{none-some, same_Some}
 use Rattle.burr_frames.specs.FramedPlans.{FramedProcedure, framed_procedure, framed_plan}

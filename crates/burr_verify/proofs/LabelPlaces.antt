@@ -8,8 +8,8 @@ use Rattle.burr_frames.specs.FramedPlans.{FramedProcedure, framed_plan, framed_l
 use Rattle.burr_verify.specs.Pass.{IsLaidOut}
 use Rattle.burr_verify.specs.Views.{AreBefore, IsLabelWithin}
 use Rattle.burr_verify.proofs.Containers.{fitting_is_from_container}
-use Rattle.burr_verify.proofs.OneContainer.{fits_where_kept}
-use Rattle.burr_verify.proofs.Heres.{procedure_here, label_here, element_at, as_many_labels}
+use Rattle.burr_container.proofs.Common.OneContainer.{fits_where_kept}
+use Rattle.burr_frames.proofs.Common.Heres.{procedure_here, label_here, element_at, as_many_labels}
 
 -- the labels of a procedure of a container stand at rising places
 pub laid_out_here : (kept : KeptContainer) (p : Plan) (n : ℕ) (here : FramedProcedure) → HasPlan kept → IsContainer kept p

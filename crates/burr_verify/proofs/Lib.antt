@@ -8,13 +8,11 @@ mod Failure
 mod FewLooks
 mod Formed
 mod Framings
-mod Heres
 mod JudgedOn
 mod LabelPlaces
 mod LabelsJudged
 mod LookedOn
 mod Looking
-mod OneContainer
 mod OnePass
 mod Parts
 mod PassCuts

@@ -15,7 +15,7 @@ use Rattle.burr_frames.specs.FramedPlans.{FramedExit, FramedProcedure, FramedPla
 use Rattle.burr_frames.specs.States.{AbstractState, state_of, live_ranges}
 use Rattle.burr_frames.specs.Verdicts.{Broken, Verdict, Breaks, Falls, Leaves, arriving, leaves}
 use Rattle.burr_frames.specs.Transfer.{Transfer}
-use Rattle.burr_frames.proofs.Common.Conditions.{decided_implies, decide_all_numbers, decide_all_lie}
+use Rattle.burr_code.proofs.Common.Conditions.{decided_implies, decide_all_numbers, decide_all_lie}
 use Rattle.burr_frames.proofs.Common.Decided.{decide_meets}
 use Rattle.burr_frames.proofs.Common.SomeVerdict.{HasOne, some_given, some_needed, some_found, some_arriving, some_verdict}
 use Rattle.burr_frames.specs.Starts.{start_state}

@@ -26,7 +26,7 @@ use Rattle.burr_verify.specs.LookViews.{LooksOn, LooksStop}
 use Rattle.burr_verify.specs.Pass.{Judgement, Passed, Refuses, Stage, Comes, Judges, Hides, broken, misses, ends, falls_off}
 use Rattle.burr_verify.specs.PassLooks.{LookedPass}
 use Rattle.burr_verify.specs.Views.{IsLabelWithin, failed_check}
-use Rattle.burr_verify.proofs.Heres.{procedure_here, label_here, element_at, as_many_labels}
+use Rattle.burr_frames.proofs.Common.Heres.{procedure_here, label_here, element_at, as_many_labels}
 use Rattle.burr_verify.proofs.LookedOn.{looks_resumed, looks_arrived, looks_fallen, looks_left}
 use Rattle.burr_verify.proofs.OnePass.{arrives_where_leaves}
 

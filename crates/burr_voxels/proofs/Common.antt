@@ -1,4 +1,5 @@
 pub mod Ahead
+pub mod Decided
 pub mod Freedom
 pub mod Naming
 pub mod Turning

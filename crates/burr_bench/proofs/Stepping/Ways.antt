@@ -15,16 +15,18 @@ use Rattle.burr_code.specs.PieceSets.{IsInSet}
 use Rattle.burr_code.specs.Places.{Placement, LiesAt, LiesIn}
 use Rattle.burr_assembly.specs.Text.{Assembly}
 use Rattle.burr_assembly.specs.Homes.{HasHome, home_at, home_of, homes_of}
-use Rattle.burr_blocking.specs.Pairs.{IsBlocked}
-use Rattle.burr_blocking.proofs.Common.Displaced.{free_of_difference, difference_of_free, blocked_of_overlap, overlap_of_blocked}
+use Rattle.burr_blocking.specs.declared.query.Query.{Query}
+use Rattle.burr_blocking.specs.Pairs.{IsBlocked, Clears}
+use Rattle.burr_blocking.proofs.Common.Displaced.{free_of_difference, difference_of_free, blocked_of_overlap, overlap_of_blocked, overlap_before}
 use Rattle.burr_bench.specs.declared.checked.way.Way.{Way}
 use Rattle.burr_bench.specs.declared.checked.way.Way.TheVariants as ways
-use Rattle.burr_bench.specs.Space.{IsFreeGroup, NoOverlapIn, moved_places}
-use Rattle.burr_bench.specs.BenchViews.{Benched, SetsOut}
-use Rattle.burr_bench.specs.Ways.{Passes, PassesPiece, PassesRest, GroupPasses, setting_out}
-use Rattle.burr_frames.proofs.Common.Conditions.{one_position, lies_within}
-use Rattle.burr_bench.proofs.Stepping.Near.{staying_of_on_bench}
-use Rattle.burr_bench.proofs.Trays.Shifts.{IsShifted, lay_before_shift, lies_at_shifted, lies_at_kept}
+use Rattle.burr_state.specs.Space.{IsFreeGroup, NoOverlapIn, moved_places}
+use Rattle.burr_state.specs.Benches.{Benched}
+use Rattle.burr_bench.specs.BenchViews.{SetsOut}
+use Rattle.burr_bench.specs.Ways.{PassesPiece, PassesRest, GroupPasses, query_of, setting_out}
+use Rattle.burr_code.proofs.Common.Conditions.{one_position, lies_within}
+use Rattle.burr_state.proofs.Common.Stepping.Near.{staying_of_on_bench}
+use Rattle.burr_state.proofs.Common.Trays.Shifts.{IsShifted, lay_before_shift, lies_at_shifted, lies_at_kept}
 
 -- a test that fails where a condition holds
 pub holds_not : (P : Type 0) (test : Bool) → IsTrue test ↔ P → IsTrue (not test) ↔ (¬ P)
@@ -34,14 +36,14 @@ holds_not P false tells = yes_iff (no_of tells)
 -- Pair by pair
 
 -- a piece elsewhere is passed
-pub passes_absent : (way : Way) (homes : List (List Cell)) (places : List (Placement Cell)) (tray p : ℕ) (from : Cell) (q : ℕ) → (¬ LiesIn places q tray) → PassesPiece way homes places tray p from q
-passes_absent way homes places tray p from q none there lies = absurd (none (there, lies))
+pub passes_absent : (query : Query) (homes : List (List Cell)) (places : List (Placement Cell)) (tray p : ℕ) (from : Cell) (q : ℕ) → (¬ LiesIn places q tray) → PassesPiece query homes places tray p from q
+passes_absent query homes places tray p from q none there lies = absurd (none (there, lies))
 
 -- a piece here is asked of by the difference of the offsets
-pub passes_present : (test : Bool) (way : Way) (homes : List (List Cell)) (places : List (Placement Cell)) (tray p : ℕ) (from : Cell) (q : ℕ) (there : Cell)
-    → LiesAt places q tray there → IsTrue test ↔ Passes way (home_at homes p) (home_at homes q) (minus from there) → IsTrue test ↔ PassesPiece way homes places tray p from q
-passes_present test way homes places tray p from q there lies tells = (
-  λ yes other lies_other. subst (λ (c : Cell). Passes way (home_at homes p) (home_at homes q) (minus from c)) (one_position places q tray there other lies lies_other) (tells.0 yes),
+pub passes_present : (test : Bool) (query : Query) (homes : List (List Cell)) (places : List (Placement Cell)) (tray p : ℕ) (from : Cell) (q : ℕ) (there : Cell)
+    → LiesAt places q tray there → IsTrue test ↔ Clears query (home_at homes p) (home_at homes q) (minus from there) → IsTrue test ↔ PassesPiece query homes places tray p from q
+passes_present test query homes places tray p from q there lies tells = (
+  λ yes other lies_other. subst (λ (c : Cell). Clears query (home_at homes p) (home_at homes q) (minus from c)) (one_position places q tray there other lies lies_other) (tells.0 yes),
   λ passes. tells.1 (passes there lies),
 )
 
@@ -51,15 +53,15 @@ absent_passes way homes places tray group p none offset lies q rest = absurd (no
 
 -- a piece passes the rest where it passes each piece that may lie here
 pub passes_of_each : (way : Way) (homes : List (List Cell)) (places : List (Placement Cell)) (tray group n p : ℕ) (offset : Cell) → LiesAt places p tray offset → length places ≤ n
-    → ((q : ℕ) → q < n → (¬ IsInSet group q) → PassesPiece way homes places tray p (setting_out way offset) q) → PassesRest way homes places tray group p
+    → ((q : ℕ) → q < n → (¬ IsInSet group q) → PassesPiece (query_of way) homes places tray p (setting_out way offset) q) → PassesRest way homes places tray group p
 passes_of_each way homes places tray group n p offset lies all each other lies_other q rest there lies_q =
     let within = lies_within places q tray (there, lies_q) in
-    subst (λ (c : Cell). Passes way (home_at homes p) (home_at homes q) (minus (setting_out way c) there)) (one_position places p tray offset other lies lies_other)
+    subst (λ (c : Cell). Clears (query_of way) (home_at homes p) (home_at homes q) (minus (setting_out way c) there)) (one_position places p tray offset other lies lies_other)
     (each q (omega (arith, within, all)) rest there lies_q)
 
 -- a piece that is in another's way bars it
 pub barred : (way : Way) (homes : List (List Cell)) (places : List (Placement Cell)) (tray group p : ℕ) (offset : Cell) (q : ℕ)
-    → LiesAt places p tray offset → (¬ IsInSet group q) → (¬ PassesPiece way homes places tray p (setting_out way offset) q) → ¬ PassesRest way homes places tray group p
+    → LiesAt places p tray offset → (¬ IsInSet group q) → (¬ PassesPiece (query_of way) homes places tray p (setting_out way offset) q) → ¬ PassesRest way homes places tray group p
 barred way homes places tray group p offset q lies rest bars passes = bars (passes offset lies q rest)
 
 -- a group passes where each of its pieces does
@@ -97,17 +99,6 @@ passing_of_free homes places tray group direction as_many free p bit offset lies
     (free p q (home_at homes p) (home_at homes q) offset there bit rest (has_home homes places tray p as_many (offset, lies)) (has_home homes places tray q as_many (there, lies_q)) lies lies_q)
 
 -- One unit
-
--- two offsets that moved alike differ as before
-same_difference : (a b u : ℤ) → ((a +ℤ u) -ℤ (b +ℤ u)) ≡ (a -ℤ b)
-same_difference a b u = omega (arith, ints)
-
-moved_alike : (a b u : Cell) → minus (plus a u) (plus b u) ≡ minus a b
-moved_alike a b u = same_cell _ _ (same_difference a.x b.x u.x) (same_difference a.y b.y u.y) (same_difference a.z b.z u.z)
-
--- two pieces that moved alike overlap only where they did before
-pub overlap_before : (a b u : Cell) (ps qs : List Cell) → Overlap (shifted (plus a u) ps) (shifted (plus b u) qs) → Overlap (shifted a ps) (shifted b qs)
-overlap_before a b u ps qs over = overlap_of_blocked a b ps qs (subst (λ (d : Cell). IsBlocked ps qs d) (moved_alike a b u) (blocked_of_overlap (plus a u) (plus b u) ps qs over))
 
 -- no two pieces of the tray overlap behind the unit where the group passes: two pieces of the group, or two of the rest, lie to each other as before
 pub no_overlap_of_passing : (homes : List (List Cell)) (places : List (Placement Cell)) (tray group : ℕ) (direction : Direction) → NoOverlapIn homes places tray

@@ -2,13 +2,13 @@ ghost use Rattle.std.specs.Prelude.{◌≡◌, ◌≤◌, ◌<◌, ◌↔◌, �
 ghost use Rattle.burr_assembly.specs.Text.{IsAssembly};
 ghost use Rattle.burr_voxels.specs.Near.{IsWithin};
 ghost use Rattle.burr_code.specs.declared.limits.TheConstants.{MOST_BUDGET, SLOTS};
-ghost use Rattle.burr_bench.specs.declared.mode.Mode.TheVariants.{Ended};
-ghost use Rattle.burr_bench.specs.Spots.{placed};
+ghost use Rattle.burr_state.specs.declared.mode.Mode.TheVariants.{Ended};
+ghost use Rattle.burr_state.specs.Spots.{placed};
 
 use crate::checked::Checked;
-use crate::mode::Mode;
 use burr_assembly::Assembly;
 use burr_blocking::Blocking;
+use burr_state::Mode;
 use burr_voxels::Cell;
 
 impl<'a, B: Blocking> Checked<'a, B> {
@@ -16,14 +16,14 @@ impl<'a, B: Blocking> Checked<'a, B> {
     pub fn steps(&self) -> u64
         ensures { result ≡ self.now.state.steps }
     {
-        self.state.steps()
+        self.bench.steps()
     }
 
     /// Whether `halt` was made.
     pub fn ended(&self) -> bool
         ensures { IsTrue result ↔ (self.now.state.mode ≡ Ended) }
     {
-        self.state.mode() == Mode::Ended
+        self.bench.mode() == Mode::Ended
     }
 
     /// The most steps that a run of it makes.
@@ -31,7 +31,7 @@ impl<'a, B: Blocking> Checked<'a, B> {
         ensures budget { result ≡ self.now.program.budget }
         ensures few { result ≤ MOST_BUDGET }
     {
-        self.program.budget()
+        self.bench.budget()
     }
 
     /// The assembly whose pieces are moved.
@@ -49,42 +49,42 @@ impl<'a, B: Blocking> Checked<'a, B> {
         ensures place { slice_get self.now.state.places piece ≡ Some (placed result) }
         ensures near { IfSome result (λ place. IsWithin 256 place.1) }
     {
-        self.state.place(piece)
+        self.bench.place(piece)
     }
 
     /// The current tray, 0 to 31.
     pub fn tray(&self) -> u8
         ensures { result ≡ self.now.state.tray }
     {
-        self.state.tray()
+        self.bench.tray()
     }
 
     /// The pieces of the current tray that are gripped: bit p is piece p.
     pub fn grip(&self) -> u32
         ensures { result ≡ self.now.state.grip }
     {
-        self.state.grip()
+        self.bench.grip()
     }
 
     /// The number of activations: the running one and those that wait for it.
     pub fn depth(&self) -> usize
         ensures { result ≡ length self.now.state.callers + 1 }
     {
-        self.state.depth()
+        self.bench.depth()
     }
 
     /// The number of the running procedure.
     pub fn proc(&self) -> u8
         ensures { result ≡ self.now.state.running.procedure }
     {
-        self.state.running().procedure()
+        self.bench.proc()
     }
 
     /// Where the next instruction stands in the running procedure's code.
     pub fn pc(&self) -> u16
         ensures { result ≡ self.now.state.running.pc }
     {
-        self.state.pc() as u16
+        self.bench.pc()
     }
 
     /// The value of a slot of the running activation; None where it is empty. Slots are numbered
@@ -93,13 +93,13 @@ impl<'a, B: Blocking> Checked<'a, B> {
         requires { slot < SLOTS }
         ensures { result ≡ get_or self.now.state.running.slots slot None }
     {
-        self.state.running().slot(slot)
+        self.bench.slot(slot)
     }
 
     /// The operands of the running activation, the bottom first.
     pub fn operands(&self) -> &[i32]
         ensures { result.now ≡ reverse self.now.state.running.operands }
     {
-        self.state.running().operands()
+        self.bench.operands()
     }
 }

@@ -1,18 +1,19 @@
-ghost use Rattle.std.specs.Prelude.{◌≡◌, ◌<◌, ◌↔◌, ◌≤◌, IsOk, IfOk, IfErr, length};
+ghost use Rattle.std.specs.Prelude.{◌≡◌, ◌↔◌, ◌≤◌, IsOk, IfOk, IfErr, length};
+ghost use Rattle.burr_assembly.specs.Text.{IsAssembly};
 ghost use Rattle.burr_code.specs.declared.limits.TheConstants.{MOST_CODE};
 ghost use Rattle.burr_container.specs.Plans.{Plan};
 ghost use Rattle.burr_container.specs.Containers.{IsContainer};
 ghost use Rattle.burr_verify.specs.Fitting.{FitsAssembly};
 ghost use Rattle.burr_verify.specs.Refusals.{another_assembly};
-ghost use Rattle.burr_bench.specs.Bench.{bare_program};
-ghost use Rattle.burr_bench.specs.Programs.{plan_program};
-ghost use Rattle.burr_bench.specs.BenchViews.{IsAtStart};
+ghost use Rattle.burr_state.specs.Bench.{bare_program};
+ghost use Rattle.burr_state.specs.Programs.{plan_program};
+ghost use Rattle.burr_state.specs.StateViews.{at_start};
+ghost use Rattle.burr_state.specs.Benches.{IsAtStart};
 
 use crate::checked::Checked;
-use crate::program::Program;
-use crate::state::BenchState;
 use burr_blocking::Blocking;
 use burr_container::Container;
+use burr_state::Bench;
 use burr_verify::{Refusal, fits_assembly};
 
 impl<'a, B: Blocking> Checked<'a, B> {
@@ -31,7 +32,8 @@ impl<'a, B: Blocking> Checked<'a, B> {
         ensures start { IfOk result IsAtStart }
     {
         fits_assembly(container, blocking.assembly())?;
-        Ok(Checked::of(Program::of(container), blocking))
+        let pieces = blocking.assembly().piece_count();
+        Ok(Checked::of(Bench::of(container, pieces), blocking))
     }
 
     /// The bench at the start of bare code: one procedure of at most 4,096 bytes, without labels;
@@ -42,20 +44,18 @@ impl<'a, B: Blocking> Checked<'a, B> {
         ensures program { result.program ≡ bare_program code.entry.now }
         ensures start { IsAtStart result }
     {
-        Checked::of(Program::bare(code), blocking)
+        let pieces = blocking.assembly().piece_count();
+        Checked::of(Bench::bare(code, pieces), blocking)
     }
 
-    /// The bench at the start of a program.
-    fn of(program: Program<'a>, blocking: &'a B) -> Checked<'a, B>
-        requires { 0 < length program.procedures }
+    /// The bench at the start of a program, with all pieces of the assembly.
+    fn of(bench: Bench<'a>, blocking: &'a B) -> Checked<'a, B>
+        requires whole { IsAssembly (B.subject blocking.now) }
+        requires start { bench.state ≡ at_start (length (B.subject blocking.now).pieces) }
         ensures assembly { result.assembly ≡ B.subject blocking.entry.now }
-        ensures program { result.program ≡ program.entry }
+        ensures program { result.program ≡ bench.entry.program }
         ensures start { IsAtStart result }
     {
-        Checked {
-            program,
-            blocking,
-            state: BenchState::start(blocking.assembly().piece_count()),
-        }
+        Checked { bench, blocking }
     }
 }

@@ -1,21 +1,17 @@
 ghost use Rattle.std.specs.Prelude.{◌≡◌, ◌+◌, ◌≤◌, Ok, length, OnOk};
 ghost use Rattle.burr_code.specs.Instruction.{Step, Aside, spelled};
 ghost use Rattle.burr_code.specs.declared.limits.TheConstants.{MOST_CODE};
-ghost use Rattle.burr_bench.specs.declared.mode.Mode.TheVariants.{Running};
-ghost use Rattle.burr_bench.specs.Space.{motion_of};
-ghost use Rattle.burr_bench.specs.Step.{NextIs, CallIn, Called};
-ghost use Rattle.burr_bench.specs.Effects.{next_of, KeepsUnlessGoes, motion_made};
-ghost use Rattle.burr_bench.specs.BenchViews.{setup_of, motion_in, Follows, GoesOn, IsSameRun};
+ghost use Rattle.burr_state.specs.declared.mode.Mode.TheVariants.{Running};
+ghost use Rattle.burr_state.specs.Step.{NextIs, CallIn, Called};
+ghost use Rattle.burr_state.specs.Effects.{next_of, KeepsUnlessGoes, motion_made};
+ghost use Rattle.burr_state.specs.Benches.{setup_of, motion_in, GoesOn, IsSameRun};
+ghost use Rattle.burr_bench.specs.BenchViews.{Follows};
 
 use crate::checked::Checked;
 use crate::checked::way::Way;
-use crate::effect::Effect;
-use crate::mode::Mode;
-use crate::motion::Motion;
-use crate::progress::Progress;
-use crate::trap::Trap;
 use burr_blocking::Blocking;
-use burr_code::{Instr, fetch};
+use burr_code::Instr;
+use burr_state::{Effect, Mode, Progress, Trap};
 use burr_voxels::Direction;
 
 impl<B: Blocking> Checked<'_, B> {
@@ -28,7 +24,7 @@ impl<B: Blocking> Checked<'_, B> {
         ensures same { IsSameRun self.old self.new }
         ensures goes_on { OnOk result (GoesOn self.old self.new (motion_in result)) }
     {
-        match (self.state.mode(), answer) {
+        match (self.bench.mode(), answer) {
             (Mode::Running, None) => self.go_on(),
             (Mode::Running, Some(answer)) => Ok(self.take(answer)),
             (Mode::Ended, _) => Ok(Progress::Ended),
@@ -47,7 +43,7 @@ impl<B: Blocking> Checked<'_, B> {
             Ok(Effect::Goes(motion)) => Ok(Progress::Went(motion)),
             Ok(Effect::Asks(low, high)) => Ok(Progress::Asks(low, high)),
             Err(trap) => {
-                self.state.trap(trap);
+                self.bench.trap(trap);
                 Err(trap)
             }
         }
@@ -60,16 +56,13 @@ impl<B: Blocking> Checked<'_, B> {
         ensures same { IsSameRun self.old self.new }
         ensures goes_on { OnOk result (GoesOn self.old self.new (motion_made result)) }
     {
-        let Some(procedure) = self.program.procedure(self.state.procedure()) else {
-            unreachable!();
-        };
-        let Some((instruction, size)) = fetch(procedure.code(), self.state.pc()) else {
+        let Some((instruction, size)) = self.bench.next() else {
             return Err(Trap::BadCode);
         };
         match instruction {
             Instr::Step(direction) => self.move_grip(direction, size),
             Instr::Aside(direction, tray) => self.aside(direction, tray, size),
-            other => self.state.execute(&other, procedure, &self.program, size),
+            other => self.bench.execute(&other, size),
         }
     }
 
@@ -83,17 +76,16 @@ impl<B: Blocking> Checked<'_, B> {
         ensures same { IsSameRun self.old self.new }
         ensures goes_on { OnOk result (GoesOn self.old self.new (motion_made result)) }
     {
-        if self.state.grip() == 0 {
+        if self.bench.grip() == 0 {
             return Err(Trap::BadGroup);
         }
-        if !self.state.stays_on_bench(direction) {
+        if !self.bench.stays_on_bench(direction) {
             return Err(Trap::OffBench);
         }
         if !self.passes(Way::Unit(direction)) {
             return Err(Trap::Collision);
         }
-        let motion = self.motion(direction, false);
-        self.state.move_grip(direction, size);
+        let motion = self.bench.move_grip(direction, size);
         Ok(Effect::Goes(Some(motion)))
     }
 
@@ -107,29 +99,16 @@ impl<B: Blocking> Checked<'_, B> {
         ensures same { IsSameRun self.old self.new }
         ensures goes_on { OnOk result (GoesOn self.old self.new (motion_made result)) }
     {
-        if !self.state.is_part_gripped() {
+        if !self.bench.is_part_gripped() {
             return Err(Trap::BadGroup);
         }
-        if !self.state.is_empty(tray) {
+        if !self.bench.is_empty(tray) {
             return Err(Trap::TrayInUse);
         }
         if !self.passes(Way::Out(direction)) {
             return Err(Trap::NotFree);
         }
-        let motion = self.motion(direction, true);
-        self.state.go_aside(tray, size);
+        let motion = self.bench.go_aside(direction, tray, size);
         Ok(Effect::Goes(Some(motion)))
-    }
-
-    /// The grip's motion along a direction, in its tray or out of it.
-    fn motion(&self, direction: Direction, out: bool) -> Motion
-        ensures { result ≡ motion_of self.now.state.grip self.now.state.tray direction out }
-    {
-        Motion {
-            group: self.state.grip(),
-            tray: self.state.tray(),
-            dir: direction,
-            out,
-        }
     }
 }

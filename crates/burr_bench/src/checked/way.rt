@@ -1,8 +1,9 @@
 ghost use Rattle.std.specs.Prelude.{◌≡◌};
 ghost use Rattle.burr_voxels.specs.Near.{IsWithin};
-ghost use Rattle.burr_bench.specs.Ways.{setting_out};
+ghost use Rattle.burr_bench.specs.Ways.{query_of, setting_out};
 
-use crate::placement::one_unit_on;
+use burr_blocking::Query;
+use burr_state::one_unit_on;
 use burr_voxels::{Cell, Direction};
 
 /// A way for the grip to go: one unit along a direction, or all the way out along it.
@@ -13,7 +14,17 @@ pub enum Way {
 }
 
 impl Way {
-    /// Where a piece at an offset is asked of: behind its one unit, or where it sets out.
+    /// What is asked of a gripped piece and another one of the tray.
+    pub fn query(self) -> Query
+        ensures { result ≡ query_of self }
+    {
+        match self {
+            Way::Unit(_) => Query::Overlap,
+            Way::Out(direction) => Query::Exit(direction),
+        }
+    }
+
+    /// Where a piece at an offset is asked of: after its one unit, or where it sets out.
     pub fn setting_out(self, offset: Cell) -> Cell
         requires { IsWithin 256 offset }
         ensures { result ≡ setting_out self offset }

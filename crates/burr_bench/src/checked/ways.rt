@@ -1,20 +1,20 @@
 ghost use Rattle.std.specs.Prelude.{◌≡◌, ◌≢◌, ◌<◌, ◌≤◌, ◌↔◌, length, IfSome, IsTrue};
 ghost use Rattle.burr_voxels.specs.Near.{IsWithin};
 ghost use Rattle.burr_code.specs.PieceSets.{IsInSet};
-ghost use Rattle.burr_assembly.specs.Homes.{home_at, homes_of};
+ghost use Rattle.burr_assembly.specs.Homes.{homes_of};
 ghost use Rattle.burr_bench.specs.BenchViews.{SetsOut, GripPasses};
-ghost use Rattle.burr_bench.specs.Ways.{Passes, PassesPiece, PassesRest};
-ghost use Rattle.burr_bench.specs.StateViews.{IsOffsetHere};
+ghost use Rattle.burr_bench.specs.Ways.{PassesPiece, PassesRest};
+ghost use Rattle.burr_state.specs.StateViews.{IsOffsetHere};
 
 use crate::checked::Checked;
 use crate::checked::way::Way;
-use burr_blocking::Blocking;
+use burr_blocking::{Blocking, Query};
 use burr_code::is_in_set;
 use burr_voxels::Cell;
 
 impl<B: Blocking> Checked<'_, B> {
     /// Whether the grip goes its way past the rest of its tray.
-    pub fn passes(&self, way: Way) -> bool
+    pub(crate) fn passes(&self, way: Way) -> bool
         requires { SetsOut self.now way }
         ensures { IsTrue result ↔ GripPasses self.now way }
     {
@@ -37,42 +37,29 @@ impl<B: Blocking> Checked<'_, B> {
         let Some(offset) = self.offset_here(piece) else {
             return true;
         };
+        let query = way.query();
         let from = way.setting_out(offset);
         for other in 0..self.piece_count() {
-            if !is_in_set(self.grip(), other) && !self.passes_piece(piece, from, other, way) {
+            if !is_in_set(self.grip(), other) && !self.passes_piece(piece, from, other, query) {
                 return false;
             }
         }
         true
     }
 
-    /// Whether a piece, asked of at an offset in the current tray, passes another one of it.
-    fn passes_piece(&self, piece: u8, from: Cell, other: u8, way: Way) -> bool
+    /// Whether a piece, asked of at an offset in the current tray, keeps clear of another piece, if
+    /// that lies there.
+    fn passes_piece(&self, piece: u8, from: Cell, other: u8, query: Query) -> bool
         requires piece { piece < length self.now.assembly.pieces }
         requires other { other < length self.now.assembly.pieces }
         requires two { piece ≢ other }
         requires near { IsWithin 256 from }
-        ensures { IsTrue result ↔ PassesPiece way (homes_of self.now.assembly)
+        ensures { IsTrue result ↔ PassesPiece query (homes_of self.now.assembly)
             self.now.state.places self.now.state.tray piece from other }
     {
         match self.offset_here(other) {
             None => true,
-            Some(there) => self.passes_at(piece, other, from - there, way),
-        }
-    }
-
-    /// Whether a piece, displaced against another one, passes it.
-    fn passes_at(&self, piece: u8, other: u8, displacement: Cell, way: Way) -> bool
-        requires piece { piece < length self.now.assembly.pieces }
-        requires other { other < length self.now.assembly.pieces }
-        requires two { piece ≢ other }
-        requires near { IsWithin 512 displacement }
-        ensures { IsTrue result ↔ Passes way (home_at (homes_of self.now.assembly) piece)
-            (home_at (homes_of self.now.assembly) other) displacement }
-    {
-        match way {
-            Way::Unit(_) => !self.blocking.blocked(piece, other, displacement),
-            Way::Out(direction) => self.blocking.free(piece, other, displacement, direction),
+            Some(there) => self.blocking.clears(query, piece, other, from - there),
         }
     }
 
@@ -81,7 +68,7 @@ impl<B: Blocking> Checked<'_, B> {
         ensures offset { IsOffsetHere self.now.state piece result }
         ensures near { IfSome result (IsWithin 256) }
     {
-        self.state.offset_here(piece)
+        self.bench.offset_here(piece)
     }
 
     /// The number of pieces.
@@ -90,6 +77,6 @@ impl<B: Blocking> Checked<'_, B> {
         ensures places { result ≡ length self.now.state.places }
         ensures few { result ≤ 32 }
     {
-        self.state.piece_count()
+        self.bench.piece_count()
     }
 }

@@ -1,4 +1,4 @@
--- Counts of questions: none more, and some and then others.
+-- Counts of looks: none more, and some and then others.
 use Rattle.std.proofs.Common.{◌≡◌, ◌∙◌, ℕ, ◌+◌, ap, arith}
 use Rattle.burr_blocking.specs.Counted.{Counted, counted, with_more}
 

@@ -92,3 +92,15 @@ free_where_unmet d ps qs direction none = (free_from d ps qs direction).0 (free_
 
 pub unmet_where_free : (d : Cell) (ps qs : List Cell) (direction : Direction) → IsFreeFrom ps qs d direction → ¬ Meets (shifted d ps) qs direction
 unmet_where_free d ps qs direction free (from, to, here, there, ahead) = none_ahead_where_free (shifted d ps) qs direction ((free_from d ps qs direction).1 free) from to here there ahead
+
+-- Two pieces that moved alike
+
+same_difference : (a b u : ℤ) → ((a +ℤ u) -ℤ (b +ℤ u)) ≡ (a -ℤ b)
+same_difference a b u = omega (arith, ints)
+
+moved_alike : (a b u : Cell) → minus (plus a u) (plus b u) ≡ minus a b
+moved_alike a b u = same_cell _ _ (same_difference a.x b.x u.x) (same_difference a.y b.y u.y) (same_difference a.z b.z u.z)
+
+-- two pieces that moved alike overlap only where they did before
+pub overlap_before : (a b u : Cell) (ps qs : List Cell) → Overlap (shifted (plus a u) ps) (shifted (plus b u) qs) → Overlap (shifted a ps) (shifted b qs)
+overlap_before a b u ps qs over = overlap_of_blocked a b ps qs (subst (λ (d : Cell). IsBlocked ps qs d) (moved_alike a b u) (blocked_of_overlap (plus a u) (plus b u) ps qs over))

@@ -18,8 +18,8 @@ use Rattle.burr_frames.specs.States.{AbstractState, IsPoint, Everywhere, cell_at
 use Rattle.burr_frames.specs.Arrival.{live_forms, IsAlike, Agrees, Meets}
 use Rattle.burr_frames.specs.SpaceRules.{OnBenchAt, PairAt, AllSmallPlaces}
 use Rattle.burr_frames.specs.ControlRules.{HasRoomForSymbols}
-use Rattle.burr_frames.proofs.Common.Conditions.{decided_implies, decide_all_numbers, decide_of_the_one, decide_found, one_in_list, decide_lies, one_position, lies_within, apart-on, same_tray, same_position}
-use Rattle.burr_frames.proofs.Common.Freedom.{decide_same_cell}
+use Rattle.burr_code.proofs.Common.Conditions.{decided_implies, decide_all_numbers, decide_of_the_one, decide_found, one_in_list, decide_lies, one_position, lies_within, apart-on, same_tray, same_position}
+use Rattle.burr_voxels.proofs.Common.Decided.{decide_same_cell}
 use Rattle.burr_frames.proofs.Common.Search.{decide_in_box, decide_guards, first_failing}
 
 -- Equal values

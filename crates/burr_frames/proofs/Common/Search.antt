@@ -10,7 +10,7 @@ use Rattle.burr_forms.specs.Forms.{Form, Point, value}
 use Rattle.burr_forms.specs.Points.{InRange, InBox, GuardsHold, Precedes}
 use Rattle.burr_frames.specs.States.{AbstractState, Everywhere, IsFirstFailing}
 use Rattle.burr_frames.specs.Verdicts.{IsFirstPair}
-use Rattle.burr_frames.proofs.Common.Conditions.{decide_all_numbers}
+use Rattle.burr_code.proofs.Common.Conditions.{decide_all_numbers}
 
 pub decide_in_box : (ranges : List (ℤ × ℤ)) (point : Point) → Decided (InBox ranges point)
 decide_in_box [] [] = inl tt

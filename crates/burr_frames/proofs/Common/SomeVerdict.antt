@@ -17,8 +17,8 @@ use Rattle.burr_frames.specs.Transfer.{Transfer}
 use Rattle.burr_frames.specs.SpaceRules.{moved, PairAt, DoesNotOverlap, GoesFree}
 use Rattle.burr_frames.specs.ControlRules.{behind_call, paying_call, left_of, MeetsExitAt}
 use Rattle.burr_frames.specs.QuestionRules.{with_symbol}
-use Rattle.burr_frames.proofs.Common.Conditions.{decide_all_lie, decide_all_apart, decide_part_of_tray, decide_empty_tray}
-use Rattle.burr_frames.proofs.Common.Freedom.{decide_overlap, decide_free}
+use Rattle.burr_code.proofs.Common.Conditions.{decide_all_lie, decide_all_apart, decide_part_of_tray, decide_empty_tray}
+use Rattle.burr_voxels.proofs.Common.Decided.{decide_overlap, decide_free}
 use Rattle.burr_frames.proofs.Common.Search.{decide_in_box, decide_guards, first_failing, first_pair}
 use Rattle.burr_frames.proofs.Common.Decided.{decide_small_form, decide_small_forms, decide_small_places, decide_room, decide_on_bench, decide_pair, pair_past_p, pair_past_q, decide_alike, decide_agrees, decide_same_trays, decide_same_places}
 

@@ -14,11 +14,11 @@ ghost use Rattle.burr_frames.specs.Moving.{ClearOrBreaks, LeavesSome};
 use super::places::{count_in_tray, moved_places, offsets_in, sides_in, take_aside};
 use super::{MOST_PIECES, State};
 use crate::breaking::Break;
-use crate::clearing::{Clearing, Question};
+use crate::clearing::Clearing;
 use crate::lying::Lying;
 use crate::rule::Rule;
 use arrayvec::ArrayVec;
-use burr_blocking::{Blocking, Looks};
+use burr_blocking::{Blocking, Looks, Query};
 use burr_code::is_in_set;
 use burr_forms::{FormTooLarge, first_refused, the_points_are_given};
 use burr_voxels::Direction;
@@ -75,7 +75,7 @@ impl State {
         let Ok(places) = self.moved(direction) else {
             return Err(Break::plain(Rule::V26));
         };
-        self.goes_clear(places.as_slice(), looks, Question::Blocked, Rule::V15)?;
+        self.goes_clear(places.as_slice(), looks, Query::Overlap, Rule::V15)?;
         let cost = self.paid()?;
         self.set_cost(cost);
         self.set_places(places);
@@ -106,8 +106,8 @@ impl State {
         if !self.is_empty(tray) {
             return Err(Break::plain(Rule::V17));
         }
-        let question = Question::Free(direction);
-        self.goes_clear(self.places.as_slice(), looks, question, Rule::V16)?;
+        let query = Query::Exit(direction);
+        self.goes_clear(self.places.as_slice(), looks, query, Rule::V16)?;
         let cost = self.paid()?;
         self.set_cost(cost);
         self.go_aside(tray);
@@ -122,17 +122,17 @@ impl State {
         &self,
         places: &[Lying],
         looks: &mut Looks<'_, B>,
-        question: Question,
+        query: Query,
         rule: Rule,
     ) -> Result<(), Break>
         requires few { length places.now ≤ 32 }
         requires small { AllSmallPlaces places.now }
         requires points { HasRoom self.now }
         requires room { looks.old.count ≤ 2 ^ 40 }
-        ensures verdict { ClearOrBreaks (homes_of looks.old.assembly) self.now places.now question
+        ensures verdict { ClearOrBreaks (homes_of looks.old.assembly) self.now places.now query
             rule result }
         ensures counted { HasCounted
-            (clearing_looks (homes_of looks.old.assembly) self.now places.now question)
+            (clearing_looks (homes_of looks.old.assembly) self.now places.now query)
             looks.old looks.new }
     {
         the_points_are_given();
@@ -143,7 +143,7 @@ impl State {
         let mut clearing = Clearing {
             forms: offsets.as_slice(),
             sides: sides.as_slice(),
-            question,
+            query,
             looks,
             found: None,
         };

@@ -1,8 +1,8 @@
 ghost use Rattle.std.specs.Prelude.{◌≡◌, ◌≢◌, IfOk, OnErr};
-ghost use Rattle.burr_bench.specs.declared.mode.Mode.TheVariants.{Running};
-ghost use Rattle.burr_bench.specs.Next.{Asks};
-ghost use Rattle.burr_bench.specs.Step.{NextIs};
-ghost use Rattle.burr_bench.specs.BenchViews.{setup_of};
+ghost use Rattle.burr_state.specs.declared.mode.Mode.TheVariants.{Running};
+ghost use Rattle.burr_state.specs.Next.{Asks};
+ghost use Rattle.burr_state.specs.Step.{NextIs};
+ghost use Rattle.burr_state.specs.Benches.{setup_of};
 ghost use Rattle.burr_runs.specs.Running.{FailsInRun, IsInStep, TurnIs, AnswerIs, run_state};
 
 use crate::running::Turn;

@@ -1,10 +1,10 @@
 ghost use Rattle.std.specs.Prelude.{◌∷◌, [], map};
 ghost use Rattle.burr_io.specs.Sink.{Puts};
-ghost use Rattle.burr_bench.specs.declared.closing.Closing.TheVariants as closings;
+ghost use Rattle.burr_state.specs.declared.closing.Closing.TheVariants as closings;
 ghost use Rattle.burr_sheet.specs.SheetText.{closing_line, levels_line};
 
-use burr_bench::{Closing, Trap};
 use burr_io::{Sink, WriteFault, put_all, put_number, put_words};
+use burr_state::{Closing, Trap};
 use itoa::Buffer;
 
 /// Puts how a run closed, as `apart in 3 steps`.

@@ -8,9 +8,9 @@ ghost use Rattle.burr_sheet.specs.SheetText.{alone, move_line, names_from, out_w
 ghost use Rattle.burr_sheet.specs.SheetUnderWay.{move_line_of, is_one};
 
 use burr_assembly::Assembly;
-use burr_bench::Motion;
 use burr_code::is_in_set;
 use burr_io::{Sink, WriteFault, put_all, put_number, put_words};
+use burr_state::Motion;
 use burr_voxels::Direction;
 use itoa::Buffer;
 

@@ -1,5 +1,7 @@
-use Rattle.std.proofs.Common.{inr}
+use Rattle.std.proofs.Common.{List, ℕ, inr, ap, subst, ◌∙◌}
 use Rattle.burr_runs.specs.declared.fault.BenchFault.TheVariants.{Write}
+use Rattle.burr.specs.Ends.{took, TakesText}
+use Rattle.burr.specs.Statuses.{code_of}
 use Rattle.burr.proofs.HandedText.{output_failed_late, no_outcome}
 use Rattle.burr.proofs.program.run.Goals as goal
 
@@ -10,8 +12,9 @@ returns-in-Err-flush g c =
       (
         output_failed_late g.R.Source c.args.source.now c.bench_text.new.source g.W.Sink c.args.sink.now c.bench_text.new.sink c.flush.new.self c.in-Ok.outcome
             c.requires.fresh c.in-Ok.ensures.ok c.in-Err-flush.ensures.puts.err,
-        c.end_by.ensures.status,
-        c.end_by.ensures.told,
+        ap code_of (c.end_by.ensures.status ∙ c.from-in-Err-flush.ensures.1),
+        subst (λ (line : List ℕ). TakesText (took (g.E.Sink.taken c.args.complaints.now.sink) (g.E.Sink.taken c.end_by.new.complaints.sink)
+            (g.E.Sink.has_failed c.end_by.new.complaints.sink)) line) c.from-in-Err-flush.ensures.0 c.end_by.ensures.told,
       ),
     )
 
@@ -22,7 +25,8 @@ returns-in-Err g c =
       (
         no_outcome g.R.Source c.args.source.now c.bench_text.new.source g.W.Sink c.args.sink.now c.bench_text.new.sink c.in-Err.fault c.requires.fresh
             c.in-Err.ensures.err c.in-Err.ensures.untouched,
-        c.end_by-in-Err.ensures.status,
-        c.end_by-in-Err.ensures.told,
+        ap code_of (c.end_by-in-Err.ensures.status ∙ c.from-in-Err.ensures.1),
+        subst (λ (line : List ℕ). TakesText (took (g.E.Sink.taken c.args.complaints.now.sink) (g.E.Sink.taken c.end_by-in-Err.new.complaints.sink)
+            (g.E.Sink.has_failed c.end_by-in-Err.new.complaints.sink)) line) c.from-in-Err.ensures.0 c.end_by-in-Err.ensures.told,
       ),
     )

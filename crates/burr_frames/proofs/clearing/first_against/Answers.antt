@@ -4,7 +4,7 @@ use Rattle.std.proofs.lemmas.Option.{slice_get_within}
 use Rattle.burr_text.proofs.Common.Tests.{yes_of, no_of, one_more_number}
 use Rattle.burr_voxels.specs.declared.cell.Cell.{Cell}
 use Rattle.burr_assembly.specs.Homes.{homes_of}
-use Rattle.burr_frames.specs.declared.clearing.Question.{Question}
+use Rattle.burr_blocking.specs.declared.query.Query.{Query}
 use Rattle.burr_frames.specs.declared.clearing.Side.TheVariants.{Left}
 use Rattle.burr_frames.specs.Clearing.{IsSide, IsPairClear}
 use Rattle.burr_frames.proofs.Clearances.{two_sides}
@@ -13,20 +13,20 @@ use Rattle.burr_frames.proofs.LooksSoFar.{passed_over, one_is_so, one_is_not, at
 use Rattle.burr_frames.proofs.clearing.first_against.Goals as goal
 
 -- what is asked of the pieces of the looks so far is asked of those of the first
-asked_first : (question : Question) (homes others : List (List Cell)) (values : List ℤ) (p q : ℕ) (test : Bool)
-    → others ≡ homes → IsTrue test ↔ IsPairClear question others values p q
-    → IsTrue test ↔ IsPairClear question homes values p q
-asked_first question homes others values p q test same told =
-    subst (λ (hs : List (List Cell)). IsTrue test ↔ IsPairClear question hs values p q) same told
+asked_first : (query : Query) (homes others : List (List Cell)) (values : List ℤ) (p q : ℕ) (test : Bool)
+    → others ≡ homes → IsTrue test ↔ IsPairClear query others values p q
+    → IsTrue test ↔ IsPairClear query homes values p q
+asked_first query homes others values p q test same told =
+    subst (λ (hs : List (List Cell)). IsTrue test ↔ IsPairClear query hs values p q) same told
 
 pub loop-other-preserved-then-not-is_on : goal.loop-other-preserved-then-not-is_on
 loop-other-preserved-then-not-is_on g c =
     let homes = homes_of c.args.looks.now.assembly in
     let other = no_of c.if-not-is_on.ensures in
     let inside = c.loop-other-test.true in (
-      one_more_number (λ t. IsSide c.args.sides.now t Left → IsPairClear c.args.question homes c.args.values.now c.args.piece t)
+      one_more_number (λ t. IsSide c.args.sides.now t Left → IsPairClear c.args.query homes c.args.values.now c.args.piece t)
           c.loop-other.other c.loop-other.invariant.0 (λ is. absurd (other is)),
-      passed_over (λ pair. IsPairClear c.args.question homes c.args.values.now pair.0 pair.1) _ _ _ c.loop-other.other
+      passed_over (λ pair. IsPairClear c.args.query homes c.args.values.now pair.0 pair.1) _ _ _ c.loop-other.other
           (c.loop-other.other + 1) c.args.looks.now c.loop-other.looks
           (not_left c.args.sides.now c.args.piece c.loop-other.other inside other) (omega arith) c.loop-other.invariant.1,
       omega (arith, inside),
@@ -38,20 +38,20 @@ is_clear-requires-clause-two g c = two_sides c.args.sides.now c.args.piece c.loo
 pub returns-then-not-is_clear-clause-found : goal.returns-then-not-is_clear-clause-found
 returns-then-not-is_clear-clause-found g c =
     let homes = homes_of c.args.looks.now.assembly in
-    let asked = asked_first c.args.question homes (homes_of c.loop-other.looks.assembly) c.args.values.now c.args.piece c.loop-other.other
+    let asked = asked_first c.args.query homes (homes_of c.loop-other.looks.assembly) c.args.values.now c.args.piece c.loop-other.other
     false (same_homes c.args.looks.now c.loop-other.looks c.loop-other.invariant.1.0 c.loop-other.invariant.1.3) c.if-not-is_clear.ensures.answer in
     (yes_of c.if-not-is_on.ensures, no_of asked, c.loop-other.invariant.0)
 
 pub returns-then-not-is_clear-clause-counted : goal.returns-then-not-is_clear-clause-counted
 returns-then-not-is_clear-clause-counted g c =
     let homes = homes_of c.args.looks.now.assembly in
-    let asked = asked_first c.args.question homes (homes_of c.loop-other.looks.assembly) c.args.values.now c.args.piece c.loop-other.other
+    let asked = asked_first c.args.query homes (homes_of c.loop-other.looks.assembly) c.args.values.now c.args.piece c.loop-other.other
     false (same_homes c.args.looks.now c.loop-other.looks c.loop-other.invariant.1.0 c.loop-other.invariant.1.3) c.if-not-is_clear.ensures.answer in
     let few = c.requires.few in
     let inside = c.loop-other-test.true in
-    at_most (λ pair. IsPairClear c.args.question homes c.args.values.now pair.0 pair.1) _ (c.loop-other.other + 1) 32
+    at_most (λ pair. IsPairClear c.args.query homes c.args.values.now pair.0 pair.1) _ (c.loop-other.other + 1) 32
     c.args.looks.now c.is_clear.new.looks (omega (arith, few, inside))
-    (one_is_not (λ pair. IsPairClear c.args.question homes c.args.values.now pair.0 pair.1) _ _ _ _ c.loop-other.other
+    (one_is_not (λ pair. IsPairClear c.args.query homes c.args.values.now pair.0 pair.1) _ _ _ _ c.loop-other.other
     c.args.looks.now c.loop-other.looks c.is_clear.new.looks
     (one_left c.args.sides.now c.args.piece c.loop-other.other (yes_of c.if-not-is_on.ensures)) (no_of asked)
     c.if-not-is_clear.ensures.counted c.loop-other.invariant.1)
@@ -59,12 +59,12 @@ returns-then-not-is_clear-clause-counted g c =
 pub loop-other-preserved : goal.loop-other-preserved
 loop-other-preserved g c =
     let homes = homes_of c.args.looks.now.assembly in
-    let asked = asked_first c.args.question homes (homes_of c.loop-other.looks.assembly) c.args.values.now c.args.piece c.loop-other.other
+    let asked = asked_first c.args.query homes (homes_of c.loop-other.looks.assembly) c.args.values.now c.args.piece c.loop-other.other
     true (same_homes c.args.looks.now c.loop-other.looks c.loop-other.invariant.1.0 c.loop-other.invariant.1.3) c.if-not-is_clear.ensures.answer in
     let inside = c.loop-other-test.true in (
-      one_more_number (λ t. IsSide c.args.sides.now t Left → IsPairClear c.args.question homes c.args.values.now c.args.piece t)
+      one_more_number (λ t. IsSide c.args.sides.now t Left → IsPairClear c.args.query homes c.args.values.now c.args.piece t)
           c.loop-other.other c.loop-other.invariant.0 (λ is. yes_of asked),
-      one_is_so (λ pair. IsPairClear c.args.question homes c.args.values.now pair.0 pair.1) _ _ _ _ c.loop-other.other
+      one_is_so (λ pair. IsPairClear c.args.query homes c.args.values.now pair.0 pair.1) _ _ _ _ c.loop-other.other
           c.args.looks.now c.loop-other.looks c.is_clear.new.looks
           (one_left c.args.sides.now c.args.piece c.loop-other.other (yes_of c.if-not-is_on.ensures)) (yes_of asked)
           c.if-not-is_clear.ensures.counted c.loop-other.invariant.1,
@@ -81,7 +81,7 @@ returns-clause-counted g c =
     let homes = homes_of c.args.looks.now.assembly in
     let few = c.requires.few in
     let within = c.loop-other.invariant.2 in
-    passed_over (λ pair. IsPairClear c.args.question homes c.args.values.now pair.0 pair.1) _ _ _ c.loop-other.other 32
+    passed_over (λ pair. IsPairClear c.args.query homes c.args.values.now pair.0 pair.1) _ _ _ c.loop-other.other 32
     c.args.looks.now c.loop-other.looks
     (row_ends c.args.sides.now c.args.piece c.loop-other.other (omega (arith, c.loop-other-test.false)))
     (omega (arith, few, within)) c.loop-other.invariant.1

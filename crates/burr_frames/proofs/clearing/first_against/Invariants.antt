@@ -10,7 +10,7 @@ use Rattle.burr_frames.proofs.clearing.first_against.Given as goal
 abbrev pub invariant-loop-other : goal.invariant-loop-other
 invariant-loop-other g l =
     ((t : ℕ) → t < l.other → IsSide l.sides t Left
-    → IsPairClear l.question (homes_of l.initial.looks.assembly) l.values l.piece t)
-    × SoFar (λ pair. IsPairClear l.question (homes_of l.initial.looks.assembly) l.values pair.0 pair.1)
+    → IsPairClear l.query (homes_of l.initial.looks.assembly) l.values l.piece t)
+    × SoFar (λ pair. IsPairClear l.query (homes_of l.initial.looks.assembly) l.values pair.0 pair.1)
     (pairs_behind l.sides l.piece 0) (pairs_behind l.sides l.piece l.other) l.other l.initial.looks l.looks
     × (l.other ≤ length l.sides)

@@ -10,7 +10,7 @@ use Rattle.burr_frames.proofs.clearing.first_pair.Given as goal
 abbrev pub invariant-loop-piece : goal.invariant-loop-piece
 invariant-loop-piece g l =
     ((r t : ℕ) → r < l.piece → IsSide l.sides r Gripped → IsSide l.sides t Left
-    → IsPairClear l.question (homes_of l.initial.looks.assembly) l.values r t)
-    × SoFar (λ pair. IsPairClear l.question (homes_of l.initial.looks.assembly) l.values pair.0 pair.1)
+    → IsPairClear l.query (homes_of l.initial.looks.assembly) l.values r t)
+    × SoFar (λ pair. IsPairClear l.query (homes_of l.initial.looks.assembly) l.values pair.0 pair.1)
     (side_pairs l.sides) (pairs_from l.sides l.piece) (32 * l.piece) l.initial.looks l.looks
     × (l.piece ≤ length l.sides)

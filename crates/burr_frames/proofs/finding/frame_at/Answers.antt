@@ -4,7 +4,7 @@ use Rattle.std.specs.Prelude.{slice_get}
 use Rattle.std.proofs.lemmas.Option.{slice_get_past}
 use Rattle.burr_container.specs.Plans.{Frame}
 use Rattle.burr_frames.specs.FramedPlans.{framed}
-use Rattle.burr_frames.proofs.Heres.{procedure_here, label_here, as_many_labels, element_at}
+use Rattle.burr_frames.proofs.Common.Heres.{procedure_here, label_here, as_many_labels, element_at}
 use Rattle.burr_frames.proofs.finding.frame_at.Goals as goal
 
 pub returns-then-label-label_count : goal.returns-then-label-label_count

@@ -2,7 +2,7 @@
 use Rattle.std.proofs.Common.{◌<◌, sym, arith}
 use Rattle.std.proofs.lemmas.Option.{slice_get_within}
 use Rattle.burr_text.proofs.Common.Tests.{yes_iff, no_iff}
-use Rattle.burr_frames.proofs.Heres.{procedure_here, as_many_labels, one_of_labelled, all_labelled}
+use Rattle.burr_frames.proofs.Common.Heres.{procedure_here, as_many_labels, one_of_labelled, all_labelled}
 use Rattle.burr_frames.proofs.finding.has_labels.Goals as goal
 
 pub returns-then-from-count : goal.returns-then-from-count

@@ -1,8 +1,8 @@
 use Rattle.std.proofs.Common.{◌≡◌, subst, sym, refl, ap, [], ◌∙◌}
 use Rattle.std.proofs.KnownBytes.{Appends-nil}
-use Rattle.burr_bench.specs.Bench.{Program}
-use Rattle.burr_bench.specs.Run.{ends, stops}
-use Rattle.burr_bench.specs.declared.closing.Closing.TheVariants as closings
+use Rattle.burr_state.specs.Bench.{Program}
+use Rattle.burr_state.specs.Run.{ends, stops}
+use Rattle.burr_state.specs.declared.closing.Closing.TheVariants as closings
 use Rattle.burr_runs.specs.declared.running.Turn.{Turn}
 use Rattle.burr_runs.specs.Running.{TurnIs, run_state}
 use Rattle.burr_text.proofs.Common.Tests.{on_err, yes_of, no_of}

@@ -1,4 +1,4 @@
-use Rattle.burr_bench.specs.BenchViews.{IsSameRun}
+use Rattle.burr_state.specs.Benches.{IsSameRun}
 use Rattle.burr_runs.specs.Running.{IsInStep, PutsPart, run_state, left_to_take}
 use Rattle.burr_runs.proofs.running.run_to_close.Given as goal
 

@@ -2,7 +2,7 @@
 use Rattle.std.specs.Prelude.{replicate, true}
 use Rattle.burr_container.specs.Refs.{exit_frame_of}
 use Rattle.burr_upgrade.specs.Slots.{over_slots}
-use Rattle.burr_upgrade.proofs.ReadBack.{pushed}
+use Rattle.burr_container.proofs.Common.ListsRead.{pushed}
 use Rattle.burr_upgrade.proofs.Restored.{form_of}
 use Rattle.burr_upgrade.proofs.Fitting.{exit_back}
 use Rattle.burr_upgrade.proofs.exits.guards.Goals as goal

@@ -1,5 +1,5 @@
 use Rattle.burr_container.specs.Refs.{exit_frame_of}
-use Rattle.burr_upgrade.proofs.ReadBack.{IsRead}
+use Rattle.burr_container.proofs.Common.ListsRead.{IsRead}
 use Rattle.burr_upgrade.proofs.exits.guards.Given as goal
 
 -- the first ones are read

@@ -5,7 +5,7 @@ use Rattle.std.proofs.lemmas.List.{map-append}
 use Rattle.burr_container.specs.Refs.{exit_frame_of, told}
 use Rattle.burr_container.specs.Views.{placement_of, placements_of}
 use Rattle.burr_upgrade.specs.Slots.{place_over_slots}
-use Rattle.burr_upgrade.proofs.ReadBack.{pushed}
+use Rattle.burr_container.proofs.Common.ListsRead.{pushed}
 use Rattle.burr_upgrade.proofs.Restored.{place_of}
 use Rattle.burr_upgrade.proofs.Fitting.{exit_back}
 use Rattle.burr_upgrade.proofs.exits.places.Goals as goal

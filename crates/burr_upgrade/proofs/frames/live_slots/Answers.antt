@@ -1,6 +1,6 @@
 -- The eight slots, one by one.
 use Rattle.std.proofs.Common.{◌≡◌, length, sym}
-use Rattle.burr_upgrade.proofs.ReadBack.{eight}
+use Rattle.burr_container.proofs.Common.ListsRead.{eight}
 use Rattle.burr_upgrade.proofs.frames.live_slots.Goals as goal
 
 pub returns : goal.returns

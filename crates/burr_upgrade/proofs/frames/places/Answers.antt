@@ -6,7 +6,7 @@ use Rattle.burr_container.specs.Plans.{live_slots}
 use Rattle.burr_container.specs.Refs.{frame_of, told}
 use Rattle.burr_container.specs.Views.{placement_of, placements_of}
 use Rattle.burr_upgrade.specs.Slots.{place_over_slots}
-use Rattle.burr_upgrade.proofs.ReadBack.{pushed}
+use Rattle.burr_container.proofs.Common.ListsRead.{pushed}
 use Rattle.burr_upgrade.proofs.Restored.{same_slots, place_of}
 use Rattle.burr_upgrade.proofs.Fitting.{frame_fits}
 use Rattle.burr_upgrade.proofs.frames.places.Goals as goal

@@ -1,6 +1,6 @@
 use Rattle.burr_container.specs.Refs.{frame_of}
 use Rattle.burr_container.specs.Views.{placements_of}
-use Rattle.burr_upgrade.proofs.ReadBack.{IsRead}
+use Rattle.burr_container.proofs.Common.ListsRead.{IsRead}
 use Rattle.burr_upgrade.proofs.frames.places.Given as goal
 
 -- the first ones are read

@@ -4,7 +4,7 @@ use Rattle.std.specs.Prelude.{Bool}
 use Rattle.burr_container.specs.Plans.{live_slots}
 use Rattle.burr_container.specs.Refs.{frame_of}
 use Rattle.burr_upgrade.specs.Slots.{over_slots}
-use Rattle.burr_upgrade.proofs.ReadBack.{pushed}
+use Rattle.burr_container.proofs.Common.ListsRead.{pushed}
 use Rattle.burr_upgrade.proofs.Restored.{same_slots, form_of}
 use Rattle.burr_upgrade.proofs.Fitting.{frame_fits}
 use Rattle.burr_upgrade.proofs.frames.stack.Goals as goal

@@ -1,7 +1,7 @@
 -- One more label is read; at the end all are.
 use Rattle.std.proofs.Common.{◌<◌, ◌∙◌, length, arith}
 use Rattle.std.specs.Prelude.{slice_get}
-use Rattle.burr_upgrade.proofs.ReadBack.{some_at, pushed, all_read}
+use Rattle.burr_container.proofs.Common.ListsRead.{some_at, pushed, all_read}
 use Rattle.burr_upgrade.proofs.Fitting.{has_label, fitting_frame}
 use Rattle.burr_upgrade.proofs.plans.labels.Goals as goal
 

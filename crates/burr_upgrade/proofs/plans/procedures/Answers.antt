@@ -1,6 +1,6 @@
 -- One more procedure is read.
 use Rattle.std.proofs.Common.{◌<◌, length, arith}
-use Rattle.burr_upgrade.proofs.ReadBack.{some_at, pushed}
+use Rattle.burr_container.proofs.Common.ListsRead.{some_at, pushed}
 use Rattle.burr_upgrade.proofs.plans.procedures.Goals as goal
 
 pub loop-i-preserved : goal.loop-i-preserved

@@ -1,6 +1,6 @@
 use Rattle.burr_container.specs.Plans.{Plan}
 use Rattle.burr_container.specs.Containers.{IsContainer}
-use Rattle.burr_upgrade.proofs.ReadBack.{IsRead}
+use Rattle.burr_container.proofs.Common.ListsRead.{IsRead}
 use Rattle.burr_upgrade.proofs.plans.procedures.Given as goal
 
 -- the first ones are read

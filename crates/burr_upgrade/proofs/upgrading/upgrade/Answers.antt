@@ -3,7 +3,7 @@ use Rattle.std.proofs.Common.{IsTrue, ◌∙◌, sym, subst}
 use Rattle.burr_container.specs.Plans.{Plan}
 use Rattle.burr_container.specs.Fitting.{is_fitting}
 use Rattle.burr_upgrade.specs.Upgrades.{upgraded}
-use Rattle.burr_upgrade.proofs.OneContainer.{fits_where_kept}
+use Rattle.burr_container.proofs.Common.OneContainer.{fits_where_kept}
 use Rattle.burr_upgrade.proofs.Upgraded.{stays_fitting}
 use Rattle.burr_upgrade.proofs.upgrading.upgrade.Goals as goal
 

@@ -5,7 +5,7 @@ use Rattle.burr_frames.specs.Exits.{framed_ref}
 use Rattle.burr_frames.specs.declared.rule.Rule.TheVariants as rules
 use Rattle.burr_verify.specs.Views.{failed_check}
 use Rattle.burr_verify.proofs.Formed.{exit_here, no_exit_here}
-use Rattle.burr_verify.proofs.Heres.{procedure_here}
+use Rattle.burr_frames.proofs.Common.Heres.{procedure_here}
 use Rattle.burr_verify.proofs.LabelsJudged.{exit_passes, no_exit_passes, exit_refused, plainly_refused}
 use Rattle.burr_verify.proofs.forming.judge_exit.Goals as goal
 

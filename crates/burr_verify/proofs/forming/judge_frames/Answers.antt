@@ -5,7 +5,7 @@ use Rattle.burr_frames.specs.FramedPlans.{FramedProcedure}
 use Rattle.burr_verify.specs.Judging.{Answer, judging_exit, judging_entry}
 use Rattle.burr_verify.specs.VerifyLaws.{nothing}
 use Rattle.burr_verify.proofs.Formed.{labels_counted}
-use Rattle.burr_verify.proofs.Heres.{element_at}
+use Rattle.burr_frames.proofs.Common.Heres.{element_at}
 use Rattle.burr_verify.proofs.LabelsJudged.{behind_exit, refused_by_exit, labels_on, labels_stop, labels_end}
 use Rattle.burr_verify.proofs.forming.judge_frames.Goals as goal
 

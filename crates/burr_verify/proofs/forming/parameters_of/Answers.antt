@@ -1,6 +1,6 @@
 -- The parameters are those of the plan's procedure.
 use Rattle.std.proofs.Common.{sym}
-use Rattle.burr_verify.proofs.Heres.{procedure_here, parameters_here}
+use Rattle.burr_frames.proofs.Common.Heres.{procedure_here, parameters_here}
 use Rattle.burr_verify.proofs.forming.parameters_of.Goals as goal
 
 pub returns-clause-here : goal.returns-clause-here

@@ -1,7 +1,7 @@
 -- The label in the middle tells of those on one side of it.
 use Rattle.std.proofs.Common.{◌+◌, ◌-◌, ◌/◌, ◌<◌, ◌≤◌, length, arith, inl, inr, ◌⊎◌}
 use Rattle.std.proofs.lemmas.Option.{slice_get_within}
-use Rattle.burr_verify.proofs.Heres.{element_at}
+use Rattle.burr_frames.proofs.Common.Heres.{element_at}
 use Rattle.burr_verify.proofs.LabelPlaces.{laid_out_here, place_of, as_many_here, up_to_middle, from_middle, before_or_not}
 use Rattle.burr_verify.proofs.labels.count_before.Goals as goal
 

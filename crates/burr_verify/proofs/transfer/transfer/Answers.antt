@@ -14,7 +14,7 @@ use Rattle.burr_frames.specs.Looks.{RuleLooks}
 use Rattle.burr_frames.specs.Transfer.{Transfer}
 use Rattle.burr_frames.specs.Verdicts.{Verdict}
 use Rattle.burr_verify.specs.Views.{verdict_of}
-use Rattle.burr_verify.proofs.Heres.{procedure_here, parameters_here}
+use Rattle.burr_frames.proofs.Common.Heres.{procedure_here, parameters_here}
 use Rattle.burr_verify.proofs.transfer.transfer.Goals as goal
 
 by_rule : (homes : List (List Cell)) (plan : FramedPlan) (n : ℕ) (here : FramedProcedure) (s : AbstractState) (given told : Instr) (v w : Verdict)

@@ -1,11 +1,12 @@
-use Rattle.std.proofs.Common.{◌≡◌, sym, subst, refl, ap, length}
+use Rattle.std.proofs.Common.{◌≡◌, true, sym, subst, refl, ap, length}
 use Rattle.burr_assembly.specs.Homes.{homes_of}
 use Rattle.burr_code.specs.Places.{IsPartOfTray, IsEmptyTray}
-use Rattle.burr_bench.specs.Bench.{BenchState}
-use Rattle.burr_bench.specs.StateViews.{gone_aside}
-use Rattle.burr_bench.specs.BenchViews.{Benched, benched, setup_of}
+use Rattle.burr_state.specs.Bench.{BenchState}
+use Rattle.burr_state.specs.Space.{motion_of}
+use Rattle.burr_state.specs.StateViews.{gone_aside}
+use Rattle.burr_state.specs.Benches.{Benched, benched, setup_of}
 use Rattle.burr_text.proofs.Common.Tests.{yes_of, no_of}
-use Rattle.burr_bench.proofs.Stepping.Steps.{aside_in_use, aside_not_free, aside_goes, goes_on_aside, sound_aside}
+use Rattle.burr_state.proofs.Common.Stepping.Steps.{aside_in_use, aside_not_free, aside_goes, goes_on_aside, sound_aside}
 use Rattle.burr_bench.proofs.Stepping.Ways.{as_many_homes, free_of_passing, passing_of_free}
 use Rattle.burr_bench.proofs.checked.Checked.aside.Goals as goal
 
@@ -26,9 +27,9 @@ returns-then-not-passes-clause-follows g c here runs =
 
 pub invariant_of-self : goal.invariant_of-self
 invariant_of-self g c =
-    let old = benched (g.B.Blocking.subject c.self.inside.blocking.now) c.self.inside.program c.self.inside.state in
-    sound_aside old _ c.args.tray c.self.invariant (yes_of c.if-not-is_empty.ensures) refl refl
-    (ap (λ (s : BenchState). s.places) c.go_aside.ensures) (ap (λ (s : BenchState). s.grip) c.go_aside.ensures) (record { procedure = ap (λ (s : BenchState). s.running.procedure) c.go_aside.ensures; callers = ap (λ (s : BenchState). s.callers) c.go_aside.ensures })
+    let old = benched (g.B.Blocking.subject c.self.inside.blocking.now) c.self.inside.bench.program c.self.inside.bench.state in
+    sound_aside old _ c.args.tray c.self.invariant (yes_of c.if-not-is_empty.ensures) refl
+    (ap (λ (s : BenchState). s.places) c.go_aside-motion.ensures.state) (ap (λ (s : BenchState). s.grip) c.go_aside-motion.ensures.state)
 
 pub returns-clause-follows : goal.returns-clause-follows
 returns-clause-follows g c here runs =
@@ -36,10 +37,11 @@ returns-clause-follows g c here runs =
     let part = subst (λ (b : Benched). IsPartOfTray b.state.grip b.state.places b.state.tray) c.self.view_is (yes_of c.if-not-is_part_gripped.ensures) in
     let empty = subst (λ (b : Benched). IsEmptyTray b.state.places c.args.tray) c.self.view_is (yes_of c.if-not-is_empty.ensures) in
     let free = free_of_passing (homes_of now.assembly) now.state.places now.state.tray now.state.grip c.args.direction (yes_of c.if-not-passes.ensures) in
-    let went = subst (λ (b : Benched). c.go_aside.new.self ≡ gone_aside c.args.tray c.args.size b.state) c.self.view_is c.go_aside.ensures in
-    aside_goes (setup_of now) here now.state c.go_aside.new.self c.args.direction c.args.tray c.args.size _ part empty free c.requires.size c.motion-motion.ensures went
+    let went = subst (λ (b : Benched). c.go_aside-motion.new.self.state ≡ gone_aside c.args.tray c.args.size b.state) c.self.view_is c.go_aside-motion.ensures.state in
+    let moves = subst (λ (b : Benched). c.go_aside-motion.result ≡ motion_of b.state.grip b.state.tray c.args.direction true) c.self.view_is c.go_aside-motion.ensures.motion in
+    aside_goes (setup_of now) here now.state c.go_aside-motion.new.self.state c.args.direction c.args.tray c.args.size _ part empty free c.requires.size moves went
 
 pub returns-clause-goes_on : goal.returns-clause-goes_on
 returns-clause-goes_on g c =
     rw (sym c.self.view_is)
-    (goes_on_aside _ _ _ c.args.tray c.self.invariant (ap (λ m. m.out) c.motion-motion.ensures) (yes_of c.if-not-is_part_gripped.ensures) (yes_of c.if-not-is_empty.ensures) (ap (λ (s : BenchState). s.places) c.go_aside.ensures))
+    (goes_on_aside _ _ _ c.args.tray c.self.invariant (ap (λ m. m.out) c.go_aside-motion.ensures.motion) (yes_of c.if-not-is_part_gripped.ensures) (yes_of c.if-not-is_empty.ensures) (ap (λ (s : BenchState). s.places) c.go_aside-motion.ensures.state))

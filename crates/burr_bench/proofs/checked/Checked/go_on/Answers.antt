@@ -1,6 +1,6 @@
 use Rattle.std.proofs.Common.{refl}
-use Rattle.burr_bench.proofs.Stepping.Steps.{sound_still}
+use Rattle.burr_state.proofs.Common.Stepping.Steps.{sound_still}
 use Rattle.burr_bench.proofs.checked.Checked.go_on.Goals as goal
 
 pub invariant_of-self : goal.invariant_of-self
-invariant_of-self g c = sound_still _ _ _ c.self.invariant refl refl c.trap.ensures
+invariant_of-self g c = sound_still _ _ _ c.self.invariant refl c.trap.ensures.state

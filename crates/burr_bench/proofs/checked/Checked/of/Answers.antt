@@ -1,17 +1,16 @@
-use Rattle.std.proofs.Common.{◌∙◌, ap, subst, length}
+use Rattle.std.proofs.Common.{◌∙◌, refl, length}
 use Rattle.burr_voxels.specs.Grid.{origin}
-use Rattle.burr_assembly.specs.Text.{Assembly, IsAssembly}
-use Rattle.burr_bench.proofs.Stepping.Steps.{start_parts, is_start, sound_start}
+use Rattle.burr_state.proofs.Common.Stepping.Steps.{start_parts, is_start, sound_start}
 use Rattle.burr_bench.proofs.checked.Checked.of.Goals as goal
 
 pub invariant_of-result : goal.invariant_of-result
 invariant_of-result g c =
-    rw c.start.ensures
-    (sound_start (g.B.Blocking.subject c.args.blocking.now) c.args.program c.piece_count.result (subst (λ (a : Assembly). IsAssembly a) c.assembly.ensures c.piece_count.ensures.assembly)
-    (c.piece_count.ensures.count ∙ ap (λ (a : Assembly). length a.pieces) c.assembly.ensures) c.requires)
+    let a = g.B.Blocking.subject c.args.blocking.now in
+    rw c.requires.start (sound_start a c.args.bench.program (length a.pieces) c.requires.whole refl)
 
 pub returns-clause-start : goal.returns-clause-start
-returns-clause-start g c = record {
-  state = c.start.ensures ∙ is_start (g.B.Blocking.subject c.args.blocking.now) c.args.program c.piece_count.result (c.piece_count.ensures.count ∙ ap (λ (a : Assembly). length a.pieces) c.assembly.ensures);
-  parts = rw c.start.ensures (start_parts c.piece_count.result origin c.piece_count.ensures.several);
-}
+returns-clause-start g c =
+    let a = g.B.Blocking.subject c.args.blocking.now in record {
+      state = c.requires.start ∙ is_start a c.args.bench.program (length a.pieces) refl;
+      parts = rw c.requires.start (start_parts (length a.pieces) origin c.requires.whole.pieces.0);
+    }

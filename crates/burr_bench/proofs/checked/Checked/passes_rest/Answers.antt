@@ -15,12 +15,12 @@ pub returns-then-not-passes_piece : goal.returns-then-not-passes_piece
 returns-then-not-passes_piece g c =
     no_iff
     (barred c.args.way (homes_of c.args.self.now.assembly) c.args.self.now.state.places c.args.self.now.state.tray c.args.self.now.state.grip c.args.piece c.in-Some.offset c.loop-other.other
-    c.in-Some.ensures.offset (rw (sym c.grip.ensures) (no_of c.if-not-is_in_set.ensures)) (rw (sym c.setting_out-from.ensures) (no_of c.if-not-passes_piece.ensures)))
+    c.in-Some.ensures.offset (rw (sym c.grip.ensures) (no_of c.if-not-is_in_set.ensures)) (rw (sym c.query-query.ensures, sym c.setting_out-from.ensures) (no_of c.if-not-passes_piece.ensures)))
 
 pub loop-other-preserved : goal.loop-other-preserved
 loop-other-preserved g c =
     one_more_number
-    (λ q. (¬ IsInSet c.args.self.now.state.grip q) → PassesPiece c.args.way (homes_of c.args.self.now.assembly) c.args.self.now.state.places c.args.self.now.state.tray c.args.piece c.setting_out-from.result q)
+    (λ q. (¬ IsInSet c.args.self.now.state.grip q) → PassesPiece c.query-query.result (homes_of c.args.self.now.assembly) c.args.self.now.state.places c.args.self.now.state.tray c.args.piece c.setting_out-from.result q)
     c.loop-other.other c.loop-other.invariant
     (elim c.else-not-is_in_set.branch [
       | else-not-is_in_set-via-then-not-is_in_set+else-not-passes_piece w ↦ λ rest. yes_of w.if-not-passes_piece.ensures
@@ -31,4 +31,4 @@ pub returns : goal.returns
 returns g c =
     yes_iff
     (passes_of_each c.args.way (homes_of c.args.self.now.assembly) c.args.self.now.state.places c.args.self.now.state.tray c.args.self.now.state.grip c.loop-other.other c.args.piece c.in-Some.offset c.in-Some.ensures.offset
-    (search rules) (rw (sym c.setting_out-from.ensures) c.loop-other.invariant))
+    (search rules) (rw (sym c.query-query.ensures, sym c.setting_out-from.ensures) c.loop-other.invariant))

@@ -7,4 +7,4 @@ use Rattle.burr_bench.proofs.checked.Checked.passes_rest.Given as goal
 -- it passes the pieces so far
 abbrev pub invariant-loop-other : goal.invariant-loop-other
 invariant-loop-other g l =
-    (q : ℕ) → q < l.other → (¬ IsInSet l.self.state.grip q) → PassesPiece l.way (homes_of l.self.assembly) l.self.state.places l.self.state.tray l.piece l.from q
+    (q : ℕ) → q < l.other → (¬ IsInSet l.self.state.grip q) → PassesPiece l.query (homes_of l.self.assembly) l.self.state.places l.self.state.tray l.piece l.from q

@@ -1,9 +1,9 @@
 use Rattle.std.proofs.Common.{◌≡◌, sym, subst, refl, rules, Some, Ok, to_z, of_z, w32, Option, ℤ}
-use Rattle.burr_bench.specs.declared.mode.Mode.{Mode}
-use Rattle.burr_bench.specs.declared.mode.Mode.TheVariants.{Running}
-use Rattle.burr_bench.specs.Step.{CallIn, Called}
-use Rattle.burr_bench.specs.BenchViews.{setup_of}
-use Rattle.burr_bench.proofs.Stepping.Steps.{goes_on_still}
+use Rattle.burr_state.specs.declared.mode.Mode.{Mode}
+use Rattle.burr_state.specs.declared.mode.Mode.TheVariants.{Running}
+use Rattle.burr_state.specs.Step.{CallIn, Called}
+use Rattle.burr_state.specs.Benches.{setup_of}
+use Rattle.burr_state.proofs.Common.Stepping.Steps.{goes_on_still}
 use Rattle.burr_bench.proofs.checked.Checked.step.Goals as goal
 
 pub returns-in-Running-Some-clause-called : goal.returns-in-Running-Some-clause-called

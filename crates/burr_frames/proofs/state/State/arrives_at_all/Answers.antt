@@ -9,8 +9,8 @@ use Rattle.burr_frames.specs.FramedPlans.{framed}
 use Rattle.burr_frames.specs.Breaks.{broken_of}
 use Rattle.burr_frames.specs.Verdicts.{Breaks, Leaves, leaves, arriving_at_all}
 use Rattle.burr_frames.proofs.Arrivals.{arriving_on, arriving_breaks}
-use Rattle.burr_frames.proofs.Heres.{as_many_labelled, labelled_at, one_of_labelled, element_at}
-use Rattle.burr_frames.proofs.Reading.{drop_here}
+use Rattle.burr_frames.proofs.Common.Heres.{as_many_labelled, labelled_at, one_of_labelled, element_at}
+use Rattle.burr_container.proofs.Common.ListsRead.{drop_here}
 use Rattle.burr_frames.proofs.state.State.arrives_at_all.Goals as goal
 
 pub returns-in_default-frame_at : goal.returns-in_default-frame_at

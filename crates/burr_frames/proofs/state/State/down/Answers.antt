@@ -9,7 +9,7 @@ use Rattle.burr_frames.specs.Verdicts.{Breaks, Falls, Leaves, falls, leaves, arr
 use Rattle.burr_frames.specs.Breaks.{broken_of}
 use Rattle.burr_frames.specs.ControlRules.{counted_down, counted_out, guarded}
 use Rattle.burr_frames.specs.Changes.{at_cost}
-use Rattle.burr_frames.proofs.Heres.{procedure_here, parameters_here}
+use Rattle.burr_frames.proofs.Common.Heres.{procedure_here, parameters_here}
 use Rattle.burr_frames.proofs.Paying.{paying_on, paying_breaks}
 use Rattle.burr_frames.proofs.Arrivals.{arriving_on, arriving_breaks}
 use Rattle.burr_frames.proofs.Counters.{IsCounting, branches, counting_on, counted_on}

@@ -64,7 +64,7 @@ returns-in-None-clause-verdict g c =
     (λ i. record { ranges = c.as_slice-4.ensures.value i; guards = c.as_slice-5.ensures.value i })
     (c.as_slice-2.ensures.value ∙ c.offsets_in-offsets.ensures.offsets)
     (subst (AreSides c.self.inside.tray c.self.inside.grip pieces places) (sym c.as_slice-3.ensures.value) c.sides_in-sides.ensures) in
-    all_clear s places pieces searched c.args.question (homes_of c.args.looks.now.assembly) c.args.rule is
+    all_clear s places pieces searched c.args.query (homes_of c.args.looks.now.assembly) c.args.rule is
     (as_many_homes _ _ pieces c.piece_count-pieces.ensures.count c.assembly.ensures)
     (on_bench_of_forms s _ places c.as_slice.result.now c.self.view_is (c.as_slice.ensures.value ∙ c.offsets_in-offsets.ensures.offsets) c.in_ok-stays_within.ensures)
     c.in-None.ensures.found
@@ -83,7 +83,7 @@ returns-in-Some-clause-verdict g c =
     (λ i. record { ranges = c.as_slice-4.ensures.value i; guards = c.as_slice-5.ensures.value i })
     (c.as_slice-2.ensures.value ∙ c.offsets_in-offsets.ensures.offsets)
     (subst (AreSides c.self.inside.tray c.self.inside.grip pieces places) (sym c.as_slice-3.ensures.value) c.sides_in-sides.ensures) in
-    first_in_way s places pieces searched c.args.question (homes_of c.args.looks.now.assembly) c.args.rule
+    first_in_way s places pieces searched c.args.query (homes_of c.args.looks.now.assembly) c.args.rule
     c.in-Some.point.items c.first_refused.new.condition.found _ is
     (as_many_homes _ _ pieces c.piece_count-pieces.ensures.count c.assembly.ensures)
     (on_bench_of_forms s _ places c.as_slice.result.now c.self.view_is (c.as_slice.ensures.value ∙ c.offsets_in-offsets.ensures.offsets) c.in_ok-stays_within.ensures)
@@ -93,7 +93,7 @@ pub returns-in_err-stays_within-clause-counted : goal.returns-in_err-stays_withi
 returns-in_err-stays_within-clause-counted g c =
     let failing = c.in_err-stays_within.ensures in (
       0,
-      no_looks_off_bench (homes_of c.args.looks.now.assembly) c.args.self.now c.args.places.now c.args.question failing.0
+      no_looks_off_bench (homes_of c.args.looks.now.assembly) c.args.self.now c.args.places.now c.args.query failing.0
           (off_bench_of_forms c.args.self.now _ c.args.places.now c.as_slice.result.now failing.0 c.self.view_is
           (c.as_slice.ensures.value ∙ c.offsets_in-offsets.ensures.offsets) failing.1),
       none_more c.args.looks.now,
@@ -121,7 +121,7 @@ returns-in-None-clause-counted g c =
     (subst (AreSides c.self.inside.tray c.self.inside.grip pieces places) (sym c.as_slice-3.ensures.value) c.sides_in-sides.ensures) in
     let made = c.in-None.ensures.counted in (
       made.0,
-      looks_of_clearing c.the_points_are_given.ensures.given s places pieces searched c.args.question (homes_of c.args.looks.now.assembly) made.0 is
+      looks_of_clearing c.the_points_are_given.ensures.given s places pieces searched c.args.query (homes_of c.args.looks.now.assembly) made.0 is
           (as_many_homes _ _ pieces c.piece_count-pieces.ensures.count c.assembly.ensures)
           (subst (λ (a : AbstractState). AreRanges a.ranges) c.self.view_is c.self.invariant.ranges)
           (on_bench_of_forms s _ places c.as_slice.result.now c.self.view_is (c.as_slice.ensures.value ∙ c.offsets_in-offsets.ensures.offsets) c.in_ok-stays_within.ensures)
@@ -145,7 +145,7 @@ returns-in-Some-clause-counted g c =
     (subst (AreSides c.self.inside.tray c.self.inside.grip pieces places) (sym c.as_slice-3.ensures.value) c.sides_in-sides.ensures) in
     let made = c.in-Some.ensures.counted in (
       made.0,
-      looks_of_clearing c.the_points_are_given.ensures.given s places pieces searched c.args.question (homes_of c.args.looks.now.assembly) made.0 is
+      looks_of_clearing c.the_points_are_given.ensures.given s places pieces searched c.args.query (homes_of c.args.looks.now.assembly) made.0 is
           (as_many_homes _ _ pieces c.piece_count-pieces.ensures.count c.assembly.ensures)
           (subst (λ (a : AbstractState). AreRanges a.ranges) c.self.view_is c.self.invariant.ranges)
           (on_bench_of_forms s _ places c.as_slice.result.now c.self.view_is (c.as_slice.ensures.value ∙ c.offsets_in-offsets.ensures.offsets) c.in_ok-stays_within.ensures)

@@ -6,7 +6,7 @@ use Rattle.burr_frames.specs.States.{AbstractState}
 use Rattle.burr_frames.specs.Verdicts.{Breaks, leaves, arriving_at_all}
 use Rattle.burr_frames.specs.Breaks.{left}
 use Rattle.burr_frames.specs.Changes.{at_cost}
-use Rattle.burr_frames.proofs.Heres.{nothing_found}
+use Rattle.burr_frames.proofs.Common.Heres.{nothing_found}
 use Rattle.burr_frames.proofs.Paying.{paying_on}
 use Rattle.burr_frames.proofs.state.State.pick.Goals as goal
 

@@ -3,8 +3,8 @@ use Rattle.std.proofs.Common.{rules, ◌≡◌, ◌≢◌, ◌∙◌, List, ap, 
 use Rattle.std.proofs.lemmas.Result.{err_from_is_err_and}
 use Rattle.burr_code.specs.Places.{Placement}
 use Rattle.burr_assembly.specs.Homes.{homes_of}
+use Rattle.burr_blocking.specs.declared.query.Query.TheVariants as queries
 use Rattle.burr_container.specs.Plans.{FormCell}
-use Rattle.burr_frames.specs.declared.clearing.Question.TheVariants as questions
 use Rattle.burr_frames.specs.declared.rule.Rule.TheVariants as rules_of
 use Rattle.burr_frames.specs.Breaks.{broken_of}
 use Rattle.burr_frames.specs.Changes.{at_cost, with_places}
@@ -30,7 +30,7 @@ returns-in_err-goes_clear-clause-verdict g c =
         subst AllSmallPlaces c.in-Ok.ensures.0 c.in-Ok.ensures.1,
         clear_breaks s (OnBenchAt new s.tray) (PairAt DoesNotOverlap homes new s.tray s.grip) rules_of.V18 rules_of.V15
             (paying s λ paid. falls (with_places new paid)) (broken_of broken)
-            (subst (λ (places : List (Placement FormCell)). Says homes s places questions.Blocked rules_of.V15 (Breaks (broken_of broken)))
+            (subst (λ (places : List (Placement FormCell)). Says homes s places queries.Overlap rules_of.V15 (Breaks (broken_of broken)))
             (c.as_slice.ensures.value ∙ c.in-Ok.ensures.0) c.in_err-goes_clear.ensures.verdict),
       ),
     ))
@@ -50,7 +50,7 @@ returns-in_err-cost-clause-verdict g c =
         subst AllSmallPlaces c.in-Ok.ensures.0 c.in-Ok.ensures.1,
         clear_on s (OnBenchAt new s.tray) (PairAt DoesNotOverlap homes new s.tray s.grip) rules_of.V18 rules_of.V15
             (paying s λ paid. falls (with_places new paid)) (Breaks (broken_of broken))
-            (subst (λ (places : List (Placement FormCell)). Says homes s places questions.Blocked rules_of.V15 Leaves)
+            (subst (λ (places : List (Placement FormCell)). Says homes s places queries.Overlap rules_of.V15 Leaves)
             (c.as_slice.ensures.value ∙ c.in-Ok.ensures.0) c.in_ok-goes_clear.ensures.verdict)
             (paying_breaks s broken (λ paid. falls (with_places new paid)) c.in_err-cost.ensures),
       ),
@@ -72,7 +72,7 @@ returns-clause-verdict g c =
         subst AllSmallPlaces c.in-Ok.ensures.0 c.in-Ok.ensures.1,
         clear_on s (OnBenchAt new s.tray) (PairAt DoesNotOverlap homes new s.tray s.grip) rules_of.V18 rules_of.V15
             (paying s λ paid. falls (with_places new paid)) (Falls c.set_places.new.self)
-            (subst (λ (places : List (Placement FormCell)). Says homes s places questions.Blocked rules_of.V15 Leaves)
+            (subst (λ (places : List (Placement FormCell)). Says homes s places queries.Overlap rules_of.V15 Leaves)
             (c.as_slice.ensures.value ∙ c.in-Ok.ensures.0) c.in_ok-goes_clear.ensures.verdict)
             (paying_on s cost (λ paid. falls (with_places new paid)) (Falls c.set_places.new.self) c.in_ok-cost.ensures (ap Falls changed)),
       ),

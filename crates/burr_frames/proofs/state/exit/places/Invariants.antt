@@ -1,6 +1,6 @@
 use Rattle.burr_frames.specs.Exits.{framed_ref}
 use Rattle.burr_frames.specs.SpaceRules.{AllSmallPlaces}
-use Rattle.burr_frames.proofs.Reading.{IsRead}
+use Rattle.burr_container.proofs.Common.ListsRead.{IsRead}
 use Rattle.burr_frames.proofs.state.exit.places.Given as goal
 
 -- the first ones are read

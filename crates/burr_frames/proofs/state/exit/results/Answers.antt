@@ -7,7 +7,7 @@ use Rattle.std.proofs.lemmas.List.Elements.{All-push}
 use Rattle.burr_forms.specs.Points.{IsRange, AreRanges}
 use Rattle.burr_container.specs.Plans.{Range}
 use Rattle.burr_container.specs.Refs.{exit_frame_of}
-use Rattle.burr_frames.proofs.Reading.{IsRead, read_on}
+use Rattle.burr_container.proofs.Common.ListsRead.{IsRead, read_on}
 use Rattle.burr_frames.proofs.state.exit.results.Goals as goal
 
 pub loop-n-preserved : goal.loop-n-preserved

@@ -1,6 +1,6 @@
 use Rattle.burr_forms.specs.Points.{AreRanges}
 use Rattle.burr_container.specs.Refs.{exit_frame_of}
-use Rattle.burr_frames.proofs.Reading.{IsRead}
+use Rattle.burr_container.proofs.Common.ListsRead.{IsRead}
 use Rattle.burr_frames.proofs.state.exit.results.Given as goal
 
 -- the first ones are read

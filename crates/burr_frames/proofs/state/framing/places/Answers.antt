@@ -6,7 +6,7 @@ use Rattle.burr_code.specs.Places.{Placement}
 use Rattle.burr_container.specs.Plans.{FormCell, live_slots, place_over_symbols}
 use Rattle.burr_container.specs.Refs.{frame_of, told}
 use Rattle.burr_frames.specs.SpaceRules.{AllSmallPlaces}
-use Rattle.burr_frames.proofs.Reading.{IsRead, read_on, all_read}
+use Rattle.burr_container.proofs.Common.ListsRead.{IsRead, read_on, all_read}
 use Rattle.burr_frames.proofs.PlacesRead.{small_push}
 use Rattle.burr_frames.proofs.state.framing.places.Goals as goal
 

@@ -9,7 +9,7 @@ use Rattle.std.proofs.lemmas.Int.{to_z-of_z}
 use Rattle.burr_container.specs.Refs.{frame_of}
 use Rattle.burr_container.specs.Plans.{Range}
 use Rattle.burr_frames.specs.States.{live_ranges}
-use Rattle.burr_frames.proofs.Reading.{drop_here}
+use Rattle.burr_container.proofs.Common.ListsRead.{drop_here}
 use Rattle.burr_frames.proofs.state.framing.ranges.Goals as goal
 
 pub loop-v-preserved-in_default : goal.loop-v-preserved-in_default

@@ -1,5 +1,0 @@
-use Rattle.burr_bench.proofs.Trays.Asides.{group_goes_aside}
-use Rattle.burr_bench.proofs.laws.going_aside_parts_lone_pieces.Goals as goal
-
-pub returns : goal.returns
-returns g c = group_goes_aside

@@ -1,7 +1,0 @@
-use Rattle.std.proofs.Common.{ℕ, ◌<◌, IsBitSet}
-use Rattle.burr_bench.specs.StateViews.{PieceStaysOnBench}
-use Rattle.burr_bench.proofs.state.BenchState.stays_on_bench.Given as goal
-
--- those of the grip so far stay
-abbrev pub invariant-loop-piece : goal.invariant-loop-piece
-invariant-loop-piece l = (p : ℕ) → p < l.piece → IsBitSet l.self.grip p → PieceStaysOnBench l.self l.direction p

@@ -1,0 +1,57 @@
+ghost use Rattle.std.specs.Prelude.{◌≡◌, ◌<◌, ◌==◌, [], ◌∷◌, false, codes, decimal, length, take, IsTrue, MatchOption, slice_get, slice_index, slice_index_or};
+ghost use Rattle.std.specs.List.{All, slice_split};
+ghost use Rattle.std.specs.Option.{option_map};
+ghost use Rattle.burr_io.specs.Sink.{Puts};
+ghost use Rattle.burr_assembly.specs.PieceNames.{name_at};
+ghost use Rattle.burr_runs.specs.Refusals.{assembly_refusal, clash_line};
+
+use crate::lines::put_place_line;
+use burr_assembly::{AssemblyFault, piece_name};
+use burr_io::{Sink, WriteFault, put_words};
+use itoa::Buffer;
+
+/// Puts the line of the fault of an assembly's text, as `refused A4 line 7`, or `refused A8 line 7 A B`
+/// with the names of the pieces, which are found in the text. Want of memory is no fault of a text: of
+/// it nothing is put.
+pub fn put_assembly_refusal<W: Sink>(
+    text: &[u8],
+    fault: AssemblyFault,
+    sink: &mut W,
+) -> Result<(), WriteFault>
+    ensures { Puts W.Sink sink.old sink.new (assembly_refusal text.now fault) result }
+{
+    match fault {
+        AssemblyFault::A1 { line } => put_place_line(b"A1", b"line", line, sink),
+        AssemblyFault::A2 { line } => put_place_line(b"A2", b"line", line, sink),
+        AssemblyFault::A3 { line } => put_place_line(b"A3", b"line", line, sink),
+        AssemblyFault::A4 { line } => put_place_line(b"A4", b"line", line, sink),
+        AssemblyFault::A5 { line } => put_place_line(b"A5", b"line", line, sink),
+        AssemblyFault::A6 { line } => put_place_line(b"A6", b"line", line, sink),
+        AssemblyFault::A7 { line } => put_place_line(b"A7", b"line", line, sink),
+        AssemblyFault::A8 {
+            line,
+            earlier,
+            piece,
+        } => put_clash(
+            line,
+            piece_name(text, earlier),
+            piece_name(text, piece),
+            sink,
+        ),
+        AssemblyFault::Memory => Ok(()),
+    }
+}
+
+/// Puts a line with the names of two pieces of which the second shares a cell with the first.
+fn put_clash<W: Sink>(
+    line: usize,
+    first: &[u8],
+    second: &[u8],
+    sink: &mut W,
+) -> Result<(), WriteFault>
+    ensures { Puts W.Sink sink.old sink.new (clash_line line first.now second.now) result }
+{
+    let mut buffer = Buffer::new();
+    let line = buffer.format(line).as_bytes();
+    put_words(&[b"refused", b"A8", b"line", line, first, second], sink)
+}

@@ -1,0 +1,3 @@
+pub mod FramedSetup
+pub mod Machine
+pub mod Records

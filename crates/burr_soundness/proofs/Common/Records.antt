@@ -1,0 +1,33 @@
+-- A safe bench that makes a step has a record of it, which takes it back.
+use Rattle.std.proofs.Common.{◌≡◌, Ok, Option, refl, sym, subst}
+use Rattle.burr_verify.specs.VerifyLaws.{FittingIsFromContainer}
+use Rattle.burr_state.specs.declared.progress.Progress.TheVariants as progress
+use Rattle.burr_state.specs.Bench.{BenchState}
+use Rattle.burr_state.specs.Benches.{setup_of, in_state}
+use Rattle.burr_state.specs.Step.{Called}
+use Rattle.burr_state.specs.Undo.{Undo, record_of, IsRecordOf}
+use Rattle.burr_state.proofs.Common.Undo.{records_go_back, runs_where_stepped, stands_there}
+use Rattle.burr_soundness.specs.Machine.{IsSafeBench}
+use Rattle.burr_soundness.specs.Records.{StepIsRecorded}
+use Rattle.burr_soundness.proofs.Common.Machine.{counted}
+
+pub step_is_recorded : FittingIsFromContainer → StepIsRecorded
+step_is_recorded given b answer motion new safe called =
+    let running = runs_where_stepped (setup_of b) b.state new answer motion b.state.mode refl called in
+    let few = counted given b safe running in
+    let at = stands_there (setup_of b) b.state new answer motion running called in
+    let u : Undo = record_of at.0 b.state at.1 in
+    let is : IsRecordOf (setup_of b) b.state u = (at.0, at.1, at.2, refl) in
+    let same = records_go_back (setup_of b) b.state new answer motion u running few called is in (
+      u,
+      record {
+        safe = subst (λ (x : BenchState). IsSafeBench (in_state x b)) (sym same) safe;
+        answer = answer;
+        motion = motion;
+        steps =
+            subst (λ (x : BenchState). Called (setup_of b) x answer (Ok (progress.Went motion)) new) (sym same)
+            called;
+        is_record = subst (λ (x : BenchState). IsRecordOf (setup_of b) x u) (sym same) is;
+      },
+      same,
+    )

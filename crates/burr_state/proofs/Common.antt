@@ -1,0 +1,14 @@
+pub mod CallLaws
+pub mod Calls
+pub mod Existence
+pub mod Leading
+pub mod OneRun
+pub mod Outcomes
+pub mod Pieces
+pub mod Reached
+pub mod SomeRun
+pub mod StepCalls
+pub mod Stepping
+pub mod Trays
+pub mod TwoCubes
+pub mod Undo

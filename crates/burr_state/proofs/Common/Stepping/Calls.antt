@@ -1,0 +1,111 @@
+-- Callers with room for the results that they wait for, through calls and returns.
+use Rattle.std.proofs.Common.{◌≡◌, ◌≤◌, ◌+◌, ◌∙◌, ℕ, List, [], ◌∷◌, length, take, drop, refl, sym, ap, subst, arith, inl, inr, Some, None, ℤ}
+use Rattle.std.specs.Prelude.{IfSome, Option, Result, Ok, Err, OnOk, slice_get}
+use Rattle.std.proofs.lemmas.Option.{slice_get_within}
+use Rattle.burr_code.specs.Instruction.{Call}
+use Rattle.burr_code.specs.Labels.{callee_of}
+use Rattle.burr_code.specs.Stacks.{top, top_many}
+use Rattle.burr_state.specs.declared.effect.Effect.{Effect}
+use Rattle.burr_state.specs.declared.trap.Trap.{Trap}
+use Rattle.burr_state.specs.declared.trap.Trap.TheVariants as traps
+use Rattle.burr_state.specs.Bench.{Activation, BenchProcedure, BenchState, Setup}
+use Rattle.burr_state.specs.Next.{Goes, Traps, stepped}
+use Rattle.burr_state.specs.Control.{called, calling, returned, returning}
+use Rattle.burr_state.specs.Programs.{HasRoomFor, HasRoomBehind, FitsProgram}
+use Rattle.burr_state.specs.Effects.{StaysWithin, CallerHasRoom, CallerGoesOn, KeepsUnlessGoes, IsCalledFor, CannotBeCalled}
+use Rattle.burr_state.specs.StateViews.{IsCallChain}
+
+-- nothing was called and nothing returned
+pub fits_within : (procedures : List BenchProcedure) (old new : BenchState) → FitsProgram procedures old → StaysWithin old new
+    → FitsProgram procedures new
+fits_within procedures old new fits within = record {
+  runs = rw within.procedure fits.runs;
+  room = rw (within.procedure, within.callers) fits.room;
+}
+
+-- a caller with room for the callee's results waits
+pub fits_called : (procedures : List BenchProcedure) (old new : BenchState) (callee : ℕ) (there : BenchProcedure) (caller : Activation)
+    → FitsProgram procedures old → slice_get procedures callee ≡ Some there → HasRoomFor there.results caller
+    → caller.procedure ≡ old.running.procedure → new.running.procedure ≡ callee → new.callers ≡ caller ∷ old.callers
+    → FitsProgram procedures new
+fits_called procedures old new callee there caller fits found room same is callers = record {
+  runs = rw is (slice_get_within procedures callee there found);
+  room =
+      rw (is, callers) (
+        subst (λ (p : Option BenchProcedure). IfSome p (λ q. HasRoomFor q.results caller)) (sym found) room,
+        subst (λ n. HasRoomBehind procedures n old.callers) (sym same) fits.room,
+      );
+}
+
+-- where a caller waits, it has room for the results of the procedure that runs
+pub caller_has_room : (procedures : List BenchProcedure) (here : BenchProcedure) (n : ℕ) (callers : List Activation)
+    → slice_get procedures n ≡ Some here → HasRoomBehind procedures n callers → CallerHasRoom here.results callers
+caller_has_room procedures here n [] found room = tt
+caller_has_room procedures here n (caller ∷ callers) found room =
+    subst (λ (p : Option BenchProcedure). IfSome p (λ q. HasRoomFor q.results caller)) found room.0
+
+-- the nearest caller goes on
+pub fits_returned : (procedures : List BenchProcedure) (old new : BenchState) → FitsProgram procedures old
+    → IsCallChain old.running.procedure old.callers → CallerGoesOn old new → FitsProgram procedures new
+fits_returned procedures old new fits chain goes =
+    let chained = subst (λ (cs : List Activation). IsCallChain old.running.procedure cs) goes.callers chain in
+    let room = subst (λ (cs : List Activation). HasRoomBehind procedures old.running.procedure cs) goes.callers fits.room in
+    let lower = chained.0 in
+    let runs = fits.runs in
+    record {
+      runs = rw goes.procedure (omega (arith, lower, runs));
+      room = rw goes.procedure room.1;
+    }
+
+-- a return, which goes on or traps
+pub fits_returning : (procedures : List BenchProcedure) (old new : BenchState) (result : Result Effect Trap)
+    → FitsProgram procedures old → IsCallChain old.running.procedure old.callers → KeepsUnlessGoes result old new
+    → OnOk result (CallerGoesOn old new) → FitsProgram procedures new
+fits_returning procedures old new (Ok effect) fits chain kept goes = fits_returned procedures old new fits chain goes
+fits_returning procedures old new (Err trap) fits chain kept goes = rw kept fits
+
+-- Calls
+
+-- a procedure that can't be called
+pub cannot_call : (setup : Setup) (s : BenchState) (callee : ℕ) (there : BenchProcedure) (trap : Trap)
+    → callee_of setup.procedures s.running.procedure callee ≡ Some there
+    → CannotBeCalled s.running there.parameters there.results trap → calling setup s callee (Traps trap)
+cannot_call setup s callee there trap found (inl (none, e)) = inr (there, found, inl (none, ap Traps e))
+cannot_call setup s callee there trap found (inr (some, full, e)) =
+    let m = there.parameters in
+    let ops = s.running.operands in
+    inr (there, found, inr ((take m ops, drop m ops), some, inl (full, ap Traps e)))
+
+-- one that is called
+pub called_on : (setup : Setup) (s new : BenchState) (callee : ℕ) (there : BenchProcedure) (begun left : Activation)
+    → callee_of setup.procedures s.running.procedure callee ≡ Some there
+    → IsCalledFor s.running callee there.parameters there.results begun left
+    → new ≡ stepped (record s { running = begun; callers = record left { pc = s.running.pc + 2 } ∷ s.callers })
+    → calling setup s callee (Goes new None)
+called_on setup s new callee there begun left found is e =
+    let m = there.parameters in
+    let ops = s.running.operands in
+    let room : length (drop m ops) + there.results ≤ 8 =
+    subst (λ (a : Activation). length a.operands + there.results ≤ 8) is.caller is.room in
+    let same : new ≡ called callee (take m ops) (drop m ops) (Call callee) s =
+    e ∙ (λ i. stepped (record s {
+      running = is.callee i;
+      callers = record (is.caller i) { pc = s.running.pc + 2 } ∷ s.callers;
+    })) in
+    inr (there, found, inr ((take m ops, drop m ops), is.enough, inr (room, ap (λ (t : BenchState). Goes t None) same)))
+
+-- Returns
+
+-- a procedure with too few operands for its results
+pub cannot_return : (here : BenchProcedure) (s : BenchState) (caller : Activation) (callers : List Activation)
+    → s.callers ≡ caller ∷ callers → top_many here.results s.running.operands ≡ None
+    → returning here s (Traps traps.MissingOperand)
+cannot_return here s caller callers waits none = inr ((caller, callers), ap top waits, inl (none, refl))
+
+-- one with enough
+pub returned_on : (here : BenchProcedure) (s new : BenchState) (caller : Activation) (callers : List Activation)
+    (results below : List ℤ) → s.callers ≡ caller ∷ callers
+    → top_many here.results s.running.operands ≡ Some (results, below) → new ≡ returned results caller callers s
+    → returning here s (Goes new None)
+returned_on here s new caller callers results below waits enough e =
+    inr ((caller, callers), ap top waits, inr ((results, below), enough, ap (λ (t : BenchState). Goes t None) e))

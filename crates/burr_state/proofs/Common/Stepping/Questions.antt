@@ -1,0 +1,108 @@
+-- Which instructions ask, and which answers they take.
+use Rattle.std.proofs.Common.{◌≡◌, ◌<◌, ◌⊎◌, ℕ, ℤ, pos, ◌-ℤ◌, List, length, inl, inr, refl, subst, arith, Bool, true, false, Some, None, Option}
+use Rattle.burr_text.specs.Checks.{needs, finds}
+use Rattle.burr_text.proofs.Common.Decisions.{Decided, decide_below}
+use Rattle.burr_code.specs.Instruction.{Instruction, Halt, Push, Load, Store, Add, Sub, Drop, Grip, Step, Aside, Tray, Jump, Down, Ask, Pick, Call, Ret}
+use Rattle.burr_code.specs.Labels.{labelled}
+use Rattle.burr_code.proofs.Common.Labels.{picked}
+use Rattle.burr_state.specs.declared.trap.Trap.{Trap}
+use Rattle.burr_state.specs.declared.trap.Trap.TheVariants as traps
+use Rattle.burr_state.specs.declared.motion.Motion.{Motion}
+use Rattle.burr_state.specs.Bench.{BenchProcedure, BenchState, Setup}
+use Rattle.burr_state.specs.Next.{Next, Traps, goes}
+use Rattle.burr_state.specs.Numbers.{HasRoom}
+use Rattle.burr_state.specs.Questions.{Fits}
+use Rattle.burr_state.specs.Step.{Executes, IsAt, IsUnfit}
+use Rattle.burr_state.specs.Effects.{TakesNumber, TakesLabel, IsPicked}
+use Rattle.burr_state.specs.Benches.{Answered}
+use Rattle.std.proofs.lemmas.Int.{ints}
+use Rattle.std.proofs.lemmas.Option.{slice_get_within}
+use Rattle.burr_state.proofs.Common.Leading.{answer_number}
+use Rattle.burr_state.proofs.Offers.{labelled_all, all_labelled, none_or_some}
+use Rattle.burr_state.proofs.Common.Existence.Executions.{some_execution}
+use Rattle.burr_state.proofs.Common.Existence.SomeCall.{IsQuestion, unfit_elsewhere, unfit_there}
+
+-- each instruction but `ask` and `pick`
+abbrev pub AsksNothing : Instruction → Type 0
+AsksNothing (Ask low high) = ⊥
+AsksNothing (Pick labels) = ⊥
+AsksNothing i = Unit {0}
+
+-- none of these asks
+abbrev NeverAsks : (Next → Type 0) → Type 0
+NeverAsks Tells = (next : Next) → Tells next → ¬ IsQuestion next
+
+given : (new : BenchState) (motion : Option Motion) → NeverAsks (goes new motion)
+given new motion next is asks = subst IsQuestion is asks
+
+needed : (condition : Type 0) (trap : Trap) (rest : Next → Type 0) → NeverAsks rest → NeverAsks (needs condition (Traps trap) rest)
+needed condition trap rest none next (inl failed) asks = subst IsQuestion failed.1 asks
+needed condition trap rest none next (inr held) asks = none next held.1 asks
+
+found : {A : Type 0} (o : Option A) (trap : Trap) (rest : A → Next → Type 0) → ((x : A) → NeverAsks (rest x)) → NeverAsks (finds o (Traps trap) rest)
+found o trap rest none next (inl failed) asks = subst IsQuestion failed.1 asks
+found o trap rest none next (inr held) asks = none held.0 next held.2 asks
+
+-- such an instruction asks nothing
+no_question : (setup : Setup) (here : BenchProcedure) (s : BenchState) (i : Instruction) → AsksNothing i → NeverAsks (Executes setup here s i)
+no_question setup here s Halt still = needed _ _ _ (needed _ _ _ (given _ _))
+no_question setup here s (Push n) still = needed _ _ _ (given _ _)
+no_question setup here s (Load v) still = found _ _ _ λ x. needed _ _ _ (given _ _)
+no_question setup here s (Store v) still = needed _ _ _ (found _ _ _ λ x. given _ _)
+no_question setup here s Add still = found _ _ _ λ x. needed _ _ _ (given _ _)
+no_question setup here s Sub still = found _ _ _ λ x. needed _ _ _ (given _ _)
+no_question setup here s Drop still = found _ _ _ λ x. given _ _
+no_question setup here s (Grip set) still = needed _ _ _ (given _ _)
+no_question setup here s (Step direction) still = needed _ _ _ (needed _ _ _ (needed _ _ _ (given _ _)))
+no_question setup here s (Aside direction tray) still = needed _ _ _ (needed _ _ _ (needed _ _ _ (given _ _)))
+no_question setup here s (Tray tray) still = given _ _
+no_question setup here s (Jump label) still = found _ _ _ λ to. given _ _
+no_question setup here s (Down v label) still = found _ _ _ λ to. needed _ _ _ (found _ _ _ λ x. needed _ _ _ (given _ _))
+no_question setup here s (Ask low high) still = absurd still
+no_question setup here s (Pick labels) still = absurd still
+no_question setup here s (Call callee) still = found _ _ _ λ there. found _ _ _ λ x. needed _ _ _ (given _ _)
+no_question setup here s Ret still = found _ _ _ λ up. found _ _ _ λ x. given _ _
+
+-- where such an instruction stands, no answer fits
+pub unfit_at : (setup : Setup) (here : BenchProcedure) (s : BenchState) (i : Instruction) (answer : ℤ) → AsksNothing i → IsAt setup s here i → IsUnfit setup s answer
+unfit_at setup here s i answer still at =
+    let next = some_execution setup here s i in
+    unfit_elsewhere setup s next.0 answer (inl (here, i, at, next.1)) (no_question setup here s i still next.0 next.1)
+
+-- where none stands, none does
+pub unfit_nowhere : (setup : Setup) (s : BenchState) (answer : ℤ) → ((here : BenchProcedure) (i : Instruction) → ¬ IsAt setup s here i) → IsUnfit setup s answer
+unfit_nowhere setup s answer none = unfit_elsewhere setup s (Traps traps.BadCode) answer (inr (none, refl)) (λ asks. asks)
+
+-- an answer to `ask`
+pub number_answered : (setup : Setup) (here : BenchProcedure) (s new : BenchState) (low high answer : ℤ) (taken : Bool) → IsAt setup s here (Ask low high) → TakesNumber s low high answer taken new → Answered setup s answer taken new
+number_answered setup here s new low high answer true at takes = (here, Ask low high, low, high, at, inr (takes.0, refl), takes.1, takes.2)
+number_answered setup here s new low high answer false at takes = (by_room (decide_below (length s.running.operands) 8), takes.1)
+  where
+    by_room : Decided (HasRoom s.running) → IsUnfit setup s answer
+    by_room (inl room) = unfit_there setup s low high answer (inl (here, Ask low high, at, inr (room, refl))) (λ fits. takes.0 (room, fits))
+    by_room (inr full) = unfit_elsewhere setup s (Traps traps.StackFull) answer (inl (here, Ask low high, at, inl (full, refl))) (λ asks. asks)
+
+-- a number of a list's elements is that of one
+is_picked : (positions labels to : List ℕ) (answer : ℤ) → labelled positions labels ≡ Some to → Fits (pos 0) (pos (length to) -ℤ pos 1) answer → IsPicked positions labels answer
+is_picked positions labels to answer all fits =
+    let number = answer_number (length to) answer fits in
+    let at = picked positions labels to number.0 all number.2 in
+    (at.1, (number.0, at.0, number.1, at.2, at.3))
+
+-- the number of an element lies between those of the first and the last
+number_fits : (n count : ℕ) (answer : ℤ) → answer ≡ pos n → n < count → Fits (pos 0) (pos count -ℤ pos 1) answer
+number_fits n count answer is less = rw is (omega (arith, ints), omega (arith, ints, less))
+
+-- an answer to `pick`
+pub label_answered : (setup : Setup) (here : BenchProcedure) (s new : BenchState) (labels : List ℕ) (answer : ℤ) (taken : Bool) → IsAt setup s here (Pick labels) → TakesLabel here s labels answer taken new → Answered setup s answer taken new
+label_answered setup here s new labels answer true at takes =
+    let all = labelled_all here.labels labels takes.0 in
+    let n = takes.1.1.0 in
+    (here, Pick labels, pos 0, pos (length all.0) -ℤ pos 1, at, inr (all.0, all.1, refl), number_fits n (length all.0) answer takes.1.1.2 (rw all.2 (slice_get_within labels n takes.1.1.1 takes.1.1.3)), (n, takes.1.1.1, takes.1.0, takes.1.1.2, takes.1.1.3, takes.1.1.4, takes.1.2))
+label_answered setup here s new labels answer false at takes = (by_labels (none_or_some (labelled here.labels labels)), takes.1)
+  where
+    by_labels : (labelled here.labels labels ≡ None) ⊎ ((to : List ℕ) × (labelled here.labels labels ≡ Some to)) → IsUnfit setup s answer
+    by_labels (inl none) = unfit_elsewhere setup s (Traps traps.BadJump) answer (inl (here, Pick labels, at, inl (none, refl))) (λ asks. asks)
+    by_labels (inr all) =
+        unfit_there setup s (pos 0) (pos (length all.0) -ℤ pos 1) answer (inl (here, Pick labels, at, inr (all.0, all.1, refl)))
+        (λ fits. takes.0 (all_labelled here.labels labels all.0 all.1, is_picked here.labels labels all.0 answer all.1 fits))

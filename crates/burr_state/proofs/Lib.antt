@@ -1,0 +1,7 @@
+pub mod Common
+pub mod Offers
+pub mod Operands
+pub mod Programs
+pub mod Uniqueness
+mod WorkedRuns
+mod WorkedSteps

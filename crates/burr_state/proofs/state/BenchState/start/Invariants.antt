@@ -1,0 +1,8 @@
+use Rattle.std.proofs.Common.{◌≡◌, replicate}
+use Rattle.burr_code.specs.Places.{On}
+use Rattle.burr_voxels.specs.Grid.{origin}
+use Rattle.burr_state.proofs.state.BenchState.start.Given as goal
+
+-- so many pieces lie at home
+abbrev pub invariant-loop-piece : goal.invariant-loop-piece
+invariant-loop-piece l = l.places.items ≡ replicate l._piece (On 0 origin)

@@ -1,0 +1,202 @@
+ghost use Rattle.std.specs.Prelude.{◌≡◌, ◌<◌, ◌≤◌, ◌↔◌, ℤ, List, None, Some, [], ◌∷◌, ◌++◌, drop, length, replicate, reverse, get_or, IsTrue, MatchOption};
+ghost use Rattle.burr_code.specs.declared.limits.TheConstants.{SLOTS, MOST_OPERANDS};
+ghost use Rattle.burr_code.specs.Stacks.{top, top_two, top_many};
+ghost use Rattle.burr_state.specs.Bench.{activation};
+ghost use Rattle.burr_state.specs.Effects.{CallsFor, slots_with};
+ghost use Rattle.burr_state.specs.Programs.{HasRoomFor};
+ghost use Rattle.burr_state.specs.Numbers.{HasRoom, pushed, with_operands, with_slot};
+
+use crate::trap::Trap;
+use arrayvec::ArrayVec;
+use burr_code::limits::{MOST_OPERANDS, SLOTS};
+use std::marker::Model;
+
+/// A call of a procedure that has not returned: where it stands, its slots and its operands.
+#[derive(Debug, Drop)]
+pub struct Activation {
+    /// The procedure's number.
+    procedure: u8,
+    /// Where the next instruction stands in the procedure's code.
+    pc: usize,
+    slots: [Option<i32>; SLOTS],
+    /// The operands, the bottom first.
+    operands: ArrayVec<i32, MOST_OPERANDS>,
+}
+
+impl Model for Activation {
+    ghost use Rattle.std.specs.Prelude.{reverse};
+    ghost use Rattle.burr_state.specs.Bench.{Activation as ActivationOf, activation};
+
+    ghost Value = { ActivationOf };
+
+    ghost view = { λ a. activation a.procedure a.pc a.slots (reverse a.operands.items) };
+}
+
+impl Activation {
+    /// Main at its begin: empty slots and no operands.
+    pub fn main() -> Activation
+        ensures { result ≡ activation 0 0 (replicate 8 None) [] }
+    {
+        Activation {
+            procedure: 0,
+            pc: 0,
+            slots: [None; SLOTS],
+            operands: ArrayVec::new(),
+        }
+    }
+
+    /// The procedure's number.
+    pub fn procedure(&self) -> u8
+        ensures { result ≡ self.now.procedure }
+    {
+        self.procedure
+    }
+
+    /// The value of a slot; None where it is empty.
+    pub fn slot(&self, slot: u8) -> Option<i32>
+        requires { slot < SLOTS }
+        ensures { result ≡ get_or self.now.slots slot None }
+    {
+        self.slots[usize::from(slot)]
+    }
+
+    /// Puts a number into a slot.
+    pub fn set_slot(&mut self, slot: u8, number: i32)
+        requires { slot < SLOTS }
+        ensures { self.new ≡ with_slot slot number self.old }
+    {
+        self.slots[usize::from(slot)] = Some(number);
+    }
+
+    /// The operands, the bottom first.
+    pub fn operands(&self) -> &[i32]
+        ensures { result.now ≡ reverse self.now.operands }
+    {
+        self.operands.as_slice()
+    }
+
+    /// Whether the operands have room for one more.
+    pub fn has_room(&self) -> bool
+        ensures { IsTrue result ↔ HasRoom self.now }
+    {
+        self.operands.len() < MOST_OPERANDS
+    }
+
+    /// Puts a number on top of the operands.
+    pub fn push(&mut self, number: i32)
+        requires { HasRoom self.old }
+        ensures { self.new ≡ pushed number self.old }
+    {
+        self.operands.push(number);
+    }
+
+    /// Takes the top off the operands; None where there are none.
+    pub fn pop(&mut self) -> Option<i32>
+        ensures top { MatchOption result (top self.old.operands ≡ None)
+            (λ number. top self.old.operands ≡ Some (number, self.new.operands)) }
+        ensures rest { self.new ≡ with_operands self.new.operands self.old }
+        ensures none { MatchOption result (self.new ≡ self.old) (λ number. Unit) }
+    {
+        self.operands.pop()
+    }
+
+    /// The top of the operands, and the one below; None where there are fewer than two.
+    pub fn top_two(&self) -> Option<(i32, i32)>
+        ensures { MatchOption result (top_two self.now.operands ≡ None)
+            (λ two. top_two self.now.operands ≡ Some (two.0, two.1, drop 2 self.now.operands)) }
+    {
+        match self.operands.as_slice() {
+            [.., below, top] => Some((*top, *below)),
+            _ => None,
+        }
+    }
+
+    /// Puts a number in place of the top of the operands and the one below.
+    pub fn replace_two(&mut self, number: i32)
+        requires { 2 ≤ length self.old.operands }
+        ensures { self.new ≡ with_operands (number ∷ drop 2 self.old.operands) self.old }
+    {
+        self.operands.truncate(self.operands.len() - 2);
+        self.operands.push(number);
+    }
+
+    /// Where the next instruction stands.
+    pub fn pc(&self) -> usize
+        ensures { result ≡ self.now.pc }
+    {
+        self.pc
+    }
+
+    /// A call of a procedure with so many parameters and results, whose arguments are taken off the
+    /// operands: the top becomes the last one's. Where there are fewer operands it traps with
+    /// `MissingOperand`, where what is left has no room for the results with `StackFull`, and then
+    /// nothing changes.
+    pub fn calls(&mut self, procedure: u8, parameters: u8, results: u8) -> Result<Activation, Trap>
+        ensures calls { CallsFor self.old procedure parameters results result self.new }
+        ensures few { length self.old.operands ≤ MOST_OPERANDS }
+    {
+        let Some(first) = self.operands.len().checked_sub(usize::from(parameters)) else {
+            return Err(Trap::MissingOperand);
+        };
+        if MOST_OPERANDS < first + usize::from(results) {
+            return Err(Trap::StackFull);
+        }
+        let slots = slots_of(&self.operands[first..]);
+        self.operands.truncate(first);
+        Ok(Activation {
+            procedure,
+            pc: 0,
+            slots,
+            operands: ArrayVec::new(),
+        })
+    }
+
+    /// The so many topmost operands, the top last; None where there are fewer.
+    pub fn top_many(&self, count: u8) -> Option<ArrayVec<i32, MOST_OPERANDS>>
+        ensures { MatchOption result (top_many count self.now.operands ≡ None)
+            (λ numbers. (top_many count self.now.operands
+            ≡ Some (reverse numbers.items, drop count self.now.operands))
+            × (length numbers.items ≡ count)) }
+    {
+        let first = self.operands.len().checked_sub(usize::from(count))?;
+        ArrayVec::try_from(&self.operands[first..]).ok()
+    }
+
+    /// Puts these numbers on top of the operands, the last one topmost.
+    pub fn push_all(&mut self, numbers: &[i32])
+        requires { HasRoomFor (length numbers.now) self.old }
+        ensures { self.new
+            ≡ with_operands (reverse numbers.now ++ self.old.operands) self.old }
+    {
+        if self.operands.try_extend_from_slice(numbers).is_err() {
+            unreachable!();
+        }
+    }
+
+    /// Goes on at another place of the code.
+    pub fn go_to(&mut self, pc: usize)
+        ensures { self.new ≡ record self.old { pc = pc } }
+    {
+        self.pc = pc;
+    }
+}
+
+/// Slots with these numbers in the first of them.
+fn slots_of(numbers: &[i32]) -> [Option<i32>; SLOTS]
+    requires { length numbers.now ≤ SLOTS }
+    ensures { result ≡ slots_with numbers.now }
+{
+    let mut slots = [None; SLOTS];
+    for slot in 0..numbers.len() {
+        slots[slot] = numbers.get(slot).copied();
+    }
+    slots
+}
+
+impl Default for Activation {
+    ghost is_default = { λ a. a ≡ activation 0 0 (replicate 8 None) [] };
+
+    fn default() -> Activation {
+        Activation::main()
+    }
+}

@@ -1,0 +1,30 @@
+//! The bench's state: what a bench runs, where its pieces lie, and what each instruction does to it.
+#![tactic(auto)]
+
+mod activation;
+mod bench;
+mod closing;
+mod effect;
+mod laws;
+mod mode;
+mod motion;
+mod placement;
+mod places;
+mod program;
+mod progress;
+mod state;
+mod trap;
+
+pub use bench::Bench;
+pub use closing::Closing;
+pub use effect::Effect;
+pub use laws::{
+    a_call_leaves_what_it_tells, a_run_has_one_result, a_run_is_a_chain_of_calls,
+    a_step_has_one_result, a_step_keeps_pieces_apart, an_instruction_has_one_effect,
+    going_aside_parts_lone_pieces, pieces_never_overlap, records_go_back,
+};
+pub use mode::Mode;
+pub use motion::Motion;
+pub use placement::one_unit_on;
+pub use progress::Progress;
+pub use trap::Trap;

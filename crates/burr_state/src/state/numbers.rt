@@ -1,0 +1,142 @@
+//! Instructions on operands and slots.
+
+ghost use Rattle.std.specs.Prelude.{◌≡◌, ◌<◌, ◌≤◌, ◌+◌, length, MatchOption};
+ghost use Rattle.burr_code.specs.declared.limits.TheConstants.{MOST_CODE, SLOTS};
+ghost use Rattle.burr_code.specs.Instruction.{Push, Load, Store, Add, Sub, Drop, IsInNumberRange, spelled};
+ghost use Rattle.burr_state.specs.Bench.{BenchProcedure};
+ghost use Rattle.burr_state.specs.Numbers.{pushing, loading, storing, adding, subtracting, dropping};
+ghost use Rattle.burr_state.specs.Effects.{next_of, KeepsUnlessGoes, NeverMoves, StaysPut};
+
+use crate::effect::Effect;
+use crate::state::BenchState;
+use crate::trap::Trap;
+
+impl BenchState {
+    /// `push`: a number comes on top of the operands.
+    pub fn push(&mut self, number: i16, size: usize) -> Result<Effect, Trap>
+        requires within { self.old.running.pc + size ≤ MOST_CODE }
+        requires size { size ≡ length (spelled (Push number)) }
+        ensures next { pushing self.old number (next_of result self.new) }
+        ensures kept { KeepsUnlessGoes result self.old self.new }
+        ensures no_motion { NeverMoves result }
+        ensures stays { StaysPut self.old self.new }
+    {
+        if !self.running.has_room() {
+            return Err(Trap::StackFull);
+        }
+        self.running.push(i32::from(number));
+        self.go_behind(size);
+        Ok(Effect::Goes(None))
+    }
+
+    /// `load`: what a slot holds comes on top of the operands.
+    pub fn load(&mut self, slot: u8, size: usize) -> Result<Effect, Trap>
+        requires slot { slot < SLOTS }
+        requires within { self.old.running.pc + size ≤ MOST_CODE }
+        requires size { size ≡ length (spelled (Load slot)) }
+        ensures next { loading self.old slot (next_of result self.new) }
+        ensures kept { KeepsUnlessGoes result self.old self.new }
+        ensures no_motion { NeverMoves result }
+        ensures stays { StaysPut self.old self.new }
+    {
+        let Some(number) = self.running.slot(slot) else {
+            return Err(Trap::EmptySlot);
+        };
+        if !self.running.has_room() {
+            return Err(Trap::StackFull);
+        }
+        self.running.push(number);
+        self.go_behind(size);
+        Ok(Effect::Goes(None))
+    }
+
+    /// `store`, in a procedure with so many parameters: the top of the operands goes into a slot.
+    pub fn store(&mut self, slot: u8, parameters: u8, size: usize) -> Result<Effect, Trap>
+        requires slot { slot < SLOTS }
+        requires within { self.old.running.pc + size ≤ MOST_CODE }
+        requires size { size ≡ length (spelled (Store slot)) }
+        ensures next { (here : BenchProcedure) → here.parameters ≡ parameters
+            → storing here self.old slot (next_of result self.new) }
+        ensures kept { KeepsUnlessGoes result self.old self.new }
+        ensures no_motion { NeverMoves result }
+        ensures stays { StaysPut self.old self.new }
+    {
+        if slot < parameters {
+            return Err(Trap::ParamWritten);
+        }
+        let Some(number) = self.running.pop() else {
+            return Err(Trap::MissingOperand);
+        };
+        self.running.set_slot(slot, number);
+        self.go_behind(size);
+        Ok(Effect::Goes(None))
+    }
+
+    /// `add`: the two topmost operands are replaced by their sum.
+    pub fn add(&mut self, size: usize) -> Result<Effect, Trap>
+        requires within { self.old.running.pc + size ≤ MOST_CODE }
+        requires size { size ≡ length (spelled Add) }
+        ensures next { adding self.old (next_of result self.new) }
+        ensures kept { KeepsUnlessGoes result self.old self.new }
+        ensures no_motion { NeverMoves result }
+        ensures stays { StaysPut self.old self.new }
+    {
+        let Some((top, below)) = self.running.top_two() else {
+            return Err(Trap::MissingOperand);
+        };
+        let Some(sum) = in_number_range(i64::from(below) + i64::from(top)) else {
+            return Err(Trap::NumberRange);
+        };
+        self.running.replace_two(sum);
+        self.go_behind(size);
+        Ok(Effect::Goes(None))
+    }
+
+    /// `sub`: the two topmost operands are replaced by their difference, the top taken from the one
+    /// below.
+    pub fn sub(&mut self, size: usize) -> Result<Effect, Trap>
+        requires within { self.old.running.pc + size ≤ MOST_CODE }
+        requires size { size ≡ length (spelled Sub) }
+        ensures next { subtracting self.old (next_of result self.new) }
+        ensures kept { KeepsUnlessGoes result self.old self.new }
+        ensures no_motion { NeverMoves result }
+        ensures stays { StaysPut self.old self.new }
+    {
+        let Some((top, below)) = self.running.top_two() else {
+            return Err(Trap::MissingOperand);
+        };
+        let Some(difference) = in_number_range(i64::from(below) - i64::from(top)) else {
+            return Err(Trap::NumberRange);
+        };
+        self.running.replace_two(difference);
+        self.go_behind(size);
+        Ok(Effect::Goes(None))
+    }
+
+    /// `drop`: the top of the operands goes.
+    pub fn drop_top(&mut self, size: usize) -> Result<Effect, Trap>
+        requires within { self.old.running.pc + size ≤ MOST_CODE }
+        requires size { size ≡ length (spelled Drop) }
+        ensures next { dropping self.old (next_of result self.new) }
+        ensures kept { KeepsUnlessGoes result self.old self.new }
+        ensures no_motion { NeverMoves result }
+        ensures stays { StaysPut self.old self.new }
+    {
+        if self.running.pop().is_none() {
+            return Err(Trap::MissingOperand);
+        }
+        self.go_behind(size);
+        Ok(Effect::Goes(None))
+    }
+}
+
+/// A number where it is one that operands and slots may hold: -32767 to 32767.
+fn in_number_range(number: i64) -> Option<i32>
+    ensures { MatchOption result (¬ IsInNumberRange number)
+        (λ same. (same ≡ number) × IsInNumberRange number) }
+{
+    if number < -32_767 || 32_767 < number {
+        return None;
+    }
+    Some(number as i32)
+}
