@@ -10,13 +10,13 @@ use Rattle.burr.specs.declared.fault.Fault.{Fault}
 use Rattle.burr.specs.Faults.{line_of}
 use Rattle.burr.specs.declared.status.Status.{Status}
 use Rattle.burr.specs.Statuses.{code_of}
-use Rattle.burr.specs.Ends.{took, TakesText, TakesSome, FailsInText, FailsInOutput, HasNoOutcome, WritesLess, LeavesOrFails, IsDone}
+use Rattle.burr.specs.Ends.{took, TakesText, TakesSome, FailsInText, FailsInOutput, HasNoOutcome, WritesLess, WritesOrFails, IsDone}
 use Rattle.burr.specs.HandedOn.{HandsOnDone}
 use Rattle.burr_io.specs.Source.{SourceView}
 use Rattle.burr_runs.specs.declared.outcome.Outcome.{Outcome}
 use Rattle.burr_runs.specs.declared.fault.BenchFault.{BenchFault}
 use Rattle.burr_runs.specs.declared.fault.BenchFault.TheVariants.{Read, TooLong, Write, Memory}
-use Rattle.burr_runs.specs.BenchText.{streams, Succeeds, Fails}
+use Rattle.burr_runs.specs.Views.BenchText.{streams, Succeeds, Fails}
 use Rattle.burr.specs.PlanEnds.{Ends, PutsEnd, FailsToEnd, StopsBeforeEnd}
 
 -- where nothing was held back, the sink below had taken all that was put
@@ -88,7 +88,7 @@ some_handed sink old mid new (Err done) (Err fault) none hands some = tt
 -- nothing was, or the sink below failed
 pub less_handed : {S : Type 0} (sink : SinkView S) (old mid new : Lines S) (done result : Result Status Fault) → old.held ≡ []
     → HandsOnDone sink mid new done result → OnOk done (TakesSome (took ((lines_view sink).taken old) ((lines_view sink).taken mid) ((lines_view sink).has_failed mid)))
-    → OnErr done (LeavesOrFails (lines_view sink) old mid)
+    → OnErr done (WritesOrFails (lines_view sink) old mid)
     → OnErr result (WritesLess (took (sink.taken old.sink) (sink.taken new.sink) (sink.has_failed new.sink)))
 less_handed sink old mid new (Ok done) (Ok status) none hands some less = tt
 less_handed sink old mid new (Ok done) (Err fault) none (line, within) (text, put) less = inr (text, failed_late sink old mid new text none put within)

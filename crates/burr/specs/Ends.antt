@@ -5,13 +5,13 @@ use Rattle.burr_io.specs.Sink.{SinkView, HoldsFront}
 use Rattle.burr_runs.specs.declared.outcome.Outcome.{Outcome}
 use Rattle.burr_runs.specs.declared.fault.BenchFault.{BenchFault}
 use Rattle.burr_runs.specs.declared.fault.BenchFault.TheVariants.{Read, TooLong, Write, Memory}
-use Rattle.burr_runs.specs.ReadWhole.{IsWholeInput}
-use Rattle.burr_runs.specs.Output.{IsOutput}
-use Rattle.burr_runs.specs.BenchText.{Streams, Succeeds, Fails}
+use Rattle.burr_runs.specs.Views.ReadWhole.{IsWholeInput}
+use Rattle.burr_runs.specs.Rules.Output.{IsOutput}
+use Rattle.burr_runs.specs.Views.BenchText.{Streams, Succeeds, Fails}
 use Rattle.burr.specs.Faults.{cannot_read, cannot_write, complaint_of, status_of_complaint}
 use Rattle.burr.specs.Statuses.{code_of, status_of}
 
--- What a sink had taken before and behind, and whether it has failed.
+-- What a sink had taken before and after, and whether it has failed.
 pub record Taken : Type 0 where
   pub old : Option (List ℕ)
   pub new : Option (List ℕ)
@@ -81,8 +81,8 @@ abbrev pub WritesLess : Taken → Type 0
 WritesLess sink = TakesNothing sink ⊎ ((text : List ℕ) × FailsInText sink text)
 
 -- a sink was left as it was, or it took some text and then failed
-abbrev pub LeavesOrFails : {S : Type 0} → SinkView S → S → S → Type 0
-LeavesOrFails sink old new =
+abbrev pub WritesOrFails : {S : Type 0} → SinkView S → S → S → Type 0
+WritesOrFails sink old new =
     (new ≡ old)
     ⊎ (TakesSome (took (sink.taken old) (sink.taken new) (sink.has_failed new))
     × (sink.has_failed new ≡ true))

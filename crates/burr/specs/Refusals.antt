@@ -2,7 +2,7 @@
 use Rattle.std.specs.Prelude.{ℕ, List, [], codes}
 use Rattle.burr_asm.specs.declared.fault.AsmFault.{AsmFault}
 use Rattle.burr_asm.specs.declared.fault.AsmFault.TheVariants as text
-use Rattle.burr_runs.specs.Refusals.{place_line}
+use Rattle.burr_runs.specs.Rules.Refusals.{place_line}
 
 -- the line for a fault of a plan text; want of memory is no fault of a text
 abbrev pub plan_text_refusal : AsmFault → List ℕ

@@ -1,7 +1,7 @@
 //! What the program's lines mean.
 
 ghost use Rattle.std.specs.Prelude.{OnErr, OnOk, IfOk};
-ghost use Rattle.burr.specs.Ends.{took, TakesSome, LeavesOrFails, IsDone};
+ghost use Rattle.burr.specs.Ends.{took, TakesSome, WritesOrFails, IsDone};
 ghost use Rattle.burr.specs.Statuses.{code_of};
 
 use crate::fault::Fault;
@@ -14,7 +14,7 @@ pub fn explain_line<'a, W: Sink>(line: &'a str, sink: &mut W) -> Result<Status, 
     ensures status { IfOk result (λ status. IsDone (code_of status)) }
     ensures ok { OnOk result (TakesSome
         (took (W.taken sink.old) (W.taken sink.new) (W.has_failed sink.new))) }
-    ensures err { OnErr result (LeavesOrFails W.Sink sink.old sink.new) }
+    ensures err { OnErr result (WritesOrFails W.Sink sink.old sink.new) }
 {
     match explanation_of(line.as_bytes()) {
         Some(known) => {

@@ -1,7 +1,7 @@
 //! What is done with one file: a plan text is assembled, a container is listed or upgraded.
 
 ghost use Rattle.std.specs.Prelude.{OnErr, OnOk, IfOk};
-ghost use Rattle.burr.specs.Ends.{took, TakesSome, LeavesOrFails, IsDone};
+ghost use Rattle.burr.specs.Ends.{took, TakesSome, WritesOrFails, IsDone};
 ghost use Rattle.burr.specs.Statuses.{code_of};
 
 use crate::fault::Fault;
@@ -25,7 +25,7 @@ pub fn assemble_file<'a, F: Files + AllocGlobal, W: Sink>(
     ensures status { IfOk result (λ status. IsDone (code_of status)) }
     ensures ok { OnOk result (TakesSome
         (took (W.taken sink.old) (W.taken sink.new) (W.has_failed sink.new))) }
-    ensures err { OnErr result (LeavesOrFails W.Sink sink.old sink.new) }
+    ensures err { OnErr result (WritesOrFails W.Sink sink.old sink.new) }
 {
     if are_one_file(files, text, out) {
         return Err(Fault::Same("TEXT", out));
@@ -55,7 +55,7 @@ pub fn list_file<'a, F: Files + AllocGlobal, W: Sink>(
     ensures status { IfOk result (λ status. IsDone (code_of status)) }
     ensures ok { OnOk result (TakesSome
         (took (W.taken sink.old) (W.taken sink.new) (W.has_failed sink.new))) }
-    ensures err { OnErr result (LeavesOrFails W.Sink sink.old sink.new) }
+    ensures err { OnErr result (WritesOrFails W.Sink sink.old sink.new) }
 {
     let bytes = read_file(files, plan)?;
     match Container::parse(&bytes) {
@@ -87,7 +87,7 @@ pub fn upgrade_file<'a, F: Files + AllocGlobal, W: Sink>(
     ensures status { IfOk result (λ status. IsDone (code_of status)) }
     ensures ok { OnOk result (TakesSome
         (took (W.taken sink.old) (W.taken sink.new) (W.has_failed sink.new))) }
-    ensures err { OnErr result (LeavesOrFails W.Sink sink.old sink.new) }
+    ensures err { OnErr result (WritesOrFails W.Sink sink.old sink.new) }
 {
     if are_one_file(files, plan, out) {
         return Err(Fault::Same("PLAN", out));

@@ -2,10 +2,10 @@
 //! input.
 
 ghost use Rattle.std.specs.Prelude.{◌≡◌, [], IfErr, IfOk, OnErr, OnOk};
-ghost use Rattle.burr_state.specs.Benches.{IsAtStart};
-ghost use Rattle.burr_container.specs.Containers.{HasPlan};
-ghost use Rattle.burr_runs.specs.Refusals.{assembly_refusal, container_refusal};
-ghost use Rattle.burr_runs.specs.Verdicts.{plan_refusal};
+ghost use Rattle.burr_state.specs.Views.Benches.{IsAtStart};
+ghost use Rattle.burr_container.specs.Views.Containers.{HasPlan};
+ghost use Rattle.burr_runs.specs.Rules.Refusals.{assembly_refusal, container_refusal};
+ghost use Rattle.burr_runs.specs.Rules.Verdicts.{plan_refusal};
 ghost use Rattle.burr.specs.Ends.{took, TakesSome, WritesLess, IsDone};
 ghost use Rattle.burr.specs.Faults.{line_of};
 ghost use Rattle.burr.specs.Statuses.{code_of};

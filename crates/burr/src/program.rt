@@ -3,7 +3,7 @@
 ghost use Rattle.std.specs.Prelude.{◌≡◌, ◌≢◌, ◌≤◌, ◌<◌, [], codes, length, IfOk, OnOk, OnErr};
 ghost use Rattle.burr_runs.specs.declared.fault.BenchFault.TheVariants.{Memory};
 ghost use Rattle.burr_io.specs.Sink.{Takes};
-ghost use Rattle.burr_runs.specs.BenchText.{streams};
+ghost use Rattle.burr_runs.specs.Views.BenchText.{streams};
 ghost use Rattle.burr.specs.Ends.{took, TakesText, FailsInText, TakesSome, WritesLess};
 ghost use Rattle.burr.specs.Ends.{IsDone, IsRun, IsEnd};
 ghost use Rattle.burr.specs.Ends.{Means};

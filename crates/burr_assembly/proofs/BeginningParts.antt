@@ -1,12 +1,12 @@
--- What is known of the shapes and the pieces behind the lines so far.
+-- What is known of the shapes and the pieces after the lines so far.
 use Rattle.std.proofs.Common.{◌≡◌, ◌≢◌, ℕ, zero, suc, ◌<◌, ◌≤◌, List, [], ◌∷◌, ◌++◌, length, subst, arith, length-append}
 use Rattle.std.specs.Prelude.{All, AllPairs, Any, Option, Some, None, slice_index_or}
 use Rattle.std.proofs.lemmas.List.{get_or_default}
 use Rattle.std.proofs.lemmas.List.Elements.{All-push}
 use Rattle.std.proofs.lemmas.List.Quantifiers.{all_pairs_push}
 use Rattle.burr_text.specs.Names.{IsName}
-use Rattle.burr_assembly.specs.Text.{Drawing, Piece, IsDrawing, IsShapeName, IsPieceName, IsPiece, Shares}
-use Rattle.burr_assembly.specs.Faults.{IsFirstSharing}
+use Rattle.burr_assembly.specs.Rules.Text.{Drawing, Piece, IsDrawing, IsShapeName, IsPieceName, IsPiece, Shares}
+use Rattle.burr_assembly.specs.Rules.Faults.{IsFirstSharing}
 use Rattle.burr_assembly.proofs.Drawings.{AreRows}
 
 -- the name of the assembly, and the shapes that have ended
@@ -21,7 +21,7 @@ abbrev pub begun_rows : Option (List (List ℕ)) → List (List ℕ)
 begun_rows None = []
 begun_rows (Some rows) = rows
 
--- finished shapes, and behind them one that is being drawn, with a new name
+-- finished shapes, and after them one that is being drawn, with a new name
 pub record IsDrawn (title : List ℕ) (shapes : List Drawing) (d : Drawing) (begun : Option (List (List ℕ))) : Type 0 where
   pub before : AreShapes title shapes
   pub room : length shapes < 32
@@ -29,7 +29,7 @@ pub record IsDrawn (title : List ℕ) (shapes : List Drawing) (d : Drawing) (beg
   pub new : ¬ IsShapeName shapes d.name
   pub rows : AreRows d.layers (begun_rows begun)
 
--- finished shapes, and behind them the pieces, no two of which share a cell
+-- finished shapes, and after them the pieces, no two of which share a cell
 pub record ArePieces (name : List ℕ) (shapes : List Drawing) (pieces : List Piece) : Type 0 where
   pub before : AreShapes name shapes
   pub shape : 1 ≤ length shapes
@@ -43,7 +43,7 @@ pub record ArePieces (name : List ℕ) (shapes : List Drawing) (pieces : List Pi
 pub new_name : {X : Type 0} (name_of : X → List ℕ) (xs : List X) (name : List ℕ) → ¬ Any (λ x. name_of x ≡ name) xs → All (λ x. name_of x ≢ name) xs
 new_name name_of xs name none k d small same = none (k, slice_index_or xs k d, small, get_or_default xs k (slice_index_or xs k d) d small, same)
 
--- a shape that ends behind these
+-- a shape that ends after these
 pub shape_kept : (name : List ℕ) (shapes : List Drawing) (d : Drawing) → AreShapes name shapes → length shapes < 32 → IsDrawing d → ¬ IsShapeName shapes d.name → AreShapes name (shapes ++ d ∷ [])
 shape_kept name shapes d b room is new = record {
   title_is = b.title_is;
@@ -58,7 +58,7 @@ none_shares shapes pieces p none zero r small inside shares = absurd (omega arit
 none_shares shapes pieces p none (suc n) r small inside shares =
     none r (record { inside = inside; shares = shares; first = λ k before. none_shares shapes pieces p none n k (omega arith) (omega arith) })
 
--- a piece behind these that shares no cell with them
+-- a piece after these that shares no cell with them
 pub piece_kept : (name : List ℕ) (shapes : List Drawing) (pieces : List Piece) (p : Piece) → AreShapes name shapes → 1 ≤ length shapes
     → length pieces < 32 → All (IsPiece shapes) pieces → AllPairs (λ (p q : Piece). p.name ≢ q.name) pieces → AllPairs (λ p q. ¬ Shares shapes p q) pieces
     → IsPiece shapes p → ¬ IsPieceName pieces p.name → ((q : ℕ) → ¬ IsFirstSharing shapes pieces p q) → ArePieces name shapes (pieces ++ p ∷ [])

@@ -6,10 +6,10 @@ use Rattle.std.specs.List.{flat_map}
 use Rattle.std.proofs.lemmas.List.{append-nil, flat_map_more}
 use Rattle.std.proofs.lemmas.Grind.{flat_map-append}
 use Rattle.burr_voxels.specs.declared.cell.Cell.{Cell}
-use Rattle.burr_assembly.specs.Text.{Drawing, Turn, Piece, layer_text, shape_text, piece_text, turn_name}
+use Rattle.burr_assembly.specs.Rules.Text.{Drawing, Turn, Piece, layer_text, shape_text, piece_text, turn_name}
 use Rattle.burr_text.specs.Words.{text_line}
-use Rattle.burr_assembly.specs.Lines.{PieceWords, PieceLine, form_text}
-use Rattle.burr_assembly.specs.Faults.{IsPositionOf}
+use Rattle.burr_assembly.specs.Rules.Lines.{PieceWords, PieceLine, form_text}
+use Rattle.burr_assembly.specs.Rules.Faults.{IsPositionOf}
 
 -- the name of the assembly, and the shapes that have ended
 abbrev pub shapes_text : List ℕ → List Drawing → List ℕ
@@ -20,12 +20,12 @@ abbrev pub begun_text : Option (List (List ℕ)) → List ℕ
 begun_text None = []
 begun_text (Some rows) = layer_text rows
 
--- one more is written behind the others
+-- one more is written after the others
 pub more_text : {X : Type 0} (f : X → List ℕ) (before : List ℕ) (xs : List X) (x : X) (words : List ℕ) → f x ≡ words ++ 10 ∷ []
     → before ++ flat_map f (xs ++ x ∷ []) ≡ before ++ flat_map f xs ++ words ++ 10 ∷ []
 more_text f before xs x words e = sym (flat_map_more f before xs x) ∙ ap (λ t. (before ++ flat_map f xs) ++ t) e ∙ sym (append_assoc (before ++ flat_map f xs) words (10 ∷ []))
 
--- a shape begins, with nothing behind its name
+-- a shape begins, with nothing after its name
 pub shape_text_begins : (before words : List ℕ) → before ++ (words ++ 10 ∷ []) ++ [] ++ [] ≡ before ++ words ++ 10 ∷ []
 shape_text_begins before words = simp (append_assoc, append-nil)
 

@@ -5,10 +5,10 @@ use Rattle.std.specs.List.{flat_map}
 use Rattle.std.proofs.lemmas.List.{append-nil, flat_map_more}
 use Rattle.std.proofs.lemmas.List.Elements.{All-nil}
 use Rattle.burr_assembly.specs.declared.fault.AssemblyFault.{AssemblyFault}
-use Rattle.burr_assembly.specs.Text.{Drawing, Piece, Assembly, layer_text, shape_text, piece_text, text_of, IsPiece, Shares, IsAssembly, IsText}
+use Rattle.burr_assembly.specs.Rules.Text.{Drawing, Piece, Assembly, layer_text, shape_text, piece_text, text_of, IsPiece, Shares, IsAssembly, IsText}
 use Rattle.burr_text.specs.Words.{text_line}
-use Rattle.burr_assembly.specs.Lines.{LineForm, PieceWords, AssemblyLine, ShapeLine, LayerLine, RowLine, EndLine, PieceLine, form_text, IsLineForm}
-use Rattle.burr_assembly.specs.Faults.{Beginning, Blank, Shapes, Drawn, Pieces, FormGives, PieceRule, LineGives, EndGives, TextGives, ends, breaks_off, fails, goes_on, with_layer, gives}
+use Rattle.burr_assembly.specs.Rules.Lines.{LineForm, PieceWords, AssemblyLine, ShapeLine, LayerLine, RowLine, EndLine, PieceLine, form_text, IsLineForm}
+use Rattle.burr_assembly.specs.Rules.Faults.{Beginning, Blank, Shapes, Drawn, Pieces, FormGives, PieceRule, LineGives, EndGives, TextGives, ends, breaks_off, fails, goes_on, with_layer, gives}
 use Rattle.burr_assembly.proofs.Taken.{no_fault, same_ok, needs_ok, looks_ok}
 use Rattle.burr_assembly.proofs.Drawings.{row_kept, layer_kept, layer_begins, no_layers, drawn}
 use Rattle.burr_assembly.proofs.BeginningParts.{AreShapes, IsDrawn, ArePieces, shape_kept, piece_kept}
@@ -38,7 +38,7 @@ reached_blank = tt
 kept : (next so_far : Beginning) (text : List ℕ) → gives so_far (Ok next) → IsReached so_far → beginning_text so_far ≡ text → IsReached next × (beginning_text next ≡ text)
 kept next so_far text e b same = subst (λ (f : Beginning). IsReached f × (beginning_text f ≡ text)) (sym (same_ok (Ok next) refl e)) (b, same)
 
--- behind a line of a form the next beginning is reached, and its text is that of the one before and the line
+-- after a line of a form the next beginning is reached, and its text is that of the one before and the line
 abbrev Kept : Beginning → LineForm → Beginning → Type 0
 Kept so_far form next = IsReached next × (beginning_text next ≡ beginning_text so_far ++ form_text form ++ 10 ∷ [])
 
@@ -98,7 +98,7 @@ end_keeps n name shapes d rows next b rule =
     (sym (flat_map_more shape_text (text_line (codes "assembly" ∷ name ∷ [])) shapes (with_layer d rows))
     ∙ shape_text_ends (shapes_text name shapes) (text_line (codes "shape" ∷ d.name ∷ [])) (codes "end") d.layers rows)
 
--- a piece behind these
+-- a piece after these
 piece_rule_keeps : (n : ℕ) (name : List ℕ) (shapes : List Drawing) (pieces : List Piece) (w : PieceWords) (next : Beginning) → AreShapes name shapes → 1 ≤ length shapes
     → All (IsPiece shapes) pieces → AllPairs (λ (p q : Piece). p.name ≢ q.name) pieces → AllPairs (λ p q. ¬ Shares shapes p q) pieces
     → PieceRule n name shapes pieces w (Ok next)
@@ -149,7 +149,7 @@ line_keeps n so_far next bytes b gives_next =
 
 -- Whole texts
 
--- a text may end behind two pieces
+-- a text may end after two pieces
 ends_whole : (name : List ℕ) (shapes : List Drawing) (pieces : List Piece) → ArePieces name shapes pieces → 2 ≤ length pieces → IsAssembly (record { name = name; shapes = shapes; pieces = pieces })
 ends_whole name shapes pieces b enough = record {
   name = b.before.title_is;
@@ -176,7 +176,7 @@ end_is_text n (Pieces name shapes pieces) a b given =
 pub end_is_whole : (n : ℕ) (so_far : Beginning) (a : Assembly) → IsReached so_far → EndGives n so_far (Ok a) → IsText (beginning_text so_far) a
 end_is_whole n so_far a b given = let whole = end_is_text n so_far a b given in (whole.0, sym whole.1)
 
--- the text of a line and of the rest behind it
+-- the text of a line and of the rest after it
 text_goes_on : (before next bytes rest text : List ℕ) → next ≡ before ++ bytes ++ 10 ∷ [] → next ++ rest ≡ text → before ++ (bytes ++ 10 ∷ rest) ≡ text
 text_goes_on before next bytes rest text e is = regroup before bytes rest ∙ ap (λ t. t ++ rest) (sym e) ∙ is
   where
@@ -189,11 +189,11 @@ sound_at n so_far rest answer a e b (ends _ _ _ given) =
     let whole = end_is_whole n so_far a b (subst (λ (r : Result Assembly AssemblyFault). EndGives n so_far r) e given) in
     (whole.0, append-nil (beginning_text so_far) ∙ whole.1)
 sound_at n so_far rest answer a e b (breaks_off _ _ _ some open_ended) = no_fault (sym e)
-sound_at n so_far rest answer a e b (fails _ _ bytes behind fault one given) = no_fault (sym e)
-sound_at n so_far rest answer a e b (goes_on _ _ next bytes behind _ one given more) =
+sound_at n so_far rest answer a e b (fails _ _ bytes after fault one given) = no_fault (sym e)
+sound_at n so_far rest answer a e b (goes_on _ _ next bytes after _ one given more) =
     let k = line_keeps n so_far next bytes b given in
-    let whole = sound_at (n + 1) next behind answer a e k.0 more in
-    (whole.0, text_goes_on (beginning_text so_far) (beginning_text next) bytes behind (text_of a) k.1 whole.1)
+    let whole = sound_at (n + 1) next after answer a e k.0 more in
+    (whole.0, text_goes_on (beginning_text so_far) (beginning_text next) bytes after (text_of a) k.1 whole.1)
 
 -- Lines that are taken to the end of the text spell the assembly that is given.
 pub text_sound : (n : ℕ) (so_far : Beginning) (rest : List ℕ) (a : Assembly) → IsReached so_far → TextGives n so_far rest (Ok a) → IsText (beginning_text so_far ++ rest) a

@@ -5,8 +5,8 @@ use Rattle.std.proofs.lemmas.Int.{ints}
 use Rattle.std.proofs.lemmas.List.Elements.{All-nil, All-cons, All-append, All-head, All-tail}
 use Rattle.burr_voxels.specs.declared.cell.Cell.{Cell}
 use Rattle.burr_voxels.specs.Grid.{at}
-use Rattle.burr_assembly.specs.Text.{Drawing, IsDrawing, row_cells, layer_cells, cells_from, drawn_cells, drawn_sides}
-use Rattle.burr_assembly.specs.Laws.{IsInBox, DrawnInBox}
+use Rattle.burr_assembly.specs.Rules.Text.{Drawing, IsDrawing, row_cells, layer_cells, cells_from, drawn_cells, drawn_sides}
+use Rattle.burr_assembly.specs.Laws.Texts.{IsInBox, DrawnInBox}
 
 -- in the box of these sides
 abbrev pub Boxed : ℕ → ℕ → ℕ → Cell → Type 0

@@ -7,8 +7,8 @@ use Rattle.burr_voxels.specs.declared.direction.Direction.{Direction}
 use Rattle.burr_voxels.specs.declared.direction.Direction.TheVariants.{PlusX, MinusX, PlusY, MinusY, PlusZ, MinusZ}
 use Rattle.burr_voxels.specs.Grid.{name_of}
 use Rattle.burr_text.specs.Names.{IsName, is_name_byte, is_letter}
-use Rattle.burr_assembly.specs.Text.{IsMark, Turn, turn_name}
-use Rattle.burr_assembly.specs.Lines.{LineForm, AssemblyLine, ShapeLine, LayerLine, RowLine, EndLine, PieceLine, form_text, IsLineForm}
+use Rattle.burr_assembly.specs.Rules.Text.{IsMark, Turn, turn_name}
+use Rattle.burr_assembly.specs.Rules.Lines.{LineForm, AssemblyLine, ShapeLine, LayerLine, RowLine, EndLine, PieceLine, form_text, IsLineForm}
 use Rattle.burr_text.specs.Words.{IsWord}
 use Rattle.burr_text.specs.Numbers.{IsCount, IsNumber}
 use Rattle.burr_text.specs.Lines.{IsUnended}

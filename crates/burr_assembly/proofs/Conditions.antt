@@ -4,8 +4,8 @@ use Rattle.std.specs.List.{list_all, flat_map}
 use Rattle.burr_voxels.specs.declared.cell.Cell.{Cell}
 use Rattle.burr_voxels.specs.CellSets.{Overlap}
 use Rattle.burr_text.specs.Names.{IsName, is_letter, is_name_byte}
-use Rattle.burr_assembly.specs.Text.{Drawing, Piece, IsShapeName, IsPieceName, HasCells, Shares, home_cells, drawn_cells}
-use Rattle.burr_assembly.specs.Faults.{IsFinishedLayer, IsRow, HasCellCount, IsFirstSharing}
+use Rattle.burr_assembly.specs.Rules.Text.{Drawing, Piece, IsShapeName, IsPieceName, HasCells, Shares, home_cells, drawn_cells}
+use Rattle.burr_assembly.specs.Rules.Faults.{IsFinishedLayer, IsRow, HasCellCount, IsFirstSharing}
 use Rattle.burr_text.proofs.Common.Decisions.{Decided, decided_like, decided_and, decided_and_three, decide_test, decide_same, decide_below, decide_at_most, decide_same_whole, decide_same_bytes, decide_if_some, decide_contains, decide_any, decide_first_below}
 
 -- whether bytes are a name
@@ -26,7 +26,7 @@ pub decide_finished_layer : (layers : List (List (List ℕ))) (rows : List (List
 decide_finished_layer layers rows =
     decided_and (decide_at_most 1 (length rows)) (decide_if_some (λ first. length rows ≡ length first) (λ first. decide_same (length rows) (length first)) (slice_get layers 0))
 
--- whether a row may stand behind these
+-- whether a row may stand after these
 pub decide_row : (layers : List (List (List ℕ))) (rows : List (List ℕ)) (marks : List ℕ) → Decided (IsRow layers rows marks)
 decide_row layers rows marks =
     decided_like (λ t. record { narrow = t.0; room = t.1; like_first = t.2 }) (λ h. (h.narrow, h.room, h.like_first)) (decided_and_three (decide_at_most (length marks) 16) (decide_below (length rows) 16) (decide_if_some (λ (first : List ℕ). length marks ≡ length first) (λ first. decide_same (length marks) (length first)) (slice_get (flat_map (λ layer. layer) layers ++ rows) 0)))

@@ -3,8 +3,8 @@ use Rattle.std.proofs.Common.{◌≡◌, ◌≢◌, ℕ, ◌<◌, ◌≤◌, Lis
 use Rattle.std.specs.Prelude.{All}
 use Rattle.std.proofs.lemmas.List.Elements.{All-nil, All-push, All-head}
 use Rattle.burr_text.specs.Names.{IsName}
-use Rattle.burr_assembly.specs.Text.{Drawing, IsMark, IsDrawing}
-use Rattle.burr_assembly.specs.Faults.{IsFinishedLayer, IsRow, HasCellCount}
+use Rattle.burr_assembly.specs.Rules.Text.{Drawing, IsMark, IsDrawing}
+use Rattle.burr_assembly.specs.Rules.Faults.{IsFinishedLayer, IsRow, HasCellCount}
 
 -- finished layers: as many rows in each, each row as wide, and only marks
 pub record AreLayers (layers : List (List (List ℕ))) : Type 0 where
@@ -12,7 +12,7 @@ pub record AreLayers (layers : List (List (List ℕ))) : Type 0 where
   pub width : (width : ℕ) × (1 ≤ width) × (width ≤ 16) × All (All (λ (row : List ℕ). length row ≡ width)) layers
   pub marks : All (All (All IsMark)) layers
 
--- finished layers, and behind them the rows of one that has begun
+-- finished layers, and after them the rows of one that has begun
 pub record AreRows (layers : List (List (List ℕ))) (begun : List (List ℕ)) : Type 0 where
   pub room : length layers < 16
   pub few : length begun ≤ 16
@@ -20,7 +20,7 @@ pub record AreRows (layers : List (List (List ℕ))) (begun : List (List ℕ)) :
   pub width : (width : ℕ) × (1 ≤ width) × (width ≤ 16) × All (All (λ (row : List ℕ). length row ≡ width)) layers × All (λ (row : List ℕ). length row ≡ width) begun
   pub marks : All (All (All IsMark)) layers × All (All IsMark) begun
 
--- a row behind these has the width of those before it
+-- a row after these has the width of those before it
 pub like_first : (layers : List (List (List ℕ))) (rows : List (List ℕ)) (marks : List ℕ) → AreRows layers rows → IsRow layers rows marks → 1 ≤ length marks
     → (width : ℕ) × (1 ≤ width) × (width ≤ 16) × All (All (λ (row : List ℕ). length row ≡ width)) layers × All (λ (row : List ℕ). length row ≡ width) (rows ++ marks ∷ [])
 like_first [] [] marks b r some = (length marks, some, r.narrow, All-nil _, All-push (λ (row : List ℕ). length row ≡ length marks) [] marks (All-nil _) refl)
@@ -38,7 +38,7 @@ like_first ((row ∷ layer) ∷ layers) rows marks b r some =
           (r.like_first ∙ All-head (λ (row : List ℕ). length row ≡ w.0) row layer (All-head (All (λ (row : List ℕ). length row ≡ w.0)) (row ∷ layer) layers w.3)),
     )
 
--- a layer behind these has as many rows as those before it
+-- a layer after these has as many rows as those before it
 pub as_high : (layers : List (List (List ℕ))) (rows : List (List ℕ)) → AreRows layers rows → IsFinishedLayer layers rows
     → (height : ℕ) × (1 ≤ height) × (height ≤ 16) × All (λ layer. length layer ≡ height) (layers ++ rows ∷ [])
 as_high [] rows b whole = (length rows, whole.0, b.few, All-push (λ (layer : List (List ℕ)). length layer ≡ length rows) [] rows (All-nil _) refl)
@@ -51,7 +51,7 @@ pub some_of : {X : Type 0} (xs : List X) → xs ≢ [] → 1 ≤ length xs
 some_of [] h = absurd (h refl)
 some_of (x ∷ xs) h = omega arith
 
--- a row that may stand behind these
+-- a row that may stand after these
 pub row_kept : (layers : List (List (List ℕ))) (rows : List (List ℕ)) (marks : List ℕ) → AreRows layers rows → IsRow layers rows marks → marks ≢ [] → All IsMark marks
     → AreRows layers (rows ++ marks ∷ [])
 row_kept layers rows marks b r some each = record {
@@ -70,7 +70,7 @@ layer_kept layers rows b whole = record {
   marks = All-push (All (All IsMark)) layers rows b.marks.0 b.marks.1;
 }
 
--- behind finished layers one begins
+-- after finished layers one begins
 pub layer_begins : (layers : List (List (List ℕ))) → AreLayers layers → length layers < 16 → AreRows layers []
 layer_begins layers b room = record {
   room = room;

@@ -2,7 +2,7 @@
 use Rattle.std.proofs.Common.{◌≡◌, ◌<◌, ℕ, ◌+◌, List, [], ◌∷◌, ◌++◌, arith, length, take, get_or, refl}
 use Rattle.std.proofs.lemmas.List.{take_more, map-append}
 use Rattle.burr_voxels.specs.Turns.{turned}
-use Rattle.burr_assembly.specs.Text.{Turn, home_cells}
+use Rattle.burr_assembly.specs.Rules.Text.{Turn, home_cells}
 use Rattle.std.proofs.lemmas.List.Elements.{All-push}
 use Rattle.std.specs.List.{All}
 use Rattle.std.proofs.lemmas.Int.{ints}

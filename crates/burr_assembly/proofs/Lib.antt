@@ -1,7 +1,7 @@
 pub mod BeginningParts
 pub mod BeginningTexts
 pub mod Beginnings
-pub mod Behind
+pub mod After
 pub mod Boxes
 pub mod Clear
 pub mod Common

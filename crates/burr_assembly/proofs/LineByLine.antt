@@ -1,9 +1,9 @@
--- A text read line by line: what the rest gives behind a beginning, the whole text gives.
+-- A text read line by line: what the rest gives after a beginning, the whole text gives.
 use Rattle.std.proofs.Common.{◌≡◌, ◌≢◌, ◌<◌, ◌≤◌, ◌+◌, ℕ, suc, List, [], ◌∷◌, ◌++◌, length, Result, Ok, Err, sym, ◌∙◌, ap, subst, append_assoc, append-nil, length-append, arith}
 use Rattle.burr_assembly.specs.declared.fault.AssemblyFault.{AssemblyFault}
 use Rattle.burr_assembly.specs.declared.fault.AssemblyFault.TheVariants.{A1}
-use Rattle.burr_assembly.specs.Text.{Assembly, IsText}
-use Rattle.burr_assembly.specs.Faults.{Beginning, Blank, LineGives, EndGives, TextGives, ends, breaks_off, fails, goes_on, FirstFault}
+use Rattle.burr_assembly.specs.Rules.Text.{Assembly, IsText}
+use Rattle.burr_assembly.specs.Rules.Faults.{Beginning, Blank, LineGives, EndGives, TextGives, ends, breaks_off, fails, goes_on, FirstFault}
 use Rattle.burr_text.specs.Lines.{IsUnended}
 use Rattle.burr_assembly.proofs.Beginnings.{IsReached, beginning_text, line_keeps, end_is_text}
 
@@ -38,14 +38,14 @@ line_goes text n so_far next rest bytes more read cut unended gives =
       lines = shorter (length rest) (length bytes) (length more) (length text) n read.lines (ap length cut ∙ length-append bytes (10 ∷ more));
       begins = kept.0;
       parts = regrouped (beginning_text so_far) (beginning_text next) bytes more rest text kept.1 cut read.parts;
-      gives = λ answer behind. read.gives answer (subst (λ (r : List ℕ). TextGives n so_far r answer) (sym cut) (goes_on n so_far next bytes more answer unended gives behind));
+      gives = λ answer after. read.gives answer (subst (λ (r : List ℕ). TextGives n so_far r answer) (sym cut) (goes_on n so_far next bytes more answer unended gives after));
     }
   where
     shorter : (r b m t n : ℕ) → n + r ≤ t + 1 → r ≡ b + suc m → (n + 1) + m ≤ t + 1
     shorter r b m t n bound count = omega arith
 
-    regrouped : (before behind bytes more rest text : List ℕ) → behind ≡ before ++ bytes ++ 10 ∷ [] → rest ≡ bytes ++ 10 ∷ more → before ++ rest ≡ text → behind ++ more ≡ text
-    regrouped before behind bytes more rest text grown parted whole = rw grown (simp append_assoc (ap (λ (r : List ℕ). before ++ r) (sym parted) ∙ whole))
+    regrouped : (before after bytes more rest text : List ℕ) → after ≡ before ++ bytes ++ 10 ∷ [] → rest ≡ bytes ++ 10 ∷ more → before ++ rest ≡ text → after ++ more ≡ text
+    regrouped before after bytes more rest text grown parted whole = rw grown (simp append_assoc (ap (λ (r : List ℕ). before ++ r) (sym parted) ∙ whole))
 
 -- the text ends, and that is a fault
 pub end_fails : (text : List ℕ) (n : ℕ) (so_far : Beginning) (rest : List ℕ) (fault : AssemblyFault) → IsReadTo text n so_far rest → length rest ≡ 0 → EndGives n so_far (Err fault) → FirstFault text fault

@@ -6,11 +6,11 @@ use Rattle.burr_text.specs.Lines.{IsUnended}
 use Rattle.burr_text.specs.Words.{IsCutAt}
 use Rattle.burr_assembly.specs.declared.fault.AssemblyFault.{AssemblyFault}
 use Rattle.burr_assembly.specs.declared.fault.AssemblyFault.TheVariants.{A1, A8}
-use Rattle.burr_assembly.specs.Text.{Drawing, Piece, Assembly}
-use Rattle.burr_assembly.specs.Lines.{LineForm, PieceWords, AssemblyLine, ShapeLine, LayerLine, RowLine, EndLine, PieceLine, IsLine}
-use Rattle.burr_assembly.specs.Faults.{Beginning, Blank, Shapes, Drawn, Pieces, LineResult, FormGives, PieceRule, LineGives, EndGives, TextGives, ends, breaks_off, fails, goes_on}
-use Rattle.burr_assembly.specs.PieceNames.{names_in}
-use Rattle.burr_assembly.specs.Laws.{PieceLineIsTold, PieceLineIsNamed, NamesBoth, SharingPiecesAreNamed}
+use Rattle.burr_assembly.specs.Rules.Text.{Drawing, Piece, Assembly}
+use Rattle.burr_assembly.specs.Rules.Lines.{LineForm, PieceWords, AssemblyLine, ShapeLine, LayerLine, RowLine, EndLine, PieceLine, IsLine}
+use Rattle.burr_assembly.specs.Rules.Faults.{Beginning, Blank, Shapes, Drawn, Pieces, LineResult, FormGives, PieceRule, LineGives, EndGives, TextGives, ends, breaks_off, fails, goes_on}
+use Rattle.burr_assembly.specs.Rules.PieceNames.{names_in}
+use Rattle.burr_assembly.specs.Laws.Texts.{PieceLineIsTold, PieceLineIsNamed, NamesBoth, SharingPiecesAreNamed}
 use Rattle.burr_assembly.proofs.Beginnings.{IsReached, reached_blank, beginning_text, line_keeps}
 use Rattle.burr_assembly.proofs.Taken.{no_fault, same_ok, needs_ok, looks_ok}
 use Rattle.burr_assembly.proofs.OneForm.{one_form}
@@ -83,7 +83,7 @@ past_search : {X A : Type 0} {C Q : X → Type 0} → (((x : X) → ¬ C x) × A
 past_search (inl h) other = absurd (other h.1)
 past_search (inr h) other = h
 
--- the fault is that of a piece behind these and one of them
+-- the fault is that of a piece after these and one of them
 abbrev IsOfPiece : List Piece → ℕ → ℕ → Type 0
 IsOfPiece pieces earlier piece = (earlier < length pieces) × (piece ≡ length pieces)
 
@@ -102,7 +102,7 @@ piece_shares n name shapes pieces w m earlier piece rule =
         let count : piece ≡ length pieces = cc in
         (subst (λ (k : ℕ). k < length pieces) (sym same) inside, count)
 
--- only a piece's line behind pieces has it
+-- only a piece's line after pieces has it
 line_shares : (n : ℕ) (so_far : Beginning) (bytes : List ℕ) (m earlier piece : ℕ) → LineGives n so_far bytes (Err (A8 m earlier piece))
     → (name : List ℕ) × (shapes : List Drawing) × (pieces : List Piece) × (w : PieceWords) × (so_far ≡ Pieces name shapes pieces) × IsLine bytes (PieceLine w) × IsOfPiece pieces earlier piece
 line_shares n so_far bytes m earlier piece gives = let found = past_search gives (λ e. cc) in of_form so_far found.0 found.1 found.2
@@ -157,7 +157,7 @@ goes_named text n so_far next bytes rest read unended gives =
 names_both : (text : List ℕ) (name : List ℕ) (shapes : List Drawing) (pieces : List Piece) (w : PieceWords) (bytes rest : List ℕ) (earlier piece : ℕ)
     → IsNamedTo text (Pieces name shapes pieces) (bytes ++ 10 ∷ rest) → IsUnended bytes → IsLine bytes (PieceLine w) → IsOfPiece pieces earlier piece
     → NamesBoth text earlier piece (record { name = name; shapes = shapes; pieces = pieces }) w
-names_both text name shapes pieces w bytes rest earlier piece read unended is (inside, behind) =
+names_both text name shapes pieces w bytes rest earlier piece read unended is (inside, after) =
     let names : names_in text ≡ map name_of pieces ++ w.name ∷ names_in rest =
     read.names ∙ ap (λ (names : List (List ℕ)). map name_of pieces ++ names) (line_names (bytes ++ 10 ∷ rest) bytes rest (PieceLine w) (record { parts = refl; first = unended }) is) in
     let count : length (map name_of pieces) ≡ length pieces = length-map pieces name_of in
@@ -168,11 +168,11 @@ names_both text name shapes pieces w bytes rest earlier piece read unended is (i
       words = is.0;
       begins = (rest, read.parts ∙ ap (λ (line : List ℕ). beginning_text (Pieces name shapes pieces) ++ (line ++ 10 ∷ rest)) is.1);
       is_earlier = omega arith;
-      is_next = behind;
+      is_next = after;
       first = λ p.
           ap (λ (all : List (List ℕ)). get_or all earlier []) names ∙ get_or_append_left (map name_of pieces) (w.name ∷ names_in rest) [] earlier (subst (λ (k : ℕ). earlier < k) (sym count) inside)
           ∙ get_or-map name_of pieces earlier p [] inside;
-      second = ap (λ (all : List (List ℕ)). get_or all piece []) names ∙ get_or_at (map name_of pieces) w.name (names_in rest) [] piece (count ∙ sym behind);
+      second = ap (λ (all : List (List ℕ)). get_or all piece []) names ∙ get_or_at (map name_of pieces) w.name (names_in rest) [] piece (count ∙ sym after);
     }
 
 -- by the relation, whatever the answer
@@ -188,8 +188,8 @@ named_at text m earlier piece n so_far rest answer e read (fails _ _ bytes more 
     let pieces = is.2 in
     let w = is.3 in
     (record { name = name; shapes = shapes; pieces = pieces }, w, names_both text name shapes pieces w bytes more earlier piece (subst (λ (f : Beginning). IsNamedTo text f (bytes ++ 10 ∷ more)) is.4 read) unended is.5 is.6)
-named_at text m earlier piece n so_far rest answer e read (goes_on _ _ next bytes more _ unended given behind) =
-    named_at text m earlier piece (n + 1) next more answer e (goes_named text n so_far next bytes more read unended given) behind
+named_at text m earlier piece n so_far rest answer e read (goes_on _ _ next bytes more _ unended given after) =
+    named_at text m earlier piece (n + 1) next more answer e (goes_named text n so_far next bytes more read unended given) after
 
 pub sharing_pieces_are_named : SharingPiecesAreNamed
 sharing_pieces_are_named text n earlier piece gives = named_at text n earlier piece 1 Blank text (Err (A8 n earlier piece)) refl (record { begins = reached_blank; parts = refl; names = refl }) gives

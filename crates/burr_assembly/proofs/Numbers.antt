@@ -3,10 +3,10 @@ use Rattle.std.proofs.Common.{◌≡◌, ℕ, suc, ◌≤◌, List, [], ◌∷�
 use Rattle.std.specs.Fmt.{signed_decimal}
 use Rattle.std.proofs.lemmas.Int.{ints, fits_signed_from_abs}
 use Rattle.burr_voxels.specs.declared.cell.Cell.{Cell}
-use Rattle.burr_assembly.specs.Text.{IsCoordinate}
-use Rattle.burr_assembly.specs.Lines.{PieceWords}
+use Rattle.burr_assembly.specs.Rules.Text.{IsCoordinate}
+use Rattle.burr_assembly.specs.Rules.Lines.{PieceWords}
 use Rattle.burr_text.specs.Numbers.{IsNumber}
-use Rattle.burr_assembly.specs.Faults.{IsPositionOf}
+use Rattle.burr_assembly.specs.Rules.Faults.{IsPositionOf}
 use Rattle.burr_text.proofs.Common.Cuts.{Lacks}
 use Rattle.burr_text.proofs.Common.Integers.{number_of_integer, same_integer}
 

@@ -6,9 +6,9 @@ use Rattle.burr_voxels.proofs.Common.Naming.{same_axes}
 use Rattle.burr_assembly.specs.declared.fault.AssemblyFault.{AssemblyFault}
 use Rattle.burr_assembly.specs.declared.fault.AssemblyFault.TheVariants.{A1, A2, A3, A4, A5, A6, A7, A8}
 use Rattle.burr_text.specs.Names.{IsName}
-use Rattle.burr_assembly.specs.Text.{Drawing, Turn, Piece, Assembly, turn_name, IsTurn, IsShapeName, IsPieceName}
-use Rattle.burr_assembly.specs.Lines.{LineForm, PieceWords, AssemblyLine, ShapeLine, LayerLine, RowLine, EndLine, PieceLine, IsLine}
-use Rattle.burr_assembly.specs.Faults.{Beginning, Blank, Shapes, Drawn, Pieces, LineResult, gives, IsFinishedLayer, IsRow, with_layer, HasCellCount, IsFirstSharing, IsPositionOf, PieceRule, FormGives, LineGives, EndGives, TextGives, ends, breaks_off, fails, goes_on}
+use Rattle.burr_assembly.specs.Rules.Text.{Drawing, Turn, Piece, Assembly, turn_name, IsTurn, IsShapeName, IsPieceName}
+use Rattle.burr_assembly.specs.Rules.Lines.{LineForm, PieceWords, AssemblyLine, ShapeLine, LayerLine, RowLine, EndLine, PieceLine, IsLine}
+use Rattle.burr_assembly.specs.Rules.Faults.{Beginning, Blank, Shapes, Drawn, Pieces, LineResult, gives, IsFinishedLayer, IsRow, with_layer, HasCellCount, IsFirstSharing, IsPositionOf, PieceRule, FormGives, LineGives, EndGives, TextGives, ends, breaks_off, fails, goes_on}
 use Rattle.burr_text.specs.Lines.{IsUnended}
 use Rattle.burr_text.proofs.Common.Cuts.{cut, lacks, contains_cut}
 use Rattle.burr_assembly.proofs.Numbers.{one_position}

@@ -1,7 +1,7 @@
 -- A line is of one form.
 use Rattle.std.proofs.Common.{◌≡◌, ◌≢◌, ℕ, List, [], ◌∷◌, ◌++◌, get_or, drop, All, refl, sym, ap, ◌∙◌, arith, inl, inr, ◌==◌, if◌then◌else◌}
-use Rattle.burr_assembly.specs.Text.{IsMark}
-use Rattle.burr_assembly.specs.Lines.{LineForm, PieceWords, AssemblyLine, ShapeLine, LayerLine, RowLine, EndLine, PieceLine, form_text, IsLineForm, IsLine}
+use Rattle.burr_assembly.specs.Rules.Text.{IsMark}
+use Rattle.burr_assembly.specs.Rules.Lines.{LineForm, PieceWords, AssemblyLine, ShapeLine, LayerLine, RowLine, EndLine, PieceLine, form_text, IsLineForm, IsLine}
 use Rattle.burr_text.proofs.Common.Cuts.{cut, lacks_blank}
 use Rattle.burr_assembly.proofs.Numbers.{number_lacks}
 

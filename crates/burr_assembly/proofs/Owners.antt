@@ -1,4 +1,4 @@
--- The first pieces that have cells, cell by cell, and whose they are behind one piece more.
+-- The first pieces that have cells, cell by cell, and whose they are after one piece more.
 use Rattle.std.proofs.Common.{◌≡◌, ◌<◌, ◌+◌, ◌⊎◌, ℕ, Bool, true, false, cond, ◌||◌, ◌&&◌, min, List, [], ◌∷◌, ◌++◌, length, get_or, take, Option, Some, None, Contains, arith, refl, sym, ap, subst, ◌∙◌, inl, inr}
 use Rattle.std.specs.List.{list_any}
 use Rattle.std.proofs.lemmas.Bool.{cases_lt}
@@ -10,7 +10,7 @@ use Rattle.std.proofs.lemmas.List.{get_or_append_left, get_or_at, length-append,
 use Rattle.std.proofs.lemmas.List.Elements.{Contains-append_cases, Contains-append_left, Contains-append_right, Contains-push, Contains-push_cases, Decides-contains}
 use Rattle.burr_voxels.specs.declared.cell.Cell.{Cell}
 use Rattle.burr_voxels.specs.CellSets.{Overlap}
-use Rattle.burr_assembly.specs.HomedPieces.{cells_of, Owns, HomedPiece, AreOwners, IsFirstMeeting, lesser, same_cell}
+use Rattle.burr_assembly.specs.Views.HomedPieces.{cells_of, Owns, HomedPiece, AreOwners, IsFirstMeeting, lesser, same_cell}
 
 -- what overlaps with cells overlaps with more
 overlap_left : (ps qs rs : List Cell) → Overlap ps qs → Overlap ps (qs ++ rs)

@@ -2,23 +2,23 @@
 use Rattle.std.proofs.Common.{◌≡◌, ◌↔◌, ℕ, ◌<◌, List, [], ◌∷◌, ◌++◌, length, get_or, Contains, Bool, true, false, IsTrue, MatchOption, refl, sym, ap, subst, ◌∙◌, arith}
 use Rattle.std.specs.Bool.{then_some}
 use Rattle.burr_assembly.specs.declared.text.line.PieceLine.{PieceLine}
-use Rattle.burr_assembly.specs.LineViews.{words_of}
-use Rattle.burr_assembly.specs.Lines.{PieceWords, IsPieceWords, piece_words_text}
+use Rattle.burr_assembly.specs.Views.LineViews.{words_of}
+use Rattle.burr_assembly.specs.Rules.Lines.{PieceWords, IsPieceWords, piece_words_text}
 use Rattle.burr_text.specs.Words.{IsCutAt}
 use Rattle.burr_text.proofs.Common.Cuts.{Lacks, cut, lacks, lacks_blank, contains_cut}
 use Rattle.burr_assembly.proofs.Numbers.{number_lacks}
 
--- the bytes were cut at blanks: the words before them, in turn, and what is left behind the last
+-- the bytes were cut at blanks: the words before them, in turn, and what is left after the last
 abbrev pub AreCut : List (List ℕ) → List ℕ → List ℕ → Type 0
 AreCut [] bytes rest = rest ≡ bytes
-AreCut (word ∷ words) bytes rest = (behind : List ℕ) × IsCutAt 32 bytes word behind × AreCut words behind rest
+AreCut (word ∷ words) bytes rest = (after : List ℕ) × IsCutAt 32 bytes word after × AreCut words after rest
 
 -- no word but the last, which may be any, holds a blank
 abbrev HaveNoBlank : List (List ℕ) → Type 0
 HaveNoBlank [] = Unit {0}
 HaveNoBlank (word ∷ words) = Lacks 32 word × HaveNoBlank words
 
--- the words in a row, a blank behind each, and then the last
+-- the words in a row, a blank after each, and then the last
 abbrev in_row : List (List ℕ) → List ℕ → List ℕ
 in_row [] last = last
 in_row (word ∷ words) last = word ++ 32 ∷ in_row words last
@@ -38,8 +38,8 @@ words_are_found [] (word ∷ words) bytes rest last cuts lack e many = absurd (o
 words_are_found (front ∷ found) [] bytes rest last cuts lack e many = absurd (omega arith)
 words_are_found (front ∷ found) (word ∷ words) bytes rest last cuts lack e many =
     let same = cut 32 front word cuts.0 (in_row words last) (lacks 32 front cuts.1.first) lack.0 (sym cuts.1.parts ∙ e) in
-    let behind = words_are_found found words cuts.0 rest last cuts.2 lack.1 same.1 (omega arith) in
-    (λ i. same.0 i ∷ behind.0 i, behind.1)
+    let after = words_are_found found words cuts.0 rest last cuts.2 lack.1 same.1 (omega arith) in
+    (λ i. same.0 i ∷ after.0 i, after.1)
 
 -- the words of a piece's line before the last
 abbrev pub first_words : PieceWords → List (List ℕ)
@@ -53,7 +53,7 @@ no_blanks w p = (lacks_blank w.name p.name.1, (lacks_blank w.shape p.shape.1, (l
 abbrev word_at : ℕ → List (List ℕ) → List ℕ
 word_at k words = get_or words k []
 
--- where no blank is left behind fewer than five words, the bytes are not those of a piece's line
+-- where no blank is left after fewer than five words, the bytes are not those of a piece's line
 pub too_few_words : (found : List (List ℕ)) (bytes rest : List ℕ) → AreCut found bytes rest → length found < 5 → ¬ Contains rest 32 → (w : PieceWords) → IsPieceWords w → ¬ (bytes ≡ piece_words_text w)
 too_few_words found bytes rest cuts few none w p e = none (blank_is_left found (first_words w) bytes rest w.z cuts (no_blanks w p) e (omega arith))
 
@@ -71,7 +71,7 @@ only_these v bytes cuts bad w p e = bad (subst IsPieceWords (sym (same_words v b
 -- the bytes are what was cut off in a row
 bytes_in_row : (found : List (List ℕ)) (bytes rest : List ℕ) → AreCut found bytes rest → bytes ≡ in_row found rest
 bytes_in_row [] bytes rest cuts = sym cuts
-bytes_in_row (front ∷ found) bytes rest cuts = cuts.1.parts ∙ ap (λ (behind : List ℕ). front ++ 32 ∷ behind) (bytes_in_row found cuts.0 rest cuts.2)
+bytes_in_row (front ∷ found) bytes rest cuts = cuts.1.parts ∙ ap (λ (after : List ℕ). front ++ 32 ∷ after) (bytes_in_row found cuts.0 rest cuts.2)
 
 -- a line of the words that were cut off is given just where they are right
 pub right_line : (bytes : List ℕ) (line : PieceLine) (is_right : Bool) → AreCut (first_words (words_of line)) bytes line.z.now → IsTrue is_right ↔ IsPieceWords (words_of line)

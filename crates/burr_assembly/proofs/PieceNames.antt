@@ -14,8 +14,8 @@ use Rattle.burr_text.specs.Lines.{IsUnended}
 use Rattle.burr_text.proofs.Common.Cuts.{Lacks, lacks, lacks_blank, same_head, same_tail}
 use Rattle.std.proofs.lemmas.List.Elements.{All-nil, All-cons}
 use Rattle.burr_text.proofs.Common.Unended.{EachLacks}
-use Rattle.burr_assembly.specs.Lines.{PieceWords, PieceLine, IsPieceWords, IsLine}
-use Rattle.burr_assembly.specs.PieceNames.{piece_tests, but_last, lines_of, line_words, is_word, is_count, is_number, each_passes, is_piece_line, name_in, names_in}
+use Rattle.burr_assembly.specs.Rules.Lines.{PieceWords, PieceLine, IsPieceWords, IsLine}
+use Rattle.burr_assembly.specs.Rules.PieceNames.{piece_tests, but_last, lines_of, line_words, is_word, is_count, is_number, each_passes, is_piece_line, name_in, names_in}
 use Rattle.burr_assembly.proofs.Numbers.{number_lacks}
 
 -- The words of a line
@@ -48,7 +48,7 @@ count_told word =
     (Decides-and (nat_le 49 (slice_index word 0)) (list_all is_digit word) (high_told (slice_index word 0))
     (Decides-by_and is_digit (λ b. (48 ≤ b) × (b ≤ 57)) (list_all is_digit) digit_told refl (λ _ _. refl) word))
 
--- a count behind a minus
+-- a count after a minus
 signed_told : (word : List ℕ) → Decides ((slice_index word 0 == 45) && is_count (drop 1 word)) ((rest : List ℕ) × (word ≡ 45 ∷ rest) × IsCount rest)
 signed_told [] = (λ t. cc, λ h. absurd (omega (arith, ap length h.1)))
 signed_told (b ∷ rest) =
@@ -192,8 +192,8 @@ names_in-none text unended =
 pub found_here : (names rest : List (List ℕ)) (name : List ℕ) (left : ℕ) (wanted : List ℕ) → get_or names left [] ≡ wanted → names ≡ name ∷ rest → left ≡ 0 → name ≡ wanted
 found_here names rest name left wanted held next none = rw (next, none) at held
 
--- it is behind a name that is not looked for
-pub found_behind : (names rest : List (List ℕ)) (name : List ℕ) (left : ℕ) (wanted : List ℕ) → get_or names left [] ≡ wanted → names ≡ name ∷ rest → left ≢ 0 → get_or rest (left - 1) [] ≡ wanted
-found_behind names rest name left wanted held next some =
+-- it is after a name that is not looked for
+pub found_after : (names rest : List (List ℕ)) (name : List ℕ) (left : ℕ) (wanted : List ℕ) → get_or names left [] ≡ wanted → names ≡ name ∷ rest → left ≢ 0 → get_or rest (left - 1) [] ≡ wanted
+found_after names rest name left wanted held next some =
     let place : left ≡ suc (left - 1) = omega arith in
     sym (ap (λ (k : ℕ). get_or names k []) place ∙ ap (λ (all : List (List ℕ)). get_or all (suc (left - 1)) []) next) ∙ held

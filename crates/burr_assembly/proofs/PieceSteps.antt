@@ -4,11 +4,11 @@ use Rattle.std.specs.List.{Any}
 use Rattle.burr_voxels.specs.declared.cell.Cell.{Cell}
 use Rattle.burr_assembly.specs.declared.fault.AssemblyFault.TheVariants.{A4, A5, A6, A8}
 use Rattle.burr_text.specs.Names.{IsName}
-use Rattle.burr_assembly.specs.Text.{Drawing, Turn, Piece, HasCells, IsTurn, IsShapeName, IsPositionText, turn_name}
-use Rattle.burr_assembly.specs.HomedPieces.{HomedPiece, pieces_of, AreAtHome, IsFirstMeeting}
-use Rattle.burr_assembly.specs.Lines.{PieceWords}
-use Rattle.burr_assembly.specs.Faults.{PieceRule, Pieces}
-use Rattle.burr_assembly.specs.Drawings.{AreDistinct}
+use Rattle.burr_assembly.specs.Rules.Text.{Drawing, Turn, Piece, HasCells, IsTurn, IsShapeName, IsPositionText, turn_name}
+use Rattle.burr_assembly.specs.Views.HomedPieces.{HomedPiece, pieces_of, AreAtHome, IsFirstMeeting}
+use Rattle.burr_assembly.specs.Rules.Lines.{PieceWords}
+use Rattle.burr_assembly.specs.Rules.Faults.{PieceRule, Pieces}
+use Rattle.burr_assembly.specs.Views.Drawings.{AreDistinct}
 use Rattle.burr_assembly.proofs.Sharing.{length-pieces_of, kept_name, first_shares, none_shares}
 
 -- the piece may come, and its name is right

@@ -1,4 +1,4 @@
--- A piece's line, part behind part.
+-- A piece's line, part after part.
 use Rattle.std.proofs.Common.{◌≡◌, ℕ, List, [], ◌∷◌, ◌++◌, codes, append_assoc}
 use Rattle.burr_text.specs.Words.{text_line}
 

@@ -8,8 +8,8 @@ use Rattle.burr_voxels.specs.declared.direction.Direction.{Direction}
 use Rattle.burr_voxels.specs.declared.direction.Direction.TheVariants.{PlusX, MinusX, PlusY, MinusY, PlusZ, MinusZ}
 use Rattle.burr_voxels.specs.Grid.{at, along}
 use Rattle.burr_voxels.specs.Turns.{determinant}
-use Rattle.burr_assembly.specs.Text.{IsCoordinate, Turn, IsTurn, IsMark, IsPositionText, turn_name}
-use Rattle.burr_assembly.specs.Lines.{LineForm, PieceWords, AssemblyLine, ShapeLine, LayerLine, RowLine, EndLine, PieceLine, IsMarks, IsPieceWords, IsLine, piece_words_text}
+use Rattle.burr_assembly.specs.Rules.Text.{IsCoordinate, Turn, IsTurn, IsMark, IsPositionText, turn_name}
+use Rattle.burr_assembly.specs.Rules.Lines.{LineForm, PieceWords, AssemblyLine, ShapeLine, LayerLine, RowLine, EndLine, PieceLine, IsMarks, IsPieceWords, IsLine, piece_words_text}
 use Rattle.burr_text.specs.Words.{IsWord}
 use Rattle.burr_text.specs.Numbers.{IsCount, IsNumber}
 use Rattle.burr_text.proofs.Common.Decisions.{Decided, decided_like, decided_and, decided_and_three, decided_or, decided_not, decide_same, decide_at_most, decide_same_whole, decide_same_bytes, decide_empty, decide_all, decide_some_below, decide_parts}
@@ -53,12 +53,12 @@ pub decide_turn_name : (bytes : List ℕ) → Decided ((t : Turn) × IsNameOf by
 decide_turn_name bytes = decide_some_turn (IsNameOf bytes) (λ t. decided_and (decide_turn t) (decide_same_bytes bytes (turn_name t)))
 
 -- whether bytes are this byte and a rest that is so
-decide_behind : (c : ℕ) (Q : List ℕ → Type 0) → ((s : List ℕ) → Decided (Q s)) → (bytes : List ℕ) → Decided ((rest : List ℕ) × Q rest × (bytes ≡ c ∷ rest))
-decide_behind c Q each [] = inr (λ t. empty t.0 t.2)
+decide_after : (c : ℕ) (Q : List ℕ → Type 0) → ((s : List ℕ) → Decided (Q s)) → (bytes : List ℕ) → Decided ((rest : List ℕ) × Q rest × (bytes ≡ c ∷ rest))
+decide_after c Q each [] = inr (λ t. empty t.0 t.2)
   where
     empty : (s : List ℕ) → [] ≡ c ∷ s → ⊥
     empty s e = cc
-decide_behind c Q each (b ∷ bytes) = decided_like (λ t. (bytes, t.1, to t.0)) (λ t. from t.0 t.1 t.2) (decided_and (decide_same b c) (each bytes))
+decide_after c Q each (b ∷ bytes) = decided_like (λ t. (bytes, t.1, to t.0)) (λ t. from t.0 t.1 t.2) (decided_and (decide_same b c) (each bytes))
   where
     to : b ≡ c → b ∷ bytes ≡ c ∷ bytes
     to e = cc
@@ -77,7 +77,7 @@ decide_count bytes =
 -- whether bytes are a number
 decide_number : (bytes : List ℕ) → Decided (IsNumber bytes)
 decide_number bytes =
-    decided_or (decide_same_bytes bytes (codes "0")) (decided_or (decide_count bytes) (decided_like (λ t. (t.0, t.2, t.1)) (λ t. (t.0, t.2, t.1)) (decide_behind 45 IsCount decide_count bytes)))
+    decided_or (decide_same_bytes bytes (codes "0")) (decided_or (decide_count bytes) (decided_like (λ t. (t.0, t.2, t.1)) (λ t. (t.0, t.2, t.1)) (decide_after 45 IsCount decide_count bytes)))
 
 -- whether a coordinate is so
 decide_some_coordinate : (P : ℤ → Type 0) → ((z : ℤ) → Decided (P z)) → Decided ((z : ℤ) × IsCoordinate z × P z)
@@ -125,7 +125,7 @@ IsCut P Q bytes = (front rest : List ℕ) × P front × Q rest × (bytes ≡ fro
 -- whether bytes are so cut at a blank
 decide_cut : (P Q : List ℕ → Type 0) → ((s : List ℕ) → Decided (P s)) → ((s : List ℕ) → Decided (Q s)) → (bytes : List ℕ) → Decided (IsCut P Q bytes)
 decide_cut P Q has_p has_q bytes =
-    decided_like (λ t. (t.0, t.3.0, t.2, t.3.1, t.4 ∙ ap (λ s. t.0 ++ s) t.3.2)) (λ t. (t.0, 32 ∷ t.1, t.2, (t.1, t.3, refl), t.4)) (decide_parts P (λ s. (rest : List ℕ) × Q rest × (s ≡ 32 ∷ rest)) has_p (decide_behind 32 Q has_q) bytes)
+    decided_like (λ t. (t.0, t.3.0, t.2, t.3.1, t.4 ∙ ap (λ s. t.0 ++ s) t.3.2)) (λ t. (t.0, 32 ∷ t.1, t.2, (t.1, t.3, refl), t.4)) (decide_parts P (λ s. (rest : List ℕ) × Q rest × (s ≡ 32 ∷ rest)) has_p (decide_after 32 Q has_q) bytes)
 
 -- whether bytes are a key word, a blank and a rest that is so
 decide_headed : (key : List ℕ) (Q : List ℕ → Type 0) → ((s : List ℕ) → Decided (Q s)) → (bytes : List ℕ) → Decided ((rest : List ℕ) × Q rest × (bytes ≡ key ++ 32 ∷ rest))
@@ -136,7 +136,7 @@ decide_headed key Q each bytes =
 abbrev IsThreeNumbers : List ℕ → Type 0
 IsThreeNumbers bytes = IsCut IsNumber (IsCut IsNumber IsNumber) bytes
 
--- what stands behind the key word of a piece's line
+-- what stands after the key word of a piece's line
 abbrev IsPieceRest : List ℕ → Type 0
 IsPieceRest bytes = IsCut IsWord (IsCut IsWord (IsCut IsWord IsThreeNumbers)) bytes
 
@@ -144,7 +144,7 @@ IsPieceRest bytes = IsCut IsWord (IsCut IsWord (IsCut IsWord IsThreeNumbers)) by
 decide_three_numbers : (bytes : List ℕ) → Decided (IsThreeNumbers bytes)
 decide_three_numbers bytes = decide_cut IsNumber (IsCut IsNumber IsNumber) decide_number (decide_cut IsNumber IsNumber decide_number decide_number) bytes
 
--- whether bytes are what stands behind the key word of a piece's line
+-- whether bytes are what stands after the key word of a piece's line
 decide_piece_rest : (bytes : List ℕ) → Decided (IsPieceRest bytes)
 decide_piece_rest bytes =
     decide_cut IsWord (IsCut IsWord (IsCut IsWord IsThreeNumbers)) decide_word (decide_cut IsWord (IsCut IsWord IsThreeNumbers) decide_word (decide_cut IsWord IsThreeNumbers decide_word decide_three_numbers)) bytes

@@ -8,14 +8,14 @@ use Rattle.std.proofs.lemmas.Bool.{cases_lt}
 use native.Mathlib.Decide.{ℕ_discrete}
 use Rattle.burr_voxels.specs.declared.cell.Cell.{Cell}
 use Rattle.burr_voxels.specs.CellSets.{Overlap}
-use Rattle.burr_assembly.specs.Text.{Drawing, Piece, HasCells, Shares, IsPieceName, home_cells, drawn_cells}
-use Rattle.burr_assembly.specs.HomedPieces.{HomedPiece, pieces_of, AreAtHome, IsFirstMeeting}
-use Rattle.burr_assembly.specs.Faults.{IsFirstSharing}
-use Rattle.burr_assembly.specs.Drawings.{AreDistinct}
+use Rattle.burr_assembly.specs.Rules.Text.{Drawing, Piece, HasCells, Shares, IsPieceName, home_cells, drawn_cells}
+use Rattle.burr_assembly.specs.Views.HomedPieces.{HomedPiece, pieces_of, AreAtHome, IsFirstMeeting}
+use Rattle.burr_assembly.specs.Rules.Faults.{IsFirstSharing}
+use Rattle.burr_assembly.specs.Views.Drawings.{AreDistinct}
 
 -- of two numbers that differ one is below the other
 below_or : (i j : ℕ) → i ≢ j → (i < j) ⊎ (j < i)
-below_or i j ne = elim (cases_lt i j) [ inl before ↦ inl before | inr behind ↦ inr (omega arith) ]
+below_or i j ne = elim (cases_lt i j) [ inl before ↦ inl before | inr after ↦ inr (omega arith) ]
 
 -- a piece among the pieces that are kept with their cells
 pub piece_at : (placed : List HomedPiece) (q : ℕ) (p : Piece) (d : HomedPiece) → q < length placed → get_or (pieces_of placed) q p ≡ (get_or placed q d).piece
@@ -52,7 +52,7 @@ one_shape shapes i j s t distinct in_i in_j at_i at_j same =
   where
     apart : (i < j) ⊎ (j < i) → ⊥
     apart (inl before) = two_names shapes i j s t distinct before in_j at_i at_j same
-    apart (inr behind) = two_names shapes j i t s distinct behind in_i at_j at_i (sym same)
+    apart (inr after) = two_names shapes j i t s distinct after in_i at_j at_i (sym same)
 
 -- the cells of a piece at home are one list
 pub one_cells : (shapes : List Drawing) (p : Piece) (ps qs : List Cell) → AreDistinct shapes → HasCells shapes p ps → HasCells shapes p qs → ps ≡ qs

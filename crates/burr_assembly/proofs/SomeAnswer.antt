@@ -2,9 +2,9 @@
 use Rattle.std.proofs.Common.{◌≡◌, ◌≢◌, ℕ, zero, suc, ◌+◌, ◌<◌, List, [], ◌∷◌, ◌++◌, length, Some, None, Result, Ok, Err, slice_index_or, ◌⊎◌, inl, inr, refl, ap, sym, ◌∙◌, subst, length-append, arith}
 use Rattle.burr_assembly.specs.declared.fault.AssemblyFault.{AssemblyFault}
 use Rattle.burr_assembly.specs.declared.fault.AssemblyFault.TheVariants.{A1, A7, A8}
-use Rattle.burr_assembly.specs.Text.{Drawing, Piece, Assembly}
-use Rattle.burr_assembly.specs.Lines.{LineForm, PieceWords, AssemblyLine, ShapeLine, LayerLine, RowLine, EndLine, PieceLine, IsLine}
-use Rattle.burr_assembly.specs.Faults.{Beginning, Blank, Shapes, Drawn, Pieces, LineResult, gives, PieceRule, FormGives, LineGives, EndGives, TextGives, ends, breaks_off, fails, goes_on, IsFirstSharing, IsPositionOf, with_layer}
+use Rattle.burr_assembly.specs.Rules.Text.{Drawing, Piece, Assembly}
+use Rattle.burr_assembly.specs.Rules.Lines.{LineForm, PieceWords, AssemblyLine, ShapeLine, LayerLine, RowLine, EndLine, PieceLine, IsLine}
+use Rattle.burr_assembly.specs.Rules.Faults.{Beginning, Blank, Shapes, Drawn, Pieces, LineResult, gives, PieceRule, FormGives, LineGives, EndGives, TextGives, ends, breaks_off, fails, goes_on, IsFirstSharing, IsPositionOf, with_layer}
 use Rattle.burr_text.specs.Lines.{IsUnended}
 use Rattle.burr_text.proofs.Common.Decisions.{Decided, decided_and, decided_not, decide_same, decide_below, decide_at_most}
 use Rattle.burr_assembly.proofs.Readings.{IsNameOf, decide_turn_name, decide_position_text, decide_line}
@@ -25,7 +25,7 @@ some_found : {A B : Type 0} (IsSo : B → Type 0) (v : B → A) (P : A → Type 
 some_found IsSo v P (inl found) f = (v found.0, inl (found.0, found.1, refl))
 some_found IsSo v P (inr h) f = (f.0, inr ((λ b so. h (b, so)), f.1))
 
--- a piece behind these gives an answer
+-- a piece after these gives an answer
 some_piece_answer : (n : ℕ) (name : List ℕ) (shapes : List Drawing) (pieces : List Piece) (w : PieceWords) → (answer : LineResult) × PieceRule n name shapes pieces w answer
 some_piece_answer n name shapes pieces w =
     some_needs _ _ (decide_below (length pieces) 32) λ room.
@@ -36,7 +36,7 @@ some_piece_answer n name shapes pieces w =
     let p : Piece = record { name = w.name; shape = w.shape; turn = t; position = position } in
     some_found (IsFirstSharing shapes pieces p) (λ q. Err (A8 n q (length pieces))) (gives (Pieces name shapes (pieces ++ p ∷ []))) (decide_first_sharing shapes pieces p) (Ok (Pieces name shapes (pieces ++ p ∷ [])), refl)
 
--- a line of a form gives an answer behind a beginning
+-- a line of a form gives an answer after a beginning
 some_form_answer : (n : ℕ) (so_far : Beginning) (form : LineForm) → (answer : LineResult) × FormGives n so_far form answer
 some_form_answer n Blank (AssemblyLine name) = some_needs _ _ (decide_name name) (λ h. (Ok (Shapes name []), refl))
 some_form_answer n (Shapes name shapes) (ShapeLine shape) =
@@ -54,11 +54,11 @@ some_form_answer n (Shapes name (s ∷ shapes)) (PieceLine w) = some_piece_answe
 some_form_answer n (Pieces name shapes pieces) (PieceLine w) = some_piece_answer n name shapes pieces w
 some_form_answer n so_far form = (Err (A1 n), refl)
 
--- a line gives an answer behind a beginning
+-- a line gives an answer after a beginning
 some_line_answer : (n : ℕ) (so_far : Beginning) (bytes : List ℕ) → (answer : LineResult) × LineGives n so_far bytes answer
 some_line_answer n so_far bytes = some_looks (IsLine bytes) (Err (A1 n)) (λ form. FormGives n so_far form) (decide_line bytes) (λ form. some_form_answer n so_far form)
 
--- the end of a text gives an answer behind a beginning
+-- the end of a text gives an answer after a beginning
 some_end_answer : (n : ℕ) (so_far : Beginning) → (answer : Result Assembly AssemblyFault) × EndGives n so_far answer
 some_end_answer n Blank = (Err (A1 n), refl)
 some_end_answer n (Shapes name []) = (Err (A1 n), refl)
@@ -106,13 +106,13 @@ some_unended_answer n so_far (b ∷ text) unended = (Err (A1 n), breaks_off n so
     some : b ∷ text ≢ []
     some e = cc
 
--- the rest behind a line is shorter than the text
+-- the rest after a line is shorter than the text
 shorter_rest : (size : ℕ) (text bytes rest : List ℕ) → text ≡ bytes ++ 10 ∷ rest → length text < suc size → length rest < size
 shorter_rest size text bytes rest e small =
     let all : length text ≡ length bytes + length (10 ∷ rest) = ap length e ∙ length-append bytes (10 ∷ rest) in
     omega arith
 
--- a line with its end, whose rest gives an answer behind any beginning, gives an answer with it
+-- a line with its end, whose rest gives an answer after any beginning, gives an answer with it
 some_more_answer : (n : ℕ) (so_far : Beginning) (bytes rest : List ℕ) → IsUnended bytes → ((next : Beginning) → (answer : Result Assembly AssemblyFault) × TextGives (n + 1) next rest answer) → (given : LineResult) → LineGives n so_far bytes given
     → (answer : Result Assembly AssemblyFault) × TextGives n so_far (bytes ++ 10 ∷ rest) answer
 some_more_answer n so_far bytes rest unended more (Err fault) line = (Err fault, fails n so_far bytes rest fault unended line)

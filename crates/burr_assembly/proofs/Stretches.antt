@@ -1,10 +1,10 @@
--- A stretch of lines takes a beginning to another, whatever stands behind it and at whichever line it begins.
+-- A stretch of lines takes a beginning to another, whatever stands after it and at whichever line it begins.
 use Rattle.std.proofs.Common.{◌≡◌, ℕ, ◌+◌, ◌<◌, List, [], ◌∷◌, ◌++◌, length, get_or, AllPairs, Result, Ok, refl, sym, subst, arith, inr, append_assoc}
 use Rattle.std.proofs.lemmas.List.{get_or_append_left, get_or_at, length-append}
 use Rattle.burr_assembly.specs.declared.fault.AssemblyFault.{AssemblyFault}
-use Rattle.burr_assembly.specs.Text.{Assembly}
-use Rattle.burr_assembly.specs.Lines.{LineForm, form_text, IsLineForm}
-use Rattle.burr_assembly.specs.Faults.{Beginning, FormGives, TextGives, goes_on}
+use Rattle.burr_assembly.specs.Rules.Text.{Assembly}
+use Rattle.burr_assembly.specs.Rules.Lines.{LineForm, form_text, IsLineForm}
+use Rattle.burr_assembly.specs.Rules.Faults.{Beginning, FormGives, TextGives, goes_on}
 use Rattle.burr_assembly.proofs.Clear.{unended_form}
 
 -- the lines take the beginning to the next

@@ -1,9 +1,9 @@
 -- The text of each assembly is taken.
 use Rattle.std.proofs.Common.{ℕ, ◌+◌, ◌≤◌, List, [], ◌∷◌, ◌++◌, length, Ok, codes, flat_map, refl, sym, subst, ◌∙◌, arith, inr, append-nil}
-use Rattle.burr_assembly.specs.Text.{Assembly, shape_text, piece_text, text_of, IsAssembly, IsText}
+use Rattle.burr_assembly.specs.Rules.Text.{Assembly, shape_text, piece_text, text_of, IsAssembly, IsText}
 use Rattle.burr_text.specs.Words.{text_line}
-use Rattle.burr_assembly.specs.Lines.{AssemblyLine}
-use Rattle.burr_assembly.specs.Faults.{Blank, Shapes, Pieces, TextGives, ends}
+use Rattle.burr_assembly.specs.Rules.Lines.{AssemblyLine}
+use Rattle.burr_assembly.specs.Rules.Faults.{Blank, Shapes, Pieces, TextGives, ends}
 use Rattle.burr_assembly.proofs.Clear.{word_of_name}
 use Rattle.burr_assembly.proofs.Stretches.{Goes, goes_further, goes_line}
 use Rattle.burr_assembly.proofs.TakesShapes.{goes_shapes}

@@ -4,9 +4,9 @@ use Rattle.std.proofs.lemmas.List.{length-append}
 use Rattle.std.proofs.lemmas.List.Elements.{All-head, All-tail}
 use Rattle.std.specs.Fmt.{signed_decimal}
 use Rattle.burr_text.specs.Names.{IsName}
-use Rattle.burr_assembly.specs.Text.{Drawing, Piece, turn_name, piece_text, IsPiece, IsShapeName, IsPieceName, Shares}
-use Rattle.burr_assembly.specs.Lines.{PieceWords, PieceLine}
-use Rattle.burr_assembly.specs.Faults.{Beginning, Shapes, Pieces, FormGives, PieceRule, IsFirstSharing}
+use Rattle.burr_assembly.specs.Rules.Text.{Drawing, Piece, turn_name, piece_text, IsPiece, IsShapeName, IsPieceName, Shares}
+use Rattle.burr_assembly.specs.Rules.Lines.{PieceWords, PieceLine}
+use Rattle.burr_assembly.specs.Rules.Faults.{Beginning, Shapes, Pieces, FormGives, PieceRule, IsFirstSharing}
 use Rattle.burr_assembly.proofs.Clear.{word_of_name, word_of_turn}
 use Rattle.burr_assembly.proofs.Numbers.{number_of_coordinate}
 use Rattle.burr_assembly.proofs.Stretches.{Goes, goes_nowhere, goes_further, goes_line, goes_to, pair_before}
@@ -41,7 +41,7 @@ piece_rule : (n : ℕ) (name : List ℕ) (shapes : List Drawing) (pieces : List 
 piece_rule n name shapes pieces p more is room names apart =
     inr (room, inr ((is.name, is_new_piece pieces p more names), inr (is.shape, inr (p.turn, (is.turn, refl), inr (p.position, (is.position, refl, refl, refl), inr (none_shares shapes pieces p more apart, refl))))))
 
--- a piece, behind shapes or pieces
+-- a piece, after shapes or pieces
 goes_piece : (name : List ℕ) (shapes : List Drawing) (pieces : List Piece) (p : Piece) → All (λ (s : Drawing). IsName s.name) shapes → IsPiece shapes p
     → (from : Beginning) → ((n : ℕ) → FormGives n from (PieceLine (words_of p)) (Ok (Pieces name shapes (pieces ++ p ∷ []))))
     → Goes from (piece_text p) (Pieces name shapes (pieces ++ p ∷ []))
@@ -55,7 +55,7 @@ goes_piece name shapes pieces p names is from rule =
       z = number_of_coordinate p.position.z is.position.2;
     }) rule
 
--- the pieces still to come, behind the first
+-- the pieces still to come, after the first
 goes_others : (name : List ℕ) (shapes : List Drawing) → All (λ (s : Drawing). IsName s.name) shapes → (more pieces : List Piece) → All (IsPiece shapes) more
     → AllPairs DifferInName (pieces ++ more) → AllPairs (AreApart shapes) (pieces ++ more) → length pieces + length more ≤ 32
     → Goes (Pieces name shapes pieces) (flat_map piece_text more) (Pieces name shapes (pieces ++ more))
@@ -77,7 +77,7 @@ goes_others name shapes words (p ∷ more) pieces are names apart room =
     one_more : (pieces : List Piece) (p : Piece) (b : ℕ) → length pieces + suc b ≤ 32 → length (pieces ++ p ∷ []) + b ≤ 32
     one_more pieces p b le = omega (arith, length-append pieces (p ∷ []))
 
--- all pieces, behind the shapes
+-- all pieces, after the shapes
 pub goes_pieces : (name : List ℕ) (shapes : List Drawing) → 1 ≤ length shapes → All (λ (s : Drawing). IsName s.name) shapes → (pieces : List Piece) → 1 ≤ length pieces → All (IsPiece shapes) pieces
     → AllPairs DifferInName pieces → AllPairs (AreApart shapes) pieces → length pieces ≤ 32
     → Goes (Shapes name shapes) (flat_map piece_text pieces) (Pieces name shapes pieces)

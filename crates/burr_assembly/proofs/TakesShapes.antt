@@ -2,10 +2,10 @@
 use Rattle.std.proofs.Common.{◌≡◌, ◌≢◌, ℕ, suc, ◌+◌, ◌<◌, ◌≤◌, List, [], ◌∷◌, ◌++◌, length, All, AllPairs, slice_get, IfSome, Some, None, Ok, codes, flat_map, refl, sym, subst, ap, ◌∙◌, arith, inr, append_assoc, append-nil}
 use Rattle.std.proofs.lemmas.List.{length-append}
 use Rattle.std.proofs.lemmas.List.Elements.{All-nil, All-head, All-tail, All-append, All-push}
-use Rattle.burr_assembly.specs.Text.{Drawing, layer_text, shape_text, IsMark, IsDrawing, IsShapeName}
+use Rattle.burr_assembly.specs.Rules.Text.{Drawing, layer_text, shape_text, IsMark, IsDrawing, IsShapeName}
 use Rattle.burr_text.specs.Words.{text_line}
-use Rattle.burr_assembly.specs.Lines.{ShapeLine, LayerLine, RowLine, EndLine}
-use Rattle.burr_assembly.specs.Faults.{Beginning, Shapes, Drawn, FormGives, IsFinishedLayer, IsRow, with_layer, HasCellCount}
+use Rattle.burr_assembly.specs.Rules.Lines.{ShapeLine, LayerLine, RowLine, EndLine}
+use Rattle.burr_assembly.specs.Rules.Faults.{Beginning, Shapes, Drawn, FormGives, IsFinishedLayer, IsRow, with_layer, HasCellCount}
 use Rattle.burr_assembly.proofs.Clear.{word_of_name}
 use Rattle.burr_assembly.proofs.Stretches.{Goes, goes_nowhere, goes_further, goes_line, goes_to, goes_regrouped, pair_before}
 
@@ -31,7 +31,7 @@ IsWide width row = length row ≡ width
 abbrev IsHigh : ℕ → List (List ℕ) → Type 0
 IsHigh height layer = length layer ≡ height
 
--- a row as wide as all before it may stand behind them
+-- a row as wide as all before it may stand after them
 is_row : (width : ℕ) → width ≤ 16 → (layers : List (List (List ℕ))) (rows : List (List ℕ)) (row : List ℕ) → All (All (IsWide width)) layers → All (IsWide width) rows → IsWide width row → length rows < 16 → IsRow layers rows row
 is_row width high layers rows row before here wide room = record {
   narrow = omega arith;
@@ -75,7 +75,7 @@ record AreLayers (width height : ℕ) (layers : List (List (List ℕ))) : Type 0
 first_layer : (width height : ℕ) (layer : List (List ℕ)) (layers : List (List (List ℕ))) → AreLayers width height (layer ∷ layers) → All (IsWide width) layer × IsHigh height layer × All (All IsMark) layer
 first_layer width height layer layers are = (All-head (All (IsWide width)) layer layers are.wide, All-head (IsHigh height) layer layers are.high, All-head (All (All IsMark)) layer layers are.marks)
 
--- what is so of the layers behind it
+-- what is so of the layers after it
 other_layers : (width height : ℕ) (layer : List (List ℕ)) (layers : List (List (List ℕ))) → AreLayers width height (layer ∷ layers) → AreLayers width height layers
 other_layers width height layer layers are = record { wide = All-tail (All (IsWide width)) layer layers are.wide; high = All-tail (IsHigh height) layer layers are.high; marks = All-tail (All (All IsMark)) layer layers are.marks }
 

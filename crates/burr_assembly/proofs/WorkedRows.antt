@@ -3,8 +3,8 @@ use Rattle.std.proofs.Common.{◌≡◌, [], ◌∷◌, codes, refl, pos}
 use Rattle.std.specs.Fmt.{digits}
 use Rattle.burr_voxels.specs.Grid.{at}
 use Rattle.burr_voxels.specs.declared.direction.Direction.TheVariants.{PlusX, PlusY, MinusY, PlusZ}
-use Rattle.burr_assembly.specs.Text.{Drawing, Assembly, Turn, text_of, drawn_cells, drawn_sides, home_cells}
-use Rattle.burr_assembly.specs.PieceNames.{name_at}
+use Rattle.burr_assembly.specs.Rules.Text.{Drawing, Assembly, Turn, text_of, drawn_cells, drawn_sides, home_cells}
+use Rattle.burr_assembly.specs.Rules.PieceNames.{name_at}
 
 abbrev upright : Turn
 upright = record { x = PlusX; y = PlusY; z = PlusZ }
@@ -35,7 +35,7 @@ ell_cells = refl
 sides : drawn_sides (((codes "##") ∷ (codes "#.") ∷ (codes "..") ∷ []) ∷ []) ≡ at (pos 2) (pos 3) (pos 1)
 sides = refl
 
--- the second piece of the duo, and the first behind lines that are not of a piece's form
+-- the second piece of the duo, and the first after lines that are not of a piece's form
 second_name : name_at (text_of duo) 1 ≡ codes "B"
 unfolding digits
 second_name = refl

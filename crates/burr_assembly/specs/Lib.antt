@@ -1,10 +1,3 @@
-pub mod Drawings
-pub mod Faults
-pub mod HomedPieces
-pub mod Homes
 pub mod Laws
-pub mod LineViews
-pub mod Lines
-pub mod PieceNames
-pub mod ReaderViews
-pub mod Text
+pub mod Rules
+pub mod Views

@@ -1,11 +1,11 @@
 ghost use Rattle.std.specs.Prelude.{◌≡◌, ◌≤◌, ◌<◌, length, IfOk, IfErr, IfSome, slice_get};
 ghost use Rattle.std.specs.List.{All};
 ghost use Rattle.burr_voxels.specs.Near.{IsWithin};
-ghost use Rattle.burr_assembly.specs.Text.{IsText, IsAssembly, HasCells, text_of};
-ghost use Rattle.burr_assembly.specs.Faults.{FirstFault};
-ghost use Rattle.burr_assembly.specs.Homes.{HasHome, homes_of};
-ghost use Rattle.burr_assembly.specs.HomedPieces.{pieces_of, AreAtHome};
-ghost use Rattle.burr_assembly.specs.ReaderViews.{IsDue};
+ghost use Rattle.burr_assembly.specs.Rules.Text.{IsText, IsAssembly, HasCells, text_of};
+ghost use Rattle.burr_assembly.specs.Rules.Faults.{FirstFault};
+ghost use Rattle.burr_assembly.specs.Rules.Homes.{HasHome, homes_of};
+ghost use Rattle.burr_assembly.specs.Views.HomedPieces.{pieces_of, AreAtHome};
+ghost use Rattle.burr_assembly.specs.Views.ReaderViews.{IsDue};
 
 use crate::fault::AssemblyFault;
 use crate::piece::Piece;
@@ -29,8 +29,8 @@ pub struct Assembly {
 }
 
 impl Model for Assembly {
-    ghost use Rattle.burr_assembly.specs.Text.{Assembly as AssemblyOf, IsAssembly};
-    ghost use Rattle.burr_assembly.specs.HomedPieces.{pieces_of, AreAtHome};
+    ghost use Rattle.burr_assembly.specs.Rules.Text.{Assembly as AssemblyOf, IsAssembly};
+    ghost use Rattle.burr_assembly.specs.Views.HomedPieces.{pieces_of, AreAtHome};
 
     ghost Value = { AssemblyOf };
 

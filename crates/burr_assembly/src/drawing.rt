@@ -1,7 +1,7 @@
 ghost use Rattle.std.specs.Prelude.{◌≡◌, ◌≤◌, ◌<◌, ◌++◌, ◌∷◌, [], length, IfOk, OnOk, vec_len};
 ghost use Rattle.std.specs.List.{All};
 ghost use Rattle.burr_voxels.specs.Near.{IsWithin};
-ghost use Rattle.burr_assembly.specs.Text.{row_cells, layer_cells, drawn_cells};
+ghost use Rattle.burr_assembly.specs.Rules.Text.{row_cells, layer_cells, drawn_cells};
 
 use burr_voxels::{Cell, Cells, Shape};
 use std::alloc::{AllocError, Global};
@@ -78,7 +78,7 @@ impl Layer {
         self.rows.as_slice()
     }
 
-    /// Adds a row behind the others.
+    /// Adds a row after the others.
     pub fn push(&mut self, row: Row) -> Result<(), AllocError>
         requires { length self.old < SIDE }
         ensures { OnOk result (self.new ≡ self.old ++ row ∷ []) }

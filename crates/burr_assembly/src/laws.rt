@@ -1,4 +1,4 @@
-ghost use Rattle.burr_assembly.specs.Laws.{OneAssembly, FaultOrAssembly, NoFault, OneFault, ReadsBack, WritesBack, PieceLineIsTold, PieceLineIsNamed, SharingPiecesAreNamed, DrawnInBox, HomesAreSmall};
+ghost use Rattle.burr_assembly.specs.Laws.Texts.{OneAssembly, FaultOrAssembly, NoFault, OneFault, ReadsBack, WritesBack, PieceLineIsTold, PieceLineIsNamed, SharingPiecesAreNamed, DrawnInBox, HomesAreSmall};
 
 /// No text is that of two assemblies.
 pub fn a_text_has_one_assembly()

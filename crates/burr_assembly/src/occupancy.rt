@@ -1,6 +1,6 @@
 ghost use Rattle.std.specs.Prelude.{◌≡◌, ◌<◌, ◌≤◌, ◌++◌, ◌∷◌, [], length, None, IfOk, OnOk};
 ghost use Rattle.std.specs.HashMap.{get};
-ghost use Rattle.burr_assembly.specs.HomedPieces.{IsFirstMeeting, Owns, lesser, same_cell};
+ghost use Rattle.burr_assembly.specs.Views.HomedPieces.{IsFirstMeeting, Owns, lesser, same_cell};
 
 use crate::piece::Piece;
 use burr_voxels::Cell;
@@ -21,7 +21,7 @@ pub struct Occupancy {
 impl Model for Occupancy {
     ghost use Rattle.std.specs.Prelude.{List, ◌≤◌, vec_len};
     ghost use Rattle.std.specs.HashMap.{get};
-    ghost use Rattle.burr_assembly.specs.HomedPieces.{HomedPiece, AreOwners, same_cell};
+    ghost use Rattle.burr_assembly.specs.Views.HomedPieces.{HomedPiece, AreOwners, same_cell};
 
     ghost Value = { List HomedPiece };
 
@@ -66,7 +66,7 @@ impl Occupancy {
         first
     }
 
-    /// These pieces and behind them one more, which has none of their cells.
+    /// These pieces and after them one more, which has none of their cells.
     pub fn with(self, piece: Piece) -> Result<Occupancy, AllocError>
         requires room { length self < MOST_PIECES }
         requires free { IsFirstMeeting self piece.cells None }

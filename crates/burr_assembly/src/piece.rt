@@ -1,8 +1,8 @@
 ghost use Rattle.std.specs.Prelude.{◌≡◌, IfOk};
 ghost use Rattle.std.specs.List.{All};
 ghost use Rattle.burr_voxels.specs.Near.{IsWithin};
-ghost use Rattle.burr_assembly.specs.Text.{home_cells as homes_of};
-ghost use Rattle.burr_assembly.specs.HomedPieces.{turn_of, homed_piece};
+ghost use Rattle.burr_assembly.specs.Rules.Text.{home_cells as homes_of};
+ghost use Rattle.burr_assembly.specs.Views.HomedPieces.{turn_of, homed_piece};
 
 use burr_text::Name;
 use burr_voxels::{Cell, Orientation};
@@ -22,7 +22,7 @@ pub struct Piece {
 impl Model for Piece {
     ghost use Rattle.std.specs.List.{All};
     ghost use Rattle.burr_voxels.specs.Near.{IsWithin};
-    ghost use Rattle.burr_assembly.specs.HomedPieces.{HomedPiece, homed_piece};
+    ghost use Rattle.burr_assembly.specs.Views.HomedPieces.{HomedPiece, homed_piece};
 
     ghost Value = { HomedPiece };
 

@@ -1,7 +1,7 @@
 ghost use Rattle.std.specs.Prelude.{◌≡◌, ◌≤◌, vec_len};
 ghost use Rattle.std.specs.List.{All};
 ghost use Rattle.burr_voxels.specs.Near.{IsWithin};
-ghost use Rattle.burr_assembly.specs.Text.{drawn_cells, drawn_sides};
+ghost use Rattle.burr_assembly.specs.Rules.Text.{drawn_cells, drawn_sides};
 
 use crate::drawing::Layer;
 use burr_text::Name;
@@ -20,7 +20,7 @@ impl Model for DrawnShape {
     ghost use Rattle.std.specs.Prelude.{◌≡◌};
     ghost use Rattle.std.specs.List.{All};
     ghost use Rattle.burr_voxels.specs.Near.{IsWithin};
-    ghost use Rattle.burr_assembly.specs.Text.{Drawing, drawn_cells, drawn_sides};
+    ghost use Rattle.burr_assembly.specs.Rules.Text.{Drawing, drawn_cells, drawn_sides};
 
     ghost Value = { Drawing };
 

@@ -1,6 +1,6 @@
 //! Linear forms: their values and sums, the points of boxes, and searches among these.
 ghost use Rattle.std.specs.Prelude.{IsTrue};
-ghost use Rattle.burr_forms.specs.Forms.{IsSmallForm};
+ghost use Rattle.burr_forms.specs.Rules.Forms.{IsSmallForm};
 
 use burr_forms::{Form, Guards};
 

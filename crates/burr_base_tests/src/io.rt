@@ -123,7 +123,7 @@ impl Write for Narrow {
 }
 
 /// What a sink tells of calls, which `;` joins: `put` and bytes is one call, and `all` and bytes as
-/// many as it takes. Behind each of them `failed` stands where the sink has failed.
+/// many as it takes. After each of them `failed` stands where the sink has failed.
 fn told<W: Sink>(alloc: Global, sink: &mut W, calls: &str) -> Result<String, AllocError> {
     let mut words = String::new(alloc);
     for call in calls.split(';') {

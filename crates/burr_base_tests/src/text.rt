@@ -15,7 +15,7 @@ fn has(text: &str, byte: u8) -> bool {
 #[test]
 fn judges_each_byte(rt: HostRuntime) {
     for byte in 0..=u8::MAX {
-        // names, first and behind a letter
+        // names, first and after a letter
         assert!(rt; is_name(&[byte]) == has(LETTERS, byte), "{byte}");
         assert!(rt; is_name(&[byte, b'o']) == has(LETTERS, byte), "{byte}");
         assert!(rt; is_name(&[b'd', byte]) == has(NAME_BYTES, byte), "{byte}");
@@ -27,7 +27,7 @@ fn judges_each_byte(rt: HostRuntime) {
         assert!(rt; is_word(&[byte]) == byte.is_ascii_graphic(), "{byte}");
         assert!(rt; is_word(&[byte, b'o']) == byte.is_ascii_graphic(), "{byte}");
         assert!(rt; is_word(&[b'd', byte]) == byte.is_ascii_graphic(), "{byte}");
-        // numbers, alone, behind a digit and behind a minus
+        // numbers, alone, after a digit and after a minus
         assert!(rt; is_number(&[byte]) == has(DIGITS, byte), "{byte}");
         assert!(rt; is_number(&[b'1', byte]) == has(DIGITS, byte), "{byte}");
         assert!(rt;

@@ -1,17 +1,17 @@
 -- What the instructions of a bench at work ask for.
 use Rattle.std.specs.Prelude.{Result}
 use Rattle.burr_code.specs.Instruction.{Instruction}
-use Rattle.burr_assembly.specs.Homes.{homes_of}
+use Rattle.burr_assembly.specs.Rules.Homes.{homes_of}
 use Rattle.burr_state.specs.declared.trap.Trap.{Trap}
 use Rattle.burr_bench.specs.declared.checked.way.Way.{Way}
 use Rattle.burr_bench.specs.declared.checked.way.Way.TheVariants as ways
-use Rattle.burr_state.specs.Bench.{BenchProcedure}
+use Rattle.burr_state.specs.Rules.Bench.{BenchProcedure}
 use Rattle.burr_state.specs.declared.effect.Effect.{Effect}
-use Rattle.burr_state.specs.Benches.{Benched, setup_of}
-use Rattle.burr_state.specs.Effects.{next_of}
-use Rattle.burr_state.specs.StateViews.{StaysOnBench}
+use Rattle.burr_state.specs.Views.Benches.{Benched, setup_of}
+use Rattle.burr_state.specs.Views.Effects.{next_of}
+use Rattle.burr_state.specs.Views.StateViews.{StaysOnBench}
 use Rattle.burr_bench.specs.Ways.{GroupPasses}
-use Rattle.burr_state.specs.Step.{Executes, Runs}
+use Rattle.burr_state.specs.Rules.Step.{Executes, Runs}
 
 -- the pieces of the current tray are on the bench where the grip is asked of
 abbrev pub SetsOut : Benched → Way → Type 0

@@ -4,10 +4,10 @@ use Rattle.burr_voxels.specs.declared.cell.Cell.{Cell}
 use Rattle.burr_voxels.specs.Grid.{plus, minus, along}
 use Rattle.burr_code.specs.PieceSets.{IsInSet}
 use Rattle.burr_code.specs.Places.{Placement, LiesAt}
-use Rattle.burr_assembly.specs.Homes.{home_at}
+use Rattle.burr_assembly.specs.Rules.Homes.{home_at}
 use Rattle.burr_blocking.specs.declared.query.Query.{Query}
 use Rattle.burr_blocking.specs.declared.query.Query.TheVariants as queries
-use Rattle.burr_blocking.specs.Pairs.{Clears}
+use Rattle.burr_blocking.specs.Rules.Pairs.{Clears}
 use Rattle.burr_bench.specs.declared.checked.way.Way.{Way}
 use Rattle.burr_bench.specs.declared.checked.way.Way.TheVariants as ways
 

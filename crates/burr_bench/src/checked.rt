@@ -18,7 +18,7 @@ pub struct Checked<'a, B: Blocking> {
 }
 
 impl<'a, B: Blocking> Model for Checked<'a, B> {
-    ghost use Rattle.burr_state.specs.Benches.{Benched, benched, IsSound};
+    ghost use Rattle.burr_state.specs.Views.Benches.{Benched, benched, IsSound};
 
     ghost Value = { Benched };
 

@@ -8,8 +8,8 @@ use Rattle.std.proofs.lemmas.List.Elements.{All-more, All-weaker, All-contains, 
 use Rattle.burr_voxels.specs.declared.cell.Cell.{Cell}
 use Rattle.burr_voxels.specs.Grid.{minus, FitsCell}
 use Rattle.burr_voxels.specs.Near.{IsWithin}
-use Rattle.burr_assembly.specs.Homes.{DiameterAtMost}
-use Rattle.burr_blocking.specs.Corners.{IsBetween, AreCorners, lower_of, upper_of}
+use Rattle.burr_assembly.specs.Rules.Homes.{DiameterAtMost}
+use Rattle.burr_blocking.specs.Views.Corners.{IsBetween, AreCorners, lower_of, upper_of}
 
 -- a coordinate of the two corners, that lies from the least to the greatest one and within 15
 pub record IsReach (l g c : ℤ) : Type 0 where

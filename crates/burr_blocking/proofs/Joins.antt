@@ -2,7 +2,7 @@
 use Rattle.std.proofs.Common.{◌≡◌, ℕ, zero, suc, ◌+◌, ◌≤◌, ◌<◌, List, [], ◌∷◌, length, take, drop, refl, ap, sym, ◌∙◌, arith, slice_index_or, slice_set, zero-add}
 use Rattle.std.specs.Prelude.{replicate}
 use Rattle.std.specs.Simd.Lanes.{zip2, put_chunk}
-use Rattle.burr_blocking.specs.Bits.{joined_from, or_shifted, IsNext}
+use Rattle.burr_blocking.specs.Views.Bits.{joined_from, or_shifted, IsNext}
 use Rattle.burr_blocking.proofs.Shifts.{or_nothing}
 
 -- eight rows

@@ -11,9 +11,9 @@ use Rattle.burr_voxels.specs.declared.cell.Cell.{Cell}
 use Rattle.burr_voxels.specs.Grid.{plus, minus}
 use Rattle.burr_voxels.proofs.Common.Ahead.{same_cell}
 use Rattle.burr_blocking.specs.declared.extent.Extent.{Extent}
-use Rattle.burr_blocking.specs.Boxes.{IsInBox, IsInRows, wide_of, deep_of, high_of, row_count_of, row_of, column_of}
-use Rattle.burr_blocking.specs.Bits.{HasBit, HasBitAt, SetsBit, or_shifted, joined_from}
-use Rattle.burr_blocking.specs.PairBits.{AreRowsOf, AreShort, AreBitsFrom}
+use Rattle.burr_blocking.specs.Views.Boxes.{IsInBox, IsInRows, wide_of, deep_of, high_of, row_count_of, row_of, column_of}
+use Rattle.burr_blocking.specs.Views.Bits.{HasBit, HasBitAt, SetsBit, or_shifted, joined_from}
+use Rattle.burr_blocking.specs.Views.PairBits.{AreRowsOf, AreShort, AreBitsFrom}
 use Rattle.burr_blocking.proofs.Common.Reversed.{blocked_from, blocked_gives}
 use Rattle.burr_blocking.proofs.Reaches.{gap_value, gap_lt, gap_few}
 use Rattle.burr_blocking.proofs.Marks.{gap_once, parts_once, gap_sum, corner_sum, plus_minus, minus_plus, greatest_inside, IsBoxOf, box_inside, box_low, box_reach}

@@ -12,9 +12,9 @@ use Rattle.burr_voxels.specs.Grid.{plus, minus}
 use Rattle.burr_voxels.proofs.Common.Ahead.{same_cell}
 use Rattle.burr_voxels.proofs.Common.Freedom.{Contains-map, Contains-from_map}
 use Rattle.burr_blocking.specs.declared.extent.Extent.{Extent}
-use Rattle.burr_blocking.specs.Boxes.{IsInBox, wide_of, deep_of, high_of, size_of, place_of}
-use Rattle.burr_blocking.specs.Corners.{IsBetween, AreCorners}
-use Rattle.burr_blocking.specs.Tables.{HasMark, SetsMarks, IsMarked, IsTableOf}
+use Rattle.burr_blocking.specs.Views.Boxes.{IsInBox, wide_of, deep_of, high_of, size_of, place_of}
+use Rattle.burr_blocking.specs.Views.Corners.{IsBetween, AreCorners}
+use Rattle.burr_blocking.specs.Views.Tables.{HasMark, SetsMarks, IsMarked, IsTableOf}
 use Rattle.burr_blocking.proofs.Common.Reversed.{blocked_from, blocked_gives}
 use Rattle.burr_blocking.proofs.Reaches.{gap_value, gap_lt}
 
@@ -69,7 +69,7 @@ minus_plus x d = same_cell _ _ (omega (arith, ints)) (omega (arith, ints)) (omeg
 
 -- The marks of one cell
 
--- behind the marks that there were are those of the displacements from a cell to these
+-- after the marks that there were are those of the displacements from a cell to these
 abbrev pub Adds : Extent → List Bool → List Bool → Cell → List Cell → Type 0
 Adds e old new from tos =
     (d : Cell) → IsMarked e new d ↔ (IsMarked e old d ⊎ Contains tos (plus from d))

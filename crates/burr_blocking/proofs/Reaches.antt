@@ -8,7 +8,7 @@ use Rattle.burr_voxels.specs.declared.direction.Direction.{Direction}
 use Rattle.burr_voxels.specs.declared.direction.Direction.TheVariants.{PlusX, MinusX, PlusY, MinusY, PlusZ, MinusZ}
 use Rattle.burr_voxels.specs.Grid.{plus, minus, along, origin, FitsCell}
 use Rattle.burr_voxels.specs.Near.{IsWithin}
-use Rattle.burr_blocking.specs.Corners.{IsBetween, AreCorners, units_of}
+use Rattle.burr_blocking.specs.Views.Corners.{IsBetween, AreCorners, units_of}
 
 -- so many units are from the nearer to the farther corner, either way
 between : (l g f k : ℤ) → l ≤ℤ (f +ℤ k) → (f +ℤ k) ≤ℤ g → (int_min (l -ℤ f) (g -ℤ f) ≤ℤ k) × (k ≤ℤ int_max (l -ℤ f) (g -ℤ f))

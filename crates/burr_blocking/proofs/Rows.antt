@@ -8,8 +8,8 @@ use native.Mathlib.Decide.{ℕ_discrete}
 use Rattle.burr_voxels.specs.declared.cell.Cell.{Cell}
 use Rattle.burr_voxels.specs.declared.direction.Direction.{Direction}
 use Rattle.burr_voxels.specs.Grid.{plus, minus, along, origin}
-use Rattle.burr_assembly.specs.Homes.{HasHome, home_at}
-use Rattle.burr_blocking.specs.Pairs.{IsBlocked, IsFreeFrom}
+use Rattle.burr_assembly.specs.Rules.Homes.{HasHome, home_at}
+use Rattle.burr_blocking.specs.Rules.Pairs.{IsBlocked, IsFreeFrom}
 use Rattle.burr_blocking.proofs.Common.Reversed.{blocked_either, free_either}
 
 -- what holds of each of a list by its number, and of one more, holds of the list with it

@@ -10,9 +10,9 @@ use Rattle.burr_voxels.specs.declared.direction.Direction.{Direction}
 use Rattle.burr_voxels.specs.declared.direction.Direction.TheVariants.{PlusX, MinusX}
 use Rattle.burr_voxels.specs.Grid.{plus, along}
 use Rattle.burr_blocking.specs.declared.extent.Extent.{Extent}
-use Rattle.burr_blocking.specs.Boxes.{IsInBox, wide_of, deep_of, row_of, column_of}
-use Rattle.burr_blocking.specs.Bits.{HasBit, HasBitAt}
-use Rattle.burr_blocking.specs.PairBits.{IsSet, IsClearAhead, HasBitIn, AreShort}
+use Rattle.burr_blocking.specs.Views.Boxes.{IsInBox, wide_of, deep_of, row_of, column_of}
+use Rattle.burr_blocking.specs.Views.Bits.{HasBit, HasBitAt}
+use Rattle.burr_blocking.specs.Views.PairBits.{IsSet, IsClearAhead, HasBitIn, AreShort}
 use Rattle.burr_blocking.proofs.Reaches.{gap_value}
 use Rattle.burr_blocking.proofs.Shifts.{no_bit, or_from, or_left, or_right}
 
@@ -31,7 +31,7 @@ in_reach l g d n rises is lt =
 flat : (z : ℤ) → z +ℤ pos 0 ≡ z
 flat z = omega (arith, ints)
 
--- the column of what lies k units ahead of a number is behind it
+-- the column of what lies k units ahead of a number is after it
 up_from : (l f next : ℤ) (k : ℕ) → l ≤ℤ (f +ℤ pos k) → 1 ≤ k → next ≡ (f -ℤ l) +ℤ pos 1 → next ≤ℤ pos (int_gap l (f +ℤ pos k))
 up_from l f next k low least is =
     let value = gap_value l (f +ℤ pos k) low in

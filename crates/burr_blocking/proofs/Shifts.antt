@@ -7,7 +7,7 @@ use Rattle.std.proofs.lemmas.Int.{ints}
 use Rattle.std.proofs.lemmas.Nat.{and_mask, shr-shr, pow_pos}
 use Rattle.std.proofs.lemmas.Nat.Bits.{bit_at_and, bit_at_or, bit_at-zero, bit_at_ones, bit_at-lt, bit_at_cat_low, bit_at_cat_high, bit_at_above, bit_at-pow_same, bit_at-pow_other, same_from_bits}
 use native.Mathlib.Decide.{ℕ_discrete, dec_lt}
-use Rattle.burr_blocking.specs.Bits.{HasBit, HasBitAt, SetsBit, or_shifted, joined_from}
+use Rattle.burr_blocking.specs.Views.Bits.{HasBit, HasBitAt, SetsBit, or_shifted, joined_from}
 
 -- One row
 
@@ -169,9 +169,9 @@ zero_of_clear row none = same_from_bits row 0 (λ k. bit_none (bit_at row k) (bi
 pub shr_bit : (row k i : ℕ) → bit_at (row / 2 ^ k) i ≡ bit_at row (k + i)
 shr_bit row k i = ap (λ x. x % 2) (shr-shr row k i)
 
--- a row has no bit behind its width
+-- a row has no bit after its width
 pub wide_row : (row i : ℕ) → row < 2 ^ 32 → 32 ≤ i → ¬ HasBit row i
-wide_row row i small behind has = let e : ◌≡◌ {A = ℕ} 0 1 = sym (bit_at_above row 32 i small behind) ∙ has in absurd (omega arith)
+wide_row row i small after has = let e : ◌≡◌ {A = ℕ} 0 1 = sym (bit_at_above row 32 i small after) ∙ has in absurd (omega arith)
 
 pub clear_from_shifted : (row m : ℕ) (column : ℤ) (r : Bool) → pos m ≡ column → IsTrue r ↔ ((k : ℕ) → ¬ HasBit (row / 2 ^ m) k) → IsTrue r ↔ ((k : ℕ) → column ≤ℤ pos k → ¬ HasBit row k)
 clear_from_shifted row m column r is told = (

@@ -1,8 +1,8 @@
 ghost use Rattle.std.specs.Prelude.{◌≡◌, ◌≢◌, ◌↔◌, ◌<◌, length, IsTrue};
 ghost use Rattle.burr_voxels.specs.Near.{IsWithin};
-ghost use Rattle.burr_assembly.specs.Text.{Assembly as AssemblyOf};
-ghost use Rattle.burr_assembly.specs.Homes.{homes_of, home_at};
-ghost use Rattle.burr_blocking.specs.Pairs.{IsBlocked, IsFreeFrom, Clears};
+ghost use Rattle.burr_assembly.specs.Rules.Text.{Assembly as AssemblyOf};
+ghost use Rattle.burr_assembly.specs.Rules.Homes.{homes_of, home_at};
+ghost use Rattle.burr_blocking.specs.Rules.Pairs.{IsBlocked, IsFreeFrom, Clears};
 
 use crate::query::Query;
 use burr_assembly::Assembly;

@@ -1,5 +1,5 @@
 ghost use Rattle.std.specs.Prelude.{◌≡◌, ◌<◌, length, IfOk};
-ghost use Rattle.burr_assembly.specs.Homes.{homes_of};
+ghost use Rattle.burr_assembly.specs.Rules.Homes.{homes_of};
 
 mod pair_table;
 mod table_row;
@@ -22,9 +22,9 @@ pub struct CellTables<'a> {
 }
 
 impl<'a> Model for CellTables<'a> {
-    ghost use Rattle.burr_assembly.specs.Text.{Assembly as AssemblyOf};
-    ghost use Rattle.burr_assembly.specs.Homes.{homes_of};
-    ghost use Rattle.burr_blocking.specs.Rows.{AreRows};
+    ghost use Rattle.burr_assembly.specs.Rules.Text.{Assembly as AssemblyOf};
+    ghost use Rattle.burr_assembly.specs.Rules.Homes.{homes_of};
+    ghost use Rattle.burr_blocking.specs.Views.Rows.{AreRows};
 
     ghost Value = { AssemblyOf };
 
@@ -34,7 +34,7 @@ impl<'a> Model for CellTables<'a> {
 }
 
 impl<'a> CellTables<'a> {
-    ghost use Rattle.burr_blocking.specs.Rows.{IsPair};
+    ghost use Rattle.burr_blocking.specs.Views.Rows.{IsPair};
 
     /// The tables of an assembly's pieces.
     pub fn build(alloc: Global, assembly: &'a Assembly) -> Result<CellTables<'a>, AllocError>

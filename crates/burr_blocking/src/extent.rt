@@ -4,8 +4,8 @@ ghost use Rattle.std.specs.List.{All};
 ghost use Rattle.burr_voxels.specs.declared.cell.Cell.{Cell as CellOf};
 ghost use Rattle.burr_voxels.specs.Grid.{minus, plus, along};
 ghost use Rattle.burr_voxels.specs.Near.{IsWithin};
-ghost use Rattle.burr_assembly.specs.Homes.{DiameterAtMost};
-ghost use Rattle.burr_blocking.specs.Corners.{AreCorners, lower_of, upper_of, units_of};
+ghost use Rattle.burr_assembly.specs.Rules.Homes.{DiameterAtMost};
+ghost use Rattle.burr_blocking.specs.Views.Corners.{AreCorners, lower_of, upper_of, units_of};
 
 use burr_voxels::{Cell, Direction};
 
@@ -20,7 +20,7 @@ pub struct Extent {
 }
 
 impl Extent {
-    ghost use Rattle.burr_blocking.specs.Boxes.{IsInBox, IsInRows, wide_of, deep_of, high_of, size_of, row_count_of, place_of, row_of, column_of};
+    ghost use Rattle.burr_blocking.specs.Views.Boxes.{IsInBox, IsInRows, wide_of, deep_of, high_of, size_of, row_count_of, place_of, row_of, column_of};
 
     /// The least box round cells of which no two lie farther than 15 apart, a coordinate; round no
     /// cells, the origin's.
@@ -128,7 +128,7 @@ impl Extent {
         self.deep() * self.high()
     }
 
-    /// Whether a displacement lies in a row of the box, be it before, in or behind the box.
+    /// Whether a displacement lies in a row of the box, be it before, in or after the box.
     pub fn reaches_row(self, displacement: Cell) -> bool
         ensures { IsTrue result ↔ IsInRows self displacement }
     {
@@ -159,7 +159,7 @@ impl Extent {
         (y, z)
     }
 
-    /// How far a displacement of the box lies behind the first one of its row, 0 to 30.
+    /// How far a displacement of the box lies after the first one of its row, 0 to 30.
     pub fn column(self, displacement: Cell) -> u32
         requires from { self.least.x ≤ℤ displacement.x }
         requires to { displacement.x ≤ℤ self.greatest.x }
@@ -169,7 +169,7 @@ impl Extent {
         gap(self.least.x, displacement.x) as u32
     }
 
-    /// How far a displacement lies behind the first one of its row; below 0 where it lies before it.
+    /// How far a displacement lies after the first one of its row; below 0 where it lies before it.
     pub fn signed_column(self, displacement: Cell) -> i32
         requires { IsWithin 512 displacement }
         ensures value { result ≡ displacement.x -ℤ self.least.x }

@@ -1,8 +1,8 @@
 ghost use Rattle.std.specs.Prelude.{◌≡◌, ◌≢◌, ◌↔◌, ◌<◌, ◌^◌, length, IsTrue};
 ghost use Rattle.burr_voxels.specs.Near.{IsWithin};
-ghost use Rattle.burr_assembly.specs.Homes.{homes_of, home_at};
-ghost use Rattle.burr_blocking.specs.Pairs.{IsBlocked, IsFreeFrom, Clears};
-ghost use Rattle.burr_blocking.specs.Counted.{counted, with_more};
+ghost use Rattle.burr_assembly.specs.Rules.Homes.{homes_of, home_at};
+ghost use Rattle.burr_blocking.specs.Rules.Pairs.{IsBlocked, IsFreeFrom, Clears};
+ghost use Rattle.burr_blocking.specs.Rules.Counted.{counted, with_more};
 
 use crate::blocking::Blocking;
 use crate::query::Query;
@@ -19,7 +19,7 @@ pub struct Looks<'a, B: Blocking> {
 }
 
 impl<'a, B: Blocking> Model for Looks<'a, B> {
-    ghost use Rattle.burr_blocking.specs.Counted.{Counted, counted};
+    ghost use Rattle.burr_blocking.specs.Rules.Counted.{Counted, counted};
 
     ghost Value = { Counted };
 

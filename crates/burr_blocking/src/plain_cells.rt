@@ -1,7 +1,7 @@
 ghost use Rattle.std.specs.Prelude.{◌≡◌, ◌<◌, length};
 ghost use Rattle.std.specs.List.{All};
 ghost use Rattle.burr_voxels.specs.Near.{IsWithin};
-ghost use Rattle.burr_assembly.specs.Homes.{homes_of, home_at};
+ghost use Rattle.burr_assembly.specs.Rules.Homes.{homes_of, home_at};
 
 use crate::blocking::Blocking;
 use burr_assembly::Assembly;
@@ -16,7 +16,7 @@ pub struct PlainCells<'a> {
 }
 
 impl<'a> Model for PlainCells<'a> {
-    ghost use Rattle.burr_assembly.specs.Text.{Assembly as AssemblyOf};
+    ghost use Rattle.burr_assembly.specs.Rules.Text.{Assembly as AssemblyOf};
 
     ghost Value = { AssemblyOf };
 

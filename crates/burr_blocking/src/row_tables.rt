@@ -1,5 +1,5 @@
 ghost use Rattle.std.specs.Prelude.{◌≡◌, ◌<◌, length, IfOk};
-ghost use Rattle.burr_assembly.specs.Homes.{homes_of};
+ghost use Rattle.burr_assembly.specs.Rules.Homes.{homes_of};
 
 mod bits;
 mod pair_rows;
@@ -24,9 +24,9 @@ pub struct RowTables<'a> {
 }
 
 impl<'a> Model for RowTables<'a> {
-    ghost use Rattle.burr_assembly.specs.Text.{Assembly as AssemblyOf};
-    ghost use Rattle.burr_assembly.specs.Homes.{homes_of};
-    ghost use Rattle.burr_blocking.specs.PieceRows.{ArePieces};
+    ghost use Rattle.burr_assembly.specs.Rules.Text.{Assembly as AssemblyOf};
+    ghost use Rattle.burr_assembly.specs.Rules.Homes.{homes_of};
+    ghost use Rattle.burr_blocking.specs.Views.PieceRows.{ArePieces};
 
     ghost Value = { AssemblyOf };
 
@@ -36,7 +36,7 @@ impl<'a> Model for RowTables<'a> {
 }
 
 impl<'a> RowTables<'a> {
-    ghost use Rattle.burr_blocking.specs.PieceRows.{IsPairOf};
+    ghost use Rattle.burr_blocking.specs.Views.PieceRows.{IsPairOf};
 
     /// The rows of an assembly's pieces.
     pub fn build(alloc: Global, assembly: &'a Assembly) -> Result<RowTables<'a>, AllocError>

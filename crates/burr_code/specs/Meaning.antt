@@ -49,7 +49,7 @@ abbrev pub NoOperand : {A : Type 0} → (A → Type 0) → (A → List ℕ) → 
 NoOperand {A} IsOne bytes_of bytes =
     (operand : A) (rest : List ℕ) → IsOne operand → bytes ≢ bytes_of operand ++ rest
 
--- the operand with which the bytes begin, and the bytes behind it; or none of its range
+-- the operand with which the bytes begin, and the bytes after it; or none of its range
 abbrev pub IsOperand : {A : Type 0} → (A → Type 0) → (A → List ℕ) → List ℕ
     → Option (A × Bor (List ℕ)) → Type 0
 IsOperand IsOne bytes_of bytes found =

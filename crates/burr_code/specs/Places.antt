@@ -35,7 +35,7 @@ abbrev pub at_position : {A B : Type 0} → (A → B) → Placement A → Placem
 at_position f Apart = Apart
 at_position f (On tray position) = On tray (f position)
 
--- the places of piece p and of the pieces behind it, those of the set changed
+-- the places of piece p and of the pieces after it, those of the set changed
 abbrev pub changed : {Place : Type 0} → (Place → Place) → ℕ → ℕ → List Place → List Place
 changed change set p [] = []
 changed change set p (place ∷ places) =

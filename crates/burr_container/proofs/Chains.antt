@@ -1,23 +1,23 @@
--- Reading one part behind another.
+-- Reading one part after another.
 use Rattle.std.proofs.Common.{◌≡◌, ℕ, suc, ◌+◌, ◌%◌, ◌^◌, ◌<◌, ◌≤◌, Bool, ◌&&◌, IsTrue, nat_lt, nat_le, List, [], ◌∷◌, length, inr, ap, ◌∙◌, subst, arith, length-append, leb-true, lt-ltb}
 use Rattle.std.proofs.lemmas.Bool.{and_parts, and_from}
 use Rattle.burr_container.specs.declared.fault.ContainerFault.{ContainerFault}
 use Rattle.burr_container.specs.declared.fault.ContainerFault.TheVariants.{C4}
 use Rattle.burr_container.specs.declared.reading.cursor.Cursor.{Cursor}
-use Rattle.burr_container.specs.Cuts.{AreBytes, IsCut}
-use Rattle.burr_container.specs.Faults.{Failing, Part, first, number}
-use Rattle.burr_container.specs.Reading.{IsAt}
+use Rattle.burr_container.specs.Views.Cuts.{AreBytes, IsCut}
+use Rattle.burr_container.specs.Rules.Faults.{Failing, Part, first, number}
+use Rattle.burr_container.specs.Views.Reading.{IsAt}
 use Rattle.burr_container.proofs.Common.Lawful.{Front, OfPart, OfFirst}
 use Rattle.burr_container.proofs.Common.Judging.Fronts.{AreSmall}
 
--- the bytes behind a cursor are small
+-- the bytes after a cursor are small
 pub small_of : (bytes : List ℕ) → AreBytes bytes → AreSmall bytes
 small_of [] small = tt
 small_of (b ∷ bytes) small = (small 0, small_of bytes (λ i. small (suc i)))
 
--- a cursor behind another in the same bytes
-abbrev pub IsBehind : Cursor → Cursor → Type 0
-IsBehind cursor next = next.at + length next.rest.now ≡ cursor.at + length cursor.rest.now
+-- a cursor after another in the same bytes
+abbrev pub IsAfter : Cursor → Cursor → Type 0
+IsAfter cursor next = next.at + length next.rest.now ≡ cursor.at + length cursor.rest.now
 
 -- a byte that is so, and one that is not there
 pub byte_at : (wrong : ℕ → ContainerFault) (is_so : ℕ → Bool) (cursor next : Cursor) (n : ℕ)
@@ -51,14 +51,14 @@ count_most most cursor next n here =
     leb-true n most (and_parts (nat_le 0 n) (nat_le n most) both.1).1
 
 module _ {A : Type 0} (part : Part A) (cursor next : Cursor) (a : A) where
-  pub behind_part : IsAt part cursor a next → IsBehind cursor next
-  behind_part here =
+  pub after_part : IsAt part cursor a next → IsAfter cursor next
+  after_part here =
       let size : length cursor.rest.now ≡ length (part.bytes a) + length next.rest.now =
       ap (λ (all : List ℕ). length all) here.cut.parts
       ∙ length-append (part.bytes a) next.rest.now in
       omega (arith, size, here.cut.moved)
 
-  pub stands_at : OfPart part a cursor.rest.now next.rest.now → IsBehind cursor next
+  pub stands_at : OfPart part a cursor.rest.now next.rest.now → IsAfter cursor next
       → IsAt part cursor a next
   stands_at here same =
       let size : length cursor.rest.now ≡ length (part.bytes a) + length next.rest.now =

@@ -6,12 +6,12 @@ use Rattle.burr_code.specs.declared.limits.TheConstants.{MOST_PROCEDURES}
 use Rattle.burr_container.specs.declared.fault.ContainerFault.TheVariants.{C4, C6}
 use Rattle.burr_container.specs.declared.reading.cursor.Cursor.{Cursor}
 use Rattle.burr_container.specs.declared.header.Header.{Header}
-use Rattle.burr_container.specs.Plans.{PlanProcedure, Plan}
-use Rattle.burr_container.specs.Spelling.{procedure_bytes, counted_bytes, front_bytes, plan_bytes}
-use Rattle.burr_container.specs.Fitting.{is_version, is_budget, is_piece_count, is_name_text, is_procedure, are_procedures, is_fitting}
-use Rattle.burr_container.specs.Faults.{others, procedures, ProceduresFail}
-use Rattle.burr_container.specs.Reading.{IsAt}
-use Rattle.burr_container.specs.InPlace.{IsHeaderAt}
+use Rattle.burr_container.specs.Rules.Plans.{PlanProcedure, Plan}
+use Rattle.burr_container.specs.Rules.Spelling.{procedure_bytes, counted_bytes, front_bytes, plan_bytes}
+use Rattle.burr_container.specs.Rules.Fitting.{is_version, is_budget, is_piece_count, is_name_text, is_procedure, are_procedures, is_fitting}
+use Rattle.burr_container.specs.Rules.Faults.{others, procedures, ProceduresFail}
+use Rattle.burr_container.specs.Views.Reading.{IsAt}
+use Rattle.burr_container.specs.Views.InPlace.{IsHeaderAt}
 use Rattle.burr_container.proofs.Common.Fields.{of_byte}
 use Rattle.burr_container.proofs.Common.Containers.{is_procedure_count}
 
@@ -19,7 +19,7 @@ pub none_left : (bytes : List ℕ) → length bytes ≡ 0 → bytes ≡ []
 none_left [] none = refl
 none_left (b ∷ bytes) none = absurd (omega (arith, none))
 
--- bytes behind the last procedure
+-- bytes after the last procedure
 pub followed : (version pieces : ℕ) (cursor next : Cursor) (ps : List PlanProcedure)
     → IsAt (procedures version pieces) cursor ps next → next.rest.now ≢ []
     → ProceduresFail version pieces cursor.at cursor.rest.now (C6 next.at)
@@ -33,15 +33,15 @@ followed version pieces cursor next (main ∷ ps) here more =
     let b = and_parts (is_procedure version pieces true main) all a.0 in
     let few = leb-true (suc (length ps)) 16 a.1 in
     let count = suc (length ps) in
-    let behind_main = flat_map (procedure_bytes version) ps ++ next.rest.now in
-    let behind_count = procedure_bytes version main ++ behind_main in
-    let parts : cursor.rest.now ≡ count ∷ behind_count =
+    let after_main = flat_map (procedure_bytes version) ps ++ next.rest.now in
+    let after_count = procedure_bytes version main ++ after_main in
+    let parts : cursor.rest.now ≡ count ∷ after_count =
     here.cut.parts
     ∙ ap (λ (rest : List ℕ). count ∷ rest)
     (append_assoc (procedure_bytes version main) (flat_map (procedure_bytes version) ps)
     next.rest.now) in
     let counted =
-    of_byte C4 is_procedure_count count cursor.rest.now behind_count (omega (arith, few))
+    of_byte C4 is_procedure_count count cursor.rest.now after_count (omega (arith, few))
     (and_from (nat_le 1 count) (nat_le count MOST_PROCEDURES) (le-leb 1 count (omega arith)) a.1)
     parts in
     let others_fit : IsTrue ((others version pieces (length ps)).fits ps) =
@@ -53,12 +53,12 @@ followed version pieces cursor next (main ∷ ps) here more =
     omega (arith, here.cut.moved, size) in
     inr (
       count,
-      behind_count,
+      after_count,
       counted.0,
       counted.1,
       inr (
         main,
-        behind_main,
+        after_main,
         b.0,
         refl,
         inr (
@@ -81,7 +81,7 @@ plan_with h ps = record {
   procedures = ps;
 }
 
--- a header, procedures and nothing behind them are a plan's bytes
+-- a header, procedures and nothing after them are a plan's bytes
 pub plan_at : (h : Header) (begin middle end : Cursor) (ps : List PlanProcedure)
     → IsHeaderAt begin h middle → IsAt (procedures h.version h.pieces) middle ps end
     → end.rest.now ≡ []

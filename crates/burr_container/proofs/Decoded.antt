@@ -9,13 +9,13 @@ use Rattle.byteorder.specs.Numbers.{big_number-reads_back}
 use Rattle.burr_text.proofs.Common.Decisions.{Decided, decide_at_most}
 use Rattle.burr_code.specs.Instruction.{signed_word}
 use Rattle.burr_code.specs.Places.{Placement, Apart, On}
-use Rattle.burr_forms.specs.Forms.{Form}
+use Rattle.burr_forms.specs.Rules.Forms.{Form}
 use Rattle.burr_container.specs.declared.fault.ContainerFault.TheVariants.{C1}
-use Rattle.burr_container.specs.Plans.{FormCell, of_live}
-use Rattle.burr_container.specs.Spelling.{form_size, form_bytes, place_bytes}
-use Rattle.burr_container.specs.Fitting.{are_coefficients, is_form, is_place}
-use Rattle.burr_container.specs.Faults.{form, each}
-use Rattle.burr_container.specs.Decoding.{signed_in, coefs_in, form_in, forms_in, place_by, place_in, rest_by, place_rest, places_in}
+use Rattle.burr_container.specs.Rules.Plans.{FormCell, of_live}
+use Rattle.burr_container.specs.Rules.Spelling.{form_size, form_bytes, place_bytes}
+use Rattle.burr_container.specs.Rules.Fitting.{are_coefficients, is_form, is_place}
+use Rattle.burr_container.specs.Rules.Faults.{form, each}
+use Rattle.burr_container.specs.Views.Decoding.{signed_in, coefs_in, form_in, forms_in, place_by, place_in, rest_by, place_rest, places_in}
 use Rattle.burr_container.proofs.Common.Spelled.{is_word, is_long, long_bytes, between, word_small, word_back, long_small, long_back}
 use Rattle.burr_container.proofs.Common.FormSpelling.{zero_only, tray_small, on_parts}
 use Rattle.burr_container.proofs.Common.Places.{form_length}
@@ -23,7 +23,7 @@ use Rattle.burr_container.proofs.Common.Lists.{OfEach}
 use Rattle.burr_container.proofs.Common.Judging.Fronts.{AreSmall, small_parts}
 use Rattle.burr_container.proofs.Common.Judging.Places.{form_read}
 use Rattle.burr_container.proofs.Common.Judging.Lists.{one_more_fails}
-use Rattle.burr_container.proofs.PlaceWalk.{behind}
+use Rattle.burr_container.proofs.PlaceWalk.{after}
 
 word_decoded : (n : ℤ) (r : List ℕ) → IsTrue (is_word n) → signed_in (signed_word n ++ r) ≡ n
 word_decoded n r fits =
@@ -66,10 +66,10 @@ form_decoded live f r fits =
     let coefs = coefs_decoded live f.coefs r both.1 in
     λ i. record { constant = constant i; coefs = coefs i }
 
--- what is behind a form
-pub behind_form : (live : List Bool) (f : Form) (r : List ℕ) → IsTrue (is_form live f)
+-- what is after a form
+pub after_form : (live : List Bool) (f : Form) (r : List ℕ) → IsTrue (is_form live f)
     → drop (form_size live) (form_bytes live f ++ r) ≡ r
-behind_form live f r fits =
+after_form live f r fits =
     ap (λ (n : ℕ). drop n (form_bytes live f ++ r)) (sym (form_length live f fits))
     ∙ drop-append_seam (form_bytes live f) r
 
@@ -85,7 +85,7 @@ forms_decoded live (f ∷ fs) r fits =
     let first = ap (form_in live) apart ∙ form_decoded live f rest both.0 in
     let more =
     ap (λ (b : List ℕ). forms_in live (length fs) (drop (form_size live) b)) apart
-    ∙ ap (forms_in live (length fs)) (behind_form live f rest both.0)
+    ∙ ap (forms_in live (length fs)) (after_form live f rest both.0)
     ∙ forms_decoded live fs r both.1 in
     λ i. first i ∷ more i
 
@@ -105,26 +105,26 @@ on_decoded : (apart : Bool) (live : List Bool) (tray : ℕ) (at : FormCell) (r b
 on_decoded true live tray at r bytes e x y z is = absurd (cc)
 on_decoded false live tray at r bytes e x y z is =
     let size = form_size live in
-    let behind_y = form_bytes live at.z ++ r in
-    let behind_x = form_bytes live at.y ++ behind_y in
-    let to_y : drop size bytes ≡ behind_x =
-    ap (drop size) is ∙ behind_form live at.x behind_x x in
-    let to_z : drop size (drop size bytes) ≡ behind_y =
-    ap (drop size) to_y ∙ behind_form live at.y behind_y y in
+    let after_y = form_bytes live at.z ++ r in
+    let after_x = form_bytes live at.y ++ after_y in
+    let to_y : drop size bytes ≡ after_x =
+    ap (drop size) is ∙ after_form live at.x after_x x in
+    let to_z : drop size (drop size bytes) ≡ after_y =
+    ap (drop size) to_y ∙ after_form live at.y after_y y in
     let to_end : drop size (drop size (drop size bytes)) ≡ r =
-    ap (drop size) to_z ∙ behind_form live at.z r z in
-    let first = ap (form_in live) is ∙ form_decoded live at.x behind_x x in
-    let second = ap (form_in live) to_y ∙ form_decoded live at.y behind_y y in
+    ap (drop size) to_z ∙ after_form live at.z r z in
+    let first = ap (form_in live) is ∙ form_decoded live at.x after_x x in
+    let second = ap (form_in live) to_y ∙ form_decoded live at.y after_y y in
     let third = ap (form_in live) to_z ∙ form_decoded live at.z r z in
-    let twice : drop (size + size) bytes ≡ drop size (drop size bytes) = behind size size bytes in
+    let twice : drop (size + size) bytes ≡ drop size (drop size bytes) = after size size bytes in
     let thrice : drop (size + size + size) bytes ≡ drop size (drop size (drop size bytes)) =
-    behind (size + size) size bytes ∙ ap (drop size) twice in
+    after (size + size) size bytes ∙ ap (drop size) twice in
     let all : 3 * size ≡ size + size + size = omega arith in (
       λ i. On tray (record { x = first i; y = second i; z = third i }),
       ap (λ (n : ℕ). drop n bytes) all ∙ thrice ∙ to_end,
     )
 
--- a place is told by its first byte and what is behind that
+-- a place is told by its first byte and what is after that
 pub place_decoded : (live : List Bool) (p : Placement FormCell) (r : List ℕ)
     → IsTrue (is_place live p)
     → (first : ℕ) × (body : List ℕ) × (place_bytes live p ++ r ≡ first ∷ body)
@@ -191,7 +191,7 @@ forms_there live (suc count) bytes size small =
     let first : form_in live bytes ≡ here.0 =
     ap (form_in live) here.3 ∙ form_decoded live here.0 here.1 here.2 in
     let next : drop (form_size live) bytes ≡ here.1 =
-    ap (drop (form_size live)) here.3 ∙ behind_form live here.0 here.1 here.2 in
+    ap (drop (form_size live)) here.3 ∙ after_form live here.0 here.1 here.2 in
     let others = ap (forms_in live count) next in
     let made : OfEach (suc count) (form live) (here.0 ∷ forms_in live count here.1) bytes [] = (
       omega (arith, more.0),

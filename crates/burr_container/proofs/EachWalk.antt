@@ -2,11 +2,11 @@
 use Rattle.std.proofs.Common.{◌≡◌, ℕ, suc, ◌+◌, ◌-◌, ◌<◌, ◌≤◌, List, [], ◌∷◌, inl, refl, ◌∙◌, subst, arith}
 use Rattle.burr_container.specs.declared.fault.ContainerFault.{ContainerFault}
 use Rattle.burr_container.specs.declared.reading.cursor.Cursor.{Cursor}
-use Rattle.burr_container.specs.Faults.{Part, each}
-use Rattle.burr_container.specs.Reading.{IsAt}
+use Rattle.burr_container.specs.Rules.Faults.{Part, each}
+use Rattle.burr_container.specs.Views.Reading.{IsAt}
 use Rattle.burr_container.proofs.Common.Lists.{OfEach}
 use Rattle.burr_container.proofs.Common.Judging.Lists.{one_more, one_more_fails}
-use Rattle.burr_container.proofs.Chains.{IsBehind, small_of, behind_part, then_fails, then_stands}
+use Rattle.burr_container.proofs.Chains.{IsAfter, small_of, after_part, then_fails, then_stands}
 
 -- the first i of n stand there, and the others are to be read
 pub record IsEachWalk {A : Type 0} (part : Part A) (n : ℕ) (begin : Cursor) (i : ℕ)
@@ -15,7 +15,7 @@ pub record IsEachWalk {A : Type 0} (part : Part A) (n : ℕ) (begin : Cursor) (i
       → each n part begin.at begin.rest.now fault
   pub stands : (more : List A) (r : List ℕ) → OfEach (n - i) part more cursor.rest.now r
       → (whole : List A) × OfEach n part whole begin.rest.now r
-  pub behind : IsBehind begin cursor
+  pub after : IsAfter begin cursor
 
 module _ {A : Type 0} (part : Part A) (n : ℕ) (begin : Cursor) where
   pub each_begins : IsEachWalk part n begin 0 begin
@@ -26,7 +26,7 @@ module _ {A : Type 0} (part : Part A) (n : ℕ) (begin : Cursor) where
             subst (λ (k : ℕ). each k part begin.at begin.rest.now fault) all fails;
         stands = λ more r here.
             (more, subst (λ (k : ℕ). OfEach k part more begin.rest.now r) all here);
-        behind = refl;
+        after = refl;
       }
 
   pub each_goes_on : (i : ℕ) (cursor next : Cursor) (a : A) → i < n
@@ -45,7 +45,7 @@ module _ {A : Type 0} (part : Part A) (n : ℕ) (begin : Cursor) where
             (one_more part left (a, more) cursor.rest.now r
             (small_of cursor.rest.now cursor.bytes)
             (then_stands part cursor next a (λ _. OfEach left part) more r here stand)));
-        behind = behind_part part cursor next a here ∙ walk.behind;
+        after = after_part part cursor next a here ∙ walk.after;
       }
 
   -- the next one fails

@@ -4,10 +4,10 @@ use Rattle.std.specs.List.{list_all}
 use Rattle.std.proofs.lemmas.Bool.{and_parts}
 use Rattle.burr_code.specs.declared.limits.TheConstants.{MOST_PROCEDURES, MOST_PARAMETERS}
 use Rattle.burr_container.specs.declared.procedure_ref.ProcedureRef.{ProcedureRef}
-use Rattle.burr_container.specs.Plans.{PlanProcedure}
-use Rattle.burr_container.specs.Fitting.{is_procedure, are_procedures, are_parameters, are_results}
-use Rattle.burr_container.specs.InPlace.{AreFor, IsProcedure}
-use Rattle.burr_container.specs.Containers.{KeptContainer, HasPlan}
+use Rattle.burr_container.specs.Rules.Plans.{PlanProcedure}
+use Rattle.burr_container.specs.Rules.Fitting.{is_procedure, are_procedures, are_parameters, are_results}
+use Rattle.burr_container.specs.Views.InPlace.{AreFor, IsProcedure}
+use Rattle.burr_container.specs.Views.Containers.{ContainerView, HasPlan}
 use Rattle.burr_container.proofs.Common.Procedures.{procedure_fits}
 use Rattle.burr_container.proofs.Common.Containers.{plan_fits}
 
@@ -68,7 +68,7 @@ kept_few pieces (x ∷ kept) (q ∷ qs) zero d are few l = record {
 kept_few pieces (x ∷ kept) (q ∷ qs) (suc i) d are few l = kept_few pieces kept qs i d are.1 few.1 (omega (arith, l))
 
 -- those of a procedure of a container
-pub few_counts : (kept : KeptContainer) (i : ℕ) (d : ProcedureRef) → HasPlan kept → i < length kept.procedures
+pub few_counts : (kept : ContainerView) (i : ℕ) (d : ProcedureRef) → HasPlan kept → i < length kept.procedures
     → IsFew (slice_index_or kept.procedures i d).parameters (slice_index_or kept.procedures i d).results
 few_counts kept i d (p, fits, is) l =
     kept_few p.pieces kept.procedures p.procedures i d is.procedures

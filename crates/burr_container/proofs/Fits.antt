@@ -1,10 +1,10 @@
 -- Tests of coefficients, one slot after the other; places that are all apart.
 use Rattle.std.proofs.Common.{◌≡◌, ℕ, zero, suc, ◌+◌, ◌<◌, ◌≤◌, List, [], ◌∷◌, length, drop, get_or, refl, sym, ap, ◌∙◌, arith}
 use Rattle.std.specs.Prelude.{slice_index, nat_lt, Bool, true, false, ◌&&◌, ℤ, pos, IsTrue, replicate}
-use Rattle.burr_container.specs.Fitting.{is_coefficient, are_coefficients}
+use Rattle.burr_container.specs.Rules.Fitting.{is_coefficient, are_coefficients}
 use Rattle.std.specs.List.{list_all}
 use Rattle.burr_container.proofs.Written.{both_tests, below}
-use Rattle.burr_container.specs.Decoding.{places_stand}
+use Rattle.burr_container.specs.Views.Decoding.{places_stand}
 
 pub next_test : (v : ℕ) (live : List Bool) (coefs : List ℤ) → v < length live → v < length coefs
     → are_coefficients (drop v live) (drop v coefs) ≡ (is_coefficient (get_or live v false) (get_or coefs v (pos 0)) && are_coefficients (drop (v + 1) live) (drop (v + 1) coefs))

@@ -4,10 +4,10 @@ use Rattle.std.specs.Prelude.{Bool, true, false, count_by, cond, ℤ, pos, repli
 use Rattle.std.proofs.lemmas.List.Recursion.{is_count_by}
 use Rattle.std.proofs.lemmas.Grind.{common_steps}
 use Rattle.std.proofs.Math.ListN.{set}
-use Rattle.burr_forms.specs.Forms.{Form}
-use Rattle.burr_container.specs.Plans.{Range, of_live, padded, over_symbols}
-use Rattle.burr_container.specs.Spelling.{form_size}
-use Rattle.burr_container.specs.Decoding.{signed_in, words_in, live_count, coefs_in, form_in}
+use Rattle.burr_forms.specs.Rules.Forms.{Form}
+use Rattle.burr_container.specs.Rules.Plans.{Range, of_live, padded, over_symbols}
+use Rattle.burr_container.specs.Rules.Spelling.{form_size}
+use Rattle.burr_container.specs.Views.Decoding.{signed_in, words_in, live_count, coefs_in, form_in}
 
 abbrev pub form_with : ℤ → List ℤ → Form
 form_with constant coefs = record { constant = constant; coefs = coefs }
@@ -40,8 +40,8 @@ pub eight : (xs : List (Option Range)) → length xs ≡ 8
 eight (a ∷ b ∷ c ∷ d ∷ e ∷ f ∷ g ∷ h ∷ []) long = refl
 eight xs long = absurd (omega arith)
 
-behind_two : (k : ℕ) (bytes : List ℕ) → drop (k + 2) bytes ≡ drop k (drop 2 bytes)
-behind_two k bytes = grind (arith, common_steps)
+after_two : (k : ℕ) (bytes : List ℕ) → drop (k + 2) bytes ≡ drop k (drop 2 bytes)
+after_two k bytes = grind (arith, common_steps)
 
 -- the next number is put in place of a zero
 pub put_word : (n m : ℕ) (bytes : List ℕ) (z : ℤ) → z ≡ signed_in (drop (2 * n) bytes)
@@ -49,18 +49,18 @@ pub put_word : (n m : ℕ) (bytes : List ℕ) (z : ℤ) → z ≡ signed_in (dro
 put_word zero m bytes z is = ap (λ (x : ℤ). x ∷ replicate m (pos 0)) is
 put_word (suc n) m bytes z is =
     let same : 2 * suc n ≡ 2 * n + 2 = omega arith in
-    let here : z ≡ signed_in (drop (2 * n) (drop 2 bytes)) = is ∙ ap (λ (k : ℕ). signed_in (drop k bytes)) same ∙ ap signed_in (behind_two (2 * n) bytes) in
+    let here : z ≡ signed_in (drop (2 * n) (drop 2 bytes)) = is ∙ ap (λ (k : ℕ). signed_in (drop k bytes)) same ∙ ap signed_in (after_two (2 * n) bytes) in
     ap (λ (zs : List ℤ). signed_in bytes ∷ zs) (put_word n m (drop 2 bytes) z here)
 
-behind_four : (k : ℕ) (bytes : List ℕ) → drop (4 + k) bytes ≡ drop k (drop 4 bytes)
-behind_four k bytes = grind (arith, common_steps)
+after_four : (k : ℕ) (bytes : List ℕ) → drop (4 + k) bytes ≡ drop k (drop 4 bytes)
+after_four k bytes = grind (arith, common_steps)
 
 pub put_next : (n : ℕ) (coefs : List ℤ) (all : List ℕ) (z : ℤ) → n < 8
     → coefs ≡ words_in n (drop 4 all) ++ replicate (8 - n) (pos 0) → z ≡ signed_in (drop (4 + 2 * n) all)
     → set coefs n z ≡ words_in (n + 1) (drop 4 all) ++ replicate (8 - (n + 1)) (pos 0)
 put_next n coefs all z small before there =
     let bytes = drop 4 all in
-    let is : z ≡ signed_in (drop (2 * n) bytes) = there ∙ ap signed_in (behind_four (2 * n) all) in
+    let is : z ≡ signed_in (drop (2 * n) bytes) = there ∙ ap signed_in (after_four (2 * n) all) in
     let left : 8 - n ≡ suc (8 - (n + 1)) = omega arith in
     let next : suc n ≡ n + 1 = omega arith in
     ap (λ (cs : List ℤ). set cs n z) (before ∙ ap (λ (k : ℕ). words_in n bytes ++ replicate k (pos 0)) left)
@@ -71,10 +71,10 @@ pub form_read : (live : List Bool) (bytes : List ℕ) (constant : ℤ) (n : ℕ)
     → constant ≡ (form_in live bytes).constant → n ≡ live_count live
     → coefs ≡ words_in n (drop 4 bytes) ++ replicate (8 - n) (pos 0)
     → form_with constant coefs ≡ over_symbols live (form_in live bytes)
-form_read live bytes constant n coefs first all behind =
+form_read live bytes constant n coefs first all after =
     let numbers : words_in n (drop 4 bytes) ≡ of_live live (coefs_in live (drop 4 bytes)) = ap (λ (k : ℕ). words_in k (drop 4 bytes)) all ∙ sym (live_coefs live (drop 4 bytes)) in
     let long : n ≡ length (of_live live (coefs_in live (drop 4 bytes))) = sym (length_words n (drop 4 bytes)) ∙ ap length numbers in
     let same : coefs ≡ padded (of_live live (coefs_in live (drop 4 bytes))) =
-    behind ∙ ap (λ (k : ℕ). words_in n (drop 4 bytes) ++ replicate (8 - k) (pos 0)) long
+    after ∙ ap (λ (k : ℕ). words_in n (drop 4 bytes) ++ replicate (8 - k) (pos 0)) long
     ∙ ap (λ (zs : List ℤ). zs ++ replicate (8 - length (of_live live (coefs_in live (drop 4 bytes)))) (pos 0)) numbers in
     ap (λ (c : ℤ). form_with c coefs) first ∙ ap (λ (cs : List ℤ). form_with ((form_in live bytes).constant) cs) same

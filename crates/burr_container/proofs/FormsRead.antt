@@ -3,22 +3,22 @@ use Rattle.std.proofs.Common.{◌≡◌, ℕ, ◌+◌, ◌*◌, ◌==◌, Bool, 
 use Rattle.std.specs.Prelude.{nat_le}
 use Rattle.std.proofs.lemmas.Bool.{and_parts}
 use Rattle.burr_code.specs.Places.{Placement}
-use Rattle.burr_forms.specs.Forms.{Form}
+use Rattle.burr_forms.specs.Rules.Forms.{Form}
 use Rattle.burr_container.specs.declared.fault.ContainerFault.{ContainerFault}
 use Rattle.burr_container.specs.declared.fault.ContainerFault.TheVariants.{C4}
 use Rattle.burr_container.specs.declared.reading.cursor.Cursor.{Cursor}
-use Rattle.burr_container.specs.Cuts.{AreBytes, IsCut, IsShort}
-use Rattle.burr_container.specs.Plans.{FormCell}
-use Rattle.burr_container.specs.Spelling.{form_size, form_bytes, place_bytes}
-use Rattle.burr_container.specs.Fitting.{is_form}
-use Rattle.burr_container.specs.Faults.{number, form, forms, place, places, passes, by_test, each}
-use Rattle.burr_container.specs.Decoding.{form_in, forms_in, places_in}
-use Rattle.burr_container.specs.Reading.{IsAt}
+use Rattle.burr_container.specs.Views.Cuts.{AreBytes, IsCut, IsShort}
+use Rattle.burr_container.specs.Rules.Plans.{FormCell}
+use Rattle.burr_container.specs.Rules.Spelling.{form_size, form_bytes, place_bytes}
+use Rattle.burr_container.specs.Rules.Fitting.{is_form}
+use Rattle.burr_container.specs.Rules.Faults.{number, form, forms, place, places, passes, by_test, each}
+use Rattle.burr_container.specs.Views.Decoding.{form_in, forms_in, places_in}
+use Rattle.burr_container.specs.Views.Reading.{IsAt}
 use Rattle.burr_container.proofs.Common.Lists.{OfEach}
 use Rattle.burr_container.proofs.Common.Places.{OfPlaceRest, is_place_head, place_of}
 use Rattle.burr_container.proofs.Common.Judging.Places.{forms_back, place_back}
 use Rattle.burr_container.proofs.Common.Judging.Frames.{places_back}
-use Rattle.burr_container.proofs.Chains.{IsBehind, small_of, behind_part, stands_at, then_fails, then_stands}
+use Rattle.burr_container.proofs.Chains.{IsAfter, small_of, after_part, stands_at, then_fails, then_stands}
 use Rattle.burr_container.proofs.Decoded.{forms_there, forms_short, places_decoded}
 
 -- the bytes of so many forms are cut off
@@ -35,9 +35,9 @@ forms_cut live count cursor next bytes size small cut =
           (there.2 ∙ append-nil (flat_map (form_bytes live) (forms_in live count bytes))),
     )
 
-pub cut_behind : (cursor next : Cursor) (bytes : List ℕ)
-    → IsCut cursor.at cursor.rest.now bytes next.at next.rest.now → IsBehind cursor next
-cut_behind cursor next bytes cut =
+pub cut_after : (cursor next : Cursor) (bytes : List ℕ)
+    → IsCut cursor.at cursor.rest.now bytes next.at next.rest.now → IsAfter cursor next
+cut_after cursor next bytes cut =
     let size : length cursor.rest.now ≡ length bytes + length next.rest.now =
     ap (λ (all : List ℕ). length all) cut.parts ∙ length-append bytes next.rest.now in
     omega (arith, size, cut.moved)
@@ -65,24 +65,24 @@ form_at live cursor next bytes size small cut =
       there.2
           ∙ ap (λ (front : List ℕ). front ++ next.rest.now)
           (append-nil (form_bytes live (form_in live bytes))),
-    ) (cut_behind cursor next bytes cut)
+    ) (cut_after cursor next bytes cut)
 
--- forms behind their count
-pub forms_at : (most : ℕ) (live : List Bool) (cursor next behind : Cursor) (count : ℕ)
+-- forms after their count
+pub forms_at : (most : ℕ) (live : List Bool) (cursor next after : Cursor) (count : ℕ)
     (bytes : List ℕ) → IsAt (number 1 C4 (λ n. nat_le n most)) cursor count next
     → length bytes ≡ count * form_size live → AreBytes bytes
-    → IsCut next.at next.rest.now bytes behind.at behind.rest.now
-    → IsAt (forms most live) cursor (forms_in live count bytes) behind
-forms_at most live cursor next behind count bytes head size small cut =
+    → IsCut next.at next.rest.now bytes after.at after.rest.now
+    → IsAt (forms most live) cursor (forms_in live count bytes) after
+forms_at most live cursor next after count bytes head size small cut =
     let counted = number 1 C4 (λ n. nat_le n most) in
     let fs = forms_in live count bytes in
-    let there = forms_cut live count next behind bytes size small cut in
-    stands_at (forms most live) cursor behind fs
-    (forms_back most live (count, fs) cursor.rest.now behind.rest.now
+    let there = forms_cut live count next after bytes size small cut in
+    stands_at (forms most live) cursor after fs
+    (forms_back most live (count, fs) cursor.rest.now after.rest.now
     (small_of cursor.rest.now cursor.bytes)
     (then_stands counted cursor next count (λ count. OfEach count (form live)) fs
-    behind.rest.now head there))
-    (cut_behind next behind bytes cut ∙ behind_part counted cursor next count head)
+    after.rest.now head there))
+    (cut_after next after bytes cut ∙ after_part counted cursor next count head)
 
 pub forms_fail : (most : ℕ) (live : List Bool) (cursor next : Cursor) (count : ℕ)
     (fault : ContainerFault) → IsAt (number 1 C4 (λ n. nat_le n most)) cursor count next
@@ -99,24 +99,24 @@ rest_of_forms : (apart : Bool) (live : List Bool) (fs : List Form) (bytes r : Li
 rest_of_forms true live fs bytes r e here = absurd (cc)
 rest_of_forms false live fs bytes r e here = here
 
-pub place_at : (live : List Bool) (cursor next behind : Cursor) (tray : ℕ) (bytes : List ℕ)
+pub place_at : (live : List Bool) (cursor next after : Cursor) (tray : ℕ) (bytes : List ℕ)
     → IsAt (number 1 C4 is_place_head) cursor tray next → (tray == 255) ≡ false
     → length bytes ≡ 3 * form_size live → AreBytes bytes
-    → IsCut next.at next.rest.now bytes behind.at behind.rest.now
-    → (p : Placement FormCell) × IsAt (place live) cursor p behind
-place_at live cursor next behind tray bytes head on size small cut =
+    → IsCut next.at next.rest.now bytes after.at after.rest.now
+    → (p : Placement FormCell) × IsAt (place live) cursor p after
+place_at live cursor next after tray bytes head on size small cut =
     let fs = forms_in live 3 bytes in
-    let there = forms_cut live 3 next behind bytes size small cut in
+    let there = forms_cut live 3 next after bytes size small cut in
     let body =
-    rest_of_forms (tray == 255) live fs next.rest.now behind.rest.now on there in (
+    rest_of_forms (tray == 255) live fs next.rest.now after.rest.now on there in (
       place_of (tray, fs),
-      stands_at (place live) cursor behind (place_of (tray, fs))
-          (place_back live (tray, fs) cursor.rest.now behind.rest.now
+      stands_at (place live) cursor after (place_of (tray, fs))
+          (place_back live (tray, fs) cursor.rest.now after.rest.now
           (small_of cursor.rest.now cursor.bytes)
           (then_stands (number 1 C4 is_place_head) cursor next tray
-          (λ tray. OfPlaceRest (tray == 255) live) fs behind.rest.now head body))
-          (cut_behind next behind bytes cut
-          ∙ behind_part (number 1 C4 is_place_head) cursor next tray head),
+          (λ tray. OfPlaceRest (tray == 255) live) fs after.rest.now head body))
+          (cut_after next after bytes cut
+          ∙ after_part (number 1 C4 is_place_head) cursor next tray head),
     )
 
 fail_of_forms : (apart : Bool) (live : List Bool) (at : ℕ) (bytes : List ℕ)
@@ -135,12 +135,12 @@ place_fails live cursor next tray fault head on short =
     (fail_of_forms (tray == 255) live next.at next.rest.now fault on
     (forms_cut_short live 3 next fault short))
 
--- places that stand one behind the other are those that are decoded
+-- places that stand one after the other are those that are decoded
 pub places_at : (pieces : ℕ) (live : List Bool) (cursor next : Cursor)
     (ps : List (Placement FormCell)) → OfEach pieces (place live) ps cursor.rest.now next.rest.now
-    → IsBehind cursor next
+    → IsAfter cursor next
     → IsAt (places pieces live) cursor (places_in live pieces cursor.rest.now) next
-places_at pieces live cursor next ps here behind =
+places_at pieces live cursor next ps here after =
     let decoded : places_in live pieces cursor.rest.now ≡ ps =
     ap (places_in live pieces) here.2
     ∙ ap (λ (n : ℕ). places_in live n (flat_map (place_bytes live) ps ++ next.rest.now))
@@ -149,4 +149,4 @@ places_at pieces live cursor next ps here behind =
     subst (λ (p : List (Placement FormCell)). IsAt (places pieces live) cursor p next)
     (sym decoded)
     (stands_at (places pieces live) cursor next ps
-    (places_back pieces live ps cursor.rest.now next.rest.now here, here.2) behind)
+    (places_back pieces live ps cursor.rest.now next.rest.now here, here.2) after)

@@ -7,13 +7,13 @@ use Rattle.burr_container.specs.declared.fault.ContainerFault.{ContainerFault}
 use Rattle.burr_container.specs.declared.fault.ContainerFault.TheVariants.{C2, C3, C4}
 use Rattle.burr_container.specs.declared.reading.cursor.Cursor.{Cursor}
 use Rattle.burr_container.specs.declared.header.Header.{Header}
-use Rattle.burr_container.specs.Spelling.{front_bytes}
-use Rattle.burr_container.specs.Fitting.{is_version, is_budget, is_piece_count}
-use Rattle.burr_container.specs.Faults.{Failing, number, raw, first, name, is_magic, ProceduresFail, ContainerFails}
-use Rattle.burr_container.specs.Reading.{IsAt}
-use Rattle.burr_container.specs.InPlace.{IsHeaderAt}
+use Rattle.burr_container.specs.Rules.Spelling.{front_bytes}
+use Rattle.burr_container.specs.Rules.Fitting.{is_version, is_budget, is_piece_count}
+use Rattle.burr_container.specs.Rules.Faults.{Failing, number, raw, first, name, is_magic, ProceduresFail, ContainerFails}
+use Rattle.burr_container.specs.Views.Reading.{IsAt}
+use Rattle.burr_container.specs.Views.InPlace.{IsHeaderAt}
 use Rattle.burr_container.proofs.Common.Fields.{byte_back, number_so}
-use Rattle.burr_container.proofs.Chains.{IsBehind, behind_part, stands, then_fails}
+use Rattle.burr_container.proofs.Chains.{IsAfter, after_part, stands, then_fails}
 
 -- what follows each part of the header
 
@@ -72,23 +72,23 @@ module _ (c0 c1 c2 c3 : Cursor) (magic : List ℕ) (version budget : ℕ)
             let piece =
             byte_back C4 is_piece_count pieces c3.rest.now c4.rest.now
             (stands (number 1 C4 is_piece_count) c3 c4 pieces pieces_at) in
-            let behind_budget = piece.1 ∙ ap (λ (r : List ℕ). pieces ∷ r) name_at.cut.parts in
-            let behind_version =
-            budget_at.cut.parts ∙ ap (λ (r : List ℕ). big_bytes 4 budget ++ r) behind_budget in
-            let behind_magic =
-            version_at.cut.parts ∙ ap (λ (r : List ℕ). big_bytes 2 version ++ r) behind_version in
+            let after_budget = piece.1 ∙ ap (λ (r : List ℕ). pieces ∷ r) name_at.cut.parts in
+            let after_version =
+            budget_at.cut.parts ∙ ap (λ (r : List ℕ). big_bytes 4 budget ++ r) after_budget in
+            let after_magic =
+            version_at.cut.parts ∙ ap (λ (r : List ℕ). big_bytes 2 version ++ r) after_version in
             magic_at.cut.parts ∙ ap (λ (front : List ℕ). front ++ c1.rest.now) text_there
-            ∙ ap (λ (r : List ℕ). codes "BPLN" ++ r) behind_magic
+            ∙ ap (λ (r : List ℕ). codes "BPLN" ++ r) after_magic
             ∙ sym (front_apart (codes "BPLN") (big_bytes 2 version) (big_bytes 4 budget) pieces
             (length text) text c5.rest.now)
 
-        all_behind : IsBehind c0 c5
-        all_behind =
-            behind_part name c4 c5 text name_at
-            ∙ behind_part (number 1 C4 is_piece_count) c3 c4 pieces pieces_at
-            ∙ behind_part (number 4 C4 is_budget) c2 c3 budget budget_at
-            ∙ behind_part (number 2 C3 is_version) c1 c2 version version_at
-            ∙ behind_part (raw 4 C2 is_magic) c0 c1 magic magic_at
+        all_after : IsAfter c0 c5
+        all_after =
+            after_part name c4 c5 text name_at
+            ∙ after_part (number 1 C4 is_piece_count) c3 c4 pieces pieces_at
+            ∙ after_part (number 4 C4 is_budget) c2 c3 budget budget_at
+            ∙ after_part (number 2 C3 is_version) c1 c2 version version_at
+            ∙ after_part (raw 4 C2 is_magic) c0 c1 magic magic_at
 
         pub header_at : (h : Header) → h.version ≡ version → h.budget ≡ budget → h.pieces ≡ pieces
             → h.name.now ≡ text → IsHeaderAt c0 h c5
@@ -98,7 +98,7 @@ module _ (c0 c1 c2 c3 : Cursor) (magic : List ℕ) (version budget : ℕ)
             ap (λ (all : List ℕ). length all) all_parts
             ∙ length-append (front_bytes version budget pieces text) c5.rest.now in
             let moved : c5.at ≡ c0.at + length (front_bytes version budget pieces text) =
-            omega (arith, size, all_behind) in
+            omega (arith, size, all_after) in
             rw (v, b, p, t)
             (record {
               version = number_so 2 C3 is_version version c1.rest.now c2.rest.now

@@ -4,11 +4,11 @@ use Rattle.std.specs.Prelude.{slice_get, slice_index_or, true}
 use Rattle.std.specs.Borrow.{Bor}
 use Rattle.burr_container.specs.declared.fault.ContainerFault.{ContainerFault}
 use Rattle.burr_container.specs.declared.reading.cursor.Cursor.{Cursor}
-use Rattle.burr_container.specs.Plans.{Frame}
+use Rattle.burr_container.specs.Rules.Plans.{Frame}
 use Rattle.burr_container.specs.declared.fault.ContainerFault.TheVariants.{C5}
-use Rattle.burr_container.specs.Faults.{number, label}
-use Rattle.burr_container.specs.Reading.{IsAt}
-use Rattle.burr_container.specs.InPlace.{AreFor, IsLabel}
+use Rattle.burr_container.specs.Rules.Faults.{number, label}
+use Rattle.burr_container.specs.Views.Reading.{IsAt}
+use Rattle.burr_container.specs.Views.InPlace.{AreFor, IsLabel}
 use Rattle.burr_container.proofs.Common.Lawful.{OfPart}
 use Rattle.burr_container.proofs.Common.Fields.{number_sound}
 use Rattle.burr_container.proofs.Common.LabelLists.{of_label, label_at_sound}

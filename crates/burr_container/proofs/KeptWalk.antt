@@ -1,9 +1,9 @@
 -- Reading so many of a part, one after the other, and keeping something of each.
 use Rattle.std.proofs.Common.{◌≡◌, ℕ, suc, ◌+◌, ◌-◌, ◌<◌, ◌≤◌, List, [], ◌∷◌, ◌++◌, length, refl, sym, ap, ◌∙◌, subst, arith, append_assoc, append-nil, length-append}
 use Rattle.burr_container.specs.declared.reading.cursor.Cursor.{Cursor}
-use Rattle.burr_container.specs.Faults.{Part}
-use Rattle.burr_container.specs.Reading.{IsAt}
-use Rattle.burr_container.specs.InPlace.{AreFor}
+use Rattle.burr_container.specs.Rules.Faults.{Part}
+use Rattle.burr_container.specs.Views.Reading.{IsAt}
+use Rattle.burr_container.specs.Views.InPlace.{AreFor}
 use Rattle.burr_container.proofs.Common.Lists.{OfEach}
 use Rattle.burr_container.proofs.EachWalk.{IsEachWalk, each_begins, each_goes_on}
 use Rattle.burr_container.proofs.Common.Judging.Lists.{one_more}

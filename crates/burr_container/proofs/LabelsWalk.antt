@@ -5,16 +5,16 @@ use Rattle.std.proofs.lemmas.Bool.{and_parts, and_from}
 use Rattle.burr_container.specs.declared.fault.ContainerFault.{ContainerFault}
 use Rattle.burr_container.specs.declared.fault.ContainerFault.TheVariants.{C4}
 use Rattle.burr_container.specs.declared.reading.cursor.Cursor.{Cursor}
-use Rattle.burr_container.specs.Plans.{Frame}
-use Rattle.burr_container.specs.Fitting.{is_frame}
-use Rattle.burr_container.specs.Faults.{number, label, labels, is_next_label, last_label, LabelsFail}
-use Rattle.burr_container.specs.Reading.{IsAt}
-use Rattle.burr_container.specs.InPlace.{AreFor, IsLabel}
+use Rattle.burr_container.specs.Rules.Plans.{Frame}
+use Rattle.burr_container.specs.Rules.Fitting.{is_frame}
+use Rattle.burr_container.specs.Rules.Faults.{number, label, labels, is_next_label, last_label, LabelsFail}
+use Rattle.burr_container.specs.Views.Reading.{IsAt}
+use Rattle.burr_container.specs.Views.InPlace.{AreFor, IsLabel}
 use Rattle.burr_container.proofs.Common.LabelLists.{LabelsFailFrom, OfLabels, last_from, last_of_all, is_label_count}
 use Rattle.burr_container.proofs.Common.Judging.LabelLists.{one_more, one_more_fails, labels_back, labels_fail_back}
-use Rattle.burr_container.proofs.Chains.{IsBehind, small_of, behind_part, stands_at, then_fails, then_stands}
+use Rattle.burr_container.proofs.Chains.{IsAfter, small_of, after_part, stands_at, then_fails, then_stands}
 
--- the first i of n stand there, behind each other, and the others are to be read
+-- the first i of n stand there, after each other, and the others are to be read
 pub record IsLabelsWalk (pieces n : ℕ) (begin : Cursor) (i : ℕ) (starts : List (Bor (List ℕ)))
     (last : Option ℕ) (cursor : Cursor) : Type 0 where
   pub fails : (fault : ContainerFault)
@@ -26,7 +26,7 @@ pub record IsLabelsWalk (pieces n : ℕ) (begin : Cursor) (i : ℕ) (starts : Li
       → (whole : List (ℕ × Frame)) × OfLabels pieces None n whole begin.rest.now r
       × AreFor (IsLabel pieces) (starts ++ others) whole
       × (last_from None whole ≡ last_from last more)
-  pub behind : IsBehind begin cursor
+  pub after : IsAfter begin cursor
   pub size : length starts ≡ i
 
 -- a label that stands there is one at the begin of the bytes from there on
@@ -55,7 +55,7 @@ module _ (pieces n : ℕ) (begin : Cursor) where
           are,
           refl,
         );
-        behind = refl;
+        after = refl;
         size = refl;
       }
 
@@ -77,7 +77,7 @@ module _ (pieces n : ℕ) (begin : Cursor) where
               (λ (k : ℕ). LabelsFailFrom pieces (Some k) left next.at next.rest.now fault) e
               fails))));
           stands = λ more others r stand are.
-              let behind =
+              let after =
               subst (λ (k : ℕ). OfLabels pieces (Some k) left more next.rest.now r) e stand in
               let all =
               walk.stands (l ∷ more) (cursor.rest ∷ others) r
@@ -85,7 +85,7 @@ module _ (pieces n : ℕ) (begin : Cursor) where
               (one_more pieces last left (l, more) cursor.rest.now r
               (small_of cursor.rest.now cursor.bytes)
               (then_stands this cursor next l (λ l. OfLabels pieces (Some l.0) left) more r here
-              behind)))
+              after)))
               (label_begins (is_next_label last) pieces cursor next l here, are) in (
                 all.0,
                 all.1,
@@ -93,7 +93,7 @@ module _ (pieces n : ℕ) (begin : Cursor) where
                     (sym (append_assoc starts (cursor.rest ∷ []) others)) all.2,
                 all.3 ∙ ap (λ (k : ℕ). last_from (Some k) more) (sym e),
               );
-          behind = behind_part this cursor next l here ∙ walk.behind;
+          after = after_part this cursor next l here ∙ walk.after;
           size = let more = length-append starts (cursor.rest ∷ []) in
               omega (arith, more, walk.size);
         }
@@ -125,25 +125,25 @@ module _ (pieces n : ℕ) (begin : Cursor) where
         sym end.3 ∙ sym (last_of_all end.0),
       )
 
--- labels behind their count
-pub labels_at : (pieces count : ℕ) (cursor behind_count next : Cursor) (ls : List (ℕ × Frame))
-    → IsAt (number 2 C4 is_label_count) cursor count behind_count
-    → OfLabels pieces None count ls behind_count.rest.now next.rest.now
-    → IsBehind behind_count next → IsAt (labels pieces) cursor ls next
-labels_at pieces count cursor behind_count next ls head here behind =
+-- labels after their count
+pub labels_at : (pieces count : ℕ) (cursor after_count next : Cursor) (ls : List (ℕ × Frame))
+    → IsAt (number 2 C4 is_label_count) cursor count after_count
+    → OfLabels pieces None count ls after_count.rest.now next.rest.now
+    → IsAfter after_count next → IsAt (labels pieces) cursor ls next
+labels_at pieces count cursor after_count next ls head here after =
     let counted = number 2 C4 is_label_count in
     stands_at (labels pieces) cursor next ls
     (labels_back pieces (count, ls) cursor.rest.now next.rest.now
     (small_of cursor.rest.now cursor.bytes)
-    (then_stands counted cursor behind_count count (λ count. OfLabels pieces None count) ls
+    (then_stands counted cursor after_count count (λ count. OfLabels pieces None count) ls
     next.rest.now head here))
-    (behind ∙ behind_part counted cursor behind_count count head)
+    (after ∙ after_part counted cursor after_count count head)
 
-pub labels_fail_at : (pieces count : ℕ) (cursor behind_count : Cursor) (fault : ContainerFault)
-    → IsAt (number 2 C4 is_label_count) cursor count behind_count
-    → LabelsFailFrom pieces None count behind_count.at behind_count.rest.now fault
+pub labels_fail_at : (pieces count : ℕ) (cursor after_count : Cursor) (fault : ContainerFault)
+    → IsAt (number 2 C4 is_label_count) cursor count after_count
+    → LabelsFailFrom pieces None count after_count.at after_count.rest.now fault
     → (labels pieces).Fails cursor.at cursor.rest.now fault
-labels_fail_at pieces count cursor behind_count fault head fails =
-    then_fails (number 2 C4 is_label_count) cursor behind_count count
+labels_fail_at pieces count cursor after_count fault head fails =
+    then_fails (number 2 C4 is_label_count) cursor after_count count
     (λ count. LabelsFail pieces count) fault head
-    (labels_fail_back pieces count behind_count.at behind_count.rest.now fault fails)
+    (labels_fail_back pieces count after_count.at after_count.rest.now fault fails)

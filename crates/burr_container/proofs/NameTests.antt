@@ -3,7 +3,7 @@ use Rattle.std.proofs.Common.{◌≡◌, ℕ, List, length, Bool, true, false, r
 use Rattle.std.specs.Prelude.{IsTrue, ◌&&◌, slice_index, nat_le}
 use Rattle.std.specs.List.{list_all}
 use Rattle.burr_text.specs.Names.{IsName, is_letter, is_name_byte}
-use Rattle.burr_container.specs.Fitting.{is_name_text}
+use Rattle.burr_container.specs.Rules.Fitting.{is_name_text}
 use Rattle.burr_container.proofs.Written.{both_tests, first_test, second_test, at_most, le_of}
 
 same_test : (a b : Bool) → (IsTrue a → IsTrue b) → (IsTrue b → IsTrue a) → a ≡ b

@@ -5,7 +5,7 @@ use Rattle.std.specs.Int.{w16, cast_unsigned, cast_signed}
 use Rattle.std.proofs.lemmas.Int.{of_z-to_z}
 use Rattle.byteorder.specs.Endian.{big_bytes, big_number}
 use Rattle.burr_code.specs.Instruction.{signed_word}
-use Rattle.burr_container.specs.Cuts.{AreBytes, IsCut}
+use Rattle.burr_container.specs.Views.Cuts.{AreBytes, IsCut}
 
 pub two_bytes : (xs : List ℕ) (n : ℕ) → length xs ≡ 2 → AreBytes xs → n ≡ big_number 2 xs → xs ≡ big_bytes 2 n
 two_bytes [] n long small e = absurd (omega arith)

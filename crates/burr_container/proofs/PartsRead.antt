@@ -8,16 +8,16 @@ use Rattle.burr_code.specs.declared.limits.TheConstants.{MOST_CODE}
 use Rattle.burr_container.specs.declared.fault.ContainerFault.{ContainerFault}
 use Rattle.burr_container.specs.declared.fault.ContainerFault.TheVariants.{C2, C4, C5}
 use Rattle.burr_container.specs.declared.reading.cursor.Cursor.{Cursor}
-use Rattle.burr_container.specs.Cuts.{AreBytes, IsCut}
-use Rattle.burr_container.specs.Plans.{Frame}
-use Rattle.burr_container.specs.Fitting.{is_code}
-use Rattle.burr_container.specs.Faults.{field, number, frame, label, code, is_above, is_magic}
-use Rattle.burr_container.specs.Reading.{IsAt}
+use Rattle.burr_container.specs.Views.Cuts.{AreBytes, IsCut}
+use Rattle.burr_container.specs.Rules.Plans.{Frame}
+use Rattle.burr_container.specs.Rules.Fitting.{is_code}
+use Rattle.burr_container.specs.Rules.Faults.{field, number, frame, label, code, is_above, is_magic}
+use Rattle.burr_container.specs.Views.Reading.{IsAt}
 use Rattle.burr_container.proofs.Common.Lawful.{OfPart}
 use Rattle.burr_container.proofs.Common.Judging.LabelLists.{label_back}
 use Rattle.burr_container.proofs.Common.Judging.Procedures.{small_bytes}
-use Rattle.burr_container.proofs.FormsRead.{cut_behind}
-use Rattle.burr_container.proofs.Chains.{small_of, behind_part, stands, stands_at, then_fails, then_stands}
+use Rattle.burr_container.proofs.FormsRead.{cut_after}
+use Rattle.burr_container.proofs.Chains.{small_of, after_part, stands, stands_at, then_fails, then_stands}
 
 -- four bytes that are not the magic
 pub magic_fails : (cursor next : Cursor) (bytes : List ℕ) → length bytes ≡ 4
@@ -51,13 +51,13 @@ above_least None n is = refl
 above_least (Some last) n is =
     let least = leb-true (last + 1) n is in lt-ltb last n (omega (arith, least))
 
-pub code_at : (last : Option ℕ) (least n : ℕ) (cursor behind_length next : Cursor)
+pub code_at : (last : Option ℕ) (least n : ℕ) (cursor after_length next : Cursor)
     (bytes : List ℕ) → least ≡ least_above last
-    → IsAt (number 2 C4 (λ n. nat_le least n && nat_le n MOST_CODE)) cursor n behind_length
+    → IsAt (number 2 C4 (λ n. nat_le least n && nat_le n MOST_CODE)) cursor n after_length
     → length bytes ≡ n → AreBytes bytes
-    → IsCut behind_length.at behind_length.rest.now bytes next.at next.rest.now
+    → IsCut after_length.at after_length.rest.now bytes next.at next.rest.now
     → IsAt (code last) cursor bytes next
-code_at last least n cursor behind_length next bytes above head size small cut =
+code_at last least n cursor after_length next bytes above head size small cut =
     let counted = number 2 C4 (λ n. nat_le least n && nat_le n MOST_CODE) in
     let both = and_parts (nat_lt n (256 ^ 2)) (nat_le least n && nat_le n MOST_CODE) head.fits in
     let range = and_parts (nat_le least n) (nat_le n MOST_CODE) both.1 in
@@ -70,34 +70,34 @@ code_at last least n cursor behind_length next bytes above head size small cut =
     and_from (is_above last (length bytes)) (is_code bytes) is
     (and_from (nat_le (length bytes) MOST_CODE) _ short
     (small_bytes bytes (small_of bytes small))) in
-    let counted_there : cursor.rest.now ≡ big_bytes 2 (length bytes) ++ behind_length.rest.now =
-    head.cut.parts ∙ ap (λ (k : ℕ). big_bytes 2 k ++ behind_length.rest.now) (sym size) in
+    let counted_there : cursor.rest.now ≡ big_bytes 2 (length bytes) ++ after_length.rest.now =
+    head.cut.parts ∙ ap (λ (k : ℕ). big_bytes 2 k ++ after_length.rest.now) (sym size) in
     stands_at (code last) cursor next bytes (
       fits,
       counted_there ∙ ap (λ (rest : List ℕ). big_bytes 2 (length bytes) ++ rest) cut.parts,
     )
-    (cut_behind behind_length next bytes cut ∙ behind_part counted cursor behind_length n head)
+    (cut_after after_length next bytes cut ∙ after_part counted cursor after_length n head)
 
--- a frame behind a position
+-- a frame after a position
 pub label_at : (is_so : ℕ → Bool) (pieces position : ℕ) (f : Frame)
-    (cursor behind_position next : Cursor)
-    → IsAt (number 2 C5 is_so) cursor position behind_position
-    → IsAt (frame pieces) behind_position f next
+    (cursor after_position next : Cursor)
+    → IsAt (number 2 C5 is_so) cursor position after_position
+    → IsAt (frame pieces) after_position f next
     → IsAt (label is_so pieces) cursor (position, f) next
-label_at is_so pieces position f cursor behind_position next head here =
+label_at is_so pieces position f cursor after_position next head here =
     stands_at (label is_so pieces) cursor next (position, f)
     (label_back is_so pieces (position, f) cursor.rest.now next.rest.now
     (small_of cursor.rest.now cursor.bytes)
-    (then_stands (number 2 C5 is_so) cursor behind_position position
+    (then_stands (number 2 C5 is_so) cursor after_position position
     (λ position. OfPart (frame pieces)) f next.rest.now head
-    (stands (frame pieces) behind_position next f here)))
-    (behind_part (frame pieces) behind_position next f here
-    ∙ behind_part (number 2 C5 is_so) cursor behind_position position head)
+    (stands (frame pieces) after_position next f here)))
+    (after_part (frame pieces) after_position next f here
+    ∙ after_part (number 2 C5 is_so) cursor after_position position head)
 
-pub label_fails : (is_so : ℕ → Bool) (pieces position : ℕ) (cursor behind_position : Cursor)
-    (fault : ContainerFault) → IsAt (number 2 C5 is_so) cursor position behind_position
-    → (frame pieces).Fails behind_position.at behind_position.rest.now fault
+pub label_fails : (is_so : ℕ → Bool) (pieces position : ℕ) (cursor after_position : Cursor)
+    (fault : ContainerFault) → IsAt (number 2 C5 is_so) cursor position after_position
+    → (frame pieces).Fails after_position.at after_position.rest.now fault
     → (label is_so pieces).Fails cursor.at cursor.rest.now fault
-label_fails is_so pieces position cursor behind_position fault head fails =
-    then_fails (number 2 C5 is_so) cursor behind_position position
+label_fails is_so pieces position cursor after_position fault head fails =
+    then_fails (number 2 C5 is_so) cursor after_position position
     (λ position. (frame pieces).Fails) fault head fails

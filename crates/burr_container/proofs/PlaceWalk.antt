@@ -4,16 +4,16 @@ use Rattle.std.specs.Prelude.{Bool, true, false, IsTrue, Option, Some, map, slic
 use Rattle.std.specs.List.{list_all}
 use Rattle.std.proofs.lemmas.Grind.{common_steps}
 use Rattle.burr_code.specs.Places.{Placement, On}
-use Rattle.burr_forms.specs.Forms.{Form}
-use Rattle.burr_container.specs.Plans.{FormCell, over_symbols, place_over_symbols}
+use Rattle.burr_forms.specs.Rules.Forms.{Form}
+use Rattle.burr_container.specs.Rules.Plans.{FormCell, over_symbols, place_over_symbols}
 use Rattle.burr_container.proofs.Written.{le_of, first_test, second_test, both_tests}
-use Rattle.burr_container.specs.Fitting.{is_tray, is_form, are_forms}
-use Rattle.burr_container.specs.Spelling.{form_size}
-use Rattle.burr_container.specs.Decoding.{form_in, forms_in, place_in, rest_by, place_rest, places_in, places_stand, stands_by, IsOver}
+use Rattle.burr_container.specs.Rules.Fitting.{is_tray, is_form, are_forms}
+use Rattle.burr_container.specs.Rules.Spelling.{form_size}
+use Rattle.burr_container.specs.Views.Decoding.{form_in, forms_in, place_in, rest_by, place_rest, places_in, places_stand, stands_by, IsAfterPlace}
 
--- what is behind a part of so many bytes
-pub behind : (a b : ℕ) (bytes : List ℕ) → drop (a + b) bytes ≡ drop b (drop a bytes)
-behind a b bytes = grind (arith, common_steps)
+-- what is after a part of so many bytes
+pub after : (a b : ℕ) (bytes : List ℕ) → drop (a + b) bytes ≡ drop b (drop a bytes)
+after a b bytes = grind (arith, common_steps)
 
 -- form n of a run
 pub nth_form : (live : List Bool) (count n : ℕ) (bytes : List ℕ) (value : Form) → n < count
@@ -26,7 +26,7 @@ nth_form live (suc count) zero bytes value small is =
 nth_form live (suc count) (suc n) bytes value small is =
     let size = form_size live in
     let moved : suc n * size ≡ size + n * size = omega arith in
-    let there : drop (suc n * size) bytes ≡ drop (n * size) (drop size bytes) = ap (λ (k : ℕ). drop k bytes) moved ∙ behind size (n * size) bytes in
+    let there : drop (suc n * size) bytes ≡ drop (n * size) (drop size bytes) = ap (λ (k : ℕ). drop k bytes) moved ∙ after size (n * size) bytes in
     nth_form live count n (drop size bytes) value (omega arith) (is ∙ ap (λ (b : List ℕ). over_symbols live (form_in live b)) there)
 
 -- a place by forms over symbols
@@ -37,8 +37,8 @@ pub place_told : (live : List Bool) (bytes : List ℕ) (x y z : Form) → (slice
     → On (slice_index bytes 0) (record { x = x; y = y; z = z }) ≡ place_over_symbols live (place_in live (slice_index bytes 0) (drop 1 bytes))
 place_told live bytes x y z lies first second third =
     let size = form_size live in
-    let to_y : drop (1 + size) bytes ≡ drop size (drop 1 bytes) = behind 1 size bytes in
-    let to_z : drop (1 + size + size) bytes ≡ drop size (drop size (drop 1 bytes)) = behind (1 + size) size bytes ∙ ap (drop size) to_y in
+    let to_y : drop (1 + size) bytes ≡ drop size (drop 1 bytes) = after 1 size bytes in
+    let to_z : drop (1 + size + size) bytes ≡ drop size (drop size (drop 1 bytes)) = after (1 + size) size bytes ∙ ap (drop size) to_y in
     rw (lies, first, second, third, to_y, to_z) refl
 
 -- all that follows the first byte of a place is there
@@ -46,7 +46,7 @@ whole_by : (b : Bool) (live : List Bool) (first : ℕ) (bytes : List ℕ) → Is
 whole_by true live first bytes stands = omega arith
 whole_by false live first bytes stands = le_of (3 * form_size live) (length bytes) (second_test (is_tray first) _ stands)
 
--- the first of some places, and the others behind it
+-- the first of some places, and the others after it
 pub record StepsOn (live : List Bool) (m : ℕ) (bytes : List ℕ) : Type 0 where
   pub there : 0 < length bytes
   pub whole : 1 + place_rest live (slice_index bytes 0) ≤ length bytes
@@ -59,7 +59,7 @@ steps_on live m (first ∷ bytes) are =
     let here = first_test (stands_by (first == 255) live first bytes) _ are in
     let others = second_test (stands_by (first == 255) live first bytes) (places_stand live m (drop (place_rest live first) bytes)) are in
     let whole = whole_by (first == 255) live first bytes here in
-    let same : drop (1 + place_rest live first) (first ∷ bytes) ≡ drop (place_rest live first) bytes = behind 1 (place_rest live first) (first ∷ bytes) in
+    let same : drop (1 + place_rest live first) (first ∷ bytes) ≡ drop (place_rest live first) bytes = after 1 (place_rest live first) (first ∷ bytes) in
     record {
       there = omega arith;
       whole = omega (arith, whole);
@@ -68,10 +68,10 @@ steps_on live m (first ∷ bytes) are =
     }
 
 -- a place in front of places that stand
-pub stands_before : (live : List Bool) (m : ℕ) (bytes next : List ℕ) → IsOver live bytes next → IsTrue (places_stand live m next) → IsTrue (places_stand live (suc m) bytes)
+pub stands_before : (live : List Bool) (m : ℕ) (bytes next : List ℕ) → IsAfterPlace live bytes next → IsTrue (places_stand live m next) → IsTrue (places_stand live (suc m) bytes)
 stands_before live m bytes next over stand =
-    let behind = subst (λ (b : List ℕ). IsTrue (places_stand live m b)) over.over stand in
-    subst (λ (b : List ℕ). IsTrue (places_stand live (suc m) b)) (sym over.parts) (both_tests _ _ over.stands behind)
+    let after = subst (λ (b : List ℕ). IsTrue (places_stand live m b)) over.over stand in
+    subst (λ (b : List ℕ). IsTrue (places_stand live (suc m) b)) (sym over.parts) (both_tests _ _ over.stands after)
 
 -- so many places are told as stand
 pub count_places : (live : List Bool) (n : ℕ) (bytes : List ℕ) → IsTrue (places_stand live n bytes) → length (places_in live n bytes) ≡ n

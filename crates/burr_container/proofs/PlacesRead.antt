@@ -3,10 +3,10 @@ use Rattle.std.proofs.Common.{◌≡◌, ℕ, suc, ◌+◌, ◌-◌, ◌<◌, Bo
 use Rattle.std.specs.Prelude.{IsTrue}
 use Rattle.burr_code.specs.Places.{Placement}
 use Rattle.burr_container.specs.declared.reading.cursor.Cursor.{Cursor}
-use Rattle.burr_container.specs.Plans.{FormCell}
-use Rattle.burr_container.specs.Faults.{place}
-use Rattle.burr_container.specs.Decoding.{places_stand, IsOver}
-use Rattle.burr_container.specs.Reading.{IsAt}
+use Rattle.burr_container.specs.Rules.Plans.{FormCell}
+use Rattle.burr_container.specs.Rules.Faults.{place}
+use Rattle.burr_container.specs.Views.Decoding.{places_stand, IsAfterPlace}
+use Rattle.burr_container.specs.Views.Reading.{IsAt}
 use Rattle.burr_container.proofs.EachWalk.{IsEachWalk, each_begins, each_goes_on}
 use Rattle.burr_container.proofs.PlaceWalk.{stands_before}
 
@@ -19,7 +19,7 @@ pub record ArePlacesRead (live : List Bool) (pieces : ℕ) (begin : Cursor) (i :
 
 pub places_go_on : (live : List Bool) (pieces i : ℕ) (begin cursor next : Cursor)
     (p : Placement FormCell) → i < pieces → ArePlacesRead live pieces begin i cursor
-    → IsOver live cursor.rest.now next.rest.now → IsAt (place live) cursor p next
+    → IsAfterPlace live cursor.rest.now next.rest.now → IsAt (place live) cursor p next
     → ArePlacesRead live pieces begin (i + 1) next
 places_go_on live pieces i begin cursor next p small read over here =
     let left = pieces - (i + 1) in

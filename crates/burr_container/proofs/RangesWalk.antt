@@ -5,14 +5,14 @@ use Rattle.std.proofs.Math.ListN.{set}
 use Rattle.std.proofs.lemmas.Bool.{and_parts, and_from}
 use Rattle.burr_container.specs.declared.fault.ContainerFault.{ContainerFault}
 use Rattle.burr_container.specs.declared.reading.cursor.Cursor.{Cursor}
-use Rattle.burr_container.specs.Plans.{Range}
-use Rattle.burr_container.specs.Fitting.{is_range, are_ranges}
-use Rattle.burr_container.specs.Faults.{range, ranges, each}
-use Rattle.burr_container.specs.Reading.{IsAt}
+use Rattle.burr_container.specs.Rules.Plans.{Range}
+use Rattle.burr_container.specs.Rules.Fitting.{is_range, are_ranges}
+use Rattle.burr_container.specs.Rules.Faults.{range, ranges, each}
+use Rattle.burr_container.specs.Views.Reading.{IsAt}
 use Rattle.burr_container.proofs.Common.Lists.{OfEach}
 use Rattle.burr_container.proofs.Common.Judging.Lists.{one_more, one_more_fails}
 use Rattle.burr_container.proofs.Common.Judging.Exits.{ranges_back}
-use Rattle.burr_container.proofs.Chains.{IsBehind, small_of, behind_part, stands_at, then_fails, then_stands}
+use Rattle.burr_container.proofs.Chains.{IsAfter, small_of, after_part, stands_at, then_fails, then_stands}
 
 put_next : {A : Type 0} (n : ℕ) (xs : List A) (x : A) (more : List A) → n < length xs
     → take (n + 1) (set xs n x) ++ more ≡ take n xs ++ (x ∷ more)
@@ -46,7 +46,7 @@ pub record AreRangesRead (count : ℕ) (begin : Cursor) (n : ℕ) (rs : List Ran
       → each count range begin.at begin.rest.now fault
   pub stands : (more : List Range) (r : List ℕ) → OfEach (count - n) range more cursor.rest.now r
       → OfEach count range (take n rs ++ more) begin.rest.now r
-  pub behind : IsBehind begin cursor
+  pub after : IsAfter begin cursor
   pub size : length rs ≡ 2
   pub fit : IsTrue (list_all (λ r. is_range (Some r)) rs)
 
@@ -60,7 +60,7 @@ module _ (count : ℕ) (begin : Cursor) where
             subst (λ (k : ℕ). each k range begin.at begin.rest.now fault) all fails;
         stands = λ more r here.
             subst (λ (k : ℕ). OfEach k range more begin.rest.now r) all here;
-        behind = refl;
+        after = refl;
         size = size;
         fit = fit;
       }
@@ -86,7 +86,7 @@ module _ (count : ℕ) (begin : Cursor) where
                 (then_stands range cursor next x (λ _. OfEach left range) more r here stand))) in
                 subst (λ (all : List Range). OfEach count range all begin.rest.now r)
                 (sym (put_next n rs x more (omega (arith, low, read.size)))) whole;
-            behind = behind_part range cursor next x here ∙ read.behind;
+            after = after_part range cursor next x here ∙ read.after;
             size = length_put n rs x ∙ read.size;
             fit = all_put (λ r. is_range (Some r)) n rs x read.fit here.fits;
           }
@@ -115,7 +115,7 @@ module _ (count : ℕ) (begin : Cursor) where
           (ranges_back count (take count rs) begin.rest.now cursor.rest.now
           (subst (λ (all : List Range). OfEach count range all begin.rest.now cursor.rest.now) whole
           stand))
-          read.behind
+          read.after
 
       pub ranges_fit : IsTrue (are_ranges 2 rs)
       ranges_fit =

@@ -4,12 +4,12 @@ use Rattle.std.proofs.Math.ListN.{set}
 use Rattle.burr_container.specs.declared.fault.ContainerFault.{ContainerFault}
 use Rattle.burr_container.specs.declared.fault.ContainerFault.TheVariants.{C4}
 use Rattle.burr_container.specs.declared.reading.cursor.Cursor.{Cursor}
-use Rattle.burr_container.specs.Plans.{Range}
-use Rattle.burr_container.specs.Faults.{number, range, bits, RangesFail, slots as slots_part}
-use Rattle.burr_container.specs.Reading.{IsAt}
+use Rattle.burr_container.specs.Rules.Plans.{Range}
+use Rattle.burr_container.specs.Rules.Faults.{number, range, bits, RangesFail, slots as slots_part}
+use Rattle.burr_container.specs.Views.Reading.{IsAt}
 use Rattle.burr_container.proofs.Common.Slots.{OfRanges}
 use Rattle.burr_container.proofs.Common.Judging.Slots.{live_back, dead_back, slots_back}
-use Rattle.burr_container.proofs.Chains.{IsBehind, small_of, behind_part, stands_at, then_fails, then_stands}
+use Rattle.burr_container.proofs.Chains.{IsAfter, small_of, after_part, stands_at, then_fails, then_stands}
 
 -- Lists
 
@@ -60,7 +60,7 @@ pub record IsSlotWalk (begin : Cursor) (mask v left : ℕ) (slots : List (Option
   pub stands : (more : List (Option Range)) (r : List ℕ)
       → OfRanges (bits (8 - v) left) more cursor.rest.now r
       → OfRanges (bits 8 mask) (take v slots ++ more) begin.rest.now r
-  pub behind : IsBehind begin cursor
+  pub after : IsAfter begin cursor
   pub others : drop v slots ≡ replicate (8 - v) None
   pub size : length slots ≡ 8
 
@@ -69,33 +69,33 @@ pub walk_begins : (begin : Cursor) (mask : ℕ)
 walk_begins begin mask = record {
   fails = λ fault fails. fails;
   stands = λ more r here. here;
-  behind = refl;
+  after = refl;
   others = refl;
   size = refl;
 }
 
 module _ (begin cursor : Cursor) (mask v left : ℕ) (slots : List (Option Range)) (small : v < 8)
     (walk : IsSlotWalk begin mask v left slots cursor) where
-  abbrev behind_v : ℕ
-  behind_v = 8 - (v + 1)
+  abbrev after_v : ℕ
+  after_v = 8 - (v + 1)
 
   left_bits : (bit : Bool) → (left % 2 == 1) ≡ bit
-      → bits (8 - v) left ≡ bit ∷ bits behind_v (left / 2)
+      → bits (8 - v) left ≡ bit ∷ bits after_v (left / 2)
   left_bits bit is =
-      let size : 8 - v ≡ suc behind_v = omega (arith, small) in
-      ap (λ (n : ℕ). bits n left) size ∙ ap (λ (b : Bool). b ∷ bits behind_v (left / 2)) is
+      let size : 8 - v ≡ suc after_v = omega (arith, small) in
+      ap (λ (n : ℕ). bits n left) size ∙ ap (λ (b : Bool). b ∷ bits after_v (left / 2)) is
 
-  left_slots : drop v slots ≡ None ∷ replicate behind_v None
+  left_slots : drop v slots ≡ None ∷ replicate after_v None
   left_slots =
-      let size : 8 - v ≡ suc behind_v = omega (arith, small) in
+      let size : 8 - v ≡ suc after_v = omega (arith, small) in
       walk.others ∙ ap (λ (n : ℕ). replicate n None) size
 
   pub walk_live : (ends : Range) (next : Cursor) → left % 2 ≡ 1 → IsAt range cursor ends next
       → IsSlotWalk begin mask (v + 1) (left / 2) (set slots v (Some ends)) next
   walk_live ends next odd here =
-      let live = bits behind_v (left / 2) in
+      let live = bits after_v (left / 2) in
       let e = left_bits true (ap (λ (n : ℕ). n == 1) odd) in
-      let there = drop_set v slots (Some ends) None (replicate behind_v None) left_slots in
+      let there = drop_set v slots (Some ends) None (replicate after_v None) left_slots in
       let same : suc v ≡ v + 1 = omega arith in
       record {
         fails = λ fault fails. walk.fails fault
@@ -110,7 +110,7 @@ module _ (begin cursor : Cursor) (mask v left : ℕ) (slots : List (Option Range
             ≡ take (v + 1) (set slots v (Some ends)) ++ more =
             ap (λ (front : List (Option Range)). front ++ (Some ends ∷ more))
             (sym (take_set v slots (Some ends)))
-            ∙ sym (join_next v (set slots v (Some ends)) (Some ends) (replicate behind_v None)
+            ∙ sym (join_next v (set slots v (Some ends)) (Some ends) (replicate after_v None)
             more there)
             ∙ ap (λ (n : ℕ). take n (set slots v (Some ends)) ++ more) same in
             subst (λ (all : List (Option Range)). OfRanges (bits 8 mask) all begin.rest.now r)
@@ -118,16 +118,16 @@ module _ (begin cursor : Cursor) (mask v left : ℕ) (slots : List (Option Range
             (walk.stands (Some ends ∷ more) r
             (subst (λ (l : List Bool). OfRanges l (Some ends ∷ more) cursor.rest.now r) (sym e)
             whole));
-        behind = behind_part range cursor next ends here ∙ walk.behind;
+        after = after_part range cursor next ends here ∙ walk.after;
         others = ap (λ (n : ℕ). drop n (set slots v (Some ends))) (sym same)
-            ∙ drop_next v (set slots v (Some ends)) (Some ends) (replicate behind_v None) there;
+            ∙ drop_next v (set slots v (Some ends)) (Some ends) (replicate after_v None) there;
         size = length_set v slots (Some ends) ∙ walk.size;
       }
 
   pub walk_dead : (left % 2 == 1) ≡ false
       → IsSlotWalk begin mask (v + 1) (left / 2) slots cursor
   walk_dead even =
-      let live = bits behind_v (left / 2) in
+      let live = bits after_v (left / 2) in
       let e = left_bits false even in
       let same : suc v ≡ v + 1 = omega arith in
       record {
@@ -137,16 +137,16 @@ module _ (begin cursor : Cursor) (mask v left : ℕ) (slots : List (Option Range
             let whole =
             dead_back live more cursor.rest.now r (small_of cursor.rest.now cursor.bytes) stand in
             let joined : take v slots ++ (None ∷ more) ≡ take (v + 1) slots ++ more =
-            sym (join_next v slots None (replicate behind_v None) more left_slots)
+            sym (join_next v slots None (replicate after_v None) more left_slots)
             ∙ ap (λ (n : ℕ). take n slots ++ more) same in
             subst (λ (all : List (Option Range)). OfRanges (bits 8 mask) all begin.rest.now r)
             joined
             (walk.stands (None ∷ more) r
             (subst (λ (l : List Bool). OfRanges l (None ∷ more) cursor.rest.now r) (sym e)
             whole));
-        behind = walk.behind;
+        after = walk.after;
         others = ap (λ (n : ℕ). drop n slots) (sym same)
-            ∙ drop_next v slots None (replicate behind_v None) left_slots;
+            ∙ drop_next v slots None (replicate after_v None) left_slots;
         size = walk.size;
       }
 
@@ -171,16 +171,16 @@ walk_ends begin cursor mask v left slots end at_v =
     subst (λ (s : List (Option Range)). OfRanges (bits 8 mask) s begin.rest.now cursor.rest.now)
     all (walk.stands [] cursor.rest.now (refl, refl, refl))
 
--- the mask and the slots behind it
-pub slots_at : (cursor behind_mask next : Cursor) (mask : ℕ) (slots : List (Option Range))
-    → IsAt (number 1 C4 (λ _. true)) cursor mask behind_mask
-    → OfRanges (bits 8 mask) slots behind_mask.rest.now next.rest.now
-    → IsBehind behind_mask next → IsAt slots_part cursor slots next
-slots_at cursor behind_mask next mask slots head stand behind =
+-- the mask and the slots after it
+pub slots_at : (cursor after_mask next : Cursor) (mask : ℕ) (slots : List (Option Range))
+    → IsAt (number 1 C4 (λ _. true)) cursor mask after_mask
+    → OfRanges (bits 8 mask) slots after_mask.rest.now next.rest.now
+    → IsAfter after_mask next → IsAt slots_part cursor slots next
+slots_at cursor after_mask next mask slots head stand after =
     let both =
-    then_stands (number 1 C4 (λ _. true)) cursor behind_mask mask (λ mask. OfRanges (bits 8 mask))
+    then_stands (number 1 C4 (λ _. true)) cursor after_mask mask (λ mask. OfRanges (bits 8 mask))
     slots next.rest.now head stand in
     stands_at slots_part cursor next slots
     (slots_back (mask, slots) cursor.rest.now next.rest.now
     (small_of cursor.rest.now cursor.bytes) both)
-    (behind ∙ behind_part (number 1 C4 (λ _. true)) cursor behind_mask mask head)
+    (after ∙ after_part (number 1 C4 (λ _. true)) cursor after_mask mask head)

@@ -5,12 +5,12 @@ use Rattle.std.proofs.lemmas.Bool.{and_parts, leb-true, false≢true}
 use Rattle.std.proofs.lemmas.Option.{none-some, same_Some}
 use Rattle.burr_code.specs.declared.limits.TheConstants.{MOST_CODE}
 use Rattle.burr_container.specs.declared.procedure_ref.ProcedureRef.{ProcedureRef}
-use Rattle.burr_container.specs.Plans.{PlanProcedure}
-use Rattle.burr_container.specs.Fitting.{are_procedures, is_procedure}
+use Rattle.burr_container.specs.Rules.Plans.{PlanProcedure}
+use Rattle.burr_container.specs.Rules.Fitting.{are_procedures, is_procedure}
 use Rattle.burr_container.proofs.Common.Procedures.{procedure_fits}
 use Rattle.burr_container.proofs.Common.Containers.{plan_fits}
-use Rattle.burr_container.specs.InPlace.{AreFor, IsProcedure}
-use Rattle.burr_container.specs.Containers.{KeptContainer, HasPlan}
+use Rattle.burr_container.specs.Views.InPlace.{AreFor, IsProcedure}
+use Rattle.burr_container.specs.Views.Containers.{ContainerView, HasPlan}
 
 -- an element for which the test of all is passed
 one_of_all : {A : Type 0} (test : A → Bool) (xs : List A) (i : ℕ) (x : A) → list_all test xs ≡ true → slice_get xs i ≡ Some x → test x ≡ true
@@ -43,13 +43,13 @@ each_code version pieces (main ∷ others) (suc i) q fits at =
     fitting_code version pieces false q (one_of_all (is_procedure version pieces false) others i q (and_parts (is_procedure version pieces true main) _ both.0).1 at)
 
 -- the code of a container's procedure
-pub code_short : (kept : KeptContainer) (i : ℕ) (r : ProcedureRef) → HasPlan kept → slice_get kept.procedures i ≡ Some r → length r.code.now ≤ MOST_CODE
+pub code_short : (kept : ContainerView) (i : ℕ) (r : ProcedureRef) → HasPlan kept → slice_get kept.procedures i ≡ Some r → length r.code.now ≤ MOST_CODE
 code_short kept i r (p, fits, is) at =
     let q = for_there (IsProcedure p.pieces) kept.procedures p.procedures i r is.procedures at in
     subst (λ (bytes : List ℕ). length bytes ≤ MOST_CODE) (sym q.2.code) (each_code p.version p.pieces p.procedures i q.0 (plan_fits p fits).procedures q.1)
 
 -- a container has a procedure
-pub some_procedure : (kept : KeptContainer) → HasPlan kept → 1 ≤ length kept.procedures
+pub some_procedure : (kept : ContainerView) → HasPlan kept → 1 ≤ length kept.procedures
 some_procedure kept (p, fits, is) = at_least_one kept.procedures p.procedures is.procedures (plan_fits p fits).procedures
   where
     at_least_one : (rs : List ProcedureRef) (qs : List PlanProcedure) → AreFor (IsProcedure p.pieces) rs qs → are_procedures p.version p.pieces qs ≡ true → 1 ≤ length rs

@@ -3,13 +3,13 @@ use Rattle.std.proofs.Common.{◌≡◌, true, false, IsTrue, [], ◌∷◌, Non
 use Rattle.std.specs.Prelude.{replicate, pos}
 use Rattle.std.proofs.lemmas.Bool.{false≢true}
 use Rattle.burr_code.specs.Places.{Apart, On}
-use Rattle.burr_forms.specs.Forms.{Form}
+use Rattle.burr_forms.specs.Rules.Forms.{Form}
 use Rattle.burr_container.specs.declared.fault.ContainerFault.{ContainerFault}
 use Rattle.burr_container.specs.declared.fault.ContainerFault.TheVariants.{C1, C2, C3, C4}
-use Rattle.burr_container.specs.Plans.{Frame, ExitFrame, PlanProcedure, Plan}
-use Rattle.burr_container.specs.Spelling.{exit_frame_bytes, plan_bytes}
-use Rattle.burr_container.specs.Fitting.{is_version, is_exit_frame, is_fitting}
-use Rattle.burr_container.specs.Faults.{number, result_count, ContainerFails}
+use Rattle.burr_container.specs.Rules.Plans.{Frame, ExitFrame, PlanProcedure, Plan}
+use Rattle.burr_container.specs.Rules.Spelling.{exit_frame_bytes, plan_bytes}
+use Rattle.burr_container.specs.Rules.Fitting.{is_version, is_exit_frame, is_fitting}
+use Rattle.burr_container.specs.Rules.Faults.{number, result_count, ContainerFails}
 
 zero_form : Form
 zero_form = record { constant = pos 0; coefs = replicate 8 (pos 0) }
@@ -71,7 +71,7 @@ second_plan_fits : IsTrue (is_fitting second_plan)
 unfolding zero_form bare_frame only_halt second_plan
 second_plan_fits = refl
 
--- its version is 2, and a byte behind the parameters tells that there are no results
+-- its version is 2, and a byte after the parameters tells that there are no results
 second_plan_spelled : plan_bytes second_plan
     ≡ 0x42 ∷ 0x50 ∷ 0x4c ∷ 0x4e ∷ 0 ∷ 2 ∷ 0 ∷ 0 ∷ 0 ∷ 1 ∷ 2 ∷ 1 ∷ 0x61 ∷ 1
     ∷ 0 ∷ 0 ∷ 0 ∷ 1 ∷ 0 ∷ 0 ∷ 0 ∷ 0 ∷ 0 ∷ 0 ∷ 0 ∷ 0 ∷ 0 ∷ 0 ∷ 0 ∷ 0 ∷ 0 ∷ 0 ∷ 255 ∷ 255 ∷ 0 ∷ 1 ∷ 0

@@ -4,16 +4,16 @@ use Rattle.std.specs.Prelude.{Option, Some, None, ◌==◌, Bool, true, false, �
 use Rattle.std.specs.List.{flat_map, list_all}
 use Rattle.std.proofs.lemmas.Bool.Decides.{nat_tests}
 use Rattle.burr_code.specs.Instruction.{signed_word}
-use Rattle.burr_container.specs.Plans.{of_live, Frame, ExitFrame, PlanProcedure, Plan, exit_symbols}
-use Rattle.burr_container.specs.Spelling.{mask_of}
-use Rattle.burr_container.specs.Counts.{coef_bytes, has_room, has_room_in_exit, has_room_in_label}
-use Rattle.burr_container.specs.Plans.{live_slots}
+use Rattle.burr_container.specs.Rules.Plans.{of_live, Frame, ExitFrame, PlanProcedure, Plan, exit_symbols}
+use Rattle.burr_container.specs.Rules.Spelling.{mask_of}
+use Rattle.burr_container.specs.Views.Counts.{coef_bytes, has_room, has_room_in_exit, has_room_in_label}
+use Rattle.burr_container.specs.Rules.Plans.{live_slots}
 use Rattle.burr_code.specs.declared.limits.TheConstants.{MOST_GUARDS}
 use Rattle.burr_container.proofs.Common.Exits.{exit_fits}
 use Rattle.burr_container.proofs.Common.Procedures.{procedure_fits}
 use Rattle.burr_container.proofs.Common.Containers.{plan_fits}
 use Rattle.std.proofs.lemmas.Bool.{false≢true}
-use Rattle.burr_container.specs.Fitting.{are_parameters, are_results, is_exit, is_frame, are_forms, are_labels, is_procedure, are_procedures, is_fitting}
+use Rattle.burr_container.specs.Rules.Fitting.{are_parameters, are_results, is_exit, is_frame, are_forms, are_labels, is_procedure, are_procedures, is_fitting}
 
 abbrev bit : Bool → ℕ
 bit l = if l then 1 else 0

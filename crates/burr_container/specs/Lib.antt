@@ -1,13 +1,3 @@
-pub mod Containers
-pub mod Counts
-pub mod Cuts
-pub mod Decoding
-pub mod Faults
-pub mod Fitting
-pub mod InPlace
 pub mod Laws
-pub mod Plans
-pub mod Reading
-pub mod Refs
-pub mod Spelling
+pub mod Rules
 pub mod Views

@@ -16,11 +16,11 @@ pub struct Container<'a> {
 }
 
 impl<'a> Model for Container<'a> {
-    ghost use Rattle.burr_container.specs.Containers.{KeptContainer, kept_container, HasPlan};
+    ghost use Rattle.burr_container.specs.Views.Containers.{ContainerView, container_view, HasPlan};
 
-    ghost Value = { KeptContainer };
+    ghost Value = { ContainerView };
 
-    ghost view = { λ c. kept_container c.header c.procedures.items };
+    ghost view = { λ c. container_view c.header c.procedures.items };
 
-    ghost invariant = { λ c. HasPlan (kept_container c.header c.procedures.items) };
+    ghost invariant = { λ c. HasPlan (container_view c.header c.procedures.items) };
 }

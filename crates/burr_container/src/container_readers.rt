@@ -2,12 +2,12 @@
 
 ghost use Rattle.std.specs.Prelude.{◌≡◌, ◌≤◌, ◌<◌, length, slice_get, IfSome};
 ghost use Rattle.burr_code.specs.declared.limits.TheConstants.{MOST_BUDGET, MOST_CODE, MOST_PARAMETERS, MOST_PROCEDURES};
-ghost use Rattle.burr_container.specs.Plans.{Plan};
-ghost use Rattle.burr_container.specs.Faults.{procedures as procedures_part};
-ghost use Rattle.burr_container.specs.Reading.{ReadsAs};
-ghost use Rattle.burr_container.specs.Refs.{frame_of};
-ghost use Rattle.burr_container.specs.InPlace.{AreFor, IsProcedure, IsExit};
-ghost use Rattle.burr_container.specs.Containers.{ReadsContainer, IsContainer, HasPlan, IsHeader, HasLabel, OfProcedure, OfLabel};
+ghost use Rattle.burr_container.specs.Rules.Plans.{Plan};
+ghost use Rattle.burr_container.specs.Rules.Faults.{procedures as procedures_part};
+ghost use Rattle.burr_container.specs.Views.Reading.{ReadsAs};
+ghost use Rattle.burr_container.specs.Views.Refs.{frame_of};
+ghost use Rattle.burr_container.specs.Views.InPlace.{AreFor, IsProcedure, IsExit};
+ghost use Rattle.burr_container.specs.Views.Containers.{ReadsContainer, IsContainer, HasPlan, IsHeader, HasLabel, OfProcedure, OfLabel};
 
 use crate::container::Container;
 use crate::exit_ref::ExitRef;
@@ -26,8 +26,8 @@ impl<'a> Container<'a> {
         ensures { ReadsContainer bytes.now result }
     {
         let begin = Cursor::new(bytes);
-        let (header, behind_header) = header(begin)?;
-        let (procedures, end) = procedures(header.version, header.pieces, behind_header)?;
+        let (header, after_header) = header(begin)?;
+        let (procedures, end) = procedures(header.version, header.pieces, after_header)?;
         if !end.rest.is_empty() {
             return Err(ContainerFault::C6 { at: end.at });
         }
@@ -133,11 +133,11 @@ fn procedures(
     ensures { ReadsAs (λ kept ps. AreFor (IsProcedure pieces) kept.items ps)
         (procedures_part version pieces) cursor.entry result }
 {
-    let (count, behind_count) = count_within(cursor, 1, MOST_PROCEDURES)?;
-    let (main, behind_main) = main_procedure(version, pieces, behind_count)?;
+    let (count, after_count) = count_within(cursor, 1, MOST_PROCEDURES)?;
+    let (main, after_main) = main_procedure(version, pieces, after_count)?;
     let mut procedures = ArrayVec::new();
     procedures.push(main);
-    let mut cursor = behind_main;
+    let mut cursor = after_main;
     for _ in 0..count - 1 {
         let (procedure, next) = other_procedure(version, pieces, cursor)?;
         procedures.push(procedure);

@@ -2,10 +2,10 @@
 
 ghost use Rattle.std.specs.Prelude.{◌≡◌, ◌≤◌, ◌<◌, length, Some, slice_get, map};
 ghost use Rattle.burr_code.specs.declared.limits.TheConstants.{MOST_GUARDS};
-ghost use Rattle.burr_forms.specs.Forms.{IsSmallForm};
-ghost use Rattle.burr_forms.specs.Points.{IsRange};
-ghost use Rattle.burr_container.specs.Plans.{over_symbols, place_over_symbols};
-ghost use Rattle.burr_container.specs.Refs.{exit_frame_of, told, IsSmallPlace};
+ghost use Rattle.burr_forms.specs.Rules.Forms.{IsSmallForm};
+ghost use Rattle.burr_forms.specs.Rules.Points.{IsRange};
+ghost use Rattle.burr_container.specs.Rules.Plans.{over_symbols, place_over_symbols};
+ghost use Rattle.burr_container.specs.Views.Refs.{exit_frame_of, placement_view, IsSmallPlace};
 
 use crate::exit_ref::ExitRef;
 use burr_forms::Form;
@@ -75,7 +75,7 @@ impl ExitRef<'_> {
         requires { p < self.now.places.count }
         ensures place { slice_get
             (map (place_over_symbols self.now.places.live) (exit_frame_of self.now).places) p
-            ≡ Some (told result) }
+            ≡ Some (placement_view result) }
         ensures small { IsSmallPlace result }
     {
         self.places.place(p)

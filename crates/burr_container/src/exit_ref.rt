@@ -1,11 +1,11 @@
 ghost use Rattle.std.specs.Prelude.{◌≡◌, ◌≤◌, ◌<◌, IsTrue};
 ghost use Rattle.burr_code.specs.declared.limits.TheConstants.{MOST_GUARDS};
-ghost use Rattle.burr_container.specs.Fitting.{are_ranges};
+ghost use Rattle.burr_container.specs.Rules.Fitting.{are_ranges};
 
-use crate::runs::{FormRun, PlaceRun};
+use crate::lists::{FormList, PlaceList};
 
 /// The exit frame of a procedure, read in place. Coefficient j of its forms belongs to parameter j,
-/// and those behind them to the results; further ones are 0.
+/// and those after them to the results; further ones are 0.
 #[derive(Clone, Copy)]
 pub struct ExitRef<'a> {
     pub(crate) tray: u8,
@@ -13,8 +13,8 @@ pub struct ExitRef<'a> {
     /// The ranges of the results, the first so many.
     pub(crate) results: [(i16, i16); 2],
     pub(crate) result_count: u8,
-    pub(crate) guards: FormRun<'a>,
-    pub(crate) places: PlaceRun<'a>,
+    pub(crate) guards: FormList<'a>,
+    pub(crate) places: PlaceList<'a>,
     ghost few_results: { result_count ≤ 2 },
     ghost ranges: { IsTrue (are_ranges 2 results) },
     ghost guards_live: { guards.live ≡ places.live },

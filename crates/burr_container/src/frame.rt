@@ -22,8 +22,8 @@ pub struct Frame {
 }
 
 impl Model for Frame {
-    ghost use Rattle.burr_container.specs.Plans.{Frame as FrameOf};
-    ghost use Rattle.burr_container.specs.Views.{placements_of};
+    ghost use Rattle.burr_container.specs.Rules.Plans.{Frame as FrameOf};
+    ghost use Rattle.burr_container.specs.Views.OwnedPlaces.{placements_of};
 
     ghost Value = { FrameOf };
 
@@ -40,7 +40,7 @@ impl Model for Frame {
 }
 
 /// What holds where a procedure returns. Its forms are over the parameters, which are the first
-/// symbols, and behind them the results.
+/// symbols, and after them the results.
 #[derive(Debug, Drop)]
 pub struct ExitFrame {
     /// The current tray, 0 to 31.
@@ -56,8 +56,8 @@ pub struct ExitFrame {
 }
 
 impl Model for ExitFrame {
-    ghost use Rattle.burr_container.specs.Plans.{ExitFrame as ExitFrameOf};
-    ghost use Rattle.burr_container.specs.Views.{placements_of};
+    ghost use Rattle.burr_container.specs.Rules.Plans.{ExitFrame as ExitFrameOf};
+    ghost use Rattle.burr_container.specs.Views.OwnedPlaces.{placements_of};
 
     ghost Value = { ExitFrameOf };
 

@@ -2,10 +2,10 @@
 
 ghost use Rattle.std.specs.Prelude.{◌≡◌, ◌≤◌, ◌<◌, length, Some, slice_get, map, IfSome};
 ghost use Rattle.burr_code.specs.declared.limits.TheConstants.{MOST_GUARDS, MOST_OPERANDS};
-ghost use Rattle.burr_forms.specs.Forms.{IsSmallForm};
-ghost use Rattle.burr_forms.specs.Points.{IsRange};
-ghost use Rattle.burr_container.specs.Plans.{live_slots, over_symbols, place_over_symbols};
-ghost use Rattle.burr_container.specs.Refs.{frame_of, told, IsSmallPlace};
+ghost use Rattle.burr_forms.specs.Rules.Forms.{IsSmallForm};
+ghost use Rattle.burr_forms.specs.Rules.Points.{IsRange};
+ghost use Rattle.burr_container.specs.Rules.Plans.{live_slots, over_symbols, place_over_symbols};
+ghost use Rattle.burr_container.specs.Views.Refs.{frame_of, placement_view, IsSmallPlace};
 
 use crate::frame_ref::FrameRef;
 use burr_forms::Form;
@@ -93,7 +93,7 @@ impl FrameRef<'_> {
         requires { p < self.now.places.count }
         ensures place { slice_get
             (map (place_over_symbols (live_slots self.now.slots)) (frame_of self.now).places) p
-            ≡ Some (told result) }
+            ≡ Some (placement_view result) }
         ensures small { IsSmallPlace result }
     {
         self.places.place(p)

@@ -1,9 +1,9 @@
 ghost use Rattle.std.specs.Prelude.{◌≡◌, ◌≤◌, ◌<◌, IsTrue};
 ghost use Rattle.burr_code.specs.declared.limits.TheConstants.{MOST_GUARDS, MOST_OPERANDS};
-ghost use Rattle.burr_container.specs.Plans.{live_slots};
-ghost use Rattle.burr_container.specs.Fitting.{are_slots};
+ghost use Rattle.burr_container.specs.Rules.Plans.{live_slots};
+ghost use Rattle.burr_container.specs.Rules.Fitting.{are_slots};
 
-use crate::runs::{FormRun, PlaceRun};
+use crate::lists::{FormList, PlaceList};
 
 /// The frame of a label, read in place. Coefficient j of its forms belongs to the j-th live slot;
 /// further ones are 0.
@@ -12,10 +12,10 @@ pub struct FrameRef<'a> {
     pub(crate) tray: u8,
     pub(crate) grip: u32,
     pub(crate) slots: [Option<(i16, i16)>; 8],
-    pub(crate) guards: FormRun<'a>,
-    pub(crate) stack: FormRun<'a>,
-    pub(crate) cost: FormRun<'a>,
-    pub(crate) places: PlaceRun<'a>,
+    pub(crate) guards: FormList<'a>,
+    pub(crate) stack: FormList<'a>,
+    pub(crate) cost: FormList<'a>,
+    pub(crate) places: PlaceList<'a>,
     ghost guards_live: { guards.live ≡ live_slots slots },
     ghost stack_live: { stack.live ≡ live_slots slots },
     ghost cost_live: { cost.live ≡ live_slots slots },

@@ -1,5 +1,5 @@
-ghost use Rattle.burr_container.specs.Laws.{FaultOrPlan, NoFaultOfPlan, OneFault, OnePlan};
-ghost use Rattle.burr_container.specs.Laws.{OneKeptPlan, KeptPlanFits};
+ghost use Rattle.burr_container.specs.Laws.PlanBytes.{FaultOrPlan, NoFaultOfPlan, OneFault, OnePlan};
+ghost use Rattle.burr_container.specs.Laws.PlanBytes.{ContainerOfOnePlan, ContainedPlanFits};
 
 /// Bytes are a plan's or have a fault, never both, and one plan's or one fault at most. So a plan
 /// within the format is told by its bytes, and the bytes of one plan begin those of no other.
@@ -12,6 +12,6 @@ pub fn containers_are_unique()
 
 /// A container is of one plan, and that one is within the format.
 pub fn a_container_is_of_one_plan()
-    ensures one { OneKeptPlan }
-    ensures fits { KeptPlanFits }
+    ensures one { ContainerOfOnePlan }
+    ensures fits { ContainedPlanFits }
 {}

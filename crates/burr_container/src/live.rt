@@ -1,7 +1,7 @@
 //! Which slots are live.
 
 ghost use Rattle.std.specs.Prelude.{◌≡◌, ◌≤◌};
-ghost use Rattle.burr_container.specs.Plans.{live_slots as live_ones, exit_symbols as first_ones};
+ghost use Rattle.burr_container.specs.Rules.Plans.{live_slots as live_ones, exit_symbols as first_ones};
 
 /// The slots that have a range.
 pub fn live_slots(slots: &[Option<(i16, i16)>; 8]) -> [bool; 8]

@@ -17,7 +17,7 @@ pub struct Plan {
 }
 
 impl Model for Plan {
-    ghost use Rattle.burr_container.specs.Plans.{Plan as PlanOf};
+    ghost use Rattle.burr_container.specs.Rules.Plans.{Plan as PlanOf};
 
     ghost Value = { PlanOf };
 
@@ -47,7 +47,7 @@ pub struct Procedure {
 }
 
 impl Model for Procedure {
-    ghost use Rattle.burr_container.specs.Plans.{PlanProcedure};
+    ghost use Rattle.burr_container.specs.Rules.Plans.{PlanProcedure};
 
     ghost Value = { PlanProcedure };
 

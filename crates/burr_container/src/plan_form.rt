@@ -10,7 +10,7 @@ pub struct PlanForm {
 }
 
 impl Model for PlanForm {
-    ghost use Rattle.burr_forms.specs.Forms.{Form};
+    ghost use Rattle.burr_forms.specs.Rules.Forms.{Form};
 
     ghost Value = { Form };
 

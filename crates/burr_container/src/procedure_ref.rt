@@ -1,5 +1,5 @@
 use crate::exit_ref::ExitRef;
-use crate::labels::Labels;
+use crate::label_table::LabelTable;
 
 /// A procedure of a container.
 #[derive(Drop, Default)]
@@ -7,6 +7,6 @@ pub struct ProcedureRef<'a> {
     pub parameters: u8,
     pub results: u8,
     pub exit: Option<ExitRef<'a>>,
-    pub labels: Labels<'a>,
+    pub labels: LabelTable<'a>,
     pub code: &'a [u8],
 }

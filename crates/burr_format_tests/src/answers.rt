@@ -8,7 +8,7 @@
 //! - `name 3`: the name of piece 3 that is found in a text
 //! - `asm`: `right`, or the fault of a text
 //! - `listing`: the listing of what a text is assembled to
-//! - `places`: the same with places, behind the version and the size
+//! - `places`: the same with places, after the version and the size
 //! - `size`: the version and the size of what a text is assembled to
 //! - `container`: the fault of bytes, or what `places` tells of them
 //! - `plan`: whether the plan of two cubes is written as these bytes

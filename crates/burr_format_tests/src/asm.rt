@@ -161,7 +161,7 @@ fn judges_and_lists_plans_with_results(rt: HostRuntime) -> Result<(), Fail> {
 }
 
 #[test]
-fn takes_any_bytes_behind_a_semicolon(rt: HostRuntime) -> Result<(), Fail> {
+fn takes_any_bytes_after_a_semicolon(rt: HostRuntime) -> Result<(), Fail> {
     let alloc = rt.alloc();
     let mut text = Vec::new(alloc);
     for line in RING.lines() {

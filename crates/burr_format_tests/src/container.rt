@@ -275,13 +275,13 @@ const OF_DUO: &str = "\
 17 fe|C4 { at: 33 }
 ; a first label that isn't at 0
 10 00 01|C5 { at: 19 }
-; a byte behind the end
+; a byte after the end
 22 10 00 00 00 01 12 01 01 00/00|C6 { at: 70 }
 ";
 
 /// The same of the rod in a ring.
 const OF_RING: &str = "\
-; labels that don't rise, and a label behind the end of the code
+; labels that don't rise, and a label after the end of the code
 21 00 00|C5 { at: 60 }
 21 ff ff|C4 { at: 118 }
 ; ends of ranges

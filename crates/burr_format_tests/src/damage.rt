@@ -11,12 +11,12 @@ use std::test::Fail;
 /// What the answer to a damaged input has to be.
 #[derive(Clone, Copy)]
 enum Want {
-    /// What a front of a text lacks: A7 behind each of these lines, and A1 anywhere else.
+    /// What a front of a text lacks: A7 after each of these lines, and A1 anywhere else.
     Front([usize; 3]),
     /// What a front of a container lacks: C1 at its end.
     Bytes,
     /// `right`, or a fault of the line of the place or of a later one.
-    Behind,
+    After,
     /// `right`, or a fault of any line.
     Anywhere,
     /// `right` with one of these bytes, this fault with another byte of a word, and A1 with any
@@ -24,13 +24,13 @@ enum Want {
     Byte(&'static str, &'static str),
 }
 
-use Want::{Anywhere, Behind, Byte, Bytes, Front};
+use Want::{After, Anywhere, Byte, Bytes, Front};
 
 /// The kind of an answer and what the input is made of; how many bytes are taken out from each
 /// place on, the bytes of which one is put in there, if there are any; and what is wanted then.
 type Damage = (&'static str, &'static str, usize, &'static [u8], Want);
 
-/// All that stands behind a place.
+/// All that stands after a place.
 const REST: usize = usize::MAX;
 
 /// Bytes that no line may have.
@@ -56,15 +56,15 @@ const DAMAGES: [Damage; 12] = [
 
 /// No text but one stands for an assembly.
 const OTHER_DUOS: [Damage; 3] = [
-    ("assembly", DUO, 1, b"", Behind),
-    ("assembly", DUO, 1, b"\n", Behind),
-    ("assembly", DUO, 1, &OF_LINES, Behind),
+    ("assembly", DUO, 1, b"", After),
+    ("assembly", DUO, 1, b"\n", After),
+    ("assembly", DUO, 1, &OF_LINES, After),
 ];
 
 const OTHER_RINGS: [Damage; 3] = [
-    ("assembly", RING, 1, b"", Behind),
-    ("assembly", RING, 1, b"\n", Behind),
-    ("assembly", RING, 1, &OF_LINES, Behind),
+    ("assembly", RING, 1, b"", After),
+    ("assembly", RING, 1, b"\n", After),
+    ("assembly", RING, 1, &OF_LINES, After),
 ];
 
 /// All bytes but an LF.
@@ -155,7 +155,7 @@ fn is_wanted(want: Want, byte: &[u8], damaged: &[u8], place: usize, found: &str)
         }
         Front(_lines) => is_fault(found, "A1 ", line),
         Bytes => is_fault(found, "C1 ", place),
-        Behind => is_sound(found, line, line_ends(damaged)),
+        After => is_sound(found, line, line_ends(damaged)),
         Anywhere => is_sound(found, 1, line_ends(damaged)),
         Byte(right, other) => match byte {
             [byte] if right.as_bytes().contains(byte) => found == "right",
@@ -197,7 +197,7 @@ fn number_of(fault: &str) -> Option<usize> {
 }
 
 /// Asserts each row of a table: a number of a line of the duo, what stands in its place before a
-/// byte and behind it, the bytes that are right there, and the fault of any other byte of a word.
+/// byte and after it, the bytes that are right there, and the fault of any other byte of a word.
 #[test]
 fn judges_each_byte(rt: HostRuntime) -> Result<(), Fail> {
     for row in PLACES.lines() {

@@ -77,7 +77,7 @@ fn with_repetition(alloc: Global, text: &str) -> Result<Option<String>, AllocErr
 }
 
 /// What stands before the last repetition of a text, how often it is, what it is of, and what
-/// stands behind it.
+/// stands after it.
 fn repetition(text: &str) -> Option<(&str, u32, &str, &str)> {
     let (front, rest) = text.rsplit_once('<')?;
     let (repeated, rest) = rest.split_once('>')?;

@@ -22,21 +22,21 @@ fn grown(alloc: Global, state: &mut u64) -> Result<String, AllocError> {
     let mut text = String::new(alloc);
     let mut rest = String::from_str(alloc, "<plan>")?;
     for _ in 0..20_000u32 {
-        let Some((front, word, behind)) = first_word(&rest) else {
+        let Some((front, word, after)) = first_word(&rest) else {
             break;
         };
         text.push_str(front)?;
-        rest = format!(in alloc; "{}{behind}", chosen(word, state))?;
+        rest = format!(in alloc; "{}{after}", chosen(word, state))?;
     }
     text.push_str(&rest)?;
     text.replace(alloc, '/', "\n")
 }
 
-/// The first word of a text that has a rule, with what stands before it and behind it.
+/// The first word of a text that has a rule, with what stands before it and after it.
 fn first_word(text: &str) -> Option<(&str, &str, &str)> {
     let (front, rest) = text.split_once('<')?;
-    let (word, behind) = rest.split_once('>')?;
-    Some((front, word, behind))
+    let (word, after) = rest.split_once('>')?;
+    Some((front, word, after))
 }
 
 /// One of what the rules have for a word, by the next number of a linear congruential generator.
@@ -64,7 +64,7 @@ fn part_of(all: &'static str, number: usize) -> &'static str {
 
 /// The rules, the most common first: a word, and what may stand in its place. Numbers are often at
 /// the ends of their ranges, and bytes of code are often the first of an instruction, or small. The
-/// number behind a word is that of the pieces, or tells of which slots a form may be: of none, of
+/// number after a word is that of the pieces, or tells of which slots a form may be: of none, of
 /// slot 0, of 2 and 7, of the first four, or of all.
 const RULES: &str = "\
 coef|-32768|+32767|+1|-1|+7|-300|+4096

@@ -1,6 +1,6 @@
 //! Tables of cases. A table is four texts: the kind of its answers (`answers` has a list), what its
 //! inputs are made of, what its wanted answers are made of, and its cases: a case a line, and
-//! headings that begin with `;`. Behind the last `|` of a case stands what is wanted, and before it
+//! headings that begin with `;`. After the last `|` of a case stands what is wanted, and before it
 //! the input: `inputs` says how both are written.
 use crate::answers::answer;
 use crate::inputs::{input_of, text_of};

@@ -3,8 +3,8 @@ use Rattle.std.proofs.Common.{◌≡◌, suc, List, [], ◌∷◌, length, refl,
 use Rattle.std.specs.Prelude.{ℤ}
 use Rattle.std.proofs.lemmas.Int.{ints}
 use Rattle.std.proofs.lemmas.List.Elements.{All-head, All-tail, All-nil, All-cons}
-use Rattle.burr_forms.specs.Forms.{Point, IsNear, AllNear}
-use Rattle.burr_forms.specs.Points.{IsRange, InRange, InBox, AreRanges}
+use Rattle.burr_forms.specs.Rules.Forms.{Point, IsNear, AllNear}
+use Rattle.burr_forms.specs.Rules.Points.{IsRange, InRange, InBox, AreRanges}
 
 pub length_inside : (ranges : List (ℤ × ℤ)) (point : Point) → InBox ranges point → length point ≡ length ranges
 length_inside [] [] b = refl

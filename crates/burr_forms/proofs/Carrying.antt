@@ -6,9 +6,9 @@ use Rattle.std.proofs.lemmas.Int.{ints, fits_signed_from_abs}
 use Rattle.std.proofs.lemmas.List.{take_all, drop_all, append-nil}
 use Rattle.std.proofs.lemmas.List.Elements.{All-head, All-tail}
 use Rattle.std.proofs.Math.IntN.{suc_ℤ, suc_ℤ-*ℤ, *ℤ_comm}
-use Rattle.burr_forms.specs.Forms.{Form, Point, dot, value, values}
-use Rattle.burr_forms.specs.Searching.{IsBounded, AllBounded, step_of, steps_of, sums, IsRaised}
-use Rattle.burr_forms.specs.Rising.{lows, following}
+use Rattle.burr_forms.specs.Rules.Forms.{Form, Point, dot, value, values}
+use Rattle.burr_forms.specs.Views.Searching.{IsBounded, AllBounded, step_of, steps_of, sums, IsRaised}
+use Rattle.burr_forms.specs.Views.Rising.{lows, following}
 use Rattle.burr_forms.proofs.Stepping.{advanced}
 
 -- Sums

@@ -4,9 +4,9 @@ use Rattle.std.specs.Prelude.{ℤ, pos, ◌+ℤ◌, ◌-ℤ◌, ◌*ℤ◌, ◌�
 use Rattle.std.specs.Int.RustNames.{unsigned_abs}
 use Rattle.std.proofs.lemmas.Int.{ints}
 use Rattle.std.proofs.lemmas.List.Elements.{All-head, All-tail}
-use Rattle.burr_forms.specs.Forms.{Form, Point, dot, value}
-use Rattle.burr_forms.specs.Points.{IsRange, InRange, InBox, AreRanges}
-use Rattle.burr_forms.specs.Bounds.{IsLeastIn, IsGreatestIn, end_at, corner}
+use Rattle.burr_forms.specs.Rules.Forms.{Form, Point, dot, value}
+use Rattle.burr_forms.specs.Rules.Points.{IsRange, InRange, InBox, AreRanges}
+use Rattle.burr_forms.specs.Views.Bounds.{IsLeastIn, IsGreatestIn, end_at, corner}
 use Rattle.burr_forms.proofs.Carrying.{times_more}
 
 -- Multiples along a range

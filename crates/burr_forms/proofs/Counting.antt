@@ -4,10 +4,10 @@ use Rattle.std.specs.Prelude.{ℤ, pos, negsuc, ◌+ℤ◌}
 use Rattle.std.specs.Int.{int_gap}
 use Rattle.std.proofs.lemmas.Int.{ints, by_lt_z}
 use Rattle.std.proofs.lemmas.List.Elements.{All-nil, All-cons, All-weaker}
-use Rattle.burr_forms.specs.Points.{InRange, count_from, above}
-use Rattle.burr_forms.proofs.Containing.{contains_first, contains_behind}
+use Rattle.burr_forms.specs.Rules.Points.{InRange, count_from, above}
+use Rattle.burr_forms.proofs.Containing.{contains_first, contains_after}
 
--- each number is below all behind it
+-- each number is below all after it
 abbrev pub IsAscending : List ℤ → Type 0
 IsAscending [] = Unit {0}
 IsAscending (x ∷ xs) = All (λ y. x <ℤ y) xs × IsAscending xs
@@ -19,8 +19,8 @@ IsAmong a n x = (a ≤ℤ x) × (x <ℤ (a +ℤ pos n))
 among_more : (a : ℤ) (n : ℕ) (x : ℤ) → IsAmong (a +ℤ pos 1) n x → IsAmong a (suc n) x
 among_more a n x h = let low = h.0 in let high = h.1 in (omega (arith, ints), omega (arith, ints))
 
-among_behind : (a : ℤ) (n : ℕ) (x : ℤ) → IsAmong a (suc n) x → a <ℤ x → IsAmong (a +ℤ pos 1) n x
-among_behind a n x h l = let high = h.1 in (omega (arith, ints), omega (arith, ints))
+among_after : (a : ℤ) (n : ℕ) (x : ℤ) → IsAmong a (suc n) x → a <ℤ x → IsAmong (a +ℤ pos 1) n x
+among_after a n x h l = let high = h.1 in (omega (arith, ints), omega (arith, ints))
 
 all_among : (a : ℤ) (n : ℕ) → All (IsAmong a n) (count_from a n)
 all_among a zero = All-nil (IsAmong a 0)
@@ -33,8 +33,8 @@ contains_among : (a : ℤ) (n : ℕ) (x : ℤ) → IsAmong a n x → Contains (c
 contains_among a zero x h = let low = h.0 in let high = h.1 in absurd (omega (arith, ints))
 contains_among a (suc n) x h =
     by_lt_z a x
-    (λ l. contains_behind a x (count_from (a +ℤ pos 1) n)
-    (contains_among (a +ℤ pos 1) n x (among_behind a n x h l)))
+    (λ l. contains_after a x (count_from (a +ℤ pos 1) n)
+    (contains_among (a +ℤ pos 1) n x (among_after a n x h l)))
     (λ l. let low = h.0 in let same : a ≡ x = omega (arith, ints) in
     subst (Contains (count_from a (suc n))) same (contains_first a (count_from (a +ℤ pos 1) n)))
 

@@ -2,9 +2,9 @@
 use Rattle.std.proofs.Common.{◌≡◌, suc, ◌<◌, Bool, true, false, cond, List, ◌∷◌, Some, None, ap, ◌∙◌, arith}
 use Rattle.std.specs.Prelude.{ℤ, filter, not, MatchBool}
 use Rattle.std.proofs.lemmas.Bool.{true≢false}
-use Rattle.burr_forms.specs.Forms.{Form, Point}
-use Rattle.burr_forms.specs.Points.{InBox, AreRanges, guards_hold}
-use Rattle.burr_forms.specs.Rising.{following, from_next, left, count_after}
+use Rattle.burr_forms.specs.Rules.Forms.{Form, Point}
+use Rattle.burr_forms.specs.Rules.Points.{InBox, AreRanges, guards_hold}
+use Rattle.burr_forms.specs.Views.Rising.{following, from_next, left, count_after}
 use Rattle.burr_forms.proofs.Boxes.{length_inside}
 use Rattle.burr_forms.proofs.Remaining.{from_first}
 use Rattle.burr_forms.proofs.Orders.{follows_next}
@@ -25,11 +25,11 @@ module _ (ranges : List (ℤ × ℤ)) (guards : List Form) (old new : Point) whe
   kept true e = ap (λ n. filter (guards_hold guards) (from_next ranges n)) e
   kept false e = ap (λ n. filter (guards_hold guards) (from_next ranges n)) e
 
-  behind : (h : Bool) → InBox ranges old → guards_hold guards old ≡ h
+  after : (h : Bool) → InBox ranges old → guards_hold guards old ≡ h
       → left ranges guards old false
       ≡ cond h (old ∷ filter (guards_hold guards) (from_next ranges (following ranges old)))
       (filter (guards_hold guards) (from_next ranges (following ranges old)))
-  behind h b e =
+  after h b e =
       ap (λ r. filter (guards_hold guards) r) (from_first ranges old (length_inside ranges old b))
       ∙ ap (λ g. cond g (old ∷ filter (guards_hold guards) (from_next ranges (following ranges old)))
       (filter (guards_hold guards) (from_next ranges (following ranges old)))) e
@@ -37,11 +37,11 @@ module _ (ranges : List (ℤ × ℤ)) (guards : List Form) (old new : Point) whe
   module _ (b : Bool) (s : IsStep ranges old new b) where
     -- a point at which the guards hold is the first that is left
     pub given : guards_hold guards old ≡ true → left ranges guards old false ≡ old ∷ left ranges guards new (not b)
-    given h = behind true s.inside h ∙ ap (λ r. old ∷ r) (kept b s.advances)
+    given h = after true s.inside h ∙ ap (λ r. old ∷ r) (kept b s.advances)
 
     -- one at which they do not is passed over
     pub passed : guards_hold guards old ≡ false → left ranges guards old false ≡ left ranges guards new (not b)
-    passed h = behind false s.inside h ∙ kept b s.advances
+    passed h = after false s.inside h ∙ kept b s.advances
 
 pub inside_next : (ranges : List (ℤ × ℤ)) (old new : Point) (b : Bool) → IsStep ranges old new b → not b ≡ false → InBox ranges new
 inside_next ranges old new true s h = (follows_next ranges old new s.are s.inside s.advances).inside

@@ -4,8 +4,8 @@ use Rattle.std.specs.Prelude.{ℤ, pos, int_lt}
 use Rattle.std.proofs.lemmas.Int.{ints}
 use Rattle.std.proofs.lemmas.List.Elements.{All-weaker}
 use Rattle.std.proofs.lemmas.List.Sums.{AllPass-from_list_all, list_all-from_AllPass}
-use Rattle.burr_forms.specs.Forms.{Form, Point, value}
-use Rattle.burr_forms.specs.Points.{GuardsHold, guards_hold}
+use Rattle.burr_forms.specs.Rules.Forms.{Form, Point, value}
+use Rattle.burr_forms.specs.Rules.Points.{GuardsHold, guards_hold}
 
 from_test : (x : ℤ) (b : Bool) → int_lt x (pos 0) ≡ b → not b ≡ true → pos 0 ≤ℤ x
 from_test x true e h = absurd (true≢false (sym h))

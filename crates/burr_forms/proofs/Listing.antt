@@ -3,10 +3,10 @@ use Rattle.std.proofs.Common.{◌≡◌, suc, Bool, true, false, cond, List, [],
 use Rattle.std.specs.Prelude.{ℤ, slice_index_or}
 use Rattle.std.specs.Int.{int_gap}
 use Rattle.std.proofs.lemmas.List.Elements.{All-nil, All-cons, All-head, All-tail, All-weaker, All-append, All-map, All-filter, filter_passes, Contains-append_left, Contains-append_right}
-use Rattle.burr_forms.specs.Forms.{Form, Point}
-use Rattle.burr_forms.specs.Points.{IsPointOf, IsRange, AreRanges, InRange, InBox, GuardsHold, Precedes, above, beginning_with, box_points, guards_hold, points_of}
-use Rattle.burr_forms.specs.PointLaws.{IsRising, ThePointsAreGiven}
-use Rattle.burr_forms.proofs.Containing.{contains_first, contains_none, contains_image, contains_passing, first_or_behind}
+use Rattle.burr_forms.specs.Rules.Forms.{Form, Point}
+use Rattle.burr_forms.specs.Rules.Points.{IsPointOf, IsRange, AreRanges, InRange, InBox, GuardsHold, Precedes, above, beginning_with, box_points, guards_hold, points_of}
+use Rattle.burr_forms.specs.Laws.PointLaws.{IsRising, ThePointsAreGiven}
+use Rattle.burr_forms.proofs.Containing.{contains_first, contains_none, contains_image, contains_passing, first_or_after}
 use Rattle.burr_forms.proofs.Counting.{IsAscending, all_in_range, contains_in_range, count_ascends}
 use Rattle.burr_forms.proofs.GuardTests.{hold_from_test, test_from_hold}
 
@@ -23,7 +23,7 @@ all_beginning P (x ∷ xs) points h =
 contains_beginning : (xs : List ℤ) (points : List Point) (x : ℤ) (point : Point)
     → Contains xs x → Contains points point → Contains (beginning_with xs points) (x ∷ point)
 contains_beginning [] points x point h k = absurd (contains_none x h)
-contains_beginning (y ∷ xs) points x point h k = elim (first_or_behind y x xs h) [
+contains_beginning (y ∷ xs) points x point h k = elim (first_or_after y x xs h) [
   | inl e ↦ subst (λ z. Contains (beginning_with (y ∷ xs) points) (z ∷ point)) e
       (Contains-append_left (map (λ p. y ∷ p) points) (beginning_with xs points) (y ∷ point)
       (contains_image (λ p. y ∷ p) points point k))
@@ -68,10 +68,10 @@ rising_beginning (x ∷ xs) points a r =
 all_in_box : (ranges : List (ℤ × ℤ)) → AreRanges ranges → All (InBox ranges) (box_points ranges)
 all_in_box [] r = All-cons (InBox []) [] [] tt (All-nil (InBox []))
 all_in_box (range ∷ ranges) r =
-    let behind = all_in_box ranges (All-tail IsRange range ranges r) in
+    let after = all_in_box ranges (All-tail IsRange range ranges r) in
     all_beginning (InBox (range ∷ ranges)) (range.0 ∷ above range.0 range.1) (box_points ranges)
     (All-weaker (InRange range) (λ x. All (λ p. InBox (range ∷ ranges) (x ∷ p)) (box_points ranges))
-    (λ x here k d inside. (here, behind k d inside)) (range.0 ∷ above range.0 range.1)
+    (λ x here k d inside. (here, after k d inside)) (range.0 ∷ above range.0 range.1)
     (all_in_range range (All-head IsRange range ranges r).rising))
 
 contains_in_box : (ranges : List (ℤ × ℤ)) (point : Point) → AreRanges ranges → InBox ranges point

@@ -3,10 +3,10 @@ use Rattle.std.proofs.Common.{◌≡◌, ℕ, suc, List, [], ◌∷◌, ◌++◌
 use Rattle.std.specs.Prelude.{ℤ, ◌+ℤ◌, ◌*ℤ◌, MatchOption}
 use Rattle.std.proofs.lemmas.Int.{ints, by_lt_z}
 use Rattle.std.proofs.lemmas.List.Elements.{All-head, All-tail, All-nil, All-cons}
-use Rattle.burr_forms.specs.Forms.{Form, Point, dot, values}
-use Rattle.burr_forms.specs.Points.{IsRange, InRange, InBox, IsPointOf, AreRanges, Precedes}
-use Rattle.burr_forms.specs.Conditions.{region, Throughout, FailsFirstAt, NoneNegative, at_values}
-use Rattle.burr_forms.specs.Searching.{step_of, AllLack, AreNarrowRanges, IsNarrowRange}
+use Rattle.burr_forms.specs.Rules.Forms.{Form, Point, dot, values}
+use Rattle.burr_forms.specs.Rules.Points.{IsRange, InRange, InBox, IsPointOf, AreRanges, Precedes}
+use Rattle.burr_forms.specs.Rules.Conditions.{region, Throughout, FailsFirstAt, NoneNegative, at_values}
+use Rattle.burr_forms.specs.Views.Searching.{step_of, AllLack, AreNarrowRanges, IsNarrowRange}
 use Rattle.burr_forms.proofs.Orders.{IsUpTo}
 use Rattle.burr_forms.proofs.Search.{to_guards, from_guards}
 
@@ -37,7 +37,7 @@ as_many_narrowed IsFree (range ∷ ranges) [] is = absurd is
 as_many_narrowed IsFree (range ∷ ranges) (n ∷ narrowed) is =
     ap suc (as_many_narrowed (λ k. IsFree (suc k)) ranges narrowed is.1)
 
--- one range more behind
+-- one range more after
 pub narrowed_on : (IsFree : ℕ → Type 0) (ranges narrowed : List (ℤ × ℤ)) (range n : ℤ × ℤ) → AreNarrowRanges IsFree ranges narrowed
     → IsNarrowRange (IsFree (length ranges)) range n → AreNarrowRanges IsFree (ranges ++ range ∷ []) (narrowed ++ n ∷ [])
 narrowed_on IsFree [] [] range n is one = (one, tt)

@@ -5,8 +5,8 @@ use Rattle.std.specs.Int.{w128}
 use Rattle.std.specs.Int.RustNames.{unsigned_abs}
 use Rattle.std.proofs.lemmas.Int.{ints, unsigned_abs-mul, fits_signed_from_abs}
 use Rattle.std.proofs.lemmas.Nat.{mul-le}
-use Rattle.burr_forms.specs.Forms.{sum_of, IsSmall}
-use Rattle.burr_forms.specs.Wides.{AllWithin}
+use Rattle.burr_forms.specs.Rules.Forms.{sum_of, IsSmall}
+use Rattle.burr_forms.specs.Views.Wides.{AllWithin}
 use Rattle.burr_forms.proofs.Values.{abs_small}
 
 -- the numbers so many times

@@ -2,7 +2,7 @@
 use Rattle.std.proofs.Common.{◌≡◌, ℕ, zero, suc, ◌+◌, ◌-◌, ◌<◌, List, [], ◌∷◌, ◌++◌, length, take, refl, ap, arith, slice_index_or, slice_set}
 use Rattle.std.specs.Prelude.{ℤ, pos, replicate}
 use Rattle.std.proofs.lemmas.List.Elements.{All-nil, All-cons, All-head, All-tail}
-use Rattle.burr_forms.specs.Forms.{IsSmall, AllSmall}
+use Rattle.burr_forms.specs.Rules.Forms.{IsSmall, AllSmall}
 
 put_at : (i rest : ℕ) (xs : List ℤ) (d : ℤ) → length xs ≡ i + suc rest
     → slice_set (take i xs ++ replicate (suc rest) (pos 0)) i (slice_index_or xs i d) ≡ take (suc i) xs ++ replicate rest (pos 0)

@@ -4,9 +4,9 @@ use Rattle.std.specs.Prelude.{ℤ, pos, ◌+ℤ◌, Option, int_lt}
 use Rattle.std.specs.Int.{int_gap}
 use Rattle.std.proofs.lemmas.Int.{ints, by_lt_z}
 use Rattle.std.proofs.lemmas.List.Elements.{All-head, All-tail}
-use Rattle.burr_forms.specs.Forms.{Point}
-use Rattle.burr_forms.specs.Points.{IsRange, InRange, InBox, AreRanges, Precedes}
-use Rattle.burr_forms.specs.Rising.{lows, carried, following, count_in, count_after}
+use Rattle.burr_forms.specs.Rules.Forms.{Point}
+use Rattle.burr_forms.specs.Rules.Points.{IsRange, InRange, InBox, AreRanges, Precedes}
+use Rattle.burr_forms.specs.Views.Rising.{lows, carried, following, count_in, count_after}
 use Rattle.burr_forms.proofs.Remaining.{gap_more, gap_none}
 
 pub lows_inside : (ss : List (ℤ × ℤ)) → AreRanges ss → InBox ss (lows ss)
@@ -64,10 +64,10 @@ up_to_or x y q xs (inl l) u = inr (inl l)
 up_to_or x y q xs (inr e) u = ahead x y q xs e u
 
 module _ (s : ℤ × ℤ) (ss : List (ℤ × ℤ)) (x : ℤ) (xs : Point) (here : InRange s x) where
-  nearest_behind : (p : Point) → IsNext ss xs p → (q : Point) → InBox (s ∷ ss) q → Precedes q (x ∷ p) → IsUpTo q (x ∷ xs)
-  nearest_behind p n [] b before = absurd b
-  nearest_behind p n (y ∷ q) b (inl l) = inr (inl l)
-  nearest_behind p n (y ∷ q) b (inr r) = ahead x y q xs r.0 (n.nearest q b.1 r.1)
+  nearest_after : (p : Point) → IsNext ss xs p → (q : Point) → InBox (s ∷ ss) q → Precedes q (x ∷ p) → IsUpTo q (x ∷ xs)
+  nearest_after p n [] b before = absurd b
+  nearest_after p n (y ∷ q) b (inl l) = inr (inl l)
+  nearest_after p n (y ∷ q) b (inr r) = ahead x y q xs r.0 (n.nearest q b.1 r.1)
 
   nearest_here : IsLast ss xs → (q : Point) → InBox (s ∷ ss) q → Precedes q ((x +ℤ pos 1) ∷ lows ss) → IsUpTo q (x ∷ xs)
   nearest_here n [] b before = absurd b
@@ -93,7 +93,7 @@ module _ (s : ℤ × ℤ) (ss : List (ℤ × ℤ)) (x : ℤ) (xs : Point) (here 
       record { greatest = greatest_here e n; count = omega arith }
 
   in_front : AreRanges ss → (next : Option Point) → Follows ss xs next → Follows (s ∷ ss) (x ∷ xs) (carried s ss x next)
-  in_front r (Some p) n = let c = n.count in record { inside = (here, n.inside); nearest = nearest_behind p n; count = omega arith }
+  in_front r (Some p) n = let c = n.count in record { inside = (here, n.inside); nearest = nearest_after p n; count = omega arith }
   in_front r None n = here_test r n (int_lt x s.1) refl
 
 pub follows : (ss : List (ℤ × ℤ)) (xs : Point) → AreRanges ss → InBox ss xs → Follows ss xs (following ss xs)

@@ -4,9 +4,9 @@ use Rattle.std.specs.Prelude.{ℤ, pos, replicate}
 use Rattle.std.proofs.lemmas.Int.{ints}
 use Rattle.std.proofs.lemmas.List.{take_all}
 use Rattle.std.proofs.lemmas.List.Elements.{All-append, All-replicate}
-use Rattle.burr_forms.specs.Points.{IsRange, AreRanges, padded}
+use Rattle.burr_forms.specs.Rules.Points.{IsRange, AreRanges, padded}
 
--- the first ranges, and 0 alone behind them, so many in all
+-- the first ranges, and 0 alone after them, so many in all
 abbrev pub padded_to : ℕ → ℕ → List (ℤ × ℤ) → List (ℤ × ℤ)
 padded_to n i ranges = take i ranges ++ replicate (n - i) (pos 0, pos 0)
 

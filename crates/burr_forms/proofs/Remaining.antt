@@ -3,9 +3,9 @@ use Rattle.std.proofs.Common.{◌≡◌, ℕ, zero, suc, Bool, true, false, cond
 use Rattle.std.specs.Prelude.{ℤ, pos, negsuc, ◌+ℤ◌, map, Option, int_lt}
 use Rattle.std.specs.Int.{int_gap}
 use Rattle.std.proofs.lemmas.Int.{ints}
-use Rattle.burr_forms.specs.Forms.{Point}
-use Rattle.burr_forms.specs.Points.{count_from, above, beginning_with, box_points}
-use Rattle.burr_forms.specs.Rising.{points_from, lows, carried, following, from_next}
+use Rattle.burr_forms.specs.Rules.Forms.{Point}
+use Rattle.burr_forms.specs.Rules.Points.{count_from, above, beginning_with, box_points}
+use Rattle.burr_forms.specs.Views.Rising.{points_from, lows, carried, following, from_next}
 
 -- Numbers above another
 
@@ -38,25 +38,25 @@ from_lows (range ∷ ranges) =
 
 module _ (range : ℤ × ℤ) (ranges : List (ℤ × ℤ)) (x : ℤ) where
   -- the points that begin with one of so many numbers above x
-  behind : ℕ → List Point
-  behind n = beginning_with (count_from (x +ℤ pos 1) n) (box_points ranges)
+  after : ℕ → List Point
+  after n = beginning_with (count_from (x +ℤ pos 1) n) (box_points ranges)
 
-  behind_here : (b : Bool) → int_lt x range.1 ≡ b
-      → behind (int_gap x range.1) ≡ from_next (range ∷ ranges) (cond b (Some ((x +ℤ pos 1) ∷ lows ranges)) None)
-  unfolding behind
-  behind_here true e =
-      ap behind (gap_more x range.1 e)
+  after_here : (b : Bool) → int_lt x range.1 ≡ b
+      → after (int_gap x range.1) ≡ from_next (range ∷ ranges) (cond b (Some ((x +ℤ pos 1) ∷ lows ranges)) None)
+  unfolding after
+  after_here true e =
+      ap after (gap_more x range.1 e)
       ∙ ap (λ r. map (λ p. (x +ℤ pos 1) ∷ p) r ++ beginning_with (above (x +ℤ pos 1) range.1) (box_points ranges)) (sym (from_lows ranges))
-  behind_here false e = ap behind (gap_none x range.1 e)
+  after_here false e = ap after (gap_none x range.1 e)
 
   in_front : (point : Point) (next : Option Point) → points_from ranges point ≡ point ∷ from_next ranges next
       → points_from (range ∷ ranges) (x ∷ point) ≡ (x ∷ point) ∷ from_next (range ∷ ranges) (carried range ranges x next)
-  unfolding behind
+  unfolding after
   in_front point (Some p) e =
       ap (λ r. map (λ q. x ∷ q) r ++ beginning_with (above x range.1) (box_points ranges)) e
   in_front point None e =
       ap (λ r. map (λ q. x ∷ q) r ++ beginning_with (above x range.1) (box_points ranges)) e
-      ∙ ap (λ r. (x ∷ point) ∷ r) (behind_here (int_lt x range.1) refl)
+      ∙ ap (λ r. (x ∷ point) ∷ r) (after_here (int_lt x range.1) refl)
 
 pub from_first : (ranges : List (ℤ × ℤ)) (point : Point) → length point ≡ length ranges
     → points_from ranges point ≡ point ∷ from_next ranges (following ranges point)

@@ -3,8 +3,8 @@ use Rattle.std.proofs.Common.{◌≡◌, ℕ, ◌+◌, ◌≤◌, ◌<◌, List,
 use Rattle.std.specs.Prelude.{ℤ}
 use Rattle.std.proofs.lemmas.List.{length-map}
 use Rattle.std.proofs.lemmas.List.Elements.{All-head, All-tail, All-nil, All-cons}
-use Rattle.burr_forms.specs.Forms.{Form, Point, value, values, IsSmallForm, AllSmallForms, AllNear}
-use Rattle.burr_forms.specs.Searching.{IsBounded, AllBounded}
+use Rattle.burr_forms.specs.Rules.Forms.{Form, Point, value, values, IsSmallForm, AllSmallForms, AllNear}
+use Rattle.burr_forms.specs.Views.Searching.{IsBounded, AllBounded}
 use Rattle.burr_forms.proofs.Placing.{put_next}
 use Rattle.burr_forms.proofs.Values.{value_bound}
 

@@ -1,11 +1,11 @@
 -- From one point of a region to the next.
 use Rattle.std.proofs.Common.{◌≡◌, ◌<◌, ◌≤◌, ◌-◌, List, [], ◌∷◌, length, Some, None, ap, sym, ◌∙◌, arith, inl, inr, subst}
 use Rattle.std.specs.Prelude.{ℤ, pos, Bool, true, false, IsTrue, ◌≤ℤ◌}
-use Rattle.burr_forms.specs.Forms.{Form, Point, value, values, AllNear, AllSmallForms}
-use Rattle.burr_forms.specs.Points.{IsPointOf, InBox, AreRanges, GuardsHold}
-use Rattle.burr_forms.specs.Searching.{AllBounded, steps_of, sums, HoldsBefore, StandsAt, IsRaised, IsBehind, IsHere}
-use Rattle.burr_forms.specs.Rising.{lows, following, count_after}
-use Rattle.burr_forms.specs.Conditions.{Region, Throughout, FailsFirstAt, NoneNegative, at_values}
+use Rattle.burr_forms.specs.Rules.Forms.{Form, Point, value, values, AllNear, AllSmallForms}
+use Rattle.burr_forms.specs.Rules.Points.{IsPointOf, InBox, AreRanges, GuardsHold}
+use Rattle.burr_forms.specs.Views.Searching.{AllBounded, steps_of, sums, HoldsBefore, StandsAt, IsRaised, IsAfter, IsHere}
+use Rattle.burr_forms.specs.Views.Rising.{lows, following, count_after}
+use Rattle.burr_forms.specs.Rules.Conditions.{Region, Throughout, FailsFirstAt, NoneNegative, at_values}
 use Rattle.std.proofs.lemmas.List.Elements.{All-head, All-tail, All-nil, All-cons, All-map}
 use Rattle.burr_forms.proofs.Boxes.{near_inside, length_inside}
 use Rattle.burr_forms.proofs.RowValues.{values_bounded, length-values}
@@ -72,7 +72,7 @@ at_many s P point at = length_inside s.ranges point at.inside
 pub record Carries (s : Region) (P : List ℤ → Type 0) (forms : List Form) (signs steps row : List ℤ) (is_kept : Bool) (point : Point) : Type 0 where
   pub at : StandsAt s (at_values P forms) point
   pub signs_are : signs ≡ values point s.guards
-  pub behind : IsBehind steps forms point row is_kept
+  pub after : IsAfter steps forms point row is_kept
 
 -- The loop that carries values
 
@@ -105,15 +105,15 @@ module _ (s : Region) (P : Point → Type 0) (signs : List ℤ) (point : Point) 
   pub ended : AreRanges s.ranges → (NoneNegative signs → P point) → following s.ranges point ≡ None → Throughout s P
   ended r passes e = ends s P r point at (holds_here passes) e
 
--- what is kept here is behind a raised point
-pub now_behind : (ranges : List (ℤ × ℤ)) (steps : List ℤ) (forms : List Form) (point next : Point) (row : List ℤ) (is_kept : Bool) → IsRaised ranges point next → steps ≡ steps_of (length ranges - 1) forms → IsHere forms point row is_kept → IsBehind steps forms next row is_kept
-now_behind ranges steps forms point next row is_kept up steps_are here k = up.carries forms ∙ ap (sums (values point forms)) (sym steps_are) ∙ ap (λ xs. sums xs steps) (sym (here k))
+-- what is kept here is after a raised point
+pub now_after : (ranges : List (ℤ × ℤ)) (steps : List ℤ) (forms : List Form) (point next : Point) (row : List ℤ) (is_kept : Bool) → IsRaised ranges point next → steps ≡ steps_of (length ranges - 1) forms → IsHere forms point row is_kept → IsAfter steps forms next row is_kept
+now_after ranges steps forms point next row is_kept up steps_are here k = up.carries forms ∙ ap (sums (values point forms)) (sym steps_are) ∙ ap (λ xs. sums xs steps) (sym (here k))
 
-pub behind_bounded : (steps : List ℤ) (forms : List Form) (point : Point) (row : List ℤ) → values point forms ≡ sums row steps → AllSmallForms forms → AllNear point → length point ≤ 8 → AllBounded (sums row steps)
-behind_bounded steps forms point row are small near few = subst AllBounded are (values_bounded point forms small near few)
+pub after_bounded : (steps : List ℤ) (forms : List Form) (point : Point) (row : List ℤ) → values point forms ≡ sums row steps → AllSmallForms forms → AllNear point → length point ≤ 8 → AllBounded (sums row steps)
+after_bounded steps forms point row are small near few = subst AllBounded are (values_bounded point forms small near few)
 
-pub behind_as_many : (steps : List ℤ) (forms : List Form) (point : Point) (row : List ℤ) → values point forms ≡ sums row steps → length steps ≡ length forms → length row ≡ length steps
-behind_as_many steps forms point row are places = sym (length-sums row steps) ∙ ap (λ xs. length xs) (sym are) ∙ length-values point forms ∙ sym places
+pub after_as_many : (steps : List ℤ) (forms : List Form) (point : Point) (row : List ℤ) → values point forms ≡ sums row steps → length steps ≡ length forms → length row ≡ length steps
+after_as_many steps forms point row are places = sym (length-sums row steps) ∙ ap (λ xs. length xs) (sym are) ∙ length-values point forms ∙ sym places
 
 -- The start
 

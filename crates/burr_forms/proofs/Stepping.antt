@@ -1,10 +1,10 @@
 -- The point that follows, as a loop from the last number finds it.
 use Rattle.std.proofs.Common.{◌≡◌, ℕ, zero, suc, ◌-◌, ◌≤◌, ◌<◌, true, false, cond, List, [], ◌∷◌, ◌++◌, length, take, drop, Some, None, refl, ap, sym, ◌∙◌, arith, slice_index_or, slice_set}
 use Rattle.std.specs.Prelude.{ℤ, pos, ◌+ℤ◌, int_lt}
-use Rattle.burr_forms.specs.Forms.{Point}
-use Rattle.burr_forms.specs.Rising.{lows, carried, following}
+use Rattle.burr_forms.specs.Rules.Forms.{Point}
+use Rattle.burr_forms.specs.Views.Rising.{lows, carried, following}
 
--- where place i can grow and the numbers behind it cannot, it grows
+-- where place i can grow and the numbers after it cannot, it grows
 pub grows : (i : ℕ) (ss : List (ℤ × ℤ)) (xs : Point) (s : ℤ × ℤ) (x : ℤ) → length xs ≡ length ss → i < length xs → following (drop (suc i) ss) (drop (suc i) xs) ≡ None → int_lt (slice_index_or xs i x) (slice_index_or ss i s).1 ≡ true → following ss xs ≡ Some (take i xs ++ (slice_index_or xs i x +ℤ pos 1) ∷ lows (drop (suc i) ss))
 grows zero (t ∷ ss) (y ∷ xs) s x e h none lt = ap (carried t ss y) none ∙ ap (λ b. cond b (Some ((y +ℤ pos 1) ∷ lows ss)) None) lt
 grows (suc i) (t ∷ ss) (y ∷ xs) s x e h none lt = ap (carried t ss y) (grows i ss xs s x (omega arith) (omega arith) none lt)

@@ -3,10 +3,10 @@ use Rattle.std.proofs.Common.{◌≡◌, ℕ, zero, suc, ◌+◌, ◌*◌, ◌�
 use Rattle.std.specs.Prelude.{ℤ, pos, ◌+ℤ◌}
 use Rattle.std.proofs.lemmas.Int.{ints}
 use Rattle.std.proofs.lemmas.List.{drop_all}
-use Rattle.burr_forms.specs.Forms.{Form, plus_form, times, number, combined, substituted, IsSmallForm, AllSmallForms}
-use Rattle.burr_forms.specs.Wides.{IsFormWithin, IsWideForm}
+use Rattle.burr_forms.specs.Rules.Forms.{Form, plus_form, times, number, combined, substituted, IsSmallForm, AllSmallForms}
+use Rattle.burr_forms.specs.Views.Wides.{IsFormWithin, IsWideForm}
 use Rattle.burr_forms.proofs.Sums.{zeros_and, and_zeros, forms_regroup}
-use Rattle.burr_forms.proofs.Widths.{length_sum, length_sum_behind, sum_within, times_within, number_within, weaker}
+use Rattle.burr_forms.proofs.Widths.{length_sum, length_sum_after, sum_within, times_within, number_within, weaker}
 use Rattle.burr_forms.proofs.Values.{small_at}
 
 -- The arguments from this symbol on are still to be added, and what was added is not too large.
@@ -18,7 +18,7 @@ pub record IsUnderWay (i : ℕ) (sum f : Form) (arguments : List Form) : Type 0 
 combined_long : (cs : List ℤ) (forms : List Form) → 8 ≤ length (combined cs forms).coefs
 combined_long [] forms = omega arith
 combined_long (c ∷ cs) [] = omega arith
-combined_long (c ∷ cs) (a ∷ forms) = length_sum_behind 8 (times c a).coefs (combined cs forms).coefs (combined_long cs forms)
+combined_long (c ∷ cs) (a ∷ forms) = length_sum_after 8 (times c a).coefs (combined cs forms).coefs (combined_long cs forms)
 
 swapped : (x y : ℤ) → (x +ℤ y) ≡ (y +ℤ x)
 swapped x y = omega (arith, ints)
@@ -61,11 +61,11 @@ goes_on i sum f arguments d d' u s t l k =
 pub ends : (i : ℕ) (sum f : Form) (arguments : List Form) → IsUnderWay i sum f arguments → length f.coefs ≤ i → sum ≡ substituted arguments f
 ends i sum f arguments u l =
     let none : drop i f.coefs ≡ [] = drop_all i f.coefs l in
-    (λ j. record { constant = nothing_behind sum.constant j; coefs = sym (and_zeros 8 sum.coefs u.long) j })
+    (λ j. record { constant = nothing_after sum.constant j; coefs = sym (and_zeros 8 sum.coefs u.long) j })
     ∙ ap (λ (cs : List ℤ). plus_form sum (combined cs (drop i arguments))) (sym none) ∙ u.rest
   where
-    nothing_behind : (x : ℤ) → x ≡ (x +ℤ pos 0)
-    nothing_behind x = omega (arith, ints)
+    nothing_after : (x : ℤ) → x ≡ (x +ℤ pos 0)
+    nothing_after x = omega (arith, ints)
 
 -- there is room for one more
 pub has_room : (i : ℕ) (sum f : Form) (arguments : List Form) → IsUnderWay i sum f arguments → i < 8 → IsWideForm sum

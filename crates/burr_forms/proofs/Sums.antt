@@ -2,7 +2,7 @@
 use Rattle.std.proofs.Common.{◌≡◌, ℕ, zero, suc, ◌≤◌, List, [], ◌∷◌, length, refl, ap, ◌∙◌, arith}
 use Rattle.std.specs.Prelude.{ℤ, pos, ◌+ℤ◌, ◌*ℤ◌, replicate}
 use Rattle.std.proofs.lemmas.Int.{ints}
-use Rattle.burr_forms.specs.Forms.{Form, sum_of, plus_form, times}
+use Rattle.burr_forms.specs.Rules.Forms.{Form, sum_of, plus_form, times}
 use Rattle.burr_forms.proofs.Multiples.{multiples}
 
 -- A form and nothing
@@ -10,8 +10,8 @@ use Rattle.burr_forms.proofs.Multiples.{multiples}
 nothing_before : (x : ℤ) → (pos 0 +ℤ x) ≡ x
 nothing_before x = omega (arith, ints)
 
-nothing_behind : (x : ℤ) → (x +ℤ pos 0) ≡ x
-nothing_behind x = omega (arith, ints)
+nothing_after : (x : ℤ) → (x +ℤ pos 0) ≡ x
+nothing_after x = omega (arith, ints)
 
 pub zeros_and : (n : ℕ) (ys : List ℤ) → n ≤ length ys → sum_of (replicate n (pos 0)) ys ≡ ys
 zeros_and zero ys l = refl
@@ -22,7 +22,7 @@ pub and_zeros : (n : ℕ) (xs : List ℤ) → n ≤ length xs → sum_of xs (rep
 and_zeros zero [] l = refl
 and_zeros zero (x ∷ xs) l = refl
 and_zeros (suc n) [] l = absurd (omega arith)
-and_zeros (suc n) (x ∷ xs) l = λ i. nothing_behind x i ∷ and_zeros n xs (omega arith) i
+and_zeros (suc n) (x ∷ xs) l = λ i. nothing_after x i ∷ and_zeros n xs (omega arith) i
 
 once : (c : ℤ) → (pos 1 *ℤ c) ≡ c
 once c = omega (arith, ints)

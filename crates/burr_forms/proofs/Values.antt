@@ -6,7 +6,7 @@ use Rattle.std.proofs.lemmas.Int.{ints, unsigned_abs-mul, fits_signed_from_abs}
 use Rattle.std.proofs.lemmas.Nat.{mul-le}
 use Rattle.std.proofs.lemmas.List.{length-take}
 use Rattle.std.proofs.lemmas.List.Elements.{All-head, All-tail, All-take}
-use Rattle.burr_forms.specs.Forms.{Form, Point, dot, value, IsSmall, AllSmall, IsSmallForm, IsNear, AllNear}
+use Rattle.burr_forms.specs.Rules.Forms.{Form, Point, dot, value, IsSmall, AllSmall, IsSmallForm, IsNear, AllNear}
 
 -- Bounds
 

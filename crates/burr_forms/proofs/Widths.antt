@@ -4,9 +4,9 @@ use Rattle.std.specs.Prelude.{ℤ, pos, neg_ℤ, ◌+ℤ◌, ◌*ℤ◌, replica
 use Rattle.std.specs.Int.RustNames.{unsigned_abs}
 use Rattle.std.proofs.lemmas.Int.{ints, unsigned_abs-mul}
 use Rattle.std.proofs.lemmas.Nat.{mul-le}
-use Rattle.burr_forms.specs.Forms.{Form, sum_of, plus_form, times, number, IsSmall, AllSmall, IsSmallForm}
+use Rattle.burr_forms.specs.Rules.Forms.{Form, sum_of, plus_form, times, number, IsSmall, AllSmall, IsSmallForm}
 use Rattle.std.proofs.lemmas.List.Elements.{All-nil, All-cons, All-head, All-tail, All-weaker}
-use Rattle.burr_forms.specs.Wides.{IsWithin, AllWithin, IsFormWithin, IsWideForm}
+use Rattle.burr_forms.specs.Views.Wides.{IsWithin, AllWithin, IsFormWithin, IsWideForm}
 use Rattle.burr_forms.proofs.Multiples.{multiples}
 use Rattle.burr_forms.proofs.Values.{abs_small}
 
@@ -77,8 +77,8 @@ length_sum (suc n) [] ys l = absurd (omega arith)
 length_sum (suc n) (x ∷ xs) [] l = l
 length_sum (suc n) (x ∷ xs) (y ∷ ys) l = let more = length_sum n xs ys (omega arith) in omega arith
 
-pub length_sum_behind : (n : ℕ) (xs ys : List ℤ) → n ≤ length ys → n ≤ length (sum_of xs ys)
-length_sum_behind zero xs ys l = omega arith
-length_sum_behind (suc n) [] ys l = l
-length_sum_behind (suc n) (x ∷ xs) [] l = absurd (omega arith)
-length_sum_behind (suc n) (x ∷ xs) (y ∷ ys) l = let more = length_sum_behind n xs ys (omega arith) in omega arith
+pub length_sum_after : (n : ℕ) (xs ys : List ℤ) → n ≤ length ys → n ≤ length (sum_of xs ys)
+length_sum_after zero xs ys l = omega arith
+length_sum_after (suc n) [] ys l = l
+length_sum_after (suc n) (x ∷ xs) [] l = absurd (omega arith)
+length_sum_after (suc n) (x ∷ xs) (y ∷ ys) l = let more = length_sum_after n xs ys (omega arith) in omega arith

@@ -1,10 +1,3 @@
-pub mod Bounds
-pub mod Conditions
-pub mod Counting
-pub mod Forms
-pub mod PointLaws
-pub mod Points
-pub mod Results
-pub mod Rising
-pub mod Searching
-pub mod Wides
+pub mod Laws
+pub mod Rules
+pub mod Views

@@ -1,5 +1,5 @@
 ghost use Rattle.std.specs.Prelude.{◌≡◌, Some, None, length, MatchBool};
-ghost use Rattle.burr_forms.specs.Rising.{following, lows};
+ghost use Rattle.burr_forms.specs.Views.Rising.{following, lows};
 
 /// The lowest point of a box: the lowest number of each range.
 pub fn lowest(ranges: &[(i32, i32); 8]) -> [i32; 8]

@@ -1,7 +1,7 @@
 ghost use Rattle.std.specs.Prelude.{◌≡◌, length, MatchBool};
-ghost use Rattle.burr_forms.specs.Searching.{AllBounded, sums, IsRaised, IsAtEnd};
+ghost use Rattle.burr_forms.specs.Views.Searching.{AllBounded, sums, IsRaised, IsAtEnd};
 
-use crate::rows::{Point, Row};
+use crate::form_values::{FormValues, Point};
 
 /// Raises the last number of a point, where it is below the end of its range.
 pub fn raise_last(ranges: &[(i32, i32)], point: &mut Point) -> bool
@@ -41,7 +41,7 @@ fn add(row: &mut [i64], steps: &[i64])
 }
 
 /// Carries the values of forms on, one step each.
-pub fn carry(row: &mut Row, steps: &Row)
+pub fn carry(row: &mut FormValues, steps: &FormValues)
     requires places { length row.old.items ≡ length steps.now.items }
     requires bounded { AllBounded (sums row.old.items steps.now.items) }
     ensures { row.new.items ≡ sums row.old.items steps.now.items }

@@ -1,12 +1,12 @@
 //! What the values of a form at the points of a box lie between.
 
 ghost use Rattle.std.specs.Prelude.{◌≡◌, ◌≤◌, length};
-ghost use Rattle.burr_forms.specs.Forms.{IsSmallForm};
-ghost use Rattle.burr_forms.specs.Points.{AreRanges};
-ghost use Rattle.burr_forms.specs.Bounds.{IsLeastIn, IsGreatestIn, end_at, corner};
+ghost use Rattle.burr_forms.specs.Rules.Forms.{IsSmallForm};
+ghost use Rattle.burr_forms.specs.Rules.Points.{AreRanges};
+ghost use Rattle.burr_forms.specs.Views.Bounds.{IsLeastIn, IsGreatestIn, end_at, corner};
 
 use crate::form::Form;
-use crate::rows::Point;
+use crate::form_values::Point;
 use arrayvec::ArrayVec;
 
 impl Form {

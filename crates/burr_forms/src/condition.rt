@@ -1,12 +1,12 @@
 ghost use Rattle.std.specs.Prelude.{◌≡◌, ◌↔◌, ◌≤◌, ◌+◌, ◌^◌, ℕ, IsTrue, List, ℤ, length, MatchBool};
-ghost use Rattle.burr_forms.specs.Forms.{Form as FormOf, AllNear, AllSmallForms, values};
-ghost use Rattle.burr_forms.specs.Conditions.{NoneNegative, at_values};
-ghost use Rattle.burr_forms.specs.Counting.{LooksUnder, looks_at_values};
-ghost use Rattle.burr_forms.specs.Searching.{AllBounded, IsBehind, IsHere};
+ghost use Rattle.burr_forms.specs.Rules.Forms.{Form as FormOf, AllNear, AllSmallForms, values};
+ghost use Rattle.burr_forms.specs.Rules.Conditions.{NoneNegative, at_values};
+ghost use Rattle.burr_forms.specs.Views.Counting.{LooksUnder, looks_at_values};
+ghost use Rattle.burr_forms.specs.Views.Searching.{AllBounded, IsAfter, IsHere};
 
 use crate::form::Form;
-use crate::line::{Line, bring};
-use crate::rows::{Point, Row};
+use crate::form_values::{FormValues, Point};
+use crate::sweep::{Sweep, bring};
 
 /// A condition on the values that some forms have at a point.
 pub trait Condition {
@@ -111,10 +111,10 @@ impl<'a, C: Condition> Asking for Plain<'a, C> {
 /// values of the condition's forms are not looked at.
 pub fn passes<C: Asking>(
     condition: &mut C,
-    signs: &Row,
-    steps: &Row,
+    signs: &FormValues,
+    steps: &FormValues,
     point: &Point,
-    line: &mut Line,
+    line: &mut Sweep,
 ) -> bool
     requires many { length (C.wanted (C.subject condition.old)) ≤ 120 }
     requires places { length steps.now.items ≡ length (C.wanted (C.subject condition.old)) }
@@ -125,7 +125,7 @@ pub fn passes<C: Asking>(
         → at_values (C.Promised (C.subject condition.old)) (C.wanted (C.subject condition.old))
         point.now.items }
     requires room { C.count condition.old + C.most (C.subject condition.old) ≤ 2 ^ 61 }
-    requires behind { IsBehind steps.now.items (C.wanted (C.subject condition.old)) point.now.items
+    requires after { IsAfter steps.now.items (C.wanted (C.subject condition.old)) point.now.items
         line.old.row.items line.old.is_kept }
     ensures same { C.subject condition.new ≡ C.subject condition.old }
     ensures told { MatchBool result

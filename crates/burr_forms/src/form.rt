@@ -1,7 +1,7 @@
 ghost use Rattle.std.specs.Prelude.{◌≡◌, ◌≤◌, ◌↔◌, IsTrue, length};
-ghost use Rattle.burr_forms.specs.Forms.{value, plus_form, minus_form, substituted};
-ghost use Rattle.burr_forms.specs.Forms.{IsSmall, IsSmallForm, AllSmallForms, AllNear};
-ghost use Rattle.burr_forms.specs.Results.{IsFormOf};
+ghost use Rattle.burr_forms.specs.Rules.Forms.{value, plus_form, minus_form, substituted};
+ghost use Rattle.burr_forms.specs.Rules.Forms.{IsSmall, IsSmallForm, AllSmallForms, AllNear};
+ghost use Rattle.burr_forms.specs.Views.Results.{IsFormOf};
 
 use crate::wide::Wide;
 use std::marker::Model;
@@ -18,7 +18,7 @@ pub struct Form {
 }
 
 impl Model for Form {
-    ghost use Rattle.burr_forms.specs.Forms.{Form};
+    ghost use Rattle.burr_forms.specs.Rules.Forms.{Form};
 
     ghost Value = { Form };
 

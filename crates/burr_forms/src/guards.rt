@@ -1,6 +1,6 @@
 ghost use Rattle.std.specs.Prelude.{◌≡◌, ◌≤◌, length, MatchOption};
-ghost use Rattle.burr_forms.specs.Forms.{AllSmallForms, AllNear};
-ghost use Rattle.burr_forms.specs.Points.{guards_hold, AreGuards};
+ghost use Rattle.burr_forms.specs.Rules.Forms.{AllSmallForms, AllNear};
+ghost use Rattle.burr_forms.specs.Rules.Points.{guards_hold, AreGuards};
 
 use crate::form::{Form, is_small};
 use arrayvec::ArrayVec;
@@ -14,7 +14,7 @@ pub struct Guards {
 
 impl Model for Guards {
     ghost use Rattle.std.specs.Prelude.{List};
-    ghost use Rattle.burr_forms.specs.Forms.{Form, AllSmallForms};
+    ghost use Rattle.burr_forms.specs.Rules.Forms.{Form, AllSmallForms};
 
     ghost Value = { List Form };
 

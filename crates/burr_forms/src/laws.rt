@@ -1,4 +1,4 @@
-ghost use Rattle.burr_forms.specs.PointLaws.{OneListOfPoints, ThePointsAreGiven};
+ghost use Rattle.burr_forms.specs.Laws.PointLaws.{OneListOfPoints, ThePointsAreGiven};
 
 /// The points of a box under guards are listed each once, rising, the first symbol slowest, and
 /// no other; and there is one such list at most.

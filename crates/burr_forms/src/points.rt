@@ -1,6 +1,6 @@
 ghost use Rattle.std.specs.Prelude.{◌≡◌};
 ghost use Rattle.std.specs.Iterator.{YieldsFirst, item_count};
-ghost use Rattle.burr_forms.specs.Points.{points_of};
+ghost use Rattle.burr_forms.specs.Rules.Points.{points_of};
 
 use crate::advancing::{advance, lowest};
 use crate::guards::Guards;
@@ -19,9 +19,9 @@ pub struct Points<'a> {
 
 impl<'a> Model for Points<'a> {
     ghost use Rattle.std.specs.Prelude.{◌≡◌, List, false};
-    ghost use Rattle.burr_forms.specs.Forms.{Point};
-    ghost use Rattle.burr_forms.specs.Points.{InBox};
-    ghost use Rattle.burr_forms.specs.Rising.{left};
+    ghost use Rattle.burr_forms.specs.Rules.Forms.{Point};
+    ghost use Rattle.burr_forms.specs.Rules.Points.{InBox};
+    ghost use Rattle.burr_forms.specs.Views.Rising.{left};
 
     ghost Value = { List Point };
 

@@ -1,5 +1,5 @@
 ghost use Rattle.std.specs.Prelude.{◌≡◌, ◌↔◌, IsTrue, MatchOption};
-ghost use Rattle.burr_forms.specs.Points.{AreRanges, IsRange, IsBox, padded};
+ghost use Rattle.burr_forms.specs.Rules.Points.{AreRanges, IsRange, IsBox, padded};
 
 use std::marker::Model;
 
@@ -14,7 +14,7 @@ pub struct Box8 {
 
 impl Model for Box8 {
     ghost use Rattle.std.specs.Prelude.{List, ℤ};
-    ghost use Rattle.burr_forms.specs.Points.{AreRanges};
+    ghost use Rattle.burr_forms.specs.Rules.Points.{AreRanges};
 
     ghost Value = { List (ℤ × ℤ) };
 

@@ -1,14 +1,14 @@
 //! Boxes without the symbols that do not matter.
 
 ghost use Rattle.std.specs.Prelude.{◌≤◌, ◌<◌, ◌↔◌, IsTrue, length, MatchOption};
-ghost use Rattle.burr_forms.specs.Forms.{AllSmallForms};
-ghost use Rattle.burr_forms.specs.Points.{AreRanges};
-ghost use Rattle.burr_forms.specs.Searching.{AllLack, AreNarrowRanges, IsNarrowRange};
-ghost use Rattle.burr_forms.specs.Conditions.{region, at_values, Throughout, FailsFirstAt};
+ghost use Rattle.burr_forms.specs.Rules.Forms.{AllSmallForms};
+ghost use Rattle.burr_forms.specs.Rules.Points.{AreRanges};
+ghost use Rattle.burr_forms.specs.Views.Searching.{AllLack, AreNarrowRanges, IsNarrowRange};
+ghost use Rattle.burr_forms.specs.Rules.Conditions.{region, at_values, Throughout, FailsFirstAt};
 
 use crate::condition::{Condition, Plain};
 use crate::form::Form;
-use crate::rows::Point;
+use crate::form_values::Point;
 use crate::searching::first_refused;
 use arrayvec::ArrayVec;
 

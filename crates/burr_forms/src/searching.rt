@@ -1,15 +1,15 @@
 ghost use Rattle.std.specs.Prelude.{◌≡◌, ◌≤◌, ◌+◌, ◌*◌, ◌^◌, length, MatchOption};
-ghost use Rattle.burr_forms.specs.Counting.{Counted, looks_at_values};
-ghost use Rattle.burr_forms.specs.Rising.{count_in};
-ghost use Rattle.burr_forms.specs.Forms.{AllSmallForms, values};
-ghost use Rattle.burr_forms.specs.Points.{AreRanges};
-ghost use Rattle.burr_forms.specs.Conditions.{region, at_values, Throughout, FailsFirstAt};
+ghost use Rattle.burr_forms.specs.Views.Counting.{Counted, looks_at_values};
+ghost use Rattle.burr_forms.specs.Views.Rising.{count_in};
+ghost use Rattle.burr_forms.specs.Rules.Forms.{AllSmallForms, values};
+ghost use Rattle.burr_forms.specs.Rules.Points.{AreRanges};
+ghost use Rattle.burr_forms.specs.Rules.Conditions.{region, at_values, Throughout, FailsFirstAt};
 
 use crate::along::{carry, raise_last};
 use crate::condition::{Asking, passes};
 use crate::form::Form;
-use crate::line::Line;
-use crate::rows::{Point, advance_point, evaluate, lowest_point, steps_along};
+use crate::form_values::{Point, advance_point, evaluate, lowest_point, steps_along};
+use crate::sweep::Sweep;
 use arrayvec::ArrayVec;
 
 /// The first failing point of a box, as `first_failing` gives it, by a look at each point. Along the
@@ -47,7 +47,7 @@ pub fn first_refused<C: Asking>(
     let mut point = lowest_point(ranges);
     let mut signs = ArrayVec::new();
     evaluate(guards, &point, &mut signs);
-    let mut line = Line {
+    let mut line = Sweep {
         row: ArrayVec::new(),
         is_kept: false,
     };

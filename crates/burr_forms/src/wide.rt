@@ -1,7 +1,7 @@
 ghost use Rattle.std.specs.Prelude.{◌≡◌, ◌*ℤ◌, ◌^◌, map, MatchResult};
-ghost use Rattle.burr_forms.specs.Forms.{plus_form, sum_of, times, number, IsSmall, AllSmall};
-ghost use Rattle.burr_forms.specs.Results.{IsFormOf};
-ghost use Rattle.burr_forms.specs.Wides.{AllWithin, IsWideForm};
+ghost use Rattle.burr_forms.specs.Rules.Forms.{plus_form, sum_of, times, number, IsSmall, AllSmall};
+ghost use Rattle.burr_forms.specs.Views.Results.{IsFormOf};
+ghost use Rattle.burr_forms.specs.Views.Wides.{AllWithin, IsWideForm};
 
 use crate::form::{Form, FormTooLarge};
 use std::marker::Model;
@@ -17,7 +17,7 @@ pub struct Wide {
 }
 
 impl Model for Wide {
-    ghost use Rattle.burr_forms.specs.Forms.{Form};
+    ghost use Rattle.burr_forms.specs.Rules.Forms.{Form};
 
     ghost Value = { Form };
 

@@ -1,4 +1,4 @@
--- Values of a state's forms, one behind the other, beside those of another state's.
+-- Values of a state's forms, one after the other, beside those of another state's.
 use Rattle.std.proofs.Common.{◌≡◌, ℕ, suc, List, [], ◌∷◌, ◌++◌, length, take, drop, map, refl, sym, ap, subst, ◌∙◌, ℤ}
 use Rattle.std.specs.Prelude.{reverse, Option, Some, None, MatchOption}
 use Rattle.arrayvec.specs.ArrayVec.{ArrayVec}
@@ -7,13 +7,13 @@ use Rattle.std.proofs.lemmas.Option.{none-some, same_Some}
 use Rattle.burr_voxels.specs.declared.cell.Cell.{Cell}
 use Rattle.burr_voxels.specs.Grid.{at}
 use Rattle.burr_code.specs.Places.{Placement, Apart, On, tray_of}
-use Rattle.burr_forms.specs.Forms.{Form, Point, value, values}
-use Rattle.burr_forms.specs.Conditions.{Region, at_values, Throughout, FailsFirstAt}
-use Rattle.burr_container.specs.Plans.{FormCell}
-use Rattle.burr_frames.specs.States.{AbstractState, region_of, cell_at, places_at}
-use Rattle.burr_frames.specs.Arrival.{IsAlike}
-use Rattle.burr_frames.specs.Comparing.{offset_forms, Target, IsMetAt, IsMetBy}
-use Rattle.burr_frames.specs.ArrivalViews.{AgreesAtCostOf}
+use Rattle.burr_forms.specs.Rules.Forms.{Form, Point, value, values}
+use Rattle.burr_forms.specs.Rules.Conditions.{Region, at_values, Throughout, FailsFirstAt}
+use Rattle.burr_container.specs.Rules.Plans.{FormCell}
+use Rattle.burr_frames.specs.Rules.States.{AbstractState, region_of, cell_at, places_at}
+use Rattle.burr_frames.specs.Rules.Arrival.{IsAlike}
+use Rattle.burr_frames.specs.Views.Comparing.{offset_forms, Target, IsMetAt, IsMetBy}
+use Rattle.burr_frames.specs.Views.ArrivalViews.{AgreesAtCostOf}
 use Rattle.burr_code.proofs.Common.Conditions.{same_position}
 use Rattle.burr_frames.proofs.Common.Decided.{no_first, same_head, same_tail}
 
@@ -109,10 +109,10 @@ same_places point there (On t c ∷ xs) (On u d ∷ ys) trays e =
     (value point c.y ∷ value point c.z ∷ xs_values) e)
     (same_head (value there d.y) (value point c.y) (value there d.z ∷ ys_values) (value point c.z ∷ xs_values) one)
     (same_head (value there d.z) (value point c.z) ys_values xs_values two) in
-    let behind =
+    let after =
     same_places point there xs ys (same_tail (Some t) (Some u) (map tray_of xs) (map tray_of ys) trays)
     (same_tail (value there d.z) (value point c.z) ys_values xs_values two) in
-    λ i. here i ∷ behind i
+    λ i. here i ∷ after i
 
 pub same_offsets : (point there : Point) (xs ys : List (Placement FormCell)) → map tray_of xs ≡ map tray_of ys
     → places_at point xs ≡ places_at there ys → values there (offset_forms ys) ≡ values point (offset_forms xs)
@@ -128,10 +128,10 @@ same_offsets point there (On t c ∷ xs) (On u d ∷ ys) trays e =
     let a = cell_at point c in
     let b = cell_at there d in
     let cell : a ≡ b = same_position t u a b (same_head (On t a) (On u b) (places_at point xs) (places_at there ys) e) in
-    let behind =
+    let after =
     same_offsets point there xs ys (same_tail (Some t) (Some u) (map tray_of xs) (map tray_of ys) trays)
     (same_tail (On t a) (On u b) (places_at point xs) (places_at there ys) e) in
-    λ i. (sym cell i).x ∷ (sym cell i).y ∷ (sym cell i).z ∷ behind i
+    λ i. (sym cell i).x ∷ (sym cell i).y ∷ (sym cell i).z ∷ after i
 
 -- States
 
@@ -155,11 +155,11 @@ cuts : (s : AbstractState) (live : List Form) (n : ℕ) (point : Point) → leng
     × (drop n (values point (asked_of s live)) ≡ value point s.cost ∷ values point (reverse s.operands ++ offset_forms s.places))
 cuts s live n point many =
     let others = reverse s.operands ++ offset_forms s.places in
-    let behind = value point s.cost ∷ values point others in
+    let after = value point s.cost ∷ values point others in
     let whole = map-append (value point) live ((s.cost ∷ []) ++ others) in
     let l = length-map live (value point) ∙ many in (
-      ap (take n) whole ∙ take_front (values point live) behind n l,
-      ap (drop n) whole ∙ drop_front (values point live) behind n l,
+      ap (take n) whole ∙ take_front (values point live) after n l,
+      ap (drop n) whole ∙ drop_front (values point live) after n l,
     )
 
 -- what the parts are

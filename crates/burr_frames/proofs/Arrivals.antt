@@ -1,23 +1,23 @@
--- An arrival that was judged with nothing behind it, and what follows it.
+-- An arrival that was judged with nothing after it, and what follows it.
 use Rattle.std.proofs.Common.{◌≡◌, subst, inl, inr}
-use Rattle.burr_container.specs.Plans.{Frame}
-use Rattle.burr_frames.specs.States.{AbstractState}
-use Rattle.burr_frames.specs.Verdicts.{Broken, Verdict, Breaks, Falls, Leaves, Rest, leaves, arriving}
+use Rattle.burr_container.specs.Rules.Plans.{Frame}
+use Rattle.burr_frames.specs.Rules.States.{AbstractState}
+use Rattle.burr_frames.specs.Rules.Verdicts.{Broken, Verdict, Breaks, FallsThrough, NoSuccessor, Rest, no_successor, arriving}
 
--- no state is left behind
+-- no state is left after
 abbrev IsLeaving : Verdict → Type 0
 IsLeaving (Breaks broken) = ⊥
-IsLeaving (Falls s) = ⊥
-IsLeaving Leaves = Unit {0}
+IsLeaving (FallsThrough s) = ⊥
+IsLeaving NoSuccessor = Unit {0}
 
-leaves_whole : (broken : Broken) → ¬ (Leaves ≡ Breaks broken)
+leaves_whole : (broken : Broken) → ¬ (NoSuccessor ≡ Breaks broken)
 leaves_whole broken e = subst IsLeaving e tt
 
-breaks_somewhere : (broken : Broken) → ¬ (Breaks broken ≡ Leaves)
+breaks_somewhere : (broken : Broken) → ¬ (Breaks broken ≡ NoSuccessor)
 breaks_somewhere broken e = subst (λ v. IsLeaving v → ⊥) e (λ left. left) tt
 
 -- the state arrives, and what follows
-pub arriving_on : (s : AbstractState) (f : Frame) (rest : Rest) (v : Verdict) → arriving s f leaves Leaves → rest v
+pub arriving_on : (s : AbstractState) (f : Frame) (rest : Rest) (v : Verdict) → arriving s f no_successor NoSuccessor → rest v
     → arriving s f rest v
 arriving_on s f rest v (inl unknown) h = absurd (leaves_whole _ unknown.1)
 arriving_on s f rest v (inr (forms, known, inl other)) h = absurd (leaves_whole _ other.1)
@@ -25,7 +25,7 @@ arriving_on s f rest v (inr (forms, known, inr (alike, inl misses))) h = absurd 
 arriving_on s f rest v (inr (forms, known, inr (alike, inr (agrees, left)))) h = inr (forms, known, inr (alike, inr (agrees, h)))
 
 -- the state doesn't arrive, whatever follows
-pub arriving_breaks : (s : AbstractState) (f : Frame) (rest : Rest) (broken : Broken) → arriving s f leaves (Breaks broken)
+pub arriving_breaks : (s : AbstractState) (f : Frame) (rest : Rest) (broken : Broken) → arriving s f no_successor (Breaks broken)
     → arriving s f rest (Breaks broken)
 arriving_breaks s f rest broken (inl unknown) = inl unknown
 arriving_breaks s f rest broken (inr (forms, known, inl other)) = inr (forms, known, inl other)

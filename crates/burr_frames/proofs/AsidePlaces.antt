@@ -1,12 +1,12 @@
--- Places behind a group that goes aside: as many as before, and small as before.
+-- Places after a group that goes aside: as many as before, and small as before.
 use Rattle.std.proofs.Common.{◌≡◌, ◌∙◌, ◌==◌, if◌then◌else◌, ℕ, suc, List, [], ◌∷◌, length, drop, refl, sym, ap}
 use Rattle.std.specs.List.{refill}
 use lib.Seq.{take-append_seam}
 use Rattle.std.proofs.lemmas.Bool.{cond_both}
 use Rattle.burr_code.specs.PieceSets.{is_left_out}
 use Rattle.burr_code.specs.Places.{Placement, Apart, On, changed, to_tray, is_in, count_in, parted_in, parted, aside_places}
-use Rattle.burr_container.specs.Plans.{FormCell}
-use Rattle.burr_frames.specs.SpaceRules.{AllSmallPlaces}
+use Rattle.burr_container.specs.Rules.Plans.{FormCell}
+use Rattle.burr_frames.specs.Rules.SpaceRules.{AllSmallPlaces}
 
 -- How many
 

@@ -9,12 +9,12 @@ use native.Mathlib.Decide.{ℕ_discrete}
 use Rattle.burr_voxels.specs.Near.{IsWithin}
 use Rattle.burr_voxels.proofs.Common.Ahead.{same_cell}
 use Rattle.burr_code.specs.Places.{Placement, Apart, On, LiesAt}
-use Rattle.burr_forms.specs.Forms.{Form, Point, dot, value, values, number}
-use Rattle.burr_container.specs.Plans.{FormCell}
-use Rattle.burr_frames.specs.States.{cell_at}
-use Rattle.burr_frames.specs.Ranges.{IsInReach, AllInReach}
-use Rattle.burr_frames.specs.Clearing.{offsets_in, cell_of}
-use Rattle.burr_frames.specs.SpaceRules.{OnBenchAt}
+use Rattle.burr_forms.specs.Rules.Forms.{Form, Point, dot, value, values, number}
+use Rattle.burr_container.specs.Rules.Plans.{FormCell}
+use Rattle.burr_frames.specs.Rules.States.{cell_at}
+use Rattle.burr_frames.specs.Views.Ranges.{IsInReach, AllInReach}
+use Rattle.burr_frames.specs.Views.Clearing.{offsets_in, cell_of}
+use Rattle.burr_frames.specs.Rules.SpaceRules.{OnBenchAt}
 
 -- Three forms for each piece
 
@@ -110,7 +110,7 @@ reach_of_on_bench (On t c ∷ places) tray point on =
           (three_in_reach _ _ _ _ zero_value zero_value zero_value rest)
     ]
 
--- the values behind the first three
+-- the values after the first three
 rest_in_reach : (a b d : Form) (rest forms : List Form) (point : Point) → forms ≡ a ∷ b ∷ d ∷ rest → AllInReach 256 (values point forms)
     → AllInReach 256 (values point rest)
 rest_in_reach a b d rest forms point e all =
@@ -124,10 +124,10 @@ first_within : (c : FormCell) (rest : List Form) (point : Point) → AllInReach 
     → IsWithin 256 (cell_at point c)
 first_within c rest point all =
     let x = All-head (IsInReach 256) (value point c.x) (values point (c.y ∷ c.z ∷ rest)) all in
-    let behind_x = All-tail (IsInReach 256) (value point c.x) (values point (c.y ∷ c.z ∷ rest)) all in
-    let y = All-head (IsInReach 256) (value point c.y) (values point (c.z ∷ rest)) behind_x in
-    let behind_y = All-tail (IsInReach 256) (value point c.y) (values point (c.z ∷ rest)) behind_x in
-    let z = All-head (IsInReach 256) (value point c.z) (values point rest) behind_y in
+    let after_x = All-tail (IsInReach 256) (value point c.x) (values point (c.y ∷ c.z ∷ rest)) all in
+    let y = All-head (IsInReach 256) (value point c.y) (values point (c.z ∷ rest)) after_x in
+    let after_y = All-tail (IsInReach 256) (value point c.y) (values point (c.z ∷ rest)) after_x in
+    let z = All-head (IsInReach 256) (value point c.z) (values point rest) after_y in
     record { x_above = x.0; x_below = x.1; y_above = y.0; y_below = y.1; z_above = z.0; z_below = z.1 }
 
 -- each piece of the tray is on the bench where all values are in reach
@@ -149,9 +149,9 @@ third_on : {A : Type 0} (a b d e : A) (xs : List A) (i j : ℕ) → i ≡ suc (s
     → slice_index_or (a ∷ b ∷ d ∷ xs) i e ≡ slice_index_or xs j e
 third_on {A} a b d e xs i j same = ap (λ (k : ℕ). slice_index_or (a ∷ b ∷ d ∷ xs) k e) same
 
--- the values of a piece behind the first one
-cell_behind : (a b d : ℤ) (numbers : List ℤ) (p : ℕ) → cell_of (a ∷ b ∷ d ∷ numbers) (suc p) ≡ cell_of numbers p
-cell_behind a b d numbers p =
+-- the values of a piece after the first one
+cell_after : (a b d : ℤ) (numbers : List ℤ) (p : ℕ) → cell_of (a ∷ b ∷ d ∷ numbers) (suc p) ≡ cell_of numbers p
+cell_after a b d numbers p =
     same_cell _ _ (third_on a b d (pos 0) numbers (3 * suc p) (3 * p) (omega arith))
     (third_on a b d (pos 0) numbers (3 * suc p + 1) (3 * p + 1) (omega arith))
     (third_on a b d (pos 0) numbers (3 * suc p + 2) (3 * p + 2) (omega arith))
@@ -166,5 +166,5 @@ cell_of_offset (place ∷ places) tray zero c point lies =
 cell_of_offset (place ∷ places) tray (suc p) c point lies =
     let first = three_before tray place places in
     ap (λ (forms : List Form). cell_of (values point forms) (suc p)) first.3
-    ∙ cell_behind (value point first.0) (value point first.1) (value point first.2) (values point (offsets_in tray places)) p
+    ∙ cell_after (value point first.0) (value point first.1) (value point first.2) (values point (offsets_in tray places)) p
     ∙ cell_of_offset places tray p c point lies

@@ -54,7 +54,7 @@ cut_at_end n xs = let many = length-drop n xs in take_all (length xs - n) (drop 
 
 -- Lists of eight
 
--- the first k, and behind them one element as often as there is room
+-- the first k, and after them one element as often as there is room
 abbrev pub filled : {X : Type 0} → X → ℕ → List X → List X
 filled rest k xs = take k xs ++ replicate (8 - k) rest
 
@@ -62,14 +62,14 @@ filled rest k xs = take k xs ++ replicate (8 - k) rest
 pub one_put : {X : Type 0} (rest x : X) (k : ℕ) (xs now : List X) → k < length xs → length xs ≤ 8
     → x ≡ slice_index_or xs k x → now ≡ filled rest k xs → set now k x ≡ filled rest (k + 1) xs
 one_put rest x k xs now more few is so_far =
-    let behind = replicate (8 - (k + 1)) rest in
+    let after = replicate (8 - (k + 1)) rest in
     let left : 8 - k ≡ suc (8 - (k + 1)) = omega (arith, more, few) in
     let many : length (take k xs) ≡ k = length-take-le k xs (omega (arith, more)) in
     ap (λ ys. set ys k x) (so_far ∙ ap (λ n. take k xs ++ replicate n rest) left)
-    ∙ set-append_right (take k xs) (rest ∷ behind) k k x many (omega arith)
-    ∙ ap (λ n. take k xs ++ set (rest ∷ behind) n x) (same_less k)
-    ∙ sym (append_assoc (take k xs) (x ∷ []) behind)
-    ∙ ap (λ ys. ys ++ behind) (ap (λ y. take k xs ++ y ∷ []) is ∙ sym (take_more xs k x more))
+    ∙ set-append_right (take k xs) (rest ∷ after) k k x many (omega arith)
+    ∙ ap (λ n. take k xs ++ set (rest ∷ after) n x) (same_less k)
+    ∙ sym (append_assoc (take k xs) (x ∷ []) after)
+    ∙ ap (λ ys. ys ++ after) (ap (λ y. take k xs ++ y ∷ []) is ∙ sym (take_more xs k x more))
   where
     same_less : (n : ℕ) → n - n ≡ 0
     same_less n = omega arith

@@ -5,12 +5,12 @@ use Rattle.std.proofs.lemmas.Int.{ints}
 use Rattle.std.proofs.lemmas.Option.{none-some, same_Some}
 use Rattle.burr_code.specs.Labels.{with_first}
 use Rattle.burr_code.specs.Places.{Placement, Apart, On, at_position}
-use Rattle.burr_forms.specs.Forms.{Form, number, times, plus_form, combined, substituted}
-use Rattle.burr_container.specs.Plans.{FormCell}
-use Rattle.burr_frames.specs.ControlRules.{substituted_cell, first_forms}
-use Rattle.burr_frames.specs.SpaceRules.{AllSmallPlaces}
+use Rattle.burr_forms.specs.Rules.Forms.{Form, number, times, plus_form, combined, substituted}
+use Rattle.burr_container.specs.Rules.Plans.{FormCell}
+use Rattle.burr_frames.specs.Rules.ControlRules.{substituted_cell, first_forms}
+use Rattle.burr_frames.specs.Rules.SpaceRules.{AllSmallPlaces}
 
--- Zeros behind the arguments
+-- Zeros after the arguments
 
 nothing : (c : ℤ) → ((c *ℤ pos 0) +ℤ pos 0) ≡ pos 0
 nothing c = omega (arith, ints)

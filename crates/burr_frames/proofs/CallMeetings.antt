@@ -4,16 +4,16 @@ use Rattle.std.proofs.Common.{◌≡◌, List, [], ◌++◌, length, take, drop,
 use Rattle.std.specs.Prelude.{reverse, Option, Some, None}
 use Rattle.arrayvec.specs.ArrayVec.{ArrayVec}
 use Rattle.std.proofs.lemmas.List.{length-map, map-append}
-use Rattle.burr_forms.specs.Forms.{Form, Point, value, values}
-use Rattle.burr_forms.specs.Conditions.{at_values}
-use Rattle.burr_container.specs.Plans.{Frame}
+use Rattle.burr_forms.specs.Rules.Forms.{Form, Point, value, values}
+use Rattle.burr_forms.specs.Rules.Conditions.{at_values}
+use Rattle.burr_container.specs.Rules.Plans.{Frame}
 use Rattle.burr_frames.specs.declared.rule.Rule.{Rule}
-use Rattle.burr_frames.specs.States.{AbstractState, region_of}
-use Rattle.burr_frames.specs.Arrival.{IsAlike, Agrees, Meets}
-use Rattle.burr_frames.specs.Breaks.{missed_break}
-use Rattle.burr_frames.specs.Comparing.{offset_forms, Target, IsMetAt, IsMetBy}
-use Rattle.burr_frames.specs.Verdicts.{Rest, Verdict, Breaks, meeting}
-use Rattle.burr_frames.specs.CallViews.{IsMissed}
+use Rattle.burr_frames.specs.Rules.States.{AbstractState, region_of}
+use Rattle.burr_frames.specs.Rules.Arrival.{IsAlike, Agrees, Meets}
+use Rattle.burr_frames.specs.Views.Breaks.{missed_break}
+use Rattle.burr_frames.specs.Views.Comparing.{offset_forms, Target, IsMetAt, IsMetBy}
+use Rattle.burr_frames.specs.Rules.Verdicts.{Rest, Verdict, Breaks, meeting}
+use Rattle.burr_frames.specs.Views.CallViews.{IsMissed}
 use Rattle.burr_frames.proofs.Agreement.{take_front, drop_front, met_of_same, same_of_met, FirstFailure}
 
 -- States
@@ -44,8 +44,8 @@ parts_met s t live point many =
     let whole = map-append (value point) live others in
     let l = length-map live (value point) ∙ many in
     let front = ap (take n) whole ∙ take_front (values point live) (values point others) n l in
-    let behind = ap (drop n) whole ∙ drop_front (values point live) (values point others) n l in
-    λ i. IsMetAt (met_in t) (front i) (take 0 (behind i)) (drop 0 (behind i))
+    let after = ap (drop n) whole ∙ drop_front (values point live) (values point others) n l in
+    λ i. IsMetAt (met_in t) (front i) (take 0 (after i)) (drop 0 (after i))
 
 met_agrees : (s t : AbstractState) (live : List Form) → IsAlike s t → length live ≡ length t.ranges → (point : Point)
     → IsMetBy (met_in t) (values point (asked_in s live)) → AgreesBy s t live point

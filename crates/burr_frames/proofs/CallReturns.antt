@@ -3,14 +3,14 @@ use Rattle.std.proofs.Common.{◌≡◌, ℕ, List, length, Some, None, ap, sym,
 use Rattle.std.specs.Prelude.{reverse}
 use Rattle.std.proofs.lemmas.List.{reverse-reverse}
 use Rattle.burr_code.specs.Stacks.{top_many}
-use Rattle.burr_forms.specs.Forms.{Form}
+use Rattle.burr_forms.specs.Rules.Forms.{Form}
 use Rattle.burr_frames.specs.declared.rule.Rule.TheVariants as rules
-use Rattle.burr_frames.specs.States.{AbstractState}
-use Rattle.burr_frames.specs.FramedPlans.{FramedExit, FramedProcedure}
-use Rattle.burr_frames.specs.Verdicts.{Verdict, Breaks, paying}
-use Rattle.burr_frames.specs.Breaks.{plain_break}
-use Rattle.burr_frames.specs.ControlRules.{first_forms, ret_rule}
-use Rattle.burr_frames.specs.Exits.{meeting_exit, meeting_exit_with}
+use Rattle.burr_frames.specs.Rules.States.{AbstractState}
+use Rattle.burr_frames.specs.Rules.FramedPlans.{FramedExit, FramedProcedure}
+use Rattle.burr_frames.specs.Rules.Verdicts.{Verdict, Breaks, paying}
+use Rattle.burr_frames.specs.Views.Breaks.{plain_break}
+use Rattle.burr_frames.specs.Rules.ControlRules.{first_forms, ret_rule}
+use Rattle.burr_frames.specs.Views.Exits.{meeting_exit, meeting_exit_with}
 
 -- the results in a definition, with the top first, and in the code, with the top last
 back : (s : AbstractState) (exit : FramedExit) (parameters results : List Form) (v : Verdict)

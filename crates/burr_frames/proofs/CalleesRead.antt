@@ -3,11 +3,11 @@ use Rattle.std.proofs.Common.{◌≡◌, ℕ, zero, suc, ◌<◌, List, [], ◌�
 use Rattle.std.proofs.lemmas.Option.{none-some, same_Some}
 use Rattle.burr_code.specs.Labels.{callee_of}
 use Rattle.burr_container.specs.declared.frame_ref.FrameRef.{FrameRef}
-use Rattle.burr_container.specs.Plans.{Frame, PlanProcedure}
-use Rattle.burr_container.specs.Refs.{frame_of}
-use Rattle.burr_frames.specs.FramedPlans.{FramedProcedure, framed, framed_procedure}
-use Rattle.burr_frames.specs.ControlRules.{first_frame}
-use Rattle.burr_frames.specs.Here.{IsFrameFound}
+use Rattle.burr_container.specs.Rules.Plans.{Frame, PlanProcedure}
+use Rattle.burr_container.specs.Views.Refs.{frame_of}
+use Rattle.burr_frames.specs.Rules.FramedPlans.{FramedProcedure, framed, framed_procedure}
+use Rattle.burr_frames.specs.Rules.ControlRules.{first_frame}
+use Rattle.burr_frames.specs.Views.Here.{IsFrameFound}
 
 -- Procedures
 

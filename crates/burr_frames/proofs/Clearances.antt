@@ -11,30 +11,30 @@ use Rattle.burr_voxels.specs.Near.{IsWithin}
 use Rattle.burr_code.specs.PieceSets.{IsInSet, is_left_out}
 use Rattle.burr_code.specs.Places.{Placement, Apart, On, LiesAt}
 use Rattle.burr_code.proofs.Common.PieceSets.{not_left_out, left_out, in_set, not_in_set}
-use Rattle.burr_assembly.specs.Homes.{HasHome, home_at}
+use Rattle.burr_assembly.specs.Rules.Homes.{HasHome, home_at}
 use Rattle.burr_blocking.specs.declared.query.Query.{Query}
 use Rattle.burr_blocking.specs.declared.query.Query.TheVariants as queries
-use Rattle.burr_blocking.specs.Pairs.{Clears}
+use Rattle.burr_blocking.specs.Rules.Pairs.{Clears}
 use Rattle.burr_blocking.proofs.Common.Displaced.{free_of_difference, difference_of_free, blocked_of_overlap, overlap_of_blocked}
-use Rattle.burr_forms.specs.Forms.{Point, values}
-use Rattle.burr_container.specs.Plans.{FormCell}
-use Rattle.burr_frames.specs.declared.clearing.Side.{Side}
-use Rattle.burr_frames.specs.declared.clearing.Side.TheVariants.{Elsewhere, Gripped, Left}
-use Rattle.burr_frames.specs.States.{cell_at}
-use Rattle.burr_frames.specs.Clearing.{IsSide, IsClearAt, IsPairClear, AreSides, cell_of, side_of, offsets_in}
-use Rattle.burr_frames.specs.SpaceRules.{OnBenchAt, PairAt}
-use Rattle.burr_frames.specs.Moving.{IsApartBy}
+use Rattle.burr_forms.specs.Rules.Forms.{Point, values}
+use Rattle.burr_container.specs.Rules.Plans.{FormCell}
+use Rattle.burr_frames.specs.declared.clearing.Role.{Role}
+use Rattle.burr_frames.specs.declared.clearing.Role.TheVariants.{Elsewhere, Gripped, Resting}
+use Rattle.burr_frames.specs.Rules.States.{cell_at}
+use Rattle.burr_frames.specs.Views.Clearing.{IsRole, IsClearAt, IsPairClear, AreRoles, cell_of, role_of, offsets_in}
+use Rattle.burr_frames.specs.Rules.SpaceRules.{OnBenchAt, PairAt}
+use Rattle.burr_frames.specs.Rules.SpaceRules.{IsApartBy}
 use Rattle.burr_frames.proofs.BenchOffsets.{cell_of_offset}
 
 -- One piece and another
 
-gripped-left : ¬ (Gripped ≡ Left)
+gripped-left : ¬ (Gripped ≡ Resting)
 gripped-left e = cc
 
 -- a piece that is gripped and one that is left are two
-pub two_sides : (pieces : List Side) (p q : ℕ) → IsSide pieces p Gripped → IsSide pieces q Left → p ≢ q
-two_sides pieces p q gripped left e =
-    gripped-left (same_Some Gripped Left (sym gripped ∙ ap (slice_get pieces) e ∙ left))
+pub two_roles : (pieces : List Role) (p q : ℕ) → IsRole pieces p Gripped → IsRole pieces q Resting → p ≢ q
+two_roles pieces p q gripped left e =
+    gripped-left (same_Some Gripped Resting (sym gripped ∙ ap (slice_get pieces) e ∙ left))
 
 -- Sides
 
@@ -45,48 +45,48 @@ own_tray : (t : ℕ) → (t == t) ≡ true
 own_tray t = grind (arith, nat_tests)
 
 -- how a piece on a side lies
-abbrev StandsSo : ℕ → ℕ → List (Placement FormCell) → ℕ → Side → Type 0
+abbrev StandsSo : ℕ → ℕ → List (Placement FormCell) → ℕ → Role → Type 0
 StandsSo tray grip places p Elsewhere = Unit {0}
 StandsSo tray grip places p Gripped = (c : FormCell) × LiesAt places p tray c × IsInSet grip p
-StandsSo tray grip places p Left = (c : FormCell) × LiesAt places p tray c × (¬ IsInSet grip p)
+StandsSo tray grip places p Resting = (c : FormCell) × LiesAt places p tray c × (¬ IsInSet grip p)
 
 by_place : (tray grip : ℕ) (places : List (Placement FormCell)) (p : ℕ) (place : Placement FormCell) → slice_get places p ≡ Some place
-    → StandsSo tray grip places p (side_of grip tray p place)
+    → StandsSo tray grip places p (role_of grip tray p place)
 by_place tray grip places p Apart at = tt
 by_place tray grip places p (On t c) at =
-    cond_both (t == tray) (if is_left_out grip p then Left else Gripped) Elsewhere (StandsSo tray grip places p)
+    cond_both (t == tray) (if is_left_out grip p then Resting else Gripped) Elsewhere (StandsSo tray grip places p)
     (λ here.
     let lies : LiesAt places p tray c = at ∙ ap (λ (u : ℕ). Some (On u c)) (same_tray_number t tray here) in
-    cond_both (is_left_out grip p) Left Gripped (StandsSo tray grip places p) (λ out. (c, lies, not_in_set grip p out)) (λ bit. (c, lies, in_set grip p bit)))
+    cond_both (is_left_out grip p) Resting Gripped (StandsSo tray grip places p) (λ out. (c, lies, not_in_set grip p out)) (λ bit. (c, lies, in_set grip p bit)))
     (λ other. tt)
 
 -- a piece lies as its side tells
-stands_so : (tray grip n : ℕ) (places : List (Placement FormCell)) (found : List Side) → AreSides tray grip n places found
-    → (p : ℕ) (side : Side) → IsSide found p side → StandsSo tray grip places p side
-stands_so tray grip n places found are p side is =
-    let within = slice_get_within found p side is in
+stands_so : (tray grip n : ℕ) (places : List (Placement FormCell)) (found : List Role) → AreRoles tray grip n places found
+    → (p : ℕ) (role : Role) → IsRole found p role → StandsSo tray grip places p role
+stands_so tray grip n places found are p role is =
+    let within = slice_get_within found p role is in
     let place = slice_index_or places p Apart in
     let at : slice_get places p ≡ Some place =
     let no_more = are.no_more in slice_get-get_or places p Apart (omega (arith, within, no_more)) in
     let few = are.few in
-    let own : side_of grip tray p place ≡ side =
-    same_Some (side_of grip tray p place) side (sym (are.each p place (omega (arith, within, few)) at) ∙ is) in
+    let own : role_of grip tray p place ≡ role =
+    same_Some (role_of grip tray p place) role (sym (are.each p place (omega (arith, within, few)) at) ∙ is) in
     subst (StandsSo tray grip places p) own (by_place tray grip places p place at)
 
 -- a gripped piece of the tray is on its side, and so is one that is left
-gripped_side : (tray grip n : ℕ) (places : List (Placement FormCell)) (found : List Side) → AreSides tray grip n places found
-    → (p : ℕ) (c : FormCell) → p < n → LiesAt places p tray c → IsInSet grip p → IsSide found p Gripped
-gripped_side tray grip n places found are p c below lies bit =
+gripped_role : (tray grip n : ℕ) (places : List (Placement FormCell)) (found : List Role) → AreRoles tray grip n places found
+    → (p : ℕ) (c : FormCell) → p < n → LiesAt places p tray c → IsInSet grip p → IsRole found p Gripped
+gripped_role tray grip n places found are p c below lies bit =
     are.each p (On tray c) below lies
-    ∙ ap (λ (here : Bool). Some (if here then (if is_left_out grip p then Left else Gripped) else Elsewhere)) (own_tray tray)
-    ∙ ap (λ (out : Bool). Some (if out then Left else Gripped)) (not_left_out grip p bit)
+    ∙ ap (λ (here : Bool). Some (if here then (if is_left_out grip p then Resting else Gripped) else Elsewhere)) (own_tray tray)
+    ∙ ap (λ (out : Bool). Some (if out then Resting else Gripped)) (not_left_out grip p bit)
 
-left_side : (tray grip n : ℕ) (places : List (Placement FormCell)) (found : List Side) → AreSides tray grip n places found
-    → (p : ℕ) (c : FormCell) → p < n → LiesAt places p tray c → (¬ IsInSet grip p) → IsSide found p Left
-left_side tray grip n places found are p c below lies out =
+left_role : (tray grip n : ℕ) (places : List (Placement FormCell)) (found : List Role) → AreRoles tray grip n places found
+    → (p : ℕ) (c : FormCell) → p < n → LiesAt places p tray c → (¬ IsInSet grip p) → IsRole found p Resting
+left_role tray grip n places found are p c below lies out =
     are.each p (On tray c) below lies
-    ∙ ap (λ (here : Bool). Some (if here then (if is_left_out grip p then Left else Gripped) else Elsewhere)) (own_tray tray)
-    ∙ ap (λ (rest : Bool). Some (if rest then Left else Gripped)) (left_out grip p out)
+    ∙ ap (λ (here : Bool). Some (if here then (if is_left_out grip p then Resting else Gripped) else Elsewhere)) (own_tray tray)
+    ∙ ap (λ (rest : Bool). Some (if rest then Resting else Gripped)) (left_out grip p out)
 
 -- Two groups of cells at offsets
 
@@ -121,21 +121,21 @@ apart_where_clear (queries.Exit direction) a b ps qs clear = free_of_difference 
 -- A pair at a point
 
 -- what the condition says of a pair of pieces on these sides
-abbrev pub IsPairOfSidesClear : Query → List (List Cell) → List Side → List ℤ → ℕ → ℕ → Type 0
+abbrev pub IsPairOfSidesClear : Query → List (List Cell) → List Role → List ℤ → ℕ → ℕ → Type 0
 IsPairOfSidesClear query homes found numbers p q =
-    IsSide found p Gripped → IsSide found q Left → IsPairClear query homes numbers p q
+    IsRole found p Gripped → IsRole found q Resting → IsPairClear query homes numbers p q
 
 -- where each piece is on the bench, it holds of a pair that is apart so
-pub clear_of_apart : (query : Query) (homes : List (List Cell)) (places : List (Placement FormCell)) (tray grip n : ℕ) (found : List Side) (point : Point)
-    → AreSides tray grip n places found → n ≤ length homes → OnBenchAt places tray point → (p q : ℕ)
+pub clear_of_apart : (query : Query) (homes : List (List Cell)) (places : List (Placement FormCell)) (tray grip n : ℕ) (found : List Role) (point : Point)
+    → AreRoles tray grip n places found → n ≤ length homes → OnBenchAt places tray point → (p q : ℕ)
     → PairAt (IsApartBy query) homes places tray grip point p q → IsPairOfSidesClear query homes found (values point (offsets_in tray places)) p q
 clear_of_apart query homes places tray grip n found point are homed on p q apart gripped left =
     let numbers = values point (offsets_in tray places) in
     let (c, lies, bit) = stands_so tray grip n places found are p Gripped gripped in
-    let (d, lies_q, out) = stands_so tray grip n places found are q Left left in
+    let (d, lies_q, out) = stands_so tray grip n places found are q Resting left in
     let few = are.few in
     let inside = slice_get_within found p Gripped gripped in
-    let inside_q = slice_get_within found q Left left in
+    let inside_q = slice_get_within found q Resting left in
     let home : HasHome homes p (home_at homes p) = slice_get-get_or homes p [] (omega (arith, inside, few, homed)) in
     let home_q : HasHome homes q (home_at homes q) = slice_get-get_or homes q [] (omega (arith, inside_q, few, homed)) in
     let a = cell_at point c in
@@ -148,15 +148,15 @@ clear_of_apart query homes places tray grip n found point are homed on p q apart
     ))
 
 -- and a pair is apart so where it holds of it
-pub apart_of_clear : (query : Query) (homes : List (List Cell)) (places : List (Placement FormCell)) (tray grip n : ℕ) (found : List Side) (point : Point)
-    → AreSides tray grip n places found → length homes ≤ n → (p q : ℕ)
+pub apart_of_clear : (query : Query) (homes : List (List Cell)) (places : List (Placement FormCell)) (tray grip n : ℕ) (found : List Role) (point : Point)
+    → AreRoles tray grip n places found → length homes ≤ n → (p q : ℕ)
     → IsPairOfSidesClear query homes found (values point (offsets_in tray places)) p q → PairAt (IsApartBy query) homes places tray grip point p q
 apart_of_clear query homes places tray grip n found point are homed p q clear p_home q_home c d bit out home home_q lies lies_q =
     let numbers = values point (offsets_in tray places) in
     let inside = slice_get_within homes p p_home home in
     let inside_q = slice_get_within homes q q_home home_q in
-    let gripped = gripped_side tray grip n places found are p c (omega (arith, inside, homed)) lies bit in
-    let left = left_side tray grip n places found are q d (omega (arith, inside_q, homed)) lies_q out in
+    let gripped = gripped_role tray grip n places found are p c (omega (arith, inside, homed)) lies bit in
+    let left = left_role tray grip n places found are q d (omega (arith, inside_q, homed)) lies_q out in
     let asked = clear gripped left in
     let a = cell_at point c in
     let b = cell_at point d in

@@ -6,10 +6,10 @@ use Rattle.std.specs.Option.{option_eq}
 use Rattle.std.proofs.lemmas.Int.{ints}
 use Rattle.std.proofs.lemmas.List.{take_more, map_more, get_or-map, length-map}
 use Rattle.burr_code.specs.Places.{Placement, tray_of}
-use Rattle.burr_forms.specs.Forms.{Form, Point, value, values, IsNear}
-use Rattle.burr_forms.specs.Points.{IsRange, InRange, InBox}
-use Rattle.burr_container.specs.Plans.{FormCell}
-use Rattle.burr_frames.specs.Comparing.{NoneBelow}
+use Rattle.burr_forms.specs.Rules.Forms.{Form, Point, value, values, IsNear}
+use Rattle.burr_forms.specs.Rules.Points.{IsRange, InRange, InBox}
+use Rattle.burr_container.specs.Rules.Plans.{FormCell}
+use Rattle.burr_frames.specs.Views.Comparing.{NoneBelow}
 
 -- None below
 
@@ -42,11 +42,11 @@ pub none_below_more : (point : Point) (forms : List Form) (numbers : List ℤ) (
     → NoneBelow (values point (take (k + 1) forms)) (take (k + 1) numbers)
 none_below_more point forms numbers k f v l same e is not_less none =
     let number : ℤ = slice_index_or numbers k (pos 0) in
-    let behind = none_below_push (values point (take k forms)) (take k numbers) v number none (omega (arith, ints, not_less)) in
+    let after = none_below_push (values point (take k forms)) (take k numbers) v number none (omega (arith, ints, not_less)) in
     let fronts : values point (take (k + 1) forms) ≡ values point (take k forms) ++ v ∷ [] =
     map_more (value point) forms k f l ∙ ap (λ w. values point (take k forms) ++ w ∷ []) (ap (value point) (sym e) ∙ sym is) in
     subst (λ (xs : List ℤ). NoneBelow xs (take (k + 1) numbers)) (sym fronts)
-    (subst (NoneBelow (values point (take k forms) ++ v ∷ [])) (sym (take_more numbers k (pos 0) (omega (arith, same, l)))) behind)
+    (subst (NoneBelow (values point (take k forms) ++ v ∷ [])) (sym (take_more numbers k (pos 0) (omega (arith, same, l)))) after)
 
 -- Boxes
 
@@ -87,9 +87,9 @@ pub in_box_more : (ranges : List (ℤ × ℤ)) (numbers : List ℤ) (k : ℕ) (d
     → length numbers ≡ length ranges → InRange (slice_index_or ranges k d) (slice_index_or numbers k (pos 0))
     → InBox (take k ranges) (take k numbers) → InBox (take (k + 1) ranges) (take (k + 1) numbers)
 in_box_more ranges numbers k d l same i b =
-    let behind = in_box_push (take k ranges) (take k numbers) (slice_index_or ranges k d) (slice_index_or numbers k (pos 0)) b i in
+    let after = in_box_push (take k ranges) (take k numbers) (slice_index_or ranges k d) (slice_index_or numbers k (pos 0)) b i in
     subst (λ (rs : List (ℤ × ℤ)). InBox rs (take (k + 1) numbers)) (sym (take_more ranges k d l))
-    (subst (InBox (take k ranges ++ slice_index_or ranges k d ∷ [])) (sym (take_more numbers k (pos 0) (omega (arith, same, l)))) behind)
+    (subst (InBox (take k ranges ++ slice_index_or ranges k d ∷ [])) (sym (take_more numbers k (pos 0) (omega (arith, same, l)))) after)
 
 -- Trays
 

@@ -1,18 +1,18 @@
--- The checks of a counter, one behind the other.
+-- The checks of a counter, one after the other.
 use Rattle.std.proofs.Common.{◌≡◌, inr}
 use Rattle.std.specs.Prelude.{ℕ, ◌≤◌, ◌<◌, pos, ◌≤ℤ◌, length, get_or, Some, None, slice_get}
 use Rattle.burr_text.specs.Checks.{needs}
-use Rattle.burr_forms.specs.Forms.{Form, value, one_less, IsSmallForm}
-use Rattle.burr_container.specs.Plans.{Frame}
+use Rattle.burr_forms.specs.Rules.Forms.{Form, value, one_less, IsSmallForm}
+use Rattle.burr_container.specs.Rules.Plans.{Frame}
 use Rattle.burr_frames.specs.declared.rule.Rule.TheVariants as rules
-use Rattle.burr_frames.specs.FramedPlans.{FramedProcedure}
-use Rattle.burr_frames.specs.States.{AbstractState, Everywhere}
-use Rattle.burr_frames.specs.Verdicts.{Verdict, Rest, plainly, everywhere, paying, falls, arriving}
-use Rattle.burr_frames.specs.ControlRules.{down_rule, counted_down, counted_out}
+use Rattle.burr_frames.specs.Rules.FramedPlans.{FramedProcedure}
+use Rattle.burr_frames.specs.Rules.States.{AbstractState, Everywhere}
+use Rattle.burr_frames.specs.Rules.Verdicts.{Verdict, Rest, plainly, everywhere, paying, falls_through, arriving}
+use Rattle.burr_frames.specs.Rules.ControlRules.{down_rule, counted_down, counted_out}
 
 -- where `down` goes on once its step is paid for
 abbrev pub branches : ℕ → Form → Frame → AbstractState → Rest
-branches v f to paid = arriving (counted_down v f paid) to (falls (counted_out f paid))
+branches v f to paid = arriving (counted_down v f paid) to (falls_through (counted_out f paid))
 
 -- the label is there, and in the slot, which is no parameter, a form
 pub record IsCounting (here : FramedProcedure) (s : AbstractState) (v label position : ℕ) (to : Frame) (f : Form) : Type 0 where
@@ -29,7 +29,7 @@ pub counting_on : (here : FramedProcedure) (s : AbstractState) (v label position
     → down_rule here s v label verdict
 counting_on here s v label position to f verdict is rest = inr ((position, to), is.found, inr (is.no_parameter, inr (f, is.slot, rest)))
 
--- and behind that the step is paid for
+-- and after that the step is paid for
 pub counted_on : (here : FramedProcedure) (s : AbstractState) (v label position : ℕ) (to : Frame) (f : Form) (verdict : Verdict)
     → IsCounting here s v label position to f → IsSmallForm (one_less f) → Everywhere s (λ point. pos 0 ≤ℤ value point f)
     → length s.guards < 8 → paying s (branches v f to) verdict → down_rule here s v label verdict

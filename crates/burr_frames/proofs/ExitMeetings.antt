@@ -5,13 +5,13 @@ use Rattle.std.specs.Prelude.{Option, Some, None}
 use Rattle.arrayvec.specs.ArrayVec.{ArrayVec}
 use Rattle.std.proofs.lemmas.List.{length-map, length-append, map-append}
 use Rattle.burr_code.specs.Places.{tray_of}
-use Rattle.burr_forms.specs.Forms.{Form, Point, value, values}
-use Rattle.burr_forms.specs.Points.{InBox}
-use Rattle.burr_forms.specs.Conditions.{at_values}
-use Rattle.burr_frames.specs.FramedPlans.{FramedExit}
-use Rattle.burr_frames.specs.States.{AbstractState, region_of}
-use Rattle.burr_frames.specs.Comparing.{offset_forms, Target, IsExitMetAt, IsExitMetBy}
-use Rattle.burr_frames.specs.ControlRules.{MeetsExitAt}
+use Rattle.burr_forms.specs.Rules.Forms.{Form, Point, value, values}
+use Rattle.burr_forms.specs.Rules.Points.{InBox}
+use Rattle.burr_forms.specs.Rules.Conditions.{at_values}
+use Rattle.burr_frames.specs.Rules.FramedPlans.{FramedExit}
+use Rattle.burr_frames.specs.Rules.States.{AbstractState, region_of}
+use Rattle.burr_frames.specs.Views.Comparing.{offset_forms, Target, IsExitMetAt, IsExitMetBy}
+use Rattle.burr_frames.specs.Rules.ControlRules.{MeetsExitAt}
 use Rattle.burr_frames.proofs.Agreement.{take_front, drop_front, same_places, same_offsets, FirstFailure}
 
 -- what a state is compared by, and what with an exit frame

@@ -4,23 +4,23 @@ use Rattle.std.specs.Prelude.{All}
 use Rattle.std.proofs.lemmas.List.Elements.{All-head, All-tail}
 use Rattle.burr_voxels.specs.declared.cell.Cell.{Cell}
 use Rattle.burr_voxels.specs.declared.direction.Direction.{Direction}
-use Rattle.burr_assembly.specs.Text.{Assembly}
+use Rattle.burr_assembly.specs.Rules.Text.{Assembly}
 use Rattle.burr_blocking.specs.declared.query.Query.{Query}
 use Rattle.burr_blocking.specs.declared.query.Query.TheVariants as queries
-use Rattle.burr_blocking.specs.Counted.{Counted, counted, with_more, HasCounted}
+use Rattle.burr_blocking.specs.Rules.Counted.{Counted, counted, with_more, HasCounted}
 use Rattle.burr_blocking.proofs.Common.Counts.{none_more}
 use Rattle.burr_code.specs.Places.{Placement, IsPartOfTray, IsEmptyTray}
-use Rattle.burr_container.specs.Plans.{FormCell}
-use Rattle.burr_forms.specs.Conditions.{Region, at_values}
-use Rattle.burr_forms.specs.Counting.{searched, looks_at_values}
-use Rattle.burr_forms.specs.Forms.{Form, Point}
-use Rattle.burr_forms.specs.PointLaws.{ThePointsAreGiven}
-use Rattle.burr_forms.specs.Points.{IsPointOf, AreRanges, points_of}
-use Rattle.burr_frames.specs.Clearing.{AllClear, AreSides, offsets_in}
-use Rattle.burr_frames.specs.ClearingLooks.{ClearLooks}
-use Rattle.burr_frames.specs.Looks.{clearing_looks, step_looks, aside_looks}
-use Rattle.burr_frames.specs.SpaceRules.{OnBenchAt, moved, AllSmallPlaces}
-use Rattle.burr_frames.specs.States.{AbstractState, Everywhere, IsFirstFailing}
+use Rattle.burr_container.specs.Rules.Plans.{FormCell}
+use Rattle.burr_forms.specs.Rules.Conditions.{Region, at_values}
+use Rattle.burr_forms.specs.Views.Counting.{searched, looks_at_values}
+use Rattle.burr_forms.specs.Rules.Forms.{Form, Point}
+use Rattle.burr_forms.specs.Laws.PointLaws.{ThePointsAreGiven}
+use Rattle.burr_forms.specs.Rules.Points.{IsPointOf, AreRanges, points_of}
+use Rattle.burr_frames.specs.Views.Clearing.{AllClear, AreRoles, offsets_in}
+use Rattle.burr_frames.specs.Views.ClearingLooks.{ClearLooks}
+use Rattle.burr_frames.specs.Rules.Looks.{clearing_looks, step_looks, aside_looks}
+use Rattle.burr_frames.specs.Rules.SpaceRules.{OnBenchAt, moved, AllSmallPlaces}
+use Rattle.burr_frames.specs.Rules.States.{AbstractState, Everywhere, IsFirstFailing}
 use Rattle.burr_frames.proofs.ClearingLooks.{looks_of_search}
 use Rattle.burr_frames.proofs.Common.Until.{EachIs}
 use Rattle.burr_frames.proofs.MoveVerdicts.{Searched, IsSearchOf}
@@ -47,7 +47,7 @@ looks_of_clearing given s places n h query homes looks is homed ranges on made =
     inr (
       on,
       looks_of_search homes s places query h.found
-          (subst (λ (m : ℕ). AreSides s.tray s.grip m places h.found) homed is.sides)
+          (subst (λ (m : ℕ). AreRoles s.tray s.grip m places h.found) homed is.roles)
           (points_of s.ranges s.guards) looks
           (each_point s (OnBenchAt places s.tray) (points_of s.ranges s.guards) on (given s.ranges s.guards ranges).inside)
           (subst (λ (r : Region). searched (at_values (AllClear query homes h.found) (offsets_in s.tray places))
@@ -71,7 +71,7 @@ pub counted_more : (old new : Counted) (n : ℕ) → new.assembly ≡ old.assemb
 counted_more old new n same more =
     ap (λ (a : Assembly). counted a new.count) same ∙ ap (counted old.assembly) more
 
--- Of the whole rule, behind its own checks
+-- Of the whole rule, after its own checks
 
 pub step_looks_on : (homes : List (List Cell)) (s : AbstractState) (direction : Direction)
     (places : List (Placement FormCell)) (old new : Counted) → s.grip ≢ 0

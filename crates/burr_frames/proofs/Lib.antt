@@ -1,7 +1,7 @@
 pub mod Agreement
 pub mod Arrivals
 pub mod AsidePlaces
-pub mod Behind
+pub mod After
 pub mod BenchOffsets
 pub mod CallArguments
 pub mod CallForms

@@ -4,20 +4,20 @@ use Rattle.std.specs.Prelude.{slice_get}
 use Rattle.std.proofs.lemmas.Option.{slice_get-get_or, none-some, same_Some}
 use Rattle.std.proofs.lemmas.List.{drop_all, append-nil}
 use Rattle.burr_code.specs.Labels.{with_first}
-use Rattle.burr_forms.specs.Forms.{Form}
-use Rattle.burr_container.specs.Plans.{Range}
-use Rattle.burr_frames.specs.States.{live_ranges}
-use Rattle.burr_frames.specs.Arrival.{live_forms}
+use Rattle.burr_forms.specs.Rules.Forms.{Form}
+use Rattle.burr_container.specs.Rules.Plans.{Range}
+use Rattle.burr_frames.specs.Rules.States.{live_ranges}
+use Rattle.burr_frames.specs.Rules.Arrival.{live_forms}
 use Rattle.burr_container.proofs.Common.ListsRead.{drop_here}
 
--- forms, and behind them others if there are
+-- forms, and after them others if there are
 abbrev pub in_front : List Form → Option (List Form) → Option (List Form)
 in_front forms None = None
 in_front forms (Some others) = Some (forms ++ others)
 
 -- the forms so far, and then those of the slots from number v on
-abbrev pub found_behind : List Form → ℕ → List (Option Range) → List (Option Form) → Option (List Form)
-found_behind forms v slots known = in_front forms (live_forms (drop v slots) (drop v known))
+abbrev pub found_after : List Form → ℕ → List (Option Range) → List (Option Form) → Option (List Form)
+found_after forms v slots known = in_front forms (live_forms (drop v slots) (drop v known))
 
 in_front_first : (forms : List Form) (form : Form) (others : Option (List Form))
     → in_front forms (with_first (Some form) others) ≡ in_front (forms ++ form ∷ []) others
@@ -27,7 +27,7 @@ in_front_first forms form (Some others) = ap Some (sym (append_assoc forms (form
 -- a slot that is not live
 pub found_not_live : (forms : List Form) (v : ℕ) (slots : List (Option Range)) (known : List (Option Form)) (slot : Option Form)
     → slice_get slots v ≡ Some None → slice_get known v ≡ Some slot
-    → found_behind forms (v + 1) slots known ≡ found_behind forms v slots known
+    → found_after forms (v + 1) slots known ≡ found_after forms v slots known
 found_not_live forms v slots known slot e f =
     sym (ap (λ (s : List (Option Range)). in_front forms (live_forms s (drop v known))) (drop_here slots v None e)
     ∙ ap (λ (k : List (Option Form)). in_front forms (live_forms (None ∷ drop (v + 1) slots) k)) (drop_here known v slot f))
@@ -35,7 +35,7 @@ found_not_live forms v slots known slot e f =
 -- a live slot whose form is known
 pub found_live : (forms : List Form) (v : ℕ) (slots : List (Option Range)) (known : List (Option Form)) (range : Range) (form : Form)
     → slice_get slots v ≡ Some (Some range) → slice_get known v ≡ Some (Some form)
-    → found_behind (forms ++ form ∷ []) (v + 1) slots known ≡ found_behind forms v slots known
+    → found_after (forms ++ form ∷ []) (v + 1) slots known ≡ found_after forms v slots known
 found_live forms v slots known range form e f =
     sym (ap (λ (s : List (Option Range)). in_front forms (live_forms s (drop v known))) (drop_here slots v (Some range) e)
     ∙ ap (λ (k : List (Option Form)). in_front forms (live_forms (Some range ∷ drop (v + 1) slots) k)) (drop_here known v (Some form) f)
@@ -44,14 +44,14 @@ found_live forms v slots known range form e f =
 -- a live slot of which nothing is known
 pub found_nothing : (forms : List Form) (v : ℕ) (slots : List (Option Range)) (known : List (Option Form)) (range : Range)
     → slice_get slots v ≡ Some (Some range) → slice_get known v ≡ Some None
-    → found_behind forms v slots known ≡ None
+    → found_after forms v slots known ≡ None
 found_nothing forms v slots known range e f =
     ap (λ (s : List (Option Range)). in_front forms (live_forms s (drop v known))) (drop_here slots v (Some range) e)
     ∙ ap (λ (k : List (Option Form)). in_front forms (live_forms (Some range ∷ drop (v + 1) slots) k)) (drop_here known v None f)
 
--- nothing is left behind the last slot
+-- nothing is left after the last slot
 pub found_all : (forms : List Form) (v : ℕ) (slots : List (Option Range)) (known : List (Option Form))
-    → length slots ≤ v → length known ≤ v → found_behind forms v slots known ≡ Some forms
+    → length slots ≤ v → length known ≤ v → found_after forms v slots known ≡ Some forms
 found_all forms v slots known l k =
     ap (λ (s : List (Option Range)). in_front forms (live_forms s (drop v known))) (drop_all v slots l)
     ∙ ap Some (append-nil forms)

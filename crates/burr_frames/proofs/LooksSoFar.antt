@@ -1,11 +1,11 @@
 -- A loop that asks of pairs and counts: so many so far, no more than these, and what is still to be
 -- asked of.
 use Rattle.std.proofs.Common.{◌≡◌, ℕ, ◌+◌, ◌≤◌, List, [], ◌∷◌, sym, ap, subst, arith}
-use Rattle.burr_assembly.specs.Homes.{homes_of}
-use Rattle.burr_blocking.specs.Counted.{Counted, with_more}
+use Rattle.burr_assembly.specs.Rules.Homes.{homes_of}
+use Rattle.burr_blocking.specs.Rules.Counted.{Counted, with_more}
 use Rattle.burr_blocking.proofs.Common.Counts.{none_more, both_more}
-use Rattle.burr_frames.specs.ClearingLooks.{AsksOn}
-use Rattle.burr_frames.specs.Looks.{until_one_fails}
+use Rattle.burr_frames.specs.Views.ClearingLooks.{AsksOn}
+use Rattle.burr_frames.specs.Rules.Looks.{until_one_fails}
 use Rattle.burr_frames.proofs.Common.Until.{asks_none, asks_one, asks_last, asks_end, asks_then}
 
 module _ {A : Type 0} (IsSo : A → Type 0) (whole : List A) where

@@ -5,22 +5,23 @@ use Rattle.std.proofs.lemmas.List.Elements.{All-nil, All-cons, All-head, All-tai
 use Rattle.std.proofs.lemmas.List.{length-map}
 use Rattle.burr_voxels.specs.declared.cell.Cell.{Cell}
 use Rattle.burr_code.specs.Places.{Placement}
-use Rattle.burr_assembly.specs.Text.{Assembly}
-use Rattle.burr_assembly.specs.Homes.{homes_of, home_of}
+use Rattle.burr_assembly.specs.Rules.Text.{Assembly}
+use Rattle.burr_assembly.specs.Rules.Homes.{homes_of, home_of}
 use Rattle.burr_blocking.specs.declared.query.Query.{Query}
-use Rattle.burr_forms.specs.Forms.{Form, Point, values, IsNear, AllNear}
-use Rattle.burr_forms.specs.Points.{IsRange, AreRanges, InBox}
-use Rattle.burr_forms.specs.Conditions.{Region, at_values, Throughout, FailsFirstAt}
-use Rattle.burr_container.specs.Plans.{FormCell}
-use Rattle.burr_frames.specs.declared.clearing.Side.{Side}
+use Rattle.burr_forms.specs.Rules.Forms.{Form, Point, values, IsNear, AllNear}
+use Rattle.burr_forms.specs.Rules.Points.{IsRange, AreRanges, InBox}
+use Rattle.burr_forms.specs.Rules.Conditions.{Region, at_values, Throughout, FailsFirstAt}
+use Rattle.burr_container.specs.Rules.Plans.{FormCell}
+use Rattle.burr_frames.specs.declared.clearing.Role.{Role}
 use Rattle.burr_frames.specs.declared.rule.Rule.{Rule}
 use Rattle.burr_frames.specs.declared.rule.Rule.TheVariants as rules
-use Rattle.burr_frames.specs.Clearing.{AllClear, AreSides, FirstPairOf, offsets_in}
-use Rattle.burr_frames.specs.Moving.{IsApartBy, break_of_pieces}
-use Rattle.burr_frames.specs.Ranges.{AllInReach}
-use Rattle.burr_frames.specs.SpaceRules.{OnBenchAt, PairAt}
-use Rattle.burr_frames.specs.States.{AbstractState, Everywhere, IsFirstFailing, region_of}
-use Rattle.burr_frames.specs.Verdicts.{Broken, Verdict, Breaks, Leaves, Rest, everywhere, everywhere_of_pairs, leaves}
+use Rattle.burr_frames.specs.Views.Clearing.{AllClear, AreRoles, FirstPairOf, offsets_in}
+use Rattle.burr_frames.specs.Views.Moving.{break_of_pieces}
+use Rattle.burr_frames.specs.Rules.SpaceRules.{IsApartBy}
+use Rattle.burr_frames.specs.Views.Ranges.{AllInReach}
+use Rattle.burr_frames.specs.Rules.SpaceRules.{OnBenchAt, PairAt}
+use Rattle.burr_frames.specs.Rules.States.{AbstractState, Everywhere, IsFirstFailing, region_of}
+use Rattle.burr_frames.specs.Rules.Verdicts.{Broken, Verdict, Breaks, NoSuccessor, Rest, everywhere, everywhere_of_pairs, no_successor}
 use Rattle.burr_frames.proofs.BenchOffsets.{reach_of_on_bench, on_bench_of_reach}
 use Rattle.burr_frames.proofs.Comparisons.{near_in_range}
 use Rattle.burr_frames.proofs.Clearances.{clear_of_apart, apart_of_clear}
@@ -71,24 +72,24 @@ near_inside (range ∷ ranges) (x ∷ point) are inside =
 pub record Searched : Type 0 where
   pub region : Region
   pub forms : List Form
-  pub found : List Side
+  pub found : List Role
 
 -- that of these places of a state, of which the assembly has n
 pub record IsSearchOf (s : AbstractState) (places : List (Placement FormCell)) (n : ℕ) (h : Searched) : Type 0 where
   pub region : h.region ≡ region_of s
   pub forms : h.forms ≡ offsets_in s.tray places
-  pub sides : AreSides s.tray s.grip n places h.found
+  pub roles : AreRoles s.tray s.grip n places h.found
 
 pub search_of : (s a : AbstractState) (places : List (Placement FormCell)) (n : ℕ) (h : Searched) → a ≡ s → h.region ≡ region_of a → h.forms ≡ offsets_in a.tray places
-    → AreSides a.tray a.grip n places h.found → IsSearchOf s places n h
-search_of s a places n h same region forms sides =
-    subst (λ (b : AbstractState). IsSearchOf b places n h) same (record { region = region; forms = forms; sides = sides })
+    → AreRoles a.tray a.grip n places h.found → IsSearchOf s places n h
+search_of s a places n h same region forms roles =
+    subst (λ (b : AbstractState). IsSearchOf b places n h) same (record { region = region; forms = forms; roles = roles })
 
 -- there are as many homes as pieces
 pub as_many_homes : (a b : Assembly) (n : ℕ) → n ≡ length a.pieces → a ≡ b → n ≡ length (homes_of b)
 as_many_homes a b n count same = count ∙ ap (λ (x : Assembly). length x.pieces) same ∙ sym (length-map b.pieces (home_of b.shapes))
 
-abbrev Asked : Query → List (List Cell) → List Form → List Side → Point → Type 0
+abbrev Asked : Query → List (List Cell) → List Form → List Role → Point → Type 0
 Asked query homes forms found = at_values (AllClear query homes found) forms
 
 holds_of : (s : AbstractState) (places : List (Placement FormCell)) (n : ℕ) (h : Searched) (query : Query) (homes : List (List Cell))
@@ -109,17 +110,17 @@ fails_of s places n h query homes point is first =
 abbrev pub Says : List (List Cell) → AbstractState → List (Placement FormCell) → Query → Rule → Verdict → Type 0
 Says homes s places query rule verdict =
     everywhere s (OnBenchAt places s.tray) rules.V18
-    (everywhere_of_pairs s (PairAt (IsApartBy query) homes places s.tray s.grip) rule leaves) verdict
+    (everywhere_of_pairs s (PairAt (IsApartBy query) homes places s.tray s.grip) rule no_successor) verdict
 
 -- no pair is in each other's way
 pub all_clear : (s : AbstractState) (places : List (Placement FormCell)) (n : ℕ) (h : Searched) (query : Query) (homes : List (List Cell)) (rule : Rule)
     → IsSearchOf s places n h → n ≡ length homes → Everywhere s (OnBenchAt places s.tray)
-    → Throughout h.region (Asked query homes h.forms h.found) → Says homes s places query rule Leaves
+    → Throughout h.region (Asked query homes h.forms h.found) → Says homes s places query rule NoSuccessor
 all_clear s places n h query homes rule is homed on all =
     let clear = holds_of s places n h query homes is all in
     inr (
       on,
-      inr (λ point at p q. apart_of_clear query homes places s.tray s.grip n h.found point is.sides (omega (arith, homed)) p q (clear point at p q), refl),
+      inr (λ point at p q. apart_of_clear query homes places s.tray s.grip n h.found point is.roles (omega (arith, homed)) p q (clear point at p q), refl),
     )
 
 -- a pair is in each other's way
@@ -138,8 +139,8 @@ first_in_way s places n h query homes rule point (Some found) broken is homed on
     let grip = s.grip in
     let failing : IsFirstFailing s (λ (x : Point). (r t : ℕ) → PairAt (IsApartBy query) homes places tray grip x r t) point = record {
       is_point = asked.is_point;
-      fails = λ apart. asked.fails (λ r t. clear_of_apart query homes places tray grip n h.found point is.sides few (on point asked.is_point) r t (apart r t));
-      before = λ q at before r t. apart_of_clear query homes places tray grip n h.found q is.sides many r t (asked.before q at before r t);
+      fails = λ apart. asked.fails (λ r t. clear_of_apart query homes places tray grip n h.found point is.roles few (on point asked.is_point) r t (apart r t));
+      before = λ q at before r t. apart_of_clear query homes places tray grip n h.found q is.roles many r t (asked.before q at before r t);
     } in
     inr (
       on,
@@ -149,8 +150,8 @@ first_in_way s places n h query homes rule point (Some found) broken is homed on
         found.1,
         failing,
         (
-          λ apart. here.2 (clear_of_apart query homes places tray grip n h.found point is.sides few (on point asked.is_point) found.0 found.1 apart here.0 here.1),
-          λ r t earlier. apart_of_clear query homes places tray grip n h.found point is.sides many r t (here.3 r t earlier),
+          λ apart. here.2 (clear_of_apart query homes places tray grip n h.found point is.roles few (on point asked.is_point) found.0 found.1 apart here.0 here.1),
+          λ r t earlier. apart_of_clear query homes places tray grip n h.found point is.roles many r t (here.3 r t earlier),
         ),
         ap Breaks e,
       ),
@@ -158,21 +159,21 @@ first_in_way s places n h query homes rule point (Some found) broken is homed on
 
 -- What follows
 
-leaves-breaks : (b : Broken) → ¬ (Breaks b ≡ Leaves)
-leaves-breaks b e = cc
+no_successor-breaks : (b : Broken) → ¬ (Breaks b ≡ NoSuccessor)
+no_successor-breaks b e = cc
 
 -- nothing is broken, and what follows is said of the verdict
 pub clear_on : (s : AbstractState) (P : Point → Type 0) (Q : Point → ℕ → ℕ → Type 0) (first second : Rule) (rest : Rest) (v : Verdict)
-    → everywhere s P first (everywhere_of_pairs s Q second leaves) Leaves → rest v
+    → everywhere s P first (everywhere_of_pairs s Q second no_successor) NoSuccessor → rest v
     → everywhere s P first (everywhere_of_pairs s Q second rest) v
-clear_on s P Q first second rest v (inl broken) h = absurd (leaves-breaks _ (sym broken.2))
-clear_on s P Q first second rest v (inr (on, inl broken)) h = absurd (leaves-breaks _ (sym broken.5))
+clear_on s P Q first second rest v (inl broken) h = absurd (no_successor-breaks _ (sym broken.2))
+clear_on s P Q first second rest v (inr (on, inl broken)) h = absurd (no_successor-breaks _ (sym broken.5))
 clear_on s P Q first second rest v (inr (on, inr clear)) h = inr (on, inr (clear.0, h))
 
 -- a rule is broken, whatever follows
 pub clear_breaks : (s : AbstractState) (P : Point → Type 0) (Q : Point → ℕ → ℕ → Type 0) (first second : Rule) (rest : Rest) (b : Broken)
-    → everywhere s P first (everywhere_of_pairs s Q second leaves) (Breaks b)
+    → everywhere s P first (everywhere_of_pairs s Q second no_successor) (Breaks b)
     → everywhere s P first (everywhere_of_pairs s Q second rest) (Breaks b)
 clear_breaks s P Q first second rest b (inl broken) = inl broken
 clear_breaks s P Q first second rest b (inr (on, inl broken)) = inr (on, inl broken)
-clear_breaks s P Q first second rest b (inr (on, inr clear)) = absurd (leaves-breaks b clear.1)
+clear_breaks s P Q first second rest b (inr (on, inr clear)) = absurd (no_successor-breaks b clear.1)

@@ -6,10 +6,10 @@ use Rattle.std.proofs.lemmas.List.{drop_more}
 use Rattle.std.proofs.lemmas.List.Elements.{All-nil, All-cons}
 use Rattle.std.proofs.lemmas.Option.{none-some}
 use Rattle.burr_code.specs.Places.{Placement, Apart, On, changed}
-use Rattle.burr_forms.specs.Forms.{Form, number, IsSmall, AllSmall, IsSmallForm, AllSmallForms}
-use Rattle.burr_container.specs.Plans.{FormCell}
-use Rattle.burr_frames.specs.Clearing.{offsets_in}
-use Rattle.burr_frames.specs.SpaceRules.{AllSmallPlaces}
+use Rattle.burr_forms.specs.Rules.Forms.{Form, number, IsSmall, AllSmall, IsSmallForm, AllSmallForms}
+use Rattle.burr_container.specs.Rules.Plans.{FormCell}
+use Rattle.burr_frames.specs.Views.Clearing.{offsets_in}
+use Rattle.burr_frames.specs.Rules.SpaceRules.{AllSmallPlaces}
 
 -- Small places
 
@@ -26,10 +26,10 @@ small_append [] ys s t = t
 small_append (Apart ∷ xs) ys s t = small_append xs ys s t
 small_append (On tray c ∷ xs) ys s t = (s.0, s.1, s.2, small_append xs ys s.3 t)
 
-pub small_behind : (xs ys : List (Placement FormCell)) → AllSmallPlaces (xs ++ ys) → AllSmallPlaces ys
-small_behind [] ys s = s
-small_behind (Apart ∷ xs) ys s = small_behind xs ys s
-small_behind (On tray c ∷ xs) ys s = small_behind xs ys s.3
+pub small_after : (xs ys : List (Placement FormCell)) → AllSmallPlaces (xs ++ ys) → AllSmallPlaces ys
+small_after [] ys s = s
+small_after (Apart ∷ xs) ys s = small_after xs ys s
+small_after (On tray c ∷ xs) ys s = small_after xs ys s.3
 
 pub small_first : (place : Placement FormCell) (places : List (Placement FormCell)) → AllSmallPlaces (place ∷ places)
     → AllSmallPlaces (place ∷ [])
@@ -65,7 +65,7 @@ pub one_not_small : (f : Placement FormCell → Placement FormCell) (group p : �
 one_not_small f group p places place front whole l is so_far large small =
     let rest = changed f group (p + 1) (drop (p + 1) places) in
     large (small_first _ _ (subst AllSmallPlaces (changed_first f group p places place l is)
-    (small_behind front (changed f group p (drop p places)) (subst AllSmallPlaces (sym so_far) small))))
+    (small_after front (changed f group p (drop p places)) (subst AllSmallPlaces (sym so_far) small))))
 
 -- Offsets
 
@@ -137,7 +137,7 @@ pub three_pushed : {A : Type 0} (front : List A) (x y z : A) → (((front ++ x �
 three_pushed [] x y z = refl
 three_pushed {A} (a ∷ front) x y z = ap (λ (xs : List A). a ∷ xs) (three_pushed front x y z)
 
--- an element stays where it is as others come behind, and one more stands at the end
+-- an element stays where it is as others come after, and one more stands at the end
 pub at_front : {A : Type 0} (xs ys : List A) (p : ℕ) (x : A) → slice_get xs p ≡ Some x → slice_get (xs ++ ys) p ≡ Some x
 at_front [] ys p x e = absurd (none-some x e)
 at_front (a ∷ xs) ys zero x e = e

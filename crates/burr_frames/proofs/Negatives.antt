@@ -5,7 +5,7 @@ use Rattle.std.proofs.Math.IntN.{negsuc}
 use Rattle.std.proofs.lemmas.Int.{ints, fits_signed_from_abs}
 use Rattle.std.proofs.lemmas.List.{take_all}
 use Rattle.std.proofs.lemmas.List.Elements.{All-map}
-use Rattle.burr_forms.specs.Forms.{Form, times, IsSmall, AllSmall, IsSmallForm}
+use Rattle.burr_forms.specs.Rules.Forms.{Form, times, IsSmall, AllSmall, IsSmallForm}
 
 negative_product : (x : ℤ) → neg_ℤ x ≡ neg_ℤ (pos 1) *ℤ x
 negative_product (pos n) = omega (arith, ints)

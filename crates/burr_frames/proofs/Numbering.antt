@@ -2,9 +2,9 @@
 use Rattle.std.proofs.Common.{◌≡◌, ℕ, suc, ◌+◌, ◌-◌, ◌<◌, List, [], ◌∷◌, ◌++◌, length, drop, set, Option, Some, None, refl, sym, ap, ◌∙◌, arith, append_assoc}
 use Rattle.std.specs.Prelude.{replicate, slice_get, is_some, true, false}
 use Rattle.std.proofs.lemmas.List.{drop_all, length_push, set-append_right}
-use Rattle.burr_forms.specs.Forms.{Form, symbol}
-use Rattle.burr_container.specs.Plans.{Range}
-use Rattle.burr_frames.specs.States.{numbered}
+use Rattle.burr_forms.specs.Rules.Forms.{Form, symbol}
+use Rattle.burr_container.specs.Rules.Plans.{Range}
+use Rattle.burr_frames.specs.Rules.States.{numbered}
 use Rattle.burr_container.proofs.Common.ListsRead.{drop_here}
 
 pub none_of : {A : Type 0} (o : Option A) → is_some o ≡ false → o ≡ None
@@ -46,15 +46,15 @@ pub given : (whole : List (Option Range)) (v count : ℕ) (slots : List (Option 
     → IsNumbered whole (v + 1) (count + 1) (set slots v (Some (symbol count)))
 given whole v count slots range l e n =
     let form = Some (symbol count) in
-    let behind : List (Option Form) = replicate (8 - (v + 1)) None in
+    let after : List (Option Form) = replicate (8 - (v + 1)) None in
     let on : count + 1 ≡ suc count = omega arith in
     record {
       front = n.front ++ form ∷ [];
       many = length_push n.front form ∙ ap (λ k. k + 1) n.many;
       parts = ap (λ (s : List (Option Form)). set s v form) (n.parts ∙ ap (λ (k : ℕ). n.front ++ replicate k None) (one_more v l))
-          ∙ set-append_right n.front (None ∷ behind) v v form n.many (omega arith)
-          ∙ ap (λ (k : ℕ). n.front ++ set (None ∷ behind) k form) (same_less v)
-          ∙ sym (append_assoc n.front (form ∷ []) behind);
+          ∙ set-append_right n.front (None ∷ after) v v form n.many (omega arith)
+          ∙ ap (λ (k : ℕ). n.front ++ set (None ∷ after) k form) (same_less v)
+          ∙ sym (append_assoc n.front (form ∷ []) after);
       is = append_assoc n.front (form ∷ []) (numbered (count + 1) (drop (v + 1) whole))
           ∙ ap (λ (k : ℕ). n.front ++ form ∷ numbered k (drop (v + 1) whole)) on
           ∙ ap (λ (rest : List (Option Range)). n.front ++ numbered count rest) (sym (drop_here whole v (Some range) e)) ∙ n.is;

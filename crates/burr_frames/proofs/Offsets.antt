@@ -5,10 +5,10 @@ use Rattle.std.proofs.lemmas.List.{take_more, reverse-reverse}
 use Rattle.std.proofs.lemmas.List.Elements.{All-nil, All-cons}
 use Rattle.std.proofs.lemmas.List.Sorted.{All-permutation, IsPermutation-reverse}
 use Rattle.burr_code.specs.Places.{Placement, Apart, On}
-use Rattle.burr_forms.specs.Forms.{Form, IsSmallForm, AllSmallForms}
-use Rattle.burr_container.specs.Plans.{FormCell}
-use Rattle.burr_frames.specs.SpaceRules.{AllSmallPlaces}
-use Rattle.burr_frames.specs.Comparing.{offset_forms}
+use Rattle.burr_forms.specs.Rules.Forms.{Form, IsSmallForm, AllSmallForms}
+use Rattle.burr_container.specs.Rules.Plans.{FormCell}
+use Rattle.burr_frames.specs.Rules.SpaceRules.{AllSmallPlaces}
+use Rattle.burr_frames.specs.Views.Comparing.{offset_forms}
 
 offsets_push : (places : List (Placement FormCell)) (place : Placement FormCell)
     → offset_forms (places ++ place ∷ []) ≡ offset_forms places ++ offset_forms (place ∷ [])

@@ -4,9 +4,9 @@ use Rattle.std.specs.Prelude.{pos}
 use Rattle.burr_voxels.specs.declared.direction.Direction.{Direction}
 use Rattle.burr_voxels.specs.Grid.{along}
 use Rattle.burr_code.specs.Places.{Placement, On, at_position}
-use Rattle.burr_forms.specs.Forms.{Form, raised}
-use Rattle.burr_container.specs.Plans.{FormCell}
-use Rattle.burr_frames.specs.SpaceRules.{moved_forms}
+use Rattle.burr_forms.specs.Rules.Forms.{Form, raised}
+use Rattle.burr_container.specs.Rules.Plans.{FormCell}
+use Rattle.burr_frames.specs.Rules.SpaceRules.{moved_forms}
 
 pub moved_place : (direction : Direction) (tray : ℕ) (x y z moved_x moved_y moved_z : Form) (place : Placement FormCell)
     → On tray (record { x = x; y = y; z = z }) ≡ place

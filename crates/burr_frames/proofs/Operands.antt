@@ -4,7 +4,7 @@ use Rattle.std.specs.Prelude.{reverse, Option, Some, None, IfSome, slice_get}
 use Rattle.std.proofs.lemmas.Option.{slice_get_within, get_or_from_slice_get}
 use Rattle.std.proofs.lemmas.List.{take_all, take_more, reverse-append}
 use Rattle.std.proofs.lemmas.List.Elements.{All-get_or}
-use Rattle.burr_forms.specs.Forms.{Form, IsSmallForm, AllSmallForms}
+use Rattle.burr_forms.specs.Rules.Forms.{Form, IsSmallForm, AllSmallForms}
 
 -- what is left where the topmost is taken off
 pub taken_off : (forms : List Form) → reverse (take (length forms - 1) forms) ≡ drop 1 (reverse forms)

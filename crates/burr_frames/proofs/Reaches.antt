@@ -4,11 +4,11 @@ use Rattle.std.specs.Prelude.{All}
 use Rattle.std.proofs.lemmas.Int.{ints}
 use Rattle.std.proofs.lemmas.List.Elements.{All-nil, All-cons, All-head, All-map, All-weaker}
 use Rattle.burr_code.specs.Instruction.{IsInNumberRange}
-use Rattle.burr_forms.specs.Forms.{Form, Point, value, values}
-use Rattle.burr_forms.specs.Bounds.{IsLeastIn, IsGreatestIn}
-use Rattle.burr_forms.specs.Conditions.{Region, Throughout}
-use Rattle.burr_frames.specs.States.{AbstractState, Everywhere, IsFirstFailing}
-use Rattle.burr_frames.specs.Ranges.{IsInReach, AllInReach, LiesWithin}
+use Rattle.burr_forms.specs.Rules.Forms.{Form, Point, value, values}
+use Rattle.burr_forms.specs.Views.Bounds.{IsLeastIn, IsGreatestIn}
+use Rattle.burr_forms.specs.Rules.Conditions.{Region, Throughout}
+use Rattle.burr_frames.specs.Rules.States.{AbstractState, Everywhere, IsFirstFailing}
+use Rattle.burr_frames.specs.Views.Ranges.{IsInReach, AllInReach, LiesWithin}
 
 pub one_in_range : (s : AbstractState) (f : Form) → Everywhere s (λ point. AllInReach 32767 (values point (f ∷ [])))
     → Everywhere s (λ point. IsInNumberRange (value point f))

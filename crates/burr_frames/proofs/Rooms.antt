@@ -1,4 +1,4 @@
--- How many points a box has, counted range by range, and ranges that are put behind others.
+-- How many points a box has, counted range by range, and ranges that are put after others.
 use Rattle.std.proofs.Common.{◌≡◌, ◌∙◌, ℕ, ◌+◌, ◌*◌, ◌≤◌, ◌<◌, List, [], ◌∷◌, ◌++◌, length, drop, refl, sym, ap, arith, ℤ, slice_index_or, Fits, FitsSigned, w16, w32, to_z, of_z, to_z-of_z, mul_assoc}
 use Rattle.std.specs.Prelude.{◌-ℤ◌, nat_abs}
 use Rattle.std.specs.Int.RustNames.{unsigned_abs}
@@ -7,8 +7,8 @@ use Rattle.std.proofs.lemmas.Nat.{mul-le}
 use Rattle.std.proofs.lemmas.List.{drop_more}
 use Rattle.std.proofs.lemmas.List.Elements.{All-push}
 use Rattle.std.proofs.Math.Facts.{Fits-of_lt}
-use Rattle.burr_container.specs.Plans.{Range}
-use Rattle.burr_forms.specs.Points.{IsRange, AreRanges, box_size}
+use Rattle.burr_container.specs.Rules.Plans.{Range}
+use Rattle.burr_forms.specs.Rules.Points.{IsRange, AreRanges, box_size}
 
 -- how many numbers a range has
 abbrev pub range_size : Range → ℕ

@@ -2,10 +2,10 @@
 use Rattle.std.proofs.Common.{◌≡◌, List, subst, inr}
 use Rattle.std.specs.Prelude.{Some}
 use Rattle.burr_code.specs.Stacks.{top_two}
-use Rattle.burr_forms.specs.Forms.{Form, plus_form, minus_form}
-use Rattle.burr_frames.specs.States.{AbstractState}
-use Rattle.burr_frames.specs.Verdicts.{Verdict}
-use Rattle.burr_frames.specs.NumberRules.{result_rule, add_rule, sub_rule}
+use Rattle.burr_forms.specs.Rules.Forms.{Form, plus_form, minus_form}
+use Rattle.burr_frames.specs.Rules.States.{AbstractState}
+use Rattle.burr_frames.specs.Rules.Verdicts.{Verdict}
+use Rattle.burr_frames.specs.Rules.NumberRules.{result_rule, add_rule, sub_rule}
 
 pub sum_put : (s : AbstractState) (upper lower sum : Form) (below : List Form) (v : Verdict)
     → top_two s.operands ≡ Some (upper, lower, below) → sum ≡ plus_form lower upper

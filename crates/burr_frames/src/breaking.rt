@@ -1,5 +1,5 @@
 ghost use Rattle.std.specs.Prelude.{◌≡◌, option_map};
-ghost use Rattle.burr_frames.specs.Breaks.{broken_of, plain_break, break_at, missed_break};
+ghost use Rattle.burr_frames.specs.Views.Breaks.{broken_of, plain_break, break_at, missed_break};
 
 use crate::rule::Rule;
 use crate::state::Miss;

@@ -2,12 +2,12 @@
 
 ghost use Rattle.std.specs.Prelude.{◌≡◌, ◌≢◌, ◌<◌, ◌≤◌, ◌*◌, ◌+◌, ◌^◌, ◌↔◌, ℕ, IsTrue, length};
 ghost use Rattle.burr_voxels.specs.Near.{IsWithin};
-ghost use Rattle.burr_assembly.specs.Homes.{homes_of};
-ghost use Rattle.burr_blocking.specs.Counted.{with_more};
-ghost use Rattle.burr_frames.specs.declared.clearing.Side.TheVariants.{Gripped};
-ghost use Rattle.burr_frames.specs.Ranges.{AllInReach};
-ghost use Rattle.burr_frames.specs.Clearing.{cell_of, IsSide, IsPairClear, FirstPairOf, FirstAgainst};
-ghost use Rattle.burr_frames.specs.ClearingLooks.{ClearLooks, RowLooks};
+ghost use Rattle.burr_assembly.specs.Rules.Homes.{homes_of};
+ghost use Rattle.burr_blocking.specs.Rules.Counted.{with_more};
+ghost use Rattle.burr_frames.specs.declared.clearing.Role.TheVariants.{Gripped};
+ghost use Rattle.burr_frames.specs.Views.Ranges.{AllInReach};
+ghost use Rattle.burr_frames.specs.Views.Clearing.{cell_of, IsRole, IsPairClear, FirstPairOf, FirstAgainst};
+ghost use Rattle.burr_frames.specs.Views.ClearingLooks.{ClearLooks, RowLooks};
 
 use burr_blocking::{Blocking, Looks, Query};
 use burr_forms::{Asking, Form};
@@ -16,11 +16,11 @@ use burr_voxels::Cell;
 /// Where a piece stands as pairs are asked of: it is in another tray or apart, it is gripped, or it
 /// is in the tray and left there.
 #[derive(Clone, Copy, Debug, Default, PartialEq, Eq)]
-pub enum Side {
+pub enum Role {
     #[default]
     Elsewhere,
     Gripped,
-    Left,
+    Resting,
 }
 
 /// The condition that no gripped piece is in the way of a piece that is left in the tray, asked of
@@ -30,25 +30,25 @@ pub struct Clearing<'a, 'b, B: Blocking> {
     /// The offset of each piece, three forms for each; the pieces lie on the bench.
     pub forms: &'a [Form],
     /// Of the first pieces, each of which the assembly has.
-    pub sides: &'a [Side],
+    pub roles: &'a [Role],
     pub query: Query,
     pub looks: &'a mut Looks<'b, B>,
     /// The first pair that was not clear where the condition was asked of last.
     pub found: Option<(u8, u8)>,
-    ghost shape: { 3 * length sides.now ≤ length forms.now },
-    ghost pieces: { length sides.now ≤ length looks.now.assembly.pieces },
-    ghost few: { length sides.now ≤ 32 },
+    ghost shape: { 3 * length roles.now ≤ length forms.now },
+    ghost pieces: { length roles.now ≤ length looks.now.assembly.pieces },
+    ghost few: { length roles.now ≤ 32 },
 }
 
 impl<'a, 'b, B: Blocking> Asking for Clearing<'a, 'b, B> {
-    ghost use Rattle.burr_assembly.specs.Homes.{homes_of};
-    ghost use Rattle.burr_frames.specs.Ranges.{AllInReach};
-    ghost use Rattle.burr_frames.specs.Clearing.{AllClear, FirstPairOf};
-    ghost use Rattle.burr_frames.specs.ClearingLooks.{Asked, asked_of, ClearLooks};
+    ghost use Rattle.burr_assembly.specs.Rules.Homes.{homes_of};
+    ghost use Rattle.burr_frames.specs.Views.Ranges.{AllInReach};
+    ghost use Rattle.burr_frames.specs.Views.Clearing.{AllClear, FirstPairOf};
+    ghost use Rattle.burr_frames.specs.Views.ClearingLooks.{Asked, asked_of, ClearLooks};
 
     ghost Subject = { Asked };
 
-    ghost subject = { λ c. asked_of c.looks.ghost_name c.looks.now.assembly c.forms.now c.sides.now
+    ghost subject = { λ c. asked_of c.looks.ghost_name c.looks.now.assembly c.forms.now c.roles.now
         c.query };
 
     ghost count = { λ c. c.looks.now.count };
@@ -57,13 +57,13 @@ impl<'a, 'b, B: Blocking> Asking for Clearing<'a, 'b, B> {
 
     ghost Promised = { λ _ values. AllInReach 256 values };
 
-    ghost Says = { λ s values. AllClear s.query (homes_of s.assembly) s.sides values };
+    ghost Says = { λ s values. AllClear s.query (homes_of s.assembly) s.roles values };
 
     ghost most = { λ _. 1024 };
 
-    ghost Counts = { λ s values n. ClearLooks s.query (homes_of s.assembly) s.sides values n };
+    ghost Counts = { λ s values n. ClearLooks s.query (homes_of s.assembly) s.roles values n };
 
-    ghost Kept = { λ c s values. FirstPairOf s.query (homes_of s.assembly) s.sides values
+    ghost Kept = { λ c s values. FirstPairOf s.query (homes_of s.assembly) s.roles values
         c.found };
 
     fn wanted_forms(&self) -> &[Form] {
@@ -71,7 +71,7 @@ impl<'a, 'b, B: Blocking> Asking for Clearing<'a, 'b, B> {
     }
 
     fn ask(&mut self, values: &[i64]) -> bool {
-        self.found = first_pair(self.looks, self.query, self.sides, values);
+        self.found = first_pair(self.looks, self.query, self.roles, values);
         self.found.is_none()
     }
 }
@@ -83,24 +83,24 @@ impl<'a, 'b, B: Blocking> Asking for Clearing<'a, 'b, B> {
 fn first_pair<B: Blocking>(
     looks: &mut Looks<'_, B>,
     query: Query,
-    sides: &[Side],
+    roles: &[Role],
     values: &[i64],
 ) -> Option<(u8, u8)>
-    requires shape { 3 * length sides.now ≤ length values.now }
-    requires pieces { length sides.now ≤ length looks.old.assembly.pieces }
-    requires few { length sides.now ≤ 32 }
+    requires shape { 3 * length roles.now ≤ length values.now }
+    requires pieces { length roles.now ≤ length looks.old.assembly.pieces }
+    requires few { length roles.now ≤ 32 }
     requires reach { AllInReach 256 values.now }
     requires room { looks.old.count ≤ 2 ^ 61 }
-    ensures found { FirstPairOf query (homes_of looks.old.assembly) sides.now values.now result }
+    ensures found { FirstPairOf query (homes_of looks.old.assembly) roles.now values.now result }
     ensures counted { (n : ℕ) × (n ≤ 1024)
-        × ClearLooks query (homes_of looks.old.assembly) sides.now values.now n
+        × ClearLooks query (homes_of looks.old.assembly) roles.now values.now n
         × (looks.new ≡ with_more n looks.old) }
 {
-    for piece in 0..sides.len() {
-        if !is_on(sides, piece, Side::Gripped) {
+    for piece in 0..roles.len() {
+        if !is_on(roles, piece, Role::Gripped) {
             continue;
         }
-        if let Some(other) = first_against(looks, query, sides, values, piece as u8) {
+        if let Some(other) = first_against(looks, query, roles, values, piece as u8) {
             return Some((piece as u8, other));
         }
     }
@@ -111,25 +111,25 @@ fn first_pair<B: Blocking>(
 fn first_against<B: Blocking>(
     looks: &mut Looks<'_, B>,
     query: Query,
-    sides: &[Side],
+    roles: &[Role],
     values: &[i64],
     piece: u8,
 ) -> Option<u8>
-    requires shape { 3 * length sides.now ≤ length values.now }
-    requires pieces { length sides.now ≤ length looks.old.assembly.pieces }
-    requires few { length sides.now ≤ 32 }
+    requires shape { 3 * length roles.now ≤ length values.now }
+    requires pieces { length roles.now ≤ length looks.old.assembly.pieces }
+    requires few { length roles.now ≤ 32 }
     requires reach { AllInReach 256 values.now }
     requires room { looks.old.count ≤ 2 ^ 61 + 1024 }
-    requires piece { piece < length sides.now }
-    requires gripped { IsSide sides.now piece Gripped }
-    ensures found { FirstAgainst query (homes_of looks.old.assembly) sides.now values.now piece
+    requires piece { piece < length roles.now }
+    requires gripped { IsRole roles.now piece Gripped }
+    ensures found { FirstAgainst query (homes_of looks.old.assembly) roles.now values.now piece
         result }
     ensures counted { (n : ℕ) × (n ≤ 32)
-        × RowLooks query (homes_of looks.old.assembly) sides.now values.now piece result n
+        × RowLooks query (homes_of looks.old.assembly) roles.now values.now piece result n
         × (looks.new ≡ with_more n looks.old) }
 {
-    for other in 0..sides.len() {
-        if !is_on(sides, other, Side::Left) {
+    for other in 0..roles.len() {
+        if !is_on(roles, other, Role::Resting) {
             continue;
         }
         if !is_clear(looks, query, values, piece, other as u8) {
@@ -163,11 +163,11 @@ fn is_clear<B: Blocking>(
 }
 
 /// Whether a piece stands on this side.
-fn is_on(sides: &[Side], piece: usize, side: Side) -> bool
-    requires { piece < length sides.now }
-    ensures { IsTrue result ↔ IsSide sides.now piece side }
+fn is_on(roles: &[Role], piece: usize, role: Role) -> bool
+    requires { piece < length roles.now }
+    ensures { IsTrue result ↔ IsRole roles.now piece role }
 {
-    sides[piece] == side
+    roles[piece] == role
 }
 
 /// The offset of a piece, of values that stand three by three, each within ±256.

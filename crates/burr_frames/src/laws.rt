@@ -1,9 +1,9 @@
-ghost use Rattle.burr_frames.specs.LookLaws.{OneRuleLooks, SomeRuleLooks, FewRuleLooks, AllAreMade};
-ghost use Rattle.burr_forms.specs.PointLaws.{ThePointsAreGiven};
-ghost use Rattle.burr_frames.specs.TransferLaws.{OneVerdict};
+ghost use Rattle.burr_frames.specs.Laws.LookLaws.{OneRuleLooks, SomeRuleLooks, FewRuleLooks, AllAreMade};
+ghost use Rattle.burr_forms.specs.Laws.PointLaws.{ThePointsAreGiven};
+ghost use Rattle.burr_frames.specs.Laws.TransferLaws.{OneVerdict};
 
 /// An instruction has exactly one verdict in a state: so whoever finds a rule broken, and where,
-/// finds the only one that is, and whoever finds none knows the state behind.
+/// finds the only one that is, and whoever finds none knows the state after.
 pub fn an_instruction_has_one_verdict()
     ensures { OneVerdict }
 {}

@@ -1,13 +1,13 @@
 ghost use Rattle.std.specs.Prelude.{◌≡◌, ◌≤◌, ◌∷◌, [], MatchResult};
 ghost use Rattle.std.specs.Int.RustNames.{unsigned_abs};
 ghost use Rattle.burr_code.specs.Places.{Apart, tray_of, is_in, to_tray, at_position};
-ghost use Rattle.burr_container.specs.Refs.{told};
-ghost use Rattle.burr_frames.specs.Clearing.{offsets_in};
-ghost use Rattle.burr_frames.specs.Comparing.{offset_forms};
-ghost use Rattle.burr_forms.specs.Forms.{raised, IsSmallForm, AllSmallForms};
-ghost use Rattle.burr_forms.specs.Results.{IsFormOf};
-ghost use Rattle.burr_frames.specs.ControlRules.{substituted_cell};
-ghost use Rattle.burr_frames.specs.SpaceRules.{moved_forms, AllSmallPlaces};
+ghost use Rattle.burr_container.specs.Views.Refs.{placement_view};
+ghost use Rattle.burr_frames.specs.Views.Clearing.{offsets_in};
+ghost use Rattle.burr_frames.specs.Views.Comparing.{offset_forms};
+ghost use Rattle.burr_forms.specs.Rules.Forms.{raised, IsSmallForm, AllSmallForms};
+ghost use Rattle.burr_forms.specs.Views.Results.{IsFormOf};
+ghost use Rattle.burr_frames.specs.Rules.ControlRules.{substituted_cell};
+ghost use Rattle.burr_frames.specs.Rules.SpaceRules.{moved_forms, AllSmallPlaces};
 
 use crate::raising::raised_by;
 use arrayvec::ArrayVec;
@@ -30,8 +30,8 @@ pub struct Lying {
 
 impl Model for Lying {
     ghost use Rattle.burr_code.specs.Places.{Placement};
-    ghost use Rattle.burr_container.specs.Plans.{FormCell};
-    ghost use Rattle.burr_frames.specs.Spots.{lying_of};
+    ghost use Rattle.burr_container.specs.Rules.Plans.{FormCell};
+    ghost use Rattle.burr_frames.specs.Views.Spots.{lying_of};
 
     ghost Value = { Placement FormCell };
 
@@ -41,7 +41,7 @@ impl Model for Lying {
 impl Lying {
     /// Where a piece is by its tray and its offset; apart where there is none.
     pub fn at(place: Option<(u8, Form, Form, Form)>) -> Lying
-        ensures { result ≡ told place }
+        ensures { result ≡ placement_view place }
     {
         let spot = match place {
             None => Spot::Apart,

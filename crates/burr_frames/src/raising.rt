@@ -1,7 +1,7 @@
 ghost use Rattle.std.specs.Prelude.{◌≤◌};
 ghost use Rattle.std.specs.Int.RustNames.{unsigned_abs};
-ghost use Rattle.burr_forms.specs.Forms.{raised, IsSmallForm};
-ghost use Rattle.burr_forms.specs.Results.{IsFormOf};
+ghost use Rattle.burr_forms.specs.Rules.Forms.{raised, IsSmallForm};
+ghost use Rattle.burr_forms.specs.Views.Results.{IsFormOf};
 
 use burr_forms::{Form, FormTooLarge};
 

@@ -1,5 +1,5 @@
 ghost use Rattle.std.specs.Prelude.{◌≡◌, Some};
-ghost use Rattle.burr_frames.specs.RuleNumbers.{rule_number, rule_name};
+ghost use Rattle.burr_frames.specs.Rules.RuleNumbers.{rule_number, rule_name};
 
 use std::fmt;
 
@@ -14,7 +14,7 @@ pub enum Rule {
     V3,
     /// A frame is missing: nothing goes on to here, and no label stands here.
     V4,
-    /// The procedure goes on behind its last instruction.
+    /// The procedure goes on after its last instruction.
     V5,
     /// The instruction takes more operands than there are.
     V6,

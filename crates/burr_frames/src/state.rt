@@ -1,7 +1,7 @@
+mod after;
 mod agreeing;
 mod arriving;
 mod asking;
-mod behind;
 mod calling;
 mod changes;
 mod control;
@@ -50,8 +50,8 @@ pub struct State {
 }
 
 impl Model for State {
-    ghost use Rattle.burr_frames.specs.States.{AbstractState};
-    ghost use Rattle.burr_frames.specs.StateViews.{abstract_state, IsSmallState};
+    ghost use Rattle.burr_frames.specs.Rules.States.{AbstractState};
+    ghost use Rattle.burr_frames.specs.Views.StateViews.{abstract_state, IsSmallState};
 
     ghost Value = { AbstractState };
 

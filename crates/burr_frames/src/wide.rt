@@ -1,6 +1,6 @@
 ghost use Rattle.std.specs.Prelude.{◌≡◌, ◌≤◌, length};
-ghost use Rattle.burr_forms.specs.Forms.{value, IsSmallForm};
-ghost use Rattle.burr_forms.specs.Searching.{AllBounded};
+ghost use Rattle.burr_forms.specs.Rules.Forms.{value, IsSmallForm};
+ghost use Rattle.burr_forms.specs.Views.Searching.{AllBounded};
 
 use burr_forms::Form;
 

@@ -1,7 +1,7 @@
 ghost use Rattle.std.specs.Prelude.{◌≡◌, ◌≤◌, ◌↔◌, IsTrue, length, All};
-ghost use Rattle.burr_forms.specs.Forms.{IsSmallForm, AllSmallForms};
-ghost use Rattle.burr_forms.specs.Points.{AreRanges};
-ghost use Rattle.burr_frames.specs.Ranges.{IsInReach, AllInReach, LiesWithin};
+ghost use Rattle.burr_forms.specs.Rules.Forms.{IsSmallForm, AllSmallForms};
+ghost use Rattle.burr_forms.specs.Rules.Points.{AreRanges};
+ghost use Rattle.burr_frames.specs.Views.Ranges.{IsInReach, AllInReach, LiesWithin};
 
 use burr_forms::{Condition, Form};
 

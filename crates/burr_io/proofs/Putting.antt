@@ -16,9 +16,9 @@ pub record HasPut (whole rest : List ℕ) (old new : Option (List ℕ)) (failed 
 -- one call took some bytes more
 pub HasPut-more : (whole rest next : List ℕ) (old mid new : Option (List ℕ)) (failed fails : Bool) (n : ℕ)
     → HasPut whole rest old mid failed → Appends mid new (take n rest) → fails ≡ false → next ≡ drop n rest → HasPut whole next old new fails
-HasPut-more whole rest next old mid new failed fails n put went goes behind = record {
+HasPut-more whole rest next old mid new failed fails n put went goes after = record {
   front = put.front ++ take n rest;
-  parts = let split = put.parts in grind (arith, common_steps, split, behind);
+  parts = let split = put.parts in grind (arith, common_steps, split, after);
   taken = Appends-trans old mid new put.front (take n rest) put.taken went;
   goes_on = λ _. goes;
 }

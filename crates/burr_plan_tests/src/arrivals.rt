@@ -44,7 +44,7 @@ fn frame_of<'a>(rt: &impl Abort, container: &Container<'a>, label: usize) -> Fra
     container.frame(0, label)
 }
 
-/// The bytes of the plan behind edits.
+/// The bytes of the plan after edits.
 fn plan_of(rt: &impl Abort, alloc: Global, edits: &str) -> Vec<u8> {
     bytes_of(rt, alloc, &edited(rt, alloc, RING_PLAN, edits))
 }

@@ -1,4 +1,4 @@
-//! What calls of the bench tell, and its state behind them.
+//! What calls of the bench tell, and its state after them.
 use crate::assemblies::DUO;
 use crate::calls::{assembly_of, cells_of};
 use crate::cases::{SCRIPTS, TRAPS};
@@ -90,7 +90,7 @@ fn words_of(alloc: Global, bench: &mut Bench<'_, '_>, done: &str) -> Result<Stri
     }
 }
 
-/// Asserts what the bench tells at code for the duo: each line is what is done, and behind ` | `
+/// Asserts what the bench tells at code for the duo: each line is what is done, and after ` | `
 /// what is told.
 fn assert_told(rt: &impl Abort, alloc: Global, code: &str, lines: &str) {
     let code = bytes_of(rt, alloc, code);

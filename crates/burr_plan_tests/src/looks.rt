@@ -43,7 +43,7 @@ impl<'a> Blocking for Watched<'a> {
     }
 }
 
-/// What is said of a plan behind edits, and how many looks that took; the tables were asked as often.
+/// What is said of a plan after edits, and how many looks that took; the tables were asked as often.
 pub fn said_of_looks(rt: &impl Abort, alloc: Global, table: &Table, edits: &str) -> String {
     let bytes = bytes_of(rt, alloc, &edited(rt, alloc, table.plan, edits));
     let container = container_of(rt, &bytes);

@@ -9,7 +9,7 @@ pub const DUO_PLAN: &str = "\
     00 00000000 00000000 00000000 \
     0009 10 00000001 12 01 01 00";
 
-/// Code for the duo, whose only label is its first: its cost and, behind its length, the code.
+/// Code for the duo, whose only label is its first: its cost and, after its length, the code.
 pub const DUO_CODE: &str = "\
     42504c4e 0001 000f4240 02 03 64756f 01 00 0001 \
     0000 00 00000000 00 00 00 ? \
@@ -27,7 +27,7 @@ pub const SQUARE_CODE: &str = "\
     00 00000000 00000000 00000000 \
     ?";
 
-/// Code for the duo with a second label: where that stands, and the code behind its length.
+/// Code for the duo with a second label: where that stands, and the code after its length.
 pub const LABELLED_CODE: &str = "\
     42504c4e 0001 00000009 02 03 64756f 01 00 0002 \
     0000 00 00000000 00 00 00 00000009 \
@@ -120,7 +120,7 @@ pub const CHOICE_PLAN: &str = "\
     00 00000000 00000000 00000000 00 00000000 00000000 00000000 \
     0018 23 02 0001 0002 10 00000001 12 01 01 00 10 00000002 12 00 01 00";
 
-/// Two cubes are taken apart. Behind that stands a frame to which nothing comes, with its own
+/// Two cubes are taken apart. After that stands a frame to which nothing comes, with its own
 /// `halt`.
 pub const FRAME_PLAN: &str = "\
     42504c4e 0001 00000003 02 03 64756f 01 \

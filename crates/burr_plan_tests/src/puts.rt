@@ -144,7 +144,7 @@ pub fn put<W: Write>(
     }
 }
 
-/// What is put of a case, behind the word for its end.
+/// What is put of a case, after the word for its end.
 pub fn said_of_put(rt: &impl Abort, alloc: Global, table: &Table, given: &str) -> String {
     let mut written = Vec::new(alloc);
     let word = put(rt, alloc, table, given, &mut written);

@@ -42,10 +42,10 @@ impl Read for Portions<'_> {
     }
 }
 
-/// The input of a case: an assembly's text, and behind it a text behind edits.
+/// The input of a case: an assembly's text, and after it a text after edits.
 pub fn input_of(rt: &impl Abort, alloc: Global, table: &Table, edits: &str) -> String {
-    let behind = lines_of(rt, alloc, &edited(rt, alloc, table.plan, edits));
-    format!(in alloc; "{}{behind}", table.assembly).expect(rt, "memory")
+    let after = lines_of(rt, alloc, &edited(rt, alloc, table.plan, edits));
+    format!(in alloc; "{}{after}", table.assembly).expect(rt, "memory")
 }
 
 /// Asserts how bare code ends that comes from a source, and what is put.

@@ -1,5 +1,5 @@
-//! Tables of cases, a case a line: what is given, and behind ` | ` what comes of it. A line with
-//! `#` is a heading, and `/` behind the bar stands for a line end.
+//! Tables of cases, a case a line: what is given, and after ` | ` what comes of it. A line with
+//! `#` is a heading, and `/` after the bar stands for a line end.
 use crate::looks::said_of_looks;
 use crate::puts::{assert_poor, said_of_put};
 use crate::sinks::assert_fronts;
@@ -16,7 +16,7 @@ use std::process::Abort;
 pub enum Kind {
     /// Edits of a text: its answers are read.
     Answers,
-    /// Edits of what stands behind an assembly's text: bare code is run.
+    /// Edits of what stands after an assembly's text: bare code is run.
     Bare,
     /// Edits of a plan: it is asked whether the plan is for the assembly.
     Fit,
@@ -36,7 +36,7 @@ pub struct Table {
     pub kind: Kind,
     /// The assembly's text.
     pub assembly: &'static str,
-    /// The plan's digits, or what stands behind the assembly's text; with a `?` where a case fills
+    /// The plan's digits, or what stands after the assembly's text; with a `?` where a case fills
     /// it.
     pub plan: &'static str,
     /// The cases.

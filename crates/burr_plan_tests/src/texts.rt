@@ -36,9 +36,9 @@ pub fn bytes_of(rt: &impl Abort, alloc: Global, digits: &str) -> Vec<u8> {
     hex::decode(alloc, digits).expect(rt, "digits")
 }
 
-/// A text behind edits, which a comma and a blank join: `OLD > NEW` puts other words in the place
+/// A text after edits, which a comma and a blank join: `OLD > NEW` puts other words in the place
 /// of some where they first stand, any other words fill the first `?`, and `none` is no edit.
-/// Behind that it is expanded.
+/// After that it is expanded.
 pub fn edited(rt: &impl Abort, alloc: Global, text: &str, edits: &str) -> String {
     let mut changed = text.to_string(alloc).expect(rt, "memory");
     for edit in edits.split(", ") {
@@ -49,7 +49,7 @@ pub fn edited(rt: &impl Abort, alloc: Global, text: &str, edits: &str) -> String
     expanded(rt, alloc, &changed)
 }
 
-/// A text behind one edit.
+/// A text after one edit.
 fn edited_once(rt: &impl Abort, alloc: Global, text: &str, edit: &str) -> String {
     let (old, new) = edit.split_once(" > ").unwrap_or(("?", edit));
     assert!(rt; text.contains(old), "{edit}");

@@ -26,7 +26,7 @@ fn adds_counts_of_results_and_guards(rt: HostRuntime) {
     }
 }
 
-/// The count of main's results stands behind that of its parameters.
+/// The count of main's results stands after that of its parameters.
 #[test]
 fn writes_the_count_of_results(rt: HostRuntime) {
     let old = bytes_of(&rt, rt.alloc(), DUO_PLAN);

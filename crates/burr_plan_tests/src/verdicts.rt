@@ -7,7 +7,7 @@ use burr_verify::{Refusal, fits_assembly, verify};
 use std::alloc::{AllocError, Global};
 use std::process::Abort;
 
-/// What is said of a plan behind edits: `accepted`, or the refusal, whose pieces are named by their
+/// What is said of a plan after edits: `accepted`, or the refusal, whose pieces are named by their
 /// numbers.
 pub fn said_of_judge(rt: &impl Abort, alloc: Global, table: &Table, edits: &str) -> String {
     let bytes = bytes_of(rt, alloc, &edited(rt, alloc, table.plan, edits));

@@ -237,7 +237,7 @@ impl Job<'_> {
 }
 
 /// Asserts that of these jobs, while memory is wanting, there comes what is right and that memory
-/// is wanting, where there is a source both before it has told its end and behind that, and nothing
+/// is wanting, where there is a source both before it has told its end and after that, and nothing
 /// else.
 fn assert_wants(rt: &impl Abort, alloc: Global, jobs: &[Job<'_>], has_source: bool) {
     let mut seen = Seen {

@@ -6,11 +6,11 @@ use Rattle.std.proofs.lemmas.Grind.{flat_map-append}
 use Rattle.burr_text.proofs.Common.Cuts.{cut}
 use Rattle.burr_text.proofs.Common.Integers.{same_integer}
 use Rattle.burr_text.proofs.Common.Unended.{lacks_signed_decimal}
-use Rattle.burr_runs.specs.Answers.{answer_line, answers_text, BeginsWithNone, OneAnswers, NoFaultyLine, OneFaultyLine}
+use Rattle.burr_runs.specs.Rules.Answers.{answer_line, answers_text, BeginsWithNone, OneAnswers, NoFaultyLine, OneFaultyLine}
 
--- a line, its end, and what stands behind it
-pub ended_line : (answer : ℤ) (behind : List ℕ) → answer_line answer ++ behind ≡ signed_decimal answer ++ 10 ∷ behind
-ended_line answer behind = append_assoc (signed_decimal answer) (10 ∷ []) behind
+-- a line, its end, and what stands after it
+pub ended_line : (answer : ℤ) (after : List ℕ) → answer_line answer ++ after ≡ signed_decimal answer ++ 10 ∷ after
+ended_line answer after = append_assoc (signed_decimal answer) (10 ∷ []) after
 
 -- texts that begin with answers' lines and are equal begin with one answer
 same_line : (y z : ℤ) (r s : List ℕ) → FitsSigned w32 y → FitsSigned w32 z → answer_line y ++ r ≡ answer_line z ++ s → (y ≡ z) × (r ≡ s)
@@ -22,7 +22,7 @@ same_line y z r s fy fz e =
 first_apart : (answer : ℤ) (answers : List ℤ) (rest : List ℕ) → answers_text (answer ∷ answers) ++ rest ≡ answer_line answer ++ (answers_text answers ++ rest)
 first_apart answer answers rest = append_assoc (answer_line answer) (answers_text answers) rest
 
--- one more answer, behind others
+-- one more answer, after others
 pub one_more_answer : (answers : List ℤ) (answer : ℤ) (rest : List ℕ) → answers_text answers ++ (answer_line answer ++ rest) ≡ answers_text (answers ++ answer ∷ []) ++ rest
 one_more_answer answers answer rest =
     sym (append_assoc (answers_text answers) (answer_line answer) rest)
@@ -49,9 +49,9 @@ one_reading (x ∷ xs) (y ∷ ys) r s fx fy p q e =
 
 -- nothing begins with no answer's line
 pub nothing_begins : BeginsWithNone []
-nothing_begins answer behind h e = ends (signed_decimal answer) (e ∙ ended_line answer behind)
+nothing_begins answer after h e = ends (signed_decimal answer) (e ∙ ended_line answer after)
   where
-    ends : (front : List ℕ) → [] ≢ front ++ 10 ∷ behind
+    ends : (front : List ℕ) → [] ≢ front ++ 10 ∷ after
     ends [] e = cc
     ends (b ∷ front) e = cc
 

@@ -3,34 +3,34 @@ use Rattle.std.proofs.Common.{◌≡◌, ℕ, ◌≤◌, ℤ, List, length, refl
 use Rattle.std.specs.Prelude.{IsTrue, Result, Ok, Err, IfOk, OnErr}
 use Rattle.std.proofs.lemmas.List.{length-map}
 use Rattle.burr_voxels.specs.declared.cell.Cell.{Cell}
-use Rattle.burr_assembly.specs.Text.{Assembly, IsAssembly}
-use Rattle.burr_assembly.specs.Homes.{homes_of, home_of}
+use Rattle.burr_assembly.specs.Rules.Text.{Assembly, IsAssembly}
+use Rattle.burr_assembly.specs.Rules.Homes.{homes_of, home_of}
 use Rattle.burr_assembly.proofs.Common.HomeCells.{have_homes}
 use Rattle.burr_assembly.proofs.Common.OneHomes.{one_homes}
-use Rattle.burr_container.specs.Plans.{Plan}
-use Rattle.burr_container.specs.Fitting.{is_fitting}
-use Rattle.burr_frames.specs.FramedPlans.{framed_plan}
+use Rattle.burr_container.specs.Rules.Plans.{Plan}
+use Rattle.burr_container.specs.Rules.Fitting.{is_fitting}
+use Rattle.burr_frames.specs.Rules.FramedPlans.{framed_plan}
 use Rattle.burr_io.specs.Sink.{SinkView}
 use Rattle.burr_io.specs.declared.fault.WriteFault.{WriteFault}
-use Rattle.burr_verify.specs.Accepting.{Judged, IsAccepted}
-use Rattle.burr_verify.specs.Fitting.{FitsAssembly}
-use Rattle.burr_verify.specs.VerifyLaws.{FittingIsFromContainer}
-use Rattle.burr_verify.specs.WellFramed.{IsWellFramed}
+use Rattle.burr_verify.specs.Rules.Accepting.{Judged, IsAccepted}
+use Rattle.burr_verify.specs.Rules.Fitting.{FitsAssembly}
+use Rattle.burr_verify.specs.Laws.VerifyLaws.{FittingIsFromContainer}
+use Rattle.burr_verify.specs.Rules.WellFramed.{IsWellFramed}
 use Rattle.burr_state.specs.declared.closing.Closing.{Closing}
 use Rattle.burr_state.specs.declared.closing.Closing.TheVariants as closings
 use Rattle.burr_state.specs.declared.motion.Motion.{Motion}
-use Rattle.burr_state.specs.Bench.{Setup, BenchState, Program, running, start}
+use Rattle.burr_state.specs.Rules.Bench.{Setup, BenchState, Program, running, start}
 use Rattle.burr_soundness.specs.Framing.{framed_setup}
-use Rattle.burr_state.specs.Programs.{plan_program}
-use Rattle.burr_state.specs.Run.{Run}
+use Rattle.burr_state.specs.Views.Programs.{plan_program}
+use Rattle.burr_state.specs.Rules.Run.{Run}
 use Rattle.burr_soundness.specs.SafeRuns.{IsSafeRun, ClosesWell}
 use Rattle.burr_soundness.specs.Soundness.{VerifierIsSound}
-use Rattle.burr_state.specs.SpaceLaws.{HomesAreDisjoint}
+use Rattle.burr_state.specs.Laws.SpaceLaws.{HomesAreDisjoint}
 use Rattle.burr_soundness.proofs.Common.FramedSetup.{same_setup}
 use Rattle.burr_runs.specs.declared.outcome.Outcome.{Outcome}
-use Rattle.burr_runs.specs.Headline.{setup_for, IsSafeSheetOf, EndsWell, PutsSafely, FailsSafely}
-use Rattle.burr_runs.specs.Running.{PutsSheet, FailsInSheet}
-use Rattle.burr_runs.specs.Output.{outcome_of, IsSheetOf}
+use Rattle.burr_runs.specs.Rules.Headline.{setup_for, IsSafeSheetOf, EndsWell, PutsSafely, FailsSafely}
+use Rattle.burr_runs.specs.Views.Running.{PutsSheet, FailsInSheet}
+use Rattle.burr_runs.specs.Rules.Output.{outcome_of, IsSheetOf}
 
 -- the laws that the headline rests on
 pub record Laws : Type 0 where
@@ -101,26 +101,26 @@ safe_of laws j accepted a program answers output outcome a_is program_is s =
     (subst (λ (b : Assembly). IsSheetOf b (plan_program accepted.plan) answers output outcome) a_is
     (subst (λ (q : Program). IsSheetOf a q answers output outcome) program_is s))
 
-pub puts_safely : {S : Type 0} (sink : SinkView S) (before behind : S) → Laws → (j : Judged) (accepted : IsAccepted j) (a : Assembly) (program : Program) (answers : List ℤ)
+pub puts_safely : {S : Type 0} (sink : SinkView S) (before after : S) → Laws → (j : Judged) (accepted : IsAccepted j) (a : Assembly) (program : Program) (answers : List ℤ)
     → a ≡ j.assembly → program ≡ plan_program accepted.plan → (result : Result Outcome WriteFault)
-    → IfOk result (PutsSheet sink before behind a program answers)
-    → IfOk result (PutsSafely sink before behind j answers)
-puts_safely sink before behind laws j accepted a program answers a_is program_is (Ok outcome) puts =
+    → IfOk result (PutsSheet sink before after a program answers)
+    → IfOk result (PutsSafely sink before after j answers)
+puts_safely sink before after laws j accepted a program answers a_is program_is (Ok outcome) puts =
     (accepted.plan, accepted.is_container, puts.0, safe_of laws j accepted a program answers puts.0 outcome a_is program_is puts.1, puts.2)
-puts_safely sink before behind laws j accepted a program answers a_is program_is (Err e) puts = tt
+puts_safely sink before after laws j accepted a program answers a_is program_is (Err e) puts = tt
 
-pub fails_safely : {S : Type 0} (sink : SinkView S) (before behind : S) → Laws → (j : Judged) (accepted : IsAccepted j) (a : Assembly) (program : Program) (answers : List ℤ)
+pub fails_safely : {S : Type 0} (sink : SinkView S) (before after : S) → Laws → (j : Judged) (accepted : IsAccepted j) (a : Assembly) (program : Program) (answers : List ℤ)
     → a ≡ j.assembly → program ≡ plan_program accepted.plan → (result : Result Outcome WriteFault)
-    → OnErr result (FailsInSheet sink before behind a program answers)
-    → OnErr result (FailsSafely sink before behind j answers)
-fails_safely sink before behind laws j accepted a program answers a_is program_is (Ok outcome) fails = tt
-fails_safely sink before behind laws j accepted a program answers a_is program_is (Err e) fails =
+    → OnErr result (FailsInSheet sink before after a program answers)
+    → OnErr result (FailsSafely sink before after j answers)
+fails_safely sink before after laws j accepted a program answers a_is program_is (Ok outcome) fails = tt
+fails_safely sink before after laws j accepted a program answers a_is program_is (Err e) fails =
     (accepted.plan, accepted.is_container, fails.0, fails.1, safe_of laws j accepted a program answers fails.0 fails.1 a_is program_is fails.2, fails.3)
 
-pub each_ends_well : {S : Type 0} (sink : SinkView S) (before behind : S) (j : Judged) (answers : List ℤ) (result : Result Outcome WriteFault)
-    → IfOk result (PutsSafely sink before behind j answers) → IfOk result EndsWell
-each_ends_well sink before behind j answers (Ok outcome) puts = ends_well j.assembly puts.0 answers puts.2 outcome puts.3
-each_ends_well sink before behind j answers (Err e) puts = tt
+pub each_ends_well : {S : Type 0} (sink : SinkView S) (before after : S) (j : Judged) (answers : List ℤ) (result : Result Outcome WriteFault)
+    → IfOk result (PutsSafely sink before after j answers) → IfOk result EndsWell
+each_ends_well sink before after j answers (Ok outcome) puts = ends_well j.assembly puts.0 answers puts.2 outcome puts.3
+each_ends_well sink before after j answers (Err e) puts = tt
 
 -- an accepted plan is for its assembly
 pub fits_accepted : (j : Judged) (accepted : IsAccepted j) → FitsAssembly accepted.plan j.assembly

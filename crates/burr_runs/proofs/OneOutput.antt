@@ -1,18 +1,18 @@
 -- One thing is written for an input.
 use Rattle.std.proofs.Common.{◌≡◌, ℕ, List, [], sym, ap, subst, ◌∙◌, inl, inr}
 use Rattle.burr_voxels.specs.declared.cell.Cell.{Cell}
-use Rattle.burr_assembly.specs.Text.{Assembly}
-use Rattle.burr_assembly.specs.Drawings.{AreDistinct}
+use Rattle.burr_assembly.specs.Rules.Text.{Assembly}
+use Rattle.burr_assembly.specs.Views.Drawings.{AreDistinct}
 use Rattle.burr_assembly.proofs.Common.TextLaws.{one_assembly, no_fault_of_assembly, one_fault}
 use Rattle.burr_runs.specs.declared.outcome.Outcome.{Outcome}
-use Rattle.burr_state.specs.Bench.{start}
-use Rattle.burr_state.specs.Run.{Run}
-use Rattle.burr_sheet.specs.SheetText.{sheet}
-use Rattle.burr_runs.specs.Output.{IsSheet, IsTextOutput, outcome_of}
-use Rattle.burr_runs.specs.Refusals.{assembly_refusal}
-use Rattle.burr_assembly.specs.Homes.{names_of}
-use Rattle.burr_state.specs.Bench.{bare}
-use Rattle.burr_runs.specs.OutputLaws.{OneOutput}
+use Rattle.burr_state.specs.Rules.Bench.{start}
+use Rattle.burr_state.specs.Rules.Run.{Run}
+use Rattle.burr_sheet.specs.Rules.SheetText.{sheet}
+use Rattle.burr_runs.specs.Rules.Output.{IsSheet, IsTextOutput, outcome_of}
+use Rattle.burr_runs.specs.Rules.Refusals.{assembly_refusal}
+use Rattle.burr_assembly.specs.Rules.Homes.{names_of}
+use Rattle.burr_state.specs.Rules.Bench.{bare}
+use Rattle.burr_runs.specs.Laws.OutputLaws.{OneOutput}
 use Rattle.burr_state.proofs.Common.OneRun.{one_result}
 use Rattle.burr_runs.proofs.Inputs.OneInput.{one_input}
 use Rattle.burr_assembly.proofs.Common.OneHomes.{one_homes}
@@ -29,7 +29,7 @@ one_sheet a code output other outcome ending distinct s t =
     let same = one_result (bare s.homes code) 1000000 (start (bare s.homes code)) [] s.motions t.motions s.steps t.steps s.closing t.closing s.run run in
     (s.text ∙ (λ i. sheet (names_of a) (same.0 i) (same.1 i) (same.2 i)) ∙ sym t.text, s.closes ∙ ap outcome_of same.2 ∙ sym t.closes)
 
--- and a text with code behind it one output
+-- and a text with code after it one output
 one_text_output : (text code output other : List ℕ) (outcome ending : Outcome) → IsTextOutput text code output outcome → IsTextOutput text code other ending → Same output other outcome ending
 one_text_output text code output other outcome ending (inl p) (inl q) = (p.2 ∙ ap (assembly_refusal text) (one_fault text p.0 q.0 p.1 q.1) ∙ sym q.2, p.3 ∙ sym q.3)
 one_text_output text code output other outcome ending (inl p) (inr q) = absurd (no_fault_of_assembly text q.0 p.0 q.1 p.1)

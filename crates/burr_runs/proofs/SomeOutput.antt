@@ -1,22 +1,22 @@
 -- For each input a text is written.
 use Rattle.std.proofs.Common.{◌⊎◌, ℕ, List, [], refl, inl, inr, arith, codes, lit≤}
 use Rattle.burr_assembly.specs.declared.fault.AssemblyFault.{AssemblyFault}
-use Rattle.burr_assembly.specs.Text.{Assembly, IsText}
-use Rattle.burr_assembly.specs.Faults.{FirstFault}
+use Rattle.burr_assembly.specs.Rules.Text.{Assembly, IsText}
+use Rattle.burr_assembly.specs.Rules.Faults.{FirstFault}
 use Rattle.burr_assembly.proofs.Common.TextLaws.{fault_or_assembly}
 use Rattle.burr_text.proofs.Common.Decisions.{Decided}
 use Rattle.burr_runs.specs.declared.outcome.Outcome.{Outcome}
 use Rattle.burr_runs.specs.declared.outcome.Outcome.TheVariants.{Refused}
-use Rattle.burr_state.specs.Bench.{Setup, start}
-use Rattle.burr_assembly.specs.Homes.{homes_of}
-use Rattle.burr_state.specs.RunLaws.{IsUnderWay}
-use Rattle.burr_sheet.specs.SheetText.{sheet}
-use Rattle.burr_runs.specs.Input.{IsInput}
-use Rattle.burr_runs.specs.Output.{IsSheet, IsTextOutput, IsOutput, outcome_of}
-use Rattle.burr_runs.specs.Refusals.{assembly_refusal}
-use Rattle.burr_assembly.specs.Homes.{names_of}
-use Rattle.burr_state.specs.Bench.{bare, bare_program}
-use Rattle.burr_runs.specs.OutputLaws.{SomeOutput}
+use Rattle.burr_state.specs.Rules.Bench.{Setup, start}
+use Rattle.burr_assembly.specs.Rules.Homes.{homes_of}
+use Rattle.burr_state.specs.Laws.RunLaws.{IsUnderWay}
+use Rattle.burr_sheet.specs.Rules.SheetText.{sheet}
+use Rattle.burr_runs.specs.Rules.Input.{IsInput}
+use Rattle.burr_runs.specs.Rules.Output.{IsSheet, IsTextOutput, IsOutput, outcome_of}
+use Rattle.burr_runs.specs.Rules.Refusals.{assembly_refusal}
+use Rattle.burr_assembly.specs.Rules.Homes.{names_of}
+use Rattle.burr_state.specs.Rules.Bench.{bare, bare_program}
+use Rattle.burr_runs.specs.Laws.OutputLaws.{SomeOutput}
 use Rattle.burr_runs.proofs.WholeInput.{sheet_of_run}
 use Rattle.burr_state.proofs.Common.SomeRun.{some_result}
 use Rattle.burr_runs.proofs.Inputs.Deciding.{decide_input}

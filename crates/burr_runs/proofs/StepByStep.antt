@@ -5,31 +5,32 @@ use Rattle.std.specs.Io.KnownBytes.{Appends}
 use Rattle.std.proofs.KnownBytes.{Appends-nil, Appends-trans}
 use Rattle.burr_io.specs.Sink.{SinkView, FailsWithin}
 use Rattle.burr_io.proofs.Common.Puts.{FailsWithin-more}
-use Rattle.burr_assembly.specs.Text.{Assembly, IsAssembly}
-use Rattle.burr_assembly.specs.Homes.{homes_of, names_of}
+use Rattle.burr_assembly.specs.Rules.Text.{Assembly, IsAssembly}
+use Rattle.burr_assembly.specs.Rules.Homes.{homes_of, names_of}
 use Rattle.burr_state.specs.declared.mode.Mode.TheVariants.{Running, Ended, Trapped}
 use Rattle.burr_state.specs.declared.motion.Motion.{Motion}
 use Rattle.burr_state.specs.declared.trap.Trap.{Trap}
 use Rattle.burr_state.specs.declared.closing.Closing.{Closing}
 use Rattle.burr_state.specs.declared.closing.Closing.TheVariants as closings
-use Rattle.burr_state.specs.Bench.{Program, BenchState, running}
-use Rattle.burr_state.specs.Step.{NextIs, TakesAnswer, CallIn, Called}
+use Rattle.burr_state.specs.Rules.Bench.{Program, BenchState, running}
+use Rattle.burr_state.specs.Rules.Step.{NextIs, TakesAnswer, CallIn, Called}
 use Rattle.burr_state.specs.declared.mode.Mode.{Mode}
 use Rattle.burr_state.specs.declared.progress.Progress.{Progress as Told}
 use Rattle.burr_runs.specs.declared.running.Turn.{Turn}
 use Rattle.burr_runs.specs.declared.running.Turn.TheVariants as turns
-use Rattle.burr_state.specs.Next.{Goes, Asks, Traps}
-use Rattle.burr_state.specs.Questions.{Fits}
-use Rattle.burr_state.specs.Run.{Run, IsGoing, traps, waits, passes, takes, goes}
-use Rattle.burr_state.specs.RunLaws.{RunOf, IsUnderWay}
-use Rattle.burr_state.specs.StepLaws.{IsStepFrom, Leaves}
+use Rattle.burr_state.specs.Rules.Next.{Goes, Asks, Traps}
+use Rattle.burr_state.specs.Rules.Questions.{Fits}
+use Rattle.burr_state.specs.Rules.Run.{Run, IsGoing, traps, waits, passes, takes, goes}
+use Rattle.burr_state.specs.Laws.RunLaws.{RunOf, IsUnderWay}
+use Rattle.burr_state.specs.Laws.StepLaws.{AfterCall}
+use Rattle.burr_state.specs.Rules.Step.{IsStepFrom}
 use Rattle.burr_state.specs.declared.progress.Progress.TheVariants.{Went}
 use Rattle.burr_state.proofs.Common.CallLaws.{call_leaves}
-use Rattle.burr_state.specs.Benches.{Benched, GoesOn, motion_in, setup_of, IsSameRun, IsAtStart}
+use Rattle.burr_state.specs.Views.Benches.{Benched, GoesOn, motion_in, setup_of, IsSameRun, IsAtStart}
 use Rattle.burr_state.proofs.Common.SomeRun.{counted_step, under_way_on, some_result}
-use Rattle.burr_sheet.specs.SheetUnderWay.{UnderWay, blank, still, outs_of, Closes, FailsInMotion}
-use Rattle.burr_runs.specs.Output.{outcome_of}
-use Rattle.burr_runs.specs.Running.{RunState, run_state, RunsOn, Leads, PutsPart, FailsInRun, ClosesPart, IsInStep, left_to_take, TurnIs, AnswerIs, PutsSheet, FailsInSheet}
+use Rattle.burr_sheet.specs.Views.SheetUnderWay.{UnderWay, blank, still, outs_of, Closes, FailsInMotion}
+use Rattle.burr_runs.specs.Rules.Output.{outcome_of}
+use Rattle.burr_runs.specs.Views.Running.{RunState, run_state, RunsOn, Leads, PutsPart, FailsInRun, ClosesPart, IsInStep, left_to_take, TurnIs, AnswerIs, PutsSheet, FailsInSheet}
 use Rattle.burr_runs.proofs.WholeInput.{sheet_of_run}
 
 -- The same run
@@ -90,10 +91,10 @@ rest_of_run b answers few under = some_result (setup_of b) b.program.budget b.st
 
 module _ {S : Type 0} (sink : SinkView S) where
   -- where the sink fails at a motion, a front of the run's sheet was put
-  pub fails_at_motion : (b new : Benched) (answers : List ℤ) (u : UnderWay) (motion : Motion) (before behind : S)
+  pub fails_at_motion : (b new : Benched) (answers : List ℤ) (u : UnderWay) (motion : Motion) (before after : S)
       → IsInStep b u → IsGoing b.program.budget b.state → NextIs (setup_of b) b.state (Goes new.state (Some motion)) → IsSameRun b new → IsUnderWay new.program.budget new.state
-      → FailsInMotion sink before behind u motion → FailsInRun sink before behind (run_state b answers u)
-  fails_at_motion b new answers u motion before behind in_step going next same under fails =
+      → FailsInMotion sink before after u motion → FailsInRun sink before after (run_state b answers u)
+  fails_at_motion b new answers u motion before after in_step going next same under fails =
       let few = subst (λ (p : Program). p.budget ≤ 1000000) (sym same.program) in_step.few in
       let rest : RunOf (setup_of new) new.program.budget new.state answers = rest_of_run new answers few under in (
         motion ∷ rest.motions,
@@ -115,16 +116,16 @@ module _ {S : Type 0} (sink : SinkView S) where
         (whole.0, whole.1, whole.2 ∙ ap (λ text. a ++ text) first.2 ∙ sym (append_assoc a b (still r.sheet motions steps closing))),
   )
 
-  pub fails_behind : (p q : RunState) (old mid now : S) → PutsPart sink old mid p q → FailsInRun sink mid now q → FailsInRun sink old now p
-  fails_behind p q old mid now (a, puts, leads) (motions, steps, closing, run, fails) =
+  pub fails_after : (p q : RunState) (old mid now : S) → PutsPart sink old mid p q → FailsInRun sink mid now q → FailsInRun sink old now p
+  fails_after p q old mid now (a, puts, leads) (motions, steps, closing, run, fails) =
       let whole = leads motions steps closing run in
       (whole.0, steps, closing, whole.1, rw whole.2 (FailsWithin-more a puts fails))
 
-  -- where the run closes without a step, it closes behind the steps before
-  pub closes_behind : (p q : RunState) (new : Benched) (more : UnderWay) (old mid now : S) (closing : Closing)
+  -- where the run closes without a step, it closes after the steps before
+  pub closes_after : (p q : RunState) (new : Benched) (more : UnderWay) (old mid now : S) (closing : Closing)
       → PutsPart sink old mid p q → RunsOn q [] new.state.steps closing → more ≡ q.sheet → sink.taken now ≡ sink.taken mid
       → ClosesPart sink old now p (run_state new [] more) closing
-  closes_behind p q new more old mid now closing (a, puts, leads) run sheet_same sink_same =
+  closes_after p q new more old mid now closing (a, puts, leads) run sheet_same sink_same =
       let whole = leads [] new.state.steps closing run in
       rw (sheet_same, sink_same) (a, puts, (whole.0, whole.1, whole.2))
 
@@ -208,7 +209,7 @@ pub unchanged : (b mid : Benched) → IsSameRun b mid → mid.state ≡ b.state 
 unchanged b mid same stays i = record { assembly = same.assembly i; program = same.program i; state = stays i }
 
 -- what a call that made a step leaves
-leaves_of : {s new : BenchState} → Leaves s (Ok (Went None)) new → IsStepFrom s new
+leaves_of : {s new : BenchState} → AfterCall s (Ok (Went None)) new → IsStepFrom s new
 leaves_of leaves = leaves
 
 -- a question with a next answer: it is taken or passed over

@@ -5,24 +5,24 @@ use Rattle.std.specs.Result.{IsErrAnd}
 use Rattle.std.proofs.lemmas.Result.{err_from_is_err_and}
 use Rattle.burr_io.specs.Sink.{TakesFront}
 use Rattle.burr_assembly.specs.declared.fault.AssemblyFault.{AssemblyFault}
-use Rattle.burr_assembly.specs.Text.{Assembly, IsAssembly}
-use Rattle.burr_assembly.specs.Faults.{FirstFault}
+use Rattle.burr_assembly.specs.Rules.Text.{Assembly, IsAssembly}
+use Rattle.burr_assembly.specs.Rules.Faults.{FirstFault}
 use Rattle.burr_runs.specs.declared.outcome.Outcome.{Outcome}
 use Rattle.burr_runs.specs.declared.outcome.Outcome.TheVariants.{Refused}
 use Rattle.burr_runs.specs.declared.fault.BenchFault.{BenchFault}
 use Rattle.burr_runs.specs.declared.fault.BenchFault.TheVariants.{Read, TooLong, Write, Memory}
 use Rattle.burr_state.specs.declared.motion.Motion.{Motion}
-use Rattle.burr_state.specs.Bench.{Program, running, start}
-use Rattle.burr_assembly.specs.Homes.{homes_of}
+use Rattle.burr_state.specs.Rules.Bench.{Program, running, start}
+use Rattle.burr_assembly.specs.Rules.Homes.{homes_of}
 use Rattle.burr_state.specs.declared.closing.Closing.{Closing}
-use Rattle.burr_sheet.specs.SheetText.{sheet}
-use Rattle.burr_runs.specs.Input.{IsInput}
-use Rattle.burr_runs.specs.Output.{IsSheetOf, outcome_of, IsOutput, IsTextOutput}
-use Rattle.burr_runs.specs.Refusals.{assembly_refusal}
-use Rattle.burr_assembly.specs.Homes.{names_of}
-use Rattle.burr_state.specs.Run.{Run}
-use Rattle.burr_runs.specs.ReadWhole.{IsWholeInput}
-use Rattle.burr_runs.specs.BenchText.{Outputs, PutsOutput, PutsFrontOfOutput, OutputFails, Streams, Succeeds, Fails}
+use Rattle.burr_sheet.specs.Rules.SheetText.{sheet}
+use Rattle.burr_runs.specs.Rules.Input.{IsInput}
+use Rattle.burr_runs.specs.Rules.Output.{IsSheetOf, outcome_of, IsOutput, IsTextOutput}
+use Rattle.burr_runs.specs.Rules.Refusals.{assembly_refusal}
+use Rattle.burr_assembly.specs.Rules.Homes.{names_of}
+use Rattle.burr_state.specs.Rules.Run.{Run}
+use Rattle.burr_runs.specs.Views.ReadWhole.{IsWholeInput}
+use Rattle.burr_runs.specs.Views.BenchText.{Outputs, PutsOutput, PutsFrontOfOutput, OutputFails, Streams, Succeeds, Fails}
 use Rattle.burr_assembly.proofs.Common.HomeCells.{have_homes}
 
 -- a fault of the sink is the fault `Write`

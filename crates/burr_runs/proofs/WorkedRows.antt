@@ -2,12 +2,12 @@
 use Rattle.std.specs.Prelude.{◌≡◌, [], ◌∷◌, codes, refl}
 use Rattle.std.specs.Fmt.{digits}
 use Rattle.burr_assembly.specs.declared.fault.AssemblyFault.TheVariants.{A4, A8}
-use Rattle.burr_runs.specs.Input.{hex}
-use Rattle.burr_assembly.specs.Text.{Assembly}
+use Rattle.burr_runs.specs.Rules.Input.{hex}
+use Rattle.burr_assembly.specs.Rules.Text.{Assembly}
 use Rattle.burr_container.specs.declared.fault.ContainerFault.TheVariants.{C1}
-use Rattle.burr_verify.specs.Refusals.{another_assembly}
-use Rattle.burr_runs.specs.Refusals.{assembly_refusal, container_refusal, answers_refusal}
-use Rattle.burr_runs.specs.Verdicts.{plan_refusal}
+use Rattle.burr_verify.specs.Views.Refusals.{another_assembly}
+use Rattle.burr_runs.specs.Rules.Refusals.{assembly_refusal, container_refusal, answers_refusal}
+use Rattle.burr_runs.specs.Rules.Verdicts.{plan_refusal}
 
 pub digits_of_bytes : hex (0x10 ∷ 0x00 ∷ 0xaf ∷ []) ≡ codes "1000af"
 digits_of_bytes = refl

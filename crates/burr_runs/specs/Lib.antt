@@ -1,11 +1,3 @@
-pub mod Answers
-pub mod BenchText
-pub mod Headline
-pub mod Input
-pub mod Output
-pub mod OutputLaws
-pub mod ReadWhole
-pub mod Refusals
-pub mod Running
-pub mod UpgradeLaws
-pub mod Verdicts
+pub mod Laws
+pub mod Rules
+pub mod Views

@@ -1,9 +1,9 @@
 //! Runs of accepted plans.
 
 ghost use Rattle.std.specs.Prelude.{IfOk, OnErr};
-ghost use Rattle.burr_state.specs.Benches.{IsAtStart};
-ghost use Rattle.burr_runs.specs.Headline.{PutsSafely, FailsSafely, EndsWell};
-ghost use Rattle.burr_runs.specs.Running.{PutsSheet, FailsInSheet};
+ghost use Rattle.burr_state.specs.Views.Benches.{IsAtStart};
+ghost use Rattle.burr_runs.specs.Rules.Headline.{PutsSafely, FailsSafely, EndsWell};
+ghost use Rattle.burr_runs.specs.Views.Running.{PutsSheet, FailsInSheet};
 
 use crate::outcome::Outcome;
 use crate::running::try_plan;

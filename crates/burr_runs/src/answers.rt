@@ -1,6 +1,6 @@
 //! The operator's answers.
 ghost use Rattle.std.specs.Prelude.{◌≡◌, ◌++◌, IfOk, IfErr, MatchOption};
-ghost use Rattle.burr_runs.specs.Answers.{answer_line, answers_text, BeginsWithNone, IsAnswersFault};
+ghost use Rattle.burr_runs.specs.Rules.Answers.{answer_line, answers_text, BeginsWithNone, IsAnswersFault};
 
 use burr_text::{cut_at, integer};
 use std::alloc::{AllocError, AllocFailed, Global};
@@ -48,20 +48,20 @@ pub fn read_answers(alloc: Global, text: &[u8]) -> Result<Vec<i32>, AnswersFault
     let mut answers = Vec::new(alloc);
     let mut rest = text;
     while !rest.is_empty() {
-        let Some((answer, behind)) = first_answer(rest) else {
+        let Some((answer, after)) = first_answer(rest) else {
             return Err(AnswersFault::Line(answers.len() + 1));
         };
         answers.push(answer)?;
-        rest = behind;
+        rest = after;
     }
     Ok(answers)
 }
 
-/// The answer that the first line of a text is, and what stands behind the line.
+/// The answer that the first line of a text is, and what stands after the line.
 fn first_answer(text: &[u8]) -> Option<(i32, &[u8])>
     ensures { MatchOption result (BeginsWithNone text.now) (λ found.
         text.now ≡ answer_line found.0 ++ found.1.now) }
 {
-    let (line, behind) = cut_at(text, b'\n')?;
-    Some((integer(line)?, behind))
+    let (line, after) = cut_at(text, b'\n')?;
+    Some((integer(line)?, after))
 }

@@ -1,7 +1,7 @@
 //! What is said of a plan that is checked.
 
 ghost use Rattle.std.specs.Prelude.{◌≡◌, IfOk, OnErr};
-ghost use Rattle.burr_runs.specs.Verdicts.{PutsVerdict, FailsInVerdict};
+ghost use Rattle.burr_runs.specs.Rules.Verdicts.{PutsVerdict, FailsInVerdict};
 
 use crate::lines::{put_accepted, put_plan_refusal};
 use burr_blocking::Blocking;

@@ -1,10 +1,10 @@
-//! The input: an assembly's text, and behind it a last line with code.
+//! The input: an assembly's text, and after it a last line with code.
 
 ghost use Rattle.std.specs.Prelude.{◌≡◌, ◌≢◌, ℕ, ◌<◌, List, [], ◌∷◌, ◌++◌, length, slice_index, Contains, IfOk, MatchOption};
 ghost use Rattle.std.specs.List.{list_all};
 ghost use Rattle.burr_text.specs.Lines.{IsLines};
-ghost use Rattle.burr_runs.specs.Input.{IsCodeLine, IsInput};
-ghost use Rattle.burr_runs.specs.Input.{is_hex_digit};
+ghost use Rattle.burr_runs.specs.Rules.Input.{IsCodeLine, IsInput};
+ghost use Rattle.burr_runs.specs.Rules.Input.{is_hex_digit};
 
 use burr_code::limits::MOST_CODE;
 use hex::FromHexError;

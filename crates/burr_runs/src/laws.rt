@@ -1,6 +1,6 @@
-ghost use Rattle.burr_runs.specs.Answers.{OneAnswers, NoFaultyLine, OneFaultyLine};
-ghost use Rattle.burr_runs.specs.OutputLaws.{OneInput, SomeOutput, OneOutput};
-ghost use Rattle.burr_runs.specs.UpgradeLaws.{JudgedAsBefore, FramedAsBefore, RunsAsBefore, SheetAsBefore};
+ghost use Rattle.burr_runs.specs.Rules.Answers.{OneAnswers, NoFaultyLine, OneFaultyLine};
+ghost use Rattle.burr_runs.specs.Laws.OutputLaws.{OneInput, SomeOutput, OneOutput};
+ghost use Rattle.burr_runs.specs.Laws.UpgradeLaws.{JudgedAsBefore, FramedAsBefore, RunsAsBefore, SheetAsBefore};
 
 /// An input is a text and code in one way at most; something is written for it, and one thing
 /// alone.

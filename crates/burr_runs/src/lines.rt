@@ -6,7 +6,7 @@ mod container;
 mod verdict;
 
 ghost use Rattle.burr_io.specs.Sink.{Puts};
-ghost use Rattle.burr_runs.specs.Refusals.{place_line};
+ghost use Rattle.burr_runs.specs.Rules.Refusals.{place_line};
 
 pub use answers::put_answers_refusal;
 pub use assembly::put_assembly_refusal;

@@ -1,5 +1,5 @@
 ghost use Rattle.std.specs.Prelude.{IfErr, IfOk};
-ghost use Rattle.burr_runs.specs.ReadWhole.{IsWholeInput, ReadFails};
+ghost use Rattle.burr_runs.specs.Views.ReadWhole.{IsWholeInput, ReadFails};
 
 use crate::fault::BenchFault;
 use burr_io::Source;

@@ -2,10 +2,10 @@ mod turns;
 
 ghost use Rattle.std.specs.Prelude.{◌≡◌, ◌≤◌, [], length, IfOk, OnErr};
 ghost use Rattle.burr_code.specs.declared.limits.TheConstants.{MOST_CODE};
-ghost use Rattle.burr_state.specs.Bench.{bare_program};
-ghost use Rattle.burr_state.specs.Benches.{IsAtStart};
-ghost use Rattle.burr_runs.specs.Output.{outcome_of};
-ghost use Rattle.burr_runs.specs.Running.{PutsSheet, FailsInSheet, FailsInRun, IsInStep, ClosesPart, run_state};
+ghost use Rattle.burr_state.specs.Rules.Bench.{bare_program};
+ghost use Rattle.burr_state.specs.Views.Benches.{IsAtStart};
+ghost use Rattle.burr_runs.specs.Rules.Output.{outcome_of};
+ghost use Rattle.burr_runs.specs.Views.Running.{PutsSheet, FailsInSheet, FailsInRun, IsInStep, ClosesPart, run_state};
 
 use crate::outcome::Outcome;
 use crate::running::turns::take_turn;

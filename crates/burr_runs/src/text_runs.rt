@@ -2,10 +2,10 @@ ghost use Rattle.std.specs.Prelude.{◌≡◌, ◌≢◌, ◌≤◌, length, IfE
 ghost use Rattle.burr_io.specs.Sink.{Puts};
 ghost use Rattle.burr_runs.specs.declared.outcome.Outcome.TheVariants.{Refused};
 ghost use Rattle.burr_runs.specs.declared.fault.BenchFault.TheVariants.{Write};
-ghost use Rattle.burr_runs.specs.Refusals.{assembly_refusal};
-ghost use Rattle.burr_runs.specs.Output.{IsOutput, IsTextOutput};
+ghost use Rattle.burr_runs.specs.Rules.Refusals.{assembly_refusal};
+ghost use Rattle.burr_runs.specs.Rules.Output.{IsOutput, IsTextOutput};
 ghost use Rattle.burr_code.specs.declared.limits.TheConstants.{MOST_CODE};
-ghost use Rattle.burr_runs.specs.BenchText.{PutsOutput, OutputFails, streams, Succeeds, Fails};
+ghost use Rattle.burr_runs.specs.Views.BenchText.{PutsOutput, OutputFails, streams, Succeeds, Fails};
 
 use crate::fault::BenchFault;
 use crate::input::parse_input;
@@ -18,7 +18,7 @@ use burr_blocking::CellTables;
 use burr_io::{Sink, Source, WriteFault, put_all};
 use std::alloc::Global;
 
-/// Reads an assembly's text and behind it a last line `code` with 1 to 4,096 bytes as lower case
+/// Reads an assembly's text and after it a last line `code` with 1 to 4,096 bytes as lower case
 /// hexadecimal digits, runs this bare code on the bench, without answers and with a budget of
 /// 1,000,000 steps, and writes the run's sheet. For another last line it writes `refused input`,
 /// and for a faulty text its first fault's line.
@@ -55,7 +55,7 @@ fn write_output<W: Sink>(alloc: Global, input: &[u8], sink: &mut W) -> Result<Ou
     }
 }
 
-/// Writes what is due for an assembly's text with code behind it.
+/// Writes what is due for an assembly's text with code after it.
 fn write_text_output<W: Sink>(
     alloc: Global,
     text: &[u8],

@@ -1,4 +1,4 @@
--- A sheet is lines, and behind them its closing line.
+-- A sheet is lines, and after them its closing line.
 use Rattle.std.proofs.Common.{◌≡◌, ◌≢◌, ℕ, suc, ◌≤◌, ◌<◌, ◌⊎◌, List, [], ◌∷◌, ◌++◌, refl, sym, ap, ◌∙◌, arith, inl, inr, append_assoc}
 use Rattle.std.proofs.lemmas.List.{append-nil}
 use Rattle.std.proofs.lemmas.List.Elements.{All-head, All-tail}
@@ -14,11 +14,11 @@ use Rattle.burr_text.proofs.Common.Cuts.{Lacks, lacks}
 use Rattle.burr_state.specs.declared.motion.Motion.{Motion}
 use Rattle.burr_state.specs.declared.trap.Trap.{Trap}
 use Rattle.burr_state.specs.declared.trap.Trap.TheVariants.{Collision, GripOff, NotFree, BadGroup, TrayInUse, MissingOperand, StackFull, EmptySlot, BadJump, BadCode, BadCall, BadCount, NumberRange, OffBench, NotApart, Misplaced, ParamWritten}
-use Rattle.burr_state.specs.TrapNames.{trap_number, trap_name}
+use Rattle.burr_state.specs.Rules.TrapNames.{trap_number, trap_name}
 use Rattle.burr_state.specs.declared.closing.Closing.{Closing}
-use Rattle.burr_sheet.specs.SheetText.{MoveLine, longest_lines, levels_from, names_from, out_word, move_words, move_line, move_lines, levels_word, levels_line, after_words, trap_words, closing_line}
+use Rattle.burr_sheet.specs.Rules.SheetText.{MoveLine, longest_lines, levels_from, names_from, out_word, move_words, move_line, move_lines, levels_word, levels_line, after_words, trap_words, closing_line}
 use Rattle.burr_text.specs.Words.{text_line}
-use Rattle.burr_sheet.specs.SheetLaws.{ClosesInOneLine, EndsInClosing}
+use Rattle.burr_sheet.specs.Laws.SheetLaws.{ClosesInOneLine, EndsInClosing}
 use Rattle.burr_state.specs.declared.closing.Closing.TheVariants as closings
 use Rattle.burr_text.proofs.Common.Unended.{unended, lacks_append, is_clear, lacks_clear, EachLacks, lacks_join, AreDigits, decimal_is_digits, lacks_decimal, lacks_signed_decimal}
 
@@ -158,7 +158,7 @@ pub record IsInLines (text : List ℕ) : Type 0 where
   pub plain : ArePlain lines
   pub is : text ≡ in_lines lines
 
--- the lines of the motions, and behind them that of the levels
+-- the lines of the motions, and after them that of the levels
 front_in_lines : (names : List (List ℕ)) (n : ℕ) (ls : List MoveLine) (levels : List ℕ) → EachLacks 10 names → IsInLines (move_lines names n ls ++ levels_line levels)
 front_in_lines names n [] levels h =
     let words : List (List ℕ) = codes "levels" ∷ levels_word levels ∷ [] in

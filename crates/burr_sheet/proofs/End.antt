@@ -3,9 +3,9 @@ use Rattle.std.proofs.Common.{◌≡◌, ℕ, [], ◌++◌, Option, Some, None, 
 use Rattle.burr_sheet.specs.declared.sheet.line.GrowingLine.{GrowingLine}
 use Rattle.burr_sheet.specs.declared.sheet.Sheet.TheInside.{Inside}
 use Rattle.burr_state.specs.declared.closing.Closing.{Closing}
-use Rattle.burr_sheet.specs.SheetText.{levels_from, levels_line, closing_line}
-use Rattle.burr_sheet.specs.SheetUnderWay.{UnderWay, still, with_growing, growing_text}
-use Rattle.burr_sheet.specs.SheetView.{under_way, growing_of}
+use Rattle.burr_sheet.specs.Rules.SheetText.{levels_from, levels_line, closing_line}
+use Rattle.burr_sheet.specs.Views.SheetUnderWay.{UnderWay, still, with_growing, growing_text}
+use Rattle.burr_sheet.specs.Views.SheetView.{under_way, growing_of}
 
 -- the growing line ends no level
 no_level : (n : ℕ) (growing : Option GrowingLine) → levels_from n (with_growing (growing_of growing) []) ≡ []

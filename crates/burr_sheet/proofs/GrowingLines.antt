@@ -4,8 +4,8 @@ use Rattle.std.proofs.lemmas.Bool.{and_parts, eqb-true}
 use Rattle.burr_voxels.specs.declared.direction.Direction.{Direction}
 use Rattle.burr_voxels.specs.Grid.{number_of}
 use Rattle.burr_state.specs.declared.motion.Motion.{Motion}
-use Rattle.burr_sheet.specs.SheetText.{MoveLine, alone, goes_onto, with_motion}
-use Rattle.burr_sheet.specs.SheetUnderWay.{is_one, with_growing}
+use Rattle.burr_sheet.specs.Rules.SheetText.{MoveLine, alone, goes_onto, with_motion}
+use Rattle.burr_sheet.specs.Views.SheetUnderWay.{is_one, with_growing}
 
 -- no two directions have one number
 same_direction : (d e : Direction) → number_of d ≡ number_of e → d ≡ e
@@ -31,8 +31,8 @@ Alike-from_one g h is =
 is_one-alike : (g h l : MoveLine) → Alike g h → is_one g l ≡ is_one h l
 is_one-alike g h l alike = rw (alike.group, alike.tray, alike.direction)
 
-is_one-alike_behind : (g h l : MoveLine) → Alike h l → is_one g l ≡ is_one g h
-is_one-alike_behind g h l alike = rw (alike.group, alike.tray, alike.direction)
+is_one-alike_after : (g h l : MoveLine) → Alike h l → is_one g l ≡ is_one g h
+is_one-alike_after g h l alike = rw (alike.group, alike.tray, alike.direction)
 
 goes_onto-step : (m : Motion) (l : MoveLine) → m.out ≡ false → goes_onto m l ≡ is_one (alone m) l
 goes_onto-step m l step = rw step
@@ -85,13 +85,13 @@ begins m (l ∷ ls) = begins_by m l ls (goes_onto m l) refl
 pub with_growing-other : (g : MoveLine) (m : Motion) (lines : List MoveLine) → is_one g (alone m) ≡ false → with_growing (Some g) (with_motion m lines) ≡ g ∷ with_motion m lines
 with_growing-other g m lines other =
     let b = begins m lines in
-    rw (b.parts, is_one-alike_behind g (alone m) b.head b.alike ∙ other)
+    rw (b.parts, is_one-alike_after g (alone m) b.head b.alike ∙ other)
 
 -- a line of no steps that the motion goes on is seen by its steps alone
 pub with_growing-fresh : (g : MoveLine) (m : Motion) (lines : List MoveLine) → is_one g (alone m) ≡ true → g.units ≡ 0 → with_growing (Some g) (with_motion m lines) ≡ with_motion m lines
 with_growing-fresh g m lines one none =
     let b = begins m lines in
-    rw (b.parts, is_one-alike_behind g (alone m) b.head b.alike ∙ one, none, zero-add)
+    rw (b.parts, is_one-alike_after g (alone m) b.head b.alike ∙ one, none, zero-add)
 
 -- the line with one step more, told by the motion
 longer : (g : MoveLine) (m : Motion) → is_one g (alone m) ≡ true → m.out ≡ false → g.out ≡ false → record (alone m) { units = g.units + (alone m).units } ≡ record g { units = g.units + 1 }

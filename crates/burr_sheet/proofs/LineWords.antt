@@ -4,9 +4,9 @@ use Rattle.std.proofs.lemmas.List.{length-map}
 use Rattle.std.specs.List.{join_with_byte}
 use Rattle.burr_code.specs.PieceSets.{IsInSet, is_left_out}
 use Rattle.burr_code.proofs.Common.PieceSets.{not_left_out, left_out}
-use Rattle.burr_assembly.specs.Text.{Piece}
+use Rattle.burr_assembly.specs.Rules.Text.{Piece}
 use Rattle.burr_voxels.specs.Grid.{name_of}
-use Rattle.burr_sheet.specs.SheetText.{MoveLine, levels_word, names_from, out_word, move_line}
+use Rattle.burr_sheet.specs.Rules.SheetText.{MoveLine, levels_word, names_from, out_word, move_line}
 use Rattle.burr_text.specs.Words.{text_line}
 use Rattle.burr_io.proofs.Common.Puts.{joined, joined-join}
 

@@ -6,8 +6,8 @@ use Rattle.burr_io.specs.Sink.{SinkView, FailsWithin}
 use Rattle.burr_io.proofs.Common.Puts.{FailsWithin-more, FailsWithin-first}
 use Rattle.burr_state.specs.declared.motion.Motion.{Motion}
 use Rattle.burr_state.specs.declared.closing.Closing.{Closing}
-use Rattle.burr_sheet.specs.SheetText.{MoveLine, alone, with_motion, longest_lines, levels_from, move_line, move_lines, levels_line, closing_line}
-use Rattle.burr_sheet.specs.SheetUnderWay.{UnderWay, is_one, with_growing, to_come, PutsBefore, PutsMotion, FailsInMotion}
+use Rattle.burr_sheet.specs.Rules.SheetText.{MoveLine, alone, with_motion, longest_lines, levels_from, move_line, move_lines, levels_line, closing_line}
+use Rattle.burr_sheet.specs.Views.SheetUnderWay.{UnderWay, is_one, with_growing, to_come, PutsBefore, PutsMotion, FailsInMotion}
 use Rattle.burr_sheet.proofs.GrowingLines.{with_growing-other, with_growing-fresh, with_growing-longer, with_growing-ended}
 
 -- a line is closed
@@ -32,7 +32,7 @@ come u lines steps closing =
 regroup : (a b c d e f : List ℕ) → b ≡ c → d ≡ e → ((a ++ b) ++ d) ++ f ≡ a ++ ((c ++ e) ++ f)
 regroup a b c d e f same too = rw (same, too) (simp append_assoc)
 
--- the first line, and what is to come behind it
+-- the first line, and what is to come after it
 module _ (u : UnderWay) (lines : List MoveLine) (l : MoveLine) (ls : List MoveLine) (parts : with_growing u.growing lines ≡ l ∷ ls) (steps : ℕ) (closing : Closing) where
   numbered : move_lines u.names (suc (u.lines + 1)) ls ≡ move_lines u.names ((u.lines + 1) + 1) ls
   numbered = let same : suc (u.lines + 1) ≡ (u.lines + 1) + 1 = omega arith in ap (λ n. move_lines u.names n ls) same
@@ -55,7 +55,7 @@ to_come-same u growing lines others same steps closing = ap (λ xs. come u xs st
 
 -- The line that a motion goes on
 
--- it is the first, or the first behind an aside
+-- it is the first, or the first after an aside
 pub PutsBefore-fresh : {S : Type 0} (sink : SinkView S) (old : S) (u : UnderWay) (m : Motion) (g : MoveLine) → u.growing ≡ None → is_one g (alone m) ≡ true → g.units ≡ 0
     → PutsBefore sink old old u m (record u { growing = Some g })
 PutsBefore-fresh sink old u m g is one none = (

@@ -1,10 +1,10 @@
 -- A closing line stands in a sheet only at its end.
 use Rattle.std.proofs.Common.{◌≡◌, ◌≢◌, ℕ, List, [], ◌∷◌, ◌++◌, refl, sym, ap, subst, ◌∙◌, inl, inr, append_assoc}
 use Rattle.burr_text.proofs.Common.Cuts.{Lacks, cut}
-use Rattle.burr_sheet.specs.SheetText.{closing_line}
+use Rattle.burr_sheet.specs.Rules.SheetText.{closing_line}
 use Rattle.burr_text.specs.Lines.{IsLines}
-use Rattle.burr_sheet.specs.SheetLaws.{ClosesOnce}
-use Rattle.burr_text.proofs.Common.LastLines.{empty_behind}
+use Rattle.burr_sheet.specs.Laws.SheetLaws.{ClosesOnce}
+use Rattle.burr_text.proofs.Common.LastLines.{empty_after}
 use Rattle.burr_sheet.proofs.ClosingLines.{IsPlain, ArePlain, in_lines, closing_is_line, closing_is_not_plain, sheet_front, sheet_in_lines}
 use native.Mathlib.Decide.{ℕ_discrete}
 
@@ -12,22 +12,22 @@ use native.Mathlib.Decide.{ℕ_discrete}
 record BeginsWithLine (text : List ℕ) : Type 0 where
   first : List ℕ
   lacks : Lacks 10 first
-  behind : List ℕ
-  lines : IsLines behind
-  is : (more : List ℕ) → text ++ more ≡ first ++ 10 ∷ (behind ++ more)
+  after : List ℕ
+  lines : IsLines after
+  is : (more : List ℕ) → text ++ more ≡ first ++ 10 ∷ (after ++ more)
 
 first_line : (f : List ℕ) → BeginsWithLine (f ++ 10 ∷ [])
-first_line [] = record { first = []; lacks = tt; behind = []; lines = inl refl; is = λ more. refl }
+first_line [] = record { first = []; lacks = tt; after = []; lines = inl refl; is = λ more. refl }
 first_line (b ∷ f) = elim (ℕ_discrete b 10) [
-  | yes e ↦ record { first = []; lacks = tt; behind = f ++ 10 ∷ []; lines = inr (f, refl); is = λ more. ap (λ (c : ℕ). c ∷ ((f ++ 10 ∷ []) ++ more)) e }
+  | yes e ↦ record { first = []; lacks = tt; after = f ++ 10 ∷ []; lines = inr (f, refl); is = λ more. ap (λ (c : ℕ). c ∷ ((f ++ 10 ∷ []) ++ more)) e }
   | no n ↦
       let rest = first_line f in
-      record { first = b ∷ rest.first; lacks = (n, rest.lacks); behind = rest.behind; lines = rest.lines; is = λ more. ap (λ (bytes : List ℕ). b ∷ bytes) (rest.is more) }
+      record { first = b ∷ rest.first; lacks = (n, rest.lacks); after = rest.after; lines = rest.lines; is = λ more. ap (λ (bytes : List ℕ). b ∷ bytes) (rest.is more) }
 ]
 
 -- a list with an end of a line in it is not empty
 not_empty : (a b rest : List ℕ) → [] ≢ a ++ (b ++ 10 ∷ rest)
-not_empty a b rest e = some (empty_behind b (10 ∷ rest) (sym (empty_behind a (b ++ 10 ∷ rest) e)))
+not_empty a b rest e = some (empty_after b (10 ∷ rest) (sym (empty_after a (b ++ 10 ∷ rest) e)))
   where
     some : 10 ∷ rest ≢ []
     some e = cc
@@ -36,7 +36,7 @@ not_empty a b rest e = some (empty_behind b (10 ∷ rest) (sym (empty_behind a (
 one_line_more : (line : List ℕ) (lines : List (List ℕ)) (more : List ℕ) → in_lines (line ∷ lines) ++ more ≡ line ++ 10 ∷ (in_lines lines ++ more)
 one_line_more line lines more = append_assoc (line ++ 10 ∷ []) (in_lines lines) more ∙ append_assoc line (10 ∷ []) (in_lines lines ++ more)
 
--- a line that is not plain stands behind plain lines only as the last
+-- a line that is not plain stands after plain lines only as the last
 only_last : (lines : List (List ℕ)) (last body front rest : List ℕ) → ArePlain lines → Lacks 10 last → Lacks 10 body → (¬ IsPlain body) → IsLines front → in_lines lines ++ (last ++ 10 ∷ []) ≡ front ++ (body ++ 10 ∷ rest)
     → (rest ≡ []) × (body ≡ last)
 only_last [] last body front rest plain lacks also other (inl none) e =
@@ -45,15 +45,15 @@ only_last [] last body front rest plain lacks also other (inl none) e =
 only_last [] last body front rest plain lacks also other (inr f) e =
     let begins = first_line f.0 in
     let parts = e ∙ ap (λ (f : List ℕ). f ++ (body ++ 10 ∷ rest)) f.1 ∙ begins.is (body ++ 10 ∷ rest) in
-    absurd (not_empty begins.behind body rest (cut 10 last begins.first [] (begins.behind ++ (body ++ 10 ∷ rest)) lacks begins.lacks parts).1)
+    absurd (not_empty begins.after body rest (cut 10 last begins.first [] (begins.after ++ (body ++ 10 ∷ rest)) lacks begins.lacks parts).1)
 only_last (line ∷ lines) last body front rest plain lacks also other (inl none) e =
     let parts = sym (one_line_more line lines (last ++ 10 ∷ [])) ∙ e ∙ ap (λ (f : List ℕ). f ++ (body ++ 10 ∷ rest)) none in
     absurd (other (subst IsPlain (cut 10 line body (in_lines lines ++ (last ++ 10 ∷ [])) rest plain.0 also parts).0 plain.1))
 only_last (line ∷ lines) last body front rest plain lacks also other (inr f) e =
     let begins = first_line f.0 in
     let parts = sym (one_line_more line lines (last ++ 10 ∷ [])) ∙ e ∙ ap (λ (f : List ℕ). f ++ (body ++ 10 ∷ rest)) f.1 ∙ begins.is (body ++ 10 ∷ rest) in
-    only_last lines last body begins.behind rest plain.2 lacks also other begins.lines
-    (cut 10 line begins.first (in_lines lines ++ (last ++ 10 ∷ [])) (begins.behind ++ (body ++ 10 ∷ rest)) plain.0 begins.lacks parts).1
+    only_last lines last body begins.after rest plain.2 lacks also other begins.lines
+    (cut 10 line begins.first (in_lines lines ++ (last ++ 10 ∷ [])) (begins.after ++ (body ++ 10 ∷ rest)) plain.0 begins.lacks parts).1
 
 pub closes_once : ClosesOnce
 closes_once names motions steps count closing other front rest unended lines e =

@@ -6,9 +6,9 @@ use Rattle.burr_state.specs.declared.motion.Motion.{Motion}
 use Rattle.burr_state.specs.declared.trap.Trap.TheVariants.{NotFree, TrayInUse}
 use Rattle.burr_state.specs.declared.closing.Closing.{Closing}
 use Rattle.burr_state.specs.declared.closing.Closing.TheVariants as closings
-use Rattle.burr_state.specs.Space.{motion_of}
-use Rattle.burr_sheet.specs.SheetText.{sheet}
-use Rattle.burr_sheet.specs.SheetUnderWay.{blank, still}
+use Rattle.burr_state.specs.Rules.Space.{motion_of}
+use Rattle.burr_sheet.specs.Rules.SheetText.{sheet}
+use Rattle.burr_sheet.specs.Views.SheetUnderWay.{blank, still}
 
 abbrev two : List (List ℕ)
 two = codes "A" ∷ codes "B" ∷ []

@@ -1,4 +1,3 @@
-pub mod SheetLaws
-pub mod SheetText
-pub mod SheetUnderWay
-pub mod SheetView
+pub mod Laws
+pub mod Rules
+pub mod Views

@@ -1,8 +1,8 @@
 ghost use Rattle.std.specs.Prelude.{◌≡◌, ◌+◌, ◌<◌, ◌≤◌, [], true, false, Some, length, IfOk, OnOk, OnErr};
 ghost use Rattle.burr_io.specs.Sink.{Puts};
-ghost use Rattle.burr_assembly.specs.Homes.{names_of};
-ghost use Rattle.burr_sheet.specs.SheetText.{alone};
-ghost use Rattle.burr_sheet.specs.SheetUnderWay.{blank, still, outs_of, growing_text, move_line_of, is_one, PutsBefore, PutsMotion, FailsInMotion};
+ghost use Rattle.burr_assembly.specs.Rules.Homes.{names_of};
+ghost use Rattle.burr_sheet.specs.Rules.SheetText.{alone};
+ghost use Rattle.burr_sheet.specs.Views.SheetUnderWay.{blank, still, outs_of, growing_text, move_line_of, is_one, PutsBefore, PutsMotion, FailsInMotion};
 
 mod ending;
 mod line;
@@ -27,7 +27,7 @@ pub struct Sheet<'a> {
     growing: Option<GrowingLine>,
     /// How many lines are closed.
     lines: u32,
-    /// How many of them behind the last out.
+    /// How many of them after the last out.
     level: u32,
     /// For each out, how many lines there were since the out before it, its own line included.
     levels: ArrayVec<u32, MOST_OUTS>,
@@ -36,11 +36,11 @@ pub struct Sheet<'a> {
 }
 
 impl<'a> Model for Sheet<'a> {
-    ghost use Rattle.burr_sheet.specs.SheetUnderWay.{UnderWay, IsCounted};
+    ghost use Rattle.burr_sheet.specs.Views.SheetUnderWay.{UnderWay, IsCounted};
 
     ghost Value = { UnderWay };
 
-    ghost use Rattle.burr_sheet.specs.SheetView.{under_way};
+    ghost use Rattle.burr_sheet.specs.Views.SheetView.{under_way};
 
     ghost view = { under_way };
 

@@ -1,12 +1,12 @@
 -- What the bench runs of a framed plan, and what framing its procedures have.
 use Rattle.std.specs.Prelude.{◌≡◌, ℕ, ◌≤◌, ◌<◌, ◌-◌, ◌^◌, List, length, map, Some, None, slice_get}
 use Rattle.burr_voxels.specs.declared.cell.Cell.{Cell}
-use Rattle.burr_container.specs.Plans.{Frame}
-use Rattle.burr_frames.specs.ControlRules.{entry_of}
-use Rattle.burr_frames.specs.FramedPlans.{FramedProcedure, FramedPlan}
-use Rattle.burr_verify.specs.WellFramed.{IsCut, IsLabelled, Row}
-use Rattle.burr_state.specs.Bench.{BenchProcedure, Setup}
-use Rattle.burr_state.specs.Programs.{positions_of}
+use Rattle.burr_container.specs.Rules.Plans.{Frame}
+use Rattle.burr_frames.specs.Rules.ControlRules.{entry_of}
+use Rattle.burr_frames.specs.Rules.FramedPlans.{FramedProcedure, FramedPlan}
+use Rattle.burr_verify.specs.Rules.WellFramed.{IsCut, IsLabelled, Annotated}
+use Rattle.burr_state.specs.Rules.Bench.{BenchProcedure, Setup}
+use Rattle.burr_state.specs.Views.Programs.{positions_of}
 
 -- a procedure without its frames, as the bench runs it
 abbrev pub bench_part : FramedProcedure → BenchProcedure
@@ -25,7 +25,7 @@ framed_setup plan homes = record { homes = homes; procedures = map bench_part pl
 -- not returned from, and all steps within the budget can be counted.
 pub record HasFraming (homes : List (List Cell)) (plan : FramedPlan) : Type 0 where
   pub cut : (n : ℕ) (here : FramedProcedure) → slice_get plan.procedures n ≡ Some here
-      → (rows : List Row) × IsCut homes plan n here rows
+      → (rows : List Annotated) × IsCut homes plan n here rows
   pub eight : (n : ℕ) (here : FramedProcedure) → slice_get plan.procedures n ≡ Some here
       → (pc : ℕ) (f : Frame) → IsLabelled here pc f → length f.slots ≡ 8
   pub entry : (n : ℕ) (here : FramedProcedure) (f : Frame)

@@ -3,15 +3,15 @@
 use Rattle.std.specs.Prelude.{◌≡◌, ℕ, ◌<◌, ℤ, pos, ◌+ℤ◌, ◌≤ℤ◌, List, [], ◌∷◌, ◌++◌, length, reverse, get_or, slice_get, Option, Some, None}
 use Rattle.burr_voxels.specs.declared.cell.Cell.{Cell}
 use Rattle.burr_code.specs.Places.{Placement, AllLieIn}
-use Rattle.burr_forms.specs.Forms.{Point, value}
-use Rattle.burr_forms.specs.Points.{InBox, GuardsHold}
-use Rattle.burr_frames.specs.FramedPlans.{FramedExit, FramedProcedure, FramedPlan}
-use Rattle.burr_frames.specs.States.{AbstractState, places_at}
-use Rattle.burr_verify.specs.WellFramed.{Row, Enters, IsCut}
+use Rattle.burr_forms.specs.Rules.Forms.{Point, value}
+use Rattle.burr_forms.specs.Rules.Points.{InBox, GuardsHold}
+use Rattle.burr_frames.specs.Rules.FramedPlans.{FramedExit, FramedProcedure, FramedPlan}
+use Rattle.burr_frames.specs.Rules.States.{AbstractState, places_at}
+use Rattle.burr_verify.specs.Rules.WellFramed.{Annotated, Enters, IsCut}
 use Rattle.burr_state.specs.declared.mode.Mode.TheVariants.{Running}
-use Rattle.burr_state.specs.AsideLaws.{NoneLone}
-use Rattle.burr_state.specs.Bench.{Activation, BenchState}
-use Rattle.burr_state.specs.Space.{NoOverlap}
+use Rattle.burr_state.specs.Laws.AsideLaws.{NoneLone}
+use Rattle.burr_state.specs.Rules.Bench.{Activation, BenchState}
+use Rattle.burr_state.specs.Rules.Space.{NoOverlap}
 use Rattle.burr_soundness.specs.Standing.{StandsFor, Stands}
 
 -- no two pieces of a tray overlap, the grip lies in the current tray, no piece is alone in a tray
@@ -34,7 +34,7 @@ pub record IsAdmitted (exit : FramedExit) (parameters results : List ℤ) : Type
   pub in_box : InBox exit.results results
   pub guards : GuardsHold exit.guards (parameters ++ results)
 
--- With these results a waiting caller stands for its state behind the call, where the pieces lie as
+-- With these results a waiting caller stands for its state after the call, where the pieces lie as
 -- the exit frame says.
 pub record ReturnsAs (state : AbstractState) (point : Point) (exit : FramedExit)
     (parameters results : List ℤ) (a : Activation) (cost : ℤ) : Type 0 where
@@ -48,11 +48,11 @@ pub record Waits (homes : List (List Cell)) (plan : FramedPlan) (callee : Framed
     (parameters : List ℤ) (a : Activation) : Type 0 where
   pub here : FramedProcedure
   pub here_is : slice_get plan.procedures a.procedure ≡ Some here
-  pub rows : List Row
+  pub rows : List Annotated
   pub cut : IsCut homes plan a.procedure here rows
-  -- the instruction behind the call
+  -- the instruction after the call
   pub k : ℕ
-  pub next : Row
+  pub next : Annotated
   pub next_is : slice_get rows k ≡ Some next
   pub pc : a.pc ≡ next.pc
   -- the state that falls in there
@@ -90,11 +90,11 @@ pub record IsSafeState (homes : List (List Cell)) (plan : FramedPlan) (b : Bench
   pub mode : b.mode ≡ Running
   pub here : FramedProcedure
   pub here_is : slice_get plan.procedures b.running.procedure ≡ Some here
-  pub rows : List Row
+  pub rows : List Annotated
   pub cut : IsCut homes plan b.running.procedure here rows
   -- the instruction of the cut at which the bench stands
   pub k : ℕ
-  pub row : Row
+  pub row : Annotated
   pub row_is : slice_get rows k ≡ Some row
   pub pc : b.running.pc ≡ row.pc
   pub point : Point

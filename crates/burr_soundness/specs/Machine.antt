@@ -1,27 +1,27 @@
 -- What the machine that asks nothing of pieces keeps of itself, so that it meets no trap.
 use Rattle.std.specs.Prelude.{◌≡◌, ◌≢◌, ◌⊎◌, ℕ, ℤ, Option, Result, Ok, IsTrue}
 use Rattle.burr_voxels.specs.declared.direction.Direction.{Direction}
-use Rattle.burr_assembly.specs.Text.{IsAssembly}
-use Rattle.burr_assembly.specs.Homes.{homes_of}
+use Rattle.burr_assembly.specs.Rules.Text.{IsAssembly}
+use Rattle.burr_assembly.specs.Rules.Homes.{homes_of}
 use Rattle.burr_code.specs.Instruction.{Step, Aside}
 use Rattle.burr_code.specs.Places.{IsPartOfTray, IsEmptyTray}
-use Rattle.burr_container.specs.Fitting.{is_fitting}
-use Rattle.burr_container.specs.Plans.{Plan}
-use Rattle.burr_frames.specs.FramedPlans.{framed_plan}
-use Rattle.burr_verify.specs.Accepting.{Judged, IsAccepted}
-use Rattle.burr_verify.specs.WellFramed.{IsWellFramed}
+use Rattle.burr_container.specs.Rules.Fitting.{is_fitting}
+use Rattle.burr_container.specs.Rules.Plans.{Plan}
+use Rattle.burr_frames.specs.Rules.FramedPlans.{framed_plan}
+use Rattle.burr_verify.specs.Rules.Accepting.{Judged, IsAccepted}
+use Rattle.burr_verify.specs.Rules.WellFramed.{IsWellFramed}
 use Rattle.burr_state.specs.declared.mode.Mode.TheVariants.{Running}
 use Rattle.burr_state.specs.declared.progress.Progress.{Progress}
 use Rattle.burr_state.specs.declared.trap.Trap.{Trap}
-use Rattle.burr_state.specs.Bench.{BenchState, BenchProcedure, running, start}
-use Rattle.burr_state.specs.Benches.{Benched, benched, setup_of, in_state}
+use Rattle.burr_state.specs.Rules.Bench.{BenchState, BenchProcedure, running, start}
+use Rattle.burr_state.specs.Views.Benches.{Benched, benched, setup_of, in_state}
 use Rattle.burr_soundness.specs.Invariant.{IsSafeState}
-use Rattle.burr_state.specs.Next.{Traps}
-use Rattle.burr_state.specs.Programs.{plan_program}
-use Rattle.burr_state.specs.SpaceLaws.{IsReached}
+use Rattle.burr_state.specs.Rules.Next.{Traps}
+use Rattle.burr_state.specs.Views.Programs.{plan_program}
+use Rattle.burr_state.specs.Laws.SpaceLaws.{IsReached}
 use Rattle.burr_soundness.specs.SafeRuns.{HasEnded}
-use Rattle.burr_state.specs.Space.{AllOnBench, NoOverlapIn, IsFreeGroup, moved_places}
-use Rattle.burr_state.specs.Step.{Called, IsAt, NextIs}
+use Rattle.burr_state.specs.Rules.Space.{AllOnBench, NoOverlapIn, IsFreeGroup, moved_places}
+use Rattle.burr_state.specs.Rules.Step.{Called, IsAt, NextIs}
 
 -- A bench that runs an accepted plan: there are a well framed plan, a cut of its code, a state of
 -- it before the next instruction and a point at which the bench stands for that state, and its
@@ -70,7 +70,7 @@ NoTrapIsNext =
     (b : Benched) (trap : Trap) → IsSafeBench b → b.state.mode ≡ Running
     → ¬ NextIs (setup_of b) b.state (Traps trap)
 
--- so where a `step` stands next, the grip has a piece, and behind the step all pieces of the tray
+-- so where a `step` stands next, the grip has a piece, and after the step all pieces of the tray
 -- are on the bench and no two overlap
 abbrev pub StepIsSafe : Type 0
 StepIsSafe =

@@ -2,10 +2,10 @@
 use Rattle.std.specs.Prelude.{◌≡◌, ℤ, Option, Ok}
 use Rattle.burr_state.specs.declared.motion.Motion.{Motion}
 use Rattle.burr_state.specs.declared.progress.Progress.TheVariants as progress
-use Rattle.burr_state.specs.Bench.{BenchState}
-use Rattle.burr_state.specs.Benches.{Benched, setup_of, in_state}
-use Rattle.burr_state.specs.Step.{Called}
-use Rattle.burr_state.specs.Undo.{Undo, laid_over, IsRecordOf}
+use Rattle.burr_state.specs.Rules.Bench.{BenchState}
+use Rattle.burr_state.specs.Views.Benches.{Benched, setup_of, in_state}
+use Rattle.burr_state.specs.Rules.Step.{Called}
+use Rattle.burr_state.specs.Rules.Undo.{Undo, laid_over, IsRecordOf}
 use Rattle.burr_soundness.specs.Machine.{IsSafeBench}
 
 -- The record's old values laid over the bench give a safe one whose step, with some answer or

@@ -5,9 +5,9 @@ use Rattle.burr_state.specs.declared.closing.Closing.{Closing}
 use Rattle.burr_state.specs.declared.closing.Closing.TheVariants as closings
 use Rattle.burr_state.specs.declared.mode.Mode.TheVariants.{Running, Ended}
 use Rattle.burr_state.specs.declared.motion.Motion.{Motion}
-use Rattle.burr_state.specs.Bench.{BenchState, Setup}
-use Rattle.burr_state.specs.RunLaws.{Calls}
-use Rattle.burr_state.specs.Step.{AsksFor}
+use Rattle.burr_state.specs.Rules.Bench.{BenchState, Setup}
+use Rattle.burr_state.specs.Laws.RunLaws.{Calls}
+use Rattle.burr_state.specs.Rules.Step.{AsksFor}
 
 -- The run has ended within its budget, with every piece apart.
 pub record HasEnded (budget : ℕ) (s : BenchState) : Type 0 where

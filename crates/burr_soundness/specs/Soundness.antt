@@ -1,17 +1,17 @@
 -- The soundness of the verifier: a plan that it accepts runs safely.
 use Rattle.std.specs.Prelude.{ℕ, ◌≤◌, ℤ, List, length}
 use Rattle.burr_voxels.specs.declared.cell.Cell.{Cell}
-use Rattle.burr_frames.specs.FramedPlans.{FramedPlan}
-use Rattle.burr_verify.specs.FromContainers.{IsFromContainer}
-use Rattle.burr_verify.specs.WellFramed.{IsWellFramed}
+use Rattle.burr_frames.specs.Rules.FramedPlans.{FramedPlan}
+use Rattle.burr_verify.specs.Views.FromContainers.{IsFromContainer}
+use Rattle.burr_verify.specs.Rules.WellFramed.{IsWellFramed}
 use Rattle.burr_state.specs.declared.closing.Closing.{Closing}
 use Rattle.burr_state.specs.declared.motion.Motion.{Motion}
-use Rattle.burr_state.specs.Bench.{start}
+use Rattle.burr_state.specs.Rules.Bench.{start}
 use Rattle.burr_soundness.specs.Framing.{framed_setup}
-use Rattle.burr_state.specs.Run.{Run}
-use Rattle.burr_state.specs.RunLaws.{RunOf}
+use Rattle.burr_state.specs.Rules.Run.{Run}
+use Rattle.burr_state.specs.Laws.RunLaws.{RunOf}
 use Rattle.burr_soundness.specs.SafeRuns.{IsSafeRun}
-use Rattle.burr_state.specs.SpaceLaws.{AreDisjoint}
+use Rattle.burr_state.specs.Laws.SpaceLaws.{AreDisjoint}
 
 -- with whatever answers, each run of the plan from the start is safe
 abbrev pub RunsSafely : List (List Cell) → FramedPlan → Type 0

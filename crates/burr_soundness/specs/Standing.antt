@@ -1,8 +1,8 @@
 -- What it is that the bench stands for an abstract state of the verifier at a point.
 use Rattle.std.specs.Prelude.{◌≡◌, ℕ, ℤ, List, length, Option, Some, None, get_or}
-use Rattle.burr_forms.specs.Forms.{Form, Point, value, values}
-use Rattle.burr_frames.specs.States.{AbstractState, IsPoint, places_at}
-use Rattle.burr_state.specs.Bench.{BenchState}
+use Rattle.burr_forms.specs.Rules.Forms.{Form, Point, value, values}
+use Rattle.burr_frames.specs.Rules.States.{AbstractState, IsPoint, places_at}
+use Rattle.burr_state.specs.Rules.Bench.{BenchState}
 
 -- an activation's slots and operands have the values that the state's forms have at the point
 pub record StandsFor (s : AbstractState) (point : Point) (slots : List (Option ℤ))

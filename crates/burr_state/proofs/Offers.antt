@@ -3,9 +3,9 @@ use Rattle.std.proofs.Common.{◌≡◌, ◌<◌, ℕ, zero, suc, List, [], ◌�
 use Rattle.std.proofs.lemmas.Option.{none-some, same_Some, slice_get_within, slice_get-get_or}
 use Rattle.std.specs.Prelude.{get_or}
 use Rattle.burr_code.specs.Labels.{labelled, with_first}
-use Rattle.burr_state.specs.Programs.{HasLabels}
+use Rattle.burr_state.specs.Views.Programs.{HasLabels}
 
--- the labels behind the first are there too
+-- the labels after the first are there too
 rest_are_there : (positions : List ℕ) (label : ℕ) (labels : List ℕ) → HasLabels positions (label ∷ labels) → HasLabels positions labels
 rest_are_there positions label labels all n other less at = all (suc n) other (omega (arith, less)) at
 

@@ -5,7 +5,7 @@ use Rattle.std.proofs.lemmas.Bool.{le-leb, lt-leb}
 use Rattle.std.proofs.lemmas.List.{take-append-drop, take_at, drop_at, reverse-append, length-drop, length-reverse, reverse-reverse, length-map, length-take-le, take_all, map-append, append_assoc}
 use Rattle.burr_code.specs.Stacks.{top_many}
 use Rattle.burr_code.specs.Labels.{argument_slots}
-use Rattle.burr_state.specs.Effects.{slots_with}
+use Rattle.burr_state.specs.Views.Effects.{slots_with}
 use Rattle.std.specs.Prelude.{Option, Result, Ok, Err, MatchOption, MatchResult}
 use Rattle.std.specs.Result.{result_ok}
 use Rattle.arrayvec.specs.ArrayVec.{ArrayVec}
@@ -18,7 +18,7 @@ drop_reverse k xs some =
     let many : length (reverse (drop m xs)) ≡ k = length-reverse (drop m xs) ∙ length-drop m xs ∙ omega (arith, some) in
     ap (λ ys. drop k (reverse ys)) (sym (take-append-drop m xs)) ∙ ap (λ ys. drop k ys) (reverse-append (take m xs) (drop m xs)) ∙ drop_at (reverse (drop m xs)) (reverse (take m xs)) k many
 
--- one more behind, turned round, is in front
+-- one more after, turned round, is in front
 pub reverse_snoc : {X : Type 0} (x : X) (xs : List X) → reverse (xs ++ x ∷ []) ≡ x ∷ reverse xs
 reverse_snoc x xs = reverse-append xs (x ∷ [])
 

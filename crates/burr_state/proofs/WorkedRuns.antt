@@ -9,11 +9,11 @@ use Rattle.burr_code.specs.Instruction.{Halt, Grip, Aside}
 use Rattle.burr_state.specs.declared.mode.Mode.TheVariants.{Running, Ended}
 use Rattle.burr_state.specs.declared.trap.Trap.TheVariants.{NotFree, GripOff}
 use Rattle.burr_state.specs.declared.closing.Closing.TheVariants as closings
-use Rattle.burr_state.specs.Bench.{BenchState, Setup, start, activation, bare, bare_procedure}
-use Rattle.burr_state.specs.Next.{Goes, Traps}
-use Rattle.burr_state.specs.Space.{motion_of}
-use Rattle.burr_state.specs.Step.{NextIs}
-use Rattle.burr_state.specs.Run.{Run, ends, traps, goes, IsGoing}
+use Rattle.burr_state.specs.Rules.Bench.{BenchState, Setup, start, activation, bare, bare_procedure}
+use Rattle.burr_state.specs.Rules.Next.{Goes, Traps}
+use Rattle.burr_state.specs.Rules.Space.{motion_of}
+use Rattle.burr_state.specs.Rules.Step.{NextIs}
+use Rattle.burr_state.specs.Rules.Run.{Run, ends, traps, goes, IsGoing}
 use Rattle.burr_state.proofs.Common.TwoCubes.{homes, far_homes, both_here, both_apart, one_some, a_lies, b_stays, tray_is_free, both_are_apart, group_is_free, group_is_blocked, group_is_blocked_far, a_is_gone}
 
 -- Code

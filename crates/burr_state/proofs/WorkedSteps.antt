@@ -12,12 +12,12 @@ use Rattle.burr_code.specs.Labels.{argument_slots}
 use Rattle.burr_code.proofs.Common.Reading.{read, read_begun}
 use Rattle.burr_state.specs.declared.trap.Trap.TheVariants as traps
 use Rattle.burr_state.specs.declared.mode.Mode.TheVariants.{Running, Ended}
-use Rattle.burr_state.specs.Bench.{Activation, activation, BenchState, BenchProcedure, Setup, bare, bare_procedure, start}
-use Rattle.burr_state.specs.Next.{Goes, Asks, Traps}
-use Rattle.burr_state.specs.Space.{motion_of}
-use Rattle.burr_state.specs.Questions.{Fits, Takes}
-use Rattle.burr_state.specs.Step.{Executes, NextIs}
-use Rattle.burr_state.specs.Parts.{parts}
+use Rattle.burr_state.specs.Rules.Bench.{Activation, activation, BenchState, BenchProcedure, Setup, bare, bare_procedure, start}
+use Rattle.burr_state.specs.Rules.Next.{Goes, Asks, Traps}
+use Rattle.burr_state.specs.Rules.Space.{motion_of}
+use Rattle.burr_state.specs.Rules.Questions.{Fits, Takes}
+use Rattle.burr_state.specs.Rules.Step.{Executes, NextIs}
+use Rattle.burr_state.specs.Views.Parts.{parts}
 use Rattle.burr_code.proofs.Common.Conditions.{apart-on}
 use Rattle.burr_state.proofs.Common.TwoCubes.{homes, both_here, both_apart, a_along_x, one_some, a_lies, a_is_gone, b_stays, none_stays, tray_is_free, both_are_apart, group_is_free, group_is_blocked, a_is_on_bench, a_meets_b, a_misses_b}
 
@@ -37,7 +37,7 @@ plan = record { homes = []; procedures = bare_procedure [] ∷ here ∷ callee �
 abbrev empty : List (Option ℤ)
 empty = replicate 8 None
 
--- main, behind its call
+-- main, after its call
 abbrev caller : Activation
 caller = activation 0 7 empty []
 
@@ -105,7 +105,7 @@ jump_to_label = inr (8, refl, refl)
 down_at_2 : Executes plan here (at_begin (slot_1 (pos 2)) []) (Down 1 0) (Goes (one_on 3 (slot_1 (pos 1)) []) None)
 down_at_2 = inr (3, refl, inr (lit≤ tt, inr (pos 2, refl, inr (omega (arith, ints), refl))))
 
--- down at 0: on behind
+-- down at 0: on after
 down_at_0 : Executes plan here (at_begin (slot_1 (pos 0)) []) (Down 1 0) (Goes (one_on 4 (slot_1 (pos 0)) []) None)
 down_at_0 = inr (3, refl, inr (lit≤ tt, inr (pos 0, refl, inr (omega (arith, ints), refl))))
 
@@ -257,7 +257,7 @@ empty_grip = stands_nowhere (0x10 ∷ 0 ∷ 0 ∷ 0 ∷ 0 ∷ []) (λ both. both
 no_code : NextIs (bare [] []) (start (bare [] [])) (Traps traps.BadCode)
 no_code = stands_nowhere [] (λ both. let size = ap (λ (bytes : List ℕ). length bytes) both.1.1 in omega (arith, size))
 
--- Places behind an aside
+-- Places after an aside
 
 -- of two pieces one goes, and each is apart
 one_of_two : aside_places {Position = Cell} 1 0 1 (On 0 origin ∷ On 0 origin ∷ []) ≡ Apart ∷ Apart ∷ []

@@ -1,10 +1,10 @@
 ghost use Rattle.std.specs.Prelude.{◌≡◌, ◌<◌, ◌≤◌, ◌↔◌, ℤ, List, None, Some, [], ◌∷◌, ◌++◌, drop, length, replicate, reverse, get_or, IsTrue, MatchOption};
 ghost use Rattle.burr_code.specs.declared.limits.TheConstants.{SLOTS, MOST_OPERANDS};
 ghost use Rattle.burr_code.specs.Stacks.{top, top_two, top_many};
-ghost use Rattle.burr_state.specs.Bench.{activation};
-ghost use Rattle.burr_state.specs.Effects.{CallsFor, slots_with};
-ghost use Rattle.burr_state.specs.Programs.{HasRoomFor};
-ghost use Rattle.burr_state.specs.Numbers.{HasRoom, pushed, with_operands, with_slot};
+ghost use Rattle.burr_state.specs.Rules.Bench.{activation};
+ghost use Rattle.burr_state.specs.Views.Effects.{CallsFor, slots_with};
+ghost use Rattle.burr_state.specs.Views.Programs.{HasRoomFor};
+ghost use Rattle.burr_state.specs.Rules.Numbers.{HasRoom, pushed, with_operands, with_slot};
 
 use crate::trap::Trap;
 use arrayvec::ArrayVec;
@@ -25,7 +25,7 @@ pub struct Activation {
 
 impl Model for Activation {
     ghost use Rattle.std.specs.Prelude.{reverse};
-    ghost use Rattle.burr_state.specs.Bench.{Activation as ActivationOf, activation};
+    ghost use Rattle.burr_state.specs.Rules.Bench.{Activation as ActivationOf, activation};
 
     ghost Value = { ActivationOf };
 

@@ -16,8 +16,8 @@ pub struct Bench<'a> {
 }
 
 impl<'a> Model for Bench<'a> {
-    ghost use Rattle.burr_state.specs.Programs.{FitsProgram};
-    ghost use Rattle.burr_state.specs.Work.{Work, work};
+    ghost use Rattle.burr_state.specs.Views.Programs.{FitsProgram};
+    ghost use Rattle.burr_state.specs.Views.Work.{Work, work};
 
     ghost Value = { Work };
 

@@ -1,10 +1,10 @@
-ghost use Rattle.burr_state.specs.Undo.{RecordsGoBack, RecordsTell};
-ghost use Rattle.burr_state.specs.AsideLaws.{GroupGoesAside};
-ghost use Rattle.burr_state.specs.SpaceLaws.{GripStays, NoOverlapStays, NoneLoneStays};
-ghost use Rattle.burr_state.specs.SpaceLaws.{HomesAreDisjoint, GripIsHere, PiecesNeverOverlap, NoPieceIsLone};
-ghost use Rattle.burr_state.specs.StepLaws.{SomeExecution, OneExecution, CallLeaves};
-ghost use Rattle.burr_state.specs.RunLaws.{OneNext, SomeNext, OneCall, SomeCall};
-ghost use Rattle.burr_state.specs.RunLaws.{OneResult, SomeResult, RunIsCalls};
+ghost use Rattle.burr_state.specs.Rules.Undo.{RecordsGoBack, RecordsTell};
+ghost use Rattle.burr_state.specs.Laws.AsideLaws.{GroupGoesAside};
+ghost use Rattle.burr_state.specs.Laws.SpaceLaws.{GripStays, NoOverlapStays, NoneLoneStays};
+ghost use Rattle.burr_state.specs.Laws.SpaceLaws.{HomesAreDisjoint, GripIsHere, PiecesNeverOverlap, NoPieceIsLone};
+ghost use Rattle.burr_state.specs.Laws.StepLaws.{SomeExecution, OneExecution, CallIsOneStep};
+ghost use Rattle.burr_state.specs.Laws.RunLaws.{OneNext, SomeNext, OneCall, SomeCall};
+ghost use Rattle.burr_state.specs.Laws.RunLaws.{OneResult, SomeResult, RunIsCalls};
 
 /// Each instruction, carried out at any state, has one effect.
 pub fn an_instruction_has_one_effect()
@@ -24,7 +24,7 @@ pub fn a_step_has_one_result()
 /// A call that tells of a step has made one; one that tells of a trap changes the mode alone, and
 /// any other changes nothing.
 pub fn a_call_leaves_what_it_tells()
-    ensures { CallLeaves }
+    ensures { CallIsOneStep }
 {}
 
 /// A run has a result, and it is the only one.

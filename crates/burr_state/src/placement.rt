@@ -2,8 +2,8 @@ ghost use Rattle.std.specs.Prelude.{◌≡◌, ◌↔◌, pos, IsTrue};
 ghost use Rattle.burr_code.specs.Places.{Apart, On, is_in, to_tray, at_position};
 ghost use Rattle.burr_voxels.specs.Grid.{at, along, plus};
 ghost use Rattle.burr_voxels.specs.Near.{IsWithin};
-ghost use Rattle.burr_state.specs.Spots.{offset_in, placed};
-ghost use Rattle.burr_state.specs.Offsets.{PositionHolds};
+ghost use Rattle.burr_state.specs.Views.Spots.{offset_in, placed};
+ghost use Rattle.burr_state.specs.Views.Offsets.{PositionHolds};
 
 use burr_voxels::{Cell, Direction};
 use std::marker::Model;
@@ -23,7 +23,7 @@ pub struct Placement {
 impl Model for Placement {
     ghost use Rattle.burr_voxels.specs.declared.cell.Cell.{Cell as CellOf};
     ghost use Rattle.burr_code.specs.Places.{Placement};
-    ghost use Rattle.burr_state.specs.Spots.{placement_of};
+    ghost use Rattle.burr_state.specs.Views.Spots.{placement_of};
 
     ghost Value = { Placement CellOf };
 

@@ -1,7 +1,7 @@
 ghost use Rattle.std.specs.Prelude.{◌≡◌, ◌≤◌, ◌↔◌, length, IsTrue};
 ghost use Rattle.burr_code.specs.Places.{AllApart, IsEmptyTray, count_in, aside_places, parted, parted_in, changed, to_tray};
-ghost use Rattle.burr_state.specs.Offsets.{AreNear};
-ghost use Rattle.burr_state.specs.Space.{moved_places};
+ghost use Rattle.burr_state.specs.Views.Offsets.{AreNear};
+ghost use Rattle.burr_state.specs.Rules.Space.{moved_places};
 
 use crate::placement::Placement;
 use burr_code::is_in_set;

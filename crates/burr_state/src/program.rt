@@ -5,8 +5,8 @@ mod reading;
 ghost use Rattle.std.specs.Prelude.{◌≡◌, ◌<◌, ◌≤◌, ◌↔◌, ◌∷◌, [], length, slice_get, IsTrue, MatchOption, None, Some};
 ghost use Rattle.burr_code.specs.declared.limits.TheConstants.{MOST_CODE, MOST_BUDGET};
 ghost use Rattle.burr_code.specs.Labels.{callee_of};
-ghost use Rattle.burr_state.specs.Bench.{bare_procedure, bare_program};
-ghost use Rattle.burr_state.specs.Programs.{HasLabels};
+ghost use Rattle.burr_state.specs.Rules.Bench.{bare_procedure, bare_program};
+ghost use Rattle.burr_state.specs.Views.Programs.{HasLabels};
 
 use arrayvec::ArrayVec;
 use burr_code::Labels;
@@ -25,8 +25,8 @@ pub struct Procedure<'a> {
 }
 
 impl<'a> Model for Procedure<'a> {
-    ghost use Rattle.burr_state.specs.Bench.{BenchProcedure};
-    ghost use Rattle.burr_state.specs.Programs.{procedure_of, IsRunnable};
+    ghost use Rattle.burr_state.specs.Rules.Bench.{BenchProcedure};
+    ghost use Rattle.burr_state.specs.Views.Programs.{procedure_of, IsRunnable};
 
     ghost Value = { BenchProcedure };
 
@@ -112,8 +112,8 @@ pub struct Program<'a> {
 impl<'a> Model for Program<'a> {
     ghost use Rattle.std.specs.Prelude.{◌≤◌};
     ghost use Rattle.burr_code.specs.declared.limits.TheConstants.{MOST_BUDGET};
-    ghost use Rattle.burr_state.specs.Bench.{Program as ProgramOf};
-    ghost use Rattle.burr_state.specs.Programs.{program_of};
+    ghost use Rattle.burr_state.specs.Rules.Bench.{Program as ProgramOf};
+    ghost use Rattle.burr_state.specs.Views.Programs.{program_of};
 
     ghost Value = { ProgramOf };
 

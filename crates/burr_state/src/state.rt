@@ -40,8 +40,8 @@ pub struct BenchState {
 
 impl Model for BenchState {
     ghost use Rattle.std.specs.Prelude.{reverse};
-    ghost use Rattle.burr_state.specs.Bench.{BenchState as BenchStateOf};
-    ghost use Rattle.burr_state.specs.StateViews.{standing, IsOrderly};
+    ghost use Rattle.burr_state.specs.Rules.Bench.{BenchState as BenchStateOf};
+    ghost use Rattle.burr_state.specs.Views.StateViews.{standing, IsOrderly};
 
     ghost Value = { BenchStateOf };
 

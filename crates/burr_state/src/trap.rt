@@ -1,5 +1,5 @@
 ghost use Rattle.std.specs.Prelude.{◌≡◌};
-ghost use Rattle.burr_state.specs.TrapNames.{trap_number, trap_name};
+ghost use Rattle.burr_state.specs.Rules.TrapNames.{trap_number, trap_name};
 
 /// Why an instruction could not be carried out. It changed nothing then.
 #[derive(Clone, Copy, Debug, PartialEq, Eq)]

@@ -1,4 +1,3 @@
-pub mod StepTexts
-pub mod Stepper
-pub mod StepperLaws
-pub mod UndoRing
+pub mod Laws
+pub mod Rules
+pub mod Views

@@ -1,10 +1,10 @@
-ghost use Rattle.burr_verify.specs.VerifyLaws.{FittingIsFromContainer};
-ghost use Rattle.burr_step.specs.StepperLaws.{OneLead, OneOutcome, TakenIsThere, CommandsAreThere};
-ghost use Rattle.burr_step.specs.StepperLaws.{BackNone, BackUndoes, BackIsRefused, SomeBack};
-ghost use Rattle.burr_step.specs.StepperLaws.{GoingIsRefused, AnswerIsRefused};
-ghost use Rattle.burr_step.specs.StepperLaws.{LeadsSafely, SomeOutcome, StepsAreCounted};
-ghost use Rattle.burr_step.specs.UndoRing.{UndoingIsBack, RecordIsKept, LastAreKept};
-ghost use Rattle.burr_step.specs.StepTexts.{LinesAreShort, OneLine};
+ghost use Rattle.burr_verify.specs.Laws.VerifyLaws.{FittingIsFromContainer};
+ghost use Rattle.burr_step.specs.Laws.StepperLaws.{OneLead, OneOutcome, TakenIsThere, CommandsAreThere};
+ghost use Rattle.burr_step.specs.Laws.StepperLaws.{BackNone, BackUndoes, BackIsRefused, SomeBack};
+ghost use Rattle.burr_step.specs.Laws.StepperLaws.{GoingIsRefused, AnswerIsRefused};
+ghost use Rattle.burr_step.specs.Laws.StepperLaws.{LeadsSafely, SomeOutcome, StepsAreCounted};
+ghost use Rattle.burr_step.specs.Views.UndoRing.{UndoingIsBack, RecordIsKept, LastAreKept};
+ghost use Rattle.burr_step.specs.Rules.StepTexts.{LinesAreShort, OneLine};
 
 /// Commands lead to one state, that of the steps and answers that they fix.
 pub fn commands_lead_to_one_state()

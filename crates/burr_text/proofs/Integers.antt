@@ -61,7 +61,7 @@ plain_again E bytes x digits lead parses =
     let k = parse_signed_digits numerals {E = E} w32 bytes (Ok x) parses digits in
     sym (decimal-digits_value numerals bytes digits k.0.0 lead (omega (arith, k.0.1))) ∙ ap signed_decimal (sym k.1)
 
--- and so is a count behind a minus
+-- and so is a count after a minus
 minus_again : (E : Type 0) (rest : List ℕ) (x : ℤ) → IsCount rest → ParsesSigned {E = E} w32 10 (45 ∷ rest) (Ok x) → 45 ∷ rest ≡ signed_decimal x
 minus_again E rest x h parses =
     let k = parse_signed_minus numerals {E = E} w32 (45 ∷ rest) (Ok x) parses refl in

@@ -11,7 +11,7 @@ pub fn integer(text: &[u8]) -> Option<i32>
     str::from_utf8(text).ok()?.parse().ok()
 }
 
-/// Whether the bytes are a number: `0`, or digits of which the first isn't `0`, perhaps behind a
+/// Whether the bytes are a number: `0`, or digits of which the first isn't `0`, perhaps after a
 /// `-`. A number may be of any length.
 pub fn is_number(bytes: &[u8]) -> bool
     ensures { IsTrue result ↔ IsNumber bytes.now }

@@ -1,7 +1,7 @@
 ghost use Rattle.std.specs.Prelude.{◌↔◌, Contains, IsTrue, MatchOption};
 ghost use Rattle.burr_text.specs.Words.{IsWord, IsCutAt};
 
-/// What stands before the first of a byte, and what behind it; None where it is not there.
+/// What stands before the first of a byte, and what after it; None where it is not there.
 pub fn cut_at(bytes: &[u8], separator: u8) -> Option<(&[u8], &[u8])>
     ensures { MatchOption result (¬ Contains bytes.now separator) (λ parts.
         IsCutAt separator bytes.now parts.0.now parts.1.now) }

@@ -37,14 +37,14 @@ pub given : (live : List Bool) (numbers : List ℤ) (v count : ℕ) (coefs : Lis
     → slice_get live v ≡ Some true → slice_get numbers count ≡ Some number → IsFilled live numbers v count coefs
     → IsFilled live numbers (v + 1) (count + 1) (set coefs v number)
 given live numbers v count coefs number l e at n =
-    let behind : List ℤ = replicate (8 - (v + 1)) (pos 0) in
+    let after : List ℤ = replicate (8 - (v + 1)) (pos 0) in
     let rest = drop (v + 1) live in record {
       front = n.front ++ number ∷ [];
       many = length_push n.front number ∙ ap (λ k. k + 1) n.many;
       parts = ap (λ (s : List ℤ). set s v number) (n.parts ∙ ap (λ (k : ℕ). n.front ++ replicate k (pos 0)) (one_more v l))
-          ∙ set-append_right n.front (pos 0 ∷ behind) v v number n.many (omega arith)
-          ∙ ap (λ (k : ℕ). n.front ++ set (pos 0 ∷ behind) k number) (same_less v)
-          ∙ sym (append_assoc n.front (number ∷ []) behind);
+          ∙ set-append_right n.front (pos 0 ∷ after) v v number n.many (omega arith)
+          ∙ ap (λ (k : ℕ). n.front ++ set (pos 0 ∷ after) k number) (same_less v)
+          ∙ sym (append_assoc n.front (number ∷ []) after);
       is = append_assoc n.front (number ∷ []) (at_live rest (drop (count + 1) numbers))
           ∙ ap (λ (ns : List ℤ). n.front ++ at_live (true ∷ rest) ns) (sym (drop_here numbers count number at))
           ∙ ap (λ (bs : List Bool). n.front ++ at_live bs (drop count numbers)) (sym (drop_here live v true e)) ∙ n.is;

@@ -8,11 +8,11 @@ use Rattle.burr_code.specs.declared.limits.TheConstants.{MOST_GUARDS, MOST_OPERA
 use Rattle.burr_container.specs.declared.frame_ref.FrameRef.{FrameRef}
 use Rattle.burr_container.specs.declared.exit_ref.ExitRef.{ExitRef}
 use Rattle.burr_container.specs.declared.procedure_ref.ProcedureRef.{ProcedureRef}
-use Rattle.burr_container.specs.Plans.{Plan, PlanProcedure, Frame, ExitFrame, live_slots, exit_symbols}
-use Rattle.burr_container.specs.Fitting.{is_form, are_forms, are_places, is_place, are_slots, is_range, is_tray, is_set_of, is_frame_rest, is_frame, is_exit, is_exit_frame, are_parameters, is_procedure, are_procedures, rise_from, are_labels}
-use Rattle.burr_container.specs.Refs.{frame_of, exit_frame_of}
-use Rattle.burr_container.specs.InPlace.{AreFor, IsLabel, IsExit, IsProcedure}
-use Rattle.burr_container.specs.Containers.{KeptContainer, IsContainer, HasPlan, HasLabel, OfProcedure, OfLabel}
+use Rattle.burr_container.specs.Rules.Plans.{Plan, PlanProcedure, Frame, ExitFrame, live_slots, exit_symbols}
+use Rattle.burr_container.specs.Rules.Fitting.{is_form, are_forms, are_places, is_place, are_slots, is_range, is_tray, is_set_of, is_frame_rest, is_frame, is_exit, is_exit_frame, are_parameters, is_procedure, are_procedures, rise_from, are_labels}
+use Rattle.burr_container.specs.Views.Refs.{frame_of, exit_frame_of}
+use Rattle.burr_container.specs.Views.InPlace.{AreFor, IsLabel, IsExit, IsProcedure}
+use Rattle.burr_container.specs.Views.Containers.{ContainerView, IsContainer, HasPlan, HasLabel, OfProcedure, OfLabel}
 use Rattle.burr_container.proofs.Common.Procedures.{ProcedureFits, procedure_fits}
 use Rattle.burr_container.proofs.Common.Containers.{plan_fits}
 use Rattle.burr_container.proofs.Common.Exits.{exit_fits}
@@ -107,7 +107,7 @@ procedure_at version pieces (first ∷ others) i q fits at =
         (false, procedure_fits version pieces false q (each_fits (is_procedure version pieces false) others i q others_fit at))
 
 -- procedure i of a container's plan, within the format
-pub record HasProcedure (kept : KeptContainer) (i : ℕ) : Type 0 where
+pub record HasProcedure (kept : ContainerView) (i : ℕ) : Type 0 where
   pub plan : Plan
   pub is : IsContainer kept plan
   pub procedure : PlanProcedure
@@ -115,7 +115,7 @@ pub record HasProcedure (kept : KeptContainer) (i : ℕ) : Type 0 where
   pub main : Bool
   pub fits : ProcedureFits plan.version plan.pieces main procedure
 
-pub its_procedure : (kept : KeptContainer) (i : ℕ) → HasPlan kept → i < length kept.procedures → HasProcedure kept i
+pub its_procedure : (kept : ContainerView) (i : ℕ) → HasPlan kept → i < length kept.procedures → HasProcedure kept i
 its_procedure kept i (p, fits, is) within =
     let many = as_many (IsProcedure p.pieces) kept.procedures p.procedures is.procedures in
     let found = some_at p.procedures i (omega (arith, many, within)) in
@@ -149,7 +149,7 @@ has_label None n count is less = tt
 has_label (Some p) n count is less = omega (arith, is, less)
 
 -- the frame that is read of a label is within the format
-pub fitting_frame : (kept : KeptContainer) (i n : ℕ) (f : FrameRef) → HasPlan kept → i < length kept.procedures
+pub fitting_frame : (kept : ContainerView) (i n : ℕ) (f : FrameRef) → HasPlan kept → i < length kept.procedures
     → HasLabel kept i n → f.places.count ≡ kept.header.pieces → OfLabel kept i n (λ l. frame_of f ≡ l.1)
     → IsFittingFrame f
 fitting_frame kept i n f has within labelled count reads =
@@ -194,7 +194,7 @@ exit_of version pieces parameters results false (Some f) kept few fits is = reco
 }
 
 -- the exit frame that is read of a procedure is within the format
-pub fitting_exit : (kept : KeptContainer) (i : ℕ) (exit : ExitRef) → HasPlan kept → i < length kept.procedures
+pub fitting_exit : (kept : ContainerView) (i : ℕ) (exit : ExitRef) → HasPlan kept → i < length kept.procedures
     → OfProcedure kept i (λ p q. IsExit p.pieces q.parameters q.results (Some exit) q.exit) → IsFittingExit exit
 fitting_exit kept i exit has within reads =
     let of = its_procedure kept i has within in

@@ -9,10 +9,10 @@ use Rattle.std.proofs.lemmas.Option.{none-some, same_Some}
 use Rattle.std.proofs.lemmas.List.{length-replicate}
 use Rattle.std.proofs.lemmas.List.Elements.{All-append, All-replicate, All-cons}
 use Rattle.burr_code.specs.Places.{Placement, Apart, On}
-use Rattle.burr_forms.specs.Forms.{Form}
-use Rattle.burr_container.specs.Plans.{FormCell, of_live, padded, over_symbols, place_over_symbols, exit_symbols}
-use Rattle.burr_container.specs.Fitting.{is_between, is_coefficient, are_coefficients, is_form, is_place}
-use Rattle.burr_container.specs.Refs.{told}
+use Rattle.burr_forms.specs.Rules.Forms.{Form}
+use Rattle.burr_container.specs.Rules.Plans.{FormCell, of_live, padded, over_symbols, place_over_symbols, exit_symbols}
+use Rattle.burr_container.specs.Rules.Fitting.{is_between, is_coefficient, are_coefficients, is_form, is_place}
+use Rattle.burr_container.specs.Views.Refs.{placement_view}
 use Rattle.burr_container.proofs.Common.Spelled.{between}
 use Rattle.burr_container.proofs.Common.FormSpelling.{zero_only, on_parts}
 use Rattle.burr_upgrade.specs.Slots.{at_live, over_slots, place_over_slots, IsNarrowForm, IsNarrowPlace}
@@ -152,7 +152,7 @@ form_of slots live back (f ∷ forms) (suc n) form fits at =
 
 pub record IsPlaceOf (slots : List Bool) (places : List (Placement FormCell)) (p : ℕ) (place : Option (ℕ × Form × Form × Form)) : Type 0 where
   pub narrow : IsNarrowPlace place
-  pub there : slice_get places p ≡ Some (place_over_slots slots (told place))
+  pub there : slice_get places p ≡ Some (place_over_slots slots (placement_view place))
 
 abbrev tray_in : Placement FormCell → ℕ
 tray_in Apart = 0
@@ -163,8 +163,8 @@ cell_in other Apart = other
 cell_in other (On tray cell) = cell
 
 one_place : (slots live : List Bool) → Restores slots live → (lies : Placement FormCell)
-    (place : Option (ℕ × Form × Form × Form)) → IsTrue (is_place live lies) → place_over_symbols live lies ≡ told place
-    → IsNarrowPlace place × (lies ≡ place_over_slots slots (told place))
+    (place : Option (ℕ × Form × Form × Form)) → IsTrue (is_place live lies) → place_over_symbols live lies ≡ placement_view place
+    → IsNarrowPlace place × (lies ≡ place_over_slots slots (placement_view place))
 one_place slots live back Apart None fits at = (tt, refl)
 one_place slots live back Apart (Some at) fits e = absurd (cc)
 one_place slots live back (On tray cell) None fits e = absurd (cc)
@@ -188,7 +188,7 @@ one_place slots live back (On tray cell) (Some at) fits e =
 
 pub place_of : (slots live : List Bool) → Restores slots live → (places : List (Placement FormCell)) (p : ℕ)
     (place : Option (ℕ × Form × Form × Form)) → IsTrue (list_all (is_place live) places)
-    → slice_get (map (place_over_symbols live) places) p ≡ Some (told place) → IsPlaceOf slots places p place
+    → slice_get (map (place_over_symbols live) places) p ≡ Some (placement_view place) → IsPlaceOf slots places p place
 place_of slots live back [] n place fits at = absurd (none-some _ at)
 place_of slots live back (lies ∷ places) zero place fits at =
     let fit = (and_parts (is_place live lies) (list_all (is_place live) places) fits).0 in

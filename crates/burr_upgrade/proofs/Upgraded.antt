@@ -5,9 +5,9 @@ use Rattle.std.specs.List.{list_all}
 use Rattle.std.proofs.lemmas.Bool.{and_parts, and_from, false≢true}
 use Rattle.std.proofs.lemmas.List.Elements.{All-cons}
 use Rattle.burr_code.specs.declared.limits.TheConstants.{MOST_GUARDS, MOST_PROCEDURES}
-use Rattle.burr_forms.specs.Forms.{Form}
-use Rattle.burr_container.specs.Plans.{PlanProcedure, ExitFrame, Range, exit_symbols}
-use Rattle.burr_container.specs.Fitting.{is_form, are_forms, is_range, are_ranges, is_tray, is_set_of, are_places, is_exit, are_parameters, are_results, are_labels, is_code, is_procedure, are_procedures, is_budget, is_piece_count, is_name_text}
+use Rattle.burr_forms.specs.Rules.Forms.{Form}
+use Rattle.burr_container.specs.Rules.Plans.{PlanProcedure, ExitFrame, Range, exit_symbols}
+use Rattle.burr_container.specs.Rules.Fitting.{is_form, are_forms, is_range, are_ranges, is_tray, is_set_of, are_places, is_exit, are_parameters, are_results, are_labels, is_code, is_procedure, are_procedures, is_budget, is_piece_count, is_name_text}
 use Rattle.burr_container.proofs.Common.Procedures.{procedure_fits}
 use Rattle.burr_container.proofs.Common.Containers.{plan_fits}
 use Rattle.burr_container.proofs.Common.Exits.{exit_fits}

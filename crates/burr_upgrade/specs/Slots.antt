@@ -3,12 +3,12 @@ use Rattle.std.specs.Prelude.{◌≡◌, ◌≤◌, ℕ, ◌+◌, ℤ, pos, List
 use Rattle.std.specs.Int.{w16, w32}
 use Rattle.burr_code.specs.Places.{Placement, at_position}
 use Rattle.burr_code.specs.declared.limits.TheConstants.{SLOTS}
-use Rattle.burr_forms.specs.Forms.{Form}
+use Rattle.burr_forms.specs.Rules.Forms.{Form}
 use Rattle.burr_container.specs.declared.exit_ref.ExitRef.{ExitRef}
 use Rattle.burr_container.specs.declared.frame_ref.FrameRef.{FrameRef}
-use Rattle.burr_container.specs.Plans.{FormCell, exit_symbols, of_each_form}
-use Rattle.burr_container.specs.Fitting.{is_frame, is_exit_frame}
-use Rattle.burr_container.specs.Refs.{frame_of, exit_frame_of}
+use Rattle.burr_container.specs.Rules.Plans.{FormCell, exit_symbols, of_each_form}
+use Rattle.burr_container.specs.Rules.Fitting.{is_frame, is_exit_frame}
+use Rattle.burr_container.specs.Views.Refs.{frame_of, exit_frame_of}
 
 -- the numbers at the live slots, in their order, and 0 at each other slot
 abbrev pub at_live : List Bool → List ℤ → List ℤ

@@ -1,7 +1,7 @@
 -- Plans of version 1 in version 2.
 use Rattle.std.specs.Prelude.{◌≡◌, [], All, IfSome, IsTrue}
-use Rattle.burr_container.specs.Plans.{Plan, PlanProcedure}
-use Rattle.burr_container.specs.Fitting.{is_fitting}
+use Rattle.burr_container.specs.Rules.Plans.{Plan, PlanProcedure}
+use Rattle.burr_container.specs.Rules.Fitting.{is_fitting}
 
 -- The plan in version 2, each other field as it was.
 abbrev pub upgraded : Plan → Plan

@@ -1,8 +1,8 @@
 //! Exit frames. Their symbols are the first ones, so that a coefficient stays where it is.
 
 ghost use Rattle.std.specs.Prelude.{◌≡◌, IfOk};
-ghost use Rattle.burr_container.specs.Refs.{exit_frame_of};
-ghost use Rattle.burr_container.specs.Views.{placements_of};
+ghost use Rattle.burr_container.specs.Views.Refs.{exit_frame_of};
+ghost use Rattle.burr_container.specs.Views.OwnedPlaces.{placements_of};
 ghost use Rattle.burr_upgrade.specs.Slots.{IsFittingExit};
 
 use crate::forms::{placed, slotted};

@@ -2,8 +2,8 @@
 
 ghost use Rattle.std.specs.Prelude.{◌≡◌, All, FitsSigned};
 ghost use Rattle.std.specs.Int.{w16};
-ghost use Rattle.burr_container.specs.Views.{placement_of};
-ghost use Rattle.burr_container.specs.Refs.{told};
+ghost use Rattle.burr_container.specs.Views.OwnedPlaces.{placement_of};
+ghost use Rattle.burr_container.specs.Views.Refs.{placement_view};
 ghost use Rattle.burr_upgrade.specs.Slots.{at_live, over_slots, place_over_slots, IsNarrowForm, IsNarrowPlace};
 
 use burr_container::{Place, PlanForm};
@@ -12,7 +12,7 @@ use burr_forms::Form;
 /// The place by forms over slots, of one by forms with a symbol for each live slot; apart for None.
 pub fn placed(live: &[bool; 8], place: Option<(u8, Form, Form, Form)>) -> Place
     requires { IsNarrowPlace place }
-    ensures { placement_of result ≡ place_over_slots live.now (told place) }
+    ensures { placement_of result ≡ place_over_slots live.now (placement_view place) }
 {
     match place {
         None => Place::Apart,

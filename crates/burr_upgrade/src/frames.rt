@@ -1,9 +1,9 @@
 //! Frames of labels.
 
 ghost use Rattle.std.specs.Prelude.{◌≡◌, IfOk};
-ghost use Rattle.burr_container.specs.Plans.{live_slots as live_ones};
-ghost use Rattle.burr_container.specs.Refs.{frame_of};
-ghost use Rattle.burr_container.specs.Views.{placements_of};
+ghost use Rattle.burr_container.specs.Rules.Plans.{live_slots as live_ones};
+ghost use Rattle.burr_container.specs.Views.Refs.{frame_of};
+ghost use Rattle.burr_container.specs.Views.OwnedPlaces.{placements_of};
 ghost use Rattle.burr_upgrade.specs.Slots.{IsFittingFrame};
 
 use crate::forms::{placed, slotted};

@@ -1,8 +1,8 @@
 //! A container's plan.
 
 ghost use Rattle.std.specs.Prelude.{◌≡◌, ◌<◌, length, IfOk};
-ghost use Rattle.burr_container.specs.Plans.{Plan as PlanOf};
-ghost use Rattle.burr_container.specs.Containers.{HasPlan, IsContainer, OfProcedure};
+ghost use Rattle.burr_container.specs.Rules.Plans.{Plan as PlanOf};
+ghost use Rattle.burr_container.specs.Views.Containers.{HasPlan, IsContainer, OfProcedure};
 
 use crate::exits::owned_exit;
 use crate::frames::owned_frame;

@@ -1,8 +1,8 @@
 ghost use Rattle.std.specs.Prelude.{◌≡◌, IfOk, IsTrue};
-ghost use Rattle.burr_container.specs.Plans.{Plan as PlanOf};
-ghost use Rattle.burr_container.specs.Fitting.{is_fitting};
-ghost use Rattle.burr_container.specs.Spelling.{plan_bytes};
-ghost use Rattle.burr_container.specs.Containers.{IsContainer};
+ghost use Rattle.burr_container.specs.Rules.Plans.{Plan as PlanOf};
+ghost use Rattle.burr_container.specs.Rules.Fitting.{is_fitting};
+ghost use Rattle.burr_container.specs.Rules.Spelling.{plan_bytes};
+ghost use Rattle.burr_container.specs.Views.Containers.{IsContainer};
 ghost use Rattle.burr_upgrade.specs.Upgrades.{upgraded};
 
 use crate::plans::plan_of;

@@ -6,19 +6,19 @@ use Rattle.std.proofs.lemmas.Option.{none-some, same_Some}
 use Rattle.std.proofs.lemmas.List.{length-map}
 use Rattle.std.proofs.lemmas.List.Elements.{All-nil}
 use Rattle.burr_voxels.specs.declared.cell.Cell.{Cell}
-use Rattle.burr_assembly.specs.Homes.{homes_of}
-use Rattle.burr_forms.specs.Forms.{Form, value, values}
+use Rattle.burr_assembly.specs.Rules.Homes.{homes_of}
+use Rattle.burr_forms.specs.Rules.Forms.{Form, value, values}
 use Rattle.burr_container.specs.declared.procedure_ref.ProcedureRef.{ProcedureRef}
-use Rattle.burr_container.specs.Plans.{Plan, PlanProcedure, Frame, Range}
-use Rattle.burr_container.specs.Fitting.{is_fitting}
-use Rattle.burr_container.specs.InPlace.{AreFor, IsProcedure}
-use Rattle.burr_container.specs.Containers.{HasLabel, OfLabel}
-use Rattle.burr_frames.specs.Arrival.{live_forms}
-use Rattle.burr_frames.specs.ControlRules.{entry_of}
-use Rattle.burr_frames.specs.FramedPlans.{FramedProcedure, FramedPlan, framed, framed_label, framed_procedure, framed_plan}
-use Rattle.burr_frames.specs.States.{IsPoint, state_of}
-use Rattle.burr_verify.specs.Accepting.{Judged, IsAccepted, MainCosts}
-use Rattle.burr_verify.specs.WellFramed.{StartsWell}
+use Rattle.burr_container.specs.Rules.Plans.{Plan, PlanProcedure, Frame, Range}
+use Rattle.burr_container.specs.Rules.Fitting.{is_fitting}
+use Rattle.burr_container.specs.Views.InPlace.{AreFor, IsProcedure}
+use Rattle.burr_container.specs.Views.Containers.{HasLabel, OfLabel}
+use Rattle.burr_frames.specs.Rules.Arrival.{live_forms}
+use Rattle.burr_frames.specs.Rules.ControlRules.{entry_of}
+use Rattle.burr_frames.specs.Rules.FramedPlans.{FramedProcedure, FramedPlan, framed, framed_label, framed_procedure, framed_plan}
+use Rattle.burr_frames.specs.Rules.States.{IsPoint, state_of}
+use Rattle.burr_verify.specs.Rules.Accepting.{Judged, IsAccepted, MainCosts}
+use Rattle.burr_verify.specs.Rules.WellFramed.{StartsWell}
 use Rattle.burr_verify.proofs.Beginnings.{HasEntry, has_entry, value_nowhere}
 use Rattle.burr_verify.proofs.Common.Costs.{entry_costs_one}
 use Rattle.burr_verify.proofs.Containers.{fitting_procedures, fitting_budget}

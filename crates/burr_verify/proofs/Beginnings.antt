@@ -6,54 +6,54 @@ use Rattle.std.proofs.lemmas.Int.{ints}
 use Rattle.std.proofs.lemmas.Option.{none-some, same_Some}
 use Rattle.std.proofs.lemmas.Bool.{false≢true}
 use Rattle.burr_voxels.specs.declared.cell.Cell.{Cell}
-use Rattle.burr_forms.specs.Forms.{Form, dot, value, values}
-use Rattle.burr_container.specs.Plans.{Plan, PlanProcedure, Frame}
+use Rattle.burr_forms.specs.Rules.Forms.{Form, dot, value, values}
+use Rattle.burr_container.specs.Rules.Plans.{Plan, PlanProcedure, Frame}
 use Rattle.burr_frames.specs.declared.rule.Rule.{Rule}
 use Rattle.burr_frames.specs.declared.rule.Rule.TheVariants as rules
 use Rattle.burr_frames.specs.declared.state.arriving.Miss.{Miss}
-use Rattle.burr_frames.specs.Arrival.{Agrees, Meets}
-use Rattle.burr_frames.specs.ControlRules.{first_frame, entry_of}
-use Rattle.burr_frames.specs.Exits.{miss_verdict}
-use Rattle.burr_frames.specs.FramedPlans.{FramedProcedure, FramedPlan, framed, framed_label, framed_plan}
-use Rattle.burr_frames.specs.Starts.{start_state}
-use Rattle.burr_frames.specs.States.{AbstractState, state_of}
-use Rattle.burr_frames.specs.Verdicts.{Broken, Breaks, Leaves, meeting, leaves}
-use Rattle.burr_verify.specs.Judging.{judging_start, passes}
-use Rattle.burr_verify.specs.Pass.{Passed, Refuses}
-use Rattle.burr_verify.specs.Refusals.{plain_refusal}
-use Rattle.burr_verify.specs.VerifyLaws.{nothing}
-use Rattle.burr_verify.specs.Views.{failed_check}
+use Rattle.burr_frames.specs.Rules.Arrival.{Agrees, Meets}
+use Rattle.burr_frames.specs.Rules.ControlRules.{first_frame, entry_of}
+use Rattle.burr_frames.specs.Views.Exits.{miss_verdict}
+use Rattle.burr_frames.specs.Rules.FramedPlans.{FramedProcedure, FramedPlan, framed, framed_label, framed_plan}
+use Rattle.burr_frames.specs.Rules.Starts.{start_state}
+use Rattle.burr_frames.specs.Rules.States.{AbstractState, state_of}
+use Rattle.burr_frames.specs.Rules.Verdicts.{Broken, Breaks, NoSuccessor, meeting, no_successor}
+use Rattle.burr_verify.specs.Rules.Judging.{judging_start, passes}
+use Rattle.burr_verify.specs.Rules.Pass.{Passed, Refuses}
+use Rattle.burr_verify.specs.Views.Refusals.{plain_refusal}
+use Rattle.burr_verify.specs.Rules.Judging.{nothing}
+use Rattle.burr_verify.specs.Views.Judgements.{failed_check}
 use Rattle.burr_frames.proofs.Common.Heres.{procedure_here}
 use Rattle.burr_verify.proofs.JudgedOn.{here_at}
-use Rattle.burr_verify.proofs.OnePass.{breaks-leaves}
+use Rattle.burr_verify.proofs.OnePass.{breaks-no_successor}
 
 -- What the comparison of the start with a frame says
 
-meets_where_leaves : (s : AbstractState) (f : Frame) (rule : Rule) → meeting s f rule (λ _. leaves) Leaves
+meets_where_leaves : (s : AbstractState) (f : Frame) (rule : Rule) → meeting s f rule (λ _. no_successor) NoSuccessor
     → Meets s f
-meets_where_leaves s f rule (inl h) = absurd (breaks-leaves _ h.1)
-meets_where_leaves s f rule (inr (forms, known, inl h)) = absurd (breaks-leaves _ h.1)
-meets_where_leaves s f rule (inr (forms, known, inr (alike, inl h))) = absurd (breaks-leaves _ h.2)
+meets_where_leaves s f rule (inl h) = absurd (breaks-no_successor _ h.1)
+meets_where_leaves s f rule (inr (forms, known, inl h)) = absurd (breaks-no_successor _ h.1)
+meets_where_leaves s f rule (inr (forms, known, inr (alike, inl h))) = absurd (breaks-no_successor _ h.2)
 meets_where_leaves s f rule (inr (forms, known, inr (alike, inr h))) =
     record { forms = forms; known = known; alike = alike; agrees = h.0 }
 
 misses_where_breaks : (s : AbstractState) (f : Frame) (rule : Rule) (b : Broken)
-    → meeting s f rule (λ _. leaves) (Breaks b) → ¬ Meets s f
+    → meeting s f rule (λ _. no_successor) (Breaks b) → ¬ Meets s f
 misses_where_breaks s f rule b (inl h) m = none-some _ (sym h.0 ∙ m.known)
 misses_where_breaks s f rule b (inr (forms, known, inl h)) m = h.0 m.alike
 misses_where_breaks s f rule b (inr (forms, known, inr (alike, inl h))) m =
     h.1.fails
     (subst (λ (fs : List Form). Agrees s h.0 (state_of f) (values h.0 fs)) (same_Some m.forms forms (sym m.known ∙ known))
     (m.agrees h.0 h.1.is_point))
-misses_where_breaks s f rule b (inr (forms, known, inr (alike, inr h))) m = absurd (breaks-leaves b (sym h.1))
+misses_where_breaks s f rule b (inr (forms, known, inr (alike, inr h))) m = absurd (breaks-no_successor b (sym h.1))
 
 pub meets_where_ok : (s : AbstractState) (f : Frame) (rule : Rule) (result : Result ⊤ Miss)
-    → meeting s f rule (λ _. leaves) (miss_verdict rule result) → is_err result ≡ false → Meets s f
+    → meeting s f rule (λ _. no_successor) (miss_verdict rule result) → is_err result ≡ false → Meets s f
 meets_where_ok s f rule (Ok u) met ok = meets_where_leaves s f rule met
 meets_where_ok s f rule (Err miss) met ok = absurd (false≢true (sym ok))
 
 pub misses_where_err : (s : AbstractState) (f : Frame) (rule : Rule) (result : Result ⊤ Miss)
-    → meeting s f rule (λ _. leaves) (miss_verdict rule result) → is_err result ≡ true → ¬ Meets s f
+    → meeting s f rule (λ _. no_successor) (miss_verdict rule result) → is_err result ≡ true → ¬ Meets s f
 misses_where_err s f rule (Ok u) met err = absurd (false≢true err)
 misses_where_err s f rule (Err miss) met err = misses_where_breaks s f rule _ met
 

@@ -7,17 +7,17 @@ use Rattle.std.proofs.lemmas.Option.{none-some, same_Some}
 use Rattle.std.proofs.lemmas.List.{length-map}
 use Rattle.burr_code.specs.Places.{Placement, Apart, On}
 use Rattle.burr_code.specs.declared.limits.TheConstants.{SLOTS, MOST_OPERANDS, MOST_GUARDS, MOST_BUDGET, MOST_PROCEDURES}
-use Rattle.burr_forms.specs.Forms.{Form}
-use Rattle.burr_container.specs.Plans.{FormCell, Range, Frame, ExitFrame, PlanProcedure, Plan, live_slots, exit_symbols, of_live, over_symbols, place_over_symbols}
-use Rattle.burr_container.specs.Fitting.{is_form, are_forms, are_ranges, most_exit_guards, is_tray, is_set_of, are_slots, is_range, is_place, are_places, is_frame, is_frame_rest, is_exit_frame, is_exit_rest, is_exit, rise_from, are_labels, is_procedure, are_procedures, is_fitting}
+use Rattle.burr_forms.specs.Rules.Forms.{Form}
+use Rattle.burr_container.specs.Rules.Plans.{FormCell, Range, Frame, ExitFrame, PlanProcedure, Plan, live_slots, exit_symbols, of_live, over_symbols, place_over_symbols}
+use Rattle.burr_container.specs.Rules.Fitting.{is_form, are_forms, are_ranges, most_exit_guards, is_tray, is_set_of, are_slots, is_range, is_place, are_places, is_frame, is_frame_rest, is_exit_frame, is_exit_rest, is_exit, rise_from, are_labels, is_procedure, are_procedures, is_fitting}
 use Rattle.burr_container.proofs.Common.Procedures.{procedure_fits}
 use Rattle.burr_container.proofs.Common.Containers.{plan_fits}
-use Rattle.burr_frames.specs.States.{live_ranges}
-use Rattle.burr_frames.specs.Over.{AllZero, ZeroFrom, IsOver, AllOver, AllPlacesOver, IsOverItsOwn}
-use Rattle.burr_frames.specs.FramedPlans.{FramedExit, FramedProcedure, framed, framed_exit, framed_label, framed_procedure, framed_plan}
-use Rattle.burr_verify.specs.Pass.{IsLaidOut}
-use Rattle.burr_verify.specs.WellFramed.{IsLabelled}
-use Rattle.burr_verify.specs.FromContainers.{IsFromContainer, HasPlaces, AllHavePlaces, HasProcedures}
+use Rattle.burr_frames.specs.Rules.States.{live_ranges}
+use Rattle.burr_frames.specs.Views.Over.{AllZero, ZeroFrom, IsWellScoped, AllOver, AllPlacesOver, IsWellScopedFrame}
+use Rattle.burr_frames.specs.Rules.FramedPlans.{FramedExit, FramedProcedure, framed, framed_exit, framed_label, framed_procedure, framed_plan}
+use Rattle.burr_verify.specs.Rules.Pass.{IsLaidOut}
+use Rattle.burr_verify.specs.Rules.WellFramed.{IsLabelled}
+use Rattle.burr_verify.specs.Views.FromContainers.{IsFromContainer, HasPlaces, AllHavePlaces, HasProcedures}
 
 -- Parts of tests
 
@@ -56,10 +56,10 @@ zeros_from zero coefs h = h
 zeros_from (suc n) [] h = tt
 zeros_from (suc n) (c ∷ coefs) h = zeros_from n coefs h.1
 
-zeros_behind : (n k : ℕ) (coefs : List ℤ) → length coefs ≤ n → ZeroFrom n (coefs ++ replicate k (pos 0))
-zeros_behind n k [] few = zeros_from n (replicate k (pos 0)) (all_zero k)
-zeros_behind zero k (c ∷ coefs) few = absurd (omega arith)
-zeros_behind (suc n) k (c ∷ coefs) few = zeros_behind n k coefs (omega arith)
+zeros_after : (n k : ℕ) (coefs : List ℤ) → length coefs ≤ n → ZeroFrom n (coefs ++ replicate k (pos 0))
+zeros_after n k [] few = zeros_from n (replicate k (pos 0)) (all_zero k)
+zeros_after zero k (c ∷ coefs) few = absurd (omega arith)
+zeros_after (suc n) k (c ∷ coefs) few = zeros_after n k coefs (omega arith)
 
 -- of the live slots there are no more than ranges
 few_live : (slots : List (Option Range)) (coefs : List ℤ)
@@ -70,10 +70,10 @@ few_live (None ∷ slots) (c ∷ coefs) = few_live slots coefs
 few_live (Some range ∷ slots) (c ∷ coefs) = let more = few_live slots coefs in omega (arith, more)
 
 form_over : (slots : List (Option Range)) (f : Form)
-    → IsOver (length (live_ranges slots)) (over_symbols (live_slots slots) f)
+    → IsWellScoped (length (live_ranges slots)) (over_symbols (live_slots slots) f)
 form_over slots f =
     let live : List ℤ = of_live (live_slots slots) f.coefs in
-    zeros_behind (length (live_ranges slots)) (SLOTS - length live) live (few_live slots f.coefs)
+    zeros_after (length (live_ranges slots)) (SLOTS - length live) live (few_live slots f.coefs)
 
 forms_over : (slots : List (Option Range)) (forms : List Form)
     → AllOver (length (live_ranges slots)) (map (over_symbols (live_slots slots)) forms)
@@ -87,7 +87,7 @@ places_over slots (Apart ∷ places) = places_over slots places
 places_over slots (On tray c ∷ places) =
     (form_over slots c.x, form_over slots c.y, form_over slots c.z, places_over slots places)
 
-over_its_own : (f : Frame) → IsOverItsOwn (framed f)
+over_its_own : (f : Frame) → IsWellScopedFrame (framed f)
 over_its_own f = record {
   guards = forms_over f.slots f.guards;
   stack = forms_over f.slots f.stack;
@@ -247,10 +247,10 @@ eight_at version pieces main q pc f t labelled =
     subst (λ (g : Frame). length g.slots ≡ 8) there.is (eight_slots pieces there.of there.fits)
 
 own_at : (version pieces : ℕ) (main : Bool) (q : PlanProcedure) (pc : ℕ) (f : Frame) → IsTold version pieces main q
-    → IsLabelled (framed_procedure q) pc f → IsOverItsOwn f
+    → IsLabelled (framed_procedure q) pc f → IsWellScopedFrame f
 own_at version pieces main q pc f t labelled =
     let there = framed_at version pieces main q pc f t labelled in
-    subst (λ (g : Frame). IsOverItsOwn g) there.is (over_its_own there.of)
+    subst (λ (g : Frame). IsWellScopedFrame g) there.is (over_its_own there.of)
 
 first_at : (version pieces : ℕ) (main : Bool) (q : PlanProcedure) (label : ℕ × Frame) → IsTold version pieces main q
     → slice_get (framed_procedure q).labels 0 ≡ Some label → label.0 ≡ 0
@@ -339,7 +339,7 @@ fitting_is_from_container p fits = record {
       (λ q t. eight_at p.version p.pieces (is_first n) q pc f t) labelled;
   own =
       λ n here e pc f labelled.
-      told_all p (λ (x : FramedProcedure). IsLabelled x pc f → IsOverItsOwn f) fits n here e
+      told_all p (λ (x : FramedProcedure). IsLabelled x pc f → IsWellScopedFrame f) fits n here e
       (λ q t. own_at p.version p.pieces (is_first n) q pc f t) labelled;
   main =
       λ here e.

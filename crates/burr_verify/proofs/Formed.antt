@@ -5,20 +5,20 @@ use Rattle.std.specs.Prelude.{slice_get}
 use Rattle.std.proofs.lemmas.Bool.{false≢true}
 use Rattle.std.proofs.lemmas.Option.{same_Some, slice_get_within}
 use Rattle.burr_code.specs.Places.{Placement, AllLieIn, tray_of}
-use Rattle.burr_forms.specs.Points.{box_size}
+use Rattle.burr_forms.specs.Rules.Points.{box_size}
 use Rattle.burr_container.specs.declared.frame_ref.FrameRef.{FrameRef}
-use Rattle.burr_container.specs.Containers.{KeptContainer, IsContainer, OfProcedure, OfLabel}
+use Rattle.burr_container.specs.Views.Containers.{ContainerView, IsContainer, OfProcedure, OfLabel}
 use Rattle.burr_container.specs.declared.exit_ref.ExitRef.{ExitRef}
-use Rattle.burr_container.specs.Plans.{FormCell, Range, Frame, PlanProcedure, Plan, live_slots, over_symbols}
-use Rattle.burr_container.specs.InPlace.{IsExit}
-use Rattle.burr_container.specs.Refs.{frame_of}
-use Rattle.burr_frames.specs.Exits.{framed_ref}
-use Rattle.burr_frames.specs.FramedPlans.{FramedExit, FramedProcedure, framed, framed_label, framed_procedure, framed_plan}
-use Rattle.burr_frames.specs.States.{AbstractState, state_of}
+use Rattle.burr_container.specs.Rules.Plans.{FormCell, Range, Frame, PlanProcedure, Plan, live_slots, over_symbols}
+use Rattle.burr_container.specs.Views.InPlace.{IsExit}
+use Rattle.burr_container.specs.Views.Refs.{frame_of}
+use Rattle.burr_frames.specs.Views.Exits.{framed_ref}
+use Rattle.burr_frames.specs.Rules.FramedPlans.{FramedExit, FramedProcedure, framed, framed_label, framed_procedure, framed_plan}
+use Rattle.burr_frames.specs.Rules.States.{AbstractState, state_of}
 use Rattle.burr_frames.proofs.Common.ExitsRead.{no_exit, exit_there}
-use Rattle.burr_verify.specs.Forming.{IsLive, IsFormedAt, OfTrays}
-use Rattle.burr_verify.specs.Judging.{HasRoomForPoints}
-use Rattle.burr_verify.specs.WellFramed.{HasNoLonePiece, IsFormedEntry, IsFormedExit}
+use Rattle.burr_verify.specs.Views.Forming.{IsLive, IsFormedAt, OfTrays}
+use Rattle.burr_verify.specs.Rules.Judging.{HasRoomForPoints}
+use Rattle.burr_verify.specs.Rules.WellFramed.{HasNoLonePiece, IsFormedEntry, IsFormedExit}
 use Rattle.burr_frames.proofs.Common.Heres.{procedure_here, label_here, as_many_labels, element_at}
 
 -- Exit frames
@@ -78,7 +78,7 @@ none_live slots from eight none v above live =
 -- Labels
 
 -- there are as many as are counted
-pub labels_counted : (kept : KeptContainer) (p : Plan) (n count : ℕ) (here : FramedProcedure) → IsContainer kept p
+pub labels_counted : (kept : ContainerView) (p : Plan) (n count : ℕ) (here : FramedProcedure) → IsContainer kept p
     → slice_get (framed_plan p).procedures n ≡ Some here → OfProcedure kept n (λ p q. count ≡ length q.labels)
     → length here.labels ≡ count
 labels_counted kept p n count here is at counted =
@@ -86,7 +86,7 @@ labels_counted kept p n count here is at counted =
     as_many_labels found.0 here found.2 ∙ sym (counted p found.0 is found.1)
 
 -- the place and the frame that are read of a label are those that stand there
-pub label_read : (kept : KeptContainer) (p : Plan) (n k : ℕ) (here : FramedProcedure) (label : ℕ × Frame) (place : ℕ)
+pub label_read : (kept : ContainerView) (p : Plan) (n k : ℕ) (here : FramedProcedure) (label : ℕ × Frame) (place : ℕ)
     (frame : FrameRef) → IsContainer kept p → slice_get (framed_plan p).procedures n ≡ Some here
     → slice_get here.labels k ≡ Some label → OfLabel kept n k (λ l. place ≡ l.0)
     → OfLabel kept n k (λ l. frame_of frame ≡ l.1) → (place ≡ label.0) × (framed (frame_of frame) ≡ label.1)

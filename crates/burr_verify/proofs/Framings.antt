@@ -3,19 +3,19 @@ use Rattle.std.proofs.Common.{ℕ, List, refl, Ok, Err}
 use Rattle.std.specs.Prelude.{◌↔◌, ⊤, Result, IsOk}
 use Rattle.std.proofs.lemmas.Bool.{false≢true}
 use Rattle.burr_voxels.specs.declared.cell.Cell.{Cell}
-use Rattle.burr_container.specs.Plans.{Plan}
-use Rattle.burr_container.specs.Containers.{KeptContainer, IsContainer, HasPlan}
-use Rattle.burr_frames.specs.FramedPlans.{framed_plan}
+use Rattle.burr_container.specs.Rules.Plans.{Plan}
+use Rattle.burr_container.specs.Views.Containers.{ContainerView, IsContainer, HasPlan}
+use Rattle.burr_frames.specs.Rules.FramedPlans.{framed_plan}
 use Rattle.burr_verify.specs.declared.refusal.Refusal.{Refusal}
-use Rattle.burr_verify.specs.Judging.{Judging}
-use Rattle.burr_verify.specs.Views.{judgement_of, failed_check}
-use Rattle.burr_verify.specs.WellFramed.{IsWellFramed}
+use Rattle.burr_verify.specs.Rules.Judging.{Judging}
+use Rattle.burr_verify.specs.Views.Judgements.{judgement_of, failed_check}
+use Rattle.burr_verify.specs.Rules.WellFramed.{IsWellFramed}
 use Rattle.burr_verify.proofs.Before.{passed_exactly}
 use Rattle.burr_verify.proofs.Containers.{fitting_is_from_container}
 use Rattle.burr_container.proofs.Common.OneContainer.{fits_where_kept}
 use Rattle.burr_verify.proofs.PassCuts.{refuses-passed}
 
-pub framed_exactly : (kept : KeptContainer) (name : List ℕ) (homes : List (List Cell)) (p : Plan)
+pub framed_exactly : (kept : ContainerView) (name : List ℕ) (homes : List (List Cell)) (p : Plan)
     (result : Result ⊤ Refusal) → HasPlan kept → IsContainer kept p
     → Judging name homes (framed_plan p) (judgement_of result)
     → IsOk result ↔ IsWellFramed name homes (framed_plan p)

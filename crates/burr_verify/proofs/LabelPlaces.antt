@@ -2,22 +2,22 @@
 use Rattle.std.proofs.Common.{◌≡◌, ℕ, zero, suc, ◌+◌, ◌≤◌, ◌<◌, length, Option, Some, None, sym, subst, ap, ◌∙◌, arith, inl, inr, ◌⊎◌}
 use Rattle.std.specs.Prelude.{IfSome, slice_get}
 use Rattle.std.proofs.lemmas.Option.{same_Some, slice_get_within}
-use Rattle.burr_container.specs.Plans.{Frame, Plan}
-use Rattle.burr_container.specs.Containers.{KeptContainer, IsContainer, HasPlan, OfLabel, OfProcedure}
-use Rattle.burr_frames.specs.FramedPlans.{FramedProcedure, framed_plan, framed_label}
-use Rattle.burr_verify.specs.Pass.{IsLaidOut}
-use Rattle.burr_verify.specs.Views.{AreBefore, IsLabelWithin}
+use Rattle.burr_container.specs.Rules.Plans.{Frame, Plan}
+use Rattle.burr_container.specs.Views.Containers.{ContainerView, IsContainer, HasPlan, OfLabel, OfProcedure}
+use Rattle.burr_frames.specs.Rules.FramedPlans.{FramedProcedure, framed_plan, framed_label}
+use Rattle.burr_verify.specs.Rules.Pass.{IsLaidOut}
+use Rattle.burr_verify.specs.Views.Judgements.{AreBefore, IsLabelWithin}
 use Rattle.burr_verify.proofs.Containers.{fitting_is_from_container}
 use Rattle.burr_container.proofs.Common.OneContainer.{fits_where_kept}
 use Rattle.burr_frames.proofs.Common.Heres.{procedure_here, label_here, element_at, as_many_labels}
 
 -- the labels of a procedure of a container stand at rising places
-pub laid_out_here : (kept : KeptContainer) (p : Plan) (n : ℕ) (here : FramedProcedure) → HasPlan kept → IsContainer kept p
+pub laid_out_here : (kept : ContainerView) (p : Plan) (n : ℕ) (here : FramedProcedure) → HasPlan kept → IsContainer kept p
     → slice_get (framed_plan p).procedures n ≡ Some here → IsLaidOut here
 laid_out_here kept p n here has is at = (fitting_is_from_container p (fits_where_kept kept p has is)).laid_out n here at
 
 -- the label of a number stands at the place that was read
-pub place_of : (kept : KeptContainer) (i n place : ℕ) → OfLabel kept i n (λ l. place ≡ l.0)
+pub place_of : (kept : ContainerView) (i n place : ℕ) → OfLabel kept i n (λ l. place ≡ l.0)
     → (p : Plan) (here : FramedProcedure) → IsContainer kept p → slice_get (framed_plan p).procedures i ≡ Some here
     → (x : ℕ × Frame) → slice_get here.labels n ≡ Some x → x.0 ≡ place
 place_of kept i n place reads p here is at x standing =
@@ -29,14 +29,14 @@ place_of kept i n place reads p here is at x standing =
     ap (λ (y : ℕ × Frame). y.0) same ∙ sym (reads p q is found.1 l.0 l.1)
 
 -- a procedure has as many labels as its container says
-pub as_many_here : (kept : KeptContainer) (i count : ℕ) → OfProcedure kept i (λ p q. count ≡ length q.labels)
+pub as_many_here : (kept : ContainerView) (i count : ℕ) → OfProcedure kept i (λ p q. count ≡ length q.labels)
     → (p : Plan) (here : FramedProcedure) → IsContainer kept p → slice_get (framed_plan p).procedures i ≡ Some here
     → length here.labels ≡ count
 as_many_here kept i count told p here is at =
     let found = procedure_here p i here at in
     as_many_labels found.0 here found.2 ∙ sym (told p found.0 is found.1)
 
-pub no_more_here : (kept : KeptContainer) (i n : ℕ) → OfProcedure kept i (λ p q. n ≤ length q.labels)
+pub no_more_here : (kept : ContainerView) (i n : ℕ) → OfProcedure kept i (λ p q. n ≤ length q.labels)
     → (p : Plan) (here : FramedProcedure) → IsContainer kept p → slice_get (framed_plan p).procedures i ≡ Some here
     → n ≤ length here.labels
 no_more_here kept i n told p here is at =
@@ -49,10 +49,10 @@ few_of None size count n many l = many
 few_of (Some x) size count n many l = subst (λ (m : ℕ). n ≤ m) many l
 
 -- a number below one that is not above the count is that of a label
-pub below_few : {A : Type 0} (found : Option A) (size : A → ℕ) (n behind : ℕ) → IfSome found (λ x. behind ≤ size x) → n < behind
+pub below_few : {A : Type 0} (found : Option A) (size : A → ℕ) (n after : ℕ) → IfSome found (λ x. after ≤ size x) → n < after
     → IfSome found (λ x. n < size x)
-below_few None size n behind few l = few
-below_few (Some x) size n behind few l = omega (arith, few, l)
+below_few None size n after few l = few
+below_few (Some x) size n after few l = omega (arith, few, l)
 
 less_or_same : (k n : ℕ) → k < n + 1 → (k < n) ⊎ (k ≡ n)
 less_or_same k zero l = inr (omega (arith, l))
@@ -77,7 +77,7 @@ module _ (here : FramedProcedure) (laid : IsLaidOut here) (middle : ℕ) (y : �
       one (inr same) = let e = same_label k x standing same in omega (arith, e, less)
 
   pub from_middle : (place : ℕ) → place ≤ y.0 → (k : ℕ) (x : ℕ × Frame) → slice_get here.labels k ≡ Some x → middle ≤ k → place ≤ x.0
-  from_middle place more k x standing behind = one (less_or_same middle k (omega (arith, behind)))
+  from_middle place more k x standing after = one (less_or_same middle k (omega (arith, after)))
     where
       one : (middle < k) ⊎ (middle ≡ k) → place ≤ x.0
       one (inl above) = let rise = laid.rising middle k y x above at standing in omega (arith, rise, more)
@@ -94,9 +94,9 @@ before_or_not (suc m) (suc n) = next (before_or_not m n)
     next (inl l) = inl (omega (arith, l))
     next (inr l) = inr (omega (arith, l))
 
-pub within : (here : FramedProcedure) (from end n behind : ℕ) → AreBefore here from n → AreBefore here end behind → n < behind
-    → behind ≤ length here.labels → IsLabelWithin here from end (Some n)
-within here from end n behind before ends l few =
+pub within : (here : FramedProcedure) (from end n after : ℕ) → AreBefore here from n → AreBefore here end after → n < after
+    → after ≤ length here.labels → IsLabelWithin here from end (Some n)
+within here from end n after before ends l few =
     let found = element_at here.labels n (omega (arith, l, few)) in
     (found.0, found.1, not_before found.0.0 (before n found.0 found.1).1 (before_or_not found.0.0 from), (ends n found.0 found.1).0 l)
   where
@@ -104,13 +104,13 @@ within here from end n behind before ends l few =
     not_before m never (inl less) = let none = never less in absurd (omega (arith, none))
     not_before m never (inr more) = more
 
-pub none_within : (here : FramedProcedure) (from end n behind : ℕ) → AreBefore here from n → AreBefore here end behind → behind ≤ n
+pub none_within : (here : FramedProcedure) (from end n after : ℕ) → AreBefore here from n → AreBefore here end after → after ≤ n
     → IsLabelWithin here from end None
-none_within here from end n behind before ends l k x standing from_it = behind_it (before_or_not x.0 end)
+none_within here from end n after before ends l k x standing from_it = after_it (before_or_not x.0 end)
   where
-    behind_it : (x.0 < end) ⊎ (end ≤ x.0) → end ≤ x.0
-    behind_it (inl less) =
+    after_it : (x.0 < end) ⊎ (end ≤ x.0) → end ≤ x.0
+    after_it (inl less) =
         let earlier = (ends k x standing).1 less in
         let less_than_from = (before k x standing).0 (omega (arith, earlier, l)) in
         absurd (omega (arith, less_than_from, from_it))
-    behind_it (inr more) = more
+    after_it (inr more) = more

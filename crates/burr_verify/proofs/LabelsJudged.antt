@@ -2,42 +2,42 @@
 use Rattle.std.proofs.Common.{◌≡◌, ◌≤◌, ℕ, zero, suc, List, [], ◌∷◌, length, Option, Some, None, refl, sym, ap, subst, ◌∙◌, arith, inl, inr}
 use Rattle.std.specs.Prelude.{slice_get, drop}
 use Rattle.std.proofs.lemmas.Option.{none-some, same_Some}
-use Rattle.burr_container.specs.Plans.{Frame}
-use Rattle.burr_frames.specs.FramedPlans.{FramedExit}
+use Rattle.burr_container.specs.Rules.Plans.{Frame}
+use Rattle.burr_frames.specs.Rules.FramedPlans.{FramedExit}
 use Rattle.burr_frames.specs.declared.rule.Rule.{Rule}
 use Rattle.burr_frames.specs.declared.rule.Rule.TheVariants as rules
 use Rattle.burr_verify.specs.declared.refusal.Refusal.{Refusal}
-use Rattle.burr_verify.specs.Forming.{IsFormedAt, judging_label}
-use Rattle.burr_verify.specs.Judging.{Answer, HasRoomForPoints, judging_labels, judging_entry, judging_exit, passes}
-use Rattle.burr_verify.specs.Pass.{Judgement, Passed, Refuses, FailedCheck, refused}
-use Rattle.burr_verify.specs.Refusals.{plain_refusal}
-use Rattle.burr_verify.specs.VerifyLaws.{nothing}
-use Rattle.burr_verify.specs.Views.{PartFrom, failed_check}
-use Rattle.burr_verify.specs.WellFramed.{IsFormedExit}
+use Rattle.burr_verify.specs.Views.Forming.{IsFormedAt, judging_label}
+use Rattle.burr_verify.specs.Rules.Judging.{Rest, HasRoomForPoints, judging_labels, judging_entry, judging_exit, passes}
+use Rattle.burr_verify.specs.Rules.Pass.{Judgement, Passed, Refuses, FailedCheck, refused}
+use Rattle.burr_verify.specs.Views.Refusals.{plain_refusal}
+use Rattle.burr_verify.specs.Rules.Judging.{nothing}
+use Rattle.burr_verify.specs.Views.Judgements.{PartFrom, failed_check}
+use Rattle.burr_verify.specs.Rules.WellFramed.{IsFormedExit}
 use Rattle.burr_verify.proofs.Before.{Splits, over_needs, over_exit, Carries, after_needs, carry_exit}
 
 -- One label
 
 -- the frames of these labels, of which the first is label k
-abbrev pub judging_from : ℕ → ℕ → ℕ → List (ℕ × Frame) → Answer → Answer
+abbrev pub judging_from : ℕ → ℕ → ℕ → List (ℕ × Frame) → Rest → Rest
 judging_from n parameters zero labels = judging_entry n parameters labels
 judging_from n parameters (suc k) labels = judging_labels n parameters labels
 
-first_of : (n parameters k : ℕ) (label : ℕ × Frame) (labels : List (ℕ × Frame)) (rest : Answer) (a : Judgement)
+first_of : (n parameters k : ℕ) (label : ℕ × Frame) (labels : List (ℕ × Frame)) (rest : Rest) (a : Judgement)
     → judging_label n parameters k label (judging_from n parameters (suc k) labels rest) a
     → judging_from n parameters k (label ∷ labels) rest a
 first_of n parameters zero label labels rest a judged = judged
 first_of n parameters (suc k) label labels rest a judged = judged
 
--- where its frame holds, what is said behind it is said with it
-with_label : (n parameters k : ℕ) (label : ℕ × Frame) (rest : Answer) (a : Judgement)
+-- where its frame holds, what is said after it is said with it
+with_label : (n parameters k : ℕ) (label : ℕ × Frame) (rest : Rest) (a : Judgement)
     → judging_label n parameters k label passes Passed → rest a → judging_label n parameters k label rest a
 with_label n parameters k label rest a holds well =
     let all : Carries (judging_label n parameters k label passes) (judging_label n parameters k label rest) a =
     after_needs _ _ _ _ a (after_needs _ _ passes rest a (record { carry = λ e. well })) in all.carry holds
 
--- where it refuses, whatever is said behind it
-refused_by_label : (n parameters k : ℕ) (label : ℕ × Frame) (rest : Answer) (r : FailedCheck)
+-- where it refuses, whatever is said after it
+refused_by_label : (n parameters k : ℕ) (label : ℕ × Frame) (rest : Rest) (r : FailedCheck)
     → judging_label n parameters k label nothing (Refuses r) → judging_label n parameters k label rest (Refuses r)
 refused_by_label n parameters k label rest r refused =
     let all : Splits (judging_label n parameters k label nothing) (judging_label n parameters k label rest)
@@ -62,7 +62,7 @@ drop_all [] (suc i) l = refl
 drop_all (x ∷ xs) zero l = absurd (omega (arith, l))
 drop_all (x ∷ xs) (suc i) l = drop_all xs i (omega (arith, l))
 
-pub labels_on : (n parameters : ℕ) (labels : List (ℕ × Frame)) (k next : ℕ) (label : ℕ × Frame) (part : Answer → Answer)
+pub labels_on : (n parameters : ℕ) (labels : List (ℕ × Frame)) (k next : ℕ) (label : ℕ × Frame) (part : Rest → Rest)
     → next ≡ suc k → slice_get labels k ≡ Some label → judging_label n parameters k label passes Passed
     → PartFrom (judging_from n parameters k (drop k labels)) part
     → PartFrom (judging_from n parameters next (drop next labels)) part
@@ -77,7 +77,7 @@ labels_on n parameters labels k next label part one_more e holds from =
           (with_label n parameters k label (later nothing) (Refuses r) holds well))),
     )
 
-pub labels_stop : (n parameters : ℕ) (labels : List (ℕ × Frame)) (k : ℕ) (label : ℕ × Frame) (part : Answer → Answer)
+pub labels_stop : (n parameters : ℕ) (labels : List (ℕ × Frame)) (k : ℕ) (label : ℕ × Frame) (part : Rest → Rest)
     (r : FailedCheck) → slice_get labels k ≡ Some label → judging_label n parameters k label nothing (Refuses r)
     → PartFrom (judging_from n parameters k (drop k labels)) part → part nothing (Refuses r)
 labels_stop n parameters labels k label part r e refused from =
@@ -91,7 +91,7 @@ none_left : (n parameters k : ℕ) → judging_from n parameters k [] passes Pas
 none_left n parameters zero = refl
 none_left n parameters (suc k) = refl
 
-pub labels_end : (n parameters : ℕ) (labels : List (ℕ × Frame)) (k : ℕ) (part : Answer → Answer) → length labels ≤ k
+pub labels_end : (n parameters : ℕ) (labels : List (ℕ × Frame)) (k : ℕ) (part : Rest → Rest) → length labels ≤ k
     → PartFrom (judging_from n parameters k (drop k labels)) part → part passes Passed
 labels_end n parameters labels k part l from =
     let on : PartFrom (judging_from n parameters k []) part =
@@ -101,10 +101,10 @@ labels_end n parameters labels k part l from =
 -- The exit frame
 
 -- where it holds, what the labels come to is what all frames come to
-pub behind_exit : (n parameters : ℕ) (exit : Option FramedExit) (labels : List (ℕ × Frame))
+pub after_exit : (n parameters : ℕ) (exit : Option FramedExit) (labels : List (ℕ × Frame))
     → judging_exit n exit passes Passed
     → PartFrom (judging_from n parameters 0 labels) (λ rest. judging_exit n exit (judging_entry n parameters labels rest))
-behind_exit n parameters exit labels holds = (
+after_exit n parameters exit labels holds = (
   λ well. (carry_exit n exit passes (judging_entry n parameters labels passes) Passed
       (record { carry = λ e. well })).carry holds,
   λ r well. (carry_exit n exit passes (judging_entry n parameters labels nothing) (Refuses r)
@@ -112,7 +112,7 @@ behind_exit n parameters exit labels holds = (
 )
 
 -- where it refuses, so do they
-pub refused_by_exit : (n : ℕ) (exit : Option FramedExit) (rest : Answer) (r : FailedCheck)
+pub refused_by_exit : (n : ℕ) (exit : Option FramedExit) (rest : Rest) (r : FailedCheck)
     → judging_exit n exit nothing (Refuses r) → judging_exit n exit rest (Refuses r)
 refused_by_exit n exit rest r refused =
     elim ((over_exit n exit nothing rest passes (Refuses r) Passed ⊥ (record { split = λ h. absurd h })).split refused) [

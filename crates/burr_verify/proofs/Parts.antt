@@ -1,28 +1,28 @@
 -- The parts of the judgement, put together.
 use Rattle.std.proofs.Common.{◌≡◌, ℕ, List, length, sym, ap, ◌∙◌, inl, inr}
 use Rattle.std.proofs.lemmas.List.{length-map}
-use Rattle.burr_assembly.specs.Text.{Assembly}
-use Rattle.burr_assembly.specs.Homes.{home_of, homes_of}
-use Rattle.burr_container.specs.Plans.{Plan}
-use Rattle.burr_frames.specs.FramedPlans.{FramedProcedure, framed_plan}
+use Rattle.burr_assembly.specs.Rules.Text.{Assembly}
+use Rattle.burr_assembly.specs.Rules.Homes.{home_of, homes_of}
+use Rattle.burr_container.specs.Rules.Plans.{Plan}
+use Rattle.burr_frames.specs.Rules.FramedPlans.{FramedProcedure, framed_plan}
 use Rattle.burr_frames.specs.declared.rule.Rule.TheVariants as rules
 use Rattle.burr_verify.specs.declared.refusal.Refusal.{Refusal}
-use Rattle.burr_verify.specs.Fitting.{FitsAssembly}
-use Rattle.burr_verify.specs.Pass.{Judgement, Passed, Refuses, FailedCheck}
-use Rattle.burr_verify.specs.Judging.{Answer, judging_frames, judging_start, passes}
-use Rattle.burr_verify.specs.PassLooks.{Looking, looking_code}
-use Rattle.burr_verify.specs.Refusals.{plain_refusal}
-use Rattle.burr_verify.specs.VerifyLaws.{nothing}
-use Rattle.burr_verify.specs.Views.{failed_check}
+use Rattle.burr_verify.specs.Rules.Fitting.{FitsAssembly}
+use Rattle.burr_verify.specs.Rules.Pass.{Judgement, Passed, Refuses, FailedCheck}
+use Rattle.burr_verify.specs.Rules.Judging.{Rest, judging_frames, judging_start, passes}
+use Rattle.burr_verify.specs.Rules.PassLooks.{Looking, looking_code}
+use Rattle.burr_verify.specs.Views.Refusals.{plain_refusal}
+use Rattle.burr_verify.specs.Rules.Judging.{nothing}
+use Rattle.burr_verify.specs.Views.Judgements.{failed_check}
 use Rattle.burr_verify.proofs.Before.{over_frames, carry_frames}
 
 -- there are as many homes as pieces
 pub as_many_homes : (a : Assembly) → length (homes_of a) ≡ length a.pieces
 as_many_homes a = length-map a.pieces (home_of a.shapes)
 
--- Frames and the start, with what is judged behind them
+-- Frames and the start, with what is judged after them
 
-frames_refuse : (n : ℕ) (ps : List FramedProcedure) (rest : Answer) (r : FailedCheck)
+frames_refuse : (n : ℕ) (ps : List FramedProcedure) (rest : Rest) (r : FailedCheck)
     → judging_frames n ps nothing (Refuses r) → judging_frames n ps rest (Refuses r)
 frames_refuse n ps rest r refused =
     elim ((over_frames n ps nothing rest passes (Refuses r) Passed ⊥ (record { split = λ h. absurd h })).split refused) [
@@ -30,7 +30,7 @@ frames_refuse n ps rest r refused =
       | inr h ↦ absurd h.1
     ]
 
-with_frames : (n : ℕ) (ps : List FramedProcedure) (rest : Answer) (a : Judgement)
+with_frames : (n : ℕ) (ps : List FramedProcedure) (rest : Rest) (a : Judgement)
     → judging_frames n ps passes Passed → rest a → judging_frames n ps rest a
 with_frames n ps rest a holds well = (carry_frames n ps passes rest a (record { carry = λ e. well })).carry holds
 

@@ -8,20 +8,20 @@ use Rattle.burr_code.specs.Places.{Placement, Apart, On, count_in}
 use Rattle.burr_code.specs.Instruction.{Instruction, spelled, StandsAt}
 use Rattle.burr_code.proofs.Common.Orders.{decide_le}
 use Rattle.burr_code.proofs.Common.Reading.{decide_stands}
-use Rattle.burr_forms.specs.Forms.{value}
-use Rattle.burr_forms.specs.Points.{box_size}
-use Rattle.burr_container.specs.Plans.{FormCell, Frame}
-use Rattle.burr_frames.specs.FramedPlans.{FramedExit, FramedProcedure, FramedPlan}
-use Rattle.burr_frames.specs.States.{AbstractState, state_of, live_ranges}
-use Rattle.burr_frames.specs.Verdicts.{Broken, Verdict, Breaks, Falls, Leaves, arriving, leaves}
-use Rattle.burr_frames.specs.Transfer.{Transfer}
+use Rattle.burr_forms.specs.Rules.Forms.{value}
+use Rattle.burr_forms.specs.Rules.Points.{box_size}
+use Rattle.burr_container.specs.Rules.Plans.{FormCell, Frame}
+use Rattle.burr_frames.specs.Rules.FramedPlans.{FramedExit, FramedProcedure, FramedPlan}
+use Rattle.burr_frames.specs.Rules.States.{AbstractState, state_of, live_ranges}
+use Rattle.burr_frames.specs.Rules.Verdicts.{Broken, Verdict, Breaks, FallsThrough, NoSuccessor, arriving, no_successor}
+use Rattle.burr_frames.specs.Rules.Transfer.{Transfer}
 use Rattle.burr_code.proofs.Common.Conditions.{decided_implies, decide_all_numbers, decide_all_lie}
 use Rattle.burr_frames.proofs.Common.Decided.{decide_meets}
 use Rattle.burr_frames.proofs.Common.SomeVerdict.{HasOne, some_given, some_needed, some_found, some_arriving, some_verdict}
-use Rattle.burr_frames.specs.Starts.{start_state}
-use Rattle.burr_verify.specs.WellFramed.{IsLabelled, IsFormed, IsFormedEntry, IsFormedExit, HasNoLonePiece}
-use Rattle.burr_verify.specs.Pass.{Judgement, Passed, Refuses, Stage, Comes, Judges, outset, Hides, Pass, ends, falls_off, lacks_frame, resumes, misses, arrives, goes_on, lacks_instruction, hides, breaks, falls, stops}
-use Rattle.burr_verify.specs.Judging.{Answer, judging_labels, judging_entry, judging_exit, judging_frames, judging_start, judging_code, go_on, passes, Judging}
+use Rattle.burr_frames.specs.Rules.Starts.{start_state}
+use Rattle.burr_verify.specs.Rules.WellFramed.{IsLabelled, IsFormed, IsFormedEntry, IsFormedExit, HasNoLonePiece}
+use Rattle.burr_verify.specs.Rules.Pass.{Judgement, Passed, Refuses, Stage, BeforeInstruction, AtInstruction, pass_start, Hides, Pass, ends, falls_off, lacks_frame, resumes, misses, arrives, goes_on, lacks_instruction, hides, breaks, falls_through, stops}
+use Rattle.burr_verify.specs.Rules.Judging.{Rest, judging_labels, judging_entry, judging_exit, judging_frames, judging_start, judging_code, go_on, passes, Judging}
 use Rattle.burr_verify.proofs.OnePass.{arrives_where_leaves}
 use Rattle.burr_verify.proofs.PassCuts.{stands_within, spelled_some}
 
@@ -56,18 +56,18 @@ SomePass homes plan n here stage = (j : Judgement) × Pass homes plan n here sta
 by_verdict : (homes : List (List Cell)) (plan : FramedPlan) (n : ℕ) (here : FramedProcedure) (pc : ℕ)
     (s : AbstractState) (i : Instruction) → StandsAt here.code pc i → (¬ Hides here pc i)
     → (v : Verdict) → Transfer homes plan n here s i v
-    → ((falling : Option AbstractState) → SomePass homes plan n here (Comes pc (pc + length (spelled i)) falling))
-    → SomePass homes plan n here (Judges pc s)
+    → ((falling : Option AbstractState) → SomePass homes plan n here (BeforeInstruction pc (pc + length (spelled i)) falling))
+    → SomePass homes plan n here (AtInstruction pc s)
 by_verdict homes plan n here pc s i stands bare (Breaks break) rule later = (_, breaks pc s i break stands bare rule)
-by_verdict homes plan n here pc s i stands bare (Falls t) rule later =
-    let rest = later (Some t) in (rest.0, falls pc s t i rest.0 stands bare rule rest.1)
-by_verdict homes plan n here pc s i stands bare Leaves rule later =
+by_verdict homes plan n here pc s i stands bare (FallsThrough t) rule later =
+    let rest = later (Some t) in (rest.0, falls_through pc s t i rest.0 stands bare rule rest.1)
+by_verdict homes plan n here pc s i stands bare NoSuccessor rule later =
     let rest = later None in (rest.0, stops pc s i rest.0 stands bare rule rest.1)
 
 by_hidden : (homes : List (List Cell)) (plan : FramedPlan) (n : ℕ) (here : FramedProcedure) (pc : ℕ)
     (s : AbstractState) (i : Instruction) → StandsAt here.code pc i → Decided (Hides here pc i)
-    → ((falling : Option AbstractState) → SomePass homes plan n here (Comes pc (pc + length (spelled i)) falling))
-    → SomePass homes plan n here (Judges pc s)
+    → ((falling : Option AbstractState) → SomePass homes plan n here (BeforeInstruction pc (pc + length (spelled i)) falling))
+    → SomePass homes plan n here (AtInstruction pc s)
 by_hidden homes plan n here pc s i stands (inl hidden) later = (_, hides pc s i stands hidden)
 by_hidden homes plan n here pc s i stands (inr bare) later =
     let v = some_verdict homes plan n here s i in by_verdict homes plan n here pc s i stands bare v.0 v.1 later
@@ -75,32 +75,32 @@ by_hidden homes plan n here pc s i stands (inr bare) later =
 -- a label, or none, and a state, or none
 arrived_or_not : (homes : List (List Cell)) (plan : FramedPlan) (n : ℕ) (here : FramedProcedure) (last pc : ℕ)
     (s : AbstractState) (f : Frame) → pc ≢ length here.code → IsLabelled here pc f → (v : Verdict)
-    → arriving s f leaves v
-    → ((t : AbstractState) → SomePass homes plan n here (Judges pc t))
-    → SomePass homes plan n here (Comes last pc (Some s))
+    → arriving s f no_successor v
+    → ((t : AbstractState) → SomePass homes plan n here (AtInstruction pc t))
+    → SomePass homes plan n here (BeforeInstruction last pc (Some s))
 arrived_or_not homes plan n here last pc s f more labelled (Breaks break) missed at =
     (_, misses last pc s f break more labelled missed)
-arrived_or_not homes plan n here last pc s f more labelled (Falls t) arrived at = absurd (never_falls s f t arrived)
+arrived_or_not homes plan n here last pc s f more labelled (FallsThrough t) arrived at = absurd (never_falls s f t arrived)
   where
-    falls-breaks : (t : AbstractState) (b : Broken) → ¬ (Falls t ≡ Breaks b)
-    falls-breaks t b e = cc
+    falls_through-breaks : (t : AbstractState) (b : Broken) → ¬ (FallsThrough t ≡ Breaks b)
+    falls_through-breaks t b e = cc
 
-    falls-leaves : (t : AbstractState) → ¬ (Falls t ≡ Leaves)
-    falls-leaves t e = cc
+    falls_through-no_successor : (t : AbstractState) → ¬ (FallsThrough t ≡ NoSuccessor)
+    falls_through-no_successor t e = cc
 
-    never_falls : (s : AbstractState) (f : Frame) (t : AbstractState) → ¬ arriving s f leaves (Falls t)
-    never_falls s f t (inl h) = falls-breaks t _ h.1
-    never_falls s f t (inr (forms, known, inl h)) = falls-breaks t _ h.1
-    never_falls s f t (inr (forms, known, inr (alike, inl h))) = falls-breaks t _ h.2
-    never_falls s f t (inr (forms, known, inr (alike, inr h))) = falls-leaves t h.1
-arrived_or_not homes plan n here last pc s f more labelled Leaves arrived at =
+    never_falls : (s : AbstractState) (f : Frame) (t : AbstractState) → ¬ arriving s f no_successor (FallsThrough t)
+    never_falls s f t (inl h) = falls_through-breaks t _ h.1
+    never_falls s f t (inr (forms, known, inl h)) = falls_through-breaks t _ h.1
+    never_falls s f t (inr (forms, known, inr (alike, inl h))) = falls_through-breaks t _ h.2
+    never_falls s f t (inr (forms, known, inr (alike, inr h))) = falls_through-no_successor t h.1
+arrived_or_not homes plan n here last pc s f more labelled NoSuccessor arrived at =
     let rest = at (state_of f) in
     (rest.0, arrives last pc s f rest.0 more labelled (arrives_where_leaves s f arrived) rest.1)
 
 coming : (homes : List (List Cell)) (plan : FramedPlan) (n : ℕ) (here : FramedProcedure) (last pc : ℕ)
     (falling : Option AbstractState) → pc ≢ length here.code → Decided ((f : Frame) × IsLabelled here pc f)
-    → ((t : AbstractState) → SomePass homes plan n here (Judges pc t))
-    → SomePass homes plan n here (Comes last pc falling)
+    → ((t : AbstractState) → SomePass homes plan n here (AtInstruction pc t))
+    → SomePass homes plan n here (BeforeInstruction last pc falling)
 coming homes plan n here last pc None more (inr none) at =
     (_, lacks_frame last pc more (λ f labelled. none (f, labelled)))
 coming homes plan n here last pc None more (inl found) at =
@@ -108,11 +108,11 @@ coming homes plan n here last pc None more (inl found) at =
 coming homes plan n here last pc (Some s) more (inr none) at =
     let rest = at s in (rest.0, goes_on last pc s rest.0 more (λ f labelled. none (f, labelled)) rest.1)
 coming homes plan n here last pc (Some s) more (inl found) at =
-    let v = some_arriving s found.0 leaves (some_given Leaves) in
+    let v = some_arriving s found.0 no_successor (some_given NoSuccessor) in
     arrived_or_not homes plan n here last pc s found.0 more found.1 v.0 v.1 at
 
 at_end : (homes : List (List Cell)) (plan : FramedPlan) (n : ℕ) (here : FramedProcedure) (last pc : ℕ)
-    (falling : Option AbstractState) → pc ≡ length here.code → SomePass homes plan n here (Comes last pc falling)
+    (falling : Option AbstractState) → pc ≡ length here.code → SomePass homes plan n here (BeforeInstruction last pc falling)
 at_end homes plan n here last pc None e = (Passed, ends last pc e)
 at_end homes plan n here last pc (Some s) e = (_, falls_off last pc s e)
 
@@ -120,17 +120,17 @@ at_end homes plan n here last pc (Some s) e = (_, falls_off last pc s e)
 some_stage : (homes : List (List Cell)) (plan : FramedPlan) (n : ℕ) (here : FramedProcedure) (last pc : ℕ)
     (falling : Option AbstractState)
     → ((i : Instruction) → StandsAt here.code pc i → (out : Option AbstractState)
-    → SomePass homes plan n here (Comes pc (pc + length (spelled i)) out))
-    → SomePass homes plan n here (Comes last pc falling)
+    → SomePass homes plan n here (BeforeInstruction pc (pc + length (spelled i)) out))
+    → SomePass homes plan n here (BeforeInstruction last pc falling)
 some_stage homes plan n here last pc falling later = by_end (decide_same pc (length here.code))
   where
     instruction : (s : AbstractState) → Decided ((i : Instruction) × StandsAt here.code pc i)
-        → SomePass homes plan n here (Judges pc s)
+        → SomePass homes plan n here (AtInstruction pc s)
     instruction s (inr none) = (_, lacks_instruction pc s (λ i stands. none (i, stands)))
     instruction s (inl (i, stands)) =
         by_hidden homes plan n here pc s i stands (decide_hides here pc i) (λ out. later i stands out)
 
-    by_end : Decided (pc ≡ length here.code) → SomePass homes plan n here (Comes last pc falling)
+    by_end : Decided (pc ≡ length here.code) → SomePass homes plan n here (BeforeInstruction last pc falling)
     by_end (inl e) = at_end homes plan n here last pc falling e
     by_end (inr more) =
         coming homes plan n here last pc falling more (decide_labelled here pc)
@@ -145,7 +145,7 @@ one_more pc size bytes fuel enough some = omega arith
 -- by what is left of the code
 some_from : (homes : List (List Cell)) (plan : FramedPlan) (n : ℕ) (here : FramedProcedure) (fuel last pc : ℕ)
     (falling : Option AbstractState) → length here.code ≤ pc + fuel
-    → SomePass homes plan n here (Comes last pc falling)
+    → SomePass homes plan n here (BeforeInstruction last pc falling)
 some_from homes plan n here zero last pc falling enough =
     some_stage homes plan n here last pc falling
     (λ i stands out. absurd (past_end pc (length here.code) enough (stands_within here.code pc i stands)))
@@ -156,7 +156,7 @@ some_from homes plan n here (suc fuel) last pc falling enough =
 
 -- A pass comes to a judgement.
 pub some_judgement : (homes : List (List Cell)) (plan : FramedPlan) (n : ℕ) (here : FramedProcedure)
-    → SomePass homes plan n here outset
+    → SomePass homes plan n here pass_start
 some_judgement homes plan n here = some_from homes plan n here (length here.code) 0 0 None (omega arith)
 
 -- Frames
@@ -236,7 +236,7 @@ decide_formed_exit f =
 
 -- The whole
 
-some_labels : (n parameters : ℕ) (labels : List (ℕ × Frame)) (rest : Answer) → HasOne rest
+some_labels : (n parameters : ℕ) (labels : List (ℕ × Frame)) (rest : Rest) → HasOne rest
     → HasOne (judging_labels n parameters labels rest)
 some_labels n parameters [] rest one = one
 some_labels n parameters (label ∷ labels) rest one =
@@ -244,7 +244,7 @@ some_labels n parameters (label ∷ labels) rest one =
     (some_needed _ _ _ (decide_at_most (box_size (live_ranges label.1.slots)) 4096)
     (some_labels n parameters labels rest one))
 
-some_entry : (n parameters : ℕ) (labels : List (ℕ × Frame)) (rest : Answer) → HasOne rest
+some_entry : (n parameters : ℕ) (labels : List (ℕ × Frame)) (rest : Rest) → HasOne rest
     → HasOne (judging_entry n parameters labels rest)
 some_entry n parameters [] rest one = one
 some_entry n parameters (label ∷ labels) rest one =
@@ -252,27 +252,27 @@ some_entry n parameters (label ∷ labels) rest one =
     (some_needed _ _ _ (decide_at_most (box_size (live_ranges label.1.slots)) 4096)
     (some_labels n parameters labels rest one))
 
-some_exit : (n : ℕ) (exit : Option FramedExit) (rest : Answer) → HasOne rest → HasOne (judging_exit n exit rest)
+some_exit : (n : ℕ) (exit : Option FramedExit) (rest : Rest) → HasOne rest → HasOne (judging_exit n exit rest)
 some_exit n None rest one = one
 some_exit n (Some f) rest one = some_needed _ _ _ (decide_formed_exit f) one
 
-some_frames : (n : ℕ) (procedures : List FramedProcedure) (rest : Answer) → HasOne rest
+some_frames : (n : ℕ) (procedures : List FramedProcedure) (rest : Rest) → HasOne rest
     → HasOne (judging_frames n procedures rest)
 some_frames n [] rest one = one
 some_frames n (here ∷ procedures) rest one =
     some_exit n here.exit _ (some_entry n here.parameters here.labels _ (some_frames (suc n) procedures rest one))
 
-some_start : (homes : List (List Cell)) (plan : FramedPlan) (rest : Answer) → HasOne rest
+some_start : (homes : List (List Cell)) (plan : FramedPlan) (rest : Rest) → HasOne rest
     → HasOne (judging_start homes plan rest)
 some_start homes plan rest one =
     some_found _ _ _ λ main. some_found _ _ _ λ f. some_needed _ _ _ (decide_meets (start_state homes) f)
     (some_needed _ _ _ (decide_le (value [] f.cost) (pos plan.budget)) one)
 
-some_then : (j : Judgement) (rest : Answer) → HasOne rest → HasOne (go_on j rest)
+some_then : (j : Judgement) (rest : Rest) → HasOne rest → HasOne (go_on j rest)
 some_then Passed rest one = one
 some_then (Refuses refusal) rest one = some_given _
 
-some_code : (homes : List (List Cell)) (plan : FramedPlan) (n : ℕ) (procedures : List FramedProcedure) (rest : Answer)
+some_code : (homes : List (List Cell)) (plan : FramedPlan) (n : ℕ) (procedures : List FramedProcedure) (rest : Rest)
     → HasOne rest → HasOne (judging_code homes plan n procedures rest)
 some_code homes plan n [] rest one = one
 some_code homes plan n (here ∷ procedures) rest one =

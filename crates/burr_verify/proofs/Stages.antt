@@ -6,26 +6,26 @@ use Rattle.std.proofs.lemmas.Bool.{false≢true}
 use Rattle.std.proofs.lemmas.Option.{same_Some, slice_get_within}
 use Rattle.burr_voxels.specs.declared.cell.Cell.{Cell}
 use Rattle.burr_code.specs.Instruction.{Instruction, spelled, StandsAt}
-use Rattle.burr_forms.specs.Forms.{Point}
+use Rattle.burr_forms.specs.Rules.Forms.{Point}
 use Rattle.burr_container.specs.declared.frame_ref.FrameRef.{FrameRef}
-use Rattle.burr_container.specs.Plans.{Plan, Frame}
-use Rattle.burr_container.specs.Refs.{frame_of}
-use Rattle.burr_container.specs.Containers.{KeptContainer, IsContainer, OfLabel, OfProcedure}
-use Rattle.burr_frames.specs.ArrivalViews.{missed_at}
-use Rattle.burr_frames.specs.Breaks.{missed_break}
-use Rattle.burr_frames.specs.FramedPlans.{FramedProcedure, FramedPlan, framed, framed_label, framed_plan}
-use Rattle.burr_frames.specs.Looks.{RuleLooks}
-use Rattle.burr_frames.specs.States.{AbstractState, state_of}
-use Rattle.burr_frames.specs.Transfer.{Transfer}
-use Rattle.burr_frames.specs.Verdicts.{Breaks, Falls, Leaves, arriving, leaves}
+use Rattle.burr_container.specs.Rules.Plans.{Plan, Frame}
+use Rattle.burr_container.specs.Views.Refs.{frame_of}
+use Rattle.burr_container.specs.Views.Containers.{ContainerView, IsContainer, OfLabel, OfProcedure}
+use Rattle.burr_frames.specs.Views.ArrivalViews.{missed_at}
+use Rattle.burr_frames.specs.Views.Breaks.{missed_break}
+use Rattle.burr_frames.specs.Rules.FramedPlans.{FramedProcedure, FramedPlan, framed, framed_label, framed_plan}
+use Rattle.burr_frames.specs.Rules.Looks.{RuleLooks}
+use Rattle.burr_frames.specs.Rules.States.{AbstractState, state_of}
+use Rattle.burr_frames.specs.Rules.Transfer.{Transfer}
+use Rattle.burr_frames.specs.Rules.Verdicts.{Breaks, FallsThrough, NoSuccessor, arriving, no_successor}
 use Rattle.burr_frames.specs.declared.rule.Rule.TheVariants as rules
 use Rattle.burr_verify.specs.declared.refusal.Refusal.{Refusal}
-use Rattle.burr_verify.specs.Refusals.{plain_refusal}
-use Rattle.burr_verify.specs.WellFramed.{IsLabelled, HasNoLabel}
-use Rattle.burr_verify.specs.LookViews.{LooksOn, LooksStop}
-use Rattle.burr_verify.specs.Pass.{Judgement, Passed, Refuses, Stage, Comes, Judges, Hides, broken, misses, ends, falls_off}
-use Rattle.burr_verify.specs.PassLooks.{LookedPass}
-use Rattle.burr_verify.specs.Views.{IsLabelWithin, failed_check}
+use Rattle.burr_verify.specs.Views.Refusals.{plain_refusal}
+use Rattle.burr_verify.specs.Rules.WellFramed.{IsLabelled, HasNoLabel}
+use Rattle.burr_verify.specs.Views.LookViews.{LooksOn, LooksStop}
+use Rattle.burr_verify.specs.Rules.Pass.{Judgement, Passed, Refuses, Stage, BeforeInstruction, AtInstruction, Hides, broken, misses, ends, falls_off}
+use Rattle.burr_verify.specs.Rules.PassLooks.{LookedPass}
+use Rattle.burr_verify.specs.Views.Judgements.{IsLabelWithin, failed_check}
 use Rattle.burr_frames.proofs.Common.Heres.{procedure_here, label_here, element_at, as_many_labels}
 use Rattle.burr_verify.proofs.LookedOn.{looks_resumed, looks_arrived, looks_fallen, looks_left}
 use Rattle.burr_verify.proofs.OnePass.{arrives_where_leaves}
@@ -42,7 +42,7 @@ at_label here pc n l e from before =
     (n, subst (λ (m : ℕ). slice_get here.labels n ≡ Some (m, l.1)) same e)
 
 -- the frame that was read is that of the label
-pub frame_read : (kept : KeptContainer) (i n : ℕ) (f : FrameRef) → OfLabel kept i n (λ l. frame_of f ≡ l.1)
+pub frame_read : (kept : ContainerView) (i n : ℕ) (f : FrameRef) → OfLabel kept i n (λ l. frame_of f ≡ l.1)
     → (p : Plan) (here : FramedProcedure) → IsContainer kept p → slice_get (framed_plan p).procedures i ≡ Some here
     → (x : ℕ × Frame) → slice_get here.labels n ≡ Some x → framed (frame_of f) ≡ x.1
 frame_read kept i n f reads p here is at x standing =
@@ -55,23 +55,23 @@ frame_read kept i n f reads p here is at x standing =
 
 -- Before a place
 
-pub missed : (s : AbstractState) (f : Frame) (o : Option Point) → arriving s f leaves (missed_at o)
-    → arriving s f leaves (Breaks (missed_break rules.V21 o))
+pub missed : (s : AbstractState) (f : Frame) (o : Option Point) → arriving s f no_successor (missed_at o)
+    → arriving s f no_successor (Breaks (missed_break rules.V21 o))
 missed s f None h = h
 missed s f (Some point) h = h
 
 pub enters_resumes : (homes : List (List Cell)) (plan : FramedPlan) (n : ℕ) (here : FramedProcedure) (last pc : ℕ) (f : Frame)
     (s : AbstractState) → pc ≢ length here.code → IsLabelled here pc f → s ≡ state_of f
-    → LooksOn homes plan n here (Comes last pc None) (Judges pc s) 0
+    → LooksOn homes plan n here (BeforeInstruction last pc None) (AtInstruction pc s) 0
 enters_resumes homes plan n here last pc f s more labelled same =
-    subst (λ (t : AbstractState). LooksOn homes plan n here (Comes last pc None) (Judges pc t) 0) (sym same)
+    subst (λ (t : AbstractState). LooksOn homes plan n here (BeforeInstruction last pc None) (AtInstruction pc t) 0) (sym same)
     (looks_resumed homes plan n here last pc f more labelled)
 
 pub enters_arrives : (homes : List (List Cell)) (plan : FramedPlan) (n : ℕ) (here : FramedProcedure) (last pc : ℕ) (f : Frame)
-    (t s : AbstractState) → pc ≢ length here.code → IsLabelled here pc f → arriving t f leaves Leaves → s ≡ state_of f
-    → LooksOn homes plan n here (Comes last pc (Some t)) (Judges pc s) 0
+    (t s : AbstractState) → pc ≢ length here.code → IsLabelled here pc f → arriving t f no_successor NoSuccessor → s ≡ state_of f
+    → LooksOn homes plan n here (BeforeInstruction last pc (Some t)) (AtInstruction pc s) 0
 enters_arrives homes plan n here last pc f t s more labelled arrived same =
-    subst (λ (u : AbstractState). LooksOn homes plan n here (Comes last pc (Some t)) (Judges pc u) 0) (sym same)
+    subst (λ (u : AbstractState). LooksOn homes plan n here (BeforeInstruction last pc (Some t)) (AtInstruction pc u) 0) (sym same)
     (looks_arrived homes plan n here last pc t f more labelled (arrives_where_leaves t f arrived))
 
 -- a pass that comes to this judgement stops by the refusal of which that is told
@@ -83,10 +83,10 @@ stops_by homes plan n here stage r j looks same pass =
 
 pub enters_misses : (homes : List (List Cell)) (plan : FramedPlan) (n : ℕ) (here : FramedProcedure) (last pc : ℕ) (f : Frame)
     (t : AbstractState) (o : Option Point) (r : Refusal) → pc ≢ length here.code → IsLabelled here pc f
-    → arriving t f leaves (missed_at o) → Refuses (failed_check r) ≡ broken n last (missed_break rules.V21 o)
-    → LooksStop homes plan n here (Comes last pc (Some t)) r 0
+    → arriving t f no_successor (missed_at o) → Refuses (failed_check r) ≡ broken n last (missed_break rules.V21 o)
+    → LooksStop homes plan n here (BeforeInstruction last pc (Some t)) r 0
 enters_misses homes plan n here last pc f t o r more labelled miss same =
-    stops_by homes plan n here (Comes last pc (Some t)) r _ 0 same
+    stops_by homes plan n here (BeforeInstruction last pc (Some t)) r _ 0 same
     (misses last pc t f (missed_break rules.V21 o) more labelled (missed t f o miss), refl)
 
 -- At a place
@@ -95,7 +95,7 @@ enters_misses homes plan n here last pc f t o r more labelled miss same =
 pub hides_none : (here : FramedProcedure) (pc size : ℕ) (i : Instruction) → size ≡ length (spelled i)
     → IsLabelWithin here (pc + 1) (pc + size) None → ¬ Hides here pc i
 hides_none here pc size i same none (p, f, (k, e), above, below) =
-    let behind = none k (p, f) e (omega (arith, above)) in omega (arith, behind, below, same)
+    let after = none k (p, f) e (omega (arith, above)) in omega (arith, after, below, same)
 
 pub hides_one : (here : FramedProcedure) (pc size n : ℕ) (i : Instruction) (l : ℕ × Frame) → size ≡ length (spelled i)
     → slice_get here.labels n ≡ Some l → pc + 1 ≤ l.0 → l.0 < pc + size → Hides here pc i
@@ -104,34 +104,34 @@ hides_one here pc size n i l same e from before =
 
 pub judges_falls : (homes : List (List Cell)) (plan : FramedPlan) (n : ℕ) (here : FramedProcedure) (pc size : ℕ)
     (s t : AbstractState) (i : Instruction) (looks : ℕ) → StandsAt here.code pc i → size ≡ length (spelled i)
-    → (¬ Hides here pc i) → Transfer homes plan n here s i (Falls t) → RuleLooks homes s i looks
-    → LooksOn homes plan n here (Judges pc s) (Comes pc (pc + size) (Some t)) looks
+    → (¬ Hides here pc i) → Transfer homes plan n here s i (FallsThrough t) → RuleLooks homes s i looks
+    → LooksOn homes plan n here (AtInstruction pc s) (BeforeInstruction pc (pc + size) (Some t)) looks
 judges_falls homes plan n here pc size s t i looks stands same bare rule own =
-    subst (λ (m : ℕ). LooksOn homes plan n here (Judges pc s) (Comes pc (pc + m) (Some t)) looks) (sym same)
+    subst (λ (m : ℕ). LooksOn homes plan n here (AtInstruction pc s) (BeforeInstruction pc (pc + m) (Some t)) looks) (sym same)
     (looks_fallen homes plan n here pc s t i looks stands bare rule own)
 
 pub judges_stops : (homes : List (List Cell)) (plan : FramedPlan) (n : ℕ) (here : FramedProcedure) (pc size : ℕ)
     (s : AbstractState) (i : Instruction) (looks : ℕ) → StandsAt here.code pc i → size ≡ length (spelled i)
-    → (¬ Hides here pc i) → Transfer homes plan n here s i Leaves → RuleLooks homes s i looks
-    → LooksOn homes plan n here (Judges pc s) (Comes pc (pc + size) None) looks
+    → (¬ Hides here pc i) → Transfer homes plan n here s i NoSuccessor → RuleLooks homes s i looks
+    → LooksOn homes plan n here (AtInstruction pc s) (BeforeInstruction pc (pc + size) None) looks
 judges_stops homes plan n here pc size s i looks stands same bare rule own =
-    subst (λ (m : ℕ). LooksOn homes plan n here (Judges pc s) (Comes pc (pc + m) None) looks) (sym same)
+    subst (λ (m : ℕ). LooksOn homes plan n here (AtInstruction pc s) (BeforeInstruction pc (pc + m) None) looks) (sym same)
     (looks_left homes plan n here pc s i looks stands bare rule own)
 
 -- What falls in
 
 pub on_from : (homes : List (List Cell)) (plan : FramedPlan) (n : ℕ) (here : FramedProcedure) (last pc : ℕ)
     (falling to : Option AbstractState) (s : AbstractState) → falling ≡ to
-    → LooksOn homes plan n here (Comes last pc to) (Judges pc s) 0
-    → LooksOn homes plan n here (Comes last pc falling) (Judges pc s) 0
+    → LooksOn homes plan n here (BeforeInstruction last pc to) (AtInstruction pc s) 0
+    → LooksOn homes plan n here (BeforeInstruction last pc falling) (AtInstruction pc s) 0
 on_from homes plan n here last pc falling to s same on =
-    subst (λ (o : Option AbstractState). LooksOn homes plan n here (Comes last pc o) (Judges pc s) 0) (sym same) on
+    subst (λ (o : Option AbstractState). LooksOn homes plan n here (BeforeInstruction last pc o) (AtInstruction pc s) 0) (sym same) on
 
 pub stops_from : (homes : List (List Cell)) (plan : FramedPlan) (n : ℕ) (here : FramedProcedure) (last pc : ℕ)
     (falling to : Option AbstractState) (r : Refusal) → falling ≡ to
-    → LooksStop homes plan n here (Comes last pc to) r 0 → LooksStop homes plan n here (Comes last pc falling) r 0
+    → LooksStop homes plan n here (BeforeInstruction last pc to) r 0 → LooksStop homes plan n here (BeforeInstruction last pc falling) r 0
 stops_from homes plan n here last pc falling to r same stop =
-    subst (λ (o : Option AbstractState). LooksStop homes plan n here (Comes last pc o) r 0) (sym same) stop
+    subst (λ (o : Option AbstractState). LooksStop homes plan n here (BeforeInstruction last pc o) r 0) (sym same) stop
 
 -- A label that was looked for
 
@@ -144,7 +144,7 @@ pub one_found : (here : FramedProcedure) (from end n : ℕ) (found : Option ℕ)
 one_found here from end n found same is = subst (λ (o : Option ℕ). IsLabelWithin here from end o) same is
 
 -- the code that was read is the procedure's
-pub code_read : (kept : KeptContainer) (i : ℕ) (code : List ℕ) → OfProcedure kept i (λ p q. code ≡ q.code)
+pub code_read : (kept : ContainerView) (i : ℕ) (code : List ℕ) → OfProcedure kept i (λ p q. code ≡ q.code)
     → (p : Plan) (here : FramedProcedure) → IsContainer kept p → slice_get (framed_plan p).procedures i ≡ Some here
     → code ≡ here.code
 code_read kept i code reads p here is at =
@@ -169,15 +169,15 @@ at_end code kept pc same from within = omega (arith, from, within, ap length sam
 
 pub well_ended : (homes : List (List Cell)) (plan : FramedPlan) (n : ℕ) (here : FramedProcedure) (last pc : ℕ)
     (falling : Option AbstractState) → falling ≡ None → pc ≡ length here.code
-    → LookedPass homes plan n here (Comes last pc falling) Passed 0
+    → LookedPass homes plan n here (BeforeInstruction last pc falling) Passed 0
 well_ended homes plan n here last pc falling same is =
-    subst (λ (o : Option AbstractState). LookedPass homes plan n here (Comes last pc o) Passed 0) (sym same)
+    subst (λ (o : Option AbstractState). LookedPass homes plan n here (BeforeInstruction last pc o) Passed 0) (sym same)
     (ends last pc is, refl)
 
 pub fallen_off : (homes : List (List Cell)) (plan : FramedPlan) (n : ℕ) (here : FramedProcedure) (last pc : ℕ)
     (falling : Option AbstractState) (s : AbstractState) (r : Refusal) → falling ≡ Some s → pc ≡ length here.code
-    → r ≡ plain_refusal n last rules.V5 → LooksStop homes plan n here (Comes last pc falling) r 0
+    → r ≡ plain_refusal n last rules.V5 → LooksStop homes plan n here (BeforeInstruction last pc falling) r 0
 fallen_off homes plan n here last pc falling s r same is told =
-    subst (λ (o : Option AbstractState). LooksStop homes plan n here (Comes last pc o) r 0) (sym same)
-    (stops_by homes plan n here (Comes last pc (Some s)) r _ 0 (ap (λ q. Refuses (failed_check q)) told)
+    subst (λ (o : Option AbstractState). LooksStop homes plan n here (BeforeInstruction last pc o) r 0) (sym same)
+    (stops_by homes plan n here (BeforeInstruction last pc (Some s)) r _ 0 (ap (λ q. Refuses (failed_check q)) told)
     (falls_off last pc s is, refl))

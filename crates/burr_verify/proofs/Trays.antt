@@ -10,7 +10,7 @@ use Rattle.burr_text.proofs.Common.Decisions.{decide_below}
 use Rattle.burr_code.specs.PieceSets.{IsInSet}
 use Rattle.burr_code.specs.Places.{Placement, Apart, On, LiesIn, AllLieIn, tray_of, count_in}
 use Rattle.burr_code.proofs.Common.PieceSets.{no_bit_above}
-use Rattle.burr_container.specs.Plans.{FormCell}
+use Rattle.burr_container.specs.Rules.Plans.{FormCell}
 use native.Mathlib.Decide.{ℕ_discrete}
 
 -- One piece

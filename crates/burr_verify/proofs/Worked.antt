@@ -6,17 +6,17 @@ use Rattle.std.proofs.lemmas.Option.{none-some, same_Some}
 use Rattle.std.proofs.lemmas.List.Elements.{All-nil, All-cons}
 use Rattle.burr_code.specs.Instruction.{Halt, Grip, StandsAt}
 use Rattle.burr_code.proofs.Common.PieceSets.{no_bit_from_set}
-use Rattle.burr_forms.specs.Forms.{value, number, IsSmall, AllSmall, one_less, IsSmallForm}
-use Rattle.burr_forms.specs.Points.{Precedes, box_size}
-use Rattle.burr_container.specs.Plans.{Frame}
+use Rattle.burr_forms.specs.Rules.Forms.{value, number, IsSmall, AllSmall, one_less, IsSmallForm}
+use Rattle.burr_forms.specs.Rules.Points.{Precedes, box_size}
+use Rattle.burr_container.specs.Rules.Plans.{Frame}
 use Rattle.burr_frames.specs.declared.rule.Rule.TheVariants as rules
-use Rattle.burr_frames.specs.FramedPlans.{FramedProcedure, FramedPlan}
-use Rattle.burr_frames.specs.States.{IsPoint, live_ranges, state_of}
-use Rattle.burr_frames.specs.Arrival.{Meets}
-use Rattle.burr_frames.specs.Starts.{start_state}
-use Rattle.burr_verify.specs.WellFramed.{IsLabelled, IsFormed, IsFormedEntry, IsFramedProcedure, IsWellFramed}
-use Rattle.burr_verify.specs.Pass.{Passed, refused, broken, outset, Hides, Pass, ends, resumes, hides, breaks, stops}
-use Rattle.burr_verify.specs.Judging.{Judging}
+use Rattle.burr_frames.specs.Rules.FramedPlans.{FramedProcedure, FramedPlan}
+use Rattle.burr_frames.specs.Rules.States.{IsPoint, live_ranges, state_of}
+use Rattle.burr_frames.specs.Rules.Arrival.{Meets}
+use Rattle.burr_frames.specs.Rules.Starts.{start_state}
+use Rattle.burr_verify.specs.Rules.WellFramed.{IsLabelled, IsFormed, IsFormedEntry, IsFramedProcedure, IsWellFramed}
+use Rattle.burr_verify.specs.Rules.Pass.{Passed, refused, broken, pass_start, Hides, Pass, ends, resumes, hides, breaks, stops}
+use Rattle.burr_verify.specs.Rules.Judging.{Judging}
 use Rattle.burr_verify.proofs.PassCuts.{cut_of_pass}
 use Rattle.burr_verify.proofs.Exact.{passed_where_framed}
 
@@ -66,7 +66,7 @@ none_inside : (cost : ℤ) (code : List ℕ) → ¬ Hides (main cost [] code) 0 
 none_inside cost code (p, f, labelled, above, below) = let at = (only_label cost code p f labelled).0 in omega arith
 
 -- The plan that halts passes with cost 1,
-halt_passes : Pass [] (plan (pos 1)) 0 (main (pos 1) [] (0x00 ∷ [])) outset Passed
+halt_passes : Pass [] (plan (pos 1)) 0 (main (pos 1) [] (0x00 ∷ [])) pass_start Passed
 halt_passes =
     resumes 0 0 (frame (pos 1)) Passed (λ e. one_zero e) (0, refl)
     (stops 0 (state_of (frame (pos 1))) Halt Passed (halts []) (none_inside (pos 1) (0x00 ∷ []))
@@ -82,7 +82,7 @@ halt_passes =
     paid (x ∷ point) is = absurd is.0
 
 -- and with cost 0 the cost is too low, at the one point there is.
-halt_refused : Pass [] (plan (pos 0)) 0 (main (pos 0) [] (0x00 ∷ [])) outset
+halt_refused : Pass [] (plan (pos 0)) 0 (main (pos 0) [] (0x00 ∷ [])) pass_start
     (broken 0 0 (record { rule = rules.V24; pieces = None; point = Some [] }))
 halt_refused =
     resumes 0 0 (frame (pos 0)) _ (λ e. one_zero e) (0, refl)
@@ -118,7 +118,7 @@ halt_refused =
 
 -- A label inside the first instruction: its bytes make an instruction too, and yet it is refused.
 label_inside : Pass [] (plan (pos 1)) 0 (main (pos 1) ((1, frame (pos 1)) ∷ [])
-    (0x10 ∷ 0x00 ∷ 0x00 ∷ 0x00 ∷ 0x01 ∷ 0x00 ∷ [])) outset (refused 0 0 rules.V3)
+    (0x10 ∷ 0x00 ∷ 0x00 ∷ 0x00 ∷ 0x01 ∷ 0x00 ∷ [])) pass_start (refused 0 0 rules.V3)
 label_inside =
     resumes 0 0 (frame (pos 1)) _ (λ e. six_zero e) (0, refl)
     (hides 0 (state_of (frame (pos 1))) (Grip 1)

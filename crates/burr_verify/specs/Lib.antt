@@ -1,14 +1,3 @@
-pub mod Accepting
-pub mod Fitting
-pub mod Forming
-pub mod FromContainers
-pub mod Fronts
-pub mod Judging
-pub mod LookViews
-pub mod LookingLaws
-pub mod Pass
-pub mod PassLooks
-pub mod Refusals
-pub mod VerifyLaws
+pub mod Laws
+pub mod Rules
 pub mod Views
-pub mod WellFramed

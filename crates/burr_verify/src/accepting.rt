@@ -1,15 +1,15 @@
 //! Plans that are accepted.
 
 ghost use Rattle.std.specs.Prelude.{◌≡◌, IfOk, IfErr};
-ghost use Rattle.burr_assembly.specs.Homes.{homes_of};
-ghost use Rattle.burr_container.specs.Plans.{Plan};
-ghost use Rattle.burr_container.specs.Containers.{IsContainer};
-ghost use Rattle.burr_frames.specs.FramedPlans.{framed_plan};
-ghost use Rattle.burr_verify.specs.Accepting.{judged, IsAccepted, MainCosts};
-ghost use Rattle.burr_verify.specs.Judging.{Judging};
-ghost use Rattle.burr_verify.specs.Pass.{Passed, Refuses};
-ghost use Rattle.burr_verify.specs.PassLooks.{Looking};
-ghost use Rattle.burr_verify.specs.Views.{failed_check};
+ghost use Rattle.burr_assembly.specs.Rules.Homes.{homes_of};
+ghost use Rattle.burr_container.specs.Rules.Plans.{Plan};
+ghost use Rattle.burr_container.specs.Views.Containers.{IsContainer};
+ghost use Rattle.burr_frames.specs.Rules.FramedPlans.{framed_plan};
+ghost use Rattle.burr_verify.specs.Rules.Accepting.{judged, IsAccepted, MainCosts};
+ghost use Rattle.burr_verify.specs.Rules.Judging.{Judging};
+ghost use Rattle.burr_verify.specs.Rules.Pass.{Passed, Refuses};
+ghost use Rattle.burr_verify.specs.Rules.PassLooks.{Looking};
+ghost use Rattle.burr_verify.specs.Views.Judgements.{failed_check};
 
 use crate::judging::verify_counted;
 use crate::refusal::Refusal;
@@ -26,7 +26,7 @@ pub struct Accepted<'a, 'c: 'a, B: Blocking> {
 }
 
 impl<'a, 'c: 'a, B: Blocking> Model for Accepted<'a, 'c, B> {
-    ghost use Rattle.burr_verify.specs.Accepting.{Judged, judged, IsAccepted};
+    ghost use Rattle.burr_verify.specs.Rules.Accepting.{Judged, judged, IsAccepted};
 
     ghost Value = { Judged };
 

@@ -1,10 +1,10 @@
 //! Whether a plan is for an assembly.
 
 ghost use Rattle.std.specs.Prelude.{◌≡◌, ◌↔◌, IsOk, OnOk, IfErr, length};
-ghost use Rattle.burr_container.specs.Plans.{Plan};
-ghost use Rattle.burr_container.specs.Containers.{IsContainer};
-ghost use Rattle.burr_verify.specs.Fitting.{FitsAssembly};
-ghost use Rattle.burr_verify.specs.Refusals.{another_assembly};
+ghost use Rattle.burr_container.specs.Rules.Plans.{Plan};
+ghost use Rattle.burr_container.specs.Views.Containers.{IsContainer};
+ghost use Rattle.burr_verify.specs.Rules.Fitting.{FitsAssembly};
+ghost use Rattle.burr_verify.specs.Views.Refusals.{another_assembly};
 
 use crate::refusal::Refusal;
 use burr_assembly::Assembly;

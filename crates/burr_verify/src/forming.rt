@@ -3,16 +3,16 @@
 ghost use Rattle.std.specs.Prelude.{◌≡◌, ◌<◌, ◌≤◌, ◌↔◌, ℕ, IsTrue, Some, IsSomeAnd, length, map, slice_get};
 ghost use Rattle.burr_code.specs.declared.limits.TheConstants.{MOST_PARAMETERS};
 ghost use Rattle.burr_code.specs.Places.{AllLieIn, tray_of, count_in};
-ghost use Rattle.burr_container.specs.Plans.{Frame};
-ghost use Rattle.burr_container.specs.Refs.{frame_of, told};
-ghost use Rattle.burr_container.specs.Containers.{HasLabel};
-ghost use Rattle.burr_frames.specs.Exits.{framed_ref};
-ghost use Rattle.burr_frames.specs.FramedPlans.{framed};
-ghost use Rattle.burr_frames.specs.Here.{OfHere};
-ghost use Rattle.burr_verify.specs.Forming.{IsLive, IsFormedAt, OfTrays, judging_label};
-ghost use Rattle.burr_verify.specs.Judging.{judging_exit, judging_entry};
-ghost use Rattle.burr_verify.specs.Views.{AnswersPart};
-ghost use Rattle.burr_verify.specs.WellFramed.{IsFormed, IsFormedEntry, IsFormedExit, HasNoLonePiece};
+ghost use Rattle.burr_container.specs.Rules.Plans.{Frame};
+ghost use Rattle.burr_container.specs.Views.Refs.{frame_of, placement_view};
+ghost use Rattle.burr_container.specs.Views.Containers.{HasLabel};
+ghost use Rattle.burr_frames.specs.Views.Exits.{framed_ref};
+ghost use Rattle.burr_frames.specs.Rules.FramedPlans.{framed};
+ghost use Rattle.burr_frames.specs.Views.Here.{OfFramedProcedure};
+ghost use Rattle.burr_verify.specs.Views.Forming.{IsLive, IsFormedAt, OfTrays, judging_label};
+ghost use Rattle.burr_verify.specs.Rules.Judging.{judging_exit, judging_entry};
+ghost use Rattle.burr_verify.specs.Views.Judgements.{AnswersPart};
+ghost use Rattle.burr_verify.specs.Rules.WellFramed.{IsFormed, IsFormedEntry, IsFormedExit, HasNoLonePiece};
 
 use crate::refusal::Refusal;
 use arrayvec::ArrayVec;
@@ -27,7 +27,7 @@ const MOST_PIECES: usize = 32;
 /// Judges the exit frame of a procedure and the frame of each of its labels.
 pub fn judge_frames(container: &Container<'_>, procedure: usize) -> Result<(), Refusal>
     requires { procedure < length container.now.procedures }
-    ensures { OfHere container.now procedure (λ plan here. AnswersPart
+    ensures { OfFramedProcedure container.now procedure (λ plan here. AnswersPart
         (λ rest. judging_exit procedure here.exit
         (judging_entry procedure here.parameters here.labels rest)) result) }
 {
@@ -41,7 +41,7 @@ pub fn judge_frames(container: &Container<'_>, procedure: usize) -> Result<(), R
 /// Judges the exit frame of a procedure, if there is one.
 fn judge_exit(container: &Container<'_>, procedure: usize) -> Result<(), Refusal>
     requires { procedure < length container.now.procedures }
-    ensures { OfHere container.now procedure (λ plan here.
+    ensures { OfFramedProcedure container.now procedure (λ plan here.
         AnswersPart (judging_exit procedure here.exit) result) }
 {
     match container.exit(procedure) {
@@ -59,7 +59,7 @@ fn judge_exit(container: &Container<'_>, procedure: usize) -> Result<(), Refusal
 fn judge_frame(container: &Container<'_>, procedure: usize, label: usize) -> Result<(), Refusal>
     requires procedure { procedure < length container.now.procedures }
     requires label { HasLabel container.now procedure label }
-    ensures { OfHere container.now procedure (λ plan here. (l : ℕ × Frame)
+    ensures { OfFramedProcedure container.now procedure (λ plan here. (l : ℕ × Frame)
         → slice_get here.labels label ≡ Some l
         → AnswersPart (judging_label procedure here.parameters label l) result) }
 {
@@ -88,7 +88,7 @@ fn number_of(container: &Container<'_>, procedure: usize) -> u8
 fn parameters_of(container: &Container<'_>, procedure: usize) -> u8
     requires { procedure < length container.now.procedures }
     ensures few { result ≤ MOST_PARAMETERS }
-    ensures here { OfHere container.now procedure (λ plan here. result ≡ here.parameters) }
+    ensures here { OfFramedProcedure container.now procedure (λ plan here. result ≡ here.parameters) }
 {
     container.params(procedure)
 }
@@ -237,7 +237,7 @@ fn exit_trays(exit: &ExitRef<'_>) -> ArrayVec<Option<u8>, MOST_PIECES>
 
 /// The tray of a piece; None where it is apart.
 fn tray(place: Option<(u8, Form, Form, Form)>) -> Option<u8>
-    ensures { result ≡ tray_of (told place) }
+    ensures { result ≡ tray_of (placement_view place) }
 {
     place.map(|place| place.0)
 }

@@ -1,17 +1,17 @@
 //! The whole judgement of a plan.
 
 ghost use Rattle.std.specs.Prelude.{◌≡◌, ◌≤◌, ◌*◌, ◌↔◌, IsOk, List, length};
-ghost use Rattle.burr_container.specs.Plans.{Plan};
+ghost use Rattle.burr_container.specs.Rules.Plans.{Plan};
 ghost use Rattle.burr_voxels.specs.declared.cell.Cell.{Cell as CellOf};
-ghost use Rattle.burr_container.specs.Containers.{IsContainer, HasPlan};
-ghost use Rattle.burr_assembly.specs.Text.{IsAssembly};
-ghost use Rattle.burr_assembly.specs.Homes.{homes_of};
-ghost use Rattle.burr_frames.specs.FramedPlans.{framed_plan};
-ghost use Rattle.burr_verify.specs.Judging.{Judging, judging_frames, judging_start, passes};
-ghost use Rattle.burr_verify.specs.Pass.{Passed};
-ghost use Rattle.burr_verify.specs.PassLooks.{Looking, looking_code, code_size};
-ghost use Rattle.burr_verify.specs.WellFramed.{IsWellFramed};
-ghost use Rattle.burr_verify.specs.Views.{judgement_of, AnswersPart};
+ghost use Rattle.burr_container.specs.Views.Containers.{IsContainer, HasPlan};
+ghost use Rattle.burr_assembly.specs.Rules.Text.{IsAssembly};
+ghost use Rattle.burr_assembly.specs.Rules.Homes.{homes_of};
+ghost use Rattle.burr_frames.specs.Rules.FramedPlans.{framed_plan};
+ghost use Rattle.burr_verify.specs.Rules.Judging.{Judging, judging_frames, judging_start, passes};
+ghost use Rattle.burr_verify.specs.Rules.Pass.{Passed};
+ghost use Rattle.burr_verify.specs.Rules.PassLooks.{Looking, looking_code, code_size};
+ghost use Rattle.burr_verify.specs.Rules.WellFramed.{IsWellFramed};
+ghost use Rattle.burr_verify.specs.Views.Judgements.{judgement_of, AnswersPart};
 
 use crate::fitting::fits_assembly;
 use crate::forming::judge_frames;

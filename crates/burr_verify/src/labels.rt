@@ -1,9 +1,9 @@
 //! Labels by their places.
 
 ghost use Rattle.std.specs.Prelude.{◌<◌, ◌≤◌, IfSome, length, slice_get};
-ghost use Rattle.burr_container.specs.Containers.{HasLabel, OfProcedure};
-ghost use Rattle.burr_frames.specs.Here.{OfHere};
-ghost use Rattle.burr_verify.specs.Views.{AreBefore, IsLabelWithin};
+ghost use Rattle.burr_container.specs.Views.Containers.{HasLabel, OfProcedure};
+ghost use Rattle.burr_frames.specs.Views.Here.{OfFramedProcedure};
+ghost use Rattle.burr_verify.specs.Views.Judgements.{AreBefore, IsLabelWithin};
 
 use burr_container::Container;
 
@@ -16,11 +16,11 @@ pub fn label_within(
 ) -> Option<usize>
     requires { procedure < length container.now.procedures }
     ensures has { IfSome result (HasLabel container.now procedure) }
-    ensures found { OfHere container.now procedure (λ plan here. IsLabelWithin here from end result) }
+    ensures found { OfFramedProcedure container.now procedure (λ plan here. IsLabelWithin here from end result) }
 {
     let label = count_before(container, procedure, from);
-    let behind = count_before(container, procedure, end);
-    if label < behind {
+    let after = count_before(container, procedure, end);
+    if label < after {
         return Some(label);
     }
     None
@@ -33,7 +33,7 @@ fn count_before(container: &Container<'_>, procedure: usize, place: usize) -> us
     ensures few { IfSome (slice_get container.now.procedures procedure)
         (λ p. result ≤ length p.labels.starts.items) }
     ensures many { OfProcedure container.now procedure (λ p q. result ≤ length q.labels) }
-    ensures before { OfHere container.now procedure (λ plan here. AreBefore here place result) }
+    ensures before { OfFramedProcedure container.now procedure (λ plan here. AreBefore here place result) }
 {
     // A container's plan is within the format.
     let _header = container.header();

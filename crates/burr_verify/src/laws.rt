@@ -1,7 +1,7 @@
-ghost use Rattle.burr_verify.specs.LookingLaws.{SomePassLooks, OnePassLooks, SomeLooking};
-ghost use Rattle.burr_verify.specs.LookingLaws.{OneLooking, LookingIsJudging, FewLooks};
-ghost use Rattle.burr_verify.specs.VerifyLaws.{OnePass, PassIsCut, RefusalIsFirst, OneJudging, JudgingIsFraming, JudgingRefuses};
-ghost use Rattle.burr_verify.specs.VerifyLaws.{FittingIsFromContainer};
+ghost use Rattle.burr_verify.specs.Laws.LookingLaws.{SomePassLooks, OnePassLooks, SomeLooking};
+ghost use Rattle.burr_verify.specs.Laws.LookingLaws.{OneLooking, LookingIsJudging, FewLooks};
+ghost use Rattle.burr_verify.specs.Laws.VerifyLaws.{OnePass, PassIsCut, RefusalIsFirst, OneJudging, JudgingIsFraming, JudgingRefuses};
+ghost use Rattle.burr_verify.specs.Laws.VerifyLaws.{FittingIsFromContainer};
 
 /// Over code whose labels stand at rising places, a pass has exactly one judgement: nothing is wrong
 /// exactly where the code can be cut with a state before each instruction, and a refusal names the first

@@ -1,20 +1,20 @@
 //! The pass over a procedure's code and frames.
 
 ghost use Rattle.std.specs.Prelude.{◌≡◌, ◌≢◌, ◌<◌, ◌≤◌, ◌+◌, ◌^◌, List, IfOk, MatchResult, length};
-ghost use Rattle.burr_assembly.specs.Homes.{homes_of};
-ghost use Rattle.burr_blocking.specs.Counted.{HasCounted};
+ghost use Rattle.burr_assembly.specs.Rules.Homes.{homes_of};
+ghost use Rattle.burr_blocking.specs.Rules.Counted.{HasCounted};
 ghost use Rattle.burr_code.specs.declared.limits.TheConstants.{MOST_CODE, MOST_PROCEDURES};
 ghost use Rattle.burr_voxels.specs.declared.cell.Cell.{Cell};
-ghost use Rattle.burr_frames.specs.Here.{OfHere};
-ghost use Rattle.burr_frames.specs.Looks.{HasRoom};
-ghost use Rattle.burr_verify.specs.LookViews.{LooksOn, LooksStop, HasRoomBefore, HasRoomyFrames};
-ghost use Rattle.burr_verify.specs.Pass.{Comes, Judges, outset};
-ghost use Rattle.burr_verify.specs.PassLooks.{LookedPass};
-ghost use Rattle.burr_verify.specs.Views.{judgement_of};
+ghost use Rattle.burr_frames.specs.Views.Here.{OfFramedProcedure};
+ghost use Rattle.burr_frames.specs.Rules.Looks.{HasRoom};
+ghost use Rattle.burr_verify.specs.Views.LookViews.{LooksOn, LooksStop, HasRoomBefore, HasRoomyFrames};
+ghost use Rattle.burr_verify.specs.Rules.Pass.{BeforeInstruction, AtInstruction, pass_start};
+ghost use Rattle.burr_verify.specs.Rules.PassLooks.{LookedPass};
+ghost use Rattle.burr_verify.specs.Views.Judgements.{judgement_of};
 
 use crate::labels::label_within;
 use crate::refusal::Refusal;
-use crate::transfer::{Flow, transfer};
+use crate::transfer::{Successor, transfer};
 use burr_blocking::{Blocking, Looks};
 use burr_code::fetch;
 use burr_container::Container;
@@ -31,8 +31,8 @@ pub fn judge_code<B: Blocking>(
     requires procedure { procedure < length container.now.procedures }
     requires framed { HasRoomyFrames container.now procedure }
     requires room { looks.old.count + 2 ^ 32 ≤ 2 ^ 40 }
-    ensures passed { OfHere container.now procedure (λ plan here. HasCounted
-        (LookedPass (homes_of looks.old.assembly) plan procedure here outset (judgement_of result))
+    ensures passed { OfFramedProcedure container.now procedure (λ plan here. HasCounted
+        (LookedPass (homes_of looks.old.assembly) plan procedure here pass_start (judgement_of result))
         looks.old looks.new) }
     ensures few { looks.new.count ≤ looks.old.count + 2 ^ 32 }
     ensures same { looks.new.assembly ≡ looks.old.assembly }
@@ -45,9 +45,9 @@ pub fn judge_code<B: Blocking>(
     let mut falling = None;
     while pc < size {
         let state = enter(container, procedure, last, pc, falling)?;
-        let (behind, next) = judge_at(container, procedure, pc, state, looks)?;
+        let (after, next) = judge_at(container, procedure, pc, state, looks)?;
         last = pc;
-        pc = behind;
+        pc = after;
         falling = next;
     }
     match falling {
@@ -71,10 +71,10 @@ fn enter(
     requires rising { last ≤ pc }
     requires framed { HasRoomyFrames container.now procedure }
     requires room { HasRoomBefore falling }
-    ensures passes { (homes : List (List Cell)) → OfHere container.now procedure (λ plan here.
+    ensures passes { (homes : List (List Cell)) → OfFramedProcedure container.now procedure (λ plan here.
         pc ≢ length here.code → MatchResult result
-        (λ s. LooksOn homes plan procedure here (Comes last pc falling) (Judges pc s) 0)
-        (λ r. LooksStop homes plan procedure here (Comes last pc falling) r 0)) }
+        (λ s. LooksOn homes plan procedure here (BeforeInstruction last pc falling) (AtInstruction pc s) 0)
+        (λ r. LooksStop homes plan procedure here (BeforeInstruction last pc falling) r 0)) }
     ensures room { IfOk result HasRoom }
 {
     let label = label_within(container, procedure, pc, pc + 1);
@@ -92,7 +92,7 @@ fn enter(
     }
 }
 
-/// Judges the instruction at pc in this state: the place behind it, and the state that falls out of it.
+/// Judges the instruction at pc in this state: the place after it, and the state that falls out of it.
 /// The looks of its rule are counted, at most 2^20. The state has at most 4,096 points, the assembly at
 /// most 32 pieces, and at most 2^40 looks were made so far: the caller's conditions.
 fn judge_at<B: Blocking>(
@@ -109,14 +109,14 @@ fn judge_at<B: Blocking>(
     requires points { HasRoom state }
     requires few_pieces { length looks.old.assembly.pieces ≤ 32 }
     requires room { looks.old.count ≤ 2 ^ 40 }
-    ensures behind { IfOk result (λ ok. pc < ok.0) }
-    ensures within { OfHere container.now procedure (λ plan here.
+    ensures after { IfOk result (λ ok. pc < ok.0) }
+    ensures within { OfFramedProcedure container.now procedure (λ plan here.
         IfOk result (λ ok. ok.0 ≤ length here.code)) }
-    ensures passes { OfHere container.now procedure (λ plan here. HasCounted (λ n.
+    ensures passes { OfFramedProcedure container.now procedure (λ plan here. HasCounted (λ n.
         MatchResult result
-        (λ ok. LooksOn (homes_of looks.old.assembly) plan procedure here (Judges pc state)
-        (Comes pc ok.0 ok.1) n)
-        (λ r. LooksStop (homes_of looks.old.assembly) plan procedure here (Judges pc state) r n))
+        (λ ok. LooksOn (homes_of looks.old.assembly) plan procedure here (AtInstruction pc state)
+        (BeforeInstruction pc ok.0 ok.1) n)
+        (λ r. LooksStop (homes_of looks.old.assembly) plan procedure here (AtInstruction pc state) r n))
         looks.old looks.new) }
     ensures points { IfOk result (λ ok. HasRoomBefore ok.1) }
     ensures few { looks.new.count ≤ looks.old.count + 2 ^ 20 }
@@ -130,8 +130,8 @@ fn judge_at<B: Blocking>(
     }
     let mut state = state;
     match transfer(&mut state, &instruction, container, procedure, looks) {
-        Ok(Flow::Falls) => Ok((pc + size, Some(state))),
-        Ok(Flow::Leaves) => Ok((pc + size, None)),
+        Ok(Successor::FallsThrough) => Ok((pc + size, Some(state))),
+        Ok(Successor::None) => Ok((pc + size, None)),
         Err(broken) => Err(Refusal::of(procedure as u8, pc as u16, broken)),
     }
 }

@@ -1,9 +1,9 @@
 ghost use Rattle.std.specs.Prelude.{◌≡◌, option_map};
-ghost use Rattle.burr_frames.specs.Breaks.{broken_of, missed_break};
+ghost use Rattle.burr_frames.specs.Views.Breaks.{broken_of, missed_break};
 ghost use Rattle.burr_frames.specs.declared.rule.Rule.TheVariants as rules;
-ghost use Rattle.burr_verify.specs.Pass.{Refuses, broken as broken_in};
-ghost use Rattle.burr_verify.specs.Refusals.{plain_refusal};
-ghost use Rattle.burr_verify.specs.Views.{failed_check};
+ghost use Rattle.burr_verify.specs.Rules.Pass.{Refuses, broken as broken_in};
+ghost use Rattle.burr_verify.specs.Views.Refusals.{plain_refusal};
+ghost use Rattle.burr_verify.specs.Views.Judgements.{failed_check};
 
 use arrayvec::ArrayVec;
 use burr_frames::{Break, Miss, Rule};

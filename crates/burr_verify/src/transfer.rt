@@ -1,30 +1,30 @@
 //! The rule of an instruction.
 
 ghost use Rattle.std.specs.Prelude.{◌≡◌, ◌<◌, ◌≤◌, ◌^◌, length};
-ghost use Rattle.burr_assembly.specs.Homes.{homes_of};
-ghost use Rattle.burr_blocking.specs.Counted.{HasCounted};
+ghost use Rattle.burr_assembly.specs.Rules.Homes.{homes_of};
+ghost use Rattle.burr_blocking.specs.Rules.Counted.{HasCounted};
 ghost use Rattle.burr_code.specs.Instruction.{IsInRange};
 ghost use Rattle.burr_code.specs.Meaning.{meaning};
-ghost use Rattle.burr_frames.specs.States.{AbstractState};
-ghost use Rattle.burr_frames.specs.Breaks.{fallen, left};
-ghost use Rattle.burr_frames.specs.Here.{OfHere};
-ghost use Rattle.burr_frames.specs.Looks.{HasRoom, RuleLooks};
-ghost use Rattle.burr_frames.specs.Transfer.{Transfer};
-ghost use Rattle.burr_verify.specs.Views.{verdict_of};
+ghost use Rattle.burr_frames.specs.Rules.States.{AbstractState};
+ghost use Rattle.burr_frames.specs.Views.Breaks.{next_verdict, last_verdict};
+ghost use Rattle.burr_frames.specs.Views.Here.{OfFramedProcedure};
+ghost use Rattle.burr_frames.specs.Rules.Looks.{HasRoom, RuleLooks};
+ghost use Rattle.burr_frames.specs.Rules.Transfer.{Transfer};
+ghost use Rattle.burr_verify.specs.Views.Judgements.{verdict_of};
 
 use burr_blocking::{Blocking, Looks};
 use burr_code::Instr;
 use burr_container::Container;
 use burr_frames::{Break, State};
 
-/// How control leaves an instruction: it falls out of it with a state, or no state is left behind.
+/// How control leaves an instruction: it falls out of it with a state, or no state is left after.
 #[derive(Clone, Copy, Debug, PartialEq, Eq)]
-pub enum Flow {
-    Falls,
-    Leaves,
+pub enum Successor {
+    FallsThrough,
+    None,
 }
 
-/// Changes the state before an instruction of a procedure to the one behind it, or tells which of the
+/// Changes the state before an instruction of a procedure to the one after it, or tells which of the
 /// instruction's checks fails first, and where. The looks are counted that its rule has. The state has
 /// at most 4,096 points, and at most 2^40 looks were made so far, the caller's conditions.
 pub fn transfer<B: Blocking>(
@@ -33,12 +33,12 @@ pub fn transfer<B: Blocking>(
     container: &Container<'_>,
     procedure: usize,
     looks: &mut Looks<'_, B>,
-) -> Result<Flow, Break>
+) -> Result<Successor, Break>
     requires procedure { procedure < length container.now.procedures }
     requires in_range { IsInRange (meaning instruction.now) }
     requires points { HasRoom state.old }
     requires room { looks.old.count ≤ 2 ^ 40 }
-    ensures verdict { OfHere container.now procedure (λ plan here.
+    ensures verdict { OfFramedProcedure container.now procedure (λ plan here.
         Transfer (homes_of looks.old.assembly) plan procedure here state.old
         (meaning instruction.now) (verdict_of state.new result)) }
     ensures counted { HasCounted
@@ -46,38 +46,38 @@ pub fn transfer<B: Blocking>(
         looks.old looks.new }
 {
     match instruction {
-        Instr::Halt => leaving(state.halt(procedure)),
-        Instr::Push(number) => falling(state.push(*number)),
-        Instr::Load(slot) => falling(state.load(*slot)),
-        Instr::Store(slot) => falling(state.store(container.params(procedure), *slot)),
-        Instr::Add => falling(state.add()),
-        Instr::Sub => falling(state.sub()),
-        Instr::Drop => falling(state.drop_top()),
-        Instr::Grip(group) => falling(state.take_grip(*group)),
-        Instr::Step(direction) => falling(state.step(looks, *direction)),
-        Instr::Aside(direction, tray) => falling(state.aside(looks, *direction, *tray)),
-        Instr::Tray(tray) => falling(state.turn_to(*tray)),
-        Instr::Jump(label) => leaving(state.jump(container, procedure, *label)),
-        Instr::Down(slot, label) => falling(state.down(container, procedure, *slot, *label)),
-        Instr::Ask(low, high) => falling(state.ask(*low, *high)),
-        Instr::Pick(labels) => leaving(state.pick(container, procedure, labels)),
-        Instr::Call(callee) => falling(state.call(container, procedure, *callee)),
-        Instr::Ret => leaving(state.ret(container, procedure)),
+        Instr::Halt => has_no_successor(state.halt(procedure)),
+        Instr::Push(number) => falls_through(state.push(*number)),
+        Instr::Load(slot) => falls_through(state.load(*slot)),
+        Instr::Store(slot) => falls_through(state.store(container.params(procedure), *slot)),
+        Instr::Add => falls_through(state.add()),
+        Instr::Sub => falls_through(state.sub()),
+        Instr::Drop => falls_through(state.drop_top()),
+        Instr::Grip(group) => falls_through(state.take_grip(*group)),
+        Instr::Step(direction) => falls_through(state.step(looks, *direction)),
+        Instr::Aside(direction, tray) => falls_through(state.aside(looks, *direction, *tray)),
+        Instr::Tray(tray) => falls_through(state.turn_to(*tray)),
+        Instr::Jump(label) => has_no_successor(state.jump(container, procedure, *label)),
+        Instr::Down(slot, label) => falls_through(state.down(container, procedure, *slot, *label)),
+        Instr::Ask(low, high) => falls_through(state.ask(*low, *high)),
+        Instr::Pick(labels) => has_no_successor(state.pick(container, procedure, labels)),
+        Instr::Call(callee) => falls_through(state.call(container, procedure, *callee)),
+        Instr::Ret => has_no_successor(state.ret(container, procedure)),
     }
 }
 
 /// Control falls out, where no rule is broken.
-fn falling(kept: Result<(), Break>) -> Result<Flow, Break>
-    ensures { (s : AbstractState) → verdict_of s result ≡ fallen s kept }
+fn falls_through(kept: Result<(), Break>) -> Result<Successor, Break>
+    ensures { (s : AbstractState) → verdict_of s result ≡ next_verdict s kept }
 {
     kept?;
-    Ok(Flow::Falls)
+    Ok(Successor::FallsThrough)
 }
 
-/// No state is left behind, where no rule is broken.
-fn leaving(kept: Result<(), Break>) -> Result<Flow, Break>
-    ensures { (s : AbstractState) → verdict_of s result ≡ left kept }
+/// No state is left after, where no rule is broken.
+fn has_no_successor(kept: Result<(), Break>) -> Result<Successor, Break>
+    ensures { (s : AbstractState) → verdict_of s result ≡ last_verdict kept }
 {
     kept?;
-    Ok(Flow::Leaves)
+    Ok(Successor::None)
 }

@@ -15,6 +15,6 @@ IsFree group others direction =
     (k : ℕ) → 1 ≤ k → ¬ Overlap (shifted (along direction (pos k)) group) others
 
 -- a cell of the others lies ahead of one of the group
-abbrev pub Meets : List Cell → List Cell → Direction → Type 0
-Meets group others direction = (from : Cell) × (to : Cell) × Contains group from
+abbrev pub IsAheadOfSome : List Cell → List Cell → Direction → Type 0
+IsAheadOfSome group others direction = (from : Cell) × (to : Cell) × Contains group from
     × Contains others to × IsAhead from to direction

@@ -2,7 +2,7 @@ ghost use Rattle.std.specs.Prelude.{◌≡◌, ◌↔◌, ◌∷◌, [], Contain
 ghost use Rattle.std.specs.List.{All};
 ghost use Rattle.burr_voxels.specs.Grid.{shifted};
 ghost use Rattle.burr_voxels.specs.Near.{IsWithin};
-ghost use Rattle.burr_voxels.specs.CellSets.{Meets, Overlap};
+ghost use Rattle.burr_voxels.specs.CellSets.{IsAheadOfSome, Overlap};
 
 use crate::cell::Cell;
 use crate::direction::Direction;
@@ -11,7 +11,7 @@ use crate::direction::Direction;
 pub fn meets(cells: &[Cell], displacement: Cell, others: &[Cell], direction: Direction) -> bool
     requires cells { All (IsWithin 79) cells.now }
     requires displacement { IsWithin 512 displacement }
-    ensures { IsTrue result ↔ Meets (shifted displacement cells.now) others.now direction }
+    ensures { IsTrue result ↔ IsAheadOfSome (shifted displacement cells.now) others.now direction }
 {
     for cell in cells {
         if is_met(*cell + displacement, others, direction) {
@@ -23,7 +23,7 @@ pub fn meets(cells: &[Cell], displacement: Cell, others: &[Cell], direction: Dir
 
 /// Whether one of the cells lies ahead of a cell along a direction.
 fn is_met(from: Cell, cells: &[Cell], direction: Direction) -> bool
-    ensures { IsTrue result ↔ Meets (from ∷ []) cells.now direction }
+    ensures { IsTrue result ↔ IsAheadOfSome (from ∷ []) cells.now direction }
 {
     for cell in cells {
         if cell.is_ahead_of(from, direction) {

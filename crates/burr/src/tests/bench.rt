@@ -1,9 +1,9 @@
-//! Bare code behind an assembly text, without words.
+//! Bare code after an assembly text, without words.
 use super::transcript::assert_transcript;
 use super::*;
 
 /// Two cubes, which come apart by one code and not by another; an assembly with a mirror; and inputs that
-/// are no assembly with code behind it.
+/// are no assembly with code after it.
 const INPUTS: &str = "\
 <assembly duo
 <shape cube

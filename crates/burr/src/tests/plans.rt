@@ -4,7 +4,7 @@ use super::transcript::assert_transcript;
 use super::*;
 
 /// Containers, also under names that could be options, and what is listed of them. A plan for one of
-/// two pieces has code behind each of three labels, whose places are told.
+/// two pieces has code after each of three labels, whose places are told.
 const CONTAINERS: &str = "\
 $burr list duo.bpln
 >plan duo 2 3

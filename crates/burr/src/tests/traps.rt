@@ -43,7 +43,7 @@ at 0 0 0 0 0
 at 1 0 0 0 0
 ";
 
-/// The code of `two`, with what stands behind it, and what is printed. Where a tray is in use the
+/// The code of `two`, with what stands after it, and what is printed. Where a tray is in use the
 /// piece is not free either; nothing is asked where there are eight operands; the labels that are
 /// missing are 1; both calls return to main for the trap of its `halt`, since a halt elsewhere is
 /// misplaced whatever is apart.

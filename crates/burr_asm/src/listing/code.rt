@@ -1,5 +1,5 @@
 ghost use Rattle.std.specs.Prelude.{◌<◌, ◌≤◌, IfOk, IfSome, length};
-ghost use Rattle.burr_container.specs.Containers.{HasLabel};
+ghost use Rattle.burr_container.specs.Views.Containers.{HasLabel};
 
 use crate::listing::frames::add_frame;
 use crate::listing::instructions::{add_byte, add_instruction};

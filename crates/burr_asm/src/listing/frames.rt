@@ -57,7 +57,7 @@ fn add_conditions(
     add_form_line(text, b"cost ", symbols, &frame.cost())
 }
 
-/// The live slots in rising order, which are the symbols of the frame's forms; behind them 0.
+/// The live slots in rising order, which are the symbols of the frame's forms; after them 0.
 fn live_slots(frame: &FrameRef<'_>) -> [u8; 8] {
     let mut symbols = [0; 8];
     let live = (0..8u8).filter(|slot| frame.slot(*slot).is_some());

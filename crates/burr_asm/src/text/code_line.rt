@@ -46,7 +46,7 @@ impl CodeLine<'_> {
         Some(CodeLine::Plain(PlainLine::of_word(word)?))
     }
 
-    /// The line that begins with this word, and what stands behind the blank; None where it is of no
+    /// The line that begins with this word, and what stands after the blank; None where it is of no
     /// form.
     pub fn with_operands<'a>(word: &[u8], words: &'a [u8]) -> Option<CodeLine<'a>> {
         match Keyword::of(word) {
@@ -55,7 +55,7 @@ impl CodeLine<'_> {
         }
     }
 
-    /// The line that begins with a keyword, and what stands behind the blank.
+    /// The line that begins with a keyword, and what stands after the blank.
     fn with_keyword(keyword: Keyword, words: &[u8]) -> Option<CodeLine<'_>> {
         match keyword {
             Keyword::Jump => Some(CodeLine::Jump(name(words)?)),

@@ -4,7 +4,7 @@ use crate::text::numbers::{coefficient, constant, slot};
 use burr_container::PlanForm;
 use burr_text::{cut_at, is_number};
 
-/// The words of a form: its constant, and behind it its terms.
+/// The words of a form: its constant, and after it its terms.
 #[derive(Clone, Copy)]
 pub struct FormWords<'a> {
     constant: &'a [u8],
@@ -56,7 +56,7 @@ fn before_sign(bytes: &[u8]) -> usize
     }
 }
 
-/// Whether the bytes are terms, one behind the other.
+/// Whether the bytes are terms, one after the other.
 fn are_terms(bytes: &[u8]) -> bool {
     let mut rest = bytes;
     while let Some((_term, more)) = TermWords::cut(rest) {
@@ -66,7 +66,7 @@ fn are_terms(bytes: &[u8]) -> bool {
 }
 
 impl TermWords<'_> {
-    /// The term with which bytes begin, and what stands behind it; None where they begin with none.
+    /// The term with which bytes begin, and what stands after it; None where they begin with none.
     fn cut(bytes: &[u8]) -> Option<(TermWords<'_>, &[u8])>
         ensures { IfSome result (λ found. length found.1.now < length bytes.now) }
     {

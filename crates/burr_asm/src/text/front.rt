@@ -14,7 +14,7 @@ pub enum Front<'a> {
     AwaitsPlan,
     /// The plan's line: that of main is due.
     AwaitsMain(Outline<'a>),
-    /// Lines of a procedure that has not ended, behind procedures that have.
+    /// Lines of a procedure that has not ended, after procedures that have.
     InProcedure(Outline<'a>, Routine<'a>, Stage),
 }
 
@@ -91,7 +91,7 @@ impl<'a> Front<'a> {
     }
 }
 
-/// A line `proc` behind procedures that have all ended; the stage is what follows it.
+/// A line `proc` after procedures that have all ended; the stage is what follows it.
 fn begin<'a>(
     alloc: Global,
     mut outline: Outline<'a>,

@@ -97,7 +97,7 @@ impl LineForm<'_> {
         }
     }
 
-    /// The line that begins with this word, and what stands behind the blank.
+    /// The line that begins with this word, and what stands after the blank.
     fn with_words<'a>(word: &[u8], words: &'a [u8]) -> Option<LineForm<'a>> {
         if let Some(version) = Version::begun_by(word) {
             return Some(LineForm::Plan(PlanWords::parse(version, words)?));
@@ -111,7 +111,7 @@ impl LineForm<'_> {
         }
     }
 
-    /// The line within a frame, or behind it.
+    /// The line within a frame, or after it.
     fn of_frame<'a>(word: &[u8], words: &'a [u8]) -> Option<LineForm<'a>> {
         match word {
             b"slot" => Some(LineForm::Slot(SlotWords::parse(words)?)),

@@ -52,7 +52,7 @@ impl<'a> Outline<'a> {
         self.pieces
     }
 
-    /// A line `proc`, of the plan's version, behind procedures that have all ended.
+    /// A line `proc`, of the plan's version, after procedures that have all ended.
     pub fn begin(
         &mut self,
         alloc: Global,

@@ -47,7 +47,7 @@ impl PlainLine<'_> {
         }
     }
 
-    /// The line that begins with this word, and what stands behind the blank; None where it is of no
+    /// The line that begins with this word, and what stands after the blank; None where it is of no
     /// form.
     pub fn with_operands<'a>(word: &[u8], words: &'a [u8]) -> Option<PlainLine<'a>> {
         match word {

@@ -61,7 +61,7 @@ impl<'a> Routine<'a> {
         Ok(())
     }
 
-    /// One more statement behind its code.
+    /// One more statement after its code.
     pub fn add_statement(&mut self, statement: Statement<'a>, line: usize) -> Result<(), AsmFault> {
         self.code.add(statement, line)
     }

@@ -25,7 +25,7 @@ pub enum Stage {
     InFrame(Conditions),
     /// A frame with its cost: pieces are due.
     AwaitsPieces(Frame),
-    /// Behind a frame: code, a label, a procedure or the end may stand next.
+    /// After a frame: code, a label, a procedure or the end may stand next.
     InCode,
 }
 
@@ -86,7 +86,7 @@ impl Stage {
     }
 }
 
-/// A line of an exit frame, behind its first.
+/// A line of an exit frame, after its first.
 fn in_exit(
     routine: &mut Routine<'_>,
     mut exit: Exit,
@@ -132,7 +132,7 @@ fn in_pieces(
     Ok(Stage::InCode)
 }
 
-/// A line behind a frame: code or a label.
+/// A line after a frame: code or a label.
 fn in_code<'a>(
     routine: &mut Routine<'a>,
     form: LineForm<'a>,

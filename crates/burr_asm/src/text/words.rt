@@ -23,13 +23,13 @@ pub fn name(bytes: &[u8]) -> Option<&[u8]> {
     is_name(bytes).then_some(bytes)
 }
 
-/// A number up to the first blank, and what stands behind the blank.
+/// A number up to the first blank, and what stands after the blank.
 pub fn cut_number(bytes: &[u8]) -> Option<(&[u8], &[u8])> {
     let (word, rest) = cut_at(bytes, b' ')?;
     Some((number(word)?, rest))
 }
 
-/// A name up to the first blank, and what stands behind the blank.
+/// A name up to the first blank, and what stands after the blank.
 pub fn cut_name(bytes: &[u8]) -> Option<(&[u8], &[u8])> {
     let (word, rest) = cut_at(bytes, b' ')?;
     Some((name(word)?, rest))

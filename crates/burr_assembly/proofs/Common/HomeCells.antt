@@ -5,22 +5,22 @@ use Rattle.std.proofs.lemmas.Option.{slice_get-map, slice_get_cases, same_Some, 
 use Rattle.std.proofs.lemmas.List.Elements.{All-head, All-tail, All-contains, Contains-append_right}
 use Rattle.std.proofs.lemmas.Slice.Eq.{bytes_eq-Decides}
 use Rattle.burr_voxels.specs.declared.cell.Cell.{Cell}
-use Rattle.burr_assembly.specs.Text.{Assembly, IsAssembly, Drawing, Piece, IsPiece, HasCells}
+use Rattle.burr_assembly.specs.Rules.Text.{Assembly, IsAssembly, Drawing, Piece, IsPiece, HasCells}
 use Rattle.burr_assembly.proofs.Sharing.{one_cells}
-use Rattle.burr_assembly.specs.Homes.{HasHome}
-use Rattle.burr_assembly.specs.Homes.{HaveCells}
-use Rattle.burr_assembly.specs.Homes.{home_of, homes_of}
+use Rattle.burr_assembly.specs.Rules.Homes.{HasHome}
+use Rattle.burr_assembly.specs.Rules.Homes.{HaveCells}
+use Rattle.burr_assembly.specs.Rules.Homes.{home_of, homes_of}
 
 -- the cells of the first shape of this name
 home_of_named : (s : Drawing) (shapes : List Drawing) (p : Piece) → s.name ≡ p.shape → HasCells (s ∷ shapes) p (home_of (s ∷ shapes) p)
 home_of_named s shapes p named = (s, (0, omega arith, refl), named, rw ((bytes_eq-Decides s.name p.shape).1 named) refl)
 
-home_of_behind : (s : Drawing) (shapes : List Drawing) (p : Piece) → bytes_eq s.name p.shape ≡ false → HasCells shapes p (home_of shapes p) → HasCells (s ∷ shapes) p (home_of (s ∷ shapes) p)
-home_of_behind s shapes p other (t, has, named, cells) = (t, Contains-append_right (s ∷ []) shapes t has, named, rw other cells)
+home_of_after : (s : Drawing) (shapes : List Drawing) (p : Piece) → bytes_eq s.name p.shape ≡ false → HasCells shapes p (home_of shapes p) → HasCells (s ∷ shapes) p (home_of (s ∷ shapes) p)
+home_of_after s shapes p other (t, has, named, cells) = (t, Contains-append_right (s ∷ []) shapes t has, named, rw other cells)
 
 home_of_first : (test : Bool) (s : Drawing) (shapes : List Drawing) (p : Piece) → bytes_eq s.name p.shape ≡ test → HasCells shapes p (home_of shapes p) → HasCells (s ∷ shapes) p (home_of (s ∷ shapes) p)
 home_of_first true s shapes p same home = home_of_named s shapes p ((bytes_eq-Decides s.name p.shape).0 same)
-home_of_first false s shapes p other home = home_of_behind s shapes p other home
+home_of_first false s shapes p other home = home_of_after s shapes p other home
 
 -- where a shape has the name, the cells are those of the piece
 pub home_has : (shapes : List Drawing) (p : Piece) (k : ℕ) (t : Drawing) → k < length shapes → get_or shapes k t ≡ t → t.name ≡ p.shape → HasCells shapes p (home_of shapes p)

@@ -8,9 +8,9 @@ use Rattle.burr_voxels.specs.Near.{IsWithin}
 use Rattle.burr_voxels.specs.Turns.{turned}
 use Rattle.burr_voxels.proofs.Common.Freedom.{Contains-from_map}
 use Rattle.burr_voxels.proofs.Common.Turning.{turned_apart}
-use Rattle.burr_assembly.specs.Text.{Drawing, IsDrawing, Piece, HasCells, Turn, IsTurn, home_cells, drawn_cells}
-use Rattle.burr_assembly.specs.Homes.{DiameterAtMost}
-use Rattle.burr_assembly.specs.Laws.{HomesAreSmall}
+use Rattle.burr_assembly.specs.Rules.Text.{Drawing, IsDrawing, Piece, HasCells, Turn, IsTurn, home_cells, drawn_cells}
+use Rattle.burr_assembly.specs.Rules.Homes.{DiameterAtMost}
+use Rattle.burr_assembly.specs.Laws.Texts.{HomesAreSmall}
 use Rattle.burr_assembly.proofs.Boxes.{Boxed, drawn_boxed}
 use Rattle.burr_assembly.proofs.Common.HomeCells.{piece_of_home}
 

@@ -1,10 +1,10 @@
 -- For crates above: the pieces of an assembly have their cells at home in one way.
 use Rattle.std.proofs.Common.{◌≡◌, List, [], ◌∷◌, refl}
 use Rattle.burr_voxels.specs.declared.cell.Cell.{Cell}
-use Rattle.burr_assembly.specs.Text.{Assembly, Piece}
-use Rattle.burr_assembly.specs.Drawings.{AreDistinct}
+use Rattle.burr_assembly.specs.Rules.Text.{Assembly, Piece}
+use Rattle.burr_assembly.specs.Views.Drawings.{AreDistinct}
 use Rattle.burr_assembly.proofs.Sharing.{one_cells}
-use Rattle.burr_assembly.specs.Homes.{HaveCells}
+use Rattle.burr_assembly.specs.Rules.Homes.{HaveCells}
 
 pub one_homes : (a : Assembly) (pieces : List Piece) (homes others : List (List Cell)) → AreDistinct a.shapes → HaveCells a pieces homes → HaveCells a pieces others → homes ≡ others
 one_homes a [] [] [] distinct h k = refl

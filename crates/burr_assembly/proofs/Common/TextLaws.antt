@@ -1,9 +1,9 @@
 -- For crates above: the laws of assembly texts, from what is known of their answers.
 use Rattle.std.proofs.Common.{◌≡◌, ◌⊎◌, ℕ, List, Result, Ok, Err, refl, sym, inl, inr}
 use Rattle.burr_assembly.specs.declared.fault.AssemblyFault.{AssemblyFault}
-use Rattle.burr_assembly.specs.Text.{Assembly, IsText}
-use Rattle.burr_assembly.specs.Faults.{Blank, TextGives, FirstFault}
-use Rattle.burr_assembly.specs.Laws.{OneAssembly, FaultOrAssembly, NoFault, OneFault, ReadsBack, WritesBack}
+use Rattle.burr_assembly.specs.Rules.Text.{Assembly, IsText}
+use Rattle.burr_assembly.specs.Rules.Faults.{Blank, TextGives, FirstFault}
+use Rattle.burr_assembly.specs.Laws.Texts.{OneAssembly, FaultOrAssembly, NoFault, OneFault, ReadsBack, WritesBack}
 use Rattle.burr_assembly.proofs.Beginnings.{reached_blank, text_sound}
 use Rattle.burr_assembly.proofs.Takes.{text_complete}
 use Rattle.burr_assembly.proofs.OneAnswer.{one_text_answer}

@@ -1,10 +1,10 @@
 ghost use Rattle.std.specs.Prelude.{◌≡◌, Ok, Err, IfOk, IfErr};
-ghost use Rattle.burr_assembly.specs.Lines.{IsLineForm, IsPieceWords};
-ghost use Rattle.burr_assembly.specs.LineViews.{form_of, words_of};
-ghost use Rattle.burr_assembly.specs.Faults.{FormGives, PieceRule, LineGives, EndGives, Blank, Shapes};
-ghost use Rattle.burr_assembly.specs.ReaderViews.{sketched, IsDue, beginning_of, assembly_of, IsReady, IsHome};
-ghost use Rattle.burr_assembly.specs.HomedPieces.{pieces_of, AreAtHome};
-ghost use Rattle.burr_assembly.specs.Drawings.{AreDistinct};
+ghost use Rattle.burr_assembly.specs.Rules.Lines.{IsLineForm, IsPieceWords};
+ghost use Rattle.burr_assembly.specs.Views.LineViews.{form_of, words_of};
+ghost use Rattle.burr_assembly.specs.Rules.Faults.{FormGives, PieceRule, LineGives, EndGives, Blank, Shapes};
+ghost use Rattle.burr_assembly.specs.Views.ReaderViews.{sketched, IsDue, beginning_of, assembly_of, IsReady, IsHome};
+ghost use Rattle.burr_assembly.specs.Views.HomedPieces.{pieces_of, AreAtHome};
+ghost use Rattle.burr_assembly.specs.Views.Drawings.{AreDistinct};
 
 use crate::assembly::FEWEST_PIECES;
 use crate::fault::AssemblyFault;
@@ -27,9 +27,9 @@ pub enum Beginning {
     Blank,
     /// The assembly's name, and shapes that have ended.
     Shapes(Header),
-    /// Behind them a shape that has not.
+    /// After them a shape that has not.
     Drawing(Header, Sketch),
-    /// The shapes, and behind them a piece at least.
+    /// The shapes, and after them a piece at least.
     Pieces(Header, Occupancy),
 }
 
@@ -67,7 +67,7 @@ impl Beginning {
     {
         match self {
             Beginning::Blank => begin(alloc, form, line),
-            Beginning::Shapes(header) => behind_shapes(alloc, header, form, line),
+            Beginning::Shapes(header) => after_shapes(alloc, header, form, line),
             Beginning::Drawing(header, sketch) => in_shape(alloc, header, sketch, form, line),
             Beginning::Pieces(header, occupancy) => match form {
                 TextLine::Piece(words) => with_piece(alloc, header, occupancy, words, line),
@@ -131,8 +131,8 @@ fn begin(alloc: Global, form: TextLine<'_>, line: usize) -> Result<Beginning, As
     }
 }
 
-/// A line behind the shapes that have ended: a shape begins, or the first piece comes.
-fn behind_shapes(
+/// A line after the shapes that have ended: a shape begins, or the first piece comes.
+fn after_shapes(
     alloc: Global,
     header: Header,
     form: TextLine<'_>,
@@ -197,7 +197,7 @@ fn in_shape(
     }
 }
 
-/// A piece's line behind the shapes and the pieces so far.
+/// A piece's line after the shapes and the pieces so far.
 fn with_piece(
     alloc: Global,
     header: Header,

@@ -1,11 +1,11 @@
 ghost use Rattle.std.specs.Prelude.{◌≡◌, ◌↔◌, ◌++◌, ◌∷◌, [], Ok, Err, IsTrue, IfOk, IfErr, Any, None, length, ◌<◌, option_copied};
-ghost use Rattle.burr_assembly.specs.Text.{IsShapeName, HasCells};
-ghost use Rattle.burr_assembly.specs.HomedPieces.{HomedPiece, IsFirstMeeting, pieces_of, AreAtHome};
-ghost use Rattle.burr_assembly.specs.Lines.{ShapeLine, IsPieceWords};
-ghost use Rattle.burr_assembly.specs.LineViews.{words_of};
-ghost use Rattle.burr_assembly.specs.Faults.{FormGives, PieceRule, Shapes, Pieces};
-ghost use Rattle.burr_assembly.specs.ReaderViews.{sketched, IsDue};
-ghost use Rattle.burr_assembly.specs.Drawings.{IsShapeOf, AreDistinct};
+ghost use Rattle.burr_assembly.specs.Rules.Text.{IsShapeName, HasCells};
+ghost use Rattle.burr_assembly.specs.Views.HomedPieces.{HomedPiece, IsFirstMeeting, pieces_of, AreAtHome};
+ghost use Rattle.burr_assembly.specs.Rules.Lines.{ShapeLine, IsPieceWords};
+ghost use Rattle.burr_assembly.specs.Views.LineViews.{words_of};
+ghost use Rattle.burr_assembly.specs.Rules.Faults.{FormGives, PieceRule, Shapes, Pieces};
+ghost use Rattle.burr_assembly.specs.Views.ReaderViews.{sketched, IsDue};
+ghost use Rattle.burr_assembly.specs.Views.Drawings.{IsShapeOf, AreDistinct};
 
 use crate::fault::AssemblyFault;
 use crate::occupancy::{MOST_PIECES, Occupancy};
@@ -29,7 +29,7 @@ pub struct Header {
 }
 
 impl Header {
-    /// A line `shape NAME` behind the shapes so far.
+    /// A line `shape NAME` after the shapes so far.
     pub fn begin_shape(
         &self,
         alloc: Global,
@@ -68,7 +68,7 @@ impl Header {
             .find(|shape| shape.name().as_bytes() == name)
     }
 
-    /// A piece's line behind the pieces so far: the piece, if its words are right and it shares no
+    /// A piece's line after the pieces so far: the piece, if its words are right and it shares no
     /// cell with an earlier one.
     pub fn piece(
         &self,

@@ -1,6 +1,6 @@
 ghost use Rattle.std.specs.Prelude.{◌≡◌, ◌↔◌, ◌∷◌, [], IsTrue, MatchOption};
-ghost use Rattle.burr_assembly.specs.Lines.{LineForm, IsLine, IsMarks, IsPieceWords, PieceWords, piece_words_text};
-ghost use Rattle.burr_assembly.specs.LineViews.{HasWords, form_of, words_of};
+ghost use Rattle.burr_assembly.specs.Rules.Lines.{LineForm, IsLine, IsMarks, IsPieceWords, PieceWords, piece_words_text};
+ghost use Rattle.burr_assembly.specs.Views.LineViews.{HasWords, form_of, words_of};
 
 use burr_text::{cut_at, is_number, is_word};
 
@@ -72,7 +72,7 @@ fn is_row(bytes: &[u8]) -> bool
 }
 
 impl PieceLine<'_> {
-    /// The words behind `piece `; None where they are not six words of which the last three are
+    /// The words after `piece `; None where they are not six words of which the last three are
     /// numbers.
     fn parse(bytes: &[u8]) -> Option<PieceLine<'_>>
         ensures { MatchOption result

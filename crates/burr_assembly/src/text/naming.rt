@@ -1,7 +1,7 @@
 ghost use Rattle.std.specs.Prelude.{◌≡◌, MatchOption};
-ghost use Rattle.burr_assembly.specs.Lines.{IsLine, PieceLine as PieceForm, PieceWords};
-ghost use Rattle.burr_assembly.specs.LineViews.{words_of};
-ghost use Rattle.burr_assembly.specs.PieceNames.{name_at};
+ghost use Rattle.burr_assembly.specs.Rules.Lines.{IsLine, PieceLine as PieceForm, PieceWords};
+ghost use Rattle.burr_assembly.specs.Views.LineViews.{words_of};
+ghost use Rattle.burr_assembly.specs.Rules.PieceNames.{name_at};
 
 use crate::text::line::{PieceLine, TextLine};
 use burr_text::cut_at;

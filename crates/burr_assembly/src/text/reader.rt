@@ -1,7 +1,7 @@
 ghost use Rattle.std.specs.Prelude.{◌≡◌, Ok, Err, IfOk, IfErr};
-ghost use Rattle.burr_assembly.specs.Text.{IsText};
-ghost use Rattle.burr_assembly.specs.Faults.{FirstFault};
-ghost use Rattle.burr_assembly.specs.ReaderViews.{IsDue};
+ghost use Rattle.burr_assembly.specs.Rules.Text.{IsText};
+ghost use Rattle.burr_assembly.specs.Rules.Faults.{FirstFault};
+ghost use Rattle.burr_assembly.specs.Views.ReaderViews.{IsDue};
 
 use crate::assembly::Assembly;
 use crate::fault::AssemblyFault;

@@ -1,8 +1,8 @@
 ghost use Rattle.std.specs.Prelude.{◌≡◌, ◌≤◌, ◌<◌, ◌↔◌, ◌++◌, ◌∷◌, [], ℕ, List, None, Ok, Err, length, IsTrue, IfOk, IfErr, All};
-ghost use Rattle.burr_assembly.specs.Text.{drawn_sides};
-ghost use Rattle.burr_assembly.specs.Lines.{LayerLine, RowLine, EndLine};
-ghost use Rattle.burr_assembly.specs.Faults.{IsFinishedLayer, IsRow, Shapes};
-ghost use Rattle.burr_assembly.specs.ReaderViews.{sketched, SketchGives, IsDue};
+ghost use Rattle.burr_assembly.specs.Rules.Text.{drawn_sides};
+ghost use Rattle.burr_assembly.specs.Rules.Lines.{LayerLine, RowLine, EndLine};
+ghost use Rattle.burr_assembly.specs.Rules.Faults.{IsFinishedLayer, IsRow, Shapes};
+ghost use Rattle.burr_assembly.specs.Views.ReaderViews.{sketched, SketchGives, IsDue};
 
 use crate::drawing::{Layer, Row, SIDE, cells_of};
 use crate::fault::AssemblyFault;
@@ -16,7 +16,7 @@ use std::marker::Model;
 const MOST_CELLS: usize = 512;
 
 /// A shape that has not ended: the layers that are finished, fewer than 16 and none without rows,
-/// and the layer that has begun behind them.
+/// and the layer that has begun after them.
 #[derive(Debug, Drop)]
 pub struct Sketch {
     name: Name,
@@ -26,7 +26,7 @@ pub struct Sketch {
 
 impl Model for Sketch {
     ghost use Rattle.std.specs.Prelude.{◌<◌, List, ℕ, length, vec_len, All};
-    ghost use Rattle.burr_assembly.specs.Drawings.{Sketched};
+    ghost use Rattle.burr_assembly.specs.Views.Drawings.{Sketched};
 
     ghost Value = { Sketched };
 
@@ -138,7 +138,7 @@ impl Sketch {
     }
 }
 
-/// Whether a layer may be finished behind others: it has rows, as many as the first.
+/// Whether a layer may be finished after others: it has rows, as many as the first.
 fn is_finished_layer(layers: &[Layer], layer: &Layer) -> bool
     ensures { IsTrue result ↔ IsFinishedLayer layers.now layer.now }
 {
@@ -150,7 +150,7 @@ fn is_finished_layer(layers: &[Layer], layer: &Layer) -> bool
     height >= 1 && is_like_first
 }
 
-/// Whether a row may stand behind those of a layer: there is room, and it is as wide as the shape's
+/// Whether a row may stand after those of a layer: there is room, and it is as wide as the shape's
 /// first row.
 fn is_row_of(layers: &[Layer], layer: &Layer, marks: &[u8]) -> bool
     requires { All (λ (rows : List (List ℕ)). 0 < length rows) layers.now }

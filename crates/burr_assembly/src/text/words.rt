@@ -1,7 +1,7 @@
 ghost use Rattle.std.specs.Prelude.{MatchOption};
 ghost use Rattle.burr_voxels.specs.declared.cell.Cell.{Cell as CellOf};
-ghost use Rattle.burr_assembly.specs.Text.{IsPositionText};
-ghost use Rattle.burr_assembly.specs.LineViews.{IsCoordinateText};
+ghost use Rattle.burr_assembly.specs.Rules.Text.{IsPositionText};
+ghost use Rattle.burr_assembly.specs.Views.LineViews.{IsCoordinateText};
 
 use burr_text::integer;
 use burr_voxels::Cell;

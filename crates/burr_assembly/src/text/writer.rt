@@ -1,8 +1,8 @@
 ghost use Rattle.std.specs.Prelude.{◌≡◌, ◌++◌, ◌∷◌, [], IfOk, OnOk};
 ghost use Rattle.std.specs.Fmt.{signed_decimal};
 ghost use Rattle.std.specs.List.{flat_map};
-ghost use Rattle.burr_assembly.specs.Text.{text_of, shape_text, layer_text, piece_text};
-ghost use Rattle.burr_assembly.specs.HomedPieces.{pieces_of};
+ghost use Rattle.burr_assembly.specs.Rules.Text.{text_of, shape_text, layer_text, piece_text};
+ghost use Rattle.burr_assembly.specs.Views.HomedPieces.{pieces_of};
 
 use crate::drawing::{Layer, Row};
 use crate::piece::Piece;

@@ -33,7 +33,7 @@ fn finds_the_first_point(rt: HostRuntime) {
 }
 
 #[test]
-fn finds_points_behind_cut_ones(rt: HostRuntime) {
+fn finds_points_after_cut_ones(rt: HostRuntime) {
     let ranges = [(0, 1), (0, 5)];
     // The guards cut the ends of each line; the numbers of each one between are from 1 to 4, and 2 to 4.
     let guards = [form(-1, -1, 1), form(4, 0, -1)];

@@ -1,6 +1,6 @@
 //! Values, sums and substitution.
 ghost use Rattle.std.specs.Prelude.{◌↔◌, IsTrue};
-ghost use Rattle.burr_forms.specs.Forms.{IsNear};
+ghost use Rattle.burr_forms.specs.Rules.Forms.{IsNear};
 
 use super::{MOST, form, is_small, number};
 use burr_forms::{Form, FormTooLarge, Guards};

@@ -13,15 +13,15 @@ use Rattle.burr_voxels.proofs.Common.Ahead.{same_cell}
 use Rattle.burr_voxels.specs.CellSets.{Overlap, IsFree}
 use Rattle.burr_code.specs.PieceSets.{IsInSet}
 use Rattle.burr_code.specs.Places.{Placement, LiesAt, LiesIn}
-use Rattle.burr_assembly.specs.Text.{Assembly}
-use Rattle.burr_assembly.specs.Homes.{HasHome, home_at, home_of, homes_of}
+use Rattle.burr_assembly.specs.Rules.Text.{Assembly}
+use Rattle.burr_assembly.specs.Rules.Homes.{HasHome, home_at, home_of, homes_of}
 use Rattle.burr_blocking.specs.declared.query.Query.{Query}
-use Rattle.burr_blocking.specs.Pairs.{IsBlocked, Clears}
+use Rattle.burr_blocking.specs.Rules.Pairs.{IsBlocked, Clears}
 use Rattle.burr_blocking.proofs.Common.Displaced.{free_of_difference, difference_of_free, blocked_of_overlap, overlap_of_blocked, overlap_before}
 use Rattle.burr_bench.specs.declared.checked.way.Way.{Way}
 use Rattle.burr_bench.specs.declared.checked.way.Way.TheVariants as ways
-use Rattle.burr_state.specs.Space.{IsFreeGroup, NoOverlapIn, moved_places}
-use Rattle.burr_state.specs.Benches.{Benched}
+use Rattle.burr_state.specs.Rules.Space.{IsFreeGroup, NoOverlapIn, moved_places}
+use Rattle.burr_state.specs.Views.Benches.{Benched}
 use Rattle.burr_bench.specs.BenchViews.{SetsOut}
 use Rattle.burr_bench.specs.Ways.{PassesPiece, PassesRest, GroupPasses, query_of, setting_out}
 use Rattle.burr_code.proofs.Common.Conditions.{one_position, lies_within}
@@ -100,7 +100,7 @@ passing_of_free homes places tray group direction as_many free p bit offset lies
 
 -- One unit
 
--- no two pieces of the tray overlap behind the unit where the group passes: two pieces of the group, or two of the rest, lie to each other as before
+-- no two pieces of the tray overlap after the unit where the group passes: two pieces of the group, or two of the rest, lie to each other as before
 pub no_overlap_of_passing : (homes : List (List Cell)) (places : List (Placement Cell)) (tray group : ℕ) (direction : Direction) → NoOverlapIn homes places tray
     → GroupPasses (ways.Unit direction) homes places tray group → NoOverlapIn homes (moved_places group direction places) tray
 no_overlap_of_passing homes places tray group direction apart passes p q p_home q_home p_offset q_offset other has has_q lies lies_q over =

@@ -2,8 +2,8 @@
 
 ghost use Rattle.std.specs.Prelude.{◌≡◌, None, Some, Ok};
 ghost use Rattle.burr_state.specs.declared.mode.Mode.TheVariants.{Running};
-ghost use Rattle.burr_state.specs.Step.{CallIn};
-ghost use Rattle.burr_state.specs.Benches.{setup_of, GoesOn, IsSameRun};
+ghost use Rattle.burr_state.specs.Rules.Step.{CallIn};
+ghost use Rattle.burr_state.specs.Views.Benches.{setup_of, GoesOn, IsSameRun};
 
 use crate::checked::Checked;
 use burr_blocking::Blocking;

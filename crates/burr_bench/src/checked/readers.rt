@@ -1,9 +1,9 @@
 ghost use Rattle.std.specs.Prelude.{◌≡◌, ◌≤◌, ◌<◌, ◌↔◌, ◌+◌, length, IsTrue, IfSome, Some, None, slice_get, get_or, reverse};
-ghost use Rattle.burr_assembly.specs.Text.{IsAssembly};
+ghost use Rattle.burr_assembly.specs.Rules.Text.{IsAssembly};
 ghost use Rattle.burr_voxels.specs.Near.{IsWithin};
 ghost use Rattle.burr_code.specs.declared.limits.TheConstants.{MOST_BUDGET, SLOTS};
 ghost use Rattle.burr_state.specs.declared.mode.Mode.TheVariants.{Ended};
-ghost use Rattle.burr_state.specs.Spots.{placed};
+ghost use Rattle.burr_state.specs.Views.Spots.{placed};
 
 use crate::checked::Checked;
 use burr_assembly::Assembly;

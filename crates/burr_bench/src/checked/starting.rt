@@ -1,14 +1,14 @@
 ghost use Rattle.std.specs.Prelude.{◌≡◌, ◌↔◌, ◌≤◌, IsOk, IfOk, IfErr, length};
-ghost use Rattle.burr_assembly.specs.Text.{IsAssembly};
+ghost use Rattle.burr_assembly.specs.Rules.Text.{IsAssembly};
 ghost use Rattle.burr_code.specs.declared.limits.TheConstants.{MOST_CODE};
-ghost use Rattle.burr_container.specs.Plans.{Plan};
-ghost use Rattle.burr_container.specs.Containers.{IsContainer};
-ghost use Rattle.burr_verify.specs.Fitting.{FitsAssembly};
-ghost use Rattle.burr_verify.specs.Refusals.{another_assembly};
-ghost use Rattle.burr_state.specs.Bench.{bare_program};
-ghost use Rattle.burr_state.specs.Programs.{plan_program};
-ghost use Rattle.burr_state.specs.StateViews.{at_start};
-ghost use Rattle.burr_state.specs.Benches.{IsAtStart};
+ghost use Rattle.burr_container.specs.Rules.Plans.{Plan};
+ghost use Rattle.burr_container.specs.Views.Containers.{IsContainer};
+ghost use Rattle.burr_verify.specs.Rules.Fitting.{FitsAssembly};
+ghost use Rattle.burr_verify.specs.Views.Refusals.{another_assembly};
+ghost use Rattle.burr_state.specs.Rules.Bench.{bare_program};
+ghost use Rattle.burr_state.specs.Views.Programs.{plan_program};
+ghost use Rattle.burr_state.specs.Views.StateViews.{at_start};
+ghost use Rattle.burr_state.specs.Views.Benches.{IsAtStart};
 
 use crate::checked::Checked;
 use burr_blocking::Blocking;

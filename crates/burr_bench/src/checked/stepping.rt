@@ -2,9 +2,9 @@ ghost use Rattle.std.specs.Prelude.{◌≡◌, ◌+◌, ◌≤◌, Ok, length, O
 ghost use Rattle.burr_code.specs.Instruction.{Step, Aside, spelled};
 ghost use Rattle.burr_code.specs.declared.limits.TheConstants.{MOST_CODE};
 ghost use Rattle.burr_state.specs.declared.mode.Mode.TheVariants.{Running};
-ghost use Rattle.burr_state.specs.Step.{NextIs, CallIn, Called};
-ghost use Rattle.burr_state.specs.Effects.{next_of, KeepsUnlessGoes, motion_made};
-ghost use Rattle.burr_state.specs.Benches.{setup_of, motion_in, GoesOn, IsSameRun};
+ghost use Rattle.burr_state.specs.Rules.Step.{NextIs, CallIn, Called};
+ghost use Rattle.burr_state.specs.Views.Effects.{next_of, KeepsUnlessGoes, motion_made};
+ghost use Rattle.burr_state.specs.Views.Benches.{setup_of, motion_in, GoesOn, IsSameRun};
 ghost use Rattle.burr_bench.specs.BenchViews.{Follows};
 
 use crate::checked::Checked;

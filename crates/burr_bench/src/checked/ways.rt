@@ -1,10 +1,10 @@
 ghost use Rattle.std.specs.Prelude.{◌≡◌, ◌≢◌, ◌<◌, ◌≤◌, ◌↔◌, length, IfSome, IsTrue};
 ghost use Rattle.burr_voxels.specs.Near.{IsWithin};
 ghost use Rattle.burr_code.specs.PieceSets.{IsInSet};
-ghost use Rattle.burr_assembly.specs.Homes.{homes_of};
+ghost use Rattle.burr_assembly.specs.Rules.Homes.{homes_of};
 ghost use Rattle.burr_bench.specs.BenchViews.{SetsOut, GripPasses};
 ghost use Rattle.burr_bench.specs.Ways.{PassesPiece, PassesRest};
-ghost use Rattle.burr_state.specs.StateViews.{IsOffsetHere};
+ghost use Rattle.burr_state.specs.Views.StateViews.{IsOffsetHere};
 
 use crate::checked::Checked;
 use crate::checked::way::Way;

@@ -1,6 +1,6 @@
 -- Counts of looks: none more, and some and then others.
 use Rattle.std.proofs.Common.{◌≡◌, ◌∙◌, ℕ, ◌+◌, ap, arith}
-use Rattle.burr_blocking.specs.Counted.{Counted, counted, with_more}
+use Rattle.burr_blocking.specs.Rules.Counted.{Counted, counted, with_more}
 
 pub none_more : (looks : Counted) → looks ≡ with_more 0 looks
 none_more looks = ap (counted looks.assembly) (plain looks.count)

@@ -5,9 +5,9 @@ use Rattle.std.proofs.lemmas.Int.{ints}
 use Rattle.burr_voxels.specs.declared.cell.Cell.{Cell}
 use Rattle.burr_voxels.specs.declared.direction.Direction.{Direction}
 use Rattle.burr_voxels.specs.Grid.{plus, minus, along, shifted}
-use Rattle.burr_voxels.specs.CellSets.{Overlap, IsFree, Meets}
+use Rattle.burr_voxels.specs.CellSets.{Overlap, IsFree, IsAheadOfSome}
 use Rattle.burr_voxels.proofs.Common.Freedom.{Contains-map, Contains-from_map, free_where_none_ahead, none_ahead_where_free}
-use Rattle.burr_blocking.specs.Pairs.{IsBlocked, IsFreeFrom}
+use Rattle.burr_blocking.specs.Rules.Pairs.{IsBlocked, IsFreeFrom}
 
 -- cells with the same coordinates are the same
 same_cell : (c d : Cell) → c.x ≡ d.x → c.y ≡ d.y → c.z ≡ d.z → c ≡ d
@@ -87,10 +87,10 @@ difference_of_free a b ps qs direction free k least blocked =
     free k least (subst (λ (cs : List Cell). Overlap cs (shifted b qs)) (sym (shifted_twice u a ps)) overlap)
 
 -- the one is free of the other where none of the other's cells lies ahead
-pub free_where_unmet : (d : Cell) (ps qs : List Cell) (direction : Direction) → (¬ Meets (shifted d ps) qs direction) → IsFreeFrom ps qs d direction
+pub free_where_unmet : (d : Cell) (ps qs : List Cell) (direction : Direction) → (¬ IsAheadOfSome (shifted d ps) qs direction) → IsFreeFrom ps qs d direction
 free_where_unmet d ps qs direction none = (free_from d ps qs direction).0 (free_where_none_ahead (shifted d ps) qs direction (λ from to here there ahead. none (from, to, here, there, ahead)))
 
-pub unmet_where_free : (d : Cell) (ps qs : List Cell) (direction : Direction) → IsFreeFrom ps qs d direction → ¬ Meets (shifted d ps) qs direction
+pub unmet_where_free : (d : Cell) (ps qs : List Cell) (direction : Direction) → IsFreeFrom ps qs d direction → ¬ IsAheadOfSome (shifted d ps) qs direction
 unmet_where_free d ps qs direction free (from, to, here, there, ahead) = none_ahead_where_free (shifted d ps) qs direction ((free_from d ps qs direction).1 free) from to here there ahead
 
 -- Two pieces that moved alike

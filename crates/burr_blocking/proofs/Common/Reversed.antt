@@ -7,7 +7,7 @@ use Rattle.burr_voxels.specs.declared.direction.Direction.{Direction}
 use Rattle.burr_voxels.specs.Grid.{plus, minus, along, origin}
 use Rattle.burr_voxels.proofs.Common.Ahead.{same_cell}
 use Rattle.burr_voxels.proofs.Common.Freedom.{Contains-map, Contains-from_map}
-use Rattle.burr_blocking.specs.Pairs.{IsBlocked, IsFreeFrom}
+use Rattle.burr_blocking.specs.Rules.Pairs.{IsBlocked, IsFreeFrom}
 
 -- Cells
 

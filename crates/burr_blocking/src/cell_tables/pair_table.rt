@@ -2,9 +2,9 @@ ghost use Rattle.std.specs.Prelude.{◌≡◌, ◌↔◌, ◌+◌, ◌<◌, leng
 ghost use Rattle.std.specs.List.{All};
 ghost use Rattle.burr_voxels.specs.Grid.{minus};
 ghost use Rattle.burr_voxels.specs.Near.{IsWithin};
-ghost use Rattle.burr_assembly.specs.Homes.{DiameterAtMost};
-ghost use Rattle.burr_blocking.specs.Boxes.{IsInBox, place_of, size_of};
-ghost use Rattle.burr_blocking.specs.Tables.{IsMarked, IsTableOf, IsUnmarkedAhead, SetsMarks};
+ghost use Rattle.burr_assembly.specs.Rules.Homes.{DiameterAtMost};
+ghost use Rattle.burr_blocking.specs.Views.Boxes.{IsInBox, place_of, size_of};
+ghost use Rattle.burr_blocking.specs.Views.Tables.{IsMarked, IsTableOf, IsUnmarkedAhead, SetsMarks};
 
 use crate::extent::Extent;
 use burr_voxels::{Cell, Direction};
@@ -84,7 +84,7 @@ fn places_from(
     Ok(places)
 }
 
-/// Sets the marks that stand so many places behind a first one.
+/// Sets the marks that stand so many places after a first one.
 fn mark(marks: &mut [bool], first: usize, places: &[usize])
     requires { All (λ place. first + place < length marks.old) places.now }
     ensures { SetsMarks marks.old marks.new first places.now }

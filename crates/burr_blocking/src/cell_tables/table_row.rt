@@ -1,6 +1,6 @@
 ghost use Rattle.std.specs.Prelude.{◌≡◌, ◌<◌, length, slice_index_or, IfOk};
-ghost use Rattle.burr_assembly.specs.Text.{IsAssembly};
-ghost use Rattle.burr_assembly.specs.Homes.{homes_of};
+ghost use Rattle.burr_assembly.specs.Rules.Text.{IsAssembly};
+ghost use Rattle.burr_assembly.specs.Rules.Homes.{homes_of};
 
 use crate::cell_tables::pair_table::PairTable;
 use burr_assembly::Assembly;
@@ -13,7 +13,7 @@ pub struct TableRow {
 }
 
 impl TableRow {
-    ghost use Rattle.burr_blocking.specs.Rows.{IsRow};
+    ghost use Rattle.burr_blocking.specs.Views.Rows.{IsRow};
 
     /// The tables of an assembly's piece, whose number is `later`.
     pub fn build(alloc: Global, assembly: &Assembly, later: u8) -> Result<TableRow, AllocError>

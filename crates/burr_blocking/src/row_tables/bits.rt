@@ -1,6 +1,6 @@
 ghost use Rattle.std.specs.Prelude.{◌≡◌, ◌↔◌, ◌<◌, ◌≤ℤ◌, ◌+ℤ◌, ◌+◌, ◌≤◌, ◌⊎◌, ℕ, pos, length, slice_index_or, IsTrue};
 ghost use Rattle.std.specs.Simd.Lanes.{zip2};
-ghost use Rattle.burr_blocking.specs.Bits.{AreNext, IsNext, HasBit, SetsBit, or_shifted, joined_from};
+ghost use Rattle.burr_blocking.specs.Views.Bits.{AreNext, IsNext, HasBit, SetsBit, or_shifted, joined_from};
 
 use std::simd::prelude::*;
 

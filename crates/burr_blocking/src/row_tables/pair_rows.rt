@@ -4,10 +4,10 @@ ghost use Rattle.std.specs.List.{All};
 ghost use Rattle.burr_voxels.specs.Grid.{along, minus, plus};
 ghost use Rattle.burr_voxels.specs.Near.{IsWithin};
 ghost use Rattle.burr_voxels.specs.declared.cell.Cell.{Cell as CellOf};
-ghost use Rattle.burr_assembly.specs.Homes.{DiameterAtMost};
-ghost use Rattle.burr_blocking.specs.Boxes.{IsInBox, row_of, column_of, row_count_of};
-ghost use Rattle.burr_blocking.specs.Bits.{AreNext, HasBit, HasBitAt};
-ghost use Rattle.burr_blocking.specs.PairBits.{AreBitsFrom, AreRowsOf, AreShort, HasBitIn, IsClearAhead, IsSet};
+ghost use Rattle.burr_assembly.specs.Rules.Homes.{DiameterAtMost};
+ghost use Rattle.burr_blocking.specs.Views.Boxes.{IsInBox, row_of, column_of, row_count_of};
+ghost use Rattle.burr_blocking.specs.Views.Bits.{AreNext, HasBit, HasBitAt};
+ghost use Rattle.burr_blocking.specs.Views.PairBits.{AreBitsFrom, AreRowsOf, AreShort, HasBitIn, IsClearAhead, IsSet};
 
 use crate::extent::Extent;
 use crate::row_tables::bits::{find_next, has_bit, is_clear_before, is_clear_from, join, set_bit};
@@ -83,7 +83,7 @@ impl PairRows {
         }
     }
 
-    /// The row in which a displacement lies, before, in or behind the box; an empty one where it
+    /// The row in which a displacement lies, before, in or after the box; an empty one where it
     /// lies in none.
     fn row_at(&self, displacement: Cell) -> u32
         ensures { (k : ℕ) → HasBit result k

@@ -1,6 +1,6 @@
 ghost use Rattle.std.specs.Prelude.{◌≡◌, ◌<◌, length, slice_index_or, IfOk};
-ghost use Rattle.burr_assembly.specs.Text.{IsAssembly};
-ghost use Rattle.burr_assembly.specs.Homes.{homes_of};
+ghost use Rattle.burr_assembly.specs.Rules.Text.{IsAssembly};
+ghost use Rattle.burr_assembly.specs.Rules.Homes.{homes_of};
 
 use crate::row_tables::pair_rows::PairRows;
 use burr_assembly::Assembly;
@@ -13,7 +13,7 @@ pub struct PieceRows {
 }
 
 impl PieceRows {
-    ghost use Rattle.burr_blocking.specs.PieceRows.{IsPieceOf};
+    ghost use Rattle.burr_blocking.specs.Views.PieceRows.{IsPieceOf};
 
     /// The rows of an assembly's piece, whose number is `later`.
     pub fn build(alloc: Global, assembly: &Assembly, later: u8) -> Result<PieceRows, AllocError>

@@ -120,9 +120,9 @@ read_begun bytes i in_range begins = ap read begins.1 ∙ read_back i begins.0 i
 
 -- One at most
 
-behind_front : (xs ys : List ℕ) → drop (length xs) (xs ++ ys) ≡ ys
-behind_front [] ys = refl
-behind_front (x ∷ xs) ys = behind_front xs ys
+after_front : (xs ys : List ℕ) → drop (length xs) (xs ++ ys) ≡ ys
+after_front [] ys = refl
+after_front (x ∷ xs) ys = after_front xs ys
 
 pub one_begins : OneBegins
 one_begins bytes i j first second here also = sym (read_begun bytes i first here) ∙ read_begun bytes j second also
@@ -137,7 +137,7 @@ stands_at_its_bytes front rest i j in_range = (λ stands. one_stands_at code (le
     code = front ++ (spelled i ++ rest)
 
     here : StandsAt code (length front) i
-    here = record { in_range = in_range; begins = (rest, behind_front front (spelled i ++ rest)) }
+    here = record { in_range = in_range; begins = (rest, after_front front (spelled i ++ rest)) }
 
 -- Whether there is one
 
@@ -163,11 +163,11 @@ decide_in_range (Pick labels) = decided_and_three (decide_at_most 2 (length labe
 decide_in_range (Call callee) = decide_below callee 256
 decide_in_range Ret = inl tt
 
--- the bytes of an instruction, and behind them the others
+-- the bytes of an instruction, and after them the others
 is_cut : (bytes : List ℕ) (i : Instruction) → Begins bytes i → bytes ≡ spelled i ++ drop (length (spelled i)) bytes
 is_cut bytes i begins =
-    let behind : drop (length (spelled i)) bytes ≡ begins.0 = ap (λ (all : List ℕ). drop (length (spelled i)) all) begins.1 ∙ behind_front (spelled i) begins.0 in
-    begins.1 ∙ ap (λ (rest : List ℕ). spelled i ++ rest) (sym behind)
+    let after : drop (length (spelled i)) bytes ≡ begins.0 = ap (λ (all : List ℕ). drop (length (spelled i)) all) begins.1 ∙ after_front (spelled i) begins.0 in
+    begins.1 ∙ ap (λ (rest : List ℕ). spelled i ++ rest) (sym after)
 
 -- whether bytes begin with the bytes of this instruction
 decide_begins_with : (bytes : List ℕ) (i : Instruction) → Decided (Begins bytes i)

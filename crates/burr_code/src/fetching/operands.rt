@@ -1,4 +1,4 @@
-//! Operands, each read from the front of the bytes, with the bytes behind it. None exactly where
+//! Operands, each read from the front of the bytes, with the bytes after it. None exactly where
 //! the bytes begin with no operand in its range.
 
 ghost use Rattle.std.specs.Prelude.{◌≡◌, ◌≢◌, ◌<◌, ◌^◌, ◌∷◌, []};

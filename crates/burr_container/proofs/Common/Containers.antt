@@ -6,11 +6,11 @@ use Rattle.std.proofs.lemmas.Bool.{and_parts, and_from, false≢true}
 use Rattle.byteorder.specs.Endian.{big_bytes}
 use Rattle.burr_code.specs.declared.limits.TheConstants.{MOST_PROCEDURES, MOST_BUDGET}
 use Rattle.burr_container.specs.declared.fault.ContainerFault.TheVariants.{C2, C3, C4}
-use Rattle.burr_container.specs.Plans.{PlanProcedure, Plan}
-use Rattle.burr_container.specs.Spelling.{counted_bytes, procedure_bytes, plan_bytes}
-use Rattle.burr_container.specs.Fitting.{is_procedure, are_procedures, is_piece_count, is_name_text, is_version, is_budget, is_fitting}
-use Rattle.burr_container.specs.Faults.{Failing, number, raw, passes, first, procedure, others, each, IsFollowed, name, is_magic}
-use Rattle.burr_container.specs.Laws.{OnePlan, NoFaultOfPlan, OneFault}
+use Rattle.burr_container.specs.Rules.Plans.{PlanProcedure, Plan}
+use Rattle.burr_container.specs.Rules.Spelling.{counted_bytes, procedure_bytes, plan_bytes}
+use Rattle.burr_container.specs.Rules.Fitting.{is_procedure, are_procedures, is_piece_count, is_name_text, is_version, is_budget, is_fitting}
+use Rattle.burr_container.specs.Rules.Faults.{Failing, number, raw, passes, first, procedure, others, each, IsFollowed, name, is_magic}
+use Rattle.burr_container.specs.Laws.PlanBytes.{OnePlan, NoFaultOfPlan, OneFault}
 use Rattle.burr_container.proofs.Common.Lawful.{Front, Lawful, OfPart, OfFirst, OfNothing, OfEnd, Sound, first_lawful, lawful_as, passes_lawful, end_lawful}
 use Rattle.burr_container.proofs.Common.Lists.{OfEach, each_lawful}
 use Rattle.burr_container.proofs.Common.Fields.{number_sound, raw_sound, of_number, of_byte}
@@ -251,9 +251,9 @@ counted_made version pieces Last main more bytes rest r is are many e last =
     let others_fit =
     and_from (length more == length more) (list_all (is_procedure version pieces false) more)
     (eq-eqb (length more) (length more) refl) are in
-    let behind = flat_map (procedure_bytes version) (main ∷ more) ++ rest in (
-      behind,
-      of_byte C4 is_procedure_count (length (main ∷ more)) bytes behind (omega (arith, few)) so e,
+    let after = flat_map (procedure_bytes version) (main ∷ more) ++ rest in (
+      after,
+      of_byte C4 is_procedure_count (length (main ∷ more)) bytes after (omega (arith, few)) so e,
       (
         flat_map (procedure_bytes version) more ++ rest,
         (
@@ -318,40 +318,40 @@ of_plan Last plan bytes r here =
     (and_parts (nat_le 1 plan.budget) (nat_le plan.budget MOST_BUDGET) fits.budget).1 in
     let few = pieces_few plan.pieces fits.pieces in
     let some = some_main version plan.pieces plan.procedures fits.procedures in
-    let behind_name = all_bytes_of plan ++ here.0 in
-    let behind_pieces = length plan.name ∷ (plan.name ++ behind_name) in
-    let behind_budget = plan.pieces ∷ behind_pieces in
-    let behind_version = big_bytes 4 plan.budget ++ behind_budget in
-    let behind_magic = big_bytes 2 version ++ behind_version in
-    let after_name =
+    let after_name = all_bytes_of plan ++ here.0 in
+    let after_pieces = length plan.name ∷ (plan.name ++ after_name) in
+    let after_budget = plan.pieces ∷ after_pieces in
+    let after_version = big_bytes 4 plan.budget ++ after_budget in
+    let after_magic = big_bytes 2 version ++ after_version in
+    let past_name =
     ap (λ (ps : List PlanProcedure). counted_bytes (procedure_bytes version) ps ++ here.0) some.2 in
     let counted =
-    counted_made version plan.pieces Last some.0 some.1 behind_name here.0 r some.3 some.4 some.5
-    after_name here.3 in
+    counted_made version plan.pieces Last some.0 some.1 after_name here.0 r some.3 some.4 some.5
+    past_name here.3 in
     let named : List ℕ × Counted =
     (plan.name, (length (some.0 ∷ some.1), (some.0, (some.1, tt)))) in
-    let from_pieces : OfPieces version Last (plan.pieces, named) behind_budget r = (
-      behind_pieces,
-      of_byte C4 is_piece_count plan.pieces behind_budget behind_pieces
+    let from_pieces : OfPieces version Last (plan.pieces, named) after_budget r = (
+      after_pieces,
+      of_byte C4 is_piece_count plan.pieces after_budget after_pieces
           (omega (arith, few)) fits.pieces refl,
-      (behind_name, (fits.name, refl), counted),
+      (after_name, (fits.name, refl), counted),
     ) in
-    let from_budget : OfBudget version Last (plan.budget, (plan.pieces, named)) behind_version r = (
-      behind_budget,
-      of_number 4 C4 is_budget plan.budget behind_version behind_budget
+    let from_budget : OfBudget version Last (plan.budget, (plan.pieces, named)) after_version r = (
+      after_budget,
+      of_number 4 C4 is_budget plan.budget after_version after_budget
           (omega (arith, most)) fits.budget refl,
       from_pieces,
     ) in
-    let from_version : OfVersion Last (version, (plan.budget, (plan.pieces, named))) behind_magic
+    let from_version : OfVersion Last (version, (plan.budget, (plan.pieces, named))) after_magic
     r = (
-      behind_version,
-      of_number 2 C3 is_version version behind_magic behind_version
+      after_version,
+      of_number 2 C3 is_version version after_magic after_version
           (version_few version fits.version) fits.version refl,
       from_budget,
     ) in (
       (codes "BPLN", (version, (plan.budget, (plan.pieces, named)))),
       with_procedures plan _ some.2,
-      (behind_magic, (refl, here.2 ∙ plan_apart plan here.0), from_version),
+      (after_magic, (refl, here.2 ∙ plan_apart plan here.0), from_version),
     )
 
 plan_lawful : (Last : Front Nothing) (last : Failing) → Lawful Last last

@@ -4,11 +4,11 @@ use Rattle.std.specs.List.{list_all}
 use Rattle.std.proofs.lemmas.Bool.{and_parts}
 use Rattle.byteorder.specs.Endian.{big_bytes}
 use Rattle.burr_code.specs.declared.limits.TheConstants.{MOST_GUARDS}
-use Rattle.burr_forms.specs.Forms.{Form}
-use Rattle.burr_container.specs.Plans.{Range, ExitFrame, exit_symbols}
-use Rattle.burr_container.specs.Spelling.{forms_bytes, ranges_bytes, exit_guards_bytes, places_bytes}
-use Rattle.burr_container.specs.Fitting.{is_form, is_range, are_ranges, are_forms, most_exit_guards, is_tray, is_set_of, are_places, is_exit_rest}
-use Rattle.burr_container.specs.Faults.{Failing, Part, forms, range, ranges, place, exit_guards, ExitRestFails, exit_frame, by_test, passes, first, each}
+use Rattle.burr_forms.specs.Rules.Forms.{Form}
+use Rattle.burr_container.specs.Rules.Plans.{Range, ExitFrame, exit_symbols}
+use Rattle.burr_container.specs.Rules.Spelling.{forms_bytes, ranges_bytes, exit_guards_bytes, places_bytes}
+use Rattle.burr_container.specs.Rules.Fitting.{is_form, is_range, are_ranges, are_forms, most_exit_guards, is_tray, is_set_of, are_places, is_exit_rest}
+use Rattle.burr_container.specs.Rules.Faults.{Failing, Part, forms, range, ranges, place, exit_guards, ExitRestFails, exit_frame, by_test, passes, first, each}
 use Rattle.burr_container.proofs.Common.Spelled.{apart_three}
 use Rattle.burr_container.proofs.Common.Lawful.{Front, Lawful, OfPart, OfFirst, OfNothing, Sound, first_lawful, lawful_as, passes_lawful}
 use Rattle.burr_container.proofs.Common.Lists.{OfEach, each_lawful}
@@ -58,15 +58,15 @@ guards_by_sound false live =
 pub exit_guards_sound : (version : ℕ) (live : List Bool) → Sound (exit_guards version live)
 exit_guards_sound version live = guards_by_sound (version == 2) live
 
--- The parts of an exit frame behind its grip
+-- The parts of an exit frame after its grip
 
-abbrev pub BehindResults : Type 0
-BehindResults = List Form × FormPlaces
+abbrev pub AfterResults : Type 0
+AfterResults = List Form × FormPlaces
 
-abbrev pub BehindGrip : Type 0
-BehindGrip = List Range × BehindResults
+abbrev pub AfterGrip : Type 0
+AfterGrip = List Range × AfterResults
 
-abbrev pub OfExitGuards : ℕ → ℕ → List Bool → Front BehindResults
+abbrev pub OfExitGuards : ℕ → ℕ → List Bool → Front AfterResults
 OfExitGuards version pieces live =
     OfFirst (exit_guards version live) (λ guards. OfEach pieces (place live))
 
@@ -81,7 +81,7 @@ exit_guards_lawful version pieces live =
     (λ guards. each pieces (place live)) (exit_guards_sound version live)
     (λ guards fits. each_lawful (place live) pieces (place_sound live))
 
-abbrev pub OfExitRest : ℕ → ℕ → ℕ → List Bool → Front BehindGrip
+abbrev pub OfExitRest : ℕ → ℕ → ℕ → List Bool → Front AfterGrip
 OfExitRest version pieces results live =
     OfFirst (ranges results) (λ rs. OfExitGuards version pieces live)
 
@@ -94,7 +94,7 @@ exit_rest_lawful version pieces results live =
 
 -- Exit frames
 
-abbrev pub exit_frame_of : ℕ × (ℕ × BehindGrip) → ExitFrame
+abbrev pub exit_frame_of : ℕ × (ℕ × AfterGrip) → ExitFrame
 exit_frame_of v =
     record {
       tray = v.0;
@@ -137,24 +137,24 @@ exit_fits version pieces results live f fits =
     c.0 in
     record { tray = b.0; grip = b.1; ranges = d.0; guards = d.1; places = c.1 }
 
-abbrev pub OfExitFrame : ℕ → ℕ → ℕ → ℕ → Front (ℕ × (ℕ × BehindGrip))
+abbrev pub OfExitFrame : ℕ → ℕ → ℕ → ℕ → Front (ℕ × (ℕ × AfterGrip))
 OfExitFrame version pieces parameters results =
     OfHead pieces (OfExitRest version pieces results (exit_symbols parameters results))
 
 of_exit_frame : (version pieces parameters results : ℕ) → pieces ≤ 32 → (f : ExitFrame)
     (bytes r : List ℕ) → OfPart (exit_frame version pieces parameters results) f bytes r
-    → (v : ℕ × (ℕ × BehindGrip)) × (exit_frame_of v ≡ f)
+    → (v : ℕ × (ℕ × AfterGrip)) × (exit_frame_of v ≡ f)
     × OfExitFrame version pieces parameters results v bytes r
 of_exit_frame version pieces parameters results few f bytes r here =
     let live = exit_symbols parameters results in
     let fits = exit_fits version pieces results live f here.0 in
-    let behind_guards = places_bytes live f.places ++ r in
-    let behind_results = exit_guards_bytes version live f.guards ++ behind_guards in
-    let rest = ranges_bytes f.results ++ behind_results in
-    let from_guards : OfExitGuards version pieces live (f.guards, f.places) behind_results r = (
-      behind_guards,
+    let after_guards = places_bytes live f.places ++ r in
+    let after_results = exit_guards_bytes version live f.guards ++ after_guards in
+    let rest = ranges_bytes f.results ++ after_results in
+    let from_guards : OfExitGuards version pieces live (f.guards, f.places) after_results r = (
+      after_guards,
       (fits.guards, refl),
-      places_made pieces live f.places behind_guards r fits.places refl,
+      places_made pieces live f.places after_guards r fits.places refl,
     ) in (
       (f.tray, (f.grip, (f.results, (f.guards, f.places)))),
       refl,
@@ -163,7 +163,7 @@ of_exit_frame version pieces parameters results few f bytes r here =
           (here.1
           ∙ exit_apart f.tray (big_bytes 4 f.grip) (ranges_bytes f.results)
           (exit_guards_bytes version live f.guards) (places_bytes live f.places) r)
-          (behind_results, (fits.ranges, refl), from_guards),
+          (after_results, (fits.ranges, refl), from_guards),
     )
 
 pub exit_frame_sound : (version pieces parameters results : ℕ) → pieces ≤ 32

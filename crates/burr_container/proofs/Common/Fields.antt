@@ -9,7 +9,7 @@ use Rattle.byteorder.specs.Numbers.{big_number-reads_back, length-bytes_high_fir
 use Rattle.burr_code.specs.Instruction.{signed_word}
 use Rattle.burr_container.specs.declared.fault.ContainerFault.{ContainerFault}
 use Rattle.burr_container.specs.declared.fault.ContainerFault.TheVariants.{C4}
-use Rattle.burr_container.specs.Faults.{field, number, signed, raw}
+use Rattle.burr_container.specs.Rules.Faults.{field, number, signed, raw}
 use Rattle.burr_container.proofs.Common.Spelled.{same_fronts, one_number, is_word, one_word, between, word_small}
 use Rattle.burr_container.proofs.Common.Lawful.{OfPart, Sound}
 

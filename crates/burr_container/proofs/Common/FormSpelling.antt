@@ -6,10 +6,10 @@ use Rattle.std.proofs.lemmas.Int.{ints}
 use Rattle.burr_text.proofs.Common.Cuts.{same_head, same_tail}
 use Rattle.burr_code.specs.Instruction.{signed_word}
 use Rattle.burr_code.specs.Places.{Apart, On}
-use Rattle.burr_forms.specs.Forms.{Form}
-use Rattle.burr_container.specs.Plans.{FormCell, of_live}
-use Rattle.burr_container.specs.Spelling.{form_bytes, forms_bytes, place_bytes, places_bytes}
-use Rattle.burr_container.specs.Fitting.{is_between, are_coefficients, is_form, are_forms, is_tray, is_place, are_places}
+use Rattle.burr_forms.specs.Rules.Forms.{Form}
+use Rattle.burr_container.specs.Rules.Plans.{FormCell, of_live}
+use Rattle.burr_container.specs.Rules.Spelling.{form_bytes, forms_bytes, place_bytes, places_bytes}
+use Rattle.burr_container.specs.Rules.Fitting.{is_between, are_coefficients, is_form, are_forms, is_tray, is_place, are_places}
 use Rattle.burr_container.proofs.Common.Spelled.{OneSpelling, apart_three, between, one_word, one_long, one_list}
 
 pub zero_only : (n : ℤ) → IsTrue (is_between (pos 0) (pos 0) n) → n ≡ pos 0
@@ -56,7 +56,7 @@ pub one_forms_of : (live : List Bool) (xs ys : List Form) (r s : List ℕ) → l
     → flat_map (form_bytes live) xs ++ r ≡ flat_map (form_bytes live) ys ++ s → (xs ≡ ys) × (r ≡ s)
 one_forms_of live = one_list (form_bytes live) (is_form live) (one_form live)
 
--- forms behind their count
+-- forms after their count
 pub one_forms : (most : ℕ) (live : List Bool) → OneSpelling (forms_bytes live) (are_forms most live)
 one_forms most live xs ys r s first second e =
     one_forms_of live xs ys r s (same_head _ _ _ _ e) (and_parts _ _ first).1
@@ -91,13 +91,13 @@ one_place live (On tray at) (On other there) r s first second e =
     let a = on_parts live tray at first in
     let b = on_parts live other there second in
     let same : tray ≡ other = same_head _ _ _ _ e in
-    let behind =
+    let after =
     sym (apart_three (form_bytes live at.x) (form_bytes live at.y) (form_bytes live at.z) r)
     ∙ same_tail _ _ _ _ e
     ∙ apart_three (form_bytes live there.x) (form_bytes live there.y) (form_bytes live there.z) s in
     let x =
     one_form live at.x there.x (form_bytes live at.y ++ (form_bytes live at.z ++ r))
-    (form_bytes live there.y ++ (form_bytes live there.z ++ s)) a.1 b.1 behind in
+    (form_bytes live there.y ++ (form_bytes live there.z ++ s)) a.1 b.1 after in
     let y =
     one_form live at.y there.y (form_bytes live at.z ++ r) (form_bytes live there.z ++ s) a.2
     b.2 x.1 in

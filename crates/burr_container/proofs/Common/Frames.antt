@@ -5,12 +5,12 @@ use Rattle.std.proofs.lemmas.Bool.{and_parts}
 use Rattle.byteorder.specs.Endian.{big_bytes}
 use Rattle.burr_code.specs.Places.{Placement}
 use Rattle.burr_code.specs.declared.limits.TheConstants.{MOST_OPERANDS, MOST_GUARDS}
-use Rattle.burr_forms.specs.Forms.{Form}
+use Rattle.burr_forms.specs.Rules.Forms.{Form}
 use Rattle.burr_container.specs.declared.fault.ContainerFault.TheVariants.{C4}
-use Rattle.burr_container.specs.Plans.{FormCell, Range, Frame, live_slots}
-use Rattle.burr_container.specs.Spelling.{form_bytes, forms_bytes, slots_bytes, places_bytes}
-use Rattle.burr_container.specs.Fitting.{is_form, are_forms, are_slots, is_tray, is_set_of, is_place, are_places, is_frame_rest}
-use Rattle.burr_container.specs.Faults.{Failing, number, form, forms, slots, place, frame, first, each}
+use Rattle.burr_container.specs.Rules.Plans.{FormCell, Range, Frame, live_slots}
+use Rattle.burr_container.specs.Rules.Spelling.{form_bytes, forms_bytes, slots_bytes, places_bytes}
+use Rattle.burr_container.specs.Rules.Fitting.{is_form, are_forms, are_slots, is_tray, is_set_of, is_place, are_places, is_frame_rest}
+use Rattle.burr_container.specs.Rules.Faults.{Failing, number, form, forms, slots, place, frame, first, each}
 use Rattle.burr_container.proofs.Common.Spelled.{apart_three, apart_four}
 use Rattle.burr_container.proofs.Common.FormSpelling.{tray_small}
 use Rattle.burr_container.proofs.Common.Lawful.{Front, Lawful, OfPart, OfFirst, Sound, first_lawful, lawful_as}
@@ -24,14 +24,14 @@ abbrev pub FormPlaces : Type 0
 FormPlaces = List (Placement FormCell)
 
 -- what follows the guards of a frame, its slots, and its tray and its grip
-abbrev pub BehindGuards : Type 0
-BehindGuards = List Form × (Form × FormPlaces)
+abbrev pub AfterGuards : Type 0
+AfterGuards = List Form × (Form × FormPlaces)
 
-abbrev pub BehindSlots : Type 0
-BehindSlots = List Form × BehindGuards
+abbrev pub AfterSlots : Type 0
+AfterSlots = List Form × AfterGuards
 
-abbrev pub BehindHead : Type 0
-BehindHead = List (Option Range) × BehindSlots
+abbrev pub AfterHead : Type 0
+AfterHead = List (Option Range) × AfterSlots
 
 -- The parts of a frame from each of them on
 
@@ -47,7 +47,7 @@ cost_lawful pieces live =
     (λ cost. each pieces (place live)) (form_sound live)
     (λ cost fits. each_lawful (place live) pieces (place_sound live))
 
-abbrev pub OfStack : ℕ → List Bool → Front BehindGuards
+abbrev pub OfStack : ℕ → List Bool → Front AfterGuards
 OfStack pieces live = OfFirst (forms MOST_OPERANDS live) (λ stack. OfCost pieces live)
 
 abbrev pub stack_fails : ℕ → List Bool → Failing
@@ -60,7 +60,7 @@ stack_lawful pieces live =
     (λ stack. cost_fails pieces live) (forms_sound MOST_OPERANDS live (omega arith))
     (λ stack fits. cost_lawful pieces live)
 
-abbrev pub OfGuards : ℕ → List Bool → Front BehindSlots
+abbrev pub OfGuards : ℕ → List Bool → Front AfterSlots
 OfGuards pieces live = OfFirst (forms MOST_GUARDS live) (λ guards. OfStack pieces live)
 
 abbrev pub guards_fail : ℕ → List Bool → Failing
@@ -73,7 +73,7 @@ guards_lawful pieces live =
     (λ guards. stack_fails pieces live) (forms_sound MOST_GUARDS live (omega arith))
     (λ guards fits. stack_lawful pieces live)
 
-abbrev pub OfSlotsOn : ℕ → Front BehindHead
+abbrev pub OfSlotsOn : ℕ → Front AfterHead
 OfSlotsOn pieces = OfFirst slots (λ s. OfGuards pieces (live_slots s))
 
 abbrev pub slots_fail : ℕ → Failing
@@ -136,7 +136,7 @@ places_made pieces live places bytes r fits e =
 
 -- Frames
 
-abbrev pub frame_of : ℕ × (ℕ × BehindHead) → Frame
+abbrev pub frame_of : ℕ × (ℕ × AfterHead) → Frame
 frame_of v =
     record {
       tray = v.0;
@@ -159,7 +159,7 @@ frame_apart tray grip slots guards stack cost places r =
 
 of_frame : (pieces : ℕ) → pieces ≤ 32 → (f : Frame) (bytes r : List ℕ)
     → OfPart (frame pieces) f bytes r
-    → (v : ℕ × (ℕ × BehindHead)) × (frame_of v ≡ f) × OfHead pieces (OfSlotsOn pieces) v bytes r
+    → (v : ℕ × (ℕ × AfterHead)) × (frame_of v ≡ f) × OfHead pieces (OfSlotsOn pieces) v bytes r
 of_frame pieces few f bytes r here =
     let live = live_slots f.slots in
     let a =
@@ -177,27 +177,27 @@ of_frame pieces few f bytes r here =
     let h =
     and_parts (are_forms MOST_GUARDS live f.guards) (are_forms MOST_OPERANDS live f.stack)
     g.0 in
-    let behind_cost = places_bytes live f.places ++ r in
-    let behind_stack = form_bytes live f.cost ++ behind_cost in
-    let behind_guards = forms_bytes live f.stack ++ behind_stack in
-    let behind_slots = forms_bytes live f.guards ++ behind_guards in
+    let after_cost = places_bytes live f.places ++ r in
+    let after_stack = form_bytes live f.cost ++ after_cost in
+    let after_guards = forms_bytes live f.stack ++ after_stack in
+    let after_slots = forms_bytes live f.guards ++ after_guards in
     let e =
     here.1
     ∙ frame_apart f.tray (big_bytes 4 f.grip) (slots_bytes f.slots)
     (forms_bytes live f.guards) (forms_bytes live f.stack) (form_bytes live f.cost)
     (places_bytes live f.places) r in
-    let from_cost : OfCost pieces live (f.cost, f.places) behind_stack r =
-    (behind_cost, (g.1, refl), places_made pieces live f.places behind_cost r d.1 refl) in
-    let from_stack : OfStack pieces live (f.stack, (f.cost, f.places)) behind_guards r =
-    (behind_stack, (h.1, refl), from_cost) in
-    let from_guards : OfGuards pieces live (f.guards, (f.stack, (f.cost, f.places))) behind_slots
-    r = (behind_guards, (h.0, refl), from_stack) in (
+    let from_cost : OfCost pieces live (f.cost, f.places) after_stack r =
+    (after_cost, (g.1, refl), places_made pieces live f.places after_cost r d.1 refl) in
+    let from_stack : OfStack pieces live (f.stack, (f.cost, f.places)) after_guards r =
+    (after_stack, (h.1, refl), from_cost) in
+    let from_guards : OfGuards pieces live (f.guards, (f.stack, (f.cost, f.places))) after_slots
+    r = (after_guards, (h.0, refl), from_stack) in (
       (f.tray, (f.grip, (f.slots, (f.guards, (f.stack, (f.cost, f.places)))))),
       refl,
       of_head pieces f.tray f.grip (OfSlotsOn pieces)
           (f.slots, (f.guards, (f.stack, (f.cost, f.places)))) bytes
-          (slots_bytes f.slots ++ behind_slots) r few c.0 c.1 e
-          (behind_slots, (b.1, refl), from_guards),
+          (slots_bytes f.slots ++ after_slots) r few c.0 c.1 e
+          (after_slots, (b.1, refl), from_guards),
     )
 
 pub frame_sound : (pieces : ℕ) → pieces ≤ 32 → Sound (frame pieces)

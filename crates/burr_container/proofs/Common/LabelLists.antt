@@ -5,10 +5,10 @@ use Rattle.std.proofs.lemmas.Bool.{and_parts, and_from}
 use Rattle.burr_code.specs.declared.limits.TheConstants.{MOST_LABELS}
 use Rattle.burr_container.specs.declared.fault.ContainerFault.{ContainerFault}
 use Rattle.burr_container.specs.declared.fault.ContainerFault.TheVariants.{C4, C5}
-use Rattle.burr_container.specs.Plans.{Frame}
-use Rattle.burr_container.specs.Spelling.{frame_bytes, label_bytes}
-use Rattle.burr_container.specs.Fitting.{is_frame}
-use Rattle.burr_container.specs.Faults.{Failing, Part, number, frame, passes, first, label as label_at, is_next_label, last_label, are_rising, LabelsFail, labels}
+use Rattle.burr_container.specs.Rules.Plans.{Frame}
+use Rattle.burr_container.specs.Rules.Spelling.{frame_bytes, label_bytes}
+use Rattle.burr_container.specs.Rules.Fitting.{is_frame}
+use Rattle.burr_container.specs.Rules.Faults.{Failing, Part, number, frame, passes, first, label as label_at, is_next_label, last_label, are_rising, LabelsFail, labels}
 use Rattle.burr_container.proofs.Common.Lawful.{Front, Lawful, OfPart, OfFirst, OfNothing, Sound, first_lawful, lawful_as, passes_lawful}
 use Rattle.burr_container.proofs.Common.Fields.{number_sound, of_number}
 use Rattle.burr_container.proofs.Common.Frames.{frame_sound}
@@ -41,16 +41,16 @@ label_at_sound is_so pieces few =
     (λ position. (frame pieces).Fails) (number_sound 2 C5 is_so)
     (λ position fits. frame_sound pieces few))
 
--- a label behind this one
+-- a label after this one
 abbrev pub label : ℕ → Option ℕ → Part (ℕ × Frame)
 label pieces last = label_at (is_next_label last) pieces
 
 pub label_sound : (pieces : ℕ) (last : Option ℕ) → pieces ≤ 32 → Sound (label pieces last)
 label_sound pieces last few = label_at_sound (is_next_label last) pieces few
 
--- Labels from one on
+-- LabelTable from one on
 
--- the position of the last of these labels, which stand behind this one
+-- the position of the last of these labels, which stand after this one
 abbrev pub last_from : Option ℕ → List (ℕ × Frame) → Option ℕ
 last_from last [] = last
 last_from last (l ∷ ls) = last_from (Some l.0) ls
@@ -71,7 +71,7 @@ OfLabels pieces last count ls bytes r =
     (length ls ≡ count) × IsTrue (are_rising last ls && are_framed pieces ls)
     × (bytes ≡ flat_map label_bytes ls ++ r)
 
--- the first of labels fits, and so do the others behind it
+-- the first of labels fits, and so do the others after it
 first_fits : (pieces : ℕ) (last : Option ℕ) (l : ℕ × Frame) (ls : List (ℕ × Frame))
     → IsTrue (are_rising last (l ∷ ls) && are_framed pieces (l ∷ ls))
     → IsTrue ((label pieces last).fits l)

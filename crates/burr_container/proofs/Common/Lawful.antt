@@ -3,7 +3,7 @@
 -- Each holds of a part and what follows it where it holds of both.
 use Rattle.std.proofs.Common.{◌≡◌, ℕ, ◌+◌, IsTrue, List, [], ◌++◌, length, inl, inr, refl, sym, ap, ◌∙◌, subst₂}
 use Rattle.burr_container.specs.declared.fault.ContainerFault.{ContainerFault}
-use Rattle.burr_container.specs.Faults.{Failing, Part, passes, first, IsFollowed}
+use Rattle.burr_container.specs.Rules.Faults.{Failing, Part, passes, first, IsFollowed}
 
 -- a value, bytes, and what follows the value in them
 abbrev pub Front : Type 0 → Type 1

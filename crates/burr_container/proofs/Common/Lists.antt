@@ -1,9 +1,9 @@
--- For crates above: so many of a part, one behind the other, are lawful where the part is.
+-- For crates above: so many of a part, one after the other, are lawful where the part is.
 use Rattle.std.proofs.Common.{◌≡◌, ℕ, zero, suc, ◌+◌, IsTrue, List, [], ◌∷◌, ◌++◌, length, flat_map, inl, inr, refl, sym, ◌∙◌, subst, arith, append_assoc, length-append}
 use Rattle.std.specs.List.{list_all}
 use Rattle.std.proofs.lemmas.Bool.{and_parts}
 use Rattle.burr_container.specs.declared.fault.ContainerFault.{ContainerFault}
-use Rattle.burr_container.specs.Faults.{Part, passes, first, each}
+use Rattle.burr_container.specs.Rules.Faults.{Part, passes, first, each}
 use Rattle.burr_container.proofs.Common.Lawful.{Front, Lawful, OfFirst, OfNothing, Sound, first_lawful, lawful_as, passes_lawful}
 
 -- so many values of the part

@@ -33,7 +33,7 @@ pub some_at : {A : Type 0} (xs : List A) (n : ℕ) → n < length xs → (x : A)
 some_at [] n less = absurd (omega (arith, less))
 some_at (x ∷ xs) n less = (get_or (x ∷ xs) n x, slice_get-get_or (x ∷ xs) n x less)
 
--- one more is read, and put behind those
+-- one more is read, and put after those
 pub pushed : {A : Type 0} (whole : List A) (n : ℕ) (xs new : List A) (x made : A) → slice_get whole n ≡ Some x
     → made ≡ x → new ≡ xs ++ made ∷ [] → IsRead whole n xs → IsRead whole (n + 1) new
 pushed {A} whole n xs new x made at same items r =

@@ -4,10 +4,10 @@ use Rattle.std.specs.Borrow.{Bor}
 use Rattle.std.proofs.lemmas.Bool.{and_parts}
 use Rattle.burr_container.specs.declared.exit_ref.ExitRef.{ExitRef}
 use Rattle.burr_container.specs.declared.procedure_ref.ProcedureRef.{ProcedureRef}
-use Rattle.burr_container.specs.Plans.{Plan, PlanProcedure, ExitFrame, Frame}
-use Rattle.burr_container.specs.Fitting.{is_fitting}
-use Rattle.burr_container.specs.InPlace.{AreFor, IsLabel, IsExit, IsProcedure}
-use Rattle.burr_container.specs.Containers.{KeptContainer, IsContainer, HasPlan}
+use Rattle.burr_container.specs.Rules.Plans.{Plan, PlanProcedure, ExitFrame, Frame}
+use Rattle.burr_container.specs.Rules.Fitting.{is_fitting}
+use Rattle.burr_container.specs.Views.InPlace.{AreFor, IsLabel, IsExit, IsProcedure}
+use Rattle.burr_container.specs.Views.Containers.{ContainerView, IsContainer, HasPlan}
 use Rattle.burr_container.proofs.Common.LabelLists.{label_at_sound}
 use Rattle.burr_container.proofs.Common.Containers.{plan_fits}
 
@@ -56,7 +56,7 @@ one_procedure pieces few kept p q e f =
       code = code i;
     }
 
-pub one_plan : (kept : KeptContainer) (p q : Plan) → q.pieces ≤ 32 → IsContainer kept p → IsContainer kept q → p ≡ q
+pub one_plan : (kept : ContainerView) (p q : Plan) → q.pieces ≤ 32 → IsContainer kept p → IsContainer kept q → p ≡ q
 one_plan kept p q few e f =
     let version : p.version ≡ q.version = sym e.header.version ∙ f.header.version in
     let name : p.name ≡ q.name = sym e.header.name ∙ f.header.name in
@@ -77,14 +77,14 @@ few_pieces p fits =
     leb-true p.pieces 32 (and_parts (nat_le 2 p.pieces) (nat_le p.pieces 32) (plan_fits p fits).pieces).1
 
 -- A plan of a container that is that of a fitting plan is this one.
-pub the_plan : (kept : KeptContainer) (p q : Plan) → IsTrue (is_fitting q) → IsContainer kept p → IsContainer kept q
+pub the_plan : (kept : ContainerView) (p q : Plan) → IsTrue (is_fitting q) → IsContainer kept p → IsContainer kept q
     → p ≡ q
 the_plan kept p q fits e f = one_plan kept p q (few_pieces q fits) e f
 
 -- So it is a fitting one.
-pub fits_where_kept : (kept : KeptContainer) (p : Plan) → HasPlan kept → IsContainer kept p → IsTrue (is_fitting p)
+pub fits_where_kept : (kept : ContainerView) (p : Plan) → HasPlan kept → IsContainer kept p → IsTrue (is_fitting p)
 fits_where_kept kept p (q, fits, f) e = subst (λ (r : Plan). IsTrue (is_fitting r)) (sym (the_plan kept p q fits e f)) fits
 
 -- So two plans of a container that has one are the same.
-pub one_kept_plan : (kept : KeptContainer) (p q : Plan) → HasPlan kept → IsContainer kept p → IsContainer kept q → p ≡ q
+pub one_kept_plan : (kept : ContainerView) (p q : Plan) → HasPlan kept → IsContainer kept p → IsContainer kept q → p ≡ q
 one_kept_plan kept p q (r, fits, f) e g = the_plan kept p r fits e f ∙ sym (the_plan kept q r fits g f)

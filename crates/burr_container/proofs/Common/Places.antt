@@ -4,12 +4,12 @@ use Rattle.std.specs.List.{list_all}
 use Rattle.std.proofs.lemmas.Bool.{and_parts, and_from, or_right, false≢true, true≢false}
 use Rattle.burr_code.specs.Instruction.{signed_word}
 use Rattle.burr_code.specs.Places.{Placement, Apart, On}
-use Rattle.burr_forms.specs.Forms.{Form}
+use Rattle.burr_forms.specs.Rules.Forms.{Form}
 use Rattle.burr_container.specs.declared.fault.ContainerFault.TheVariants.{C4}
-use Rattle.burr_container.specs.Plans.{FormCell, of_live}
-use Rattle.burr_container.specs.Spelling.{form_size, form_bytes}
-use Rattle.burr_container.specs.Fitting.{are_coefficients, is_form, is_tray}
-use Rattle.burr_container.specs.Faults.{number, form, forms, place, passes, by_test, each}
+use Rattle.burr_container.specs.Rules.Plans.{FormCell, of_live}
+use Rattle.burr_container.specs.Rules.Spelling.{form_size, form_bytes}
+use Rattle.burr_container.specs.Rules.Fitting.{are_coefficients, is_form, is_tray}
+use Rattle.burr_container.specs.Rules.Faults.{number, form, forms, place, passes, by_test, each}
 use Rattle.burr_container.proofs.Common.FormSpelling.{one_form, tray_small, on_parts}
 use Rattle.burr_container.proofs.Common.Lawful.{Front, Lawful, OfPart, OfFirst, OfNothing, Sound, first_lawful, lawful_as, passes_lawful}
 use Rattle.burr_container.proofs.Common.Lists.{OfEach, each_lawful}
@@ -37,7 +37,7 @@ form_sound live =
     field_sound (form_size live) C4 (λ _. true) (form_bytes live) (is_form live) (one_form live)
     (form_length live) (λ f fits. refl)
 
--- forms behind their count
+-- forms after their count
 abbrev pub OfForms : ℕ → List Bool → Front (ℕ × List Form)
 OfForms most live =
     OfFirst (number 1 C4 (λ count. nat_le count most)) (λ count. OfEach count (form live))

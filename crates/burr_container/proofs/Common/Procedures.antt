@@ -3,10 +3,10 @@ use Rattle.std.proofs.Common.{◌≡◌, ℕ, ◌<◌, ◌≤◌, ◌&&◌, ◌=
 use Rattle.std.proofs.lemmas.Bool.{and_parts, and_from, false≢true}
 use Rattle.burr_code.specs.declared.limits.TheConstants.{MOST_CODE}
 use Rattle.burr_container.specs.declared.fault.ContainerFault.TheVariants.{C4}
-use Rattle.burr_container.specs.Plans.{Frame, ExitFrame, PlanProcedure}
-use Rattle.burr_container.specs.Spelling.{result_count_bytes, exit_bytes, exit_frame_bytes, labels_bytes, code_bytes}
-use Rattle.burr_container.specs.Fitting.{is_procedure, is_exit_frame, is_exit, are_labels, are_parameters, are_results, is_code}
-use Rattle.burr_container.specs.Faults.{Failing, Part, number, raw, first, by_test, passes, exit_frame, labels, last_label, is_above, CodeFails, BodyFails, result_count, ExitFails, procedure}
+use Rattle.burr_container.specs.Rules.Plans.{Frame, ExitFrame, PlanProcedure}
+use Rattle.burr_container.specs.Rules.Spelling.{result_count_bytes, exit_bytes, exit_frame_bytes, labels_bytes, code_bytes}
+use Rattle.burr_container.specs.Rules.Fitting.{is_procedure, is_exit_frame, is_exit, are_labels, are_parameters, are_results, is_code}
+use Rattle.burr_container.specs.Rules.Faults.{Failing, Part, number, raw, first, by_test, passes, exit_frame, labels, last_label, is_above, CodeFails, BodyFails, result_count, ExitFails, procedure}
 use Rattle.burr_container.proofs.Common.Spelled.{apart_four}
 use Rattle.burr_container.proofs.Common.Lawful.{Front, Lawful, OfPart, OfFirst, OfNothing, Sound, first_lawful, lawful_as, passes_lawful}
 use Rattle.burr_container.proofs.Common.Fields.{number_sound, raw_sound, of_number, of_byte}
@@ -27,7 +27,7 @@ code_lawful last =
     (λ length. (raw length C4 (λ _. true)).Fails)
     (number_sound 2 C4 (is_length last)) (λ length fits. raw_sound length C4 (λ _. true))
 
--- labels, and code behind them
+-- labels, and code after them
 abbrev pub Body : Type 0
 Body = List (ℕ × Frame) × (ℕ × List ℕ)
 
@@ -267,24 +267,24 @@ of_other version pieces p bytes r here =
     let fits = procedure_fits version pieces false p here.0 in
     let some = an_exit version pieces p.parameters p.results p.exit fits.exit in
     let count = result_count_bytes version p.results in
-    let behind = labels_bytes p.labels ++ (code_bytes p.code ++ r) in
-    let rest = exit_frame_bytes version p.parameters p.results some.0 ++ behind in
+    let after = labels_bytes p.labels ++ (code_bytes p.code ++ r) in
+    let rest = exit_frame_bytes version p.parameters p.results some.0 ++ after in
     let e =
     here.1
     ∙ procedure_apart p.parameters count (exit_bytes version p.parameters p.results p.exit)
     (labels_bytes p.labels) (code_bytes p.code) r
     ∙ ap
     (λ (exit : Option ExitFrame).
-    p.parameters ∷ (count ++ (exit_bytes version p.parameters p.results exit ++ behind)))
+    p.parameters ∷ (count ++ (exit_bytes version p.parameters p.results exit ++ after)))
     some.1 in (
       (p.parameters, (p.results, (some.0, (p.labels, (length p.code, p.code))))),
       ap (λ (exit : Option ExitFrame). with_exit p exit) (sym some.1),
       of_counts version false (OfExit version pieces) p.parameters p.results
           (some.0, (p.labels, (length p.code, p.code))) bytes rest r fits.parameters fits.results
           e (
-            behind,
+            after,
             (some.2, refl),
-            body_made pieces p.labels p.code behind r fits.labels fits.code refl,
+            body_made pieces p.labels p.code after r fits.labels fits.code refl,
           ),
     )
 

@@ -1,10 +1,10 @@
--- For crates above: positions of labels that rise below an end, judged one behind the other.
+-- For crates above: positions of labels that rise below an end, judged one after the other.
 use Rattle.std.proofs.Common.{ℕ, suc, ◌^◌, ◌≤◌, ◌&&◌, ◌==◌, true, IsTrue, nat_lt, nat_le, Some, None, List, [], ◌∷◌, length, refl, arith, ltb-true, lt-ltb, leb-true, le-leb}
 use Rattle.std.proofs.lemmas.Bool.{and_parts, and_from, false≢true}
 use Rattle.burr_code.specs.declared.limits.TheConstants.{MOST_LABELS}
-use Rattle.burr_container.specs.Plans.{Frame}
-use Rattle.burr_container.specs.Fitting.{rise_from, are_labels}
-use Rattle.burr_container.specs.Faults.{last_label, are_rising, is_above}
+use Rattle.burr_container.specs.Rules.Plans.{Frame}
+use Rattle.burr_container.specs.Rules.Fitting.{rise_from, are_labels}
+use Rattle.burr_container.specs.Rules.Faults.{last_label, are_rising, is_above}
 use Rattle.burr_container.proofs.Common.LabelLists.{is_label_count, are_framed}
 
 rising_from : (last end : ℕ) (ls : List (ℕ × Frame)) → end ≤ 65536

@@ -6,10 +6,10 @@ use Rattle.std.proofs.lemmas.Int.{ints}
 use Rattle.burr_code.specs.Instruction.{signed_word}
 use Rattle.burr_code.specs.declared.limits.TheConstants.{SLOTS}
 use Rattle.burr_container.specs.declared.fault.ContainerFault.TheVariants.{C4}
-use Rattle.burr_container.specs.Plans.{Range, live_slots}
-use Rattle.burr_container.specs.Spelling.{mask_of, range_bytes}
-use Rattle.burr_container.specs.Fitting.{is_between, is_number, is_range}
-use Rattle.burr_container.specs.Faults.{number, signed, range, RangesFail, bits, slots, passes, first}
+use Rattle.burr_container.specs.Rules.Plans.{Range, live_slots}
+use Rattle.burr_container.specs.Rules.Spelling.{mask_of, range_bytes}
+use Rattle.burr_container.specs.Rules.Fitting.{is_between, is_number, is_range}
+use Rattle.burr_container.specs.Rules.Faults.{number, signed, range, RangesFail, bits, slots, passes, first}
 use Rattle.burr_container.proofs.Common.Spelled.{is_word, number_is_word}
 use Rattle.burr_container.proofs.Common.Lawful.{Front, Lawful, OfPart, OfFirst, OfNothing, Sound, first_lawful, lawful_as, passes_lawful}
 use Rattle.burr_container.proofs.Common.Fields.{number_sound, signed_sound, of_byte}

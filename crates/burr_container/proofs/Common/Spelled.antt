@@ -9,7 +9,7 @@ use Rattle.byteorder.specs.Endian.{big_bytes, big_number}
 use Rattle.byteorder.specs.Numbers.{big_number-reads_back, length-bytes_high_first}
 use Rattle.burr_text.proofs.Common.Cuts.{same_head, same_tail}
 use Rattle.burr_code.specs.Instruction.{signed_word}
-use Rattle.burr_container.specs.Fitting.{is_between, is_number}
+use Rattle.burr_container.specs.Rules.Fitting.{is_between, is_number}
 
 -- two values with one spelling are one value, and what follows is the same
 abbrev pub OneSpelling : {A : Type 0} → (A → List ℕ) → (A → Bool) → Type 0
@@ -28,7 +28,7 @@ same_fronts (x ∷ xs) (y ∷ ys) r s size e =
     let tail = same_fronts xs ys r s (omega (arith, size)) (same_tail x y (xs ++ r) (ys ++ s) e) in
     (λ i. head i ∷ tail.0 i, tail.1)
 
--- Pieces of a list, each behind the one before
+-- Pieces of a list, each after the one before
 
 pub apart_three : (x y z r : List ℕ) → (x ++ y ++ z) ++ r ≡ x ++ (y ++ (z ++ r))
 apart_three x y z r = simp append_assoc
@@ -118,7 +118,7 @@ number_is_word n test =
 
 -- Lists
 
--- a list of a known length, each element behind the one before
+-- a list of a known length, each element after the one before
 pub one_list : {A : Type 0} (bytes : A → List ℕ) (fits : A → Bool) → OneSpelling bytes fits
     → (xs ys : List A) (r s : List ℕ) → length xs ≡ length ys → IsTrue (list_all fits xs)
     → IsTrue (list_all fits ys)

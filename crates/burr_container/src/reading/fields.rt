@@ -1,8 +1,8 @@
 ghost use Rattle.std.specs.Prelude.{◌≤◌, ◌&&◌, ◌<◌, nat_le};
 ghost use Rattle.burr_container.specs.declared.fault.ContainerFault.TheVariants.{C4 as C4_at};
-ghost use Rattle.burr_container.specs.Fitting.{is_tray, is_set_of};
-ghost use Rattle.burr_container.specs.Faults.{number, range as range_part};
-ghost use Rattle.burr_container.specs.Reading.{Reads};
+ghost use Rattle.burr_container.specs.Rules.Fitting.{is_tray, is_set_of};
+ghost use Rattle.burr_container.specs.Rules.Faults.{number, range as range_part};
+ghost use Rattle.burr_container.specs.Views.Reading.{Reads};
 
 use crate::fault::ContainerFault;
 use crate::reading::cursor::Cursor;
@@ -82,13 +82,13 @@ pub fn piece_set(pieces: u8, cursor: Cursor<'_>) -> Result<(u32, Cursor<'_>), Co
 pub fn range(cursor: Cursor<'_>) -> Result<((i16, i16), Cursor<'_>), ContainerFault>
     ensures { Reads range_part cursor.entry result }
 {
-    let (low, behind_low) = cursor.signed()?;
+    let (low, after_low) = cursor.signed()?;
     if low == i16::MIN {
         return Err(ContainerFault::C4 { at: cursor.at });
     }
-    let (high, next) = behind_low.signed()?;
+    let (high, next) = after_low.signed()?;
     if high < low {
-        return Err(ContainerFault::C4 { at: behind_low.at });
+        return Err(ContainerFault::C4 { at: after_low.at });
     }
     Ok(((low, high), next))
 }

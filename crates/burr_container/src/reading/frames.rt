@@ -1,19 +1,19 @@
 ghost use Rattle.std.specs.Prelude.{◌≡◌, ◌≤◌, ◌+◌, IfOk, IsTrue, take};
-ghost use Rattle.burr_container.specs.Plans.{exit_symbols as first_ones};
-ghost use Rattle.burr_container.specs.Faults.{forms as forms_part, ranges as ranges_part, exit_guards as exit_guards_part, form as form_part, slots as slots_part, place as place_part, places as places_part, frame as frame_part, exit_frame as exit_frame_part};
+ghost use Rattle.burr_container.specs.Rules.Plans.{exit_symbols as first_ones};
+ghost use Rattle.burr_container.specs.Rules.Faults.{forms as forms_part, ranges as ranges_part, exit_guards as exit_guards_part, form as form_part, slots as slots_part, place as place_part, places as places_part, frame as frame_part, exit_frame as exit_frame_part};
 ghost use Rattle.burr_code.specs.declared.limits.TheConstants.{MOST_GUARDS};
-ghost use Rattle.burr_container.specs.Fitting.{are_ranges};
-ghost use Rattle.burr_container.specs.Decoding.{IsOver};
-ghost use Rattle.burr_container.specs.Reading.{Reads, GoesOver};
-ghost use Rattle.burr_container.specs.Refs.{ReadsInPlace, form_in_run, forms_of, places_of, frame_of, exit_frame_of};
+ghost use Rattle.burr_container.specs.Rules.Fitting.{are_ranges};
+ghost use Rattle.burr_container.specs.Views.Decoding.{IsAfterPlace};
+ghost use Rattle.burr_container.specs.Views.Reading.{Reads, GoesOver};
+ghost use Rattle.burr_container.specs.Views.Refs.{ReadsInPlace, form_in_list, forms_of, places_of, frame_of, exit_frame_of};
 
 use crate::exit_ref::ExitRef;
 use crate::fault::ContainerFault;
 use crate::frame_ref::FrameRef;
+use crate::lists::{FormList, PlaceList, form_size};
 use crate::live::{exit_symbols, live_slots};
 use crate::reading::cursor::Cursor;
 use crate::reading::fields::{count_within, piece_set, range, tray};
-use crate::runs::{FormRun, PlaceRun, form_size};
 use burr_code::limits::{MOST_GUARDS, MOST_OPERANDS, SLOTS, TRAYS};
 
 /// A frame of a label in a plan with so many pieces.
@@ -22,14 +22,14 @@ pub fn frame(pieces: u8, cursor: Cursor<'_>) -> Result<(FrameRef<'_>, Cursor<'_>
     ensures places { IfOk result (λ ok. ok.0.places.count ≡ pieces) }
     ensures reads { ReadsInPlace frame_of (frame_part pieces) cursor.entry result }
 {
-    let (tray, behind_tray) = tray(cursor)?;
-    let (grip, behind_grip) = piece_set(pieces, behind_tray)?;
-    let (slots, behind_slots) = slots(behind_grip)?;
+    let (tray, after_tray) = tray(cursor)?;
+    let (grip, after_grip) = piece_set(pieces, after_tray)?;
+    let (slots, after_slots) = slots(after_grip)?;
     let live = live_slots(&slots);
-    let (guards, behind_guards) = forms(live, MOST_GUARDS, behind_slots)?;
-    let (stack, behind_stack) = forms(live, MOST_OPERANDS, behind_guards)?;
-    let (cost, behind_cost) = form(live, behind_stack)?;
-    let (places, next) = places(pieces, live, behind_cost)?;
+    let (guards, after_guards) = forms(live, MOST_GUARDS, after_slots)?;
+    let (stack, after_stack) = forms(live, MOST_OPERANDS, after_guards)?;
+    let (cost, after_cost) = form(live, after_stack)?;
+    let (places, next) = places(pieces, live, after_cost)?;
     let frame = FrameRef {
         tray,
         grip,
@@ -59,13 +59,13 @@ pub fn exit_frame(
     ensures reads { ReadsInPlace exit_frame_of (exit_frame_part version pieces parameters results)
         cursor.entry result }
 {
-    let (tray, behind_tray) = tray(cursor)?;
-    let (grip, behind_grip) = piece_set(pieces, behind_tray)?;
+    let (tray, after_tray) = tray(cursor)?;
+    let (grip, after_grip) = piece_set(pieces, after_tray)?;
     let live = exit_symbols(parameters, results);
     let result_count = results;
-    let (results, behind_results) = ranges(result_count, behind_grip)?;
-    let (guards, behind_guards) = exit_guards(version, live, behind_results)?;
-    let (places, next) = places(pieces, live, behind_guards)?;
+    let (results, after_results) = ranges(result_count, after_grip)?;
+    let (guards, after_guards) = exit_guards(version, live, after_results)?;
+    let (places, next) = places(pieces, live, after_guards)?;
     let exit = ExitRef {
         tray,
         grip,
@@ -77,7 +77,7 @@ pub fn exit_frame(
     Ok((exit, next))
 }
 
-/// So many ranges, two at most; those behind them are of no meaning.
+/// So many ranges, two at most; those after them are of no meaning.
 fn ranges(count: u8, cursor: Cursor<'_>) -> Result<([(i16, i16); 2], Cursor<'_>), ContainerFault>
     requires { count ≤ 2 }
     ensures fit { IfOk result (λ ok. IsTrue (are_ranges 2 ok.0)) }
@@ -98,13 +98,13 @@ fn exit_guards(
     version: u16,
     live: [bool; 8],
     cursor: Cursor<'_>,
-) -> Result<(FormRun<'_>, Cursor<'_>), ContainerFault>
+) -> Result<(FormList<'_>, Cursor<'_>), ContainerFault>
     ensures live { IfOk result (λ ok. ok.0.live ≡ live) }
     ensures few { IfOk result (λ ok. ok.0.count ≤ MOST_GUARDS) }
     ensures reads { ReadsInPlace forms_of (exit_guards_part version live) cursor.entry result }
 {
     if version != 2 {
-        let none = FormRun {
+        let none = FormList {
             live,
             count: 0,
             bytes: &[],
@@ -118,10 +118,10 @@ fn exit_guards(
 fn slots(cursor: Cursor<'_>) -> Result<([Option<(i16, i16)>; 8], Cursor<'_>), ContainerFault>
     ensures { Reads slots_part cursor.entry result }
 {
-    let (mask, behind_mask) = cursor.byte()?;
+    let (mask, after_mask) = cursor.byte()?;
     let mut slots = [None; 8];
     let mut bits = mask;
-    let mut cursor = behind_mask;
+    let mut cursor = after_mask;
     for v in 0..SLOTS {
         if bits % 2 == 1 {
             let (range, next) = range(cursor)?;
@@ -138,24 +138,24 @@ fn forms(
     live: [bool; 8],
     most: usize,
     cursor: Cursor<'_>,
-) -> Result<(FormRun<'_>, Cursor<'_>), ContainerFault>
+) -> Result<(FormList<'_>, Cursor<'_>), ContainerFault>
     ensures live { IfOk result (λ ok. ok.0.live ≡ live) }
     ensures few { IfOk result (λ ok. ok.0.count ≤ most) }
     ensures reads { ReadsInPlace forms_of (forms_part most live) cursor.entry result }
 {
-    let (count, behind_count) = count_within(cursor, 0, most)?;
-    let (bytes, next) = behind_count.bytes(count * form_size(&live))?;
-    Ok((FormRun { live, count, bytes }, next))
+    let (count, after_count) = count_within(cursor, 0, most)?;
+    let (bytes, next) = after_count.bytes(count * form_size(&live))?;
+    Ok((FormList { live, count, bytes }, next))
 }
 
 /// A form over these live slots.
-fn form(live: [bool; 8], cursor: Cursor<'_>) -> Result<(FormRun<'_>, Cursor<'_>), ContainerFault>
+fn form(live: [bool; 8], cursor: Cursor<'_>) -> Result<(FormList<'_>, Cursor<'_>), ContainerFault>
     ensures live { IfOk result (λ ok. (ok.0.live ≡ live) × (ok.0.count ≡ 1)) }
-    ensures reads { ReadsInPlace form_in_run (form_part live) cursor.entry result }
+    ensures reads { ReadsInPlace form_in_list (form_part live) cursor.entry result }
 {
     let (bytes, next) = cursor.bytes(form_size(&live))?;
     let count = 1;
-    Ok((FormRun { live, count, bytes }, next))
+    Ok((FormList { live, count, bytes }, next))
 }
 
 /// The places of so many pieces, by forms over these live slots.
@@ -163,7 +163,7 @@ fn places(
     pieces: u8,
     live: [bool; 8],
     cursor: Cursor<'_>,
-) -> Result<(PlaceRun<'_>, Cursor<'_>), ContainerFault>
+) -> Result<(PlaceList<'_>, Cursor<'_>), ContainerFault>
     ensures live { IfOk result (λ ok. (ok.0.live ≡ live) × (ok.0.count ≡ pieces)) }
     ensures reads { ReadsInPlace places_of (places_part pieces live) cursor.entry result }
 {
@@ -173,12 +173,12 @@ fn places(
         cursor = place(&live, cursor)?;
     }
     let count = usize::from(pieces);
-    Ok((PlaceRun { live, count, bytes }, cursor))
+    Ok((PlaceList { live, count, bytes }, cursor))
 }
 
 /// Goes over the place of a piece, by forms over these live slots.
 fn place<'a>(live: &[bool; 8], cursor: Cursor<'a>) -> Result<Cursor<'a>, ContainerFault>
-    ensures over { IfOk result (λ next. IsOver live.now cursor.entry.rest.now next.rest.now) }
+    ensures over { IfOk result (λ next. IsAfterPlace live.now cursor.entry.rest.now next.rest.now) }
     ensures reads { GoesOver (place_part live.now) cursor.entry result }
 {
     let (first, next) = cursor.byte()?;

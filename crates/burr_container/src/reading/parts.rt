@@ -1,15 +1,15 @@
 ghost use Rattle.std.specs.Prelude.{◌≡◌, ◌≤◌, ◌==◌, IfOk, true, false};
 ghost use Rattle.burr_container.specs.declared.fault.ContainerFault.TheVariants.{C2 as C2_at, C3 as C3_at, C4 as C4_at, C5 as C5_at};
-ghost use Rattle.burr_container.specs.Fitting.{is_version, is_budget, is_name_text};
-ghost use Rattle.burr_container.specs.Faults.{number, raw, is_magic, is_next_label, name as name_part, label as label_part, labels as labels_part, code as code_part, body as body_part, result_count as result_count_part, procedure as procedure_part};
-ghost use Rattle.burr_container.specs.Reading.{Reads, GoesOver, ReadsAs};
-ghost use Rattle.burr_container.specs.Refs.{ReadsInPlace};
-ghost use Rattle.burr_container.specs.InPlace.{ReadsHeader, AreLabels, IsBody, IsProcedure};
+ghost use Rattle.burr_container.specs.Rules.Fitting.{is_version, is_budget, is_name_text};
+ghost use Rattle.burr_container.specs.Rules.Faults.{number, raw, is_magic, is_next_label, name as name_part, label as label_part, labels as labels_part, code as code_part, body as body_part, result_count as result_count_part, procedure as procedure_part};
+ghost use Rattle.burr_container.specs.Views.Reading.{Reads, GoesOver, ReadsAs};
+ghost use Rattle.burr_container.specs.Views.Refs.{ReadsInPlace};
+ghost use Rattle.burr_container.specs.Views.InPlace.{ReadsHeader, AreLabels, IsBody, IsProcedure};
 
 use crate::fault::ContainerFault;
 use crate::fitting::most_results;
 use crate::header::Header;
-use crate::labels::Labels;
+use crate::label_table::LabelTable;
 use crate::procedure_ref::ProcedureRef;
 use crate::reading::cursor::Cursor;
 use crate::reading::fields::{byte_within, count_within, word_within};
@@ -23,18 +23,18 @@ pub fn header(cursor: Cursor<'_>) -> Result<(Header<'_>, Cursor<'_>), ContainerF
     ensures few { IfOk result (λ ok. ok.0.pieces ≤ 32) }
     ensures reads { ReadsHeader cursor.entry result }
 {
-    let behind_magic = magic(cursor)?;
-    let (version, behind_version) = version(behind_magic)?;
-    let (budget, behind_budget) = budget(behind_version)?;
-    let (pieces, behind_pieces) = byte_within(behind_budget, 2, 32)?;
-    let (name, behind_name) = name(behind_pieces)?;
+    let after_magic = magic(cursor)?;
+    let (version, after_version) = version(after_magic)?;
+    let (budget, after_budget) = budget(after_version)?;
+    let (pieces, after_pieces) = byte_within(after_budget, 2, 32)?;
+    let (name, after_name) = name(after_pieces)?;
     let header = Header {
         version,
         budget,
         pieces,
         name,
     };
-    Ok((header, behind_name))
+    Ok((header, after_name))
 }
 
 /// The bytes that each container begins with; else C2 at them.
@@ -74,8 +74,8 @@ fn budget(cursor: Cursor<'_>) -> Result<(u32, Cursor<'_>), ContainerFault>
 fn name(cursor: Cursor<'_>) -> Result<(&[u8], Cursor<'_>), ContainerFault>
     ensures { ReadsInPlace (λ name. name.now) name_part cursor.entry result }
 {
-    let (length, behind_length) = count_within(cursor, 1, 32)?;
-    name_text(length, behind_length)
+    let (length, after_length) = count_within(cursor, 1, 32)?;
+    name_text(length, after_length)
 }
 
 /// A name of so many bytes; else C4 at it.
@@ -99,9 +99,9 @@ pub fn main_procedure(
     requires { pieces ≤ 32 }
     ensures { ReadsAs (IsProcedure pieces) (procedure_part version pieces true) cursor.entry result }
 {
-    let (parameters, behind_parameters) = byte_within(cursor, 0, 0)?;
-    let (results, behind_results) = result_count(version, true, behind_parameters)?;
-    let ((labels, code), next) = body(pieces, behind_results)?;
+    let (parameters, after_parameters) = byte_within(cursor, 0, 0)?;
+    let (results, after_results) = result_count(version, true, after_parameters)?;
+    let ((labels, code), next) = body(pieces, after_results)?;
     let procedure = ProcedureRef {
         parameters,
         results,
@@ -121,10 +121,10 @@ pub fn other_procedure(
     requires { pieces ≤ 32 }
     ensures { ReadsAs (IsProcedure pieces) (procedure_part version pieces false) cursor.entry result }
 {
-    let (parameters, behind_parameters) = byte_within(cursor, 0, MOST_PARAMETERS)?;
-    let (results, behind_results) = result_count(version, false, behind_parameters)?;
-    let (exit, behind_exit) = exit_frame(version, pieces, parameters, results, behind_results)?;
-    let ((labels, code), next) = body(pieces, behind_exit)?;
+    let (parameters, after_parameters) = byte_within(cursor, 0, MOST_PARAMETERS)?;
+    let (results, after_results) = result_count(version, false, after_parameters)?;
+    let (exit, after_exit) = exit_frame(version, pieces, parameters, results, after_results)?;
+    let ((labels, code), next) = body(pieces, after_exit)?;
     let procedure = ProcedureRef {
         parameters,
         results,
@@ -151,12 +151,15 @@ fn result_count(
 }
 
 /// What follows the parameters, the results and the exit frame of a procedure: its labels and its code.
-fn body(pieces: u8, cursor: Cursor<'_>) -> Result<((Labels<'_>, &[u8]), Cursor<'_>), ContainerFault>
+fn body(
+    pieces: u8,
+    cursor: Cursor<'_>,
+) -> Result<((LabelTable<'_>, &[u8]), Cursor<'_>), ContainerFault>
     requires { pieces ≤ 32 }
     ensures { ReadsAs (IsBody pieces) (body_part pieces) cursor.entry result }
 {
-    let ((labels, last), behind_labels) = labels(pieces, cursor)?;
-    let (code, next) = code(last, behind_labels)?;
+    let ((labels, last), after_labels) = labels(pieces, cursor)?;
+    let (code, next) = code(last, after_labels)?;
     Ok(((labels, code), next))
 }
 
@@ -164,24 +167,24 @@ fn body(pieces: u8, cursor: Cursor<'_>) -> Result<((Labels<'_>, &[u8]), Cursor<'
 fn labels(
     pieces: u8,
     cursor: Cursor<'_>,
-) -> Result<((Labels<'_>, Option<u16>), Cursor<'_>), ContainerFault>
+) -> Result<((LabelTable<'_>, Option<u16>), Cursor<'_>), ContainerFault>
     requires { pieces ≤ 32 }
     ensures { ReadsAs (AreLabels pieces) (labels_part pieces) cursor.entry result }
 {
-    let (count, behind_count) = word_within(cursor, 1, MOST_LABELS)?;
+    let (count, after_count) = word_within(cursor, 1, MOST_LABELS)?;
     let mut starts = ArrayVec::new();
     let mut last = None;
-    let mut cursor = behind_count;
+    let mut cursor = after_count;
     for _ in 0..count {
         let (position, next) = label(last, pieces, cursor)?;
         starts.push(cursor.rest);
         last = Some(position);
         cursor = next;
     }
-    Ok(((Labels { starts }, last), cursor))
+    Ok(((LabelTable { starts }, last), cursor))
 }
 
-/// A label behind the one at `last`: its position.
+/// A label after the one at `last`: its position.
 fn label(
     last: Option<u16>,
     pieces: u8,
@@ -191,12 +194,12 @@ fn label(
     ensures { ReadsAs (λ position l. position ≡ l.0)
         (label_part (is_next_label last) pieces) cursor.entry result }
 {
-    let (position, behind_position) = position(last, cursor)?;
-    let (_frame, next) = frame(pieces, behind_position)?;
+    let (position, after_position) = position(last, cursor)?;
+    let (_frame, next) = frame(pieces, after_position)?;
     Ok((position, next))
 }
 
-/// The position of the label behind the one at `last`: the first is at 0, each later one rises.
+/// The position of the label after the one at `last`: the first is at 0, each later one rises.
 fn position(last: Option<u16>, cursor: Cursor<'_>) -> Result<(u16, Cursor<'_>), ContainerFault>
     ensures { Reads (number 2 C5_at (is_next_label last)) cursor.entry result }
 {
@@ -219,7 +222,7 @@ fn code(last: Option<u16>, cursor: Cursor<'_>) -> Result<(&[u8], Cursor<'_>), Co
         None => 0,
         Some(last) => usize::from(last) + 1,
     };
-    let (length, behind_length) = word_within(cursor, least, MOST_CODE)?;
-    let (code, next) = behind_length.bytes(length)?;
+    let (length, after_length) = word_within(cursor, least, MOST_CODE)?;
+    let (code, next) = after_length.bytes(length)?;
     Ok((code, next))
 }

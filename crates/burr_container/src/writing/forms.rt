@@ -3,10 +3,10 @@
 ghost use Rattle.std.specs.Prelude.{◌≡◌, ◌<◌, ◌++◌, length, OnOk};
 ghost use Rattle.std.specs.List.{flat_map};
 ghost use Rattle.burr_code.specs.Instruction.{signed_word};
-ghost use Rattle.burr_container.specs.Counts.{coef_bytes};
-ghost use Rattle.burr_container.specs.Plans.{of_live};
-ghost use Rattle.burr_container.specs.Spelling.{form_bytes, forms_bytes, place_bytes, places_bytes};
-ghost use Rattle.burr_container.specs.Views.{placement_of, placements_of};
+ghost use Rattle.burr_container.specs.Views.Counts.{coef_bytes};
+ghost use Rattle.burr_container.specs.Rules.Plans.{of_live};
+ghost use Rattle.burr_container.specs.Rules.Spelling.{form_bytes, forms_bytes, place_bytes, places_bytes};
+ghost use Rattle.burr_container.specs.Views.OwnedPlaces.{placement_of, placements_of};
 
 use crate::place::Place;
 use crate::plan_form::PlanForm;

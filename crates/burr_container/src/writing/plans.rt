@@ -2,9 +2,9 @@
 
 ghost use Rattle.std.specs.Prelude.{◌≡◌, ◌<◌, ◌≤◌, ◌^◌, ◌++◌, length, OnOk, IfOk, IsTrue};
 ghost use Rattle.std.specs.List.{list_all};
-ghost use Rattle.burr_container.specs.Spelling.{counted_bytes, result_count_bytes, exit_bytes, label_bytes, labels_bytes, procedure_bytes, plan_bytes};
-ghost use Rattle.burr_container.specs.Fitting.{is_fitting};
-ghost use Rattle.burr_container.specs.Counts.{has_room, has_room_in_exit, has_room_in_label};
+ghost use Rattle.burr_container.specs.Rules.Spelling.{counted_bytes, result_count_bytes, exit_bytes, label_bytes, labels_bytes, procedure_bytes, plan_bytes};
+ghost use Rattle.burr_container.specs.Rules.Fitting.{is_fitting};
+ghost use Rattle.burr_container.specs.Views.Counts.{has_room, has_room_in_exit, has_room_in_label};
 
 use crate::frame::{ExitFrame, Frame};
 use crate::plan::{Plan, Procedure};
@@ -91,7 +91,7 @@ fn add_exit(
     }
 }
 
-/// Labels, with their count in front of them.
+/// LabelTable, with their count in front of them.
 fn add_labels(bytes: &mut Vec<u8>, labels: &[(u16, Frame)]) -> Result<(), AllocError>
     requires few { length labels.now < 2 ^ 16 }
     requires room { IsTrue (list_all has_room_in_label labels.now) }

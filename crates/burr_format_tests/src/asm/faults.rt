@@ -416,7 +416,7 @@ pub const CODE: &str = "\
 20 halt/label end/; x|P5 { line: 23 }
 20 halt/label end/frame 0 -|P1 { line: 23 }
 20 halt/label end/frame 0 -/cost 1/at 0 apart|P1 { line: 25 }
-; a label at the end of the code, and the procedure behind it
+; a label at the end of the code, and the procedure after it
 20 halt/label end/frame 0 -/cost 1/at 0 apart/at 1 apart/proc main 0|P4 { line: 21 }
 20 halt/label end/frame 0 -/cost 1/at 0 apart/at 1 apart/proc x 5|P4 { line: 21 }
 20 halt/label end/frame 0 -/cost 1/at 0 apart/at 1 apart/proc x 0/halt|P4 { line: 21 }

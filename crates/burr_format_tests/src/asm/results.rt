@@ -240,7 +240,7 @@ pub const RESULTS: &str = "\
 15 result -32767 32767|right
 15 result 2 2|right
 15 ; a result//result 0 2|right
-; guards behind the results
+; guards after the results
 15 result 0 2/guard 0+1v0/guard 1/guard 1/guard 1|right
 15 result 0 2/guard 1/guard 1/guard 1/guard 1/guard 1|P4 { line: 20 }
 15 result 0 2/guard 1/guard 1/guard 1/guard 1/guard 0+1v1|P3 { line: 20 }
@@ -254,7 +254,7 @@ pub const RESULTS: &str = "\
 15 result 0 2/cost 1|P1 { line: 16 }
 13 proc lift 0 0|15 guard 1|16 at 0 apart|right
 13 proc lift 0 0|15 guard 0+1v0|16 at 0 apart|P3 { line: 15 }
-; pieces behind the guards, and forms over parameters and results
+; pieces after the guards, and forms over parameters and results
 16 at 0 0 0 0 0+1v0/guard 1|P1 { line: 17 }
 16 at 0 0 0 0 0+1v0/result 0 2|P1 { line: 17 }
 16 at 0 0 0 0 0+1v1|P3 { line: 16 }
@@ -269,7 +269,7 @@ pub const RESULTS: &str = "\
 5 result 0 2|P1 { line: 5 }
 8 result 0 2|P1 { line: 8 }
 29 result 0 2|P1 { line: 29 }
-; a label at the end of the code, and the procedure behind it
+; a label at the end of the code, and the procedure after it
 12 halt/label end/frame 0 -/cost 1/at 0 apart/at 1 apart|P4 { line: 13 }
 12 halt/label end/frame 0 -/cost 1/at 0 apart/at 1 apart|13 proc lift 0 3|P4 { line: 13 }
 12 halt/label end/frame 0 -/cost 1/at 0 apart/at 1 apart|13 proc lift 0|P1 { line: 18 }
@@ -296,7 +296,7 @@ pub const EXIT: &str = "\
 plan2 cup 2 9/proc main 0 0/label start/frame 0 -/cost 1/at 0 apart/at 1 apart/halt/\
 proc lift 0 1/exit 0 -/@";
 
-/// Ends of a plan of version 2 within its exit frame, and behind it.
+/// Ends of a plan of version 2 within its exit frame, and after it.
 pub const BEHIND_EXIT: &str = "\
 |P1 { line: 11 }
 result 0 2|P1 { line: 11 }

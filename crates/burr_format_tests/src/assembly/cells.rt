@@ -63,7 +63,7 @@ pub const TURNS: &str = "\
 
 /// Texts that need not be right, and the name of piece 0 that is found in them.
 pub const NAMED: &str = "\
-; behind the piece the text may be wrong, and it may end without the end of a line
+; after the piece the text may be wrong, and it may end without the end of a line
 piece A a +x 0 0 0/x/piece B|A
 ; lines of a shape named as a piece, and of no form
 shape piece/piece A a +x 0 0 0/|A

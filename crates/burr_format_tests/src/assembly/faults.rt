@@ -86,14 +86,14 @@ assembly duo/shape cube/layer/#/end/|A7 { line: 6 }
 /// The duo up to its pieces.
 pub const UP_TO_PIECES: &str = "assembly duo/shape cube/layer/#/end/@";
 
-/// What stands behind the duo's shape, up to the end.
+/// What stands after the duo's shape, up to the end.
 pub const ENDS: &str = "\
 shape rod/|A1 { line: 7 }
 shape rod/layer/|A1 { line: 8 }
 shape rod/layer/#/|A1 { line: 9 }
 shape rod/layer/#/end/|A7 { line: 10 }
 piece A cube +x+y+z 0 0 0/|A7 { line: 7 }
-; a last line without its LF: right, wrong, and behind a wrong one
+; a last line without its LF: right, wrong, and after a wrong one
 shape rod|A1 { line: 6 }
 shape rod/layer/#/end|A1 { line: 9 }
 piece A cube +x+y+z 0 0 0|A1 { line: 6 }
@@ -108,7 +108,7 @@ piece A cube +x+y+z 0 0 0/piece B cube +x+y+z 1 0 0//|A1 { line: 8 }
 pub const DRAWN: &str = "\
 assembly drawn/shape drawn/@piece A drawn +x+y+z 0 0 0/piece B drawn +x+y+z 9 9 9/";
 
-/// What stands behind the line of a shape, the second of its text.
+/// What stands after the line of a shape, the second of its text.
 pub const DRAWINGS: &str = "\
 layer/#/end/|right
 layer/##/../.#/layer/../#./../end/|right

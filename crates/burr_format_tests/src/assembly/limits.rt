@@ -11,7 +11,7 @@ shape w/layer/#/end/shape x/layer/#/end/shape y/layer/#/end/shape z/layer/#/end/
 layer/#/end/shape B/layer/#/end/shape C/layer/#/end/shape D/layer/#/end/shape E/layer/#/end/\
 shape F/layer/#/end/@";
 
-/// What stands behind 32 shapes, from line 130 on.
+/// What stands after 32 shapes, from line 130 on.
 pub const BEHIND_SHAPES: &str = "\
 piece A a +x+y+z 0 0 0/piece B F +x+y+z 1 0 0/|right
 piece A a +x+y+z 0 0 0/piece B G +x+y+z 1 0 0/|A6 { line: 131 }
@@ -40,7 +40,7 @@ piece x cube +x+y+z 7 2 0/piece y cube +x+y+z 0 3 0/piece z cube +x+y+z 1 3 0/\
 piece A cube +x+y+z 2 3 0/piece B cube +x+y+z 3 3 0/piece C cube +x+y+z 4 3 0/\
 piece D cube +x+y+z 5 3 0/piece E cube +x+y+z 6 3 0/@";
 
-/// What stands behind 31 pieces, from line 37 on; the last of them is in 6, 3, 0.
+/// What stands after 31 pieces, from line 37 on; the last of them is in 6, 3, 0.
 pub const BEHIND_31_PIECES: &str = "\
 |right
 piece F cube +x+y+z 7 3 0/|right
@@ -63,7 +63,7 @@ piece x cube +x+y+z 7 2 0/piece y cube +x+y+z 0 3 0/piece z cube +x+y+z 1 3 0/\
 piece A cube +x+y+z 2 3 0/piece B cube +x+y+z 3 3 0/piece C cube +x+y+z 4 3 0/\
 piece D cube +x+y+z 5 3 0/piece E cube +x+y+z 6 3 0/piece F cube +x+y+z 7 3 0/@";
 
-/// What stands behind 32 pieces, from line 38 on.
+/// What stands after 32 pieces, from line 38 on.
 pub const BEHIND_32_PIECES: &str = "\
 |right
 piece G cube +x+y+z 0 0 1/|A7 { line: 38 }
@@ -112,7 +112,7 @@ pub const BOXES: &str = "\
 <16 layer/<16 ................/>>|A3 { line: 275 }
 ";
 
-/// A text around the last row of a third layer, behind 512 cells and 15 rows without any.
+/// A text around the last row of a third layer, after 512 cells and 15 rows without any.
 pub const BOX_512: &str = "\
 assembly boxes/shape box/<2 layer/<16 ################/>>layer/<15 ................/>@\
 end/piece A box +x+y+z 0 0 0/piece B box +x+y+z 16 0 0/";

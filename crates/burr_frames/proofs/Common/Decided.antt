@@ -10,14 +10,14 @@ use Rattle.burr_code.specs.PieceSets.{IsInSet}
 use Rattle.burr_code.specs.Places.{Placement, Apart, On, LiesAt, tray_of}
 use Rattle.burr_code.proofs.Common.Orders.{decide_le}
 use Rattle.burr_code.proofs.Common.PieceSets.{decide_bit}
-use Rattle.burr_assembly.specs.Homes.{HasHome}
-use Rattle.burr_forms.specs.Forms.{Form, Point, values, IsSmall, AllSmall, IsSmallForm, AllSmallForms}
-use Rattle.burr_forms.specs.Points.{box_size}
-use Rattle.burr_container.specs.Plans.{FormCell, Frame}
-use Rattle.burr_frames.specs.States.{AbstractState, IsPoint, Everywhere, cell_at, places_at, state_of}
-use Rattle.burr_frames.specs.Arrival.{live_forms, IsAlike, Agrees, Meets}
-use Rattle.burr_frames.specs.SpaceRules.{OnBenchAt, PairAt, AllSmallPlaces}
-use Rattle.burr_frames.specs.ControlRules.{HasRoomForSymbols}
+use Rattle.burr_assembly.specs.Rules.Homes.{HasHome}
+use Rattle.burr_forms.specs.Rules.Forms.{Form, Point, values, IsSmall, AllSmall, IsSmallForm, AllSmallForms}
+use Rattle.burr_forms.specs.Rules.Points.{box_size}
+use Rattle.burr_container.specs.Rules.Plans.{FormCell, Frame}
+use Rattle.burr_frames.specs.Rules.States.{AbstractState, IsPoint, Everywhere, cell_at, places_at, state_of}
+use Rattle.burr_frames.specs.Rules.Arrival.{live_forms, IsAlike, Agrees, Meets}
+use Rattle.burr_frames.specs.Rules.SpaceRules.{OnBenchAt, PairAt, AllSmallPlaces}
+use Rattle.burr_frames.specs.Rules.ControlRules.{HasRoomForSymbols}
 use Rattle.burr_code.proofs.Common.Conditions.{decided_implies, decide_all_numbers, decide_of_the_one, decide_found, one_in_list, decide_lies, one_position, lies_within, apart-on, same_tray, same_position}
 use Rattle.burr_voxels.proofs.Common.Decided.{decide_same_cell}
 use Rattle.burr_frames.proofs.Common.Search.{decide_in_box, decide_guards, first_failing}

@@ -2,10 +2,10 @@
 use Rattle.std.proofs.Common.{◌≡◌, ℕ, ◌∙◌, Option, Some, None, length, map, refl, sym, ap}
 use Rattle.std.specs.Prelude.{option_map}
 use Rattle.burr_container.specs.declared.exit_ref.ExitRef.{ExitRef}
-use Rattle.burr_container.specs.Plans.{ExitFrame, over_symbols, place_over_symbols}
-use Rattle.burr_container.specs.InPlace.{IsExit}
-use Rattle.burr_frames.specs.FramedPlans.{framed_exit}
-use Rattle.burr_frames.specs.Exits.{framed_ref}
+use Rattle.burr_container.specs.Rules.Plans.{ExitFrame, over_symbols, place_over_symbols}
+use Rattle.burr_container.specs.Views.InPlace.{IsExit}
+use Rattle.burr_frames.specs.Rules.FramedPlans.{framed_exit}
+use Rattle.burr_frames.specs.Views.Exits.{framed_ref}
 
 pub no_exit : (pieces parameters results : ℕ) (exit : Option ExitFrame) → IsExit pieces parameters results None exit
     → option_map (framed_exit parameters results) exit ≡ None

@@ -5,11 +5,11 @@ use Rattle.std.specs.Prelude.{slice_get, option_map}
 use Rattle.std.proofs.lemmas.Option.{slice_get-map, slice_get_within, none-some, same_Some}
 use Rattle.std.proofs.lemmas.List.{length-map}
 use Rattle.burr_code.specs.Labels.{labelled, with_first}
-use Rattle.burr_container.specs.Plans.{Plan, PlanProcedure, Frame}
-use Rattle.burr_frames.specs.FramedPlans.{FramedProcedure, framed_label, framed_procedure, framed_plan}
-use Rattle.burr_frames.specs.Here.{IsSomeOf}
+use Rattle.burr_container.specs.Rules.Plans.{Plan, PlanProcedure, Frame}
+use Rattle.burr_frames.specs.Rules.FramedPlans.{FramedProcedure, framed_label, framed_procedure, framed_plan}
+use Rattle.burr_frames.specs.Views.Here.{IsSomeOf}
 
--- what is found behind a map is the image of what is found before
+-- what is found after a map is the image of what is found before
 pub mapped_found : {A B : Type 0} (f : A → B) (o : Option A) (b : B) → option_map f o ≡ Some b
     → (a : A) × (o ≡ Some a) × (b ≡ f a)
 mapped_found f None b e = absurd (none-some _ e)

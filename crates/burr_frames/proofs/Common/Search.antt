@@ -6,10 +6,10 @@ use Rattle.std.specs.Int.{int_gap}
 use Rattle.std.proofs.lemmas.Int.{ints}
 use Rattle.burr_text.proofs.Common.Decisions.{Decided, decided_and, decided_not, decide_below, decide_first_below, decide_all}
 use Rattle.burr_code.proofs.Common.Orders.{decide_le}
-use Rattle.burr_forms.specs.Forms.{Form, Point, value}
-use Rattle.burr_forms.specs.Points.{InRange, InBox, GuardsHold, Precedes}
-use Rattle.burr_frames.specs.States.{AbstractState, Everywhere, IsFirstFailing}
-use Rattle.burr_frames.specs.Verdicts.{IsFirstPair}
+use Rattle.burr_forms.specs.Rules.Forms.{Form, Point, value}
+use Rattle.burr_forms.specs.Rules.Points.{InRange, InBox, GuardsHold, Precedes}
+use Rattle.burr_frames.specs.Rules.States.{AbstractState, Everywhere, IsFirstFailing}
+use Rattle.burr_frames.specs.Rules.Verdicts.{IsFirstPair}
 use Rattle.burr_code.proofs.Common.Conditions.{decide_all_numbers}
 
 pub decide_in_box : (ranges : List (ℤ × ℤ)) (point : Point) → Decided (InBox ranges point)
@@ -55,10 +55,10 @@ gap_below (negsuc a) (negsuc b) k h = omega (arith, ints, h)
 below_of_sum : (low : ℤ) (j k : ℕ) → (low +ℤ pos j) <ℤ (low +ℤ pos k) → j < k
 below_of_sum low j k h = omega (arith, ints, h)
 
--- one number of a range after the other, and the points behind each
+-- one number of a range after the other, and the points after each
 first_of_range : (range : ℤ × ℤ) (ranges : List (ℤ × ℤ)) (Q : Point → Type 0)
     → ((x : ℤ) → Search ranges (λ p. Q (x ∷ p))) → Search (range ∷ ranges) Q
-first_of_range range ranges Q behind = by_first (decide_first_below IsAt each (int_gap range.0 range.1 + 1))
+first_of_range range ranges Q after = by_first (decide_first_below IsAt each (int_gap range.0 range.1 + 1))
   where
     IsAt : ℕ → Type 0
     IsAt k = InRange range (range.0 +ℤ pos k) × ((p : Point) × FirstIn ranges (λ p. Q ((range.0 +ℤ pos k) ∷ p)) p)
@@ -66,12 +66,12 @@ first_of_range range ranges Q behind = by_first (decide_first_below IsAt each (i
     each : (k : ℕ) → Decided (IsAt k)
     each k =
         decided_and (decided_and (decide_le _ _) (decide_le _ _))
-        (decided_of_search ranges (λ p. Q ((range.0 +ℤ pos k) ∷ p)) (behind (range.0 +ℤ pos k)))
+        (decided_of_search ranges (λ p. Q ((range.0 +ℤ pos k) ∷ p)) (after (range.0 +ℤ pos k)))
 
     none_at : (k : ℕ) → (¬ IsAt k) → InRange range (range.0 +ℤ pos k) → (p : Point) → InBox ranges p
         → ¬ Q ((range.0 +ℤ pos k) ∷ p)
     none_at k refuted within =
-        none_of_search ranges (λ p. Q ((range.0 +ℤ pos k) ∷ p)) (behind (range.0 +ℤ pos k))
+        none_of_search ranges (λ p. Q ((range.0 +ℤ pos k) ∷ p)) (after (range.0 +ℤ pos k))
         (λ found. refuted (within, found))
 
     at_gap : (x : ℤ) (p : Point) → InRange range x → (k : ℕ) → x ≡ (range.0 +ℤ pos k) → (¬ IsAt k) → InBox ranges p

@@ -7,16 +7,16 @@ use Rattle.burr_voxels.specs.declared.cell.Cell.{Cell}
 use Rattle.burr_code.specs.Places.{Placement, tray_of}
 use Rattle.burr_code.specs.Instruction.{Instruction, Halt, Push, Load, Store, Add, Sub, Drop, Grip, Step, Aside, Tray, Jump, Down, Ask, Pick, Call, Ret, IsInNumberRange}
 use Rattle.burr_code.proofs.Common.Orders.{decide_le}
-use Rattle.burr_forms.specs.Forms.{Form, Point, value, values, one_less, plus_form, minus_form, substituted}
-use Rattle.burr_container.specs.Plans.{FormCell, Frame}
+use Rattle.burr_forms.specs.Rules.Forms.{Form, Point, value, values, one_less, plus_form, minus_form, substituted}
+use Rattle.burr_container.specs.Rules.Plans.{FormCell, Frame}
 use Rattle.burr_frames.specs.declared.rule.Rule.{Rule}
-use Rattle.burr_frames.specs.FramedPlans.{FramedExit, FramedProcedure, FramedPlan}
-use Rattle.burr_frames.specs.States.{AbstractState, Everywhere, state_of, places_at, IsFirstFailing}
-use Rattle.burr_frames.specs.Verdicts.{Rest, everywhere, everywhere_of_pairs, at_point, at_pair, paying, meeting, arriving, arriving_at_all, IsFirstPair}
-use Rattle.burr_frames.specs.Transfer.{Transfer}
-use Rattle.burr_frames.specs.SpaceRules.{moved, PairAt, DoesNotOverlap, GoesFree}
-use Rattle.burr_frames.specs.ControlRules.{behind_call, paying_call, left_of, MeetsExitAt}
-use Rattle.burr_frames.specs.QuestionRules.{with_symbol}
+use Rattle.burr_frames.specs.Rules.FramedPlans.{FramedExit, FramedProcedure, FramedPlan}
+use Rattle.burr_frames.specs.Rules.States.{AbstractState, Everywhere, state_of, places_at, IsFirstFailing}
+use Rattle.burr_frames.specs.Rules.Verdicts.{Rest, everywhere, everywhere_of_pairs, at_point, at_pair, paying, meeting, arriving, arriving_at_all, IsFirstPair}
+use Rattle.burr_frames.specs.Rules.Transfer.{Transfer}
+use Rattle.burr_frames.specs.Rules.SpaceRules.{moved, PairAt, DoesNotOverlap, GoesFree}
+use Rattle.burr_frames.specs.Rules.ControlRules.{after_call, paying_call, left_of, MeetsExitAt}
+use Rattle.burr_frames.specs.Rules.QuestionRules.{with_symbol}
 use Rattle.burr_code.proofs.Common.Conditions.{decide_all_lie, decide_all_apart, decide_part_of_tray, decide_empty_tray}
 use Rattle.burr_voxels.proofs.Common.Decided.{decide_overlap, decide_free}
 use Rattle.burr_frames.proofs.Common.Search.{decide_in_box, decide_guards, first_failing, first_pair}
@@ -115,11 +115,11 @@ decide_exit s exit parameters results point =
     (decide_guards exit.guards (values point (parameters ++ results)))
     (decide_same_places (places_at point s.places) (places_at (values point (parameters ++ results)) exit.places))
 
--- where a call is paid, its state behind given
-some_paid_call : (s behind : AbstractState) (callee_cost : Form) → HasOne (paying_call s behind callee_cost)
-some_paid_call s behind callee_cost =
-    some_needed _ _ _ (decide_room behind)
-    (some_needed _ _ _ (decided_and (decide_small_places behind.places) (decide_small_forms behind.guards))
+-- where a call is paid, its state after given
+some_paid_call : (s after : AbstractState) (callee_cost : Form) → HasOne (paying_call s after callee_cost)
+some_paid_call s after callee_cost =
+    some_needed _ _ _ (decide_room after)
+    (some_needed _ _ _ (decided_and (decide_small_places after.places) (decide_small_forms after.guards))
     (some_needed _ _ _ (decided_and_three (decide_small_form callee_cost) (decide_small_form (one_less s.cost))
     (decide_small_form (left_of s.cost callee_cost)))
     (some_everywhere s _ _ _ (λ point. decide_le (pos 0) (value point (left_of s.cost callee_cost)))
@@ -174,7 +174,7 @@ some_verdict homes plan n here s (Pick labels) =
 some_verdict homes plan n here s (Call callee) =
     some_found _ _ _ λ there. some_found _ _ _ λ exit. some_found _ _ _ λ entry. some_found _ _ _ λ found.
     some_needed _ _ _ (decide_at_most (length found.1 + there.results) 8) (some_meeting _ entry _ _ λ arguments.
-    some_paid_call s (behind_call s (reverse found.0) found.1 exit) (substituted arguments entry.cost))
+    some_paid_call s (after_call s (reverse found.0) found.1 exit) (substituted arguments entry.cost))
 some_verdict homes plan n here s Ret =
     some_found _ _ _ λ exit. some_found _ _ _ λ parameters. some_found _ _ _ λ found. some_paid s _
     (some_needed _ _ _ (decided_and_three (decide_same s.tray exit.tray) (decide_same s.grip exit.grip)

@@ -8,14 +8,14 @@ use Rattle.burr_text.specs.Checks.{needs, finds}
 use Rattle.burr_voxels.specs.declared.cell.Cell.{Cell}
 use Rattle.burr_code.specs.Instruction.{Instruction, Halt, Push, Load, Store, Add, Sub, Drop, Grip, Step, Aside, Tray, Jump, Down, Ask, Pick, Call, Ret}
 use Rattle.burr_code.proofs.Common.Orders.{whole_order}
-use Rattle.burr_forms.specs.Forms.{Form, Point}
-use Rattle.burr_forms.specs.Points.{InBox, Precedes}
-use Rattle.burr_container.specs.Plans.{Frame}
+use Rattle.burr_forms.specs.Rules.Forms.{Form, Point}
+use Rattle.burr_forms.specs.Rules.Points.{InBox, Precedes}
+use Rattle.burr_container.specs.Rules.Plans.{Frame}
 use Rattle.burr_frames.specs.declared.rule.Rule.{Rule}
-use Rattle.burr_frames.specs.FramedPlans.{FramedProcedure, FramedPlan}
-use Rattle.burr_frames.specs.States.{AbstractState, IsFirstFailing}
-use Rattle.burr_frames.specs.Verdicts.{Rest, IsFirstPair, everywhere, everywhere_of_pairs, at_point, at_pair, paying, meeting, arriving, arriving_at_all}
-use Rattle.burr_frames.specs.Transfer.{Transfer}
+use Rattle.burr_frames.specs.Rules.FramedPlans.{FramedProcedure, FramedPlan}
+use Rattle.burr_frames.specs.Rules.States.{AbstractState, IsFirstFailing}
+use Rattle.burr_frames.specs.Rules.Verdicts.{Rest, IsFirstPair, everywhere, everywhere_of_pairs, at_point, at_pair, paying, meeting, arriving, arriving_at_all}
+use Rattle.burr_frames.specs.Rules.Transfer.{Transfer}
 
 -- one value at most is so
 abbrev pub IsOne : {A : Type 0} → (A → Type 0) → Type 0

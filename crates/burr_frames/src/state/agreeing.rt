@@ -1,9 +1,9 @@
 //! Values of a state's forms beside those of a frame's forms.
 
 ghost use Rattle.std.specs.Prelude.{◌≡◌, ◌+◌, ◌≤◌, ◌↔◌, IsTrue, length, MatchOption};
-ghost use Rattle.burr_forms.specs.Forms.{values as values_of, AllSmallForms, AllNear};
-ghost use Rattle.burr_forms.specs.Points.{AreRanges, InBox, GuardsHold};
-ghost use Rattle.burr_frames.specs.Comparing.{IsMetBy, NoneBelow};
+ghost use Rattle.burr_forms.specs.Rules.Forms.{values as values_of, AllSmallForms, AllNear};
+ghost use Rattle.burr_forms.specs.Rules.Points.{AreRanges, InBox, GuardsHold};
+ghost use Rattle.burr_frames.specs.Views.Comparing.{IsMetBy, NoneBelow};
 
 use arrayvec::ArrayVec;
 use burr_forms::{Condition, Form, Point};
@@ -33,8 +33,8 @@ pub struct Agreement<'a> {
 }
 
 impl<'a> Condition for Agreement<'a> {
-    ghost use Rattle.burr_frames.specs.Comparing.{IsMetBy};
-    ghost use Rattle.burr_frames.specs.Targets.{target_of};
+    ghost use Rattle.burr_frames.specs.Views.Comparing.{IsMetBy};
+    ghost use Rattle.burr_frames.specs.Views.Targets.{target_of};
 
     ghost asked = { λ c. c.forms.now };
 

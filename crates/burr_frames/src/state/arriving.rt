@@ -1,13 +1,13 @@
 //! Arrival at a frame.
 
 ghost use Rattle.std.specs.Prelude.{◌≡◌, ◌≤◌, length, MatchOption};
-ghost use Rattle.burr_forms.specs.Forms.{AllSmallForms};
-ghost use Rattle.burr_container.specs.Refs.{frame_of};
-ghost use Rattle.burr_frames.specs.FramedPlans.{framed};
-ghost use Rattle.burr_frames.specs.Verdicts.{arriving, leaves};
-ghost use Rattle.burr_frames.specs.States.{Everywhere, IsFirstFailing};
-ghost use Rattle.burr_frames.specs.Arrival.{IsAlike};
-ghost use Rattle.burr_frames.specs.ArrivalViews.{arrival_verdict, AgreesAtCostOf};
+ghost use Rattle.burr_forms.specs.Rules.Forms.{AllSmallForms};
+ghost use Rattle.burr_container.specs.Views.Refs.{frame_of};
+ghost use Rattle.burr_frames.specs.Rules.FramedPlans.{framed};
+ghost use Rattle.burr_frames.specs.Rules.Verdicts.{arriving, no_successor};
+ghost use Rattle.burr_frames.specs.Rules.States.{Everywhere, IsFirstFailing};
+ghost use Rattle.burr_frames.specs.Rules.Arrival.{IsAlike};
+ghost use Rattle.burr_frames.specs.Views.ArrivalViews.{arrival_verdict, AgreesAtCostOf};
 
 use super::State;
 use super::agreeing::Agreement;
@@ -28,7 +28,7 @@ pub struct Miss {
 /// slots lie in the frame's ranges and its guards hold of them; the operands and the offsets have
 /// the values of the frame's forms there; and the cost is at least the frame's.
 pub fn arrives(state: &State, frame: &FrameRef<'_>) -> Result<(), Miss>
-    ensures { arriving state.now (framed (frame_of frame.now)) leaves (arrival_verdict result) }
+    ensures { arriving state.now (framed (frame_of frame.now)) no_successor (arrival_verdict result) }
 {
     let there = State::of(frame);
     let Some(live) = state.live_forms(frame) else {

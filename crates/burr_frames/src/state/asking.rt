@@ -2,13 +2,13 @@
 
 ghost use Rattle.std.specs.Prelude.{ℕ, List, Some, ◌≡◌, ◌<◌, ◌≤◌, ◌↔◌, IsTrue, IfErr, length};
 ghost use Rattle.burr_code.specs.Labels.{labelled};
-ghost use Rattle.burr_container.specs.Plans.{Frame as FrameOf};
-ghost use Rattle.burr_frames.specs.Verdicts.{arriving_at_all, leaves};
-ghost use Rattle.burr_forms.specs.Points.{IsRange, AreRanges, box_size};
-ghost use Rattle.burr_frames.specs.QuestionRules.{ask_rule, pick_rule, with_symbol, asked};
-ghost use Rattle.burr_frames.specs.ControlRules.{HasRoomForSymbols};
-ghost use Rattle.burr_frames.specs.Breaks.{fallen, left};
-ghost use Rattle.burr_frames.specs.Here.{OfHere};
+ghost use Rattle.burr_container.specs.Rules.Plans.{Frame as FrameOf};
+ghost use Rattle.burr_frames.specs.Rules.Verdicts.{arriving_at_all, no_successor};
+ghost use Rattle.burr_forms.specs.Rules.Points.{IsRange, AreRanges, box_size};
+ghost use Rattle.burr_frames.specs.Rules.QuestionRules.{ask_rule, pick_rule, with_symbol, asked};
+ghost use Rattle.burr_frames.specs.Rules.ControlRules.{HasRoomForSymbols};
+ghost use Rattle.burr_frames.specs.Views.Breaks.{next_verdict, last_verdict};
+ghost use Rattle.burr_frames.specs.Views.Here.{OfFramedProcedure};
 
 use super::State;
 use super::copying::copied;
@@ -26,7 +26,7 @@ impl State {
     /// `ask`: a symbol of this range more, which is the topmost operand.
     pub fn ask(&mut self, low: i16, high: i16) -> Result<(), Break>
         requires { IsRange (low, high) }
-        ensures verdict { ask_rule self.old low high (fallen self.new result) }
+        ensures verdict { ask_rule self.old low high (next_verdict self.new result) }
         ensures kept { IfErr result (λ _. self.new ≡ self.old) }
     {
         if self.is_full() {
@@ -49,8 +49,8 @@ impl State {
         labels: &Labels<'_>,
     ) -> Result<(), Break>
         requires { procedure < length container.now.procedures }
-        ensures { OfHere container.now procedure (λ plan here.
-            pick_rule here self.now labels.now (left result)) }
+        ensures { OfFramedProcedure container.now procedure (λ plan here.
+            pick_rule here self.now labels.now (last_verdict result)) }
     {
         if !has_labels(container, procedure, labels) {
             return Err(Break::plain(Rule::V10));
@@ -70,9 +70,9 @@ impl State {
         labels: &Labels<'_>,
     ) -> Result<(), Break>
         requires { procedure < length container.now.procedures }
-        ensures { OfHere container.now procedure (λ plan here. (to : List (ℕ × FrameOf))
+        ensures { OfFramedProcedure container.now procedure (λ plan here. (to : List (ℕ × FrameOf))
             → labelled here.labels labels.now ≡ Some to
-            → arriving_at_all self.now to leaves (left result)) }
+            → arriving_at_all self.now to no_successor (last_verdict result)) }
     {
         for number in 0..labels.len() {
             let Some(label) = labels.get(number) else {

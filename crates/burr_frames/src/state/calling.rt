@@ -2,24 +2,24 @@
 
 ghost use Rattle.std.specs.Prelude.{◌≡◌, ◌+◌, ◌<◌, ◌≤◌, IfErr, MatchOption, All, length, reverse, drop};
 ghost use Rattle.burr_code.specs.Labels.{argument_slots as slots_of};
-ghost use Rattle.burr_container.specs.Refs.{frame_of};
-ghost use Rattle.burr_forms.specs.Forms.{values, substituted, IsSmallForm, AllSmallForms};
-ghost use Rattle.burr_frames.specs.Arrival.{IsAlike, Agrees};
+ghost use Rattle.burr_container.specs.Views.Refs.{frame_of};
+ghost use Rattle.burr_forms.specs.Rules.Forms.{values, substituted, IsSmallForm, AllSmallForms};
+ghost use Rattle.burr_frames.specs.Rules.Arrival.{IsAlike, Agrees};
 ghost use Rattle.burr_frames.specs.declared.rule.Rule.TheVariants as rules;
-ghost use Rattle.burr_frames.specs.ControlRules.{call_rule, calling, paying_call, behind_call, called_with};
-ghost use Rattle.burr_frames.specs.FramedPlans.{framed};
-ghost use Rattle.burr_frames.specs.States.{Everywhere, IsFirstFailing};
-ghost use Rattle.burr_frames.specs.StateViews.{IsSmallSlot};
-ghost use Rattle.burr_frames.specs.Verdicts.{meeting, leaves};
-ghost use Rattle.burr_frames.specs.Breaks.{fallen};
-ghost use Rattle.burr_frames.specs.CallViews.{MeetsOrMisses, PaysBeside, GivesTopmost};
-ghost use Rattle.burr_frames.specs.Exits.{miss_verdict};
-ghost use Rattle.burr_frames.specs.Here.{OfHere};
+ghost use Rattle.burr_frames.specs.Rules.ControlRules.{call_rule, calling, paying_call, after_call, called_with};
+ghost use Rattle.burr_frames.specs.Rules.FramedPlans.{framed};
+ghost use Rattle.burr_frames.specs.Rules.States.{Everywhere, IsFirstFailing};
+ghost use Rattle.burr_frames.specs.Views.StateViews.{IsSmallSlot};
+ghost use Rattle.burr_frames.specs.Rules.Verdicts.{meeting, no_successor};
+ghost use Rattle.burr_frames.specs.Views.Breaks.{next_verdict};
+ghost use Rattle.burr_frames.specs.Views.CallViews.{MeetsOrMisses, PaysBeside, GivesTopmost};
+ghost use Rattle.burr_frames.specs.Views.Exits.{miss_verdict};
+ghost use Rattle.burr_frames.specs.Views.Here.{OfFramedProcedure};
 
 use super::State;
+use super::after::padded;
 use super::agreeing::Agreement;
 use super::arriving::Miss;
-use super::behind::padded;
 use super::exit::Exit;
 use crate::breaking::Break;
 use crate::finding::frame_at;
@@ -38,7 +38,7 @@ const MOST_OPERANDS: usize = 8;
 /// values of those slots lie in the frame's ranges and its guards hold of them; and the operands
 /// and the offsets have the values of the frame's forms there.
 pub fn meets_entry(state: &State, frame: &FrameRef<'_>) -> Result<(), Miss>
-    ensures { meeting state.now (framed (frame_of frame.now)) rules.V20 (λ _. leaves)
+    ensures { meeting state.now (framed (frame_of frame.now)) rules.V20 (λ _. no_successor)
         (miss_verdict rules.V20 result) }
 {
     state.met(frame)?;
@@ -90,7 +90,7 @@ impl State {
     }
 
     /// `call`: the topmost operands are the arguments of a procedure of a higher number, whose
-    /// entry frame they meet; behind it the pieces lie as its exit frame says of them and of the
+    /// entry frame they meet; after it the pieces lie as its exit frame says of them and of the
     /// results, which are the topmost operands in place of the arguments, and its cost at the
     /// arguments is paid beside the step.
     pub fn call(
@@ -100,8 +100,8 @@ impl State {
         callee: u8,
     ) -> Result<(), Break>
         requires { procedure < length container.now.procedures }
-        ensures verdict { OfHere container.now procedure (λ plan here.
-            call_rule plan procedure self.old callee (fallen self.new result)) }
+        ensures verdict { OfFramedProcedure container.now procedure (λ plan here.
+            call_rule plan procedure self.old callee (next_verdict self.new result)) }
         ensures kept { IfErr result (λ _. self.new ≡ self.old) }
     {
         let callee = usize::from(callee);
@@ -124,7 +124,7 @@ impl State {
     fn calls(&mut self, count: u8, entry: &FrameRef<'_>, exit: &Exit) -> Result<(), Break>
         requires few { count + length exit.now.results ≤ 8 }
         ensures verdict { calling self.old count (length exit.now.results)
-            (framed (frame_of entry.now)) exit.now (fallen self.new result) }
+            (framed (frame_of entry.now)) exit.now (next_verdict self.new result) }
         ensures kept { IfErr result (λ _. self.new ≡ self.old) }
     {
         let count = usize::from(count);
@@ -159,15 +159,15 @@ impl State {
         requires few_live { length live.now ≤ 8 }
         requires small_live { AllSmallForms live.now }
         ensures verdict { paying_call self.old
-            (behind_call self.old arguments.now (drop (length arguments.now) self.old.operands)
+            (after_call self.old arguments.now (drop (length arguments.now) self.old.operands)
             exit.now)
-            (substituted live.now cost.now) (fallen self.new result) }
+            (substituted live.now cost.now) (next_verdict self.new result) }
         ensures kept { IfErr result (λ _. self.new ≡ self.old) }
     {
-        let mut behind = self.behind_call(arguments, exit)?;
+        let mut after = self.after_call(arguments, exit)?;
         let cost = self.paid_beside(cost, live)?;
-        behind.set_cost(cost);
-        *self = behind;
+        after.set_cost(cost);
+        *self = after;
         Ok(())
     }
 
@@ -192,7 +192,7 @@ impl State {
         called
     }
 
-    /// The cost behind one step and a callee's cost, which is a form over these arguments: negative
+    /// The cost after one step and a callee's cost, which is a form over these arguments: negative
     /// at no point.
     fn paid_beside(&self, cost: &Form, arguments: &[Form]) -> Result<Form, Break>
         requires small { IsSmallForm cost.now }

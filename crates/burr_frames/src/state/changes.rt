@@ -1,10 +1,10 @@
 //! Changes of a part of a state.
 
 ghost use Rattle.std.specs.Prelude.{◌≡◌, ◌<◌, ◌↔◌, IsTrue, not, length};
-ghost use Rattle.burr_forms.specs.Forms.{IsSmallForm};
-ghost use Rattle.burr_frames.specs.Changes.{at_cost, with_operand, without_top, with_form, with_grip, in_tray, with_places};
-ghost use Rattle.burr_frames.specs.ControlRules.{guarded};
-ghost use Rattle.burr_frames.specs.SpaceRules.{AllSmallPlaces};
+ghost use Rattle.burr_forms.specs.Rules.Forms.{IsSmallForm};
+ghost use Rattle.burr_frames.specs.Views.Changes.{at_cost, with_operand, without_top, with_form, with_grip, in_tray, with_places};
+ghost use Rattle.burr_frames.specs.Rules.ControlRules.{guarded};
+ghost use Rattle.burr_frames.specs.Rules.SpaceRules.{AllSmallPlaces};
 
 use super::{MOST_PIECES, State};
 use crate::lying::Lying;

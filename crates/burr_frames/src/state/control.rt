@@ -2,11 +2,11 @@
 
 ghost use Rattle.std.specs.Prelude.{◌≡◌, ◌<◌, ◌↔◌, IsTrue, IfErr, length, pos, neg_ℤ};
 ghost use Rattle.burr_code.specs.Places.{AllApart, Apart};
-ghost use Rattle.burr_forms.specs.Forms.{Form as FormOf, IsSmallForm, one_less, times};
-ghost use Rattle.burr_frames.specs.ControlRules.{halt_rule, jump_rule, down_rule, counted_down};
-ghost use Rattle.burr_frames.specs.Breaks.{fallen, left, ArrivesOrBreaks};
-ghost use Rattle.burr_frames.specs.Changes.{at_cost};
-ghost use Rattle.burr_frames.specs.Here.{OfHere};
+ghost use Rattle.burr_forms.specs.Rules.Forms.{Form as FormOf, IsSmallForm, one_less, times};
+ghost use Rattle.burr_frames.specs.Rules.ControlRules.{halt_rule, jump_rule, down_rule, counted_down};
+ghost use Rattle.burr_frames.specs.Views.Breaks.{next_verdict, last_verdict, ArrivesOrBreaks};
+ghost use Rattle.burr_frames.specs.Views.Changes.{at_cost};
+ghost use Rattle.burr_frames.specs.Views.Here.{OfFramedProcedure};
 
 use super::State;
 use super::arriving::arrives;
@@ -21,7 +21,7 @@ use burr_forms::Form;
 impl State {
     /// `halt`: in main, with all pieces apart.
     pub fn halt(&self, procedure: usize) -> Result<(), Break>
-        ensures { halt_rule procedure self.now (left result) }
+        ensures { halt_rule procedure self.now (last_verdict result) }
     {
         if procedure != 0 {
             return Err(Break::plain(Rule::V22));
@@ -36,8 +36,8 @@ impl State {
     /// `jump`: arrives at a label.
     pub fn jump(&self, container: &Container<'_>, procedure: usize, label: u16) -> Result<(), Break>
         requires { procedure < length container.now.procedures }
-        ensures { OfHere container.now procedure (λ plan here.
-            jump_rule here self.now label (left result)) }
+        ensures { OfFramedProcedure container.now procedure (λ plan here.
+            jump_rule here self.now label (last_verdict result)) }
     {
         let Some(frame) = frame_at(container, procedure, label) else {
             return Err(Break::plain(Rule::V10));
@@ -49,7 +49,7 @@ impl State {
     }
 
     /// `down`: where the counter in slot v is above 0, it arrives at a label with the counter one
-    /// less; where it is 0, it goes on behind.
+    /// less; where it is 0, it goes on after.
     pub fn down(
         &mut self,
         container: &Container<'_>,
@@ -59,8 +59,8 @@ impl State {
     ) -> Result<(), Break>
         requires procedure { procedure < length container.now.procedures }
         requires slot { v < 8 }
-        ensures verdict { OfHere container.now procedure (λ plan here.
-            down_rule here self.old v label (fallen self.new result)) }
+        ensures verdict { OfFramedProcedure container.now procedure (λ plan here.
+            down_rule here self.old v label (next_verdict self.new result)) }
         ensures kept { IfErr result (λ _. self.new ≡ self.old) }
     {
         let Some(frame) = frame_at(container, procedure, label) else {

@@ -1,12 +1,12 @@
 //! The exit frame of a procedure.
 
 ghost use Rattle.std.specs.Prelude.{◌≡◌, ◌≤◌, length, map};
-ghost use Rattle.burr_forms.specs.Forms.{AllSmallForms};
-ghost use Rattle.burr_forms.specs.Points.{AreRanges};
-ghost use Rattle.burr_container.specs.Plans.{over_symbols};
-ghost use Rattle.burr_container.specs.Refs.{exit_frame_of};
-ghost use Rattle.burr_frames.specs.Exits.{framed_ref};
-ghost use Rattle.burr_frames.specs.SpaceRules.{AllSmallPlaces};
+ghost use Rattle.burr_forms.specs.Rules.Forms.{AllSmallForms};
+ghost use Rattle.burr_forms.specs.Rules.Points.{AreRanges};
+ghost use Rattle.burr_container.specs.Rules.Plans.{over_symbols};
+ghost use Rattle.burr_container.specs.Views.Refs.{exit_frame_of};
+ghost use Rattle.burr_frames.specs.Views.Exits.{framed_ref};
+ghost use Rattle.burr_frames.specs.Rules.SpaceRules.{AllSmallPlaces};
 
 use super::MOST_PIECES;
 use crate::lying::Lying;
@@ -15,7 +15,7 @@ use burr_container::ExitRef;
 use burr_forms::Form;
 use std::marker::Model;
 
-/// What holds where a procedure returns. Its forms are over the parameters and, behind them, the
+/// What holds where a procedure returns. Its forms are over the parameters and, after them, the
 /// results; their numbers lie within ±2^40.
 #[derive(Debug, Drop)]
 pub struct Exit {
@@ -31,8 +31,8 @@ pub struct Exit {
 }
 
 impl Model for Exit {
-    ghost use Rattle.burr_frames.specs.FramedPlans.{FramedExit};
-    ghost use Rattle.burr_frames.specs.StateViews.{framed_exit_with, IsSmallExit};
+    ghost use Rattle.burr_frames.specs.Rules.FramedPlans.{FramedExit};
+    ghost use Rattle.burr_frames.specs.Views.StateViews.{framed_exit_with, IsSmallExit};
 
     ghost Value = { FramedExit };
 

@@ -1,9 +1,9 @@
 //! The condition at a `ret`.
 
 ghost use Rattle.std.specs.Prelude.{◌≡◌, ◌+◌, ◌≤◌, ◌↔◌, IsTrue, length, map};
-ghost use Rattle.burr_forms.specs.Forms.{value, AllSmallForms};
-ghost use Rattle.burr_forms.specs.Points.{AreRanges, GuardsHold};
-ghost use Rattle.burr_forms.specs.Searching.{AllBounded};
+ghost use Rattle.burr_forms.specs.Rules.Forms.{value, AllSmallForms};
+ghost use Rattle.burr_forms.specs.Rules.Points.{AreRanges, GuardsHold};
+ghost use Rattle.burr_forms.specs.Views.Searching.{AllBounded};
 
 use super::agreeing::point_in;
 use crate::wide::wide_value;
@@ -33,8 +33,8 @@ pub struct ExitAgreement<'a> {
 }
 
 impl<'a> Condition for ExitAgreement<'a> {
-    ghost use Rattle.burr_frames.specs.Comparing.{IsExitMetBy};
-    ghost use Rattle.burr_frames.specs.Targets.{exit_target_of};
+    ghost use Rattle.burr_frames.specs.Views.Comparing.{IsExitMetBy};
+    ghost use Rattle.burr_frames.specs.Views.Targets.{exit_target_of};
 
     ghost asked = { λ c. c.forms.now };
 

@@ -1,14 +1,14 @@
 //! The state of a frame.
 
 ghost use Rattle.std.specs.Prelude.{◌≡◌, ◌<◌, map, All};
-ghost use Rattle.burr_forms.specs.Forms.{symbol as symbol_of, IsSmallForm, AllSmallForms};
-ghost use Rattle.burr_forms.specs.Points.{AreRanges};
-ghost use Rattle.burr_container.specs.Plans.{live_slots, over_symbols, place_over_symbols};
-ghost use Rattle.burr_container.specs.Refs.{frame_of};
-ghost use Rattle.burr_frames.specs.FramedPlans.{framed};
-ghost use Rattle.burr_frames.specs.States.{state_of, live_ranges, numbered};
-ghost use Rattle.burr_frames.specs.SpaceRules.{AllSmallPlaces};
-ghost use Rattle.burr_frames.specs.StateViews.{IsSmallSlot};
+ghost use Rattle.burr_forms.specs.Rules.Forms.{symbol as symbol_of, IsSmallForm, AllSmallForms};
+ghost use Rattle.burr_forms.specs.Rules.Points.{AreRanges};
+ghost use Rattle.burr_container.specs.Rules.Plans.{live_slots, over_symbols, place_over_symbols};
+ghost use Rattle.burr_container.specs.Views.Refs.{frame_of};
+ghost use Rattle.burr_frames.specs.Rules.FramedPlans.{framed};
+ghost use Rattle.burr_frames.specs.Rules.States.{state_of, live_ranges, numbered};
+ghost use Rattle.burr_frames.specs.Rules.SpaceRules.{AllSmallPlaces};
+ghost use Rattle.burr_frames.specs.Views.StateViews.{IsSmallSlot};
 
 use super::{MOST_PIECES, State};
 use crate::lying::Lying;

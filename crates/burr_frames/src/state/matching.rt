@@ -2,12 +2,12 @@
 
 ghost use Rattle.std.specs.Prelude.{◌≡◌, ◌+◌, ◌<◌, ◌≤◌, ◌↔◌, ◌++◌, ◌*◌, IsTrue, Some, slice_get, length, map, reverse, All};
 ghost use Rattle.burr_code.specs.Places.{tray_of};
-ghost use Rattle.burr_forms.specs.Forms.{AllSmallForms};
-ghost use Rattle.burr_container.specs.Refs.{frame_of};
-ghost use Rattle.burr_frames.specs.Comparing.{offset_forms};
-ghost use Rattle.burr_frames.specs.Arrival.{IsAlike};
-ghost use Rattle.burr_frames.specs.SpaceRules.{AllSmallPlaces};
-ghost use Rattle.burr_frames.specs.StateViews.{IsSmallSlot, GivesLiveForms};
+ghost use Rattle.burr_forms.specs.Rules.Forms.{AllSmallForms};
+ghost use Rattle.burr_container.specs.Views.Refs.{frame_of};
+ghost use Rattle.burr_frames.specs.Views.Comparing.{offset_forms};
+ghost use Rattle.burr_frames.specs.Rules.Arrival.{IsAlike};
+ghost use Rattle.burr_frames.specs.Rules.SpaceRules.{AllSmallPlaces};
+ghost use Rattle.burr_frames.specs.Views.StateViews.{IsSmallSlot, GivesLiveForms};
 
 use super::State;
 use crate::lying::Lying;
@@ -127,7 +127,7 @@ pub(super) fn offset_forms(places: &[Lying]) -> ArrayVec<Form, 120>
     forms
 }
 
-/// Puts forms behind others. There is room, the caller's condition.
+/// Puts forms after others. There is room, the caller's condition.
 fn append(forms: &mut ArrayVec<Form, 120>, more: &[Form])
     requires room { length forms.old.items + length more.now ≤ 120 }
     requires small { AllSmallForms forms.old.items }
@@ -140,7 +140,7 @@ fn append(forms: &mut ArrayVec<Form, 120>, more: &[Form])
     }
 }
 
-/// Puts the forms of offsets behind others. There is room, the caller's condition.
+/// Puts the forms of offsets after others. There is room, the caller's condition.
 fn append_offsets(forms: &mut ArrayVec<Form, 120>, places: &[Lying])
     requires room { length forms.old.items + 3 * length places.now ≤ 120 }
     requires small { AllSmallForms forms.old.items }

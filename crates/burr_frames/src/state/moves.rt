@@ -2,16 +2,16 @@
 
 ghost use Rattle.std.specs.Prelude.{◌≡◌, ◌≤◌, ◌^◌, ◌↔◌, IsTrue, IfErr, MatchResult, length};
 ghost use Rattle.burr_code.specs.Places.{LiesIn, AllLieIn, IsPartOfTray, IsEmptyTray, aside_places};
-ghost use Rattle.burr_assembly.specs.Homes.{homes_of};
-ghost use Rattle.burr_blocking.specs.Counted.{HasCounted};
-ghost use Rattle.burr_frames.specs.Changes.{with_grip, with_places};
-ghost use Rattle.burr_frames.specs.SpaceRules.{grip_rule, step_rule, aside_rule, tray_rule};
-ghost use Rattle.burr_frames.specs.SpaceRules.{moved, AllSmallPlaces};
-ghost use Rattle.burr_frames.specs.Breaks.{fallen};
-ghost use Rattle.burr_frames.specs.Looks.{HasRoom, step_looks, aside_looks, clearing_looks};
-ghost use Rattle.burr_frames.specs.Moving.{ClearOrBreaks, LeavesSome};
+ghost use Rattle.burr_assembly.specs.Rules.Homes.{homes_of};
+ghost use Rattle.burr_blocking.specs.Rules.Counted.{HasCounted};
+ghost use Rattle.burr_frames.specs.Views.Changes.{with_grip, with_places};
+ghost use Rattle.burr_frames.specs.Rules.SpaceRules.{grip_rule, step_rule, aside_rule, tray_rule};
+ghost use Rattle.burr_frames.specs.Rules.SpaceRules.{moved, AllSmallPlaces};
+ghost use Rattle.burr_frames.specs.Views.Breaks.{next_verdict};
+ghost use Rattle.burr_frames.specs.Rules.Looks.{HasRoom, step_looks, aside_looks, clearing_looks};
+ghost use Rattle.burr_frames.specs.Views.Moving.{ClearOrBreaks, HasRest};
 
-use super::places::{count_in_tray, moved_places, offsets_in, sides_in, take_aside};
+use super::places::{count_in_tray, moved_places, offsets_in, roles_in, take_aside};
 use super::{MOST_PIECES, State};
 use crate::breaking::Break;
 use crate::clearing::Clearing;
@@ -29,7 +29,7 @@ const BENCH: u16 = 256;
 impl State {
     /// `grip`: pieces of the current tray are gripped.
     pub fn take_grip(&mut self, group: u32) -> Result<(), Break>
-        ensures verdict { grip_rule self.old group (fallen self.new result) }
+        ensures verdict { grip_rule self.old group (next_verdict self.new result) }
         ensures kept { IfErr result (λ _. self.new ≡ self.old) }
     {
         if !self.all_lie_here(group) {
@@ -43,7 +43,7 @@ impl State {
 
     /// `tray`: another tray is the current one, with nothing gripped.
     pub fn turn_to(&mut self, tray: u8) -> Result<(), Break>
-        ensures verdict { tray_rule self.old tray (fallen self.new result) }
+        ensures verdict { tray_rule self.old tray (next_verdict self.new result) }
         ensures kept { IfErr result (λ _. self.new ≡ self.old) }
     {
         let cost = self.paid()?;
@@ -52,7 +52,7 @@ impl State {
         Ok(())
     }
 
-    /// `step`: the grip goes one unit along a direction; behind it each piece of the tray is on the
+    /// `step`: the grip goes one unit along a direction; after it each piece of the tray is on the
     /// bench, and no gripped piece overlaps another one of the tray. At each point, in order, each
     /// such pair is a look, up to the first that overlaps. The state has at most 4,096 points, and
     /// at most 2^40 looks were made so far, the caller's conditions.
@@ -64,7 +64,7 @@ impl State {
         requires points { HasRoom self.old }
         requires room { looks.old.count ≤ 2 ^ 40 }
         ensures verdict { step_rule (homes_of looks.old.assembly) self.old direction
-            (fallen self.new result) }
+            (next_verdict self.new result) }
         ensures kept { IfErr result (λ _. self.new ≡ self.old) }
         ensures counted { HasCounted (step_looks (homes_of looks.old.assembly) self.old direction)
             looks.old looks.new }
@@ -94,7 +94,7 @@ impl State {
         requires points { HasRoom self.old }
         requires room { looks.old.count ≤ 2 ^ 40 }
         ensures verdict { aside_rule (homes_of looks.old.assembly) self.old direction tray
-            (fallen self.new result) }
+            (next_verdict self.new result) }
         ensures kept { IfErr result (λ _. self.new ≡ self.old) }
         ensures counted { HasCounted
             (aside_looks (homes_of looks.old.assembly) self.old direction tray)
@@ -139,10 +139,10 @@ impl State {
         let offsets = offsets_in(self.tray, places);
         self.stays_within(offsets.as_slice(), BENCH, Rule::V18)?;
         let pieces = looks.assembly().piece_count();
-        let sides = sides_in(self.tray, self.grip, places, pieces);
+        let roles = roles_in(self.tray, self.grip, places, pieces);
         let mut clearing = Clearing {
             forms: offsets.as_slice(),
-            sides: sides.as_slice(),
+            roles: roles.as_slice(),
             query,
             looks,
             found: None,
@@ -211,7 +211,7 @@ impl State {
 
     /// Whether the current tray has a piece that is not gripped.
     fn leaves_some(&self) -> bool
-        ensures { IsTrue result ↔ LeavesSome self.now }
+        ensures { IsTrue result ↔ HasRest self.now }
     {
         for piece in 0..self.places.len() as u8 {
             if self.lies_here(piece) && !is_in_set(self.grip, piece) {

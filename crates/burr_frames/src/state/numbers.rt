@@ -1,11 +1,11 @@
 //! The rules of the instructions that change numbers.
 
 ghost use Rattle.std.specs.Prelude.{◌≡◌, ◌≤◌, ◌<◌, ◌↔◌, IsTrue, IfErr, IfSome, length, get_or, None, Some, not, drop, MatchOption};
-ghost use Rattle.burr_forms.specs.Forms.{IsSmallForm, number as form_of_number};
+ghost use Rattle.burr_forms.specs.Rules.Forms.{IsSmallForm, number as form_of_number};
 ghost use Rattle.burr_code.specs.Stacks.{top, top_two};
-ghost use Rattle.burr_frames.specs.FramedPlans.{FramedProcedure};
-ghost use Rattle.burr_frames.specs.NumberRules.{push_rule, load_rule, store_rule, add_rule, sub_rule, drop_rule, result_rule};
-ghost use Rattle.burr_frames.specs.Breaks.{fallen};
+ghost use Rattle.burr_frames.specs.Rules.FramedPlans.{FramedProcedure};
+ghost use Rattle.burr_frames.specs.Rules.NumberRules.{push_rule, load_rule, store_rule, add_rule, sub_rule, drop_rule, result_rule};
+ghost use Rattle.burr_frames.specs.Views.Breaks.{next_verdict};
 
 use super::State;
 use crate::breaking::Break;
@@ -15,7 +15,7 @@ use burr_forms::Form;
 impl State {
     /// `push`: a number more on the operands.
     pub fn push(&mut self, number: i16) -> Result<(), Break>
-        ensures verdict { push_rule self.old number (fallen self.new result) }
+        ensures verdict { push_rule self.old number (next_verdict self.new result) }
         ensures kept { IfErr result (λ _. self.new ≡ self.old) }
     {
         if self.is_full() {
@@ -30,7 +30,7 @@ impl State {
     /// `load`: the form in slot v, if it is known, is one operand more.
     pub fn load(&mut self, v: u8) -> Result<(), Break>
         requires { v < 8 }
-        ensures verdict { load_rule self.old v (fallen self.new result) }
+        ensures verdict { load_rule self.old v (next_verdict self.new result) }
         ensures kept { IfErr result (λ _. self.new ≡ self.old) }
     {
         let Some(form) = self.form_in(v) else {
@@ -47,7 +47,7 @@ impl State {
 
     /// `add`: the sum of the two topmost operands in their place.
     pub fn add(&mut self) -> Result<(), Break>
-        ensures verdict { add_rule self.old (fallen self.new result) }
+        ensures verdict { add_rule self.old (next_verdict self.new result) }
         ensures kept { IfErr result (λ _. self.new ≡ self.old) }
     {
         let Some((upper, lower)) = self.two_topmost() else {
@@ -61,7 +61,7 @@ impl State {
 
     /// `sub`: the lower of the two topmost operands less the upper one in their place.
     pub fn sub(&mut self) -> Result<(), Break>
-        ensures verdict { sub_rule self.old (fallen self.new result) }
+        ensures verdict { sub_rule self.old (next_verdict self.new result) }
         ensures kept { IfErr result (λ _. self.new ≡ self.old) }
     {
         let Some((upper, lower)) = self.two_topmost() else {
@@ -78,7 +78,7 @@ impl State {
         requires two { 2 ≤ length self.old.operands }
         requires small { IsSmallForm form }
         ensures verdict { result_rule self.old form (drop 2 self.old.operands)
-            (fallen self.new result) }
+            (next_verdict self.new result) }
         ensures kept { IfErr result (λ _. self.new ≡ self.old) }
     {
         self.stays_within(&[form], 32767, Rule::V12)?;
@@ -92,7 +92,7 @@ impl State {
 
     /// `drop`: the topmost operand is gone.
     pub fn drop_top(&mut self) -> Result<(), Break>
-        ensures verdict { drop_rule self.old (fallen self.new result) }
+        ensures verdict { drop_rule self.old (next_verdict self.new result) }
         ensures kept { IfErr result (λ _. self.new ≡ self.old) }
     {
         if self.topmost().is_none() {
@@ -108,7 +108,7 @@ impl State {
     pub fn store(&mut self, parameters: u8, v: u8) -> Result<(), Break>
         requires { v < 8 }
         ensures verdict { (here : FramedProcedure) → here.parameters ≡ parameters
-            → store_rule here self.old v (fallen self.new result) }
+            → store_rule here self.old v (next_verdict self.new result) }
         ensures kept { IfErr result (λ _. self.new ≡ self.old) }
     {
         if v < parameters {

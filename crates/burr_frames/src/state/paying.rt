@@ -1,9 +1,9 @@
 //! Conditions at every point of a state, and what a step costs.
 
 ghost use Rattle.std.specs.Prelude.{◌≤◌, ◌≤ℤ◌, pos, length};
-ghost use Rattle.burr_forms.specs.Forms.{value, values, IsSmallForm, AllSmallForms};
-ghost use Rattle.burr_frames.specs.Ranges.{AllInReach};
-ghost use Rattle.burr_frames.specs.Breaks.{HoldsOrBreaks, Pays};
+ghost use Rattle.burr_forms.specs.Rules.Forms.{value, values, IsSmallForm, AllSmallForms};
+ghost use Rattle.burr_frames.specs.Views.Ranges.{AllInReach};
+ghost use Rattle.burr_frames.specs.Views.Breaks.{HoldsOrBreaks, Pays};
 
 use super::State;
 use crate::breaking::Break;
@@ -50,7 +50,7 @@ impl State {
         }
     }
 
-    /// The cost behind one step: one less, and negative at no point.
+    /// The cost after one step: one less, and negative at no point.
     pub(super) fn paid(&self) -> Result<Form, Break>
         ensures { Pays self.now result }
     {

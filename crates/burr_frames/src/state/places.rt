@@ -4,12 +4,12 @@
 ghost use Rattle.std.specs.Prelude.{◌≡◌, ◌<◌, ◌≤◌, ◌∷◌, [], MatchResult, length};
 ghost use Rattle.burr_code.specs.Places.{aside_places, changed, at_position, to_tray};
 ghost use Rattle.burr_code.specs.Places.{count_in, parted, parted_in};
-ghost use Rattle.burr_forms.specs.Forms.{AllSmallForms};
-ghost use Rattle.burr_frames.specs.Clearing.{offsets_in, side_of, AreSides};
-ghost use Rattle.burr_frames.specs.SpaceRules.{moved, moved_forms, AllSmallPlaces};
+ghost use Rattle.burr_forms.specs.Rules.Forms.{AllSmallForms};
+ghost use Rattle.burr_frames.specs.Views.Clearing.{offsets_in, role_of, AreRoles};
+ghost use Rattle.burr_frames.specs.Rules.SpaceRules.{moved, moved_forms, AllSmallPlaces};
 
 use super::MOST_PIECES;
-use crate::clearing::Side;
+use crate::clearing::Role;
 use crate::lying::Lying;
 use arrayvec::ArrayVec;
 use burr_code::is_in_set;
@@ -134,32 +134,32 @@ pub(super) fn offsets_in(tray: u8, places: &[Lying]) -> ArrayVec<Form, 120>
 }
 
 /// How each of the first pieces, as many as an assembly has, stands to a grip of a tray.
-pub(super) fn sides_in(
+pub(super) fn roles_in(
     tray: u8,
     grip: u32,
     places: &[Lying],
     pieces: u8,
-) -> ArrayVec<Side, MOST_PIECES>
+) -> ArrayVec<Role, MOST_PIECES>
     requires few { length places.now ≤ 32 }
-    ensures { AreSides tray grip pieces places.now result.items }
+    ensures { AreRoles tray grip pieces places.now result.items }
 {
-    let mut sides = ArrayVec::new();
+    let mut roles = ArrayVec::new();
     for piece in 0..places.len().min(usize::from(pieces)) {
-        sides.push(side_in(tray, grip, piece as u8, &places[piece]));
+        roles.push(role_in(tray, grip, piece as u8, &places[piece]));
     }
-    sides
+    roles
 }
 
 /// How a piece with this place stands to a grip of a tray.
-fn side_in(tray: u8, grip: u32, piece: u8, place: &Lying) -> Side
+fn role_in(tray: u8, grip: u32, piece: u8, place: &Lying) -> Role
     requires { piece < 32 }
-    ensures { result ≡ side_of grip tray piece place.now }
+    ensures { result ≡ role_of grip tray piece place.now }
 {
     if !place.is_in(tray) {
-        Side::Elsewhere
+        Role::Elsewhere
     } else if is_in_set(grip, piece) {
-        Side::Gripped
+        Role::Gripped
     } else {
-        Side::Left
+        Role::Resting
     }
 }

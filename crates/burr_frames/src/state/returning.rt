@@ -1,18 +1,18 @@
 //! The rule of `ret`.
 
 ghost use Rattle.std.specs.Prelude.{◌≡◌, ◌+◌, ◌<◌, ◌≤◌, ◌↔◌, IsTrue, IfSome, MatchOption, None, get_or, length};
-ghost use Rattle.burr_forms.specs.Forms.{IsSmallForm, AllSmallForms};
+ghost use Rattle.burr_forms.specs.Rules.Forms.{IsSmallForm, AllSmallForms};
 ghost use Rattle.burr_frames.specs.declared.rule.Rule.TheVariants as rules;
-ghost use Rattle.burr_frames.specs.ControlRules.{ret_rule, IsAlikeExit, MeetsExitAt};
-ghost use Rattle.burr_frames.specs.States.{Everywhere, IsFirstFailing};
-ghost use Rattle.burr_frames.specs.Breaks.{left};
-ghost use Rattle.burr_frames.specs.CallViews.{GivesFirstForms};
-ghost use Rattle.burr_frames.specs.Exits.{miss_verdict, framed_ref, meeting_exit, meeting_exit_with};
-ghost use Rattle.burr_frames.specs.Here.{OfHere};
+ghost use Rattle.burr_frames.specs.Rules.ControlRules.{ret_rule, IsAlikeExit, MeetsExitAt};
+ghost use Rattle.burr_frames.specs.Rules.States.{Everywhere, IsFirstFailing};
+ghost use Rattle.burr_frames.specs.Views.Breaks.{last_verdict};
+ghost use Rattle.burr_frames.specs.Views.CallViews.{GivesFirstForms};
+ghost use Rattle.burr_frames.specs.Views.Exits.{miss_verdict, framed_ref, meeting_exit, meeting_exit_with};
+ghost use Rattle.burr_frames.specs.Views.Here.{OfFramedProcedure};
 
 use super::State;
+use super::after::joined;
 use super::arriving::Miss;
-use super::behind::joined;
 use super::exit::Exit;
 use super::exiting::ExitAgreement;
 use super::matching::{are_in_same_trays, offset_forms};
@@ -48,8 +48,8 @@ impl State {
     /// exit frame says of its parameters.
     pub fn ret(&self, container: &Container<'_>, procedure: usize) -> Result<(), Break>
         requires { procedure < length container.now.procedures }
-        ensures { OfHere container.now procedure (λ plan here.
-            ret_rule here self.now (left result)) }
+        ensures { OfFramedProcedure container.now procedure (λ plan here.
+            ret_rule here self.now (last_verdict result)) }
     {
         let Some(exit) = container.exit(procedure) else {
             return Err(Break::plain(Rule::V22));

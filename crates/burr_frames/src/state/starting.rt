@@ -3,8 +3,8 @@
 ghost use Rattle.std.specs.Prelude.{◌≡◌, ◌≤◌, List, length, replicate};
 ghost use Rattle.burr_voxels.specs.declared.cell.Cell.{Cell as CellOf};
 ghost use Rattle.burr_code.specs.Places.{On};
-ghost use Rattle.burr_frames.specs.SpaceRules.{AllSmallPlaces};
-ghost use Rattle.burr_frames.specs.Starts.{start_state, home_position};
+ghost use Rattle.burr_frames.specs.Rules.SpaceRules.{AllSmallPlaces};
+ghost use Rattle.burr_frames.specs.Rules.Starts.{start_state, home_position};
 
 use super::numbers::number_form;
 use super::{MOST_PIECES, State};

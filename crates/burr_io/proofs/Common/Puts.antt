@@ -40,7 +40,7 @@ Puts-fails more {r = Err f} short err = record { ok = tt; err = FailsWithin-firs
 abbrev pub Remains : {S : Type 0} → SinkView S → S → S → List ℕ → List ℕ → Type 0
 Remains {S} sink old mid whole rest = (new : S) (r : Result (Unit {0}) WriteFault) → Puts sink mid new rest r → Puts sink old new whole r
 
--- parts with a byte between each two, where before the first stands a separator, and a last text behind them
+-- parts with a byte between each two, where before the first stands a separator, and a last text after them
 abbrev pub joined : List ℕ → ℕ → List (List ℕ) → List ℕ → List ℕ
 joined separator byte [] last = last
 joined separator byte (part ∷ parts) last = separator ++ (part ++ joined (byte ∷ []) byte parts last)
@@ -56,7 +56,7 @@ pub joined-join : (byte : ℕ) (parts : List (List ℕ)) (last : List ℕ) → j
 joined-join byte [] last = refl
 joined-join byte (part ∷ parts) last = sym (joined-cons [] byte part parts last)
 
--- of items that remain, the next one remains behind its separator, and then the others
+-- of items that remain, the next one remains after its separator, and then the others
 pub Remains-item : {X : Type 0} (f : X → List ℕ) (items : List X) (i : ℕ) (d : X) → i < length items
     → (separator : List ℕ) (byte : ℕ) (last : List ℕ) {S : Type 0} {sink : SinkView S} {old mid : S} {whole : List ℕ}
     → Remains sink old mid whole (joined separator byte (map f (drop i items)) last)

@@ -1,4 +1,4 @@
-//! Bare code behind an assembly's text, and how its run ends with which sheet.
+//! Bare code after an assembly's text, and how its run ends with which sheet.
 
 /// For two cubes side by side: they are taken apart.
 pub const DUO_APART: &str = "\
@@ -94,7 +94,7 @@ assembly 9/code 00/ | Refused | refused A2 line 1/
 code 00/code 00/ | Refused | refused A1 line 1/
 assembly duo/shape big/layer/#################/end/code 00/ | Refused | refused A3 line 4/";
 
-/// What stands behind the first piece, from line 7 on, and before the code.
+/// What stands after the first piece, from line 7 on, and before the code.
 pub const BEHIND_A_PIECE: &str = "\
 piece B cube -x+y+z 1 0 0/ | Refused | refused A4 line 7/
 piece B cube +x+y+z 65 0 0/ | Refused | refused A5 line 7/

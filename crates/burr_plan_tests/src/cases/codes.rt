@@ -1,5 +1,5 @@
 //! Code for plans with one frame or two, and what is said of these: its cost or the place
-//! of its second label, and the code behind its length.
+//! of its second label, and the code after its length.
 
 /// For two cubes side by side.
 pub const DUO_CODES: &str = "\
@@ -104,7 +104,7 @@ pub const GROWING: &str = "\
 
 /// For two cubes.
 pub const LABELS: &str = "\
-# each instruction, and a `halt` behind it: labels inside it, and the label of the `halt`
+# each instruction, and a `halt` after it: labels inside it, and the label of the `halt`
 0001, 0004 01 0000 00 | V3 proc 0 pc 0
 0002, 0004 01 0000 00 | V3 proc 0 pc 0
 0003, 0004 01 0000 00 | V21 proc 0 pc 0

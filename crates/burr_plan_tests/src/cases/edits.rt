@@ -58,7 +58,7 @@ none | accepted
 0001 0000000b > 0001 0000000a | V28 proc 0 pc 0
 0001 0000000b > 0001 0000000a, 00 00 00 0000000b > 00 00 00 0000000a | V24 proc 0 pc 18 point
 00000002 0000 > 00000001 0000 | V24 proc 1 pc 2 point 0
-# the dot leaves at `2+1v0`; a parameter of 0 alone; another grip; another live slot
+# the dot no_successor at `2+1v0`; a parameter of 0 alone; another grip; another live slot
 00000001 0001 > 00000002 0001 | V20 proc 0 pc 13 point
 0000 0003 00 00 > 0000 0000 00 00 | V20 proc 0 pc 13 point
 0000 00 00000001 01 > 0000 00 00000002 01 | V20 proc 0 pc 8
@@ -144,7 +144,7 @@ none | accepted
 # eight slots of any number
 00 00 00 00000001 ff > ff 8001 7fff 8001 7fff 8001 7fff 8001 7fff 8001 7fff 8001 7fff 8001 7fff \
 8001 7fff 00 00 00000001 0000 0000 0000 0000 0000 0000 0000 0000 ff | V25 proc 0 pc 9
-# a guard that leaves no point, so that a cost below zero is none; guards that leave points
+# a guard that no_successor no point, so that a cost below zero is none; guards that leave points
 00 00 00 00000001 ff > 01 0000 0005 01 ffffffff 0000 00 fffffff0 0000 ff | accepted
 00 00 00 00000001 ff > 01 0000 0005 01 fffffffe 0001 00 00000000 0001 ff | accepted
 00 00 00 00000001 ff > 01 0000 0005 01 ffffffff 0001 00 fffffffe 0001 ff \

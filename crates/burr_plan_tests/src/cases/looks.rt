@@ -11,11 +11,11 @@ pub const DUO_LOOKS: &str = "\
 # another tray
 00000004, 000b 10 00000001 12 01 01 13 02 00 | accepted looks 1";
 
-/// For the choice between two cubes: a pair behind each label.
+/// For the choice between two cubes: a pair after each label.
 pub const CHOICE_LOOKS: &str = "\
 none | accepted looks 2";
 
-/// For the rod in the ring: three points at the loop and one behind it; 256 units; a step that is
+/// For the rod in the ring: three points at the loop and one after it; 256 units; a step that is
 /// out of reach, where no pair is asked of.
 pub const RING_LOOKS: &str = "\
 none | accepted looks 4
@@ -33,12 +33,12 @@ none | accepted looks 6
 01 00000000 0001 ffff 00 > 00 00, 01 ffffffff 0001 ffff 00 > 00 00 \
 | V15 proc 0 pc 24 pieces 0 1 point 0 1 looks 5";
 
-/// For the dot that is lifted by two calls: four points in the procedure, and one behind them.
+/// For the dot that is lifted by two calls: four points in the procedure, and one after them.
 pub const LIFT_LOOKS: &str = "\
 none | accepted looks 5";
 
 /// For the dot that a procedure lifts as far as it then says: three points in the procedure, and
-/// three of its result behind it.
+/// three of its result after it.
 pub const RESULT_LOOKS: &str = "\
 none | accepted looks 6";
 

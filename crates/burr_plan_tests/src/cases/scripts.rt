@@ -1,4 +1,4 @@
-//! What calls of the bench tell, and its state behind them.
+//! What calls of the bench tell, and its state after them.
 
 /// Code for the duo, and lines of what is done and told. A blank line is between each and the
 /// next.
@@ -40,7 +40,7 @@ call | Ok(Went(Some(Motion { group: 3, tray: 0, dir: PlusZ, out: false })))
 places | Some(Some((0, Cell { x: 0, y: 0, z: 1 })));Some(Some((0, Cell { x: 0, y: 0, \
 z: 1 })));None;
 
-# the state: at the start, with a grip, and behind the motion out
+# the state: at the start, with a grip, and after the motion out
 10 00000002 12 00 07
 grip | tray 0 grip 0
 run | depth 1 proc 0 budget 1000000

@@ -3,16 +3,16 @@ use Rattle.std.proofs.Common.{◌≡◌, ◌≢◌, ℕ, ◌+◌, ◌<◌, List,
 use Rattle.std.proofs.lemmas.List.{get_or_default, get_or-drop, length-drop, take_more}
 use Rattle.burr_text.specs.Lines.{IsLines}
 
--- a list of bytes is cut behind its last end of a line
+-- a list of bytes is cut after its last end of a line
 pub record IsCutLast (bytes front line : List ℕ) : Type 0 where
   pub parts : bytes ≡ front ++ line
   pub lines : IsLines front
   pub unended : ¬ Contains line 10
 
--- cut behind the place of the last end of a line
-pub IsCutLast-behind : (bytes front line : List ℕ) (n : ℕ) → n < length bytes → get_or bytes n 0 ≡ 10
+-- cut after the place of the last end of a line
+pub IsCutLast-after : (bytes front line : List ℕ) (n : ℕ) → n < length bytes → get_or bytes n 0 ≡ 10
     → ((k : ℕ) → n < k → k < length bytes → get_or bytes k 0 ≢ 10) → front ≡ take (n + 1) bytes → line ≡ drop (n + 1) bytes → IsCutLast bytes front line
-IsCutLast-behind bytes front line n inside is_end last front_is line_is = record {
+IsCutLast-after bytes front line n inside is_end last front_is line_is = record {
   parts = rw (front_is, line_is) (sym (take-append-drop (n + 1) bytes));
   lines = inr (take n bytes, front_is ∙ take_more bytes n 0 inside ∙ ap (λ b. take n bytes ++ b ∷ []) is_end);
   unended = λ found.

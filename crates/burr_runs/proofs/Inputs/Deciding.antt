@@ -3,8 +3,8 @@ use Rattle.std.proofs.Common.{◌≡◌, ℕ, ◌*◌, ◌%◌, List, [], ◌∷
 use Rattle.std.specs.List.{list_all}
 use Rattle.burr_text.proofs.Common.Decisions.{Decided, decided_like, decided_and, decided_and_three, decided_or, decide_test, decide_same, decide_at_most, decide_same_bytes, decide_empty, decide_parts}
 use Rattle.burr_text.specs.Lines.{IsLines}
-use Rattle.burr_runs.specs.Input.{IsCode, IsCodeLine, IsInput, hex}
-use Rattle.burr_runs.specs.Input.{is_hex_digit}
+use Rattle.burr_runs.specs.Rules.Input.{IsCode, IsCodeLine, IsInput, hex}
+use Rattle.burr_runs.specs.Rules.Input.{is_hex_digit}
 use Rattle.burr_runs.proofs.Inputs.Digits.{IsDigits, bytes_of_digits, length-hex, list_all-hex}
 
 -- whether bytes that are so stand before this end
@@ -13,9 +13,9 @@ decide_before P each end bytes =
     decided_like (λ found. (found.0, found.2, found.4 ∙ ap (λ (back : List ℕ). found.0 ++ back) found.3)) (λ found. (found.0, end, found.1, refl, found.2))
     (decide_parts P (λ back. back ≡ end) each (λ back. decide_same_bytes back end) bytes)
 
--- whether bytes that are so stand behind this beginning
-decide_behind : (P : List ℕ → Type 0) → ((back : List ℕ) → Decided (P back)) → (begin bytes : List ℕ) → Decided ((back : List ℕ) × P back × (bytes ≡ begin ++ back))
-decide_behind P each begin bytes =
+-- whether bytes that are so stand after this beginning
+decide_after : (P : List ℕ → Type 0) → ((back : List ℕ) → Decided (P back)) → (begin bytes : List ℕ) → Decided ((back : List ℕ) × P back × (bytes ≡ begin ++ back))
+decide_after P each begin bytes =
     decided_like (λ found. (found.1, found.3, found.4 ∙ ap (λ (front : List ℕ). front ++ found.1) found.2)) (λ found. (begin, found.0, refl, found.1, found.2))
     (decide_parts (λ front. front ≡ begin) P (λ front. decide_same_bytes front begin) each bytes)
 
@@ -58,7 +58,7 @@ decide_spell_code digits = decided_like (code_of_pairs digits) (pairs_of_code di
 decide_code_line : (line : List ℕ) → Decided ((code : List ℕ) × IsCodeLine line code)
 decide_code_line line =
     decided_like (λ found. (found.1.0, (found.1.1, found.2 ∙ ap (λ (back : List ℕ). codes "code " ++ back) found.1.2))) (λ found. (hex found.0, (found.0, found.1.0, refl), found.1.1))
-    (decide_behind SpellCode decide_spell_code (codes "code ") line)
+    (decide_after SpellCode decide_spell_code (codes "code ") line)
 
 -- what stands before the last end of a line in an input
 abbrev IsBody : List ℕ → Type 0

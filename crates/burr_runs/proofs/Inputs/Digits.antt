@@ -10,8 +10,8 @@ use Rattle.std.specs.List.{list_all}
 use Rattle.hex.specs.Hex.{IsBytes, decode_of, encode_lower, encode_with, lower_digits}
 use Rattle.hex.specs.declared.error.FromHexError.{FromHexError}
 use Rattle.hex.proofs.HexLemmas.{decode_of-encode_lower, decode_of-ok, decode_of-same}
-use Rattle.burr_runs.specs.Input.{IsCodeLine, hex, hex_digit}
-use Rattle.burr_runs.specs.Input.{is_hex_digit}
+use Rattle.burr_runs.specs.Rules.Input.{IsCodeLine, hex, hex_digit}
+use Rattle.burr_runs.specs.Rules.Input.{is_hex_digit}
 
 abbrev pub IsByte : ℕ → Type 0
 IsByte b = b < 256
@@ -101,18 +101,18 @@ hex_decoded digits code are decodes =
     decode_of-same digits spelled.0 code (ap decode_of (sym spelled.2) ∙ decode_of-hex spelled.0 spelled.1) decodes in
     (subst (λ (bytes : List ℕ). All IsByte bytes) same spelled.1, ap hex (sym same) ∙ spelled.2)
 
--- what stands behind the word of a line of code
+-- what stands after the word of a line of code
 pub record IsDigits (digits : List ℕ) : Type 0 where
   pub some : 1 ≤ length digits
   pub short : length digits ≤ 8192
   pub each : list_all is_hex_digit digits ≡ true
 
 line_digits : (line digits code : List ℕ) → digits ≡ drop 5 line → IsCodeLine line code → digits ≡ hex code
-line_digits line digits code behind is = behind ∙ ap (drop 5) is.1
+line_digits line digits code after is = after ∙ ap (drop 5) is.1
 
 pub IsDigits-line : (line digits code : List ℕ) → digits ≡ drop 5 line → IsCodeLine line code → IsDigits digits
-IsDigits-line line digits code behind is =
-    let spelled = line_digits line digits code behind is in
+IsDigits-line line digits code after is =
+    let spelled = line_digits line digits code after is in
     let some = is.0.some in
     let short = is.0.short in
     record {
@@ -123,20 +123,20 @@ IsDigits-line line digits code behind is =
 
 -- a line of code has digits that decode
 pub decodes_line : (line digits code : List ℕ) (e : FromHexError) → digits ≡ drop 5 line → decode_of digits ≡ Err e → ¬ IsCodeLine line code
-decodes_line line digits code e behind fails is =
+decodes_line line digits code e after fails is =
     let good = decode_of-hex code is.0.bytes in
-    let spelled = ap decode_of (line_digits line digits code behind is) in
+    let spelled = ap decode_of (line_digits line digits code after is) in
     cc
 
--- decoded digits behind the word make a line of code
+-- decoded digits after the word make a line of code
 pub IsCodeLine-decoded : (line digits code : List ℕ) → bytes_eq (take 5 line) (codes "code ") ≡ true → digits ≡ drop 5 line → IsDigits digits → decode_of digits ≡ Ok code
     → IsCodeLine line code
-IsCodeLine-decoded line digits code begins behind are decodes =
+IsCodeLine-decoded line digits code begins after are decodes =
     let spelled = hex_decoded digits code are.each decodes in
     let count : length digits ≡ 2 * length code = (decode_of-ok digits code decodes).2 in
     let some = are.some in
     let short = are.short in (
       record { bytes = spelled.0; some = omega arith; short = omega arith },
       sym (take-append-drop 5 line) ∙ ap (λ (front : List ℕ). front ++ drop 5 line) ((bytes_eq-Decides (take 5 line) (codes "code ")).0 begins)
-          ∙ ap (λ (bytes : List ℕ). codes "code " ++ bytes) (sym behind ∙ sym spelled.1),
+          ∙ ap (λ (bytes : List ℕ). codes "code " ++ bytes) (sym after ∙ sym spelled.1),
     )

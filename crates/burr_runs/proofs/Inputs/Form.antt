@@ -4,7 +4,7 @@ use Rattle.std.proofs.lemmas.Bool.Decides.{nat_tests}
 use Rattle.std.proofs.lemmas.List.{append_cancel_right}
 use Rattle.burr_text.proofs.Common.Cuts.{Lacks, lacks}
 use Rattle.burr_text.specs.Lines.{IsLines}
-use Rattle.burr_runs.specs.Input.{IsCodeLine, IsInput, hex, hex_digit}
+use Rattle.burr_runs.specs.Rules.Input.{IsCodeLine, IsInput, hex, hex_digit}
 use Rattle.burr_text.proofs.Common.Unended.{lacks_append, lacks_clear}
 use Rattle.burr_text.proofs.Common.LastLines.{one_last_line}
 

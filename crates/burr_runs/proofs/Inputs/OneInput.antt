@@ -3,8 +3,8 @@ use Rattle.std.proofs.Common.{◌≡◌, ℕ, List, ap, sym, ◌∙◌, codes, A
 use Rattle.std.proofs.lemmas.List.{append_cancel_left}
 use Rattle.hex.specs.Hex.{decode_of}
 use Rattle.hex.proofs.HexLemmas.{decode_of-same}
-use Rattle.burr_runs.specs.Input.{IsCodeLine, hex}
-use Rattle.burr_runs.specs.OutputLaws.{OneInput}
+use Rattle.burr_runs.specs.Rules.Input.{IsCodeLine, hex}
+use Rattle.burr_runs.specs.Laws.OutputLaws.{OneInput}
 use Rattle.burr_runs.proofs.Inputs.Digits.{IsByte, decode_of-hex}
 use Rattle.burr_runs.proofs.Inputs.Form.{lacks_code, IsInput-line}
 

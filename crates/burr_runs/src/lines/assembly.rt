@@ -2,8 +2,8 @@ ghost use Rattle.std.specs.Prelude.{◌≡◌, ◌<◌, ◌==◌, [], ◌∷◌,
 ghost use Rattle.std.specs.List.{All, slice_split};
 ghost use Rattle.std.specs.Option.{option_map};
 ghost use Rattle.burr_io.specs.Sink.{Puts};
-ghost use Rattle.burr_assembly.specs.PieceNames.{name_at};
-ghost use Rattle.burr_runs.specs.Refusals.{assembly_refusal, clash_line};
+ghost use Rattle.burr_assembly.specs.Rules.PieceNames.{name_at};
+ghost use Rattle.burr_runs.specs.Rules.Refusals.{assembly_refusal, clash_line};
 
 use crate::lines::put_place_line;
 use burr_assembly::{AssemblyFault, piece_name};

@@ -1,5 +1,5 @@
 ghost use Rattle.burr_io.specs.Sink.{Puts};
-ghost use Rattle.burr_runs.specs.Refusals.{container_refusal};
+ghost use Rattle.burr_runs.specs.Rules.Refusals.{container_refusal};
 
 use crate::lines::put_place_line;
 use burr_container::ContainerFault;

@@ -1,6 +1,6 @@
 ghost use Rattle.std.specs.Prelude.{◌≡◌};
 ghost use Rattle.burr_io.specs.Sink.{Puts};
-ghost use Rattle.burr_runs.specs.Verdicts.{accepted_line, plan_refusal, place_part, pieces_part, name_or_none, point_part, numbers_part};
+ghost use Rattle.burr_runs.specs.Rules.Verdicts.{accepted_line, plan_refusal, place_part, pieces_part, name_or_none, point_part, numbers_part};
 
 use burr_assembly::Assembly;
 use burr_forms::Point;

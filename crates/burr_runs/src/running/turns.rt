@@ -1,9 +1,9 @@
 ghost use Rattle.std.specs.Prelude.{◌≡◌, ◌≢◌, IfOk, OnErr};
 ghost use Rattle.burr_state.specs.declared.mode.Mode.TheVariants.{Running};
-ghost use Rattle.burr_state.specs.Next.{Asks};
-ghost use Rattle.burr_state.specs.Step.{NextIs};
-ghost use Rattle.burr_state.specs.Benches.{setup_of};
-ghost use Rattle.burr_runs.specs.Running.{FailsInRun, IsInStep, TurnIs, AnswerIs, run_state};
+ghost use Rattle.burr_state.specs.Rules.Next.{Asks};
+ghost use Rattle.burr_state.specs.Rules.Step.{NextIs};
+ghost use Rattle.burr_state.specs.Views.Benches.{setup_of};
+ghost use Rattle.burr_runs.specs.Views.Running.{FailsInRun, IsInStep, TurnIs, AnswerIs, run_state};
 
 use crate::running::Turn;
 use burr_bench::{Checked, Closing, Progress};

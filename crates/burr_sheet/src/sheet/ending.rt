@@ -1,7 +1,7 @@
 ghost use Rattle.std.specs.Prelude.{◌∷◌, [], map};
 ghost use Rattle.burr_io.specs.Sink.{Puts};
 ghost use Rattle.burr_state.specs.declared.closing.Closing.TheVariants as closings;
-ghost use Rattle.burr_sheet.specs.SheetText.{closing_line, levels_line};
+ghost use Rattle.burr_sheet.specs.Rules.SheetText.{closing_line, levels_line};
 
 use burr_io::{Sink, WriteFault, put_all, put_number, put_words};
 use burr_state::{Closing, Trap};

@@ -2,10 +2,10 @@ ghost use Rattle.std.specs.Prelude.{◌≡◌, ◌==◌, ◌+◌, ◌≤◌, ◌
 ghost use Rattle.std.specs.List.{join_with_byte};
 ghost use Rattle.burr_io.specs.Sink.{Puts};
 ghost use Rattle.burr_voxels.specs.Grid.{name_of};
-ghost use Rattle.burr_assembly.specs.Homes.{names_of};
+ghost use Rattle.burr_assembly.specs.Rules.Homes.{names_of};
 ghost use Rattle.burr_text.specs.Words.{text_line};
-ghost use Rattle.burr_sheet.specs.SheetText.{alone, move_line, names_from, out_word};
-ghost use Rattle.burr_sheet.specs.SheetUnderWay.{move_line_of, is_one};
+ghost use Rattle.burr_sheet.specs.Rules.SheetText.{alone, move_line, names_from, out_word};
+ghost use Rattle.burr_sheet.specs.Views.SheetUnderWay.{move_line_of, is_one};
 
 use burr_assembly::Assembly;
 use burr_code::is_in_set;

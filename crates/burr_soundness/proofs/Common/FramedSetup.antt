@@ -2,11 +2,11 @@
 use Rattle.std.proofs.Common.{◌≡◌, ℕ, List, [], ◌∷◌, refl, ap, ◌∙◌}
 use Rattle.std.specs.Prelude.{map}
 use Rattle.burr_voxels.specs.declared.cell.Cell.{Cell}
-use Rattle.burr_container.specs.Plans.{Frame, Plan, PlanProcedure}
-use Rattle.burr_frames.specs.FramedPlans.{framed_label, framed_plan, framed_procedure}
-use Rattle.burr_state.specs.Bench.{BenchProcedure, running}
+use Rattle.burr_container.specs.Rules.Plans.{Frame, Plan, PlanProcedure}
+use Rattle.burr_frames.specs.Rules.FramedPlans.{framed_label, framed_plan, framed_procedure}
+use Rattle.burr_state.specs.Rules.Bench.{BenchProcedure, running}
 use Rattle.burr_soundness.specs.Framing.{bench_part, framed_setup}
-use Rattle.burr_state.specs.Programs.{bench_procedure, plan_program, positions_of, procedure_of}
+use Rattle.burr_state.specs.Views.Programs.{bench_procedure, plan_program, positions_of, procedure_of}
 
 same_positions : (labels : List (ℕ × Frame)) → positions_of (map framed_label labels)
     ≡ positions_of labels

@@ -2,26 +2,26 @@
 use Rattle.std.proofs.Common.{◌≡◌, ◌⊎◌, ℕ, List, ◌≤◌, ◌<◌, ◌-◌, ◌^◌, Option, Some, None, Result, Ok, refl, sym, ap, subst, ◌∙◌, inl, inr, arith}
 use Rattle.std.specs.Prelude.{ℤ}
 use Rattle.std.proofs.lemmas.List.{length-map}
-use Rattle.burr_assembly.specs.Homes.{homes_of, home_of}
+use Rattle.burr_assembly.specs.Rules.Homes.{homes_of, home_of}
 use Rattle.burr_code.specs.Instruction.{Instruction, Step, Aside}
-use Rattle.burr_frames.specs.FramedPlans.{framed_plan}
-use Rattle.burr_verify.specs.Accepting.{Judged, IsAccepted}
-use Rattle.burr_verify.specs.VerifyLaws.{FittingIsFromContainer}
+use Rattle.burr_frames.specs.Rules.FramedPlans.{framed_plan}
+use Rattle.burr_verify.specs.Rules.Accepting.{Judged, IsAccepted}
+use Rattle.burr_verify.specs.Laws.VerifyLaws.{FittingIsFromContainer}
 use Rattle.burr_state.specs.declared.mode.Mode.{Mode}
 use Rattle.burr_state.specs.declared.mode.Mode.TheVariants.{Running, Ended, Trapped}
 use Rattle.burr_state.specs.declared.motion.Motion.{Motion}
 use Rattle.burr_state.specs.declared.progress.Progress.{Progress}
 use Rattle.burr_state.specs.declared.progress.Progress.TheVariants as progress
 use Rattle.burr_state.specs.declared.trap.Trap.{Trap}
-use Rattle.burr_state.specs.Bench.{BenchState, BenchProcedure, Program, Setup, start, running}
-use Rattle.burr_state.specs.Benches.{Benched, benched, in_state, setup_of}
+use Rattle.burr_state.specs.Rules.Bench.{BenchState, BenchProcedure, Program, Setup, start, running}
+use Rattle.burr_state.specs.Views.Benches.{Benched, benched, in_state, setup_of}
 use Rattle.burr_soundness.specs.Framing.{framed_setup}
 use Rattle.burr_soundness.specs.Invariant.{IsSafeState}
-use Rattle.burr_state.specs.Next.{Next, Goes, Asks, Traps}
-use Rattle.burr_state.specs.Programs.{plan_program}
-use Rattle.burr_state.specs.RunLaws.{Calls, begun, went, answered}
-use Rattle.burr_state.specs.SpaceLaws.{HomesAreDisjoint}
-use Rattle.burr_state.specs.Step.{NextIs, CallIn, Called, told, left_by, IsAt, Executes}
+use Rattle.burr_state.specs.Rules.Next.{Next, Goes, Asks, Traps}
+use Rattle.burr_state.specs.Views.Programs.{plan_program}
+use Rattle.burr_state.specs.Laws.RunLaws.{Calls, begun, went, answered}
+use Rattle.burr_state.specs.Laws.SpaceLaws.{HomesAreDisjoint}
+use Rattle.burr_state.specs.Rules.Step.{NextIs, CallIn, Called, call_result, left_by, IsAt, Executes}
 use Rattle.burr_soundness.proofs.Common.FramedSetup.{same_setup}
 use Rattle.burr_state.proofs.Common.Existence.Executions.{some_execution}
 use Rattle.burr_state.proofs.Common.Existence.SomeCall.{some_call}
@@ -34,9 +34,9 @@ use Rattle.burr_soundness.specs.Machine.{IsSafeBench, CallIsSafe, EachStateIsSaf
 
 -- Calls, of any fact that steps carry on
 
--- what is told is no trap
+-- what is call_result is no trap
 abbrev TellsSome : Result Progress Trap → Type 0
-TellsSome result = (told : Progress) × (result ≡ Ok told)
+TellsSome result = (call_result : Progress) × (result ≡ Ok call_result)
 
 running-ended : Running ≡ Ended → ⊥
 running-ended e = subst IsRunning e tt
@@ -69,14 +69,14 @@ module _ (setup : Setup) (budget : ℕ) (Fact : BenchState → Type 0) (carry : 
   still s (inr ended) is = absurd (running-ended (sym is ∙ ended.mode))
 
   by_next : (s new : BenchState) (result : Result Progress Trap) (next : Next) → Fact s → NextIs setup s next
-      → result ≡ told next → new ≡ left_by s next → TellsSome result × (Fact new ⊎ HasEnded budget new)
-  by_next s new result (Goes there motion) fact is tells leaves = (
+      → result ≡ call_result next → new ≡ left_by s next → TellsSome result × (Fact new ⊎ HasEnded budget new)
+  by_next s new result (Goes there motion) fact is tells no_successor = (
     (progress.Went motion, tells),
-    subst (λ (t : BenchState). Fact t ⊎ HasEnded budget t) (sym leaves) (carry.goes s there motion fact is),
+    subst (λ (t : BenchState). Fact t ⊎ HasEnded budget t) (sym no_successor) (carry.goes s there motion fact is),
   )
-  by_next s new result (Asks low high) fact is tells leaves =
-      ((progress.Asks low high, tells), inl (subst (λ (t : BenchState). Fact t) (sym leaves) fact))
-  by_next s new result (Traps trap) fact is tells leaves = absurd (carry.no_trap s trap fact is)
+  by_next s new result (Asks low high) fact is tells no_successor =
+      ((progress.Asks low high, tells), inl (subst (λ (t : BenchState). Fact t) (sym no_successor) fact))
+  by_next s new result (Traps trap) fact is tells no_successor = absurd (carry.no_trap s trap fact is)
 
   in_mode : (s new : BenchState) (answer : Option ℤ) (result : Result Progress Trap) (mode : Mode)
       → Fact s ⊎ HasEnded budget s → s.mode ≡ mode → CallIn mode setup s answer result new
@@ -231,7 +231,7 @@ module _ (from_container : FittingIsFromContainer) where
   safe_along b budget s _ answers _ _ safe (begun _ _) = safe
   safe_along b budget s last answers left _ safe (went _ new _ motion _ _ rest going called calls) =
       safe_along b budget new last answers left rest (call_is_safe (in_state s b) None _ new safe called).1 calls
-  safe_along b budget s last _ left motions safe (answered _ new _ low high answer told rest _ _ going asked called calls) =
+  safe_along b budget s last _ left motions safe (answered _ new _ low high answer call_result rest _ _ going asked called calls) =
       safe_along b budget new last rest left motions (call_is_safe (in_state s b) (Some answer) _ new safe called).1 calls
 
   pub each_state_is_safe : HomesAreDisjoint → EachStateIsSafe

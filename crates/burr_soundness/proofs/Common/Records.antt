@@ -1,11 +1,11 @@
 -- A safe bench that makes a step has a record of it, which takes it back.
 use Rattle.std.proofs.Common.{◌≡◌, Ok, Option, refl, sym, subst}
-use Rattle.burr_verify.specs.VerifyLaws.{FittingIsFromContainer}
+use Rattle.burr_verify.specs.Laws.VerifyLaws.{FittingIsFromContainer}
 use Rattle.burr_state.specs.declared.progress.Progress.TheVariants as progress
-use Rattle.burr_state.specs.Bench.{BenchState}
-use Rattle.burr_state.specs.Benches.{setup_of, in_state}
-use Rattle.burr_state.specs.Step.{Called}
-use Rattle.burr_state.specs.Undo.{Undo, record_of, IsRecordOf}
+use Rattle.burr_state.specs.Rules.Bench.{BenchState}
+use Rattle.burr_state.specs.Views.Benches.{setup_of, in_state}
+use Rattle.burr_state.specs.Rules.Step.{Called}
+use Rattle.burr_state.specs.Rules.Undo.{Undo, record_of, IsRecordOf}
 use Rattle.burr_state.proofs.Common.Undo.{records_go_back, runs_where_stepped, stands_there}
 use Rattle.burr_soundness.specs.Machine.{IsSafeBench}
 use Rattle.burr_soundness.specs.Records.{StepIsRecorded}

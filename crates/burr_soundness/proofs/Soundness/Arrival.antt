@@ -3,11 +3,11 @@ use Rattle.std.proofs.Common.{◌≡◌, ℕ, zero, suc, List, [], ◌∷◌, �
 use Rattle.std.specs.Prelude.{ℤ, get_or}
 use Rattle.std.proofs.lemmas.Option.{none-some, same_Some}
 use Rattle.burr_code.proofs.Common.Labels.{with_first_is}
-use Rattle.burr_forms.specs.Forms.{Form, Point, value, values, symbol}
-use Rattle.burr_container.specs.Plans.{Frame}
-use Rattle.burr_frames.specs.States.{AbstractState, state_of, numbered}
-use Rattle.burr_frames.specs.Arrival.{Meets, live_forms}
-use Rattle.burr_state.specs.Bench.{BenchState}
+use Rattle.burr_forms.specs.Rules.Forms.{Form, Point, value, values, symbol}
+use Rattle.burr_container.specs.Rules.Plans.{Frame}
+use Rattle.burr_frames.specs.Rules.States.{AbstractState, state_of, numbered}
+use Rattle.burr_frames.specs.Rules.Arrival.{Meets, live_forms}
+use Rattle.burr_state.specs.Rules.Bench.{BenchState}
 use Rattle.burr_soundness.specs.Standing.{Stands}
 use Rattle.burr_soundness.proofs.Soundness.Values.{value_symbol}
 

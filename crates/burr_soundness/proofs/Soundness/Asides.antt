@@ -6,17 +6,17 @@ use Rattle.burr_voxels.specs.Grid.{shifted}
 use Rattle.burr_voxels.specs.CellSets.{IsFree}
 use Rattle.burr_code.specs.Places.{Placement, aside_places, IsEmptyTray, IsPartOfTray}
 use Rattle.burr_code.specs.Instruction.{Aside}
-use Rattle.burr_forms.specs.Forms.{Point}
-use Rattle.burr_container.specs.Plans.{FormCell}
-use Rattle.burr_frames.specs.FramedPlans.{FramedProcedure, FramedPlan}
-use Rattle.burr_frames.specs.States.{AbstractState, cell_at, places_at}
-use Rattle.burr_frames.specs.Verdicts.{Verdict}
-use Rattle.burr_frames.specs.Transfer.{Transfer}
-use Rattle.burr_frames.specs.SpaceRules.{PairAt, GoesFree}
-use Rattle.burr_state.specs.Bench.{BenchState}
-use Rattle.burr_state.specs.Next.{Next}
-use Rattle.burr_state.specs.Step.{Executes}
-use Rattle.burr_state.specs.Space.{IsFreeGroup}
+use Rattle.burr_forms.specs.Rules.Forms.{Point}
+use Rattle.burr_container.specs.Rules.Plans.{FormCell}
+use Rattle.burr_frames.specs.Rules.FramedPlans.{FramedProcedure, FramedPlan}
+use Rattle.burr_frames.specs.Rules.States.{AbstractState, cell_at, places_at}
+use Rattle.burr_frames.specs.Rules.Verdicts.{Verdict}
+use Rattle.burr_frames.specs.Rules.Transfer.{Transfer}
+use Rattle.burr_frames.specs.Rules.SpaceRules.{PairAt, GoesFree}
+use Rattle.burr_state.specs.Rules.Bench.{BenchState}
+use Rattle.burr_state.specs.Rules.Next.{Next}
+use Rattle.burr_state.specs.Rules.Step.{Executes}
+use Rattle.burr_state.specs.Rules.Space.{IsFreeGroup}
 use Rattle.burr_soundness.specs.Framing.{bench_part, framed_setup}
 use Rattle.burr_soundness.specs.Standing.{Stands}
 use Rattle.burr_soundness.proofs.Soundness.StepOutcomes.{FallsOn}

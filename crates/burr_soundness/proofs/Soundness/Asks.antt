@@ -3,17 +3,17 @@ use Rattle.std.proofs.Common.{◌≡◌, ℕ, List, [], ◌∷◌, ◌++◌, len
 use Rattle.std.specs.Prelude.{ℤ, pos, ◌≤ℤ◌}
 use Rattle.burr_voxels.specs.declared.cell.Cell.{Cell}
 use Rattle.burr_code.specs.Instruction.{Ask}
-use Rattle.burr_forms.specs.Forms.{Point, value, one_less, symbol}
-use Rattle.burr_frames.specs.FramedPlans.{FramedProcedure, FramedPlan}
-use Rattle.burr_frames.specs.States.{AbstractState, IsPoint}
-use Rattle.burr_frames.specs.Verdicts.{Verdict, Falls}
-use Rattle.burr_frames.specs.Transfer.{Transfer}
-use Rattle.burr_frames.specs.Over.{IsTidy, IsOver, AllOver, AllPlacesOver}
-use Rattle.burr_state.specs.Bench.{BenchState}
-use Rattle.burr_state.specs.Next.{Next, Goes, Asks, after}
-use Rattle.burr_state.specs.Step.{Executes}
-use Rattle.burr_state.specs.Questions.{Takes, Fits}
-use Rattle.burr_state.specs.Numbers.{pushed}
+use Rattle.burr_forms.specs.Rules.Forms.{Point, value, one_less, symbol}
+use Rattle.burr_frames.specs.Rules.FramedPlans.{FramedProcedure, FramedPlan}
+use Rattle.burr_frames.specs.Rules.States.{AbstractState, IsPoint}
+use Rattle.burr_frames.specs.Rules.Verdicts.{Verdict, FallsThrough}
+use Rattle.burr_frames.specs.Rules.Transfer.{Transfer}
+use Rattle.burr_frames.specs.Views.Over.{IsTidy, IsWellScoped, AllOver, AllPlacesOver}
+use Rattle.burr_state.specs.Rules.Bench.{BenchState}
+use Rattle.burr_state.specs.Rules.Next.{Next, Goes, Asks, after}
+use Rattle.burr_state.specs.Rules.Step.{Executes}
+use Rattle.burr_state.specs.Rules.Questions.{Takes, Fits}
+use Rattle.burr_state.specs.Rules.Numbers.{pushed}
 use Rattle.burr_soundness.specs.Framing.{bench_part, framed_setup}
 use Rattle.burr_soundness.specs.Standing.{Stands}
 use Rattle.burr_soundness.proofs.Soundness.StepOutcomes.{FallsOn}
@@ -42,7 +42,7 @@ more_symbols s range x point b tidy st low high =
         slots_known =
             λ k f e. st.running.slots_known k f e
             ∙ ap Some (sym
-            (value_more f point (x ∷ []) (subst (λ k. IsOver k f) (sym n) (tidy.slots k f e))));
+            (value_more f point (x ∷ []) (subst (λ k. IsWellScoped k f) (sym n) (tidy.slots k f e))));
         slots_as_many = st.running.slots_as_many;
         operands_are =
             st.running.operands_are
@@ -63,7 +63,7 @@ more_symbols s range x point b tidy st low high =
 ask_falls : (homes : List (List Cell)) (here : FramedProcedure) (low high x : ℤ) (s : AbstractState)
     (point : Point) (b : BenchState) (v : Verdict) → IsTidy s → IsGood homes b.places b.tray b.grip
     → Stands s point b → Fits low high x
-    → v ≡ Falls (record s {
+    → v ≡ FallsThrough (record s {
       ranges = s.ranges ++ (low, high) ∷ [];
       operands = symbol (length s.ranges) ∷ s.operands;
       cost = one_less s.cost;
@@ -71,7 +71,7 @@ ask_falls : (homes : List (List Cell)) (here : FramedProcedure) (low high x : �
     → ((q : Point) → IsPoint s q → pos 0 ≤ℤ value q (one_less s.cost))
     → FallsOn homes here (Ask low high) s point b v
     (Goes (after (Ask low high) (pushed x b.running) b) None)
-ask_falls homes here low high x s point b v tidy good st fits falls enough =
+ask_falls homes here low high x s point b v tidy good st fits falls_through enough =
     let is = st.running.is_point in
     let n : length point ≡ length s.ranges = box_length s.ranges point is.0 in
     let more = more_symbols s (low, high) x point b tidy st fits.0 fits.1 in
@@ -79,13 +79,13 @@ ask_falls homes here low high x s point b v tidy good st fits falls enough =
     value_symbol (length s.ranges) point x [] n in
     let pay = is_paid s (record s { cost = one_less s.cost }) point is enough refl in
     let same : value (point ++ x ∷ []) (one_less s.cost) ≡ value point (one_less s.cost) =
-    value_more (one_less s.cost) point (x ∷ []) (subst (λ k. IsOver k s.cost) (sym n) tidy.cost) in
+    value_more (one_less s.cost) point (x ∷ []) (subst (λ k. IsWellScoped k s.cost) (sym n) tidy.cost) in
     record {
       new = _;
       motion = _;
       next_is = refl;
       state = _;
-      verdict_is = falls;
+      verdict_is = falls_through;
       there = point ++ x ∷ [];
       stands = record {
         running = record {

@@ -6,20 +6,20 @@ use Rattle.std.proofs.lemmas.List.{length-set, get_or-set_other}
 use Rattle.std.proofs.lemmas.List.Elements.{All-nil, All-cons, All-append}
 use Rattle.burr_voxels.specs.declared.cell.Cell.{Cell}
 use Rattle.burr_code.specs.Instruction.{Jump, Down}
-use Rattle.burr_forms.specs.Forms.{Form, Point, value, values, one_less, times}
-use Rattle.burr_forms.specs.Points.{GuardsHold}
-use Rattle.burr_container.specs.Plans.{Frame}
-use Rattle.burr_frames.specs.FramedPlans.{FramedProcedure, FramedPlan}
-use Rattle.burr_frames.specs.States.{AbstractState, IsPoint}
-use Rattle.burr_frames.specs.Arrival.{Arrives}
-use Rattle.burr_frames.specs.Verdicts.{Verdict, arriving}
-use Rattle.burr_frames.specs.Transfer.{Transfer}
-use Rattle.burr_verify.specs.WellFramed.{IsLabelled}
-use Rattle.burr_state.specs.Bench.{BenchState}
-use Rattle.burr_state.specs.Next.{Next, Goes, at_label, after}
-use Rattle.burr_state.specs.Step.{Executes}
-use Rattle.burr_state.specs.Numbers.{with_slot}
-use Rattle.burr_state.specs.Control.{by_count}
+use Rattle.burr_forms.specs.Rules.Forms.{Form, Point, value, values, one_less, times}
+use Rattle.burr_forms.specs.Rules.Points.{GuardsHold}
+use Rattle.burr_container.specs.Rules.Plans.{Frame}
+use Rattle.burr_frames.specs.Rules.FramedPlans.{FramedProcedure, FramedPlan}
+use Rattle.burr_frames.specs.Rules.States.{AbstractState, IsPoint}
+use Rattle.burr_frames.specs.Rules.Arrival.{Arrives}
+use Rattle.burr_frames.specs.Rules.Verdicts.{Verdict, arriving}
+use Rattle.burr_frames.specs.Rules.Transfer.{Transfer}
+use Rattle.burr_verify.specs.Rules.WellFramed.{IsLabelled}
+use Rattle.burr_state.specs.Rules.Bench.{BenchState}
+use Rattle.burr_state.specs.Rules.Next.{Next, Goes, at_label, after}
+use Rattle.burr_state.specs.Rules.Step.{Executes}
+use Rattle.burr_state.specs.Rules.Numbers.{with_slot}
+use Rattle.burr_state.specs.Rules.Control.{by_count}
 use Rattle.burr_soundness.specs.Framing.{bench_part, framed_setup}
 use Rattle.burr_soundness.specs.Standing.{Stands}
 use Rattle.burr_soundness.proofs.Soundness.StepOutcomes.{FallsOn, SentOn, ParametersStay}

@@ -3,13 +3,13 @@ use Rattle.std.proofs.Common.{◌≡◌, ℕ, ◌+◌, ◌≤◌, List, length, 
 use Rattle.std.specs.Prelude.{pos, ◌≤ℤ◌, reverse}
 use Rattle.burr_code.specs.Stacks.{top_many}
 use Rattle.burr_code.specs.Labels.{callee_of}
-use Rattle.burr_forms.specs.Forms.{Form, value, substituted}
-use Rattle.burr_container.specs.Plans.{Frame}
-use Rattle.burr_frames.specs.FramedPlans.{FramedExit, FramedProcedure, FramedPlan}
-use Rattle.burr_frames.specs.States.{AbstractState, Everywhere}
-use Rattle.burr_frames.specs.Arrival.{Meets}
-use Rattle.burr_frames.specs.Verdicts.{Verdict, Falls}
-use Rattle.burr_frames.specs.ControlRules.{entry_of, called_with, behind_call, left_of, call_rule}
+use Rattle.burr_forms.specs.Rules.Forms.{Form, value, substituted}
+use Rattle.burr_container.specs.Rules.Plans.{Frame}
+use Rattle.burr_frames.specs.Rules.FramedPlans.{FramedExit, FramedProcedure, FramedPlan}
+use Rattle.burr_frames.specs.Rules.States.{AbstractState, Everywhere}
+use Rattle.burr_frames.specs.Rules.Arrival.{Meets}
+use Rattle.burr_frames.specs.Rules.Verdicts.{Verdict, FallsThrough}
+use Rattle.burr_frames.specs.Rules.ControlRules.{entry_of, called_with, after_call, left_of, call_rule}
 use Rattle.burr_verify.proofs.Common.FineVerdicts.{IsFine, held, found, held_everywhere}
 
 pub record CallHolds (plan : FramedPlan) (n q : ℕ) (s : AbstractState) (v : Verdict) : Type 0 where
@@ -27,8 +27,8 @@ pub record CallHolds (plan : FramedPlan) (n q : ℕ) (s : AbstractState) (v : Ve
   pub meets : Meets (called_with arguments s) entry
   pub enough : Everywhere s
       (λ point. pos 0 ≤ℤ value point (left_of s.cost (substituted meets.forms entry.cost)))
-  pub falls : v
-      ≡ Falls (record (behind_call s (reverse arguments) below exit) {
+  pub falls_through : v
+      ≡ FallsThrough (record (after_call s (reverse arguments) below exit) {
         cost = left_of s.cost (substituted meets.forms entry.cost);
       })
 
@@ -60,5 +60,5 @@ call_holds plan n q s v fine t =
       room = room.0;
       meets = record { forms = forms.0; known = forms.1; alike = alike.0; agrees = agrees.0 };
       enough = cost.0;
-      falls = cost.1;
+      falls_through = cost.1;
     }

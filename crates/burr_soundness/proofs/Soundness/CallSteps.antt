@@ -13,20 +13,20 @@ use Rattle.burr_code.specs.Instruction.{Call, spelled}
 use Rattle.burr_code.specs.Stacks.{top_many, split_at}
 use Rattle.burr_code.specs.Labels.{callee_of, argument_slots}
 use Rattle.burr_code.proofs.Common.Labels.{with_first_is}
-use Rattle.burr_forms.specs.Forms.{Form, Point, value, values, one_less, minus_form, substituted}
-use Rattle.burr_forms.specs.Points.{GuardsHold}
-use Rattle.burr_container.specs.Plans.{Frame}
-use Rattle.burr_frames.specs.FramedPlans.{FramedExit, FramedProcedure, FramedPlan}
-use Rattle.burr_frames.specs.States.{AbstractState, state_of, places_at}
-use Rattle.burr_frames.specs.Arrival.{live_forms}
-use Rattle.burr_frames.specs.Verdicts.{Verdict, Falls}
-use Rattle.burr_frames.specs.Transfer.{Transfer}
-use Rattle.burr_frames.specs.ControlRules.{called_with, entry_of, symbols_from, behind_call}
-use Rattle.burr_frames.specs.Over.{IsTidy, IsOver, AllOver}
-use Rattle.burr_state.specs.Bench.{BenchState, Activation}
-use Rattle.burr_state.specs.Next.{Next, Goes}
-use Rattle.burr_state.specs.Step.{Executes}
-use Rattle.burr_state.specs.Control.{called}
+use Rattle.burr_forms.specs.Rules.Forms.{Form, Point, value, values, one_less, minus_form, substituted}
+use Rattle.burr_forms.specs.Rules.Points.{GuardsHold}
+use Rattle.burr_container.specs.Rules.Plans.{Frame}
+use Rattle.burr_frames.specs.Rules.FramedPlans.{FramedExit, FramedProcedure, FramedPlan}
+use Rattle.burr_frames.specs.Rules.States.{AbstractState, state_of, places_at}
+use Rattle.burr_frames.specs.Rules.Arrival.{live_forms}
+use Rattle.burr_frames.specs.Rules.Verdicts.{Verdict, FallsThrough}
+use Rattle.burr_frames.specs.Rules.Transfer.{Transfer}
+use Rattle.burr_frames.specs.Rules.ControlRules.{called_with, entry_of, symbols_from, after_call}
+use Rattle.burr_frames.specs.Views.Over.{IsTidy, IsWellScoped, AllOver}
+use Rattle.burr_state.specs.Rules.Bench.{BenchState, Activation}
+use Rattle.burr_state.specs.Rules.Next.{Next, Goes}
+use Rattle.burr_state.specs.Rules.Step.{Executes}
+use Rattle.burr_state.specs.Rules.Control.{called}
 use Rattle.burr_soundness.specs.Framing.{bench_part, framed_setup}
 use Rattle.burr_soundness.specs.Standing.{Stands}
 use Rattle.burr_soundness.specs.Invariant.{IsGood, HasParameters, IsAdmitted, ReturnsAs}
@@ -129,16 +129,16 @@ over_reverse n [] onto h k = k
 over_reverse n (f ∷ fs) onto h k = over_reverse n fs (f ∷ onto) h.1 (h.0, k)
 
 pub over_slots : (n k : ℕ) (fs : List Form) → AllOver n fs → (v : ℕ) (f : Form)
-    → get_or (map Some fs ++ replicate k None) v None ≡ Some f → IsOver n f
+    → get_or (map Some fs ++ replicate k None) v None ≡ Some f → IsWellScoped n f
 over_slots n zero [] h v f e = absurd (none-some _ e)
 over_slots n (suc k) [] h zero f e = absurd (none-some _ e)
 over_slots n (suc k) [] h (suc v) f e = over_slots n k [] h v f e
-over_slots n k (g ∷ fs) h zero f e = subst (λ (x : Form). IsOver n x) (same_Some _ _ e) h.0
+over_slots n k (g ∷ fs) h zero f e = subst (λ (x : Form). IsWellScoped n x) (same_Some _ _ e) h.0
 over_slots n k (g ∷ fs) h (suc v) f e = over_slots n k fs h.1 v f e
 
 pub over_live : (n : ℕ) (ranges : List (Option (ℤ × ℤ))) (slots : List (Option Form))
     (forms : List Form) → live_forms ranges slots ≡ Some forms
-    → ((v : ℕ) (f : Form) → get_or slots v None ≡ Some f → IsOver n f) → AllOver n forms
+    → ((v : ℕ) (f : Form) → get_or slots v None ≡ Some f → IsWellScoped n f) → AllOver n forms
 over_live n [] slots forms e h = subst (λ (fs : List Form). AllOver n fs) (same_Some _ _ e) tt
 over_live n (None ∷ ranges) [] forms e h = over_live n ranges [] forms e h
 over_live n (None ∷ ranges) (slot ∷ slots) forms e h =
@@ -183,7 +183,7 @@ pub returns_as : (s : AbstractState) (point : Point) (b : BenchState) (exit : Fr
     → ((more : Point) → value (point ++ more) cost ≡ value point cost)
     → caller.slots ≡ b.running.slots → caller.operands ≡ values point below
     → IsAdmitted exit (values point arguments) results
-    → ReturnsAs (record (behind_call s arguments below exit) { cost = cost }) point exit
+    → ReturnsAs (record (after_call s arguments below exit) { cost = cost }) point exit
     (values point arguments) results caller (value point cost)
 returns_as s point b exit arguments below cost caller results tidy st over_arguments over_below
     same_cost slots operands admitted =
@@ -214,7 +214,7 @@ returns_as s point b exit arguments below cost caller results tidy st over_argum
         slots_known =
             λ v f e. ap (λ xs. get_or xs v None) slots ∙ st.running.slots_known v f e
             ∙ ap Some (sym
-            (value_more f point results (subst (λ k. IsOver k f) (sym n) (tidy.slots v f e))));
+            (value_more f point results (subst (λ k. IsWellScoped k f) (sym n) (tidy.slots v f e))));
         slots_as_many = ap length slots ∙ st.running.slots_as_many;
         operands_are =
             ap (λ xs. reverse results ++ xs)
@@ -230,7 +230,7 @@ returns_as s point b exit arguments below cost caller results tidy st over_argum
       cost_is = same_cost results;
     }
 
--- the caller, behind its call
+-- the caller, after its call
 abbrev pub caller_of : BenchState → ℕ → List ℤ → Activation
 caller_of b q below =
     record b.running { pc = b.running.pc + length (spelled (Call q)); operands = below }
@@ -252,7 +252,7 @@ pub record CallsOn (homes : List (List Cell)) (plan : FramedPlan) (n q : ℕ) (s
   pub at : Point
   pub stands : Stands (state_of entry) at new
   pub state : AbstractState
-  pub verdict_is : verdict ≡ Falls state
+  pub verdict_is : verdict ≡ FallsThrough state
   pub below : List ℤ
   pub returns : (results : List ℤ) → IsAdmitted exit parameters results
       → ReturnsAs state point exit parameters results (caller_of b q below) (value point state.cost)
@@ -268,25 +268,25 @@ pub record CallsOn (homes : List (List Cell)) (plan : FramedPlan) (n q : ℕ) (s
   pub mode : new.mode ≡ b.mode
   pub good : IsGood homes new.places new.tray new.grip
 
--- the cost behind a call
-pub cost_behind : (cost : Form) (forms : List Form) (entry : Form) (x : Point)
+-- the cost after a call
+pub cost_after : (cost : Form) (forms : List Form) (entry : Form) (x : Point)
     → value x (minus_form (one_less cost) (substituted forms entry))
     ≡ ((value x cost -ℤ pos 1) -ℤ value (values x forms) entry)
-cost_behind cost forms entry x =
+cost_after cost forms entry x =
     let a = value_minus (one_less cost) (substituted forms entry) x in
     let c = value_substituted forms entry x in
     let d = value_raised (neg_ℤ (pos 1)) cost x in
     omega (arith, ints)
 
 cost_more : (cost : Form) (forms : List Form) (entry : Form) (n : ℕ) (point more : Point)
-    → length point ≡ n → IsOver n cost → AllOver n forms
+    → length point ≡ n → IsWellScoped n cost → AllOver n forms
     → value (point ++ more) (minus_form (one_less cost) (substituted forms entry)) ≡ value point
     (minus_form (one_less cost) (substituted forms entry))
 cost_more cost forms entry n point more len over over_forms =
-    let a = cost_behind cost forms entry (point ++ more) in
-    let c = cost_behind cost forms entry point in
+    let a = cost_after cost forms entry (point ++ more) in
+    let c = cost_after cost forms entry point in
     let d : value (point ++ more) cost ≡ value point cost =
-    value_more cost point more (subst (λ k. IsOver k cost) (sym len) over) in
+    value_more cost point more (subst (λ k. IsWellScoped k cost) (sym len) over) in
     let e : value (values (point ++ more) forms) entry ≡ value (values point forms) entry =
     ap (λ p. value p entry)
     (values_more forms point more (subst (λ k. AllOver k forms) (sym len) over_forms)) in
@@ -361,7 +361,7 @@ sound_call homes plan n here q s point b v next limits tidy same good fine t st 
       };
       lie = record { places = st.lie.places; tray = st.lie.tray; grip = st.lie.grip };
     } in
-    let behind_cost : Form =
+    let after_cost : Form =
     minus_form (one_less s.cost) (substituted c.meets.forms c.entry.cost) in
     record {
       there = c.there;
@@ -387,10 +387,10 @@ sound_call homes plan n here q s point b v next limits tidy same good fine t st 
           stands_at_frame (called_with c.arguments s) c.entry
           point (called q vs below (Call q) b) c.meets (limit.1 ∙ sym slots_eight) standing;
       state = _;
-      verdict_is = c.falls;
+      verdict_is = c.falls_through;
       below = below;
       returns =
-          λ results admitted. returns_as s point b c.exit (reverse c.arguments) c.below behind_cost
+          λ results admitted. returns_as s point b c.exit (reverse c.arguments) c.below after_cost
           (caller_of b q below) results tidy st over_args over.1
           (λ more. cost_more s.cost c.meets.forms c.entry.cost
           (length s.ranges) point more m tidy.cost
@@ -400,7 +400,7 @@ sound_call homes plan n here q s point b v next limits tidy same good fine t st 
       slots_kept = refl;
       costs =
           split_cost (value point s.cost) (value (values point c.meets.forms) c.entry.cost)
-          (value point behind_cost) (cost_behind s.cost c.meets.forms c.entry.cost point);
+          (value point after_cost) (cost_after s.cost c.meets.forms c.entry.cost point);
       enough = c.enough point is;
       procedure = refl;
       pc = refl;

@@ -4,18 +4,18 @@ use Rattle.std.specs.Prelude.{ℤ, ◌≤ℤ◌, map, slice_get}
 use Rattle.std.proofs.lemmas.Option.{same_Some}
 use Rattle.burr_voxels.specs.declared.cell.Cell.{Cell}
 use Rattle.burr_code.specs.Instruction.{Instruction, Ask, Pick, StandsAt}
-use Rattle.burr_forms.specs.Forms.{Point, value}
-use Rattle.burr_container.specs.Plans.{Frame}
-use Rattle.burr_frames.specs.FramedPlans.{FramedProcedure, FramedPlan}
-use Rattle.burr_frames.specs.States.{AbstractState}
-use Rattle.burr_frames.specs.Verdicts.{Verdict}
-use Rattle.burr_frames.specs.Transfer.{Transfer}
-use Rattle.burr_frames.specs.Over.{IsTidy}
-use Rattle.burr_verify.specs.WellFramed.{IsLabelled}
-use Rattle.burr_state.specs.Bench.{BenchState, BenchProcedure}
-use Rattle.burr_state.specs.Next.{Next, Goes, Asks, Traps}
-use Rattle.burr_state.specs.Step.{Executes, NextIs}
-use Rattle.burr_state.specs.Questions.{Takes, Fits}
+use Rattle.burr_forms.specs.Rules.Forms.{Point, value}
+use Rattle.burr_container.specs.Rules.Plans.{Frame}
+use Rattle.burr_frames.specs.Rules.FramedPlans.{FramedProcedure, FramedPlan}
+use Rattle.burr_frames.specs.Rules.States.{AbstractState}
+use Rattle.burr_frames.specs.Rules.Verdicts.{Verdict}
+use Rattle.burr_frames.specs.Rules.Transfer.{Transfer}
+use Rattle.burr_frames.specs.Views.Over.{IsTidy}
+use Rattle.burr_verify.specs.Rules.WellFramed.{IsLabelled}
+use Rattle.burr_state.specs.Rules.Bench.{BenchState, BenchProcedure}
+use Rattle.burr_state.specs.Rules.Next.{Next, Goes, Asks, Traps}
+use Rattle.burr_state.specs.Rules.Step.{Executes, NextIs}
+use Rattle.burr_state.specs.Rules.Questions.{Takes, Fits}
 use Rattle.burr_soundness.specs.Framing.{bench_part, framed_setup, HasFraming}
 use Rattle.burr_soundness.specs.Standing.{Stands}
 use Rattle.burr_soundness.proofs.Soundness.StepOutcomes.{FallsOn, SentOn, EndsOn, Carries}
@@ -28,8 +28,8 @@ use Rattle.burr_soundness.proofs.Soundness.Mapped.{map_at}
 use Rattle.burr_soundness.proofs.Soundness.Judged.{Judged, judged, fine_falls, same_goes, goes-traps, asks-other, same_low, same_high}
 use Rattle.burr_code.proofs.Common.Reading.{one_stands_at}
 use Rattle.burr_soundness.proofs.Soundness.Costs.{AreTidy, one_step, ended_cost, within_cost, waiting}
-use Rattle.burr_soundness.proofs.Soundness.Comes.{Comes, falls, sent, ends, asks, returns, calls, comes}
-use Rattle.burr_soundness.proofs.Soundness.Landing.{running_cost, land_behind, land_at_label, land_in_callee, land_in_caller}
+use Rattle.burr_soundness.proofs.Soundness.Comes.{Comes, falls_through, sent, ends, asks, returns, calls, comes}
+use Rattle.burr_soundness.proofs.Soundness.Landing.{running_cost, land_after, land_at_label, land_in_callee, land_in_caller}
 
 pub judged_at : (homes : List (List Cell)) (plan : FramedPlan) (b : BenchState)
     (safe : IsSafeState homes plan b)
@@ -72,7 +72,7 @@ comes_next homes plan ok tidy b safe next (inl n) =
     safe.row.instruction safe.row.state safe.point b j.verdict next safe.here_is safe.callers
     safe.parameters_are
     (tidy b.running.procedure safe.here safe.rows safe.here_is safe.cut safe.k safe.row safe.row_is)
-    j.stands_at.in_range refl safe.good (fine_falls j.verdict j.out j.falls) j.transfer safe.stands
+    j.stands_at.in_range refl safe.good (fine_falls j.verdict j.out j.falls_through) j.transfer safe.stands
     rule
 comes_next homes plan ok tidy b safe next (inr n) =
     absurd (n.0 (bench_part safe.here) safe.row.instruction (
@@ -133,7 +133,7 @@ carries homes plan ok tidy = record {
             safe.waiting_cost safe.callers),
       );
   no_trap = λ b trap safe n. elim (comes_next homes plan ok tidy b safe (Traps trap) n) [
-    | falls f ↦ goes-traps f.new f.motion trap (sym f.next_is)
+    | falls_through f ↦ goes-traps f.new f.motion trap (sym f.next_is)
     | sent f ↦ goes-traps f.new None trap (sym f.next_is)
     | ends f ↦ goes-traps f.new None trap (sym f.next_is)
     | asks low high e ↦ asks-other low high (Traps trap) (sym e)
@@ -141,9 +141,9 @@ carries homes plan ok tidy = record {
     | calls q f e ↦ goes-traps f.new None trap (sym f.next_is)
   ];
   goes = λ b new motion safe n. elim (comes_next homes plan ok tidy b safe (Goes new motion) n) [
-    | falls f ↦
+    | falls_through f ↦
         inl (subst (λ (x : BenchState). IsSafeState homes plan x)
-        (same_goes _ _ _ _ (sym f.next_is)) (land_behind homes plan ok tidy b safe
+        (same_goes _ _ _ _ (sym f.next_is)) (land_after homes plan ok tidy b safe
         (judged_at homes plan b safe) (Goes new motion) f))
     | sent f ↦
         inl (subst (λ (x : BenchState). IsSafeState homes plan x)
@@ -180,10 +180,10 @@ carries homes plan ok tidy = record {
       elim (by_answer homes plan b.running.procedure safe.here safe.row.instruction safe.row.state
       safe.point b j.verdict a.2 a.3 x new
       (λ pc f l. ok.eight b.running.procedure safe.here safe.here_is pc f l ∙ sym t.eight) t
-      safe.good (fine_falls j.verdict j.out j.falls) j.transfer safe.stands rule a.6 takes) [
+      safe.good (fine_falls j.verdict j.out j.falls_through) j.transfer safe.stands rule a.6 takes) [
         | inl f ↦
             inl (subst (λ (y : BenchState). IsSafeState homes plan y)
-            (same_goes _ _ _ _ (sym f.next_is)) (land_behind homes plan ok tidy b safe j
+            (same_goes _ _ _ _ (sym f.next_is)) (land_after homes plan ok tidy b safe j
             (Goes new None) f))
         | inr f ↦
             inl (subst (λ (y : BenchState). IsSafeState homes plan y)

@@ -4,15 +4,15 @@ use Rattle.std.specs.Prelude.{ℤ, slice_get}
 use Rattle.std.proofs.lemmas.Option.{none-some}
 use Rattle.burr_voxels.specs.declared.cell.Cell.{Cell}
 use Rattle.burr_code.specs.Instruction.{Instruction, Halt, Push, Load, Store, Add, Sub, Drop, Grip, Step, Aside, Tray, Jump, Down, Ask, Pick, Call, Ret, IsInRange, spelled}
-use Rattle.burr_forms.specs.Forms.{Point}
-use Rattle.burr_frames.specs.FramedPlans.{FramedProcedure, FramedPlan}
-use Rattle.burr_frames.specs.States.{AbstractState}
-use Rattle.burr_frames.specs.Verdicts.{Verdict}
-use Rattle.burr_frames.specs.Transfer.{Transfer}
-use Rattle.burr_frames.specs.Over.{IsTidy}
-use Rattle.burr_state.specs.Bench.{BenchState, Activation}
-use Rattle.burr_state.specs.Next.{Next, Asks}
-use Rattle.burr_state.specs.Step.{Executes}
+use Rattle.burr_forms.specs.Rules.Forms.{Point}
+use Rattle.burr_frames.specs.Rules.FramedPlans.{FramedProcedure, FramedPlan}
+use Rattle.burr_frames.specs.Rules.States.{AbstractState}
+use Rattle.burr_frames.specs.Rules.Verdicts.{Verdict}
+use Rattle.burr_frames.specs.Rules.Transfer.{Transfer}
+use Rattle.burr_frames.specs.Views.Over.{IsTidy}
+use Rattle.burr_state.specs.Rules.Bench.{BenchState, Activation}
+use Rattle.burr_state.specs.Rules.Next.{Next, Asks}
+use Rattle.burr_state.specs.Rules.Step.{Executes}
 use Rattle.burr_soundness.specs.Framing.{bench_part, framed_setup, HasFraming}
 use Rattle.burr_soundness.specs.Standing.{Stands}
 use Rattle.burr_soundness.proofs.Soundness.StepOutcomes.{FallsOn, SentOn, EndsOn}
@@ -30,7 +30,7 @@ use Rattle.burr_soundness.proofs.Soundness.CallSteps.{CallsOn, sound_call, calle
 pub data Comes (homes : List (List Cell)) (plan : FramedPlan) (n : ℕ) (here : FramedProcedure)
     (parameters : List ℤ) (cost : ℤ) (i : Instruction) (s : AbstractState) (point : Point)
     (b : BenchState) (v : Verdict) (next : Next) : Type 0 where
-  falls : (f : FallsOn homes here i s point b v next)
+  falls_through : (f : FallsOn homes here i s point b v next)
       → Comes homes plan n here parameters cost i s point b v next
   sent : (f : SentOn homes here s point b next)
       → Comes homes plan n here parameters cost i s point b v next
@@ -71,40 +71,40 @@ comes homes plan ok n here ps cost Halt s point b v next is w own tidy range sam
     ends (sound_halt homes plan n here s point b v next same fine t st rule)
 comes homes plan ok n here ps cost (Push x) s point b v next is w own tidy range same good fine t st
     rule =
-    falls (sound_push homes plan n here (framed_setup plan homes) x s point b v next good fine
+    falls_through (sound_push homes plan n here (framed_setup plan homes) x s point b v next good fine
     t st rule)
 comes homes plan ok n here ps cost (Load k) s point b v next is w own tidy range same good fine t st
     rule =
-    falls (sound_load homes plan n here (framed_setup plan homes) k s point b v next good fine t st
+    falls_through (sound_load homes plan n here (framed_setup plan homes) k s point b v next good fine t st
     rule)
 comes homes plan ok n here ps cost (Store k) s point b v next is w own tidy range same good fine t
     st rule =
-    falls (sound_store homes plan n here (framed_setup plan homes) k s point b v next
+    falls_through (sound_store homes plan n here (framed_setup plan homes) k s point b v next
     (subst (λ m. k < m) (sym tidy.eight) range) good fine t st rule)
 comes homes plan ok n here ps cost Add s point b v next is w own tidy range same good fine t st
     rule =
-    falls (sound_add homes plan n here (framed_setup plan homes) s point b v next good fine t st
+    falls_through (sound_add homes plan n here (framed_setup plan homes) s point b v next good fine t st
     rule)
 comes homes plan ok n here ps cost Sub s point b v next is w own tidy range same good fine t st
     rule =
-    falls (sound_sub homes plan n here (framed_setup plan homes) s point b v next good fine t st
+    falls_through (sound_sub homes plan n here (framed_setup plan homes) s point b v next good fine t st
     rule)
 comes homes plan ok n here ps cost Drop s point b v next is w own tidy range same good fine t st
     rule =
-    falls (sound_drop homes plan n here (framed_setup plan homes) s point b v next good fine t st
+    falls_through (sound_drop homes plan n here (framed_setup plan homes) s point b v next good fine t st
     rule)
 comes homes plan ok n here ps cost (Grip group) s point b v next is w own tidy range same good fine
     t st rule =
-    falls (sound_grip homes plan n here group s point b v next good fine t st rule)
+    falls_through (sound_grip homes plan n here group s point b v next good fine t st rule)
 comes homes plan ok n here ps cost (Step direction) s point b v next is w own tidy range same good
     fine t st rule =
-    falls (sound_step homes plan n here direction s point b v next good fine t st rule)
+    falls_through (sound_step homes plan n here direction s point b v next good fine t st rule)
 comes homes plan ok n here ps cost (Aside direction tray) s point b v next is w own tidy range same
     good fine t st rule =
-    falls (sound_aside homes plan n here direction tray s point b v next good fine t st rule)
+    falls_through (sound_aside homes plan n here direction tray s point b v next good fine t st rule)
 comes homes plan ok n here ps cost (Tray tray) s point b v next is w own tidy range same good fine t
     st rule =
-    falls (sound_tray homes plan n here tray s point b v next good fine t st rule)
+    falls_through (sound_tray homes plan n here tray s point b v next good fine t st rule)
 comes homes plan ok n here ps cost (Jump label) s point b v next is w own tidy range same good fine
     t st rule =
     sent (sound_jump homes plan n here label s point b v next (λ pc f l. ok.eight n here is pc f l
@@ -114,7 +114,7 @@ comes homes plan ok n here ps cost (Down k label) s point b v next is w own tidy
     elim (sound_down homes plan n here k label s point b v next (λ pc f l. ok.eight n here is pc f l
     ∙ sym tidy.eight) (subst (λ m. k < m) (sym tidy.eight) range.0) good fine t st rule) [
       | inl
-          h ↦ falls h
+          h ↦ falls_through h
       | inr h ↦ sent h
     ]
 comes homes plan ok n here ps cost (Ask low high) s point b v next is w own tidy range same good

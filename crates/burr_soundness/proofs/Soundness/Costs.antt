@@ -5,27 +5,27 @@ use Rattle.std.proofs.lemmas.Int.{ints}
 use Rattle.std.proofs.lemmas.Option.{slice_get_within}
 use Rattle.burr_voxels.specs.declared.cell.Cell.{Cell}
 use Rattle.burr_code.specs.Instruction.{Instruction, Halt, Push, Load, Store, Add, Sub, Drop, Grip, Step, Aside, Tray, Jump, Down, Ask, Pick, Call, Ret}
-use Rattle.burr_forms.specs.Forms.{Point, value, values, one_less}
-use Rattle.burr_frames.specs.FramedPlans.{FramedProcedure, FramedPlan}
-use Rattle.burr_frames.specs.States.{AbstractState, IsPoint, Everywhere, state_of}
-use Rattle.burr_frames.specs.Verdicts.{Verdict}
-use Rattle.burr_frames.specs.Transfer.{Transfer}
-use Rattle.burr_frames.specs.Over.{IsTidy}
-use Rattle.burr_verify.specs.WellFramed.{Row, IsCut}
-use Rattle.burr_state.specs.Bench.{Activation}
+use Rattle.burr_forms.specs.Rules.Forms.{Point, value, values, one_less}
+use Rattle.burr_frames.specs.Rules.FramedPlans.{FramedProcedure, FramedPlan}
+use Rattle.burr_frames.specs.Rules.States.{AbstractState, IsPoint, Everywhere, state_of}
+use Rattle.burr_frames.specs.Rules.Verdicts.{Verdict}
+use Rattle.burr_frames.specs.Rules.Transfer.{Transfer}
+use Rattle.burr_frames.specs.Views.Over.{IsTidy}
+use Rattle.burr_verify.specs.Rules.WellFramed.{Annotated, IsCut}
+use Rattle.burr_state.specs.Rules.Bench.{Activation}
 use Rattle.burr_soundness.specs.Framing.{HasFraming}
 use Rattle.burr_soundness.specs.Invariant.{AllWait}
 use Rattle.burr_soundness.proofs.Soundness.CallRule.{call_holds}
 use Rattle.burr_verify.proofs.Common.FineVerdicts.{IsFine, held, found, held_everywhere, held_of_pairs, paid}
 use Rattle.burr_soundness.proofs.Soundness.Operands.{is_paid}
-use Rattle.burr_soundness.proofs.Soundness.CallSteps.{callee_is, cost_behind}
+use Rattle.burr_soundness.proofs.Soundness.CallSteps.{callee_is, cost_after}
 use Rattle.burr_soundness.proofs.Soundness.Judged.{judged, fine_falls}
 
 -- each state of each cut is over its own symbols
 abbrev pub AreTidy : List (List Cell) → FramedPlan → Type 0
 AreTidy homes plan =
-    (n : ℕ) (here : FramedProcedure) (rows : List Row) → slice_get plan.procedures n ≡ Some here
-    → IsCut homes plan n here rows → (k : ℕ) (row : Row) → slice_get rows k ≡ Some row
+    (n : ℕ) (here : FramedProcedure) (rows : List Annotated) → slice_get plan.procedures n ≡ Some here
+    → IsCut homes plan n here rows → (k : ℕ) (row : Annotated) → slice_get rows k ≡ Some row
     → IsTidy row.state
 
 -- Each instruction costs at least one
@@ -101,7 +101,7 @@ costs homes plan ok (suc fuel) n here is few (Call q) s v fine t point at =
     further n q fuel (length plan.procedures) callee.0 few in
     let of_callee =
     costs homes plan ok fuel q c.there callee.1 lower first.1.instruction first.1.state j.verdict
-    (fine_falls j.verdict j.out j.falls) j.transfer in
+    (fine_falls j.verdict j.out j.falls_through) j.transfer in
     let entry_point : IsPoint (state_of c.entry) (values point c.meets.forms) =
     (c.meets.agrees point at).is_point in
     let one : pos 1 ≤ℤ value (values point c.meets.forms) c.entry.cost =
@@ -109,7 +109,7 @@ costs homes plan ok (suc fuel) n here is few (Call q) s v fine t point at =
     (values point c.meets.forms) u.cost) first.4 (λ p. of_callee (values point c.meets.forms) p)
     entry_point in
     more_than (value point s.cost) (value (values point c.meets.forms) c.entry.cost) _
-    (cost_behind s.cost c.meets.forms c.entry.cost point) (c.enough point at) one
+    (cost_after s.cost c.meets.forms c.entry.cost point) (c.enough point at) one
   where
     further : (n q fuel l : ℕ) → n < q → l ≤ n + suc fuel → l ≤ q + fuel
     further n q fuel l lt le = omega arith

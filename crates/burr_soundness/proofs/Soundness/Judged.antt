@@ -5,32 +5,32 @@ use Rattle.std.specs.Prelude.{ℤ, pos, slice_get}
 use Rattle.std.proofs.lemmas.Option.{none-some, same_Some}
 use Rattle.burr_voxels.specs.declared.cell.Cell.{Cell}
 use Rattle.burr_code.specs.Instruction.{StandsAt}
-use Rattle.burr_frames.specs.FramedPlans.{FramedProcedure, FramedPlan}
-use Rattle.burr_frames.specs.States.{AbstractState}
-use Rattle.burr_frames.specs.Verdicts.{Verdict, Breaks, Falls, Leaves}
-use Rattle.burr_frames.specs.Transfer.{Transfer}
-use Rattle.burr_verify.specs.WellFramed.{Row, behind, Enters, FallsOut, Passes}
+use Rattle.burr_frames.specs.Rules.FramedPlans.{FramedProcedure, FramedPlan}
+use Rattle.burr_frames.specs.Rules.States.{AbstractState}
+use Rattle.burr_frames.specs.Rules.Verdicts.{Verdict, Breaks, FallsThrough, NoSuccessor}
+use Rattle.burr_frames.specs.Rules.Transfer.{Transfer}
+use Rattle.burr_verify.specs.Rules.WellFramed.{Annotated, after, Enters, FallsOut, IsCutFrom}
 use Rattle.burr_state.specs.declared.motion.Motion.{Motion}
 use Rattle.burr_state.specs.declared.trap.Trap.{Trap}
-use Rattle.burr_state.specs.Bench.{BenchState}
-use Rattle.burr_state.specs.Next.{Next, Goes, Asks, Traps}
+use Rattle.burr_state.specs.Rules.Bench.{BenchState}
+use Rattle.burr_state.specs.Rules.Next.{Next, Goes, Asks, Traps}
 use Rattle.burr_verify.proofs.Common.FineVerdicts.{IsFine}
 
 -- what the pass says of an instruction, and of the next
 pub record Judged (homes : List (List Cell)) (plan : FramedPlan) (n : ℕ) (here : FramedProcedure)
-    (rows : List Row) (k : ℕ) (row : Row) : Type 0 where
+    (rows : List Annotated) (k : ℕ) (row : Annotated) : Type 0 where
   pub stands_at : StandsAt here.code row.pc row.instruction
   pub verdict : Verdict
   pub out : Option AbstractState
   pub transfer : Transfer homes plan n here row.state row.instruction verdict
-  pub falls : FallsOut verdict out
-  pub next : (s : AbstractState) → out ≡ Some s → (next : Row)
-      × (slice_get rows (suc k) ≡ Some next) × (next.pc ≡ behind row) × Enters here (behind row)
+  pub falls_through : FallsOut verdict out
+  pub next : (s : AbstractState) → out ≡ Some s → (next : Annotated)
+      × (slice_get rows (suc k) ≡ Some next) × (next.pc ≡ after row) × Enters here (after row)
       (Some s) next.state
 
 pub judged : (homes : List (List Cell)) (plan : FramedPlan) (n : ℕ) (here : FramedProcedure)
-    (rows : List Row) (pc : ℕ) (falling : Option AbstractState) (k : ℕ) (row : Row)
-    → Passes homes plan n here pc falling rows → slice_get rows k ≡ Some row
+    (rows : List Annotated) (pc : ℕ) (falling : Option AbstractState) (k : ℕ) (row : Annotated)
+    → IsCutFrom homes plan n here pc falling rows → slice_get rows k ≡ Some row
     → Judged homes plan n here rows k row
 judged homes plan n here [] pc falling k row p e = absurd (none-some _ e)
 judged homes plan n here (first ∷ rows) pc falling zero row p e =
@@ -39,34 +39,34 @@ judged homes plan n here (first ∷ rows) pc falling zero row p e =
       verdict = p.3;
       out = p.4;
       transfer = p.5;
-      falls = p.6;
+      falls_through = p.6;
       next = λ s is. following rows p.7 s is;
     }
   where
-    following : (rows : List Row) → Passes homes plan n here (behind first) p.4 rows
-        → (s : AbstractState) → p.4 ≡ Some s → (next : Row) × (slice_get rows 0 ≡ Some next)
-        × (next.pc ≡ behind first) × Enters here (behind first) (Some s) next.state
+    following : (rows : List Annotated) → IsCutFrom homes plan n here (after first) p.4 rows
+        → (s : AbstractState) → p.4 ≡ Some s → (next : Annotated) × (slice_get rows 0 ≡ Some next)
+        × (next.pc ≡ after first) × Enters here (after first) (Some s) next.state
     following [] q s is = absurd (none-some _ (sym q.1 ∙ is))
     following (next ∷ rest) q s is =
-        (next, refl, q.0, subst (λ o. Enters here (behind first) o next.state) is q.2)
+        (next, refl, q.0, subst (λ o. Enters here (after first) o next.state) is q.2)
 judged homes plan n here (first ∷ rows) pc falling (suc k) row p e =
-    let j = judged homes plan n here rows (behind first) p.4 k row p.7 e in
+    let j = judged homes plan n here rows (after first) p.4 k row p.7 e in
     record {
       stands_at = j.stands_at;
       verdict = j.verdict;
       out = j.out;
       transfer = j.transfer;
-      falls = j.falls;
+      falls_through = j.falls_through;
       next = j.next;
     }
 
 pub fine_falls : (v : Verdict) (out : Option AbstractState) → FallsOut v out → IsFine v
 fine_falls (Breaks b) out h = h
-fine_falls (Falls s) out h = tt
-fine_falls Leaves out h = tt
+fine_falls (FallsThrough s) out h = tt
+fine_falls NoSuccessor out h = tt
 
 pub falls_out : (v : Verdict) (out : Option AbstractState) (s : AbstractState) → FallsOut v out
-    → v ≡ Falls s → out ≡ Some s
+    → v ≡ FallsThrough s → out ≡ Some s
 falls_out v out s h e = subst (λ v. FallsOut v out) e h
 
 pub same_goes : (a b : BenchState) (m n : Option Motion) → Goes a m ≡ Goes b n → a ≡ b

@@ -1,14 +1,14 @@
--- Where the bench lands behind a step, the invariant holds.
+-- Where the bench lands after a step, the invariant holds.
 use Rattle.std.proofs.Common.{◌≡◌, ℕ, suc, ◌+◌, List, ◌∷◌, length, Some, refl, sym, subst, ap, ◌∙◌, arith}
 use Rattle.std.specs.Prelude.{pos, ◌+ℤ◌, ◌≤ℤ◌, slice_get}
 use Rattle.burr_voxels.specs.declared.cell.Cell.{Cell}
 use Rattle.burr_code.specs.Instruction.{spelled}
-use Rattle.burr_forms.specs.Forms.{value}
-use Rattle.burr_frames.specs.FramedPlans.{FramedPlan}
-use Rattle.burr_frames.specs.States.{AbstractState}
-use Rattle.burr_verify.specs.WellFramed.{behind, Enters, IsCut}
-use Rattle.burr_state.specs.Bench.{BenchState, Activation}
-use Rattle.burr_state.specs.Next.{Next}
+use Rattle.burr_forms.specs.Rules.Forms.{value}
+use Rattle.burr_frames.specs.Rules.FramedPlans.{FramedPlan}
+use Rattle.burr_frames.specs.Rules.States.{AbstractState}
+use Rattle.burr_verify.specs.Rules.WellFramed.{after, Enters, IsCut}
+use Rattle.burr_state.specs.Rules.Bench.{BenchState, Activation}
+use Rattle.burr_state.specs.Rules.Next.{Next}
 use Rattle.burr_soundness.specs.Framing.{HasFraming}
 use Rattle.burr_soundness.specs.Standing.{Stands}
 use Rattle.burr_soundness.proofs.Soundness.StepOutcomes.{FallsOn, SentOn}
@@ -25,21 +25,21 @@ pub running_cost : (homes : List (List Cell)) (plan : FramedPlan) → HasFraming
     → pos 1 ≤ℤ value safe.point safe.row.state.cost
 running_cost homes plan ok b safe j =
     costs homes plan ok (length plan.procedures) b.running.procedure safe.here safe.here_is
-    (omega arith) safe.row.instruction safe.row.state j.verdict (fine_falls j.verdict j.out j.falls)
+    (omega arith) safe.row.instruction safe.row.state j.verdict (fine_falls j.verdict j.out j.falls_through)
     j.transfer safe.point safe.stands.running.is_point
 
-pub land_behind : (homes : List (List Cell)) (plan : FramedPlan) → HasFraming homes plan
+pub land_after : (homes : List (List Cell)) (plan : FramedPlan) → HasFraming homes plan
     → AreTidy homes plan → (b : BenchState) (safe : IsSafeState homes plan b)
     (j : Judged homes plan b.running.procedure safe.here safe.rows safe.k safe.row) (next : Next)
     (f : FallsOn homes safe.here safe.row.instruction safe.row.state safe.point b j.verdict next)
     → IsSafeState homes plan f.new
-land_behind homes plan ok tidy b safe j next f =
-    let n = j.next f.state (falls_out j.verdict j.out f.state j.falls f.verdict_is) in
+land_after homes plan ok tidy b safe j next f =
+    let n = j.next f.state (falls_out j.verdict j.out f.state j.falls_through f.verdict_is) in
     let t =
     tidy b.running.procedure safe.here safe.rows safe.here_is safe.cut safe.k safe.row
     safe.row_is in
     let e =
-    entered safe.here (behind safe.row) f.state n.0.state f.there f.new
+    entered safe.here (after safe.row) f.state n.0.state f.there f.new
     (λ pc g l. ok.eight b.running.procedure safe.here safe.here_is pc g l
     ∙ sym (f.slots_kept ∙ t.eight)) n.3 f.stands in
     record {
@@ -120,13 +120,13 @@ pub land_in_callee : (homes : List (List Cell)) (plan : FramedPlan) → HasFrami
       operands = f.below;
     } → IsSafeState homes plan f.new
 land_in_callee homes plan ok tidy b safe j q next f caller_is =
-    let n = j.next f.state (falls_out j.verdict j.out f.state j.falls f.verdict_is) in
+    let n = j.next f.state (falls_out j.verdict j.out f.state j.falls_through f.verdict_is) in
     let t =
     tidy b.running.procedure safe.here safe.rows safe.here_is safe.cut safe.k safe.row
     safe.row_is in
     let rows = ok.cut q f.there f.there_is in
     let at = rows.1.labels 0 f.entry (ok.entry q f.there f.entry f.there_is f.entry_is).0 in
-    let pc_is : (caller_of b q f.below).pc ≡ behind safe.row =
+    let pc_is : (caller_of b q f.below).pc ≡ after safe.row =
     ap (λ (a : Activation). a.pc) caller_is ∙ ap (λ m. m + length (spelled safe.row.instruction))
     safe.pc in
     let w : Waits homes plan f.there f.parameters (caller_of b q f.below) = record {

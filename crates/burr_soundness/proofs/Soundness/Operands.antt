@@ -8,15 +8,15 @@ use native.Mathlib.Decide.{ℕ_discrete}
 use Rattle.burr_voxels.specs.declared.cell.Cell.{Cell}
 use Rattle.burr_code.specs.Instruction.{IsInNumberRange, Instruction, Push, Load, Store, Add, Sub, Drop}
 use Rattle.burr_code.specs.Stacks.{top, top_two}
-use Rattle.burr_forms.specs.Forms.{Form, Point, value, values, number, one_less}
-use Rattle.burr_frames.specs.FramedPlans.{FramedProcedure, FramedPlan}
-use Rattle.burr_frames.specs.States.{AbstractState, IsPoint}
-use Rattle.burr_frames.specs.Verdicts.{Verdict}
-use Rattle.burr_frames.specs.Transfer.{Transfer}
-use Rattle.burr_state.specs.Bench.{BenchState, Setup}
-use Rattle.burr_state.specs.Next.{Next, after}
-use Rattle.burr_state.specs.Step.{Executes}
-use Rattle.burr_state.specs.Numbers.{HasRoom, with_operands}
+use Rattle.burr_forms.specs.Rules.Forms.{Form, Point, value, values, number, one_less}
+use Rattle.burr_frames.specs.Rules.FramedPlans.{FramedProcedure, FramedPlan}
+use Rattle.burr_frames.specs.Rules.States.{AbstractState, IsPoint}
+use Rattle.burr_frames.specs.Rules.Verdicts.{Verdict}
+use Rattle.burr_frames.specs.Rules.Transfer.{Transfer}
+use Rattle.burr_state.specs.Rules.Bench.{BenchState, Setup}
+use Rattle.burr_state.specs.Rules.Next.{Next, after}
+use Rattle.burr_state.specs.Rules.Step.{Executes}
+use Rattle.burr_state.specs.Rules.Numbers.{HasRoom, with_operands}
 use Rattle.burr_soundness.specs.Framing.{bench_part}
 use Rattle.burr_soundness.specs.Standing.{Stands}
 use Rattle.burr_soundness.proofs.Soundness.StepOutcomes.{FallsOn, IsPaid}

@@ -8,18 +8,18 @@ use Rattle.burr_code.specs.Instruction.{Grip, Tray, Halt, Pick}
 use Rattle.burr_code.specs.Labels.{labelled, with_first}
 use Rattle.burr_code.proofs.Common.Labels.{with_first_is}
 use Rattle.burr_code.proofs.Common.PieceSets.{no_bit}
-use Rattle.burr_forms.specs.Forms.{Point, one_less}
-use Rattle.burr_container.specs.Plans.{FormCell, Frame}
-use Rattle.burr_frames.specs.FramedPlans.{FramedProcedure, FramedPlan}
-use Rattle.burr_frames.specs.States.{AbstractState, cell_at, places_at}
-use Rattle.burr_frames.specs.Arrival.{Arrives}
-use Rattle.burr_frames.specs.Verdicts.{Verdict, Leaves, arriving_at_all}
-use Rattle.burr_frames.specs.Transfer.{Transfer}
-use Rattle.burr_verify.specs.WellFramed.{IsLabelled}
-use Rattle.burr_state.specs.Bench.{BenchState}
-use Rattle.burr_state.specs.Next.{Next, Goes, Asks, at_label}
-use Rattle.burr_state.specs.Step.{Executes}
-use Rattle.burr_state.specs.Questions.{Takes}
+use Rattle.burr_forms.specs.Rules.Forms.{Point, one_less}
+use Rattle.burr_container.specs.Rules.Plans.{FormCell, Frame}
+use Rattle.burr_frames.specs.Rules.FramedPlans.{FramedProcedure, FramedPlan}
+use Rattle.burr_frames.specs.Rules.States.{AbstractState, cell_at, places_at}
+use Rattle.burr_frames.specs.Rules.Arrival.{Arrives}
+use Rattle.burr_frames.specs.Rules.Verdicts.{Verdict, NoSuccessor, arriving_at_all}
+use Rattle.burr_frames.specs.Rules.Transfer.{Transfer}
+use Rattle.burr_verify.specs.Rules.WellFramed.{IsLabelled}
+use Rattle.burr_state.specs.Rules.Bench.{BenchState}
+use Rattle.burr_state.specs.Rules.Next.{Next, Goes, Asks, at_label}
+use Rattle.burr_state.specs.Rules.Step.{Executes}
+use Rattle.burr_state.specs.Rules.Questions.{Takes}
 use Rattle.burr_soundness.specs.Framing.{bench_part, framed_setup}
 use Rattle.burr_soundness.specs.Standing.{Stands}
 use Rattle.burr_soundness.proofs.Soundness.StepOutcomes.{FallsOn, SentOn, EndsOn}
@@ -145,7 +145,7 @@ sound_halt homes plan n here s point b v next same fine t st rule =
 -- Pick
 
 arrived_all : (s : AbstractState) (to : List (ℕ × Frame)) (v : Verdict) → IsFine v
-    → arriving_at_all s to (λ v. v ≡ Leaves) v → (i : ℕ) (l : ℕ × Frame) → slice_get to i ≡ Some l
+    → arriving_at_all s to (λ v. v ≡ NoSuccessor) v → (i : ℕ) (l : ℕ × Frame) → slice_get to i ≡ Some l
     → Arrives s l.1
 arrived_all s [] v fine p i l e = absurd (none-some _ e)
 arrived_all s (first ∷ to) v fine p zero l e =

@@ -6,12 +6,12 @@ use Rattle.std.proofs.lemmas.Option.{none-some, same_Some}
 use Rattle.std.proofs.Math.IntN.{*ℤ-zero}
 use Rattle.burr_voxels.specs.declared.direction.Direction.{Direction}
 use Rattle.burr_code.specs.Places.{Placement, Apart, On, at_position, changed, to_tray, is_in, count_in, parted, parted_in, aside_places}
-use Rattle.burr_forms.specs.Forms.{Form, number, symbol, sum_of, plus_form, times, minus_form, combined, substituted}
-use Rattle.burr_container.specs.Plans.{FormCell}
-use Rattle.burr_frames.specs.States.{live_ranges, numbered}
-use Rattle.burr_frames.specs.SpaceRules.{moved_forms, moved}
-use Rattle.burr_frames.specs.ControlRules.{substituted_places, symbols_from}
-use Rattle.burr_frames.specs.Over.{AllZero, ZeroFrom, IsOver, AllOver, AllPlacesOver}
+use Rattle.burr_forms.specs.Rules.Forms.{Form, number, symbol, sum_of, plus_form, times, minus_form, combined, substituted}
+use Rattle.burr_container.specs.Rules.Plans.{FormCell}
+use Rattle.burr_frames.specs.Rules.States.{live_ranges, numbered}
+use Rattle.burr_frames.specs.Rules.SpaceRules.{moved_forms, moved}
+use Rattle.burr_frames.specs.Rules.ControlRules.{substituted_places, symbols_from}
+use Rattle.burr_frames.specs.Views.Over.{AllZero, ZeroFrom, IsWellScoped, AllOver, AllPlacesOver}
 
 -- Coefficients
 
@@ -52,26 +52,26 @@ from_symbol (suc n) k = from_symbol n k
 
 -- Forms
 
-pub over_more : (n m : ℕ) (f : Form) → n ≤ m → IsOver n f → IsOver m f
+pub over_more : (n m : ℕ) (f : Form) → n ≤ m → IsWellScoped n f → IsWellScoped m f
 over_more n m f le h = from_more n m f.coefs le h
 
-pub over_number : (n : ℕ) (x : ℤ) → IsOver n (number x)
+pub over_number : (n : ℕ) (x : ℤ) → IsWellScoped n (number x)
 over_number n x = zeros_from n (replicate 8 (pos 0)) (all_zero 8)
 
-pub over_symbol : (n : ℕ) → IsOver (suc n) (symbol n)
+pub over_symbol : (n : ℕ) → IsWellScoped (suc n) (symbol n)
 over_symbol n = from_symbol n (7 - n)
 
-pub over_plus : (n : ℕ) (f g : Form) → IsOver n f → IsOver n g → IsOver n (plus_form f g)
+pub over_plus : (n : ℕ) (f g : Form) → IsWellScoped n f → IsWellScoped n g → IsWellScoped n (plus_form f g)
 over_plus n f g h k = from_sum n f.coefs g.coefs h k
 
-pub over_times : (n : ℕ) (k : ℤ) (f : Form) → IsOver n f → IsOver n (times k f)
+pub over_times : (n : ℕ) (k : ℤ) (f : Form) → IsWellScoped n f → IsWellScoped n (times k f)
 over_times n k f h = from_times n k f.coefs h
 
-pub over_minus : (n : ℕ) (f g : Form) → IsOver n f → IsOver n g → IsOver n (minus_form f g)
+pub over_minus : (n : ℕ) (f g : Form) → IsWellScoped n f → IsWellScoped n g → IsWellScoped n (minus_form f g)
 over_minus n f g h k = over_plus n f (times (neg_ℤ (pos 1)) g) h (over_times n (neg_ℤ (pos 1)) g k)
 
 over_combined : (n : ℕ) (coefs : List ℤ) (arguments : List Form) → AllOver n arguments
-    → IsOver n (combined coefs arguments)
+    → IsWellScoped n (combined coefs arguments)
 over_combined n [] arguments h = over_number n (pos 0)
 over_combined n (c ∷ coefs) [] h = over_number n (pos 0)
 over_combined n (c ∷ coefs) (a ∷ arguments) h =
@@ -79,7 +79,7 @@ over_combined n (c ∷ coefs) (a ∷ arguments) h =
     (over_combined n coefs arguments h.1)
 
 pub over_substituted : (n : ℕ) (arguments : List Form) (f : Form) → AllOver n arguments
-    → IsOver n (substituted arguments f)
+    → IsWellScoped n (substituted arguments f)
 over_substituted n arguments f h = over_combined n f.coefs arguments h
 
 -- Lists of forms
@@ -109,12 +109,12 @@ all_symbols n (suc r) m le = (
 -- Slots of a frame
 
 pub numbered_over : (j m : ℕ) (slots : List (Option (ℤ × ℤ))) → j + length (live_ranges slots) ≤ m
-    → (k : ℕ) (f : Form) → get_or (numbered j slots) k None ≡ Some f → IsOver m f
+    → (k : ℕ) (f : Form) → get_or (numbered j slots) k None ≡ Some f → IsWellScoped m f
 numbered_over j m [] le k f e = absurd (none-some _ e)
 numbered_over j m (None ∷ slots) le zero f e = absurd (none-some _ e)
 numbered_over j m (None ∷ slots) le (suc k) f e = numbered_over j m slots le k f e
 numbered_over j m (Some range ∷ slots) le zero f e =
-    subst (λ (g : Form). IsOver m g) (same_Some _ _ e) (over_more (suc j) m (symbol j) (omega arith)
+    subst (λ (g : Form). IsWellScoped m g) (same_Some _ _ e) (over_more (suc j) m (symbol j) (omega arith)
     (over_symbol j))
 numbered_over j m (Some range ∷ slots) le (suc k) f e =
     numbered_over (suc j) m slots (omega arith) k f e
@@ -129,7 +129,7 @@ numbered_length j (Some range ∷ slots) = ap suc (numbered_length (suc j) slots
 
 abbrev IsPlaceOver : ℕ → Placement FormCell → Type 0
 IsPlaceOver n Apart = Unit {0}
-IsPlaceOver n (On tray c) = IsOver n c.x × IsOver n c.y × IsOver n c.z
+IsPlaceOver n (On tray c) = IsWellScoped n c.x × IsWellScoped n c.y × IsWellScoped n c.z
 
 first_over : (n : ℕ) (place : Placement FormCell) (places : List (Placement FormCell))
     → AllPlacesOver n (place ∷ places) → IsPlaceOver n place × AllPlacesOver n places

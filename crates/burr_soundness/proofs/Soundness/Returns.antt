@@ -1,4 +1,4 @@
--- A return: the caller stands for its state behind the call.
+-- A return: the caller stands for its state after the call.
 use Rattle.std.proofs.Common.{◌≡◌, ℕ, zero, suc, ◌+◌, ◌-◌, ◌^◌, ◌<◌, List, [], ◌∷◌, ◌++◌, length, Option, Some, None, Bool, true, false, refl, sym, subst, ap, ◌∙◌, arith, inl, inr}
 use Rattle.std.specs.Prelude.{ℤ, pos, ◌≤ℤ◌, min, map, take, drop, reverse, replicate, slice_get, get_or, nat_le, if◌then◌else◌}
 use Rattle.std.proofs.lemmas.Int.{ints}
@@ -9,19 +9,19 @@ use Rattle.burr_voxels.specs.declared.cell.Cell.{Cell}
 use Rattle.burr_code.specs.Instruction.{Ret}
 use Rattle.burr_code.specs.Stacks.{top, top_many, split_at}
 use Rattle.burr_code.proofs.Common.Labels.{with_first_is}
-use Rattle.burr_forms.specs.Forms.{Form, Point, value, values, one_less}
-use Rattle.burr_forms.specs.Points.{GuardsHold}
-use Rattle.burr_container.specs.Plans.{Frame}
-use Rattle.burr_frames.specs.FramedPlans.{FramedExit, FramedProcedure, FramedPlan}
-use Rattle.burr_frames.specs.States.{AbstractState, places_at}
-use Rattle.burr_frames.specs.Arrival.{live_forms}
-use Rattle.burr_frames.specs.Verdicts.{Verdict}
-use Rattle.burr_frames.specs.Transfer.{Transfer}
-use Rattle.burr_frames.specs.ControlRules.{first_forms}
-use Rattle.burr_verify.specs.WellFramed.{IsLabelled, Enters}
-use Rattle.burr_state.specs.Bench.{BenchState, Activation}
-use Rattle.burr_state.specs.Next.{Next, Goes}
-use Rattle.burr_state.specs.Step.{Executes}
+use Rattle.burr_forms.specs.Rules.Forms.{Form, Point, value, values, one_less}
+use Rattle.burr_forms.specs.Rules.Points.{GuardsHold}
+use Rattle.burr_container.specs.Rules.Plans.{Frame}
+use Rattle.burr_frames.specs.Rules.FramedPlans.{FramedExit, FramedProcedure, FramedPlan}
+use Rattle.burr_frames.specs.Rules.States.{AbstractState, places_at}
+use Rattle.burr_frames.specs.Rules.Arrival.{live_forms}
+use Rattle.burr_frames.specs.Rules.Verdicts.{Verdict}
+use Rattle.burr_frames.specs.Rules.Transfer.{Transfer}
+use Rattle.burr_frames.specs.Rules.ControlRules.{first_forms}
+use Rattle.burr_verify.specs.Rules.WellFramed.{IsLabelled, Enters}
+use Rattle.burr_state.specs.Rules.Bench.{BenchState, Activation}
+use Rattle.burr_state.specs.Rules.Next.{Next, Goes}
+use Rattle.burr_state.specs.Rules.Step.{Executes}
 use Rattle.burr_soundness.specs.Framing.{bench_part, framed_setup}
 use Rattle.burr_soundness.specs.Standing.{Stands}
 use Rattle.burr_soundness.specs.Invariant.{IsGood, HasParameters, IsAdmitted, Waits}
@@ -122,7 +122,7 @@ parameters_from (suc m) (form ∷ forms) fs point (slot ∷ slots) (p ∷ parame
 
 -- Returning to the caller
 
--- the bench returns to its caller, and stands for the caller's state behind the call
+-- the bench returns to its caller, and stands for the caller's state after the call
 pub record ReturnsTo (homes : List (List Cell)) (plan : FramedPlan) (here : FramedProcedure)
     (parameters : List ℤ) (caller : Activation) (callers : List Activation)
     (waits : Waits homes plan here parameters caller) (b : BenchState) (next : Next) : Type 0 where

@@ -1,6 +1,6 @@
 -- The soundness of the verifier.
 use Rattle.std.proofs.Common.{ℕ, ◌<◌, ◌^◌, ◌-◌, refl, arith, inl}
-use Rattle.burr_state.specs.Bench.{start}
+use Rattle.burr_state.specs.Rules.Bench.{start}
 use Rattle.burr_soundness.specs.Framing.{framed_setup}
 use Rattle.burr_soundness.specs.Invariant.{IsSafeState}
 use Rattle.burr_soundness.specs.Soundness.{VerifierIsSound, AcceptedHasRuns}

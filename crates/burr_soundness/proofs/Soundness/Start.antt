@@ -7,18 +7,18 @@ use Rattle.std.proofs.lemmas.Option.{none-some, same_Some}
 use Rattle.burr_voxels.specs.declared.cell.Cell.{Cell}
 use Rattle.burr_voxels.specs.Grid.{origin}
 use Rattle.burr_code.specs.Places.{Placement, On}
-use Rattle.burr_forms.specs.Forms.{Form, value, values}
-use Rattle.burr_container.specs.Plans.{Range, Frame}
-use Rattle.burr_frames.specs.FramedPlans.{FramedPlan}
-use Rattle.burr_frames.specs.States.{AbstractState, places_at}
-use Rattle.burr_frames.specs.Arrival.{live_forms}
-use Rattle.burr_frames.specs.Starts.{home_position, start_state}
-use Rattle.burr_verify.specs.WellFramed.{IsWellFramed}
-use Rattle.burr_verify.specs.FromContainers.{IsFromContainer}
+use Rattle.burr_forms.specs.Rules.Forms.{Form, value, values}
+use Rattle.burr_container.specs.Rules.Plans.{Range, Frame}
+use Rattle.burr_frames.specs.Rules.FramedPlans.{FramedPlan}
+use Rattle.burr_frames.specs.Rules.States.{AbstractState, places_at}
+use Rattle.burr_frames.specs.Rules.Arrival.{live_forms}
+use Rattle.burr_frames.specs.Rules.Starts.{home_position, start_state}
+use Rattle.burr_verify.specs.Rules.WellFramed.{IsWellFramed}
+use Rattle.burr_verify.specs.Views.FromContainers.{IsFromContainer}
 use Rattle.burr_verify.proofs.Common.FromContainers.{entry_stands}
-use Rattle.burr_state.specs.Bench.{BenchState, Setup, start}
-use Rattle.burr_state.specs.RunLaws.{begun}
-use Rattle.burr_state.specs.SpaceLaws.{AreDisjoint, IsReached}
+use Rattle.burr_state.specs.Rules.Bench.{BenchState, Setup, start}
+use Rattle.burr_state.specs.Laws.RunLaws.{begun}
+use Rattle.burr_state.specs.Laws.SpaceLaws.{AreDisjoint, IsReached}
 use Rattle.burr_soundness.specs.Framing.{framed_setup, HasFraming}
 use Rattle.burr_soundness.specs.Standing.{Stands}
 use Rattle.burr_soundness.specs.Invariant.{IsGood, IsSafeState}

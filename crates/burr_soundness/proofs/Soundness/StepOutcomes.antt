@@ -3,24 +3,24 @@ use Rattle.std.specs.Prelude.{◌≡◌, ◌⊎◌, ℕ, ◌+◌, ◌-◌, ◌^�
 use Rattle.burr_voxels.specs.declared.cell.Cell.{Cell}
 use Rattle.burr_code.specs.Places.{AllApart}
 use Rattle.burr_code.specs.Instruction.{Instruction, spelled}
-use Rattle.burr_forms.specs.Forms.{Point, value}
-use Rattle.burr_container.specs.Plans.{Frame}
-use Rattle.burr_frames.specs.FramedPlans.{FramedProcedure}
-use Rattle.burr_frames.specs.States.{AbstractState, state_of}
-use Rattle.burr_frames.specs.Verdicts.{Verdict, Falls}
-use Rattle.burr_verify.specs.WellFramed.{IsLabelled}
+use Rattle.burr_forms.specs.Rules.Forms.{Point, value}
+use Rattle.burr_container.specs.Rules.Plans.{Frame}
+use Rattle.burr_frames.specs.Rules.FramedPlans.{FramedProcedure}
+use Rattle.burr_frames.specs.Rules.States.{AbstractState, state_of}
+use Rattle.burr_frames.specs.Rules.Verdicts.{Verdict, FallsThrough}
+use Rattle.burr_verify.specs.Rules.WellFramed.{IsLabelled}
 use Rattle.burr_state.specs.declared.mode.Mode.TheVariants.{Running, Ended}
 use Rattle.burr_state.specs.declared.motion.Motion.{Motion}
 use Rattle.burr_state.specs.declared.trap.Trap.{Trap}
-use Rattle.burr_state.specs.Bench.{BenchState, Setup}
-use Rattle.burr_state.specs.Next.{Next, Goes, Traps}
-use Rattle.burr_state.specs.Step.{NextIs, TakesAnswer}
+use Rattle.burr_state.specs.Rules.Bench.{BenchState, Setup}
+use Rattle.burr_state.specs.Rules.Next.{Next, Goes, Traps}
+use Rattle.burr_state.specs.Rules.Step.{NextIs, TakesAnswer}
 use Rattle.burr_soundness.specs.Standing.{Stands}
 use Rattle.burr_soundness.specs.Invariant.{IsGood}
 use Rattle.burr_soundness.specs.SafeRuns.{HasEnded}
 
--- the step was made, and control went on behind the instruction
-pub record IsBehind (i : Instruction) (b new : BenchState) : Type 0 where
+-- the step was made, and control went on after the instruction
+pub record IsAfter (i : Instruction) (b new : BenchState) : Type 0 where
   pub procedure : new.running.procedure ≡ b.running.procedure
   pub pc : new.running.pc ≡ b.running.pc + length (spelled i)
   pub callers : new.callers ≡ b.callers
@@ -46,12 +46,12 @@ pub record FallsOn (homes : List (List Cell)) (here : FramedProcedure) (i : Inst
   pub motion : Option Motion
   pub next_is : next ≡ Goes new motion
   pub state : AbstractState
-  pub verdict_is : verdict ≡ Falls state
+  pub verdict_is : verdict ≡ FallsThrough state
   pub there : Point
   pub stands : Stands state there new
   pub slots_kept : length state.slots ≡ length s.slots
   pub paid : IsPaid s point state there
-  pub control : IsBehind i b new
+  pub control : IsAfter i b new
   pub kept : ParametersStay here b new
   pub good : IsGood homes new.places new.tray new.grip
 

@@ -5,11 +5,11 @@ use Rattle.std.proofs.lemmas.List.Elements.{All-nil, All-cons, All-head, All-tai
 use Rattle.burr_voxels.specs.declared.cell.Cell.{Cell}
 use Rattle.burr_voxels.proofs.Common.Ahead.{same_cell}
 use Rattle.burr_code.specs.Places.{Placement, Apart, On}
-use Rattle.burr_forms.specs.Forms.{Form, Point, value, values, substituted}
-use Rattle.burr_forms.specs.Points.{GuardsHold}
-use Rattle.burr_container.specs.Plans.{FormCell}
-use Rattle.burr_frames.specs.States.{cell_at, places_at}
-use Rattle.burr_frames.specs.ControlRules.{substituted_cell, substituted_places, symbols_from}
+use Rattle.burr_forms.specs.Rules.Forms.{Form, Point, value, values, substituted}
+use Rattle.burr_forms.specs.Rules.Points.{GuardsHold}
+use Rattle.burr_container.specs.Rules.Plans.{FormCell}
+use Rattle.burr_frames.specs.Rules.States.{cell_at, places_at}
+use Rattle.burr_frames.specs.Rules.ControlRules.{substituted_cell, substituted_places, symbols_from}
 use Rattle.burr_verify.proofs.Common.FormValues.{value_substituted}
 use Rattle.burr_soundness.proofs.Soundness.Values.{value_symbol}
 
@@ -39,13 +39,13 @@ guards_substituted arguments (g ∷ guards) point h =
     (guards_substituted arguments guards point
     (All-tail (λ (f : Form). pos 0 ≤ℤ value (values point arguments) f) g guards h))
 
-pub symbols_are : (n : ℕ) (before results : Point) (behind : Point) → length before ≡ n
-    → values (before ++ (results ++ behind)) (symbols_from n (length results)) ≡ results
-symbols_are n before [] behind len = refl
-symbols_are n before (x ∷ results) behind len =
-    ap (λ y. y ∷ values (before ++ (x ∷ (results ++ behind)))
-    (symbols_from (suc n) (length results))) (value_symbol n before x (results ++ behind) len)
+pub symbols_are : (n : ℕ) (before results : Point) (after : Point) → length before ≡ n
+    → values (before ++ (results ++ after)) (symbols_from n (length results)) ≡ results
+symbols_are n before [] after len = refl
+symbols_are n before (x ∷ results) after len =
+    ap (λ y. y ∷ values (before ++ (x ∷ (results ++ after)))
+    (symbols_from (suc n) (length results))) (value_symbol n before x (results ++ after) len)
     ∙ ap (λ ys. x ∷ ys) (ap (λ p. values p (symbols_from (suc n) (length results)))
-    (sym (append_assoc before (x ∷ []) (results ++ behind))) ∙ symbols_are (suc n)
-    (before ++ x ∷ []) results behind (length-append before (x ∷ [])
+    (sym (append_assoc before (x ∷ []) (results ++ after))) ∙ symbols_are (suc n)
+    (before ++ x ∷ []) results after (length-append before (x ∷ [])
     ∙ (let l = len in omega arith)))

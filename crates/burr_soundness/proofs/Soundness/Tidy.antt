@@ -5,11 +5,11 @@ use Rattle.std.proofs.lemmas.List.Elements.{All-nil, All-cons, All-head, All-tai
 use Rattle.burr_voxels.specs.declared.cell.Cell.{Cell}
 use Rattle.burr_voxels.proofs.Common.Ahead.{same_cell}
 use Rattle.burr_code.specs.Places.{Placement, Apart, On}
-use Rattle.burr_forms.specs.Forms.{Form, Point, value, values}
-use Rattle.burr_forms.specs.Points.{InBox, GuardsHold}
-use Rattle.burr_container.specs.Plans.{FormCell}
-use Rattle.burr_frames.specs.States.{cell_at, places_at}
-use Rattle.burr_frames.specs.Over.{AllOver, AllPlacesOver}
+use Rattle.burr_forms.specs.Rules.Forms.{Form, Point, value, values}
+use Rattle.burr_forms.specs.Rules.Points.{InBox, GuardsHold}
+use Rattle.burr_container.specs.Rules.Plans.{FormCell}
+use Rattle.burr_frames.specs.Rules.States.{cell_at, places_at}
+use Rattle.burr_frames.specs.Views.Over.{AllOver, AllPlacesOver}
 use Rattle.burr_soundness.proofs.Soundness.Values.{value_more}
 
 pub box_length : (ranges : List (ℤ × ℤ)) (point : Point) → InBox ranges point

@@ -12,22 +12,22 @@ use Rattle.burr_voxels.specs.Near.{IsWithin}
 use Rattle.burr_code.specs.Places.{Placement, Apart, On, LiesAt, AllLieIn, AllApart, IsPartOfTray, IsEmptyTray, count_in}
 use Rattle.burr_code.specs.Instruction.{Grip, Aside, Halt, StandsAt}
 use Rattle.burr_code.proofs.Common.PieceSets.{no_bit, no_bit_from_set}
-use Rattle.burr_forms.specs.Forms.{Form, Point, number, value, one_less, IsSmall, AllSmall, IsSmallForm}
-use Rattle.burr_forms.specs.Points.{box_size}
-use Rattle.burr_container.specs.Plans.{FormCell, Range, Frame}
-use Rattle.burr_frames.specs.FramedPlans.{FramedProcedure, FramedPlan}
-use Rattle.burr_frames.specs.States.{AbstractState, IsPoint, state_of, cell_at, places_at, live_ranges}
-use Rattle.burr_frames.specs.Arrival.{Meets}
-use Rattle.burr_frames.specs.Verdicts.{Falls, Leaves}
-use Rattle.burr_frames.specs.SpaceRules.{GoesFree, OnBenchAt, PairAt}
-use Rattle.burr_frames.specs.Transfer.{Transfer}
-use Rattle.burr_frames.specs.Over.{IsOver, IsOverItsOwn}
+use Rattle.burr_forms.specs.Rules.Forms.{Form, Point, number, value, one_less, IsSmall, AllSmall, IsSmallForm}
+use Rattle.burr_forms.specs.Rules.Points.{box_size}
+use Rattle.burr_container.specs.Rules.Plans.{FormCell, Range, Frame}
+use Rattle.burr_frames.specs.Rules.FramedPlans.{FramedProcedure, FramedPlan}
+use Rattle.burr_frames.specs.Rules.States.{AbstractState, IsPoint, state_of, cell_at, places_at, live_ranges}
+use Rattle.burr_frames.specs.Rules.Arrival.{Meets}
+use Rattle.burr_frames.specs.Rules.Verdicts.{FallsThrough, NoSuccessor}
+use Rattle.burr_frames.specs.Rules.SpaceRules.{GoesFree, OnBenchAt, PairAt}
+use Rattle.burr_frames.specs.Rules.Transfer.{Transfer}
+use Rattle.burr_frames.specs.Views.Over.{IsWellScoped, IsWellScopedFrame}
 use Rattle.burr_code.proofs.Common.Conditions.{same_tray, same_position}
-use Rattle.burr_frames.specs.Starts.{home_position, start_state}
-use Rattle.burr_verify.specs.WellFramed.{Row, IsLabelled, HasNoLabel, IsBefore, IsCut, IsFormed, IsFormedEntry, IsFramedProcedure, IsWellFramed}
-use Rattle.burr_verify.specs.Pass.{IsLaidOut}
-use Rattle.burr_verify.specs.FromContainers.{IsFromContainer}
-use Rattle.burr_state.specs.SpaceLaws.{AreDisjoint}
+use Rattle.burr_frames.specs.Rules.Starts.{home_position, start_state}
+use Rattle.burr_verify.specs.Rules.WellFramed.{Annotated, IsLabelled, HasNoLabel, IsBefore, IsCut, IsFormed, IsFormedEntry, IsFramedProcedure, IsWellFramed}
+use Rattle.burr_verify.specs.Rules.Pass.{IsLaidOut}
+use Rattle.burr_verify.specs.Views.FromContainers.{IsFromContainer}
+use Rattle.burr_state.specs.Laws.SpaceLaws.{AreDisjoint}
 use Rattle.burr_soundness.specs.Soundness.{RunsSafely, HasRuns}
 use Rattle.burr_state.proofs.Common.TwoCubes.{homes}
 use Rattle.burr_soundness.proofs.Soundness.Overs.{over_number}
@@ -81,7 +81,7 @@ lie zero bit = (home_position, refl)
 lie (suc zero) bit = (home_position, refl)
 lie (suc (suc p)) bit = absurd (no_bit_from_set 1 (suc (suc p)) (omega arith) bit)
 
-grip_falls : Transfer homes plan 0 main (state_of frame) (Grip 1) (Falls gripped)
+grip_falls : Transfer homes plan 0 main (state_of frame) (Grip 1) (FallsThrough gripped)
 grip_falls =
     inr (
       lie,
@@ -172,7 +172,7 @@ pairs [] is zero (suc zero) p_home q_home c d inside outside p_has q_has p_lies 
 pairs [] is zero (suc (suc t)) p_home q_home c d inside outside p_has q_has p_lies q_lies =
     absurd (none-some _ q_has)
 
-aside_falls : Transfer homes plan 0 main gripped (Aside MinusX 1) (Falls parted)
+aside_falls : Transfer homes plan 0 main gripped (Aside MinusX 1) (FallsThrough parted)
 aside_falls =
     inr (
       part,
@@ -201,7 +201,7 @@ apart zero place e = sym (same_Some _ _ e)
 apart (suc zero) place e = sym (same_Some _ _ e)
 apart (suc (suc p)) place e = absurd (none-some _ e)
 
-halt_leaves : Transfer homes plan 0 main parted Halt Leaves
+halt_leaves : Transfer homes plan 0 main parted Halt NoSuccessor
 halt_leaves = inr (refl, inr (apart, inr (number_small (pos 0) zero_small, inr (enough, refl))))
   where
     enough : (point : Point) → IsPoint parted point
@@ -218,8 +218,8 @@ only_label pc f (zero, e) = (
 )
 only_label pc f (suc k, e) = absurd (none-some _ e)
 
-none_behind : (pc : ℕ) → 0 < pc → HasNoLabel main pc
-none_behind pc behind f labelled = let e = (only_label pc f labelled).0 in absurd (omega arith)
+none_after : (pc : ℕ) → 0 < pc → HasNoLabel main pc
+none_after pc after f labelled = let e = (only_label pc f labelled).0 in absurd (omega arith)
 
 not_same : (a b : ℕ) → a < b → ¬ (a ≡ b)
 not_same a b below e = absurd (omega arith)
@@ -236,7 +236,7 @@ aside_stands = record { in_range = lit≤ tt; begins = (0x00 ∷ [], refl) }
 halt_stands : StandsAt bytes 8 Halt
 halt_stands = record { in_range = tt; begins = ([], refl) }
 
-abbrev rows : List Row
+abbrev rows : List Annotated
 rows = record { pc = 0; instruction = Grip 1; state = state_of frame }
     ∷ record { pc = 5; instruction = Aside MinusX 1; state = gripped }
     ∷ record { pc = 8; instruction = Halt; state = parted }
@@ -248,23 +248,23 @@ cut = record {
     refl,
     grip_stands,
     (frame, (0, refl), refl),
-    Falls gripped,
+    FallsThrough gripped,
     Some gripped,
     grip_falls,
     refl,
     (
       refl,
       aside_stands,
-      inr (none_behind 5 (lit≤ tt), refl),
-      Falls parted,
+      inr (none_after 5 (lit≤ tt), refl),
+      FallsThrough parted,
       Some parted,
       aside_falls,
       refl,
       (
         refl,
         halt_stands,
-        inr (none_behind 8 (lit≤ tt), refl),
-        Leaves,
+        inr (none_after 8 (lit≤ tt), refl),
+        NoSuccessor,
         None,
         halt_leaves,
         refl,
@@ -381,7 +381,7 @@ laid = record {
     one_label j zero a b below first second = absurd (omega arith)
     one_label j (suc k) a b below first second = none-some _ second
 
-own : IsOverItsOwn frame
+own : IsWellScopedFrame frame
 own = record {
   guards = tt;
   stack = tt;
@@ -389,7 +389,7 @@ own = record {
   cost = over_number 0 (pos 3);
 }
   where
-    zeros : IsOver 0 (number (pos 0))
+    zeros : IsWellScoped 0 (number (pos 0))
     zeros = over_number 0 (pos 0)
 
 pub given : IsFromContainer plan
@@ -403,8 +403,8 @@ given = record {
       λ n here is pc f. of_main (λ (p : FramedProcedure). IsLabelled p pc f → length f.slots ≡ 8)
       (λ l. subst (λ (g : Frame). length g.slots ≡ 8) (only_label pc f l).1 refl) n here is;
   own =
-      λ n here is pc f. of_main (λ (p : FramedProcedure). IsLabelled p pc f → IsOverItsOwn f)
-      (λ l. subst (λ (g : Frame). IsOverItsOwn g) (only_label pc f l).1 own) n here is;
+      λ n here is pc f. of_main (λ (p : FramedProcedure). IsLabelled p pc f → IsWellScopedFrame f)
+      (λ l. subst (λ (g : Frame). IsWellScopedFrame g) (only_label pc f l).1 own) n here is;
   main = λ here is. of_main (λ (p : FramedProcedure). p.exit ≡ None) refl 0 here is;
   budget = lit≤ tt;
 }

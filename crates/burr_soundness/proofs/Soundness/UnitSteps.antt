@@ -12,19 +12,19 @@ use Rattle.burr_voxels.proofs.Common.Ahead.{same_cell}
 use Rattle.burr_code.specs.PieceSets.{IsInSet}
 use Rattle.burr_code.specs.Places.{Placement, Apart, On, LiesAt, LiesIn, AllLieIn, at_position}
 use Rattle.burr_code.specs.Instruction.{Step}
-use Rattle.burr_forms.specs.Forms.{Point}
-use Rattle.burr_assembly.specs.Homes.{HasHome}
-use Rattle.burr_container.specs.Plans.{FormCell}
-use Rattle.burr_frames.specs.FramedPlans.{FramedProcedure, FramedPlan}
-use Rattle.burr_frames.specs.States.{AbstractState, cell_at, places_at}
-use Rattle.burr_frames.specs.Verdicts.{Verdict}
-use Rattle.burr_frames.specs.Transfer.{Transfer}
-use Rattle.burr_frames.specs.SpaceRules.{moved, moved_forms, OnBenchAt, PairAt, DoesNotOverlap}
+use Rattle.burr_forms.specs.Rules.Forms.{Point}
+use Rattle.burr_assembly.specs.Rules.Homes.{HasHome}
+use Rattle.burr_container.specs.Rules.Plans.{FormCell}
+use Rattle.burr_frames.specs.Rules.FramedPlans.{FramedProcedure, FramedPlan}
+use Rattle.burr_frames.specs.Rules.States.{AbstractState, cell_at, places_at}
+use Rattle.burr_frames.specs.Rules.Verdicts.{Verdict}
+use Rattle.burr_frames.specs.Rules.Transfer.{Transfer}
+use Rattle.burr_frames.specs.Rules.SpaceRules.{moved, moved_forms, OnBenchAt, PairAt, DoesNotOverlap}
 use Rattle.burr_code.proofs.Common.Conditions.{same_tray}
-use Rattle.burr_state.specs.Bench.{BenchState}
-use Rattle.burr_state.specs.Next.{Next}
-use Rattle.burr_state.specs.Step.{Executes}
-use Rattle.burr_state.specs.Space.{AllOnBench, moved_places, NoOverlap}
+use Rattle.burr_state.specs.Rules.Bench.{BenchState}
+use Rattle.burr_state.specs.Rules.Next.{Next}
+use Rattle.burr_state.specs.Rules.Step.{Executes}
+use Rattle.burr_state.specs.Rules.Space.{AllOnBench, moved_places, NoOverlap}
 use Rattle.burr_soundness.specs.Framing.{bench_part, framed_setup}
 use Rattle.burr_soundness.specs.Standing.{Stands}
 use Rattle.burr_soundness.proofs.Soundness.StepOutcomes.{FallsOn}

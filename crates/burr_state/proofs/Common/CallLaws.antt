@@ -9,12 +9,13 @@ use Rattle.burr_state.specs.declared.closing.Closing.TheVariants as closings
 use Rattle.burr_state.specs.declared.progress.Progress.{Progress}
 use Rattle.burr_state.specs.declared.progress.Progress.TheVariants as progress
 use Rattle.burr_state.specs.declared.trap.Trap.{Trap}
-use Rattle.burr_state.specs.Bench.{BenchState, Setup}
-use Rattle.burr_state.specs.Next.{Goes, Asks, Traps}
-use Rattle.burr_state.specs.Step.{NextIs, TakesAnswer, CallIn, Called}
-use Rattle.burr_state.specs.Run.{Run, ends, stops, traps, waits, passes, takes, goes, IsGoing}
-use Rattle.burr_state.specs.RunLaws.{Calls, begun, went, answered, ClosesAt, CallsTo, RunIsCalls}
-use Rattle.burr_state.specs.StepLaws.{IsStepFrom, Leaves, CallLeaves}
+use Rattle.burr_state.specs.Rules.Bench.{BenchState, Setup}
+use Rattle.burr_state.specs.Rules.Next.{Goes, Asks, Traps}
+use Rattle.burr_state.specs.Rules.Step.{NextIs, TakesAnswer, CallIn, Called}
+use Rattle.burr_state.specs.Rules.Run.{Run, ends, stops, traps, waits, passes, takes, goes, IsGoing}
+use Rattle.burr_state.specs.Laws.RunLaws.{Calls, begun, went, answered, ClosesAt, CallsTo, RunIsCalls}
+use Rattle.burr_state.specs.Laws.StepLaws.{AfterCall, CallIsOneStep}
+use Rattle.burr_state.specs.Rules.Step.{IsStepFrom}
 use Rattle.burr_state.proofs.Uniqueness.OneStep.{one_way_on, asks_where_taken}
 use Rattle.burr_state.proofs.Common.Existence.SomeCall.{unfit_there}
 use Rattle.burr_state.proofs.Common.Calls.{Tells, tells}
@@ -33,22 +34,22 @@ step_where_taken setup s new answer running taken =
 in_mode : (setup : Setup) (s new : BenchState) (answer : Option ℤ) (result : Result Progress Trap) (mode : Mode) → s.mode ≡ mode → CallIn mode setup s answer result new → Called setup s answer result new
 in_mode setup s new answer result mode is called = subst (λ (m : Mode). CallIn m setup s answer result new) (sym is) called
 
-leaves_told : (setup : Setup) (s new : BenchState) (result : Result Progress Trap) → s.mode ≡ Running → Tells setup s result new → Leaves s result new
+leaves_told : (setup : Setup) (s new : BenchState) (result : Result Progress Trap) → s.mode ≡ Running → Tells setup s result new → AfterCall s result new
 leaves_told setup s new (Ok (progress.Went motion)) running told = leads_from setup s (Goes new motion) running told
 leaves_told setup s new (Ok (progress.Asks low high)) running told = told.1
 leaves_told setup s new (Ok progress.Again) running told = absurd told
 leaves_told setup s new (Ok progress.Ended) running told = absurd told
 leaves_told setup s new (Err trap) running told = told.1
 
-leaves_in : (setup : Setup) (s new : BenchState) (answer : Option ℤ) (result : Result Progress Trap) (mode : Mode) → s.mode ≡ mode → CallIn mode setup s answer result new → Leaves s result new
+leaves_in : (setup : Setup) (s new : BenchState) (answer : Option ℤ) (result : Result Progress Trap) (mode : Mode) → s.mode ≡ mode → CallIn mode setup s answer result new → AfterCall s result new
 leaves_in setup s new None result Running is called = leaves_told setup s new result is (tells setup s new result is (in_mode setup s new None result Running is called))
-leaves_in setup s new (Some answer) result Running is (inl taken) = subst (λ (r : Result Progress Trap). Leaves s r new) (sym taken.1) (step_where_taken setup s new answer is taken.0)
-leaves_in setup s new (Some answer) result Running is (inr unfit) = subst (λ (r : Result Progress Trap). Leaves s r new) (sym unfit.1) unfit.2
-leaves_in setup s new answer result Ended is called = subst (λ (r : Result Progress Trap). Leaves s r new) (sym called.0) called.1
+leaves_in setup s new (Some answer) result Running is (inl taken) = subst (λ (r : Result Progress Trap). AfterCall s r new) (sym taken.1) (step_where_taken setup s new answer is taken.0)
+leaves_in setup s new (Some answer) result Running is (inr unfit) = subst (λ (r : Result Progress Trap). AfterCall s r new) (sym unfit.1) unfit.2
+leaves_in setup s new answer result Ended is called = subst (λ (r : Result Progress Trap). AfterCall s r new) (sym called.0) called.1
 leaves_in setup s new answer result (Trapped trap) is called =
-    subst (λ (r : Result Progress Trap). Leaves s r new) (sym called.0) (called.1 ∙ ap (λ (m : Mode). record s { mode = m }) is)
+    subst (λ (r : Result Progress Trap). AfterCall s r new) (sym called.0) (called.1 ∙ ap (λ (m : Mode). record s { mode = m }) is)
 
-pub call_leaves : CallLeaves
+pub call_leaves : CallIsOneStep
 call_leaves setup s new answer result called = leaves_in setup s new answer result s.mode refl called
 
 -- Runs and chains of calls

@@ -5,9 +5,9 @@ use Rattle.burr_state.specs.declared.mode.Mode.TheVariants.{Running, Trapped}
 use Rattle.burr_state.specs.declared.progress.Progress.{Progress}
 use Rattle.burr_state.specs.declared.progress.Progress.TheVariants as progress
 use Rattle.burr_state.specs.declared.trap.Trap.{Trap}
-use Rattle.burr_state.specs.Bench.{BenchState, Setup}
-use Rattle.burr_state.specs.Next.{Next, Goes, Asks, Traps}
-use Rattle.burr_state.specs.Step.{NextIs, CallIn, Called, told, left_by}
+use Rattle.burr_state.specs.Rules.Bench.{BenchState, Setup}
+use Rattle.burr_state.specs.Rules.Next.{Next, Goes, Asks, Traps}
+use Rattle.burr_state.specs.Rules.Step.{NextIs, CallIn, Called, call_result, left_by}
 
 -- by what it tells: what stood next, and what state is left
 abbrev pub Tells : Setup → BenchState → Result Progress Trap → BenchState → Type 0
@@ -17,7 +17,7 @@ Tells setup s (Ok progress.Again) new = ⊥
 Tells setup s (Ok progress.Ended) new = ⊥
 Tells setup s (Err trap) new = NextIs setup s (Traps trap) × (new ≡ record s { mode = Trapped trap })
 
-tells_next : (setup : Setup) (s new : BenchState) (next : Next) → NextIs setup s next → new ≡ left_by s next → Tells setup s (told next) new
+tells_next : (setup : Setup) (s new : BenchState) (next : Next) → NextIs setup s next → new ≡ left_by s next → Tells setup s (call_result next) new
 tells_next setup s new (Goes there motion) is left = subst (λ (t : BenchState). NextIs setup s (Goes t motion)) (sym left) is
 tells_next setup s new (Asks low high) is left = (is, left)
 tells_next setup s new (Traps trap) is left = (is, left)

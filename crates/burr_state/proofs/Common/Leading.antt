@@ -5,13 +5,13 @@ use Rattle.std.proofs.lemmas.Int.{ints}
 use Rattle.burr_code.specs.Instruction.{Instruction, Halt, Push, Load, Store, Add, Sub, Drop, Grip, Step, Aside, Tray, Jump, Down, Ask, Pick, Call, Ret}
 use Rattle.burr_code.proofs.Common.Labels.{picked}
 use Rattle.burr_state.specs.declared.mode.Mode.TheVariants.{Running}
-use Rattle.burr_state.specs.Bench.{BenchState, Setup, BenchProcedure}
-use Rattle.burr_state.specs.Next.{Next, Goes, Asks, Traps, at_label}
-use Rattle.burr_state.specs.Control.{by_count}
-use Rattle.burr_state.specs.Questions.{Takes, Fits}
-use Rattle.burr_state.specs.Step.{Executes, IsAt, NextIs, TakesAnswer}
+use Rattle.burr_state.specs.Rules.Bench.{BenchState, Setup, BenchProcedure}
+use Rattle.burr_state.specs.Rules.Next.{Next, Goes, Asks, Traps, at_label}
+use Rattle.burr_state.specs.Rules.Control.{by_count}
+use Rattle.burr_state.specs.Rules.Questions.{Takes, Fits}
+use Rattle.burr_state.specs.Rules.Step.{Executes, IsAt, NextIs, TakesAnswer}
 use Rattle.burr_state.proofs.Common.Outcomes.{TrapsOr, past_check, past_search, comes}
-use Rattle.burr_state.specs.StepLaws.{IsStepFrom}
+use Rattle.burr_state.specs.Rules.Step.{IsStepFrom}
 
 -- what stands next leads on by a step, or by one for each fitting answer, or to a trap
 abbrev Leads : BenchProcedure → BenchState → Instruction → Next → Type 0

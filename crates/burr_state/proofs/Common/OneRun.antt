@@ -6,13 +6,13 @@ use Rattle.burr_text.specs.Checks.{needs}
 use Rattle.burr_state.specs.declared.mode.Mode.{Mode}
 use Rattle.burr_state.specs.declared.mode.Mode.TheVariants.{Running, Ended, Trapped}
 use Rattle.burr_state.specs.declared.motion.Motion.{Motion}
-use Rattle.burr_state.specs.Bench.{BenchState, Setup}
-use Rattle.burr_state.specs.Next.{Next, Goes, Asks, Traps}
-use Rattle.burr_state.specs.Step.{NextIs, TakesAnswer}
-use Rattle.burr_state.specs.Questions.{Fits}
-use Rattle.burr_state.specs.Run.{Run, ends, stops, traps, waits, passes, takes, goes, IsGoing}
+use Rattle.burr_state.specs.Rules.Bench.{BenchState, Setup}
+use Rattle.burr_state.specs.Rules.Next.{Next, Goes, Asks, Traps}
+use Rattle.burr_state.specs.Rules.Step.{NextIs, TakesAnswer}
+use Rattle.burr_state.specs.Rules.Questions.{Fits}
+use Rattle.burr_state.specs.Rules.Run.{Run, ends, stops, traps, waits, passes, takes, goes, IsGoing}
 use Rattle.burr_state.specs.declared.closing.Closing.{Closing}
-use Rattle.burr_state.specs.RunLaws.{OneResult}
+use Rattle.burr_state.specs.Laws.RunLaws.{OneResult}
 use Rattle.burr_state.specs.declared.closing.Closing.TheVariants as closings
 use Rattle.burr_state.proofs.Uniqueness.OneStep.{IsOne, one_given, one_needed, one_next, one_way_on, asks_where_taken}
 

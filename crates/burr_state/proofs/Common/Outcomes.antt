@@ -1,7 +1,7 @@
 -- For crates above: what comes of an instruction's checks in their order, where a trap is no matter.
 use Rattle.std.proofs.Common.{◌≡◌, ◌⊎◌, Option, None, Some, inl, inr, subst, sym}
 use Rattle.burr_state.specs.declared.trap.Trap.{Trap}
-use Rattle.burr_state.specs.Next.{Next, Traps}
+use Rattle.burr_state.specs.Rules.Next.{Next, Traps}
 
 -- a trap, or what is so
 pub record TrapsOr (IsSo : Next → Type 0) (next : Next) : Type 0 where
@@ -19,6 +19,6 @@ pub past_search : {IsSo : Next → Type 0} {A : Type 0} {Rest : A → Type 0} {f
 past_search {trap} (inl h) f = record { cases = inl (trap, h.1) }
 past_search (inr h) f = f h.0 h.1 h.2
 
--- behind the checks one thing stands next
+-- after the checks one thing stands next
 pub comes : {IsSo : Next → Type 0} {next given : Next} → next ≡ given → IsSo given → TrapsOr IsSo next
 comes {IsSo} e so = record { cases = inr (subst IsSo (sym e) so) }

@@ -10,13 +10,13 @@ use Rattle.burr_code.specs.PieceSets.{IsInSet}
 use Rattle.burr_code.specs.Places.{Placement, LiesAt, LiesIn, AllLieIn, IsEmptyTray, aside_places}
 use Rattle.burr_code.specs.Instruction.{Instruction, Halt, Push, Load, Store, Add, Sub, Drop, Grip, Step, Aside, Tray, Jump, Down, Ask, Pick, Call, Ret}
 use Rattle.burr_state.specs.declared.motion.Motion.{Motion}
-use Rattle.burr_state.specs.Bench.{BenchState, BenchProcedure, Setup}
-use Rattle.burr_state.specs.Next.{Next, Goes, Asks, Traps}
-use Rattle.burr_state.specs.Questions.{Takes}
-use Rattle.burr_state.specs.Space.{NoOverlap, NoOverlapIn, moved_places}
-use Rattle.burr_state.specs.Step.{Executes, NextIs}
-use Rattle.burr_state.specs.AsideLaws.{NoneLone}
-use Rattle.burr_state.specs.SpaceLaws.{IsGripHere, StepsTo, GripStays, NoOverlapStays, NoneLoneStays}
+use Rattle.burr_state.specs.Rules.Bench.{BenchState, BenchProcedure, Setup}
+use Rattle.burr_state.specs.Rules.Next.{Next, Goes, Asks, Traps}
+use Rattle.burr_state.specs.Rules.Questions.{Takes}
+use Rattle.burr_state.specs.Rules.Space.{NoOverlap, NoOverlapIn, moved_places}
+use Rattle.burr_state.specs.Rules.Step.{Executes, NextIs}
+use Rattle.burr_state.specs.Laws.AsideLaws.{NoneLone}
+use Rattle.burr_state.specs.Laws.SpaceLaws.{IsGripHere, StepsTo, GripStays, NoOverlapStays, NoneLoneStays}
 use Rattle.burr_code.proofs.Common.Conditions.{same_tray}
 use Rattle.burr_state.proofs.Common.Trays.Shifts.{IsShifted, lay_before_shift, lies_after_shift, count_in-shift}
 use Rattle.burr_state.proofs.Common.Trays.Asides.{LayBefore, lay_before, none_lone_aside}

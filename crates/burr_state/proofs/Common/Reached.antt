@@ -10,19 +10,19 @@ use Rattle.burr_voxels.specs.Grid.{plus, shifted, origin}
 use Rattle.burr_voxels.specs.CellSets.{Overlap}
 use Rattle.burr_voxels.proofs.Common.Ahead.{same_cell}
 use Rattle.burr_code.specs.Places.{Placement, On, LiesAt, count_in}
-use Rattle.burr_assembly.specs.Text.{Assembly, IsAssembly, Piece, IsPiece, HasCells, Shares}
-use Rattle.burr_assembly.specs.Homes.{HasHome, home_of, homes_of}
+use Rattle.burr_assembly.specs.Rules.Text.{Assembly, IsAssembly, Piece, IsPiece, HasCells, Shares}
+use Rattle.burr_assembly.specs.Rules.Homes.{HasHome, home_of, homes_of}
 use Rattle.burr_assembly.proofs.Common.HomeCells.{home_has}
 use Rattle.burr_state.specs.declared.mode.Mode.{Mode}
 use Rattle.burr_state.specs.declared.mode.Mode.TheVariants.{Running}
 use Rattle.burr_state.specs.declared.motion.Motion.{Motion}
 use Rattle.burr_state.specs.declared.progress.Progress.{Progress}
-use Rattle.burr_state.specs.Bench.{BenchState, Setup, start}
-use Rattle.burr_state.specs.Space.{NoOverlap}
-use Rattle.burr_state.specs.Step.{CallIn}
-use Rattle.burr_state.specs.AsideLaws.{NoneLone}
-use Rattle.burr_state.specs.RunLaws.{Calls, begun, went, answered}
-use Rattle.burr_state.specs.SpaceLaws.{IsGripHere, StepsTo, AreDisjoint, HomesAreDisjoint, GripIsHere, PiecesNeverOverlap, NoPieceIsLone}
+use Rattle.burr_state.specs.Rules.Bench.{BenchState, Setup, start}
+use Rattle.burr_state.specs.Rules.Space.{NoOverlap}
+use Rattle.burr_state.specs.Rules.Step.{CallIn}
+use Rattle.burr_state.specs.Laws.AsideLaws.{NoneLone}
+use Rattle.burr_state.specs.Laws.RunLaws.{Calls, begun, went, answered}
+use Rattle.burr_state.specs.Laws.SpaceLaws.{IsGripHere, StepsTo, AreDisjoint, HomesAreDisjoint, GripIsHere, PiecesNeverOverlap, NoPieceIsLone}
 use Rattle.burr_code.proofs.Common.Conditions.{same_tray, same_position}
 use Rattle.burr_state.proofs.Common.Trays.Counts.{count_in-same, count_in-other}
 use Rattle.burr_state.proofs.Common.Trays.Parts.{all_lie_in_nothing}
@@ -140,6 +140,6 @@ homes_are_disjoint a whole = (by_order, λ one. let as_many = length-map a.piece
       | inl same ↦ other same
       | inr order ↦ elim order [
         | inl before ↦ apart_in_order a p q p_home q_home whole before p_has q_has over
-        | inr behind ↦ apart_in_order a q p q_home p_home whole behind q_has p_has (over.0, over.2, over.1)
+        | inr after ↦ apart_in_order a q p q_home p_home whole after q_has p_has (over.0, over.2, over.1)
       ]
     ]

@@ -5,13 +5,13 @@ use Rattle.std.specs.Option.{option_to_list}
 use Rattle.std.proofs.lemmas.Int.{ints, by_lt_z}
 use Rattle.burr_text.proofs.Common.Decisions.{Decided, decide_same}
 use Rattle.burr_state.specs.declared.mode.Mode.TheVariants.{Running, Ended}
-use Rattle.burr_state.specs.Bench.{BenchState, Setup}
-use Rattle.burr_state.specs.Next.{Next, Goes, Asks, Traps}
-use Rattle.burr_state.specs.Step.{NextIs}
-use Rattle.burr_state.specs.Questions.{Fits}
-use Rattle.burr_state.specs.Run.{IsGoing, ends, stops, traps, waits, passes, takes, goes}
-use Rattle.burr_state.specs.RunLaws.{IsUnderWay, RunOf, SomeResult}
-use Rattle.burr_state.specs.StepLaws.{IsStepFrom}
+use Rattle.burr_state.specs.Rules.Bench.{BenchState, Setup}
+use Rattle.burr_state.specs.Rules.Next.{Next, Goes, Asks, Traps}
+use Rattle.burr_state.specs.Rules.Step.{NextIs}
+use Rattle.burr_state.specs.Rules.Questions.{Fits}
+use Rattle.burr_state.specs.Rules.Run.{IsGoing, ends, stops, traps, waits, passes, takes, goes}
+use Rattle.burr_state.specs.Laws.RunLaws.{IsUnderWay, RunOf, SomeResult}
+use Rattle.burr_state.specs.Rules.Step.{IsStepFrom}
 use Rattle.burr_state.proofs.Common.Existence.SomeStep.{some_next}
 use Rattle.burr_state.specs.declared.closing.Closing.TheVariants as closings
 use Rattle.burr_state.proofs.Common.Leading.{leads_from}

@@ -6,10 +6,10 @@ use Rattle.burr_state.specs.declared.motion.Motion.{Motion}
 use Rattle.burr_state.specs.declared.progress.Progress.{Progress}
 use Rattle.burr_state.specs.declared.progress.Progress.TheVariants as progress
 use Rattle.burr_state.specs.declared.trap.Trap.{Trap}
-use Rattle.burr_state.specs.Bench.{BenchState, Setup}
-use Rattle.burr_state.specs.Next.{Goes as GoesNext, Asks}
-use Rattle.burr_state.specs.RunLaws.{OneNext, SomeNext, OneCall}
-use Rattle.burr_state.specs.Step.{NextIs, TakesAnswer, CallIn, Called}
+use Rattle.burr_state.specs.Rules.Bench.{BenchState, Setup}
+use Rattle.burr_state.specs.Rules.Next.{Goes as GoesNext, Asks}
+use Rattle.burr_state.specs.Laws.RunLaws.{OneNext, SomeNext, OneCall}
+use Rattle.burr_state.specs.Rules.Step.{NextIs, TakesAnswer, CallIn, Called}
 use Rattle.burr_state.proofs.Common.Calls.{tells}
 use Rattle.burr_state.proofs.Common.Existence.SomeStep.{some_next}
 use Rattle.burr_state.proofs.Uniqueness.OneStep.{one_next, one_call, asks_where_taken}

@@ -11,7 +11,7 @@ use Rattle.burr_voxels.proofs.Common.Freedom.{free_where_none_ahead}
 use Rattle.burr_code.specs.PieceSets.{IsInSet}
 use Rattle.burr_code.specs.Places.{Placement, Apart, On, LiesIn, AllLieIn, AllApart, IsPartOfTray, IsEmptyTray}
 use Rattle.burr_code.proofs.Common.PieceSets.{no_bit_above}
-use Rattle.burr_state.specs.Space.{NoOverlapIn, AllOnBench, IsFreeGroup}
+use Rattle.burr_state.specs.Rules.Space.{NoOverlapIn, AllOnBench, IsFreeGroup}
 use Rattle.burr_code.proofs.Common.Conditions.{same_tray, same_position, apart-on}
 
 -- A at the origin, and B beside it along x
@@ -71,8 +71,8 @@ none_stays part = none_left part.1 part.2 part.3
 
 -- Freedom
 
-b_is_not_behind : ¬ IsAhead origin (at (pos 1) (pos 0) (pos 0)) MinusX
-b_is_not_behind (k, least, is) = let x = ap (λ (c : Cell). c.x) is in omega (arith, ints, x)
+b_is_not_after : ¬ IsAhead origin (at (pos 1) (pos 0) (pos 0)) MinusX
+b_is_not_after (k, least, is) = let x = ap (λ (c : Cell). c.x) is in omega (arith, ints, x)
 
 only : (c x : Cell) → Contains (c ∷ []) x → x ≡ c
 only c x (zero, lt, is) = sym is
@@ -81,7 +81,7 @@ only c x (suc k, lt, is) = absurd (omega arith)
 a_is_free : IsFree (shifted origin (origin ∷ [])) (shifted origin (at (pos 1) (pos 0) (pos 0) ∷ [])) MinusX
 a_is_free =
     free_where_none_ahead (shifted origin (origin ∷ [])) (shifted origin (at (pos 1) (pos 0) (pos 0) ∷ [])) MinusX
-    (λ from to in_a in_b ahead. b_is_not_behind (subst (λ (c : Cell). IsAhead origin c MinusX) (only _ to in_b) (subst (λ (c : Cell). IsAhead c to MinusX) (only _ from in_a) ahead)))
+    (λ from to in_a in_b ahead. b_is_not_after (subst (λ (c : Cell). IsAhead origin c MinusX) (only _ to in_b) (subst (λ (c : Cell). IsAhead c to MinusX) (only _ from in_a) ahead)))
 
 -- the same, where homes and offsets are found to be these
 a_is_free_so : (p_home q_home : List Cell) (p_offset q_offset : Cell) → p_home ≡ origin ∷ [] → q_home ≡ at (pos 1) (pos 0) (pos 0) ∷ [] → p_offset ≡ origin → q_offset ≡ origin

@@ -13,13 +13,13 @@ use Rattle.burr_state.specs.declared.motion.Motion.{Motion}
 use Rattle.burr_state.specs.declared.progress.Progress.{Progress}
 use Rattle.burr_state.specs.declared.progress.Progress.TheVariants as progress
 use Rattle.burr_state.specs.declared.trap.Trap.{Trap}
-use Rattle.burr_state.specs.Bench.{Activation, BenchState, BenchProcedure, Setup}
-use Rattle.burr_state.specs.Next.{Next, Goes, Asks, Traps}
-use Rattle.burr_state.specs.Questions.{Takes}
-use Rattle.burr_state.specs.Step.{Executes, IsAt, NextIs, TakesAnswer, CallIn, Called}
+use Rattle.burr_state.specs.Rules.Bench.{Activation, BenchState, BenchProcedure, Setup}
+use Rattle.burr_state.specs.Rules.Next.{Next, Goes, Asks, Traps}
+use Rattle.burr_state.specs.Rules.Questions.{Takes}
+use Rattle.burr_state.specs.Rules.Step.{Executes, IsAt, NextIs, TakesAnswer, CallIn, Called}
 use Rattle.burr_state.proofs.Common.Leading.{at_either}
 use Rattle.burr_state.proofs.Common.Outcomes.{TrapsOr, past_check, past_search, comes}
-use Rattle.burr_state.specs.Undo.{Undo, laid_over, record_of, IsRecordOf, RecordsGoBack, RecordsTell}
+use Rattle.burr_state.specs.Rules.Undo.{Undo, laid_over, record_of, IsRecordOf, RecordsGoBack, RecordsTell}
 use Rattle.burr_state.proofs.Common.StepCalls.{next_where_went}
 
 -- The count of steps and the mode

@@ -7,14 +7,14 @@ use Rattle.burr_code.specs.Instruction.{Instruction, Halt, Push, Load, Store, Ad
 use Rattle.burr_code.proofs.Common.Reading.{one_stands_at}
 use Rattle.burr_state.specs.declared.mode.Mode.{Mode}
 use Rattle.burr_state.specs.declared.mode.Mode.TheVariants.{Running, Ended, Trapped}
-use Rattle.burr_state.specs.Bench.{BenchState, Setup, BenchProcedure}
-use Rattle.burr_state.specs.Step.{Executes, IsAt, AsksFor, TakesAnswer, IsUnfit, told, left_by, CallIn}
-use Rattle.burr_state.specs.Questions.{Takes, Fits}
+use Rattle.burr_state.specs.Rules.Bench.{BenchState, Setup, BenchProcedure}
+use Rattle.burr_state.specs.Rules.Step.{Executes, IsAt, AsksFor, TakesAnswer, IsUnfit, call_result, left_by, CallIn}
+use Rattle.burr_state.specs.Rules.Questions.{Takes, Fits}
 use Rattle.burr_state.specs.declared.progress.Progress.{Progress}
 use Rattle.burr_state.specs.declared.trap.Trap.{Trap}
-use Rattle.burr_state.specs.Next.{at_label}
-use Rattle.burr_state.specs.StepLaws.{OneExecution}
-use Rattle.burr_state.specs.RunLaws.{OneNext, OneCall}
+use Rattle.burr_state.specs.Rules.Next.{at_label}
+use Rattle.burr_state.specs.Laws.StepLaws.{OneExecution}
+use Rattle.burr_state.specs.Laws.RunLaws.{OneNext, OneCall}
 
 -- one value at most is so
 abbrev pub IsOne : {A : Type 0} → (A → Type 0) → Type 0
@@ -98,7 +98,7 @@ one_call_in : (setup : Setup) (s new other : BenchState) (answer : Option ℤ) (
     → CallIn mode setup s answer result new → CallIn mode setup s answer more other → (result ≡ more) × (new ≡ other)
 one_call_in setup s new other None Running result more p q =
     let same : p.0 ≡ q.0 = one_next setup s p.0 q.0 p.1 q.1 in
-    (p.2 ∙ ap told same ∙ sym q.2, p.3 ∙ ap (left_by s) same ∙ sym q.3)
+    (p.2 ∙ ap call_result same ∙ sym q.2, p.3 ∙ ap (left_by s) same ∙ sym q.3)
 one_call_in setup s new other (Some answer) Running result more p q = either p q
   where
     unfit : (taken : BenchState) → TakesAnswer setup s answer taken → ¬ IsUnfit setup s answer

@@ -2,9 +2,9 @@
 
 ghost use Rattle.std.specs.Prelude.{◌≡◌, List};
 ghost use Rattle.burr_voxels.specs.declared.cell.Cell.{Cell};
-ghost use Rattle.burr_state.specs.Bench.{running};
-ghost use Rattle.burr_state.specs.Benches.{Answered};
-ghost use Rattle.burr_state.specs.Effects.{StaysPut};
+ghost use Rattle.burr_state.specs.Rules.Bench.{running};
+ghost use Rattle.burr_state.specs.Views.Benches.{Answered};
+ghost use Rattle.burr_state.specs.Views.Effects.{StaysPut};
 
 use crate::bench::Bench;
 use burr_code::{Instr, fetch};

@@ -4,12 +4,12 @@ ghost use Rattle.burr_code.specs.declared.limits.TheConstants.{MOST_CODE};
 ghost use Rattle.burr_code.specs.Instruction.{Instruction};
 ghost use Rattle.burr_code.specs.Meaning.{meaning};
 ghost use Rattle.burr_state.specs.declared.mode.Mode.TheVariants.{Trapped};
-ghost use Rattle.burr_state.specs.Bench.{running};
-ghost use Rattle.burr_state.specs.Effects.{next_of, KeepsUnlessGoes, NeverMoves, MovesNoPiece, PiecesStay};
-ghost use Rattle.burr_state.specs.Space.{motion_of};
-ghost use Rattle.burr_state.specs.StateViews.{gone_aside, moved_grip, StaysOnBench};
-ghost use Rattle.burr_state.specs.Step.{NextIs};
-ghost use Rattle.burr_state.specs.Work.{IsNext, StandsBefore};
+ghost use Rattle.burr_state.specs.Rules.Bench.{running};
+ghost use Rattle.burr_state.specs.Views.Effects.{next_of, KeepsUnlessGoes, NeverMoves, MovesNoPiece, PiecesStay};
+ghost use Rattle.burr_state.specs.Rules.Space.{motion_of};
+ghost use Rattle.burr_state.specs.Views.StateViews.{gone_aside, moved_grip, StaysOnBench};
+ghost use Rattle.burr_state.specs.Rules.Step.{NextIs};
+ghost use Rattle.burr_state.specs.Views.Work.{IsNext, StandsBefore};
 
 use crate::bench::Bench;
 use crate::effect::Effect;

@@ -2,9 +2,9 @@ ghost use Rattle.std.specs.Prelude.{◌≡◌, ◌≤◌, ◌<◌, ◌+◌, ◌�
 ghost use Rattle.burr_voxels.specs.Near.{IsWithin};
 ghost use Rattle.burr_code.specs.declared.limits.TheConstants.{MOST_BUDGET, SLOTS};
 ghost use Rattle.burr_code.specs.Places.{IsPartOfTray, IsEmptyTray};
-ghost use Rattle.burr_state.specs.StateViews.{IsOffsetHere, StaysOnBench};
-ghost use Rattle.burr_state.specs.Spots.{placed};
-ghost use Rattle.burr_state.specs.Offsets.{AreNear};
+ghost use Rattle.burr_state.specs.Views.StateViews.{IsOffsetHere, StaysOnBench};
+ghost use Rattle.burr_state.specs.Views.Spots.{placed};
+ghost use Rattle.burr_state.specs.Views.Offsets.{AreNear};
 
 use crate::bench::Bench;
 use crate::mode::Mode;

@@ -1,10 +1,10 @@
 ghost use Rattle.std.specs.Prelude.{◌≡◌, ◌<◌, ◌≤◌, length};
 ghost use Rattle.burr_code.specs.declared.limits.TheConstants.{MOST_CODE};
-ghost use Rattle.burr_container.specs.Plans.{Plan};
-ghost use Rattle.burr_container.specs.Containers.{IsContainer};
-ghost use Rattle.burr_state.specs.Bench.{bare_program};
-ghost use Rattle.burr_state.specs.Programs.{plan_program};
-ghost use Rattle.burr_state.specs.StateViews.{at_start};
+ghost use Rattle.burr_container.specs.Rules.Plans.{Plan};
+ghost use Rattle.burr_container.specs.Views.Containers.{IsContainer};
+ghost use Rattle.burr_state.specs.Rules.Bench.{bare_program};
+ghost use Rattle.burr_state.specs.Views.Programs.{plan_program};
+ghost use Rattle.burr_state.specs.Views.StateViews.{at_start};
 
 use crate::bench::Bench;
 use crate::program::Program;

@@ -1,9 +1,9 @@
 //! The program of a container.
 
 ghost use Rattle.std.specs.Prelude.{◌≡◌, ◌<◌, length};
-ghost use Rattle.burr_container.specs.Plans.{Plan};
-ghost use Rattle.burr_container.specs.Containers.{IsContainer, OfProcedure};
-ghost use Rattle.burr_state.specs.Programs.{bench_procedure, plan_program, positions_of};
+ghost use Rattle.burr_container.specs.Rules.Plans.{Plan};
+ghost use Rattle.burr_container.specs.Views.Containers.{IsContainer, OfProcedure};
+ghost use Rattle.burr_state.specs.Views.Programs.{bench_procedure, plan_program, positions_of};
 
 use crate::program::{Procedure, Program};
 use arrayvec::ArrayVec;

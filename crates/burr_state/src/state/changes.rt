@@ -1,7 +1,7 @@
 ghost use Rattle.std.specs.Prelude.{◌≡◌, ◌+◌, ◌≤◌};
 ghost use Rattle.burr_code.specs.declared.limits.TheConstants.{MOST_CODE};
 ghost use Rattle.burr_state.specs.declared.mode.Mode.TheVariants.{Trapped};
-ghost use Rattle.burr_state.specs.StateViews.{behind, moved_grip, gone_aside, StaysOnBench};
+ghost use Rattle.burr_state.specs.Views.StateViews.{after, moved_grip, gone_aside, StaysOnBench};
 
 use crate::mode::Mode;
 use crate::places::{shift_group, take_aside};
@@ -25,7 +25,7 @@ impl BenchState {
         ensures { self.new ≡ moved_grip direction size self.old }
     {
         shift_group(self.places.as_mut_slice(), self.grip, direction);
-        self.go_behind(size);
+        self.go_after(size);
     }
 
     /// The step of an `aside` of so many bytes: the grip goes to an empty tray, whoever is alone in
@@ -36,13 +36,13 @@ impl BenchState {
     {
         take_aside(self.places.as_mut_slice(), self.grip, self.tray, tray);
         self.grip = 0;
-        self.go_behind(size);
+        self.go_after(size);
     }
 
     /// A step that goes on so many bytes further.
-    pub fn go_behind(&mut self, size: usize)
+    pub fn go_after(&mut self, size: usize)
         requires within { self.old.running.pc + size ≤ MOST_CODE }
-        ensures { self.new ≡ behind size self.old }
+        ensures { self.new ≡ after size self.old }
     {
         self.running.go_to(self.running.pc() + size);
         self.steps = self.steps.saturating_add(1);

@@ -1,6 +1,6 @@
 ghost use Rattle.std.specs.Prelude.{◌↔◌, IsTrue};
 ghost use Rattle.burr_code.specs.Places.{LiesIn, AllLieIn, AllApart, IsPartOfTray, IsEmptyTray};
-ghost use Rattle.burr_state.specs.StateViews.{LeavesSome, StaysOnBench, PieceStaysOnBench};
+ghost use Rattle.burr_state.specs.Views.StateViews.{HasRest, StaysOnBench, PieceStaysOnBench};
 
 use crate::placement::{is_on_bench, one_unit_on};
 use crate::places::{are_all_apart, is_empty_tray};
@@ -37,7 +37,7 @@ impl BenchState {
 
     /// Whether the current tray has a piece that is not gripped.
     fn leaves_some(&self) -> bool
-        ensures { IsTrue result ↔ LeavesSome self.now }
+        ensures { IsTrue result ↔ HasRest self.now }
     {
         for piece in 0..self.piece_count() {
             if self.lies_here(piece) && !is_in_set(self.grip(), piece) {
@@ -47,7 +47,7 @@ impl BenchState {
         false
     }
 
-    /// Whether each piece of the current tray is on the bench behind one unit of the grip along a
+    /// Whether each piece of the current tray is on the bench after one unit of the grip along a
     /// direction.
     pub fn stays_on_bench(&self, direction: Direction) -> bool
         ensures { IsTrue result ↔ StaysOnBench self.now direction }

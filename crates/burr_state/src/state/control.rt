@@ -5,11 +5,11 @@ ghost use Rattle.burr_voxels.specs.declared.cell.Cell.{Cell};
 ghost use Rattle.burr_code.specs.Places.{AllApart};
 ghost use Rattle.burr_code.specs.declared.limits.TheConstants.{MOST_CODE, SLOTS};
 ghost use Rattle.burr_code.specs.Instruction.{Down, Call, spelled};
-ghost use Rattle.burr_state.specs.Bench.{BenchProcedure, running};
-ghost use Rattle.burr_state.specs.Control.{halting, jumping, counting_down, calling, returning};
-ghost use Rattle.burr_state.specs.Next.{at_label};
-ghost use Rattle.burr_state.specs.Programs.{FitsProgram};
-ghost use Rattle.burr_state.specs.Effects.{next_of, KeepsUnlessGoes, NeverMoves, StaysPut, PiecesStay, CallerHasRoom, CallerGoesOn};
+ghost use Rattle.burr_state.specs.Rules.Bench.{BenchProcedure, running};
+ghost use Rattle.burr_state.specs.Rules.Control.{halting, jumping, counting_down, calling, returning};
+ghost use Rattle.burr_state.specs.Rules.Next.{at_label};
+ghost use Rattle.burr_state.specs.Views.Programs.{FitsProgram};
+ghost use Rattle.burr_state.specs.Views.Effects.{next_of, KeepsUnlessGoes, NeverMoves, StaysPut, PiecesStay, CallerHasRoom, CallerGoesOn};
 
 use crate::effect::Effect;
 use crate::mode::Mode;
@@ -52,7 +52,7 @@ impl BenchState {
         Ok(Effect::Goes(None))
     }
 
-    /// `down`, in a procedure with so many parameters: at 0 it goes on behind, else the slot holds one
+    /// `down`, in a procedure with so many parameters: at 0 it goes on after, else the slot holds one
     /// less and it goes on at a label, which stands at this position; None where there is none.
     pub fn down(
         &mut self,
@@ -85,7 +85,7 @@ impl BenchState {
             return Err(Trap::BadCount);
         }
         if count == 0 {
-            self.go_behind(size);
+            self.go_after(size);
             return Ok(Effect::Goes(None));
         }
         self.running.set_slot(slot, count - 1);

@@ -5,10 +5,10 @@ ghost use Rattle.burr_voxels.specs.declared.cell.Cell.{Cell};
 ghost use Rattle.burr_code.specs.declared.limits.TheConstants.{MOST_CODE};
 ghost use Rattle.burr_code.specs.Instruction.{IsInRange, spelled};
 ghost use Rattle.burr_code.specs.Meaning.{meaning};
-ghost use Rattle.burr_state.specs.Bench.{running};
-ghost use Rattle.burr_state.specs.Programs.{FitsProgram};
-ghost use Rattle.burr_state.specs.Step.{Executes};
-ghost use Rattle.burr_state.specs.Effects.{next_of, KeepsUnlessGoes, NeverMoves, StaysFitting, MovesNoPiece};
+ghost use Rattle.burr_state.specs.Rules.Bench.{running};
+ghost use Rattle.burr_state.specs.Views.Programs.{FitsProgram};
+ghost use Rattle.burr_state.specs.Rules.Step.{Executes};
+ghost use Rattle.burr_state.specs.Views.Effects.{next_of, KeepsUnlessGoes, NeverMoves, StaysFitting, MovesNoPiece};
 
 use crate::effect::Effect;
 use crate::program::{Procedure, Program};

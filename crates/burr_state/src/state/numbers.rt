@@ -3,9 +3,9 @@
 ghost use Rattle.std.specs.Prelude.{◌≡◌, ◌<◌, ◌≤◌, ◌+◌, length, MatchOption};
 ghost use Rattle.burr_code.specs.declared.limits.TheConstants.{MOST_CODE, SLOTS};
 ghost use Rattle.burr_code.specs.Instruction.{Push, Load, Store, Add, Sub, Drop, IsInNumberRange, spelled};
-ghost use Rattle.burr_state.specs.Bench.{BenchProcedure};
-ghost use Rattle.burr_state.specs.Numbers.{pushing, loading, storing, adding, subtracting, dropping};
-ghost use Rattle.burr_state.specs.Effects.{next_of, KeepsUnlessGoes, NeverMoves, StaysPut};
+ghost use Rattle.burr_state.specs.Rules.Bench.{BenchProcedure};
+ghost use Rattle.burr_state.specs.Rules.Numbers.{pushing, loading, storing, adding, subtracting, dropping};
+ghost use Rattle.burr_state.specs.Views.Effects.{next_of, KeepsUnlessGoes, NeverMoves, StaysPut};
 
 use crate::effect::Effect;
 use crate::state::BenchState;
@@ -25,7 +25,7 @@ impl BenchState {
             return Err(Trap::StackFull);
         }
         self.running.push(i32::from(number));
-        self.go_behind(size);
+        self.go_after(size);
         Ok(Effect::Goes(None))
     }
 
@@ -46,7 +46,7 @@ impl BenchState {
             return Err(Trap::StackFull);
         }
         self.running.push(number);
-        self.go_behind(size);
+        self.go_after(size);
         Ok(Effect::Goes(None))
     }
 
@@ -68,7 +68,7 @@ impl BenchState {
             return Err(Trap::MissingOperand);
         };
         self.running.set_slot(slot, number);
-        self.go_behind(size);
+        self.go_after(size);
         Ok(Effect::Goes(None))
     }
 
@@ -88,7 +88,7 @@ impl BenchState {
             return Err(Trap::NumberRange);
         };
         self.running.replace_two(sum);
-        self.go_behind(size);
+        self.go_after(size);
         Ok(Effect::Goes(None))
     }
 
@@ -109,7 +109,7 @@ impl BenchState {
             return Err(Trap::NumberRange);
         };
         self.running.replace_two(difference);
-        self.go_behind(size);
+        self.go_after(size);
         Ok(Effect::Goes(None))
     }
 
@@ -125,7 +125,7 @@ impl BenchState {
         if self.running.pop().is_none() {
             return Err(Trap::MissingOperand);
         }
-        self.go_behind(size);
+        self.go_after(size);
         Ok(Effect::Goes(None))
     }
 }

@@ -3,8 +3,8 @@
 ghost use Rattle.std.specs.Prelude.{◌≡◌, ◌≤◌, ◌+◌, ◌-ℤ◌, pos, length, MatchOption};
 ghost use Rattle.burr_code.specs.declared.limits.TheConstants.{MOST_CODE};
 ghost use Rattle.burr_code.specs.Instruction.{Ask, spelled};
-ghost use Rattle.burr_state.specs.Questions.{asking, picking};
-ghost use Rattle.burr_state.specs.Effects.{next_of, KeepsUnlessGoes, NeverMoves, StaysPut, TakesNumber, TakesLabel, IsPicked, PicksAt};
+ghost use Rattle.burr_state.specs.Rules.Questions.{asking, picking};
+ghost use Rattle.burr_state.specs.Views.Effects.{next_of, KeepsUnlessGoes, NeverMoves, StaysPut, TakesNumber, TakesLabel, IsPicked, PicksAt};
 
 use crate::effect::Effect;
 use crate::program::Procedure;
@@ -51,7 +51,7 @@ impl BenchState {
             return false;
         }
         self.running.push(answer);
-        self.go_behind(size);
+        self.go_after(size);
         true
     }
 

@@ -1,8 +1,8 @@
 ghost use Rattle.std.specs.Prelude.{◌≡◌, ◌≤◌, ◌<◌, ◌+◌, length, IfSome, Some, slice_get};
 ghost use Rattle.burr_voxels.specs.Near.{IsWithin};
-ghost use Rattle.burr_state.specs.StateViews.{at_start, IsOffsetHere};
-ghost use Rattle.burr_state.specs.Spots.{placed};
-ghost use Rattle.burr_state.specs.Offsets.{AreNear};
+ghost use Rattle.burr_state.specs.Views.StateViews.{at_start, IsOffsetHere};
+ghost use Rattle.burr_state.specs.Views.Spots.{placed};
+ghost use Rattle.burr_state.specs.Views.Offsets.{AreNear};
 
 use crate::activation::Activation;
 use crate::mode::Mode;

@@ -3,8 +3,8 @@
 ghost use Rattle.std.specs.Prelude.{◌≡◌, ◌≤◌, ◌+◌, length};
 ghost use Rattle.burr_code.specs.declared.limits.TheConstants.{MOST_CODE};
 ghost use Rattle.burr_code.specs.Instruction.{Grip, Tray, spelled};
-ghost use Rattle.burr_state.specs.Space.{gripping, choosing_tray};
-ghost use Rattle.burr_state.specs.Effects.{next_of, KeepsUnlessGoes, NeverMoves, ChoosesPieces};
+ghost use Rattle.burr_state.specs.Rules.Space.{gripping, choosing_tray};
+ghost use Rattle.burr_state.specs.Views.Effects.{next_of, KeepsUnlessGoes, NeverMoves, ChoosesPieces};
 
 use crate::effect::Effect;
 use crate::state::BenchState;
@@ -24,7 +24,7 @@ impl BenchState {
             return Err(Trap::GripOff);
         }
         self.grip = set;
-        self.go_behind(size);
+        self.go_after(size);
         Ok(Effect::Goes(None))
     }
 
@@ -39,7 +39,7 @@ impl BenchState {
     {
         self.tray = tray;
         self.grip = 0;
-        self.go_behind(size);
+        self.go_after(size);
         Ok(Effect::Goes(None))
     }
 }

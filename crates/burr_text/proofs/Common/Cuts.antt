@@ -15,7 +15,7 @@ same_head b c r s e = ap (λ bytes. get_or bytes 0 0) e
 pub same_tail : (b c : ℕ) (r s : List ℕ) → b ∷ r ≡ c ∷ s → r ≡ s
 same_tail b c r s e = ap (drop 1) e
 
--- what stands before the first of a byte, and what stands behind it
+-- what stands before the first of a byte, and what stands after it
 pub cut : (c : ℕ) (a b r s : List ℕ) → Lacks c a → Lacks c b → a ++ c ∷ r ≡ b ++ c ∷ s → (a ≡ b) × (r ≡ s)
 cut c [] [] r s p q e = (refl, same_tail c c r s e)
 cut c [] (y ∷ b) r s p q e = absurd (q.0 (sym (same_head c y r (b ++ c ∷ s) e)))

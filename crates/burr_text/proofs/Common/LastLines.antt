@@ -1,4 +1,4 @@
--- For crates above: lines and behind them a line without its end make one list in one way.
+-- For crates above: lines and after them a line without its end make one list in one way.
 use Rattle.std.proofs.Common.{◌≡◌, ℕ, ◌⊎◌, List, [], ◌∷◌, ◌++◌, refl, sym, ap, subst, ◌∙◌, inl, inr}
 use Rattle.std.proofs.lemmas.List.{append-nil}
 use Rattle.burr_text.proofs.Common.Cuts.{Lacks, same_head, same_tail}
@@ -14,21 +14,21 @@ ends_with : (c : ℕ) (f : List ℕ) → ¬ Lacks c (f ++ c ∷ [])
 ends_with c [] h = h.0 refl
 ends_with c (x ∷ f) h = ends_with c f h.1
 
--- behind a front of an empty list nothing stands
-pub empty_behind : (a b : List ℕ) → [] ≡ a ++ b → b ≡ []
-empty_behind [] b e = sym e
-empty_behind (x ∷ a) b e = cc
+-- after a front of an empty list nothing stands
+pub empty_after : (a b : List ℕ) → [] ≡ a ++ b → b ≡ []
+empty_after [] b e = sym e
+empty_after (x ∷ a) b e = cc
 
--- the bytes behind a front of an ended text are none, where no end of a line is among them
-none_behind : (f b m : List ℕ) → f ++ 10 ∷ [] ≡ b ++ m → Lacks 10 m → m ≡ []
-none_behind f [] m e h = absurd (ends_with 10 f (subst (Lacks 10) (sym e) h))
-none_behind [] (y ∷ b) m e h = empty_behind b m (same_tail 10 y [] (b ++ m) e)
-none_behind (x ∷ f) (y ∷ b) m e h = none_behind f b m (same_tail x y (f ++ 10 ∷ []) (b ++ m) e) h
+-- the bytes after a front of an ended text are none, where no end of a line is among them
+none_after : (f b m : List ℕ) → f ++ 10 ∷ [] ≡ b ++ m → Lacks 10 m → m ≡ []
+none_after f [] m e h = absurd (ends_with 10 f (subst (Lacks 10) (sym e) h))
+none_after [] (y ∷ b) m e h = empty_after b m (same_tail 10 y [] (b ++ m) e)
+none_after (x ∷ f) (y ∷ b) m e h = none_after f b m (same_tail x y (f ++ 10 ∷ []) (b ++ m) e) h
 
--- and so are those behind a front of lines
+-- and so are those after a front of lines
 lines_alone : (text b m : List ℕ) → IsLines text → text ≡ b ++ m → Lacks 10 m → m ≡ []
-lines_alone text b m (inl e) parts h = empty_behind b m (sym e ∙ parts)
-lines_alone text b m (inr f) parts h = none_behind f.0 b m (sym f.1 ∙ parts) h
+lines_alone text b m (inl e) parts h = empty_after b m (sym e ∙ parts)
+lines_alone text b m (inr f) parts h = none_after f.0 b m (sym f.1 ∙ parts) h
 
 -- the first of two ways to cut a list is longer by these bytes
 abbrev IsLonger : List ℕ → List ℕ → List ℕ → List ℕ → Type 0

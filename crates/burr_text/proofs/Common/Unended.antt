@@ -47,10 +47,10 @@ AreDigits bytes = AllByRecursion (λ b. (48 ≤ b) × (b ≤ 57)) bytes
 glyph_is_digit : (d : ℕ) → d < 10 → (48 ≤ digit_glyph false d) × (digit_glyph false d ≤ 57)
 glyph_is_digit d small = (grind (arith, nat_tests), grind (arith, nat_tests))
 
-more_digits : (k n : ℕ) (behind : List ℕ) → AreDigits behind → AreDigits (digits_onto k 10 false n behind)
-more_digits zero n behind h = h
-more_digits (suc k) n behind h =
-    let more : List ℕ = digit_glyph false (n % 10) ∷ behind in
+more_digits : (k n : ℕ) (after : List ℕ) → AreDigits after → AreDigits (digits_onto k 10 false n after)
+more_digits zero n after h = h
+more_digits (suc k) n after h =
+    let more : List ℕ = digit_glyph false (n % 10) ∷ after in
     let are : AreDigits more = (glyph_is_digit (n % 10) (omega arith), h) in
     either (n / 10 == 0) more (digits_onto k 10 false (n / 10) more) are (more_digits k (n / 10) more are)
   where

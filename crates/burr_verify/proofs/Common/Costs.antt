@@ -6,15 +6,15 @@ use Rattle.std.proofs.lemmas.Option.{none-some, same_Some, slice_get_within}
 use Rattle.burr_voxels.specs.declared.cell.Cell.{Cell}
 use Rattle.burr_code.specs.Instruction.{Instruction, Halt, Push, Load, Store, Add, Sub, Drop, Grip, Step, Aside, Tray, Jump, Down, Ask, Pick, Call, Ret}
 use Rattle.burr_code.specs.Labels.{callee_of}
-use Rattle.burr_forms.specs.Forms.{Form, Point, value, values, one_less, substituted}
-use Rattle.burr_container.specs.Plans.{Frame}
-use Rattle.burr_frames.specs.FramedPlans.{FramedProcedure, FramedPlan}
-use Rattle.burr_frames.specs.States.{AbstractState, IsPoint, Everywhere, state_of}
-use Rattle.burr_frames.specs.ControlRules.{entry_of, called_with, left_of, call_rule}
-use Rattle.burr_frames.specs.Arrival.{Meets}
-use Rattle.burr_frames.specs.Verdicts.{Verdict, Breaks, Falls, Leaves}
-use Rattle.burr_frames.specs.Transfer.{Transfer}
-use Rattle.burr_verify.specs.WellFramed.{Row, behind, FallsOut, Passes, IsCut}
+use Rattle.burr_forms.specs.Rules.Forms.{Form, Point, value, values, one_less, substituted}
+use Rattle.burr_container.specs.Rules.Plans.{Frame}
+use Rattle.burr_frames.specs.Rules.FramedPlans.{FramedProcedure, FramedPlan}
+use Rattle.burr_frames.specs.Rules.States.{AbstractState, IsPoint, Everywhere, state_of}
+use Rattle.burr_frames.specs.Rules.ControlRules.{entry_of, called_with, left_of, call_rule}
+use Rattle.burr_frames.specs.Rules.Arrival.{Meets}
+use Rattle.burr_frames.specs.Rules.Verdicts.{Verdict, Breaks, FallsThrough, NoSuccessor}
+use Rattle.burr_frames.specs.Rules.Transfer.{Transfer}
+use Rattle.burr_verify.specs.Rules.WellFramed.{Annotated, after, FallsOut, IsCutFrom, IsCut}
 use Rattle.burr_verify.proofs.Common.FineVerdicts.{IsFine, held, found, held_everywhere, held_of_pairs, paid}
 use Rattle.burr_verify.proofs.Common.FormValues.{value_raised, value_minus, value_substituted}
 use Rattle.burr_verify.proofs.Common.FromContainers.{first_label}
@@ -23,7 +23,7 @@ use Rattle.burr_verify.proofs.Common.FromContainers.{first_label}
 abbrev pub AllCut : List (List Cell) → FramedPlan → Type 0
 AllCut homes plan =
     (n : ℕ) (here : FramedProcedure) → slice_get plan.procedures n ≡ Some here
-    → (rows : List Row) × IsCut homes plan n here rows
+    → (rows : List Annotated) × IsCut homes plan n here rows
 
 -- every point of the state has a cost of at least one
 abbrev pub CostsOne : AbstractState → Type 0
@@ -43,10 +43,10 @@ from_one_less s point is enough =
 more_than : (a b c : ℤ) → c ≡ ((a -ℤ pos 1) -ℤ b) → pos 0 ≤ℤ c → pos 1 ≤ℤ b → pos 1 ≤ℤ a
 more_than a b c e h k = omega (arith, ints)
 
--- the cost behind a call
-cost_behind : (cost : Form) (forms : List Form) (entry : Form) (x : Point)
+-- the cost after a call
+cost_after : (cost : Form) (forms : List Form) (entry : Form) (x : Point)
     → value x (left_of cost (substituted forms entry)) ≡ ((value x cost -ℤ pos 1) -ℤ value (values x forms) entry)
-cost_behind cost forms entry x =
+cost_after cost forms entry x =
     let a = value_minus (one_less cost) (substituted forms entry) x in
     let c = value_substituted forms entry x in
     let d = value_raised (neg_ℤ (pos 1)) cost x in
@@ -102,25 +102,25 @@ call_costs plan n q s v fine t =
 -- Cuts
 
 -- the rule of an instruction of a cut
-record RowRule (homes : List (List Cell)) (plan : FramedPlan) (n : ℕ) (here : FramedProcedure) (row : Row) : Type 0 where
+record RowRule (homes : List (List Cell)) (plan : FramedPlan) (n : ℕ) (here : FramedProcedure) (row : Annotated) : Type 0 where
   verdict : Verdict
   fine : IsFine verdict
   rule : Transfer homes plan n here row.state row.instruction verdict
 
 fine_falls : (v : Verdict) (out : Option AbstractState) → FallsOut v out → IsFine v
 fine_falls (Breaks b) out h = h
-fine_falls (Falls s) out h = tt
-fine_falls Leaves out h = tt
+fine_falls (FallsThrough s) out h = tt
+fine_falls NoSuccessor out h = tt
 
-rule_at : (homes : List (List Cell)) (plan : FramedPlan) (n : ℕ) (here : FramedProcedure) (rows : List Row) (pc : ℕ)
-    (falling : Option AbstractState) (k : ℕ) (row : Row) → Passes homes plan n here pc falling rows
+rule_at : (homes : List (List Cell)) (plan : FramedPlan) (n : ℕ) (here : FramedProcedure) (rows : List Annotated) (pc : ℕ)
+    (falling : Option AbstractState) (k : ℕ) (row : Annotated) → IsCutFrom homes plan n here pc falling rows
     → slice_get rows k ≡ Some row → RowRule homes plan n here row
 rule_at homes plan n here [] pc falling k row p e = absurd (none-some _ e)
 rule_at homes plan n here (first ∷ rows) pc falling zero row p e =
-    subst (λ (r : Row). RowRule homes plan n here r) (same_Some first row e)
+    subst (λ (r : Annotated). RowRule homes plan n here r) (same_Some first row e)
     (record { verdict = p.3; fine = fine_falls p.3 p.4 p.6; rule = p.5 })
 rule_at homes plan n here (first ∷ rows) pc falling (suc k) row p e =
-    rule_at homes plan n here rows (behind first) p.4 k row p.7 e
+    rule_at homes plan n here rows (after first) p.4 k row p.7 e
 
 -- each instruction of a procedure costs at least one
 abbrev EachCosts : List (List Cell) → FramedPlan → ℕ → FramedProcedure → Type 0
@@ -128,7 +128,7 @@ EachCosts homes plan n here =
     (i : Instruction) (s : AbstractState) (v : Verdict) → IsFine v → Transfer homes plan n here s i v → CostsOne s
 
 -- and so does its entry frame
-entry_costs : (homes : List (List Cell)) (plan : FramedPlan) (n : ℕ) (here : FramedProcedure) (rows : List Row) (f : Frame)
+entry_costs : (homes : List (List Cell)) (plan : FramedPlan) (n : ℕ) (here : FramedProcedure) (rows : List Annotated) (f : Frame)
     → EachCosts homes plan n here → IsCut homes plan n here rows → entry_of here ≡ Some f → CostsOne (state_of f)
 entry_costs homes plan n here rows f each cut e =
     let label = first_label here.labels f e in
@@ -198,7 +198,7 @@ costs homes plan cuts (suc fuel) n here is few (Call q) s v fine t point at =
     (λ i u w ok rule. costs homes plan cuts fuel q c.there callee.1 lower i u w ok rule) cut.1 c.entry_is
     (values point c.meets.forms) (c.meets.agrees point at).is_point in
     more_than (value point s.cost) (value (values point c.meets.forms) c.entry.cost) _
-    (cost_behind s.cost c.meets.forms c.entry.cost point) (c.enough point at) one
+    (cost_after s.cost c.meets.forms c.entry.cost point) (c.enough point at) one
   where
     further : (n q fuel l : ℕ) → n < q → l ≤ n + suc fuel → l ≤ q + fuel
     further n q fuel l lt le = omega arith

@@ -2,16 +2,16 @@
 use Rattle.std.proofs.Common.{◌≡◌, ◌⊎◌, ℕ, Option, Some, None, subst, inl, inr}
 use Rattle.std.specs.Prelude.{pos, ◌≤ℤ◌}
 use Rattle.burr_text.specs.Checks.{needs}
-use Rattle.burr_forms.specs.Forms.{Point, value, one_less, IsSmallForm}
+use Rattle.burr_forms.specs.Rules.Forms.{Point, value, one_less, IsSmallForm}
 use Rattle.burr_frames.specs.declared.rule.Rule.{Rule}
 use Rattle.burr_frames.specs.declared.rule.Rule.TheVariants as rules
-use Rattle.burr_frames.specs.States.{AbstractState, Everywhere, IsFirstFailing}
-use Rattle.burr_frames.specs.Verdicts.{Broken, Verdict, Breaks, Falls, Leaves, everywhere, plainly, at_point, at_pair, IsFirstPair}
+use Rattle.burr_frames.specs.Rules.States.{AbstractState, Everywhere, IsFirstFailing}
+use Rattle.burr_frames.specs.Rules.Verdicts.{Broken, Verdict, Breaks, FallsThrough, NoSuccessor, everywhere, plainly, at_point, at_pair, IsFirstPair}
 
 abbrev pub IsFine : Verdict → Type 0
 IsFine (Breaks break) = ⊥
-IsFine (Falls s) = Unit {0}
-IsFine Leaves = Unit {0}
+IsFine (FallsThrough s) = Unit {0}
+IsFine NoSuccessor = Unit {0}
 
 pub fine : {v : Verdict} (b : Broken) → v ≡ Breaks b → IsFine v → ⊥
 fine b e h = subst IsFine e h

@@ -3,7 +3,7 @@ use Rattle.std.proofs.Common.{◌≡◌, ℕ, zero, suc, List, [], ◌∷◌, re
 use Rattle.std.specs.Prelude.{ℤ, pos, negsuc, neg_ℤ, ◌+ℤ◌, ◌-ℤ◌, ◌*ℤ◌, map, replicate}
 use Rattle.std.proofs.lemmas.Int.{ints}
 use Rattle.std.proofs.Math.IntN.{suc_ℤ, pred_ℤ, suc_ℤ-*ℤ, pred_ℤ-*ℤ, zero-*ℤ, *ℤ_comm, *ℤ-zero}
-use Rattle.burr_forms.specs.Forms.{Form, Point, dot, value, values, number, sum_of, plus_form, times, minus_form, raised, combined, substituted}
+use Rattle.burr_forms.specs.Rules.Forms.{Form, Point, dot, value, values, number, sum_of, plus_form, times, minus_form, raised, combined, substituted}
 
 suc_is : (z : ℤ) → suc_ℤ z ≡ (z +ℤ pos 1)
 suc_is (pos n) = omega (arith, ints)

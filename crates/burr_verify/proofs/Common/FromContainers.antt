@@ -4,11 +4,11 @@ use Rattle.std.specs.Prelude.{slice_get}
 use Rattle.std.proofs.lemmas.Bool.{cases_order}
 use Rattle.std.proofs.lemmas.Option.{none-some, same_Some, slice_get_within}
 use Rattle.burr_voxels.specs.declared.cell.Cell.{Cell}
-use Rattle.burr_container.specs.Plans.{Frame}
-use Rattle.burr_frames.specs.FramedPlans.{FramedProcedure, FramedPlan}
-use Rattle.burr_frames.specs.ControlRules.{entry_of, first_frame}
-use Rattle.burr_verify.specs.WellFramed.{IsLabelled, IsWellFramed}
-use Rattle.burr_verify.specs.FromContainers.{IsFromContainer}
+use Rattle.burr_container.specs.Rules.Plans.{Frame}
+use Rattle.burr_frames.specs.Rules.FramedPlans.{FramedProcedure, FramedPlan}
+use Rattle.burr_frames.specs.Rules.ControlRules.{entry_of, first_frame}
+use Rattle.burr_verify.specs.Rules.WellFramed.{IsLabelled, IsWellFramed}
+use Rattle.burr_verify.specs.Views.FromContainers.{IsFromContainer}
 
 -- label 0 is the first
 pub first_label : (labels : List (ℕ × Frame)) (f : Frame) → first_frame labels ≡ Some f

@@ -1,5 +1,5 @@
 use Rattle.std.proofs.Common.{refl, subst, inl}
-use Rattle.burr_runs.specs.Verdicts.{PutsVerdict}
+use Rattle.burr_runs.specs.Rules.Verdicts.{PutsVerdict}
 use Rattle.burr.specs.PlanEnds.{CheckEnds}
 use Rattle.burr.proofs.Ending.{fails_by_write, check_front}
 use Rattle.burr.proofs.plan_commands.check_plan.Goals as goal

@@ -2,7 +2,7 @@ use Rattle.std.proofs.Common.{refl}
 use Rattle.burr_runs.specs.declared.answers.AnswersFault.TheVariants.{Line}
 use Rattle.burr.specs.PlanEnds.{FaultyEnds}
 use Rattle.burr.specs.declared.status.Status.TheVariants.{Refused}
-use Rattle.burr_runs.specs.Refusals.{answers_refusal}
+use Rattle.burr_runs.specs.Rules.Refusals.{answers_refusal}
 use Rattle.burr.proofs.Ending.{fails_by_write}
 use Rattle.burr.proofs.plan_commands.refuse_answers.Goals as goal
 

@@ -1,6 +1,6 @@
 use Rattle.std.proofs.Common.{subst, sym}
-use Rattle.burr_assembly.specs.Text.{Assembly}
-use Rattle.burr_runs.specs.Verdicts.{plan_refusal}
+use Rattle.burr_assembly.specs.Rules.Text.{Assembly}
+use Rattle.burr_runs.specs.Rules.Verdicts.{plan_refusal}
 use Rattle.burr.specs.PlanEnds.{IsRefusal, AnswersEnd, SafeEnds, RunEnds}
 use Rattle.burr.proofs.Ending.{AreAmong, puts_among, fails_among, accepted_among, refused_among}
 use Rattle.burr.proofs.plan_commands.run_if_accepted.Goals as goal

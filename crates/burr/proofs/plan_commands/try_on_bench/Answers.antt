@@ -1,8 +1,8 @@
 use Rattle.std.proofs.Common.{refl, subst, sym}
 use Rattle.std.specs.Prelude.{IsOk}
 use Rattle.std.proofs.lemmas.Bool.{false≢true}
-use Rattle.burr_assembly.specs.Text.{Assembly}
-use Rattle.burr_runs.specs.Verdicts.{plan_refusal}
+use Rattle.burr_assembly.specs.Rules.Text.{Assembly}
+use Rattle.burr_runs.specs.Rules.Verdicts.{plan_refusal}
 use Rattle.burr.specs.PlanEnds.{IsRefusal, AnswersEnd, BenchEnds, TryEnds}
 use Rattle.burr.proofs.Ending.{AreAmong, puts_among, fails_among, bench_among, try_misfit}
 use Rattle.burr.proofs.plan_commands.try_on_bench.Goals as goal

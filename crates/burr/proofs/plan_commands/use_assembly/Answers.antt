@@ -1,10 +1,10 @@
 use Rattle.std.proofs.Common.{inl, subst}
 use Rattle.std.proofs.lemmas.Bool.{false≢true}
 use Rattle.std.specs.Prelude.{IsOk}
-use Rattle.burr_runs.specs.Verdicts.{plan_refusal}
+use Rattle.burr_runs.specs.Rules.Verdicts.{plan_refusal}
 use Rattle.burr_command.specs.declared.job.PlanTask.TheVariants.{Check, Run, Try}
 use Rattle.burr.specs.PlanEnds.{IsRefusal, CheckEnds, RunEnds, TryEnds, AssemblyEnds}
-use Rattle.burr_runs.specs.Refusals.{container_refusal}
+use Rattle.burr_runs.specs.Rules.Refusals.{container_refusal}
 use Rattle.burr.proofs.Ending.{puts_among, fails_among, container_among, misfit_ends}
 use Rattle.burr.proofs.plan_commands.use_assembly.Goals as goal
 

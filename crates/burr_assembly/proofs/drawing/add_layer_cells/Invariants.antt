@@ -1,7 +1,7 @@
 use Rattle.std.proofs.Common.{◌≡◌, ◌++◌, drop}
 use Rattle.std.specs.List.{All}
 use Rattle.burr_voxels.specs.Near.{IsWithin}
-use Rattle.burr_assembly.specs.Text.{layer_cells}
+use Rattle.burr_assembly.specs.Rules.Text.{layer_cells}
 use Rattle.burr_assembly.proofs.drawing.add_layer_cells.Given as goal
 
 -- the cells of the rows so far, and those to come, are the layer's

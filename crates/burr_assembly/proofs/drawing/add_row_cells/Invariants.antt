@@ -1,7 +1,7 @@
 use Rattle.std.proofs.Common.{◌≡◌, ◌++◌, drop}
 use Rattle.std.specs.List.{All}
 use Rattle.burr_voxels.specs.Near.{IsWithin}
-use Rattle.burr_assembly.specs.Text.{row_cells}
+use Rattle.burr_assembly.specs.Rules.Text.{row_cells}
 use Rattle.burr_assembly.proofs.drawing.add_row_cells.Given as goal
 
 -- the cells of the marks so far, and those to come, are the row's

@@ -1,7 +1,7 @@
 use Rattle.std.proofs.Common.{◌≡◌, ◌++◌, drop}
 use Rattle.std.specs.List.{All}
 use Rattle.burr_voxels.specs.Near.{IsWithin}
-use Rattle.burr_assembly.specs.Text.{cells_from, drawn_cells}
+use Rattle.burr_assembly.specs.Rules.Text.{cells_from, drawn_cells}
 use Rattle.burr_assembly.proofs.drawing.cells_of.Given as goal
 
 -- the cells of the layers so far, and those to come, are the drawing's

@@ -1,6 +1,6 @@
 use Rattle.std.proofs.Common.{take}
 use Rattle.std.specs.HashMap.{get}
-use Rattle.burr_assembly.specs.HomedPieces.{Owns, same_cell}
+use Rattle.burr_assembly.specs.Views.HomedPieces.{Owns, same_cell}
 use Rattle.burr_assembly.proofs.occupancy.own.Given as goal
 
 -- the piece owns the cells so far

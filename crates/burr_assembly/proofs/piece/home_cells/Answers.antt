@@ -1,5 +1,5 @@
 use Rattle.std.proofs.Common.{rules}
-use Rattle.burr_assembly.specs.HomedPieces.{turn_of}
+use Rattle.burr_assembly.specs.Views.HomedPieces.{turn_of}
 use Rattle.burr_assembly.proofs.HomeLemmas.{AllWithin-home, home_cells-more}
 use Rattle.burr_assembly.proofs.piece.home_cells.Goals as goal
 

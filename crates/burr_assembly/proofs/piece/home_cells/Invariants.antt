@@ -1,8 +1,8 @@
 use Rattle.std.proofs.Common.{◌≡◌, take}
 use Rattle.std.specs.List.{All}
 use Rattle.burr_voxels.specs.Near.{IsWithin}
-use Rattle.burr_assembly.specs.Text.{home_cells}
-use Rattle.burr_assembly.specs.HomedPieces.{turn_of}
+use Rattle.burr_assembly.specs.Rules.Text.{home_cells}
+use Rattle.burr_assembly.specs.Views.HomedPieces.{turn_of}
 use Rattle.burr_assembly.proofs.piece.home_cells.Given as goal
 
 abbrev pub invariant-loop-cell : goal.invariant-loop-cell

@@ -8,11 +8,11 @@ use Rattle.byteorder.specs.Endian.{big_bytes}
 use Rattle.burr_code.specs.declared.limits.TheConstants.{MOST_PROCEDURES}
 use Rattle.burr_container.specs.declared.fault.ContainerFault.{ContainerFault}
 use Rattle.burr_container.specs.declared.fault.ContainerFault.TheVariants.{C2, C3, C4}
-use Rattle.burr_container.specs.Plans.{PlanProcedure}
-use Rattle.burr_container.specs.Spelling.{counted_bytes, procedure_bytes, plan_bytes}
-use Rattle.burr_container.specs.Fitting.{is_procedure, are_procedures, is_piece_count, is_name_text, is_version, is_budget}
-use Rattle.burr_container.specs.Faults.{Failing, number, raw, procedure, others, each, IsFollowed, name, is_magic, ContainerFails}
-use Rattle.burr_container.specs.Laws.{IsSpelled, FaultOrPlan}
+use Rattle.burr_container.specs.Rules.Plans.{PlanProcedure}
+use Rattle.burr_container.specs.Rules.Spelling.{counted_bytes, procedure_bytes, plan_bytes}
+use Rattle.burr_container.specs.Rules.Fitting.{is_procedure, are_procedures, is_piece_count, is_name_text, is_version, is_budget}
+use Rattle.burr_container.specs.Rules.Faults.{Failing, number, raw, procedure, others, each, IsFollowed, name, is_magic, ContainerFails}
+use Rattle.burr_container.specs.Laws.PlanBytes.{IsSpelled, FaultOrPlan}
 use Rattle.burr_container.proofs.Common.Fields.{byte_back, number_so}
 use Rattle.burr_container.proofs.Common.Lawful.{Front, OfPart, OfEnd}
 use Rattle.burr_container.proofs.Common.Lists.{OfEach}
@@ -158,16 +158,16 @@ plan_back Last v bytes r small here =
     let pieces = byte_back C4 is_piece_count v.1.1.1.0 from_budget.0 from_pieces.0 from_pieces.1 in
     let counted =
     counted_back plan.version plan.pieces Last v.1.1.1.1.1 from_name.0 r from_name.2 in
-    let behind_pieces : from_pieces.0 ≡ length
+    let after_pieces : from_pieces.0 ≡ length
     plan.name ∷ (plan.name ++ (all_bytes_of plan ++ counted.0)) =
     from_name.1.1 ∙ ap (λ (rest : List ℕ). length plan.name ∷ (plan.name ++ rest)) counted.2 in
-    let behind_budget : from_budget.0 ≡ plan.pieces ∷ length
+    let after_budget : from_budget.0 ≡ plan.pieces ∷ length
     plan.name ∷ (plan.name ++ (all_bytes_of plan ++ counted.0)) =
-    pieces.1 ∙ ap (λ (rest : List ℕ). plan.pieces ∷ rest) behind_pieces in
-    let behind_version =
-    from_budget.1.1 ∙ ap (λ (rest : List ℕ). big_bytes 4 plan.budget ++ rest) behind_budget in
-    let behind_magic =
-    from_version.1.1 ∙ ap (λ (rest : List ℕ). big_bytes 2 plan.version ++ rest) behind_version in
+    pieces.1 ∙ ap (λ (rest : List ℕ). plan.pieces ∷ rest) after_pieces in
+    let after_version =
+    from_budget.1.1 ∙ ap (λ (rest : List ℕ). big_bytes 4 plan.budget ++ rest) after_budget in
+    let after_magic =
+    from_version.1.1 ∙ ap (λ (rest : List ℕ). big_bytes 2 plan.version ++ rest) after_version in
     let head = is_version plan.version in
     let steps = is_budget plan.budget in (
       counted.0,
@@ -178,7 +178,7 @@ plan_back Last v bytes r small here =
           (and_from head steps version budget) pieces.0)
           from_name.1.0) counted.1,
       here.1.1 ∙ ap (λ (front : List ℕ). front ++ here.0) magic
-          ∙ ap (λ (rest : List ℕ). codes "BPLN" ++ rest) behind_magic
+          ∙ ap (λ (rest : List ℕ). codes "BPLN" ++ rest) after_magic
           ∙ sym (plan_apart plan counted.0),
       counted.3,
     )

@@ -4,14 +4,14 @@ use Rattle.std.specs.List.{list_all}
 use Rattle.std.proofs.lemmas.Bool.{and_from}
 use Rattle.byteorder.specs.Endian.{big_bytes}
 use Rattle.burr_code.specs.declared.limits.TheConstants.{MOST_GUARDS}
-use Rattle.burr_container.specs.Plans.{Range, exit_symbols}
-use Rattle.burr_container.specs.Spelling.{ranges_bytes, exit_guards_bytes, places_bytes}
-use Rattle.burr_container.specs.Fitting.{is_range, are_ranges, are_forms, most_exit_guards, is_tray, is_set_of, are_places, is_exit_rest}
-use Rattle.burr_container.specs.Faults.{range, ranges, place, exit_guards, ExitRestFails, exit_frame, passes, each}
+use Rattle.burr_container.specs.Rules.Plans.{Range, exit_symbols}
+use Rattle.burr_container.specs.Rules.Spelling.{ranges_bytes, exit_guards_bytes, places_bytes}
+use Rattle.burr_container.specs.Rules.Fitting.{is_range, are_ranges, are_forms, most_exit_guards, is_tray, is_set_of, are_places, is_exit_rest}
+use Rattle.burr_container.specs.Rules.Faults.{range, ranges, place, exit_guards, ExitRestFails, exit_frame, passes, each}
 use Rattle.burr_container.proofs.Common.Lawful.{OfPart, OfNothing}
 use Rattle.burr_container.proofs.Common.Lists.{OfEach}
 use Rattle.burr_container.proofs.Common.Frames.{head_fails}
-use Rattle.burr_container.proofs.Common.Exits.{guards_by, OfExitGuards, exit_guards_fail, OfExitRest, BehindGrip, exit_frame_of, exit_apart, OfExitFrame}
+use Rattle.burr_container.proofs.Common.Exits.{guards_by, OfExitGuards, exit_guards_fail, OfExitRest, AfterGrip, exit_frame_of, exit_apart, OfExitFrame}
 use Rattle.burr_container.proofs.Common.Judging.Fronts.{AreSmall, Judged, JudgedPart, first_judged, judged_as, passes_judged}
 use Rattle.burr_container.proofs.Common.Judging.Lists.{each_judged}
 use Rattle.burr_container.proofs.Common.Judging.Places.{forms_judged, place_judged}
@@ -51,7 +51,7 @@ exit_rest_judged version pieces results live =
     (λ guards. each pieces (place live)) (exit_guards_judged version live)
     (λ guards fit. each_judged (place live) pieces (place_judged live)))
 
-pub exit_back : (version pieces parameters results : ℕ) (v : ℕ × (ℕ × BehindGrip))
+pub exit_back : (version pieces parameters results : ℕ) (v : ℕ × (ℕ × AfterGrip))
     (bytes r : List ℕ) → AreSmall bytes
     → OfExitFrame version pieces parameters results v bytes r
     → OfPart (exit_frame version pieces parameters results) (exit_frame_of v) bytes r

@@ -8,7 +8,7 @@ use Rattle.burr_text.proofs.Common.Decisions.{Decided, decide_at_most, decide_te
 use Rattle.burr_code.specs.Instruction.{signed_word}
 use Rattle.burr_container.specs.declared.fault.ContainerFault.{ContainerFault}
 use Rattle.burr_container.specs.declared.fault.ContainerFault.TheVariants.{C1, C4}
-use Rattle.burr_container.specs.Faults.{Part, field, number, signed, raw}
+use Rattle.burr_container.specs.Rules.Faults.{Part, field, number, signed, raw}
 use Rattle.burr_container.proofs.Common.Spelled.{is_word, is_long, long_bytes}
 use Rattle.burr_container.proofs.Common.Slots.{between_test}
 use Rattle.burr_container.proofs.Common.Judging.Fronts.{AreSmall, small_parts, Faulted, JudgedPart}

@@ -5,14 +5,14 @@ use Rattle.std.proofs.lemmas.Bool.{and_from}
 use Rattle.byteorder.specs.Endian.{big_bytes}
 use Rattle.burr_code.specs.declared.limits.TheConstants.{MOST_OPERANDS, MOST_GUARDS}
 use Rattle.burr_container.specs.declared.fault.ContainerFault.TheVariants.{C4}
-use Rattle.burr_container.specs.Plans.{live_slots}
-use Rattle.burr_container.specs.Spelling.{form_bytes, forms_bytes, slots_bytes, places_bytes}
-use Rattle.burr_container.specs.Fitting.{is_form, are_forms, are_slots, is_tray, is_set_of, is_place, are_places, is_frame_rest}
-use Rattle.burr_container.specs.Faults.{Failing, number, form, forms, slots, place, frame, first, each}
+use Rattle.burr_container.specs.Rules.Plans.{live_slots}
+use Rattle.burr_container.specs.Rules.Spelling.{form_bytes, forms_bytes, slots_bytes, places_bytes}
+use Rattle.burr_container.specs.Rules.Fitting.{is_form, are_forms, are_slots, is_tray, is_set_of, is_place, are_places, is_frame_rest}
+use Rattle.burr_container.specs.Rules.Faults.{Failing, number, form, forms, slots, place, frame, first, each}
 use Rattle.burr_container.proofs.Common.Fields.{byte_back, number_so}
 use Rattle.burr_container.proofs.Common.Lawful.{Front, OfPart, OfFirst}
 use Rattle.burr_container.proofs.Common.Lists.{OfEach}
-use Rattle.burr_container.proofs.Common.Frames.{FormPlaces, BehindHead, OfCost, cost_fails, OfStack, stack_fails, OfGuards, guards_fail, OfSlotsOn, slots_fail, OfHead, head_fails, frame_of, frame_apart}
+use Rattle.burr_container.proofs.Common.Frames.{FormPlaces, AfterHead, OfCost, cost_fails, OfStack, stack_fails, OfGuards, guards_fail, OfSlotsOn, slots_fail, OfHead, head_fails, frame_of, frame_apart}
 use Rattle.burr_container.proofs.Common.Judging.Fronts.{AreSmall, Judged, JudgedPart, first_judged, judged_as}
 use Rattle.burr_container.proofs.Common.Judging.Fields.{number_judged, digits_1, digits_4}
 use Rattle.burr_container.proofs.Common.Judging.Lists.{each_judged}
@@ -77,7 +77,7 @@ places_back pieces live places bytes r here =
     and_from (length places == pieces) (list_all (is_place live) places)
     (eq-eqb (length places) pieces here.0) here.1
 
-pub frame_back : (pieces : ℕ) (v : ℕ × (ℕ × BehindHead)) (bytes r : List ℕ) → AreSmall bytes
+pub frame_back : (pieces : ℕ) (v : ℕ × (ℕ × AfterHead)) (bytes r : List ℕ) → AreSmall bytes
     → OfHead pieces (OfSlotsOn pieces) v bytes r → OfPart (frame pieces) (frame_of v) bytes r
 frame_back pieces v bytes r small here =
     let f = frame_of v in

@@ -3,7 +3,7 @@
 use Rattle.std.proofs.Common.{ℕ, ◌+◌, ◌<◌, ◌⊎◌, IsTrue, List, [], ◌∷◌, ◌++◌, length, inl, inr, refl}
 use Rattle.burr_container.specs.declared.fault.ContainerFault.{ContainerFault}
 use Rattle.burr_container.specs.declared.fault.ContainerFault.TheVariants.{C6}
-use Rattle.burr_container.specs.Faults.{Failing, Part, passes, first, IsFollowed}
+use Rattle.burr_container.specs.Rules.Faults.{Failing, Part, passes, first, IsFollowed}
 use Rattle.burr_container.proofs.Common.Lawful.{Front, OfPart, OfFirst, OfNothing, OfEnd}
 
 -- numbers that are bytes
@@ -32,8 +32,8 @@ module _ {A B : Type 0} (part : Part A) (Next : A → Front B) (next : A → Fai
   next_found : (at : ℕ) (bytes rest : List ℕ) (a : A) → OfPart part a bytes rest
       → Found (Next a) rest ⊎ Faulted (next a) (at + length (part.bytes a)) rest
       → Found (OfFirst part Next) bytes ⊎ Faulted (first part next) at bytes
-  next_found at bytes rest a here (inl (b, r, behind, small)) =
-      inl ((a, b), r, (rest, here, behind), small)
+  next_found at bytes rest a here (inl (b, r, after, small)) =
+      inl ((a, b), r, (rest, here, after), small)
   next_found at bytes rest a here (inr (fault, fails)) =
       inr (fault, inr (a, rest, here.0, here.1, fails))
 

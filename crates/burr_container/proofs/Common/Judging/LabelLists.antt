@@ -5,10 +5,10 @@ use Rattle.byteorder.specs.Endian.{big_bytes}
 use Rattle.burr_code.specs.declared.limits.TheConstants.{MOST_LABELS}
 use Rattle.burr_container.specs.declared.fault.ContainerFault.{ContainerFault}
 use Rattle.burr_container.specs.declared.fault.ContainerFault.TheVariants.{C4, C5}
-use Rattle.burr_container.specs.Plans.{Frame}
-use Rattle.burr_container.specs.Spelling.{label_bytes}
-use Rattle.burr_container.specs.Fitting.{is_frame, rise_from, are_labels}
-use Rattle.burr_container.specs.Faults.{number, frame, passes, first, label as label_at, is_next_label, last_label, are_rising, is_above, LabelsFail, labels}
+use Rattle.burr_container.specs.Rules.Plans.{Frame}
+use Rattle.burr_container.specs.Rules.Spelling.{label_bytes}
+use Rattle.burr_container.specs.Rules.Fitting.{is_frame, rise_from, are_labels}
+use Rattle.burr_container.specs.Rules.Faults.{number, frame, passes, first, label as label_at, is_next_label, last_label, are_rising, is_above, LabelsFail, labels}
 use Rattle.burr_container.proofs.Common.Fields.{number_so}
 use Rattle.burr_container.proofs.Common.Lawful.{OfPart, OfFirst, OfNothing}
 use Rattle.burr_container.proofs.Common.LabelLists.{label, are_framed, LabelsFailFrom, OfLabels, last_from, last_of_all, is_label_count, OfAllLabels}
@@ -36,7 +36,7 @@ label_judged pieces last =
     (λ position. (frame pieces).Fails) (number_judged 2 C5 (is_next_label last) digits_2)
     (λ position fits. frame_judged pieces))
 
--- a label that fits, and others that fit behind it
+-- a label that fits, and others that fit after it
 more_fit : (pieces : ℕ) (last : Option ℕ) (l : ℕ × Frame) (ls : List (ℕ × Frame))
     → IsTrue ((label pieces last).fits l)
     → IsTrue (are_rising (Some l.0) ls && are_framed pieces ls)
@@ -145,7 +145,7 @@ labels_judged pieces =
     (λ ls bytes r small here. here) (labels_fail_back pieces count)
     (labels_from_judged pieces None count)))
 
--- Labels of a code
+-- LabelTable of a code
 
 rise_back : (end : ℕ) (l : ℕ × Frame) (ls : List (ℕ × Frame)) → IsTrue (are_rising (Some l.0) ls)
     → IsTrue (is_above (last_label (l ∷ ls)) end)

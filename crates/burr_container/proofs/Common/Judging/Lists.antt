@@ -3,7 +3,7 @@ use Rattle.std.proofs.Common.{◌≡◌, ℕ, zero, suc, ◌+◌, List, [], ◌�
 use Rattle.std.specs.List.{list_all}
 use Rattle.std.proofs.lemmas.Bool.{and_from}
 use Rattle.burr_container.specs.declared.fault.ContainerFault.{ContainerFault}
-use Rattle.burr_container.specs.Faults.{Part, passes, first, each}
+use Rattle.burr_container.specs.Rules.Faults.{Part, passes, first, each}
 use Rattle.burr_container.proofs.Common.Lawful.{OfFirst, OfNothing}
 use Rattle.burr_container.proofs.Common.Lists.{OfEach}
 use Rattle.burr_container.proofs.Common.Judging.Fronts.{AreSmall, Judged, JudgedPart, first_judged, judged_as, passes_judged}

@@ -4,12 +4,12 @@ use Rattle.std.specs.List.{list_all}
 use Rattle.std.proofs.lemmas.Bool.{and_parts, and_from}
 use Rattle.byteorder.specs.Endian.{big_number, twos_complement}
 use Rattle.burr_code.specs.Instruction.{signed_word}
-use Rattle.burr_forms.specs.Forms.{Form}
+use Rattle.burr_forms.specs.Rules.Forms.{Form}
 use Rattle.burr_container.specs.declared.fault.ContainerFault.TheVariants.{C4}
-use Rattle.burr_container.specs.Plans.{of_live}
-use Rattle.burr_container.specs.Spelling.{form_size, form_bytes}
-use Rattle.burr_container.specs.Fitting.{are_coefficients, is_form, is_tray}
-use Rattle.burr_container.specs.Faults.{number, form, forms, place, passes, by_test, each}
+use Rattle.burr_container.specs.Rules.Plans.{of_live}
+use Rattle.burr_container.specs.Rules.Spelling.{form_size, form_bytes}
+use Rattle.burr_container.specs.Rules.Fitting.{are_coefficients, is_form, is_tray}
+use Rattle.burr_container.specs.Rules.Faults.{number, form, forms, place, passes, by_test, each}
 use Rattle.burr_container.proofs.Common.Spelled.{is_word, is_long, long_bytes}
 use Rattle.burr_container.proofs.Common.Fields.{byte_back}
 use Rattle.burr_container.proofs.Common.Lawful.{OfPart, OfNothing}

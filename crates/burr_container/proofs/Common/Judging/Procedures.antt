@@ -5,10 +5,10 @@ use Rattle.std.proofs.lemmas.Bool.{and_parts, and_from}
 use Rattle.byteorder.specs.Endian.{big_bytes}
 use Rattle.burr_code.specs.declared.limits.TheConstants.{MOST_CODE}
 use Rattle.burr_container.specs.declared.fault.ContainerFault.TheVariants.{C4}
-use Rattle.burr_container.specs.Plans.{ExitFrame, PlanProcedure}
-use Rattle.burr_container.specs.Spelling.{result_count_bytes, exit_frame_bytes, labels_bytes, code_bytes}
-use Rattle.burr_container.specs.Fitting.{is_exit, are_labels, are_parameters, are_results, is_code, is_procedure}
-use Rattle.burr_container.specs.Faults.{Failing, number, raw, first, passes, exit_frame, labels, last_label, is_above, CodeFails, BodyFails, result_count, ExitFails, procedure}
+use Rattle.burr_container.specs.Rules.Plans.{ExitFrame, PlanProcedure}
+use Rattle.burr_container.specs.Rules.Spelling.{result_count_bytes, exit_frame_bytes, labels_bytes, code_bytes}
+use Rattle.burr_container.specs.Rules.Fitting.{is_exit, are_labels, are_parameters, are_results, is_code, is_procedure}
+use Rattle.burr_container.specs.Rules.Faults.{Failing, number, raw, first, passes, exit_frame, labels, last_label, is_above, CodeFails, BodyFails, result_count, ExitFails, procedure}
 use Rattle.burr_container.proofs.Common.Fields.{byte_back, number_so}
 use Rattle.burr_container.proofs.Common.Lawful.{Front, OfPart, OfFirst, OfNothing}
 use Rattle.burr_container.proofs.Common.Procedures.{is_length, OfCode, Body, OfBody, few_by, count_by, OfCounts, counts_fail, ProcedureFits, main_of, OfMain, procedure_apart, other_of, OfExit, OfOther}
@@ -35,8 +35,8 @@ small_bytes (b ∷ bytes) small =
     (small_bytes bytes small.1)
 
 -- what follows a front of small bytes is small
-small_behind : (bytes front rest : List ℕ) → AreSmall bytes → bytes ≡ front ++ rest → AreSmall rest
-small_behind bytes front rest small e =
+small_after : (bytes front rest : List ℕ) → AreSmall bytes → bytes ≡ front ++ rest → AreSmall rest
+small_after bytes front rest small e =
     (small_parts front rest (subst (λ (all : List ℕ). AreSmall all) e small)).1
 
 body_back : (pieces : ℕ) (v : Body) (bytes r : List ℕ) → AreSmall bytes → OfBody pieces v bytes r
@@ -53,10 +53,10 @@ body_back pieces v bytes r small here =
     (number_so 2 C4 (is_length (last_label ls)) v.1.0 here.0 inner.0 inner.1) in
     let parts =
     and_parts (is_above (last_label ls) (length code)) (nat_le (length code) MOST_CODE) so in
-    let behind_labels = small_behind bytes (labels_bytes ls) here.0 small here.1.1 in
-    let behind_length = small_behind here.0 (big_bytes 2 v.1.0) inner.0 behind_labels inner.1.1 in
+    let after_labels = small_after bytes (labels_bytes ls) here.0 small here.1.1 in
+    let after_length = small_after here.0 (big_bytes 2 v.1.0) inner.0 after_labels inner.1.1 in
     let small_code =
-    (small_parts code r (subst (λ (all : List ℕ). AreSmall all) inner.2.1 behind_length)).0 in (
+    (small_parts code r (subst (λ (all : List ℕ). AreSmall all) inner.2.1 after_length)).0 in (
       labels_of_code pieces (length code) ls here.1.0 parts.0,
       and_from (nat_le (length code) MOST_CODE) (list_all (λ b. nat_lt b 256) code) parts.1
           (small_bytes code small_code),
@@ -106,12 +106,12 @@ counts_back : {B : Type 0} (version : ℕ) (main : Bool) (More : ℕ → ℕ →
 counts_back version main More v bytes r small here =
     let head = byte_back C4 (are_parameters main) v.0 bytes here.0 here.1 in
     let inner = here.2 in
-    let behind_head = (subst (λ (all : List ℕ). AreSmall all) head.1 small).1 in (
+    let after_head = (subst (λ (all : List ℕ). AreSmall all) head.1 small).1 in (
       inner.0,
       head.0,
       inner.1.0,
       head.1 ∙ ap (λ (rest : List ℕ). v.0 ∷ rest) inner.1.1,
-      small_behind here.0 (result_count_bytes version v.1.0) inner.0 behind_head inner.1.1,
+      small_after here.0 (result_count_bytes version v.1.0) inner.0 after_head inner.1.1,
       inner.2,
     )
 
@@ -167,7 +167,7 @@ other_back version pieces v bytes r small here =
     let head = counts_back version false (OfExit version pieces) v bytes r small here in
     let inner = head.5 in
     let body =
-    body_back pieces v.1.1.1 inner.0 r (small_behind head.0 exit inner.0 head.4 inner.1.1) inner.2
+    body_back pieces v.1.1.1 inner.0 r (small_after head.0 exit inner.0 head.4 inner.1.1) inner.2
     in (
       procedure_from version pieces false p
           (record {

@@ -5,10 +5,10 @@ use Rattle.std.proofs.lemmas.Bool.{and_parts, and_from, eqb-false}
 use Rattle.burr_code.specs.Instruction.{signed_word}
 use Rattle.burr_code.specs.declared.limits.TheConstants.{SLOTS}
 use Rattle.burr_container.specs.declared.fault.ContainerFault.TheVariants.{C4}
-use Rattle.burr_container.specs.Plans.{Range, live_slots}
-use Rattle.burr_container.specs.Spelling.{mask_of, range_bytes}
-use Rattle.burr_container.specs.Fitting.{is_number, is_range}
-use Rattle.burr_container.specs.Faults.{number, signed, range, RangesFail, bits, slots, passes, first}
+use Rattle.burr_container.specs.Rules.Plans.{Range, live_slots}
+use Rattle.burr_container.specs.Rules.Spelling.{mask_of, range_bytes}
+use Rattle.burr_container.specs.Rules.Fitting.{is_number, is_range}
+use Rattle.burr_container.specs.Rules.Faults.{number, signed, range, RangesFail, bits, slots, passes, first}
 use Rattle.burr_container.proofs.Common.Fields.{byte_back, byte_small}
 use Rattle.burr_container.proofs.Common.Lawful.{OfPart, OfFirst, OfNothing}
 use Rattle.burr_container.proofs.Common.Slots.{is_high, OfRange, OfRanges, length_live, OfSlots}

@@ -3,8 +3,8 @@ use Rattle.std.proofs.Common.{◌≡◌, ◌-◌, arith, ap, sym, subst, ◌∙�
 use Rattle.std.specs.Prelude.{List, false}
 use Rattle.std.proofs.lemmas.Result.{err_from_is_err_and}
 use Rattle.burr_container.specs.declared.procedure_ref.ProcedureRef.{ProcedureRef}
-use Rattle.burr_container.specs.Faults.{procedure}
-use Rattle.burr_container.specs.InPlace.{AreFor, IsProcedure}
+use Rattle.burr_container.specs.Rules.Faults.{procedure}
+use Rattle.burr_container.specs.Views.InPlace.{AreFor, IsProcedure}
 use Rattle.burr_container.proofs.EachWalk.{each_fails}
 use Rattle.burr_container.proofs.KeptWalk.{kept_goes_on, kept_ends}
 use Rattle.burr_container.proofs.ProceduresRead.{main_fails_first, others_fail_then, procedures_at, counted_within, one_less}
@@ -14,45 +14,45 @@ pub returns-in_err-main : goal.returns-in_err-main
 returns-in_err-main c =
     let p = err_from_is_err_and c.from_residual-in_err-main.result c.from_residual-in_err-main.ensures.1 in
     rw (p.1, p.2)
-    (main_fails_first c.args.version c.args.pieces c.in_ok-count.count c.args.cursor c.in_ok-count.behind_count c.in_ok-count.ensures _ c.in_err-main.ensures)
+    (main_fails_first c.args.version c.args.pieces c.in_ok-count.count c.args.cursor c.in_ok-count.after_count c.in_ok-count.ensures _ c.in_err-main.ensures)
 
 pub overflow_sub-end : goal.overflow_sub-end
-overflow_sub-end c = (counted_within c.args.cursor c.in_ok-count.behind_count c.in_ok-count.count c.in_ok-count.ensures).0
+overflow_sub-end c = (counted_within c.args.cursor c.in_ok-count.after_count c.in_ok-count.count c.in_ok-count.ensures).0
 
 pub returns-in_err-procedure : goal.returns-in_err-procedure
 returns-in_err-procedure c =
     let main = c.in_ok-main.ensures in
     let others = c.in_ok-count.count - 1 in
-    let some = (counted_within c.args.cursor c.in_ok-count.behind_count c.in_ok-count.count c.in_ok-count.ensures).0 in
+    let some = (counted_within c.args.cursor c.in_ok-count.after_count c.in_ok-count.count c.in_ok-count.ensures).0 in
     let p = err_from_is_err_and c.from_residual-in_err-procedure.result c.from_residual-in_err-procedure.ensures.1 in
     let fails =
-    each_fails (procedure c.args.version c.args.pieces false) others c.in_ok-main.behind_main c.loop.counter c.loop.cursor _ (omega arith)
+    each_fails (procedure c.args.version c.args.pieces false) others c.in_ok-main.after_main c.loop.counter c.loop.cursor _ (omega arith)
     c.loop.invariant.walk c.in_err-procedure.ensures in
     rw (p.1, p.2)
-    (others_fail_then c.args.version c.args.pieces c.in_ok-count.count c.args.cursor c.in_ok-count.behind_count c.in_ok-count.ensures main.0 c.in_ok-main.behind_main
+    (others_fail_then c.args.version c.args.pieces c.in_ok-count.count c.args.cursor c.in_ok-count.after_count c.in_ok-count.ensures main.0 c.in_ok-main.after_main
     main.2 others _ (one_less c.in_ok-count.count some) fails)
 
 pub loop-preserved : goal.loop-preserved
 loop-preserved c =
     let here = c.in_ok-procedure.ensures in
     rw c.push-in-loop.ensures.items
-    (kept_goes_on (procedure c.args.version c.args.pieces false) (IsProcedure c.args.pieces) (c.in_ok-count.count - 1) c.in_ok-main.behind_main c.push.new.self.items
+    (kept_goes_on (procedure c.args.version c.args.pieces false) (IsProcedure c.args.pieces) (c.in_ok-count.count - 1) c.in_ok-main.after_main c.push.new.self.items
     c.loop.counter c.loop.procedures.items c.loop.cursor c.in_ok-procedure.next here.0 c.in_ok-procedure.procedure (omega arith) c.loop.invariant here.1 here.2)
 
 pub returns : goal.returns
 returns c =
     let main = c.in_ok-main.ensures in
     let others = c.in_ok-count.count - 1 in
-    let some = (counted_within c.args.cursor c.in_ok-count.behind_count c.in_ok-count.count c.in_ok-count.ensures).0 in
+    let some = (counted_within c.args.cursor c.in_ok-count.after_count c.in_ok-count.count c.in_ok-count.ensures).0 in
     let walk = c.loop.invariant in
     let end =
-    kept_ends (procedure c.args.version c.args.pieces false) (IsProcedure c.args.pieces) others c.in_ok-main.behind_main c.push.new.self.items c.loop.counter
+    kept_ends (procedure c.args.version c.args.pieces false) (IsProcedure c.args.pieces) others c.in_ok-main.after_main c.push.new.self.items c.loop.counter
     c.loop.procedures.items c.loop.cursor (omega arith) walk in
     let first : c.push.new.self.items ≡ c.in_ok-main.main ∷ [] = search rules in
     let all : c.loop.procedures.items ≡ c.in_ok-main.main ∷ walk.new =
     walk.all ∙ ap (λ (k : List ProcedureRef). k ++ walk.new) first in (
       main.0 ∷ end.0,
       subst (λ (k : List ProcedureRef). AreFor (IsProcedure c.args.pieces) k (main.0 ∷ end.0)) (sym all) (main.1, end.2),
-      procedures_at c.args.version c.args.pieces c.in_ok-count.count c.args.cursor c.in_ok-count.behind_count c.in_ok-count.ensures main.0 c.in_ok-main.behind_main
-          main.2 others end.0 c.loop.cursor (one_less c.in_ok-count.count some) end.1 walk.walk.behind,
+      procedures_at c.args.version c.args.pieces c.in_ok-count.count c.args.cursor c.in_ok-count.after_count c.in_ok-count.ensures main.0 c.in_ok-main.after_main
+          main.2 others end.0 c.loop.cursor (one_less c.in_ok-count.count some) end.1 walk.walk.after,
     )

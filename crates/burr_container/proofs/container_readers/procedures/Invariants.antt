@@ -1,8 +1,8 @@
 -- The procedures so far are read.
 use Rattle.std.proofs.Common.{◌-◌}
 use Rattle.std.specs.Prelude.{false}
-use Rattle.burr_container.specs.Faults.{procedure}
-use Rattle.burr_container.specs.InPlace.{IsProcedure}
+use Rattle.burr_container.specs.Rules.Faults.{procedure}
+use Rattle.burr_container.specs.Views.InPlace.{IsProcedure}
 use Rattle.burr_container.proofs.KeptWalk.{IsKeptWalk}
 use Rattle.burr_container.proofs.container_readers.procedures.Given as goal
 

@@ -1,8 +1,8 @@
 -- The places from here on decide.
 use Rattle.std.proofs.Common.{◌≡◌, drop}
 use Rattle.std.specs.List.{list_all}
-use Rattle.burr_container.specs.Fitting.{is_place}
-use Rattle.burr_container.specs.Views.{placements_of}
+use Rattle.burr_container.specs.Rules.Fitting.{is_place}
+use Rattle.burr_container.specs.Views.OwnedPlaces.{placements_of}
 use Rattle.burr_container.proofs.fitting.all_places.Given as goal
 
 abbrev pub invariant-loop-place : goal.invariant-loop-place

@@ -1,6 +1,6 @@
 -- The labels from here on decide.
 use Rattle.std.proofs.Common.{◌≡◌, drop}
-use Rattle.burr_container.specs.Fitting.{rise_from}
+use Rattle.burr_container.specs.Rules.Fitting.{rise_from}
 use Rattle.burr_container.proofs.fitting.rise.Given as goal
 
 abbrev pub invariant-loop-label : goal.invariant-loop-label

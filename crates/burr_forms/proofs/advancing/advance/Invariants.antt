@@ -1,6 +1,6 @@
 -- From this symbol on nothing can grow, and the lowest numbers were put there.
 use Rattle.std.proofs.Common.{◌≡◌, ◌≤◌, ◌++◌, None, length, drop, take}
-use Rattle.burr_forms.specs.Rising.{following, lows}
+use Rattle.burr_forms.specs.Views.Rising.{following, lows}
 use Rattle.burr_forms.proofs.advancing.advance.Given as goal
 
 abbrev pub invariant-loop-symbol : goal.invariant-loop-symbol

@@ -1,5 +1,5 @@
 use Rattle.std.proofs.Common.{◌≡◌, ◌++◌, take, drop}
-use Rattle.burr_forms.specs.Searching.{sums}
+use Rattle.burr_forms.specs.Views.Searching.{sums}
 use Rattle.burr_forms.proofs.along.add.Given as goal
 
 -- the steps so far are added

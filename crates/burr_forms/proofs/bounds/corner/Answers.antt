@@ -2,7 +2,7 @@
 use Rattle.std.proofs.Common.{rules, ◌≡◌, ◌≤◌, ◌<◌, ℕ, List, [], ◌∷◌, ◌++◌, length, take, pos, ap, sym, ◌∙◌, arith, slice_index_or, FitsSigned, w32, w64, to_z-of_z}
 use Rattle.std.specs.Prelude.{ℤ, Bool}
 use Rattle.std.proofs.lemmas.List.{length-take}
-use Rattle.burr_forms.specs.Bounds.{corner}
+use Rattle.burr_forms.specs.Views.Bounds.{corner}
 use Rattle.burr_forms.proofs.Corners.{corner_more, corner_nowhere, length-corner}
 use Rattle.burr_forms.proofs.bounds.corner.Goals as goal
 

@@ -1,5 +1,5 @@
 use Rattle.std.proofs.Common.{◌≡◌, take}
-use Rattle.burr_forms.specs.Bounds.{corner}
+use Rattle.burr_forms.specs.Views.Bounds.{corner}
 use Rattle.burr_forms.proofs.bounds.corner.Given as goal
 
 abbrev pub invariant-loop-symbol : goal.invariant-loop-symbol

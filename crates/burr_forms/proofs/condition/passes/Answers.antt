@@ -1,6 +1,6 @@
 use Rattle.std.proofs.Common.{◌∙◌, ap, sym, subst}
-use Rattle.burr_forms.specs.Forms.{values}
-use Rattle.burr_forms.specs.Searching.{AllBounded}
+use Rattle.burr_forms.specs.Rules.Forms.{values}
+use Rattle.burr_forms.specs.Views.Searching.{AllBounded}
 use Rattle.burr_forms.proofs.RowValues.{values_bounded}
 use Rattle.burr_forms.proofs.condition.passes.Goals as goal
 

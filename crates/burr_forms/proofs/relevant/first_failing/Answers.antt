@@ -1,9 +1,9 @@
 -- The search of the narrower box is that of the box.
 use Rattle.std.proofs.Common.{List, subst, sym}
 use Rattle.std.specs.Prelude.{ℤ}
-use Rattle.burr_forms.specs.Forms.{Form}
-use Rattle.burr_forms.specs.Points.{AreRanges}
-use Rattle.burr_forms.specs.Searching.{AllLack, AreNarrowRanges}
+use Rattle.burr_forms.specs.Rules.Forms.{Form}
+use Rattle.burr_forms.specs.Rules.Points.{AreRanges}
+use Rattle.burr_forms.specs.Views.Searching.{AllLack, AreNarrowRanges}
 use Rattle.burr_forms.proofs.Lowering.{ranges_narrowed, found_first}
 use Rattle.burr_forms.proofs.relevant.first_failing.Goals as goal
 

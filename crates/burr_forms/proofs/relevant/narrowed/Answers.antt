@@ -2,7 +2,7 @@
 use Rattle.std.proofs.Common.{rules, ◌≡◌, ℕ, ◌<◌, ◌++◌, ◌∷◌, [], List, length, take, pos, subst, sym, arith, slice_index_or}
 use Rattle.std.specs.Prelude.{ℤ}
 use Rattle.std.proofs.lemmas.List.{length-take, take_more}
-use Rattle.burr_forms.specs.Searching.{AllLack, AreNarrowRanges, IsNarrowRange}
+use Rattle.burr_forms.specs.Views.Searching.{AllLack, AreNarrowRanges, IsNarrowRange}
 use Rattle.burr_forms.proofs.Lowering.{as_many_narrowed, narrowed_on}
 use Rattle.burr_forms.proofs.relevant.narrowed.Goals as goal
 

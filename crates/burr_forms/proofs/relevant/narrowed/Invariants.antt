@@ -1,5 +1,5 @@
 use Rattle.std.proofs.Common.{take}
-use Rattle.burr_forms.specs.Searching.{AllLack, AreNarrowRanges}
+use Rattle.burr_forms.specs.Views.Searching.{AllLack, AreNarrowRanges}
 use Rattle.burr_forms.proofs.relevant.narrowed.Given as goal
 
 -- so far each range is narrowed

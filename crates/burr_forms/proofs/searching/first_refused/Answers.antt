@@ -1,10 +1,10 @@
 -- The search goes on from a point where the condition holds or a guard is negative.
 use Rattle.std.proofs.Common.{false, refl, sym, ap, ◌∙◌, ◌-◌, length}
-use Rattle.burr_forms.specs.Conditions.{region}
-use Rattle.burr_forms.specs.Rising.{following}
-use Rattle.burr_forms.specs.Searching.{steps_of}
+use Rattle.burr_forms.specs.Rules.Conditions.{region}
+use Rattle.burr_forms.specs.Views.Rising.{following}
+use Rattle.burr_forms.specs.Views.Searching.{steps_of}
 use Rattle.burr_forms.proofs.Counts.{told_as, failed_as, here_as, looks_as, counts_first, counts_next, counts_end, counts_fail, promised_as, kept_as}
-use Rattle.burr_forms.proofs.Search.{near_start, stands_first, at_many, at_near, at_few, fewer_after, fails_here, next_at, next_near, carried_bounded, carried_on, now_behind, ended, no_true}
+use Rattle.burr_forms.proofs.Search.{near_start, stands_first, at_many, at_near, at_few, fewer_after, fails_here, next_at, next_near, carried_bounded, carried_on, now_after, ended, no_true}
 use Rattle.burr_forms.proofs.searching.first_refused.Goals as goal
 
 pub evaluate-requires-clause-near : goal.evaluate-requires-clause-near
@@ -17,7 +17,7 @@ loop-sign_steps-init g c = (
     carries = record {
       at = stands_first _ _ _ c.requires.ranges c.lowest_point-point.ensures;
       signs_are = c.evaluate.ensures;
-      behind = λ k. absurd (no_true false refl k);
+      after = λ k. absurd (no_true false refl k);
     };
     counts = counts_first _ _ _ _ _ _ c.lowest_point-point.ensures c.requires.room;
   },
@@ -87,7 +87,7 @@ loop-sign_steps-preserved-then-raise_last g c =
           signs_are = carried_on _ _ _ _ searches.carries.at searches.carries.signs_are _ _ _ c.if-raise_last.ensures
               (c.steps_along-sign_steps.ensures ∙ ap (λ k. steps_of k c.args.guards.now) c.saturating_sub-last.ensures)
               c.carry.ensures;
-          behind = now_behind _ _ _ _ _ _ _ c.if-raise_last.ensures
+          after = now_after _ _ _ _ _ _ _ c.if-raise_last.ensures
               (c.steps_along-steps.ensures ∙ ap (λ k. steps_of k c.wanted_forms.result.now) c.saturating_sub-last.ensures ∙ ap (steps_of (length c.args.ranges.now - 1)) c.wanted_forms.ensures)
               here;
         };
@@ -143,7 +143,7 @@ loop-sign_steps-preserved g c =
         carries = record {
           at = next_at _ _ _ _ searches.carries.at searches.carries.signs_are _ c.requires.ranges told up;
           signs_are = c.evaluate-in-loop-sign_steps.ensures;
-          behind = λ k. absurd (no_true false refl k);
+          after = λ k. absurd (no_true false refl k);
         };
         counts = counts_next _ _ _ _ _ _ _ _ _ searches.counts searches.carries.at.inside _ searches.carries.signs_are looks.2 told looks.3
             _ c.requires.ranges looks.1 up;

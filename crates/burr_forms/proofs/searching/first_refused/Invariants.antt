@@ -1,6 +1,6 @@
 use Rattle.std.proofs.Common.{◌≡◌}
-use Rattle.burr_forms.specs.Conditions.{region}
-use Rattle.burr_forms.specs.Rising.{count_after}
+use Rattle.burr_forms.specs.Rules.Conditions.{region}
+use Rattle.burr_forms.specs.Views.Rising.{count_after}
 use Rattle.burr_forms.proofs.Counts.{Searches}
 use Rattle.burr_forms.proofs.searching.first_refused.Given as goal
 

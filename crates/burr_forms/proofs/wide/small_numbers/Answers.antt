@@ -1,6 +1,6 @@
 -- One number more is small and given.
 use Rattle.std.proofs.Common.{rules, ◌≡◌, ◌<◌, length, slice_index_or, pos, FitsSigned, w64, to_z-of_z}
-use Rattle.burr_forms.specs.Forms.{IsSmall}
+use Rattle.burr_forms.specs.Rules.Forms.{IsSmall}
 use Rattle.burr_forms.proofs.Narrowing.{give_next, small_next}
 use Rattle.burr_forms.proofs.wide.small_numbers.Goals as goal
 

@@ -1,7 +1,7 @@
 -- The first numbers are small and given.
 use Rattle.std.proofs.Common.{◌≡◌, ◌-◌, ◌++◌, take}
 use Rattle.std.specs.Prelude.{pos, replicate}
-use Rattle.burr_forms.specs.Forms.{AllSmall}
+use Rattle.burr_forms.specs.Rules.Forms.{AllSmall}
 use Rattle.burr_forms.proofs.wide.small_numbers.Given as goal
 
 abbrev pub invariant-loop-symbol : goal.invariant-loop-symbol

@@ -3,11 +3,11 @@ use Rattle.std.proofs.Common.{◌≡◌, ◌↔◌, ◌+◌, ℕ, ℤ, List, Boo
 use Rattle.std.proofs.lemmas.Option.{slice_get_within}
 use Rattle.burr_text.proofs.Common.Tests.{yes_of, no_of, one_more_number}
 use Rattle.burr_voxels.specs.declared.cell.Cell.{Cell}
-use Rattle.burr_assembly.specs.Homes.{homes_of}
+use Rattle.burr_assembly.specs.Rules.Homes.{homes_of}
 use Rattle.burr_blocking.specs.declared.query.Query.{Query}
-use Rattle.burr_frames.specs.declared.clearing.Side.TheVariants.{Left}
-use Rattle.burr_frames.specs.Clearing.{IsSide, IsPairClear}
-use Rattle.burr_frames.proofs.Clearances.{two_sides}
+use Rattle.burr_frames.specs.declared.clearing.Role.TheVariants.{Resting}
+use Rattle.burr_frames.specs.Views.Clearing.{IsRole, IsPairClear}
+use Rattle.burr_frames.proofs.Clearances.{two_roles}
 use Rattle.burr_frames.proofs.ClearingLoops.{not_left, one_left, row_ends}
 use Rattle.burr_frames.proofs.LooksSoFar.{passed_over, one_is_so, one_is_not, at_most, same_homes}
 use Rattle.burr_frames.proofs.clearing.first_against.Goals as goal
@@ -24,16 +24,16 @@ loop-other-preserved-then-not-is_on g c =
     let homes = homes_of c.args.looks.now.assembly in
     let other = no_of c.if-not-is_on.ensures in
     let inside = c.loop-other-test.true in (
-      one_more_number (λ t. IsSide c.args.sides.now t Left → IsPairClear c.args.query homes c.args.values.now c.args.piece t)
+      one_more_number (λ t. IsRole c.args.roles.now t Resting → IsPairClear c.args.query homes c.args.values.now c.args.piece t)
           c.loop-other.other c.loop-other.invariant.0 (λ is. absurd (other is)),
       passed_over (λ pair. IsPairClear c.args.query homes c.args.values.now pair.0 pair.1) _ _ _ c.loop-other.other
           (c.loop-other.other + 1) c.args.looks.now c.loop-other.looks
-          (not_left c.args.sides.now c.args.piece c.loop-other.other inside other) (omega arith) c.loop-other.invariant.1,
+          (not_left c.args.roles.now c.args.piece c.loop-other.other inside other) (omega arith) c.loop-other.invariant.1,
       omega (arith, inside),
     )
 
 pub is_clear-requires-clause-two : goal.is_clear-requires-clause-two
-is_clear-requires-clause-two g c = two_sides c.args.sides.now c.args.piece c.loop-other.other c.requires.gripped (yes_of c.if-not-is_on.ensures)
+is_clear-requires-clause-two g c = two_roles c.args.roles.now c.args.piece c.loop-other.other c.requires.gripped (yes_of c.if-not-is_on.ensures)
 
 pub returns-then-not-is_clear-clause-found : goal.returns-then-not-is_clear-clause-found
 returns-then-not-is_clear-clause-found g c =
@@ -53,7 +53,7 @@ returns-then-not-is_clear-clause-counted g c =
     c.args.looks.now c.is_clear.new.looks (omega (arith, few, inside))
     (one_is_not (λ pair. IsPairClear c.args.query homes c.args.values.now pair.0 pair.1) _ _ _ _ c.loop-other.other
     c.args.looks.now c.loop-other.looks c.is_clear.new.looks
-    (one_left c.args.sides.now c.args.piece c.loop-other.other (yes_of c.if-not-is_on.ensures)) (no_of asked)
+    (one_left c.args.roles.now c.args.piece c.loop-other.other (yes_of c.if-not-is_on.ensures)) (no_of asked)
     c.if-not-is_clear.ensures.counted c.loop-other.invariant.1)
 
 pub loop-other-preserved : goal.loop-other-preserved
@@ -62,18 +62,18 @@ loop-other-preserved g c =
     let asked = asked_first c.args.query homes (homes_of c.loop-other.looks.assembly) c.args.values.now c.args.piece c.loop-other.other
     true (same_homes c.args.looks.now c.loop-other.looks c.loop-other.invariant.1.0 c.loop-other.invariant.1.3) c.if-not-is_clear.ensures.answer in
     let inside = c.loop-other-test.true in (
-      one_more_number (λ t. IsSide c.args.sides.now t Left → IsPairClear c.args.query homes c.args.values.now c.args.piece t)
+      one_more_number (λ t. IsRole c.args.roles.now t Resting → IsPairClear c.args.query homes c.args.values.now c.args.piece t)
           c.loop-other.other c.loop-other.invariant.0 (λ is. yes_of asked),
       one_is_so (λ pair. IsPairClear c.args.query homes c.args.values.now pair.0 pair.1) _ _ _ _ c.loop-other.other
           c.args.looks.now c.loop-other.looks c.is_clear.new.looks
-          (one_left c.args.sides.now c.args.piece c.loop-other.other (yes_of c.if-not-is_on.ensures)) (yes_of asked)
+          (one_left c.args.roles.now c.args.piece c.loop-other.other (yes_of c.if-not-is_on.ensures)) (yes_of asked)
           c.if-not-is_clear.ensures.counted c.loop-other.invariant.1,
       omega (arith, inside),
     )
 
 pub returns-clause-found : goal.returns-clause-found
 returns-clause-found g c t is =
-    let inside = slice_get_within c.args.sides.now t Left is in
+    let inside = slice_get_within c.args.roles.now t Resting is in
     c.loop-other.invariant.0 t (omega (arith, inside, c.loop-other-test.false)) is
 
 pub returns-clause-counted : goal.returns-clause-counted
@@ -83,5 +83,5 @@ returns-clause-counted g c =
     let within = c.loop-other.invariant.2 in
     passed_over (λ pair. IsPairClear c.args.query homes c.args.values.now pair.0 pair.1) _ _ _ c.loop-other.other 32
     c.args.looks.now c.loop-other.looks
-    (row_ends c.args.sides.now c.args.piece c.loop-other.other (omega (arith, c.loop-other-test.false)))
+    (row_ends c.args.roles.now c.args.piece c.loop-other.other (omega (arith, c.loop-other-test.false)))
     (omega (arith, few, within)) c.loop-other.invariant.1

@@ -5,10 +5,10 @@ use Rattle.std.proofs.lemmas.Int.{ints}
 use Rattle.burr_voxels.specs.declared.cell.Cell.{Cell}
 use Rattle.burr_voxels.specs.Grid.{minus}
 use Rattle.burr_voxels.specs.Near.{IsWithin}
-use Rattle.burr_assembly.specs.Homes.{homes_of, home_at}
+use Rattle.burr_assembly.specs.Rules.Homes.{homes_of, home_at}
 use Rattle.burr_blocking.specs.declared.query.Query.{Query}
-use Rattle.burr_blocking.specs.Pairs.{Clears}
-use Rattle.burr_frames.specs.Clearing.{cell_of, IsPairClear}
+use Rattle.burr_blocking.specs.Rules.Pairs.{Clears}
+use Rattle.burr_frames.specs.Views.Clearing.{cell_of, IsPairClear}
 use Rattle.burr_frames.proofs.clearing.is_clear.Goals as goal
 
 -- two cells that are near lie near to each other

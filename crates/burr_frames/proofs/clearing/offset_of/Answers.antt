@@ -4,8 +4,8 @@ use Rattle.std.specs.Prelude.{pos}
 use Rattle.burr_voxels.specs.declared.cell.Cell.{Cell}
 use Rattle.burr_voxels.specs.Grid.{at}
 use Rattle.burr_voxels.proofs.Common.Ahead.{same_cell}
-use Rattle.burr_frames.specs.Clearing.{cell_of}
-use Rattle.burr_frames.specs.Ranges.{IsInReach, AllInReach}
+use Rattle.burr_frames.specs.Views.Clearing.{cell_of}
+use Rattle.burr_frames.specs.Views.Ranges.{IsInReach, AllInReach}
 use Rattle.burr_frames.proofs.clearing.offset_of.Goals as goal
 
 -- the number as it is read and cut to 32 bits

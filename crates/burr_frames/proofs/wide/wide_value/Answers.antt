@@ -1,7 +1,7 @@
 -- One symbol's term is added.
 use Rattle.std.proofs.Common.{rules, ◌≡◌, ap, sym, FitsSigned, w64, slice_index_or, pos, to_z, to_z-of_z}
 use Rattle.std.specs.Int.{w128}
-use Rattle.burr_forms.specs.Forms.{Form}
+use Rattle.burr_forms.specs.Rules.Forms.{Form}
 use Rattle.burr_frames.proofs.WideValues.{term_fits, sum_fits, sum_more, value_nowhere}
 use Rattle.burr_frames.proofs.wide.wide_value.Goals as goal
 

@@ -1,6 +1,6 @@
 -- The rest that begins with no answer's line is where the text goes wrong.
 use Rattle.std.proofs.Common.{rules, ◌≡◌, ◌≢◌, ◌+◌, [], length}
-use Rattle.burr_runs.specs.Answers.{BeginsWithNone}
+use Rattle.burr_runs.specs.Rules.Answers.{BeginsWithNone}
 use Rattle.burr_runs.proofs.answers.read_answers.Goals as goal
 
 pub returns-in_default-clause-err : goal.returns-in_default-clause-err

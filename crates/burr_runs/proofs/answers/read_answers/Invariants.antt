@@ -1,6 +1,6 @@
 -- The lines that were read are those of the answers so far.
 use Rattle.std.proofs.Common.{◌≡◌, ◌++◌, length, All, FitsSigned, w32}
-use Rattle.burr_runs.specs.Answers.{answers_text}
+use Rattle.burr_runs.specs.Rules.Answers.{answers_text}
 use Rattle.burr_runs.proofs.answers.read_answers.Given as goal
 
 -- each turn takes a line

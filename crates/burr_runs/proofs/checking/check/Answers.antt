@@ -1,14 +1,14 @@
 -- The line of an accepted plan, with main's cost, the header's budget and the looks.
 use Rattle.std.proofs.Common.{◌≡◌, ℕ, true, ap, subst}
-use Rattle.burr_assembly.specs.Text.{Assembly}
-use Rattle.burr_container.specs.Containers.{KeptContainer}
+use Rattle.burr_assembly.specs.Rules.Text.{Assembly}
+use Rattle.burr_container.specs.Views.Containers.{ContainerView}
 use Rattle.burr_container.specs.declared.header.Header.{Header}
 use Rattle.burr_text.proofs.Common.Tests.{on_err}
-use Rattle.burr_verify.specs.Accepting.{Judged, judged, IsAccepted, MainCosts}
-use Rattle.burr_runs.specs.Verdicts.{accepted_line, IsPassedBy, IsVerdictLine}
+use Rattle.burr_verify.specs.Rules.Accepting.{Judged, judged, IsAccepted, MainCosts}
+use Rattle.burr_runs.specs.Rules.Verdicts.{accepted_line, IsPassedBy, IsVerdictLine}
 use Rattle.burr_runs.proofs.checking.check.Goals as goal
 
-accepted_verdict : (kept : KeptContainer) (a : Assembly) (j : Judged) (cost looks : ℕ) (header : Header)
+accepted_verdict : (kept : ContainerView) (a : Assembly) (j : Judged) (cost looks : ℕ) (header : Header)
     → j ≡ judged kept a → IsAccepted j → MainCosts j cost → IsPassedBy kept a looks
     → header ≡ kept.header → IsVerdictLine kept a true (accepted_line cost header.budget looks)
 accepted_verdict kept a j cost looks header same accepted costs passed same_header = (

@@ -1,12 +1,12 @@
 use Rattle.std.proofs.Common.{◌≡◌, subst, sym, refl, ap, [], ◌∙◌}
 use Rattle.std.proofs.KnownBytes.{Appends-nil}
-use Rattle.burr_state.specs.Bench.{Program}
-use Rattle.burr_state.specs.Run.{ends, stops}
+use Rattle.burr_state.specs.Rules.Bench.{Program}
+use Rattle.burr_state.specs.Rules.Run.{ends, stops}
 use Rattle.burr_state.specs.declared.closing.Closing.TheVariants as closings
 use Rattle.burr_runs.specs.declared.running.Turn.{Turn}
-use Rattle.burr_runs.specs.Running.{TurnIs, run_state}
+use Rattle.burr_runs.specs.Views.Running.{TurnIs, run_state}
 use Rattle.burr_text.proofs.Common.Tests.{on_err, yes_of, no_of}
-use Rattle.burr_runs.proofs.StepByStep.{still_running, closes_behind, fails_behind, parts_join, same_run_on}
+use Rattle.burr_runs.proofs.StepByStep.{still_running, closes_after, fails_after, parts_join, same_run_on}
 use Rattle.burr_runs.proofs.running.run_to_close.Goals as goal
 
 pub loop-answers-init : goal.loop-answers-init
@@ -15,20 +15,20 @@ loop-answers-init g c = (c.requires.in_step, record { assembly = refl; program =
 pub returns-then-ended-clause-ok : goal.returns-then-ended-clause-ok
 returns-then-ended-clause-ok g c =
     let now = c.loop-answers.bench in
-    closes_behind g.W.Sink (run_state c.args.bench.now c.args.answers.now c.args.sheet.now) (run_state now c.loop-answers.answers.now c.loop-answers.sheet) now c.loop-answers.sheet _ _ _ closings.Apart c.loop-answers.invariant.2
+    closes_after g.W.Sink (run_state c.args.bench.now c.args.answers.now c.args.sheet.now) (run_state now c.loop-answers.answers.now c.loop-answers.sheet) now c.loop-answers.sheet _ _ _ closings.Apart c.loop-answers.invariant.2
     (ends now.state c.loop-answers.answers.now (yes_of c.if-ended.ensures)) refl refl
 
 pub returns-then-steps-budget-clause-ok : goal.returns-then-steps-budget-clause-ok
 returns-then-steps-budget-clause-ok g c =
     let now = c.loop-answers.bench in
     let used : now.state.steps ≡ now.program.budget = sym c.steps.ensures ∙ c.if-steps-budget.true ∙ c.requires.budget ∙ ap (λ (p : Program). p.budget) (sym c.loop-answers.invariant.1.program) in
-    closes_behind g.W.Sink (run_state c.args.bench.now c.args.answers.now c.args.sheet.now) (run_state now c.loop-answers.answers.now c.loop-answers.sheet) now c.loop-answers.sheet _ _ _ closings.Stopped c.loop-answers.invariant.2
+    closes_after g.W.Sink (run_state c.args.bench.now c.args.answers.now c.args.sheet.now) (run_state now c.loop-answers.answers.now c.loop-answers.sheet) now c.loop-answers.sheet _ _ _ closings.Stopped c.loop-answers.invariant.2
     (stops now.state c.loop-answers.answers.now (still_running now.state c.loop-answers.invariant.0.mode (no_of c.if-ended.ensures)) used) refl refl
 
 pub returns-in_err-left-clause-err : goal.returns-in_err-left-clause-err
 returns-in_err-left-clause-err g c =
     on_err c.from_residual.result
-    (fails_behind g.W.Sink (run_state c.args.bench.now c.args.answers.now c.args.sheet.now) (run_state c.loop-answers.bench c.loop-answers.answers.now c.loop-answers.sheet) _ _ _ c.loop-answers.invariant.2 c.in_err-left.ensures.err)
+    (fails_after g.W.Sink (run_state c.args.bench.now c.args.answers.now c.args.sheet.now) (run_state c.loop-answers.bench c.loop-answers.answers.now c.loop-answers.sheet) _ _ _ c.loop-answers.invariant.2 c.in_err-left.ensures.err)
 
 pub loop-answers-preserved : goal.loop-answers-preserved
 loop-answers-preserved g c =

@@ -1,5 +1,5 @@
-use Rattle.burr_state.specs.Benches.{IsSameRun}
-use Rattle.burr_runs.specs.Running.{IsInStep, PutsPart, run_state, left_to_take}
+use Rattle.burr_state.specs.Views.Benches.{IsSameRun}
+use Rattle.burr_runs.specs.Views.Running.{IsInStep, PutsPart, run_state, left_to_take}
 use Rattle.burr_runs.proofs.running.run_to_close.Given as goal
 
 -- a part of the run was made, and of its sheet put

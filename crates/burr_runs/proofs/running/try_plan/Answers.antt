@@ -1,11 +1,11 @@
 use Rattle.std.proofs.Common.{◌≡◌, ◌≤◌, [], subst, sym, ap, ◌∙◌}
 use Rattle.std.specs.Io.KnownBytes.{Appends}
-use Rattle.burr_assembly.specs.Text.{Assembly}
-use Rattle.burr_assembly.specs.Homes.{names_of}
+use Rattle.burr_assembly.specs.Rules.Text.{Assembly}
+use Rattle.burr_assembly.specs.Rules.Homes.{names_of}
 use Rattle.burr_io.specs.Sink.{FailsWithin}
-use Rattle.burr_sheet.specs.SheetUnderWay.{UnderWay, blank, still}
+use Rattle.burr_sheet.specs.Views.SheetUnderWay.{UnderWay, blank, still}
 use Rattle.burr_runs.specs.declared.outcome.Outcome.{Outcome}
-use Rattle.burr_runs.specs.Running.{FailsInRun, ClosesPart, PutsSheet, run_state}
+use Rattle.burr_runs.specs.Views.Running.{FailsInRun, ClosesPart, PutsSheet, run_state}
 use Rattle.burr_text.proofs.Common.Tests.{on_err}
 use Rattle.burr_runs.proofs.StepByStep.{in_step_at_start, sheet_of, fails_in_sheet, fails_at_close}
 use Rattle.burr_runs.proofs.running.try_plan.Goals as goal

@@ -1,4 +1,4 @@
-use Rattle.burr_runs.specs.BenchText.{streams}
+use Rattle.burr_runs.specs.Views.BenchText.{streams}
 use Rattle.burr_runs.proofs.WholeInput.{whole_succeeds, whole_fails}
 use Rattle.burr_runs.proofs.text_runs.bench_text.Goals as goal
 

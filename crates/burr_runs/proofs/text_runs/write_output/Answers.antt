@@ -1,5 +1,5 @@
 use Rattle.std.proofs.Common.{rules}
-use Rattle.burr_runs.specs.Output.{IsOutput}
+use Rattle.burr_runs.specs.Rules.Output.{IsOutput}
 use Rattle.burr_runs.proofs.WholeInput.{write_fails, front_of_refused, text_puts, text_fails}
 use Rattle.burr_runs.proofs.text_runs.write_output.Goals as goal
 

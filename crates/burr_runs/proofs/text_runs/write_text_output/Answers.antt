@@ -1,5 +1,5 @@
 use Rattle.std.proofs.Common.{rules}
-use Rattle.burr_runs.specs.Output.{IsTextOutput}
+use Rattle.burr_runs.specs.Rules.Output.{IsTextOutput}
 use Rattle.burr_runs.proofs.WholeInput.{write_fails, write_touches, front_of_fault, no_outcome}
 use Rattle.burr_runs.proofs.text_runs.write_text_output.Goals as goal
 

@@ -5,8 +5,8 @@ use Rattle.burr_text.specs.Checks.{needs, finds}
 use Rattle.burr_text.proofs.Common.Decisions.{Decided, decided_and, decided_not, decide_same, decide_below, decide_at_most}
 use Rattle.burr_code.specs.Instruction.{Halt, Push, Load, Store, Add, Sub, Drop, Grip, Step, Aside, Tray, Jump, Down, Ask, Pick, Call, Ret, IsInNumberRange}
 use Rattle.burr_code.proofs.Common.Orders.{decide_le}
-use Rattle.burr_state.specs.Space.{moved_places}
-use Rattle.burr_state.specs.StepLaws.{SomeExecution}
+use Rattle.burr_state.specs.Rules.Space.{moved_places}
+use Rattle.burr_state.specs.Laws.StepLaws.{SomeExecution}
 use Rattle.burr_code.proofs.Common.Conditions.{decide_all_lie, decide_all_apart, decide_part_of_tray, decide_empty_tray}
 use Rattle.burr_state.proofs.Common.Existence.Pairs.{decide_on_bench, decide_no_overlap, decide_free_group}
 

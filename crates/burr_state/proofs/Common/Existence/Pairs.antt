@@ -10,8 +10,8 @@ use Rattle.burr_code.specs.PieceSets.{IsInSet}
 use Rattle.burr_code.specs.Places.{Placement, LiesAt}
 use Rattle.burr_code.proofs.Common.Orders.{decide_le}
 use Rattle.burr_code.proofs.Common.PieceSets.{decide_bit}
-use Rattle.burr_assembly.specs.Homes.{HasHome}
-use Rattle.burr_state.specs.Space.{NoOverlapIn, AllOnBench, IsFreeGroup}
+use Rattle.burr_assembly.specs.Rules.Homes.{HasHome}
+use Rattle.burr_state.specs.Rules.Space.{NoOverlapIn, AllOnBench, IsFreeGroup}
 use Rattle.burr_code.proofs.Common.Conditions.{decided_implies, decide_all_numbers, decide_of_the_one, decide_found, one_in_list, decide_lies, one_position, lies_within}
 use Rattle.burr_voxels.proofs.Common.Decided.{decide_overlap, decide_free}
 

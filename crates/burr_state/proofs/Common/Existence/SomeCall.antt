@@ -6,11 +6,11 @@ use Rattle.burr_state.specs.declared.mode.Mode.TheVariants.{Running, Ended, Trap
 use Rattle.burr_state.specs.declared.progress.Progress.{Progress}
 use Rattle.burr_state.specs.declared.progress.Progress.TheVariants as progress
 use Rattle.burr_state.specs.declared.trap.Trap.{Trap}
-use Rattle.burr_state.specs.Bench.{BenchState, Setup}
-use Rattle.burr_state.specs.Next.{Next, Goes, Asks, Traps}
-use Rattle.burr_state.specs.Step.{NextIs, IsUnfit, CallIn, told, left_by}
-use Rattle.burr_state.specs.Questions.{Fits}
-use Rattle.burr_state.specs.RunLaws.{SomeCall}
+use Rattle.burr_state.specs.Rules.Bench.{BenchState, Setup}
+use Rattle.burr_state.specs.Rules.Next.{Next, Goes, Asks, Traps}
+use Rattle.burr_state.specs.Rules.Step.{NextIs, IsUnfit, CallIn, call_result, left_by}
+use Rattle.burr_state.specs.Rules.Questions.{Fits}
+use Rattle.burr_state.specs.Laws.RunLaws.{SomeCall}
 use Rattle.burr_state.proofs.Uniqueness.OneStep.{one_next}
 use Rattle.burr_state.proofs.Common.Existence.SomeStep.{some_next}
 use Rattle.burr_state.proofs.Common.Leading.{leads_from}
@@ -62,7 +62,7 @@ with_answer setup s answer running (Asks low high) is = by_fit (decide_fits low 
     by_fit (inr unfit) = passed_over setup s answer (unfit_there setup s low high answer is unfit)
 
 some_call_in : (setup : Setup) (s : BenchState) (answer : Option ℤ) (mode : Mode) → s.mode ≡ mode → CallOf setup s answer mode
-some_call_in setup s None Running running = let next = some_next setup s in (told next.0, left_by s next.0, (next.0, next.1, refl, refl))
+some_call_in setup s None Running running = let next = some_next setup s in (call_result next.0, left_by s next.0, (next.0, next.1, refl, refl))
 some_call_in setup s (Some answer) Running running = let next = some_next setup s in with_answer setup s answer running next.0 next.1
 some_call_in setup s answer Ended ended = (Ok progress.Ended, s, (refl, refl))
 some_call_in setup s answer (Trapped trap) trapped = (Err trap, s, (refl, refl))

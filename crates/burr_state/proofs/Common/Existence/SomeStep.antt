@@ -5,10 +5,10 @@ use Rattle.burr_text.proofs.Common.Decisions.{Decided}
 use Rattle.burr_code.specs.Instruction.{Instruction, StandsAt}
 use Rattle.burr_code.proofs.Common.Reading.{stands_or_none}
 use Rattle.burr_state.specs.declared.trap.Trap.TheVariants.{BadCode}
-use Rattle.burr_state.specs.Bench.{BenchState, Setup, BenchProcedure}
-use Rattle.burr_state.specs.Next.{Next, Traps}
-use Rattle.burr_state.specs.Step.{NextIs, IsAt, Runs}
-use Rattle.burr_state.specs.RunLaws.{SomeNext}
+use Rattle.burr_state.specs.Rules.Bench.{BenchState, Setup, BenchProcedure}
+use Rattle.burr_state.specs.Rules.Next.{Next, Traps}
+use Rattle.burr_state.specs.Rules.Step.{NextIs, IsAt, Runs}
+use Rattle.burr_state.specs.Laws.RunLaws.{SomeNext}
 use Rattle.burr_code.proofs.Common.Conditions.{decide_found, one_in_list}
 use Rattle.burr_state.proofs.Common.Existence.Executions.{some_execution}
 

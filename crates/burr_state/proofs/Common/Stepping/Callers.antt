@@ -1,7 +1,7 @@
 -- Activations that wait.
 use Rattle.std.proofs.Common.{◌≤◌, List, [], ◌∷◌, ℕ, length, arith}
-use Rattle.burr_state.specs.Bench.{Activation}
-use Rattle.burr_state.specs.StateViews.{IsCallChain}
+use Rattle.burr_state.specs.Rules.Bench.{Activation}
+use Rattle.burr_state.specs.Views.StateViews.{IsCallChain}
 
 -- no more activations wait than there are procedures of lower numbers
 pub chain_depth : (procedure : ℕ) (callers : List Activation) → IsCallChain procedure callers → length callers ≤ procedure

@@ -8,12 +8,12 @@ use Rattle.burr_code.specs.Stacks.{top, top_many}
 use Rattle.burr_state.specs.declared.effect.Effect.{Effect}
 use Rattle.burr_state.specs.declared.trap.Trap.{Trap}
 use Rattle.burr_state.specs.declared.trap.Trap.TheVariants as traps
-use Rattle.burr_state.specs.Bench.{Activation, BenchProcedure, BenchState, Setup}
-use Rattle.burr_state.specs.Next.{Goes, Traps, stepped}
-use Rattle.burr_state.specs.Control.{called, calling, returned, returning}
-use Rattle.burr_state.specs.Programs.{HasRoomFor, HasRoomBehind, FitsProgram}
-use Rattle.burr_state.specs.Effects.{StaysWithin, CallerHasRoom, CallerGoesOn, KeepsUnlessGoes, IsCalledFor, CannotBeCalled}
-use Rattle.burr_state.specs.StateViews.{IsCallChain}
+use Rattle.burr_state.specs.Rules.Bench.{Activation, BenchProcedure, BenchState, Setup}
+use Rattle.burr_state.specs.Rules.Next.{Goes, Traps, stepped}
+use Rattle.burr_state.specs.Rules.Control.{called, calling, returned, returning}
+use Rattle.burr_state.specs.Views.Programs.{HasRoomFor, HasRoomAfter, FitsProgram}
+use Rattle.burr_state.specs.Views.Effects.{StaysWithin, CallerHasRoom, CallerGoesOn, KeepsUnlessGoes, IsCalledFor, CannotBeCalled}
+use Rattle.burr_state.specs.Views.StateViews.{IsCallChain}
 
 -- nothing was called and nothing returned
 pub fits_within : (procedures : List BenchProcedure) (old new : BenchState) → FitsProgram procedures old → StaysWithin old new
@@ -33,13 +33,13 @@ fits_called procedures old new callee there caller fits found room same is calle
   room =
       rw (is, callers) (
         subst (λ (p : Option BenchProcedure). IfSome p (λ q. HasRoomFor q.results caller)) (sym found) room,
-        subst (λ n. HasRoomBehind procedures n old.callers) (sym same) fits.room,
+        subst (λ n. HasRoomAfter procedures n old.callers) (sym same) fits.room,
       );
 }
 
 -- where a caller waits, it has room for the results of the procedure that runs
 pub caller_has_room : (procedures : List BenchProcedure) (here : BenchProcedure) (n : ℕ) (callers : List Activation)
-    → slice_get procedures n ≡ Some here → HasRoomBehind procedures n callers → CallerHasRoom here.results callers
+    → slice_get procedures n ≡ Some here → HasRoomAfter procedures n callers → CallerHasRoom here.results callers
 caller_has_room procedures here n [] found room = tt
 caller_has_room procedures here n (caller ∷ callers) found room =
     subst (λ (p : Option BenchProcedure). IfSome p (λ q. HasRoomFor q.results caller)) found room.0
@@ -49,7 +49,7 @@ pub fits_returned : (procedures : List BenchProcedure) (old new : BenchState) �
     → IsCallChain old.running.procedure old.callers → CallerGoesOn old new → FitsProgram procedures new
 fits_returned procedures old new fits chain goes =
     let chained = subst (λ (cs : List Activation). IsCallChain old.running.procedure cs) goes.callers chain in
-    let room = subst (λ (cs : List Activation). HasRoomBehind procedures old.running.procedure cs) goes.callers fits.room in
+    let room = subst (λ (cs : List Activation). HasRoomAfter procedures old.running.procedure cs) goes.callers fits.room in
     let lower = chained.0 in
     let runs = fits.runs in
     record {

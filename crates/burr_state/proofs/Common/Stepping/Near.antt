@@ -9,8 +9,8 @@ use Rattle.burr_voxels.specs.Grid.{plus, minus, along}
 use Rattle.burr_voxels.specs.Near.{IsWithin}
 use Rattle.burr_code.specs.PieceSets.{IsInSet}
 use Rattle.burr_code.specs.Places.{Placement, Apart, On, LiesAt, AllLieIn}
-use Rattle.burr_state.specs.Offsets.{PositionHolds, AreNear}
-use Rattle.burr_state.specs.Space.{AllOnBench, moved_places}
+use Rattle.burr_state.specs.Views.Offsets.{PositionHolds, AreNear}
+use Rattle.burr_state.specs.Rules.Space.{AllOnBench, moved_places}
 use Rattle.burr_code.proofs.Common.Conditions.{same_tray, lies_within}
 use Rattle.burr_state.proofs.Common.Trays.Shifts.{IsShifted, lay_before_shift, lies_at_shifted}
 
@@ -46,7 +46,7 @@ near_of_lying places each k d inside = by_place (slice_index_or places k d) (sli
     by_place Apart found = tt
     by_place (On tray offset) found = each k tray offset found
 
--- each piece of the tray is on the bench behind the unit where each of the group is
+-- each piece of the tray is on the bench after the unit where each of the group is
 pub on_bench_of_staying : (places : List (Placement Cell)) (tray group : ℕ) (direction : Direction) → AllOnBench places tray
     → ((p : ℕ) → IsInSet group p → (offset : Cell) → LiesAt places p tray offset → IsWithin 256 (plus offset (along direction (pos 1))))
     → AllOnBench (moved_places group direction places) tray
@@ -67,7 +67,7 @@ pub staying_of_on_bench : (places : List (Placement Cell)) (tray group : ℕ) (d
 staying_of_on_bench places tray group direction near p bit offset lies =
     near p (plus offset (along direction (pos 1))) (lies_at_shifted (λ (o : Cell). plus o (along direction (pos 1))) group p tray offset places bit lies)
 
--- all places are near behind the unit
+-- all places are near after the unit
 pub near_after_unit : (places : List (Placement Cell)) (tray group : ℕ) (direction : Direction) → AreNear places → AllLieIn places tray group → AllOnBench (moved_places group direction places) tray
     → AreNear (moved_places group direction places)
 near_after_unit places tray group direction near here on_bench = near_of_lying (moved_places group direction places) each

@@ -8,13 +8,13 @@ use Rattle.burr_code.proofs.Common.Labels.{picked}
 use Rattle.burr_state.specs.declared.trap.Trap.{Trap}
 use Rattle.burr_state.specs.declared.trap.Trap.TheVariants as traps
 use Rattle.burr_state.specs.declared.motion.Motion.{Motion}
-use Rattle.burr_state.specs.Bench.{BenchProcedure, BenchState, Setup}
-use Rattle.burr_state.specs.Next.{Next, Traps, goes}
-use Rattle.burr_state.specs.Numbers.{HasRoom}
-use Rattle.burr_state.specs.Questions.{Fits}
-use Rattle.burr_state.specs.Step.{Executes, IsAt, IsUnfit}
-use Rattle.burr_state.specs.Effects.{TakesNumber, TakesLabel, IsPicked}
-use Rattle.burr_state.specs.Benches.{Answered}
+use Rattle.burr_state.specs.Rules.Bench.{BenchProcedure, BenchState, Setup}
+use Rattle.burr_state.specs.Rules.Next.{Next, Traps, goes}
+use Rattle.burr_state.specs.Rules.Numbers.{HasRoom}
+use Rattle.burr_state.specs.Rules.Questions.{Fits}
+use Rattle.burr_state.specs.Rules.Step.{Executes, IsAt, IsUnfit}
+use Rattle.burr_state.specs.Views.Effects.{TakesNumber, TakesLabel, IsPicked}
+use Rattle.burr_state.specs.Views.Benches.{Answered}
 use Rattle.std.proofs.lemmas.Int.{ints}
 use Rattle.std.proofs.lemmas.Option.{slice_get_within}
 use Rattle.burr_state.proofs.Common.Leading.{answer_number}

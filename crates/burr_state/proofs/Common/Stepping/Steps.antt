@@ -9,26 +9,26 @@ use Rattle.burr_voxels.specs.declared.cell.Cell.{Cell}
 use Rattle.burr_voxels.specs.declared.direction.Direction.{Direction}
 use Rattle.burr_voxels.specs.Grid.{plus, along, origin}
 use Rattle.burr_voxels.specs.Near.{IsWithin}
-use Rattle.burr_assembly.specs.Text.{Assembly, IsAssembly}
-use Rattle.burr_assembly.specs.Homes.{home_of, homes_of}
+use Rattle.burr_assembly.specs.Rules.Text.{Assembly, IsAssembly}
+use Rattle.burr_assembly.specs.Rules.Homes.{home_of, homes_of}
 use Rattle.burr_code.specs.Places.{Placement, On, IsPartOfTray, IsEmptyTray, aside_places}
 use Rattle.burr_code.specs.Instruction.{Instruction, Step, Aside, spelled, StandsAt}
 use Rattle.burr_state.specs.declared.trap.Trap.TheVariants as traps
 use Rattle.burr_state.specs.declared.motion.Motion.{Motion}
 use Rattle.burr_state.specs.declared.mode.Mode.{Mode}
 use Rattle.burr_state.specs.declared.mode.Mode.TheVariants.{Running}
-use Rattle.burr_state.specs.Bench.{activation, Program, start, BenchProcedure, BenchState, Setup}
-use Rattle.burr_state.specs.Next.{Goes, Traps}
-use Rattle.burr_state.specs.Space.{NoOverlapIn, NoOverlap, AllOnBench, IsFreeGroup, moved_places, motion_of}
-use Rattle.burr_state.specs.Step.{Executes, IsAt}
-use Rattle.burr_state.specs.Parts.{parts}
-use Rattle.burr_state.specs.Effects.{PiecesStay, StaysPut, NeverMoves, KeepsUnlessGoes, motion_made}
+use Rattle.burr_state.specs.Rules.Bench.{activation, Program, start, BenchProcedure, BenchState, Setup}
+use Rattle.burr_state.specs.Rules.Next.{Goes, Traps}
+use Rattle.burr_state.specs.Rules.Space.{NoOverlapIn, NoOverlap, AllOnBench, IsFreeGroup, moved_places, motion_of}
+use Rattle.burr_state.specs.Rules.Step.{Executes, IsAt}
+use Rattle.burr_state.specs.Views.Parts.{parts}
+use Rattle.burr_state.specs.Views.Effects.{PiecesStay, StaysPut, NeverMoves, KeepsUnlessGoes, motion_made}
 use Rattle.burr_state.specs.declared.trap.Trap.{Trap}
 use Rattle.burr_state.specs.declared.effect.Effect.{Effect}
 use Rattle.burr_state.specs.declared.effect.Effect.TheVariants as effects
 use Rattle.std.specs.Prelude.{Result, Ok, Err, OnOk}
-use Rattle.burr_state.specs.StateViews.{IsOrderly, IsCallChain, behind, moved_grip, at_start, standing, StaysOnBench}
-use Rattle.burr_state.specs.Benches.{Benched, benched, setup_of, IsSound, GoesOn}
+use Rattle.burr_state.specs.Views.StateViews.{IsOrderly, IsCallChain, after, moved_grip, at_start, standing, StaysOnBench}
+use Rattle.burr_state.specs.Views.Benches.{Benched, benched, setup_of, IsSound, GoesOn}
 use Rattle.burr_state.proofs.Common.Reached.{disjoint_at_start, homes_are_disjoint}
 use Rattle.burr_state.proofs.Common.Pieces.{no_overlap_moved, no_overlap_aside}
 use Rattle.burr_state.proofs.Common.Stepping.Near.{near_after_unit}
@@ -54,11 +54,11 @@ step_goes setup here s new direction size motion some on none spells moves is =
 
 pub aside_goes : (setup : Setup) (here : BenchProcedure) (s new : BenchState) (direction : Direction) (tray size : ℕ) (motion : Motion) → IsPartOfTray s.grip s.places s.tray → IsEmptyTray s.places tray
     → IsFreeGroup setup.homes s.places s.tray s.grip direction → size ≡ length (spelled (Aside direction tray)) → motion ≡ motion_of s.grip s.tray direction true
-    → new ≡ record (behind size s) { places = aside_places s.grip s.tray tray s.places; grip = 0 }
+    → new ≡ record (after size s) { places = aside_places s.grip s.tray tray s.places; grip = 0 }
     → Executes setup here s (Aside direction tray) (Goes new (Some motion))
 aside_goes setup here s new direction tray size motion part empty free spells moves is =
-    let same = is ∙ ap (λ (n : ℕ). record (behind n s) { places = aside_places s.grip s.tray tray s.places; grip = 0 }) spells in
-    inr (part, inr (empty, inr (free, ap (λ (t : BenchState). Goes t (Some motion)) same ∙ ap (λ (m : Motion). Goes (record (behind 3 s) { places = aside_places s.grip s.tray tray s.places; grip = 0 }) (Some m)) moves)))
+    let same = is ∙ ap (λ (n : ℕ). record (after n s) { places = aside_places s.grip s.tray tray s.places; grip = 0 }) spells in
+    inr (part, inr (empty, inr (free, ap (λ (t : BenchState). Goes t (Some motion)) same ∙ ap (λ (m : Motion). Goes (record (after 3 s) { places = aside_places s.grip s.tray tray s.places; grip = 0 }) (Some m)) moves)))
 
 pub aside_in_use : (setup : Setup) (here : BenchProcedure) (s : BenchState) (direction : Direction) (tray : ℕ) → IsPartOfTray s.grip s.places s.tray → (¬ IsEmptyTray s.places tray)
     → Executes setup here s (Aside direction tray) (Traps traps.TrayInUse)
@@ -126,7 +126,7 @@ refilled places moved new is as_many =
     let same : length places ≡ length moved = sym as_many ∙ sym (ap length is) in
     rw same (take-append_seam moved (drop (length moved) places) ∙ is)
 
--- a state with the places behind a unit is orderly
+-- a state with the places after a unit is orderly
 pub orderly_unit : (s t : BenchState) (direction : Direction) → IsOrderly s → StaysOnBench s direction → t.places ≡ moved_places s.grip direction s.places → t.tray ≡ s.tray → t.grip ≡ s.grip → t.running.pc < 2 ^ 16 → IsCallChain t.running.procedure t.callers → IsOrderly t
 orderly_unit s t direction orderly stays places tray grip within chain = record {
   near = rw places (near_after_unit s.places s.tray s.grip direction orderly.near orderly.here stays);
@@ -136,7 +136,7 @@ orderly_unit s t direction orderly stays places tray grip within chain = record 
   chain = chain;
 }
 
--- a state with the places behind an `aside` is orderly
+-- a state with the places after an `aside` is orderly
 pub orderly_aside : (s t : BenchState) (there : ℕ) → IsOrderly s → t.places ≡ aside_places s.grip s.tray there s.places → t.grip ≡ 0 → t.running.pc < 2 ^ 16 → IsCallChain t.running.procedure t.callers → IsOrderly t
 orderly_aside s t there orderly places grip within chain = record {
   near = rw places (PositionsHold-aside_places (IsWithin 256) s.grip s.tray there s.places orderly.near);
@@ -166,7 +166,7 @@ pub sound_still : (old new : Benched) (mode : Mode) → IsSound old → new.asse
 sound_still old new mode sound assembly still =
     sound_staying old new sound assembly (record { places = ap (λ (s : BenchState). s.places) still; here = rw still sound.here })
 
--- a bench at work behind a unit is sound
+-- a bench at work after a unit is sound
 pub sound_unit : (old new : Benched) (direction : Direction) → IsSound old → NoOverlapIn (homes_of old.assembly) (moved_places old.state.grip direction old.state.places) old.state.tray → new.assembly ≡ old.assembly
     → new.state.places ≡ moved_places old.state.grip direction old.state.places → new.state.tray ≡ old.state.tray → new.state.grip ≡ old.state.grip → IsSound new
 sound_unit old new direction sound none assembly places tray grip =
@@ -181,7 +181,7 @@ sound_unit old new direction sound none assembly places tray grip =
           (no_overlap_moved (homes_of old.assembly) old.state.places old.state.tray old.state.grip direction sound.apart sound.here none));
     }
 
--- a bench at work behind an `aside` is sound
+-- a bench at work after an `aside` is sound
 pub sound_aside : (old new : Benched) (there : ℕ) → IsSound old → IsEmptyTray old.state.places there → new.assembly ≡ old.assembly → new.state.places ≡ aside_places old.state.grip old.state.tray there old.state.places → new.state.grip ≡ 0 → IsSound new
 sound_aside old new there sound empty assembly places grip =
     let same : length new.state.places ≡ length old.state.places = ap length places ∙ length-aside_places old.state.grip old.state.tray there old.state.places in record {

@@ -5,10 +5,10 @@ use Rattle.std.proofs.lemmas.Bool.{cond_both}
 use Rattle.std.proofs.lemmas.Bool.Decides.{nat_tests}
 use Rattle.std.proofs.lemmas.List.Elements.{All-nil, All-cons, All-head, All-tail}
 use Rattle.std.specs.List.{AllZip}
-use Rattle.burr_state.specs.Offsets.{PositionHolds, PositionsHold}
+use Rattle.burr_state.specs.Views.Offsets.{PositionHolds, PositionsHold}
 use native.Mathlib.Decide.{ℕ_discrete}
 use Rattle.burr_code.specs.Places.{Placement, Apart, On, LiesIn, AllLieIn, IsPartOfTray, IsEmptyTray, changed, to_tray, is_in, count_in, parted_in, parted, aside_places}
-use Rattle.burr_state.specs.Parts.{parts}
+use Rattle.burr_state.specs.Views.Parts.{parts}
 use Rattle.burr_code.proofs.Common.PieceSets.{no_bit, set_bit}
 use Rattle.burr_state.proofs.Common.Trays.Counts.{length-changed, All-changed, lies_still, lies_there}
 use Rattle.burr_state.proofs.Common.Trays.Counts.{count_in-same, count_in-other, count_in-empty, count_in-some, IsTaken, group_taken, count_in-third, parted_in-same, parted_in-other, count_in-parted_in}

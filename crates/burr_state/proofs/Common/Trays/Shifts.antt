@@ -9,8 +9,8 @@ use Rattle.burr_code.proofs.Common.PieceSets.{decide_bit}
 use Rattle.burr_voxels.specs.declared.cell.Cell.{Cell}
 use Rattle.burr_voxels.specs.declared.direction.Direction.{Direction}
 use Rattle.burr_voxels.specs.Grid.{plus, along}
-use Rattle.burr_state.specs.Space.{moved_places}
-use Rattle.burr_state.specs.Parts.{is_last, parts}
+use Rattle.burr_state.specs.Rules.Space.{moved_places}
+use Rattle.burr_state.specs.Views.Parts.{is_last, parts}
 use Rattle.burr_code.proofs.Common.Conditions.{apart-on, same_tray, same_position}
 use Rattle.burr_state.proofs.Common.Trays.Counts.{changed_place, is_changed, is_kept, length-changed, slice_get-changed, changed_back}
 

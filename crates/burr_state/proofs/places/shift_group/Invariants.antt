@@ -4,8 +4,8 @@ use Rattle.burr_voxels.specs.Grid.{plus, along}
 use Rattle.burr_voxels.specs.Near.{IsWithin}
 use Rattle.std.specs.Prelude.{pos}
 use Rattle.burr_code.specs.Places.{Placement, changed, at_position}
-use Rattle.burr_state.specs.Offsets.{PositionHolds}
-use Rattle.burr_state.specs.Space.{moved_places}
+use Rattle.burr_state.specs.Views.Offsets.{PositionHolds}
+use Rattle.burr_state.specs.Rules.Space.{moved_places}
 use Rattle.burr_state.proofs.places.shift_group.Given as goal
 
 -- those that are moved, and those to come, which are where they were

@@ -1,6 +1,6 @@
 -- One more is read.
 use Rattle.std.specs.Prelude.{replicate, true}
-use Rattle.burr_container.specs.Refs.{exit_frame_of}
+use Rattle.burr_container.specs.Views.Refs.{exit_frame_of}
 use Rattle.burr_upgrade.specs.Slots.{over_slots}
 use Rattle.burr_container.proofs.Common.ListsRead.{pushed}
 use Rattle.burr_upgrade.proofs.Restored.{form_of}

@@ -1,4 +1,4 @@
-use Rattle.burr_container.specs.Refs.{exit_frame_of}
+use Rattle.burr_container.specs.Views.Refs.{exit_frame_of}
 use Rattle.burr_container.proofs.Common.ListsRead.{IsRead}
 use Rattle.burr_upgrade.proofs.exits.results.Given as goal
 

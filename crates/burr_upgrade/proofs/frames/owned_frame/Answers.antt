@@ -1,8 +1,8 @@
 -- The parts are those of the frame.
 use Rattle.std.proofs.Common.{◌≡◌, ◌∙◌, ap, sym, subst, List}
 use Rattle.std.specs.Prelude.{Bool}
-use Rattle.burr_container.specs.Plans.{live_slots}
-use Rattle.burr_container.specs.Refs.{frame_of}
+use Rattle.burr_container.specs.Rules.Plans.{live_slots}
+use Rattle.burr_container.specs.Views.Refs.{frame_of}
 use Rattle.burr_upgrade.specs.Slots.{over_slots, IsNarrowForm}
 use Rattle.burr_upgrade.proofs.Restored.{same_slots, form_narrow}
 use Rattle.burr_upgrade.proofs.Fitting.{frame_fits}

@@ -2,9 +2,9 @@
 use Rattle.std.proofs.Common.{◌∙◌, ap, List, [], ◌∷◌}
 use Rattle.std.specs.Prelude.{Bool}
 use Rattle.std.proofs.lemmas.List.{map-append}
-use Rattle.burr_container.specs.Plans.{live_slots}
-use Rattle.burr_container.specs.Refs.{frame_of, told}
-use Rattle.burr_container.specs.Views.{placement_of, placements_of}
+use Rattle.burr_container.specs.Rules.Plans.{live_slots}
+use Rattle.burr_container.specs.Views.Refs.{frame_of, placement_view}
+use Rattle.burr_container.specs.Views.OwnedPlaces.{placement_of, placements_of}
 use Rattle.burr_upgrade.specs.Slots.{place_over_slots}
 use Rattle.burr_container.proofs.Common.ListsRead.{pushed}
 use Rattle.burr_upgrade.proofs.Restored.{same_slots, place_of}
@@ -26,7 +26,7 @@ loop-p-preserved c =
     let place = c.place.result in
     let before = c.loop-p.places.items in
     let of = place_of live live (same_slots live) f.places c.loop-p.p place fits.places c.place.ensures.place in
-    pushed f.places c.loop-p.p (placements_of before) (placements_of c.push.new.self.items) (place_over_slots live (told place))
+    pushed f.places c.loop-p.p (placements_of before) (placements_of c.push.new.self.items) (place_over_slots live (placement_view place))
     (placement_of c.placed.result) of.there
-    (c.placed.ensures ∙ ap (λ (l : List Bool). place_over_slots l (told place)) c.requires.live)
+    (c.placed.ensures ∙ ap (λ (l : List Bool). place_over_slots l (placement_view place)) c.requires.live)
     (ap placements_of c.in_ok-push.ensures.items ∙ map-append placement_of before (c.placed.result ∷ [])) c.loop-p.invariant

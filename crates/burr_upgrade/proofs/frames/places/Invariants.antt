@@ -1,5 +1,5 @@
-use Rattle.burr_container.specs.Refs.{frame_of}
-use Rattle.burr_container.specs.Views.{placements_of}
+use Rattle.burr_container.specs.Views.Refs.{frame_of}
+use Rattle.burr_container.specs.Views.OwnedPlaces.{placements_of}
 use Rattle.burr_container.proofs.Common.ListsRead.{IsRead}
 use Rattle.burr_upgrade.proofs.frames.places.Given as goal
 

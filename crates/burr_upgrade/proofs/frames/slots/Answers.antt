@@ -1,7 +1,7 @@
 -- One more is read.
 use Rattle.std.proofs.Common.{◌<◌, ◌∙◌, length, arith}
 use Rattle.std.proofs.lemmas.List.{length-set}
-use Rattle.burr_container.specs.Refs.{frame_of}
+use Rattle.burr_container.specs.Views.Refs.{frame_of}
 use Rattle.burr_container.proofs.Common.ListsRead.{put_next}
 use Rattle.burr_upgrade.proofs.frames.slots.Goals as goal
 

@@ -1,5 +1,5 @@
 use Rattle.std.proofs.Common.{◌≡◌, take, length}
-use Rattle.burr_container.specs.Refs.{frame_of}
+use Rattle.burr_container.specs.Views.Refs.{frame_of}
 use Rattle.burr_upgrade.proofs.frames.slots.Given as goal
 
 -- the first ones are read

@@ -1,8 +1,8 @@
 -- One more is read.
 use Rattle.std.proofs.Common.{◌∙◌, ap, List}
 use Rattle.std.specs.Prelude.{Bool}
-use Rattle.burr_container.specs.Plans.{live_slots}
-use Rattle.burr_container.specs.Refs.{frame_of}
+use Rattle.burr_container.specs.Rules.Plans.{live_slots}
+use Rattle.burr_container.specs.Views.Refs.{frame_of}
 use Rattle.burr_upgrade.specs.Slots.{over_slots}
 use Rattle.burr_container.proofs.Common.ListsRead.{pushed}
 use Rattle.burr_upgrade.proofs.Restored.{same_slots, form_of}

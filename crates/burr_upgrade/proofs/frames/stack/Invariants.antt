@@ -1,4 +1,4 @@
-use Rattle.burr_container.specs.Refs.{frame_of}
+use Rattle.burr_container.specs.Views.Refs.{frame_of}
 use Rattle.burr_container.proofs.Common.ListsRead.{IsRead}
 use Rattle.burr_upgrade.proofs.frames.stack.Given as goal
 

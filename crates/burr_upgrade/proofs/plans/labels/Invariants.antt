@@ -1,4 +1,4 @@
-use Rattle.burr_container.specs.Containers.{OfProcedure}
+use Rattle.burr_container.specs.Views.Containers.{OfProcedure}
 use Rattle.burr_container.proofs.Common.ListsRead.{IsRead}
 use Rattle.burr_upgrade.proofs.plans.labels.Given as goal
 

@@ -1,5 +1,5 @@
-use Rattle.burr_container.specs.Plans.{Plan}
-use Rattle.burr_container.specs.Containers.{IsContainer}
+use Rattle.burr_container.specs.Rules.Plans.{Plan}
+use Rattle.burr_container.specs.Views.Containers.{IsContainer}
 use Rattle.burr_container.proofs.Common.ListsRead.{IsRead}
 use Rattle.burr_upgrade.proofs.plans.procedures.Given as goal
 

@@ -1,7 +1,7 @@
 -- A container's plan is within the format, and so it is in version 2.
 use Rattle.std.proofs.Common.{IsTrue, ◌∙◌, sym, subst}
-use Rattle.burr_container.specs.Plans.{Plan}
-use Rattle.burr_container.specs.Fitting.{is_fitting}
+use Rattle.burr_container.specs.Rules.Plans.{Plan}
+use Rattle.burr_container.specs.Rules.Fitting.{is_fitting}
 use Rattle.burr_upgrade.specs.Upgrades.{upgraded}
 use Rattle.burr_container.proofs.Common.OneContainer.{fits_where_kept}
 use Rattle.burr_upgrade.proofs.Upgraded.{stays_fitting}

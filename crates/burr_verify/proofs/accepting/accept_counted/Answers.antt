@@ -1,11 +1,11 @@
 use Rattle.std.proofs.Common.{subst}
 use Rattle.std.proofs.lemmas.Result.{err_from_is_err_and}
-use Rattle.burr_assembly.specs.Homes.{homes_of}
-use Rattle.burr_blocking.specs.Counted.{Counted}
-use Rattle.burr_frames.specs.FramedPlans.{framed_plan}
-use Rattle.burr_verify.specs.Judging.{Judging}
-use Rattle.burr_verify.specs.Pass.{Refuses}
-use Rattle.burr_verify.specs.Views.{failed_check}
+use Rattle.burr_assembly.specs.Rules.Homes.{homes_of}
+use Rattle.burr_blocking.specs.Rules.Counted.{Counted}
+use Rattle.burr_frames.specs.Rules.FramedPlans.{framed_plan}
+use Rattle.burr_verify.specs.Rules.Judging.{Judging}
+use Rattle.burr_verify.specs.Rules.Pass.{Refuses}
+use Rattle.burr_verify.specs.Views.Judgements.{failed_check}
 use Rattle.burr_verify.proofs.accepting.accept_counted.Goals as goal
 
 pub returns-in_err-verify_counted-clause-err : goal.returns-in_err-verify_counted-clause-err

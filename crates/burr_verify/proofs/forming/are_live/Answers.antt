@@ -1,7 +1,7 @@
 -- One more slot is live.
 use Rattle.burr_text.proofs.Common.Tests.{yes_of, one_more_number}
-use Rattle.burr_container.specs.Refs.{frame_of}
-use Rattle.burr_verify.specs.Forming.{IsLive}
+use Rattle.burr_container.specs.Views.Refs.{frame_of}
+use Rattle.burr_verify.specs.Views.Forming.{IsLive}
 use Rattle.burr_verify.proofs.forming.are_live.Goals as goal
 
 pub loop-v-preserved : goal.loop-v-preserved

@@ -1,7 +1,7 @@
 -- The slots so far are live.
 use Rattle.std.proofs.Common.{ℕ, ◌<◌}
-use Rattle.burr_container.specs.Refs.{frame_of}
-use Rattle.burr_verify.specs.Forming.{IsLive}
+use Rattle.burr_container.specs.Views.Refs.{frame_of}
+use Rattle.burr_verify.specs.Views.Forming.{IsLive}
 use Rattle.burr_verify.proofs.forming.are_live.Given as goal
 
 abbrev pub invariant-loop-v : goal.invariant-loop-v

@@ -1,5 +1,5 @@
 -- The first ones are read.
-use Rattle.burr_frames.specs.Exits.{framed_ref}
+use Rattle.burr_frames.specs.Views.Exits.{framed_ref}
 use Rattle.burr_verify.proofs.Trays.{AreRead}
 use Rattle.burr_verify.proofs.forming.exit_trays.Given as goal
 

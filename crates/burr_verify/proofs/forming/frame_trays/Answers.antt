@@ -1,16 +1,16 @@
 -- One more is read; at the end all are.
 use Rattle.std.proofs.Common.{◌∙◌, [], ◌∷◌, ◌++◌, Option, ℕ, ap, arith}
 use Rattle.std.proofs.lemmas.List.{length-map}
-use Rattle.burr_container.specs.Plans.{live_slots, place_over_symbols}
-use Rattle.burr_container.specs.Refs.{frame_of, told}
-use Rattle.burr_frames.specs.FramedPlans.{framed}
+use Rattle.burr_container.specs.Rules.Plans.{live_slots, place_over_symbols}
+use Rattle.burr_container.specs.Views.Refs.{frame_of, placement_view}
+use Rattle.burr_frames.specs.Rules.FramedPlans.{framed}
 use Rattle.burr_verify.proofs.Trays.{read_on, all_read}
 use Rattle.burr_verify.proofs.forming.frame_trays.Goals as goal
 
 pub loop-p-preserved : goal.loop-p-preserved
 loop-p-preserved c =
     let before = c.loop-p.trays.items in
-    read_on (framed (frame_of c.args.frame.now)).places c.loop-p.p before c.push.new.self.items (told c.place.result) c.place.ensures.place
+    read_on (framed (frame_of c.args.frame.now)).places c.loop-p.p before c.push.new.self.items (placement_view c.place.result) c.place.ensures.place
     (c.push.ensures.items ∙ ap (λ (t : Option ℕ). before ++ t ∷ []) c.tray.ensures) c.loop-p.invariant
 
 pub returns : goal.returns

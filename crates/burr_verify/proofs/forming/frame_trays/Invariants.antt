@@ -1,6 +1,6 @@
 -- The first ones are read.
-use Rattle.burr_container.specs.Refs.{frame_of}
-use Rattle.burr_frames.specs.FramedPlans.{framed}
+use Rattle.burr_container.specs.Views.Refs.{frame_of}
+use Rattle.burr_frames.specs.Rules.FramedPlans.{framed}
 use Rattle.burr_verify.proofs.Trays.{AreRead}
 use Rattle.burr_verify.proofs.forming.frame_trays.Given as goal
 

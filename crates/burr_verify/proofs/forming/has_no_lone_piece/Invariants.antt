@@ -2,7 +2,7 @@
 use Rattle.std.proofs.Common.{◌≢◌, ◌≡◌, ◌<◌, ℕ, Some}
 use Rattle.std.specs.Prelude.{slice_get}
 use Rattle.burr_code.specs.Places.{count_in}
-use Rattle.burr_verify.specs.Forming.{OfTrays}
+use Rattle.burr_verify.specs.Views.Forming.{OfTrays}
 use Rattle.burr_verify.proofs.forming.has_no_lone_piece.Given as goal
 
 abbrev pub invariant-loop-tray : goal.invariant-loop-tray

@@ -1,6 +1,6 @@
 -- Where no operand is there, the slots decide.
 use Rattle.std.proofs.Common.{arith}
-use Rattle.burr_container.specs.Refs.{frame_of}
+use Rattle.burr_container.specs.Views.Refs.{frame_of}
 use Rattle.burr_verify.proofs.Formed.{entry_formed}
 use Rattle.burr_verify.proofs.forming.is_formed_entry.Goals as goal
 

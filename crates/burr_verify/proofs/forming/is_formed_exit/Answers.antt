@@ -1,7 +1,7 @@
 -- One test after the other.
 use Rattle.std.proofs.Common.{◌∙◌, sym, true}
 use Rattle.burr_text.proofs.Common.Tests.{yes_of}
-use Rattle.burr_frames.specs.Exits.{framed_ref}
+use Rattle.burr_frames.specs.Views.Exits.{framed_ref}
 use Rattle.burr_verify.proofs.Formed.{lies_by, exit_formed, exit_not_gripped}
 use Rattle.burr_verify.proofs.forming.is_formed_exit.Goals as goal
 

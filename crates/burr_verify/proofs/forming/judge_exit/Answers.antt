@@ -1,9 +1,9 @@
 -- An exit frame that is formed or not, or none.
 use Rattle.std.proofs.Common.{refl}
 use Rattle.burr_text.proofs.Common.Tests.{yes_of, no_of}
-use Rattle.burr_frames.specs.Exits.{framed_ref}
+use Rattle.burr_frames.specs.Views.Exits.{framed_ref}
 use Rattle.burr_frames.specs.declared.rule.Rule.TheVariants as rules
-use Rattle.burr_verify.specs.Views.{failed_check}
+use Rattle.burr_verify.specs.Views.Judgements.{failed_check}
 use Rattle.burr_verify.proofs.Formed.{exit_here, no_exit_here}
 use Rattle.burr_frames.proofs.Common.Heres.{procedure_here}
 use Rattle.burr_verify.proofs.LabelsJudged.{exit_passes, no_exit_passes, exit_refused, plainly_refused}

@@ -1,10 +1,10 @@
 -- One check after the other.
 use Rattle.std.proofs.Common.{true, false}
 use Rattle.burr_text.proofs.Common.Tests.{yes_of, no_of}
-use Rattle.burr_container.specs.Refs.{frame_of}
-use Rattle.burr_frames.specs.FramedPlans.{framed}
+use Rattle.burr_container.specs.Views.Refs.{frame_of}
+use Rattle.burr_frames.specs.Rules.FramedPlans.{framed}
 use Rattle.burr_frames.specs.declared.rule.Rule.TheVariants as rules
-use Rattle.burr_verify.specs.Views.{failed_check}
+use Rattle.burr_verify.specs.Views.Judgements.{failed_check}
 use Rattle.burr_verify.proofs.Formed.{label_read, formed_there, room_there}
 use Rattle.burr_verify.proofs.LabelsJudged.{label_unformed, label_without_room, label_passes, plainly_refused}
 use Rattle.burr_verify.proofs.forming.judge_frame.Goals as goal

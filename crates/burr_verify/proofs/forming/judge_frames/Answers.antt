@@ -1,16 +1,16 @@
--- Label by label, behind the exit frame.
+-- Label by label, after the exit frame.
 use Rattle.std.proofs.Common.{◌+◌, ℕ, arith}
 use Rattle.std.proofs.lemmas.Result.{err_from_is_err_and}
-use Rattle.burr_frames.specs.FramedPlans.{FramedProcedure}
-use Rattle.burr_verify.specs.Judging.{Answer, judging_exit, judging_entry}
-use Rattle.burr_verify.specs.VerifyLaws.{nothing}
+use Rattle.burr_frames.specs.Rules.FramedPlans.{FramedProcedure}
+use Rattle.burr_verify.specs.Rules.Judging.{Rest, judging_exit, judging_entry}
+use Rattle.burr_verify.specs.Rules.Judging.{nothing}
 use Rattle.burr_verify.proofs.Formed.{labels_counted}
 use Rattle.burr_frames.proofs.Common.Heres.{element_at}
-use Rattle.burr_verify.proofs.LabelsJudged.{behind_exit, refused_by_exit, labels_on, labels_stop, labels_end}
+use Rattle.burr_verify.proofs.LabelsJudged.{after_exit, refused_by_exit, labels_on, labels_stop, labels_end}
 use Rattle.burr_verify.proofs.forming.judge_frames.Goals as goal
 
 -- what is judged of all frames of a procedure
-abbrev all_of : ℕ → FramedProcedure → Answer → Answer
+abbrev all_of : ℕ → FramedProcedure → Rest → Rest
 all_of n here rest = judging_exit n here.exit (judging_entry n here.parameters here.labels rest)
 
 pub returns-in_err-judge_exit : goal.returns-in_err-judge_exit
@@ -22,7 +22,7 @@ returns-in_err-judge_exit c =
 
 pub loop-label-init : goal.loop-label-init
 loop-label-init c =
-    λ p here is at. behind_exit c.args.procedure here.parameters here.exit here.labels (c.in_ok-judge_exit.ensures p here is at)
+    λ p here is at. after_exit c.args.procedure here.parameters here.exit here.labels (c.in_ok-judge_exit.ensures p here is at)
 
 pub returns-in_err-judge_frame : goal.returns-in_err-judge_frame
 returns-in_err-judge_frame c =

@@ -1,13 +1,13 @@
 -- What the labels from here on come to is what all frames come to.
 use Rattle.std.specs.Prelude.{drop}
-use Rattle.burr_frames.specs.Here.{OfHere}
-use Rattle.burr_verify.specs.Judging.{judging_exit, judging_entry}
-use Rattle.burr_verify.specs.Views.{PartFrom}
+use Rattle.burr_frames.specs.Views.Here.{OfFramedProcedure}
+use Rattle.burr_verify.specs.Rules.Judging.{judging_exit, judging_entry}
+use Rattle.burr_verify.specs.Views.Judgements.{PartFrom}
 use Rattle.burr_verify.proofs.LabelsJudged.{judging_from}
 use Rattle.burr_verify.proofs.forming.judge_frames.Given as goal
 
 abbrev pub invariant-loop-label : goal.invariant-loop-label
 invariant-loop-label l =
-    OfHere l.container l.procedure (λ plan here. PartFrom
+    OfFramedProcedure l.container l.procedure (λ plan here. PartFrom
     (judging_from l.procedure here.parameters l.label (drop l.label here.labels))
     (λ rest. judging_exit l.procedure here.exit (judging_entry l.procedure here.parameters here.labels rest)))

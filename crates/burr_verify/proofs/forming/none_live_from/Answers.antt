@@ -1,8 +1,8 @@
 -- One slot more that is not live, or the first that is.
 use Rattle.std.proofs.Common.{rules, ◌≡◌, ◌≤◌, length, arith}
 use Rattle.burr_text.proofs.Common.Tests.{yes_of, no_of, yes_iff, no_iff, one_more_number}
-use Rattle.burr_container.specs.Refs.{frame_of}
-use Rattle.burr_verify.specs.Forming.{IsLive}
+use Rattle.burr_container.specs.Views.Refs.{frame_of}
+use Rattle.burr_verify.specs.Views.Forming.{IsLive}
 use Rattle.burr_verify.proofs.Formed.{none_live}
 use Rattle.burr_verify.proofs.forming.none_live_from.Goals as goal
 use Rattle.burr_verify.proofs.forming.none_live_from.Goals.{else-is_live-via-then-is_live+else-from-v, else-is_live-via-else-is_live}

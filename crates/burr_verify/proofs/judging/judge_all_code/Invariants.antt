@@ -1,9 +1,9 @@
 use Rattle.std.proofs.Common.{◌≡◌, ◌≤◌, ◌*◌, ◌^◌}
-use Rattle.burr_container.specs.Plans.{Plan}
-use Rattle.burr_container.specs.Containers.{IsContainer}
-use Rattle.burr_assembly.specs.Homes.{homes_of}
-use Rattle.burr_frames.specs.FramedPlans.{framed_plan}
-use Rattle.burr_verify.specs.LookViews.{LooksFrom}
+use Rattle.burr_container.specs.Rules.Plans.{Plan}
+use Rattle.burr_container.specs.Views.Containers.{IsContainer}
+use Rattle.burr_assembly.specs.Rules.Homes.{homes_of}
+use Rattle.burr_frames.specs.Rules.FramedPlans.{framed_plan}
+use Rattle.burr_verify.specs.Views.LookViews.{LooksFrom}
 use Rattle.burr_verify.proofs.judging.judge_all_code.Given as goal
 
 abbrev pub invariant-loop-procedure : goal.invariant-loop-procedure

@@ -1,7 +1,7 @@
 use Rattle.std.proofs.Common.{arith}
 use Rattle.std.proofs.lemmas.Result.{err_from_is_err_and}
-use Rattle.burr_frames.specs.FramedPlans.{framed_plan}
-use Rattle.burr_verify.specs.Judging.{judging_frames}
+use Rattle.burr_frames.specs.Rules.FramedPlans.{framed_plan}
+use Rattle.burr_verify.specs.Rules.Judging.{judging_frames}
 use Rattle.burr_verify.proofs.JudgedOn.{here_at, frames_on, frames_stop, frames_end}
 use Rattle.burr_verify.proofs.judging.judge_all_frames.Goals as goal
 

@@ -1,8 +1,8 @@
-use Rattle.burr_container.specs.Plans.{Plan}
-use Rattle.burr_container.specs.Containers.{IsContainer}
-use Rattle.burr_frames.specs.FramedPlans.{framed_plan}
-use Rattle.burr_verify.specs.Judging.{judging_frames}
-use Rattle.burr_verify.specs.Views.{PartFrom}
+use Rattle.burr_container.specs.Rules.Plans.{Plan}
+use Rattle.burr_container.specs.Views.Containers.{IsContainer}
+use Rattle.burr_frames.specs.Rules.FramedPlans.{framed_plan}
+use Rattle.burr_verify.specs.Rules.Judging.{judging_frames}
+use Rattle.burr_verify.specs.Views.Judgements.{PartFrom}
 use Rattle.std.specs.Prelude.{drop}
 use Rattle.burr_verify.proofs.judging.judge_all_frames.Given as goal
 

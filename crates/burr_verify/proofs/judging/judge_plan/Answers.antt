@@ -1,10 +1,10 @@
 use Rattle.std.proofs.Common.{◌≡◌, length, refl, sym, subst, ap, ◌∙◌}
 use Rattle.std.proofs.lemmas.Result.{err_from_is_err_and}
 use Rattle.std.proofs.lemmas.Bool.{false≢true}
-use Rattle.burr_assembly.specs.Homes.{homes_of}
-use Rattle.burr_assembly.specs.Text.{Assembly}
-use Rattle.burr_verify.specs.Fitting.{FitsAssembly}
-use Rattle.burr_verify.specs.Views.{judgement_of}
+use Rattle.burr_assembly.specs.Rules.Homes.{homes_of}
+use Rattle.burr_assembly.specs.Rules.Text.{Assembly}
+use Rattle.burr_verify.specs.Rules.Fitting.{FitsAssembly}
+use Rattle.burr_verify.specs.Views.Judgements.{judgement_of}
 use Rattle.burr_verify.proofs.Parts.{as_many_homes, fits_refused, frames_refused, start_refused, code_judged}
 use Rattle.burr_verify.proofs.judging.judge_plan.Goals as goal
 

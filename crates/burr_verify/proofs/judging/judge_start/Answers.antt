@@ -1,17 +1,17 @@
 use Rattle.std.proofs.Common.{rules, ◌≡◌, true, false, [], FitsSigned, to_z-of_z, w64, sym, subst, ap, ◌∙◌, arith}
 use Rattle.std.specs.Prelude.{int_lt}
-use Rattle.burr_forms.specs.Forms.{Form, value}
-use Rattle.burr_container.specs.Refs.{frame_of}
+use Rattle.burr_forms.specs.Rules.Forms.{Form, value}
+use Rattle.burr_container.specs.Views.Refs.{frame_of}
 use Rattle.burr_frames.specs.declared.rule.Rule.TheVariants as numbers
-use Rattle.burr_frames.specs.FramedPlans.{framed, framed_plan}
-use Rattle.burr_frames.specs.Starts.{start_state}
-use Rattle.burr_frames.specs.States.{AbstractState}
-use Rattle.burr_frames.specs.Arrival.{Meets}
+use Rattle.burr_frames.specs.Rules.FramedPlans.{framed, framed_plan}
+use Rattle.burr_frames.specs.Rules.Starts.{start_state}
+use Rattle.burr_frames.specs.Rules.States.{AbstractState}
+use Rattle.burr_frames.specs.Rules.Arrival.{Meets}
 use Rattle.burr_verify.specs.declared.refusal.Refusal.{Refusal}
-use Rattle.burr_verify.specs.Judging.{judging_start}
-use Rattle.burr_verify.specs.Pass.{Refuses}
-use Rattle.burr_verify.specs.VerifyLaws.{nothing}
-use Rattle.burr_verify.specs.Views.{failed_check}
+use Rattle.burr_verify.specs.Rules.Judging.{judging_start}
+use Rattle.burr_verify.specs.Rules.Pass.{Refuses}
+use Rattle.burr_verify.specs.Rules.Judging.{nothing}
+use Rattle.burr_verify.specs.Views.Judgements.{failed_check}
 use Rattle.burr_verify.proofs.Beginnings.{meets_where_ok, misses_where_err, has_entry, start_lacks_entry, start_misses, start_too_dear, start_holds, cost_nowhere, is_dear, is_paid}
 use Rattle.burr_verify.proofs.judging.judge_start.Goals as goal
 

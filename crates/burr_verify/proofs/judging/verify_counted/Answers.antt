@@ -1,8 +1,8 @@
 use Rattle.std.proofs.Common.{◌≤◌, length, ap, arith}
-use Rattle.burr_assembly.specs.Homes.{homes_of}
-use Rattle.burr_assembly.specs.Text.{Assembly}
-use Rattle.burr_frames.specs.FramedPlans.{framed_plan}
-use Rattle.burr_verify.specs.Views.{judgement_of}
+use Rattle.burr_assembly.specs.Rules.Homes.{homes_of}
+use Rattle.burr_assembly.specs.Rules.Text.{Assembly}
+use Rattle.burr_frames.specs.Rules.FramedPlans.{framed_plan}
+use Rattle.burr_verify.specs.Views.Judgements.{judgement_of}
 use Rattle.burr_verify.proofs.Framings.{framed_exactly}
 use Rattle.burr_verify.proofs.Parts.{as_many_homes}
 use Rattle.burr_verify.proofs.judging.verify_counted.Goals as goal

@@ -11,10 +11,10 @@ loop-low-init c = record {
   few = omega arith;
   split = λ p here kept at k x standing. (
     (λ none. absurd (omega (arith, none))),
-    (λ behind.
+    (λ after.
         (let many = as_many_here c.args.container.now c.args.procedure c.label_count-count.result c.label_count-count.ensures.plan p here kept at in
         let inside = slice_get_within here.labels k x standing in
-        absurd (omega (arith, many, inside, behind)))),
+        absurd (omega (arith, many, inside, after)))),
   );
 }
 
@@ -31,7 +31,7 @@ loop-low-preserved-then-from-place c = record {
       let less : y.0.0 < c.args.place = omega (arith, place, c.from.ensures, c.if-from-place.true) in
       let laid = laid_out_here c.args.container.now p c.args.procedure here c.header-header.ensures.container kept at in (
         (λ before. up_to_middle here laid middle y.0 y.1 c.args.place less k x standing before),
-        (λ behind. (c.loop-low.invariant.split p here kept at k x standing).1 behind),
+        (λ after. (c.loop-low.invariant.split p here kept at k x standing).1 after),
       ));
 }
 
@@ -48,7 +48,7 @@ loop-low-preserved c = record {
       let more : c.args.place ≤ y.0.0 = omega (arith, place, c.from.ensures, c.if-from-place.false) in
       let laid = laid_out_here c.args.container.now p c.args.procedure here c.header-header.ensures.container kept at in (
         (λ before. (c.loop-low.invariant.split p here kept at k x standing).0 before),
-        (λ behind. from_middle here laid middle y.0 y.1 c.args.place more k x standing behind),
+        (λ after. from_middle here laid middle y.0 y.1 c.args.place more k x standing after),
       ));
 }
 
@@ -59,6 +59,6 @@ returns-clause-before c p here kept at k x standing =
   where
     back : (k < c.loop-low.low) ⊎ (c.loop-low.low ≤ k) → x.0 < c.args.place → (c.loop-low.high ≤ k → c.args.place ≤ x.0) → k < c.loop-low.low
     back (inl before) less split = before
-    back (inr behind) less split =
-        let more = split (omega (arith, behind, c.loop-low-test.false, c.loop-low.invariant.order)) in
+    back (inr after) less split =
+        let more = split (omega (arith, after, c.loop-low-test.false, c.loop-low.invariant.order)) in
         absurd (omega (arith, more, less))

@@ -5,17 +5,17 @@ use Rattle.burr_container.specs.declared.procedure_ref.ProcedureRef.{ProcedureRe
 use Rattle.burr_verify.proofs.LabelPlaces.{below_few, within, none_within, no_more_here}
 use Rattle.burr_verify.proofs.labels.label_within.Goals as goal
 
-pub returns-then-label-behind-clause-has : goal.returns-then-label-behind-clause-has
-returns-then-label-behind-clause-has c =
-    below_few (slice_get c.args.container.now.procedures c.args.procedure) (λ (p : ProcedureRef). length p.labels.starts.items) c.count_before-label.result c.count_before-behind.result c.count_before-behind.ensures.few c.if-label-behind.true
+pub returns-then-label-after-clause-has : goal.returns-then-label-after-clause-has
+returns-then-label-after-clause-has c =
+    below_few (slice_get c.args.container.now.procedures c.args.procedure) (λ (p : ProcedureRef). length p.labels.starts.items) c.count_before-label.result c.count_before-after.result c.count_before-after.ensures.few c.if-label-after.true
 
-pub returns-then-label-behind-clause-found : goal.returns-then-label-behind-clause-found
-returns-then-label-behind-clause-found c p here kept at =
-    within here c.args.from c.args.end c.count_before-label.result c.count_before-behind.result
-    (c.count_before-label.ensures.before p here kept at) (c.count_before-behind.ensures.before p here kept at) c.if-label-behind.true
-    (no_more_here c.args.container.now c.args.procedure c.count_before-behind.result c.count_before-behind.ensures.many p here kept at)
+pub returns-then-label-after-clause-found : goal.returns-then-label-after-clause-found
+returns-then-label-after-clause-found c p here kept at =
+    within here c.args.from c.args.end c.count_before-label.result c.count_before-after.result
+    (c.count_before-label.ensures.before p here kept at) (c.count_before-after.ensures.before p here kept at) c.if-label-after.true
+    (no_more_here c.args.container.now c.args.procedure c.count_before-after.result c.count_before-after.ensures.many p here kept at)
 
 pub returns-clause-found : goal.returns-clause-found
 returns-clause-found c p here kept at =
-    none_within here c.args.from c.args.end c.count_before-label.result c.count_before-behind.result
-    (c.count_before-label.ensures.before p here kept at) (c.count_before-behind.ensures.before p here kept at) (omega (arith, c.if-label-behind.false))
+    none_within here c.args.from c.args.end c.count_before-label.result c.count_before-after.result
+    (c.count_before-label.ensures.before p here kept at) (c.count_before-after.ensures.before p here kept at) (omega (arith, c.if-label-after.false))

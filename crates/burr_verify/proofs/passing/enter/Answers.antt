@@ -1,14 +1,14 @@
 use Rattle.std.proofs.Common.{◌+◌, refl, sym, ap, subst, ◌∙◌}
 use Rattle.std.specs.Prelude.{option_map}
-use Rattle.burr_container.specs.Plans.{Frame}
-use Rattle.burr_frames.specs.ArrivalViews.{missed_at}
-use Rattle.burr_frames.specs.Verdicts.{Leaves, arriving, leaves}
-use Rattle.burr_frames.specs.FramedPlans.{framed_plan}
-use Rattle.burr_frames.specs.Looks.{HasRoom}
-use Rattle.burr_frames.specs.States.{state_of}
-use Rattle.burr_verify.specs.LookViews.{HasRoomBefore}
-use Rattle.burr_verify.specs.Pass.{Refuses, lacks_frame}
-use Rattle.burr_verify.specs.Views.{failed_check}
+use Rattle.burr_container.specs.Rules.Plans.{Frame}
+use Rattle.burr_frames.specs.Views.ArrivalViews.{missed_at}
+use Rattle.burr_frames.specs.Rules.Verdicts.{NoSuccessor, arriving, no_successor}
+use Rattle.burr_frames.specs.Rules.FramedPlans.{framed_plan}
+use Rattle.burr_frames.specs.Rules.Looks.{HasRoom}
+use Rattle.burr_frames.specs.Rules.States.{state_of}
+use Rattle.burr_verify.specs.Views.LookViews.{HasRoomBefore}
+use Rattle.burr_verify.specs.Rules.Pass.{Refuses, lacks_frame}
+use Rattle.burr_verify.specs.Views.Judgements.{failed_check}
 use Rattle.burr_verify.proofs.LookedOn.{looks_gone_on}
 use Rattle.burr_verify.proofs.Stages.{no_label, at_label, frame_read, enters_resumes, enters_arrives, enters_misses, on_from, stops_from, stops_by, none_found, one_found}
 use Rattle.burr_verify.proofs.passing.enter.Goals as goal
@@ -39,7 +39,7 @@ returns-in-Ok-clause-passes c = λ homes p here kept at more.
     (let l = one_found here c.args.pc (c.args.pc + 1) c.in-Some-Some.label c.label_within-label.result c.in-Some-Some.is-0 (c.label_within-label.ensures.found p here kept at) in
     let labelled = at_label here c.args.pc c.in-Some-Some.label l.0 l.1 l.2 l.3 in
     let read = frame_read c.args.container.now c.args.procedure c.in-Some-Some.label c.frame-frame.result c.frame-frame.ensures.plan p here kept at l.0 l.1 in
-    let arrived = subst (λ (f : Frame). arriving c.in-Some-Some.state f leaves Leaves) read c.in-Ok.ensures in
+    let arrived = subst (λ (f : Frame). arriving c.in-Some-Some.state f no_successor NoSuccessor) read c.in-Ok.ensures in
     on_from homes (framed_plan p) c.args.procedure here c.args.last c.args.pc c.args.falling _ c.of-in-Ok.result c.in-Some-Some.is-1
     (enters_arrives homes (framed_plan p) c.args.procedure here c.args.last c.args.pc l.0.1 c.in-Some-Some.state c.of-in-Ok.result more labelled arrived (c.of-in-Ok.ensures ∙ ap state_of read)))
 
@@ -48,7 +48,7 @@ returns-in-Err-clause-passes c = λ homes p here kept at more.
     (let l = one_found here c.args.pc (c.args.pc + 1) c.in-Some-Some.label c.label_within-label.result c.in-Some-Some.is-0 (c.label_within-label.ensures.found p here kept at) in
     let labelled = at_label here c.args.pc c.in-Some-Some.label l.0 l.1 l.2 l.3 in
     let read = frame_read c.args.container.now c.args.procedure c.in-Some-Some.label c.frame-frame.result c.frame-frame.ensures.plan p here kept at l.0 l.1 in
-    let missed = subst (λ (f : Frame). arriving c.in-Some-Some.state f leaves (missed_at (option_map (λ point. point.items) c.in-Err.miss.point))) read c.in-Err.ensures in
+    let missed = subst (λ (f : Frame). arriving c.in-Some-Some.state f no_successor (missed_at (option_map (λ point. point.items) c.in-Err.miss.point))) read c.in-Err.ensures in
     stops_from homes (framed_plan p) c.args.procedure here c.args.last c.args.pc c.args.falling _ c.missed.result c.in-Some-Some.is-1
     (enters_misses homes (framed_plan p) c.args.procedure here c.args.last c.args.pc l.0.1 c.in-Some-Some.state _ c.missed.result more labelled missed c.missed.ensures))
 

@@ -1,22 +1,22 @@
 use Rattle.std.proofs.Common.{◌≡◌, ◌+◌, ◌^◌, ◌≤◌, ℕ, List, length, refl, ap, subst, ◌∙◌, arith}
 use Rattle.std.specs.Prelude.{Result, Ok}
 use Rattle.std.proofs.lemmas.List.{length-map}
-use Rattle.burr_assembly.specs.Homes.{homes_of, home_of}
-use Rattle.burr_blocking.specs.Counted.{Counted, HasCounted}
+use Rattle.burr_assembly.specs.Rules.Homes.{homes_of, home_of}
+use Rattle.burr_blocking.specs.Rules.Counted.{Counted, HasCounted}
 use Rattle.burr_blocking.proofs.Common.Counts.{none_more}
 use Rattle.burr_code.specs.Instruction.{Instruction, StandsAt}
 use Rattle.burr_code.specs.Meaning.{meaning, NoneStandsAt}
-use Rattle.burr_frames.specs.Breaks.{broken_of}
+use Rattle.burr_frames.specs.Views.Breaks.{broken_of}
 use Rattle.burr_frames.specs.declared.breaking.Break.{Break}
-use Rattle.burr_frames.specs.FramedPlans.{framed_plan}
-use Rattle.burr_frames.specs.Looks.{HasRoom, RuleLooks}
-use Rattle.burr_frames.specs.States.{AbstractState}
-use Rattle.burr_frames.specs.Transfer.{Transfer}
+use Rattle.burr_frames.specs.Rules.FramedPlans.{framed_plan}
+use Rattle.burr_frames.specs.Rules.Looks.{HasRoom, RuleLooks}
+use Rattle.burr_frames.specs.Rules.States.{AbstractState}
+use Rattle.burr_frames.specs.Rules.Transfer.{Transfer}
 use Rattle.burr_frames.proofs.Common.Room.{room_kept}
 use Rattle.burr_frames.proofs.Common.RuleLooks.{few_rule_looks}
-use Rattle.burr_verify.specs.declared.transfer.Flow.{Flow}
-use Rattle.burr_verify.specs.Pass.{Refuses, lacks_instruction, hides, breaks}
-use Rattle.burr_verify.specs.Views.{failed_check, verdict_of}
+use Rattle.burr_verify.specs.declared.transfer.Successor.{Successor}
+use Rattle.burr_verify.specs.Rules.Pass.{Refuses, lacks_instruction, hides, breaks}
+use Rattle.burr_verify.specs.Views.Judgements.{failed_check, verdict_of}
 use Rattle.burr_verify.proofs.Stages.{code_read, stops_by, none_found, one_found, none_where, some_where, hides_none, hides_one, judges_falls, judges_stops}
 use Rattle.burr_verify.proofs.passing.judge_at.Goals as goal
 
@@ -56,68 +56,68 @@ returns-then-is_some-clause-passes g c = λ p here kept at.
       none_more c.args.looks.now,
     ))
 
-pub returns-in-Ok-Falls-clause-within : goal.returns-in-Ok-Falls-clause-within
-returns-in-Ok-Falls-clause-within g c = λ p here kept at.
+pub returns-in-Ok-FallsThrough-clause-within : goal.returns-in-Ok-FallsThrough-clause-within
+returns-in-Ok-FallsThrough-clause-within g c = λ p here kept at.
     subst (λ (bytes : List ℕ). c.args.pc + c.in-Some.size ≤ length bytes)
     (code_read c.args.container.now c.args.procedure c.code.result.now c.code.ensures.plan p here kept at) c.in-Some.ensures.within
 
-pub returns-in-Ok-Falls-clause-passes : goal.returns-in-Ok-Falls-clause-passes
-returns-in-Ok-Falls-clause-passes g c = λ p here kept at.
+pub returns-in-Ok-FallsThrough-clause-passes : goal.returns-in-Ok-FallsThrough-clause-passes
+returns-in-Ok-FallsThrough-clause-passes g c = λ p here kept at.
     (let stands = subst (λ (bytes : List ℕ). StandsAt bytes c.args.pc (meaning c.in-Some.instruction)) (code_read c.args.container.now c.args.procedure c.code.result.now c.code.ensures.plan p here kept at) c.in-Some.ensures.stands.0 in
     let bare = hides_none here c.args.pc c.in-Some.size (meaning c.in-Some.instruction) c.in-Some.ensures.stands.1 (none_found here (c.args.pc + 1) (c.args.pc + c.in-Some.size) c.label_within.result (none_where c.label_within.result c.if-is_some.ensures) (c.label_within.ensures.found p here kept at)) in
     let homes = homes_of c.args.looks.now.assembly in
-    let rule = subst (λ (r : Result Flow Break). Transfer homes (framed_plan p) c.args.procedure here c.args.state (meaning c.in-Some.instruction) (verdict_of c.transfer.new.state r)) (c.in-Ok-Falls.is ∙ ap Ok c.in-Ok-Falls.field-0-is) (c.transfer.ensures.verdict p here kept at) in
+    let rule = subst (λ (r : Result Successor Break). Transfer homes (framed_plan p) c.args.procedure here c.args.state (meaning c.in-Some.instruction) (verdict_of c.transfer.new.state r)) (c.in-Ok-FallsThrough.is ∙ ap Ok c.in-Ok-FallsThrough.field-0-is) (c.transfer.ensures.verdict p here kept at) in
     let counted = c.transfer.ensures.counted in (
       counted.0,
       judges_falls homes (framed_plan p) c.args.procedure here c.args.pc c.in-Some.size c.args.state c.transfer.new.state (meaning c.in-Some.instruction) counted.0 stands c.in-Some.ensures.stands.1 bare rule counted.1,
       counted.2,
     ))
 
-pub returns-in-Ok-Falls-clause-points : goal.returns-in-Ok-Falls-clause-points
-returns-in-Ok-Falls-clause-points g c =
+pub returns-in-Ok-FallsThrough-clause-points : goal.returns-in-Ok-FallsThrough-clause-points
+returns-in-Ok-FallsThrough-clause-points g c =
     let p = c.requires.framed.0 in
     let here = c.requires.framed.1 in
     let kept = c.requires.framed.2 in
     let at = c.requires.framed.3 in
     let homes = homes_of c.args.looks.now.assembly in
-    let rule = subst (λ (r : Result Flow Break). Transfer homes (framed_plan p) c.args.procedure here c.args.state (meaning c.in-Some.instruction) (verdict_of c.transfer.new.state r)) (c.in-Ok-Falls.is ∙ ap Ok c.in-Ok-Falls.field-0-is) (c.transfer.ensures.verdict p here kept at) in
+    let rule = subst (λ (r : Result Successor Break). Transfer homes (framed_plan p) c.args.procedure here c.args.state (meaning c.in-Some.instruction) (verdict_of c.transfer.new.state r)) (c.in-Ok-FallsThrough.is ∙ ap Ok c.in-Ok-FallsThrough.field-0-is) (c.transfer.ensures.verdict p here kept at) in
     room_kept homes (framed_plan p) c.args.procedure here c.args.state c.transfer.new.state (meaning c.in-Some.instruction) c.requires.points rule
 
-pub returns-in-Ok-Falls-clause-few : goal.returns-in-Ok-Falls-clause-few
-returns-in-Ok-Falls-clause-few g c = (rule_is_few c.args.state _ c.args.looks.now _ c.requires.few_pieces c.requires.points c.transfer.ensures.counted).0
+pub returns-in-Ok-FallsThrough-clause-few : goal.returns-in-Ok-FallsThrough-clause-few
+returns-in-Ok-FallsThrough-clause-few g c = (rule_is_few c.args.state _ c.args.looks.now _ c.requires.few_pieces c.requires.points c.transfer.ensures.counted).0
 
-pub returns-in-Ok-Falls-clause-same : goal.returns-in-Ok-Falls-clause-same
-returns-in-Ok-Falls-clause-same g c = (rule_is_few c.args.state _ c.args.looks.now _ c.requires.few_pieces c.requires.points c.transfer.ensures.counted).1
+pub returns-in-Ok-FallsThrough-clause-same : goal.returns-in-Ok-FallsThrough-clause-same
+returns-in-Ok-FallsThrough-clause-same g c = (rule_is_few c.args.state _ c.args.looks.now _ c.requires.few_pieces c.requires.points c.transfer.ensures.counted).1
 
-pub returns-in-Ok-Leaves-clause-within : goal.returns-in-Ok-Leaves-clause-within
-returns-in-Ok-Leaves-clause-within g c = λ p here kept at.
+pub returns-in-Ok-None-clause-within : goal.returns-in-Ok-None-clause-within
+returns-in-Ok-None-clause-within g c = λ p here kept at.
     subst (λ (bytes : List ℕ). c.args.pc + c.in-Some.size ≤ length bytes)
     (code_read c.args.container.now c.args.procedure c.code.result.now c.code.ensures.plan p here kept at) c.in-Some.ensures.within
 
-pub returns-in-Ok-Leaves-clause-passes : goal.returns-in-Ok-Leaves-clause-passes
-returns-in-Ok-Leaves-clause-passes g c = λ p here kept at.
+pub returns-in-Ok-None-clause-passes : goal.returns-in-Ok-None-clause-passes
+returns-in-Ok-None-clause-passes g c = λ p here kept at.
     (let stands = subst (λ (bytes : List ℕ). StandsAt bytes c.args.pc (meaning c.in-Some.instruction)) (code_read c.args.container.now c.args.procedure c.code.result.now c.code.ensures.plan p here kept at) c.in-Some.ensures.stands.0 in
     let bare = hides_none here c.args.pc c.in-Some.size (meaning c.in-Some.instruction) c.in-Some.ensures.stands.1 (none_found here (c.args.pc + 1) (c.args.pc + c.in-Some.size) c.label_within.result (none_where c.label_within.result c.if-is_some.ensures) (c.label_within.ensures.found p here kept at)) in
     let homes = homes_of c.args.looks.now.assembly in
-    let rule = subst (λ (r : Result Flow Break). Transfer homes (framed_plan p) c.args.procedure here c.args.state (meaning c.in-Some.instruction) (verdict_of c.transfer.new.state r)) (c.in-Ok-Leaves.is ∙ ap Ok c.in-Ok-Leaves.field-0-is) (c.transfer.ensures.verdict p here kept at) in
+    let rule = subst (λ (r : Result Successor Break). Transfer homes (framed_plan p) c.args.procedure here c.args.state (meaning c.in-Some.instruction) (verdict_of c.transfer.new.state r)) (c.in-Ok-None.is ∙ ap Ok c.in-Ok-None.field-0-is) (c.transfer.ensures.verdict p here kept at) in
     let counted = c.transfer.ensures.counted in (
       counted.0,
       judges_stops homes (framed_plan p) c.args.procedure here c.args.pc c.in-Some.size c.args.state (meaning c.in-Some.instruction) counted.0 stands c.in-Some.ensures.stands.1 bare rule counted.1,
       counted.2,
     ))
 
-pub returns-in-Ok-Leaves-clause-few : goal.returns-in-Ok-Leaves-clause-few
-returns-in-Ok-Leaves-clause-few g c = (rule_is_few c.args.state _ c.args.looks.now _ c.requires.few_pieces c.requires.points c.transfer.ensures.counted).0
+pub returns-in-Ok-None-clause-few : goal.returns-in-Ok-None-clause-few
+returns-in-Ok-None-clause-few g c = (rule_is_few c.args.state _ c.args.looks.now _ c.requires.few_pieces c.requires.points c.transfer.ensures.counted).0
 
-pub returns-in-Ok-Leaves-clause-same : goal.returns-in-Ok-Leaves-clause-same
-returns-in-Ok-Leaves-clause-same g c = (rule_is_few c.args.state _ c.args.looks.now _ c.requires.few_pieces c.requires.points c.transfer.ensures.counted).1
+pub returns-in-Ok-None-clause-same : goal.returns-in-Ok-None-clause-same
+returns-in-Ok-None-clause-same g c = (rule_is_few c.args.state _ c.args.looks.now _ c.requires.few_pieces c.requires.points c.transfer.ensures.counted).1
 
 pub returns-in-Err-clause-passes : goal.returns-in-Err-clause-passes
 returns-in-Err-clause-passes g c = λ p here kept at.
     (let stands = subst (λ (bytes : List ℕ). StandsAt bytes c.args.pc (meaning c.in-Some.instruction)) (code_read c.args.container.now c.args.procedure c.code.result.now c.code.ensures.plan p here kept at) c.in-Some.ensures.stands.0 in
     let bare = hides_none here c.args.pc c.in-Some.size (meaning c.in-Some.instruction) c.in-Some.ensures.stands.1 (none_found here (c.args.pc + 1) (c.args.pc + c.in-Some.size) c.label_within.result (none_where c.label_within.result c.if-is_some.ensures) (c.label_within.ensures.found p here kept at)) in
     let homes = homes_of c.args.looks.now.assembly in
-    let rule = subst (λ (r : Result Flow Break). Transfer homes (framed_plan p) c.args.procedure here c.args.state (meaning c.in-Some.instruction) (verdict_of c.transfer.new.state r)) (c.in-Err.is) (c.transfer.ensures.verdict p here kept at) in
+    let rule = subst (λ (r : Result Successor Break). Transfer homes (framed_plan p) c.args.procedure here c.args.state (meaning c.in-Some.instruction) (verdict_of c.transfer.new.state r)) (c.in-Err.is) (c.transfer.ensures.verdict p here kept at) in
     let counted = c.transfer.ensures.counted in (
       counted.0,
       stops_by homes (framed_plan p) c.args.procedure here _ c.of.result _ counted.0 c.of.ensures

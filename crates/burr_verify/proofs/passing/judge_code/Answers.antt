@@ -1,14 +1,14 @@
 use Rattle.std.proofs.Common.{length, ◌≡◌, ◌+◌, ℕ, List, ap, subst, ◌∙◌, arith}
 use Rattle.std.proofs.lemmas.Result.{err_from_is_err_and}
 use Rattle.burr_voxels.specs.declared.cell.Cell.{Cell}
-use Rattle.burr_assembly.specs.Homes.{homes_of}
-use Rattle.burr_blocking.specs.Counted.{Counted, HasCounted}
+use Rattle.burr_assembly.specs.Rules.Homes.{homes_of}
+use Rattle.burr_blocking.specs.Rules.Counted.{Counted, HasCounted}
 use Rattle.burr_blocking.proofs.Common.Counts.{none_more, both_more}
-use Rattle.burr_frames.specs.FramedPlans.{FramedProcedure, FramedPlan, framed_plan}
-use Rattle.burr_verify.specs.LookViews.{LooksOn, LooksStop}
-use Rattle.burr_verify.specs.Pass.{Judgement, Refuses, Stage, outset}
-use Rattle.burr_verify.specs.PassLooks.{LookedPass}
-use Rattle.burr_verify.specs.Views.{failed_check}
+use Rattle.burr_frames.specs.Rules.FramedPlans.{FramedProcedure, FramedPlan, framed_plan}
+use Rattle.burr_verify.specs.Views.LookViews.{LooksOn, LooksStop}
+use Rattle.burr_verify.specs.Rules.Pass.{Judgement, Refuses, Stage, pass_start}
+use Rattle.burr_verify.specs.Rules.PassLooks.{LookedPass}
+use Rattle.burr_verify.specs.Views.Judgements.{failed_check}
 use Rattle.burr_verify.specs.declared.refusal.Refusal.{Refusal}
 use Rattle.burr_verify.proofs.LookedOn.{looks_both}
 use Rattle.burr_verify.proofs.Stages.{code_read, before_end, at_end, well_ended, fallen_off}
@@ -58,24 +58,24 @@ returns-in_err-state-clause-passed g c =
     (λ p here kept at. (let code = code_read c.args.container.now c.args.procedure c.code-size.result.now c.code-size.ensures.plan p here kept at in
     let homes = homes_of c.args.looks.now.assembly in
     let so_far = c.loop-pc.invariant.0 p here kept at in
-    ends_by homes (framed_plan p) c.args.procedure here outset _ _ c.args.looks.now c.loop-pc.looks c.loop-pc.looks so_far.0
+    ends_by homes (framed_plan p) c.args.procedure here pass_start _ _ c.args.looks.now c.loop-pc.looks c.loop-pc.looks so_far.0
     (by_none homes (framed_plan p) c.args.procedure here _ _ c.loop-pc.looks
     (c.in_err-state.ensures.passes homes p here kept at
     (before_end c.code-size.result.now here.code c.loop-pc.pc code c.loop-pc-test.true)))))
 
-pub returns-in_err-behind-clause-passed : goal.returns-in_err-behind-clause-passed
-returns-in_err-behind-clause-passed g c =
-    let e = err_from_is_err_and c.from_residual-in_err-behind.result c.from_residual-in_err-behind.ensures.1 in
+pub returns-in_err-after-clause-passed : goal.returns-in_err-after-clause-passed
+returns-in_err-after-clause-passed g c =
+    let e = err_from_is_err_and c.from_residual-in_err-after.result c.from_residual-in_err-after.ensures.1 in
     rw (e.1, e.2)
     (λ p here kept at. (let code = code_read c.args.container.now c.args.procedure c.code-size.result.now c.code-size.ensures.plan p here kept at in
     let homes = homes_of c.args.looks.now.assembly in
     let so_far = c.loop-pc.invariant.0 p here kept at in
     let same = ap homes_of c.loop-pc.invariant.5 in
     let entered = c.in_ok-state.ensures.passes homes p here kept at (before_end c.code-size.result.now here.code c.loop-pc.pc code c.loop-pc-test.true) in
-    ends_by homes (framed_plan p) c.args.procedure here outset _ _ c.args.looks.now c.loop-pc.looks c.judge_at.new.looks so_far.0
+    ends_by homes (framed_plan p) c.args.procedure here pass_start _ _ c.args.looks.now c.loop-pc.looks c.judge_at.new.looks so_far.0
     (ends_by homes (framed_plan p) c.args.procedure here _ _ _ c.loop-pc.looks c.loop-pc.looks c.judge_at.new.looks
     (on_by_none homes (framed_plan p) c.args.procedure here _ _ c.loop-pc.looks entered)
-    (stopped_like (framed_plan p) c.args.procedure here _ _ c.loop-pc.looks c.judge_at.new.looks _ _ same (c.in_err-behind.ensures.passes p here kept at)))))
+    (stopped_like (framed_plan p) c.args.procedure here _ _ c.loop-pc.looks c.judge_at.new.looks _ _ same (c.in_err-after.ensures.passes p here kept at)))))
 
 pub loop-pc-preserved : goal.loop-pc-preserved
 loop-pc-preserved g c = (
@@ -84,17 +84,17 @@ loop-pc-preserved g c = (
       let so_far = c.loop-pc.invariant.0 p here kept at in
       let same = ap homes_of c.loop-pc.invariant.5 in
       let entered = c.in_ok-state.ensures.passes homes p here kept at (before_end c.code-size.result.now here.code c.loop-pc.pc code c.loop-pc-test.true) in (
-        goes_by homes (framed_plan p) c.args.procedure here outset _ _ c.args.looks.now c.loop-pc.looks c.judge_at.new.looks so_far.0
+        goes_by homes (framed_plan p) c.args.procedure here pass_start _ _ c.args.looks.now c.loop-pc.looks c.judge_at.new.looks so_far.0
             (goes_by homes (framed_plan p) c.args.procedure here _ _ _ c.loop-pc.looks c.loop-pc.looks c.judge_at.new.looks
             (on_by_none homes (framed_plan p) c.args.procedure here _ _ c.loop-pc.looks entered)
-            (went_like (framed_plan p) c.args.procedure here _ _ c.loop-pc.looks c.judge_at.new.looks _ _ same (c.in_ok-behind.ensures.passes p here kept at))),
-        c.in_ok-behind.ensures.within p here kept at,
+            (went_like (framed_plan p) c.args.procedure here _ _ c.loop-pc.looks c.judge_at.new.looks _ _ same (c.in_ok-after.ensures.passes p here kept at))),
+        c.in_ok-after.ensures.within p here kept at,
       ))),
-  omega (arith, c.in_ok-behind.ensures.behind),
+  omega (arith, c.in_ok-after.ensures.after),
   (let below = c.loop-pc-test.true in let short = c.code-size.ensures.short in omega (arith, below, short)),
-  c.in_ok-behind.ensures.points,
-  (let few = c.in_ok-behind.ensures.few in let so_far = c.loop-pc.invariant.4 in let on = c.in_ok-behind.ensures.behind in omega (arith, few, so_far, on)),
-  c.in_ok-behind.ensures.same ∙ c.loop-pc.invariant.5,
+  c.in_ok-after.ensures.points,
+  (let few = c.in_ok-after.ensures.few in let so_far = c.loop-pc.invariant.4 in let on = c.in_ok-after.ensures.after in omega (arith, few, so_far, on)),
+  c.in_ok-after.ensures.same ∙ c.loop-pc.invariant.5,
 )
 
 pub returns-in-None-clause-passed : goal.returns-in-None-clause-passed
@@ -102,7 +102,7 @@ returns-in-None-clause-passed g c = λ p here kept at.
     (let code = code_read c.args.container.now c.args.procedure c.code-size.result.now c.code-size.ensures.plan p here kept at in
     let homes = homes_of c.args.looks.now.assembly in
     let so_far = c.loop-pc.invariant.0 p here kept at in
-    ends_by homes (framed_plan p) c.args.procedure here outset _ _ c.args.looks.now c.loop-pc.looks c.loop-pc.looks so_far.0
+    ends_by homes (framed_plan p) c.args.procedure here pass_start _ _ c.args.looks.now c.loop-pc.looks c.loop-pc.looks so_far.0
     (by_none homes (framed_plan p) c.args.procedure here _ _ c.loop-pc.looks
     (well_ended homes (framed_plan p) c.args.procedure here c.loop-pc.last c.loop-pc.pc c.loop-pc.falling c.in-None.is
     (at_end c.code-size.result.now here.code c.loop-pc.pc code (omega (arith, c.loop-pc-test.false)) so_far.1))))
@@ -112,7 +112,7 @@ returns-in-Some-clause-passed g c = λ p here kept at.
     (let code = code_read c.args.container.now c.args.procedure c.code-size.result.now c.code-size.ensures.plan p here kept at in
     let homes = homes_of c.args.looks.now.assembly in
     let so_far = c.loop-pc.invariant.0 p here kept at in
-    ends_by homes (framed_plan p) c.args.procedure here outset _ _ c.args.looks.now c.loop-pc.looks c.loop-pc.looks so_far.0
+    ends_by homes (framed_plan p) c.args.procedure here pass_start _ _ c.args.looks.now c.loop-pc.looks c.loop-pc.looks so_far.0
     (by_none homes (framed_plan p) c.args.procedure here _ _ c.loop-pc.looks
     (fallen_off homes (framed_plan p) c.args.procedure here c.loop-pc.last c.loop-pc.pc c.loop-pc.falling c.in-Some.field-0 c.plain.result c.in-Some.is
     (at_end c.code-size.result.now here.code c.loop-pc.pc code (omega (arith, c.loop-pc-test.false)) so_far.1) c.plain.ensures)))

@@ -1,6 +1,6 @@
 use Rattle.std.proofs.Common.{rules, subst, sym, ◌<◌, length, IfSome, slice_get}
-use Rattle.burr_assembly.specs.Text.{Assembly as AssemblyOf, HasCells}
-use Rattle.burr_assembly.specs.Homes.{HasHome, homes_of}
+use Rattle.burr_assembly.specs.Rules.Text.{Assembly as AssemblyOf, HasCells}
+use Rattle.burr_assembly.specs.Rules.Homes.{HasHome, homes_of}
 use Rattle.burr_assembly.proofs.Common.HomeCells.{has_home}
 use Rattle.burr_assembly.proofs.Sharing.{cells_at, length-pieces_of}
 use Rattle.burr_assembly.proofs.assembly.Assembly.cells.Goals as goal

@@ -1,6 +1,6 @@
 use Rattle.std.proofs.Common.{◌≡◌, rules, take, take_all}
 use Rattle.std.specs.HashMap.{get}
-use Rattle.burr_assembly.specs.HomedPieces.{same_cell}
+use Rattle.burr_assembly.specs.Views.HomedPieces.{same_cell}
 use Rattle.burr_assembly.proofs.Owners.{first_of_more}
 use Rattle.burr_assembly.proofs.occupancy.Occupancy.first_with.Goals as goal
 

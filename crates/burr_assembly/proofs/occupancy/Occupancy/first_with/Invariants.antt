@@ -1,5 +1,5 @@
 use Rattle.std.proofs.Common.{take}
-use Rattle.burr_assembly.specs.HomedPieces.{IsFirstMeeting}
+use Rattle.burr_assembly.specs.Views.HomedPieces.{IsFirstMeeting}
 use Rattle.burr_assembly.proofs.occupancy.Occupancy.first_with.Given as goal
 
 -- the first piece that has one of the cells so far

@@ -1,6 +1,6 @@
 use Rattle.std.proofs.Common.{◌≡◌, length, rules}
 use Rattle.std.specs.HashMap.{get}
-use Rattle.burr_assembly.specs.HomedPieces.{same_cell}
+use Rattle.burr_assembly.specs.Views.HomedPieces.{same_cell}
 use Rattle.burr_assembly.proofs.Owners.{owners_more}
 use Rattle.burr_assembly.proofs.occupancy.Occupancy.with.Goals as goal
 

@@ -1,6 +1,6 @@
 use Rattle.std.proofs.lemmas.List.Elements.{All-push}
-use Rattle.burr_assembly.specs.Text.{HasCells}
-use Rattle.burr_assembly.specs.HomedPieces.{HomedPiece}
+use Rattle.burr_assembly.specs.Rules.Text.{HasCells}
+use Rattle.burr_assembly.specs.Views.HomedPieces.{HomedPiece}
 use Rattle.burr_assembly.proofs.Sharing.{pieces_of-push}
 use Rattle.burr_assembly.proofs.text.beginning.with_piece.Goals as goal
 

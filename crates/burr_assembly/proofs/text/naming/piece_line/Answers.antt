@@ -1,4 +1,4 @@
-use Rattle.burr_assembly.specs.Lines.{PieceLine as PieceForm}
+use Rattle.burr_assembly.specs.Rules.Lines.{PieceLine as PieceForm}
 use Rattle.burr_assembly.proofs.text.naming.piece_line.Goals as goal
 
 pub returns-in_err-words : goal.returns-in_err-words

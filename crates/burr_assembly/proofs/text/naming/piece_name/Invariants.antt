@@ -1,6 +1,6 @@
 use Rattle.std.proofs.Common.{◌≡◌, [], length}
 use Rattle.std.specs.Prelude.{slice_index_or}
-use Rattle.burr_assembly.specs.PieceNames.{names_in, name_at}
+use Rattle.burr_assembly.specs.Rules.PieceNames.{names_in, name_at}
 use Rattle.burr_assembly.proofs.text.naming.piece_name.Given as goal
 
 -- the name is still to come

@@ -1,6 +1,6 @@
 use Rattle.std.proofs.Common.{◌≡◌, ◌++◌, drop}
 use Rattle.std.specs.List.{flat_map}
-use Rattle.burr_assembly.specs.Text.{layer_text}
+use Rattle.burr_assembly.specs.Rules.Text.{layer_text}
 use Rattle.burr_assembly.proofs.text.writer.add_layers.Given as goal
 
 -- the layers so far, and those to come, are all

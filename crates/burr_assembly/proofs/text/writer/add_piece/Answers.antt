@@ -4,7 +4,7 @@ use Rattle.std.proofs.lemmas.Int.{to_z-of_z}
 use Rattle.burr_assembly.proofs.PieceText.{written_line}
 use Rattle.burr_assembly.proofs.text.writer.add_piece.Goals as goal
 
--- one part behind another, regrouped
+-- one part after another, regrouped
 pub returns : goal.returns
 returns c =
     let x : FitsSigned w32 c.position-position.result.x = search rules in

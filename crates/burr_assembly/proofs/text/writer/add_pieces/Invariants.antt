@@ -1,7 +1,7 @@
 use Rattle.std.proofs.Common.{◌≡◌, ◌++◌, drop}
 use Rattle.std.specs.List.{flat_map}
-use Rattle.burr_assembly.specs.Text.{piece_text}
-use Rattle.burr_assembly.specs.HomedPieces.{pieces_of}
+use Rattle.burr_assembly.specs.Rules.Text.{piece_text}
+use Rattle.burr_assembly.specs.Views.HomedPieces.{pieces_of}
 use Rattle.burr_assembly.proofs.text.writer.add_pieces.Given as goal
 
 -- the pieces so far, and those to come, are all

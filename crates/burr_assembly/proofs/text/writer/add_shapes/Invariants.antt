@@ -1,6 +1,6 @@
 use Rattle.std.proofs.Common.{◌≡◌, ◌++◌, drop}
 use Rattle.std.specs.List.{flat_map}
-use Rattle.burr_assembly.specs.Text.{shape_text}
+use Rattle.burr_assembly.specs.Rules.Text.{shape_text}
 use Rattle.burr_assembly.proofs.text.writer.add_shapes.Given as goal
 
 -- the shapes so far, and those to come, are all

@@ -1,10 +1,10 @@
 use Rattle.std.proofs.Common.{◌≡◌, true, sym, subst, refl, ap, length}
-use Rattle.burr_assembly.specs.Homes.{homes_of}
+use Rattle.burr_assembly.specs.Rules.Homes.{homes_of}
 use Rattle.burr_code.specs.Places.{IsPartOfTray, IsEmptyTray}
-use Rattle.burr_state.specs.Bench.{BenchState}
-use Rattle.burr_state.specs.Space.{motion_of}
-use Rattle.burr_state.specs.StateViews.{gone_aside}
-use Rattle.burr_state.specs.Benches.{Benched, benched, setup_of}
+use Rattle.burr_state.specs.Rules.Bench.{BenchState}
+use Rattle.burr_state.specs.Rules.Space.{motion_of}
+use Rattle.burr_state.specs.Views.StateViews.{gone_aside}
+use Rattle.burr_state.specs.Views.Benches.{Benched, benched, setup_of}
 use Rattle.burr_text.proofs.Common.Tests.{yes_of, no_of}
 use Rattle.burr_state.proofs.Common.Stepping.Steps.{aside_in_use, aside_not_free, aside_goes, goes_on_aside, sound_aside}
 use Rattle.burr_bench.proofs.Stepping.Ways.{as_many_homes, free_of_passing, passing_of_free}

@@ -1,13 +1,13 @@
 use Rattle.std.proofs.Common.{ap, inr, refl}
 use Rattle.std.specs.Prelude.{Result, Ok, Err}
-use Rattle.burr_assembly.specs.Text.{Assembly}
-use Rattle.burr_assembly.specs.Homes.{homes_of}
+use Rattle.burr_assembly.specs.Rules.Text.{Assembly}
+use Rattle.burr_assembly.specs.Rules.Homes.{homes_of}
 use Rattle.burr_state.specs.declared.effect.Effect.{Effect}
 use Rattle.burr_state.specs.declared.effect.Effect.TheVariants as effects
 use Rattle.burr_state.specs.declared.trap.Trap.{Trap}
-use Rattle.burr_state.specs.Effects.{KeepsUnlessGoes}
-use Rattle.burr_state.specs.Work.{Work}
-use Rattle.burr_state.specs.Benches.{benched}
+use Rattle.burr_state.specs.Views.Effects.{KeepsUnlessGoes}
+use Rattle.burr_state.specs.Views.Work.{Work}
+use Rattle.burr_state.specs.Views.Benches.{benched}
 use Rattle.burr_state.proofs.Common.Stepping.Steps.{goes_on_plain, sound_staying}
 use Rattle.burr_bench.proofs.checked.Checked.carry_out.Goals as goal
 

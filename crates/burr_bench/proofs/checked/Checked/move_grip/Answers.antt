@@ -1,9 +1,9 @@
 use Rattle.std.proofs.Common.{◌≡◌, ◌≢◌, false, sym, subst, refl, ap, length, rules}
-use Rattle.burr_assembly.specs.Homes.{homes_of}
-use Rattle.burr_state.specs.Bench.{BenchState}
-use Rattle.burr_state.specs.Space.{NoOverlap, motion_of}
-use Rattle.burr_state.specs.StateViews.{moved_grip, StaysOnBench}
-use Rattle.burr_state.specs.Benches.{Benched, benched, setup_of}
+use Rattle.burr_assembly.specs.Rules.Homes.{homes_of}
+use Rattle.burr_state.specs.Rules.Bench.{BenchState}
+use Rattle.burr_state.specs.Rules.Space.{NoOverlap, motion_of}
+use Rattle.burr_state.specs.Views.StateViews.{moved_grip, StaysOnBench}
+use Rattle.burr_state.specs.Views.Benches.{Benched, benched, setup_of}
 use Rattle.burr_bench.specs.BenchViews.{GripPasses}
 use Rattle.burr_bench.specs.declared.checked.way.Way.TheVariants.{Unit}
 use Rattle.burr_text.proofs.Common.Tests.{yes_of, no_of}

@@ -1,6 +1,6 @@
 use Rattle.std.proofs.Common.{rules, sym}
 use Rattle.burr_code.specs.PieceSets.{IsInSet}
-use Rattle.burr_assembly.specs.Homes.{homes_of}
+use Rattle.burr_assembly.specs.Rules.Homes.{homes_of}
 use Rattle.burr_bench.specs.Ways.{PassesRest}
 use Rattle.burr_text.proofs.Common.Tests.{yes_of, no_of, yes_iff, no_iff, one_more_number}
 use Rattle.burr_bench.proofs.Stepping.Ways.{passes_of_pieces}

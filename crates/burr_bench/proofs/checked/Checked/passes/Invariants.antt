@@ -1,6 +1,6 @@
 use Rattle.std.proofs.Common.{ℕ, ◌<◌}
 use Rattle.burr_code.specs.PieceSets.{IsInSet}
-use Rattle.burr_assembly.specs.Homes.{homes_of}
+use Rattle.burr_assembly.specs.Rules.Homes.{homes_of}
 use Rattle.burr_bench.specs.Ways.{PassesRest}
 use Rattle.burr_bench.proofs.checked.Checked.passes.Given as goal
 

@@ -1,10 +1,10 @@
 use Rattle.std.proofs.Common.{sym, subst, IsTrue, ◌↔◌}
 use Rattle.burr_voxels.specs.declared.cell.Cell.{Cell}
 use Rattle.burr_voxels.specs.Near.{IsWithin}
-use Rattle.burr_assembly.specs.Homes.{homes_of, home_at}
-use Rattle.burr_blocking.specs.Pairs.{Clears}
+use Rattle.burr_assembly.specs.Rules.Homes.{homes_of, home_at}
+use Rattle.burr_blocking.specs.Rules.Pairs.{Clears}
 use Rattle.burr_text.proofs.Common.Tests.{yes_iff}
-use Rattle.burr_state.specs.Benches.{Benched}
+use Rattle.burr_state.specs.Views.Benches.{Benched}
 use Rattle.burr_state.proofs.Common.Stepping.Near.{near_difference}
 use Rattle.burr_bench.proofs.Stepping.Ways.{passes_absent, passes_present}
 use Rattle.burr_bench.proofs.checked.Checked.passes_piece.Goals as goal

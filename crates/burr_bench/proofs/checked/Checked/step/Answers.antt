@@ -1,8 +1,8 @@
 use Rattle.std.proofs.Common.{◌≡◌, sym, subst, refl, rules, Some, Ok, to_z, of_z, w32, Option, ℤ}
 use Rattle.burr_state.specs.declared.mode.Mode.{Mode}
 use Rattle.burr_state.specs.declared.mode.Mode.TheVariants.{Running}
-use Rattle.burr_state.specs.Step.{CallIn, Called}
-use Rattle.burr_state.specs.Benches.{setup_of}
+use Rattle.burr_state.specs.Rules.Step.{CallIn, Called}
+use Rattle.burr_state.specs.Views.Benches.{setup_of}
 use Rattle.burr_state.proofs.Common.Stepping.Steps.{goes_on_still}
 use Rattle.burr_bench.proofs.checked.Checked.step.Goals as goal
 

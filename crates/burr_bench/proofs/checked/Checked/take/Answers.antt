@@ -1,8 +1,8 @@
 use Rattle.std.proofs.Common.{◌≡◌, Bool, true, false, ℤ, Ok, w32, sym, subst, ap, inl, inr}
 use Rattle.std.proofs.lemmas.Int.{to_z-of_z}
-use Rattle.burr_assembly.specs.Homes.{homes_of}
-use Rattle.burr_state.specs.Bench.{running}
-use Rattle.burr_state.specs.Benches.{Benched, setup_of, Answered}
+use Rattle.burr_assembly.specs.Rules.Homes.{homes_of}
+use Rattle.burr_state.specs.Rules.Bench.{running}
+use Rattle.burr_state.specs.Views.Benches.{Benched, setup_of, Answered}
 use Rattle.burr_state.proofs.Common.Stepping.Steps.{goes_on_still}
 use Rattle.burr_bench.proofs.checked.Checked.take.Goals as goal
 use Rattle.burr_bench.proofs.checked.Checked.take.Goals.{then-take, else-take}

@@ -1,8 +1,8 @@
 use Rattle.std.proofs.Common.{◌≡◌, ℕ, length, subst, sym, arith}
 use Rattle.std.proofs.lemmas.List.{length-map}
-use Rattle.burr_assembly.specs.Homes.{homes_of, home_of}
+use Rattle.burr_assembly.specs.Rules.Homes.{homes_of, home_of}
 use Rattle.burr_blocking.specs.declared.cell_tables.table_row.TableRow.{TableRow}
-use Rattle.burr_blocking.specs.Rows.{IsRow, AreFirstRows}
+use Rattle.burr_blocking.specs.Views.Rows.{IsRow, AreFirstRows}
 use Rattle.burr_blocking.proofs.Rows.{one_pushed}
 use Rattle.burr_blocking.proofs.cell_tables.CellTables.build.Goals as goal
 

@@ -1,6 +1,6 @@
 use Rattle.std.proofs.Common.{◌≡◌, vec_len}
-use Rattle.burr_assembly.specs.Homes.{homes_of}
-use Rattle.burr_blocking.specs.Rows.{AreFirstRows}
+use Rattle.burr_assembly.specs.Rules.Homes.{homes_of}
+use Rattle.burr_blocking.specs.Views.Rows.{AreFirstRows}
 use Rattle.burr_blocking.proofs.cell_tables.CellTables.build.Given as goal
 
 -- the rows so far are those of the first pieces

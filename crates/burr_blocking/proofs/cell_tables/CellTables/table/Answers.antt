@@ -1,10 +1,10 @@
 use Rattle.std.proofs.Common.{ℕ, ◌<◌, length, ap, subst, arith}
 use Rattle.std.proofs.lemmas.List.{length-map}
-use Rattle.burr_assembly.specs.Text.{Assembly}
-use Rattle.burr_assembly.specs.Homes.{homes_of, home_of}
+use Rattle.burr_assembly.specs.Rules.Text.{Assembly}
+use Rattle.burr_assembly.specs.Rules.Homes.{homes_of, home_of}
 use Rattle.burr_blocking.specs.declared.cell_tables.pair_table.PairTable.{PairTable}
 use Rattle.burr_blocking.specs.declared.cell_tables.table_row.TableRow.{TableRow}
-use Rattle.burr_blocking.specs.Rows.{IsPair, IsRow}
+use Rattle.burr_blocking.specs.Views.Rows.{IsPair, IsRow}
 use Rattle.burr_blocking.proofs.Rows.{one_read}
 use Rattle.burr_blocking.proofs.cell_tables.CellTables.table.Goals as goal
 

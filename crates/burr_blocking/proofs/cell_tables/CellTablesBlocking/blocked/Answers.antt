@@ -1,5 +1,5 @@
-use Rattle.burr_assembly.specs.Homes.{homes_of}
-use Rattle.burr_blocking.specs.Tables.{IsMarked}
+use Rattle.burr_assembly.specs.Rules.Homes.{homes_of}
+use Rattle.burr_blocking.specs.Views.Tables.{IsMarked}
 use Rattle.burr_blocking.proofs.Rows.{tells_blocked, tells_blocked_back}
 use Rattle.burr_blocking.proofs.cell_tables.CellTablesBlocking.blocked.Goals as goal
 

@@ -1,8 +1,8 @@
 use Rattle.std.proofs.Common.{subst, sym}
 use Rattle.burr_voxels.specs.Near.{IsWithin}
-use Rattle.burr_assembly.specs.Homes.{homes_of}
+use Rattle.burr_assembly.specs.Rules.Homes.{homes_of}
 use Rattle.burr_blocking.proofs.Reaches.{back_within}
-use Rattle.burr_blocking.specs.Tables.{IsMarked}
+use Rattle.burr_blocking.specs.Views.Tables.{IsMarked}
 use Rattle.burr_blocking.proofs.Rows.{tells_free, tells_free_back}
 use Rattle.burr_blocking.proofs.cell_tables.CellTablesBlocking.free.Goals as goal
 

@@ -1,5 +1,5 @@
 use Rattle.std.proofs.Common.{take}
-use Rattle.burr_blocking.specs.Tables.{SetsMarks}
+use Rattle.burr_blocking.specs.Views.Tables.{SetsMarks}
 use Rattle.burr_blocking.proofs.cell_tables.pair_table.mark.Given as goal
 
 -- the marks at the places so far have been set

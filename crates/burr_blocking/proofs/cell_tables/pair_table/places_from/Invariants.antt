@@ -1,6 +1,6 @@
 use Rattle.std.proofs.Common.{◌≡◌, map, take}
 use Rattle.burr_voxels.specs.Grid.{minus}
-use Rattle.burr_blocking.specs.Boxes.{place_of}
+use Rattle.burr_blocking.specs.Views.Boxes.{place_of}
 use Rattle.burr_blocking.proofs.cell_tables.pair_table.places_from.Given as goal
 
 -- the places of the cells so far

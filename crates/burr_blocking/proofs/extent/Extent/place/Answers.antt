@@ -1,6 +1,6 @@
 use Rattle.std.proofs.Common.{ℕ, ◌≤◌, ◌<◌, ◌+◌, ◌*◌, arith, refl}
 use Rattle.std.proofs.lemmas.Nat.{mul-le, mul-add-lt}
-use Rattle.burr_blocking.specs.Boxes.{wide_of, deep_of, high_of}
+use Rattle.burr_blocking.specs.Views.Boxes.{wide_of, deep_of, high_of}
 use Rattle.burr_blocking.proofs.Reaches.{gap_few}
 use Rattle.burr_blocking.proofs.extent.Extent.place.Goals as goal
 

@@ -1,6 +1,6 @@
 use Rattle.std.proofs.Common.{ℕ, ◌≤◌, ◌<◌, ◌+◌, ◌*◌, arith}
 use Rattle.std.proofs.lemmas.Nat.{mul-le, mul-add-lt}
-use Rattle.burr_blocking.specs.Boxes.{deep_of, high_of}
+use Rattle.burr_blocking.specs.Views.Boxes.{deep_of, high_of}
 use Rattle.burr_blocking.proofs.Reaches.{gap_few}
 use Rattle.burr_blocking.proofs.extent.Extent.row.Goals as goal
 

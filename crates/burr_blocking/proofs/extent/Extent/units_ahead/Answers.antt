@@ -2,7 +2,7 @@ use Rattle.std.proofs.Common.{◌≡◌, rules, to_z-of_z, w32, FitsSigned, ap, 
 use Rattle.std.proofs.lemmas.Int.{ints, clamps}
 use Rattle.burr_voxels.specs.Grid.{minus}
 use Rattle.burr_voxels.specs.Near.{IsWithin}
-use Rattle.burr_blocking.specs.Corners.{units_of}
+use Rattle.burr_blocking.specs.Views.Corners.{units_of}
 use Rattle.burr_blocking.proofs.Reaches.{units_within, farther_within, minus_within, greatest_within, first_units, last_units, last_few, one_first, units_to}
 use Rattle.burr_blocking.proofs.extent.Extent.units_ahead.Goals as goal
 

@@ -1,7 +1,7 @@
 use Rattle.std.proofs.Common.{◌↔◌, IsTrue, subst}
-use Rattle.burr_assembly.specs.Homes.{homes_of, home_at}
-use Rattle.burr_blocking.specs.Pairs.{Clears}
-use Rattle.burr_blocking.specs.Counted.{Counted}
+use Rattle.burr_assembly.specs.Rules.Homes.{homes_of, home_at}
+use Rattle.burr_blocking.specs.Rules.Pairs.{Clears}
+use Rattle.burr_blocking.specs.Rules.Counted.{Counted}
 use Rattle.burr_blocking.proofs.looks.Looks.clears.Goals as goal
 
 pub returns-clause-answer : goal.returns-clause-answer

@@ -2,8 +2,8 @@ use Rattle.std.proofs.Common.{◌≡◌, [], sym, ap, subst, ◌∙◌, Option, 
 use Rattle.std.specs.Prelude.{List}
 use Rattle.std.proofs.lemmas.Option.{unwrap_or-slice_get}
 use Rattle.burr_voxels.specs.declared.cell.Cell.{Cell}
-use Rattle.burr_assembly.specs.Text.{Assembly}
-use Rattle.burr_assembly.specs.Homes.{homes_of, home_at}
+use Rattle.burr_assembly.specs.Rules.Text.{Assembly}
+use Rattle.burr_assembly.specs.Rules.Homes.{homes_of, home_at}
 use Rattle.burr_blocking.proofs.plain_cells.PlainCells.home.Goals as goal
 
 pub returns-clause-home : goal.returns-clause-home

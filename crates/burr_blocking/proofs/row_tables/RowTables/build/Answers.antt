@@ -1,8 +1,8 @@
 use Rattle.std.proofs.Common.{◌≡◌, ℕ, length, subst, sym, arith}
 use Rattle.std.proofs.lemmas.List.{length-map}
-use Rattle.burr_assembly.specs.Homes.{homes_of, home_of}
+use Rattle.burr_assembly.specs.Rules.Homes.{homes_of, home_of}
 use Rattle.burr_blocking.specs.declared.row_tables.piece_rows.PieceRows.{PieceRows}
-use Rattle.burr_blocking.specs.PieceRows.{IsPieceOf, AreFirstPieces}
+use Rattle.burr_blocking.specs.Views.PieceRows.{IsPieceOf, AreFirstPieces}
 use Rattle.burr_blocking.proofs.Rows.{one_pushed}
 use Rattle.burr_blocking.proofs.row_tables.RowTables.build.Goals as goal
 

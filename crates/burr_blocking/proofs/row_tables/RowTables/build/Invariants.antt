@@ -1,6 +1,6 @@
 use Rattle.std.proofs.Common.{◌≡◌, vec_len}
-use Rattle.burr_assembly.specs.Homes.{homes_of}
-use Rattle.burr_blocking.specs.PieceRows.{AreFirstPieces}
+use Rattle.burr_assembly.specs.Rules.Homes.{homes_of}
+use Rattle.burr_blocking.specs.Views.PieceRows.{AreFirstPieces}
 use Rattle.burr_blocking.proofs.row_tables.RowTables.build.Given as goal
 
 -- what there is so far is that of the first pieces

@@ -1,10 +1,10 @@
 use Rattle.std.proofs.Common.{ℕ, ◌<◌, length, ap, subst, arith}
 use Rattle.std.proofs.lemmas.List.{length-map}
-use Rattle.burr_assembly.specs.Text.{Assembly}
-use Rattle.burr_assembly.specs.Homes.{homes_of, home_of}
+use Rattle.burr_assembly.specs.Rules.Text.{Assembly}
+use Rattle.burr_assembly.specs.Rules.Homes.{homes_of, home_of}
 use Rattle.burr_blocking.specs.declared.row_tables.pair_rows.PairRows.{PairRows}
 use Rattle.burr_blocking.specs.declared.row_tables.piece_rows.PieceRows.{PieceRows}
-use Rattle.burr_blocking.specs.PieceRows.{IsPairOf, IsPieceOf}
+use Rattle.burr_blocking.specs.Views.PieceRows.{IsPairOf, IsPieceOf}
 use Rattle.burr_blocking.proofs.Rows.{one_read}
 use Rattle.burr_blocking.proofs.row_tables.RowTables.pair.Goals as goal
 

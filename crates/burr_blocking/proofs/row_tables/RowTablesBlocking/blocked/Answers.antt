@@ -1,5 +1,5 @@
-use Rattle.burr_assembly.specs.Homes.{homes_of}
-use Rattle.burr_blocking.specs.PairBits.{IsSet}
+use Rattle.burr_assembly.specs.Rules.Homes.{homes_of}
+use Rattle.burr_blocking.specs.Views.PairBits.{IsSet}
 use Rattle.burr_blocking.proofs.Rows.{tells_blocked, tells_blocked_back}
 use Rattle.burr_blocking.proofs.row_tables.RowTablesBlocking.blocked.Goals as goal
 

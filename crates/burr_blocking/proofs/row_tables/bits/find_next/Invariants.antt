@@ -1,5 +1,5 @@
 use Rattle.std.proofs.Common.{◌≤◌}
-use Rattle.burr_blocking.specs.Bits.{IsNext}
+use Rattle.burr_blocking.specs.Views.Bits.{IsNext}
 use Rattle.burr_blocking.proofs.Joins.{AreNextFrom}
 use Rattle.burr_blocking.proofs.row_tables.bits.find_next.Given as goal
 

@@ -6,7 +6,7 @@ use Rattle.burr_blocking.proofs.Shifts.{wide_row, clear_from_shifted}
 use Rattle.burr_blocking.proofs.row_tables.bits.is_clear_from.Goals as goal
 
 pub returns-then-column-ge32 : goal.returns-then-column-ge32
-returns-then-column-ge32 c = yes_iff (λ k behind. wide_row c.args.row k c.ranges.row.fits (omega (arith, ints, behind, c.if-column-ge32.true)))
+returns-then-column-ge32 c = yes_iff (λ k after. wide_row c.args.row k c.ranges.row.fits (omega (arith, ints, after, c.if-column-ge32.true)))
 
 pub returns : goal.returns
 returns c =

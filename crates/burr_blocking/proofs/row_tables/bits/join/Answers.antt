@@ -1,6 +1,6 @@
 use Rattle.std.proofs.Common.{◌+◌, arith}
 use Rattle.std.proofs.lemmas.List.{take_rest}
-use Rattle.burr_blocking.specs.Bits.{or_shifted}
+use Rattle.burr_blocking.specs.Views.Bits.{or_shifted}
 use Rattle.burr_blocking.proofs.Joins.{none_joined, put_next, rest_next, skip_next}
 use Rattle.burr_blocking.proofs.row_tables.bits.join.Goals as goal
 

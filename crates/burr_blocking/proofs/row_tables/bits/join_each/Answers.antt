@@ -1,6 +1,6 @@
 use Rattle.std.proofs.Common.{◌∙◌, ap, arith}
 use Rattle.std.proofs.lemmas.List.{take_all}
-use Rattle.burr_blocking.specs.Bits.{or_shifted, joined_from}
+use Rattle.burr_blocking.specs.Views.Bits.{or_shifted, joined_from}
 use Rattle.burr_blocking.proofs.Joins.{none_joined, set_next}
 use Rattle.burr_blocking.proofs.row_tables.bits.join_each.Goals as goal
 

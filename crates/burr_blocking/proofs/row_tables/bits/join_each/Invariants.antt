@@ -1,5 +1,5 @@
 use Rattle.std.proofs.Common.{◌≡◌, take}
-use Rattle.burr_blocking.specs.Bits.{or_shifted, joined_from}
+use Rattle.burr_blocking.specs.Views.Bits.{or_shifted, joined_from}
 use Rattle.burr_blocking.proofs.row_tables.bits.join_each.Given as goal
 
 -- the first i of the others have been joined in

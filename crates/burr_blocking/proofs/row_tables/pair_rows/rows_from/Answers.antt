@@ -2,9 +2,9 @@ use Rattle.std.proofs.Common.{◌≡◌, ◌∙◌, ◌<◌, ◌+◌, ℕ, List,
 use Rattle.std.proofs.lemmas.List.Elements.{All-get_or}
 use Rattle.burr_voxels.specs.Grid.{origin}
 use Rattle.burr_voxels.specs.Near.{IsWithin}
-use Rattle.burr_blocking.specs.Boxes.{row_of, column_of}
-use Rattle.burr_blocking.specs.Bits.{SetsBit}
-use Rattle.burr_blocking.specs.PairBits.{AreBitsFrom}
+use Rattle.burr_blocking.specs.Views.Boxes.{row_of, column_of}
+use Rattle.burr_blocking.specs.Views.Bits.{SetsBit}
+use Rattle.burr_blocking.specs.Views.PairBits.{AreBitsFrom}
 use Rattle.burr_blocking.proofs.Hulls.{fits_minus}
 use Rattle.burr_blocking.proofs.Made.{bits_more, bits_all, whole_rows}
 use Rattle.burr_blocking.proofs.row_tables.pair_rows.rows_from.Goals as goal

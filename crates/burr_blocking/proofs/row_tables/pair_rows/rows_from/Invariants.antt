@@ -1,5 +1,5 @@
 use Rattle.std.proofs.Common.{◌≡◌, vec_len, take}
-use Rattle.burr_blocking.specs.PairBits.{AreBitsFrom}
+use Rattle.burr_blocking.specs.Views.PairBits.{AreBitsFrom}
 use Rattle.burr_blocking.proofs.row_tables.pair_rows.rows_from.Given as goal
 
 -- the bits of the cells so far have been set

@@ -1,9 +1,9 @@
--- A header, procedures and nothing behind them.
+-- A header, procedures and nothing after them.
 use Rattle.std.proofs.Common.{◌≡◌, ◌≢◌, ℕ, [], rules, refl, sym, eqb-true, length, subst₂, ◌∙◌}
 use Rattle.std.specs.Prelude.{List}
 use Rattle.std.proofs.lemmas.Result.{err_from_is_err_and}
 use Rattle.burr_container.specs.declared.fault.ContainerFault.TheVariants.{C6}
-use Rattle.burr_container.specs.Faults.{ContainerFails}
+use Rattle.burr_container.specs.Rules.Faults.{ContainerFails}
 use Rattle.burr_container.proofs.ContainerRead.{none_left, followed, plan_at}
 use Rattle.burr_container.proofs.container.Container.parse.Goals as goal
 
@@ -21,7 +21,7 @@ returns-then-not-is_empty c =
     let more : c.in_ok-procedures.end.rest.now ≢ [] = search rules in
     subst₂ (λ (at : ℕ) (b : List ℕ). ContainerFails at b (C6 c.in_ok-procedures.end.at)) begin.at begin.rest
     (c.in_ok-header.ensures.reads.fails _
-    (followed c.in_ok-header.header.version c.in_ok-header.header.pieces c.in_ok-header.behind_header c.in_ok-procedures.end here.0 here.2 more))
+    (followed c.in_ok-header.header.version c.in_ok-header.header.pieces c.in_ok-header.after_header c.in_ok-procedures.end here.0 here.2 more))
 
 pub returns : goal.returns
 returns c =
@@ -30,7 +30,7 @@ returns c =
     let none : c.in_ok-procedures.end.rest.now ≡ [] =
     none_left c.in_ok-procedures.end.rest.now (eqb-true (length c.in_ok-procedures.end.rest.now) 0 (sym c.if-not-is_empty.ensures)) in
     let plan =
-    plan_at c.in_ok-header.header c.new-begin.result c.in_ok-header.behind_header c.in_ok-procedures.end here.0 c.in_ok-header.ensures.reads here.2 none in (
+    plan_at c.in_ok-header.header c.new-begin.result c.in_ok-header.after_header c.in_ok-procedures.end here.0 c.in_ok-header.ensures.reads here.2 none in (
       _,
       plan.0,
       sym begin.rest ∙ plan.1,
@@ -46,7 +46,7 @@ invariant_of-result-2 c =
     let none : c.in_ok-procedures.end.rest.now ≡ [] =
     none_left c.in_ok-procedures.end.rest.now (eqb-true (length c.in_ok-procedures.end.rest.now) 0 (sym c.if-not-is_empty.ensures)) in
     let plan =
-    plan_at c.in_ok-header.header c.new-begin.result c.in_ok-header.behind_header c.in_ok-procedures.end here.0 c.in_ok-header.ensures.reads here.2 none in (
+    plan_at c.in_ok-header.header c.new-begin.result c.in_ok-header.after_header c.in_ok-procedures.end here.0 c.in_ok-header.ensures.reads here.2 none in (
       _,
       plan.0,
       record {

@@ -1,4 +1,4 @@
--- The parts of an exit frame stand one behind the other.
+-- The parts of an exit frame stand one after the other.
 use Rattle.std.proofs.lemmas.Result.{err_from_is_err_and}
 use Rattle.burr_container.proofs.ExitsRead.{ranges_fail_in_exit, guards_fail_in_exit, places_fail_in_exit, exit_frame_at}
 use Rattle.burr_container.proofs.reading.frames.exit_frame.Goals as goal

@@ -1,4 +1,4 @@
--- The parts of a frame stand one behind the other.
+-- The parts of a frame stand one after the other.
 use Rattle.std.proofs.Common.{◌∙◌, arith}
 use Rattle.std.proofs.lemmas.Result.{err_from_is_err_and}
 use Rattle.burr_code.specs.declared.limits.TheConstants.{MOST_GUARDS, MOST_OPERANDS}

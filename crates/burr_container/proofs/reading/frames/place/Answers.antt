@@ -3,7 +3,7 @@ use Rattle.std.proofs.Common.{◌≡◌, ◌<◌, ◌*◌, ◌==◌, false, ap, 
 use Rattle.std.proofs.lemmas.Bool.{or_right}
 use Rattle.std.proofs.lemmas.Result.{err_from_is_err_and}
 use Rattle.burr_container.specs.declared.fault.ContainerFault.TheVariants.{C4}
-use Rattle.burr_container.specs.Fitting.{is_tray}
+use Rattle.burr_container.specs.Rules.Fitting.{is_tray}
 use Rattle.burr_container.proofs.Common.Places.{is_place_head}
 use Rattle.burr_container.proofs.Chains.{byte_at}
 use Rattle.burr_container.proofs.FormsRead.{place_at, place_fails}

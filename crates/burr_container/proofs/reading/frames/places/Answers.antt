@@ -1,7 +1,7 @@
 -- A place is read each turn.
 use Rattle.std.proofs.Common.{arith}
 use Rattle.std.proofs.lemmas.Result.{err_from_is_err_and}
-use Rattle.burr_container.specs.Faults.{place}
+use Rattle.burr_container.specs.Rules.Faults.{place}
 use Rattle.burr_container.proofs.EachWalk.{each_fails, each_ends}
 use Rattle.burr_container.proofs.FormsRead.{places_at}
 use Rattle.burr_container.proofs.PlacesRead.{places_go_on}
@@ -24,4 +24,4 @@ returns-clause-reads c =
     let all =
     each_ends (place c.args.live) c.args.pieces c.args.cursor c.loop.counter c.loop.cursor (omega arith) c.loop.invariant.walk in
     rw c.from-count.ensures
-    (places_at c.args.pieces c.args.live c.args.cursor c.loop.cursor all.0 all.1 c.loop.invariant.walk.behind)
+    (places_at c.args.pieces c.args.live c.args.cursor c.loop.cursor all.0 all.1 c.loop.invariant.walk.after)

@@ -2,7 +2,7 @@
 use Rattle.std.proofs.lemmas.Result.{err_from_is_err_and}
 use Rattle.std.proofs.Common.{rules, true, refl, arith}
 use Rattle.burr_container.specs.declared.fault.ContainerFault.TheVariants.{C4}
-use Rattle.burr_container.specs.Faults.{number, RangesFail, bits}
+use Rattle.burr_container.specs.Rules.Faults.{number, RangesFail, bits}
 use Rattle.burr_container.proofs.Chains.{byte_at, then_fails}
 use Rattle.burr_container.proofs.SlotWalk.{walk_live, walk_dead, walk_fails, walk_ends, slots_at}
 use Rattle.burr_container.proofs.reading.frames.slots.Goals.{then-bits-eq1+in_ok-range, else-bits-eq1}
@@ -10,7 +10,7 @@ use Rattle.burr_container.proofs.reading.frames.slots.Goals as goal
 
 pub returns-in_err-range : goal.returns-in_err-range
 returns-in_err-range c =
-    let first = c.in_ok-mask.behind_mask in
+    let first = c.in_ok-mask.after_mask in
     let head =
     byte_at C4 (λ _. true) c.args.cursor first c.in_ok-mask.mask (search rules) refl c.in_ok-mask.ensures in
     let fails =
@@ -25,19 +25,19 @@ loop-v-preserved c =
     elim c.if-bits-eq1.branch [
       | then-bits-eq1+in_ok-range w ↦
           rw (w.slots-is, w.cursor-is)
-          (walk_live c.in_ok-mask.behind_mask c.loop-v.cursor c.in_ok-mask.mask c.loop-v.v c.loop-v.bits c.loop-v.slots (omega arith)
+          (walk_live c.in_ok-mask.after_mask c.loop-v.cursor c.in_ok-mask.mask c.loop-v.v c.loop-v.bits c.loop-v.slots (omega arith)
           c.loop-v.invariant _ _ (omega (arith, w.if-bits-eq1)) w.in_ok-range.ensures)
       | else-bits-eq1 w ↦
           rw (w.slots-is, w.cursor-is)
-          (walk_dead c.in_ok-mask.behind_mask c.loop-v.cursor c.in_ok-mask.mask c.loop-v.v c.loop-v.bits c.loop-v.slots (omega arith)
+          (walk_dead c.in_ok-mask.after_mask c.loop-v.cursor c.in_ok-mask.mask c.loop-v.v c.loop-v.bits c.loop-v.slots (omega arith)
           c.loop-v.invariant (search rules))
     ]
 
 pub returns : goal.returns
 returns c =
-    let first = c.in_ok-mask.behind_mask in
+    let first = c.in_ok-mask.after_mask in
     let head =
     byte_at C4 (λ _. true) c.args.cursor first c.in_ok-mask.mask (search rules) refl c.in_ok-mask.ensures in
     slots_at c.args.cursor first c.loop-v.cursor c.in_ok-mask.mask c.loop-v.slots head
     (walk_ends first c.loop-v.cursor c.in_ok-mask.mask c.loop-v.v c.loop-v.bits c.loop-v.slots (omega arith) c.loop-v.invariant)
-    c.loop-v.invariant.behind
+    c.loop-v.invariant.after

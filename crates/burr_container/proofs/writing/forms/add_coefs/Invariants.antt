@@ -2,7 +2,7 @@
 use Rattle.std.proofs.Common.{◌≡◌, ◌++◌, drop}
 use Rattle.std.specs.List.{flat_map}
 use Rattle.burr_code.specs.Instruction.{signed_word}
-use Rattle.burr_container.specs.Plans.{of_live}
+use Rattle.burr_container.specs.Rules.Plans.{of_live}
 use Rattle.burr_container.proofs.writing.forms.add_coefs.Given as goal
 
 abbrev pub invariant-loop-v : goal.invariant-loop-v

@@ -1,7 +1,7 @@
 -- What is written, and what is still to be written, are all of it.
 use Rattle.std.proofs.Common.{◌≡◌, ◌++◌, drop}
 use Rattle.std.specs.List.{flat_map}
-use Rattle.burr_container.specs.Spelling.{form_bytes}
+use Rattle.burr_container.specs.Rules.Spelling.{form_bytes}
 use Rattle.burr_container.proofs.writing.forms.add_forms.Given as goal
 
 abbrev pub invariant-loop-form : goal.invariant-loop-form

@@ -1,7 +1,7 @@
 -- What is written, and what is still to be written, are all of it.
 use Rattle.std.proofs.Common.{◌≡◌, ◌++◌, drop}
-use Rattle.burr_container.specs.Spelling.{places_bytes}
-use Rattle.burr_container.specs.Views.{placements_of}
+use Rattle.burr_container.specs.Rules.Spelling.{places_bytes}
+use Rattle.burr_container.specs.Views.OwnedPlaces.{placements_of}
 use Rattle.burr_container.proofs.writing.forms.add_places.Given as goal
 
 abbrev pub invariant-loop-place : goal.invariant-loop-place

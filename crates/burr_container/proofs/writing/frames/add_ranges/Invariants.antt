@@ -1,6 +1,6 @@
 -- What is written, and what is still to be written, are all of it.
 use Rattle.std.proofs.Common.{◌≡◌, ◌++◌, drop}
-use Rattle.burr_container.specs.Spelling.{ranges_bytes}
+use Rattle.burr_container.specs.Rules.Spelling.{ranges_bytes}
 use Rattle.burr_container.proofs.writing.frames.add_ranges.Given as goal
 
 abbrev pub invariant-loop-range : goal.invariant-loop-range

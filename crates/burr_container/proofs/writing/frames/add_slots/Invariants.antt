@@ -1,7 +1,7 @@
 -- What is written, and what is still to be written, are all of it.
 use Rattle.std.proofs.Common.{◌≡◌, ◌++◌, drop}
 use Rattle.std.specs.List.{flat_map}
-use Rattle.burr_container.specs.Spelling.{range_bytes}
+use Rattle.burr_container.specs.Rules.Spelling.{range_bytes}
 use Rattle.burr_container.proofs.writing.frames.add_slots.Given as goal
 
 abbrev pub invariant-loop-slot : goal.invariant-loop-slot

@@ -1,8 +1,8 @@
 -- The next label is written.
 use Rattle.std.proofs.Common.{◌++◌, ◌+◌, drop, arith, [], sym, ap, ◌∙◌, ℕ}
 use Rattle.std.specs.List.{flat_map}
-use Rattle.burr_container.specs.Plans.{Frame}
-use Rattle.burr_container.specs.Spelling.{label_bytes}
+use Rattle.burr_container.specs.Rules.Plans.{Frame}
+use Rattle.burr_container.specs.Rules.Spelling.{label_bytes}
 use Rattle.burr_container.proofs.Written.{next_of, one_more}
 use Rattle.burr_container.proofs.writing.plans.add_labels.Goals as goal
 

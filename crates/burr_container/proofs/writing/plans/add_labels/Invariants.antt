@@ -1,7 +1,7 @@
 -- What is written, and what is still to be written, are all of it.
 use Rattle.std.proofs.Common.{◌≡◌, ◌++◌, drop}
 use Rattle.std.specs.List.{flat_map}
-use Rattle.burr_container.specs.Spelling.{label_bytes}
+use Rattle.burr_container.specs.Rules.Spelling.{label_bytes}
 use Rattle.burr_container.proofs.writing.plans.add_labels.Given as goal
 
 abbrev pub invariant-loop-label : goal.invariant-loop-label

@@ -1,6 +1,6 @@
 -- The counts of a plan that fits have room.
 use Rattle.std.proofs.Common.{◌≤◌, sym, subst, arith, length}
-use Rattle.burr_container.specs.Plans.{Plan}
+use Rattle.burr_container.specs.Rules.Plans.{Plan}
 use Rattle.burr_container.proofs.Written.{HasRoom, plan_has_room}
 use Rattle.burr_container.proofs.writing.plans.write.Goals as goal
 

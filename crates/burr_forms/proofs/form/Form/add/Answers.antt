@@ -1,8 +1,8 @@
 -- Small forms have room, and another form once is that form.
 use Rattle.std.proofs.Common.{sym, ◌∙◌, subst, subst}
-use Rattle.burr_forms.specs.Forms.{Form, plus_form}
-use Rattle.burr_forms.specs.Wides.{IsWideForm}
-use Rattle.burr_forms.specs.Results.{IsFormOf}
+use Rattle.burr_forms.specs.Rules.Forms.{Form, plus_form}
+use Rattle.burr_forms.specs.Views.Wides.{IsWideForm}
+use Rattle.burr_forms.specs.Views.Results.{IsFormOf}
 use Rattle.burr_forms.proofs.Sums.{form_once}
 use Rattle.burr_forms.proofs.Widths.{small_is_wide, one_is_small}
 use Rattle.burr_forms.proofs.form.Form.add.Goals as goal

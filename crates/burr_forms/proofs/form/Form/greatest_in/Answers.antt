@@ -1,8 +1,8 @@
 -- At the corner of the box.
 use Rattle.std.proofs.Common.{◌≤◌, List, length, true, ap, sym, ◌∙◌, subst, arith, rules, FitsSigned, w64, to_z-of_z}
 use Rattle.std.specs.Prelude.{ℤ}
-use Rattle.burr_forms.specs.Forms.{Form, Point, AllNear, value}
-use Rattle.burr_forms.specs.Bounds.{IsGreatestIn, corner}
+use Rattle.burr_forms.specs.Rules.Forms.{Form, Point, AllNear, value}
+use Rattle.burr_forms.specs.Views.Bounds.{IsGreatestIn, corner}
 use Rattle.burr_forms.proofs.Boxes.{near_inside}
 use Rattle.burr_forms.proofs.Corners.{corner_inside, greatest_at_corner}
 use Rattle.burr_forms.proofs.form.Form.greatest_in.Goals as goal

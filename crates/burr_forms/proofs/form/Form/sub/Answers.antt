@@ -1,8 +1,8 @@
 -- Small forms have room.
 use Rattle.std.proofs.Common.{sym, ◌∙◌, subst, pos, neg_ℤ}
-use Rattle.burr_forms.specs.Forms.{Form, plus_form, times}
-use Rattle.burr_forms.specs.Wides.{IsWideForm}
-use Rattle.burr_forms.specs.Results.{IsFormOf}
+use Rattle.burr_forms.specs.Rules.Forms.{Form, plus_form, times}
+use Rattle.burr_forms.specs.Views.Wides.{IsWideForm}
+use Rattle.burr_forms.specs.Views.Results.{IsFormOf}
 use Rattle.burr_forms.proofs.Widths.{small_is_wide, minus_one_is_small}
 use Rattle.burr_forms.proofs.form.Form.sub.Goals as goal
 

@@ -1,7 +1,7 @@
 -- Each turn adds the argument of one symbol.
 use Rattle.std.proofs.Common.{rules, ◌≡◌, ◌<◌, ◌≤◌, ◌+◌, ap, sym, ◌∙◌, subst, length, slice_index_or, pos, FitsSigned, w64, to_z-of_z}
-use Rattle.burr_forms.specs.Forms.{Form, number, AllSmall, times, plus_form}
-use Rattle.burr_forms.specs.Results.{IsFormOf}
+use Rattle.burr_forms.specs.Rules.Forms.{Form, number, AllSmall, times, plus_form}
+use Rattle.burr_forms.specs.Views.Results.{IsFormOf}
 use Rattle.burr_forms.proofs.Values.{small_at}
 use Rattle.burr_forms.proofs.Substituting.{IsUnderWay, begins, goes_on, ends, has_room}
 use Rattle.burr_forms.proofs.form.Form.substitute.Goals as goal

@@ -1,6 +1,6 @@
 -- One symbol's term is added.
 use Rattle.std.proofs.Common.{rules, ◌≡◌, ap, sym, FitsSigned, w32, w64, slice_index_or, length, ◌<◌, pos, to_z, to_z-of_z}
-use Rattle.burr_forms.specs.Forms.{Form}
+use Rattle.burr_forms.specs.Rules.Forms.{Form}
 use Rattle.burr_forms.proofs.Values.{term_fits, sum_fits, sum_more, value_nowhere}
 use Rattle.burr_forms.proofs.form.Form.value_at.Goals as goal
 

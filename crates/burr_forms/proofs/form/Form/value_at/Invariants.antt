@@ -1,6 +1,6 @@
 -- The value where the symbols so far alone count.
 use Rattle.std.proofs.Common.{◌≡◌, take}
-use Rattle.burr_forms.specs.Forms.{value}
+use Rattle.burr_forms.specs.Rules.Forms.{value}
 use Rattle.burr_forms.proofs.form.Form.value_at.Given as goal
 
 abbrev pub invariant-loop-symbol : goal.invariant-loop-symbol

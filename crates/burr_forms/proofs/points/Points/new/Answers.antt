@@ -1,8 +1,8 @@
 -- From the lowest point on, all points are left.
 use Rattle.std.proofs.Common.{ap, subst, ◌∙◌}
 use Rattle.std.specs.Prelude.{filter}
-use Rattle.burr_forms.specs.Points.{guards_hold, InBox}
-use Rattle.burr_forms.specs.Rising.{points_from, lows}
+use Rattle.burr_forms.specs.Rules.Points.{guards_hold, InBox}
+use Rattle.burr_forms.specs.Views.Rising.{points_from, lows}
 use Rattle.burr_forms.proofs.Orders.{lows_inside}
 use Rattle.burr_forms.proofs.Remaining.{from_lows}
 use Rattle.burr_forms.proofs.points.Points.new.Goals as goal

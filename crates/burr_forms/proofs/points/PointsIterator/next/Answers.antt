@@ -1,7 +1,7 @@
 -- A point further, which is given where the guards hold.
 use Rattle.std.proofs.Common.{rules, ◌∙◌, ap, sym, subst, length, arith}
-use Rattle.burr_forms.specs.Points.{AreRanges}
-use Rattle.burr_forms.specs.Rising.{left}
+use Rattle.burr_forms.specs.Rules.Points.{AreRanges}
+use Rattle.burr_forms.specs.Views.Rising.{left}
 use Rattle.burr_forms.proofs.Boxes.{near_inside}
 use Rattle.burr_forms.proofs.Going.{Advances, IsStep, given, passed, inside_next, fewer}
 use Rattle.burr_forms.proofs.points.PointsIterator.next.Goals as goal

@@ -1,7 +1,7 @@
 -- What was passed over was not left.
 use Rattle.std.proofs.Common.{◌≡◌, suc, cond, false}
-use Rattle.burr_forms.specs.Points.{InBox}
-use Rattle.burr_forms.specs.Rising.{left, count_after}
+use Rattle.burr_forms.specs.Rules.Points.{InBox}
+use Rattle.burr_forms.specs.Views.Rising.{left, count_after}
 use Rattle.burr_forms.proofs.points.PointsIterator.next.Given as goal
 
 abbrev pub invariant-loop-self : goal.invariant-loop-self

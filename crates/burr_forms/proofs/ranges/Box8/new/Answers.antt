@@ -1,7 +1,7 @@
 -- A range more is put in place.
 use Rattle.std.proofs.Common.{rules, arith, pos}
 use Rattle.std.proofs.lemmas.List.Elements.{All-more}
-use Rattle.burr_forms.specs.Points.{IsRange}
+use Rattle.burr_forms.specs.Rules.Points.{IsRange}
 use Rattle.burr_forms.proofs.Padding.{put_next}
 use Rattle.burr_forms.proofs.ranges.Box8.new.Goals as goal
 

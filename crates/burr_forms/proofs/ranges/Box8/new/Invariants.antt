@@ -1,6 +1,6 @@
 -- The ranges so far are put in place.
 use Rattle.std.proofs.Common.{◌≡◌, ◌≤◌, length, take}
-use Rattle.burr_forms.specs.Points.{AreRanges}
+use Rattle.burr_forms.specs.Rules.Points.{AreRanges}
 use Rattle.burr_forms.proofs.Padding.{padded_to}
 use Rattle.burr_forms.proofs.ranges.Box8.new.Given as goal
 

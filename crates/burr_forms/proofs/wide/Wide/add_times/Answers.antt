@@ -2,8 +2,8 @@
 use Rattle.std.proofs.Common.{rules, ◌≡◌, sym, ◌∙◌, FitsSigned, w64, to_z-of_z, subst}
 use Rattle.std.specs.Prelude.{◌+ℤ◌, ◌*ℤ◌}
 use Rattle.std.specs.Int.{w128}
-use Rattle.burr_forms.specs.Forms.{sum_of}
-use Rattle.burr_forms.specs.Wides.{IsWideForm}
+use Rattle.burr_forms.specs.Rules.Forms.{sum_of}
+use Rattle.burr_forms.specs.Views.Wides.{IsWideForm}
 use Rattle.burr_forms.proofs.Multiples.{multiples, product_fits, product_bound, plus_fits}
 use Rattle.burr_forms.proofs.wide.Wide.add_times.Goals as goal
 

@@ -1,6 +1,6 @@
 -- A form's numbers, added to nothing, are the form's.
 use Rattle.std.proofs.Common.{rules, ◌≡◌, ap, ◌∙◌, FitsSigned, w64, to_z-of_z}
-use Rattle.burr_forms.specs.Forms.{Form, number}
+use Rattle.burr_forms.specs.Rules.Forms.{Form, number}
 use Rattle.burr_forms.proofs.Sums.{from_zeros}
 use Rattle.burr_forms.proofs.wide.Wide.of.Goals as goal
 

@@ -1,8 +1,8 @@
 -- Each of the three forms is as much higher as the unit is long along its axis.
 use Rattle.std.proofs.Common.{rules, ◌∙◌, sym, ap, subst, w32, FitsSigned, to_z-of_z}
 use Rattle.burr_voxels.specs.declared.cell.Cell.{Cell}
-use Rattle.burr_forms.specs.Forms.{raised, IsSmallForm}
-use Rattle.burr_frames.specs.Spots.{lying_of}
+use Rattle.burr_forms.specs.Rules.Forms.{raised, IsSmallForm}
+use Rattle.burr_frames.specs.Views.Spots.{lying_of}
 use Rattle.burr_frames.proofs.OnePlace.{moved_place}
 use Rattle.burr_frames.proofs.lying.Lying.moved.Goals as goal
 

@@ -3,9 +3,9 @@ use Rattle.std.proofs.Common.{◌≡◌, ◌∙◌, length, sym, ap, subst, [], 
 use Rattle.std.specs.Prelude.{reverse}
 use Rattle.std.proofs.lemmas.List.{reverse-append}
 use Rattle.std.proofs.lemmas.List.Elements.{All-cons}
-use Rattle.burr_forms.specs.Forms.{Form, symbol, IsSmallForm, AllSmallForms}
-use Rattle.burr_forms.specs.Points.{AreRanges}
-use Rattle.burr_frames.specs.States.{AbstractState}
+use Rattle.burr_forms.specs.Rules.Forms.{Form, symbol, IsSmallForm, AllSmallForms}
+use Rattle.burr_forms.specs.Rules.Points.{AreRanges}
+use Rattle.burr_frames.specs.Rules.States.{AbstractState}
 use Rattle.burr_frames.proofs.Rooms.{handed_range, one_range_more}
 use Rattle.burr_frames.proofs.state.State.add_symbol.Goals as goal
 

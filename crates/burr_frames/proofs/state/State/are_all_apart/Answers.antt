@@ -1,6 +1,6 @@
 use Rattle.std.proofs.Common.{sym, subst, IsTrue, ◌↔◌}
 use Rattle.burr_code.specs.Places.{AllApart}
-use Rattle.burr_frames.specs.States.{AbstractState}
+use Rattle.burr_frames.specs.Rules.States.{AbstractState}
 use Rattle.burr_frames.proofs.state.State.are_all_apart.Goals as goal
 
 pub returns : goal.returns

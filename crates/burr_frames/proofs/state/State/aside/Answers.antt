@@ -3,15 +3,15 @@ use Rattle.std.proofs.Common.{◌≡◌, ◌∙◌, List, ap, subst, inr}
 use Rattle.std.proofs.lemmas.Result.{err_from_is_err_and}
 use Rattle.burr_text.proofs.Common.Tests.{yes_of, no_of}
 use Rattle.burr_code.specs.Places.{Placement, aside_places}
-use Rattle.burr_assembly.specs.Homes.{homes_of}
+use Rattle.burr_assembly.specs.Rules.Homes.{homes_of}
 use Rattle.burr_blocking.specs.declared.query.Query.TheVariants as queries
-use Rattle.burr_container.specs.Plans.{FormCell}
+use Rattle.burr_container.specs.Rules.Plans.{FormCell}
 use Rattle.burr_frames.specs.declared.rule.Rule.TheVariants as rules
-use Rattle.burr_frames.specs.Breaks.{broken_of}
-use Rattle.burr_frames.specs.Changes.{at_cost, with_grip, with_places}
-use Rattle.burr_frames.specs.SpaceRules.{OnBenchAt, PairAt, GoesFree}
-use Rattle.burr_frames.specs.States.{AbstractState}
-use Rattle.burr_frames.specs.Verdicts.{Breaks, Falls, Leaves, falls, paying}
+use Rattle.burr_frames.specs.Views.Breaks.{broken_of}
+use Rattle.burr_frames.specs.Views.Changes.{at_cost, with_grip, with_places}
+use Rattle.burr_frames.specs.Rules.SpaceRules.{OnBenchAt, PairAt, GoesFree}
+use Rattle.burr_frames.specs.Rules.States.{AbstractState}
+use Rattle.burr_frames.specs.Rules.Verdicts.{Breaks, FallsThrough, NoSuccessor, falls_through, paying}
 use Rattle.burr_frames.proofs.GripLooks.{aside_looks_on, aside_looks_whole, aside_looks_in_use}
 use Rattle.burr_frames.proofs.MoveVerdicts.{Says, clear_on, clear_breaks}
 use Rattle.burr_frames.proofs.Paying.{paying_on, paying_breaks}
@@ -30,7 +30,7 @@ returns-in_err-goes_clear-clause-verdict g c =
       inr (
         yes_of c.if-not-is_empty.ensures,
         clear_breaks s (OnBenchAt s.places s.tray) (PairAt (GoesFree c.args.direction) homes s.places s.tray s.grip) rules.V18 rules.V16
-            (paying s λ paid. falls (with_grip 0 (with_places new paid))) (broken_of broken)
+            (paying s λ paid. falls_through (with_grip 0 (with_places new paid))) (broken_of broken)
             (subst (λ (places : List (Placement FormCell)). Says homes s places (queries.Exit c.args.direction) rules.V16 (Breaks (broken_of broken)))
             (c.as_slice.ensures.value ∙ ap (λ (a : AbstractState). a.places) c.self.view_is) c.in_err-goes_clear.ensures.verdict),
       ),
@@ -49,10 +49,10 @@ returns-in_err-cost-clause-verdict g c =
       inr (
         yes_of c.if-not-is_empty.ensures,
         clear_on s (OnBenchAt s.places s.tray) (PairAt (GoesFree c.args.direction) homes s.places s.tray s.grip) rules.V18 rules.V16
-            (paying s λ paid. falls (with_grip 0 (with_places new paid))) (Breaks (broken_of broken))
-            (subst (λ (places : List (Placement FormCell)). Says homes s places (queries.Exit c.args.direction) rules.V16 Leaves)
+            (paying s λ paid. falls_through (with_grip 0 (with_places new paid))) (Breaks (broken_of broken))
+            (subst (λ (places : List (Placement FormCell)). Says homes s places (queries.Exit c.args.direction) rules.V16 NoSuccessor)
             (c.as_slice.ensures.value ∙ ap (λ (a : AbstractState). a.places) c.self.view_is) c.in_ok-goes_clear.ensures.verdict)
-            (paying_breaks s broken (λ paid. falls (with_grip 0 (with_places new paid))) c.in_err-cost.ensures),
+            (paying_breaks s broken (λ paid. falls_through (with_grip 0 (with_places new paid))) c.in_err-cost.ensures),
       ),
     ))
 
@@ -70,10 +70,10 @@ returns-clause-verdict g c =
       inr (
         yes_of c.if-not-is_empty.ensures,
         clear_on s (OnBenchAt s.places s.tray) (PairAt (GoesFree c.args.direction) homes s.places s.tray s.grip) rules.V18 rules.V16
-            (paying s λ paid. falls (with_grip 0 (with_places new paid))) (Falls c.go_aside.new.self)
-            (subst (λ (places : List (Placement FormCell)). Says homes s places (queries.Exit c.args.direction) rules.V16 Leaves)
+            (paying s λ paid. falls_through (with_grip 0 (with_places new paid))) (FallsThrough c.go_aside.new.self)
+            (subst (λ (places : List (Placement FormCell)). Says homes s places (queries.Exit c.args.direction) rules.V16 NoSuccessor)
             (c.as_slice.ensures.value ∙ ap (λ (a : AbstractState). a.places) c.self.view_is) c.in_ok-goes_clear.ensures.verdict)
-            (paying_on s cost (λ paid. falls (with_grip 0 (with_places new paid))) (Falls c.go_aside.new.self) c.in_ok-cost.ensures (ap Falls changed)),
+            (paying_on s cost (λ paid. falls_through (with_grip 0 (with_places new paid))) (FallsThrough c.go_aside.new.self) c.in_ok-cost.ensures (ap FallsThrough changed)),
       ),
     )
 

@@ -1,11 +1,11 @@
 -- As many pieces at home as there are homes.
 use Rattle.std.proofs.Common.{◌≡◌, ℕ, List, [], ◌∷◌, length, sym, ap, ◌∙◌, refl}
 use Rattle.std.specs.Prelude.{replicate, map, reverse, Option, None}
-use Rattle.burr_forms.specs.Forms.{Form}
+use Rattle.burr_forms.specs.Rules.Forms.{Form}
 use Rattle.burr_voxels.specs.declared.cell.Cell.{Cell}
 use Rattle.burr_code.specs.Places.{Placement, On}
-use Rattle.burr_container.specs.Plans.{FormCell}
-use Rattle.burr_frames.specs.Starts.{home_position}
+use Rattle.burr_container.specs.Rules.Plans.{FormCell}
+use Rattle.burr_frames.specs.Rules.Starts.{home_position}
 use Rattle.burr_frames.proofs.state.State.at_home.Goals as goal
 
 all_at_home : (homes : List (List Cell)) (place : Placement FormCell) → replicate (length homes) place ≡ map (λ (cells : List Cell). place) homes

@@ -1,11 +1,11 @@
 -- What is read of the callee in place is the plan's.
 use Rattle.std.proofs.Common.{◌≡◌, ℕ, length, ap, subst, inl, inr, arith}
-use Rattle.burr_container.specs.Refs.{frame_of}
-use Rattle.burr_frames.specs.FramedPlans.{FramedExit, framed, framed_plan, framed_procedure}
-use Rattle.burr_frames.specs.Verdicts.{Verdict, Breaks}
-use Rattle.burr_frames.specs.Breaks.{broken_of, fallen}
-use Rattle.burr_frames.specs.ControlRules.{calling, call_rule}
-use Rattle.burr_frames.specs.Exits.{framed_ref}
+use Rattle.burr_container.specs.Views.Refs.{frame_of}
+use Rattle.burr_frames.specs.Rules.FramedPlans.{FramedExit, framed, framed_plan, framed_procedure}
+use Rattle.burr_frames.specs.Rules.Verdicts.{Verdict, Breaks}
+use Rattle.burr_frames.specs.Views.Breaks.{broken_of, next_verdict}
+use Rattle.burr_frames.specs.Rules.ControlRules.{calling, call_rule}
+use Rattle.burr_frames.specs.Views.Exits.{framed_ref}
 use Rattle.burr_frames.proofs.Common.ExitsRead.{no_exit, exit_there, ranges_there}
 use Rattle.burr_frames.proofs.CalleesRead.{IsCallee, callee_at, no_entry, entry_there}
 use Rattle.burr_frames.proofs.state.State.call.Goals as goal
@@ -40,7 +40,7 @@ returns-clause-verdict c =
     let k = c.from-callee.result in
     let same : k ≡ c.args.callee = c.from-callee.ensures in
     let s = c.args.self.now in
-    let v : Verdict = fallen c.calls.new.self c.calls.result in
+    let v : Verdict = next_verdict c.calls.new.self c.calls.result in
     let there : IsCallee p.procedures c.args.procedure k =
     callee_at p.procedures c.args.procedure k c.if-callee-procedure.false (omega (arith, c.if-proc_count-callee.false, c.proc_count.ensures.plan p is)) in
     let q = there.procedure in

@@ -1,14 +1,14 @@
 -- An entry frame that is not met, and what follows where it is.
 use Rattle.std.proofs.Common.{◌≡◌, ◌≤◌, ◌+◌, ◌∙◌, ap, sym, subst, ℕ, List, length, drop, inl, inr, arith}
 use Rattle.std.specs.Prelude.{reverse, option_map}
-use Rattle.burr_forms.specs.Forms.{Form, substituted}
-use Rattle.burr_container.specs.Refs.{frame_of}
+use Rattle.burr_forms.specs.Rules.Forms.{Form, substituted}
+use Rattle.burr_container.specs.Views.Refs.{frame_of}
 use Rattle.burr_frames.specs.declared.rule.Rule.TheVariants as rules
-use Rattle.burr_frames.specs.States.{AbstractState}
-use Rattle.burr_frames.specs.FramedPlans.{FramedExit, framed}
-use Rattle.burr_frames.specs.Verdicts.{Verdict, Breaks, meeting}
-use Rattle.burr_frames.specs.Breaks.{broken_of, fallen}
-use Rattle.burr_frames.specs.ControlRules.{called_with, calling}
+use Rattle.burr_frames.specs.Rules.States.{AbstractState}
+use Rattle.burr_frames.specs.Rules.FramedPlans.{FramedExit, framed}
+use Rattle.burr_frames.specs.Rules.Verdicts.{Verdict, Breaks, meeting}
+use Rattle.burr_frames.specs.Views.Breaks.{broken_of, next_verdict}
+use Rattle.burr_frames.specs.Rules.ControlRules.{called_with, calling}
 use Rattle.burr_frames.proofs.CallArguments.{left_many}
 use Rattle.burr_frames.proofs.CallMeetings.{meeting_on, meeting_breaks}
 use Rattle.burr_frames.proofs.CallVerdicts.{PaysCall, calling_on}
@@ -49,7 +49,7 @@ returns-clause-verdict c =
     let arguments = c.in-Some.arguments.items in
     let entry = framed (frame_of c.args.entry.now) in
     let exit = c.args.exit.now in
-    let v : Verdict = fallen c.pays_for.new.self c.pays_for.result in
+    let v : Verdict = next_verdict c.pays_for.new.self c.pays_for.result in
     let left = left_many count c.self.inside.operands.items s.operands (ap operands_of c.self.view_is) in
     let few = c.if-len-count-gt-MOST_OPERANDS.false in
     let many = c.len-2.ensures.value ∙ ap results_of c.exit.view_is in

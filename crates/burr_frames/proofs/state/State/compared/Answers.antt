@@ -1,6 +1,6 @@
 -- The operands are small.
 use Rattle.std.proofs.Common.{sym, subst}
-use Rattle.burr_forms.specs.Forms.{AllSmallForms}
+use Rattle.burr_forms.specs.Rules.Forms.{AllSmallForms}
 use Rattle.burr_frames.proofs.Offsets.{small_reversed}
 use Rattle.burr_frames.proofs.state.State.compared.Goals as goal
 

@@ -2,13 +2,13 @@
 use Rattle.std.proofs.Common.{◌≡◌, ◌∙◌, ap, subst, inl, inr, arith}
 use Rattle.std.proofs.lemmas.Result.{err_from_is_err_and}
 use Rattle.burr_text.proofs.Common.Tests.{yes_of, no_of}
-use Rattle.burr_container.specs.Refs.{frame_of}
-use Rattle.burr_frames.specs.FramedPlans.{framed}
-use Rattle.burr_frames.specs.States.{AbstractState}
-use Rattle.burr_frames.specs.Verdicts.{Breaks, Falls, Leaves, falls, leaves, arriving}
-use Rattle.burr_frames.specs.Breaks.{broken_of}
-use Rattle.burr_frames.specs.ControlRules.{counted_down, counted_out, guarded}
-use Rattle.burr_frames.specs.Changes.{at_cost}
+use Rattle.burr_container.specs.Views.Refs.{frame_of}
+use Rattle.burr_frames.specs.Rules.FramedPlans.{framed}
+use Rattle.burr_frames.specs.Rules.States.{AbstractState}
+use Rattle.burr_frames.specs.Rules.Verdicts.{Breaks, FallsThrough, NoSuccessor, falls_through, no_successor, arriving}
+use Rattle.burr_frames.specs.Views.Breaks.{broken_of}
+use Rattle.burr_frames.specs.Rules.ControlRules.{counted_down, counted_out, guarded}
+use Rattle.burr_frames.specs.Views.Changes.{at_cost}
 use Rattle.burr_frames.proofs.Common.Heres.{procedure_here, parameters_here}
 use Rattle.burr_frames.proofs.Paying.{paying_on, paying_breaks}
 use Rattle.burr_frames.proofs.Arrivals.{arriving_on, arriving_breaks}
@@ -113,13 +113,13 @@ returns-in_err-arrives_or_breaks-clause-verdict c = λ p here is e.
     let counts : IsCounting here s v c.args.label found.0 to count =
     record { found = found.1; no_parameter = omega (arith, parameters, c.if-v-params.false); slot = c.in-Some-form_in.ensures.slot } in
     let broken = broken_of c.in_err-arrives_or_breaks.field-0.0 in
-    let misses = subst (λ (a : AbstractState). arriving a to leaves (Breaks broken)) (c.branch-self.ensures count c.in-Ok.ensures.0) c.in_err-arrives_or_breaks.ensures in
+    let misses = subst (λ (a : AbstractState). arriving a to no_successor (Breaks broken)) (c.branch-self.ensures count c.in-Ok.ensures.0) c.in_err-arrives_or_breaks.ensures in
     let r = err_from_is_err_and c.from_residual-in_err-arrives_or_breaks.result c.from_residual-in_err-arrives_or_breaks.ensures.1 in
     rw (r.1, r.2)
     (counted_on here s v c.args.label found.0 to count (Breaks broken) counts
     c.in-Ok.ensures.1 c.in_ok-never_negative.ensures (yes_of c.if-guards_are_full.ensures)
     (paying_on s cost (branches v count to) (Breaks broken) c.in_ok-cost.ensures
-    (arriving_breaks (counted_down v count (at_cost cost s)) to (falls (counted_out count (at_cost cost s))) broken misses)))
+    (arriving_breaks (counted_down v count (at_cost cost s)) to (falls_through (counted_out count (at_cost cost s))) broken misses)))
 
 pub returns-clause-verdict : goal.returns-clause-verdict
 returns-clause-verdict c = λ p here is e.
@@ -133,10 +133,10 @@ returns-clause-verdict c = λ p here is e.
     let to = framed (frame_of c.in-Some.frame) in
     let counts : IsCounting here s v c.args.label found.0 to count =
     record { found = found.1; no_parameter = omega (arith, parameters, c.if-v-params.false); slot = c.in-Some-form_in.ensures.slot } in
-    let arrives = subst (λ (a : AbstractState). arriving a to leaves Leaves) (c.branch-self.ensures count c.in-Ok.ensures.0) c.in_ok-arrives_or_breaks.ensures in
+    let arrives = subst (λ (a : AbstractState). arriving a to no_successor NoSuccessor) (c.branch-self.ensures count c.in-Ok.ensures.0) c.in_ok-arrives_or_breaks.ensures in
     let out : c.add_guard.new.self ≡ counted_out count (at_cost cost s) =
     c.add_guard.ensures ∙ (λ i. guarded (c.negated.ensures.form i) (c.set_cost.ensures i)) in
-    counted_on here s v c.args.label found.0 to count (Falls c.add_guard.new.self) counts
+    counted_on here s v c.args.label found.0 to count (FallsThrough c.add_guard.new.self) counts
     c.in-Ok.ensures.1 c.in_ok-never_negative.ensures (yes_of c.if-guards_are_full.ensures)
-    (paying_on s cost (branches v count to) (Falls c.add_guard.new.self) c.in_ok-cost.ensures
-    (arriving_on (counted_down v count (at_cost cost s)) to (falls (counted_out count (at_cost cost s))) (Falls c.add_guard.new.self) arrives (ap Falls out)))
+    (paying_on s cost (branches v count to) (FallsThrough c.add_guard.new.self) c.in_ok-cost.ensures
+    (arriving_on (counted_down v count (at_cost cost s)) to (falls_through (counted_out count (at_cost cost s))) (FallsThrough c.add_guard.new.self) arrives (ap FallsThrough out)))

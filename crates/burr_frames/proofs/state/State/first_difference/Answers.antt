@@ -4,12 +4,12 @@ use Rattle.std.specs.Prelude.{reverse, Option, ℤ}
 use Rattle.arrayvec.specs.ArrayVec.{ArrayVec}
 use Rattle.std.proofs.lemmas.List.{length-append, length-reverse}
 use Rattle.std.proofs.lemmas.List.Elements.{All-nil}
-use Rattle.burr_forms.specs.Forms.{Form, IsSmallForm, AllSmallForms}
-use Rattle.burr_forms.specs.Points.{AreRanges}
-use Rattle.burr_forms.specs.Conditions.{Region, at_values}
-use Rattle.burr_container.specs.Plans.{Range}
-use Rattle.burr_frames.specs.States.{AbstractState, region_of}
-use Rattle.burr_frames.specs.Comparing.{offset_forms, Target, IsMetBy}
+use Rattle.burr_forms.specs.Rules.Forms.{Form, IsSmallForm, AllSmallForms}
+use Rattle.burr_forms.specs.Rules.Points.{AreRanges}
+use Rattle.burr_forms.specs.Rules.Conditions.{Region, at_values}
+use Rattle.burr_container.specs.Rules.Plans.{Range}
+use Rattle.burr_frames.specs.Rules.States.{AbstractState, region_of}
+use Rattle.burr_frames.specs.Views.Comparing.{offset_forms, Target, IsMetBy}
 use Rattle.burr_frames.proofs.Agreement.{as_many, FirstFailure}
 use Rattle.burr_frames.proofs.CallMeetings.{asked_in, met_in, difference}
 use Rattle.burr_frames.proofs.state.State.first_difference.Goals as goal

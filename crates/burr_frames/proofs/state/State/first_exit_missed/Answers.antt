@@ -4,13 +4,13 @@ use Rattle.std.specs.Prelude.{ℕ, Option, ℤ}
 use Rattle.arrayvec.specs.ArrayVec.{ArrayVec}
 use Rattle.std.proofs.lemmas.List.{length-append}
 use Rattle.burr_code.specs.Places.{Placement}
-use Rattle.burr_forms.specs.Forms.{Form, AllSmallForms}
-use Rattle.burr_forms.specs.Points.{AreRanges}
-use Rattle.burr_forms.specs.Conditions.{Region, at_values}
-use Rattle.burr_container.specs.Plans.{FormCell, Range}
-use Rattle.burr_frames.specs.FramedPlans.{FramedExit}
-use Rattle.burr_frames.specs.States.{AbstractState, region_of}
-use Rattle.burr_frames.specs.Comparing.{offset_forms, Target, IsExitMetBy}
+use Rattle.burr_forms.specs.Rules.Forms.{Form, AllSmallForms}
+use Rattle.burr_forms.specs.Rules.Points.{AreRanges}
+use Rattle.burr_forms.specs.Rules.Conditions.{Region, at_values}
+use Rattle.burr_container.specs.Rules.Plans.{FormCell, Range}
+use Rattle.burr_frames.specs.Rules.FramedPlans.{FramedExit}
+use Rattle.burr_frames.specs.Rules.States.{AbstractState, region_of}
+use Rattle.burr_frames.specs.Views.Comparing.{offset_forms, Target, IsExitMetBy}
 use Rattle.burr_frames.proofs.Agreement.{as_many, FirstFailure}
 use Rattle.burr_frames.proofs.ExitMeetings.{asked_at_exit, exit_target, exit_difference}
 use Rattle.burr_frames.proofs.state.State.first_exit_missed.Goals as goal

@@ -1,6 +1,6 @@
 use Rattle.std.proofs.Common.{◌≡◌, length, Some}
-use Rattle.burr_forms.specs.Forms.{AllSmallForms}
-use Rattle.burr_frames.specs.ControlRules.{first_forms}
+use Rattle.burr_forms.specs.Rules.Forms.{AllSmallForms}
+use Rattle.burr_frames.specs.Rules.ControlRules.{first_forms}
 use Rattle.burr_frames.proofs.state.State.first_forms.Given as goal
 
 -- the forms of the slots so far

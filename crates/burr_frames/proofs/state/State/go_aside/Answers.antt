@@ -1,11 +1,11 @@
 -- The places are written back whole.
 use Rattle.std.proofs.Common.{◌∙◌, ap, sym, subst, List}
 use Rattle.burr_code.specs.Places.{Placement, aside_places}
-use Rattle.burr_container.specs.Plans.{FormCell}
-use Rattle.burr_frames.specs.States.{AbstractState}
-use Rattle.burr_frames.specs.StateViews.{abstract_state}
-use Rattle.burr_frames.specs.Changes.{with_grip, with_places}
-use Rattle.burr_frames.specs.SpaceRules.{AllSmallPlaces}
+use Rattle.burr_container.specs.Rules.Plans.{FormCell}
+use Rattle.burr_frames.specs.Rules.States.{AbstractState}
+use Rattle.burr_frames.specs.Views.StateViews.{abstract_state}
+use Rattle.burr_frames.specs.Views.Changes.{with_grip, with_places}
+use Rattle.burr_frames.specs.Rules.SpaceRules.{AllSmallPlaces}
 use Rattle.burr_frames.proofs.AsidePlaces.{length-aside_places, refilled, small_aside}
 use Rattle.burr_frames.proofs.state.State.go_aside.Goals as goal
 

@@ -1,17 +1,17 @@
 -- A piece off the bench, a pair in each other's way, and neither.
 use Rattle.std.proofs.Common.{rules, ◌≡◌, ◌≤◌, ◌+◌, ◌*◌, ◌^◌, ℕ, ℤ, List, ◌∙◌, length, inl, refl, sym, subst, ap, arith}
 use Rattle.std.proofs.lemmas.Result.{err_from_is_err_and}
-use Rattle.burr_assembly.specs.Text.{Assembly}
-use Rattle.burr_assembly.specs.Homes.{homes_of}
+use Rattle.burr_assembly.specs.Rules.Text.{Assembly}
+use Rattle.burr_assembly.specs.Rules.Homes.{homes_of}
 use Rattle.burr_blocking.proofs.Common.Counts.{none_more}
-use Rattle.burr_forms.specs.Forms.{Form}
-use Rattle.burr_forms.specs.Points.{AreRanges, box_size}
-use Rattle.burr_forms.specs.Rising.{count_in}
-use Rattle.burr_frames.specs.declared.clearing.Side.{Side}
-use Rattle.burr_frames.specs.Clearing.{AreSides}
-use Rattle.burr_frames.specs.ClearingLooks.{Asked}
-use Rattle.burr_frames.specs.States.{AbstractState}
-use Rattle.burr_frames.specs.Verdicts.{Breaks}
+use Rattle.burr_forms.specs.Rules.Forms.{Form}
+use Rattle.burr_forms.specs.Rules.Points.{AreRanges, box_size}
+use Rattle.burr_forms.specs.Views.Rising.{count_in}
+use Rattle.burr_frames.specs.declared.clearing.Role.{Role}
+use Rattle.burr_frames.specs.Views.Clearing.{AreRoles}
+use Rattle.burr_frames.specs.Views.ClearingLooks.{Asked}
+use Rattle.burr_frames.specs.Rules.States.{AbstractState}
+use Rattle.burr_frames.specs.Rules.Verdicts.{Breaks}
 use Rattle.burr_frames.proofs.Common.Sizes.{count-le}
 use Rattle.burr_frames.proofs.BenchOffsets.{length-offsets_in}
 use Rattle.burr_frames.proofs.GripLooks.{no_looks_off_bench, looks_of_clearing, counted_more}
@@ -39,15 +39,15 @@ pub invariant_of-clearing : goal.invariant_of-clearing
 invariant_of-clearing g c =
     let offsets = length-offsets_in c.self.inside.tray c.args.places.now in
     let forms = c.as_slice-2.ensures.value ∙ c.offsets_in-offsets.ensures.offsets in
-    let sides = c.as_slice-3.ensures.value in
-    let many = c.sides_in-sides.ensures.no_more in
-    let few = c.sides_in-sides.ensures.few in
+    let roles = c.as_slice-3.ensures.value in
+    let many = c.roles_in-roles.ensures.no_more in
+    let few = c.roles_in-roles.ensures.few in
     let count = c.piece_count-pieces.ensures.count ∙ ap (λ (a : Assembly). length a.pieces) c.assembly.ensures in
     let few_places = c.requires.few in
     record {
-      shape = omega (arith, ap (length {A = Side}) sides, ap (length {A = Form}) forms, offsets, many);
-      pieces = omega (arith, ap (length {A = Side}) sides, few, count);
-      few = omega (arith, ap (length {A = Side}) sides, many, few_places);
+      shape = omega (arith, ap (length {A = Role}) roles, ap (length {A = Form}) forms, offsets, many);
+      pieces = omega (arith, ap (length {A = Role}) roles, few, count);
+      few = omega (arith, ap (length {A = Role}) roles, many, few_places);
     }
 
 pub returns-in-None-clause-verdict : goal.returns-in-None-clause-verdict
@@ -63,7 +63,7 @@ returns-in-None-clause-verdict g c =
     let is = search_of s _ places pieces searched c.self.view_is
     (λ i. record { ranges = c.as_slice-4.ensures.value i; guards = c.as_slice-5.ensures.value i })
     (c.as_slice-2.ensures.value ∙ c.offsets_in-offsets.ensures.offsets)
-    (subst (AreSides c.self.inside.tray c.self.inside.grip pieces places) (sym c.as_slice-3.ensures.value) c.sides_in-sides.ensures) in
+    (subst (AreRoles c.self.inside.tray c.self.inside.grip pieces places) (sym c.as_slice-3.ensures.value) c.roles_in-roles.ensures) in
     all_clear s places pieces searched c.args.query (homes_of c.args.looks.now.assembly) c.args.rule is
     (as_many_homes _ _ pieces c.piece_count-pieces.ensures.count c.assembly.ensures)
     (on_bench_of_forms s _ places c.as_slice.result.now c.self.view_is (c.as_slice.ensures.value ∙ c.offsets_in-offsets.ensures.offsets) c.in_ok-stays_within.ensures)
@@ -82,7 +82,7 @@ returns-in-Some-clause-verdict g c =
     let is = search_of s _ places pieces searched c.self.view_is
     (λ i. record { ranges = c.as_slice-4.ensures.value i; guards = c.as_slice-5.ensures.value i })
     (c.as_slice-2.ensures.value ∙ c.offsets_in-offsets.ensures.offsets)
-    (subst (AreSides c.self.inside.tray c.self.inside.grip pieces places) (sym c.as_slice-3.ensures.value) c.sides_in-sides.ensures) in
+    (subst (AreRoles c.self.inside.tray c.self.inside.grip pieces places) (sym c.as_slice-3.ensures.value) c.roles_in-roles.ensures) in
     first_in_way s places pieces searched c.args.query (homes_of c.args.looks.now.assembly) c.args.rule
     c.in-Some.point.items c.first_refused.new.condition.found _ is
     (as_many_homes _ _ pieces c.piece_count-pieces.ensures.count c.assembly.ensures)
@@ -118,7 +118,7 @@ returns-in-None-clause-counted g c =
     let is = search_of s _ places pieces searched c.self.view_is
     (λ i. record { ranges = c.as_slice-4.ensures.value i; guards = c.as_slice-5.ensures.value i })
     (c.as_slice-2.ensures.value ∙ c.offsets_in-offsets.ensures.offsets)
-    (subst (AreSides c.self.inside.tray c.self.inside.grip pieces places) (sym c.as_slice-3.ensures.value) c.sides_in-sides.ensures) in
+    (subst (AreRoles c.self.inside.tray c.self.inside.grip pieces places) (sym c.as_slice-3.ensures.value) c.roles_in-roles.ensures) in
     let made = c.in-None.ensures.counted in (
       made.0,
       looks_of_clearing c.the_points_are_given.ensures.given s places pieces searched c.args.query (homes_of c.args.looks.now.assembly) made.0 is
@@ -142,7 +142,7 @@ returns-in-Some-clause-counted g c =
     let is = search_of s _ places pieces searched c.self.view_is
     (λ i. record { ranges = c.as_slice-4.ensures.value i; guards = c.as_slice-5.ensures.value i })
     (c.as_slice-2.ensures.value ∙ c.offsets_in-offsets.ensures.offsets)
-    (subst (AreSides c.self.inside.tray c.self.inside.grip pieces places) (sym c.as_slice-3.ensures.value) c.sides_in-sides.ensures) in
+    (subst (AreRoles c.self.inside.tray c.self.inside.grip pieces places) (sym c.as_slice-3.ensures.value) c.roles_in-roles.ensures) in
     let made = c.in-Some.ensures.counted in (
       made.0,
       looks_of_clearing c.the_points_are_given.ensures.given s places pieces searched c.args.query (homes_of c.args.looks.now.assembly) made.0 is

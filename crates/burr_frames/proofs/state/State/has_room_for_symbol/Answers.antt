@@ -1,8 +1,8 @@
 -- The ranges with one more have room, and the guards always do.
 use Rattle.std.proofs.Common.{◌≡◌, ◌≤◌, ◌∙◌, length, sym, ap, subst, List, [], ◌∷◌, ◌++◌, arith}
-use Rattle.burr_forms.specs.Points.{AreRanges, box_size}
-use Rattle.burr_container.specs.Plans.{Range}
-use Rattle.burr_frames.specs.States.{AbstractState}
+use Rattle.burr_forms.specs.Rules.Points.{AreRanges, box_size}
+use Rattle.burr_container.specs.Rules.Plans.{Range}
+use Rattle.burr_frames.specs.Rules.States.{AbstractState}
 use Rattle.burr_frames.proofs.Rooms.{handed_range, one_range_more}
 use Rattle.burr_frames.proofs.state.State.has_room_for_symbol.Goals as goal
 

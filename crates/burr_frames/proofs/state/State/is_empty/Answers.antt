@@ -1,6 +1,6 @@
 use Rattle.std.proofs.Common.{ap, subst, IsTrue, nat_eq, ◌↔◌, ◌∙◌}
 use Rattle.burr_code.specs.Places.{IsEmptyTray, count_in}
-use Rattle.burr_frames.specs.States.{AbstractState}
+use Rattle.burr_frames.specs.Rules.States.{AbstractState}
 use Rattle.burr_frames.proofs.PlaceTests.{counts_empty}
 use Rattle.burr_frames.proofs.state.State.is_empty.Goals as goal
 

@@ -1,11 +1,11 @@
 -- The step is paid for at a label that is there.
 use Rattle.std.proofs.Common.{◌≡◌, ◌∙◌, ap, subst, inr}
-use Rattle.burr_container.specs.Refs.{frame_of}
-use Rattle.burr_frames.specs.FramedPlans.{framed}
-use Rattle.burr_frames.specs.States.{AbstractState}
-use Rattle.burr_frames.specs.Verdicts.{leaves, arriving}
-use Rattle.burr_frames.specs.Breaks.{left}
-use Rattle.burr_frames.specs.Changes.{at_cost}
+use Rattle.burr_container.specs.Views.Refs.{frame_of}
+use Rattle.burr_frames.specs.Rules.FramedPlans.{framed}
+use Rattle.burr_frames.specs.Rules.States.{AbstractState}
+use Rattle.burr_frames.specs.Rules.Verdicts.{no_successor, arriving}
+use Rattle.burr_frames.specs.Views.Breaks.{last_verdict}
+use Rattle.burr_frames.specs.Views.Changes.{at_cost}
 use Rattle.burr_frames.proofs.Paying.{paying_on}
 use Rattle.burr_frames.proofs.state.State.jump.Goals as goal
 
@@ -15,11 +15,11 @@ returns c = λ p here is e.
     let cost = c.in_ok-cost.cost in
     let to = framed (frame_of c.in-Some.frame) in
     let found = c.in-Some.ensures p here is e in
-    let verdict = left c.arrives_or_breaks.result in
+    let verdict = last_verdict c.arrives_or_breaks.result in
     let paid : c.set_cost.new.self ≡ at_cost cost s = c.set_cost.ensures ∙ ap (at_cost cost) c.copied-paid.ensures in
     inr (
       (found.0, to),
       found.1,
-      paying_on s cost (λ (a : AbstractState). arriving a to leaves) verdict c.in_ok-cost.ensures
-          (subst (λ (a : AbstractState). arriving a to leaves verdict) paid c.arrives_or_breaks.ensures),
+      paying_on s cost (λ (a : AbstractState). arriving a to no_successor) verdict c.in_ok-cost.ensures
+          (subst (λ (a : AbstractState). arriving a to no_successor verdict) paid c.arrives_or_breaks.ensures),
     )

@@ -1,11 +1,11 @@
 -- The forms in the live slots, where the state agrees with the frame at all of its points.
 use Rattle.std.proofs.Common.{◌≡◌, ◌∙◌, ap, sym, subst, length, List, refl}
 use Rattle.burr_text.proofs.Common.Tests.{yes_of}
-use Rattle.burr_forms.specs.Forms.{Form}
-use Rattle.burr_container.specs.Refs.{frame_of}
-use Rattle.burr_frames.specs.FramedPlans.{framed}
-use Rattle.burr_frames.specs.States.{AbstractState, Everywhere, IsFirstFailing, state_of}
-use Rattle.burr_frames.specs.Arrival.{IsAlike, Meets}
+use Rattle.burr_forms.specs.Rules.Forms.{Form}
+use Rattle.burr_container.specs.Views.Refs.{frame_of}
+use Rattle.burr_frames.specs.Rules.FramedPlans.{framed}
+use Rattle.burr_frames.specs.Rules.States.{AbstractState, Everywhere, IsFirstFailing, state_of}
+use Rattle.burr_frames.specs.Rules.Arrival.{IsAlike, Meets}
 use Rattle.burr_frames.proofs.LiveForms.{as_many_found}
 use Rattle.burr_frames.proofs.CallMeetings.{AgreesBy}
 use Rattle.burr_frames.proofs.state.State.met.Goals as goal

@@ -1,8 +1,8 @@
 use Rattle.std.proofs.Common.{◌≡◌, ◌∙◌, ap, subst, List, MatchResult}
 use Rattle.burr_code.specs.Places.{Placement}
-use Rattle.burr_container.specs.Plans.{FormCell}
-use Rattle.burr_frames.specs.States.{AbstractState}
-use Rattle.burr_frames.specs.SpaceRules.{moved, AllSmallPlaces}
+use Rattle.burr_container.specs.Rules.Plans.{FormCell}
+use Rattle.burr_frames.specs.Rules.States.{AbstractState}
+use Rattle.burr_frames.specs.Rules.SpaceRules.{moved, AllSmallPlaces}
 use Rattle.burr_frames.proofs.state.State.moved.Goals as goal
 
 pub returns : goal.returns

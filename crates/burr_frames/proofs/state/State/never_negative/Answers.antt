@@ -1,10 +1,10 @@
 -- The search over one form's values is that over the form.
 use Rattle.std.proofs.Common.{◌≡◌, ◌∙◌, ap, subst}
-use Rattle.burr_forms.specs.Conditions.{Region}
-use Rattle.burr_forms.specs.Forms.{Point, value}
+use Rattle.burr_forms.specs.Rules.Conditions.{Region}
+use Rattle.burr_forms.specs.Rules.Forms.{Point, value}
 use Rattle.std.specs.Prelude.{pos, ◌≤ℤ◌}
-use Rattle.burr_forms.specs.Conditions.{Throughout, FailsFirstAt}
-use Rattle.burr_frames.specs.States.{AbstractState, region_of}
+use Rattle.burr_forms.specs.Rules.Conditions.{Throughout, FailsFirstAt}
+use Rattle.burr_frames.specs.Rules.States.{AbstractState, region_of}
 use Rattle.burr_frames.proofs.Paying.{never_negative, first_negative}
 use Rattle.burr_frames.proofs.state.State.never_negative.Goals as goal
 

@@ -2,8 +2,8 @@
 use Rattle.std.proofs.Common.{◌≡◌, ◌∙◌, ap, sym, subst, inl, inr}
 use Rattle.std.specs.Prelude.{pos, ◌≤ℤ◌}
 use Rattle.std.proofs.lemmas.Result.{err_from_is_err_and}
-use Rattle.burr_forms.specs.Forms.{Form, Point, value, one_less, IsSmallForm}
-use Rattle.burr_frames.specs.States.{AbstractState, Everywhere, IsFirstFailing}
+use Rattle.burr_forms.specs.Rules.Forms.{Form, Point, value, one_less, IsSmallForm}
+use Rattle.burr_frames.specs.Rules.States.{AbstractState, Everywhere, IsFirstFailing}
 use Rattle.burr_frames.proofs.state.State.paid.Goals as goal
 
 pub returns-in_default : goal.returns-in_default

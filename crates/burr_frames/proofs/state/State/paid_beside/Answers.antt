@@ -2,10 +2,10 @@
 use Rattle.std.proofs.Common.{◌≡◌, ◌-◌, ◌∙◌, ap, sym, subst, inl, inr, length}
 use Rattle.std.specs.Prelude.{pos, ◌≤ℤ◌}
 use Rattle.std.proofs.lemmas.Result.{err_from_is_err_and}
-use Rattle.burr_forms.specs.Forms.{Form, Point, value, one_less, minus_form, substituted, IsSmallForm}
-use Rattle.burr_frames.specs.States.{AbstractState, Everywhere, IsFirstFailing}
-use Rattle.burr_frames.specs.ControlRules.{left_of}
-use Rattle.burr_frames.specs.CallViews.{IsSmallPrice}
+use Rattle.burr_forms.specs.Rules.Forms.{Form, Point, value, one_less, minus_form, substituted, IsSmallForm}
+use Rattle.burr_frames.specs.Rules.States.{AbstractState, Everywhere, IsFirstFailing}
+use Rattle.burr_frames.specs.Rules.ControlRules.{left_of}
+use Rattle.burr_frames.specs.Views.CallViews.{IsSmallPrice}
 use Rattle.burr_frames.proofs.CallForms.{substituted_padded}
 use Rattle.burr_frames.proofs.state.State.paid_beside.Goals as goal
 

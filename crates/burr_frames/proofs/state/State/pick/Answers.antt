@@ -2,10 +2,10 @@
 use Rattle.std.proofs.Common.{◌≡◌, ◌∙◌, ap, subst, inl, inr}
 use Rattle.burr_text.proofs.Common.Tests.{yes_of, no_of}
 use Rattle.burr_code.specs.Labels.{labelled}
-use Rattle.burr_frames.specs.States.{AbstractState}
-use Rattle.burr_frames.specs.Verdicts.{Breaks, leaves, arriving_at_all}
-use Rattle.burr_frames.specs.Breaks.{left}
-use Rattle.burr_frames.specs.Changes.{at_cost}
+use Rattle.burr_frames.specs.Rules.States.{AbstractState}
+use Rattle.burr_frames.specs.Rules.Verdicts.{Breaks, no_successor, arriving_at_all}
+use Rattle.burr_frames.specs.Views.Breaks.{last_verdict}
+use Rattle.burr_frames.specs.Views.Changes.{at_cost}
 use Rattle.burr_frames.proofs.Common.Heres.{nothing_found}
 use Rattle.burr_frames.proofs.Paying.{paying_on}
 use Rattle.burr_frames.proofs.state.State.pick.Goals as goal
@@ -22,11 +22,11 @@ returns c = λ p here is e.
     let s = c.args.self.now in
     let cost = c.in_ok-cost.cost in
     let to = yes_of (c.if-not-has_labels.ensures p here is e) in
-    let verdict = left c.arrives_at_all.result in
+    let verdict = last_verdict c.arrives_at_all.result in
     let paid : c.set_cost.new.self ≡ at_cost cost s = c.set_cost.ensures ∙ ap (at_cost cost) c.copied-paid.ensures in
     inr (
       to.0,
       to.1,
-      paying_on s cost (λ (a : AbstractState). arriving_at_all a to.0 leaves) verdict c.in_ok-cost.ensures
-          (subst (λ (a : AbstractState). arriving_at_all a to.0 leaves verdict) paid (c.arrives_at_all.ensures p here is e to.0 to.1)),
+      paying_on s cost (λ (a : AbstractState). arriving_at_all a to.0 no_successor) verdict c.in_ok-cost.ensures
+          (subst (λ (a : AbstractState). arriving_at_all a to.0 no_successor verdict) paid (c.arrives_at_all.ensures p here is e to.0 to.1)),
     )

@@ -1,10 +1,10 @@
 -- A value out of range, a step that can't be paid for, and a result in place of two operands.
 use Rattle.std.proofs.Common.{◌≡◌, ◌∙◌, List, ◌∷◌, drop, ap, inl, inr}
 use Rattle.std.proofs.lemmas.Result.{err_from_is_err_and}
-use Rattle.burr_forms.specs.Forms.{Form}
-use Rattle.burr_frames.specs.NumberRules.{with_operands}
-use Rattle.burr_frames.specs.Verdicts.{Breaks, Falls, falls}
-use Rattle.burr_frames.specs.Changes.{at_cost, without_top, with_operand}
+use Rattle.burr_forms.specs.Rules.Forms.{Form}
+use Rattle.burr_frames.specs.Rules.NumberRules.{with_operands}
+use Rattle.burr_frames.specs.Rules.Verdicts.{Breaks, FallsThrough, falls_through}
+use Rattle.burr_frames.specs.Views.Changes.{at_cost, without_top, with_operand}
 use Rattle.burr_frames.proofs.Paying.{paying_on, paying_breaks}
 use Rattle.burr_frames.proofs.Reaches.{one_in_range, first_out_of_range, two_dropped}
 use Rattle.burr_frames.proofs.state.State.put_result.Goals as goal
@@ -25,7 +25,7 @@ returns-in_err-cost-clause-verdict c =
       c.requires.small,
       inr (
         one_in_range s c.args.form c.in_ok-stays_within.ensures,
-        paying_breaks s c.in_err-cost.field-0.0 (λ paid. falls (with_operands (c.args.form ∷ drop 2 s.operands) paid)) c.in_err-cost.ensures,
+        paying_breaks s c.in_err-cost.field-0.0 (λ paid. falls_through (with_operands (c.args.form ∷ drop 2 s.operands) paid)) c.in_err-cost.ensures,
       ),
     ))
 
@@ -41,6 +41,6 @@ returns-clause-verdict c =
       c.requires.small,
       inr (
         one_in_range s form c.in_ok-stays_within.ensures,
-        paying_on s cost (λ paid. falls (with_operands (form ∷ drop 2 s.operands) paid)) (Falls c.put.new.self) c.in_ok-cost.ensures (ap Falls changed),
+        paying_on s cost (λ paid. falls_through (with_operands (form ∷ drop 2 s.operands) paid)) (FallsThrough c.put.new.self) c.in_ok-cost.ensures (ap FallsThrough changed),
       ),
     )

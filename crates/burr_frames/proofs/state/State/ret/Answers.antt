@@ -3,12 +3,12 @@ use Rattle.std.proofs.Common.{◌≡◌, ◌∙◌, ℕ, List, length, drop, ap,
 use Rattle.std.specs.Prelude.{reverse}
 use Rattle.std.proofs.lemmas.Result.{err_from_is_err_and}
 use Rattle.burr_code.specs.Stacks.{top_many}
-use Rattle.burr_forms.specs.Forms.{Form}
-use Rattle.burr_frames.specs.FramedPlans.{FramedExit, FramedProcedure, framed_procedure}
-use Rattle.burr_frames.specs.Verdicts.{Breaks, Leaves}
-use Rattle.burr_frames.specs.Breaks.{broken_of, left}
-use Rattle.burr_frames.specs.ControlRules.{first_forms, ret_rule}
-use Rattle.burr_frames.specs.Exits.{framed_ref, meeting_exit_with}
+use Rattle.burr_forms.specs.Rules.Forms.{Form}
+use Rattle.burr_frames.specs.Rules.FramedPlans.{FramedExit, FramedProcedure, framed_procedure}
+use Rattle.burr_frames.specs.Rules.Verdicts.{Breaks, NoSuccessor}
+use Rattle.burr_frames.specs.Views.Breaks.{broken_of, last_verdict}
+use Rattle.burr_frames.specs.Rules.ControlRules.{first_forms, ret_rule}
+use Rattle.burr_frames.specs.Views.Exits.{framed_ref, meeting_exit_with}
 use Rattle.burr_frames.proofs.Paying.{paying_on, paying_breaks}
 use Rattle.burr_frames.proofs.Common.ExitsRead.{no_exit, exit_there, ranges_there}
 use Rattle.burr_frames.proofs.CalleesRead.{framed_at}
@@ -78,7 +78,7 @@ returns-in_err-paid c =
     let below = drop c.len.result s.operands in
     let enough = subst (λ n. top_many n s.operands ≡ Some (reverse results, below)) many c.in-Some-top_many.ensures.operands.0 in
     let failed = err_from_is_err_and c.from_residual.result c.from_residual.ensures.1 in
-    subst (λ (h : FramedProcedure). ret_rule h s (left c.from_residual.result)) found.is
+    subst (λ (h : FramedProcedure). ret_rule h s (last_verdict c.from_residual.result)) found.is
     (rw (failed.1, failed.2)
     (ret_on (framed_procedure q) s exit c.in-Some-first_forms.parameters.items results below (Breaks (broken_of _)) there known enough
     (paying_breaks s _ (λ paid. meeting_exit_with s exit c.in-Some-first_forms.parameters.items results) c.in_err-paid.ensures)))
@@ -100,13 +100,13 @@ returns-in-Ok c =
     let results = c.in-Some-top_many.results.items in
     let below = drop c.len.result s.operands in
     let enough = subst (λ n. top_many n s.operands ≡ Some (reverse results, below)) many c.in-Some-top_many.ensures.operands.0 in
-    let met : meeting_exit_with s exit c.in-Some-first_forms.parameters.items results Leaves =
-    subst (λ (e : FramedExit). meeting_exit_with s e c.in-Some-first_forms.parameters.items results Leaves) c.of-exit.ensures.exit
-    (subst (λ (fs : List Form). meeting_exit_with s c.of-exit.result fs results Leaves) c.as_slice.ensures.value
-    (subst (λ (fs : List Form). meeting_exit_with s c.of-exit.result c.as_slice.result.now fs Leaves) c.as_slice-2.ensures.value c.in-Ok.ensures)) in
-    subst (λ (h : FramedProcedure). ret_rule h s Leaves) found.is
-    (ret_on (framed_procedure q) s exit c.in-Some-first_forms.parameters.items results below Leaves there known enough
-    (paying_on s c.in_ok-paid.field-0 (λ paid. meeting_exit_with s exit c.in-Some-first_forms.parameters.items results) Leaves c.in_ok-paid.ensures met))
+    let met : meeting_exit_with s exit c.in-Some-first_forms.parameters.items results NoSuccessor =
+    subst (λ (e : FramedExit). meeting_exit_with s e c.in-Some-first_forms.parameters.items results NoSuccessor) c.of-exit.ensures.exit
+    (subst (λ (fs : List Form). meeting_exit_with s c.of-exit.result fs results NoSuccessor) c.as_slice.ensures.value
+    (subst (λ (fs : List Form). meeting_exit_with s c.of-exit.result c.as_slice.result.now fs NoSuccessor) c.as_slice-2.ensures.value c.in-Ok.ensures)) in
+    subst (λ (h : FramedProcedure). ret_rule h s NoSuccessor) found.is
+    (ret_on (framed_procedure q) s exit c.in-Some-first_forms.parameters.items results below NoSuccessor there known enough
+    (paying_on s c.in_ok-paid.field-0 (λ paid. meeting_exit_with s exit c.in-Some-first_forms.parameters.items results) NoSuccessor c.in_ok-paid.ensures met))
 
 pub returns-in-Err : goal.returns-in-Err
 returns-in-Err c =

@@ -2,10 +2,10 @@
 use Rattle.std.proofs.Common.{◌≡◌, ◌∙◌, ap, subst, List, ℤ}
 use Rattle.std.specs.Prelude.{All}
 use Rattle.burr_text.proofs.Common.Tests.{yes_of}
-use Rattle.burr_forms.specs.Conditions.{Region, Throughout, FailsFirstAt}
-use Rattle.burr_forms.specs.Forms.{Point, values}
-use Rattle.burr_frames.specs.Ranges.{AllInReach, LiesWithin}
-use Rattle.burr_frames.specs.States.{AbstractState, region_of}
+use Rattle.burr_forms.specs.Rules.Conditions.{Region, Throughout, FailsFirstAt}
+use Rattle.burr_forms.specs.Rules.Forms.{Point, values}
+use Rattle.burr_frames.specs.Views.Ranges.{AllInReach, LiesWithin}
+use Rattle.burr_frames.specs.Rules.States.{AbstractState, region_of}
 use Rattle.burr_frames.proofs.Reaches.{throughout_within}
 use Rattle.burr_frames.proofs.state.State.stays_within.Goals as goal
 

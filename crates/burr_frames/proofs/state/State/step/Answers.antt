@@ -2,14 +2,14 @@
 use Rattle.std.proofs.Common.{rules, ◌≡◌, ◌≢◌, ◌∙◌, List, ap, sym, subst, inr}
 use Rattle.std.proofs.lemmas.Result.{err_from_is_err_and}
 use Rattle.burr_code.specs.Places.{Placement}
-use Rattle.burr_assembly.specs.Homes.{homes_of}
+use Rattle.burr_assembly.specs.Rules.Homes.{homes_of}
 use Rattle.burr_blocking.specs.declared.query.Query.TheVariants as queries
-use Rattle.burr_container.specs.Plans.{FormCell}
+use Rattle.burr_container.specs.Rules.Plans.{FormCell}
 use Rattle.burr_frames.specs.declared.rule.Rule.TheVariants as rules_of
-use Rattle.burr_frames.specs.Breaks.{broken_of}
-use Rattle.burr_frames.specs.Changes.{at_cost, with_places}
-use Rattle.burr_frames.specs.SpaceRules.{OnBenchAt, PairAt, DoesNotOverlap, moved, AllSmallPlaces}
-use Rattle.burr_frames.specs.Verdicts.{Breaks, Falls, Leaves, falls, paying}
+use Rattle.burr_frames.specs.Views.Breaks.{broken_of}
+use Rattle.burr_frames.specs.Views.Changes.{at_cost, with_places}
+use Rattle.burr_frames.specs.Rules.SpaceRules.{OnBenchAt, PairAt, DoesNotOverlap, moved, AllSmallPlaces}
+use Rattle.burr_frames.specs.Rules.Verdicts.{Breaks, FallsThrough, NoSuccessor, falls_through, paying}
 use Rattle.burr_frames.proofs.GripLooks.{step_looks_on, step_looks_none, step_looks_large}
 use Rattle.burr_frames.proofs.MoveVerdicts.{Says, clear_on, clear_breaks}
 use Rattle.burr_frames.proofs.Paying.{paying_on, paying_breaks}
@@ -29,7 +29,7 @@ returns-in_err-goes_clear-clause-verdict g c =
       inr (
         subst AllSmallPlaces c.in-Ok.ensures.0 c.in-Ok.ensures.1,
         clear_breaks s (OnBenchAt new s.tray) (PairAt DoesNotOverlap homes new s.tray s.grip) rules_of.V18 rules_of.V15
-            (paying s λ paid. falls (with_places new paid)) (broken_of broken)
+            (paying s λ paid. falls_through (with_places new paid)) (broken_of broken)
             (subst (λ (places : List (Placement FormCell)). Says homes s places queries.Overlap rules_of.V15 (Breaks (broken_of broken)))
             (c.as_slice.ensures.value ∙ c.in-Ok.ensures.0) c.in_err-goes_clear.ensures.verdict),
       ),
@@ -49,10 +49,10 @@ returns-in_err-cost-clause-verdict g c =
       inr (
         subst AllSmallPlaces c.in-Ok.ensures.0 c.in-Ok.ensures.1,
         clear_on s (OnBenchAt new s.tray) (PairAt DoesNotOverlap homes new s.tray s.grip) rules_of.V18 rules_of.V15
-            (paying s λ paid. falls (with_places new paid)) (Breaks (broken_of broken))
-            (subst (λ (places : List (Placement FormCell)). Says homes s places queries.Overlap rules_of.V15 Leaves)
+            (paying s λ paid. falls_through (with_places new paid)) (Breaks (broken_of broken))
+            (subst (λ (places : List (Placement FormCell)). Says homes s places queries.Overlap rules_of.V15 NoSuccessor)
             (c.as_slice.ensures.value ∙ c.in-Ok.ensures.0) c.in_ok-goes_clear.ensures.verdict)
-            (paying_breaks s broken (λ paid. falls (with_places new paid)) c.in_err-cost.ensures),
+            (paying_breaks s broken (λ paid. falls_through (with_places new paid)) c.in_err-cost.ensures),
       ),
     ))
 
@@ -71,10 +71,10 @@ returns-clause-verdict g c =
       inr (
         subst AllSmallPlaces c.in-Ok.ensures.0 c.in-Ok.ensures.1,
         clear_on s (OnBenchAt new s.tray) (PairAt DoesNotOverlap homes new s.tray s.grip) rules_of.V18 rules_of.V15
-            (paying s λ paid. falls (with_places new paid)) (Falls c.set_places.new.self)
-            (subst (λ (places : List (Placement FormCell)). Says homes s places queries.Overlap rules_of.V15 Leaves)
+            (paying s λ paid. falls_through (with_places new paid)) (FallsThrough c.set_places.new.self)
+            (subst (λ (places : List (Placement FormCell)). Says homes s places queries.Overlap rules_of.V15 NoSuccessor)
             (c.as_slice.ensures.value ∙ c.in-Ok.ensures.0) c.in_ok-goes_clear.ensures.verdict)
-            (paying_on s cost (λ paid. falls (with_places new paid)) (Falls c.set_places.new.self) c.in_ok-cost.ensures (ap Falls changed)),
+            (paying_on s cost (λ paid. falls_through (with_places new paid)) (FallsThrough c.set_places.new.self) c.in_ok-cost.ensures (ap FallsThrough changed)),
       ),
     )
 

@@ -1,11 +1,11 @@
 -- The difference takes the place of the two operands.
 use Rattle.std.proofs.Common.{drop}
-use Rattle.burr_frames.specs.Breaks.{fallen}
+use Rattle.burr_frames.specs.Views.Breaks.{next_verdict}
 use Rattle.burr_frames.proofs.TopTwo.{difference_put}
 use Rattle.burr_frames.proofs.state.State.sub.Goals as goal
 
 pub returns-clause-verdict : goal.returns-clause-verdict
 returns-clause-verdict c =
     let s = c.args.self.now in
-    difference_put s _ _ c.in-Ok.difference (drop 2 s.operands) (fallen c.put_result.new.self c.put_result.result)
+    difference_put s _ _ c.in-Ok.difference (drop 2 s.operands) (next_verdict c.put_result.new.self c.put_result.result)
     c.in-Some.ensures.two.1 c.in-Ok.ensures.0 c.put_result.ensures.verdict

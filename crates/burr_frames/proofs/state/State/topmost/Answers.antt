@@ -1,6 +1,6 @@
 -- The topmost is small, as all are.
 use Rattle.std.proofs.Common.{◌-◌, ◌∙◌, sym, subst, length}
-use Rattle.burr_forms.specs.Forms.{AllSmallForms}
+use Rattle.burr_forms.specs.Rules.Forms.{AllSmallForms}
 use Rattle.burr_frames.proofs.Offsets.{small_reversed}
 use Rattle.burr_frames.proofs.Operands.{small_found}
 use Rattle.burr_frames.proofs.state.State.topmost.Goals as goal

@@ -1,7 +1,7 @@
 -- The two topmost are small, as all are.
 use Rattle.std.proofs.Common.{◌-◌, sym, subst, length, arith}
 use Rattle.std.proofs.lemmas.List.Elements.{All-get_or}
-use Rattle.burr_forms.specs.Forms.{IsSmallForm, AllSmallForms}
+use Rattle.burr_forms.specs.Rules.Forms.{IsSmallForm, AllSmallForms}
 use Rattle.burr_frames.proofs.Offsets.{small_reversed}
 use Rattle.burr_frames.proofs.state.State.two_topmost.Goals as goal
 

@@ -1,5 +1,5 @@
 use Rattle.std.proofs.Common.{◌≡◌, take}
-use Rattle.burr_forms.specs.Forms.{values}
+use Rattle.burr_forms.specs.Rules.Forms.{values}
 use Rattle.burr_frames.proofs.state.agreeing.are_values.Given as goal
 
 -- the first numbers are the values

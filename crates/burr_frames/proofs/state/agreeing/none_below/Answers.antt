@@ -2,7 +2,7 @@
 use Rattle.std.proofs.Common.{rules, ◌≡◌, ◌∙◌, ap, FitsSigned, w64, ℤ, slice_index_or, pos, to_z-of_z, true, false, List}
 use Rattle.std.specs.Prelude.{int_lt}
 use Rattle.burr_text.proofs.Common.Tests.{no_iff}
-use Rattle.burr_forms.specs.Forms.{value}
+use Rattle.burr_forms.specs.Rules.Forms.{value}
 use Rattle.burr_frames.proofs.Comparisons.{one_below, none_below_more}
 use Rattle.burr_frames.proofs.state.agreeing.none_below.Goals as goal
 

@@ -1,6 +1,6 @@
 use Rattle.std.proofs.Common.{take}
-use Rattle.burr_forms.specs.Forms.{values}
-use Rattle.burr_frames.specs.Comparing.{NoneBelow}
+use Rattle.burr_forms.specs.Rules.Forms.{values}
+use Rattle.burr_frames.specs.Views.Comparing.{NoneBelow}
 use Rattle.burr_frames.proofs.state.agreeing.none_below.Given as goal
 
 -- none of the first numbers is below

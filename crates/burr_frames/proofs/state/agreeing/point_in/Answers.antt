@@ -4,8 +4,8 @@ use Rattle.std.specs.Prelude.{int_lt}
 use Rattle.std.proofs.lemmas.Int.{ints}
 use Rattle.std.proofs.lemmas.List.{take_more}
 use Rattle.std.proofs.lemmas.List.Elements.{All-push}
-use Rattle.burr_forms.specs.Forms.{IsNear, AllNear}
-use Rattle.burr_forms.specs.Points.{IsRange, InRange}
+use Rattle.burr_forms.specs.Rules.Forms.{IsNear, AllNear}
+use Rattle.burr_forms.specs.Rules.Points.{IsRange, InRange}
 use Rattle.burr_frames.proofs.Comparisons.{one_outside, in_box_more, fits_near, near_in_range}
 use Rattle.burr_frames.proofs.state.agreeing.point_in.Goals as goal
 use Rattle.burr_frames.proofs.state.agreeing.point_in.Goals.{then-number-from-via-then-number-from, then-number-from-via-else-number-from+then-from-number}

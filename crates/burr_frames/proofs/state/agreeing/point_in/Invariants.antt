@@ -1,6 +1,6 @@
 use Rattle.std.proofs.Common.{◌≡◌, take}
-use Rattle.burr_forms.specs.Forms.{AllNear}
-use Rattle.burr_forms.specs.Points.{InBox}
+use Rattle.burr_forms.specs.Rules.Forms.{AllNear}
+use Rattle.burr_forms.specs.Rules.Points.{InBox}
 use Rattle.burr_frames.proofs.state.agreeing.point_in.Given as goal
 
 -- the first numbers are in their ranges

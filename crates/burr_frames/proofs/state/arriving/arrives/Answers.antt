@@ -1,12 +1,12 @@
 -- What is equal without regard to points first, and then the first disagreement.
 use Rattle.std.proofs.Common.{◌≡◌, ◌∙◌, ap, sym, subst, length, List, refl, inl, inr}
 use Rattle.burr_text.proofs.Common.Tests.{yes_of, no_of}
-use Rattle.burr_forms.specs.Forms.{Form}
-use Rattle.burr_container.specs.Refs.{frame_of}
-use Rattle.burr_frames.specs.FramedPlans.{framed}
-use Rattle.burr_frames.specs.States.{AbstractState, Everywhere, IsFirstFailing, state_of}
-use Rattle.burr_frames.specs.Arrival.{IsAlike}
-use Rattle.burr_frames.specs.ArrivalViews.{AgreesAtCostOf}
+use Rattle.burr_forms.specs.Rules.Forms.{Form}
+use Rattle.burr_container.specs.Views.Refs.{frame_of}
+use Rattle.burr_frames.specs.Rules.FramedPlans.{framed}
+use Rattle.burr_frames.specs.Rules.States.{AbstractState, Everywhere, IsFirstFailing, state_of}
+use Rattle.burr_frames.specs.Rules.Arrival.{IsAlike}
+use Rattle.burr_frames.specs.Views.ArrivalViews.{AgreesAtCostOf}
 use Rattle.burr_frames.proofs.LiveForms.{as_many_found}
 use Rattle.burr_frames.proofs.state.arriving.arrives.Goals as goal
 

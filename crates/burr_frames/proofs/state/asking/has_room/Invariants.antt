@@ -1,5 +1,5 @@
 use Rattle.std.proofs.Common.{◌≡◌, ◌*◌, ◌≤◌, drop}
-use Rattle.burr_forms.specs.Points.{box_size}
+use Rattle.burr_forms.specs.Rules.Points.{box_size}
 use Rattle.burr_frames.proofs.state.asking.has_room.Given as goal
 
 -- what is counted, and what is still to be

@@ -3,8 +3,8 @@ use Rattle.std.proofs.Common.{◌-◌, sym, subst, length, map, Some, None, List
 use Rattle.std.specs.Prelude.{replicate, All}
 use Rattle.std.proofs.lemmas.List.{length-map}
 use Rattle.std.proofs.lemmas.List.Elements.{All-nil, All-cons, All-head, All-tail, All-append, All-replicate}
-use Rattle.burr_forms.specs.Forms.{Form, IsSmallForm, AllSmallForms}
-use Rattle.burr_frames.specs.StateViews.{IsSmallSlot}
+use Rattle.burr_forms.specs.Rules.Forms.{Form, IsSmallForm, AllSmallForms}
+use Rattle.burr_frames.specs.Views.StateViews.{IsSmallSlot}
 use Rattle.burr_frames.proofs.CallArguments.{one_put, all_put, as_slot, slots_filled}
 use Rattle.burr_frames.proofs.state.calling.argument_slots.Goals as goal
 

@@ -1,7 +1,7 @@
 -- All numbers are the other way.
 use Rattle.std.proofs.Common.{◌≡◌, ap, length, arith}
 use Rattle.std.specs.Prelude.{map, neg_ℤ}
-use Rattle.burr_forms.specs.Forms.{Form}
+use Rattle.burr_forms.specs.Rules.Forms.{Form}
 use Rattle.burr_frames.proofs.Negatives.{negated_coefs, is_negated, small_negated}
 use Rattle.burr_frames.proofs.state.control.negated.Goals as goal
 

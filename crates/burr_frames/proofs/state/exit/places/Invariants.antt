@@ -1,5 +1,5 @@
-use Rattle.burr_frames.specs.Exits.{framed_ref}
-use Rattle.burr_frames.specs.SpaceRules.{AllSmallPlaces}
+use Rattle.burr_frames.specs.Views.Exits.{framed_ref}
+use Rattle.burr_frames.specs.Rules.SpaceRules.{AllSmallPlaces}
 use Rattle.burr_container.proofs.Common.ListsRead.{IsRead}
 use Rattle.burr_frames.proofs.state.exit.places.Given as goal
 

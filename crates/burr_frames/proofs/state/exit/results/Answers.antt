@@ -4,9 +4,9 @@ use Rattle.std.specs.Prelude.{FitsSigned}
 use Rattle.std.specs.Int.{w16, w32}
 use Rattle.std.proofs.lemmas.Int.{to_z-of_z}
 use Rattle.std.proofs.lemmas.List.Elements.{All-push}
-use Rattle.burr_forms.specs.Points.{IsRange, AreRanges}
-use Rattle.burr_container.specs.Plans.{Range}
-use Rattle.burr_container.specs.Refs.{exit_frame_of}
+use Rattle.burr_forms.specs.Rules.Points.{IsRange, AreRanges}
+use Rattle.burr_container.specs.Rules.Plans.{Range}
+use Rattle.burr_container.specs.Views.Refs.{exit_frame_of}
 use Rattle.burr_container.proofs.Common.ListsRead.{IsRead, read_on}
 use Rattle.burr_frames.proofs.state.exit.results.Goals as goal
 

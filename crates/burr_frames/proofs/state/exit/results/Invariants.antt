@@ -1,5 +1,5 @@
-use Rattle.burr_forms.specs.Points.{AreRanges}
-use Rattle.burr_container.specs.Refs.{exit_frame_of}
+use Rattle.burr_forms.specs.Rules.Points.{AreRanges}
+use Rattle.burr_container.specs.Views.Refs.{exit_frame_of}
 use Rattle.burr_container.proofs.Common.ListsRead.{IsRead}
 use Rattle.burr_frames.proofs.state.exit.results.Given as goal
 

@@ -1,5 +1,5 @@
 use Rattle.std.proofs.Common.{◌≡◌, take, map}
-use Rattle.burr_forms.specs.Forms.{value}
+use Rattle.burr_forms.specs.Rules.Forms.{value}
 use Rattle.burr_frames.proofs.state.exiting.are_values_at.Given as goal
 
 -- the first numbers are the values

@@ -3,9 +3,9 @@ use Rattle.std.proofs.Common.{◌≡◌, ◌+◌, arith, sym, subst, ap, ◌∙�
 use Rattle.std.specs.Prelude.{map}
 use Rattle.std.proofs.lemmas.List.{length-map}
 use Rattle.burr_code.specs.Places.{Placement}
-use Rattle.burr_container.specs.Plans.{FormCell, live_slots, place_over_symbols}
-use Rattle.burr_container.specs.Refs.{frame_of, told}
-use Rattle.burr_frames.specs.SpaceRules.{AllSmallPlaces}
+use Rattle.burr_container.specs.Rules.Plans.{FormCell, live_slots, place_over_symbols}
+use Rattle.burr_container.specs.Views.Refs.{frame_of, placement_view}
+use Rattle.burr_frames.specs.Rules.SpaceRules.{AllSmallPlaces}
 use Rattle.burr_container.proofs.Common.ListsRead.{IsRead, read_on, all_read}
 use Rattle.burr_frames.proofs.PlacesRead.{small_push}
 use Rattle.burr_frames.proofs.state.framing.places.Goals as goal
@@ -13,7 +13,7 @@ use Rattle.burr_frames.proofs.state.framing.places.Goals as goal
 pub loop-p-preserved : goal.loop-p-preserved
 loop-p-preserved c =
     let before = c.loop-p.places.items in
-    let element = told c.place.result in
+    let element = placement_view c.place.result in
     let whole = map (place_over_symbols (live_slots c.args.frame.now.slots)) (frame_of c.args.frame.now).places in
     let items : c.push.new.self.items ≡ before ++ element ∷ [] = c.push.ensures.items ∙ ap (λ (e : Placement FormCell). before ++ e ∷ []) c.at.ensures in
     record {

@@ -1,7 +1,7 @@
 use Rattle.std.specs.Prelude.{map}
-use Rattle.burr_container.specs.Plans.{live_slots, place_over_symbols}
-use Rattle.burr_container.specs.Refs.{frame_of}
-use Rattle.burr_frames.specs.SpaceRules.{AllSmallPlaces}
+use Rattle.burr_container.specs.Rules.Plans.{live_slots, place_over_symbols}
+use Rattle.burr_container.specs.Views.Refs.{frame_of}
+use Rattle.burr_frames.specs.Rules.SpaceRules.{AllSmallPlaces}
 use Rattle.burr_container.proofs.Common.ListsRead.{IsRead}
 use Rattle.burr_frames.proofs.state.framing.places.Given as goal
 

@@ -1,7 +1,7 @@
 use Rattle.std.proofs.Common.{◌≡◌, ◌≤◌, ◌++◌, length, drop}
-use Rattle.burr_forms.specs.Points.{AreRanges}
-use Rattle.burr_container.specs.Refs.{frame_of}
-use Rattle.burr_frames.specs.States.{live_ranges}
+use Rattle.burr_forms.specs.Rules.Points.{AreRanges}
+use Rattle.burr_container.specs.Views.Refs.{frame_of}
+use Rattle.burr_frames.specs.Rules.States.{live_ranges}
 use Rattle.burr_frames.proofs.state.framing.ranges.Given as goal
 
 -- the ranges of the slots so far, and then those of the others

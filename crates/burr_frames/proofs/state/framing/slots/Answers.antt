@@ -1,9 +1,9 @@
 -- A live slot has the next symbol.
 use Rattle.std.proofs.Common.{rules, ◌≡◌, ◌+◌, ◌∙◌, ap, sym, subst, Some, None, ℕ, set, length, arith}
 use Rattle.std.proofs.lemmas.List.Elements.{All-set, All-replicate}
-use Rattle.burr_forms.specs.Forms.{Form, symbol}
-use Rattle.burr_container.specs.Refs.{frame_of}
-use Rattle.burr_frames.specs.StateViews.{IsSmallSlot}
+use Rattle.burr_forms.specs.Rules.Forms.{Form, symbol}
+use Rattle.burr_container.specs.Views.Refs.{frame_of}
+use Rattle.burr_frames.specs.Views.StateViews.{IsSmallSlot}
 use Rattle.burr_frames.proofs.Numbering.{IsNumbered, none_numbered, passed, given, all_numbered, none_of, some_of}
 use Rattle.burr_frames.proofs.state.framing.slots.Goals as goal
 

@@ -1,7 +1,7 @@
 use Rattle.std.proofs.Common.{◌≤◌}
 use Rattle.std.specs.Prelude.{All}
-use Rattle.burr_container.specs.Refs.{frame_of}
-use Rattle.burr_frames.specs.StateViews.{IsSmallSlot}
+use Rattle.burr_container.specs.Views.Refs.{frame_of}
+use Rattle.burr_frames.specs.Views.StateViews.{IsSmallSlot}
 use Rattle.burr_frames.proofs.Numbering.{IsNumbered}
 use Rattle.burr_frames.proofs.state.framing.slots.Given as goal
 

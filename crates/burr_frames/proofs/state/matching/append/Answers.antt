@@ -2,7 +2,7 @@
 use Rattle.std.proofs.Common.{◌∙◌, ap, sym, subst, List, [], ◌∷◌, ◌++◌, take, append_assoc}
 use Rattle.std.proofs.lemmas.List.{take_more}
 use Rattle.std.proofs.lemmas.List.Elements.{All-push}
-use Rattle.burr_forms.specs.Forms.{Form, IsSmallForm, AllSmallForms}
+use Rattle.burr_forms.specs.Rules.Forms.{Form, IsSmallForm, AllSmallForms}
 use Rattle.burr_frames.proofs.state.matching.append.Goals as goal
 
 pub loop-form-preserved : goal.loop-form-preserved

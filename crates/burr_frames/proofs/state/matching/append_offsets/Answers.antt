@@ -2,9 +2,9 @@
 use Rattle.std.proofs.Common.{◌≡◌, ◌∙◌, ap, sym, subst, List, [], ◌∷◌, ◌++◌, length, take, append_assoc, arith}
 use Rattle.std.proofs.lemmas.List.{length-append}
 use Rattle.burr_code.specs.Places.{Placement}
-use Rattle.burr_forms.specs.Forms.{Form, AllSmallForms}
-use Rattle.burr_container.specs.Plans.{FormCell}
-use Rattle.burr_frames.specs.Comparing.{offset_forms}
+use Rattle.burr_forms.specs.Rules.Forms.{Form, AllSmallForms}
+use Rattle.burr_container.specs.Rules.Plans.{FormCell}
+use Rattle.burr_frames.specs.Views.Comparing.{offset_forms}
 use Rattle.burr_frames.proofs.Offsets.{offsets_more, small_offset_at, three_at_most}
 use Rattle.burr_frames.proofs.state.matching.append_offsets.Goals as goal
 

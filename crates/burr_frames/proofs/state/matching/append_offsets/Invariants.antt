@@ -1,9 +1,9 @@
 use Rattle.std.proofs.Common.{◌≡◌, ◌≤◌, ◌+◌, ◌*◌, ◌++◌, take, length}
-use Rattle.burr_forms.specs.Forms.{AllSmallForms}
-use Rattle.burr_frames.specs.Comparing.{offset_forms}
+use Rattle.burr_forms.specs.Rules.Forms.{AllSmallForms}
+use Rattle.burr_frames.specs.Views.Comparing.{offset_forms}
 use Rattle.burr_frames.proofs.state.matching.append_offsets.Given as goal
 
--- the first places' forms are put behind
+-- the first places' forms are put after
 abbrev pub invariant-loop-piece : goal.invariant-loop-piece
 invariant-loop-piece l = record {
   forms : l.forms.items ≡ l.fn.forms.items ++ offset_forms (take l.piece l.places);

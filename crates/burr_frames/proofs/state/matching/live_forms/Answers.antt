@@ -3,11 +3,11 @@ use Rattle.std.proofs.Common.{rules, ◌≡◌, ◌+◌, ◌∙◌, ap, sym, sub
 use Rattle.std.proofs.lemmas.Option.{get_or_from_slice_get}
 use Rattle.std.proofs.lemmas.List.{length_push}
 use Rattle.std.proofs.lemmas.List.Elements.{All-push}
-use Rattle.burr_forms.specs.Forms.{Form, IsSmallForm, AllSmallForms}
-use Rattle.burr_container.specs.Refs.{frame_of}
-use Rattle.burr_frames.specs.StateViews.{IsSmallSlot}
+use Rattle.burr_forms.specs.Rules.Forms.{Form, IsSmallForm, AllSmallForms}
+use Rattle.burr_container.specs.Views.Refs.{frame_of}
+use Rattle.burr_frames.specs.Views.StateViews.{IsSmallSlot}
 use Rattle.burr_frames.proofs.Numbering.{none_of, some_of}
-use Rattle.burr_frames.proofs.LiveForms.{found_behind, found_not_live, found_live, found_nothing, found_all, known_at}
+use Rattle.burr_frames.proofs.LiveForms.{found_after, found_not_live, found_live, found_nothing, found_all, known_at}
 use Rattle.burr_frames.proofs.state.matching.live_forms.Goals as goal
 
 pub loop-v-preserved-then-is_none : goal.loop-v-preserved-then-is_none
@@ -39,7 +39,7 @@ loop-v-preserved c =
     let small : IsSmallForm form = subst IsSmallSlot here (c.requires c.loop-v.v None (omega (arith, c.type_inv.slots, c.loop-v-test.true))) in
     let items : c.push.new.self.items ≡ before ++ form ∷ [] = c.push.ensures.items in
     record {
-      is = ap (λ (fs : List Form). found_behind fs (c.loop-v.v + 1) (frame_of c.args.frame.now).slots known) items
+      is = ap (λ (fs : List Form). found_after fs (c.loop-v.v + 1) (frame_of c.args.frame.now).slots known) items
           ∙ found_live before c.loop-v.v (frame_of c.args.frame.now).slots known some.0 form (c.slot.ensures.slot ∙ ap Some some.1) c.in-Some.ensures ∙ old.is;
       small = subst AllSmallForms (sym items) (All-push IsSmallForm before form old.small small);
       few = omega (arith, ap (length {A = Form}) items, length_push before form, old.few);

@@ -1,6 +1,6 @@
 use Rattle.std.proofs.Common.{◌≡◌, ◌++◌, length, drop}
 use Rattle.burr_code.specs.Places.{changed, at_position}
-use Rattle.burr_frames.specs.SpaceRules.{moved, moved_forms, AllSmallPlaces}
+use Rattle.burr_frames.specs.Rules.SpaceRules.{moved, moved_forms, AllSmallPlaces}
 use Rattle.burr_frames.proofs.state.places.moved_places.Given as goal
 
 -- those that are moved, and those to come

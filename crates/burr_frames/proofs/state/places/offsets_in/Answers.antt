@@ -3,9 +3,9 @@ use Rattle.std.proofs.Common.{rules, ◌≡◌, ◌∙◌, ap, sym, subst, List,
 use Rattle.std.proofs.lemmas.List.{length-append}
 use Rattle.std.proofs.lemmas.List.Elements.{All-append}
 use Rattle.burr_code.specs.Places.{Placement}
-use Rattle.burr_container.specs.Plans.{FormCell}
-use Rattle.burr_forms.specs.Forms.{Form, IsSmallForm, AllSmallForms}
-use Rattle.burr_frames.specs.SpaceRules.{AllSmallPlaces}
+use Rattle.burr_container.specs.Rules.Plans.{FormCell}
+use Rattle.burr_forms.specs.Rules.Forms.{Form, IsSmallForm, AllSmallForms}
+use Rattle.burr_frames.specs.Rules.SpaceRules.{AllSmallPlaces}
 use Rattle.burr_frames.proofs.MovedPlaces.{small_place_at, small_offset_in, offsets_one_more, three_forms, three_pushed}
 use Rattle.burr_frames.proofs.state.places.offsets_in.Goals as goal
 

@@ -1,6 +1,6 @@
 use Rattle.std.proofs.Common.{◌≡◌, ◌*◌, ◌++◌, length, drop}
-use Rattle.burr_forms.specs.Forms.{AllSmallForms}
-use Rattle.burr_frames.specs.Clearing.{offsets_in}
+use Rattle.burr_forms.specs.Rules.Forms.{AllSmallForms}
+use Rattle.burr_frames.specs.Views.Clearing.{offsets_in}
 use Rattle.burr_frames.proofs.state.places.offsets_in.Given as goal
 
 -- the forms of the first pieces, and those to come

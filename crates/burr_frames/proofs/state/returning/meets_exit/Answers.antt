@@ -2,10 +2,10 @@
 use Rattle.std.proofs.Common.{◌≡◌, ◌∙◌, ℕ, List, length, drop, ap, subst, Some}
 use Rattle.std.specs.Prelude.{reverse}
 use Rattle.burr_code.specs.Stacks.{top_many}
-use Rattle.burr_forms.specs.Forms.{Form}
+use Rattle.burr_forms.specs.Rules.Forms.{Form}
 use Rattle.burr_frames.specs.declared.rule.Rule.TheVariants as rules
-use Rattle.burr_frames.specs.FramedPlans.{FramedExit}
-use Rattle.burr_frames.specs.Exits.{framed_ref, meeting_exit_with, miss_verdict}
+use Rattle.burr_frames.specs.Rules.FramedPlans.{FramedExit}
+use Rattle.burr_frames.specs.Views.Exits.{framed_ref, meeting_exit_with, miss_verdict}
 use Rattle.burr_frames.proofs.CallReturns.{meeting_exit_on}
 use Rattle.burr_frames.proofs.state.returning.meets_exit.Goals as goal
 

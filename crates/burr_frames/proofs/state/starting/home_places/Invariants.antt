@@ -2,8 +2,8 @@
 use Rattle.std.proofs.Common.{◌≡◌}
 use Rattle.std.specs.Prelude.{replicate}
 use Rattle.burr_code.specs.Places.{On}
-use Rattle.burr_frames.specs.SpaceRules.{AllSmallPlaces}
-use Rattle.burr_frames.specs.Starts.{home_position}
+use Rattle.burr_frames.specs.Rules.SpaceRules.{AllSmallPlaces}
+use Rattle.burr_frames.specs.Rules.Starts.{home_position}
 use Rattle.burr_frames.proofs.state.starting.home_places.Given as goal
 
 abbrev pub invariant-loop : goal.invariant-loop

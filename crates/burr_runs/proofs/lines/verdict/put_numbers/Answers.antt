@@ -1,10 +1,10 @@
--- A number more behind its space.
+-- A number more after its space.
 use Rattle.std.proofs.Common.{rules, FitsSigned, w32, to_z-of_z, ◌≡◌, ℕ, ◌+◌, ◌<◌, ◌≤◌, ℤ, pos, List, [], ◌∷◌, ◌++◌, length, drop, get_or, ap, add-one, drop-cons}
 use Rattle.std.proofs.Math.ListN.{drop_of_length-le}
 use Rattle.std.specs.Prelude.{codes}
 use Rattle.std.specs.Fmt.{signed_decimal}
 use Rattle.burr_io.proofs.Common.Puts.{Puts-more, Puts-fails, Puts-nothing}
-use Rattle.burr_runs.specs.Verdicts.{numbers_part}
+use Rattle.burr_runs.specs.Rules.Verdicts.{numbers_part}
 use Rattle.burr_runs.proofs.lines.verdict.put_numbers.Goals as goal
 
 next_part : (numbers : List ℤ) (i : ℕ) → i < length numbers

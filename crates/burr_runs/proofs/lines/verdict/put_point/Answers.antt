@@ -3,7 +3,7 @@ use Rattle.std.proofs.Common.{◌≡◌, false, ℤ, ◌++◌, length, Some, ref
 use Rattle.std.specs.Prelude.{◌==◌, codes}
 use Rattle.arrayvec.specs.ArrayVec.{ArrayVec}
 use Rattle.burr_io.proofs.Common.Puts.{Puts-more, Puts-fails}
-use Rattle.burr_runs.specs.Verdicts.{point_part, numbers_part}
+use Rattle.burr_runs.specs.Rules.Verdicts.{point_part, numbers_part}
 use Rattle.burr_runs.proofs.lines.verdict.put_point.Goals as goal
 
 -- a point that has a number is put as its word and its numbers

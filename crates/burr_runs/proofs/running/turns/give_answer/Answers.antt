@@ -1,6 +1,6 @@
 use Rattle.std.proofs.Common.{◌≡◌, ◌∷◌, rules, to_z, of_z, w32, subst, Some, ℤ}
-use Rattle.burr_state.specs.Step.{Called}
-use Rattle.burr_state.specs.Benches.{setup_of}
+use Rattle.burr_state.specs.Rules.Step.{Called}
+use Rattle.burr_state.specs.Views.Benches.{setup_of}
 use Rattle.burr_runs.proofs.StepByStep.{answer_given}
 use Rattle.burr_runs.proofs.running.turns.give_answer.Goals as goal
 

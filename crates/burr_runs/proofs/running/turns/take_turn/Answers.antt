@@ -4,11 +4,11 @@ use Rattle.std.proofs.KnownBytes.{Appends-nil}
 use Rattle.burr_state.specs.declared.motion.Motion.{Motion}
 use Rattle.burr_state.specs.declared.progress.Progress.{Progress}
 use Rattle.burr_state.specs.declared.progress.Progress.TheVariants.{Went}
-use Rattle.burr_state.specs.Benches.{Benched, GoesOn, motion_in, setup_of}
-use Rattle.burr_state.specs.Next.{Goes}
+use Rattle.burr_state.specs.Views.Benches.{Benched, GoesOn, motion_in, setup_of}
+use Rattle.burr_state.specs.Rules.Next.{Goes}
 use Rattle.burr_state.proofs.Common.Calls.{Tells, tells}
 use Rattle.burr_state.proofs.Common.Leading.{leads_from}
-use Rattle.burr_runs.specs.Running.{AnswerIs}
+use Rattle.burr_runs.specs.Views.Running.{AnswerIs}
 use Rattle.burr_text.proofs.Common.Tests.{on_err}
 use Rattle.burr_runs.proofs.StepByStep.{leads_motion, leads_still, under_way, fails_at_motion, in_step_still, in_step_motion, one_step_less, trapped_run, unchanged, asked_turn}
 use Rattle.burr_runs.proofs.running.turns.take_turn.Goals as goal

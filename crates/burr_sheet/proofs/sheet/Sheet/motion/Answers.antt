@@ -1,6 +1,6 @@
 use Rattle.std.proofs.Common.{Some, false, refl}
-use Rattle.burr_sheet.specs.SheetUnderWay.{UnderWay, move_line_of}
-use Rattle.burr_sheet.specs.SheetView.{under_way}
+use Rattle.burr_sheet.specs.Views.SheetUnderWay.{UnderWay, move_line_of}
+use Rattle.burr_sheet.specs.Views.SheetView.{under_way}
 use Rattle.burr_text.proofs.Common.Tests.{on_err}
 use Rattle.burr_sheet.proofs.Motions.{PutsMotion-step, PutsMotion-out, FailsInMotion-out}
 use Rattle.burr_sheet.proofs.sheet.Sheet.motion.Goals as goal

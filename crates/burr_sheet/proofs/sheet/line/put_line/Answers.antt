@@ -1,5 +1,5 @@
 use Rattle.burr_io.proofs.Common.Puts.{Puts-more, Puts-fails}
-use Rattle.burr_sheet.specs.SheetUnderWay.{move_line_of}
+use Rattle.burr_sheet.specs.Views.SheetUnderWay.{move_line_of}
 use Rattle.burr_sheet.proofs.LineWords.{move_line-parts}
 use Rattle.burr_sheet.proofs.sheet.line.put_line.Goals as goal
 

@@ -1,8 +1,8 @@
 use Rattle.std.proofs.Common.{append-nil, arith}
 use Rattle.std.proofs.lemmas.List.{drop_all, length-map}
 use Rattle.std.specs.List.{join_with_byte}
-use Rattle.burr_assembly.specs.Homes.{names_of}
-use Rattle.burr_sheet.specs.SheetText.{names_from}
+use Rattle.burr_assembly.specs.Rules.Homes.{names_of}
+use Rattle.burr_sheet.specs.Rules.SheetText.{names_from}
 use Rattle.burr_text.proofs.Common.Tests.{yes_of, no_of}
 use Rattle.burr_io.proofs.Common.Puts.{Puts-nothing, Puts-more, Puts-fails, joined-join}
 use Rattle.burr_sheet.proofs.LineWords.{names_from-in, names_from-out}

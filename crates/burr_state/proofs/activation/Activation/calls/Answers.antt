@@ -2,8 +2,8 @@
 use Rattle.std.proofs.Common.{rules, ◌≡◌, ◌≤◌, ◌-◌, ◌+◌, ℤ, List, [], length, drop, take, reverse, sym, ap, ◌∙◌, arith}
 use Rattle.std.proofs.lemmas.List.{length-reverse, length-take-le}
 use Rattle.burr_code.specs.Labels.{argument_slots}
-use Rattle.burr_state.specs.Bench.{activation}
-use Rattle.burr_state.specs.Effects.{slots_with}
+use Rattle.burr_state.specs.Rules.Bench.{activation}
+use Rattle.burr_state.specs.Views.Effects.{slots_with}
 use Rattle.burr_state.proofs.Operands.{top_many_of, slots_of_arguments, drop_reverse, cut_at_end}
 use Rattle.burr_state.proofs.activation.Activation.calls.Goals as goal
 

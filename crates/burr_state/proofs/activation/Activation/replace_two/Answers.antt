@@ -2,7 +2,7 @@ use Rattle.std.proofs.Common.{◌≡◌, ◌≤◌, ◌∷◌, [], ◌++◌, ◌
 use Rattle.std.specs.Int.{w32}
 use Rattle.std.proofs.lemmas.Int.{to_z-of_z}
 use Rattle.std.proofs.lemmas.List.{length-reverse}
-use Rattle.burr_state.specs.Bench.{Activation, activation}
+use Rattle.burr_state.specs.Rules.Bench.{Activation, activation}
 use Rattle.burr_state.proofs.Operands.{replaced}
 use Rattle.burr_state.proofs.activation.Activation.replace_two.Goals as goal
 

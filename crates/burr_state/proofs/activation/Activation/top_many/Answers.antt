@@ -1,6 +1,6 @@
 -- The last of the operands are the topmost.
 use Rattle.std.proofs.Common.{rules, ◌≡◌, ◌≤◌, ◌-◌, ◌∙◌, ℤ, List, ap, take, drop, length}
-use Rattle.burr_state.specs.Bench.{Activation}
+use Rattle.burr_state.specs.Rules.Bench.{Activation}
 use Rattle.burr_state.proofs.Operands.{topmost_given, cut_at_end}
 use Rattle.burr_state.proofs.activation.Activation.top_many.Goals as goal
 

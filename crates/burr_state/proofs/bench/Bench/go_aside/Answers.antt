@@ -1,5 +1,5 @@
 use Rattle.std.proofs.Common.{ap}
-use Rattle.burr_state.specs.Bench.{BenchState}
+use Rattle.burr_state.specs.Rules.Bench.{BenchState}
 use Rattle.burr_state.proofs.Common.Stepping.Calls.{fits_within}
 use Rattle.burr_state.proofs.bench.Bench.go_aside.Goals as goal
 

@@ -1,7 +1,7 @@
 use Rattle.std.proofs.Common.{ap, subst, sym}
-use Rattle.burr_state.specs.Bench.{BenchState}
-use Rattle.burr_state.specs.StateViews.{StaysOnBench}
-use Rattle.burr_state.specs.Work.{Work}
+use Rattle.burr_state.specs.Rules.Bench.{BenchState}
+use Rattle.burr_state.specs.Views.StateViews.{StaysOnBench}
+use Rattle.burr_state.specs.Views.Work.{Work}
 use Rattle.burr_state.proofs.Common.Stepping.Calls.{fits_within}
 use Rattle.burr_state.proofs.bench.Bench.move_grip.Goals as goal
 

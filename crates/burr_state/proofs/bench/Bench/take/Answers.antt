@@ -5,8 +5,8 @@ use Rattle.std.proofs.lemmas.Int.{to_z-of_z}
 use Rattle.burr_code.specs.declared.instr.Instr.{Instr}
 use Rattle.burr_code.specs.Instruction.{Ask, Pick, StandsAt}
 use Rattle.burr_code.specs.Meaning.{meaning}
-use Rattle.burr_state.specs.Bench.{running}
-use Rattle.burr_state.specs.Effects.{TakesNumber, TakesLabel}
+use Rattle.burr_state.specs.Rules.Bench.{running}
+use Rattle.burr_state.specs.Views.Effects.{TakesNumber, TakesLabel}
 use Rattle.burr_state.proofs.Common.Stepping.Calls.{fits_within}
 use Rattle.burr_state.proofs.Common.Stepping.Steps.{is_at}
 use Rattle.burr_state.proofs.Common.Stepping.Questions.{AsksNothing, unfit_at, number_answered, label_answered}

@@ -1,4 +1,4 @@
-use Rattle.burr_state.specs.Programs.{HasFirstLabels}
+use Rattle.burr_state.specs.Views.Programs.{HasFirstLabels}
 use Rattle.burr_state.proofs.program.Procedure.has_labels.Given as goal
 
 -- the labels so far are there

@@ -1,6 +1,6 @@
 use Rattle.std.proofs.Common.{rules, ◌≡◌, ◌<◌, ℕ, List, length, map, ◌∙◌, ap, subst}
-use Rattle.burr_state.specs.Bench.{BenchProcedure}
-use Rattle.burr_state.specs.Programs.{bench_procedure, program_of}
+use Rattle.burr_state.specs.Rules.Bench.{BenchProcedure}
+use Rattle.burr_state.specs.Views.Programs.{bench_procedure, program_of}
 use Rattle.burr_state.proofs.Programs.{made_next, made_all, some_at}
 use Rattle.burr_state.proofs.program.Program.of.Goals as goal
 

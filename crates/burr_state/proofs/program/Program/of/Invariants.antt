@@ -1,7 +1,7 @@
 use Rattle.std.specs.Prelude.{◌≡◌, length, take, map}
-use Rattle.burr_container.specs.Plans.{Plan}
-use Rattle.burr_container.specs.Containers.{IsContainer}
-use Rattle.burr_state.specs.Programs.{bench_procedure}
+use Rattle.burr_container.specs.Rules.Plans.{Plan}
+use Rattle.burr_container.specs.Views.Containers.{IsContainer}
+use Rattle.burr_state.specs.Views.Programs.{bench_procedure}
 use Rattle.burr_state.proofs.program.Program.of.Given as goal
 
 -- the procedures so far

@@ -1,5 +1,5 @@
 use Rattle.std.proofs.Common.{rules, ◌≡◌, ◌<◌, ℕ, length, ◌∙◌, subst}
-use Rattle.burr_container.specs.Plans.{Frame}
+use Rattle.burr_container.specs.Rules.Plans.{Frame}
 use Rattle.burr_state.proofs.Programs.{made_next, made_all, some_at}
 use Rattle.burr_state.proofs.program.reading.label_positions.Goals as goal
 

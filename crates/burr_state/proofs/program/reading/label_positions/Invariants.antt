@@ -1,6 +1,6 @@
 use Rattle.std.specs.Prelude.{◌≡◌, length, take}
-use Rattle.burr_container.specs.Containers.{OfProcedure}
-use Rattle.burr_state.specs.Programs.{positions_of}
+use Rattle.burr_container.specs.Views.Containers.{OfProcedure}
+use Rattle.burr_state.specs.Views.Programs.{positions_of}
 use Rattle.burr_state.proofs.program.reading.label_positions.Given as goal
 
 -- the positions of the labels so far

@@ -4,10 +4,10 @@ use Rattle.std.proofs.lemmas.List.{length-reverse}
 use Rattle.std.proofs.lemmas.Option.{slice_get_within}
 use Rattle.std.proofs.lemmas.Result.{err_from_is_err_and}
 use Rattle.burr_code.specs.Labels.{callee_of}
-use Rattle.burr_state.specs.Bench.{Activation, BenchState, running}
-use Rattle.burr_state.specs.Effects.{IsCalledFor, CannotBeCalled}
-use Rattle.burr_state.specs.Programs.{HasRoomFor, FitsProgram}
-use Rattle.burr_state.specs.StateViews.{standing}
+use Rattle.burr_state.specs.Rules.Bench.{Activation, BenchState, running}
+use Rattle.burr_state.specs.Views.Effects.{IsCalledFor, CannotBeCalled}
+use Rattle.burr_state.specs.Views.Programs.{HasRoomFor, FitsProgram}
+use Rattle.burr_state.specs.Views.StateViews.{standing}
 use Rattle.burr_state.proofs.Operands.{reverse_snoc}
 use Rattle.burr_state.proofs.Common.Stepping.Callers.{chain_depth}
 use Rattle.burr_state.proofs.Common.Stepping.Calls.{cannot_call, called_on, fits_called}

@@ -1,5 +1,5 @@
 use Rattle.std.proofs.Common.{rules, ◌≡◌, ◌≤◌, ◌≤ℤ◌, pos, Some, None, sym, subst, refl, inl, inr, ◌∙◌, get_or}
-use Rattle.burr_state.specs.Bench.{BenchState}
+use Rattle.burr_state.specs.Rules.Bench.{BenchState}
 use Rattle.burr_state.proofs.state.BenchState.down.Goals as goal
 
 pub returns-then-count-lt0-clause-next : goal.returns-then-count-lt0-clause-next

@@ -1,9 +1,9 @@
 use Rattle.std.proofs.Common.{sym, subst, List}
 use Rattle.burr_code.specs.Places.{AllLieIn}
-use Rattle.burr_state.specs.Bench.{BenchProcedure, BenchState}
-use Rattle.burr_state.specs.Effects.{StaysPut, StaysWithin, StaysFitting, PiecesStay, CallerHasRoom}
-use Rattle.burr_state.specs.Programs.{FitsProgram}
-use Rattle.burr_state.specs.StateViews.{IsCallChain}
+use Rattle.burr_state.specs.Rules.Bench.{BenchProcedure, BenchState}
+use Rattle.burr_state.specs.Views.Effects.{StaysPut, StaysWithin, StaysFitting, PiecesStay, CallerHasRoom}
+use Rattle.burr_state.specs.Views.Programs.{FitsProgram}
+use Rattle.burr_state.specs.Views.StateViews.{IsCallChain}
 use Rattle.burr_state.proofs.Common.Stepping.Calls.{fits_within, caller_has_room, fits_returning}
 use Rattle.burr_state.proofs.state.BenchState.execute.Goals as goal
 

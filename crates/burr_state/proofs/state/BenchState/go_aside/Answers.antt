@@ -1,7 +1,7 @@
 use Rattle.std.proofs.Common.{◌∙◌, refl, ap, reverse}
 use Rattle.burr_code.specs.Places.{aside_places}
-use Rattle.burr_state.specs.Bench.{BenchState}
-use Rattle.burr_state.specs.StateViews.{standing, behind}
+use Rattle.burr_state.specs.Rules.Bench.{BenchState}
+use Rattle.burr_state.specs.Views.StateViews.{standing, after}
 use Rattle.burr_state.proofs.Common.Stepping.Steps.{orderly_aside, refilled}
 use Rattle.burr_state.proofs.Common.Trays.Parts.{length-aside_places}
 use Rattle.burr_state.proofs.state.BenchState.go_aside.Goals as goal
@@ -14,6 +14,6 @@ invariant_of-self c =
 pub returns : goal.returns
 returns c =
     let moved = refilled c.self.inside.places.items c.take_aside.new.places _ (rw (c.take_aside.ensures, c.as_mut_slice.ensures.value) refl) (length-aside_places c.self.inside.grip c.self.inside.tray c.args.tray c.self.inside.places.items) in
-    c.go_behind.ensures
-    ∙ ap (λ places. behind c.args.size (standing places c.self.inside.tray 0 c.self.inside.running (reverse c.self.inside.callers.items) c.self.inside.steps c.self.inside.mode)) moved
-    ∙ ap (λ (s : BenchState). record (behind c.args.size s) { places = aside_places s.grip s.tray c.args.tray s.places; grip = 0 }) c.self.view_is
+    c.go_after.ensures
+    ∙ ap (λ places. after c.args.size (standing places c.self.inside.tray 0 c.self.inside.running (reverse c.self.inside.callers.items) c.self.inside.steps c.self.inside.mode)) moved
+    ∙ ap (λ (s : BenchState). record (after c.args.size s) { places = aside_places s.grip s.tray c.args.tray s.places; grip = 0 }) c.self.view_is

@@ -1,6 +1,6 @@
 use Rattle.std.proofs.Common.{sym, subst, IsTrue, ◌↔◌}
 use Rattle.burr_code.specs.Places.{IsEmptyTray}
-use Rattle.burr_state.specs.Bench.{BenchState}
+use Rattle.burr_state.specs.Rules.Bench.{BenchState}
 use Rattle.burr_state.proofs.state.BenchState.is_empty.Goals as goal
 
 pub returns : goal.returns

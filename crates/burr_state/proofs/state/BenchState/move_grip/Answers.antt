@@ -1,6 +1,6 @@
 use Rattle.std.proofs.Common.{◌∙◌, refl, ap, reverse, subst, sym}
-use Rattle.burr_state.specs.Bench.{BenchState}
-use Rattle.burr_state.specs.StateViews.{standing, behind, StaysOnBench, moved_grip}
+use Rattle.burr_state.specs.Rules.Bench.{BenchState}
+use Rattle.burr_state.specs.Views.StateViews.{standing, after, StaysOnBench, moved_grip}
 use Rattle.burr_state.proofs.Common.Stepping.Steps.{orderly_unit, refilled}
 use Rattle.burr_state.proofs.Common.Trays.Shifts.{length-moved}
 use Rattle.burr_state.proofs.state.BenchState.move_grip.Goals as goal
@@ -14,6 +14,6 @@ invariant_of-self c =
 pub returns : goal.returns
 returns c =
     let moved = refilled c.self.inside.places.items c.shift_group.new.places _ (rw (c.shift_group.ensures, c.as_mut_slice.ensures.value) refl) (length-moved c.self.inside.grip c.args.direction c.self.inside.places.items) in
-    c.go_behind.ensures
-    ∙ ap (λ places. behind c.args.size (standing places c.self.inside.tray c.self.inside.grip c.self.inside.running (reverse c.self.inside.callers.items) c.self.inside.steps c.self.inside.mode)) moved
+    c.go_after.ensures
+    ∙ ap (λ places. after c.args.size (standing places c.self.inside.tray c.self.inside.grip c.self.inside.running (reverse c.self.inside.callers.items) c.self.inside.steps c.self.inside.mode)) moved
     ∙ ap (λ (s : BenchState). moved_grip c.args.direction c.args.size s) c.self.view_is

@@ -1,7 +1,7 @@
 use Rattle.std.proofs.Common.{◌-ℤ◌, ℕ, ℤ, pos, refl, sym, ap, inl, inr, ◌∙◌}
 use Rattle.std.specs.Int.{w32}
 use Rattle.std.proofs.lemmas.Int.{to_z-of_z}
-use Rattle.burr_state.specs.Next.{Asks}
+use Rattle.burr_state.specs.Rules.Next.{Asks}
 use Rattle.burr_state.proofs.Offers.{labelled_all, one_missing}
 use Rattle.burr_text.proofs.Common.Tests.{yes_of, no_of}
 use Rattle.burr_state.proofs.state.BenchState.pick.Goals as goal

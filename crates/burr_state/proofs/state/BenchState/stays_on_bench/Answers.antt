@@ -1,5 +1,5 @@
 use Rattle.std.proofs.Common.{rules, arith, IsBitSet, sym, length, ◌≤◌}
-use Rattle.burr_state.specs.StateViews.{PieceStaysOnBench}
+use Rattle.burr_state.specs.Views.StateViews.{PieceStaysOnBench}
 use Rattle.burr_text.proofs.Common.Tests.{yes_of, no_of, yes_iff, no_iff, one_more_number}
 use Rattle.burr_code.proofs.Common.Conditions.{lies_within}
 use Rattle.burr_state.proofs.Common.Stepping.Near.{on_bench_of_staying, staying_of_on_bench, near_lying}

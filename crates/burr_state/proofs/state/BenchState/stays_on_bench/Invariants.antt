@@ -1,5 +1,5 @@
 use Rattle.std.proofs.Common.{ℕ, ◌<◌, IsBitSet}
-use Rattle.burr_state.specs.StateViews.{PieceStaysOnBench}
+use Rattle.burr_state.specs.Views.StateViews.{PieceStaysOnBench}
 use Rattle.burr_state.proofs.state.BenchState.stays_on_bench.Given as goal
 
 -- those of the grip so far stay

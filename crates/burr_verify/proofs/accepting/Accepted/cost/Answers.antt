@@ -1,10 +1,10 @@
 use Rattle.std.proofs.Common.{rules, ◌≡◌, FitsSigned, to_z-of_z, w64, sym, subst, ap, ◌∙◌, arith}
 use Rattle.std.specs.Prelude.{nat_abs, ◌≤ℤ◌, pos}
 use Rattle.std.proofs.lemmas.Int.{ints}
-use Rattle.burr_forms.specs.Forms.{Form}
-use Rattle.burr_container.specs.Refs.{frame_of}
-use Rattle.burr_frames.specs.FramedPlans.{framed}
-use Rattle.burr_verify.specs.Accepting.{Judged, judged, MainCosts}
+use Rattle.burr_forms.specs.Rules.Forms.{Form}
+use Rattle.burr_container.specs.Views.Refs.{frame_of}
+use Rattle.burr_frames.specs.Rules.FramedPlans.{framed}
+use Rattle.burr_verify.specs.Rules.Accepting.{Judged, judged, MainCosts}
 use Rattle.burr_verify.proofs.AcceptingCosts.{EntryCost, has_main, entry_cost, number_of}
 use Rattle.burr_verify.proofs.accepting.Accepted.cost.Goals as goal
 

@@ -1,8 +1,8 @@
 use Rattle.std.proofs.Common.{◌≡◌, length, List, rules, inr, sym, ap, ◌∙◌}
 use Rattle.burr_voxels.specs.declared.cell.Cell.{Cell}
-use Rattle.burr_assembly.specs.Text.{IsShapeName, HasCells, home_cells}
-use Rattle.burr_assembly.specs.LineViews.{words_of}
-use Rattle.burr_assembly.specs.HomedPieces.{turn_of}
+use Rattle.burr_assembly.specs.Rules.Text.{IsShapeName, HasCells, home_cells}
+use Rattle.burr_assembly.specs.Views.LineViews.{words_of}
+use Rattle.burr_assembly.specs.Views.HomedPieces.{turn_of}
 use Rattle.burr_assembly.proofs.PieceSteps.{IsNamed, IsPlaced, piece_of, unknown_shape, unknown_turn, unknown_place, shared, taken}
 use Rattle.burr_assembly.proofs.text.header.Header.piece.Goals as goal
 

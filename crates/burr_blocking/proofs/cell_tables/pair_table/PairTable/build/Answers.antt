@@ -4,8 +4,8 @@ use Rattle.std.proofs.lemmas.List.{take-append-le, take_all}
 use Rattle.std.proofs.lemmas.List.Elements.{All-get_or}
 use Rattle.burr_voxels.specs.Grid.{origin}
 use Rattle.burr_voxels.specs.Near.{IsWithin}
-use Rattle.burr_blocking.specs.Boxes.{IsInBox, place_of, size_of}
-use Rattle.burr_blocking.specs.Tables.{SetsMarks}
+use Rattle.burr_blocking.specs.Views.Boxes.{IsInBox, place_of, size_of}
+use Rattle.burr_blocking.specs.Views.Tables.{SetsMarks}
 use Rattle.burr_blocking.proofs.Hulls.{fits_minus}
 use Rattle.burr_blocking.proofs.Marks.{IsBoxOf, box_reach, box_inside, box_low, box_room, adds_places, IsSoFar, so_far_more, so_far_all}
 use Rattle.burr_blocking.proofs.cell_tables.pair_table.PairTable.build.Goals as goal

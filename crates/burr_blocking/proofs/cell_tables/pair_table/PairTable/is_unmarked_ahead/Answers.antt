@@ -3,7 +3,7 @@ use Rattle.std.specs.Prelude.{pos, IsTrue}
 use Rattle.burr_text.proofs.Common.Tests.{yes_iff, no_iff, one_more_number}
 use Rattle.burr_voxels.specs.declared.cell.Cell.{Cell}
 use Rattle.burr_voxels.specs.Grid.{plus, along, FitsCell}
-use Rattle.burr_blocking.specs.Tables.{IsMarked}
+use Rattle.burr_blocking.specs.Views.Tables.{IsMarked}
 use Rattle.burr_blocking.proofs.Reaches.{fits_along}
 use Rattle.burr_blocking.proofs.cell_tables.pair_table.PairTable.is_unmarked_ahead.Goals as goal
 

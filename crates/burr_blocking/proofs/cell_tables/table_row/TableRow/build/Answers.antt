@@ -1,9 +1,9 @@
 use Rattle.std.proofs.Common.{◌≡◌, ℕ, length, subst, sym, arith}
-use Rattle.burr_assembly.specs.Homes.{homes_of}
+use Rattle.burr_assembly.specs.Rules.Homes.{homes_of}
 use Rattle.burr_assembly.proofs.Common.HomeSizes.{homes_are_small}
 use Rattle.burr_blocking.specs.declared.cell_tables.pair_table.PairTable.{PairTable}
-use Rattle.burr_blocking.specs.Tables.{IsTableOf}
-use Rattle.burr_blocking.specs.Rows.{IsPair, ArePairs}
+use Rattle.burr_blocking.specs.Views.Tables.{IsTableOf}
+use Rattle.burr_blocking.specs.Views.Rows.{IsPair, ArePairs}
 use Rattle.burr_blocking.proofs.Rows.{one_pushed, pair_made}
 use Rattle.burr_blocking.proofs.cell_tables.table_row.TableRow.build.Goals as goal
 

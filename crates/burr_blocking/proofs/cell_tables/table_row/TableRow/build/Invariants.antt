@@ -1,6 +1,6 @@
 use Rattle.std.proofs.Common.{◌≡◌, vec_len}
-use Rattle.burr_assembly.specs.Homes.{homes_of}
-use Rattle.burr_blocking.specs.Rows.{ArePairs}
+use Rattle.burr_assembly.specs.Rules.Homes.{homes_of}
+use Rattle.burr_blocking.specs.Views.Rows.{ArePairs}
 use Rattle.burr_blocking.proofs.cell_tables.table_row.TableRow.build.Given as goal
 
 -- the tables so far are those of the first pieces

@@ -2,8 +2,8 @@ use Rattle.std.proofs.Common.{◌≡◌, ◌∙◌, ◌≤◌, ◌+◌, ℕ, Lis
 use Rattle.std.proofs.lemmas.List.Elements.{All-get_or}
 use Rattle.burr_voxels.specs.Grid.{origin, minus}
 use Rattle.burr_voxels.specs.Near.{IsWithin}
-use Rattle.burr_blocking.specs.Boxes.{IsInBox, row_of, column_of}
-use Rattle.burr_blocking.specs.Bits.{or_shifted, joined_from}
+use Rattle.burr_blocking.specs.Views.Boxes.{IsInBox, row_of, column_of}
+use Rattle.burr_blocking.specs.Views.Bits.{or_shifted, joined_from}
 use Rattle.burr_blocking.proofs.Hulls.{fits_minus}
 use Rattle.burr_blocking.proofs.Marks.{IsBoxOf, box_reach, box_low}
 use Rattle.burr_blocking.proofs.Made.{AreMade, made_more, made_all, made_rows, made_short, box_last, box_rows, box_fits, whole_rows, in_rows}

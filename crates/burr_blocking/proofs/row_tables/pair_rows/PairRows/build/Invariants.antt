@@ -1,5 +1,5 @@
 use Rattle.std.proofs.Common.{◌≡◌, vec_len, take}
-use Rattle.burr_blocking.specs.Boxes.{row_count_of}
+use Rattle.burr_blocking.specs.Views.Boxes.{row_count_of}
 use Rattle.burr_blocking.proofs.Made.{AreMade}
 use Rattle.burr_blocking.proofs.row_tables.pair_rows.PairRows.build.Given as goal
 

@@ -1,7 +1,7 @@
 use Rattle.std.proofs.Common.{subst, sym}
 use Rattle.std.specs.Prelude.{◌↔◌, IsTrue}
 use Rattle.burr_voxels.specs.declared.direction.Direction.{Direction}
-use Rattle.burr_blocking.specs.PairBits.{IsClearAhead}
+use Rattle.burr_blocking.specs.Views.PairBits.{IsClearAhead}
 use Rattle.burr_blocking.proofs.row_tables.pair_rows.PairRows.is_clear_ahead.Goals as goal
 
 pub returns-in-PlusX : goal.returns-in-PlusX

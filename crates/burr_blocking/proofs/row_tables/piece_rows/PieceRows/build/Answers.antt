@@ -1,9 +1,9 @@
 use Rattle.std.proofs.Common.{◌≡◌, ℕ, length, subst, sym, arith}
-use Rattle.burr_assembly.specs.Homes.{homes_of}
+use Rattle.burr_assembly.specs.Rules.Homes.{homes_of}
 use Rattle.burr_assembly.proofs.Common.HomeSizes.{homes_are_small}
 use Rattle.burr_blocking.specs.declared.row_tables.pair_rows.PairRows.{PairRows}
-use Rattle.burr_blocking.specs.PairBits.{AreRowsOf}
-use Rattle.burr_blocking.specs.PieceRows.{IsPairOf, ArePairsOf}
+use Rattle.burr_blocking.specs.Views.PairBits.{AreRowsOf}
+use Rattle.burr_blocking.specs.Views.PieceRows.{IsPairOf, ArePairsOf}
 use Rattle.burr_blocking.proofs.Rows.{one_pushed, pair_made}
 use Rattle.burr_blocking.proofs.row_tables.piece_rows.PieceRows.build.Goals as goal
 

@@ -1,6 +1,6 @@
 use Rattle.std.proofs.Common.{◌≡◌, vec_len}
-use Rattle.burr_assembly.specs.Homes.{homes_of}
-use Rattle.burr_blocking.specs.PieceRows.{ArePairsOf}
+use Rattle.burr_assembly.specs.Rules.Homes.{homes_of}
+use Rattle.burr_blocking.specs.Views.PieceRows.{ArePairsOf}
 use Rattle.burr_blocking.proofs.row_tables.piece_rows.PieceRows.build.Given as goal
 
 -- the rows so far are those of the first pieces

@@ -1,0 +1,5 @@
+pub mod Faults
+pub mod Homes
+pub mod Lines
+pub mod PieceNames
+pub mod Text

@@ -1,0 +1,4 @@
+pub mod Drawings
+pub mod HomedPieces
+pub mod LineViews
+pub mod ReaderViews

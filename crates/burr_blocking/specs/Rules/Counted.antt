@@ -1,0 +1,18 @@
+-- Looks, which are queries that are counted: of which assembly's pieces, and how many so far.
+use Rattle.std.specs.Prelude.{◌≡◌, ℕ, ◌+◌}
+use Rattle.burr_assembly.specs.Rules.Text.{Assembly}
+
+pub record Counted : Type 0 where
+  pub assembly : Assembly
+  pub count : ℕ
+
+abbrev pub counted : Assembly → ℕ → Counted
+counted assembly count = record { assembly = assembly; count = count }
+
+-- so many looks more
+abbrev pub with_more : ℕ → Counted → Counted
+with_more n looks = record looks { count = looks.count + n }
+
+-- as many looks as these were made, and nothing else is another
+abbrev pub HasCounted : (ℕ → Type 0) → Counted → Counted → Type 0
+HasCounted AreLooks old new = (n : ℕ) × AreLooks n × (new ≡ with_more n old)

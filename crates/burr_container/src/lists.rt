@@ -1,0 +1,44 @@
+//! Forms and places that stand one after the other in a container, read in place.
+
+ghost use Rattle.std.specs.Prelude.{◌≡◌, ◌+◌, ◌*◌, ◌≤◌, ◌<◌, length, drop, Some, slice_get, slice_index, map, count_by, IsTrue};
+ghost use Rattle.burr_container.specs.Rules.Plans.{over_symbols, place_over_symbols};
+ghost use Rattle.burr_container.specs.Rules.Spelling.{form_size as size_of_form};
+ghost use Rattle.burr_container.specs.Views.Decoding.{live_count as count_of_live, places_stand};
+
+use burr_forms::Form;
+use byteorder::{BigEndian, ByteOrder};
+
+/// How many slots are live.
+pub fn live_count(live: &[bool; 8]) -> usize
+    ensures count { result ≡ count_of_live live.now }
+    ensures size { size_of_form live.now ≡ 4 + 2 * result }
+    ensures few { result ≤ 8 }
+{
+    live.iter().filter(|is_live| **is_live).count()
+}
+
+/// How many bytes a form over these live slots takes.
+pub fn form_size(live: &[bool; 8]) -> usize
+    ensures size { result ≡ size_of_form live.now }
+    ensures few { result ≤ 20 }
+{
+    4 + 2 * live_count(live)
+}
+
+/// Forms over these live slots.
+#[derive(Clone, Copy)]
+pub struct FormList<'a> {
+    pub live: [bool; 8],
+    pub count: usize,
+    pub bytes: &'a [u8],
+    ghost sized: { length bytes.now ≡ count * size_of_form live },
+}
+
+/// Places by forms over these live slots: the first so many that stand in the bytes.
+#[derive(Clone, Copy)]
+pub struct PlaceList<'a> {
+    pub live: [bool; 8],
+    pub count: usize,
+    pub bytes: &'a [u8],
+    ghost stand: { IsTrue (places_stand live count bytes.now) },
+}

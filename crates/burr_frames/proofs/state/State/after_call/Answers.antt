@@ -1,0 +1,114 @@
+-- Where there is no state after, and what it is where there is one.
+use Rattle.std.proofs.Common.{rules, ℕ, All, Option, ◌≡◌, ◌≤◌, ◌∙◌, ◌+◌, ◌++◌, ap, sym, subst, List, length, drop, map, inl, inr}
+use Rattle.std.specs.Prelude.{reverse}
+use Rattle.std.proofs.lemmas.List.{reverse-reverse}
+use Rattle.std.proofs.lemmas.List.Elements.{All-append}
+use Rattle.burr_forms.specs.Rules.Points.{AreRanges}
+use Rattle.burr_forms.specs.Rules.Forms.{Form, IsSmallForm, AllSmallForms, substituted}
+use Rattle.burr_frames.specs.Rules.States.{AbstractState}
+use Rattle.burr_frames.specs.Views.StateViews.{IsSmallSlot}
+use Rattle.burr_frames.specs.Rules.FramedPlans.{FramedExit}
+use Rattle.burr_frames.specs.Rules.SpaceRules.{AllSmallPlaces}
+use Rattle.burr_frames.specs.Rules.ControlRules.{symbols_from, result_symbols, substituted_places}
+use Rattle.burr_frames.proofs.Offsets.{small_reversed}
+use Rattle.burr_frames.proofs.After.{too_many_ranges, has_room, large_guards, small_after}
+use Rattle.burr_frames.proofs.state.State.after_call.Goals as goal
+
+abbrev ranges_in : AbstractState → ℕ
+ranges_in s = length s.ranges
+
+abbrev results_in : FramedExit → ℕ
+results_in exit = length exit.results
+
+abbrev exit_guards : FramedExit → List Form
+exit_guards exit = exit.guards
+
+pub returns-in_default : goal.returns-in_default
+returns-in_default c =
+    let s = c.args.self.now in
+    let arguments = c.args.arguments.now in
+    inl (
+      too_many_ranges s arguments (drop (length arguments) s.operands) c.args.exit.now c.in_default.ensures,
+      c.plain.ensures,
+    )
+
+pub returns-in_default-guards_with : goal.returns-in_default-guards_with
+returns-in_default-guards_with c =
+    let s = c.args.self.now in
+    let exit = c.args.exit.now in
+    let arguments = c.args.arguments.now in
+    let below = drop (length arguments) s.operands in
+    let results : c.as_slice.result.now ≡ result_symbols s exit =
+    c.as_slice.ensures.value ∙ c.symbols_from-results.ensures.symbols
+    ∙ (λ i. symbols_from ((c.len-3.ensures.value ∙ ap ranges_in c.self.view_is) i) ((c.len-4.ensures.value ∙ ap results_in c.exit.view_is) i)) in
+    let made : c.as_slice-5.result.now ≡ arguments ++ result_symbols s exit =
+    c.as_slice-5.ensures.value ∙ c.joined-symbols.ensures ∙ (λ i. arguments ++ results i) in
+    let guards : c.as_slice-4.result.now ≡ exit.guards = c.as_slice-4.ensures.value ∙ ap exit_guards c.exit.view_is in
+    let few : length s.guards + length exit.guards ≤ 8 = search rules in
+    inr (
+      has_room s arguments below exit c.in-Some.ensures.1 few,
+      large_guards s arguments below exit
+          (λ small. c.in_default-guards_with.ensures (subst AllSmallForms (λ i. map (substituted (sym made i)) (sym guards i)) small)),
+      c.plain-in_default-guards_with.ensures,
+    )
+
+pub invariant_of-result : goal.invariant_of-result
+invariant_of-result c = record {
+  ranges = subst AreRanges (sym c.in-Some.ensures.0) c.in-Some.ensures.2;
+  guards =
+      subst AllSmallForms (sym c.joined.ensures)
+      (All-append IsSmallForm c.as_slice-6.result.now c.as_slice-7.result.now
+      (subst AllSmallForms (sym c.as_slice-6.ensures.value) c.self.invariant.guards)
+      (subst AllSmallForms (sym c.as_slice-7.ensures.value) c.in-Ok-guards_with.ensures.1));
+  slots = subst (λ (slots : List (Option Form)). All IsSmallSlot slots) (sym c.copied_slots.ensures) c.self.invariant.slots;
+  operands =
+      small_reversed (reverse c.operands_after.result.items)
+      (subst AllSmallForms (sym (reverse-reverse c.operands_after.result.items)) c.operands_after.ensures.small);
+  places = c.in-Ok.ensures.1;
+  cost = c.self.invariant.cost;
+}
+
+pub returns : goal.returns
+returns c =
+    let s = c.args.self.now in
+    let exit = c.args.exit.now in
+    let arguments = c.args.arguments.now in
+    let below = drop (length arguments) s.operands in
+    let results : c.as_slice.result.now ≡ result_symbols s exit =
+    c.as_slice.ensures.value ∙ c.symbols_from-results.ensures.symbols
+    ∙ (λ i. symbols_from ((c.len-3.ensures.value ∙ ap ranges_in c.self.view_is) i) ((c.len-4.ensures.value ∙ ap results_in c.exit.view_is) i)) in
+    let made : c.as_slice-5.result.now ≡ arguments ++ result_symbols s exit =
+    c.as_slice-5.ensures.value ∙ c.joined-symbols.ensures ∙ (λ i. arguments ++ results i) in
+    let few : length s.guards + length exit.guards ≤ 8 = search rules in
+    let made_first : c.as_slice-3.result.now ≡ arguments ++ result_symbols s exit =
+    c.as_slice-3.ensures.value ∙ c.joined-symbols.ensures ∙ (λ i. arguments ++ results i) in
+    let guards : c.in-Ok-guards_with.guards.items ≡ map (substituted (arguments ++ result_symbols s exit)) exit.guards =
+    c.in-Ok-guards_with.ensures.0
+    ∙ (λ i. map (substituted (made i)) ((c.as_slice-4.ensures.value ∙ ap exit_guards c.exit.view_is) i)) in
+    let places : c.in-Ok.places.items ≡ substituted_places (arguments ++ result_symbols s exit) exit.places =
+    c.in-Ok.ensures.0
+    ∙ (λ i. substituted_places (made_first i) ((c.as_slice-2.ensures.value ∙ ap (λ (e : FramedExit). e.places) c.exit.view_is) i)) in
+    let ranges = c.in-Some.ensures.0 in
+    let all_guards : c.joined.result.items ≡ s.guards ++ map (substituted (arguments ++ result_symbols s exit)) exit.guards =
+    c.joined.ensures
+    ∙ (λ i. (c.as_slice-6.ensures.value ∙ ap (λ (t : AbstractState). t.guards) c.self.view_is) i ++ (c.as_slice-7.ensures.value ∙ guards) i) in
+    let slots = c.copied_slots.ensures ∙ ap (λ (t : AbstractState). t.slots) c.self.view_is in
+    let operands : reverse c.operands_after.result.items ≡ reverse (result_symbols s exit) ++ below =
+    c.operands_after.ensures.operands ∙ (λ i. reverse ((c.as_slice-8.ensures.value ∙ sym c.as_slice.ensures.value ∙ results) i) ++ below) in
+    let tray = ap (λ (e : FramedExit). e.tray) c.exit.view_is in
+    let grip = ap (λ (e : FramedExit). e.grip) c.exit.view_is in
+    let cost = ap (λ (t : AbstractState). t.cost) c.self.view_is in
+    let guards_small : AllSmallForms s.guards = subst (λ (t : AbstractState). AllSmallForms t.guards) c.self.view_is c.self.invariant.guards in (
+      λ i. record {
+        ranges = ranges i;
+        guards = all_guards i;
+        slots = slots i;
+        operands = operands i;
+        places = places i;
+        tray = tray i;
+        grip = grip i;
+        cost = cost i;
+      },
+      has_room s arguments below exit c.in-Some.ensures.1 few,
+      small_after s arguments below exit guards_small (subst AllSmallPlaces places c.in-Ok.ensures.1) (subst AllSmallForms guards c.in-Ok-guards_with.ensures.1),
+    )

@@ -1,0 +1,2 @@
+pub mod LookLaws
+pub mod TransferLaws

@@ -1,0 +1,12 @@
+pub mod Arrival
+pub mod ControlRules
+pub mod FramedPlans
+pub mod Looks
+pub mod NumberRules
+pub mod QuestionRules
+pub mod RuleNumbers
+pub mod SpaceRules
+pub mod Starts
+pub mod States
+pub mod Transfer
+pub mod Verdicts

@@ -1,0 +1,15 @@
+pub mod ArrivalViews
+pub mod Breaks
+pub mod CallViews
+pub mod Changes
+pub mod Clearing
+pub mod ClearingLooks
+pub mod Comparing
+pub mod Exits
+pub mod Here
+pub mod Moving
+pub mod Over
+pub mod Ranges
+pub mod Spots
+pub mod StateViews
+pub mod Targets

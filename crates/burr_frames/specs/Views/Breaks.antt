@@ -1,0 +1,67 @@
+-- What a broken rule of the code stands for, and what a call of a rule says of the verdict.
+use Rattle.std.specs.Prelude.{◌≡◌, ◌⊎◌, ⊤, pos, ◌≤ℤ◌, Option, Some, None, Result, Ok, Err, MatchResult, option_map}
+use Rattle.burr_forms.specs.Rules.Forms.{Form, Point, value, one_less, IsSmallForm}
+use Rattle.burr_container.specs.declared.frame_ref.FrameRef.{FrameRef}
+use Rattle.burr_container.specs.Views.Refs.{frame_of}
+use Rattle.burr_frames.specs.Rules.FramedPlans.{framed}
+use Rattle.burr_frames.specs.declared.rule.Rule.{Rule}
+use Rattle.burr_frames.specs.declared.rule.Rule.TheVariants as rules
+use Rattle.burr_frames.specs.declared.breaking.Break.{Break}
+use Rattle.burr_frames.specs.Rules.States.{AbstractState, Everywhere, IsFirstFailing}
+use Rattle.burr_frames.specs.Rules.Verdicts.{Broken, Verdict, Breaks, FallsThrough, NoSuccessor, arriving, no_successor}
+
+abbrev pub broken_of : Break → Broken
+broken_of b = record {
+  rule = b.rule;
+  pieces = b.pieces;
+  point = option_map (λ point. point.items) b.point;
+}
+
+-- a rule that is broken without regard to points, and one that is broken at a point
+abbrev pub plain_break : Rule → Broken
+plain_break rule = record { rule = rule; pieces = None; point = None }
+
+abbrev pub break_at : Rule → Point → Broken
+break_at rule point = record { rule = rule; pieces = None; point = Some point }
+
+-- a rule that is broken at this point, or without regard to points
+abbrev pub missed_break : Rule → Option Point → Broken
+missed_break rule point = record { rule = rule; pieces = None; point = point }
+
+-- control falls out with this state, or a rule is broken
+abbrev pub next_verdict : AbstractState → Result ⊤ Break → Verdict
+next_verdict s (Ok _) = FallsThrough s
+next_verdict s (Err b) = Breaks (broken_of b)
+
+-- no state is left after, or a rule is broken
+abbrev pub last_verdict : Result ⊤ Break → Verdict
+last_verdict (Ok _) = NoSuccessor
+last_verdict (Err b) = Breaks (broken_of b)
+
+-- the condition holds at each point of the state, or the rule is broken at the first at which it
+-- doesn't
+abbrev pub HoldsOrBreaks : AbstractState → (Point → Type 0) → Rule → Result ⊤ Break → Type 0
+HoldsOrBreaks s P rule result =
+    MatchResult result (λ _. Everywhere s P)
+    (λ b. (point : Point) × IsFirstFailing s P point × (broken_of b ≡ break_at rule point))
+
+-- the step can't be paid for, and how
+abbrev pub CannotPay : AbstractState → Break → Type 0
+CannotPay s b =
+    ((¬ IsSmallForm (one_less s.cost)) × (broken_of b ≡ plain_break rules.V26))
+    ⊎ (IsSmallForm (one_less s.cost) × (point : Point)
+    × IsFirstFailing s (λ x. pos 0 ≤ℤ value x (one_less s.cost)) point
+    × (broken_of b ≡ break_at rules.V24 point))
+
+-- the cost after one step, which is paid for
+pub record IsPaid (s : AbstractState) (cost : Form) : Type 0 where
+  pub is : cost ≡ one_less s.cost
+  pub small : IsSmallForm cost
+  pub enough : Everywhere s (λ point. pos 0 ≤ℤ value point (one_less s.cost))
+
+abbrev pub Pays : AbstractState → Result Form Break → Type 0
+Pays s result = MatchResult result (IsPaid s) (CannotPay s)
+
+-- The state arrives at a frame, or does not; nothing is said of what follows.
+abbrev pub ArrivesOrBreaks : AbstractState → FrameRef → Result ⊤ Break → Type 0
+ArrivesOrBreaks s f result = arriving s (framed (frame_of f)) no_successor (last_verdict result)

@@ -1,0 +1,33 @@
+-- What a call that asks of a move's pairs says of the verdict.
+use Rattle.std.specs.Prelude.{⊤, ℕ, List, Option, Some, Result}
+use Rattle.burr_voxels.specs.declared.cell.Cell.{Cell}
+use Rattle.burr_code.specs.PieceSets.{IsInSet}
+use Rattle.burr_code.specs.Places.{Placement, LiesIn}
+use Rattle.burr_blocking.specs.declared.query.Query.{Query}
+use Rattle.burr_blocking.specs.declared.query.Query.TheVariants as queries
+use Rattle.burr_container.specs.Rules.Plans.{FormCell}
+use Rattle.burr_forms.specs.Rules.Forms.{Point}
+use Rattle.burr_frames.specs.declared.breaking.Break.{Break}
+use Rattle.burr_frames.specs.declared.rule.Rule.{Rule}
+use Rattle.burr_frames.specs.declared.rule.Rule.TheVariants as rules
+use Rattle.burr_frames.specs.Views.Breaks.{last_verdict}
+use Rattle.burr_frames.specs.Rules.SpaceRules.{OnBenchAt, PairAt, IsApartBy}
+use Rattle.burr_frames.specs.Rules.States.{AbstractState}
+use Rattle.burr_frames.specs.Rules.Verdicts.{Broken, everywhere, everywhere_of_pairs, no_successor}
+
+-- With these places each piece of the tray is on the bench and each pair of it so, or a rule is
+-- broken; nothing is said of what follows.
+abbrev pub ClearOrBreaks : List (List Cell) → AbstractState → List (Placement FormCell) → Query
+    → Rule → Result ⊤ Break → Type 0
+ClearOrBreaks homes s places query rule result =
+    everywhere s (OnBenchAt places s.tray) rules.V18
+    (everywhere_of_pairs s (PairAt (IsApartBy query) homes places s.tray s.grip) rule no_successor)
+    (last_verdict result)
+
+-- a rule that is broken at a point, for these pieces
+abbrev pub break_of_pieces : Rule → Option (ℕ × ℕ) → Point → Broken
+break_of_pieces rule pieces point = record { rule = rule; pieces = pieces; point = Some point }
+
+-- a piece of the current tray is not gripped
+abbrev pub HasRest : AbstractState → Type 0
+HasRest s = (p : ℕ) × LiesIn s.places p s.tray × (¬ IsInSet s.grip p)

@@ -1,0 +1,3 @@
+pub mod BenchText
+pub mod ReadWhole
+pub mod Running

@@ -1,0 +1,2 @@
+pub mod SheetUnderWay
+pub mod SheetView

@@ -1,0 +1,4 @@
+pub mod AsideLaws
+pub mod RunLaws
+pub mod SpaceLaws
+pub mod StepLaws

@@ -1,0 +1,10 @@
+pub mod Bench
+pub mod Control
+pub mod Next
+pub mod Numbers
+pub mod Questions
+pub mod Run
+pub mod Space
+pub mod Step
+pub mod TrapNames
+pub mod Undo

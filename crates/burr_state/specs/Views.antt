@@ -1,0 +1,8 @@
+pub mod Benches
+pub mod Effects
+pub mod Offsets
+pub mod Parts
+pub mod Programs
+pub mod Spots
+pub mod StateViews
+pub mod Work

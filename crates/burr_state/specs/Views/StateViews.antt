@@ -1,0 +1,82 @@
+-- What the code's state of the bench stands for, and what holds of each.
+use Rattle.std.specs.Prelude.{Option, MatchOption, ℕ, ◌+◌, ◌^◌, ◌<◌, ◌≤◌, List, [], ◌∷◌, None, length, replicate, pos}
+use Rattle.burr_voxels.specs.declared.cell.Cell.{Cell}
+use Rattle.burr_voxels.specs.declared.direction.Direction.{Direction}
+use Rattle.burr_voxels.specs.Grid.{origin, plus, along}
+use Rattle.burr_voxels.specs.Near.{IsWithin}
+use Rattle.burr_code.specs.PieceSets.{IsInSet}
+use Rattle.burr_code.specs.Places.{Placement, On, LiesAt, LiesIn, AllLieIn, aside_places}
+use Rattle.burr_state.specs.declared.mode.Mode.{Mode}
+use Rattle.burr_state.specs.declared.mode.Mode.TheVariants.{Running}
+use Rattle.burr_state.specs.Rules.Bench.{Activation, activation, BenchState}
+use Rattle.burr_state.specs.Rules.Next.{stepped}
+use Rattle.burr_state.specs.Views.Offsets.{AreNear}
+use Rattle.burr_state.specs.Rules.Space.{AllOnBench, moved_places}
+
+-- a state with these parts
+abbrev pub standing : List (Placement Cell) → ℕ → ℕ → Activation → List Activation → ℕ → Mode
+    → BenchState
+standing places tray grip running callers steps mode = record {
+  places = places;
+  tray = tray;
+  grip = grip;
+  running = running;
+  callers = callers;
+  steps = steps;
+  mode = mode;
+}
+
+-- so many pieces at home in tray 0, and main at its begin
+abbrev pub at_start : ℕ → BenchState
+at_start pieces =
+    standing (replicate pieces (On 0 origin)) 0 0 (activation 0 0 (replicate 8 None) []) [] 0 Running
+
+-- each caller waits within its code, and called a procedure of a higher number
+abbrev pub IsCallChain : ℕ → List Activation → Type 0
+IsCallChain procedure [] = Unit {0}
+IsCallChain procedure (caller ∷ callers) =
+    (caller.procedure < procedure) × (caller.pc < 2 ^ 16) × IsCallChain caller.procedure callers
+
+-- what holds of each state
+pub record IsOrderly (s : BenchState) : Type 0 where
+  pub near : AreNear s.places
+  -- the grip lies in the current tray
+  pub here : AllLieIn s.places s.tray s.grip
+  pub few : length s.places ≤ 32
+  pub within : s.running.pc < 2 ^ 16
+  pub chain : IsCallChain s.running.procedure s.callers
+
+-- the step is made, and the run goes on so many bytes further
+abbrev pub after : ℕ → BenchState → BenchState
+after size s = stepped (record s { running = record s.running { pc = s.running.pc + size } })
+
+-- how far from home piece p lies in the current tray, if it lies there
+abbrev pub IsOffsetHere : BenchState → ℕ → Option Cell → Type 0
+IsOffsetHere s p found =
+    MatchOption found (¬ LiesIn s.places p s.tray) (λ offset. LiesAt s.places p s.tray offset)
+
+-- the current tray has a piece that is not gripped
+abbrev pub HasRest : BenchState → Type 0
+HasRest s = (p : ℕ) × LiesIn s.places p s.tray × (¬ IsInSet s.grip p)
+
+-- the step of an `aside` of so many bytes to this tray
+abbrev pub gone_aside : ℕ → ℕ → BenchState → BenchState
+gone_aside tray size s = record (after size s) {
+  places = aside_places s.grip s.tray tray s.places;
+  grip = 0;
+}
+
+-- piece p, if it lies in the current tray, is on the bench one unit along the direction
+abbrev pub PieceStaysOnBench : BenchState → Direction → ℕ → Type 0
+PieceStaysOnBench s direction p =
+    (offset : Cell) → LiesAt s.places p s.tray offset
+    → IsWithin 256 (plus offset (along direction (pos 1)))
+
+-- each piece of the current tray is, after one unit of the grip
+abbrev pub StaysOnBench : BenchState → Direction → Type 0
+StaysOnBench s direction = AllOnBench (moved_places s.grip direction s.places) s.tray
+
+-- the step of a `step` of so many bytes along this direction
+abbrev pub moved_grip : Direction → ℕ → BenchState → BenchState
+moved_grip direction size s =
+    record (after size s) { places = moved_places s.grip direction s.places }

@@ -1,0 +1,25 @@
+-- A program at work: what is run, and where the run stands.
+use Rattle.std.specs.Prelude.{◌≡◌, ◌+◌, ◌≤◌, ℕ, [], length}
+use Rattle.burr_code.specs.Instruction.{Instruction, IsInRange, spelled}
+use Rattle.burr_code.specs.declared.limits.TheConstants.{MOST_CODE}
+use Rattle.burr_state.specs.Rules.Bench.{running, BenchProcedure, BenchState, Program}
+use Rattle.burr_state.specs.Rules.Step.{IsAt}
+
+pub record Work : Type 0 where
+  pub program : Program
+  pub state : BenchState
+
+-- this program, at work in this state
+abbrev pub work : Program → BenchState → Work
+work program state = record { program = program; state = state }
+
+-- the instruction at which it stands, whatever pieces it moves
+abbrev pub StandsBefore : Work → Instruction → Type 0
+StandsBefore w i = (here : BenchProcedure) × IsAt (running [] w.program) w.state here i
+
+-- the instruction that is next, of so many bytes
+pub record IsNext (w : Work) (i : Instruction) (size : ℕ) : Type 0 where
+  pub stands : StandsBefore w i
+  pub in_range : IsInRange i
+  pub spelled_in : size ≡ length (spelled i)
+  pub within : w.state.running.pc + size ≤ MOST_CODE

@@ -1,0 +1,2 @@
+pub mod StepTexts
+pub mod Stepper

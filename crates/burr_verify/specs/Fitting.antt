@@ -1,8 +1,0 @@
--- Which assembly a plan is for.
-use Rattle.std.specs.Prelude.{◌≡◌, length}
-use Rattle.burr_container.specs.Plans.{Plan}
-use Rattle.burr_assembly.specs.Text.{Assembly}
-
-abbrev pub FitsAssembly : Plan → Assembly → Type 0
-FitsAssembly plan assembly =
-    (plan.name ≡ assembly.name) × (plan.pieces ≡ length assembly.pieces)

@@ -1,0 +1,2 @@
+pub mod LookingLaws
+pub mod VerifyLaws

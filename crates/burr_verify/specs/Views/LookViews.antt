@@ -1,0 +1,50 @@
+-- What the code's answers say of looks: so many so far, and whatever follows.
+use Rattle.std.specs.Prelude.{◌≡◌, ◌+◌, ℕ, List, drop, slice_get, Option, Some, IfSome}
+use Rattle.burr_voxels.specs.declared.cell.Cell.{Cell}
+use Rattle.burr_container.specs.Views.Containers.{ContainerView, IsContainer}
+use Rattle.burr_container.specs.Rules.Plans.{Plan, Frame}
+use Rattle.burr_frames.specs.Rules.FramedPlans.{FramedProcedure, FramedPlan, framed_plan}
+use Rattle.burr_frames.specs.Rules.Looks.{HasRoom}
+use Rattle.burr_frames.specs.Rules.States.{AbstractState}
+use Rattle.burr_verify.specs.Rules.Judging.{HasRoomForPoints}
+use Rattle.burr_verify.specs.Rules.Pass.{Judgement, Refuses, Stage}
+use Rattle.burr_verify.specs.Views.Judgements.{failed_check}
+use Rattle.burr_verify.specs.declared.refusal.Refusal.{Refusal}
+use Rattle.burr_verify.specs.Rules.PassLooks.{LookedPass, looking_code}
+use Rattle.burr_verify.specs.Rules.WellFramed.{IsLabelled}
+
+-- from one stage a pass goes on to another by so many looks, whatever it comes to from there
+abbrev pub LooksOn : List (List Cell) → FramedPlan → ℕ → FramedProcedure → Stage → Stage → ℕ
+    → Type 0
+LooksOn homes plan n here from to looks =
+    (j : Judgement) (after : ℕ) → LookedPass homes plan n here to j after
+    → LookedPass homes plan n here from j (looks + after)
+
+-- the pass ends after so many looks, by this refusal
+abbrev pub LooksStop : List (List Cell) → FramedPlan → ℕ → FramedProcedure → Stage → Refusal → ℕ
+    → Type 0
+LooksStop homes plan n here from r looks =
+    LookedPass homes plan n here from (Refuses (failed_check r)) looks
+
+-- after so many looks the procedures from number i on are still to be passed
+abbrev pub LooksFrom : List (List Cell) → FramedPlan → ℕ → ℕ → Type 0
+LooksFrom homes plan i looks =
+    (j : Judgement) (after : ℕ)
+    → looking_code homes plan i (drop i plan.procedures) j after
+    → looking_code homes plan 0 plan.procedures j (looks + after)
+
+-- Rooms, on which it rests that looks are few
+
+-- the state that falls in has room, if there is one
+abbrev pub HasRoomBefore : Option AbstractState → Type 0
+HasRoomBefore falling = IfSome falling HasRoom
+
+-- so has each frame
+abbrev pub FramesHaveRoom : FramedProcedure → Type 0
+FramesHaveRoom here = (pc : ℕ) (f : Frame) → IsLabelled here pc f → HasRoomForPoints f
+
+-- the container has a plan, and this procedure of it has such frames
+abbrev pub HasRoomyFrames : ContainerView → ℕ → Type 0
+HasRoomyFrames kept n =
+    (p : Plan) × (here : FramedProcedure) × IsContainer kept p
+    × (slice_get (framed_plan p).procedures n ≡ Some here) × FramesHaveRoom here
