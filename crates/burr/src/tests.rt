@@ -31,14 +31,14 @@ fn words_of(alloc: Global, line: &str) -> Result<Vec<String>, AllocError> {
     Ok(words)
 }
 
-/// Calls the program over a source and two vectors, and gives its status. Few bytes of lines are held
+/// Calls the program over a source and two writers, and gives its status. Few bytes of lines are held
 /// back, so that what is long is handed on in parts.
-fn status_of<T: Files + AllocGlobal, R: Source>(
+fn status_of<T: Files + AllocGlobal, R: Source, W: Write, E: Write>(
     rt: &T,
     words: &[String],
     source: &mut R,
-    output: &mut Vec<u8>,
-    complaint: &mut Vec<u8>,
+    output: &mut W,
+    complaint: &mut E,
 ) -> u8 {
     let mut sink: WholeLines<_, 64> = WholeLines::new(Writing::new(output));
     let mut complaints: WholeLines<_, 64> = WholeLines::new(Writing::new(complaint));

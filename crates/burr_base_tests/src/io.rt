@@ -1,46 +1,21 @@
 //! Sources and sinks: what readers give and writers take, and what follows a failure.
 use burr_io::{IoFailed, Reading, Sink, Source, WriteFault, Writing, put_all};
+use burr_testing::{Narrow, Portions};
 use std::alloc::{AllocError, Global};
-use std::io::{self, Cursor, ErrorKind, Read, Write};
+use std::io::{Cursor, ErrorKind};
 use std::process::Abort;
 
 mod whole_lines;
 
-/// A reader that gives a byte a call, the call's number, and fails at one call alone.
-#[derive(Drop)]
-struct Drips {
-    calls: u8,
-    fails_at: u8,
-    kind: ErrorKind,
-}
-
-impl Read for Drips {
-    fn read(&mut self, buffer: &mut [u8]) -> io::Result<usize> {
-        let call = self.calls;
-        self.calls = call.wrapping_add(1);
-        if call == self.fails_at {
-            return Err(io::Error::from(self.kind));
-        }
-        match buffer.first_mut() {
-            Some(byte) => {
-                *byte = call;
-                Ok(1)
-            }
-            None => Ok(0),
-        }
-    }
-}
+/// What a reader gives: at each call its number.
+const NUMBERS: [u8; 8] = [0, 1, 2, 3, 4, 5, 6, 7];
 
 /// Once the reader has failed it isn't called again, though it would give more.
 #[test]
 fn stays_failed_where_the_reader_fails(rt: HostRuntime) {
     for kind in [ErrorKind::Other, ErrorKind::Interrupted] {
         for fails_at in 0..4u8 {
-            let mut reader = Drips {
-                calls: 0,
-                fails_at,
-                kind,
-            };
+            let mut reader = Portions::failing(&NUMBERS, 1, usize::from(fails_at), kind);
             let mut source = Reading::new(&mut reader);
             for call in 0..fails_at {
                 let mut buffer = [9; 3];
@@ -55,7 +30,7 @@ fn stays_failed_where_the_reader_fails(rt: HostRuntime) {
                 assert!(rt; source.failed());
             }
             assert!(rt; source.pull(&mut []) == Err(IoFailed));
-            assert!(rt; reader.calls == fails_at + 1);
+            assert!(rt; reader.calls == usize::from(fails_at) + 1);
         }
     }
 }
@@ -75,51 +50,6 @@ fn assert_gives_abc<S: Source>(rt: &impl Abort, source: &mut S) {
 fn gives_what_is_left_and_then_the_end(rt: HostRuntime) {
     assert_gives_abc(&rt, &mut Reading::new(b"abc".as_slice()));
     assert_gives_abc(&rt, &mut Reading::new(Cursor::new(b"abc".as_slice())));
-}
-
-/// A writer that takes a byte a call, save at one call, where it fails or takes none.
-#[derive(Drop)]
-struct Narrow {
-    taken: Vec<u8>,
-    calls: usize,
-    refuses_at: usize,
-    fault: Option<ErrorKind>,
-}
-
-impl Narrow {
-    /// A writer that has taken nothing.
-    fn new(alloc: Global, refuses_at: usize, fault: Option<ErrorKind>) -> Narrow {
-        Narrow {
-            taken: Vec::new(alloc),
-            calls: 0,
-            refuses_at,
-            fault,
-        }
-    }
-}
-
-impl Write for Narrow {
-    fn write(&mut self, bytes: &[u8]) -> io::Result<usize> {
-        let call = self.calls;
-        self.calls = call.wrapping_add(1);
-        if call == self.refuses_at {
-            return match self.fault {
-                Some(kind) => Err(io::Error::from(kind)),
-                None => Ok(0),
-            };
-        }
-        match bytes.first() {
-            Some(first) => {
-                self.taken.push(*first)?;
-                Ok(1)
-            }
-            None => Ok(0),
-        }
-    }
-
-    fn flush(&mut self) -> io::Result<()> {
-        Ok(())
-    }
 }
 
 /// What a sink tells of calls, which `;` joins: `put` and bytes is one call, and `all` and bytes as
@@ -179,11 +109,7 @@ fn puts_the_front_that_the_writer_takes(rt: HostRuntime) {
 /// A call for no bytes asks too, and then taking none is no failure, but an error is.
 #[test]
 fn fails_at_a_call_for_no_bytes(rt: HostRuntime) {
-    let mut source = Reading::new(Drips {
-        calls: 0,
-        fails_at: 0,
-        kind: ErrorKind::Other,
-    });
+    let mut source = Reading::new(Portions::failing(&NUMBERS, 1, 0, ErrorKind::Other));
     assert!(rt; source.pull(&mut []) == Err(IoFailed));
     assert!(rt; source.failed());
     let mut sink = Writing::new(Narrow::new(rt.alloc(), 0, Some(ErrorKind::Other)));

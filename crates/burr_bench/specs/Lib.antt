@@ -1,2 +1,3 @@
 pub mod BenchViews
+pub mod Sound
 pub mod Ways

@@ -18,7 +18,8 @@ pub struct Checked<'a, B: Blocking> {
 }
 
 impl<'a, B: Blocking> Model for Checked<'a, B> {
-    ghost use Rattle.burr_state.specs.Views.Benches.{Benched, benched, IsSound};
+    ghost use Rattle.burr_state.specs.Views.Benches.{Benched, benched};
+    ghost use Rattle.burr_bench.specs.Sound.{IsSound};
 
     ghost Value = { Benched };
 

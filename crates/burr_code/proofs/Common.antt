@@ -1,4 +1,5 @@
 pub mod Conditions
+pub mod Counts
 pub mod Labels
 pub mod Orders
 pub mod PieceSets

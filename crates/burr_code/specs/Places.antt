@@ -2,11 +2,8 @@
 -- triples of forms in the verifier.
 use Rattle.std.specs.Prelude.{◌≡◌, ◌≢◌, ℕ, suc, ◌+◌, List, [], ◌∷◌, Option, Some, None, slice_get, if◌then◌else◌, ◌==◌, Bool, false}
 use Rattle.burr_code.specs.PieceSets.{IsInSet, is_left_out}
-
--- where a piece lies
-pub data Placement (Position : Type 0) : Type 0 where
-  Apart : Placement Position
-  On : (tray : ℕ) (position : Position) → Placement Position
+use Rattle.burr_code.specs.declared.placement.Placement.{Placement}
+use Rattle.burr_code.specs.declared.placement.Placement.TheVariants.{Apart, On}
 
 -- piece p lies in this tray, at this position
 abbrev pub LiesAt : {Position : Type 0} → List (Placement Position) → ℕ → ℕ → Position → Type 0
@@ -80,3 +77,8 @@ IsPartOfTray group places tray = (group ≢ 0) × (p : ℕ) × LiesIn places p t
 -- no piece lies in the tray
 abbrev pub IsEmptyTray : {Position : Type 0} → List (Placement Position) → ℕ → Type 0
 IsEmptyTray places tray = (p : ℕ) → ¬ LiesIn places p tray
+
+-- the position of a piece, if it is in this tray
+abbrev pub position_in : {Position : Type 0} → ℕ → Placement Position → Option Position
+position_in tray Apart = None
+position_in tray (On t position) = if t == tray then Some position else None

@@ -8,6 +8,8 @@ mod labels;
 mod laws;
 pub mod limits;
 mod piece_set;
+mod placement;
+mod places;
 
 pub use encoding::encode;
 pub use fetching::fetch;
@@ -15,3 +17,5 @@ pub use instr::Instr;
 pub use labels::Labels;
 pub use laws::{instructions_are_read_back, instructions_are_unique};
 pub use piece_set::is_in_set;
+pub use placement::Placement;
+pub use places::{are_all_apart, count_in_tray, is_empty_tray, take_aside};

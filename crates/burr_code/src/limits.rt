@@ -1,5 +1,8 @@
 //! The limits that instructions, plans and the bench share.
 
+/// An assembly has at most this many pieces.
+pub const MOST_PIECES: usize = 32;
+
 /// The trays are numbered from 0 to one below this.
 pub const TRAYS: u8 = 32;
 

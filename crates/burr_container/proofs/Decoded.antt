@@ -8,7 +8,8 @@ use Rattle.byteorder.specs.Endian.{big_number}
 use Rattle.byteorder.specs.Numbers.{big_number-reads_back}
 use Rattle.burr_text.proofs.Common.Decisions.{Decided, decide_at_most}
 use Rattle.burr_code.specs.Instruction.{signed_word}
-use Rattle.burr_code.specs.Places.{Placement, Apart, On}
+use Rattle.burr_code.specs.declared.placement.Placement.{Placement}
+use Rattle.burr_code.specs.declared.placement.Placement.TheVariants.{Apart, On}
 use Rattle.burr_forms.specs.Rules.Forms.{Form}
 use Rattle.burr_container.specs.declared.fault.ContainerFault.TheVariants.{C1}
 use Rattle.burr_container.specs.Rules.Plans.{FormCell, of_live}

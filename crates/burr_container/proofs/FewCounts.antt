@@ -3,7 +3,7 @@ use Rattle.std.proofs.Common.{ℕ, zero, suc, ◌<◌, ◌≤◌, ◌&&◌, ◌=
 use Rattle.std.specs.List.{list_all}
 use Rattle.std.proofs.lemmas.Bool.{and_parts}
 use Rattle.burr_code.specs.declared.limits.TheConstants.{MOST_PROCEDURES, MOST_PARAMETERS}
-use Rattle.burr_container.specs.declared.procedure_ref.ProcedureRef.{ProcedureRef}
+use Rattle.burr_container.specs.declared.stored_procedure.StoredProcedure.{StoredProcedure}
 use Rattle.burr_container.specs.Rules.Plans.{PlanProcedure}
 use Rattle.burr_container.specs.Rules.Fitting.{is_procedure, are_procedures, are_parameters, are_results}
 use Rattle.burr_container.specs.Views.InPlace.{AreFor, IsProcedure}
@@ -56,7 +56,7 @@ are_few version pieces (main ∷ others) are =
     let b = and_parts is all a.0 in
     (few_of version pieces true main b.0, all_few version pieces others b.1)
 
-kept_few : (pieces : ℕ) (kept : List ProcedureRef) (qs : List PlanProcedure) (i : ℕ) (d : ProcedureRef)
+kept_few : (pieces : ℕ) (kept : List StoredProcedure) (qs : List PlanProcedure) (i : ℕ) (d : StoredProcedure)
     → AreFor (IsProcedure pieces) kept qs → AreFew qs → i < length kept
     → IsFew (slice_index_or kept i d).parameters (slice_index_or kept i d).results
 kept_few pieces [] qs i d are few l = absurd (omega (arith, l))
@@ -68,7 +68,7 @@ kept_few pieces (x ∷ kept) (q ∷ qs) zero d are few l = record {
 kept_few pieces (x ∷ kept) (q ∷ qs) (suc i) d are few l = kept_few pieces kept qs i d are.1 few.1 (omega (arith, l))
 
 -- those of a procedure of a container
-pub few_counts : (kept : ContainerView) (i : ℕ) (d : ProcedureRef) → HasPlan kept → i < length kept.procedures
+pub few_counts : (kept : ContainerView) (i : ℕ) (d : StoredProcedure) → HasPlan kept → i < length kept.procedures
     → IsFew (slice_index_or kept.procedures i d).parameters (slice_index_or kept.procedures i d).results
 few_counts kept i d (p, fits, is) l =
     kept_few p.pieces kept.procedures p.procedures i d is.procedures

@@ -1,10 +1,9 @@
--- Tests of coefficients, one slot after the other; places that are all apart.
-use Rattle.std.proofs.Common.{◌≡◌, ℕ, zero, suc, ◌+◌, ◌<◌, ◌≤◌, List, [], ◌∷◌, length, drop, get_or, refl, sym, ap, ◌∙◌, arith}
-use Rattle.std.specs.Prelude.{slice_index, nat_lt, Bool, true, false, ◌&&◌, ℤ, pos, IsTrue, replicate}
+-- Tests of coefficients, one slot after the other.
+use Rattle.std.proofs.Common.{◌≡◌, ℕ, zero, suc, ◌+◌, ◌<◌, List, [], ◌∷◌, length, drop, get_or, refl, sym, ap, ◌∙◌, arith}
+use Rattle.std.specs.Prelude.{slice_index, nat_lt, Bool, true, false, ◌&&◌, ℤ, pos}
 use Rattle.burr_container.specs.Rules.Fitting.{is_coefficient, are_coefficients}
 use Rattle.std.specs.List.{list_all}
 use Rattle.burr_container.proofs.Written.{both_tests, below}
-use Rattle.burr_container.specs.Views.Decoding.{places_stand}
 
 pub next_test : (v : ℕ) (live : List Bool) (coefs : List ℤ) → v < length live → v < length coefs
     → are_coefficients (drop v live) (drop v coefs) ≡ (is_coefficient (get_or live v false) (get_or coefs v (pos 0)) && are_coefficients (drop (v + 1) live) (drop (v + 1) coefs))
@@ -21,12 +20,6 @@ goes_on test rest left whole so next is = sym (next ∙ ap (λ (t : Bool). t && 
 
 pub breaks_off : (test rest left whole : Bool) → left ≡ whole → left ≡ (test && rest) → test ≡ false → false ≡ whole
 breaks_off test rest left whole so next is = sym (next ∙ ap (λ (t : Bool). t && rest) is) ∙ so
-
--- bytes that are all 255 are places apart
-pub all_apart : (live : List Bool) (n m : ℕ) → n ≤ m → IsTrue (places_stand live n (replicate m 255))
-all_apart live zero m h = refl
-all_apart live (suc n) zero h = absurd (omega arith)
-all_apart live (suc n) (suc m) h = all_apart live n m (omega arith)
 
 pub first_fails : (a b c d : Bool) → a ≡ false → false ≡ (a && b && c && d)
 first_fails a b c d e = rw e refl

@@ -1,7 +1,8 @@
 -- What is kept of each.
-use Rattle.std.proofs.Common.{◌≡◌, ℕ, zero, suc, ◌≤◌, Option, Some, None, List, [], ◌∷◌, length, refl, ap, ◌∙◌, subst}
+use Rattle.std.proofs.Common.{◌≡◌, ℕ, zero, suc, ◌<◌, ◌≤◌, Option, Some, None, List, [], ◌∷◌, length, refl, ap, ◌∙◌, subst}
 use Rattle.std.specs.Prelude.{slice_get, slice_index_or, true}
 use Rattle.std.specs.Borrow.{Bor}
+use Rattle.std.proofs.lemmas.Option.{slice_get-get_or, none-some, same_Some}
 use Rattle.burr_container.specs.declared.fault.ContainerFault.{ContainerFault}
 use Rattle.burr_container.specs.declared.reading.cursor.Cursor.{Cursor}
 use Rattle.burr_container.specs.Rules.Plans.{Frame}
@@ -9,6 +10,7 @@ use Rattle.burr_container.specs.declared.fault.ContainerFault.TheVariants.{C5}
 use Rattle.burr_container.specs.Rules.Faults.{number, label}
 use Rattle.burr_container.specs.Views.Reading.{IsAt}
 use Rattle.burr_container.specs.Views.InPlace.{AreFor, IsLabel}
+use Rattle.burr_container.specs.Views.Readable.{AllReadable}
 use Rattle.burr_container.proofs.Common.Lawful.{OfPart}
 use Rattle.burr_container.proofs.Common.Fields.{number_sound}
 use Rattle.burr_container.proofs.Common.LabelLists.{of_label, label_at_sound}
@@ -44,15 +46,6 @@ label_is pieces few cursor next v l start e here kept =
     ((label_at_sound (λ position. true) pieces few).one v l cursor.rest.now next.rest.now kept.rest
     (here.fits, here.cut.parts) (kept.fits, e ∙ kept.parts)).0
 
--- it does not fail
-pub label_never : (pieces : ℕ) → pieces ≤ 32 → (cursor : Cursor) (l : ℕ × Frame)
-    (start : Bor (List ℕ)) (fault : ContainerFault) → cursor.rest.now ≡ start.now
-    → IsLabel pieces start l
-    → ¬ (label (λ position. true) pieces).Fails cursor.at cursor.rest.now fault
-label_never pieces few cursor l start fault e kept =
-    (label_at_sound (λ position. true) pieces few).never l cursor.rest.now kept.rest cursor.at fault
-    (kept.fits, e ∙ kept.parts)
-
 -- a label begins with its position
 label_begins : (pieces : ℕ) (l : ℕ × Frame) (bytes r : List ℕ)
     → OfPart (label (λ position. true) pieces) l bytes r
@@ -72,11 +65,34 @@ position_is pieces cursor next v l start e here kept =
     ((number_sound 2 C5 (λ position. true)).one v l.0 cursor.rest.now next.rest.now p.0
     (here.fits, here.cut.parts) (p.1.0, e ∙ p.1.1)).0
 
--- it does not fail
-pub position_never : (pieces : ℕ) (cursor : Cursor) (l : ℕ × Frame) (start : Bor (List ℕ))
-    (fault : ContainerFault) → cursor.rest.now ≡ start.now → IsLabel pieces start l
-    → ¬ (number 2 C5 (λ position. true)).Fails cursor.at cursor.rest.now fault
-position_never pieces cursor l start fault e kept =
-    let p = label_begins pieces l start.now kept.rest (kept.fits, kept.parts) in
-    (number_sound 2 C5 (λ position. true)).never l.0 cursor.rest.now p.0 cursor.at fault
-    (p.1.0, e ∙ p.1.1)
+-- labels that are kept can be read again
+readable_at : (pieces : ℕ) → pieces ≤ 32 → (starts : List (Bor (List ℕ))) (ls : List (ℕ × Frame))
+    (n : ℕ) (start : Bor (List ℕ)) (at : ℕ) (fault : ContainerFault)
+    → AreFor (IsLabel pieces) starts ls → slice_get starts n ≡ Some start
+    → ¬ (label (λ position. true) pieces).Fails at start.now fault
+readable_at pieces few [] ls n start at fault are there = absurd (none-some _ there)
+readable_at pieces few (s ∷ starts) [] n start at fault are there = absurd are
+readable_at pieces few (s ∷ starts) (l ∷ ls) zero start at fault are there =
+    subst (λ (b : Bor (List ℕ)). ¬ (label (λ position. true) pieces).Fails at b.now fault)
+    (same_Some _ _ there)
+    ((label_at_sound (λ position. true) pieces few).never l s.now are.0.rest at fault
+    (are.0.fits, are.0.parts))
+readable_at pieces few (s ∷ starts) (l ∷ ls) (suc n) start at fault are there =
+    readable_at pieces few starts ls n start at fault are.1 there
+
+pub all_readable : (pieces : ℕ) → pieces ≤ 32 → (starts : List (Bor (List ℕ)))
+    (ls : List (ℕ × Frame)) → AreFor (IsLabel pieces) starts ls → AllReadable pieces starts
+all_readable pieces few starts ls are =
+    λ n start there at fault. readable_at pieces few starts ls n start at fault are there
+
+-- so a label does not fail at a cursor that begins where one is kept
+pub kept_never : (pieces n : ℕ) (starts kept : List (Bor (List ℕ))) (default : Bor (List ℕ))
+    (cursor : Cursor) (fault : ContainerFault) → AllReadable pieces starts → n < length starts
+    → kept ≡ starts → cursor.rest.now ≡ (slice_index_or kept n default).now
+    → ¬ (label (λ position. true) pieces).Fails cursor.at cursor.rest.now fault
+kept_never pieces n starts kept default cursor fault readable inside same here fails =
+    let there = ap (λ (xs : List (Bor (List ℕ))). (slice_index_or xs n default).now) same in
+    readable n (slice_index_or starts n default) (slice_get-get_or starts n default inside)
+    cursor.at fault
+    (subst (λ (bytes : List ℕ). (label (λ position. true) pieces).Fails cursor.at bytes fault)
+    (here ∙ there) fails)

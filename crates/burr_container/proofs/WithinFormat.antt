@@ -1,10 +1,10 @@
 -- What the format bounds is within its bounds in each container.
-use Rattle.std.proofs.Common.{◌≡◌, ◌≤◌, ℕ, zero, suc, Bool, true, false, Some, List, [], ◌∷◌, length, refl, sym, subst, arith, nat_le, ◌&&◌, slice_get}
+use Rattle.std.proofs.Common.{◌≡◌, ◌≤◌, ℕ, zero, suc, Bool, true, false, Some, List, [], ◌∷◌, length, refl, sym, subst, ◌∙◌, arith, nat_le, ◌&&◌, slice_get}
 use Rattle.std.specs.List.{list_all}
 use Rattle.std.proofs.lemmas.Bool.{and_parts, leb-true, false≢true}
 use Rattle.std.proofs.lemmas.Option.{none-some, same_Some}
 use Rattle.burr_code.specs.declared.limits.TheConstants.{MOST_CODE}
-use Rattle.burr_container.specs.declared.procedure_ref.ProcedureRef.{ProcedureRef}
+use Rattle.burr_container.specs.declared.stored_procedure.StoredProcedure.{StoredProcedure}
 use Rattle.burr_container.specs.Rules.Plans.{PlanProcedure}
 use Rattle.burr_container.specs.Rules.Fitting.{are_procedures, is_procedure}
 use Rattle.burr_container.proofs.Common.Procedures.{procedure_fits}
@@ -43,7 +43,7 @@ each_code version pieces (main ∷ others) (suc i) q fits at =
     fitting_code version pieces false q (one_of_all (is_procedure version pieces false) others i q (and_parts (is_procedure version pieces true main) _ both.0).1 at)
 
 -- the code of a container's procedure
-pub code_short : (kept : ContainerView) (i : ℕ) (r : ProcedureRef) → HasPlan kept → slice_get kept.procedures i ≡ Some r → length r.code.now ≤ MOST_CODE
+pub code_short : (kept : ContainerView) (i : ℕ) (r : StoredProcedure) → HasPlan kept → slice_get kept.procedures i ≡ Some r → length r.code.now ≤ MOST_CODE
 code_short kept i r (p, fits, is) at =
     let q = for_there (IsProcedure p.pieces) kept.procedures p.procedures i r is.procedures at in
     subst (λ (bytes : List ℕ). length bytes ≤ MOST_CODE) (sym q.2.code) (each_code p.version p.pieces p.procedures i q.0 (plan_fits p fits).procedures q.1)
@@ -52,7 +52,12 @@ code_short kept i r (p, fits, is) at =
 pub some_procedure : (kept : ContainerView) → HasPlan kept → 1 ≤ length kept.procedures
 some_procedure kept (p, fits, is) = at_least_one kept.procedures p.procedures is.procedures (plan_fits p fits).procedures
   where
-    at_least_one : (rs : List ProcedureRef) (qs : List PlanProcedure) → AreFor (IsProcedure p.pieces) rs qs → are_procedures p.version p.pieces qs ≡ true → 1 ≤ length rs
+    at_least_one : (rs : List StoredProcedure) (qs : List PlanProcedure) → AreFor (IsProcedure p.pieces) rs qs → are_procedures p.version p.pieces qs ≡ true → 1 ≤ length rs
     at_least_one rs [] are fits = absurd (false≢true fits)
     at_least_one [] (q ∷ qs) are fits = absurd are
     at_least_one (r ∷ rs) (q ∷ qs) are fits = omega arith
+
+-- the labels of a procedure are kept for a plan of so many pieces as the header tells
+pub labels_of_plan : (kept : ContainerView) (i : ℕ) (r : StoredProcedure) → HasPlan kept → slice_get kept.procedures i ≡ Some r → r.labels.pieces ≡ kept.header.pieces
+labels_of_plan kept i r (p, fits, is) at =
+    let q = for_there (IsProcedure p.pieces) kept.procedures p.procedures i r is.procedures at in q.2.of_plan ∙ sym is.header.pieces

@@ -2,7 +2,7 @@
 use Rattle.std.proofs.Common.{◌≡◌, true, false, IsTrue, [], ◌∷◌, None, codes, inl, inr, refl, arith}
 use Rattle.std.specs.Prelude.{replicate, pos}
 use Rattle.std.proofs.lemmas.Bool.{false≢true}
-use Rattle.burr_code.specs.Places.{Apart, On}
+use Rattle.burr_code.specs.declared.placement.Placement.TheVariants.{Apart, On}
 use Rattle.burr_forms.specs.Rules.Forms.{Form}
 use Rattle.burr_container.specs.declared.fault.ContainerFault.{ContainerFault}
 use Rattle.burr_container.specs.declared.fault.ContainerFault.TheVariants.{C1, C2, C3, C4}

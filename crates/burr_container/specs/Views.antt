@@ -3,6 +3,8 @@ pub mod Counts
 pub mod Cuts
 pub mod Decoding
 pub mod InPlace
+pub mod Lent
 pub mod OwnedPlaces
+pub mod Readable
 pub mod Reading
 pub mod Refs

@@ -1,7 +1,5 @@
-ghost use Rattle.std.specs.Prelude.{◌≤◌};
-
 use crate::header::Header;
-use crate::procedure_ref::ProcedureRef;
+use crate::stored_procedure::StoredProcedure;
 use arrayvec::ArrayVec;
 use burr_code::limits::MOST_PROCEDURES;
 use std::marker::Model;
@@ -11,8 +9,7 @@ use std::marker::Model;
 #[derive(Drop)]
 pub struct Container<'a> {
     pub(crate) header: Header<'a>,
-    pub(crate) procedures: ArrayVec<ProcedureRef<'a>, MOST_PROCEDURES>,
-    ghost few_pieces: { header.pieces ≤ 32 },
+    pub(crate) procedures: ArrayVec<StoredProcedure<'a>, MOST_PROCEDURES>,
 }
 
 impl<'a> Model for Container<'a> {

@@ -8,6 +8,7 @@ ghost use Rattle.burr_container.specs.Views.Reading.{ReadsAs};
 ghost use Rattle.burr_container.specs.Views.Refs.{frame_of};
 ghost use Rattle.burr_container.specs.Views.InPlace.{AreFor, IsProcedure, IsExit};
 ghost use Rattle.burr_container.specs.Views.Containers.{ReadsContainer, IsContainer, HasPlan, IsHeader, HasLabel, OfProcedure, OfLabel};
+ghost use Rattle.burr_container.specs.Views.Lent.{IsLent};
 
 use crate::container::Container;
 use crate::exit_ref::ExitRef;
@@ -16,6 +17,7 @@ use crate::frame_ref::FrameRef;
 use crate::header::Header;
 use crate::procedure_ref::ProcedureRef;
 use crate::reading::{Cursor, count_within, header, main_procedure, other_procedure};
+use crate::stored_procedure::StoredProcedure;
 use arrayvec::ArrayVec;
 use burr_code::limits::MOST_PROCEDURES;
 
@@ -52,6 +54,17 @@ impl<'a> Container<'a> {
         ensures plan { (p : Plan) → IsContainer self.now p → result ≡ length p.procedures }
     {
         self.procedures.len()
+    }
+
+    /// Procedure i, which its readers ask of without its number.
+    pub fn procedure(&self, i: usize) -> ProcedureRef<'_, 'a>
+        requires { i < length self.now.procedures }
+        ensures { IsLent self.now i result }
+    {
+        ProcedureRef {
+            container: self,
+            number: i,
+        }
     }
 
     /// How many parameters procedure i has, 0 to 4.
@@ -99,8 +112,7 @@ impl<'a> Container<'a> {
         ensures places { result.places.count ≡ self.now.header.pieces }
         ensures plan { OfLabel self.now i n (λ l. frame_of result ≡ l.1) }
     {
-        let labels = &self.procedures[i].labels;
-        labels.label(self.header.pieces, n).1
+        self.procedures[i].labels.label(n).1
     }
 
     /// The exit frame of procedure i; None for main.
@@ -128,7 +140,7 @@ fn procedures(
     version: u16,
     pieces: u8,
     cursor: Cursor<'_>,
-) -> Result<(ArrayVec<ProcedureRef<'_>, MOST_PROCEDURES>, Cursor<'_>), ContainerFault>
+) -> Result<(ArrayVec<StoredProcedure<'_>, MOST_PROCEDURES>, Cursor<'_>), ContainerFault>
     requires { pieces ≤ 32 }
     ensures { ReadsAs (λ kept ps. AreFor (IsProcedure pieces) kept.items ps)
         (procedures_part version pieces) cursor.entry result }

@@ -1,12 +1,11 @@
-use crate::exit_ref::ExitRef;
-use crate::label_table::LabelTable;
+ghost use Rattle.std.specs.Prelude.{◌<◌, length};
 
-/// A procedure of a container.
-#[derive(Drop, Default)]
-pub struct ProcedureRef<'a> {
-    pub parameters: u8,
-    pub results: u8,
-    pub exit: Option<ExitRef<'a>>,
-    pub labels: LabelTable<'a>,
-    pub code: &'a [u8],
+use crate::container::Container;
+
+/// A procedure that a container has, lent by it.
+#[derive(Clone, Copy)]
+pub struct ProcedureRef<'a, 'c: 'a> {
+    pub(crate) container: &'a Container<'c>,
+    pub(crate) number: usize,
+    ghost in_range: { number < length container.now.procedures },
 }

@@ -2,6 +2,7 @@
 use crate::answers::answer;
 use crate::inputs::input_of;
 use crate::tables::assert_tables;
+use burr_testing::assemblies::{CUP, DUO, RING};
 use std::test::Fail;
 
 mod cells;
@@ -13,21 +14,6 @@ use cells::*;
 use faults::*;
 use limits::*;
 use words::*;
-
-/// Two cubes side by side.
-pub const DUO: &str = "\
-assembly duo\nshape cube\nlayer\n#\nend\npiece A cube +x+y+z 0 0 0\n\
-piece B cube +x+y+z 1 0 0\n";
-
-/// A rod in the hole of a ring.
-pub const RING: &str = "\
-assembly ring\nshape rod\nlayer\n#\nlayer\n#\nlayer\n#\nend\nshape ring\nlayer\n###\n#.#\n\
-###\nend\npiece A rod +x+y+z 1 1 0\npiece B ring +x+y+z 0 0 0\n";
-
-/// A dot in a bowl.
-pub const CUP: &str = "\
-assembly cup\nshape dot\nlayer\n#\nend\nshape bowl\nlayer\n###\n###\n###\nlayer\n###\n#.#\n\
-###\nend\npiece A dot +x+y+z 1 1 1\npiece B bowl +x+y+z 0 0 0\n";
 
 const TABLES: [[&str; 4]; 30] = [
     ["assembly", DUO, "@", CHANGES],

@@ -5,18 +5,19 @@ use crate::asm::{
 };
 use crate::tables::assert_tables;
 use burr_container::{Frame, Place, Plan, PlanForm, Procedure};
+use burr_testing::plans::{DUO_PLAN, RESULT_PLAN, RING_PLAN};
 use std::alloc::{AllocError, Global};
 use std::test::Fail;
 
 const TABLES: [[&str; 4]; 10] = [
-    ["container", DUO_FIELDS, DUO_PLACES, "|"],
-    ["container", RING_FIELDS, RING_PLACES, "|"],
-    ["container", DUO_FIELDS, SECOND_LABEL_PLACES, SECOND_LABEL],
-    ["container", DUO_FIELDS, DUO_2_PLACES, IN_VERSION_2],
-    ["container", ANSWERED_LIFT_FIELDS, ANSWERED_LIFT_PLACES, "|"],
-    ["container", DUO_FIELDS, "@", OF_DUO],
-    ["container", RING_FIELDS, "@", OF_RING],
-    ["container", ANSWERED_LIFT_FIELDS, "@", OF_ANSWERED_LIFT],
+    ["container", DUO_PLAN, DUO_PLACES, "|"],
+    ["container", RING_PLAN, RING_PLACES, "|"],
+    ["container", DUO_PLAN, SECOND_LABEL_PLACES, SECOND_LABEL],
+    ["container", DUO_PLAN, DUO_2_PLACES, IN_VERSION_2],
+    ["container", RESULT_PLAN, ANSWERED_LIFT_PLACES, "|"],
+    ["container", DUO_PLAN, "@", OF_DUO],
+    ["container", RING_PLAN, "@", OF_RING],
+    ["container", RESULT_PLAN, "@", OF_ANSWERED_LIFT],
     ["container", "@", "@", FRONTS],
     ["plan", "@", "@", PLANS],
 ];
@@ -82,162 +83,11 @@ const ZERO: PlanForm = PlanForm {
 /// A place in tray 0, where the piece begins.
 const HOME: Place = Place::On(0, ZERO, ZERO, ZERO);
 
-/// Two cubes: the grip takes the first one out, aside. A line is a field: the magic, the version,
-/// the budget, the pieces, the length of the name and the name, the procedures; the parameters of
-/// main and its labels; the label's position, its tray, grip, live slots, guards, operands and
-/// cost, and of each piece the tray and the offset; the size of the code, and the code.
-pub const DUO_FIELDS: &str = "\
-42 50 4c 4e
-00 01
-00 00 00 03
-02
-03
-64 75 6f
-01
-00
-00 01
-00 00
-00
-00 00 00 00
-00
-00
-00
-00 00 00 03
-00
-00 00 00 00 00 00 00 00 00 00 00 00
-00
-00 00 00 00 00 00 00 00 00 00 00 00
-00 09
-10 00 00 00 01 12 01 01 00
-";
-
-/// A rod in a ring: a loop moves it up, and then it goes aside. From line 21 on the second label
-/// has the position, the tray, the grip, the live slots, the lowest and the highest of slot 0, and
-/// then the same as the first.
-pub const RING_FIELDS: &str = "\
-42 50 4c 4e
-00 01
-00 00 00 0b
-02
-04
-72 69 6e 67
-01
-00
-00 02
-00 00
-00
-00 00 00 00
-00
-00
-00
-00 00 00 0b
-00
-00 00 00 00 00 00 00 00 00 00 00 00
-00
-00 00 00 00 00 00 00 00 00 00 00 00
-00 0a
-00
-00 00 00 01
-01
-00 00
-00 02
-00
-00
-00 00 00 04 00 02
-00
-00 00 00 00 00 00 00 00 00 00 00 00 00 00 00 02 ff ff
-00
-00 00 00 00 00 00 00 00 00 00 00 00 00 00 00 00 00 00
-00 14
-10 00 00 00 01 01 00 02 03 00 11 04 21 00 00 01 12 04 01 00
-";
-
 /// A second label at the second byte of the code, with the frame of the first.
 const SECOND_LABEL: &str = "\
 9 00 02|\
 20 00 00 00 00 00 00 00 00 00 00 00 00/00 01/00/00 00 00 00/00/00/00/00 00 00 03/00/\
 00 00 00 00 00 00 00 00 00 00 00 00/00/00 00 00 00 00 00 00 00 00 00 00 00|
-";
-
-/// A dot in a bowl, in version 2: the procedure of main calls another, which has a result. From
-/// line 24 on that one has its parameters and its results; of its exit frame the tray, the grip,
-/// the lowest and the highest of the result, the guards, and of each piece the tray and the offset;
-/// and its labels, each as above, the ranges of both slots on one line.
-pub const ANSWERED_LIFT_FIELDS: &str = "\
-42 50 4c 4e
-00 02
-00 00 00 12
-02
-03
-63 75 70
-02
-00
-00
-00 01
-00 00
-00
-00 00 00 00
-00
-00
-00
-00 00 00 12
-00
-<12 00 >
-00
-<12 00 >
-00 0c
-10 00 00 00 01 24 01 06 12 04 01 00
-00
-01
-00
-00 00 00 01
-00 00
-00 02
-00
-00
-00 00 00 00 00 00 00 00 00 00 00 00 00 00 00 00 00 01
-00
-<18 00 >
-00 03
-00 00
-00
-00 00 00 01
-00
-00
-00
-00 00 00 0d
-00
-<12 00 >
-00
-<12 00 >
-00 0b
-00
-00 00 00 01
-03
-00 00 00 02 00 00 00 02
-01
-00 00 00 00 00 01 ff ff
-00
-00 00 00 03 00 00 00 03
-00
-<16 00 >00 00 00 00 00 01 ff ff
-00
-<24 00 >
-00 12
-00
-00 00 00 01
-03
-00 00 00 02 00 00 00 01
-01
-ff ff ff ff 00 01 ff ff
-00
-00 00 00 05 00 00 00 03
-00
-<16 00 >ff ff ff ff 00 01 ff ff
-00
-<24 00 >
-00 17
-22 00 00 00 02 03 00 02 00 03 01 21 01 00 02 02 00 25 11 04 20 00 01
 ";
 
 /// Fields of the two cubes that have version 2.

@@ -1,9 +1,9 @@
 //! Texts and containers that are damaged at each of their places in turn.
 use crate::answers::answer;
-use crate::asm::{ANSWERED_LIFT, LIFT, RING as RING_PLAN};
-use crate::assembly::{CUP, DUO, RING};
-use crate::container::{ANSWERED_LIFT_FIELDS, DUO_FIELDS, RING_FIELDS};
+use crate::asm::{ANSWERED_LIFT, LIFT, RING as RING_TEXT};
 use crate::inputs::{input_of, text_of};
+use burr_testing::assemblies::{CUP, DUO, RING};
+use burr_testing::plans::{DUO_PLAN, RESULT_PLAN, RING_PLAN};
 use std::alloc::{AllocError, Global};
 use std::process::Abort;
 use std::test::Fail;
@@ -28,7 +28,7 @@ use Want::{After, Anywhere, Byte, Bytes, Front};
 
 /// The kind of an answer and what the input is made of; how many bytes are taken out from each
 /// place on, the bytes of which one is put in there, if there are any; and what is wanted then.
-type Damage = (&'static str, &'static str, usize, &'static [u8], Want);
+type Damage<'a> = (&'static str, &'static str, usize, &'a [u8], Want);
 
 /// All that stands after a place.
 const REST: usize = usize::MAX;
@@ -39,78 +39,65 @@ const OF_NO_LINE: &[u8] = b" \t\r\0\x7f\x80\xa0\xff";
 /// Bytes that have a meaning in plans.
 const OF_PLANS: &[u8] = b"\n ;01-,v";
 
-const DAMAGES: [Damage; 12] = [
+const DAMAGES: [Damage<'static>; 12] = [
     ("assembly", DUO, REST, b"", Front([5, 6, 6])),
     ("assembly", RING, REST, b"", Front([9, 15, 16])),
     ("assembly", CUP, REST, b"", Front([5, 15, 16])),
-    ("container", DUO_FIELDS, REST, b"", Bytes),
-    ("container", RING_FIELDS, REST, b"", Bytes),
-    ("container", ANSWERED_LIFT_FIELDS, REST, b"", Bytes),
+    ("container", DUO_PLAN, REST, b"", Bytes),
+    ("container", RING_PLAN, REST, b"", Bytes),
+    ("container", RESULT_PLAN, REST, b"", Bytes),
     ("assembly", DUO, 0, OF_NO_LINE, Byte("", "")),
     ("assembly", RING, 0, OF_NO_LINE, Byte("", "")),
     ("assembly", CUP, 0, OF_NO_LINE, Byte("", "")),
-    ("asm", RING_PLAN, 1, OF_PLANS, Anywhere),
+    ("asm", RING_TEXT, 1, OF_PLANS, Anywhere),
     ("asm", LIFT, 1, OF_PLANS, Anywhere),
     ("asm", ANSWERED_LIFT, 1, OF_PLANS, Anywhere),
 ];
 
-/// No text but one stands for an assembly.
-const OTHER_DUOS: [Damage; 3] = [
-    ("assembly", DUO, 1, b"", After),
-    ("assembly", DUO, 1, b"\n", After),
-    ("assembly", DUO, 1, &OF_LINES, After),
-];
-
-const OTHER_RINGS: [Damage; 3] = [
-    ("assembly", RING, 1, b"", After),
-    ("assembly", RING, 1, b"\n", After),
-    ("assembly", RING, 1, &OF_LINES, After),
-];
-
 /// All bytes but an LF.
-const OF_LINES: [u8; 255] = [
-    0x00, 0x01, 0x02, 0x03, 0x04, 0x05, 0x06, 0x07, 0x08, 0x09, 0x0b, 0x0c, 0x0d, 0x0e, 0x0f, 0x10,
-    0x11, 0x12, 0x13, 0x14, 0x15, 0x16, 0x17, 0x18, 0x19, 0x1a, 0x1b, 0x1c, 0x1d, 0x1e, 0x1f, 0x20,
-    0x21, 0x22, 0x23, 0x24, 0x25, 0x26, 0x27, 0x28, 0x29, 0x2a, 0x2b, 0x2c, 0x2d, 0x2e, 0x2f, 0x30,
-    0x31, 0x32, 0x33, 0x34, 0x35, 0x36, 0x37, 0x38, 0x39, 0x3a, 0x3b, 0x3c, 0x3d, 0x3e, 0x3f, 0x40,
-    0x41, 0x42, 0x43, 0x44, 0x45, 0x46, 0x47, 0x48, 0x49, 0x4a, 0x4b, 0x4c, 0x4d, 0x4e, 0x4f, 0x50,
-    0x51, 0x52, 0x53, 0x54, 0x55, 0x56, 0x57, 0x58, 0x59, 0x5a, 0x5b, 0x5c, 0x5d, 0x5e, 0x5f, 0x60,
-    0x61, 0x62, 0x63, 0x64, 0x65, 0x66, 0x67, 0x68, 0x69, 0x6a, 0x6b, 0x6c, 0x6d, 0x6e, 0x6f, 0x70,
-    0x71, 0x72, 0x73, 0x74, 0x75, 0x76, 0x77, 0x78, 0x79, 0x7a, 0x7b, 0x7c, 0x7d, 0x7e, 0x7f, 0x80,
-    0x81, 0x82, 0x83, 0x84, 0x85, 0x86, 0x87, 0x88, 0x89, 0x8a, 0x8b, 0x8c, 0x8d, 0x8e, 0x8f, 0x90,
-    0x91, 0x92, 0x93, 0x94, 0x95, 0x96, 0x97, 0x98, 0x99, 0x9a, 0x9b, 0x9c, 0x9d, 0x9e, 0x9f, 0xa0,
-    0xa1, 0xa2, 0xa3, 0xa4, 0xa5, 0xa6, 0xa7, 0xa8, 0xa9, 0xaa, 0xab, 0xac, 0xad, 0xae, 0xaf, 0xb0,
-    0xb1, 0xb2, 0xb3, 0xb4, 0xb5, 0xb6, 0xb7, 0xb8, 0xb9, 0xba, 0xbb, 0xbc, 0xbd, 0xbe, 0xbf, 0xc0,
-    0xc1, 0xc2, 0xc3, 0xc4, 0xc5, 0xc6, 0xc7, 0xc8, 0xc9, 0xca, 0xcb, 0xcc, 0xcd, 0xce, 0xcf, 0xd0,
-    0xd1, 0xd2, 0xd3, 0xd4, 0xd5, 0xd6, 0xd7, 0xd8, 0xd9, 0xda, 0xdb, 0xdc, 0xdd, 0xde, 0xdf, 0xe0,
-    0xe1, 0xe2, 0xe3, 0xe4, 0xe5, 0xe6, 0xe7, 0xe8, 0xe9, 0xea, 0xeb, 0xec, 0xed, 0xee, 0xef, 0xf0,
-    0xf1, 0xf2, 0xf3, 0xf4, 0xf5, 0xf6, 0xf7, 0xf8, 0xf9, 0xfa, 0xfb, 0xfc, 0xfd, 0xfe, 0xff,
-];
-
-#[test]
-fn judges_what_is_damaged(rt: HostRuntime) -> Result<(), Fail> {
-    Ok(assert_damages(&rt, rt.alloc(), &DAMAGES)?)
+fn of_lines() -> [u8; 255] {
+    let mut bytes = [0; 255];
+    let mut next = 0u8;
+    for byte in &mut bytes {
+        *byte = next;
+        next = match next {
+            0x09 => 0x0b,
+            _ => next.wrapping_add(1),
+        };
+    }
+    bytes
 }
 
-#[test]
-fn reads_no_second_text_of_two_cubes(rt: HostRuntime) -> Result<(), Fail> {
-    Ok(assert_damages(&rt, rt.alloc(), &OTHER_DUOS)?)
-}
-
-#[test]
-fn reads_no_second_text_of_a_rod_in_a_ring(rt: HostRuntime) -> Result<(), Fail> {
-    Ok(assert_damages(&rt, rt.alloc(), &OTHER_RINGS)?)
-}
-
-fn assert_damages(rt: &impl Abort, alloc: Global, damages: &[Damage]) -> Result<(), AllocError> {
-    for damage in damages {
-        assert_damage(rt, alloc, *damage)?;
+/// Asserts that no text but one stands for an assembly: where a byte is taken out, and where another
+/// one is put in its place.
+fn assert_only_text(rt: &impl Abort, alloc: Global, text: &'static str) -> Result<(), AllocError> {
+    let others = of_lines();
+    for put in [b"".as_slice(), b"\n", &others] {
+        assert_damage(rt, alloc, ("assembly", text, 1, put, After))?;
     }
     Ok(())
 }
 
+#[test]
+fn judges_what_is_damaged(rt: HostRuntime) -> Result<(), Fail> {
+    for damage in &DAMAGES {
+        assert_damage(&rt, rt.alloc(), *damage)?;
+    }
+    Ok(())
+}
+
+#[test]
+fn reads_no_second_text_of_two_cubes(rt: HostRuntime) -> Result<(), Fail> {
+    Ok(assert_only_text(&rt, rt.alloc(), DUO)?)
+}
+
+#[test]
+fn reads_no_second_text_of_a_rod_in_a_ring(rt: HostRuntime) -> Result<(), Fail> {
+    Ok(assert_only_text(&rt, rt.alloc(), RING)?)
+}
+
 /// Asserts what is wanted at each place. What is put in can stand at the end too.
-fn assert_damage(rt: &impl Abort, alloc: Global, damage: Damage) -> Result<(), AllocError> {
+fn assert_damage(rt: &impl Abort, alloc: Global, damage: Damage<'_>) -> Result<(), AllocError> {
     let (kind, base, taken, _put, _want) = damage;
     let input = input_of(alloc, kind, base, "")?;
     let end = if taken == 0 { 1 } else { 0 };
@@ -124,7 +111,7 @@ fn assert_damage(rt: &impl Abort, alloc: Global, damage: Damage) -> Result<(), A
 fn assert_place(
     rt: &impl Abort,
     alloc: Global,
-    damage: Damage,
+    damage: Damage<'_>,
     input: &[u8],
     place: usize,
 ) -> Result<(), AllocError> {
@@ -218,7 +205,8 @@ fn assert_row(rt: &impl Abort, alloc: Global, row: &'static str) -> Result<bool,
     let edit = line.replace(alloc, '|', "\x01")?;
     let text = text_of(alloc, DUO, &edit)?;
     let place = text.find('\x01').unwrap_or(0);
-    let damage = ("assembly", DUO, 1, OF_LINES.as_slice(), Byte(right, other));
+    let bytes = of_lines();
+    let damage = ("assembly", DUO, 1, bytes.as_slice(), Byte(right, other));
     assert_place(rt, alloc, damage, text.as_bytes(), place)?;
     Ok(true)
 }

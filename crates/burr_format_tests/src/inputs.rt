@@ -3,25 +3,17 @@
 //! input is made of is a text with an `@`, in whose place the input is put, or a text without one,
 //! of which the input edits lines: `4 cost 7|9 halt` puts `cost 7` in the place of the fourth line
 //! and `halt` in that of the ninth.
+use burr_testing::bytes_of;
 use std::alloc::{AllocError, Global};
 
 /// The bytes of an input to answers of a kind.
 pub fn input_of(alloc: Global, kind: &str, base: &str, input: &str) -> Result<Vec<u8>, AllocError> {
     let text = text_of(alloc, base, input)?;
     match kind {
-        "code" | "labels" | "container" | "plan" => bytes_of(alloc, &text),
+        // a word that is no number would be the fault of a table
+        "code" | "labels" | "container" | "plan" => bytes_of(alloc, &text).ok_or(AllocError),
         _ => Vec::from_slice(alloc, text.as_bytes()),
     }
-}
-
-/// The bytes that words name by two hexadecimal digits each.
-fn bytes_of(alloc: Global, text: &str) -> Result<Vec<u8>, AllocError> {
-    let mut bytes = Vec::new(alloc);
-    for word in text.split_whitespace() {
-        // a word that is no number would be the fault of a table, and shows as another byte
-        bytes.push(u8::from_str_radix(word, 16).unwrap_or(0xee))?;
-    }
-    Ok(bytes)
 }
 
 /// The text that is made of another one and an input.

@@ -1,25 +1,27 @@
 -- Values of a state's forms, one after the other, beside those of another state's.
-use Rattle.std.proofs.Common.{◌≡◌, ℕ, suc, List, [], ◌∷◌, ◌++◌, length, take, drop, map, refl, sym, ap, subst, ◌∙◌, ℤ}
+use Rattle.std.proofs.Common.{◌≡◌, ℕ, suc, List, [], ◌∷◌, ◌++◌, length, take, drop, map, refl, sym, ap, subst, ◌∙◌, ℤ, arith}
 use Rattle.std.specs.Prelude.{reverse, Option, Some, None, MatchOption}
 use Rattle.arrayvec.specs.ArrayVec.{ArrayVec}
 use Rattle.std.proofs.lemmas.List.{length-map, length-reverse, map-append, reverse-reverse, reverse-append}
 use Rattle.std.proofs.lemmas.Option.{none-some, same_Some}
 use Rattle.burr_voxels.specs.declared.cell.Cell.{Cell}
 use Rattle.burr_voxels.specs.Grid.{at}
-use Rattle.burr_code.specs.Places.{Placement, Apart, On, tray_of}
+use Rattle.burr_code.specs.declared.placement.Placement.{Placement}
+use Rattle.burr_code.specs.declared.placement.Placement.TheVariants.{Apart, On}
+use Rattle.burr_code.specs.Places.{tray_of}
 use Rattle.burr_forms.specs.Rules.Forms.{Form, Point, value, values}
 use Rattle.burr_forms.specs.Rules.Conditions.{Region, at_values, Throughout, FailsFirstAt}
 use Rattle.burr_container.specs.Rules.Plans.{FormCell}
 use Rattle.burr_frames.specs.Rules.States.{AbstractState, region_of, cell_at, places_at}
 use Rattle.burr_frames.specs.Rules.Arrival.{IsAlike}
-use Rattle.burr_frames.specs.Views.Comparing.{offset_forms, Target, IsMetAt, IsMetBy}
-use Rattle.burr_frames.specs.Views.ArrivalViews.{AgreesAtCostOf}
+use Rattle.burr_frames.specs.Views.Comparing.{offset_forms, Target, symbols_of, IsMetAt, IsMetBy}
+use Rattle.burr_frames.specs.Views.ArrivalViews.{AgreesAbove}
 use Rattle.burr_code.proofs.Common.Conditions.{same_position}
 use Rattle.burr_frames.proofs.Common.Decided.{no_first, same_head, same_tail}
 
 -- Cutting
 
-pub take_front : {A : Type 0} (xs ys : List A) (n : ℕ) → length xs ≡ n → take n (xs ++ ys) ≡ xs
+take_front : {A : Type 0} (xs ys : List A) (n : ℕ) → length xs ≡ n → take n (xs ++ ys) ≡ xs
 take_front xs ys n l = subst (λ (k : ℕ). take k (xs ++ ys) ≡ xs) l (whole xs ys)
   where
     whole : {A : Type 0} (xs ys : List A) → take (length xs) (xs ++ ys) ≡ xs
@@ -133,49 +135,66 @@ same_offsets point there (On t c ∷ xs) (On u d ∷ ys) trays e =
     (same_tail (On t a) (On u b) (places_at point xs) (places_at there ys) e) in
     λ i. (sym cell i).x ∷ (sym cell i).y ∷ (sym cell i).z ∷ after i
 
+-- The comparison
+
+-- the values are those of the symbols, those that others are not to be above, and those that are the
+-- same
+pub parts_met : (t : Target) (symbols upper same : List Form) (point : Point) → length symbols ≡ symbols_of t
+    → length upper ≡ length t.least
+    → IsMetBy t (values point (symbols ++ (upper ++ same)))
+    ≡ IsMetAt t (values point symbols) (values point upper) (values point same)
+parts_met t symbols upper same point many rows =
+    let others = values point (upper ++ same) in
+    let whole = map-append (value point) symbols (upper ++ same) in
+    let l = length-map symbols (value point) ∙ many in
+    let first = ap (take (symbols_of t)) whole ∙ take_front (values point symbols) others (symbols_of t) l in
+    let others_are = map-append (value point) upper same in
+    let after = ap (drop (symbols_of t)) whole ∙ drop_front (values point symbols) others (symbols_of t) l ∙ others_are in
+    let m = length-map upper (value point) ∙ rows in
+    let second = ap (take (length t.least)) after ∙ take_front (values point upper) (values point same) (length t.least) m in
+    let third = ap (drop (length t.least)) after ∙ drop_front (values point upper) (values point same) (length t.least) m in
+    λ i. IsMetAt t (first i) (second i) (third i)
+
+-- the first point of a region at which a condition fails, if there is one
+abbrev pub FirstFailure : Region → (Point → Type 0) → Option (ArrayVec ℤ) → Type 0
+FirstFailure r P found = MatchOption found (Throughout r P) (λ point. FailsFirstAt r P point.items)
+
+-- it is that of a condition which holds at the same points
+pub failure_of_same : (r : Region) (P Q : Point → Type 0) → ((point : Point) → P point → Q point)
+    → ((point : Point) → Q point → P point) → (found : Option (ArrayVec ℤ)) → FirstFailure r P found → FirstFailure r Q found
+failure_of_same r P Q there back None h = λ point is. there point (h point is)
+failure_of_same r P Q there back (Some point) h = record {
+  is_point = h.is_point;
+  fails = λ holds. h.fails (back point.items holds);
+  before = λ q is before. there q (h.before q is before);
+}
+
+-- what is handed to the search
+pub record Handed : Type 0 where
+  pub region : Region
+  pub target : Target
+  pub asked : List Form
+
+abbrev pub FailsAsHanded : Option (ArrayVec ℤ) → Handed → Type 0
+FailsAsHanded found h = FirstFailure h.region (at_values (IsMetBy h.target) h.asked) found
+
 -- States
 
 -- what a state is compared by, and what with another one
-abbrev pub asked_of : AbstractState → List Form → List Form
-asked_of s live = live ++ ((s.cost ∷ []) ++ (reverse s.operands ++ offset_forms s.places))
+abbrev pub asked_of : AbstractState → List Form → List Form → List Form
+asked_of s forms upper = forms ++ (upper ++ (reverse s.operands ++ offset_forms s.places))
 
-abbrev pub sought_in : AbstractState → Target
-sought_in t = record {
+abbrev pub sought_in : AbstractState → List Form → Target
+sought_in t least = record {
+  free = 0;
   ranges = t.ranges;
   guards = t.guards;
-  least = t.cost ∷ [];
+  least = least;
   same = reverse t.operands ++ offset_forms t.places;
 }
 
--- The comparison
-
--- the values are those in the live slots, the cost's, and those of operands and offsets
-cuts : (s : AbstractState) (live : List Form) (n : ℕ) (point : Point) → length live ≡ n
-    → (take n (values point (asked_of s live)) ≡ values point live)
-    × (drop n (values point (asked_of s live)) ≡ value point s.cost ∷ values point (reverse s.operands ++ offset_forms s.places))
-cuts s live n point many =
-    let others = reverse s.operands ++ offset_forms s.places in
-    let after = value point s.cost ∷ values point others in
-    let whole = map-append (value point) live ((s.cost ∷ []) ++ others) in
-    let l = length-map live (value point) ∙ many in (
-      ap (take n) whole ∙ take_front (values point live) after n l,
-      ap (drop n) whole ∙ drop_front (values point live) after n l,
-    )
-
--- what the parts are
-Parts : Type 0
-Parts = Point × List ℤ × List ℤ
-
-parts_met : (s t : AbstractState) (live : List Form) (point : Point) → length live ≡ length t.ranges
-    → IsMetBy (sought_in t) (values point (asked_of s live))
-    ≡ IsMetAt (sought_in t) (values point live) (value point s.cost ∷ [])
-    (values point (reverse s.operands ++ offset_forms s.places))
-parts_met s t live point many =
-    let c = cuts s live (length t.ranges) point many in
-    λ i. IsMetAt (sought_in t) (c.0 i) (take 1 (c.1 i)) (drop 1 (c.1 i))
-
 -- operands and offsets have the same values just where they agree
-pub met_of_same : (s t : AbstractState) (point there : Point) → IsAlike s t
+met_of_same : (s t : AbstractState) (point there : Point) → IsAlike s t
     → values there (reverse t.operands ++ offset_forms t.places) ≡ values point (reverse s.operands ++ offset_forms s.places)
     → (values point s.operands ≡ values there t.operands) × (places_at point s.places ≡ places_at there t.places)
 met_of_same s t point there alike e =
@@ -190,7 +209,7 @@ met_of_same s t point there alike e =
     ∙ map-append (value point) (reverse s.operands) (offset_forms s.places)) in
     (same_operands point there s.operands t.operands parts.0, same_places point there s.places t.places alike.trays parts.1)
 
-pub same_of_met : (s t : AbstractState) (point there : Point) → IsAlike s t
+same_of_met : (s t : AbstractState) (point there : Point) → IsAlike s t
     → values point s.operands ≡ values there t.operands → places_at point s.places ≡ places_at there t.places
     → values there (reverse t.operands ++ offset_forms t.places) ≡ values point (reverse s.operands ++ offset_forms s.places)
 same_of_met s t point there alike operands places =
@@ -199,35 +218,38 @@ same_of_met s t point there alike operands places =
     map-append (value there) (reverse t.operands) (offset_forms t.places) ∙ (λ i. first i ++ second i)
     ∙ sym (map-append (value point) (reverse s.operands) (offset_forms s.places))
 
-met_agrees : (s t : AbstractState) (live : List Form) → IsAlike s t → length live ≡ length t.ranges → (point : Point)
-    → IsMetBy (sought_in t) (values point (asked_of s live)) → AgreesAtCostOf s t live point
-met_agrees s t live alike many point met =
-    let m = subst (λ (X : Type 0). X) (parts_met s t live point many) met in
-    let same = met_of_same s t point (values point live) alike m.same in
-    (record { is_point = m.is_point; operands = same.0; places = same.1 }, m.least.0)
-
-agrees_met : (s t : AbstractState) (live : List Form) → IsAlike s t → length live ≡ length t.ranges → (point : Point)
-    → AgreesAtCostOf s t live point → IsMetBy (sought_in t) (values point (asked_of s live))
-agrees_met s t live alike many point a =
-    subst (λ (X : Type 0). X) (sym (parts_met s t live point many))
-    (record {
-      is_point = a.0.is_point;
-      least = (a.1, tt);
-      same = same_of_met s t point (values point live) alike a.0.operands a.0.places;
-    })
-
--- the first point of a region at which a condition fails, if there is one
-abbrev pub FirstFailure : Region → (Point → Type 0) → Option (ArrayVec ℤ) → Type 0
-FirstFailure r P found = MatchOption found (Throughout r P) (λ point. FailsFirstAt r P point.items)
-
 -- the first point at which the values do not meet the other state is the first at which they
 -- disagree
-pub disagreement : (s t : AbstractState) (live : List Form) → IsAlike s t → length live ≡ length t.ranges
-    → (found : Option (ArrayVec ℤ)) → FirstFailure (region_of s) (at_values (IsMetBy (sought_in t)) (asked_of s live)) found
-    → FirstFailure (region_of s) (AgreesAtCostOf s t live) found
-disagreement s t live alike many None h = λ point is. met_agrees s t live alike many point (h point is)
-disagreement s t live alike many (Some point) h = record {
-  is_point = h.is_point;
-  fails = λ a. h.fails (agrees_met s t live alike many point.items a);
-  before = λ q is before. met_agrees s t live alike many q (h.before q is before);
-}
+module _ (s t : AbstractState) (upper least forms : List Form) (alike : IsAlike s t) (many : length forms ≡ length t.ranges)
+    (rows : length upper ≡ length least) where
+  parts : (point : Point)
+      → IsMetBy (sought_in t least) (values point (asked_of s forms upper))
+      ≡ IsMetAt (sought_in t least) (values point forms) (values point upper)
+      (values point (reverse s.operands ++ offset_forms s.places))
+  parts point =
+      parts_met (sought_in t least) forms upper (reverse s.operands ++ offset_forms s.places) point (omega (arith, many)) rows
+
+  met_agrees : (point : Point) → IsMetBy (sought_in t least) (values point (asked_of s forms upper))
+      → AgreesAbove s t upper least forms point
+  met_agrees point met =
+      let m = subst (λ (X : Type 0). X) (parts point) met in
+      let same = met_of_same s t point (values point forms) alike m.same in
+      (record { is_point = (m.within, m.guards); operands = same.0; places = same.1 }, m.least)
+
+  agrees_met : (point : Point) → AgreesAbove s t upper least forms point
+      → IsMetBy (sought_in t least) (values point (asked_of s forms upper))
+  agrees_met point a =
+      subst (λ (X : Type 0). X) (sym (parts point))
+      (record {
+        within = a.0.is_point.0;
+        guards = a.0.is_point.1;
+        least = a.1;
+        same = same_of_met s t point (values point forms) alike a.0.operands a.0.places;
+      })
+
+  pub disagreement : (found : Option (ArrayVec ℤ))
+      → FailsAsHanded found (record { region = region_of s; target = sought_in t least; asked = asked_of s forms upper })
+      → FirstFailure (region_of s) (AgreesAbove s t upper least forms) found
+  disagreement found h =
+      failure_of_same (region_of s) (at_values (IsMetBy (sought_in t least)) (asked_of s forms upper))
+      (AgreesAbove s t upper least forms) met_agrees agrees_met found h

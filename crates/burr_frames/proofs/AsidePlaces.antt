@@ -4,7 +4,9 @@ use Rattle.std.specs.List.{refill}
 use lib.Seq.{take-append_seam}
 use Rattle.std.proofs.lemmas.Bool.{cond_both}
 use Rattle.burr_code.specs.PieceSets.{is_left_out}
-use Rattle.burr_code.specs.Places.{Placement, Apart, On, changed, to_tray, is_in, count_in, parted_in, parted, aside_places}
+use Rattle.burr_code.specs.declared.placement.Placement.{Placement}
+use Rattle.burr_code.specs.declared.placement.Placement.TheVariants.{Apart, On}
+use Rattle.burr_code.specs.Places.{changed, to_tray, is_in, count_in, parted_in, parted, aside_places}
 use Rattle.burr_container.specs.Rules.Plans.{FormCell}
 use Rattle.burr_frames.specs.Rules.SpaceRules.{AllSmallPlaces}
 

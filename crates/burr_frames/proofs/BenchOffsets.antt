@@ -8,7 +8,9 @@ use Rattle.std.proofs.lemmas.Option.{same_Some, none-some}
 use native.Mathlib.Decide.{ℕ_discrete}
 use Rattle.burr_voxels.specs.Near.{IsWithin}
 use Rattle.burr_voxels.proofs.Common.Ahead.{same_cell}
-use Rattle.burr_code.specs.Places.{Placement, Apart, On, LiesAt}
+use Rattle.burr_code.specs.declared.placement.Placement.{Placement}
+use Rattle.burr_code.specs.declared.placement.Placement.TheVariants.{Apart, On}
+use Rattle.burr_code.specs.Places.{LiesAt}
 use Rattle.burr_forms.specs.Rules.Forms.{Form, Point, dot, value, values, number}
 use Rattle.burr_container.specs.Rules.Plans.{FormCell}
 use Rattle.burr_frames.specs.Rules.States.{cell_at}

@@ -4,7 +4,9 @@ use Rattle.std.specs.Prelude.{pos, ◌+ℤ◌, ◌*ℤ◌}
 use Rattle.std.proofs.lemmas.Int.{ints}
 use Rattle.std.proofs.lemmas.Option.{none-some, same_Some}
 use Rattle.burr_code.specs.Labels.{with_first}
-use Rattle.burr_code.specs.Places.{Placement, Apart, On, at_position}
+use Rattle.burr_code.specs.declared.placement.Placement.{Placement}
+use Rattle.burr_code.specs.declared.placement.Placement.TheVariants.{Apart, On}
+use Rattle.burr_code.specs.Places.{at_position}
 use Rattle.burr_forms.specs.Rules.Forms.{Form, number, times, plus_form, combined, substituted}
 use Rattle.burr_container.specs.Rules.Plans.{FormCell}
 use Rattle.burr_frames.specs.Rules.ControlRules.{substituted_cell, first_forms}

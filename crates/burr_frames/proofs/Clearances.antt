@@ -9,7 +9,9 @@ use Rattle.burr_voxels.specs.declared.cell.Cell.{Cell}
 use Rattle.burr_voxels.specs.Grid.{minus, shifted}
 use Rattle.burr_voxels.specs.Near.{IsWithin}
 use Rattle.burr_code.specs.PieceSets.{IsInSet, is_left_out}
-use Rattle.burr_code.specs.Places.{Placement, Apart, On, LiesAt}
+use Rattle.burr_code.specs.declared.placement.Placement.{Placement}
+use Rattle.burr_code.specs.declared.placement.Placement.TheVariants.{Apart, On}
+use Rattle.burr_code.specs.Places.{LiesAt}
 use Rattle.burr_code.proofs.Common.PieceSets.{not_left_out, left_out, in_set, not_in_set}
 use Rattle.burr_assembly.specs.Rules.Homes.{HasHome, home_at}
 use Rattle.burr_blocking.specs.declared.query.Query.{Query}

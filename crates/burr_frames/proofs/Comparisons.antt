@@ -1,11 +1,11 @@
 -- Lists that are compared element by element.
-use Rattle.std.proofs.Common.{rules, ◌≡◌, ℕ, zero, suc, ◌+◌, ◌<◌, List, [], ◌∷◌, ◌++◌, length, take, map, refl, sym, ap, subst, ◌∙◌, arith, slice_index_or, true, false, ℤ}
-use Rattle.std.specs.Prelude.{pos, ◌≤ℤ◌, int_lt, Option, Some, None, not, Bool, eqb, FitsSigned}
-use Rattle.std.specs.Int.{w32}
+use Rattle.std.proofs.Common.{◌≡◌, ℕ, zero, suc, ◌+◌, ◌<◌, List, [], ◌∷◌, ◌++◌, length, take, map, refl, sym, ap, subst, ◌∙◌, arith, slice_index_or, true, false, ℤ}
+use Rattle.std.specs.Prelude.{pos, ◌≤ℤ◌, int_lt, Option, Some, None, not, Bool, eqb}
 use Rattle.std.specs.Option.{option_eq}
 use Rattle.std.proofs.lemmas.Int.{ints}
 use Rattle.std.proofs.lemmas.List.{take_more, map_more, get_or-map, length-map}
-use Rattle.burr_code.specs.Places.{Placement, tray_of}
+use Rattle.burr_code.specs.declared.placement.Placement.{Placement}
+use Rattle.burr_code.specs.Places.{tray_of}
 use Rattle.burr_forms.specs.Rules.Forms.{Form, Point, value, values, IsNear}
 use Rattle.burr_forms.specs.Rules.Points.{IsRange, InRange, InBox}
 use Rattle.burr_container.specs.Rules.Plans.{FormCell}
@@ -69,16 +69,7 @@ in_box_push [] (y ∷ numbers) range x b i = absurd b
 in_box_push (r ∷ ranges) [] range x b i = absurd b
 in_box_push (r ∷ ranges) (y ∷ numbers) range x b i = (b.0, in_box_push ranges numbers range x b.1 i)
 
--- a number in a range of numbers of a code has 32 bits
-pub fits_near : (range : ℤ × ℤ) (x : ℤ) → IsRange range → InRange range x → FitsSigned w32 x
-fits_near range x is i =
-    let low = is.low in
-    let high = is.high in
-    let least = i.0 in
-    let most = i.1 in
-    search (rules, low, high, least, most)
-
--- a number in such a range is one of a code
+-- a number in a range of numbers of a code is one of a code
 pub near_in_range : (range : ℤ × ℤ) (x : ℤ) → IsRange range → InRange range x → IsNear x
 near_in_range range x is i = omega (arith, ints, is.low, is.high, i.0, i.1)
 

@@ -9,7 +9,8 @@ use Rattle.burr_blocking.specs.declared.query.Query.{Query}
 use Rattle.burr_blocking.specs.declared.query.Query.TheVariants as queries
 use Rattle.burr_blocking.specs.Rules.Counted.{Counted, counted, with_more, HasCounted}
 use Rattle.burr_blocking.proofs.Common.Counts.{none_more}
-use Rattle.burr_code.specs.Places.{Placement, IsPartOfTray, IsEmptyTray}
+use Rattle.burr_code.specs.declared.placement.Placement.{Placement}
+use Rattle.burr_code.specs.Places.{IsPartOfTray, IsEmptyTray}
 use Rattle.burr_container.specs.Rules.Plans.{FormCell}
 use Rattle.burr_forms.specs.Rules.Conditions.{Region, at_values}
 use Rattle.burr_forms.specs.Views.Counting.{searched, looks_at_values}

@@ -5,7 +5,6 @@ pub mod After
 pub mod BenchOffsets
 pub mod CallArguments
 pub mod CallForms
-pub mod CallMeetings
 pub mod CallReturns
 pub mod CallVerdicts
 pub mod CalleesRead
@@ -19,6 +18,7 @@ pub mod ExitMeetings
 pub mod GripLooks
 pub mod LiveForms
 pub mod LooksSoFar
+pub mod Meetings
 pub mod MoveVerdicts
 pub mod MovedPlaces
 pub mod Negatives

@@ -4,7 +4,7 @@ use Rattle.std.proofs.Common.{◌≡◌, ◌∙◌, ◌≤◌, ℕ, ℤ, List, [
 use Rattle.std.proofs.lemmas.List.Elements.{All-nil, All-cons, All-head, All-tail}
 use Rattle.std.proofs.lemmas.List.{length-map}
 use Rattle.burr_voxels.specs.declared.cell.Cell.{Cell}
-use Rattle.burr_code.specs.Places.{Placement}
+use Rattle.burr_code.specs.declared.placement.Placement.{Placement}
 use Rattle.burr_assembly.specs.Rules.Text.{Assembly}
 use Rattle.burr_assembly.specs.Rules.Homes.{homes_of, home_of}
 use Rattle.burr_blocking.specs.declared.query.Query.{Query}

@@ -3,7 +3,9 @@ use Rattle.std.proofs.Common.{◌≡◌, ℕ, ap, ◌∙◌}
 use Rattle.std.specs.Prelude.{pos}
 use Rattle.burr_voxels.specs.declared.direction.Direction.{Direction}
 use Rattle.burr_voxels.specs.Grid.{along}
-use Rattle.burr_code.specs.Places.{Placement, On, at_position}
+use Rattle.burr_code.specs.declared.placement.Placement.{Placement}
+use Rattle.burr_code.specs.declared.placement.Placement.TheVariants.{On}
+use Rattle.burr_code.specs.Places.{at_position}
 use Rattle.burr_forms.specs.Rules.Forms.{Form, raised}
 use Rattle.burr_container.specs.Rules.Plans.{FormCell}
 use Rattle.burr_frames.specs.Rules.SpaceRules.{moved_forms}

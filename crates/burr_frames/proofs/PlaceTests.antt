@@ -5,7 +5,9 @@ use Rattle.std.proofs.lemmas.Option.{none-some, same_Some, slice_get_within}
 use Rattle.burr_text.proofs.Common.Tests.{no_iff}
 use Rattle.burr_text.proofs.Common.Decisions.{decide_below}
 use Rattle.burr_code.specs.PieceSets.{IsInSet}
-use Rattle.burr_code.specs.Places.{Placement, Apart, On, LiesIn, AllLieIn, is_in, count_in, IsEmptyTray}
+use Rattle.burr_code.specs.declared.placement.Placement.{Placement}
+use Rattle.burr_code.specs.declared.placement.Placement.TheVariants.{Apart, On}
+use Rattle.burr_code.specs.Places.{LiesIn, AllLieIn, is_in, count_in, IsEmptyTray}
 use Rattle.burr_code.proofs.Common.PieceSets.{no_bit_above}
 use Rattle.burr_code.proofs.Common.Conditions.{apart-on, same_tray}
 

@@ -1,6 +1,7 @@
 -- Places that are read one by one.
 use Rattle.std.proofs.Common.{List, [], ◌∷◌, ◌++◌, Some, None, Option, ℕ}
-use Rattle.burr_code.specs.Places.{Placement, Apart, On}
+use Rattle.burr_code.specs.declared.placement.Placement.{Placement}
+use Rattle.burr_code.specs.declared.placement.Placement.TheVariants.{Apart, On}
 use Rattle.burr_forms.specs.Rules.Forms.{Form}
 use Rattle.burr_container.specs.Rules.Plans.{FormCell}
 use Rattle.burr_container.specs.Views.Refs.{placement_view, IsSmallPlace}

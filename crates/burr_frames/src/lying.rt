@@ -1,6 +1,7 @@
 ghost use Rattle.std.specs.Prelude.{◌≡◌, ◌≤◌, ◌∷◌, [], MatchResult};
 ghost use Rattle.std.specs.Int.RustNames.{unsigned_abs};
-ghost use Rattle.burr_code.specs.Places.{Apart, tray_of, is_in, to_tray, at_position};
+ghost use Rattle.burr_code.specs.declared.placement.Placement.TheVariants.{Apart};
+ghost use Rattle.burr_code.specs.Places.{tray_of, is_in, to_tray, at_position};
 ghost use Rattle.burr_container.specs.Views.Refs.{placement_view};
 ghost use Rattle.burr_frames.specs.Views.Clearing.{offsets_in};
 ghost use Rattle.burr_frames.specs.Views.Comparing.{offset_forms};
@@ -29,7 +30,7 @@ pub struct Lying {
 }
 
 impl Model for Lying {
-    ghost use Rattle.burr_code.specs.Places.{Placement};
+    ghost use Rattle.burr_code.specs.declared.placement.Placement.{Placement};
     ghost use Rattle.burr_container.specs.Rules.Plans.{FormCell};
     ghost use Rattle.burr_frames.specs.Views.Spots.{lying_of};
 

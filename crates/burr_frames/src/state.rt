@@ -1,15 +1,12 @@
 mod after;
-mod agreeing;
-mod arriving;
 mod asking;
 mod calling;
 mod changes;
 mod control;
 mod copying;
 mod exit;
-mod exiting;
 mod framing;
-mod matching;
+mod meeting;
 mod moves;
 mod numbers;
 mod paying;
@@ -19,14 +16,10 @@ mod starting;
 
 use crate::lying::Lying;
 use arrayvec::ArrayVec;
-pub use arriving::{Miss, arrives};
+use burr_code::limits::MOST_PIECES;
 use burr_forms::Form;
-pub use calling::meets_entry;
-pub use returning::meets_exit;
+pub use meeting::{Miss, arrives, meets_entry, meets_exit};
 use std::marker::Model;
-
-/// The most pieces of an assembly.
-const MOST_PIECES: usize = 32;
 
 /// What is known where an instruction stands, at all points of its symbols at once: forms in place
 /// of numbers. The numbers of all forms lie within ±2^40.

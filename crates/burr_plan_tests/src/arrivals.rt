@@ -1,12 +1,12 @@
 //! Rules, states of frames, and their arrival at frames.
-use crate::assemblies::RING;
 use crate::calls::{assembly_of, cells_of, container_of};
-use crate::plans::RING_PLAN;
 use crate::texts::{bytes_of, edited};
 use burr_blocking::Looks;
 use burr_container::{Container, FrameRef};
 use burr_forms::Point;
 use burr_frames::{Rule, State, arrives};
+use burr_testing::assemblies::RING;
+use burr_testing::plans::RING_PLAN;
 use burr_voxels::Direction;
 use std::alloc::Global;
 use std::process::Abort;
@@ -96,7 +96,7 @@ fn turn(rt: &impl Abort, alloc: Global, edits: &str) -> &'static str {
     let plan = plan_of(rt, alloc, edits);
     let container = container_of(rt, &plan);
     assert!(rt; container.proc_count() > 0);
-    match state.down(&container, 0, 0, 1) {
+    match state.down(container.procedure(0), 0, 1) {
         Ok(()) => "arrives",
         Err(broken) => words_of_miss(broken.point),
     }

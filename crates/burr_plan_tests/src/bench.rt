@@ -1,10 +1,11 @@
 //! What calls of the bench tell, and its state after them.
-use crate::assemblies::DUO;
 use crate::calls::{assembly_of, cells_of};
 use crate::cases::{SCRIPTS, TRAPS};
 use crate::texts::{bytes_of, expanded};
 use burr_bench::Checked;
 use burr_blocking::PlainCells;
+use burr_code::Placement;
+use burr_testing::assemblies::DUO;
 use burr_voxels::Cell;
 use std::alloc::{AllocError, Global};
 use std::process::Abort;
@@ -27,7 +28,10 @@ fn place(bench: &Bench<'_, '_>, piece: u8) -> Option<Option<(u8, Cell)>> {
     if piece >= bench.assembly().piece_count() {
         return None;
     }
-    Some(bench.place(piece))
+    match bench.place(piece) {
+        Placement::Apart => Some(None),
+        Placement::On { tray, position } => Some(Some((tray, position))),
+    }
 }
 
 /// Where the pieces of the duo are, and that it has no third.

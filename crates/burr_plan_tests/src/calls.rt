@@ -1,4 +1,5 @@
 //! Calls whose contracts no test needs: here they end, and tests are proved sooner.
+use crate::texts::lines_of;
 use burr_assembly::Assembly;
 use burr_blocking::{CellTables, PlainCells, RowTables};
 use burr_container::Container;
@@ -6,9 +7,9 @@ use burr_runs::upgrade;
 use std::alloc::Global;
 use std::process::Abort;
 
-/// The assembly of a text.
+/// The assembly of a text, in which `/` may stand for a line end.
 pub fn assembly_of(rt: &impl Abort, alloc: Global, text: &str) -> Assembly {
-    match Assembly::read(alloc, text.as_bytes()) {
+    match Assembly::read(alloc, lines_of(rt, alloc, text).as_bytes()) {
         Ok(assembly) => assembly,
         Err(_) => panic!(rt; "no assembly"),
     }

@@ -6,12 +6,13 @@ mod looks;
 mod runs;
 mod scripts;
 
-use crate::assemblies::{BOX, CUP, DUO, DUO_OF_THREE, FAR, FOUR, FRONT, RING, ROW, SQUARE, THREE};
+use crate::assemblies::{BOX, DUO_OF_THREE, FAR, FRONT, ROW, SQUARE, THREE};
 use crate::plans::{
-    CHOICE_PLAN, CUP_PLAN, DUO_CODE, DUO_PLAN, FRAME_PLAN, LABELLED_CODE, LIFT_PLAN, RESULT_PLAN,
-    RING_PLAN, SQUARE_CODE,
+    CHOICE_PLAN, CUP_PLAN, DUO_CODE, FRAME_PLAN, LABELLED_CODE, LIFT_PLAN, SQUARE_CODE,
 };
 use crate::tables::{How, Kind, Table, assert_tables};
+use burr_testing::assemblies::{CUP, DUO, RING};
+use burr_testing::plans::{DUO_PLAN, RESULT_PLAN, RING_PLAN};
 pub use scripts::{SCRIPTS, TRAPS};
 
 /// Bare code that is tried with sinks and sources that fail and while memory is wanting, too.
@@ -60,7 +61,7 @@ const BARE: [Table; 7] = [
     },
     Table {
         kind: Kind::Bare,
-        assembly: FOUR,
+        assembly: SQUARE,
         plan: "code ?/",
         cases: bare::FOUR_ROWS,
     },

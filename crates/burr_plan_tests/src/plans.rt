@@ -1,13 +1,5 @@
-//! Plans as hexadecimal digits: the header, then each procedure with its labels,
-//! their frames, and its code.
-
-/// A cube of the duo goes out along -x.
-pub const DUO_PLAN: &str = "\
-    42504c4e 0001 00000003 02 03 64756f 01 00 0001 \
-    0000 00 00000000 00 00 00 00000003 \
-    00 00000000 00000000 00000000 \
-    00 00000000 00000000 00000000 \
-    0009 10 00000001 12 01 01 00";
+//! Plans that these tests alone are about, as hexadecimal digits: the header, then each procedure
+//! with its labels, their frames, and its code.
 
 /// Code for the duo, whose only label is its first: its cost and, after its length, the code.
 pub const DUO_CODE: &str = "\
@@ -37,19 +29,6 @@ pub const LABELLED_CODE: &str = "\
     00 00000000 00000000 00000000 \
     00 00000000 00000000 00000000 \
     ?";
-
-/// A rod in a ring is moved up by three units in a loop, and then taken out. At the loop, at 10,
-/// slot 0 is 0 to 2, the cost `4+2v0`, and the rod at z `2-1v0`.
-pub const RING_PLAN: &str = "\
-    42504c4e 0001 0000000b 02 04 72696e67 01 \
-    00 0002 \
-    0000 00 00000000 00 00 00 0000000b \
-    00 00000000 00000000 00000000 \
-    00 00000000 00000000 00000000 \
-    000a 00 00000001 01 0000 0002 00 00 00000004 0002 \
-    00 00000000 0000 00000000 0000 00000002 ffff \
-    00 00000000 0000 00000000 0000 00000000 0000 \
-    0014 10 00000001 01 0002 03 00 11 04 21 00 0001 12 04 01 00";
 
 /// A dot in a cup is lifted as far as the operator says, and then taken out.
 pub const CUP_PLAN: &str = "\
@@ -83,30 +62,6 @@ pub const LIFT_PLAN: &str = "\
     00 00000000 0000 00000000 0000 00000000 0001 \
     00 00000000 0000 00000000 0000 00000000 0000 \
     0003 11 04 25";
-
-/// A dot in a cup is lifted by a procedure, which asks how far, 0 to 2, and gives that back; it
-/// leaves the dot at z `0+1v0`, where v0 is its result, of 0 to 2. Its `ret` stands at 17.
-pub const RESULT_PLAN: &str = "\
-    42504c4e 0002 00000012 02 03 637570 02 \
-    00 00 0001 \
-    0000 00 00000000 00 00 00 00000012 \
-    00 00000000 00000000 00000000 \
-    00 00000000 00000000 00000000 \
-    000c 10 00000001 24 01 06 12 04 01 00 \
-    00 01 00 00000001 0000 0002 00 \
-    00 00000000 0000 00000000 0000 00000000 0001 \
-    00 00000000 0000 00000000 0000 00000000 0000 \
-    0003 \
-    0000 00 00000001 00 00 00 0000000d \
-    00 00000000 00000000 00000000 \
-    00 00000000 00000000 00000000 \
-    000b 00 00000001 03 0000 0002 0000 0002 01 00000000 0001 ffff 00 00000003 0000 0003 \
-    00 00000000 0000 0000 00000000 0000 0000 00000000 0001 ffff \
-    00 00000000 0000 0000 00000000 0000 0000 00000000 0000 0000 \
-    0012 00 00000001 03 0000 0002 0000 0001 01 ffffffff 0001 ffff 00 00000005 0000 0003 \
-    00 00000000 0000 0000 00000000 0000 0000 ffffffff 0001 ffff \
-    00 00000000 0000 0000 00000000 0000 0000 00000000 0000 0000 \
-    0017 22 0000 0002 03 00 02 00 03 01 21 01 0002 02 00 25 11 04 20 0001";
 
 /// The operator says which of two cubes is taken out.
 pub const CHOICE_PLAN: &str = "\

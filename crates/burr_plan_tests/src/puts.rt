@@ -1,6 +1,6 @@
 //! What is put by the bench and by checks and runs of plans, and how that ends, in a word.
 use crate::calls::{assembly_of, cells_of, container_of, tables_of};
-use crate::sources::{Portions, input_of};
+use crate::sources::input_of;
 use crate::tables::{Kind, Table};
 use crate::texts::{bytes_of, edited, lines_of};
 use crate::want::memory_taken;
@@ -138,7 +138,7 @@ pub fn put<W: Write>(
     match table.kind {
         Kind::Bare => {
             let input = input_of(rt, alloc, table, given);
-            put_bare(alloc, &mut Portions::new(&input, usize::MAX, false), writer)
+            put_bare(alloc, &mut input.as_bytes(), writer)
         }
         _ => put_plan(rt, alloc, table, given, false, writer),
     }

@@ -1,9 +1,10 @@
 //! Worked sheets.
-use crate::assemblies::{DUO, FOUR};
-use burr_assembly::Assembly;
+use crate::assemblies::SQUARE;
+use crate::calls::assembly_of;
 use burr_bench::{Motion, Trap};
 use burr_io::Writing;
 use burr_sheet::{Closing, Sheet};
+use burr_testing::assemblies::DUO;
 use burr_voxels::Direction;
 use std::alloc::Global;
 use std::process::Abort;
@@ -40,7 +41,7 @@ fn assert_sheet(
     output: &str,
 ) -> Result<(), Fail> {
     assert!(rt; motions.len() <= 31);
-    let assembly = Assembly::read(alloc, text.as_bytes())?;
+    let assembly = assembly_of(rt, alloc, text);
     let mut written = Vec::new(alloc);
     let mut sink = Writing::new(&mut written);
     let mut sheet = Sheet::new(&assembly);
@@ -103,5 +104,5 @@ fn counts_levels_between_outs(rt: HostRuntime) -> Result<(), Fail> {
     ];
     let output = "1 t0 C,D +y 0 out\n2 t0 A +z 1\n3 t0 A +x 1\n4 t0 A -x 0 out\n\
         5 t1 C -x 0 out\nlevels 1.3.1\napart in 9 steps\n";
-    assert_sheet(&rt, rt.alloc(), FOUR, &motions, Closing::Apart, 9, output)
+    assert_sheet(&rt, rt.alloc(), SQUARE, &motions, Closing::Apart, 9, output)
 }

@@ -30,17 +30,16 @@ pub fn lines_of(rt: &impl Abort, alloc: Global, text: &str) -> String {
     text.replace(alloc, "/", "\n").expect(rt, "memory")
 }
 
-/// The bytes that hexadecimal digits name, between which blanks may stand.
+/// The bytes that hexadecimal digits name.
 pub fn bytes_of(rt: &impl Abort, alloc: Global, digits: &str) -> Vec<u8> {
-    let digits = digits.replace(alloc, " ", "").expect(rt, "memory");
-    hex::decode(alloc, digits).expect(rt, "digits")
+    burr_testing::bytes_of(alloc, digits).expect(rt, "digits")
 }
 
-/// A text after edits, which a comma and a blank join: `OLD > NEW` puts other words in the place
-/// of some where they first stand, any other words fill the first `?`, and `none` is no edit.
-/// After that it is expanded.
+/// A text on one line after edits, which a comma and a blank join: `OLD > NEW` puts other words in
+/// the place of some where they first stand, any other words fill the first `?`, and `none` is no
+/// edit. After that it is expanded.
 pub fn edited(rt: &impl Abort, alloc: Global, text: &str, edits: &str) -> String {
-    let mut changed = text.to_string(alloc).expect(rt, "memory");
+    let mut changed = text.replace(alloc, "\n", " ").expect(rt, "memory");
     for edit in edits.split(", ") {
         if edit != "none" {
             changed = edited_once(rt, alloc, &changed, edit);

@@ -1,9 +1,10 @@
 //! Plans of version 1 and their plans of version 2.
-use crate::assemblies::{CUP, DUO, RING};
 use crate::calls::{assembly_of, cells_of, container_of, upgraded};
-use crate::plans::{CUP_PLAN, DUO_PLAN, LIFT_PLAN, RESULT_PLAN, RING_PLAN};
+use crate::plans::{CUP_PLAN, LIFT_PLAN};
 use crate::puts::{put_check, put_run};
 use crate::texts::{bytes_of, edited};
+use burr_testing::assemblies::{CUP, DUO, RING};
+use burr_testing::plans::{DUO_PLAN, RESULT_PLAN, RING_PLAN};
 use std::alloc::Global;
 use std::process::Abort;
 

@@ -2,10 +2,11 @@
 ghost use Rattle.std.specs.Prelude.{IfSome};
 ghost use Rattle.burr_voxels.specs.Near.{IsWithin};
 
-use crate::assemblies::{COMBS, CUP, DUO, RING, STAIRS};
+use crate::assemblies::{COMBS, STAIRS};
 use crate::calls::{assembly_of, cells_of, rows_of, tables_of};
 use burr_assembly::Assembly;
 use burr_blocking::{Blocking, CellTables, PlainCells, RowTables};
+use burr_testing::assemblies::{CUP, DUO, RING};
 use burr_voxels::{Cell, Direction};
 use std::alloc::Global;
 use std::process::Abort;

@@ -6,6 +6,7 @@ ghost use Rattle.burr_state.specs.Rules.Bench.{bare_program};
 ghost use Rattle.burr_state.specs.Views.Benches.{IsAtStart};
 ghost use Rattle.burr_runs.specs.Rules.Output.{outcome_of};
 ghost use Rattle.burr_runs.specs.Views.Running.{PutsSheet, FailsInSheet, FailsInRun, IsInStep, ClosesPart, run_state};
+ghost use Rattle.burr_runs.specs.Views.Standing.{IsAtRunEnd, IsInRun};
 
 use crate::outcome::Outcome;
 use crate::running::turns::take_turn;
@@ -38,7 +39,8 @@ pub fn run_bare<B: Blocking, W: Sink>(
 }
 
 /// Runs the program of a bench at its start, with these answers and within the program's budget, and
-/// writes the run's sheet. After a fault the bench stands at some step of that run.
+/// writes the run's sheet. Then the bench stands at the run's last state, and after a fault at some
+/// state of that run.
 pub fn try_plan<B: Blocking, W: Sink>(
     bench: &mut Checked<B>,
     answers: &[i32],
@@ -49,6 +51,8 @@ pub fn try_plan<B: Blocking, W: Sink>(
         bench.old.assembly bench.old.program answers.now outcome) }
     ensures err { OnErr result (FailsInSheet W.Sink sink.old sink.new
         bench.old.assembly bench.old.program answers.now) }
+    ensures end { IfOk result (IsAtRunEnd bench.old answers.now bench.new) }
+    ensures under_way { OnErr result (IsInRun bench.old answers.now bench.new) }
 {
     let mut sheet = Sheet::new(bench.assembly());
     let budget = u64::from(bench.budget());
@@ -83,6 +87,9 @@ fn run_to_close<B: Blocking, W: Sink>(
         (run_state bench.old answers.now sheet.old) (run_state bench.new [] sheet.new) closing) }
     ensures err { OnErr result (FailsInRun W.Sink sink.old sink.new
         (run_state bench.old answers.now sheet.old)) }
+    ensures end { IfOk result (λ closing.
+        IsAtRunEnd bench.old answers.now bench.new (outcome_of closing)) }
+    ensures under_way { OnErr result (IsInRun bench.old answers.now bench.new) }
 {
     let mut answers = answers;
     loop {

@@ -2,7 +2,8 @@
 -- cut at a point, its callers wait, and the costs that are left come to no more than the budget.
 use Rattle.std.specs.Prelude.{◌≡◌, ℕ, ◌<◌, ℤ, pos, ◌+ℤ◌, ◌≤ℤ◌, List, [], ◌∷◌, ◌++◌, length, reverse, get_or, slice_get, Option, Some, None}
 use Rattle.burr_voxels.specs.declared.cell.Cell.{Cell}
-use Rattle.burr_code.specs.Places.{Placement, AllLieIn}
+use Rattle.burr_code.specs.declared.placement.Placement.{Placement}
+use Rattle.burr_code.specs.Places.{AllLieIn}
 use Rattle.burr_forms.specs.Rules.Forms.{Point, value}
 use Rattle.burr_forms.specs.Rules.Points.{InBox, GuardsHold}
 use Rattle.burr_frames.specs.Rules.FramedPlans.{FramedExit, FramedProcedure, FramedPlan}

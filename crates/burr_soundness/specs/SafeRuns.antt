@@ -6,7 +6,7 @@ use Rattle.burr_state.specs.declared.closing.Closing.TheVariants as closings
 use Rattle.burr_state.specs.declared.mode.Mode.TheVariants.{Running, Ended}
 use Rattle.burr_state.specs.declared.motion.Motion.{Motion}
 use Rattle.burr_state.specs.Rules.Bench.{BenchState, Setup}
-use Rattle.burr_state.specs.Laws.RunLaws.{Calls}
+use Rattle.burr_state.specs.Rules.Calls.{Calls}
 use Rattle.burr_state.specs.Rules.Step.{AsksFor}
 
 -- The run has ended within its budget, with every piece apart.

@@ -1,8 +1,8 @@
 -- Operands in the code, the bottom first, and in definitions, the top first.
-use Rattle.std.proofs.Common.{◌≡◌, ◌<◌, ◌≤◌, ℕ, suc, ◌+◌, ◌-◌, List, ◌∷◌, [], ◌++◌, ◌∙◌, sym, ap, subst, refl, length, map, take, drop, set, get_or, replicate, reverse, arith, Some, None, ℤ}
+use Rattle.std.proofs.Common.{◌≡◌, ◌<◌, ◌≤◌, ◌⊎◌, inl, inr, ℕ, suc, ◌+◌, ◌-◌, List, ◌∷◌, [], ◌++◌, ◌∙◌, sym, ap, subst, refl, length, map, take, drop, set, get_or, replicate, reverse, arith, Some, None, ℤ}
 use lib.Seq.{take-suc, set-append_seam}
-use Rattle.std.proofs.lemmas.Bool.{le-leb, lt-leb}
-use Rattle.std.proofs.lemmas.List.{take-append-drop, take_at, drop_at, reverse-append, length-drop, length-reverse, reverse-reverse, length-map, length-take-le, take_all, map-append, append_assoc}
+use Rattle.std.proofs.lemmas.Bool.{le-leb, lt-leb, cases_lt}
+use Rattle.std.proofs.lemmas.List.{take-append-drop, take_at, drop_at, drop_all, reverse-append, length-drop, length-reverse, reverse-reverse, length-map, length-take-le, take_all, map-append, append_assoc}
 use Rattle.burr_code.specs.Stacks.{top_many}
 use Rattle.burr_code.specs.Labels.{argument_slots}
 use Rattle.burr_state.specs.Views.Effects.{slots_with}
@@ -17,6 +17,17 @@ drop_reverse k xs some =
     let m = length xs - k in
     let many : length (reverse (drop m xs)) ≡ k = length-reverse (drop m xs) ∙ length-drop m xs ∙ omega (arith, some) in
     ap (λ ys. drop k (reverse ys)) (sym (take-append-drop m xs)) ∙ ap (λ ys. drop k ys) (reverse-append (take m xs) (drop m xs)) ∙ drop_at (reverse (drop m xs)) (reverse (take m xs)) k many
+
+-- the same of any number, where none are left if there are fewer
+pub drop_reversed : {X : Type 0} (k : ℕ) (xs : List X) → drop k (reverse xs) ≡ reverse (take (length xs - k) xs)
+drop_reversed k xs = by_size (cases_lt (length xs) k)
+  where
+    by_size : (length xs < k) ⊎ (k ≤ length xs) → drop k (reverse xs) ≡ reverse (take (length xs - k) xs)
+    by_size (inl few) =
+        let none : length xs - k ≡ 0 = omega (arith, few) in
+        let long = length-reverse xs in
+        rw none (drop_all k (reverse xs) (omega (arith, few, long)))
+    by_size (inr some) = drop_reverse k xs some
 
 -- one more after, turned round, is in front
 pub reverse_snoc : {X : Type 0} (x : X) (xs : List X) → reverse (xs ++ x ∷ []) ≡ x ∷ reverse xs

@@ -4,7 +4,8 @@ use Rattle.std.specs.Prelude.{Some, None, replicate}
 use Rattle.burr_voxels.specs.declared.cell.Cell.{Cell}
 use Rattle.burr_voxels.specs.declared.direction.Direction.TheVariants.{PlusX, MinusX}
 use Rattle.burr_voxels.specs.Grid.{origin}
-use Rattle.burr_code.specs.Places.{Placement, On}
+use Rattle.burr_code.specs.declared.placement.Placement.{Placement}
+use Rattle.burr_code.specs.declared.placement.Placement.TheVariants.{On}
 use Rattle.burr_code.specs.Instruction.{Halt, Grip, Aside}
 use Rattle.burr_state.specs.declared.mode.Mode.TheVariants.{Running, Ended}
 use Rattle.burr_state.specs.declared.trap.Trap.TheVariants.{NotFree, GripOff}

@@ -1,4 +1,5 @@
 pub mod Bench
+pub mod Calls
 pub mod Control
 pub mod Next
 pub mod Numbers

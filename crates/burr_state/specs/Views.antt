@@ -3,6 +3,6 @@ pub mod Effects
 pub mod Offsets
 pub mod Parts
 pub mod Programs
-pub mod Spots
+pub mod Records
 pub mod StateViews
 pub mod Work

@@ -173,6 +173,57 @@ impl Activation {
         }
     }
 
+    /// The same activation.
+    pub fn copied(&self) -> Activation
+        ensures { result ≡ self.now }
+    {
+        Activation {
+            procedure: self.procedure,
+            pc: self.pc,
+            slots: self.slots,
+            operands: self.copied_operands(),
+        }
+    }
+
+    /// The slots.
+    pub fn slots(&self) -> [Option<i32>; SLOTS]
+        ensures { result ≡ self.now.slots }
+    {
+        self.slots
+    }
+
+    /// The operands, the bottom first.
+    pub fn copied_operands(&self) -> ArrayVec<i32, MOST_OPERANDS>
+        ensures { reverse result.items ≡ self.now.operands }
+    {
+        let Ok(operands) = ArrayVec::try_from(self.operands.as_slice()) else {
+            unreachable!();
+        };
+        operands
+    }
+
+    /// Has other slots.
+    pub fn set_slots(&mut self, slots: [Option<i32>; SLOTS])
+        ensures { self.new ≡ record self.old { slots = slots } }
+    {
+        self.slots = slots;
+    }
+
+    /// Has other operands, the bottom first.
+    pub fn set_operands(&mut self, operands: ArrayVec<i32, MOST_OPERANDS>)
+        ensures { self.new ≡ with_operands (reverse operands.items) self.old }
+    {
+        self.operands = operands;
+    }
+
+    /// Takes so many numbers off the operands, or all where there are fewer.
+    pub fn drop_many(&mut self, count: u8)
+        ensures { self.new ≡ with_operands (drop count self.old.operands) self.old }
+    {
+        let kept = self.operands.len().saturating_sub(usize::from(count));
+        self.operands.truncate(kept);
+    }
+
     /// Goes on at another place of the code.
     pub fn go_to(&mut self, pc: usize)
         ensures { self.new ≡ record self.old { pc = pc } }

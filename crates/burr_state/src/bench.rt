@@ -2,6 +2,7 @@ mod answering;
 mod executing;
 mod readers;
 mod starting;
+mod undoing;
 
 use crate::program::Program;
 use crate::state::BenchState;

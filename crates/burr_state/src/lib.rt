@@ -8,12 +8,12 @@ mod effect;
 mod laws;
 mod mode;
 mod motion;
-mod placement;
-mod places;
 mod program;
 mod progress;
+mod shifting;
 mod state;
 mod trap;
+mod undo;
 
 pub use bench::Bench;
 pub use closing::Closing;
@@ -25,6 +25,7 @@ pub use laws::{
 };
 pub use mode::Mode;
 pub use motion::Motion;
-pub use placement::one_unit_on;
 pub use progress::Progress;
+pub use shifting::one_unit_on;
 pub use trap::Trap;
+pub use undo::Undo;

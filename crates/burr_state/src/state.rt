@@ -6,16 +6,15 @@ mod numbers;
 mod questions;
 mod readers;
 mod trays;
+mod undoing;
 
 use crate::activation::Activation;
 use crate::mode::Mode;
-use crate::placement::Placement;
 use arrayvec::ArrayVec;
-use burr_code::limits::MOST_PROCEDURES;
+use burr_code::Placement;
+use burr_code::limits::{MOST_PIECES, MOST_PROCEDURES};
+use burr_voxels::Cell;
 use std::marker::Model;
-
-/// The most pieces of an assembly.
-const MOST_PIECES: usize = 32;
 
 /// The most activations that can wait for a running one: each calls one of a higher number.
 const MOST_CALLERS: usize = MOST_PROCEDURES - 1;
@@ -25,7 +24,7 @@ const MOST_CALLERS: usize = MOST_PROCEDURES - 1;
 #[derive(Debug, Drop)]
 pub struct BenchState {
     /// Where each piece is.
-    places: ArrayVec<Placement, MOST_PIECES>,
+    places: ArrayVec<Placement<Cell>, MOST_PIECES>,
     /// The current tray.
     tray: u8,
     /// The pieces of the current tray that are gripped: bit p is piece p.

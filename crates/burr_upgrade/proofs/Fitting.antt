@@ -7,7 +7,7 @@ use Rattle.std.proofs.lemmas.Option.{none-some, same_Some}
 use Rattle.burr_code.specs.declared.limits.TheConstants.{MOST_GUARDS, MOST_OPERANDS, MOST_LABELS, MOST_PROCEDURES, SLOTS}
 use Rattle.burr_container.specs.declared.frame_ref.FrameRef.{FrameRef}
 use Rattle.burr_container.specs.declared.exit_ref.ExitRef.{ExitRef}
-use Rattle.burr_container.specs.declared.procedure_ref.ProcedureRef.{ProcedureRef}
+use Rattle.burr_container.specs.declared.stored_procedure.StoredProcedure.{StoredProcedure}
 use Rattle.burr_container.specs.Rules.Plans.{Plan, PlanProcedure, Frame, ExitFrame, live_slots, exit_symbols}
 use Rattle.burr_container.specs.Rules.Fitting.{is_form, are_forms, are_places, is_place, are_slots, is_range, is_tray, is_set_of, is_frame_rest, is_frame, is_exit, is_exit_frame, are_parameters, is_procedure, are_procedures, rise_from, are_labels}
 use Rattle.burr_container.specs.Views.Refs.{frame_of, exit_frame_of}
@@ -138,12 +138,12 @@ frames_fit pieces end (first ∷ ls) are =
     (list_all (λ (label : ℕ × Frame). is_frame pieces label.1) (first ∷ ls)) are).1
 
 -- as many labels as there are counted
-labels_counted : (o : Option ProcedureRef) (k : ProcedureRef) (n : ℕ) → o ≡ Some k
+labels_counted : (o : Option StoredProcedure) (k : StoredProcedure) (n : ℕ) → o ≡ Some k
     → IfSome o (λ p. n < length p.labels.starts.items) → n < length k.labels.starts.items
 labels_counted None k n e few = absurd (none-some _ e)
-labels_counted (Some p) k n e few = subst (λ (z : ProcedureRef). n < length z.labels.starts.items) (same_Some _ _ e) few
+labels_counted (Some p) k n e few = subst (λ (z : StoredProcedure). n < length z.labels.starts.items) (same_Some _ _ e) few
 
-pub has_label : (o : Option ProcedureRef) (n count : ℕ) → IfSome o (λ p. count ≡ length p.labels.starts.items)
+pub has_label : (o : Option StoredProcedure) (n count : ℕ) → IfSome o (λ p. count ≡ length p.labels.starts.items)
     → n < count → IfSome o (λ p. n < length p.labels.starts.items)
 has_label None n count is less = tt
 has_label (Some p) n count is less = omega (arith, is, less)

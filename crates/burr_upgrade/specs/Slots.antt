@@ -1,7 +1,8 @@
 -- Forms over symbols, put back to the slots.
 use Rattle.std.specs.Prelude.{◌≡◌, ◌≤◌, ℕ, ◌+◌, ℤ, pos, List, [], ◌∷◌, Bool, true, false, All, FitsSigned, Option, IfSome, IsTrue}
 use Rattle.std.specs.Int.{w16, w32}
-use Rattle.burr_code.specs.Places.{Placement, at_position}
+use Rattle.burr_code.specs.declared.placement.Placement.{Placement}
+use Rattle.burr_code.specs.Places.{at_position}
 use Rattle.burr_code.specs.declared.limits.TheConstants.{SLOTS}
 use Rattle.burr_forms.specs.Rules.Forms.{Form}
 use Rattle.burr_container.specs.declared.exit_ref.ExitRef.{ExitRef}

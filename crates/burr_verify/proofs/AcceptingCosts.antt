@@ -8,7 +8,7 @@ use Rattle.std.proofs.lemmas.List.Elements.{All-nil}
 use Rattle.burr_voxels.specs.declared.cell.Cell.{Cell}
 use Rattle.burr_assembly.specs.Rules.Homes.{homes_of}
 use Rattle.burr_forms.specs.Rules.Forms.{Form, value, values}
-use Rattle.burr_container.specs.declared.procedure_ref.ProcedureRef.{ProcedureRef}
+use Rattle.burr_container.specs.declared.stored_procedure.StoredProcedure.{StoredProcedure}
 use Rattle.burr_container.specs.Rules.Plans.{Plan, PlanProcedure, Frame, Range}
 use Rattle.burr_container.specs.Rules.Fitting.{is_fitting}
 use Rattle.burr_container.specs.Views.InPlace.{AreFor, IsProcedure}
@@ -33,10 +33,10 @@ as_many_for Is (x ∷ xs) [] are = absurd are
 as_many_for Is (x ∷ xs) (y ∷ ys) are = ap suc (as_many_for Is xs ys are.1)
 
 -- the first of these procedures is there, and it has a label
-abbrev HasFirst : List ProcedureRef → Type 0
+abbrev HasFirst : List StoredProcedure → Type 0
 HasFirst kept = (0 < length kept) × IfSome (slice_get kept 0) (λ p. 0 < length p.labels.starts.items)
 
-has_first : (pieces : ℕ) (kept : List ProcedureRef) (qs : List PlanProcedure) → AreFor (IsProcedure pieces) kept qs
+has_first : (pieces : ℕ) (kept : List StoredProcedure) (qs : List PlanProcedure) → AreFor (IsProcedure pieces) kept qs
     → 1 ≤ length qs → ((q : PlanProcedure) → slice_get qs 0 ≡ Some q → 1 ≤ length q.labels) → HasFirst kept
 has_first pieces [] [] are some labels = absurd (omega (arith, some))
 has_first pieces [] (q ∷ qs) are some labels = absurd are

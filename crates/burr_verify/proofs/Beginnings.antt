@@ -10,7 +10,7 @@ use Rattle.burr_forms.specs.Rules.Forms.{Form, dot, value, values}
 use Rattle.burr_container.specs.Rules.Plans.{Plan, PlanProcedure, Frame}
 use Rattle.burr_frames.specs.declared.rule.Rule.{Rule}
 use Rattle.burr_frames.specs.declared.rule.Rule.TheVariants as rules
-use Rattle.burr_frames.specs.declared.state.arriving.Miss.{Miss}
+use Rattle.burr_frames.specs.declared.state.meeting.Miss.{Miss}
 use Rattle.burr_frames.specs.Rules.Arrival.{Agrees, Meets}
 use Rattle.burr_frames.specs.Rules.ControlRules.{first_frame, entry_of}
 use Rattle.burr_frames.specs.Views.Exits.{miss_verdict}

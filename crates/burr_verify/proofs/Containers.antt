@@ -5,7 +5,8 @@ use Rattle.std.specs.List.{list_all}
 use Rattle.std.proofs.lemmas.Bool.{and_parts, false≢true}
 use Rattle.std.proofs.lemmas.Option.{none-some, same_Some}
 use Rattle.std.proofs.lemmas.List.{length-map}
-use Rattle.burr_code.specs.Places.{Placement, Apart, On}
+use Rattle.burr_code.specs.declared.placement.Placement.{Placement}
+use Rattle.burr_code.specs.declared.placement.Placement.TheVariants.{Apart, On}
 use Rattle.burr_code.specs.declared.limits.TheConstants.{SLOTS, MOST_OPERANDS, MOST_GUARDS, MOST_BUDGET, MOST_PROCEDURES}
 use Rattle.burr_forms.specs.Rules.Forms.{Form}
 use Rattle.burr_container.specs.Rules.Plans.{FormCell, Range, Frame, ExitFrame, PlanProcedure, Plan, live_slots, exit_symbols, of_live, over_symbols, place_over_symbols}
@@ -126,7 +127,7 @@ frame_places pieces f fits =
 
 exit_places : (version pieces parameters results : ℕ) (f : ExitFrame)
     → IsTrue (is_exit_frame version pieces parameters results f)
-    → length (framed_exit parameters results f).places ≡ pieces
+    → length (framed_exit (exit_symbols parameters results) f).places ≡ pieces
 exit_places version pieces parameters results f fits =
     let live = exit_symbols parameters results in
     let head = is_tray f.tray && is_set_of pieces f.grip in
@@ -277,23 +278,23 @@ laid_out_at version pieces main q t = record {
 
 no_exit : (version pieces parameters results : ℕ) (exit : Option ExitFrame)
     → IsTrue (is_exit version true pieces parameters results exit)
-    → option_map (framed_exit parameters results) exit ≡ None
+    → option_map (framed_exit (exit_symbols parameters results)) exit ≡ None
 no_exit version pieces parameters results None is = refl
 no_exit version pieces parameters results (Some f) is = absurd (false≢true is)
 
 an_exit : (version pieces parameters results : ℕ) (exit : Option ExitFrame)
     → IsTrue (is_exit version false pieces parameters results exit)
-    → (f : FramedExit) × (option_map (framed_exit parameters results) exit ≡ Some f)
+    → (f : FramedExit) × (option_map (framed_exit (exit_symbols parameters results)) exit ≡ Some f)
 an_exit version pieces parameters results None is = absurd (false≢true is)
-an_exit version pieces parameters results (Some f) is = (framed_exit parameters results f, refl)
+an_exit version pieces parameters results (Some f) is = (framed_exit (exit_symbols parameters results) f, refl)
 
 exit_places_at : (version pieces : ℕ) (main : Bool) (parameters results : ℕ) (exit : Option ExitFrame) (f : FramedExit)
     → IsTrue (is_exit version main pieces parameters results exit)
-    → option_map (framed_exit parameters results) exit ≡ Some f → length f.places ≡ pieces
+    → option_map (framed_exit (exit_symbols parameters results)) exit ≡ Some f → length f.places ≡ pieces
 exit_places_at version pieces main parameters results None f is e = absurd (none-some f e)
 exit_places_at version pieces true parameters results (Some g) f is e = absurd (false≢true is)
 exit_places_at version pieces false parameters results (Some g) f is e =
-    subst (λ (x : FramedExit). length x.places ≡ pieces) (same_Some (framed_exit parameters results g) f e)
+    subst (λ (x : FramedExit). length x.places ≡ pieces) (same_Some (framed_exit (exit_symbols parameters results) g) f e)
     (exit_places version pieces parameters results g is)
 
 places_at : (version pieces : ℕ) (main : Bool) (q : PlanProcedure) → IsTold version pieces main q

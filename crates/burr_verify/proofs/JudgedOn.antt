@@ -1,7 +1,10 @@
 -- What is judged from one procedure on gives what is judged from the first.
 use Rattle.std.proofs.Common.{◌≡◌, ◌+◌, ◌<◌, ◌≤◌, ℕ, zero, suc, List, [], ◌∷◌, length, Some, refl, sym, subst, ap, arith, add-one, inl, inr}
 use Rattle.std.proofs.lemmas.List.{length-map}
+use Rattle.burr_container.specs.declared.procedure_ref.ProcedureRef.{ProcedureRef}
 use Rattle.burr_container.specs.Rules.Plans.{Plan}
+use Rattle.burr_container.specs.Views.Containers.{ContainerView}
+use Rattle.burr_container.specs.Views.Lent.{IsLent}
 use Rattle.burr_frames.proofs.Common.Heres.{element_at}
 use Rattle.std.specs.Prelude.{slice_get, drop}
 use Rattle.std.proofs.lemmas.Option.{none-some, same_Some}
@@ -20,6 +23,11 @@ drop_at (y ∷ ys) (suc i) x e = drop_at ys i x e
 -- the frames of one procedure
 abbrev pub one_framed : ℕ → FramedProcedure → Rest → Rest
 one_framed n here rest = judging_exit n here.exit (judging_entry n here.parameters here.labels rest)
+
+-- those of one that is lent, by its number
+pub framed_lent : (kept : ContainerView) (n : ℕ) (r : ProcedureRef) (here : FramedProcedure) (rest : Rest) (a : Judgement)
+    → IsLent kept n r → one_framed r.number here rest a → one_framed n here rest a
+framed_lent kept n r here rest a lent judged = subst (λ (m : ℕ). one_framed m here rest a) lent.number judged
 
 -- where its frames hold, what is said after them is said with them
 with_one : (n : ℕ) (here : FramedProcedure) (rest : Rest) (a : Judgement) → one_framed n here passes Passed

@@ -4,7 +4,9 @@ use Rattle.std.specs.Prelude.{pos, slice_get, if◌then◌else◌, ◌==◌, Boo
 use Rattle.std.proofs.lemmas.Option.{none-some, same_Some, slice_get_within}
 use Rattle.burr_text.proofs.Common.Decisions.{Decided, decided_like, decided_and, decided_and_three, decided_not, decide_same, decide_below, decide_at_most, decide_some_below, decide_same_bytes, decide_empty}
 use Rattle.burr_voxels.specs.declared.cell.Cell.{Cell}
-use Rattle.burr_code.specs.Places.{Placement, Apart, On, count_in}
+use Rattle.burr_code.specs.declared.placement.Placement.{Placement}
+use Rattle.burr_code.specs.declared.placement.Placement.TheVariants.{Apart, On}
+use Rattle.burr_code.specs.Places.{count_in}
 use Rattle.burr_code.specs.Instruction.{Instruction, spelled, StandsAt}
 use Rattle.burr_code.proofs.Common.Orders.{decide_le}
 use Rattle.burr_code.proofs.Common.Reading.{decide_stands}

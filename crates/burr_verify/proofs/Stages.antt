@@ -17,7 +17,7 @@ use Rattle.burr_frames.specs.Rules.FramedPlans.{FramedProcedure, FramedPlan, fra
 use Rattle.burr_frames.specs.Rules.Looks.{RuleLooks}
 use Rattle.burr_frames.specs.Rules.States.{AbstractState, state_of}
 use Rattle.burr_frames.specs.Rules.Transfer.{Transfer}
-use Rattle.burr_frames.specs.Rules.Verdicts.{Breaks, FallsThrough, NoSuccessor, arriving, no_successor}
+use Rattle.burr_frames.specs.Rules.Verdicts.{Broken, Breaks, FallsThrough, NoSuccessor, arriving, no_successor}
 use Rattle.burr_frames.specs.declared.rule.Rule.TheVariants as rules
 use Rattle.burr_verify.specs.declared.refusal.Refusal.{Refusal}
 use Rattle.burr_verify.specs.Views.Refusals.{plain_refusal}
@@ -80,6 +80,11 @@ pub stops_by : (homes : List (List Cell)) (plan : FramedPlan) (n : ℕ) (here : 
     → LooksStop homes plan n here stage r looks
 stops_by homes plan n here stage r j looks same pass =
     subst (λ (k : Judgement). LookedPass homes plan n here stage k looks) (sym same) pass
+
+-- so it does where the number of the procedure is told as it is
+pub told_broken : (r : Refusal) (told n pc : ℕ) (b : Broken) → Refuses (failed_check r) ≡ broken told pc b → told ≡ n
+    → Refuses (failed_check r) ≡ broken n pc b
+told_broken r told n pc b same e = same ∙ ap (λ (k : ℕ). broken k pc b) e
 
 pub enters_misses : (homes : List (List Cell)) (plan : FramedPlan) (n : ℕ) (here : FramedProcedure) (last pc : ℕ) (f : Frame)
     (t : AbstractState) (o : Option Point) (r : Refusal) → pc ≢ length here.code → IsLabelled here pc f

@@ -5,7 +5,7 @@ ghost use Rattle.burr_code.specs.declared.limits.TheConstants.{MOST_PARAMETERS};
 ghost use Rattle.burr_code.specs.Places.{AllLieIn, tray_of, count_in};
 ghost use Rattle.burr_container.specs.Rules.Plans.{Frame};
 ghost use Rattle.burr_container.specs.Views.Refs.{frame_of, placement_view};
-ghost use Rattle.burr_container.specs.Views.Containers.{HasLabel};
+ghost use Rattle.burr_container.specs.Views.Lent.{LentHasLabel};
 ghost use Rattle.burr_frames.specs.Views.Exits.{framed_ref};
 ghost use Rattle.burr_frames.specs.Rules.FramedPlans.{framed};
 ghost use Rattle.burr_frames.specs.Views.Here.{OfFramedProcedure};
@@ -17,80 +17,57 @@ ghost use Rattle.burr_verify.specs.Rules.WellFramed.{IsFormed, IsFormedEntry, Is
 use crate::refusal::Refusal;
 use arrayvec::ArrayVec;
 use burr_code::is_in_set;
-use burr_container::{Container, ExitRef, FrameRef};
+use burr_code::limits::MOST_PIECES;
+use burr_container::{ExitRef, FrameRef, ProcedureRef};
 use burr_forms::Form;
 use burr_frames::{Rule, State};
 
-/// The most pieces of an assembly.
-const MOST_PIECES: usize = 32;
-
 /// Judges the exit frame of a procedure and the frame of each of its labels.
-pub fn judge_frames(container: &Container<'_>, procedure: usize) -> Result<(), Refusal>
-    requires { procedure < length container.now.procedures }
-    ensures { OfFramedProcedure container.now procedure (λ plan here. AnswersPart
-        (λ rest. judging_exit procedure here.exit
-        (judging_entry procedure here.parameters here.labels rest)) result) }
+pub fn judge_frames(procedure: ProcedureRef<'_, '_>) -> Result<(), Refusal>
+    ensures { OfFramedProcedure procedure.entry (λ plan here. AnswersPart
+        (λ rest. judging_exit procedure.entry.number here.exit
+        (judging_entry procedure.entry.number here.parameters here.labels rest)) result) }
 {
-    judge_exit(container, procedure)?;
-    for label in 0..container.label_count(procedure) {
-        judge_frame(container, procedure, label)?;
+    judge_exit(procedure)?;
+    for label in 0..procedure.label_count() {
+        judge_frame(procedure, label)?;
     }
     Ok(())
 }
 
 /// Judges the exit frame of a procedure, if there is one.
-fn judge_exit(container: &Container<'_>, procedure: usize) -> Result<(), Refusal>
-    requires { procedure < length container.now.procedures }
-    ensures { OfFramedProcedure container.now procedure (λ plan here.
-        AnswersPart (judging_exit procedure here.exit) result) }
+fn judge_exit(procedure: ProcedureRef<'_, '_>) -> Result<(), Refusal>
+    ensures { OfFramedProcedure procedure.entry (λ plan here.
+        AnswersPart (judging_exit procedure.entry.number here.exit) result) }
 {
-    match container.exit(procedure) {
+    match procedure.exit() {
         None => Ok(()),
         Some(exit) => {
             if is_formed_exit(&exit) {
                 return Ok(());
             }
-            Err(Refusal::plain(number_of(container, procedure), 0, Rule::V27))
+            Err(Refusal::plain(procedure.number(), 0, Rule::V27))
         }
     }
 }
 
 /// Judges the frame of a label of a procedure; that of the first is its entry frame.
-fn judge_frame(container: &Container<'_>, procedure: usize, label: usize) -> Result<(), Refusal>
-    requires procedure { procedure < length container.now.procedures }
-    requires label { HasLabel container.now procedure label }
-    ensures { OfFramedProcedure container.now procedure (λ plan here. (l : ℕ × Frame)
+fn judge_frame(procedure: ProcedureRef<'_, '_>, label: usize) -> Result<(), Refusal>
+    requires { LentHasLabel procedure label }
+    ensures { OfFramedProcedure procedure.entry (λ plan here. (l : ℕ × Frame)
         → slice_get here.labels label ≡ Some l
-        → AnswersPart (judging_label procedure here.parameters label l) result) }
+        → AnswersPart (judging_label procedure.entry.number here.parameters label l) result) }
 {
-    let frame = container.frame(procedure, label);
-    let place = container.label(procedure, label);
-    let number = number_of(container, procedure);
-    if !is_formed_at(&frame, parameters_of(container, procedure), label) {
+    let frame = procedure.frame(label);
+    let place = procedure.label(label);
+    let number = procedure.number();
+    if !is_formed_at(&frame, procedure.params(), label) {
         return Err(Refusal::plain(number, place, Rule::V27));
     }
     if !State::of(&frame).has_room_for_points() {
         return Err(Refusal::plain(number, place, Rule::V25));
     }
     Ok(())
-}
-
-/// The number of a procedure, of which there are 16 at most.
-fn number_of(container: &Container<'_>, procedure: usize) -> u8
-    requires { procedure < length container.now.procedures }
-    ensures { result ≡ procedure }
-{
-    let _count = container.proc_count();
-    procedure as u8
-}
-
-/// How many parameters a procedure has, 4 at most.
-fn parameters_of(container: &Container<'_>, procedure: usize) -> u8
-    requires { procedure < length container.now.procedures }
-    ensures few { result ≤ MOST_PARAMETERS }
-    ensures here { OfFramedProcedure container.now procedure (λ plan here. result ≡ here.parameters) }
-{
-    container.params(procedure)
 }
 
 /// Whether the frame of a label is formed; that of the first is an entry frame.

@@ -91,8 +91,8 @@ fn judge_all_frames(container: &Container<'_>) -> Result<(), Refusal>
     ensures { (p : Plan) → IsContainer container.now p
         → AnswersPart (judging_frames 0 (framed_plan p).procedures) result }
 {
-    for procedure in 0..container.proc_count() {
-        judge_frames(container, procedure)?;
+    for number in 0..container.proc_count() {
+        judge_frames(container.procedure(number))?;
     }
     Ok(())
 }
@@ -105,10 +105,11 @@ fn judge_start(container: &Container<'_>, pieces: u8) -> Result<(), Refusal>
         → length homes ≡ pieces → AnswersPart (judging_start homes (framed_plan p)) result }
 {
     let _some = container.proc_count();
-    if container.label_count(0) == 0 {
+    let main = container.procedure(0);
+    if main.label_count() == 0 {
         return Err(Refusal::plain(0, 0, Rule::V27));
     }
-    let entry = container.frame(0, 0);
+    let entry = main.frame(0);
     if meets_entry(&State::at_home(pieces), &entry).is_err() {
         return Err(Refusal::plain(0, 0, Rule::V27));
     }
@@ -134,8 +135,8 @@ fn judge_all_code<B: Blocking>(
 {
     // A container has a plan.
     let _header = container.header();
-    for procedure in 0..container.proc_count() {
-        judge_code(container, procedure, looks)?;
+    for number in 0..container.proc_count() {
+        judge_code(container.procedure(number), looks)?;
     }
     Ok(())
 }

@@ -3,7 +3,7 @@
 ghost use Rattle.std.specs.Prelude.{◌≡◌, ◌≢◌, ◌<◌, ◌≤◌, ◌+◌, ◌^◌, List, IfOk, MatchResult, length};
 ghost use Rattle.burr_assembly.specs.Rules.Homes.{homes_of};
 ghost use Rattle.burr_blocking.specs.Rules.Counted.{HasCounted};
-ghost use Rattle.burr_code.specs.declared.limits.TheConstants.{MOST_CODE, MOST_PROCEDURES};
+ghost use Rattle.burr_code.specs.declared.limits.TheConstants.{MOST_CODE};
 ghost use Rattle.burr_voxels.specs.declared.cell.Cell.{Cell};
 ghost use Rattle.burr_frames.specs.Views.Here.{OfFramedProcedure};
 ghost use Rattle.burr_frames.specs.Rules.Looks.{HasRoom};
@@ -17,76 +17,73 @@ use crate::refusal::Refusal;
 use crate::transfer::{Successor, transfer};
 use burr_blocking::{Blocking, Looks};
 use burr_code::fetch;
-use burr_container::Container;
-use burr_frames::{Rule, State, arrives};
+use burr_container::ProcedureRef;
+use burr_frames::{Rule, State};
 
 /// Judges a procedure's code in one pass from its first byte, with one state at a time. The boxes of
 /// its frames have at most 4,096 points, and the count of looks leaves room for 2^32 more, as many as
 /// 4,096 bytes of code can ask for: the caller's conditions.
 pub fn judge_code<B: Blocking>(
-    container: &Container<'_>,
-    procedure: usize,
+    procedure: ProcedureRef<'_, '_>,
     looks: &mut Looks<'_, B>,
 ) -> Result<(), Refusal>
-    requires procedure { procedure < length container.now.procedures }
-    requires framed { HasRoomyFrames container.now procedure }
+    requires framed { HasRoomyFrames procedure }
     requires room { looks.old.count + 2 ^ 32 ≤ 2 ^ 40 }
-    ensures passed { OfFramedProcedure container.now procedure (λ plan here. HasCounted
-        (LookedPass (homes_of looks.old.assembly) plan procedure here pass_start (judgement_of result))
+    ensures passed { OfFramedProcedure procedure.entry (λ plan here. HasCounted
+        (LookedPass (homes_of looks.old.assembly) plan procedure.entry.number here pass_start
+        (judgement_of result))
         looks.old looks.new) }
     ensures few { looks.new.count ≤ looks.old.count + 2 ^ 32 }
     ensures same { looks.new.assembly ≡ looks.old.assembly }
 {
-    let _most = container.proc_count();
     let _few = looks.assembly().piece_count();
-    let size = container.code(procedure).len();
+    let size = procedure.code().len();
     let mut last = 0;
     let mut pc = 0;
     let mut falling = None;
     while pc < size {
-        let state = enter(container, procedure, last, pc, falling)?;
-        let (after, next) = judge_at(container, procedure, pc, state, looks)?;
+        let state = enter(procedure, last, pc, falling)?;
+        let (after, next) = judge_at(procedure, pc, state, looks)?;
         last = pc;
         pc = after;
         falling = next;
     }
     match falling {
         None => Ok(()),
-        Some(_) => Err(Refusal::plain(procedure as u8, last as u16, Rule::V5)),
+        Some(_) => Err(Refusal::plain(procedure.number(), last as u16, Rule::V5)),
     }
 }
 
 /// The state before the instruction at pc: that of the frame there, at which what falls in arrives, or
 /// what falls in itself. What falls in falls out of the instruction at `last`.
 fn enter(
-    container: &Container<'_>,
-    procedure: usize,
+    procedure: ProcedureRef<'_, '_>,
     last: usize,
     pc: usize,
     falling: Option<State>,
 ) -> Result<State, Refusal>
-    requires procedure { procedure < length container.now.procedures }
-    requires few { procedure < MOST_PROCEDURES }
     requires short { pc < MOST_CODE }
     requires rising { last ≤ pc }
-    requires framed { HasRoomyFrames container.now procedure }
+    requires framed { HasRoomyFrames procedure }
     requires room { HasRoomBefore falling }
-    ensures passes { (homes : List (List Cell)) → OfFramedProcedure container.now procedure (λ plan here.
+    ensures passes { (homes : List (List Cell)) → OfFramedProcedure procedure.entry (λ plan here.
         pc ≢ length here.code → MatchResult result
-        (λ s. LooksOn homes plan procedure here (BeforeInstruction last pc falling) (AtInstruction pc s) 0)
-        (λ r. LooksStop homes plan procedure here (BeforeInstruction last pc falling) r 0)) }
+        (λ s. LooksOn homes plan procedure.entry.number here (BeforeInstruction last pc falling)
+        (AtInstruction pc s) 0)
+        (λ r. LooksStop homes plan procedure.entry.number here (BeforeInstruction last pc falling)
+        r 0)) }
     ensures room { IfOk result HasRoom }
 {
-    let label = label_within(container, procedure, pc, pc + 1);
+    let label = label_within(procedure, pc, pc + 1);
     match (label, falling) {
-        (None, None) => Err(Refusal::plain(procedure as u8, pc as u16, Rule::V4)),
+        (None, None) => Err(Refusal::plain(procedure.number(), pc as u16, Rule::V4)),
         (None, Some(state)) => Ok(state),
-        (Some(label), None) => Ok(State::of(&container.frame(procedure, label))),
+        (Some(label), None) => Ok(State::of(&procedure.frame(label))),
         (Some(label), Some(state)) => {
-            let frame = container.frame(procedure, label);
-            match arrives(&state, &frame) {
-                Ok(()) => Ok(State::of(&frame)),
-                Err(miss) => Err(Refusal::missed(procedure as u8, last as u16, miss)),
+            let frame = procedure.frame(label);
+            match state.arrive(&frame) {
+                Ok(there) => Ok(there),
+                Err(miss) => Err(Refusal::missed(procedure.number(), last as u16, miss)),
             }
         }
     }
@@ -96,42 +93,40 @@ fn enter(
 /// The looks of its rule are counted, at most 2^20. The state has at most 4,096 points, the assembly at
 /// most 32 pieces, and at most 2^40 looks were made so far: the caller's conditions.
 fn judge_at<B: Blocking>(
-    container: &Container<'_>,
-    procedure: usize,
+    procedure: ProcedureRef<'_, '_>,
     pc: usize,
     state: State,
     looks: &mut Looks<'_, B>,
 ) -> Result<(usize, Option<State>), Refusal>
-    requires procedure { procedure < length container.now.procedures }
-    requires few { procedure < MOST_PROCEDURES }
     requires short { pc < MOST_CODE }
-    requires framed { HasRoomyFrames container.now procedure }
+    requires framed { HasRoomyFrames procedure }
     requires points { HasRoom state }
     requires few_pieces { length looks.old.assembly.pieces ≤ 32 }
     requires room { looks.old.count ≤ 2 ^ 40 }
     ensures after { IfOk result (λ ok. pc < ok.0) }
-    ensures within { OfFramedProcedure container.now procedure (λ plan here.
+    ensures within { OfFramedProcedure procedure.entry (λ plan here.
         IfOk result (λ ok. ok.0 ≤ length here.code)) }
-    ensures passes { OfFramedProcedure container.now procedure (λ plan here. HasCounted (λ n.
+    ensures passes { OfFramedProcedure procedure.entry (λ plan here. HasCounted (λ n.
         MatchResult result
-        (λ ok. LooksOn (homes_of looks.old.assembly) plan procedure here (AtInstruction pc state)
-        (BeforeInstruction pc ok.0 ok.1) n)
-        (λ r. LooksStop (homes_of looks.old.assembly) plan procedure here (AtInstruction pc state) r n))
+        (λ ok. LooksOn (homes_of looks.old.assembly) plan procedure.entry.number here
+        (AtInstruction pc state) (BeforeInstruction pc ok.0 ok.1) n)
+        (λ r. LooksStop (homes_of looks.old.assembly) plan procedure.entry.number here
+        (AtInstruction pc state) r n))
         looks.old looks.new) }
     ensures points { IfOk result (λ ok. HasRoomBefore ok.1) }
     ensures few { looks.new.count ≤ looks.old.count + 2 ^ 20 }
     ensures same { looks.new.assembly ≡ looks.old.assembly }
 {
-    let Some((instruction, size)) = fetch(container.code(procedure), pc) else {
-        return Err(Refusal::plain(procedure as u8, pc as u16, Rule::V2));
+    let Some((instruction, size)) = fetch(procedure.code(), pc) else {
+        return Err(Refusal::plain(procedure.number(), pc as u16, Rule::V2));
     };
-    if label_within(container, procedure, pc + 1, pc + size).is_some() {
-        return Err(Refusal::plain(procedure as u8, pc as u16, Rule::V3));
+    if label_within(procedure, pc + 1, pc + size).is_some() {
+        return Err(Refusal::plain(procedure.number(), pc as u16, Rule::V3));
     }
     let mut state = state;
-    match transfer(&mut state, &instruction, container, procedure, looks) {
+    match transfer(&mut state, &instruction, procedure, looks) {
         Ok(Successor::FallsThrough) => Ok((pc + size, Some(state))),
         Ok(Successor::None) => Ok((pc + size, None)),
-        Err(broken) => Err(Refusal::of(procedure as u8, pc as u16, broken)),
+        Err(broken) => Err(Refusal::of(procedure.number(), pc as u16, broken)),
     }
 }

@@ -1,6 +1,6 @@
 //! The rule of an instruction.
 
-ghost use Rattle.std.specs.Prelude.{◌≡◌, ◌<◌, ◌≤◌, ◌^◌, length};
+ghost use Rattle.std.specs.Prelude.{◌≡◌, ◌≤◌, ◌^◌};
 ghost use Rattle.burr_assembly.specs.Rules.Homes.{homes_of};
 ghost use Rattle.burr_blocking.specs.Rules.Counted.{HasCounted};
 ghost use Rattle.burr_code.specs.Instruction.{IsInRange};
@@ -14,7 +14,7 @@ ghost use Rattle.burr_verify.specs.Views.Judgements.{verdict_of};
 
 use burr_blocking::{Blocking, Looks};
 use burr_code::Instr;
-use burr_container::Container;
+use burr_container::ProcedureRef;
 use burr_frames::{Break, State};
 
 /// How control leaves an instruction: it falls out of it with a state, or no state is left after.
@@ -30,16 +30,14 @@ pub enum Successor {
 pub fn transfer<B: Blocking>(
     state: &mut State,
     instruction: &Instr<'_>,
-    container: &Container<'_>,
-    procedure: usize,
+    procedure: ProcedureRef<'_, '_>,
     looks: &mut Looks<'_, B>,
 ) -> Result<Successor, Break>
-    requires procedure { procedure < length container.now.procedures }
     requires in_range { IsInRange (meaning instruction.now) }
     requires points { HasRoom state.old }
     requires room { looks.old.count ≤ 2 ^ 40 }
-    ensures verdict { OfFramedProcedure container.now procedure (λ plan here.
-        Transfer (homes_of looks.old.assembly) plan procedure here state.old
+    ensures verdict { OfFramedProcedure procedure.entry (λ plan here.
+        Transfer (homes_of looks.old.assembly) plan procedure.entry.number here state.old
         (meaning instruction.now) (verdict_of state.new result)) }
     ensures counted { HasCounted
         (RuleLooks (homes_of looks.old.assembly) state.old (meaning instruction.now))
@@ -49,7 +47,7 @@ pub fn transfer<B: Blocking>(
         Instr::Halt => has_no_successor(state.halt(procedure)),
         Instr::Push(number) => falls_through(state.push(*number)),
         Instr::Load(slot) => falls_through(state.load(*slot)),
-        Instr::Store(slot) => falls_through(state.store(container.params(procedure), *slot)),
+        Instr::Store(slot) => falls_through(state.store(procedure, *slot)),
         Instr::Add => falls_through(state.add()),
         Instr::Sub => falls_through(state.sub()),
         Instr::Drop => falls_through(state.drop_top()),
@@ -57,12 +55,12 @@ pub fn transfer<B: Blocking>(
         Instr::Step(direction) => falls_through(state.step(looks, *direction)),
         Instr::Aside(direction, tray) => falls_through(state.aside(looks, *direction, *tray)),
         Instr::Tray(tray) => falls_through(state.turn_to(*tray)),
-        Instr::Jump(label) => has_no_successor(state.jump(container, procedure, *label)),
-        Instr::Down(slot, label) => falls_through(state.down(container, procedure, *slot, *label)),
+        Instr::Jump(label) => has_no_successor(state.jump(procedure, *label)),
+        Instr::Down(slot, label) => falls_through(state.down(procedure, *slot, *label)),
         Instr::Ask(low, high) => falls_through(state.ask(*low, *high)),
-        Instr::Pick(labels) => has_no_successor(state.pick(container, procedure, labels)),
-        Instr::Call(callee) => falls_through(state.call(container, procedure, *callee)),
-        Instr::Ret => has_no_successor(state.ret(container, procedure)),
+        Instr::Pick(labels) => has_no_successor(state.pick(procedure, labels)),
+        Instr::Call(callee) => falls_through(state.call(procedure, *callee)),
+        Instr::Ret => has_no_successor(state.ret(procedure)),
     }
 }
 

@@ -61,20 +61,6 @@ impl Write for Room {
     }
 }
 
-/// Calls the program over a text and two writers that need no memory, and gives its status.
-fn status_in<T: Files + AllocGlobal>(
-    rt: &T,
-    words: &[String],
-    input: &str,
-    output: &mut Room,
-    complaint: &mut Room,
-) -> u8 {
-    let mut source = Reading::new(input.as_bytes());
-    let mut sink: WholeLines<_, 64> = WholeLines::new(Writing::new(output));
-    let mut complaints: WholeLines<_, 64> = WholeLines::new(Writing::new(complaint));
-    run_words(rt, words, &mut source, &mut sink, &mut complaints)
-}
-
 /// How a call of the program ended, told without memory.
 #[derive(Drop)]
 struct SmallEnd {
@@ -88,7 +74,8 @@ impl SmallEnd {
     fn of<T: Files + AllocGlobal>(rt: &T, words: &[String], input: &str) -> SmallEnd {
         let mut output = Room::new();
         let mut complaint = Room::new();
-        let status = status_in(rt, words, input, &mut output, &mut complaint);
+        let mut source = Reading::new(input.as_bytes());
+        let status = status_of(rt, words, &mut source, &mut output, &mut complaint);
         SmallEnd {
             status,
             output,

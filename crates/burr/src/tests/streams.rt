@@ -49,33 +49,6 @@ fn assert_reads<T: Abort + Files + AllocGlobal>(
     Ok(())
 }
 
-/// Calls the program over a text and a writer with little room, and gives its status.
-fn status_into<T: Files + AllocGlobal>(
-    rt: &T,
-    words: &[String],
-    input: &str,
-    output: &mut Narrow,
-    complaint: &mut Vec<u8>,
-) -> u8 {
-    let mut source = Reading::new(input.as_bytes());
-    let mut sink: WholeLines<_, 64> = WholeLines::new(Writing::new(output));
-    let mut complaints: WholeLines<_, 64> = WholeLines::new(Writing::new(complaint));
-    run_words(rt, words, &mut source, &mut sink, &mut complaints)
-}
-
-/// Calls the program with a standard error that has little room, and gives its status.
-fn status_telling<T: Files + AllocGlobal, R: Source>(
-    rt: &T,
-    words: &[String],
-    source: &mut R,
-    output: &mut Vec<u8>,
-    complaint: &mut Narrow,
-) -> u8 {
-    let mut sink: WholeLines<_, 64> = WholeLines::new(Writing::new(output));
-    let mut complaints: WholeLines<_, 64> = WholeLines::new(Writing::new(complaint));
-    run_words(rt, words, source, &mut sink, &mut complaints)
-}
-
 /// Makes the call with a sink that has room for so many bytes, and asserts that it took a front of
 /// what is printed where nothing fails, and what is told.
 fn assert_front<T: Abort + Files + AllocGlobal>(
@@ -88,7 +61,8 @@ fn assert_front<T: Abort + Files + AllocGlobal>(
     let room = writer.room;
     let mut complaint = Vec::new(rt.alloc());
     let words = words_of(rt.alloc(), line)?;
-    let status = status_into(rt, &words, input, writer, &mut complaint);
+    let mut source = Reading::new(input.as_bytes());
+    let status = status_of(rt, &words, &mut source, writer, &mut complaint);
     let (wanted, told) = if room < right.output.len() {
         (3, "cannot write -\n")
     } else {
@@ -158,7 +132,7 @@ fn assert_told_fronts<T: Abort + Files + AllocGlobal>(
         let mut output = Vec::new(rt.alloc());
         let words = words_of(rt.alloc(), line)?;
         let mut source = Reading::new(Drips { left, calls: 7 });
-        let got = status_telling(rt, &words, &mut source, &mut output, &mut writer);
+        let got = status_of(rt, &words, &mut source, &mut output, &mut writer);
         assert_eq!(rt; (got, output.is_empty()), (status, true), "{line} {room}");
         assert_eq!(rt;
             Some(writer.taken.as_slice()),

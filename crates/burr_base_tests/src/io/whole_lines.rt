@@ -1,6 +1,6 @@
 //! Whole lines: what each call of the sink below takes.
-use super::Narrow;
 use burr_io::{IoFailed, Sink, WholeLines, Writing, put_all};
+use burr_testing::Narrow;
 use std::alloc::{AllocError, Global};
 use std::io::{self, ErrorKind, Write};
 use std::process::Abort;

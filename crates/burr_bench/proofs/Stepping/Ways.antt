@@ -1,18 +1,16 @@
 -- What the tests of the grip's way come to.
-use Rattle.std.proofs.Common.{◌≡◌, ◌↔◌, ◌<◌, ◌≤◌, ℕ, List, [], length, sym, subst, inl, inr, arith, IsTrue, Bool, true, false, not}
-use Rattle.burr_text.proofs.Common.Tests.{yes_of, yes_iff, no_of, no_iff}
-use Rattle.std.specs.Prelude.{ℤ, pos, ◌+ℤ◌, ◌-ℤ◌}
-use Rattle.std.proofs.lemmas.Int.{ints}
+use Rattle.std.proofs.Common.{◌≡◌, ◌↔◌, ◌<◌, ◌≤◌, ℕ, List, [], length, sym, subst, inl, inr, arith, IsTrue, Bool}
+use Rattle.std.specs.Prelude.{pos}
 use Rattle.std.proofs.lemmas.List.{length-map}
 use Rattle.std.proofs.lemmas.Option.{get_or_from_slice_get, slice_get-get_or}
 use Rattle.burr_voxels.specs.declared.cell.Cell.{Cell}
 use Rattle.burr_voxels.specs.declared.direction.Direction.{Direction}
 use Rattle.burr_voxels.specs.Grid.{plus, minus, along, shifted}
 use Rattle.burr_voxels.specs.Near.{IsWithin}
-use Rattle.burr_voxels.proofs.Common.Ahead.{same_cell}
 use Rattle.burr_voxels.specs.CellSets.{Overlap, IsFree}
 use Rattle.burr_code.specs.PieceSets.{IsInSet}
-use Rattle.burr_code.specs.Places.{Placement, LiesAt, LiesIn}
+use Rattle.burr_code.specs.declared.placement.Placement.{Placement}
+use Rattle.burr_code.specs.Places.{LiesAt, LiesIn}
 use Rattle.burr_assembly.specs.Rules.Text.{Assembly}
 use Rattle.burr_assembly.specs.Rules.Homes.{HasHome, home_at, home_of, homes_of}
 use Rattle.burr_blocking.specs.declared.query.Query.{Query}
@@ -27,11 +25,6 @@ use Rattle.burr_bench.specs.Ways.{PassesPiece, PassesRest, GroupPasses, query_of
 use Rattle.burr_code.proofs.Common.Conditions.{one_position, lies_within}
 use Rattle.burr_state.proofs.Common.Stepping.Near.{staying_of_on_bench}
 use Rattle.burr_state.proofs.Common.Trays.Shifts.{IsShifted, lay_before_shift, lies_at_shifted, lies_at_kept}
-
--- a test that fails where a condition holds
-pub holds_not : (P : Type 0) (test : Bool) → IsTrue test ↔ P → IsTrue (not test) ↔ (¬ P)
-holds_not P true tells = no_iff (λ none. none (yes_of tells))
-holds_not P false tells = yes_iff (no_of tells)
 
 -- Pair by pair
 

@@ -4,7 +4,9 @@ use Rattle.std.specs.Prelude.{slice_get}
 use Rattle.std.proofs.lemmas.Option.{none-some, same_Some, slice_get_within}
 use Rattle.burr_text.proofs.Common.Decisions.{Decided, decided_like, decided_and, decided_not, decide_same, decide_below, decide_some_below}
 use Rattle.burr_code.specs.PieceSets.{IsInSet}
-use Rattle.burr_code.specs.Places.{Placement, Apart, On, LiesAt, LiesIn, AllLieIn, AllApart, IsPartOfTray, IsEmptyTray}
+use Rattle.burr_code.specs.declared.placement.Placement.{Placement}
+use Rattle.burr_code.specs.declared.placement.Placement.TheVariants.{Apart, On}
+use Rattle.burr_code.specs.Places.{LiesAt, LiesIn, AllLieIn, AllApart, IsPartOfTray, IsEmptyTray}
 use Rattle.burr_code.proofs.Common.PieceSets.{decide_bit, no_bit_from_set}
 
 -- Conditions on all numbers and all values

@@ -3,7 +3,7 @@ use Rattle.std.proofs.Common.{◌≡◌, ℕ, ◌≤◌, true, IsTrue, nat_le, O
 use Rattle.std.specs.Borrow.{Bor}
 use Rattle.std.proofs.lemmas.Bool.{and_parts}
 use Rattle.burr_container.specs.declared.exit_ref.ExitRef.{ExitRef}
-use Rattle.burr_container.specs.declared.procedure_ref.ProcedureRef.{ProcedureRef}
+use Rattle.burr_container.specs.declared.stored_procedure.StoredProcedure.{StoredProcedure}
 use Rattle.burr_container.specs.Rules.Plans.{Plan, PlanProcedure, ExitFrame, Frame}
 use Rattle.burr_container.specs.Rules.Fitting.{is_fitting}
 use Rattle.burr_container.specs.Views.InPlace.{AreFor, IsLabel, IsExit, IsProcedure}
@@ -37,7 +37,7 @@ one_exit pieces parameters results (Some kept) None g e h = absurd e
 one_exit pieces parameters results (Some kept) (Some f) None e h = absurd h
 one_exit pieces parameters results (Some kept) (Some f) (Some g) e h = ap Some (sym e.frame ∙ h.frame)
 
-one_procedure : (pieces : ℕ) → pieces ≤ 32 → (kept : ProcedureRef) (p q : PlanProcedure) → IsProcedure pieces kept p
+one_procedure : (pieces : ℕ) → pieces ≤ 32 → (kept : StoredProcedure) (p q : PlanProcedure) → IsProcedure pieces kept p
     → IsProcedure pieces kept q → p ≡ q
 one_procedure pieces few kept p q e f =
     let parameters : p.parameters ≡ q.parameters = sym e.parameters ∙ f.parameters in

@@ -1,15 +1,15 @@
 -- What a plan is: procedures of code with a frame at each label, as the stack map frames of the JVM
 -- Specification, 4.10.1. That frames hold forms, ranges, guards and a cost is this project's own.
 use Rattle.std.specs.Prelude.{ℕ, ℤ, pos, List, Option, Bool, is_some, map, true, false, ◌++◌, ◌+◌, ◌-◌, replicate, [], ◌∷◌, length, if◌then◌else◌}
-use Rattle.burr_code.specs.Places.{Placement, at_position}
+use Rattle.burr_code.specs.declared.placement.Placement.{Placement}
+use Rattle.burr_code.specs.Places.{at_position}
 use Rattle.burr_code.specs.declared.limits.TheConstants.{SLOTS}
 use Rattle.burr_forms.specs.Rules.Forms.{Form}
+use Rattle.burr_container.specs.declared.form_offset.FormOffset.{FormOffset}
 
 -- a position by forms
-pub record FormCell : Type 0 where
-  pub x : Form
-  pub y : Form
-  pub z : Form
+abbrev pub FormCell : Type 0
+FormCell = FormOffset
 
 -- a range of numbers, both ends in it
 abbrev pub Range : Type 0

@@ -2,7 +2,7 @@
 use Rattle.std.specs.Prelude.{◌≡◌, ◌<◌, ℕ, List, length, Some, IfSome, Result, MatchResult, slice_get, IsTrue}
 use Rattle.burr_container.specs.declared.fault.ContainerFault.{ContainerFault}
 use Rattle.burr_container.specs.declared.header.Header.{Header}
-use Rattle.burr_container.specs.declared.procedure_ref.ProcedureRef.{ProcedureRef}
+use Rattle.burr_container.specs.declared.stored_procedure.StoredProcedure.{StoredProcedure}
 use Rattle.burr_container.specs.Rules.Plans.{Plan, PlanProcedure, Frame}
 use Rattle.burr_container.specs.Rules.Spelling.{plan_bytes}
 use Rattle.burr_container.specs.Rules.Fitting.{is_fitting}
@@ -12,9 +12,9 @@ use Rattle.burr_container.specs.Views.InPlace.{AreFor, IsProcedure}
 -- a container, read in place
 pub record ContainerView : Type 0 where
   pub header : Header
-  pub procedures : List ProcedureRef
+  pub procedures : List StoredProcedure
 
-abbrev pub container_view : Header → List ProcedureRef → ContainerView
+abbrev pub container_view : Header → List StoredProcedure → ContainerView
 container_view header procedures = record { header = header; procedures = procedures }
 
 pub record IsHeader (h : Header) (p : Plan) : Type 0 where

@@ -2,7 +2,8 @@
 use Rattle.std.specs.Prelude.{◌≡◌, ℕ, zero, suc, ◌*◌, ℤ, pos, List, [], ◌∷◌, drop, length, Bool, true, false, ◌&&◌, nat_le, IsTrue, ◌==◌}
 use Rattle.std.specs.Int.{w16, w32, cast_signed}
 use Rattle.byteorder.specs.Endian.{big_number}
-use Rattle.burr_code.specs.Places.{Placement, Apart, On}
+use Rattle.burr_code.specs.declared.placement.Placement.{Placement}
+use Rattle.burr_code.specs.declared.placement.Placement.TheVariants.{Apart, On}
 use Rattle.burr_forms.specs.Rules.Forms.{Form}
 use Rattle.burr_container.specs.Rules.Plans.{FormCell}
 use Rattle.burr_container.specs.Rules.Spelling.{form_size}

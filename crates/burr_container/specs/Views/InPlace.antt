@@ -6,7 +6,7 @@ use Rattle.burr_container.specs.declared.reading.cursor.Cursor.{Cursor}
 use Rattle.burr_container.specs.declared.header.Header.{Header}
 use Rattle.burr_container.specs.declared.label_table.LabelTable.{LabelTable}
 use Rattle.burr_container.specs.declared.exit_ref.ExitRef.{ExitRef}
-use Rattle.burr_container.specs.declared.procedure_ref.ProcedureRef.{ProcedureRef}
+use Rattle.burr_container.specs.declared.stored_procedure.StoredProcedure.{StoredProcedure}
 use Rattle.burr_container.specs.Rules.Plans.{Frame, ExitFrame, PlanProcedure, exit_symbols}
 use Rattle.burr_container.specs.Views.Cuts.{IsCut}
 use Rattle.burr_container.specs.Rules.Spelling.{front_bytes}
@@ -52,12 +52,14 @@ ReadsHeader cursor result =
 
 -- labels, and the position of the last one
 pub record AreLabels (pieces : ℕ) (kept : LabelTable × Option ℕ) (ls : List (ℕ × Frame)) : Type 0 where
+  pub of_plan : kept.0.pieces ≡ pieces
   pub labels : AreFor (IsLabel pieces) kept.0.starts.items ls
   pub last : kept.1 ≡ last_label ls
 
 -- labels and code
 pub record IsBody (pieces : ℕ) (kept : LabelTable × Bor (List ℕ))
     (body : List (ℕ × Frame) × List ℕ) : Type 0 where
+  pub of_plan : kept.0.pieces ≡ pieces
   pub labels : AreFor (IsLabel pieces) kept.0.starts.items body.0
   pub code : kept.1.now ≡ body.1
 
@@ -77,9 +79,10 @@ IsExit pieces parameters results (Some kept) (Some f) =
 IsExit pieces parameters results None (Some f) = ⊥
 IsExit pieces parameters results (Some kept) None = ⊥
 
-pub record IsProcedure (pieces : ℕ) (kept : ProcedureRef) (p : PlanProcedure) : Type 0 where
+pub record IsProcedure (pieces : ℕ) (kept : StoredProcedure) (p : PlanProcedure) : Type 0 where
   pub parameters : kept.parameters ≡ p.parameters
   pub results : kept.results ≡ p.results
   pub exit : IsExit pieces p.parameters p.results kept.exit p.exit
+  pub of_plan : kept.labels.pieces ≡ pieces
   pub labels : AreFor (IsLabel pieces) kept.labels.starts.items p.labels
   pub code : kept.code.now ≡ p.code

@@ -1,6 +1,7 @@
 -- What the owned types of plans stand for.
 use Rattle.std.specs.Prelude.{List, map}
-use Rattle.burr_code.specs.Places.{Placement, Apart, On}
+use Rattle.burr_code.specs.declared.placement.Placement.{Placement}
+use Rattle.burr_code.specs.declared.placement.Placement.TheVariants.{Apart, On}
 use Rattle.burr_container.specs.declared.place.Place.{Place}
 use Rattle.burr_container.specs.declared.place.Place.TheVariants as place
 use Rattle.burr_container.specs.Rules.Plans.{FormCell}

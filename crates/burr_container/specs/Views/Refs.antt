@@ -1,6 +1,7 @@
 -- What the frames stand for that are read in place.
 use Rattle.std.specs.Prelude.{ℕ, List, take, Option, Some, None, Result, MatchResult, IfSome}
-use Rattle.burr_code.specs.Places.{Placement, Apart, On}
+use Rattle.burr_code.specs.declared.placement.Placement.{Placement}
+use Rattle.burr_code.specs.declared.placement.Placement.TheVariants.{Apart, On}
 use Rattle.burr_forms.specs.Rules.Forms.{Form, IsSmallForm}
 use Rattle.burr_container.specs.declared.fault.ContainerFault.{ContainerFault}
 use Rattle.burr_container.specs.declared.reading.cursor.Cursor.{Cursor}

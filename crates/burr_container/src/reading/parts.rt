@@ -10,10 +10,10 @@ use crate::fault::ContainerFault;
 use crate::fitting::most_results;
 use crate::header::Header;
 use crate::label_table::LabelTable;
-use crate::procedure_ref::ProcedureRef;
 use crate::reading::cursor::Cursor;
 use crate::reading::fields::{byte_within, count_within, word_within};
 use crate::reading::frames::{exit_frame, frame};
+use crate::stored_procedure::StoredProcedure;
 use arrayvec::ArrayVec;
 use burr_code::limits::{MOST_BUDGET, MOST_CODE, MOST_LABELS, MOST_PARAMETERS};
 use burr_text::is_name;
@@ -95,14 +95,14 @@ pub fn main_procedure(
     version: u16,
     pieces: u8,
     cursor: Cursor<'_>,
-) -> Result<(ProcedureRef<'_>, Cursor<'_>), ContainerFault>
+) -> Result<(StoredProcedure<'_>, Cursor<'_>), ContainerFault>
     requires { pieces ≤ 32 }
     ensures { ReadsAs (IsProcedure pieces) (procedure_part version pieces true) cursor.entry result }
 {
     let (parameters, after_parameters) = byte_within(cursor, 0, 0)?;
     let (results, after_results) = result_count(version, true, after_parameters)?;
     let ((labels, code), next) = body(pieces, after_results)?;
-    let procedure = ProcedureRef {
+    let procedure = StoredProcedure {
         parameters,
         results,
         exit: None,
@@ -117,7 +117,7 @@ pub fn other_procedure(
     version: u16,
     pieces: u8,
     cursor: Cursor<'_>,
-) -> Result<(ProcedureRef<'_>, Cursor<'_>), ContainerFault>
+) -> Result<(StoredProcedure<'_>, Cursor<'_>), ContainerFault>
     requires { pieces ≤ 32 }
     ensures { ReadsAs (IsProcedure pieces) (procedure_part version pieces false) cursor.entry result }
 {
@@ -125,7 +125,7 @@ pub fn other_procedure(
     let (results, after_results) = result_count(version, false, after_parameters)?;
     let (exit, after_exit) = exit_frame(version, pieces, parameters, results, after_results)?;
     let ((labels, code), next) = body(pieces, after_exit)?;
-    let procedure = ProcedureRef {
+    let procedure = StoredProcedure {
         parameters,
         results,
         exit: Some(exit),
@@ -181,7 +181,7 @@ fn labels(
         last = Some(position);
         cursor = next;
     }
-    Ok(((LabelTable { starts }, last), cursor))
+    Ok(((LabelTable { pieces, starts }, last), cursor))
 }
 
 /// A label after the one at `last`: its position.

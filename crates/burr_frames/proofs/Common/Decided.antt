@@ -7,7 +7,9 @@ use Rattle.burr_voxels.specs.declared.cell.Cell.{Cell}
 use Rattle.burr_voxels.specs.Grid.{shifted}
 use Rattle.burr_voxels.specs.Near.{IsWithin}
 use Rattle.burr_code.specs.PieceSets.{IsInSet}
-use Rattle.burr_code.specs.Places.{Placement, Apart, On, LiesAt, tray_of}
+use Rattle.burr_code.specs.declared.placement.Placement.{Placement}
+use Rattle.burr_code.specs.declared.placement.Placement.TheVariants.{Apart, On}
+use Rattle.burr_code.specs.Places.{LiesAt, tray_of}
 use Rattle.burr_code.proofs.Common.Orders.{decide_le}
 use Rattle.burr_code.proofs.Common.PieceSets.{decide_bit}
 use Rattle.burr_assembly.specs.Rules.Homes.{HasHome}

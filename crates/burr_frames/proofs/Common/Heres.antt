@@ -5,9 +5,12 @@ use Rattle.std.specs.Prelude.{slice_get, option_map}
 use Rattle.std.proofs.lemmas.Option.{slice_get-map, slice_get_within, none-some, same_Some}
 use Rattle.std.proofs.lemmas.List.{length-map}
 use Rattle.burr_code.specs.Labels.{labelled, with_first}
+use Rattle.burr_container.specs.declared.procedure_ref.ProcedureRef.{ProcedureRef}
 use Rattle.burr_container.specs.Rules.Plans.{Plan, PlanProcedure, Frame}
+use Rattle.burr_container.specs.Views.Containers.{ContainerView, IsContainer}
+use Rattle.burr_container.specs.Views.Lent.{IsLent, OfLent}
 use Rattle.burr_frames.specs.Rules.FramedPlans.{FramedProcedure, framed_label, framed_procedure, framed_plan}
-use Rattle.burr_frames.specs.Views.Here.{IsSomeOf}
+use Rattle.burr_frames.specs.Views.Here.{OfFramedProcedure, IsSomeOf}
 
 -- what is found after a map is the image of what is found before
 pub mapped_found : {A B : Type 0} (f : A → B) (o : Option A) (b : B) → option_map f o ≡ Some b
@@ -46,6 +49,25 @@ as_many_labels q here same = ap (λ (h : FramedProcedure). length h.labels) same
 pub parameters_here : (q : PlanProcedure) (here : FramedProcedure) (n : ℕ) → here ≡ framed_procedure q → n ≡ q.parameters
     → here.parameters ≡ n
 parameters_here q here n same e = ap (λ (h : FramedProcedure). h.parameters) same ∙ sym e
+
+-- Procedures that a container lends
+
+-- the container that lends one has the same plan
+pub lent_is : (kept : ContainerView) (n : ℕ) (r : ProcedureRef) (p : Plan) → IsLent kept n r → IsContainer kept p
+    → IsContainer r.container.now p
+lent_is kept n r p lent is = subst (λ (k : ContainerView). IsContainer k p) (sym lent.container) is
+
+-- what stands at its number
+pub lent_at : {A : Type 0} (xs : List A) (kept : ContainerView) (n : ℕ) (r : ProcedureRef) (x : A) → IsLent kept n r
+    → slice_get xs n ≡ Some x → slice_get xs r.number ≡ Some x
+lent_at xs kept n r x lent at = subst (λ (m : ℕ). slice_get xs m ≡ Some x) (sym lent.number) at
+
+-- the parameters that are read of a procedure are its own
+pub parameters_read : (r : ProcedureRef) (count : ℕ) → OfLent r (λ p q. count ≡ q.parameters)
+    → OfFramedProcedure r (λ plan here. here.parameters ≡ count)
+parameters_read r count reads = λ p here is at.
+    (let found = procedure_here p r.number here at in
+    parameters_here found.0 here count found.2 (reads p found.0 is found.1))
 
 -- Labels, where all are there
 

@@ -4,7 +4,8 @@ use Rattle.std.specs.Prelude.{pos, ◌++◌, map, reverse}
 use Rattle.burr_text.specs.Checks.{needs, finds}
 use Rattle.burr_text.proofs.Common.Decisions.{Decided, decided_and, decided_and_three, decided_not, decide_same, decide_below, decide_at_most}
 use Rattle.burr_voxels.specs.declared.cell.Cell.{Cell}
-use Rattle.burr_code.specs.Places.{Placement, tray_of}
+use Rattle.burr_code.specs.declared.placement.Placement.{Placement}
+use Rattle.burr_code.specs.Places.{tray_of}
 use Rattle.burr_code.specs.Instruction.{Instruction, Halt, Push, Load, Store, Add, Sub, Drop, Grip, Step, Aside, Tray, Jump, Down, Ask, Pick, Call, Ret, IsInNumberRange}
 use Rattle.burr_code.proofs.Common.Orders.{decide_le}
 use Rattle.burr_forms.specs.Rules.Forms.{Form, Point, value, values, one_less, plus_form, minus_form, substituted}

@@ -2,7 +2,8 @@
 -- after.
 use Rattle.std.specs.Prelude.{◌≡◌, ℕ, zero, suc, ◌+◌, ◌<◌, ◌≤◌, pos, neg_ℤ, ◌≤ℤ◌, List, [], ◌∷◌, ◌++◌, length, map, reverse, replicate, set, get_or, Option, Some, None, slice_get}
 use Rattle.burr_text.specs.Checks.{needs, finds}
-use Rattle.burr_code.specs.Places.{Placement, AllApart, at_position, tray_of}
+use Rattle.burr_code.specs.declared.placement.Placement.{Placement}
+use Rattle.burr_code.specs.Places.{AllApart, at_position, tray_of}
 use Rattle.burr_code.specs.Stacks.{top_many}
 use Rattle.burr_code.specs.Labels.{callee_of, argument_slots}
 use Rattle.burr_forms.specs.Rules.Forms.{Form, Point, value, values, symbol, minus_form, times, one_less, substituted, IsSmallForm, AllSmallForms}

@@ -1,8 +1,8 @@
 -- Plans as the verifier reads them. The forms of a frame are over symbols, one for each live slot
 -- in their order; those of an exit frame are over the parameters and then the results. As the stack
 -- map frames of the JVM Specification, 4.10.1; forms, ranges and guards are this project's own.
-use Rattle.std.specs.Prelude.{ℕ, List, map, Option, option_map}
-use Rattle.burr_code.specs.Places.{Placement}
+use Rattle.std.specs.Prelude.{ℕ, Bool, List, map, Option, option_map}
+use Rattle.burr_code.specs.declared.placement.Placement.{Placement}
 use Rattle.burr_forms.specs.Rules.Forms.{Form}
 use Rattle.burr_container.specs.Rules.Plans.{FormCell, Range, Frame, ExitFrame, PlanProcedure, Plan, live_slots, exit_symbols, over_symbols, place_over_symbols}
 
@@ -43,14 +43,14 @@ framed f = record f {
   places = map (place_over_symbols (live_slots f.slots)) f.places;
 }
 
--- of a procedure with so many parameters and results
-abbrev pub framed_exit : ℕ → ℕ → ExitFrame → FramedExit
-framed_exit parameters results f = record {
+-- the exit frame, its forms over these symbols
+abbrev pub framed_exit : List Bool → ExitFrame → FramedExit
+framed_exit live f = record {
   tray = f.tray;
   grip = f.grip;
   results = f.results;
-  guards = map (over_symbols (exit_symbols parameters results)) f.guards;
-  places = map (place_over_symbols (exit_symbols parameters results)) f.places;
+  guards = map (over_symbols live) f.guards;
+  places = map (place_over_symbols live) f.places;
 }
 
 abbrev pub framed_label : ℕ × Frame → ℕ × Frame
@@ -60,7 +60,7 @@ abbrev pub framed_procedure : PlanProcedure → FramedProcedure
 framed_procedure p = record {
   parameters = p.parameters;
   results = p.results;
-  exit = option_map (framed_exit p.parameters p.results) p.exit;
+  exit = option_map (framed_exit (exit_symbols p.parameters p.results)) p.exit;
   labels = map framed_label p.labels;
   code = p.code;
 }

@@ -5,7 +5,8 @@ use Rattle.burr_voxels.specs.declared.cell.Cell.{Cell}
 use Rattle.burr_voxels.specs.declared.direction.Direction.{Direction}
 use Rattle.burr_code.specs.Instruction.{Instruction, Step, Aside}
 use Rattle.burr_code.specs.PieceSets.{is_left_out}
-use Rattle.burr_code.specs.Places.{Placement, is_in, IsPartOfTray, IsEmptyTray}
+use Rattle.burr_code.specs.declared.placement.Placement.{Placement}
+use Rattle.burr_code.specs.Places.{is_in, IsPartOfTray, IsEmptyTray}
 use Rattle.burr_blocking.specs.declared.query.Query.{Query}
 use Rattle.burr_blocking.specs.declared.query.Query.TheVariants as queries
 use Rattle.burr_forms.specs.Rules.Forms.{Point}

@@ -7,7 +7,9 @@ use Rattle.burr_voxels.specs.Grid.{shifted, along}
 use Rattle.burr_voxels.specs.CellSets.{Overlap, IsFree}
 use Rattle.burr_voxels.specs.Near.{IsWithin}
 use Rattle.burr_code.specs.PieceSets.{IsInSet}
-use Rattle.burr_code.specs.Places.{Placement, Apart, On, LiesAt, AllLieIn, at_position, changed, aside_places, IsPartOfTray, IsEmptyTray}
+use Rattle.burr_code.specs.declared.placement.Placement.{Placement}
+use Rattle.burr_code.specs.declared.placement.Placement.TheVariants.{Apart, On}
+use Rattle.burr_code.specs.Places.{LiesAt, AllLieIn, at_position, changed, aside_places, IsPartOfTray, IsEmptyTray}
 use Rattle.burr_blocking.specs.declared.query.Query.{Query}
 use Rattle.burr_blocking.specs.declared.query.Query.TheVariants as queries
 use Rattle.burr_forms.specs.Rules.Forms.{Point, raised, IsSmallForm}

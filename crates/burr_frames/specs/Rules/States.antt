@@ -2,7 +2,8 @@
 use Rattle.std.specs.Prelude.{ℕ, suc, List, [], ◌∷◌, map, reverse, Option, Some, None}
 use Rattle.burr_voxels.specs.declared.cell.Cell.{Cell}
 use Rattle.burr_voxels.specs.Grid.{at}
-use Rattle.burr_code.specs.Places.{Placement, at_position}
+use Rattle.burr_code.specs.declared.placement.Placement.{Placement}
+use Rattle.burr_code.specs.Places.{at_position}
 use Rattle.burr_forms.specs.Rules.Forms.{Form, Point, value, symbol}
 use Rattle.burr_forms.specs.Rules.Points.{IsPointOf}
 use Rattle.burr_forms.specs.Rules.Conditions.{Region, Throughout, FailsFirstAt}

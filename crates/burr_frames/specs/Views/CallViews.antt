@@ -1,38 +1,17 @@
 -- What the parts of a call say of the verdict.
-use Rattle.std.specs.Prelude.{◌≡◌, ◌⊎◌, ◌≤◌, ℕ, ℤ, List, length, map, drop, reverse, Option, Some, None, MatchOption, Result, MatchResult, option_map, pos, ◌≤ℤ◌}
+use Rattle.std.specs.Prelude.{◌≡◌, ◌⊎◌, ◌≤◌, ℕ, ℤ, List, length, map, drop, reverse, Option, Some, None, MatchOption, Result, MatchResult, pos, ◌≤ℤ◌}
 use Rattle.arrayvec.specs.ArrayVec.{ArrayVec}
 use Rattle.burr_code.specs.Stacks.{top_many}
-use Rattle.burr_forms.specs.Rules.Forms.{Form, Point, value, values, one_less, substituted, IsSmallForm, AllSmallForms}
+use Rattle.burr_forms.specs.Rules.Forms.{Form, Point, value, one_less, substituted, IsSmallForm, AllSmallForms}
 use Rattle.burr_forms.specs.Rules.Points.{AreRanges, box_size}
 use Rattle.burr_forms.specs.declared.form.FormTooLarge.{FormTooLarge}
-use Rattle.burr_container.specs.Rules.Plans.{Range, Frame}
+use Rattle.burr_container.specs.Rules.Plans.{Range}
 use Rattle.burr_frames.specs.declared.rule.Rule.TheVariants as rules
 use Rattle.burr_frames.specs.declared.breaking.Break.{Break}
-use Rattle.burr_frames.specs.declared.state.arriving.Miss.{Miss}
-use Rattle.burr_frames.specs.Rules.States.{AbstractState, Everywhere, IsFirstFailing, state_of}
-use Rattle.burr_frames.specs.Rules.Arrival.{live_forms, IsAlike, Agrees, Meets}
+use Rattle.burr_frames.specs.Rules.States.{AbstractState, Everywhere, IsFirstFailing}
 use Rattle.burr_frames.specs.Views.Breaks.{broken_of, plain_break, break_at}
 use Rattle.burr_frames.specs.Rules.SpaceRules.{AllSmallPlaces}
 use Rattle.burr_frames.specs.Rules.ControlRules.{HasRoomForSymbols, left_of, first_forms}
-
--- Meeting an entry frame
-
--- the state does not meet a frame: at its first point where they do not agree, or without regard to
--- points
-abbrev pub IsMissed : AbstractState → Frame → Option Point → Type 0
-IsMissed s f None =
-    (live_forms f.slots s.slots ≡ None)
-    ⊎ ((forms : List Form) × (live_forms f.slots s.slots ≡ Some forms) × (¬ IsAlike s (state_of f)))
-IsMissed s f (Some point) =
-    (forms : List Form) × (live_forms f.slots s.slots ≡ Some forms) × IsAlike s (state_of f)
-    × IsFirstFailing s (λ x. Agrees s x (state_of f) (values x forms)) point
-
--- the forms in the live slots, all small, of a state that meets a frame; or how it does not
-abbrev pub MeetsOrMisses : AbstractState → Frame → Result (ArrayVec Form) Miss → Type 0
-MeetsOrMisses s f result =
-    MatchResult result
-    (λ forms. (meets : Meets s f) × (meets.forms ≡ forms.items) × AllSmallForms forms.items)
-    (λ miss. IsMissed s f (option_map (λ point. point.items) miss.point))
 
 -- Paying for a callee
 

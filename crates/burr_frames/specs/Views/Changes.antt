@@ -1,6 +1,6 @@
 -- States with a part changed.
 use Rattle.std.specs.Prelude.{ℕ, List, ◌∷◌, Some, set, drop}
-use Rattle.burr_code.specs.Places.{Placement}
+use Rattle.burr_code.specs.declared.placement.Placement.{Placement}
 use Rattle.burr_forms.specs.Rules.Forms.{Form}
 use Rattle.burr_container.specs.Rules.Plans.{FormCell}
 use Rattle.burr_frames.specs.Rules.States.{AbstractState}

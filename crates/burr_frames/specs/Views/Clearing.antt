@@ -4,7 +4,9 @@ use Rattle.burr_voxels.specs.declared.cell.Cell.{Cell}
 use Rattle.burr_voxels.specs.Grid.{at, minus}
 use Rattle.burr_voxels.specs.Near.{IsWithin}
 use Rattle.burr_code.specs.PieceSets.{is_left_out}
-use Rattle.burr_code.specs.Places.{Placement, Apart, On, is_in}
+use Rattle.burr_code.specs.declared.placement.Placement.{Placement}
+use Rattle.burr_code.specs.declared.placement.Placement.TheVariants.{Apart, On}
+use Rattle.burr_code.specs.Places.{is_in}
 use Rattle.burr_assembly.specs.Rules.Homes.{home_at}
 use Rattle.burr_blocking.specs.declared.query.Query.{Query}
 use Rattle.burr_blocking.specs.Rules.Pairs.{Clears}

@@ -1,8 +1,10 @@
--- Values of a state's forms beside those of a frame's forms, at the point that they give there.
+-- Values of a state's forms beside those of the forms of a frame or an exit frame, where its symbols
+-- have the values that come first.
 use Rattle.std.specs.Prelude.{◌≡◌, ◌+◌, ℕ, ℤ, ◌≤ℤ◌, List, [], ◌∷◌, length, take, drop}
-use Rattle.burr_code.specs.Places.{Placement, Apart, On}
-use Rattle.burr_forms.specs.Rules.Forms.{Form, Point, values}
-use Rattle.burr_forms.specs.Rules.Points.{IsPointOf, InBox, GuardsHold}
+use Rattle.burr_code.specs.declared.placement.Placement.{Placement}
+use Rattle.burr_code.specs.declared.placement.Placement.TheVariants.{Apart, On}
+use Rattle.burr_forms.specs.Rules.Forms.{Form, values}
+use Rattle.burr_forms.specs.Rules.Points.{InBox, GuardsHold}
 use Rattle.burr_container.specs.Rules.Plans.{FormCell, Range}
 
 -- the forms of the offsets, piece by piece
@@ -11,13 +13,19 @@ offset_forms [] = []
 offset_forms (Apart ∷ places) = offset_forms places
 offset_forms (On tray c ∷ places) = c.x ∷ c.y ∷ c.z ∷ offset_forms places
 
--- what values are compared with: a region that the first are a point of, forms whose values there
--- are at most the next ones, and forms whose values there are the others
+-- what values are compared with: ranges of symbols, of which so many in front nothing bounds, forms
+-- over all of them that are not negative, forms whose values there are at most the next ones, and
+-- forms whose values there are the others
 pub record Target : Type 0 where
+  pub free : ℕ
   pub ranges : List Range
   pub guards : List Form
   pub least : List Form
   pub same : List Form
+
+-- how many symbols there are
+abbrev pub symbols_of : Target → ℕ
+symbols_of t = t.free + length t.ranges
 
 -- number by number, the second list is not below the first one
 abbrev pub NoneBelow : List ℤ → List ℤ → Type 0
@@ -26,28 +34,16 @@ NoneBelow [] (y ∷ ys) = ⊥
 NoneBelow (x ∷ xs) [] = ⊥
 NoneBelow (x ∷ xs) (y ∷ ys) = (x ≤ℤ y) × NoneBelow xs ys
 
--- the target is met at this point by these values
-pub record IsMetAt (t : Target) (point : Point) (upper equal : List ℤ) : Type 0 where
-  pub is_point : IsPointOf t.ranges t.guards point
-  pub least : NoneBelow (values point t.least) upper
-  pub same : values point t.same ≡ equal
+-- the target is met where its symbols have these values, by these others
+pub record IsMetAt (t : Target) (symbols upper equal : List ℤ) : Type 0 where
+  pub within : InBox t.ranges (drop t.free symbols)
+  pub guards : GuardsHold t.guards symbols
+  pub least : NoneBelow (values symbols t.least) upper
+  pub same : values symbols t.same ≡ equal
 
 -- the target is met by all of these values, one after the other
 abbrev pub IsMetBy : Target → List ℤ → Type 0
 IsMetBy t numbers =
-    IsMetAt t (take (length t.ranges) numbers)
-    (take (length t.least) (drop (length t.ranges) numbers))
-    (drop (length t.least) (drop (length t.ranges) numbers))
-
--- the same by the values of an exit frame's symbols, so many parameters and then the results, which
--- are to be in the ranges
-pub record IsExitMetAt (parameters : ℕ) (t : Target) (symbols equal : List ℤ) : Type 0 where
-  pub results : InBox t.ranges (drop parameters symbols)
-  pub guards : GuardsHold t.guards symbols
-  pub same : values symbols t.same ≡ equal
-
--- by all of these values, one after the other
-abbrev pub IsExitMetBy : ℕ → Target → List ℤ → Type 0
-IsExitMetBy parameters t numbers =
-    IsExitMetAt parameters t (take (parameters + length t.ranges) numbers)
-    (drop (parameters + length t.ranges) numbers)
+    IsMetAt t (take (symbols_of t) numbers)
+    (take (length t.least) (drop (symbols_of t) numbers))
+    (drop (length t.least) (drop (symbols_of t) numbers))

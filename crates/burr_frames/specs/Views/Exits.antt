@@ -1,15 +1,14 @@
 -- Exit frames that are read in place, and what meets one.
-use Rattle.std.specs.Prelude.{⊤, ℕ, List, length, reverse, map, Result, Ok, Err, option_map}
+use Rattle.std.specs.Prelude.{⊤, ℕ, List, length, reverse, Result, Ok, Err, option_map}
 use Rattle.burr_text.specs.Checks.{needs, finds}
 use Rattle.burr_code.specs.Stacks.{top_many}
 use Rattle.burr_forms.specs.Rules.Forms.{Form}
 use Rattle.burr_container.specs.declared.exit_ref.ExitRef.{ExitRef}
-use Rattle.burr_container.specs.Rules.Plans.{over_symbols, place_over_symbols}
 use Rattle.burr_container.specs.Views.Refs.{exit_frame_of}
 use Rattle.burr_frames.specs.declared.rule.Rule.{Rule}
 use Rattle.burr_frames.specs.declared.rule.Rule.TheVariants as rules
-use Rattle.burr_frames.specs.declared.state.arriving.Miss.{Miss}
-use Rattle.burr_frames.specs.Rules.FramedPlans.{FramedExit}
+use Rattle.burr_frames.specs.declared.state.meeting.Miss.{Miss}
+use Rattle.burr_frames.specs.Rules.FramedPlans.{FramedExit, framed_exit}
 use Rattle.burr_frames.specs.Rules.States.{AbstractState}
 use Rattle.burr_frames.specs.Views.Breaks.{missed_break}
 use Rattle.burr_frames.specs.Rules.Verdicts.{Rest, Verdict, Breaks, NoSuccessor, plainly, everywhere, no_successor}
@@ -23,13 +22,7 @@ miss_verdict rule (Err miss) =
 
 -- the exit frame that is read in place, its forms over symbols
 abbrev pub framed_ref : ExitRef → FramedExit
-framed_ref kept = record {
-  tray = (exit_frame_of kept).tray;
-  grip = (exit_frame_of kept).grip;
-  results = (exit_frame_of kept).results;
-  guards = map (over_symbols kept.places.live) (exit_frame_of kept).guards;
-  places = map (place_over_symbols kept.places.live) (exit_frame_of kept).places;
-}
+framed_ref kept = framed_exit kept.places.live (exit_frame_of kept)
 
 -- the state meets an exit frame with these forms for its parameters and its results
 abbrev pub meeting_exit_with : AbstractState → FramedExit → List Form → List Form → Rest

@@ -1,16 +1,17 @@
--- Procedures of the plan that a container holds, as the verifier reads them.
+-- Procedures that a container lends, as the verifier reads them in the container's plan.
 use Rattle.std.specs.Prelude.{◌≡◌, ℕ, Option, Some, None, slice_get}
 use Rattle.burr_container.specs.declared.frame_ref.FrameRef.{FrameRef}
+use Rattle.burr_container.specs.declared.procedure_ref.ProcedureRef.{ProcedureRef}
 use Rattle.burr_container.specs.Rules.Plans.{Plan, Frame}
-use Rattle.burr_container.specs.Views.Containers.{ContainerView, IsContainer}
+use Rattle.burr_container.specs.Views.Containers.{IsContainer}
 use Rattle.burr_container.specs.Views.Refs.{frame_of}
 use Rattle.burr_frames.specs.Rules.FramedPlans.{FramedProcedure, FramedPlan, framed, framed_plan}
 
--- it holds of the container's plan and of procedure n of it
-abbrev pub OfFramedProcedure : ContainerView → ℕ → (FramedPlan → FramedProcedure → Type 0) → Type 0
-OfFramedProcedure kept n Holds =
-    (p : Plan) (here : FramedProcedure) → IsContainer kept p
-    → slice_get (framed_plan p).procedures n ≡ Some here → Holds (framed_plan p) here
+-- it holds of the container's plan and of the procedure in it
+abbrev pub OfFramedProcedure : ProcedureRef → (FramedPlan → FramedProcedure → Type 0) → Type 0
+OfFramedProcedure r Holds =
+    (p : Plan) (here : FramedProcedure) → IsContainer r.container.now p
+    → slice_get (framed_plan p).procedures r.number ≡ Some here → Holds (framed_plan p) here
 
 -- what is found of a label is its frame, and nothing where there is none
 abbrev pub IsFrameFound : Option (ℕ × Frame) → Option FrameRef → Type 0

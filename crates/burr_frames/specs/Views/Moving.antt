@@ -2,7 +2,8 @@
 use Rattle.std.specs.Prelude.{⊤, ℕ, List, Option, Some, Result}
 use Rattle.burr_voxels.specs.declared.cell.Cell.{Cell}
 use Rattle.burr_code.specs.PieceSets.{IsInSet}
-use Rattle.burr_code.specs.Places.{Placement, LiesIn}
+use Rattle.burr_code.specs.declared.placement.Placement.{Placement}
+use Rattle.burr_code.specs.Places.{LiesIn}
 use Rattle.burr_blocking.specs.declared.query.Query.{Query}
 use Rattle.burr_blocking.specs.declared.query.Query.TheVariants as queries
 use Rattle.burr_container.specs.Rules.Plans.{FormCell}

@@ -1,5 +1,6 @@
 -- What a place of the code stands for.
-use Rattle.burr_code.specs.Places.{Placement, Apart, On}
+use Rattle.burr_code.specs.declared.placement.Placement.{Placement}
+use Rattle.burr_code.specs.declared.placement.Placement.TheVariants.{Apart, On}
 use Rattle.burr_container.specs.Rules.Plans.{FormCell}
 use Rattle.burr_frames.specs.declared.lying.Spot.{Spot}
 use Rattle.burr_frames.specs.declared.lying.Spot.TheVariants as spots

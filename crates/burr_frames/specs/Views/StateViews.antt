@@ -1,7 +1,7 @@
 -- What the code's states stand for, and what holds of each.
 use Rattle.std.specs.Prelude.{◌≡◌, ℕ, List, Option, Some, None, All, IfSome, MatchOption, reverse}
 use Rattle.arrayvec.specs.ArrayVec.{ArrayVec}
-use Rattle.burr_code.specs.Places.{Placement}
+use Rattle.burr_code.specs.declared.placement.Placement.{Placement}
 use Rattle.burr_forms.specs.Rules.Forms.{Form, IsSmallForm, AllSmallForms}
 use Rattle.burr_forms.specs.Rules.Points.{AreRanges}
 use Rattle.burr_container.specs.Rules.Plans.{FormCell, Range}

@@ -17,7 +17,7 @@ use crate::breaking::Break;
 use crate::finding::{frame_at, has_labels};
 use crate::rule::Rule;
 use burr_code::Labels;
-use burr_container::Container;
+use burr_container::ProcedureRef;
 
 /// The symbols of a state have at most this many points.
 const MOST_POINTS: u32 = 4096;
@@ -42,35 +42,27 @@ impl State {
     }
 
     /// `pick`: arrives at each of these labels.
-    pub fn pick(
-        &self,
-        container: &Container<'_>,
-        procedure: usize,
-        labels: &Labels<'_>,
-    ) -> Result<(), Break>
-        requires { procedure < length container.now.procedures }
-        ensures { OfFramedProcedure container.now procedure (λ plan here.
+    pub fn pick(&self, procedure: ProcedureRef<'_, '_>, labels: &Labels<'_>) -> Result<(), Break>
+        ensures { OfFramedProcedure procedure.entry (λ plan here.
             pick_rule here self.now labels.now (last_verdict result)) }
     {
-        if !has_labels(container, procedure, labels) {
+        if !has_labels(procedure, labels) {
             return Err(Break::plain(Rule::V10));
         }
         let cost = self.paid()?;
         let mut paid = self.copied();
         paid.set_cost(cost);
-        paid.arrives_at_all(container, procedure, labels)
+        paid.arrives_at_all(procedure, labels)
     }
 
     /// That the state arrives at each of these labels of a procedure, which has them: the caller's
     /// condition.
     fn arrives_at_all(
         &self,
-        container: &Container<'_>,
-        procedure: usize,
+        procedure: ProcedureRef<'_, '_>,
         labels: &Labels<'_>,
     ) -> Result<(), Break>
-        requires { procedure < length container.now.procedures }
-        ensures { OfFramedProcedure container.now procedure (λ plan here. (to : List (ℕ × FrameOf))
+        ensures { OfFramedProcedure procedure.entry (λ plan here. (to : List (ℕ × FrameOf))
             → labelled here.labels labels.now ≡ Some to
             → arriving_at_all self.now to no_successor (last_verdict result)) }
     {
@@ -78,7 +70,7 @@ impl State {
             let Some(label) = labels.get(number) else {
                 unreachable!();
             };
-            let Some(frame) = frame_at(container, procedure, label) else {
+            let Some(frame) = frame_at(procedure, label) else {
                 return Err(Break::plain(Rule::V10));
             };
             self.arrives_or_breaks(&frame)?;

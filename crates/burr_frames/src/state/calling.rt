@@ -1,123 +1,53 @@
 //! The rule of `call`.
 
-ghost use Rattle.std.specs.Prelude.{◌≡◌, ◌+◌, ◌<◌, ◌≤◌, IfErr, MatchOption, All, length, reverse, drop};
+ghost use Rattle.std.specs.Prelude.{◌≡◌, ◌+◌, ◌<◌, ◌≤◌, IfErr, All, length, reverse, drop};
 ghost use Rattle.burr_code.specs.Labels.{argument_slots as slots_of};
 ghost use Rattle.burr_container.specs.Views.Refs.{frame_of};
-ghost use Rattle.burr_forms.specs.Rules.Forms.{values, substituted, IsSmallForm, AllSmallForms};
-ghost use Rattle.burr_frames.specs.Rules.Arrival.{IsAlike, Agrees};
-ghost use Rattle.burr_frames.specs.declared.rule.Rule.TheVariants as rules;
+ghost use Rattle.burr_forms.specs.Rules.Forms.{substituted, IsSmallForm, AllSmallForms};
 ghost use Rattle.burr_frames.specs.Rules.ControlRules.{call_rule, calling, paying_call, after_call, called_with};
 ghost use Rattle.burr_frames.specs.Rules.FramedPlans.{framed};
-ghost use Rattle.burr_frames.specs.Rules.States.{Everywhere, IsFirstFailing};
 ghost use Rattle.burr_frames.specs.Views.StateViews.{IsSmallSlot};
-ghost use Rattle.burr_frames.specs.Rules.Verdicts.{meeting, no_successor};
 ghost use Rattle.burr_frames.specs.Views.Breaks.{next_verdict};
-ghost use Rattle.burr_frames.specs.Views.CallViews.{MeetsOrMisses, PaysBeside, GivesTopmost};
-ghost use Rattle.burr_frames.specs.Views.Exits.{miss_verdict};
+ghost use Rattle.burr_frames.specs.Views.CallViews.{PaysBeside, GivesTopmost};
 ghost use Rattle.burr_frames.specs.Views.Here.{OfFramedProcedure};
 
 use super::State;
 use super::after::padded;
-use super::agreeing::Agreement;
-use super::arriving::Miss;
 use super::exit::Exit;
 use crate::breaking::Break;
 use crate::finding::frame_at;
 use crate::raising::raised_by;
 use crate::rule::Rule;
 use arrayvec::ArrayVec;
-use burr_container::{Container, FrameRef};
-use burr_forms::{Form, Point, first_failing};
+use burr_container::{FrameRef, ProcedureRef};
+use burr_forms::Form;
 
 /// The most operands of a state.
 const MOST_OPERANDS: usize = 8;
 
-/// Whether a state meets a frame, its cost not asked. First what is asked without regard to points:
-/// each slot that is live in the frame is known, and the current tray, the grip, the number of
-/// operands and each piece's tray are the frame's. Then, at each point of the state, rising: the
-/// values of those slots lie in the frame's ranges and its guards hold of them; and the operands
-/// and the offsets have the values of the frame's forms there.
-pub fn meets_entry(state: &State, frame: &FrameRef<'_>) -> Result<(), Miss>
-    ensures { meeting state.now (framed (frame_of frame.now)) rules.V20 (λ _. no_successor)
-        (miss_verdict rules.V20 result) }
-{
-    state.met(frame)?;
-    Ok(())
-}
-
 impl State {
-    /// The forms in the slots that are live in a frame, where the state meets it.
-    fn met(&self, frame: &FrameRef<'_>) -> Result<ArrayVec<Form, 8>, Miss>
-        ensures { MeetsOrMisses self.now (framed (frame_of frame.now)) result }
-    {
-        let there = State::of(frame);
-        let Some(live) = self.live_forms(frame) else {
-            return Err(Miss { point: None });
-        };
-        if !self.is_alike(&there) {
-            return Err(Miss { point: None });
-        }
-        match self.first_difference(live.as_slice(), &there) {
-            None => Ok(live),
-            Some(point) => Err(Miss { point: Some(point) }),
-        }
-    }
-
-    /// The first point at which the state does not agree with another one, at the point of that
-    /// which these forms give; None where there is no such point. They are alike without regard to
-    /// points, and there is a form for each symbol: the caller's conditions.
-    fn first_difference(&self, forms: &[Form], there: &State) -> Option<Point>
-        requires alike { IsAlike self.now there.now }
-        requires many { length forms.now ≡ length there.now.ranges }
-        requires few { length forms.now ≤ 8 }
-        requires small { AllSmallForms forms.now }
-        ensures { MatchOption result
-            (Everywhere self.now (λ point.
-            Agrees self.now point there.now (values point forms.now)))
-            (λ found. IsFirstFailing self.now
-            (λ point. Agrees self.now point there.now (values point forms.now)) found.items) }
-    {
-        let compared = self.compared(forms, &[]);
-        let met = there.compared(&[], &[]);
-        let agreement = Agreement {
-            forms: compared.as_slice(),
-            ranges: there.ranges.as_slice(),
-            guards: there.guards.as_slice(),
-            least: &[],
-            same: met.as_slice(),
-        };
-        first_failing(self.ranges.as_slice(), self.guards.as_slice(), &agreement)
-    }
-
     /// `call`: the topmost operands are the arguments of a procedure of a higher number, whose
     /// entry frame they meet; after it the pieces lie as its exit frame says of them and of the
     /// results, which are the topmost operands in place of the arguments, and its cost at the
     /// arguments is paid beside the step.
-    pub fn call(
-        &mut self,
-        container: &Container<'_>,
-        procedure: usize,
-        callee: u8,
-    ) -> Result<(), Break>
-        requires { procedure < length container.now.procedures }
-        ensures verdict { OfFramedProcedure container.now procedure (λ plan here.
-            call_rule plan procedure self.old callee (next_verdict self.new result)) }
+    pub fn call(&mut self, procedure: ProcedureRef<'_, '_>, callee: u8) -> Result<(), Break>
+        ensures verdict { OfFramedProcedure procedure.entry (λ plan here.
+            call_rule plan procedure.entry.number self.old callee (next_verdict self.new result)) }
         ensures kept { IfErr result (λ _. self.new ≡ self.old) }
     {
-        let callee = usize::from(callee);
-        if callee <= procedure {
+        if callee <= procedure.number() {
             return Err(Break::plain(Rule::V19));
         }
-        if container.proc_count() <= callee {
-            return Err(Break::plain(Rule::V19));
-        }
-        let Some(exit) = container.exit(callee) else {
+        let Some(called) = procedure.sibling(callee) else {
             return Err(Break::plain(Rule::V19));
         };
-        let Some(entry) = frame_at(container, callee, 0) else {
+        let Some(exit) = called.exit() else {
+            return Err(Break::plain(Rule::V19));
+        };
+        let Some(entry) = frame_at(called, 0) else {
             return Err(Break::plain(Rule::V20));
         };
-        self.calls(container.params(callee), &entry, &Exit::of(&exit))
+        self.calls(called.params(), &entry, &Exit::of(&exit))
     }
 
     /// A call of a procedure with so many parameters, with its entry frame and its exit frame.

@@ -1,7 +1,8 @@
 //! The rules of the instructions of the flow of control.
 
 ghost use Rattle.std.specs.Prelude.{◌≡◌, ◌<◌, ◌↔◌, IsTrue, IfErr, length, pos, neg_ℤ};
-ghost use Rattle.burr_code.specs.Places.{AllApart, Apart};
+ghost use Rattle.burr_code.specs.declared.placement.Placement.TheVariants.{Apart};
+ghost use Rattle.burr_code.specs.Places.{AllApart};
 ghost use Rattle.burr_forms.specs.Rules.Forms.{Form as FormOf, IsSmallForm, one_less, times};
 ghost use Rattle.burr_frames.specs.Rules.ControlRules.{halt_rule, jump_rule, down_rule, counted_down};
 ghost use Rattle.burr_frames.specs.Views.Breaks.{next_verdict, last_verdict, ArrivesOrBreaks};
@@ -9,21 +10,21 @@ ghost use Rattle.burr_frames.specs.Views.Changes.{at_cost};
 ghost use Rattle.burr_frames.specs.Views.Here.{OfFramedProcedure};
 
 use super::State;
-use super::arriving::arrives;
+use super::meeting::arrives;
 use crate::breaking::Break;
 use crate::finding::frame_at;
 use crate::lying::Lying;
 use crate::raising::raised_by;
 use crate::rule::Rule;
-use burr_container::{Container, FrameRef};
+use burr_container::{FrameRef, ProcedureRef};
 use burr_forms::Form;
 
 impl State {
     /// `halt`: in main, with all pieces apart.
-    pub fn halt(&self, procedure: usize) -> Result<(), Break>
-        ensures { halt_rule procedure self.now (last_verdict result) }
+    pub fn halt(&self, procedure: ProcedureRef<'_, '_>) -> Result<(), Break>
+        ensures { halt_rule procedure.entry.number self.now (last_verdict result) }
     {
-        if procedure != 0 {
+        if procedure.number() != 0 {
             return Err(Break::plain(Rule::V22));
         }
         if !self.are_all_apart() {
@@ -34,12 +35,11 @@ impl State {
     }
 
     /// `jump`: arrives at a label.
-    pub fn jump(&self, container: &Container<'_>, procedure: usize, label: u16) -> Result<(), Break>
-        requires { procedure < length container.now.procedures }
-        ensures { OfFramedProcedure container.now procedure (λ plan here.
+    pub fn jump(&self, procedure: ProcedureRef<'_, '_>, label: u16) -> Result<(), Break>
+        ensures { OfFramedProcedure procedure.entry (λ plan here.
             jump_rule here self.now label (last_verdict result)) }
     {
-        let Some(frame) = frame_at(container, procedure, label) else {
+        let Some(frame) = frame_at(procedure, label) else {
             return Err(Break::plain(Rule::V10));
         };
         let cost = self.paid()?;
@@ -50,23 +50,16 @@ impl State {
 
     /// `down`: where the counter in slot v is above 0, it arrives at a label with the counter one
     /// less; where it is 0, it goes on after.
-    pub fn down(
-        &mut self,
-        container: &Container<'_>,
-        procedure: usize,
-        v: u8,
-        label: u16,
-    ) -> Result<(), Break>
-        requires procedure { procedure < length container.now.procedures }
-        requires slot { v < 8 }
-        ensures verdict { OfFramedProcedure container.now procedure (λ plan here.
+    pub fn down(&mut self, procedure: ProcedureRef<'_, '_>, v: u8, label: u16) -> Result<(), Break>
+        requires { v < 8 }
+        ensures verdict { OfFramedProcedure procedure.entry (λ plan here.
             down_rule here self.old v label (next_verdict self.new result)) }
         ensures kept { IfErr result (λ _. self.new ≡ self.old) }
     {
-        let Some(frame) = frame_at(container, procedure, label) else {
+        let Some(frame) = frame_at(procedure, label) else {
             return Err(Break::plain(Rule::V10));
         };
-        if v < container.params(procedure) {
+        if v < procedure.params() {
             return Err(Break::plain(Rule::V9));
         }
         let Some(count) = self.form_in(v) else {

@@ -3,13 +3,14 @@
 ghost use Rattle.std.specs.Prelude.{◌≡◌, ◌≤◌, ◌<◌, ◌↔◌, IsTrue, IfErr, IfSome, length, get_or, None, Some, not, drop, MatchOption};
 ghost use Rattle.burr_forms.specs.Rules.Forms.{IsSmallForm, number as form_of_number};
 ghost use Rattle.burr_code.specs.Stacks.{top, top_two};
-ghost use Rattle.burr_frames.specs.Rules.FramedPlans.{FramedProcedure};
 ghost use Rattle.burr_frames.specs.Rules.NumberRules.{push_rule, load_rule, store_rule, add_rule, sub_rule, drop_rule, result_rule};
 ghost use Rattle.burr_frames.specs.Views.Breaks.{next_verdict};
+ghost use Rattle.burr_frames.specs.Views.Here.{OfFramedProcedure};
 
 use super::State;
 use crate::breaking::Break;
 use crate::rule::Rule;
+use burr_container::ProcedureRef;
 use burr_forms::Form;
 
 impl State {
@@ -104,14 +105,15 @@ impl State {
         Ok(())
     }
 
-    /// `store`: slot v, which is no parameter, has the topmost operand's form, which is taken off.
-    pub fn store(&mut self, parameters: u8, v: u8) -> Result<(), Break>
+    /// `store`: slot v, which is no parameter of the procedure, has the topmost operand's form, which
+    /// is taken off.
+    pub fn store(&mut self, procedure: ProcedureRef<'_, '_>, v: u8) -> Result<(), Break>
         requires { v < 8 }
-        ensures verdict { (here : FramedProcedure) → here.parameters ≡ parameters
-            → store_rule here self.old v (next_verdict self.new result) }
+        ensures verdict { OfFramedProcedure procedure.entry (λ plan here.
+            store_rule here self.old v (next_verdict self.new result)) }
         ensures kept { IfErr result (λ _. self.new ≡ self.old) }
     {
-        if v < parameters {
+        if v < procedure.params() {
             return Err(Break::plain(Rule::V9));
         }
         let Some(form) = self.topmost() else {

@@ -2,7 +2,7 @@
 
 ghost use Rattle.std.specs.Prelude.{◌≡◌, ◌≤◌, List, length, replicate};
 ghost use Rattle.burr_voxels.specs.declared.cell.Cell.{Cell as CellOf};
-ghost use Rattle.burr_code.specs.Places.{On};
+ghost use Rattle.burr_code.specs.declared.placement.Placement.TheVariants.{On};
 ghost use Rattle.burr_frames.specs.Rules.SpaceRules.{AllSmallPlaces};
 ghost use Rattle.burr_frames.specs.Rules.Starts.{start_state, home_position};
 

@@ -4,6 +4,7 @@ ghost use Rattle.burr_state.specs.Rules.Next.{Asks};
 ghost use Rattle.burr_state.specs.Rules.Step.{NextIs};
 ghost use Rattle.burr_state.specs.Views.Benches.{setup_of};
 ghost use Rattle.burr_runs.specs.Views.Running.{FailsInRun, IsInStep, TurnIs, AnswerIs, run_state};
+ghost use Rattle.burr_runs.specs.Views.Standing.{IsInRun, TurnStands};
 
 use crate::running::Turn;
 use burr_bench::{Checked, Closing, Progress};
@@ -26,6 +27,8 @@ pub fn take_turn<'a, B: Blocking, W: Sink>(
         (run_state bench.old answers.entry.now sheet.old) bench.new sheet.new) }
     ensures err { OnErr result (FailsInRun W.Sink sink.old sink.new
         (run_state bench.old answers.entry.now sheet.old)) }
+    ensures stands { IfOk result (TurnStands bench.old answers.entry.now bench.new) }
+    ensures under_way { OnErr result (IsInRun bench.old answers.entry.now bench.new) }
 {
     match bench.step(None) {
         Ok(Progress::Went(Some(motion))) => {
@@ -53,7 +56,8 @@ fn give_answer<'a, B: Blocking>(
     requires running { bench.old.state.mode ≡ Running }
     requires within { bench.old.state.steps ≢ bench.old.program.budget }
     requires asks { NextIs (setup_of bench.old) bench.old.state (Asks low high) }
-    ensures { AnswerIs bench.old answers.entry.now low high bench.new result }
+    ensures is { AnswerIs bench.old answers.entry.now low high bench.new result }
+    ensures stands { TurnStands bench.old answers.entry.now bench.new result }
 {
     let Some((answer, left)) = answers.split_first() else {
         return Turn::Closes(Closing::Waiting(low, high));

@@ -19,7 +19,7 @@ use Rattle.burr_soundness.specs.Framing.{framed_setup}
 use Rattle.burr_soundness.specs.Invariant.{IsSafeState}
 use Rattle.burr_state.specs.Rules.Next.{Next, Goes, Asks, Traps}
 use Rattle.burr_state.specs.Views.Programs.{plan_program}
-use Rattle.burr_state.specs.Laws.RunLaws.{Calls, begun, went, answered}
+use Rattle.burr_state.specs.Rules.Calls.{answered, went, begun, Calls}
 use Rattle.burr_state.specs.Laws.SpaceLaws.{HomesAreDisjoint}
 use Rattle.burr_state.specs.Rules.Step.{NextIs, CallIn, Called, call_result, left_by, IsAt, Executes}
 use Rattle.burr_soundness.proofs.Common.FramedSetup.{same_setup}

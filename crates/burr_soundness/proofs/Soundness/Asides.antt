@@ -4,7 +4,8 @@ use Rattle.burr_voxels.specs.declared.cell.Cell.{Cell}
 use Rattle.burr_voxels.specs.declared.direction.Direction.{Direction}
 use Rattle.burr_voxels.specs.Grid.{shifted}
 use Rattle.burr_voxels.specs.CellSets.{IsFree}
-use Rattle.burr_code.specs.Places.{Placement, aside_places, IsEmptyTray, IsPartOfTray}
+use Rattle.burr_code.specs.declared.placement.Placement.{Placement}
+use Rattle.burr_code.specs.Places.{aside_places, IsEmptyTray, IsPartOfTray}
 use Rattle.burr_code.specs.Instruction.{Aside}
 use Rattle.burr_forms.specs.Rules.Forms.{Point}
 use Rattle.burr_container.specs.Rules.Plans.{FormCell}

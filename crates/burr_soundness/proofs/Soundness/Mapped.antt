@@ -3,7 +3,9 @@ use Rattle.std.proofs.Common.{◌≡◌, ℕ, zero, suc, ◌+◌, List, [], ◌�
 use Rattle.std.specs.Prelude.{map, slice_get, if◌then◌else◌, ◌==◌}
 use Rattle.std.proofs.lemmas.Option.{none-some, same_Some}
 use Rattle.burr_code.specs.PieceSets.{is_left_out}
-use Rattle.burr_code.specs.Places.{Placement, Apart, On, LiesAt, at_position, changed, to_tray, is_in, count_in, parted_in, parted, aside_places}
+use Rattle.burr_code.specs.declared.placement.Placement.{Placement}
+use Rattle.burr_code.specs.declared.placement.Placement.TheVariants.{Apart, On}
+use Rattle.burr_code.specs.Places.{LiesAt, at_position, changed, to_tray, is_in, count_in, parted_in, parted, aside_places}
 use Rattle.burr_code.proofs.Common.Conditions.{same_tray, same_position, apart-on}
 
 -- Lists

@@ -3,7 +3,8 @@ use Rattle.std.proofs.Common.{◌≡◌, ℕ, zero, suc, List, [], ◌∷◌, le
 use Rattle.std.specs.Prelude.{ℤ, map, slice_get}
 use Rattle.std.proofs.lemmas.Option.{none-some, same_Some}
 use Rattle.burr_voxels.specs.declared.cell.Cell.{Cell}
-use Rattle.burr_code.specs.Places.{Placement, AllLieIn, AllApart, at_position}
+use Rattle.burr_code.specs.declared.placement.Placement.{Placement}
+use Rattle.burr_code.specs.Places.{AllLieIn, AllApart, at_position}
 use Rattle.burr_code.specs.Instruction.{Grip, Tray, Halt, Pick}
 use Rattle.burr_code.specs.Labels.{labelled, with_first}
 use Rattle.burr_code.proofs.Common.Labels.{with_first_is}

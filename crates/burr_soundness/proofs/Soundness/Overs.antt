@@ -5,7 +5,9 @@ use Rattle.std.proofs.lemmas.Int.{ints}
 use Rattle.std.proofs.lemmas.Option.{none-some, same_Some}
 use Rattle.std.proofs.Math.IntN.{*ℤ-zero}
 use Rattle.burr_voxels.specs.declared.direction.Direction.{Direction}
-use Rattle.burr_code.specs.Places.{Placement, Apart, On, at_position, changed, to_tray, is_in, count_in, parted, parted_in, aside_places}
+use Rattle.burr_code.specs.declared.placement.Placement.{Placement}
+use Rattle.burr_code.specs.declared.placement.Placement.TheVariants.{Apart, On}
+use Rattle.burr_code.specs.Places.{at_position, changed, to_tray, is_in, count_in, parted, parted_in, aside_places}
 use Rattle.burr_forms.specs.Rules.Forms.{Form, number, symbol, sum_of, plus_form, times, minus_form, combined, substituted}
 use Rattle.burr_container.specs.Rules.Plans.{FormCell}
 use Rattle.burr_frames.specs.Rules.States.{live_ranges, numbered}

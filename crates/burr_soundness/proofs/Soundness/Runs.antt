@@ -10,7 +10,7 @@ use Rattle.burr_state.specs.declared.progress.Progress.{Progress}
 use Rattle.burr_state.specs.Rules.Bench.{BenchState, Setup}
 use Rattle.burr_state.specs.Rules.Step.{CallIn}
 use Rattle.burr_state.specs.Rules.Run.{Run, IsGoing}
-use Rattle.burr_state.specs.Laws.RunLaws.{Calls, begun, went, answered, ClosesAt}
+use Rattle.burr_state.specs.Rules.Calls.{ClosesAt, answered, went, begun, Calls}
 use Rattle.burr_soundness.specs.SafeRuns.{HasEnded, ClosesWell, IsSafeRun}
 use Rattle.burr_state.proofs.Common.Calls.{tells}
 use Rattle.burr_state.proofs.Common.CallLaws.{run_is_calls}

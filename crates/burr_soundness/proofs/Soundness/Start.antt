@@ -6,7 +6,8 @@ use Rattle.std.proofs.lemmas.List.Elements.{All-nil}
 use Rattle.std.proofs.lemmas.Option.{none-some, same_Some}
 use Rattle.burr_voxels.specs.declared.cell.Cell.{Cell}
 use Rattle.burr_voxels.specs.Grid.{origin}
-use Rattle.burr_code.specs.Places.{Placement, On}
+use Rattle.burr_code.specs.declared.placement.Placement.{Placement}
+use Rattle.burr_code.specs.declared.placement.Placement.TheVariants.{On}
 use Rattle.burr_forms.specs.Rules.Forms.{Form, value, values}
 use Rattle.burr_container.specs.Rules.Plans.{Range, Frame}
 use Rattle.burr_frames.specs.Rules.FramedPlans.{FramedPlan}
@@ -17,7 +18,7 @@ use Rattle.burr_verify.specs.Rules.WellFramed.{IsWellFramed}
 use Rattle.burr_verify.specs.Views.FromContainers.{IsFromContainer}
 use Rattle.burr_verify.proofs.Common.FromContainers.{entry_stands}
 use Rattle.burr_state.specs.Rules.Bench.{BenchState, Setup, start}
-use Rattle.burr_state.specs.Laws.RunLaws.{begun}
+use Rattle.burr_state.specs.Rules.Calls.{begun}
 use Rattle.burr_state.specs.Laws.SpaceLaws.{AreDisjoint, IsReached}
 use Rattle.burr_soundness.specs.Framing.{framed_setup, HasFraming}
 use Rattle.burr_soundness.specs.Standing.{Stands}

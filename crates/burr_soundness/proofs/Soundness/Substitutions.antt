@@ -4,7 +4,8 @@ use Rattle.std.specs.Prelude.{pos, ◌≤ℤ◌, map}
 use Rattle.std.proofs.lemmas.List.Elements.{All-nil, All-cons, All-head, All-tail}
 use Rattle.burr_voxels.specs.declared.cell.Cell.{Cell}
 use Rattle.burr_voxels.proofs.Common.Ahead.{same_cell}
-use Rattle.burr_code.specs.Places.{Placement, Apart, On}
+use Rattle.burr_code.specs.declared.placement.Placement.{Placement}
+use Rattle.burr_code.specs.declared.placement.Placement.TheVariants.{Apart, On}
 use Rattle.burr_forms.specs.Rules.Forms.{Form, Point, value, values, substituted}
 use Rattle.burr_forms.specs.Rules.Points.{GuardsHold}
 use Rattle.burr_container.specs.Rules.Plans.{FormCell}

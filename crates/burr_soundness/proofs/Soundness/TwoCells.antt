@@ -9,7 +9,9 @@ use Rattle.burr_voxels.specs.declared.direction.Direction.TheVariants.{MinusX}
 use Rattle.burr_voxels.specs.Grid.{at, origin, plus, shifted}
 use Rattle.burr_voxels.specs.CellSets.{Overlap, IsFree}
 use Rattle.burr_voxels.specs.Near.{IsWithin}
-use Rattle.burr_code.specs.Places.{Placement, Apart, On, LiesAt, AllLieIn, AllApart, IsPartOfTray, IsEmptyTray, count_in}
+use Rattle.burr_code.specs.declared.placement.Placement.{Placement}
+use Rattle.burr_code.specs.declared.placement.Placement.TheVariants.{Apart, On}
+use Rattle.burr_code.specs.Places.{LiesAt, AllLieIn, AllApart, IsPartOfTray, IsEmptyTray, count_in}
 use Rattle.burr_code.specs.Instruction.{Grip, Aside, Halt, StandsAt}
 use Rattle.burr_code.proofs.Common.PieceSets.{no_bit, no_bit_from_set}
 use Rattle.burr_forms.specs.Rules.Forms.{Form, Point, number, value, one_less, IsSmall, AllSmall, IsSmallForm}

@@ -10,7 +10,9 @@ use Rattle.burr_voxels.specs.CellSets.{Overlap}
 use Rattle.burr_voxels.specs.Near.{IsWithin}
 use Rattle.burr_voxels.proofs.Common.Ahead.{same_cell}
 use Rattle.burr_code.specs.PieceSets.{IsInSet}
-use Rattle.burr_code.specs.Places.{Placement, Apart, On, LiesAt, LiesIn, AllLieIn, at_position}
+use Rattle.burr_code.specs.declared.placement.Placement.{Placement}
+use Rattle.burr_code.specs.declared.placement.Placement.TheVariants.{Apart, On}
+use Rattle.burr_code.specs.Places.{LiesAt, LiesIn, AllLieIn, at_position}
 use Rattle.burr_code.specs.Instruction.{Step}
 use Rattle.burr_forms.specs.Rules.Forms.{Point}
 use Rattle.burr_assembly.specs.Rules.Homes.{HasHome}

@@ -11,11 +11,11 @@ use Rattle.burr_state.specs.declared.progress.Progress.TheVariants as progress
 use Rattle.burr_state.specs.declared.trap.Trap.{Trap}
 use Rattle.burr_state.specs.Rules.Bench.{BenchState, Setup}
 use Rattle.burr_state.specs.Rules.Next.{Goes, Asks, Traps}
-use Rattle.burr_state.specs.Rules.Step.{NextIs, TakesAnswer, CallIn, Called}
+use Rattle.burr_state.specs.Rules.Step.{NextIs, TakesAnswer, CallIn, Called, IsStepFrom}
 use Rattle.burr_state.specs.Rules.Run.{Run, ends, stops, traps, waits, passes, takes, goes, IsGoing}
-use Rattle.burr_state.specs.Laws.RunLaws.{Calls, begun, went, answered, ClosesAt, CallsTo, RunIsCalls}
+use Rattle.burr_state.specs.Laws.RunLaws.{RunIsCalls}
+use Rattle.burr_state.specs.Rules.Calls.{CallsTo, ClosesAt, answered, went, begun, Calls}
 use Rattle.burr_state.specs.Laws.StepLaws.{AfterCall, CallIsOneStep}
-use Rattle.burr_state.specs.Rules.Step.{IsStepFrom}
 use Rattle.burr_state.proofs.Uniqueness.OneStep.{one_way_on, asks_where_taken}
 use Rattle.burr_state.proofs.Common.Existence.SomeCall.{unfit_there}
 use Rattle.burr_state.proofs.Common.Calls.{Tells, tells}

@@ -7,7 +7,8 @@ use Rattle.burr_voxels.specs.declared.direction.Direction.{Direction}
 use Rattle.burr_voxels.specs.Grid.{plus, along, shifted}
 use Rattle.burr_voxels.specs.CellSets.{Overlap}
 use Rattle.burr_code.specs.PieceSets.{IsInSet}
-use Rattle.burr_code.specs.Places.{Placement, LiesAt, LiesIn, AllLieIn, IsEmptyTray, aside_places}
+use Rattle.burr_code.specs.declared.placement.Placement.{Placement}
+use Rattle.burr_code.specs.Places.{LiesAt, LiesIn, AllLieIn, IsEmptyTray, aside_places}
 use Rattle.burr_code.specs.Instruction.{Instruction, Halt, Push, Load, Store, Add, Sub, Drop, Grip, Step, Aside, Tray, Jump, Down, Ask, Pick, Call, Ret}
 use Rattle.burr_state.specs.declared.motion.Motion.{Motion}
 use Rattle.burr_state.specs.Rules.Bench.{BenchState, BenchProcedure, Setup}

@@ -9,7 +9,9 @@ use Rattle.burr_voxels.specs.declared.cell.Cell.{Cell}
 use Rattle.burr_voxels.specs.Grid.{plus, shifted, origin}
 use Rattle.burr_voxels.specs.CellSets.{Overlap}
 use Rattle.burr_voxels.proofs.Common.Ahead.{same_cell}
-use Rattle.burr_code.specs.Places.{Placement, On, LiesAt, count_in}
+use Rattle.burr_code.specs.declared.placement.Placement.{Placement}
+use Rattle.burr_code.specs.declared.placement.Placement.TheVariants.{On}
+use Rattle.burr_code.specs.Places.{LiesAt, count_in}
 use Rattle.burr_assembly.specs.Rules.Text.{Assembly, IsAssembly, Piece, IsPiece, HasCells, Shares}
 use Rattle.burr_assembly.specs.Rules.Homes.{HasHome, home_of, homes_of}
 use Rattle.burr_assembly.proofs.Common.HomeCells.{home_has}
@@ -21,7 +23,7 @@ use Rattle.burr_state.specs.Rules.Bench.{BenchState, Setup, start}
 use Rattle.burr_state.specs.Rules.Space.{NoOverlap}
 use Rattle.burr_state.specs.Rules.Step.{CallIn}
 use Rattle.burr_state.specs.Laws.AsideLaws.{NoneLone}
-use Rattle.burr_state.specs.Laws.RunLaws.{Calls, begun, went, answered}
+use Rattle.burr_state.specs.Rules.Calls.{answered, went, begun, Calls}
 use Rattle.burr_state.specs.Laws.SpaceLaws.{IsGripHere, StepsTo, AreDisjoint, HomesAreDisjoint, GripIsHere, PiecesNeverOverlap, NoPieceIsLone}
 use Rattle.burr_code.proofs.Common.Conditions.{same_tray, same_position}
 use Rattle.burr_state.proofs.Common.Trays.Counts.{count_in-same, count_in-other}

@@ -9,7 +9,9 @@ use Rattle.burr_voxels.specs.Grid.{at, origin, shifted, IsAhead}
 use Rattle.burr_voxels.specs.CellSets.{Overlap, IsFree}
 use Rattle.burr_voxels.proofs.Common.Freedom.{free_where_none_ahead}
 use Rattle.burr_code.specs.PieceSets.{IsInSet}
-use Rattle.burr_code.specs.Places.{Placement, Apart, On, LiesIn, AllLieIn, AllApart, IsPartOfTray, IsEmptyTray}
+use Rattle.burr_code.specs.declared.placement.Placement.{Placement}
+use Rattle.burr_code.specs.declared.placement.Placement.TheVariants.{Apart, On}
+use Rattle.burr_code.specs.Places.{LiesIn, AllLieIn, AllApart, IsPartOfTray, IsEmptyTray}
 use Rattle.burr_code.proofs.Common.PieceSets.{no_bit_above}
 use Rattle.burr_state.specs.Rules.Space.{NoOverlapIn, AllOnBench, IsFreeGroup}
 use Rattle.burr_code.proofs.Common.Conditions.{same_tray, same_position, apart-on}

@@ -1,7 +1,9 @@
 -- What becomes of each piece where a group goes aside.
 use Rattle.std.specs.Prelude.{◌≡◌, ◌≢◌, ℕ, List, length, Some, slice_get}
 use Rattle.burr_code.specs.PieceSets.{IsInSet}
-use Rattle.burr_code.specs.Places.{Placement, Apart, LiesAt, LiesIn, AllLieIn, IsPartOfTray, IsEmptyTray, count_in, aside_places}
+use Rattle.burr_code.specs.declared.placement.Placement.{Placement}
+use Rattle.burr_code.specs.declared.placement.Placement.TheVariants.{Apart}
+use Rattle.burr_code.specs.Places.{LiesAt, LiesIn, AllLieIn, IsPartOfTray, IsEmptyTray, count_in, aside_places}
 
 -- this one is so, and no other
 abbrev pub IsOnly : (ℕ → Type 0) → ℕ → Type 0

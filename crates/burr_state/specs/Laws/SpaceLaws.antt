@@ -11,7 +11,7 @@ use Rattle.burr_state.specs.Rules.Next.{Goes}
 use Rattle.burr_state.specs.Rules.Space.{NoOverlap}
 use Rattle.burr_state.specs.Rules.Step.{NextIs, TakesAnswer}
 use Rattle.burr_state.specs.Laws.AsideLaws.{NoneLone}
-use Rattle.burr_state.specs.Laws.RunLaws.{Calls}
+use Rattle.burr_state.specs.Rules.Calls.{Calls}
 
 -- the grip lies in the current tray
 abbrev pub IsGripHere : BenchState → Type 0

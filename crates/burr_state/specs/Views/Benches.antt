@@ -1,14 +1,12 @@
 -- A bench at work: an assembly, the program that is run on it, and where the run stands.
-use Rattle.std.specs.Prelude.{◌≡◌, ◌≤◌, ◌+◌, ℕ, ℤ, Bool, true, false, if◌then◌else◌, length, Option, Some, None, Result, Ok, Err}
-use Rattle.burr_code.specs.Places.{AllLieIn}
-use Rattle.burr_assembly.specs.Rules.Text.{Assembly, IsAssembly}
+use Rattle.std.specs.Prelude.{◌≡◌, ◌≤◌, ◌+◌, ℕ, ℤ, Bool, true, false, if◌then◌else◌, Option, Some, None, Result, Ok, Err}
+use Rattle.burr_assembly.specs.Rules.Text.{Assembly}
 use Rattle.burr_assembly.specs.Rules.Homes.{homes_of}
 use Rattle.burr_state.specs.declared.trap.Trap.{Trap}
 use Rattle.burr_state.specs.declared.motion.Motion.{Motion}
 use Rattle.burr_state.specs.declared.progress.Progress.{Progress}
 use Rattle.burr_state.specs.declared.progress.Progress.TheVariants as progress
 use Rattle.burr_state.specs.Rules.Bench.{running, start, BenchState, Program, Setup}
-use Rattle.burr_state.specs.Rules.Space.{NoOverlap}
 use Rattle.burr_state.specs.Rules.Step.{TakesAnswer, IsUnfit}
 use Rattle.burr_state.specs.Views.Parts.{parts}
 
@@ -29,17 +27,6 @@ benched assembly program state =
 -- the same bench in another state
 abbrev pub in_state : BenchState → Benched → Benched
 in_state state b = record b { state = state }
-
--- what holds of each bench at work
-pub record IsSound (b : Benched) : Type 0 where
-  pub as_many : length b.state.places ≡ length b.assembly.pieces
-  pub few : length b.state.places ≤ 32
-  -- the grip lies in the current tray
-  pub here : AllLieIn b.state.places b.state.tray b.state.grip
-  -- the assembly is one
-  pub whole : IsAssembly b.assembly
-  -- no two pieces of a tray overlap
-  pub apart : NoOverlap (homes_of b.assembly) b.state.places
 
 -- a bench that has made no step: it stands at the start of what it runs, and all pieces are one part
 pub record IsAtStart (b : Benched) : Type 0 where

@@ -3,7 +3,8 @@ use Rattle.std.specs.Prelude.{List}
 use Rattle.std.specs.List.{All}
 use Rattle.burr_voxels.specs.declared.cell.Cell.{Cell}
 use Rattle.burr_voxels.specs.Near.{IsWithin}
-use Rattle.burr_code.specs.Places.{Placement, Apart, On}
+use Rattle.burr_code.specs.declared.placement.Placement.{Placement}
+use Rattle.burr_code.specs.declared.placement.Placement.TheVariants.{Apart, On}
 
 -- the position, if there is one, is so
 abbrev pub PositionHolds : {Position : Type 0} → (Position → Type 0) → Placement Position → Type 0

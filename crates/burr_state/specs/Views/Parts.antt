@@ -1,6 +1,8 @@
 -- How many parts the pieces are in.
 use Rattle.std.specs.Prelude.{ℕ, ◌+◌, List, [], ◌∷◌, ◌==◌, if◌then◌else◌}
-use Rattle.burr_code.specs.Places.{Placement, Apart, On, count_in}
+use Rattle.burr_code.specs.declared.placement.Placement.{Placement}
+use Rattle.burr_code.specs.declared.placement.Placement.TheVariants.{Apart, On}
+use Rattle.burr_code.specs.Places.{count_in}
 
 -- a part is a piece that is apart, or all pieces of a tray: the last piece of each is counted
 abbrev pub is_last : {Position : Type 0} → Placement Position → List (Placement Position) → ℕ

@@ -5,7 +5,9 @@ use Rattle.burr_voxels.specs.declared.direction.Direction.{Direction}
 use Rattle.burr_voxels.specs.Grid.{origin, plus, along}
 use Rattle.burr_voxels.specs.Near.{IsWithin}
 use Rattle.burr_code.specs.PieceSets.{IsInSet}
-use Rattle.burr_code.specs.Places.{Placement, On, LiesAt, LiesIn, AllLieIn, aside_places}
+use Rattle.burr_code.specs.declared.placement.Placement.{Placement}
+use Rattle.burr_code.specs.declared.placement.Placement.TheVariants.{On}
+use Rattle.burr_code.specs.Places.{LiesAt, LiesIn, AllLieIn, aside_places}
 use Rattle.burr_state.specs.declared.mode.Mode.{Mode}
 use Rattle.burr_state.specs.declared.mode.Mode.TheVariants.{Running}
 use Rattle.burr_state.specs.Rules.Bench.{Activation, activation, BenchState}

@@ -3,11 +3,11 @@ ghost use Rattle.burr_voxels.specs.Near.{IsWithin};
 ghost use Rattle.burr_code.specs.declared.limits.TheConstants.{MOST_BUDGET, SLOTS};
 ghost use Rattle.burr_code.specs.Places.{IsPartOfTray, IsEmptyTray};
 ghost use Rattle.burr_state.specs.Views.StateViews.{IsOffsetHere, StaysOnBench};
-ghost use Rattle.burr_state.specs.Views.Spots.{placed};
-ghost use Rattle.burr_state.specs.Views.Offsets.{AreNear};
+ghost use Rattle.burr_state.specs.Views.Offsets.{AreNear, PositionHolds};
 
 use crate::bench::Bench;
 use crate::mode::Mode;
+use burr_code::Placement;
 use burr_voxels::{Cell, Direction};
 
 impl<'a> Bench<'a> {
@@ -42,12 +42,12 @@ impl<'a> Bench<'a> {
         self.state.piece_count()
     }
 
-    /// Where a piece is: its tray, 0 to 31, and how far from home it lies there; None where it is
-    /// apart. Its number is below the count of pieces, the caller's condition.
-    pub fn place(&self, piece: u8) -> Option<(u8, Cell)>
+    /// Where a piece is: apart, or in a tray, 0 to 31, and how far from home it lies there. Its number is
+    /// below the count of pieces, the caller's condition.
+    pub fn place(&self, piece: u8) -> Placement<Cell>
         requires { piece < length self.now.state.places }
-        ensures place { slice_get self.now.state.places piece ≡ Some (placed result) }
-        ensures near { IfSome result (λ place. IsWithin 256 place.1) }
+        ensures place { slice_get self.now.state.places piece ≡ Some result }
+        ensures near { PositionHolds (IsWithin 256) result }
     {
         self.state.place(piece)
     }

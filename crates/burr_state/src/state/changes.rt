@@ -4,9 +4,10 @@ ghost use Rattle.burr_state.specs.declared.mode.Mode.TheVariants.{Trapped};
 ghost use Rattle.burr_state.specs.Views.StateViews.{after, moved_grip, gone_aside, StaysOnBench};
 
 use crate::mode::Mode;
-use crate::places::{shift_group, take_aside};
+use crate::shifting::shift_group;
 use crate::state::BenchState;
 use crate::trap::Trap;
+use burr_code::take_aside;
 use burr_voxels::Direction;
 
 impl BenchState {

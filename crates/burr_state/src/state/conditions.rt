@@ -2,10 +2,9 @@ ghost use Rattle.std.specs.Prelude.{◌↔◌, IsTrue};
 ghost use Rattle.burr_code.specs.Places.{LiesIn, AllLieIn, AllApart, IsPartOfTray, IsEmptyTray};
 ghost use Rattle.burr_state.specs.Views.StateViews.{HasRest, StaysOnBench, PieceStaysOnBench};
 
-use crate::placement::{is_on_bench, one_unit_on};
-use crate::places::{are_all_apart, is_empty_tray};
+use crate::shifting::{is_on_bench, one_unit_on};
 use crate::state::BenchState;
-use burr_code::is_in_set;
+use burr_code::{are_all_apart, is_empty_tray, is_in_set};
 use burr_voxels::Direction;
 
 impl BenchState {

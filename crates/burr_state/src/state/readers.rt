@@ -1,14 +1,14 @@
 ghost use Rattle.std.specs.Prelude.{◌≡◌, ◌≤◌, ◌<◌, ◌+◌, length, IfSome, Some, slice_get};
 ghost use Rattle.burr_voxels.specs.Near.{IsWithin};
 ghost use Rattle.burr_state.specs.Views.StateViews.{at_start, IsOffsetHere};
-ghost use Rattle.burr_state.specs.Views.Spots.{placed};
-ghost use Rattle.burr_state.specs.Views.Offsets.{AreNear};
+ghost use Rattle.burr_state.specs.Views.Offsets.{AreNear, PositionHolds};
 
 use crate::activation::Activation;
 use crate::mode::Mode;
-use crate::placement::Placement;
+use crate::shifting::home;
 use crate::state::BenchState;
 use arrayvec::ArrayVec;
+use burr_code::Placement;
 use burr_voxels::Cell;
 
 impl BenchState {
@@ -19,7 +19,7 @@ impl BenchState {
     {
         let mut places = ArrayVec::new();
         for _piece in 0..pieces {
-            places.push(Placement::home(0));
+            places.push(home(0));
         }
         BenchState {
             places,
@@ -98,13 +98,13 @@ impl BenchState {
         &self.running
     }
 
-    /// Where a piece is: its tray and its offset, within 256; None where it is apart.
-    pub fn place(&self, piece: u8) -> Option<(u8, Cell)>
+    /// Where a piece is: in a tray within 256 of home, or apart.
+    pub fn place(&self, piece: u8) -> Placement<Cell>
         requires { piece < length self.now.places }
-        ensures place { slice_get self.now.places piece ≡ Some (placed result) }
-        ensures near { IfSome result (λ place. IsWithin 256 place.1) }
+        ensures place { slice_get self.now.places piece ≡ Some result }
+        ensures near { PositionHolds (IsWithin 256) result }
     {
-        self.places[usize::from(piece)].place()
+        self.places[usize::from(piece)]
     }
 
     /// How far from home a piece lies in the current tray; None where it isn't there.
@@ -112,6 +112,6 @@ impl BenchState {
         ensures offset { IsOffsetHere self.now piece result }
         ensures near { IfSome result (IsWithin 256) }
     {
-        self.places.get(usize::from(piece))?.offset_in(self.tray)
+        self.places.get(usize::from(piece))?.position_in(self.tray)
     }
 }

@@ -2,7 +2,8 @@
 -- type checker of the JVM Specification, 4.10.1, merges code and stack map frames.
 use Rattle.std.specs.Prelude.{◌≡◌, ◌≢◌, ◌⊎◌, ℕ, ◌+◌, ◌<◌, ◌≤◌, pos, ◌≤ℤ◌, List, [], ◌∷◌, length, Option, Some, None, slice_get}
 use Rattle.burr_voxels.specs.declared.cell.Cell.{Cell}
-use Rattle.burr_code.specs.Places.{Placement, AllLieIn, count_in}
+use Rattle.burr_code.specs.declared.placement.Placement.{Placement}
+use Rattle.burr_code.specs.Places.{AllLieIn, count_in}
 use Rattle.burr_code.specs.Instruction.{Instruction, spelled, StandsAt}
 use Rattle.burr_forms.specs.Rules.Forms.{value}
 use Rattle.burr_forms.specs.Rules.Points.{box_size}

@@ -1,7 +1,8 @@
 -- Frames by themselves: the checks of one label, and what is read of a frame for them.
 use Rattle.std.specs.Prelude.{◌≡◌, ℕ, zero, suc, List, Option, Some, slice_get, map}
 use Rattle.burr_text.specs.Checks.{needs}
-use Rattle.burr_code.specs.Places.{Placement, tray_of}
+use Rattle.burr_code.specs.declared.placement.Placement.{Placement}
+use Rattle.burr_code.specs.Places.{tray_of}
 use Rattle.burr_container.specs.Rules.Plans.{FormCell, Range, Frame}
 use Rattle.burr_frames.specs.declared.rule.Rule.TheVariants as rules
 use Rattle.burr_verify.specs.Rules.Judging.{Rest, HasRoomForPoints}

@@ -1,7 +1,8 @@
 -- What the code's answers say of looks: so many so far, and whatever follows.
 use Rattle.std.specs.Prelude.{◌≡◌, ◌+◌, ℕ, List, drop, slice_get, Option, Some, IfSome}
 use Rattle.burr_voxels.specs.declared.cell.Cell.{Cell}
-use Rattle.burr_container.specs.Views.Containers.{ContainerView, IsContainer}
+use Rattle.burr_container.specs.declared.procedure_ref.ProcedureRef.{ProcedureRef}
+use Rattle.burr_container.specs.Views.Containers.{IsContainer}
 use Rattle.burr_container.specs.Rules.Plans.{Plan, Frame}
 use Rattle.burr_frames.specs.Rules.FramedPlans.{FramedProcedure, FramedPlan, framed_plan}
 use Rattle.burr_frames.specs.Rules.Looks.{HasRoom}
@@ -43,8 +44,8 @@ HasRoomBefore falling = IfSome falling HasRoom
 abbrev pub FramesHaveRoom : FramedProcedure → Type 0
 FramesHaveRoom here = (pc : ℕ) (f : Frame) → IsLabelled here pc f → HasRoomForPoints f
 
--- the container has a plan, and this procedure of it has such frames
-abbrev pub HasRoomyFrames : ContainerView → ℕ → Type 0
-HasRoomyFrames kept n =
-    (p : Plan) × (here : FramedProcedure) × IsContainer kept p
-    × (slice_get (framed_plan p).procedures n ≡ Some here) × FramesHaveRoom here
+-- the procedure's container has a plan, and the procedure has such frames in it
+abbrev pub HasRoomyFrames : ProcedureRef → Type 0
+HasRoomyFrames r =
+    (p : Plan) × (here : FramedProcedure) × IsContainer r.container.now p
+    × (slice_get (framed_plan p).procedures r.number ≡ Some here) × FramesHaveRoom here

@@ -1,8 +1,8 @@
 -- A procedure is read each turn, main first.
-use Rattle.std.proofs.Common.{◌≡◌, ◌-◌, arith, ap, sym, subst, ◌∙◌, ◌++◌, ◌∷◌, [], rules}
+use Rattle.std.proofs.Common.{◌≡◌, ◌-◌, arith, ap, sym, subst, ◌∙◌, ◌++◌, ◌∷◌, [], length, length-append, rules}
 use Rattle.std.specs.Prelude.{List, false}
 use Rattle.std.proofs.lemmas.Result.{err_from_is_err_and}
-use Rattle.burr_container.specs.declared.procedure_ref.ProcedureRef.{ProcedureRef}
+use Rattle.burr_container.specs.declared.stored_procedure.StoredProcedure.{StoredProcedure}
 use Rattle.burr_container.specs.Rules.Faults.{procedure}
 use Rattle.burr_container.specs.Views.InPlace.{AreFor, IsProcedure}
 use Rattle.burr_container.proofs.EachWalk.{each_fails}
@@ -32,6 +32,18 @@ returns-in_err-procedure c =
     (others_fail_then c.args.version c.args.pieces c.in_ok-count.count c.args.cursor c.in_ok-count.after_count c.in_ok-count.ensures main.0 c.in_ok-main.after_main
     main.2 others _ (one_less c.in_ok-count.count some) fails)
 
+pub push-requires-in-loop : goal.push-requires-in-loop
+push-requires-in-loop c =
+    let within = counted_within c.args.cursor c.in_ok-count.after_count c.in_ok-count.count c.in_ok-count.ensures in
+    let walk = c.loop.invariant in
+    let first : c.push.new.self.items ≡ c.in_ok-main.main ∷ [] = search rules in
+    let one = ap (length {A = StoredProcedure}) first in
+    let all = ap (length {A = StoredProcedure}) walk.all in
+    let sum = length-append c.push.new.self.items walk.new in (
+      search rules,
+      omega (arith, all, sum, one, walk.size, within.0, within.1, c.loop-test.true),
+    )
+
 pub loop-preserved : goal.loop-preserved
 loop-preserved c =
     let here = c.in_ok-procedure.ensures in
@@ -50,9 +62,9 @@ returns c =
     c.loop.procedures.items c.loop.cursor (omega arith) walk in
     let first : c.push.new.self.items ≡ c.in_ok-main.main ∷ [] = search rules in
     let all : c.loop.procedures.items ≡ c.in_ok-main.main ∷ walk.new =
-    walk.all ∙ ap (λ (k : List ProcedureRef). k ++ walk.new) first in (
+    walk.all ∙ ap (λ (k : List StoredProcedure). k ++ walk.new) first in (
       main.0 ∷ end.0,
-      subst (λ (k : List ProcedureRef). AreFor (IsProcedure c.args.pieces) k (main.0 ∷ end.0)) (sym all) (main.1, end.2),
+      subst (λ (k : List StoredProcedure). AreFor (IsProcedure c.args.pieces) k (main.0 ∷ end.0)) (sym all) (main.1, end.2),
       procedures_at c.args.version c.args.pieces c.in_ok-count.count c.args.cursor c.in_ok-count.after_count c.in_ok-count.ensures main.0 c.in_ok-main.after_main
           main.2 others end.0 c.loop.cursor (one_less c.in_ok-count.count some) end.1 walk.walk.after,
     )

@@ -9,14 +9,14 @@ use Rattle.burr_frames.proofs.finding.frame_at.Goals as goal
 
 pub returns-then-label-label_count : goal.returns-then-label-label_count
 returns-then-label-label_count c = λ p here is e.
-    let q = procedure_here p c.args.procedure here e in
+    let q = procedure_here p c.args.procedure.number here e in
     let many = as_many_labels q.0 here q.2 in
     let count = c.label_count.ensures.plan p q.0 is q.1 in
     slice_get_past here.labels c.args.label (omega (arith, many, count, c.if-label-label_count.true, c.from-label.ensures))
 
 pub returns : goal.returns
 returns c = λ p here is e.
-    let q = procedure_here p c.args.procedure here e in
+    let q = procedure_here p c.args.procedure.number here e in
     let count = c.label_count.ensures.plan p q.0 is q.1 in
     let n = c.from-label.result in
     let inside : n < length q.0.labels = omega (arith, count, c.if-label-label_count.false) in

@@ -7,7 +7,7 @@ use Rattle.burr_frames.proofs.finding.has_labels.Goals as goal
 
 pub returns-then-from-count : goal.returns-then-from-count
 returns-then-from-count c = λ p here is e.
-    let q = procedure_here p c.args.procedure here e in
+    let q = procedure_here p c.args.procedure.number here e in
     let many = as_many_labels q.0 here q.2 in
     let count = c.label_count-count.ensures.plan p q.0 is q.1 in
     no_iff (λ to.
@@ -16,7 +16,7 @@ returns-then-from-count c = λ p here is e.
 
 pub returns : goal.returns
 returns c = λ p here is e.
-    let q = procedure_here p c.args.procedure here e in
+    let q = procedure_here p c.args.procedure.number here e in
     let many = as_many_labels q.0 here q.2 in
     let count = c.label_count-count.ensures.plan p q.0 is q.1 in
     yes_iff (all_labelled here.labels c.args.labels.now (λ k label found.

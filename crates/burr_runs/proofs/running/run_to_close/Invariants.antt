@@ -1,11 +1,11 @@
-use Rattle.burr_state.specs.Views.Benches.{IsSameRun}
 use Rattle.burr_runs.specs.Views.Running.{IsInStep, PutsPart, run_state, left_to_take}
+use Rattle.burr_runs.specs.Views.Standing.{HasComeOn}
 use Rattle.burr_runs.proofs.running.run_to_close.Given as goal
 
 -- a part of the run was made, and of its sheet put
 abbrev pub invariant-loop-answers : goal.invariant-loop-answers
 invariant-loop-answers g l =
-    IsInStep l.bench l.sheet × IsSameRun l.fn.bench l.bench
+    IsInStep l.bench l.sheet × HasComeOn l.fn.bench l.fn.answers l.bench l.answers
     × PutsPart g.W.Sink l.fn.sink l.sink (run_state l.fn.bench l.fn.answers l.fn.sheet) (run_state l.bench l.answers l.sheet)
 
 -- each turn makes a step or takes an answer

@@ -1,11 +1,13 @@
-use Rattle.std.proofs.Common.{◌≡◌, ◌≤◌, [], subst, sym, ap, ◌∙◌}
+use Rattle.std.proofs.Common.{◌≡◌, ◌≤◌, [], subst, sym, ap, ◌∙◌, inr}
 use Rattle.std.specs.Io.KnownBytes.{Appends}
 use Rattle.burr_assembly.specs.Rules.Text.{Assembly}
 use Rattle.burr_assembly.specs.Rules.Homes.{names_of}
 use Rattle.burr_io.specs.Sink.{FailsWithin}
 use Rattle.burr_sheet.specs.Views.SheetUnderWay.{UnderWay, blank, still}
 use Rattle.burr_runs.specs.declared.outcome.Outcome.{Outcome}
+use Rattle.burr_runs.specs.Rules.Output.{outcome_of}
 use Rattle.burr_runs.specs.Views.Running.{FailsInRun, ClosesPart, PutsSheet, run_state}
+use Rattle.burr_runs.specs.Views.Standing.{IsAtRunEnd}
 use Rattle.burr_text.proofs.Common.Tests.{on_err}
 use Rattle.burr_runs.proofs.StepByStep.{in_step_at_start, sheet_of, fails_in_sheet, fails_at_close}
 use Rattle.burr_runs.proofs.running.try_plan.Goals as goal
@@ -43,3 +45,14 @@ returns-clause-ok g c =
     let part = subst (λ (u : UnderWay). ClosesPart g.W.Sink c.args.sink.now c.run_to_close.new.sink (run_state b c.args.answers.now u) end c.in_ok-closing.closing) sheet c.in_ok-closing.ensures.ok in
     subst (λ (o : Outcome). PutsSheet g.W.Sink c.args.sink.now c.close.new.sink b.assembly b.program c.args.answers.now o) (sym c.outcome.ensures)
     (sheet_of g.W.Sink b c.args.answers.now end _ _ _ c.in_ok-closing.closing c.assembly.ensures.whole c.requires part closes)
+
+pub returns-clause-end : goal.returns-clause-end
+returns-clause-end g c =
+    subst (λ (o : Outcome). IsAtRunEnd c.args.bench.now c.args.answers.now c.run_to_close.new.bench o) (sym c.outcome.ensures) c.in_ok-closing.ensures.end
+
+pub returns-in_err-closing-clause-under_way : goal.returns-in_err-closing-clause-under_way
+returns-in_err-closing-clause-under_way g c = on_err c.from_residual.result c.in_err-closing.ensures.under_way
+
+pub returns-in_err-close-clause-under_way : goal.returns-in_err-close-clause-under_way
+returns-in_err-close-clause-under_way g c =
+    on_err c.from_residual-in_err-close.result (inr (outcome_of c.in_ok-closing.closing, c.in_ok-closing.ensures.end))

@@ -2,7 +2,8 @@
 use Rattle.std.proofs.Common.{◌≡◌, ◌↔◌, ◌<◌, ◌≤◌, ◌^◌, ℕ, List, length, inl, inr, arith, IsTrue, nat_eq}
 use Rattle.std.proofs.lemmas.Bool.Decides.{nat_tests}
 use Rattle.burr_code.specs.PieceSets.{IsInSet}
-use Rattle.burr_code.specs.Places.{Placement, LiesIn, AllLieIn, count_in, IsEmptyTray}
+use Rattle.burr_code.specs.declared.placement.Placement.{Placement}
+use Rattle.burr_code.specs.Places.{LiesIn, AllLieIn, count_in, IsEmptyTray}
 use Rattle.burr_code.proofs.Common.PieceSets.{no_bit_above}
 use Rattle.burr_text.proofs.Common.Decisions.{decide_below}
 use Rattle.burr_state.proofs.Common.Trays.Counts.{count_in-empty, count_in-some}

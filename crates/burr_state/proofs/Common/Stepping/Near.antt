@@ -8,7 +8,9 @@ use Rattle.burr_voxels.specs.declared.direction.Direction.{Direction}
 use Rattle.burr_voxels.specs.Grid.{plus, minus, along}
 use Rattle.burr_voxels.specs.Near.{IsWithin}
 use Rattle.burr_code.specs.PieceSets.{IsInSet}
-use Rattle.burr_code.specs.Places.{Placement, Apart, On, LiesAt, AllLieIn}
+use Rattle.burr_code.specs.declared.placement.Placement.{Placement}
+use Rattle.burr_code.specs.declared.placement.Placement.TheVariants.{Apart, On}
+use Rattle.burr_code.specs.Places.{LiesAt, AllLieIn}
 use Rattle.burr_state.specs.Views.Offsets.{PositionHolds, AreNear}
 use Rattle.burr_state.specs.Rules.Space.{AllOnBench, moved_places}
 use Rattle.burr_code.proofs.Common.Conditions.{same_tray, lies_within}

@@ -5,7 +5,9 @@ use Rattle.burr_text.proofs.Common.Decisions.{Decided}
 use Rattle.std.proofs.lemmas.Option.{same_Some}
 use native.Mathlib.Decide.{ℕ_discrete}
 use Rattle.burr_code.specs.PieceSets.{IsInSet}
-use Rattle.burr_code.specs.Places.{Placement, Apart, On, LiesAt, LiesIn, AllLieIn, IsPartOfTray, IsEmptyTray, changed, to_tray, count_in, parted, aside_places}
+use Rattle.burr_code.specs.declared.placement.Placement.{Placement}
+use Rattle.burr_code.specs.declared.placement.Placement.TheVariants.{Apart, On}
+use Rattle.burr_code.specs.Places.{LiesAt, LiesIn, AllLieIn, IsPartOfTray, IsEmptyTray, changed, to_tray, count_in, parted, aside_places}
 use Rattle.burr_code.proofs.Common.PieceSets.{decide_bit}
 use Rattle.burr_state.specs.Laws.AsideLaws.{LiesApart, NoneLone, CanGoAside, IsGoneAside}
 use Rattle.burr_code.proofs.Common.Conditions.{same_tray, same_position}

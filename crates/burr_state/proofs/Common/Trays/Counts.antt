@@ -10,7 +10,9 @@ use Rattle.std.specs.List.{AllZip}
 use native.Mathlib.Decide.{ℕ_discrete}
 use Rattle.burr_code.specs.PieceSets.{IsInSet, is_left_out}
 use Rattle.burr_code.proofs.Common.PieceSets.{not_left_out, left_out, decide_bit}
-use Rattle.burr_code.specs.Places.{Placement, Apart, On, LiesAt, LiesIn, AllLieIn, IsEmptyTray, changed, to_tray, is_in, count_in, parted_in}
+use Rattle.burr_code.specs.declared.placement.Placement.{Placement}
+use Rattle.burr_code.specs.declared.placement.Placement.TheVariants.{Apart, On}
+use Rattle.burr_code.specs.Places.{LiesAt, LiesIn, AllLieIn, IsEmptyTray, changed, to_tray, is_in, count_in, parted_in}
 
 -- The places of a set are changed
 

@@ -4,7 +4,9 @@ use Rattle.std.specs.Prelude.{slice_get}
 use Rattle.std.proofs.lemmas.Bool.Decides.{nat_tests}
 use Rattle.std.proofs.lemmas.Option.{none-some, same_Some}
 use native.Mathlib.Decide.{ℕ_discrete}
-use Rattle.burr_code.specs.Places.{Placement, Apart, On, LiesAt, LiesIn, is_in, count_in, parted_in, parted}
+use Rattle.burr_code.specs.declared.placement.Placement.{Placement}
+use Rattle.burr_code.specs.declared.placement.Placement.TheVariants.{Apart, On}
+use Rattle.burr_code.specs.Places.{LiesAt, LiesIn, is_in, count_in, parted_in, parted}
 use Rattle.burr_code.proofs.Common.Conditions.{apart-on}
 use Rattle.burr_state.proofs.Common.Trays.Counts.{count_in-same, count_in-other, count_in-empty, count_in-some, count_in-parted_in}
 

@@ -7,7 +7,9 @@ use Rattle.std.proofs.lemmas.List.Elements.{All-nil, All-cons, All-head, All-tai
 use Rattle.std.specs.List.{AllZip}
 use Rattle.burr_state.specs.Views.Offsets.{PositionHolds, PositionsHold}
 use native.Mathlib.Decide.{ℕ_discrete}
-use Rattle.burr_code.specs.Places.{Placement, Apart, On, LiesIn, AllLieIn, IsPartOfTray, IsEmptyTray, changed, to_tray, is_in, count_in, parted_in, parted, aside_places}
+use Rattle.burr_code.specs.declared.placement.Placement.{Placement}
+use Rattle.burr_code.specs.declared.placement.Placement.TheVariants.{Apart, On}
+use Rattle.burr_code.specs.Places.{LiesIn, AllLieIn, IsPartOfTray, IsEmptyTray, changed, to_tray, is_in, count_in, parted_in, parted, aside_places}
 use Rattle.burr_state.specs.Views.Parts.{parts}
 use Rattle.burr_code.proofs.Common.PieceSets.{no_bit, set_bit}
 use Rattle.burr_state.proofs.Common.Trays.Counts.{length-changed, All-changed, lies_still, lies_there}

@@ -4,7 +4,9 @@ use Rattle.std.specs.Prelude.{slice_get}
 use Rattle.std.proofs.lemmas.Bool.{cond_both}
 use Rattle.burr_text.proofs.Common.Decisions.{Decided}
 use Rattle.burr_code.specs.PieceSets.{IsInSet, is_left_out}
-use Rattle.burr_code.specs.Places.{Placement, Apart, On, LiesAt, LiesIn, at_position, changed, is_in, count_in}
+use Rattle.burr_code.specs.declared.placement.Placement.{Placement}
+use Rattle.burr_code.specs.declared.placement.Placement.TheVariants.{Apart, On}
+use Rattle.burr_code.specs.Places.{LiesAt, LiesIn, at_position, changed, is_in, count_in}
 use Rattle.burr_code.proofs.Common.PieceSets.{decide_bit}
 use Rattle.burr_voxels.specs.declared.cell.Cell.{Cell}
 use Rattle.burr_voxels.specs.declared.direction.Direction.{Direction}

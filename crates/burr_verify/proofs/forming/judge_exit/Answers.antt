@@ -11,21 +11,21 @@ use Rattle.burr_verify.proofs.forming.judge_exit.Goals as goal
 
 pub returns-in-None : goal.returns-in-None
 returns-in-None c p here is at =
-    let found = procedure_here p c.args.procedure here at in
-    no_exit_passes c.args.procedure here.exit
+    let found = procedure_here p c.args.procedure.number here at in
+    no_exit_passes c.args.procedure.number here.exit
     (no_exit_here p.pieces found.0 here found.2 (c.in-None.ensures p found.0 is found.1))
 
 pub returns-then-is_formed_exit : goal.returns-then-is_formed_exit
 returns-then-is_formed_exit c p here is at =
-    let found = procedure_here p c.args.procedure here at in
-    exit_passes c.args.procedure here.exit (framed_ref c.in-Some.exit)
+    let found = procedure_here p c.args.procedure.number here at in
+    exit_passes c.args.procedure.number here.exit (framed_ref c.in-Some.exit)
     (exit_here p.pieces found.0 here c.in-Some.exit found.2 (c.in-Some.ensures p found.0 is found.1))
     (yes_of c.if-is_formed_exit.ensures)
 
 pub returns-else-is_formed_exit : goal.returns-else-is_formed_exit
 returns-else-is_formed_exit c p here is at =
-    let found = procedure_here p c.args.procedure here at in
-    exit_refused c.args.procedure here.exit (framed_ref c.in-Some.exit) (failed_check c.plain.result)
+    let found = procedure_here p c.args.procedure.number here at in
+    exit_refused c.args.procedure.number here.exit (framed_ref c.in-Some.exit) (failed_check c.plain.result)
     (exit_here p.pieces found.0 here c.in-Some.exit found.2 (c.in-Some.ensures p found.0 is found.1))
     (no_of c.if-is_formed_exit.ensures)
-    (plainly_refused c.plain.result c.number_of.result 0 c.args.procedure 0 rules.V27 c.plain.ensures c.number_of.ensures refl)
+    (plainly_refused c.plain.result c.number.result 0 c.args.procedure.number 0 rules.V27 c.plain.ensures c.number.ensures.number refl)

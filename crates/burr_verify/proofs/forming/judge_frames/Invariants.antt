@@ -8,6 +8,6 @@ use Rattle.burr_verify.proofs.forming.judge_frames.Given as goal
 
 abbrev pub invariant-loop-label : goal.invariant-loop-label
 invariant-loop-label l =
-    OfFramedProcedure l.container l.procedure (λ plan here. PartFrom
-    (judging_from l.procedure here.parameters l.label (drop l.label here.labels))
-    (λ rest. judging_exit l.procedure here.exit (judging_entry l.procedure here.parameters here.labels rest)))
+    OfFramedProcedure l.procedure (λ plan here. PartFrom
+    (judging_from l.procedure.number here.parameters l.label (drop l.label here.labels))
+    (λ rest. judging_exit l.procedure.number here.exit (judging_entry l.procedure.number here.parameters here.labels rest)))

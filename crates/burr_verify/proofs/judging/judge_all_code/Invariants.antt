@@ -6,8 +6,8 @@ use Rattle.burr_frames.specs.Rules.FramedPlans.{framed_plan}
 use Rattle.burr_verify.specs.Views.LookViews.{LooksFrom}
 use Rattle.burr_verify.proofs.judging.judge_all_code.Given as goal
 
-abbrev pub invariant-loop-procedure : goal.invariant-loop-procedure
-invariant-loop-procedure g l =
+abbrev pub invariant-loop-number : goal.invariant-loop-number
+invariant-loop-number g l =
     ((p : Plan) → IsContainer l.container p
-    → LooksFrom (homes_of l.initial.looks.assembly) (framed_plan p) l.procedure l.looks.count)
-    × (l.looks.count ≤ l.procedure * 2 ^ 32) × (l.looks.assembly ≡ l.initial.looks.assembly)
+    → LooksFrom (homes_of l.initial.looks.assembly) (framed_plan p) l.number l.looks.count)
+    × (l.looks.count ≤ l.number * 2 ^ 32) × (l.looks.assembly ≡ l.initial.looks.assembly)

@@ -6,7 +6,7 @@ use Rattle.burr_verify.specs.Views.Judgements.{PartFrom}
 use Rattle.std.specs.Prelude.{drop}
 use Rattle.burr_verify.proofs.judging.judge_all_frames.Given as goal
 
-abbrev pub invariant-loop-procedure : goal.invariant-loop-procedure
-invariant-loop-procedure l =
-    (p : Plan) → IsContainer l.container p → PartFrom (judging_frames l.procedure (drop l.procedure (framed_plan p).procedures))
+abbrev pub invariant-loop-number : goal.invariant-loop-number
+invariant-loop-number l =
+    (p : Plan) → IsContainer l.container p → PartFrom (judging_frames l.number (drop l.number (framed_plan p).procedures))
     (judging_frames 0 (framed_plan p).procedures)

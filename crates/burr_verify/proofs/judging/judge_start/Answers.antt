@@ -7,6 +7,7 @@ use Rattle.burr_frames.specs.Rules.FramedPlans.{framed, framed_plan}
 use Rattle.burr_frames.specs.Rules.Starts.{start_state}
 use Rattle.burr_frames.specs.Rules.States.{AbstractState}
 use Rattle.burr_frames.specs.Rules.Arrival.{Meets}
+use Rattle.burr_frames.proofs.Common.Heres.{lent_is, lent_at}
 use Rattle.burr_verify.specs.declared.refusal.Refusal.{Refusal}
 use Rattle.burr_verify.specs.Rules.Judging.{judging_start}
 use Rattle.burr_verify.specs.Rules.Pass.{Refuses}
@@ -17,19 +18,25 @@ use Rattle.burr_verify.proofs.judging.judge_start.Goals as goal
 
 pub returns-then-label_count-eq0 : goal.returns-then-label_count-eq0
 returns-then-label_count-eq0 c =
+    let kept = c.args.container.now in
+    let main = c.procedure-main.result in
+    let lent = c.procedure-main.ensures in
     λ p homes is many.
     subst (λ (r : Refusal). judging_start homes (framed_plan p) nothing (Refuses (failed_check r))) (sym c.plain.ensures)
     (start_lacks_entry homes p (omega (arith, c.proc_count-some.ensures.some, c.proc_count-some.ensures.plan p is))
-    (λ q e. sym (c.label_count.ensures.plan p q is e) ∙ c.if-label_count-eq0.true))
+    (λ q e. sym (c.label_count.ensures.plan p q (lent_is kept 0 main p lent is) (lent_at p.procedures kept 0 main q lent e)) ∙ c.if-label_count-eq0.true))
 
 pub returns-then-is_err : goal.returns-then-is_err
 returns-then-is_err c =
+    let kept = c.args.container.now in
+    let main = c.procedure-main.result in
+    let lent = c.procedure-main.ensures in
     λ p homes is many.
     let f = frame_of c.frame-entry.result in
     let entry =
     has_entry p f (omega (arith, c.proc_count-some.ensures.some, c.proc_count-some.ensures.plan p is))
-    (λ q e. (let some = c.label_count.ensures.plan p q is e in omega (arith, c.if-label_count-eq0.false, some)))
-    (λ q e l at. c.frame-entry.ensures.plan p q is e l at) in
+    (λ q e. (let some = c.label_count.ensures.plan p q (lent_is kept 0 main p lent is) (lent_at p.procedures kept 0 main q lent e) in omega (arith, c.if-label_count-eq0.false, some)))
+    (λ q e l at. c.frame-entry.ensures.plan p q (lent_is kept 0 main p lent is) (lent_at p.procedures kept 0 main q lent e) l at) in
     let misses =
     misses_where_err c.at_home.result (framed f) numbers.V20 c.meets_entry.result c.meets_entry.ensures
     (sym c.is_err.ensures.value ∙ c.if-is_err.true) in
@@ -39,12 +46,15 @@ returns-then-is_err c =
 
 pub returns-then-from-cost : goal.returns-then-from-cost
 returns-then-from-cost c =
+    let kept = c.args.container.now in
+    let main = c.procedure-main.result in
+    let lent = c.procedure-main.ensures in
     λ p homes is many.
     let f = frame_of c.frame-entry.result in
     let entry =
     has_entry p f (omega (arith, c.proc_count-some.ensures.some, c.proc_count-some.ensures.plan p is))
-    (λ q e. (let some = c.label_count.ensures.plan p q is e in omega (arith, c.if-label_count-eq0.false, some)))
-    (λ q e l at. c.frame-entry.ensures.plan p q is e l at) in
+    (λ q e. (let some = c.label_count.ensures.plan p q (lent_is kept 0 main p lent is) (lent_at p.procedures kept 0 main q lent e) in omega (arith, c.if-label_count-eq0.false, some)))
+    (λ q e l at. c.frame-entry.ensures.plan p q (lent_is kept 0 main p lent is) (lent_at p.procedures kept 0 main q lent e) l at) in
     let meets =
     meets_where_ok c.at_home.result (framed f) numbers.V20 c.meets_entry.result c.meets_entry.ensures
     (sym c.is_err.ensures.value ∙ c.if-is_err.false) in
@@ -63,12 +73,15 @@ returns-then-from-cost c =
 
 pub returns : goal.returns
 returns c =
+    let kept = c.args.container.now in
+    let main = c.procedure-main.result in
+    let lent = c.procedure-main.ensures in
     λ p homes is many.
     let f = frame_of c.frame-entry.result in
     let entry =
     has_entry p f (omega (arith, c.proc_count-some.ensures.some, c.proc_count-some.ensures.plan p is))
-    (λ q e. (let some = c.label_count.ensures.plan p q is e in omega (arith, c.if-label_count-eq0.false, some)))
-    (λ q e l at. c.frame-entry.ensures.plan p q is e l at) in
+    (λ q e. (let some = c.label_count.ensures.plan p q (lent_is kept 0 main p lent is) (lent_at p.procedures kept 0 main q lent e) in omega (arith, c.if-label_count-eq0.false, some)))
+    (λ q e l at. c.frame-entry.ensures.plan p q (lent_is kept 0 main p lent is) (lent_at p.procedures kept 0 main q lent e) l at) in
     let meets =
     meets_where_ok c.at_home.result (framed f) numbers.V20 c.meets_entry.result c.meets_entry.ensures
     (sym c.is_err.ensures.value ∙ c.if-is_err.false) in

@@ -9,7 +9,7 @@ abbrev pub invariant-loop-low : goal.invariant-loop-low
 invariant-loop-low l = record {
   order : l.low ≤ l.high;
   few : l.high ≤ l.count;
-  split : OfFramedProcedure l.container l.procedure (λ plan here. (k : ℕ) (x : ℕ × Frame) → slice_get here.labels k ≡ Some x
+  split : OfFramedProcedure l.procedure (λ plan here. (k : ℕ) (x : ℕ × Frame) → slice_get here.labels k ≡ Some x
       → (k < l.low → x.0 < l.place) × (l.high ≤ k → l.place ≤ x.0));
 }
 

@@ -8,6 +8,7 @@ use Rattle.burr_code.specs.Instruction.{Instruction, StandsAt}
 use Rattle.burr_code.specs.Meaning.{meaning, NoneStandsAt}
 use Rattle.burr_frames.specs.Views.Breaks.{broken_of}
 use Rattle.burr_frames.specs.declared.breaking.Break.{Break}
+use Rattle.burr_frames.specs.declared.rule.Rule.TheVariants as rules
 use Rattle.burr_frames.specs.Rules.FramedPlans.{framed_plan}
 use Rattle.burr_frames.specs.Rules.Looks.{HasRoom, RuleLooks}
 use Rattle.burr_frames.specs.Rules.States.{AbstractState}
@@ -15,9 +16,10 @@ use Rattle.burr_frames.specs.Rules.Transfer.{Transfer}
 use Rattle.burr_frames.proofs.Common.Room.{room_kept}
 use Rattle.burr_frames.proofs.Common.RuleLooks.{few_rule_looks}
 use Rattle.burr_verify.specs.declared.transfer.Successor.{Successor}
-use Rattle.burr_verify.specs.Rules.Pass.{Refuses, lacks_instruction, hides, breaks}
-use Rattle.burr_verify.specs.Views.Judgements.{failed_check, verdict_of}
-use Rattle.burr_verify.proofs.Stages.{code_read, stops_by, none_found, one_found, none_where, some_where, hides_none, hides_one, judges_falls, judges_stops}
+use Rattle.burr_verify.specs.Rules.Pass.{lacks_instruction, hides, breaks}
+use Rattle.burr_verify.specs.Views.Judgements.{verdict_of}
+use Rattle.burr_verify.proofs.LabelsJudged.{plainly_refused}
+use Rattle.burr_verify.proofs.Stages.{code_read, stops_by, none_found, one_found, none_where, some_where, hides_none, hides_one, judges_falls, judges_stops, told_broken}
 use Rattle.burr_verify.proofs.passing.judge_at.Goals as goal
 
 -- the looks of one rule are few
@@ -35,9 +37,9 @@ rule_is_few s i old new few room (n, looks, counted) =
 
 pub returns-in_default-clause-passes : goal.returns-in_default-clause-passes
 returns-in_default-clause-passes g c = λ p here kept at.
-    (let code = code_read c.args.container.now c.args.procedure c.code.result.now c.code.ensures.plan p here kept at in (
+    (let code = code_read c.args.procedure.container.now c.args.procedure.number c.code.result.now c.code.ensures.plan p here kept at in (
       0,
-      stops_by (homes_of c.args.looks.now.assembly) (framed_plan p) c.args.procedure here _ c.plain.result _ 0 (ap (λ r. Refuses (failed_check r)) c.plain.ensures)
+      stops_by (homes_of c.args.looks.now.assembly) (framed_plan p) c.args.procedure.number here _ c.plain.result _ 0 (plainly_refused c.plain.result c.number.result c.args.pc c.args.procedure.number c.args.pc rules.V2 c.plain.ensures c.number.ensures.number refl)
           (lacks_instruction c.args.pc c.args.state (subst (λ (bytes : List ℕ). NoneStandsAt bytes c.args.pc) code c.in_default.ensures.stands), refl),
       none_more c.args.looks.now,
     ))
@@ -46,9 +48,9 @@ pub returns-then-is_some-clause-passes : goal.returns-then-is_some-clause-passes
 returns-then-is_some-clause-passes g c = λ p here kept at.
     (let found = some_where c.label_within.result c.if-is_some.ensures in
     let l = one_found here (c.args.pc + 1) (c.args.pc + c.in-Some.size) found.0 c.label_within.result found.1 (c.label_within.ensures.found p here kept at) in
-    let stands = subst (λ (bytes : List ℕ). StandsAt bytes c.args.pc (meaning c.in-Some.instruction)) (code_read c.args.container.now c.args.procedure c.code.result.now c.code.ensures.plan p here kept at) c.in-Some.ensures.stands.0 in (
+    let stands = subst (λ (bytes : List ℕ). StandsAt bytes c.args.pc (meaning c.in-Some.instruction)) (code_read c.args.procedure.container.now c.args.procedure.number c.code.result.now c.code.ensures.plan p here kept at) c.in-Some.ensures.stands.0 in (
       0,
-      stops_by (homes_of c.args.looks.now.assembly) (framed_plan p) c.args.procedure here _ c.plain-then-is_some.result _ 0 (ap (λ r. Refuses (failed_check r)) c.plain-then-is_some.ensures) (
+      stops_by (homes_of c.args.looks.now.assembly) (framed_plan p) c.args.procedure.number here _ c.plain-then-is_some.result _ 0 (plainly_refused c.plain-then-is_some.result c.number-then-is_some.result c.args.pc c.args.procedure.number c.args.pc rules.V3 c.plain-then-is_some.ensures c.number-then-is_some.ensures.number refl) (
         hides c.args.pc c.args.state (meaning c.in-Some.instruction) stands
             (hides_one here c.args.pc c.in-Some.size found.0 (meaning c.in-Some.instruction) l.0 c.in-Some.ensures.stands.1 l.1 l.2 l.3),
         refl,
@@ -59,17 +61,17 @@ returns-then-is_some-clause-passes g c = λ p here kept at.
 pub returns-in-Ok-FallsThrough-clause-within : goal.returns-in-Ok-FallsThrough-clause-within
 returns-in-Ok-FallsThrough-clause-within g c = λ p here kept at.
     subst (λ (bytes : List ℕ). c.args.pc + c.in-Some.size ≤ length bytes)
-    (code_read c.args.container.now c.args.procedure c.code.result.now c.code.ensures.plan p here kept at) c.in-Some.ensures.within
+    (code_read c.args.procedure.container.now c.args.procedure.number c.code.result.now c.code.ensures.plan p here kept at) c.in-Some.ensures.within
 
 pub returns-in-Ok-FallsThrough-clause-passes : goal.returns-in-Ok-FallsThrough-clause-passes
 returns-in-Ok-FallsThrough-clause-passes g c = λ p here kept at.
-    (let stands = subst (λ (bytes : List ℕ). StandsAt bytes c.args.pc (meaning c.in-Some.instruction)) (code_read c.args.container.now c.args.procedure c.code.result.now c.code.ensures.plan p here kept at) c.in-Some.ensures.stands.0 in
+    (let stands = subst (λ (bytes : List ℕ). StandsAt bytes c.args.pc (meaning c.in-Some.instruction)) (code_read c.args.procedure.container.now c.args.procedure.number c.code.result.now c.code.ensures.plan p here kept at) c.in-Some.ensures.stands.0 in
     let bare = hides_none here c.args.pc c.in-Some.size (meaning c.in-Some.instruction) c.in-Some.ensures.stands.1 (none_found here (c.args.pc + 1) (c.args.pc + c.in-Some.size) c.label_within.result (none_where c.label_within.result c.if-is_some.ensures) (c.label_within.ensures.found p here kept at)) in
     let homes = homes_of c.args.looks.now.assembly in
-    let rule = subst (λ (r : Result Successor Break). Transfer homes (framed_plan p) c.args.procedure here c.args.state (meaning c.in-Some.instruction) (verdict_of c.transfer.new.state r)) (c.in-Ok-FallsThrough.is ∙ ap Ok c.in-Ok-FallsThrough.field-0-is) (c.transfer.ensures.verdict p here kept at) in
+    let rule = subst (λ (r : Result Successor Break). Transfer homes (framed_plan p) c.args.procedure.number here c.args.state (meaning c.in-Some.instruction) (verdict_of c.transfer.new.state r)) (c.in-Ok-FallsThrough.is ∙ ap Ok c.in-Ok-FallsThrough.field-0-is) (c.transfer.ensures.verdict p here kept at) in
     let counted = c.transfer.ensures.counted in (
       counted.0,
-      judges_falls homes (framed_plan p) c.args.procedure here c.args.pc c.in-Some.size c.args.state c.transfer.new.state (meaning c.in-Some.instruction) counted.0 stands c.in-Some.ensures.stands.1 bare rule counted.1,
+      judges_falls homes (framed_plan p) c.args.procedure.number here c.args.pc c.in-Some.size c.args.state c.transfer.new.state (meaning c.in-Some.instruction) counted.0 stands c.in-Some.ensures.stands.1 bare rule counted.1,
       counted.2,
     ))
 
@@ -80,8 +82,8 @@ returns-in-Ok-FallsThrough-clause-points g c =
     let kept = c.requires.framed.2 in
     let at = c.requires.framed.3 in
     let homes = homes_of c.args.looks.now.assembly in
-    let rule = subst (λ (r : Result Successor Break). Transfer homes (framed_plan p) c.args.procedure here c.args.state (meaning c.in-Some.instruction) (verdict_of c.transfer.new.state r)) (c.in-Ok-FallsThrough.is ∙ ap Ok c.in-Ok-FallsThrough.field-0-is) (c.transfer.ensures.verdict p here kept at) in
-    room_kept homes (framed_plan p) c.args.procedure here c.args.state c.transfer.new.state (meaning c.in-Some.instruction) c.requires.points rule
+    let rule = subst (λ (r : Result Successor Break). Transfer homes (framed_plan p) c.args.procedure.number here c.args.state (meaning c.in-Some.instruction) (verdict_of c.transfer.new.state r)) (c.in-Ok-FallsThrough.is ∙ ap Ok c.in-Ok-FallsThrough.field-0-is) (c.transfer.ensures.verdict p here kept at) in
+    room_kept homes (framed_plan p) c.args.procedure.number here c.args.state c.transfer.new.state (meaning c.in-Some.instruction) c.requires.points rule
 
 pub returns-in-Ok-FallsThrough-clause-few : goal.returns-in-Ok-FallsThrough-clause-few
 returns-in-Ok-FallsThrough-clause-few g c = (rule_is_few c.args.state _ c.args.looks.now _ c.requires.few_pieces c.requires.points c.transfer.ensures.counted).0
@@ -92,17 +94,17 @@ returns-in-Ok-FallsThrough-clause-same g c = (rule_is_few c.args.state _ c.args.
 pub returns-in-Ok-None-clause-within : goal.returns-in-Ok-None-clause-within
 returns-in-Ok-None-clause-within g c = λ p here kept at.
     subst (λ (bytes : List ℕ). c.args.pc + c.in-Some.size ≤ length bytes)
-    (code_read c.args.container.now c.args.procedure c.code.result.now c.code.ensures.plan p here kept at) c.in-Some.ensures.within
+    (code_read c.args.procedure.container.now c.args.procedure.number c.code.result.now c.code.ensures.plan p here kept at) c.in-Some.ensures.within
 
 pub returns-in-Ok-None-clause-passes : goal.returns-in-Ok-None-clause-passes
 returns-in-Ok-None-clause-passes g c = λ p here kept at.
-    (let stands = subst (λ (bytes : List ℕ). StandsAt bytes c.args.pc (meaning c.in-Some.instruction)) (code_read c.args.container.now c.args.procedure c.code.result.now c.code.ensures.plan p here kept at) c.in-Some.ensures.stands.0 in
+    (let stands = subst (λ (bytes : List ℕ). StandsAt bytes c.args.pc (meaning c.in-Some.instruction)) (code_read c.args.procedure.container.now c.args.procedure.number c.code.result.now c.code.ensures.plan p here kept at) c.in-Some.ensures.stands.0 in
     let bare = hides_none here c.args.pc c.in-Some.size (meaning c.in-Some.instruction) c.in-Some.ensures.stands.1 (none_found here (c.args.pc + 1) (c.args.pc + c.in-Some.size) c.label_within.result (none_where c.label_within.result c.if-is_some.ensures) (c.label_within.ensures.found p here kept at)) in
     let homes = homes_of c.args.looks.now.assembly in
-    let rule = subst (λ (r : Result Successor Break). Transfer homes (framed_plan p) c.args.procedure here c.args.state (meaning c.in-Some.instruction) (verdict_of c.transfer.new.state r)) (c.in-Ok-None.is ∙ ap Ok c.in-Ok-None.field-0-is) (c.transfer.ensures.verdict p here kept at) in
+    let rule = subst (λ (r : Result Successor Break). Transfer homes (framed_plan p) c.args.procedure.number here c.args.state (meaning c.in-Some.instruction) (verdict_of c.transfer.new.state r)) (c.in-Ok-None.is ∙ ap Ok c.in-Ok-None.field-0-is) (c.transfer.ensures.verdict p here kept at) in
     let counted = c.transfer.ensures.counted in (
       counted.0,
-      judges_stops homes (framed_plan p) c.args.procedure here c.args.pc c.in-Some.size c.args.state (meaning c.in-Some.instruction) counted.0 stands c.in-Some.ensures.stands.1 bare rule counted.1,
+      judges_stops homes (framed_plan p) c.args.procedure.number here c.args.pc c.in-Some.size c.args.state (meaning c.in-Some.instruction) counted.0 stands c.in-Some.ensures.stands.1 bare rule counted.1,
       counted.2,
     ))
 
@@ -114,13 +116,14 @@ returns-in-Ok-None-clause-same g c = (rule_is_few c.args.state _ c.args.looks.no
 
 pub returns-in-Err-clause-passes : goal.returns-in-Err-clause-passes
 returns-in-Err-clause-passes g c = λ p here kept at.
-    (let stands = subst (λ (bytes : List ℕ). StandsAt bytes c.args.pc (meaning c.in-Some.instruction)) (code_read c.args.container.now c.args.procedure c.code.result.now c.code.ensures.plan p here kept at) c.in-Some.ensures.stands.0 in
+    (let stands = subst (λ (bytes : List ℕ). StandsAt bytes c.args.pc (meaning c.in-Some.instruction)) (code_read c.args.procedure.container.now c.args.procedure.number c.code.result.now c.code.ensures.plan p here kept at) c.in-Some.ensures.stands.0 in
     let bare = hides_none here c.args.pc c.in-Some.size (meaning c.in-Some.instruction) c.in-Some.ensures.stands.1 (none_found here (c.args.pc + 1) (c.args.pc + c.in-Some.size) c.label_within.result (none_where c.label_within.result c.if-is_some.ensures) (c.label_within.ensures.found p here kept at)) in
     let homes = homes_of c.args.looks.now.assembly in
-    let rule = subst (λ (r : Result Successor Break). Transfer homes (framed_plan p) c.args.procedure here c.args.state (meaning c.in-Some.instruction) (verdict_of c.transfer.new.state r)) (c.in-Err.is) (c.transfer.ensures.verdict p here kept at) in
+    let rule = subst (λ (r : Result Successor Break). Transfer homes (framed_plan p) c.args.procedure.number here c.args.state (meaning c.in-Some.instruction) (verdict_of c.transfer.new.state r)) (c.in-Err.is) (c.transfer.ensures.verdict p here kept at) in
     let counted = c.transfer.ensures.counted in (
       counted.0,
-      stops_by homes (framed_plan p) c.args.procedure here _ c.of.result _ counted.0 c.of.ensures
+      stops_by homes (framed_plan p) c.args.procedure.number here _ c.of.result _ counted.0
+          (told_broken c.of.result c.number-in-Err.result c.args.procedure.number c.args.pc (broken_of c.in-Err.broken) c.of.ensures c.number-in-Err.ensures.number)
           (breaks c.args.pc c.args.state (meaning c.in-Some.instruction) (broken_of c.in-Err.broken) stands bare rule, counted.1),
       counted.2,
     ))

@@ -8,7 +8,9 @@ use Rattle.burr_frames.specs.Rules.FramedPlans.{FramedProcedure, FramedPlan, fra
 use Rattle.burr_verify.specs.Views.LookViews.{LooksOn, LooksStop}
 use Rattle.burr_verify.specs.Rules.Pass.{Judgement, Refuses, Stage, pass_start}
 use Rattle.burr_verify.specs.Rules.PassLooks.{LookedPass}
+use Rattle.burr_frames.specs.declared.rule.Rule.TheVariants as rules
 use Rattle.burr_verify.specs.Views.Judgements.{failed_check}
+use Rattle.burr_verify.specs.Views.Refusals.{plain_refusal}
 use Rattle.burr_verify.specs.declared.refusal.Refusal.{Refusal}
 use Rattle.burr_verify.proofs.LookedOn.{looks_both}
 use Rattle.burr_verify.proofs.Stages.{code_read, before_end, at_end, well_ended, fallen_off}
@@ -55,11 +57,11 @@ pub returns-in_err-state-clause-passed : goal.returns-in_err-state-clause-passed
 returns-in_err-state-clause-passed g c =
     let e = err_from_is_err_and c.from_residual.result c.from_residual.ensures.1 in
     rw (e.1, e.2)
-    (λ p here kept at. (let code = code_read c.args.container.now c.args.procedure c.code-size.result.now c.code-size.ensures.plan p here kept at in
+    (λ p here kept at. (let code = code_read c.args.procedure.container.now c.args.procedure.number c.code-size.result.now c.code-size.ensures.plan p here kept at in
     let homes = homes_of c.args.looks.now.assembly in
     let so_far = c.loop-pc.invariant.0 p here kept at in
-    ends_by homes (framed_plan p) c.args.procedure here pass_start _ _ c.args.looks.now c.loop-pc.looks c.loop-pc.looks so_far.0
-    (by_none homes (framed_plan p) c.args.procedure here _ _ c.loop-pc.looks
+    ends_by homes (framed_plan p) c.args.procedure.number here pass_start _ _ c.args.looks.now c.loop-pc.looks c.loop-pc.looks so_far.0
+    (by_none homes (framed_plan p) c.args.procedure.number here _ _ c.loop-pc.looks
     (c.in_err-state.ensures.passes homes p here kept at
     (before_end c.code-size.result.now here.code c.loop-pc.pc code c.loop-pc-test.true)))))
 
@@ -67,27 +69,27 @@ pub returns-in_err-after-clause-passed : goal.returns-in_err-after-clause-passed
 returns-in_err-after-clause-passed g c =
     let e = err_from_is_err_and c.from_residual-in_err-after.result c.from_residual-in_err-after.ensures.1 in
     rw (e.1, e.2)
-    (λ p here kept at. (let code = code_read c.args.container.now c.args.procedure c.code-size.result.now c.code-size.ensures.plan p here kept at in
+    (λ p here kept at. (let code = code_read c.args.procedure.container.now c.args.procedure.number c.code-size.result.now c.code-size.ensures.plan p here kept at in
     let homes = homes_of c.args.looks.now.assembly in
     let so_far = c.loop-pc.invariant.0 p here kept at in
     let same = ap homes_of c.loop-pc.invariant.5 in
     let entered = c.in_ok-state.ensures.passes homes p here kept at (before_end c.code-size.result.now here.code c.loop-pc.pc code c.loop-pc-test.true) in
-    ends_by homes (framed_plan p) c.args.procedure here pass_start _ _ c.args.looks.now c.loop-pc.looks c.judge_at.new.looks so_far.0
-    (ends_by homes (framed_plan p) c.args.procedure here _ _ _ c.loop-pc.looks c.loop-pc.looks c.judge_at.new.looks
-    (on_by_none homes (framed_plan p) c.args.procedure here _ _ c.loop-pc.looks entered)
-    (stopped_like (framed_plan p) c.args.procedure here _ _ c.loop-pc.looks c.judge_at.new.looks _ _ same (c.in_err-after.ensures.passes p here kept at)))))
+    ends_by homes (framed_plan p) c.args.procedure.number here pass_start _ _ c.args.looks.now c.loop-pc.looks c.judge_at.new.looks so_far.0
+    (ends_by homes (framed_plan p) c.args.procedure.number here _ _ _ c.loop-pc.looks c.loop-pc.looks c.judge_at.new.looks
+    (on_by_none homes (framed_plan p) c.args.procedure.number here _ _ c.loop-pc.looks entered)
+    (stopped_like (framed_plan p) c.args.procedure.number here _ _ c.loop-pc.looks c.judge_at.new.looks _ _ same (c.in_err-after.ensures.passes p here kept at)))))
 
 pub loop-pc-preserved : goal.loop-pc-preserved
 loop-pc-preserved g c = (
-  (λ p here kept at. (let code = code_read c.args.container.now c.args.procedure c.code-size.result.now c.code-size.ensures.plan p here kept at in
+  (λ p here kept at. (let code = code_read c.args.procedure.container.now c.args.procedure.number c.code-size.result.now c.code-size.ensures.plan p here kept at in
       let homes = homes_of c.args.looks.now.assembly in
       let so_far = c.loop-pc.invariant.0 p here kept at in
       let same = ap homes_of c.loop-pc.invariant.5 in
       let entered = c.in_ok-state.ensures.passes homes p here kept at (before_end c.code-size.result.now here.code c.loop-pc.pc code c.loop-pc-test.true) in (
-        goes_by homes (framed_plan p) c.args.procedure here pass_start _ _ c.args.looks.now c.loop-pc.looks c.judge_at.new.looks so_far.0
-            (goes_by homes (framed_plan p) c.args.procedure here _ _ _ c.loop-pc.looks c.loop-pc.looks c.judge_at.new.looks
-            (on_by_none homes (framed_plan p) c.args.procedure here _ _ c.loop-pc.looks entered)
-            (went_like (framed_plan p) c.args.procedure here _ _ c.loop-pc.looks c.judge_at.new.looks _ _ same (c.in_ok-after.ensures.passes p here kept at))),
+        goes_by homes (framed_plan p) c.args.procedure.number here pass_start _ _ c.args.looks.now c.loop-pc.looks c.judge_at.new.looks so_far.0
+            (goes_by homes (framed_plan p) c.args.procedure.number here _ _ _ c.loop-pc.looks c.loop-pc.looks c.judge_at.new.looks
+            (on_by_none homes (framed_plan p) c.args.procedure.number here _ _ c.loop-pc.looks entered)
+            (went_like (framed_plan p) c.args.procedure.number here _ _ c.loop-pc.looks c.judge_at.new.looks _ _ same (c.in_ok-after.ensures.passes p here kept at))),
         c.in_ok-after.ensures.within p here kept at,
       ))),
   omega (arith, c.in_ok-after.ensures.after),
@@ -99,30 +101,30 @@ loop-pc-preserved g c = (
 
 pub returns-in-None-clause-passed : goal.returns-in-None-clause-passed
 returns-in-None-clause-passed g c = λ p here kept at.
-    (let code = code_read c.args.container.now c.args.procedure c.code-size.result.now c.code-size.ensures.plan p here kept at in
+    (let code = code_read c.args.procedure.container.now c.args.procedure.number c.code-size.result.now c.code-size.ensures.plan p here kept at in
     let homes = homes_of c.args.looks.now.assembly in
     let so_far = c.loop-pc.invariant.0 p here kept at in
-    ends_by homes (framed_plan p) c.args.procedure here pass_start _ _ c.args.looks.now c.loop-pc.looks c.loop-pc.looks so_far.0
-    (by_none homes (framed_plan p) c.args.procedure here _ _ c.loop-pc.looks
-    (well_ended homes (framed_plan p) c.args.procedure here c.loop-pc.last c.loop-pc.pc c.loop-pc.falling c.in-None.is
+    ends_by homes (framed_plan p) c.args.procedure.number here pass_start _ _ c.args.looks.now c.loop-pc.looks c.loop-pc.looks so_far.0
+    (by_none homes (framed_plan p) c.args.procedure.number here _ _ c.loop-pc.looks
+    (well_ended homes (framed_plan p) c.args.procedure.number here c.loop-pc.last c.loop-pc.pc c.loop-pc.falling c.in-None.is
     (at_end c.code-size.result.now here.code c.loop-pc.pc code (omega (arith, c.loop-pc-test.false)) so_far.1))))
 
 pub returns-in-Some-clause-passed : goal.returns-in-Some-clause-passed
 returns-in-Some-clause-passed g c = λ p here kept at.
-    (let code = code_read c.args.container.now c.args.procedure c.code-size.result.now c.code-size.ensures.plan p here kept at in
+    (let code = code_read c.args.procedure.container.now c.args.procedure.number c.code-size.result.now c.code-size.ensures.plan p here kept at in
     let homes = homes_of c.args.looks.now.assembly in
     let so_far = c.loop-pc.invariant.0 p here kept at in
-    ends_by homes (framed_plan p) c.args.procedure here pass_start _ _ c.args.looks.now c.loop-pc.looks c.loop-pc.looks so_far.0
-    (by_none homes (framed_plan p) c.args.procedure here _ _ c.loop-pc.looks
-    (fallen_off homes (framed_plan p) c.args.procedure here c.loop-pc.last c.loop-pc.pc c.loop-pc.falling c.in-Some.field-0 c.plain.result c.in-Some.is
-    (at_end c.code-size.result.now here.code c.loop-pc.pc code (omega (arith, c.loop-pc-test.false)) so_far.1) c.plain.ensures)))
+    ends_by homes (framed_plan p) c.args.procedure.number here pass_start _ _ c.args.looks.now c.loop-pc.looks c.loop-pc.looks so_far.0
+    (by_none homes (framed_plan p) c.args.procedure.number here _ _ c.loop-pc.looks
+    (fallen_off homes (framed_plan p) c.args.procedure.number here c.loop-pc.last c.loop-pc.pc c.loop-pc.falling c.in-Some.field-0 c.plain.result c.in-Some.is
+    (at_end c.code-size.result.now here.code c.loop-pc.pc code (omega (arith, c.loop-pc-test.false)) so_far.1) (c.plain.ensures ∙ ap (λ (k : ℕ). plain_refusal k c.loop-pc.last rules.V5) c.number.ensures.number))))
 
 pub returns-in-None-clause-few : goal.returns-in-None-clause-few
 returns-in-None-clause-few g c =
     let here = c.requires.framed.1 in
     let kept = c.requires.framed.2 in
     let at = c.requires.framed.3 in
-    let code = code_read c.args.container.now c.args.procedure c.code-size.result.now c.code-size.ensures.plan c.requires.framed.0 here kept at in
+    let code = code_read c.args.procedure.container.now c.args.procedure.number c.code-size.result.now c.code-size.ensures.plan c.requires.framed.0 here kept at in
     let within = (c.loop-pc.invariant.0 c.requires.framed.0 here kept at).1 in
     let short = c.code-size.ensures.short in
     let few = c.loop-pc.invariant.4 in
@@ -133,7 +135,7 @@ returns-in-Some-clause-few g c =
     let here = c.requires.framed.1 in
     let kept = c.requires.framed.2 in
     let at = c.requires.framed.3 in
-    let code = code_read c.args.container.now c.args.procedure c.code-size.result.now c.code-size.ensures.plan c.requires.framed.0 here kept at in
+    let code = code_read c.args.procedure.container.now c.args.procedure.number c.code-size.result.now c.code-size.ensures.plan c.requires.framed.0 here kept at in
     let within = (c.loop-pc.invariant.0 c.requires.framed.0 here kept at).1 in
     let short = c.code-size.ensures.short in
     let few = c.loop-pc.invariant.4 in

@@ -10,8 +10,8 @@ use Rattle.burr_verify.proofs.passing.judge_code.Given as goal
 
 abbrev pub invariant-loop-pc : goal.invariant-loop-pc
 invariant-loop-pc g l =
-    OfFramedProcedure l.container l.procedure (λ plan here.
-    HasCounted (LooksOn (homes_of l.initial.looks.assembly) plan l.procedure here pass_start (BeforeInstruction l.last l.pc l.falling))
+    OfFramedProcedure l.procedure (λ plan here.
+    HasCounted (LooksOn (homes_of l.initial.looks.assembly) plan l.procedure.number here pass_start (BeforeInstruction l.last l.pc l.falling))
     l.initial.looks l.looks
     × (l.pc ≤ length here.code))
     × (l.last ≤ l.pc) × (l.last < MOST_CODE) × HasRoomBefore l.falling

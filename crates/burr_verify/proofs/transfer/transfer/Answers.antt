@@ -14,7 +14,6 @@ use Rattle.burr_frames.specs.Rules.Looks.{RuleLooks}
 use Rattle.burr_frames.specs.Rules.Transfer.{Transfer}
 use Rattle.burr_frames.specs.Rules.Verdicts.{Verdict}
 use Rattle.burr_verify.specs.Views.Judgements.{verdict_of}
-use Rattle.burr_frames.proofs.Common.Heres.{procedure_here, parameters_here}
 use Rattle.burr_verify.proofs.transfer.transfer.Goals as goal
 
 by_rule : (homes : List (List Cell)) (plan : FramedPlan) (n : ℕ) (here : FramedProcedure) (s : AbstractState) (given told : Instr) (v w : Verdict)
@@ -36,49 +35,48 @@ none_looked homes s given told looks is none = looks_like homes s given told loo
 
 pub returns-in-Add-clause-verdict : goal.returns-in-Add-clause-verdict
 returns-in-Add-clause-verdict g c p here kept at =
-    by_rule (homes_of c.args.looks.now.assembly) (framed_plan p) c.args.procedure here c.args.state.now c.args.instruction.now instr.Add (next_verdict c.add.new.self c.add.result) (verdict_of c.add.new.self c.falls_through-in-Add.result)
+    by_rule (homes_of c.args.looks.now.assembly) (framed_plan p) c.args.procedure.number here c.args.state.now c.args.instruction.now instr.Add (next_verdict c.add.new.self c.add.result) (verdict_of c.add.new.self c.falls_through-in-Add.result)
     c.in-Add.is (c.falls_through-in-Add.ensures c.add.new.self) c.add.ensures.verdict
 
 pub returns-in-Sub-clause-verdict : goal.returns-in-Sub-clause-verdict
 returns-in-Sub-clause-verdict g c p here kept at =
-    by_rule (homes_of c.args.looks.now.assembly) (framed_plan p) c.args.procedure here c.args.state.now c.args.instruction.now instr.Sub (next_verdict c.sub.new.self c.sub.result) (verdict_of c.sub.new.self c.falls_through-in-Sub.result)
+    by_rule (homes_of c.args.looks.now.assembly) (framed_plan p) c.args.procedure.number here c.args.state.now c.args.instruction.now instr.Sub (next_verdict c.sub.new.self c.sub.result) (verdict_of c.sub.new.self c.falls_through-in-Sub.result)
     c.in-Sub.is (c.falls_through-in-Sub.ensures c.sub.new.self) c.sub.ensures.verdict
 
 pub returns-in-Step-clause-verdict : goal.returns-in-Step-clause-verdict
 returns-in-Step-clause-verdict g c p here kept at =
-    by_rule (homes_of c.args.looks.now.assembly) (framed_plan p) c.args.procedure here c.args.state.now c.args.instruction.now (instr.Step c.in-Step.direction) (next_verdict c.step.new.self c.step.result) (verdict_of c.step.new.self c.falls_through-in-Step.result)
+    by_rule (homes_of c.args.looks.now.assembly) (framed_plan p) c.args.procedure.number here c.args.state.now c.args.instruction.now (instr.Step c.in-Step.direction) (next_verdict c.step.new.self c.step.result) (verdict_of c.step.new.self c.falls_through-in-Step.result)
     c.in-Step.is (c.falls_through-in-Step.ensures c.step.new.self) c.step.ensures.verdict
 
 pub returns-in-Aside-clause-verdict : goal.returns-in-Aside-clause-verdict
 returns-in-Aside-clause-verdict g c p here kept at =
-    by_rule (homes_of c.args.looks.now.assembly) (framed_plan p) c.args.procedure here c.args.state.now c.args.instruction.now (instr.Aside c.in-Aside.direction c.in-Aside.tray) (next_verdict c.aside.new.self c.aside.result) (verdict_of c.aside.new.self c.falls_through-in-Aside.result)
+    by_rule (homes_of c.args.looks.now.assembly) (framed_plan p) c.args.procedure.number here c.args.state.now c.args.instruction.now (instr.Aside c.in-Aside.direction c.in-Aside.tray) (next_verdict c.aside.new.self c.aside.result) (verdict_of c.aside.new.self c.falls_through-in-Aside.result)
     c.in-Aside.is (c.falls_through-in-Aside.ensures c.aside.new.self) c.aside.ensures.verdict
 
 pub returns-in-Jump-clause-verdict : goal.returns-in-Jump-clause-verdict
 returns-in-Jump-clause-verdict g c p here kept at =
-    by_rule (homes_of c.args.looks.now.assembly) (framed_plan p) c.args.procedure here c.args.state.now c.args.instruction.now (instr.Jump c.in-Jump.label) (last_verdict c.jump.result) (verdict_of c.args.state.now c.has_no_successor-in-Jump.result)
+    by_rule (homes_of c.args.looks.now.assembly) (framed_plan p) c.args.procedure.number here c.args.state.now c.args.instruction.now (instr.Jump c.in-Jump.label) (last_verdict c.jump.result) (verdict_of c.args.state.now c.has_no_successor-in-Jump.result)
     c.in-Jump.is (c.has_no_successor-in-Jump.ensures c.args.state.now) (c.jump.ensures p here kept at)
 
 pub returns-in-Down-clause-verdict : goal.returns-in-Down-clause-verdict
 returns-in-Down-clause-verdict g c p here kept at =
-    by_rule (homes_of c.args.looks.now.assembly) (framed_plan p) c.args.procedure here c.args.state.now c.args.instruction.now (instr.Down c.in-Down.slot c.in-Down.label) (next_verdict c.down.new.self c.down.result) (verdict_of c.down.new.self c.falls_through-in-Down.result)
+    by_rule (homes_of c.args.looks.now.assembly) (framed_plan p) c.args.procedure.number here c.args.state.now c.args.instruction.now (instr.Down c.in-Down.slot c.in-Down.label) (next_verdict c.down.new.self c.down.result) (verdict_of c.down.new.self c.falls_through-in-Down.result)
     c.in-Down.is (c.falls_through-in-Down.ensures c.down.new.self) (c.down.ensures.verdict p here kept at)
 
 pub returns-in-Call-clause-verdict : goal.returns-in-Call-clause-verdict
 returns-in-Call-clause-verdict g c p here kept at =
-    by_rule (homes_of c.args.looks.now.assembly) (framed_plan p) c.args.procedure here c.args.state.now c.args.instruction.now (instr.Call c.in-Call.callee) (next_verdict c.call.new.self c.call.result) (verdict_of c.call.new.self c.falls_through-in-Call.result)
+    by_rule (homes_of c.args.looks.now.assembly) (framed_plan p) c.args.procedure.number here c.args.state.now c.args.instruction.now (instr.Call c.in-Call.callee) (next_verdict c.call.new.self c.call.result) (verdict_of c.call.new.self c.falls_through-in-Call.result)
     c.in-Call.is (c.falls_through-in-Call.ensures c.call.new.self) (c.call.ensures.verdict p here kept at)
 
 pub returns-in-Ret-clause-verdict : goal.returns-in-Ret-clause-verdict
 returns-in-Ret-clause-verdict g c p here kept at =
-    by_rule (homes_of c.args.looks.now.assembly) (framed_plan p) c.args.procedure here c.args.state.now c.args.instruction.now instr.Ret (last_verdict c.ret.result) (verdict_of c.args.state.now c.has_no_successor-in-Ret.result)
+    by_rule (homes_of c.args.looks.now.assembly) (framed_plan p) c.args.procedure.number here c.args.state.now c.args.instruction.now instr.Ret (last_verdict c.ret.result) (verdict_of c.args.state.now c.has_no_successor-in-Ret.result)
     c.in-Ret.is (c.has_no_successor-in-Ret.ensures c.args.state.now) (c.ret.ensures p here kept at)
 
 pub returns-in-Store-clause-verdict : goal.returns-in-Store-clause-verdict
 returns-in-Store-clause-verdict g c p here kept at =
-    let found = procedure_here p c.args.procedure here at in
-    by_rule (homes_of c.args.looks.now.assembly) (framed_plan p) c.args.procedure here c.args.state.now c.args.instruction.now (instr.Store c.in-Store.slot) (next_verdict c.store.new.self c.store.result) (verdict_of c.store.new.self c.falls_through-in-Store.result)
-    c.in-Store.is (c.falls_through-in-Store.ensures c.store.new.self) (c.store.ensures.verdict here (parameters_here found.0 here c.params.result found.2 (c.params.ensures.plan p found.0 kept found.1)))
+    by_rule (homes_of c.args.looks.now.assembly) (framed_plan p) c.args.procedure.number here c.args.state.now c.args.instruction.now (instr.Store c.in-Store.slot) (next_verdict c.store.new.self c.store.result) (verdict_of c.store.new.self c.falls_through-in-Store.result)
+    c.in-Store.is (c.falls_through-in-Store.ensures c.store.new.self) (c.store.ensures.verdict p here kept at)
 
 pub returns-in-Halt-clause-counted : goal.returns-in-Halt-clause-counted
 returns-in-Halt-clause-counted g c = none_looked (homes_of c.args.looks.now.assembly) c.args.state.now c.args.instruction.now instr.Halt c.args.looks.now c.in-Halt.is refl

@@ -6,7 +6,8 @@ use Rattle.burr_state.specs.Rules.Space.{motion_of}
 use Rattle.burr_state.specs.Views.StateViews.{gone_aside}
 use Rattle.burr_state.specs.Views.Benches.{Benched, benched, setup_of}
 use Rattle.burr_text.proofs.Common.Tests.{yes_of, no_of}
-use Rattle.burr_state.proofs.Common.Stepping.Steps.{aside_in_use, aside_not_free, aside_goes, goes_on_aside, sound_aside}
+use Rattle.burr_state.proofs.Common.Stepping.Steps.{aside_in_use, aside_not_free, aside_goes}
+use Rattle.burr_bench.proofs.Stepping.Sound.{goes_on_aside, sound_aside}
 use Rattle.burr_bench.proofs.Stepping.Ways.{as_many_homes, free_of_passing, passing_of_free}
 use Rattle.burr_bench.proofs.checked.Checked.aside.Goals as goal
 

@@ -8,7 +8,7 @@ use Rattle.burr_state.specs.declared.trap.Trap.{Trap}
 use Rattle.burr_state.specs.Views.Effects.{KeepsUnlessGoes}
 use Rattle.burr_state.specs.Views.Work.{Work}
 use Rattle.burr_state.specs.Views.Benches.{benched}
-use Rattle.burr_state.proofs.Common.Stepping.Steps.{goes_on_plain, sound_staying}
+use Rattle.burr_bench.proofs.Stepping.Sound.{goes_on_plain, sound_staying}
 use Rattle.burr_bench.proofs.checked.Checked.carry_out.Goals as goal
 
 -- where a program at work is kept, the bench is

@@ -1,5 +1,5 @@
 use Rattle.std.proofs.Common.{refl}
-use Rattle.burr_state.proofs.Common.Stepping.Steps.{sound_still}
+use Rattle.burr_bench.proofs.Stepping.Sound.{sound_still}
 use Rattle.burr_bench.proofs.checked.Checked.go_on.Goals as goal
 
 pub invariant_of-self : goal.invariant_of-self

@@ -7,7 +7,8 @@ use Rattle.burr_state.specs.Views.Benches.{Benched, benched, setup_of}
 use Rattle.burr_bench.specs.BenchViews.{GripPasses}
 use Rattle.burr_bench.specs.declared.checked.way.Way.TheVariants.{Unit}
 use Rattle.burr_text.proofs.Common.Tests.{yes_of, no_of}
-use Rattle.burr_state.proofs.Common.Stepping.Steps.{step_off_bench, step_collides, step_goes, goes_on_unit, sound_unit}
+use Rattle.burr_state.proofs.Common.Stepping.Steps.{step_off_bench, step_collides, step_goes}
+use Rattle.burr_bench.proofs.Stepping.Sound.{goes_on_unit, sound_unit}
 use Rattle.burr_bench.proofs.Stepping.Ways.{as_many_homes, no_overlap_of_passing, passing_of_no_overlap}
 use Rattle.burr_bench.proofs.checked.Checked.move_grip.Goals as goal
 

@@ -1,6 +1,6 @@
 use Rattle.std.proofs.Common.{◌∙◌, refl, length}
 use Rattle.burr_voxels.specs.Grid.{origin}
-use Rattle.burr_state.proofs.Common.Stepping.Steps.{start_parts, is_start, sound_start}
+use Rattle.burr_bench.proofs.Stepping.Sound.{start_parts, is_start, sound_start}
 use Rattle.burr_bench.proofs.checked.Checked.of.Goals as goal
 
 pub invariant_of-result : goal.invariant_of-result

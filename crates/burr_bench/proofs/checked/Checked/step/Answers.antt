@@ -3,7 +3,7 @@ use Rattle.burr_state.specs.declared.mode.Mode.{Mode}
 use Rattle.burr_state.specs.declared.mode.Mode.TheVariants.{Running}
 use Rattle.burr_state.specs.Rules.Step.{CallIn, Called}
 use Rattle.burr_state.specs.Views.Benches.{setup_of}
-use Rattle.burr_state.proofs.Common.Stepping.Steps.{goes_on_still}
+use Rattle.burr_bench.proofs.Stepping.Sound.{goes_on_still}
 use Rattle.burr_bench.proofs.checked.Checked.step.Goals as goal
 
 pub returns-in-Running-Some-clause-called : goal.returns-in-Running-Some-clause-called

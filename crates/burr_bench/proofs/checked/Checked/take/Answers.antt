@@ -3,7 +3,7 @@ use Rattle.std.proofs.lemmas.Int.{to_z-of_z}
 use Rattle.burr_assembly.specs.Rules.Homes.{homes_of}
 use Rattle.burr_state.specs.Rules.Bench.{running}
 use Rattle.burr_state.specs.Views.Benches.{Benched, setup_of, Answered}
-use Rattle.burr_state.proofs.Common.Stepping.Steps.{goes_on_still}
+use Rattle.burr_bench.proofs.Stepping.Sound.{goes_on_still}
 use Rattle.burr_bench.proofs.checked.Checked.take.Goals as goal
 use Rattle.burr_bench.proofs.checked.Checked.take.Goals.{then-take, else-take}
 

@@ -1,7 +1,7 @@
 -- That of the procedure.
 use Rattle.std.proofs.Common.{sym, subst}
 use Rattle.std.specs.Prelude.{List}
-use Rattle.burr_container.specs.declared.procedure_ref.ProcedureRef.{ProcedureRef}
+use Rattle.burr_container.specs.declared.stored_procedure.StoredProcedure.{StoredProcedure}
 use Rattle.burr_container.specs.Views.InPlace.{AreFor, IsProcedure}
 use Rattle.burr_container.specs.Views.Containers.{ContainerView, IsContainer}
 use Rattle.burr_container.proofs.Kept.{for_at}
@@ -9,4 +9,4 @@ use Rattle.burr_container.proofs.container.Container.exit.Goals as goal
 
 pub returns : goal.returns
 returns c = λ p q is at. (for_at (IsProcedure p.pieces) c.deref.result.now p.procedures c.args.i q c.index-deref-i.result
-    (subst (λ (xs : List ProcedureRef). AreFor (IsProcedure p.pieces) xs p.procedures) (sym c.deref.ensures.0) (subst (λ (k : ContainerView). IsContainer k p) (sym c.self.view_is) is).procedures) at).exit
+    (subst (λ (xs : List StoredProcedure). AreFor (IsProcedure p.pieces) xs p.procedures) (sym c.deref.ensures.0) (subst (λ (k : ContainerView). IsContainer k p) (sym c.self.view_is) is).procedures) at).exit

@@ -40,8 +40,8 @@ returns c =
       },
     )
 
-pub invariant_of-result-2 : goal.invariant_of-result-2
-invariant_of-result-2 c =
+pub invariant_of-result : goal.invariant_of-result
+invariant_of-result c =
     let here = c.in_ok-procedures.ensures in
     let none : c.in_ok-procedures.end.rest.now ≡ [] =
     none_left c.in_ok-procedures.end.rest.now (eqb-true (length c.in_ok-procedures.end.rest.now) 0 (sym c.if-not-is_empty.ensures)) in

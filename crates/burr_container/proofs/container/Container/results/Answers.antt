@@ -1,7 +1,7 @@
 -- Those of the procedure.
 use Rattle.std.proofs.Common.{◌≡◌, ◌≤◌, ◌∙◌, sym, ap, subst}
 use Rattle.std.specs.Prelude.{List, slice_index_or}
-use Rattle.burr_container.specs.declared.procedure_ref.ProcedureRef.{ProcedureRef}
+use Rattle.burr_container.specs.declared.stored_procedure.StoredProcedure.{StoredProcedure}
 use Rattle.burr_container.specs.Views.InPlace.{AreFor, IsProcedure}
 use Rattle.burr_container.specs.Views.Containers.{ContainerView, IsContainer, HasPlan}
 use Rattle.burr_container.proofs.FewCounts.{few_counts}
@@ -10,12 +10,12 @@ use Rattle.burr_container.proofs.container.Container.results.Goals as goal
 
 pub returns-clause-plan : goal.returns-clause-plan
 returns-clause-plan c = λ p q is at. (for_at (IsProcedure p.pieces) c.deref.result.now p.procedures c.args.i q c.index-deref-i.result
-    (subst (λ (xs : List ProcedureRef). AreFor (IsProcedure p.pieces) xs p.procedures) (sym c.deref.ensures.0) (subst (λ (k : ContainerView). IsContainer k p) (sym c.self.view_is) is).procedures) at).results
+    (subst (λ (xs : List StoredProcedure). AreFor (IsProcedure p.pieces) xs p.procedures) (sym c.deref.ensures.0) (subst (λ (k : ContainerView). IsContainer k p) (sym c.self.view_is) is).procedures) at).results
 
 pub returns-clause-few : goal.returns-clause-few
 returns-clause-few c =
     let i = c.args.i in
     let there : c.deref.result.now ≡ c.args.self.now.procedures =
     c.deref.ensures.0 ∙ ap (λ (k : ContainerView). k.procedures) c.self.view_is in
-    subst (λ (xs : List ProcedureRef). (slice_index_or xs i c.index-deref-i.result).results ≤ 2) (sym there)
+    subst (λ (xs : List StoredProcedure). (slice_index_or xs i c.index-deref-i.result).results ≤ 2) (sym there)
     (few_counts c.args.self.now i c.index-deref-i.result (subst HasPlan c.self.view_is c.self.invariant) c.requires).results

@@ -20,7 +20,7 @@ pub returns : goal.returns
 returns c =
     let labels = c.in_ok-labels.ensures in (
       (labels.0, c.in_ok-code.code.now),
-      record { labels = labels.1.labels; code = refl },
+      record { of_plan = labels.1.of_plan; labels = labels.1.labels; code = refl },
       body_at c.args.pieces c.args.cursor c.in_ok-labels.after_labels labels.0 c.in_ok-labels.last labels.1.last labels.2 c.in_ok-code.next
           c.in_ok-code.code.now c.in_ok-code.ensures,
     )

@@ -1,6 +1,7 @@
 -- A label is read each turn.
-use Rattle.std.proofs.Common.{arith}
+use Rattle.std.proofs.Common.{arith, refl}
 use Rattle.std.proofs.lemmas.Result.{err_from_is_err_and}
+use Rattle.burr_container.proofs.Kept.{all_readable}
 use Rattle.burr_container.proofs.LabelsWalk.{labels_go_on, labels_fail_on, labels_end, labels_at, labels_fail_at}
 use Rattle.burr_container.proofs.reading.parts.labels.Goals as goal
 
@@ -26,7 +27,14 @@ returns c =
     labels_end c.args.pieces c.in_ok-count.count c.in_ok-count.after_count c.loop.counter c.loop.starts.items c.loop.last c.loop.cursor (omega arith)
     c.loop.invariant in (
       all.0,
-      record { labels = all.2; last = all.3 },
+      record { of_plan = refl; labels = all.2; last = all.3 },
       labels_at c.args.pieces c.in_ok-count.count c.args.cursor c.in_ok-count.after_count c.loop.cursor all.0 c.in_ok-count.ensures all.1
           c.loop.invariant.after,
     )
+
+pub invariant_of-result-clause-readable : goal.invariant_of-result-clause-readable
+invariant_of-result-clause-readable c =
+    let all =
+    labels_end c.args.pieces c.in_ok-count.count c.in_ok-count.after_count c.loop.counter c.loop.starts.items c.loop.last c.loop.cursor (omega arith)
+    c.loop.invariant in
+    all_readable c.args.pieces c.requires c.loop.starts.items all.0 all.2

@@ -22,7 +22,7 @@ pub returns : goal.returns
 returns c =
     let body = c.in_ok-labels.ensures in (
       _,
-      record { parameters = refl; results = refl; exit = tt; labels = body.1.labels; code = body.1.code },
+      record { parameters = refl; results = refl; exit = tt; of_plan = body.1.of_plan; labels = body.1.labels; code = body.1.code },
       main_at c.args.version c.args.pieces c.in_ok-parameters.parameters c.in_ok-results.results c.args.cursor c.in_ok-parameters.after_parameters
           c.in_ok-results.after_results c.in_ok-parameters.ensures c.in_ok-results.ensures.reads body.0.0 body.0.1 c.in_ok-labels.next body.2,
     )

@@ -7,6 +7,6 @@ use Rattle.burr_frames.proofs.state.State.arrives_at_all.Given as goal
 
 -- however it goes on from here, so it goes for all
 abbrev pub invariant-loop-number : goal.invariant-loop-number
-invariant-loop-number l = OfFramedProcedure l.container l.procedure (λ plan here.
+invariant-loop-number l = OfFramedProcedure l.procedure (λ plan here.
     (to : List (ℕ × Frame)) → labelled here.labels l.labels ≡ Some to → (verdict : Verdict)
     → arriving_at_all l.self (drop l.number to) no_successor verdict → arriving_at_all l.self to no_successor verdict)

@@ -2,7 +2,8 @@
 use Rattle.std.proofs.Common.{◌≡◌, ◌∙◌, List, ap, subst, inr}
 use Rattle.std.proofs.lemmas.Result.{err_from_is_err_and}
 use Rattle.burr_text.proofs.Common.Tests.{yes_of, no_of}
-use Rattle.burr_code.specs.Places.{Placement, aside_places}
+use Rattle.burr_code.specs.declared.placement.Placement.{Placement}
+use Rattle.burr_code.specs.Places.{aside_places}
 use Rattle.burr_assembly.specs.Rules.Homes.{homes_of}
 use Rattle.burr_blocking.specs.declared.query.Query.TheVariants as queries
 use Rattle.burr_container.specs.Rules.Plans.{FormCell}

@@ -10,7 +10,7 @@ use Rattle.burr_frames.specs.Rules.Verdicts.{Verdict, Breaks, meeting}
 use Rattle.burr_frames.specs.Views.Breaks.{broken_of, next_verdict}
 use Rattle.burr_frames.specs.Rules.ControlRules.{called_with, calling}
 use Rattle.burr_frames.proofs.CallArguments.{left_many}
-use Rattle.burr_frames.proofs.CallMeetings.{meeting_on, meeting_breaks}
+use Rattle.burr_frames.proofs.Meetings.{meeting_on, meeting_breaks}
 use Rattle.burr_frames.proofs.CallVerdicts.{PaysCall, calling_on}
 use Rattle.burr_frames.proofs.state.State.calls.Goals as goal
 
@@ -64,8 +64,7 @@ returns-clause-verdict c =
     subst (λ (n : ℕ). calling s n (length exit.results) entry exit v) c.from-count.ensures
     (calling_on s count entry exit arguments v room c.in-Some.ensures.operands.1 c.in-Some.ensures.operands.0
     (subst (λ (b : AbstractState). meeting b entry rules.V20 (λ live. PaysCall s arguments exit (substituted live entry.cost)) v) called
-    (meeting_on c.called_with.result entry rules.V20 (λ live. PaysCall s arguments exit (substituted live entry.cost)) c.in-Ok.live.items v c.in-Ok.ensures.0
-    c.in-Ok.ensures.1 paid)))
+    (meeting_on c.called_with.result entry rules.V20 (λ live. PaysCall s arguments exit (substituted live entry.cost)) c.in-Ok.live.items v c.in-Ok.ensures.0 paid)))
 
 pub returns-then-len-count-gt-MOST_OPERANDS-clause-verdict : goal.returns-then-len-count-gt-MOST_OPERANDS-clause-verdict
 returns-then-len-count-gt-MOST_OPERANDS-clause-verdict c =

@@ -9,7 +9,7 @@ use Rattle.burr_frames.specs.Rules.Verdicts.{Breaks, FallsThrough, NoSuccessor, 
 use Rattle.burr_frames.specs.Views.Breaks.{broken_of}
 use Rattle.burr_frames.specs.Rules.ControlRules.{counted_down, counted_out, guarded}
 use Rattle.burr_frames.specs.Views.Changes.{at_cost}
-use Rattle.burr_frames.proofs.Common.Heres.{procedure_here, parameters_here}
+use Rattle.burr_frames.proofs.Common.Heres.{parameters_read}
 use Rattle.burr_frames.proofs.Paying.{paying_on, paying_breaks}
 use Rattle.burr_frames.proofs.Arrivals.{arriving_on, arriving_breaks}
 use Rattle.burr_frames.proofs.Counters.{IsCounting, branches, counting_on, counted_on}
@@ -18,8 +18,7 @@ use Rattle.burr_frames.proofs.state.State.down.Goals as goal
 pub returns-then-v-params-clause-verdict : goal.returns-then-v-params-clause-verdict
 returns-then-v-params-clause-verdict c = λ p here is e.
     let found = c.in-Some.ensures p here is e in
-    let q = procedure_here p c.args.procedure here e in
-    let parameters : here.parameters ≡ c.params.result = parameters_here q.0 here c.params.result q.2 (c.params.ensures.plan p q.0 is q.1) in
+    let parameters : here.parameters ≡ c.params.result = parameters_read c.args.procedure c.params.result c.params.ensures.plan p here is e in
     inr (
       (found.0, framed (frame_of c.in-Some.frame)),
       found.1,
@@ -29,8 +28,7 @@ returns-then-v-params-clause-verdict c = λ p here is e.
 pub returns-in_default-form_in-clause-verdict : goal.returns-in_default-form_in-clause-verdict
 returns-in_default-form_in-clause-verdict c = λ p here is e.
     let found = c.in-Some.ensures p here is e in
-    let q = procedure_here p c.args.procedure here e in
-    let parameters : here.parameters ≡ c.params.result = parameters_here q.0 here c.params.result q.2 (c.params.ensures.plan p q.0 is q.1) in
+    let parameters : here.parameters ≡ c.params.result = parameters_read c.args.procedure c.params.result c.params.ensures.plan p here is e in
     inr (
       (found.0, framed (frame_of c.in-Some.frame)),
       found.1,
@@ -40,8 +38,7 @@ returns-in_default-form_in-clause-verdict c = λ p here is e.
 pub returns-in_default-raised_by-clause-verdict : goal.returns-in_default-raised_by-clause-verdict
 returns-in_default-raised_by-clause-verdict c = λ p here is e.
     let found = c.in-Some.ensures p here is e in
-    let q = procedure_here p c.args.procedure here e in
-    let parameters : here.parameters ≡ c.params.result = parameters_here q.0 here c.params.result q.2 (c.params.ensures.plan p q.0 is q.1) in
+    let parameters : here.parameters ≡ c.params.result = parameters_read c.args.procedure c.params.result c.params.ensures.plan p here is e in
     let to = framed (frame_of c.in-Some.frame) in
     let counts : IsCounting here c.args.self.now c.args.v c.args.label found.0 to c.in-Some-form_in.count =
     record { found = found.1; no_parameter = omega (arith, parameters, c.if-v-params.false); slot = c.in-Some-form_in.ensures.slot } in
@@ -52,8 +49,7 @@ returns-in_default-raised_by-clause-verdict c = λ p here is e.
 pub returns-in_err-never_negative-clause-verdict : goal.returns-in_err-never_negative-clause-verdict
 returns-in_err-never_negative-clause-verdict c = λ p here is e.
     let found = c.in-Some.ensures p here is e in
-    let q = procedure_here p c.args.procedure here e in
-    let parameters : here.parameters ≡ c.params.result = parameters_here q.0 here c.params.result q.2 (c.params.ensures.plan p q.0 is q.1) in
+    let parameters : here.parameters ≡ c.params.result = parameters_read c.args.procedure c.params.result c.params.ensures.plan p here is e in
     let to = framed (frame_of c.in-Some.frame) in
     let counts : IsCounting here c.args.self.now c.args.v c.args.label found.0 to c.in-Some-form_in.count =
     record { found = found.1; no_parameter = omega (arith, parameters, c.if-v-params.false); slot = c.in-Some-form_in.ensures.slot } in
@@ -67,8 +63,7 @@ returns-in_err-never_negative-clause-verdict c = λ p here is e.
 pub returns-then-guards_are_full-clause-verdict : goal.returns-then-guards_are_full-clause-verdict
 returns-then-guards_are_full-clause-verdict c = λ p here is e.
     let found = c.in-Some.ensures p here is e in
-    let q = procedure_here p c.args.procedure here e in
-    let parameters : here.parameters ≡ c.params.result = parameters_here q.0 here c.params.result q.2 (c.params.ensures.plan p q.0 is q.1) in
+    let parameters : here.parameters ≡ c.params.result = parameters_read c.args.procedure c.params.result c.params.ensures.plan p here is e in
     let to = framed (frame_of c.in-Some.frame) in
     let counts : IsCounting here c.args.self.now c.args.v c.args.label found.0 to c.in-Some-form_in.count =
     record { found = found.1; no_parameter = omega (arith, parameters, c.if-v-params.false); slot = c.in-Some-form_in.ensures.slot } in
@@ -88,8 +83,7 @@ returns-in_err-cost-clause-verdict c = λ p here is e.
     let v = c.args.v in
     let count = c.in-Some-form_in.count in
     let found = c.in-Some.ensures p here is e in
-    let q = procedure_here p c.args.procedure here e in
-    let parameters : here.parameters ≡ c.params.result = parameters_here q.0 here c.params.result q.2 (c.params.ensures.plan p q.0 is q.1) in
+    let parameters : here.parameters ≡ c.params.result = parameters_read c.args.procedure c.params.result c.params.ensures.plan p here is e in
     let to = framed (frame_of c.in-Some.frame) in
     let counts : IsCounting here s v c.args.label found.0 to count =
     record { found = found.1; no_parameter = omega (arith, parameters, c.if-v-params.false); slot = c.in-Some-form_in.ensures.slot } in
@@ -107,8 +101,7 @@ returns-in_err-arrives_or_breaks-clause-verdict c = λ p here is e.
     let count = c.in-Some-form_in.count in
     let cost = c.in_ok-cost.cost in
     let found = c.in-Some.ensures p here is e in
-    let q = procedure_here p c.args.procedure here e in
-    let parameters : here.parameters ≡ c.params.result = parameters_here q.0 here c.params.result q.2 (c.params.ensures.plan p q.0 is q.1) in
+    let parameters : here.parameters ≡ c.params.result = parameters_read c.args.procedure c.params.result c.params.ensures.plan p here is e in
     let to = framed (frame_of c.in-Some.frame) in
     let counts : IsCounting here s v c.args.label found.0 to count =
     record { found = found.1; no_parameter = omega (arith, parameters, c.if-v-params.false); slot = c.in-Some-form_in.ensures.slot } in
@@ -128,8 +121,7 @@ returns-clause-verdict c = λ p here is e.
     let count = c.in-Some-form_in.count in
     let cost = c.in_ok-cost.cost in
     let found = c.in-Some.ensures p here is e in
-    let q = procedure_here p c.args.procedure here e in
-    let parameters : here.parameters ≡ c.params.result = parameters_here q.0 here c.params.result q.2 (c.params.ensures.plan p q.0 is q.1) in
+    let parameters : here.parameters ≡ c.params.result = parameters_read c.args.procedure c.params.result c.params.ensures.plan p here is e in
     let to = framed (frame_of c.in-Some.frame) in
     let counts : IsCounting here s v c.args.label found.0 to count =
     record { found = found.1; no_parameter = omega (arith, parameters, c.if-v-params.false); slot = c.in-Some-form_in.ensures.slot } in

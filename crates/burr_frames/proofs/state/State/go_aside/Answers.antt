@@ -1,6 +1,7 @@
 -- The places are written back whole.
 use Rattle.std.proofs.Common.{◌∙◌, ap, sym, subst, List}
-use Rattle.burr_code.specs.Places.{Placement, aside_places}
+use Rattle.burr_code.specs.declared.placement.Placement.{Placement}
+use Rattle.burr_code.specs.Places.{aside_places}
 use Rattle.burr_container.specs.Rules.Plans.{FormCell}
 use Rattle.burr_frames.specs.Rules.States.{AbstractState}
 use Rattle.burr_frames.specs.Views.StateViews.{abstract_state}

@@ -4,7 +4,8 @@ use Rattle.std.specs.Prelude.{slice_get}
 use Rattle.std.proofs.lemmas.Bool.Decides.{nat_tests}
 use Rattle.std.proofs.lemmas.Option.{slice_get_read}
 use Rattle.burr_text.proofs.Common.Tests.{no_iff}
-use Rattle.burr_code.specs.Places.{Placement, LiesIn}
+use Rattle.burr_code.specs.declared.placement.Placement.{Placement}
+use Rattle.burr_code.specs.Places.{LiesIn}
 use Rattle.burr_container.specs.Rules.Plans.{FormCell}
 use Rattle.burr_frames.specs.Rules.States.{AbstractState}
 use Rattle.burr_frames.proofs.PlaceTests.{lies_by_test, lies_nowhere}

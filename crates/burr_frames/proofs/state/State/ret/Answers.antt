@@ -21,7 +21,7 @@ results_of exit = length exit.results
 pub returns-in_default : goal.returns-in_default
 returns-in_default c =
     λ p here is at.
-    let found = framed_at p.procedures c.args.procedure here at in
+    let found = framed_at p.procedures c.args.procedure.number here at in
     let q = found.procedure in
     subst (λ (h : FramedProcedure). ret_rule h c.args.self.now (Breaks (broken_of c.plain.result))) found.is
     (inl (no_exit p.pieces q.parameters q.results q.exit (c.in_default.ensures p q is found.at), ap Breaks c.plain.ensures))
@@ -29,7 +29,7 @@ returns-in_default c =
 pub returns-in_default-first_forms : goal.returns-in_default-first_forms
 returns-in_default-first_forms c =
     λ p here is at.
-    let found = framed_at p.procedures c.args.procedure here at in
+    let found = framed_at p.procedures c.args.procedure.number here at in
     let q = found.procedure in
     let s = c.args.self.now in
     let kept = c.in-Some.exit in
@@ -44,7 +44,7 @@ returns-in_default-first_forms c =
 pub returns-in_default-top_many : goal.returns-in_default-top_many
 returns-in_default-top_many c =
     λ p here is at.
-    let found = framed_at p.procedures c.args.procedure here at in
+    let found = framed_at p.procedures c.args.procedure.number here at in
     let q = found.procedure in
     let s = c.args.self.now in
     let kept = c.in-Some.exit in
@@ -63,7 +63,7 @@ returns-in_default-top_many c =
 pub returns-in_err-paid : goal.returns-in_err-paid
 returns-in_err-paid c =
     λ p here is at.
-    let found = framed_at p.procedures c.args.procedure here at in
+    let found = framed_at p.procedures c.args.procedure.number here at in
     let q = found.procedure in
     let s = c.args.self.now in
     let kept = c.in-Some.exit in
@@ -86,7 +86,7 @@ returns-in_err-paid c =
 pub returns-in-Ok : goal.returns-in-Ok
 returns-in-Ok c =
     λ p here is at.
-    let found = framed_at p.procedures c.args.procedure here at in
+    let found = framed_at p.procedures c.args.procedure.number here at in
     let q = found.procedure in
     let s = c.args.self.now in
     let kept = c.in-Some.exit in
@@ -111,7 +111,7 @@ returns-in-Ok c =
 pub returns-in-Err : goal.returns-in-Err
 returns-in-Err c =
     λ p here is at.
-    let found = framed_at p.procedures c.args.procedure here at in
+    let found = framed_at p.procedures c.args.procedure.number here at in
     let q = found.procedure in
     let s = c.args.self.now in
     let kept = c.in-Some.exit in

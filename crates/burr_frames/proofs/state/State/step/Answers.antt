@@ -1,7 +1,7 @@
 -- A piece off the bench or in another's way, a step that can't be paid for, and one that is made.
 use Rattle.std.proofs.Common.{rules, ◌≡◌, ◌≢◌, ◌∙◌, List, ap, sym, subst, inr}
 use Rattle.std.proofs.lemmas.Result.{err_from_is_err_and}
-use Rattle.burr_code.specs.Places.{Placement}
+use Rattle.burr_code.specs.declared.placement.Placement.{Placement}
 use Rattle.burr_assembly.specs.Rules.Homes.{homes_of}
 use Rattle.burr_blocking.specs.declared.query.Query.TheVariants as queries
 use Rattle.burr_container.specs.Rules.Plans.{FormCell}

@@ -1,7 +1,7 @@
 -- One more is read; at the end all are.
 use Rattle.std.proofs.Common.{◌≡◌, ◌+◌, arith, sym, subst, ap, ◌∙◌, [], ◌∷◌, ◌++◌}
 use Rattle.std.proofs.lemmas.List.{length-map}
-use Rattle.burr_code.specs.Places.{Placement}
+use Rattle.burr_code.specs.declared.placement.Placement.{Placement}
 use Rattle.burr_container.specs.Rules.Plans.{FormCell, place_over_symbols}
 use Rattle.burr_container.specs.Views.Refs.{exit_frame_of, placement_view}
 use Rattle.burr_frames.specs.Views.Exits.{framed_ref}

@@ -2,7 +2,8 @@
 use Rattle.std.proofs.Common.{ap, sym, subst, [], ◌∷◌, length, arith}
 use Rattle.std.proofs.lemmas.List.{length_push}
 use Rattle.std.proofs.lemmas.Result.{err_from_is_err_and}
-use Rattle.burr_code.specs.Places.{Placement, at_position}
+use Rattle.burr_code.specs.declared.placement.Placement.{Placement}
+use Rattle.burr_code.specs.Places.{at_position}
 use Rattle.burr_container.specs.Rules.Plans.{FormCell}
 use Rattle.burr_frames.specs.Rules.SpaceRules.{moved, moved_forms, AllSmallPlaces}
 use Rattle.burr_frames.proofs.MovedPlaces.{small_place_at, small_append, one_changed, one_not_small}

@@ -3,7 +3,7 @@ use Rattle.std.proofs.Common.{◌≡◌, ◌∙◌, ap, sym, subst, List, [], �
 use Rattle.std.proofs.lemmas.List.{length_push}
 use Rattle.std.proofs.lemmas.Option.{slice_get_within, get_or_from_slice_get}
 use Rattle.burr_text.proofs.Common.Tests.{one_more_number}
-use Rattle.burr_code.specs.Places.{Placement}
+use Rattle.burr_code.specs.declared.placement.Placement.{Placement}
 use Rattle.burr_container.specs.Rules.Plans.{FormCell}
 use Rattle.burr_frames.specs.declared.clearing.Role.{Role}
 use Rattle.burr_frames.specs.Views.Clearing.{IsRole, role_of}

@@ -1,7 +1,8 @@
 -- One more piece at home.
 use Rattle.std.proofs.Common.{◌≡◌, ◌+◌, ℕ, zero, suc, List, [], ◌∷◌, ◌++◌, sym, subst, ap, ◌∙◌, refl, add-one}
 use Rattle.std.specs.Prelude.{replicate, Some}
-use Rattle.burr_code.specs.Places.{Placement, On}
+use Rattle.burr_code.specs.declared.placement.Placement.{Placement}
+use Rattle.burr_code.specs.declared.placement.Placement.TheVariants.{On}
 use Rattle.burr_forms.specs.Rules.Forms.{Form}
 use Rattle.burr_container.specs.Rules.Plans.{FormCell}
 use Rattle.burr_container.specs.Views.Refs.{placement_view}

@@ -1,7 +1,7 @@
 -- So many pieces lie at home so far.
 use Rattle.std.proofs.Common.{◌≡◌}
 use Rattle.std.specs.Prelude.{replicate}
-use Rattle.burr_code.specs.Places.{On}
+use Rattle.burr_code.specs.declared.placement.Placement.TheVariants.{On}
 use Rattle.burr_frames.specs.Rules.SpaceRules.{AllSmallPlaces}
 use Rattle.burr_frames.specs.Rules.Starts.{home_position}
 use Rattle.burr_frames.proofs.state.starting.home_places.Given as goal

@@ -1,5 +1,5 @@
 use Rattle.std.proofs.Common.{◌≡◌, replicate}
-use Rattle.burr_code.specs.Places.{On}
+use Rattle.burr_code.specs.declared.placement.Placement.TheVariants.{On}
 use Rattle.burr_voxels.specs.Grid.{origin}
 use Rattle.burr_state.proofs.state.BenchState.start.Given as goal
 

@@ -1,0 +1,66 @@
+//! Reading labels again, each from its first byte on.
+
+ghost use Rattle.std.specs.Prelude.{◌≡◌, ◌≤◌, ◌<◌, ℕ, List, Some, length, slice_get, true, IfOk};
+ghost use Rattle.burr_container.specs.Rules.Plans.{Frame};
+ghost use Rattle.burr_container.specs.Rules.Faults.{number, label as label_part};
+ghost use Rattle.burr_container.specs.declared.fault.ContainerFault.TheVariants.{C5 as C5_at};
+ghost use Rattle.burr_container.specs.Views.Reading.{Reads};
+ghost use Rattle.burr_container.specs.Views.Refs.{ReadsInPlace, frame_of};
+ghost use Rattle.burr_container.specs.Views.InPlace.{AreFor, IsLabel};
+
+use crate::fault::ContainerFault;
+use crate::frame_ref::FrameRef;
+use crate::label_table::LabelTable;
+use crate::reading::{Cursor, frame};
+
+impl<'a> LabelTable<'a> {
+    /// The position of label n. Its frame is not read.
+    pub fn position(&self, n: usize) -> u16
+        requires { n < length self.now.starts.items }
+        ensures { (pieces : ℕ) (ls : List (ℕ × Frame)) (l : ℕ × Frame)
+            → AreFor (IsLabel pieces) self.now.starts.items ls → slice_get ls n ≡ Some l
+            → result ≡ l.0 }
+    {
+        let Ok((position, _next)) = any_position(Cursor::new(self.starts[n])) else {
+            unreachable!();
+        };
+        position
+    }
+
+    /// The position of label n, and its frame.
+    pub fn label(&self, n: usize) -> (u16, FrameRef<'a>)
+        requires { n < length self.now.starts.items }
+        ensures places { result.1.places.count ≡ self.now.pieces }
+        ensures label { (ls : List (ℕ × Frame)) (l : ℕ × Frame)
+            → AreFor (IsLabel self.now.pieces) self.now.starts.items ls → slice_get ls n ≡ Some l
+            → (result.0 ≡ l.0) × (frame_of result.1 ≡ l.1) }
+    {
+        let Ok((label, _next)) = label(self.pieces, Cursor::new(self.starts[n])) else {
+            unreachable!();
+        };
+        label
+    }
+}
+
+/// A position, of which nothing is asked.
+fn any_position(cursor: Cursor<'_>) -> Result<(u16, Cursor<'_>), ContainerFault>
+    ensures { Reads (number 2 C5_at (λ p. true)) cursor.entry result }
+{
+    let (position, next) = cursor.word()?;
+    Ok((position, next))
+}
+
+/// A label in a plan of so many pieces: its position, of which nothing is asked here, and its frame.
+fn label(
+    pieces: u8,
+    cursor: Cursor<'_>,
+) -> Result<((u16, FrameRef<'_>), Cursor<'_>), ContainerFault>
+    requires { pieces ≤ 32 }
+    ensures places { IfOk result (λ ok. ok.0.1.places.count ≡ pieces) }
+    ensures reads { ReadsInPlace (λ kept. (kept.0, frame_of kept.1)) (label_part (λ p. true) pieces)
+        cursor.entry result }
+{
+    let (position, after_position) = any_position(cursor)?;
+    let (frame, next) = frame(pieces, after_position)?;
+    Ok(((position, frame), next))
+}
