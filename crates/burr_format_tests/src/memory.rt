@@ -50,36 +50,57 @@ impl<'a> Asked<'a> {
 impl Trial for Asked<'_> {
     fn outcome(&mut self, alloc: Global) -> Outcome {
         self.found.clear();
-        let is_told = answer(alloc, self.kind, &self.input, &mut self.found).is_ok();
-        if !is_told || self.found.as_str() == "Memory" {
-            Outcome::Want
-        } else if self.found.as_str() == self.want {
-            Outcome::Right
-        } else {
-            Outcome::Wrong
+        match answer(alloc, self.kind, &self.input, &mut self.found) {
+            Ok(()) => outcome_of(&self.found, self.want),
+            Err(AllocError) => Outcome::Want,
         }
     }
 }
 
-/// Asserts that a want of memory is told, and else the right answer.
-fn assert_told(rt: &impl Abort, alloc: Global, asked: &[&str; 4]) -> Result<(), AllocError> {
-    let outcomes = outcomes_in_want(alloc, &mut Asked::new(alloc, asked)?)?;
-    let is_right = outcomes.want && outcomes.right && !outcomes.wrong;
-    assert!(rt; is_right, "{}", asked[3]);
-    Ok(())
+/// What comes of an answer.
+fn outcome_of(found: &str, want: &str) -> Outcome {
+    match found {
+        "Memory" => Outcome::Want,
+        _ if found == want => Outcome::Right,
+        _ => Outcome::Wrong,
+    }
 }
 
 #[test]
 fn tells_a_want_of_memory(rt: HostRuntime) -> Result<(), Fail> {
-    // All with ample memory first, and a fault: then the stack has grown as far as the calls need.
-    // It can't do so once all memory was taken, since blocks lie beside it then.
-    for asked in &ASKED {
-        let mut wrong = String::new(rt.alloc());
-        answer(rt.alloc(), asked[0], b"", &mut wrong)?;
-        Asked::new(rt.alloc(), asked)?.outcome(rt.alloc());
+    // All with ample memory first: then the stack has grown as far as the calls need. It can't do so
+    // once all memory was taken, since blocks lie beside it then.
+    for is_ample in [true, false] {
+        assert_all_told(&rt, rt.alloc(), is_ample)?;
     }
+    Ok(())
+}
+
+/// Asserts what comes of each answer, with ample memory or not.
+fn assert_all_told(rt: &impl Abort, alloc: Global, is_ample: bool) -> Result<(), AllocError> {
     for asked in &ASKED {
-        assert_told(&rt, rt.alloc(), asked)?;
+        if is_ample {
+            assert_right(rt, alloc, asked)?;
+        } else {
+            assert_wants(rt, alloc, asked)?;
+        }
     }
+    Ok(())
+}
+
+/// Asserts that the right answer comes, after a wrong input whose fault is written.
+fn assert_right(rt: &impl Abort, alloc: Global, asked: &[&str; 4]) -> Result<(), AllocError> {
+    let mut fault = String::new(alloc);
+    answer(alloc, asked[0], b"", &mut fault)?;
+    let outcome = Asked::new(alloc, asked)?.outcome(alloc);
+    assert!(rt; matches!(outcome, Outcome::Right), "{}", asked[3]);
+    Ok(())
+}
+
+/// Asserts that a want of memory is told, or the right answer.
+fn assert_wants(rt: &impl Abort, alloc: Global, asked: &[&str; 4]) -> Result<(), AllocError> {
+    let outcomes = outcomes_in_want(alloc, &mut Asked::new(alloc, asked)?)?;
+    let is_told = outcomes.want && outcomes.right && !outcomes.wrong;
+    assert!(rt; is_told, "{}", asked[3]);
     Ok(())
 }
