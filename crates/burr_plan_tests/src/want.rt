@@ -119,20 +119,26 @@ impl Trial for Job<'_> {
 }
 
 /// Asserts that of a job, while memory is wanting, there comes what is right and that memory is
-/// wanting, where there is a source both before it has told its end and after that, and nothing else.
-fn assert_wants(rt: &impl Abort, alloc: Global, mut job: Job<'_>, has_source: bool) {
+/// wanting, and nothing else. It has no source.
+fn assert_wants(rt: &impl Abort, alloc: Global, mut job: Job<'_>) {
     let outcomes = outcomes_in_want(alloc, &mut job).expect(rt, "memory");
-    assert!(rt; outcomes.early_want == has_source);
-    assert!(rt; outcomes.want && outcomes.right && !outcomes.wrong);
+    assert!(rt; outcomes.want && outcomes.right);
+    assert!(rt; !outcomes.early_want && !outcomes.wrong);
 }
 
-/// Asserts what comes of a case's input, whole and a byte a call, while memory is wanting.
+/// Asserts what comes of a case's input, whole and a byte a call, while memory is wanting: what is right,
+/// and, before the source has told its end and after that, that memory is wanting.
 pub fn assert_wanting(rt: &impl Abort, alloc: Global, table: &Table, given: &str, wanted: &str) {
     let input = input_of(rt, alloc, table, given);
     let wanted = wanted.split_once(" | ").expect(rt, "a text");
-    for portion in [usize::MAX, 1] {
-        assert_wants(rt, alloc, Job::Bare(&input, portion, wanted), true);
-    }
+    let mut whole = Job::Bare(&input, usize::MAX, wanted);
+    let mut bytewise = Job::Bare(&input, 1, wanted);
+    let first = outcomes_in_want(alloc, &mut whole).expect(rt, "memory");
+    let other = outcomes_in_want(alloc, &mut bytewise).expect(rt, "memory");
+    assert!(rt; first.early_want || other.early_want);
+    assert!(rt; first.want || other.want);
+    assert!(rt; first.right && other.right);
+    assert!(rt; !first.wrong && !other.wrong);
 }
 
 /// The list of answers grows by doubling, so each of its requests is refused at a time when those
@@ -140,21 +146,21 @@ pub fn assert_wanting(rt: &impl Abort, alloc: Global, table: &Table, given: &str
 #[test]
 fn tells_a_want_of_memory_for_answers(rt: HostRuntime) {
     let text = "7\n".repeat(rt.alloc(), 200).expect(&rt, "memory");
-    assert_wants(&rt, rt.alloc(), Job::Answers(&text, Ok(&[7; 200])), false);
+    assert_wants(&rt, rt.alloc(), Job::Answers(&text, Ok(&[7; 200])));
     let faulty = format!(in rt.alloc(); "{text}-0\n").expect(&rt, "memory");
     let fault = AnswersFault::Line(201);
-    assert_wants(&rt, rt.alloc(), Job::Answers(&faulty, Err(fault)), false);
+    assert_wants(&rt, rt.alloc(), Job::Answers(&faulty, Err(fault)));
 }
 
 #[test]
 fn tells_a_want_of_memory_for_tables(rt: HostRuntime) {
     let duo = assembly_of(&rt, rt.alloc(), DUO);
-    assert_wants(&rt, rt.alloc(), Job::Tables(&duo), false);
+    assert_wants(&rt, rt.alloc(), Job::Tables(&duo));
 }
 
 /// A procedure of the plan has a result.
 #[test]
 fn tells_a_want_of_memory_for_upgrades(rt: HostRuntime) {
     let bytes = bytes_of(&rt, rt.alloc(), RESULT_PLAN);
-    assert_wants(&rt, rt.alloc(), Job::Upgrade(&bytes), false);
+    assert_wants(&rt, rt.alloc(), Job::Upgrade(&bytes));
 }
