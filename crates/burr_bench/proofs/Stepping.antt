@@ -1,2 +1,3 @@
+pub mod Safe
 pub mod Sound
 pub mod Ways

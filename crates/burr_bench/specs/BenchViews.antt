@@ -1,5 +1,5 @@
 -- What the instructions of a bench at work ask for.
-use Rattle.std.specs.Prelude.{Result}
+use Rattle.std.specs.Prelude.{Result, Ok}
 use Rattle.burr_code.specs.Instruction.{Instruction}
 use Rattle.burr_assembly.specs.Rules.Homes.{homes_of}
 use Rattle.burr_state.specs.declared.trap.Trap.{Trap}
@@ -7,11 +7,11 @@ use Rattle.burr_bench.specs.declared.checked.way.Way.{Way}
 use Rattle.burr_bench.specs.declared.checked.way.Way.TheVariants as ways
 use Rattle.burr_state.specs.Rules.Bench.{BenchProcedure}
 use Rattle.burr_state.specs.declared.effect.Effect.{Effect}
-use Rattle.burr_state.specs.Views.Benches.{Benched, setup_of}
-use Rattle.burr_state.specs.Views.Effects.{next_of}
+use Rattle.burr_state.specs.Views.Benches.{Benched, setup_of, GoesOn, IsSameRun}
+use Rattle.burr_state.specs.Views.Effects.{next_of, motion_made, KeepsUnlessGoes}
 use Rattle.burr_state.specs.Views.StateViews.{StaysOnBench}
 use Rattle.burr_bench.specs.Ways.{GroupPasses}
-use Rattle.burr_state.specs.Rules.Step.{Executes, Runs}
+use Rattle.burr_state.specs.Rules.Step.{Executes, NextIs, Runs}
 
 -- the pieces of the current tray are on the bench where the grip is asked of
 abbrev pub SetsOut : Benched → Way → Type 0
@@ -28,3 +28,10 @@ abbrev pub Follows : Benched → Benched → Instruction → Result Effect Trap 
 Follows old new i result =
     (here : BenchProcedure) → Runs (setup_of old) old.state here
     → Executes (setup_of old) here old.state i (next_of result new.state)
+
+-- what stands next was carried out, or asks for a number, and no trap was met
+pub record CarriesOut (old new : Benched) (effect : Effect) : Type 0 where
+  pub next : NextIs (setup_of old) old.state (next_of (Ok effect) new.state)
+  pub kept : KeepsUnlessGoes (Ok effect) old new
+  pub same : IsSameRun old new
+  pub goes_on : GoesOn old new (motion_made (Ok effect))

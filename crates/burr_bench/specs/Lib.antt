@@ -1,3 +1,5 @@
 pub mod BenchViews
+pub mod Recorded
+pub mod Safe
 pub mod Sound
 pub mod Ways

@@ -15,6 +15,8 @@ mod cases;
 #[cfg(test)]
 mod looks;
 #[cfg(test)]
+mod machine;
+#[cfg(test)]
 mod plans;
 #[cfg(test)]
 mod puts;

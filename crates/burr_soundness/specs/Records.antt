@@ -23,3 +23,11 @@ StepIsRecorded =
     (b : Benched) (answer : Option ℤ) (motion : Option Motion) (new : BenchState)
     → IsSafeBench b → Called (setup_of b) b.state answer (Ok (progress.Went motion)) new
     → (u : Undo) × IsUndoOf (in_state new b) u × (laid_over u new ≡ b.state)
+
+-- and any record of that step is one
+abbrev pub EachRecordUndoes : Type 0
+EachRecordUndoes =
+    (b : Benched) (answer : Option ℤ) (motion : Option Motion) (new : BenchState) (u : Undo)
+    → IsSafeBench b → Called (setup_of b) b.state answer (Ok (progress.Went motion)) new
+    → IsRecordOf (setup_of b) b.state u
+    → IsUndoOf (in_state new b) u × (laid_over u new ≡ b.state)

@@ -1,6 +1,6 @@
 ghost use Rattle.burr_soundness.specs.Machine.{CallIsSafe, EachStateIsSafe, SomeSafeCall, NoTrapIsNext};
 ghost use Rattle.burr_soundness.specs.Machine.{StepIsSafe, AsideIsSafe, StartIsSafe};
-ghost use Rattle.burr_soundness.specs.Records.{StepIsRecorded};
+ghost use Rattle.burr_soundness.specs.Records.{StepIsRecorded, EachRecordUndoes};
 ghost use Rattle.burr_soundness.specs.Soundness.{VerifierIsSound, AcceptedHasRuns};
 
 use burr_state::pieces_never_overlap;
@@ -29,9 +29,11 @@ pub fn an_accepted_bench_never_traps()
     pieces_never_overlap();
 }
 
-/// A bench that runs an accepted plan and makes a step has a record of it, which takes it back.
+/// A bench that runs an accepted plan and makes a step has a record of it, and any record of it takes
+/// it back.
 pub fn an_accepted_step_is_recorded()
-    ensures { StepIsRecorded }
+    ensures some { StepIsRecorded }
+    ensures each { EachRecordUndoes }
 {
     a_fitting_plan_is_from_a_container();
 }

@@ -15,7 +15,6 @@ use Rattle.burr_state.specs.declared.motion.Motion.{Motion}
 use Rattle.burr_state.specs.declared.mode.Mode.{Mode}
 use Rattle.burr_state.specs.declared.mode.Mode.TheVariants.{Running}
 use Rattle.burr_state.specs.Rules.Bench.{activation, Program, start, BenchState}
-use Rattle.burr_state.specs.Rules.Next.{Goes}
 use Rattle.burr_state.specs.Rules.Space.{NoOverlapIn, NoOverlap, moved_places}
 use Rattle.burr_state.specs.Views.Parts.{parts}
 use Rattle.burr_state.specs.Views.Effects.{PiecesStay, NeverMoves, motion_made}
@@ -23,7 +22,7 @@ use Rattle.burr_state.specs.declared.trap.Trap.{Trap}
 use Rattle.burr_state.specs.declared.effect.Effect.{Effect}
 use Rattle.burr_state.specs.declared.effect.Effect.TheVariants as effects
 use Rattle.std.specs.Prelude.{Result, Ok, Err, OnOk}
-use Rattle.burr_state.specs.Views.StateViews.{after, at_start, standing}
+use Rattle.burr_state.specs.Views.StateViews.{at_start, standing}
 use Rattle.burr_state.specs.Views.Benches.{Benched, benched, setup_of, GoesOn}
 use Rattle.burr_state.proofs.Common.Reached.{disjoint_at_start, homes_are_disjoint}
 use Rattle.burr_state.proofs.Common.Pieces.{no_overlap_moved, no_overlap_aside}

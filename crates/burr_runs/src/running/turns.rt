@@ -7,61 +7,56 @@ ghost use Rattle.burr_runs.specs.Views.Running.{FailsInRun, IsInStep, TurnIs, An
 ghost use Rattle.burr_runs.specs.Views.Standing.{IsInRun, TurnStands};
 
 use crate::running::Turn;
-use burr_bench::{Checked, Closing, Progress};
-use burr_blocking::Blocking;
+use crate::running::runner::Runner;
+use burr_bench::{Closing, Progress};
 use burr_io::{Sink, WriteFault};
 use burr_sheet::Sheet;
 
 /// Takes one step of the bench, and puts what its motion closes, or gives it the next answer where it
 /// asks; or tells how the run closes where no step is to be made.
-pub fn take_turn<'a, B: Blocking, W: Sink>(
-    bench: &mut Checked<B>,
+pub fn take_turn<'a, 'r, R: Runner<'r>, W: Sink>(
+    runner: &mut R,
     answers: &'a [i32],
     sheet: &mut Sheet,
     sink: &mut W,
 ) -> Result<Turn<'a>, WriteFault>
-    requires in_step { IsInStep bench.old sheet.old }
-    requires running { bench.old.state.mode ≡ Running }
-    requires within { bench.old.state.steps ≢ bench.old.program.budget }
+    requires in_step { IsInStep (R.bench runner.old) sheet.old }
+    requires running { (R.bench runner.old).state.mode ≡ Running }
+    requires within { (R.bench runner.old).state.steps ≢ (R.bench runner.old).program.budget }
     ensures ok { IfOk result (TurnIs W.Sink sink.old sink.new
-        (run_state bench.old answers.entry.now sheet.old) bench.new sheet.new) }
+        (run_state (R.bench runner.old) answers.entry.now sheet.old) (R.bench runner.new) sheet.new) }
     ensures err { OnErr result (FailsInRun W.Sink sink.old sink.new
-        (run_state bench.old answers.entry.now sheet.old)) }
-    ensures stands { IfOk result (TurnStands bench.old answers.entry.now bench.new) }
-    ensures under_way { OnErr result (IsInRun bench.old answers.entry.now bench.new) }
+        (run_state (R.bench runner.old) answers.entry.now sheet.old)) }
+    ensures stands { IfOk result (TurnStands (R.bench runner.old) answers.entry.now (R.bench runner.new)) }
+    ensures under_way { OnErr result (IsInRun (R.bench runner.old) answers.entry.now (R.bench runner.new)) }
 {
-    match bench.step(None) {
+    match runner.step(None) {
         Ok(Progress::Went(Some(motion))) => {
             sheet.motion(motion, sink)?;
             Ok(Turn::GoesOn(answers))
         }
         Ok(Progress::Went(None)) => Ok(Turn::GoesOn(answers)),
-        Ok(Progress::Asks(low, high)) => Ok(give_answer(bench, answers, low, high)),
+        Ok(Progress::Asks(low, high)) => Ok(give_answer(runner, answers, low, high)),
         // Neither comes of a running bench without an answer.
         Ok(Progress::Again) | Ok(Progress::Ended) => Ok(Turn::GoesOn(answers)),
         Err(trap) => {
-            let closing = Closing::Trapped(trap, bench.proc(), bench.pc());
+            let closing = Closing::Trapped(trap, runner.proc(), runner.pc());
             Ok(Turn::Closes(closing))
         }
     }
 }
 
 /// Gives a bench that asks the next answer; where there is none the run closes.
-fn give_answer<'a, B: Blocking>(
-    bench: &mut Checked<B>,
-    answers: &'a [i32],
-    low: i32,
-    high: i32,
-) -> Turn<'a>
-    requires running { bench.old.state.mode ≡ Running }
-    requires within { bench.old.state.steps ≢ bench.old.program.budget }
-    requires asks { NextIs (setup_of bench.old) bench.old.state (Asks low high) }
-    ensures is { AnswerIs bench.old answers.entry.now low high bench.new result }
-    ensures stands { TurnStands bench.old answers.entry.now bench.new result }
+fn give_answer<'a, 'r, R: Runner<'r>>(runner: &mut R, answers: &'a [i32], low: i32, high: i32) -> Turn<'a>
+    requires running { (R.bench runner.old).state.mode ≡ Running }
+    requires within { (R.bench runner.old).state.steps ≢ (R.bench runner.old).program.budget }
+    requires asks { NextIs (setup_of (R.bench runner.old)) (R.bench runner.old).state (Asks low high) }
+    ensures is { AnswerIs (R.bench runner.old) answers.entry.now low high (R.bench runner.new) result }
+    ensures stands { TurnStands (R.bench runner.old) answers.entry.now (R.bench runner.new) result }
 {
     let Some((answer, left)) = answers.split_first() else {
         return Turn::Closes(Closing::Waiting(low, high));
     };
-    let _ = bench.step(Some(*answer));
+    let _ = runner.step(Some(*answer));
     Turn::GoesOn(left)
 }

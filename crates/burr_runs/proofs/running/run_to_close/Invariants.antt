@@ -5,9 +5,9 @@ use Rattle.burr_runs.proofs.running.run_to_close.Given as goal
 -- a part of the run was made, and of its sheet put
 abbrev pub invariant-loop-answers : goal.invariant-loop-answers
 invariant-loop-answers g l =
-    IsInStep l.bench l.sheet × HasComeOn l.fn.bench l.fn.answers l.bench l.answers
-    × PutsPart g.W.Sink l.fn.sink l.sink (run_state l.fn.bench l.fn.answers l.fn.sheet) (run_state l.bench l.answers l.sheet)
+    IsInStep (g.R.Runner.bench l.runner) l.sheet × HasComeOn (g.R.Runner.bench l.fn.runner) l.fn.answers (g.R.Runner.bench l.runner) l.answers
+    × PutsPart g.W.Sink l.fn.sink l.sink (run_state (g.R.Runner.bench l.fn.runner) l.fn.answers l.fn.sheet) (run_state (g.R.Runner.bench l.runner) l.answers l.sheet)
 
 -- each turn makes a step or takes an answer
 abbrev pub decreases-loop-answers : goal.decreases-loop-answers
-decreases-loop-answers g l = left_to_take (run_state l.bench l.answers l.sheet)
+decreases-loop-answers g l = left_to_take (run_state (g.R.Runner.bench l.runner) l.answers l.sheet)

@@ -1,22 +1,9 @@
-use Rattle.std.proofs.Common.{ap, inr, refl}
-use Rattle.std.specs.Prelude.{Result, Ok, Err}
-use Rattle.burr_assembly.specs.Rules.Text.{Assembly}
+use Rattle.std.proofs.Common.{inr, refl}
 use Rattle.burr_assembly.specs.Rules.Homes.{homes_of}
-use Rattle.burr_state.specs.declared.effect.Effect.{Effect}
-use Rattle.burr_state.specs.declared.effect.Effect.TheVariants as effects
-use Rattle.burr_state.specs.declared.trap.Trap.{Trap}
-use Rattle.burr_state.specs.Views.Effects.{KeepsUnlessGoes}
-use Rattle.burr_state.specs.Views.Work.{Work}
 use Rattle.burr_state.specs.Views.Benches.{benched}
+use Rattle.burr_bench.proofs.Stepping.Safe.{kept_whole}
 use Rattle.burr_bench.proofs.Stepping.Sound.{goes_on_plain, sound_staying}
 use Rattle.burr_bench.proofs.checked.Checked.carry_out.Goals as goal
-
--- where a program at work is kept, the bench is
-kept_whole : (a : Assembly) (old new : Work) (result : Result Effect Trap) → KeepsUnlessGoes result old new
-    → KeepsUnlessGoes result (benched a old.program old.state) (benched a new.program new.state)
-kept_whole a old new (Ok (effects.Goes motion)) kept = tt
-kept_whole a old new (Ok (effects.Asks low high)) kept = ap (λ (w : Work). benched a w.program w.state) kept
-kept_whole a old new (Err trap) kept = ap (λ (w : Work). benched a w.program w.state) kept
 
 pub invariant_of-self : goal.invariant_of-self
 invariant_of-self g c =

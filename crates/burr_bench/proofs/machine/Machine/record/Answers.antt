@@ -1,0 +1,12 @@
+use Rattle.std.proofs.Common.{inr, refl}
+use Rattle.burr_assembly.specs.Rules.Homes.{homes_of}
+use Rattle.burr_state.specs.declared.trap.Trap.TheVariants as traps
+use Rattle.burr_bench.proofs.machine.Machine.record.Goals as goal
+
+pub unreachable-requires : goal.unreachable-requires
+unreachable-requires c =
+    c.an_accepted_bench_never_traps.ensures.next c.args.self.now traps.BadCode (rw (← c.self.view_is) c.self.invariant.safe) c.requires.running
+    (rw (← c.self.view_is) (inr ((λ here i at. c.in_default.ensures i (here, at)), refl)))
+
+pub returns-clause-record : goal.returns-clause-record
+returns-clause-record c = rw (← c.self.view_is) (c.record.ensures.record (homes_of c.self.inside.assembly.now))
