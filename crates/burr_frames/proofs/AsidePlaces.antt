@@ -1,7 +1,5 @@
--- Places after a group that goes aside: as many as before, and small as before.
-use Rattle.std.proofs.Common.{◌≡◌, ◌∙◌, ◌==◌, if◌then◌else◌, ℕ, suc, List, [], ◌∷◌, length, drop, refl, sym, ap}
-use Rattle.std.specs.List.{refill}
-use lib.Seq.{take-append_seam}
+-- Places after a group that goes aside are small as before.
+use Rattle.std.proofs.Common.{◌==◌, if◌then◌else◌, ℕ, suc, List, [], ◌∷◌}
 use Rattle.std.proofs.lemmas.Bool.{cond_both}
 use Rattle.burr_code.specs.PieceSets.{is_left_out}
 use Rattle.burr_code.specs.declared.placement.Placement.{Placement}
@@ -9,37 +7,6 @@ use Rattle.burr_code.specs.declared.placement.Placement.TheVariants.{Apart, On}
 use Rattle.burr_code.specs.Places.{changed, to_tray, is_in, count_in, parted_in, parted, aside_places}
 use Rattle.burr_container.specs.Rules.Plans.{FormCell}
 use Rattle.burr_frames.specs.Rules.SpaceRules.{AllSmallPlaces}
-
--- How many
-
-length-changed : {Place : Type 0} (f : Place → Place) (group p : ℕ) (places : List Place)
-    → length (changed f group p places) ≡ length places
-length-changed f group p [] = refl
-length-changed f group p (place ∷ places) = ap suc (length-changed f group (suc p) places)
-
-length-parted_in : {Position : Type 0} (t : ℕ) (places : List (Placement Position)) → length (parted_in t places) ≡ length places
-length-parted_in t [] = refl
-length-parted_in t (place ∷ places) = ap suc (length-parted_in t places)
-
-length-parted : {Position : Type 0} (t : ℕ) (places : List (Placement Position)) → length (parted t places) ≡ length places
-length-parted t places =
-    cond_both (count_in t places == 1) (parted_in t places) places (λ more. length more ≡ length places)
-    (λ lone. length-parted_in t places) (λ kept. refl)
-
-pub length-aside_places : {Position : Type 0} (group here there : ℕ) (places : List (Placement Position))
-    → length (aside_places group here there places) ≡ length places
-length-aside_places group here there places =
-    let gone = changed (to_tray there) group 0 places in
-    length-parted there (parted here gone) ∙ length-parted here gone ∙ length-changed (to_tray there) group 0 places
-
--- places that are written back whole are those that were written
-pub refilled : {Place : Type 0} (places moved new : List Place) → moved ≡ new → length new ≡ length places
-    → refill (length places) places moved ≡ new
-refilled places moved new is as_many =
-    let same : length places ≡ length moved = sym as_many ∙ sym (ap length is) in
-    rw same (take-append_seam moved (drop (length moved) places) ∙ is)
-
--- How large
 
 small_cons : (place other : Placement FormCell) (places others : List (Placement FormCell)) → AllSmallPlaces (place ∷ places)
     → (AllSmallPlaces (place ∷ []) → AllSmallPlaces (other ∷ [])) → (AllSmallPlaces places → AllSmallPlaces others)

@@ -1,13 +1,13 @@
 -- What the tests of places come to.
-use Rattle.std.proofs.Common.{◌≡◌, ◌≢◌, ◌↔◌, ◌<◌, ◌≤◌, ◌^◌, ◌==◌, ℕ, zero, suc, List, [], ◌∷◌, length, Some, slice_get, refl, sym, ap, ◌∙◌, inl, inr, arith, IsTrue, nat_eq}
+use Rattle.std.proofs.Common.{◌≡◌, ◌↔◌, ◌<◌, ◌≤◌, ◌^◌, ◌==◌, ℕ, List, length, Some, slice_get, sym, ap, ◌∙◌, inl, inr, arith, IsTrue}
 use Rattle.std.proofs.lemmas.Bool.Decides.{nat_tests}
-use Rattle.std.proofs.lemmas.Option.{none-some, same_Some, slice_get_within}
+use Rattle.std.proofs.lemmas.Option.{same_Some, slice_get_within}
 use Rattle.burr_text.proofs.Common.Tests.{no_iff}
 use Rattle.burr_text.proofs.Common.Decisions.{decide_below}
 use Rattle.burr_code.specs.PieceSets.{IsInSet}
 use Rattle.burr_code.specs.declared.placement.Placement.{Placement}
 use Rattle.burr_code.specs.declared.placement.Placement.TheVariants.{Apart, On}
-use Rattle.burr_code.specs.Places.{LiesIn, AllLieIn, is_in, count_in, IsEmptyTray}
+use Rattle.burr_code.specs.Places.{LiesIn, AllLieIn, is_in}
 use Rattle.burr_code.proofs.Common.PieceSets.{no_bit_above}
 use Rattle.burr_code.proofs.Common.Conditions.{apart-on, same_tray}
 
@@ -32,29 +32,6 @@ pub lies_nowhere : {Position : Type 0} (places : List (Placement Position)) (p t
 lies_nowhere places p tray far lies =
     let inside = slice_get_within places p (On tray lies.0) lies.1 in
     absurd (omega (arith, far, inside))
-
--- Trays
-
-count_in-empty : {Position : Type 0} (t : ℕ) (places : List (Placement Position)) → IsEmptyTray places t → count_in t places ≡ 0
-count_in-empty t [] empty = refl
-count_in-empty t (Apart ∷ places) empty = omega (arith, count_in-empty t places (λ p. empty (suc p)))
-count_in-empty t (On u position ∷ places) empty =
-    let other : u ≢ t = λ e. empty 0 (position, ap (λ v. Some (On v position)) e) in
-    let rest = count_in-empty t places (λ p. empty (suc p)) in
-    grind (arith, nat_tests)
-
-count_in-some : {Position : Type 0} (t p : ℕ) (places : List (Placement Position)) → LiesIn places p t → 1 ≤ count_in t places
-count_in-some t p [] lies = absurd (none-some _ lies.1)
-count_in-some t zero (place ∷ places) lies = rw (same_Some _ _ lies.1) (grind (arith, nat_tests))
-count_in-some t (suc p) (place ∷ places) lies = omega (arith, count_in-some t p places lies)
-
--- a tray is empty where it is counted so
-pub counts_empty : {Position : Type 0} (places : List (Placement Position)) (tray count : ℕ) → count ≡ count_in tray places
-    → IsTrue (nat_eq count 0) ↔ IsEmptyTray places tray
-counts_empty places tray count is = (
-  λ zero p lies. let some = count_in-some tray p places lies in grind (arith, nat_tests),
-  λ empty. let none = count_in-empty tray places empty in grind (arith, nat_tests),
-)
 
 -- Sets
 

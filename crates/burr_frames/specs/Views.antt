@@ -10,6 +10,5 @@ pub mod Here
 pub mod Moving
 pub mod Over
 pub mod Ranges
-pub mod Spots
 pub mod StateViews
 pub mod Targets

@@ -5,7 +5,7 @@ mod breaking;
 mod clearing;
 mod finding;
 mod laws;
-mod lying;
+mod offset;
 mod raising;
 mod rule;
 mod state;

@@ -14,9 +14,10 @@ mod places;
 mod returning;
 mod starting;
 
-use crate::lying::Lying;
 use arrayvec::ArrayVec;
+use burr_code::Placement;
 use burr_code::limits::MOST_PIECES;
+use burr_container::FormOffset;
 use burr_forms::Form;
 pub use meeting::{Miss, arrives, meets_entry, meets_exit};
 use std::marker::Model;
@@ -33,7 +34,7 @@ pub struct State {
     slots: [Option<Form>; 8],
     /// The top last.
     operands: ArrayVec<Form, 8>,
-    places: ArrayVec<Lying, MOST_PIECES>,
+    places: ArrayVec<Placement<FormOffset>, MOST_PIECES>,
     /// The current tray.
     tray: u8,
     /// The pieces of the current tray that are gripped: bit p is piece p.

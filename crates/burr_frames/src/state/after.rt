@@ -12,9 +12,11 @@ use super::exit::Exit;
 use super::framing::symbol;
 use super::{MOST_PIECES, State};
 use crate::breaking::Break;
-use crate::lying::Lying;
+use crate::offset::substituted;
 use crate::rule::Rule;
 use arrayvec::ArrayVec;
+use burr_code::Placement;
+use burr_container::FormOffset;
 use burr_forms::{Form, FormTooLarge};
 
 /// The most guards of a state.
@@ -120,9 +122,9 @@ pub(super) fn joined<T: Copy + Default>(first: &[T], second: &[T]) -> ArrayVec<T
 
 /// The same places with these forms in place of the symbols of their forms.
 fn places_with(
-    there: &[Lying],
+    there: &[Placement<FormOffset>],
     symbols: &[Form],
-) -> Result<ArrayVec<Lying, MOST_PIECES>, FormTooLarge>
+) -> Result<ArrayVec<Placement<FormOffset>, MOST_PIECES>, FormTooLarge>
     requires few_places { length there.now ≤ 32 }
     requires small_places { AllSmallPlaces there.now }
     requires few { length symbols.now ≤ 8 }
@@ -135,7 +137,7 @@ fn places_with(
     let forms = padded(symbols);
     let mut places = ArrayVec::new();
     for piece in 0..there.len() {
-        places.push(there[piece].substituted(&forms)?);
+        places.push(substituted(&there[piece], &forms)?);
     }
     Ok(places)
 }

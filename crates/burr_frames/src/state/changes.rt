@@ -7,8 +7,9 @@ ghost use Rattle.burr_frames.specs.Rules.ControlRules.{guarded};
 ghost use Rattle.burr_frames.specs.Rules.SpaceRules.{AllSmallPlaces};
 
 use super::{MOST_PIECES, State};
-use crate::lying::Lying;
 use arrayvec::ArrayVec;
+use burr_code::Placement;
+use burr_container::FormOffset;
 use burr_forms::Form;
 
 impl State {
@@ -80,7 +81,7 @@ impl State {
     }
 
     /// The pieces lie so.
-    pub(super) fn set_places(&mut self, places: ArrayVec<Lying, MOST_PIECES>)
+    pub(super) fn set_places(&mut self, places: ArrayVec<Placement<FormOffset>, MOST_PIECES>)
         requires { AllSmallPlaces places.items }
         ensures { self.new ≡ with_places places.items self.old }
     {

@@ -1,7 +1,6 @@
 //! The rules of the instructions of the flow of control.
 
 ghost use Rattle.std.specs.Prelude.{◌≡◌, ◌<◌, ◌↔◌, IsTrue, IfErr, length, pos, neg_ℤ};
-ghost use Rattle.burr_code.specs.declared.placement.Placement.TheVariants.{Apart};
 ghost use Rattle.burr_code.specs.Places.{AllApart};
 ghost use Rattle.burr_forms.specs.Rules.Forms.{Form as FormOf, IsSmallForm, one_less, times};
 ghost use Rattle.burr_frames.specs.Rules.ControlRules.{halt_rule, jump_rule, down_rule, counted_down};
@@ -13,9 +12,9 @@ use super::State;
 use super::meeting::arrives;
 use crate::breaking::Break;
 use crate::finding::frame_at;
-use crate::lying::Lying;
 use crate::raising::raised_by;
 use crate::rule::Rule;
+use burr_code::are_all_apart;
 use burr_container::{FrameRef, ProcedureRef};
 use burr_forms::Form;
 
@@ -110,22 +109,8 @@ impl State {
     fn are_all_apart(&self) -> bool
         ensures { IsTrue result ↔ AllApart self.now.places }
     {
-        are_apart(self.places.as_slice())
+        are_all_apart(self.places.as_slice())
     }
-}
-
-/// Whether all pieces are apart.
-fn are_apart(places: &[Lying]) -> bool
-    ensures { IsTrue result ↔ AllApart places.now }
-{
-    places.iter().all(is_apart)
-}
-
-/// Whether a piece is apart.
-fn is_apart(place: &Lying) -> bool
-    ensures { IsTrue result ↔ (place.now ≡ Apart) }
-{
-    place.tray().is_none()
 }
 
 /// The form with each number the other way.

@@ -2,8 +2,7 @@
 
 ghost use Rattle.std.specs.Prelude.{◌≡◌};
 
-use super::{MOST_PIECES, State};
-use crate::lying::Lying;
+use super::State;
 use arrayvec::ArrayVec;
 use burr_forms::Form;
 
@@ -17,7 +16,7 @@ impl State {
             guards: copied(&self.guards),
             slots: copied_slots(&self.slots),
             operands: copied(&self.operands),
-            places: copied_places(&self.places),
+            places: copied(&self.places),
             tray: self.tray,
             grip: self.grip,
             cost: self.cost,
@@ -33,18 +32,6 @@ pub(super) fn copied<T: Copy + Default, const N: usize>(from: &ArrayVec<T, N>) -
     let mut to = ArrayVec::new();
     for element in elements {
         to.push(*element);
-    }
-    to
-}
-
-/// The same places.
-fn copied_places(from: &ArrayVec<Lying, MOST_PIECES>) -> ArrayVec<Lying, MOST_PIECES>
-    ensures { result.items ≡ from.now.items }
-{
-    let places = from.as_slice();
-    let mut to = ArrayVec::new();
-    for place in places {
-        to.push(place.copied());
     }
     to
 }

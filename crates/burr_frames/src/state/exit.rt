@@ -9,9 +9,10 @@ ghost use Rattle.burr_frames.specs.Views.Exits.{framed_ref};
 ghost use Rattle.burr_frames.specs.Rules.SpaceRules.{AllSmallPlaces};
 
 use super::MOST_PIECES;
-use crate::lying::Lying;
+use crate::offset::placed;
 use arrayvec::ArrayVec;
-use burr_container::ExitRef;
+use burr_code::Placement;
+use burr_container::{ExitRef, FormOffset};
 use burr_forms::Form;
 use std::marker::Model;
 
@@ -23,7 +24,7 @@ pub struct Exit {
     pub results: ArrayVec<(i32, i32), 2>,
     /// Forms that are not negative.
     pub guards: ArrayVec<Form, 4>,
-    pub places: ArrayVec<Lying, MOST_PIECES>,
+    pub places: ArrayVec<Placement<FormOffset>, MOST_PIECES>,
     /// The current tray.
     pub tray: u8,
     /// The pieces that are gripped: bit p is piece p.
@@ -85,13 +86,13 @@ fn guards(exit: &ExitRef<'_>) -> ArrayVec<Form, 4>
 }
 
 /// The places by forms over symbols.
-fn places(exit: &ExitRef<'_>) -> ArrayVec<Lying, MOST_PIECES>
+fn places(exit: &ExitRef<'_>) -> ArrayVec<Placement<FormOffset>, MOST_PIECES>
     ensures places { result.items ≡ (framed_ref exit.now).places }
     ensures small { AllSmallPlaces result.items }
 {
     let mut places = ArrayVec::new();
     for p in 0..exit.piece_count() {
-        places.push(Lying::at(exit.place(p)));
+        places.push(placed(exit.place(p)));
     }
     places
 }

@@ -11,9 +11,10 @@ ghost use Rattle.burr_frames.specs.Rules.SpaceRules.{AllSmallPlaces};
 ghost use Rattle.burr_frames.specs.Views.StateViews.{IsSmallSlot};
 
 use super::{MOST_PIECES, State};
-use crate::lying::Lying;
+use crate::offset::placed;
 use arrayvec::ArrayVec;
-use burr_container::FrameRef;
+use burr_code::Placement;
+use burr_container::{FormOffset, FrameRef};
 use burr_forms::Form;
 
 impl State {
@@ -104,14 +105,14 @@ fn operands(frame: &FrameRef<'_>) -> ArrayVec<Form, 8>
 }
 
 /// The places by forms over symbols.
-fn places(frame: &FrameRef<'_>) -> ArrayVec<Lying, MOST_PIECES>
+fn places(frame: &FrameRef<'_>) -> ArrayVec<Placement<FormOffset>, MOST_PIECES>
     ensures places { result.items
         ≡ map (place_over_symbols (live_slots frame.now.slots)) (frame_of frame.now).places }
     ensures small { AllSmallPlaces result.items }
 {
     let mut places = ArrayVec::new();
     for p in 0..frame.piece_count() {
-        places.push(Lying::at(frame.place(p)));
+        places.push(placed(frame.place(p)));
     }
     places
 }

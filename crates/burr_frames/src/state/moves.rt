@@ -11,15 +11,15 @@ ghost use Rattle.burr_frames.specs.Views.Breaks.{next_verdict};
 ghost use Rattle.burr_frames.specs.Rules.Looks.{HasRoom, step_looks, aside_looks, clearing_looks};
 ghost use Rattle.burr_frames.specs.Views.Moving.{ClearOrBreaks, HasRest};
 
-use super::places::{count_in_tray, moved_places, offsets_in, roles_in, take_aside};
+use super::places::{moved_places, offsets_in, roles_in};
 use super::{MOST_PIECES, State};
 use crate::breaking::Break;
 use crate::clearing::Clearing;
-use crate::lying::Lying;
 use crate::rule::Rule;
 use arrayvec::ArrayVec;
 use burr_blocking::{Blocking, Looks, Query};
-use burr_code::is_in_set;
+use burr_code::{Placement, is_empty_tray, is_in_set, take_aside};
+use burr_container::FormOffset;
 use burr_forms::{FormTooLarge, first_refused, the_points_are_given};
 use burr_voxels::Direction;
 
@@ -120,7 +120,7 @@ impl State {
     /// the numbers of all forms lie within ±2^40; the caller's conditions, with those of `step`.
     fn goes_clear<B: Blocking>(
         &self,
-        places: &[Lying],
+        places: &[Placement<FormOffset>],
         looks: &mut Looks<'_, B>,
         query: Query,
         rule: Rule,
@@ -162,7 +162,10 @@ impl State {
     }
 
     /// The places where the grip has gone one unit along a direction.
-    fn moved(&self, direction: Direction) -> Result<ArrayVec<Lying, MOST_PIECES>, FormTooLarge>
+    fn moved(
+        &self,
+        direction: Direction,
+    ) -> Result<ArrayVec<Placement<FormOffset>, MOST_PIECES>, FormTooLarge>
         ensures { MatchResult result
             (λ places. (places.items ≡ moved self.now.grip direction self.now.places)
             × AllSmallPlaces places.items)
@@ -225,6 +228,6 @@ impl State {
     fn is_empty(&self, tray: u8) -> bool
         ensures { IsTrue result ↔ IsEmptyTray self.now.places tray }
     {
-        count_in_tray(self.places.as_slice(), tray) == 0
+        is_empty_tray(self.places.as_slice(), tray)
     }
 }

@@ -11,11 +11,12 @@ ghost use Rattle.burr_frames.specs.Rules.ControlRules.{IsAlikeExit};
 ghost use Rattle.burr_frames.specs.Rules.SpaceRules.{AllSmallPlaces};
 ghost use Rattle.burr_frames.specs.Views.StateViews.{IsSmallSlot, GivesLiveForms};
 
-use crate::lying::Lying;
+use crate::offset::offset_forms;
 use crate::state::State;
 use crate::state::exit::Exit;
 use arrayvec::ArrayVec;
-use burr_container::FrameRef;
+use burr_code::Placement;
+use burr_container::{FormOffset, FrameRef};
 use burr_forms::Form;
 
 impl State {
@@ -79,7 +80,7 @@ fn form_of(slots: &[Option<Form>; 8], v: u8) -> Option<Form>
 }
 
 /// Whether each piece is apart in both, or in the same tray.
-fn are_in_same_trays(places: &[Lying], others: &[Lying]) -> bool
+fn are_in_same_trays(places: &[Placement<FormOffset>], others: &[Placement<FormOffset>]) -> bool
     ensures { IsTrue result ↔ (map tray_of places.now ≡ map tray_of others.now) }
 {
     if places.len() != others.len() {
@@ -115,7 +116,10 @@ impl State {
 }
 
 /// Forms, and after them those of offsets, piece by piece.
-pub(super) fn with_offsets(symbols: &[Form], places: &[Lying]) -> ArrayVec<Form, 120>
+pub(super) fn with_offsets(
+    symbols: &[Form],
+    places: &[Placement<FormOffset>],
+) -> ArrayVec<Form, 120>
     requires few { length symbols.now ≤ 8 }
     requires pieces { length places.now ≤ 32 }
     requires small { AllSmallForms symbols.now }
@@ -143,7 +147,7 @@ fn append(forms: &mut ArrayVec<Form, 120>, more: &[Form])
 }
 
 /// Puts the forms of offsets after others. There is room, the caller's condition.
-fn append_offsets(forms: &mut ArrayVec<Form, 120>, places: &[Lying])
+fn append_offsets(forms: &mut ArrayVec<Form, 120>, places: &[Placement<FormOffset>])
     requires room { length forms.old.items + 3 * length places.now ≤ 120 }
     requires small { AllSmallForms forms.old.items }
     requires places_small { AllSmallPlaces places.now }
@@ -151,7 +155,7 @@ fn append_offsets(forms: &mut ArrayVec<Form, 120>, places: &[Lying])
     ensures small { AllSmallForms forms.new.items }
 {
     for piece in 0..places.len() {
-        let offset = places[piece].offset();
+        let offset = offset_forms(&places[piece]);
         append(forms, offset.as_slice());
     }
 }

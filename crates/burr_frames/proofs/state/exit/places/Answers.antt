@@ -15,7 +15,7 @@ loop-p-preserved c =
     let before = c.loop-p.places.items in
     let element = placement_view c.place.result in
     let whole = (framed_ref c.args.exit.now).places in
-    let items : c.push.new.self.items ≡ before ++ element ∷ [] = c.push.ensures.items ∙ ap (λ (e : Placement FormCell). before ++ e ∷ []) c.at.ensures in
+    let items : c.push.new.self.items ≡ before ++ element ∷ [] = c.push.ensures.items ∙ ap (λ (e : Placement FormCell). before ++ e ∷ []) c.placed.ensures in
     record {
       read = subst (IsRead whole (c.loop-p.p + 1)) (sym items) (read_on whole c.loop-p.p before element c.place.ensures.place c.loop-p.invariant.read);
       small = subst AllSmallPlaces (sym items) (small_push before c.place.result c.loop-p.invariant.small c.place.ensures.small);

@@ -11,14 +11,14 @@ use Rattle.burr_frames.proofs.state.meeting.alike.append_offsets.Goals as goal
 pub append-requires-clause-room : goal.append-requires-clause-room
 append-requires-clause-room c =
     let place = c.index-places-piece.result in
-    let given : c.as_slice.result.now ≡ offset_forms (place ∷ []) = c.as_slice.ensures.value ∙ c.offset-offset.ensures in
+    let given : c.as_slice.result.now ≡ offset_forms (place ∷ []) = c.as_slice.ensures.value ∙ c.offset_forms-offset.ensures in
     let few = three_at_most place in
     omega (arith, ap (length {A = Form}) given, few, c.loop-piece.invariant.room, c.requires.room, c.loop-piece-test.true)
 
 pub append-requires-clause-more_small : goal.append-requires-clause-more_small
 append-requires-clause-more_small c =
     let place = c.index-places-piece.result in
-    subst AllSmallForms (sym (c.as_slice.ensures.value ∙ c.offset-offset.ensures))
+    subst AllSmallForms (sym (c.as_slice.ensures.value ∙ c.offset_forms-offset.ensures))
     (subst (λ (x : Placement FormCell). AllSmallForms (offset_forms (x ∷ []))) (sym c.index-places-piece.is)
     (small_offset_at c.args.places.now c.loop-piece.piece place c.requires.places_small c.loop-piece-test.true))
 
@@ -31,7 +31,7 @@ loop-piece-preserved c =
     let before = c.loop-piece.forms.items in
     let front = offset_forms (take p places) in
     let here = offset_forms (place ∷ []) in
-    let given : c.as_slice.result.now ≡ here = c.as_slice.ensures.value ∙ c.offset-offset.ensures in
+    let given : c.as_slice.result.now ≡ here = c.as_slice.ensures.value ∙ c.offset_forms-offset.ensures in
     let items : c.append.new.forms.items ≡ before ++ here = c.append.ensures.forms ∙ ap (λ (fs : List Form). before ++ fs) given in
     let few = three_at_most place in
     record {

@@ -2,9 +2,8 @@
 use Rattle.std.proofs.Common.{rules, ◌∙◌, sym, ap, subst, w32, FitsSigned, to_z-of_z}
 use Rattle.burr_voxels.specs.declared.cell.Cell.{Cell}
 use Rattle.burr_forms.specs.Rules.Forms.{raised, IsSmallForm}
-use Rattle.burr_frames.specs.Views.Spots.{lying_of}
 use Rattle.burr_frames.proofs.OnePlace.{moved_place}
-use Rattle.burr_frames.proofs.lying.Lying.moved.Goals as goal
+use Rattle.burr_frames.proofs.offset.moved.Goals as goal
 
 pub returns : goal.returns
 returns c =
@@ -12,14 +11,15 @@ returns c =
     let fits_x : FitsSigned w32 unit.x = search rules in
     let fits_y : FitsSigned w32 unit.y = search rules in
     let fits_z : FitsSigned w32 unit.z = search rules in
+    let from = c.in-On.position in
     let x = c.in_ok-one_along.ensures in
     let y = c.in_ok-one_along-2.ensures in
     let z = c.in_ok-one_along-3.ensures in (
-      moved_place c.args.direction c.in-On.tray c.in-On.x c.in-On.y c.in-On.z
-          c.in_ok-one_along.field-0 c.in_ok-one_along-2.field-0 c.in_ok-one_along-3.field-0 c.args.self.now
-          (sym (ap lying_of c.in-On.is) ∙ c.self.view_is)
-          (x.0 ∙ ap (λ n. raised n c.in-On.x) (to_z-of_z fits_x ∙ ap (λ (u : Cell). u.x) c.unit-unit.ensures))
-          (y.0 ∙ ap (λ n. raised n c.in-On.y) (to_z-of_z fits_y ∙ ap (λ (u : Cell). u.y) c.unit-unit.ensures))
-          (z.0 ∙ ap (λ n. raised n c.in-On.z) (to_z-of_z fits_z ∙ ap (λ (u : Cell). u.z) c.unit-unit.ensures)),
+      moved_place c.args.direction c.in-On.tray from.x from.y from.z
+          c.in_ok-one_along.field-0 c.in_ok-one_along-2.field-0 c.in_ok-one_along-3.field-0 c.args.place.now
+          (sym c.in-On.is)
+          (x.0 ∙ ap (λ n. raised n from.x) (to_z-of_z fits_x ∙ ap (λ (u : Cell). u.x) c.unit-unit.ensures))
+          (y.0 ∙ ap (λ n. raised n from.y) (to_z-of_z fits_y ∙ ap (λ (u : Cell). u.y) c.unit-unit.ensures))
+          (z.0 ∙ ap (λ n. raised n from.z) (to_z-of_z fits_z ∙ ap (λ (u : Cell). u.z) c.unit-unit.ensures)),
       (subst IsSmallForm (sym x.0) x.1, subst IsSmallForm (sym y.0) y.1, subst IsSmallForm (sym z.0) z.1, tt),
     )
