@@ -1,12 +1,10 @@
 //! Readers of procedures that a container lends.
 
-ghost use Rattle.std.specs.Prelude.{◌≡◌, ◌≤◌, ◌<◌, length, slice_get, IfSome, MatchOption};
+ghost use Rattle.std.specs.Prelude.{◌≡◌, ◌≤◌, ◌<◌, length, slice_get, IfSome};
 ghost use Rattle.burr_code.specs.declared.limits.TheConstants.{MOST_CODE, MOST_PARAMETERS, MOST_PROCEDURES};
-ghost use Rattle.burr_container.specs.Rules.Plans.{Plan};
 ghost use Rattle.burr_container.specs.Views.Refs.{frame_of};
 ghost use Rattle.burr_container.specs.Views.InPlace.{IsExit};
-ghost use Rattle.burr_container.specs.Views.Containers.{IsContainer};
-ghost use Rattle.burr_container.specs.Views.Lent.{IsLent, OfLent, LentHasLabel, OfLentLabel};
+ghost use Rattle.burr_container.specs.Views.Lent.{IsLent, IsFoundInPlan, OfLent, LentHasLabel, OfLentLabel};
 
 use crate::container::Container;
 use crate::exit_ref::ExitRef;
@@ -34,8 +32,7 @@ impl<'a, 'c: 'a> ProcedureRef<'a, 'c> {
     /// The procedure of this number in the same container; None where there is none.
     pub fn sibling(&self, number: u8) -> Option<ProcedureRef<'a, 'c>>
         ensures lent { IfSome result (IsLent self.now.container.now number) }
-        ensures plan { (p : Plan) → IsContainer self.now.container.now p
-            → MatchOption result (length p.procedures ≤ number) (λ _. number < length p.procedures) }
+        ensures plan { IsFoundInPlan self.now number result }
     {
         let number = usize::from(number);
         if self.container.proc_count() <= number {

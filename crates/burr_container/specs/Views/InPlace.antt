@@ -51,10 +51,11 @@ ReadsHeader cursor result =
     (λ fault. ContainerFails cursor.at cursor.rest.now fault)
 
 -- labels, and the position of the last one
-pub record AreLabels (pieces : ℕ) (kept : LabelTable × Option ℕ) (ls : List (ℕ × Frame)) : Type 0 where
-  pub of_plan : kept.0.pieces ≡ pieces
-  pub labels : AreFor (IsLabel pieces) kept.0.starts.items ls
-  pub last : kept.1 ≡ last_label ls
+pub record AreLabels (pieces : ℕ) (kept : LabelTable × Option ℕ) (ls : List (ℕ × Frame)) : Type 0
+  where
+    pub of_plan : kept.0.pieces ≡ pieces
+    pub labels : AreFor (IsLabel pieces) kept.0.starts.items ls
+    pub last : kept.1 ≡ last_label ls
 
 -- labels and code
 pub record IsBody (pieces : ℕ) (kept : LabelTable × Bor (List ℕ))

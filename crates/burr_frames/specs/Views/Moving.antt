@@ -5,7 +5,6 @@ use Rattle.burr_code.specs.PieceSets.{IsInSet}
 use Rattle.burr_code.specs.declared.placement.Placement.{Placement}
 use Rattle.burr_code.specs.Places.{LiesIn}
 use Rattle.burr_blocking.specs.declared.query.Query.{Query}
-use Rattle.burr_blocking.specs.declared.query.Query.TheVariants as queries
 use Rattle.burr_container.specs.Rules.Plans.{FormCell}
 use Rattle.burr_forms.specs.Rules.Forms.{Point}
 use Rattle.burr_frames.specs.declared.breaking.Break.{Break}

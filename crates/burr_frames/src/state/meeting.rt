@@ -36,7 +36,8 @@ pub struct Miss {
 /// slots lie in the frame's ranges and its guards hold of them; the operands and the offsets have
 /// the values of the frame's forms there; and the cost is at least the frame's.
 pub fn arrives(state: &State, frame: &FrameRef<'_>) -> Result<(), Miss>
-    ensures { arriving state.now (framed (frame_of frame.now)) no_successor (arrival_verdict result) }
+    ensures { arriving state.now (framed (frame_of frame.now)) no_successor
+        (arrival_verdict result) }
 {
     state.arrive(frame)?;
     Ok(())
