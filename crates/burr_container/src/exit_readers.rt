@@ -1,11 +1,11 @@
 //! Readers of exit frames.
 
 ghost use Rattle.std.specs.Prelude.{◌≡◌, ◌≤◌, ◌<◌, length, Some, slice_get, map};
-ghost use Rattle.burr_code.specs.declared.limits.TheConstants.{MOST_GUARDS};
+ghost use Rattle.burr_code.specs.declared.limits.TheConstants.{MOST_GUARDS, MOST_PARAMETERS};
 ghost use Rattle.burr_forms.specs.Rules.Forms.{IsSmallForm};
 ghost use Rattle.burr_forms.specs.Rules.Points.{IsRange};
 ghost use Rattle.burr_container.specs.Rules.Plans.{over_symbols, place_over_symbols};
-ghost use Rattle.burr_container.specs.Views.Refs.{exit_frame_of, placement_view, IsSmallPlace};
+ghost use Rattle.burr_container.specs.Views.Refs.{exit_frame_of, parameters_of, placement_view, IsSmallPlace};
 
 use crate::exit_ref::ExitRef;
 use burr_forms::Form;
@@ -32,6 +32,14 @@ impl ExitRef<'_> {
         ensures { result ≡ (exit_frame_of self.now).grip }
     {
         self.grip
+    }
+
+    /// How many parameters the procedure has, 0 to 4.
+    pub fn parameters(&self) -> u8
+        ensures count { result ≡ parameters_of self.now }
+        ensures few { result ≤ MOST_PARAMETERS }
+    {
+        self.parameters
     }
 
     /// How many results the procedure has, 0 to 2.

@@ -1,5 +1,6 @@
 ghost use Rattle.std.specs.Prelude.{◌≡◌, ◌≤◌, ◌<◌, IsTrue};
-ghost use Rattle.burr_code.specs.declared.limits.TheConstants.{MOST_GUARDS};
+ghost use Rattle.burr_code.specs.declared.limits.TheConstants.{MOST_GUARDS, MOST_PARAMETERS};
+ghost use Rattle.burr_container.specs.Rules.Plans.{exit_symbols};
 ghost use Rattle.burr_container.specs.Rules.Fitting.{are_ranges};
 
 use crate::lists::{FormList, PlaceList};
@@ -10,12 +11,16 @@ use crate::lists::{FormList, PlaceList};
 pub struct ExitRef<'a> {
     pub(crate) tray: u8,
     pub(crate) grip: u32,
+    /// How many parameters the procedure has.
+    pub(crate) parameters: u8,
     /// The ranges of the results, the first so many.
     pub(crate) results: [(i16, i16); 2],
     pub(crate) result_count: u8,
     pub(crate) guards: FormList<'a>,
     pub(crate) places: PlaceList<'a>,
+    ghost few_parameters: { parameters ≤ MOST_PARAMETERS },
     ghost few_results: { result_count ≤ 2 },
+    ghost symbols: { places.live ≡ exit_symbols parameters result_count },
     ghost ranges: { IsTrue (are_ranges 2 results) },
     ghost guards_live: { guards.live ≡ places.live },
     ghost few_guards: { guards.count ≤ MOST_GUARDS },

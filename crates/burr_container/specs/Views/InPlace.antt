@@ -12,7 +12,7 @@ use Rattle.burr_container.specs.Views.Cuts.{IsCut}
 use Rattle.burr_container.specs.Rules.Spelling.{front_bytes}
 use Rattle.burr_container.specs.Rules.Fitting.{is_version, is_budget, is_piece_count, is_name_text}
 use Rattle.burr_container.specs.Rules.Faults.{Part, label, last_label, ProceduresFail, ContainerFails}
-use Rattle.burr_container.specs.Views.Refs.{exit_frame_of}
+use Rattle.burr_container.specs.Views.Refs.{exit_frame_of, parameters_of}
 
 -- the bytes begin with this value of the part
 pub record BeginWith {A : Type 0} (part : Part A) (bytes : List ℕ) (a : A) : Type 0 where
@@ -70,6 +70,8 @@ pub record IsExitFrame (pieces parameters results : ℕ) (kept : ExitRef) (f : E
     pub frame : exit_frame_of kept ≡ f
     -- as many as the procedure has
     pub many : length f.results ≡ results
+    -- its forms are over as many parameters as the procedure has
+    pub over : parameters_of kept ≡ parameters
     pub live : kept.places.live ≡ exit_symbols parameters results
     pub count : kept.places.count ≡ pieces
 

@@ -44,6 +44,10 @@ exit_frame_of f = record {
   places = places_of f.places;
 }
 
+-- how many parameters the procedure of an exit frame has
+abbrev pub parameters_of : ExitRef → ℕ
+parameters_of f = f.parameters
+
 -- a part is read in place: what is kept stands for the value at the cursor; or how the part fails
 abbrev pub ReadsInPlace : {A V : Type 0} → (V → A) → Part A → Cursor
     → Result (V × Cursor) ContainerFault → Type 0

@@ -5,7 +5,7 @@ ghost use Rattle.burr_code.specs.declared.limits.TheConstants.{MOST_GUARDS};
 ghost use Rattle.burr_container.specs.Rules.Fitting.{are_ranges};
 ghost use Rattle.burr_container.specs.Views.Decoding.{IsAfterPlace};
 ghost use Rattle.burr_container.specs.Views.Reading.{Reads, GoesOver};
-ghost use Rattle.burr_container.specs.Views.Refs.{ReadsInPlace, form_in_list, forms_of, places_of, frame_of, exit_frame_of};
+ghost use Rattle.burr_container.specs.Views.Refs.{ReadsInPlace, form_in_list, forms_of, places_of, frame_of, exit_frame_of, parameters_of};
 
 use crate::exit_ref::ExitRef;
 use crate::fault::ContainerFault;
@@ -56,6 +56,7 @@ pub fn exit_frame(
     requires results { results ≤ 2 }
     ensures places { IfOk result (λ ok. (ok.0.places.count ≡ pieces)
         × (ok.0.places.live ≡ first_ones parameters results)) }
+    ensures parameters { IfOk result (λ ok. parameters_of ok.0 ≡ parameters) }
     ensures reads { ReadsInPlace exit_frame_of (exit_frame_part version pieces parameters results)
         cursor.entry result }
 {
@@ -69,6 +70,7 @@ pub fn exit_frame(
     let exit = ExitRef {
         tray,
         grip,
+        parameters,
         results,
         result_count,
         guards,

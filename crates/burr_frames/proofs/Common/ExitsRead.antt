@@ -4,6 +4,7 @@ use Rattle.std.specs.Prelude.{option_map}
 use Rattle.burr_container.specs.declared.exit_ref.ExitRef.{ExitRef}
 use Rattle.burr_container.specs.Rules.Plans.{ExitFrame, exit_symbols}
 use Rattle.burr_container.specs.Views.InPlace.{IsExit}
+use Rattle.burr_container.specs.Views.Refs.{parameters_of}
 use Rattle.burr_frames.specs.Rules.FramedPlans.{framed_exit}
 use Rattle.burr_frames.specs.Views.Exits.{framed_ref}
 
@@ -17,6 +18,12 @@ pub exit_there : (pieces parameters results : ℕ) (kept : ExitRef) (exit : Opti
     → option_map (framed_exit (exit_symbols parameters results)) exit ≡ Some (framed_ref kept)
 exit_there pieces parameters results kept None is = absurd is
 exit_there pieces parameters results kept (Some f) is = λ i. Some (framed_exit (sym is.live i) (sym is.frame i))
+
+-- it knows how many parameters there are
+pub parameters_there : (pieces parameters results : ℕ) (kept : ExitRef) (exit : Option ExitFrame)
+    → IsExit pieces parameters results (Some kept) exit → parameters_of kept ≡ parameters
+parameters_there pieces parameters results kept None is = absurd is
+parameters_there pieces parameters results kept (Some f) is = is.over
 
 -- it has a range for each result
 pub ranges_there : (pieces parameters results : ℕ) (kept : ExitRef) (exit : Option ExitFrame)

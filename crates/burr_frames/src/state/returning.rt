@@ -25,10 +25,10 @@ impl State {
         let Some(exit) = procedure.exit() else {
             return Err(Break::plain(Rule::V22));
         };
-        let exit = Exit::of(&exit);
-        let Some(parameters) = self.first_forms(procedure.params()) else {
+        let Some(parameters) = self.first_forms(exit.parameters()) else {
             return Err(Break::plain(Rule::V22));
         };
+        let exit = Exit::of(&exit);
         let Some(results) = self.top_many(exit.results.len()) else {
             return Err(Break::plain(Rule::V6));
         };

@@ -2,6 +2,7 @@
 
 ghost use Rattle.std.specs.Prelude.{◌≡◌, ◌+◌, ◌≤◌, MatchOption, length};
 ghost use Rattle.burr_forms.specs.Rules.Forms.{AllSmallForms};
+ghost use Rattle.burr_container.specs.Views.Refs.{parameters_of};
 ghost use Rattle.burr_frames.specs.declared.rule.Rule.TheVariants as rules;
 ghost use Rattle.burr_frames.specs.Rules.ControlRules.{IsAlikeExit, MeetsExitAt};
 ghost use Rattle.burr_frames.specs.Rules.States.{Everywhere, IsFirstFailing};
@@ -16,21 +17,20 @@ use crate::state::exit::Exit;
 use burr_container::ExitRef;
 use burr_forms::{Form, Point, first_failing};
 
-/// Whether a state meets an exit frame over so many parameters, which with the results are eight at
-/// most. First what is asked without regard to points: each of the first slots, so many, is known,
-/// there are as many operands as results at least, and the current tray, the grip and each piece's
-/// tray are the exit frame's. Then, at each point of the state, rising: the topmost operands, the
-/// results, lie in their ranges, the guards hold, and the offsets have the values of the exit
-/// frame's forms, where the parameters have the values of those slots and the results theirs.
-pub fn meets_exit(state: &State, exit: &ExitRef<'_>, parameters: u8) -> Result<(), Miss>
-    requires { parameters + length (framed_ref exit.now).results ≤ 8 }
-    ensures { meeting_exit parameters state.now (framed_ref exit.now)
+/// Whether a state meets an exit frame. First what is asked without regard to points: each of the
+/// first slots, as many as the frame's procedure has parameters, is known, there are as many
+/// operands as results at least, and the current tray, the grip and each piece's tray are the exit
+/// frame's. Then, at each point of the state, rising: the topmost operands, the results, lie in
+/// their ranges, the guards hold, and the offsets have the values of the exit frame's forms, where
+/// the parameters have the values of those slots and the results theirs.
+pub fn meets_exit(state: &State, exit: &ExitRef<'_>) -> Result<(), Miss>
+    ensures { meeting_exit (parameters_of exit.now) state.now (framed_ref exit.now)
         (miss_verdict rules.V22 result) }
 {
-    let exit = Exit::of(exit);
-    let Some(forms) = state.first_forms(parameters) else {
+    let Some(forms) = state.first_forms(exit.parameters()) else {
         return Err(Miss { point: None });
     };
+    let exit = Exit::of(exit);
     let Some(results) = state.top_many(exit.results.len()) else {
         return Err(Miss { point: None });
     };

@@ -36,7 +36,7 @@ returns c =
       record {
         parameters = refl;
         results = refl;
-        exit = record { frame = refl; many = so_many_results c.args.version c.args.pieces c.in_ok-parameters.parameters c.in_ok-results.results (exit_frame_of c.in_ok-exit.exit) exit.reads.fits; live = exit.places.1; count = exit.places.0 };
+        exit = record { frame = refl; many = so_many_results c.args.version c.args.pieces c.in_ok-parameters.parameters c.in_ok-results.results (exit_frame_of c.in_ok-exit.exit) exit.reads.fits; over = exit.parameters; live = exit.places.1; count = exit.places.0 };
         of_plan = body.1.of_plan;
         labels = body.1.labels;
         code = body.1.code;

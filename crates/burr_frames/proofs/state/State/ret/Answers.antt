@@ -10,7 +10,7 @@ use Rattle.burr_frames.specs.Views.Breaks.{broken_of, last_verdict}
 use Rattle.burr_frames.specs.Rules.ControlRules.{first_forms, ret_rule}
 use Rattle.burr_frames.specs.Views.Exits.{framed_ref, meeting_exit_with}
 use Rattle.burr_frames.proofs.Paying.{paying_on, paying_breaks}
-use Rattle.burr_frames.proofs.Common.ExitsRead.{no_exit, exit_there, ranges_there}
+use Rattle.burr_frames.proofs.Common.ExitsRead.{no_exit, exit_there, parameters_there, ranges_there}
 use Rattle.burr_frames.proofs.CalleesRead.{framed_at}
 use Rattle.burr_frames.proofs.CallReturns.{ret_few, ret_unknown, ret_on}
 use Rattle.burr_frames.proofs.state.State.ret.Goals as goal
@@ -35,7 +35,7 @@ returns-in_default-first_forms c =
     let kept = c.in-Some.exit in
     let exit = framed_ref kept in
     let there : (framed_procedure q).exit ≡ Some exit = exit_there p.pieces q.parameters q.results kept q.exit (c.in-Some.ensures p q is found.at) in
-    let parameters = c.params.ensures.plan p q is found.at in
+    let parameters = c.parameters.ensures.count ∙ parameters_there p.pieces q.parameters q.results kept q.exit (c.in-Some.ensures p q is found.at) in
     let none = subst (λ n. first_forms n s.slots ≡ None) parameters c.in_default-first_forms.ensures in
     subst (λ (h : FramedProcedure). ret_rule h s (Breaks (broken_of c.plain-in_default-first_forms.result))) found.is
     (subst (λ b. ret_rule (framed_procedure q) s (Breaks b)) (sym c.plain-in_default-first_forms.ensures)
@@ -50,7 +50,7 @@ returns-in_default-top_many c =
     let kept = c.in-Some.exit in
     let exit = framed_ref kept in
     let there : (framed_procedure q).exit ≡ Some exit = exit_there p.pieces q.parameters q.results kept q.exit (c.in-Some.ensures p q is found.at) in
-    let parameters = c.params.ensures.plan p q is found.at in
+    let parameters = c.parameters.ensures.count ∙ parameters_there p.pieces q.parameters q.results kept q.exit (c.in-Some.ensures p q is found.at) in
     let many : c.len.result ≡ q.results =
     c.len.ensures.value ∙ ap results_of (c.exit-2.view_is ∙ c.of-exit.ensures.exit)
     ∙ ranges_there p.pieces q.parameters q.results kept q.exit (c.in-Some.ensures p q is found.at) in
@@ -69,7 +69,7 @@ returns-in_err-paid c =
     let kept = c.in-Some.exit in
     let exit = framed_ref kept in
     let there : (framed_procedure q).exit ≡ Some exit = exit_there p.pieces q.parameters q.results kept q.exit (c.in-Some.ensures p q is found.at) in
-    let parameters = c.params.ensures.plan p q is found.at in
+    let parameters = c.parameters.ensures.count ∙ parameters_there p.pieces q.parameters q.results kept q.exit (c.in-Some.ensures p q is found.at) in
     let many : c.len.result ≡ q.results =
     c.len.ensures.value ∙ ap results_of (c.exit-2.view_is ∙ c.of-exit.ensures.exit)
     ∙ ranges_there p.pieces q.parameters q.results kept q.exit (c.in-Some.ensures p q is found.at) in
@@ -92,7 +92,7 @@ returns-in-Ok c =
     let kept = c.in-Some.exit in
     let exit = framed_ref kept in
     let there : (framed_procedure q).exit ≡ Some exit = exit_there p.pieces q.parameters q.results kept q.exit (c.in-Some.ensures p q is found.at) in
-    let parameters = c.params.ensures.plan p q is found.at in
+    let parameters = c.parameters.ensures.count ∙ parameters_there p.pieces q.parameters q.results kept q.exit (c.in-Some.ensures p q is found.at) in
     let many : c.len.result ≡ q.results =
     c.len.ensures.value ∙ ap results_of (c.exit-2.view_is ∙ c.of-exit.ensures.exit)
     ∙ ranges_there p.pieces q.parameters q.results kept q.exit (c.in-Some.ensures p q is found.at) in
@@ -117,7 +117,7 @@ returns-in-Err c =
     let kept = c.in-Some.exit in
     let exit = framed_ref kept in
     let there : (framed_procedure q).exit ≡ Some exit = exit_there p.pieces q.parameters q.results kept q.exit (c.in-Some.ensures p q is found.at) in
-    let parameters = c.params.ensures.plan p q is found.at in
+    let parameters = c.parameters.ensures.count ∙ parameters_there p.pieces q.parameters q.results kept q.exit (c.in-Some.ensures p q is found.at) in
     let many : c.len.result ≡ q.results =
     c.len.ensures.value ∙ ap results_of (c.exit-2.view_is ∙ c.of-exit.ensures.exit)
     ∙ ranges_there p.pieces q.parameters q.results kept q.exit (c.in-Some.ensures p q is found.at) in
