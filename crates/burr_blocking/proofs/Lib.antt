@@ -2,7 +2,7 @@ pub mod Common
 pub mod Hulls
 pub mod Reaches
 pub mod Marks
-pub mod Rows
+pub mod Triangles
 pub mod Shifts
 pub mod Joins
 pub mod Sets

@@ -13,7 +13,8 @@ use Rattle.burr_voxels.proofs.Common.Ahead.{same_cell}
 use Rattle.burr_blocking.specs.declared.extent.Extent.{Extent}
 use Rattle.burr_blocking.specs.Views.Boxes.{IsInBox, IsInRows, wide_of, deep_of, high_of, row_count_of, row_of, column_of}
 use Rattle.burr_blocking.specs.Views.Bits.{HasBit, HasBitAt, SetsBit, or_shifted, joined_from}
-use Rattle.burr_blocking.specs.Views.PairBits.{AreRowsOf, AreShort, AreBitsFrom}
+use Rattle.burr_blocking.specs.Views.Overlaps.{AreOverlapsOf}
+use Rattle.burr_blocking.specs.Views.PairBits.{IsSet, AreShort, AreBitsFrom}
 use Rattle.burr_blocking.proofs.Common.Reversed.{blocked_from, blocked_gives}
 use Rattle.burr_blocking.proofs.Reaches.{gap_value, gap_lt, gap_few}
 use Rattle.burr_blocking.proofs.Marks.{gap_once, parts_once, gap_sum, corner_sum, plus_minus, minus_plus, greatest_inside, IsBoxOf, box_inside, box_low, box_reach}
@@ -156,7 +157,7 @@ box_between : (e hull other : Extent) (ps qs : List Cell) (from to : Cell) → I
 box_between e hull other ps qs from to box in_ps in_qs = box.holds from to (All-contains (IsInBox hull) ps from box.cells in_ps) (All-contains (IsInBox other) qs to box.others in_qs)
 
 -- what has been made is what it should be
-pub made_rows : (e hull other : Extent) (rows : List ℕ) (ps qs : List Cell) → IsBoxOf e hull other ps qs → AreMade e rows ps qs → AreRowsOf e rows ps qs
+pub made_rows : (e hull other : Extent) (rows : List ℕ) (ps qs : List Cell) → IsBoxOf e hull other ps qs → AreMade e rows ps qs → AreOverlapsOf (IsSet e rows) ps qs
 made_rows e hull other rows ps qs box made d = (
   λ set.
       let r = (made (row_of e d) (column_of e d)).0 set.set in

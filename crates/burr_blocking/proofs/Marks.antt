@@ -14,7 +14,8 @@ use Rattle.burr_voxels.proofs.Common.Freedom.{Contains-map, Contains-from_map}
 use Rattle.burr_blocking.specs.declared.extent.Extent.{Extent}
 use Rattle.burr_blocking.specs.Views.Boxes.{IsInBox, wide_of, deep_of, high_of, size_of, place_of}
 use Rattle.burr_blocking.specs.Views.Corners.{IsBetween, AreCorners}
-use Rattle.burr_blocking.specs.Views.Tables.{HasMark, SetsMarks, IsMarked, IsTableOf}
+use Rattle.burr_blocking.specs.Views.Overlaps.{AreOverlapsOf}
+use Rattle.burr_blocking.specs.Views.Tables.{HasMark, SetsMarks, IsMarked}
 use Rattle.burr_blocking.proofs.Common.Reversed.{blocked_from, blocked_gives}
 use Rattle.burr_blocking.proofs.Reaches.{gap_value, gap_lt}
 
@@ -222,14 +223,14 @@ box_room e hull other ps qs i first x places box lt first_is places_are =
 -- a table that is being made: marked are the displacements at which these cells overlap the others
 pub record IsSoFar (e : Extent) (marks : List Bool) (ps qs : List Cell) : Type 0 where
   pub size : length marks ≡ size_of e
-  pub table : IsTableOf e marks ps qs
+  pub table : AreOverlapsOf (IsMarked e marks) ps qs
 
 -- one cell more
 pub so_far_more : (e : Extent) (marks new : List Bool) (ps qs : List Cell) (i : ℕ) (x : Cell) → i < length ps → length new ≡ length marks → Adds e marks new (get_or ps i x) qs → IsSoFar e marks (take i ps) qs → IsSoFar e new (take (i + 1) ps) qs
 so_far_more e marks new ps qs i x lt size adds so_far =
     let p : Cell = get_or ps i x in
     let before : List Cell = take i ps in
-    let both : IsTableOf e new (before ++ p ∷ []) qs = λ d. (
+    let both : AreOverlapsOf (IsMarked e new) (before ++ p ∷ []) qs = λ d. (
       λ m. elim ((adds d).0 m) [
         | inl was ↦
             let r = blocked_gives before qs d ((so_far.table d).0 was) in
@@ -245,9 +246,9 @@ so_far_more e marks new ps qs i x lt size adds so_far =
     ) in
     record {
       size = size ∙ so_far.size;
-      table = subst (λ (cs : List Cell). IsTableOf e new cs qs) (sym (take_more ps i x lt)) both;
+      table = subst (λ (cs : List Cell). AreOverlapsOf (IsMarked e new) cs qs) (sym (take_more ps i x lt)) both;
     }
 
 -- all cells
-pub so_far_all : (e : Extent) (marks : List Bool) (ps qs : List Cell) (i : ℕ) → length ps ≤ i → IsSoFar e marks (take i ps) qs → IsTableOf e marks ps qs
-so_far_all e marks ps qs i le so_far = subst (λ (cs : List Cell). IsTableOf e marks cs qs) (take_all i ps le) so_far.table
+pub so_far_all : (e : Extent) (marks : List Bool) (ps qs : List Cell) (i : ℕ) → length ps ≤ i → IsSoFar e marks (take i ps) qs → AreOverlapsOf (IsMarked e marks) ps qs
+so_far_all e marks ps qs i le so_far = subst (λ (cs : List Cell). AreOverlapsOf (IsMarked e marks) cs qs) (take_all i ps le) so_far.table

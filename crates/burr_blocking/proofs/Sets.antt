@@ -12,7 +12,8 @@ use Rattle.burr_voxels.specs.Grid.{plus, along}
 use Rattle.burr_blocking.specs.declared.extent.Extent.{Extent}
 use Rattle.burr_blocking.specs.Views.Boxes.{IsInBox, wide_of, deep_of, row_of, column_of}
 use Rattle.burr_blocking.specs.Views.Bits.{HasBit, HasBitAt}
-use Rattle.burr_blocking.specs.Views.PairBits.{IsSet, IsClearAhead, HasBitIn, AreShort}
+use Rattle.burr_blocking.specs.Views.Overlaps.{HasNoneAhead}
+use Rattle.burr_blocking.specs.Views.PairBits.{IsSet, HasBitIn, AreShort}
 use Rattle.burr_blocking.proofs.Reaches.{gap_value}
 use Rattle.burr_blocking.proofs.Shifts.{no_bit, or_from, or_left, or_right}
 
@@ -85,7 +86,7 @@ set_row e rows from d is same_y same_z = record {
 
 -- Along x
 
-pub plus_x_clear : (e : Extent) (rows : List ℕ) (from : Cell) (row : ℕ) (next : ℤ) (r : Bool) → AreShort e rows → next ≡ (from.x -ℤ e.least.x) +ℤ pos 1 → ((k : ℕ) → HasBit row k ↔ HasBitIn e rows from k) → IsTrue r ↔ ((k : ℕ) → next ≤ℤ pos k → ¬ HasBit row k) → IsTrue r ↔ IsClearAhead e rows from PlusX
+pub plus_x_clear : (e : Extent) (rows : List ℕ) (from : Cell) (row : ℕ) (next : ℤ) (r : Bool) → AreShort e rows → next ≡ (from.x -ℤ e.least.x) +ℤ pos 1 → ((k : ℕ) → HasBit row k ↔ HasBitIn e rows from k) → IsTrue r ↔ ((k : ℕ) → next ≤ℤ pos k → ¬ HasBit row k) → IsTrue r ↔ HasNoneAhead (IsSet e rows) from PlusX
 plus_x_clear e rows from row next r short is at_row told = (
   λ yes k least set.
       let d = plus from (along PlusX (pos k)) in
@@ -96,7 +97,7 @@ plus_x_clear e rows from row next r short is at_row told = (
       clear up.0 up.1 (row_set e rows from (plus from (along PlusX (pos up.0))) n h (short (row_of e from) n h.set) up.2 (flat from.y) (flat from.z))),
 )
 
-pub minus_x_clear : (e : Extent) (rows : List ℕ) (from : Cell) (row : ℕ) (end : ℤ) (r : Bool) → AreShort e rows → end ≡ from.x -ℤ e.least.x → ((k : ℕ) → HasBit row k ↔ HasBitIn e rows from k) → IsTrue r ↔ ((k : ℕ) → (pos k +ℤ pos 1) ≤ℤ end → ¬ HasBit row k) → IsTrue r ↔ IsClearAhead e rows from MinusX
+pub minus_x_clear : (e : Extent) (rows : List ℕ) (from : Cell) (row : ℕ) (end : ℤ) (r : Bool) → AreShort e rows → end ≡ from.x -ℤ e.least.x → ((k : ℕ) → HasBit row k ↔ HasBitIn e rows from k) → IsTrue r ↔ ((k : ℕ) → (pos k +ℤ pos 1) ≤ℤ end → ¬ HasBit row k) → IsTrue r ↔ HasNoneAhead (IsSet e rows) from MinusX
 minus_x_clear e rows from row end r short is at_row told = (
   λ yes k least set.
       let d = plus from (along MinusX (pos k)) in
@@ -114,7 +115,7 @@ same_x : (from : Cell) (direction : Direction) (k : ℤ) → (along direction k)
 same_x from direction k none = ap (λ (t : ℤ). from.x +ℤ t) none ∙ flat from.x
 
 -- no displacement ahead is of the box where x is none of it
-pub across_outside : (e : Extent) (rows : List ℕ) (from : Cell) (direction : Direction) → ((k : ℤ) → (along direction k).x ≡ pos 0) → ¬ ((e.least.x ≤ℤ from.x) × (from.x ≤ℤ e.greatest.x)) → IsClearAhead e rows from direction
+pub across_outside : (e : Extent) (rows : List ℕ) (from : Cell) (direction : Direction) → ((k : ℤ) → (along direction k).x ≡ pos 0) → ¬ ((e.least.x ≤ℤ from.x) × (from.x ≤ℤ e.greatest.x)) → HasNoneAhead (IsSet e rows) from direction
 across_outside e rows from direction across out k least set =
     let same = same_x from direction (pos k) (across (pos k)) in
     out (subst (λ (t : ℤ). e.least.x ≤ℤ t) same set.inside.x_from, subst (λ (t : ℤ). t ≤ℤ e.greatest.x) same set.inside.x_to)
@@ -124,7 +125,7 @@ pub record AreAhead (e : Extent) (rows : List ℕ) (from : Cell) (direction : Di
   pub has : (n : ℕ) → HasBit row n → (k : ℕ) × (1 ≤ k) × HasBitIn e rows (plus from (along direction (pos k))) n
   pub all : (n k : ℕ) → 1 ≤ k → IsSet e rows (plus from (along direction (pos k))) → n ≡ column_of e (plus from (along direction (pos k))) → HasBit row n
 
-across_inside : (e : Extent) (rows : List ℕ) (from : Cell) (direction : Direction) (row column : ℕ) → ((k : ℤ) → (along direction k).x ≡ pos 0) → e.least.x ≤ℤ from.x → from.x ≤ℤ e.greatest.x → column ≡ column_of e from → AreAhead e rows from direction row → (¬ HasBit row column) ↔ IsClearAhead e rows from direction
+across_inside : (e : Extent) (rows : List ℕ) (from : Cell) (direction : Direction) (row column : ℕ) → ((k : ℤ) → (along direction k).x ≡ pos 0) → e.least.x ≤ℤ from.x → from.x ≤ℤ e.greatest.x → column ≡ column_of e from → AreAhead e rows from direction row → (¬ HasBit row column) ↔ HasNoneAhead (IsSet e rows) from direction
 across_inside e rows from direction row column across low high is ahead = (
   λ none k least set.
       let same = same_x from direction (pos k) (across (pos k)) in
@@ -151,7 +152,7 @@ tells_not : {X : Type 0} {Y : Type 0} (b : Bool) → IsTrue b ↔ X → (¬ X) �
 tells_not true is iff = no_iff (λ y. iff.1 y (yes_of is))
 tells_not false is iff = yes_iff (iff.0 (no_of is))
 
-pub across_clear : (e : Extent) (rows : List ℕ) (from : Cell) (direction : Direction) (row column : ℕ) (b : Bool) → ((k : ℤ) → (along direction k).x ≡ pos 0) → e.least.x ≤ℤ from.x → from.x ≤ℤ e.greatest.x → column ≡ column_of e from → AreAhead e rows from direction row → IsTrue b ↔ HasBit row column → IsTrue (not b) ↔ IsClearAhead e rows from direction
+pub across_clear : (e : Extent) (rows : List ℕ) (from : Cell) (direction : Direction) (row column : ℕ) (b : Bool) → ((k : ℤ) → (along direction k).x ≡ pos 0) → e.least.x ≤ℤ from.x → from.x ≤ℤ e.greatest.x → column ≡ column_of e from → AreAhead e rows from direction row → IsTrue b ↔ HasBit row column → IsTrue (not b) ↔ HasNoneAhead (IsSet e rows) from direction
 across_clear e rows from direction row column b across low high is ahead told =
     tells_not b told (across_inside e rows from direction row column across low high is ahead)
 

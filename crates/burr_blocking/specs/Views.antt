@@ -1,7 +1,7 @@
 pub mod Bits
 pub mod Boxes
 pub mod Corners
+pub mod Overlaps
 pub mod PairBits
-pub mod PieceRows
-pub mod Rows
 pub mod Tables
+pub mod Triangles

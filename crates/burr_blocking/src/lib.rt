@@ -5,9 +5,11 @@ mod blocking;
 mod cell_tables;
 mod extent;
 mod looks;
+mod pair_answers;
 mod plain_cells;
 mod query;
 mod row_tables;
+mod triangle;
 
 pub use blocking::Blocking;
 pub use cell_tables::CellTables;

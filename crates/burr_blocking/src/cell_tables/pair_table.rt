@@ -1,12 +1,12 @@
-ghost use Rattle.std.specs.Prelude.{◌≡◌, ◌↔◌, ◌+◌, ◌<◌, length, map, vec_len, IfOk, IsTrue};
+ghost use Rattle.std.specs.Prelude.{◌≡◌, ◌+◌, ◌<◌, length, map, vec_len, IfOk};
 ghost use Rattle.std.specs.List.{All};
 ghost use Rattle.burr_voxels.specs.Grid.{minus};
 ghost use Rattle.burr_voxels.specs.Near.{IsWithin};
-ghost use Rattle.burr_assembly.specs.Rules.Homes.{DiameterAtMost};
 ghost use Rattle.burr_blocking.specs.Views.Boxes.{IsInBox, place_of, size_of};
-ghost use Rattle.burr_blocking.specs.Views.Tables.{IsMarked, IsTableOf, IsUnmarkedAhead, SetsMarks};
+ghost use Rattle.burr_blocking.specs.Views.Tables.{IsMarked, SetsMarks};
 
 use crate::extent::Extent;
+use crate::pair_answers::PairAnswers;
 use burr_voxels::{Cell, Direction};
 use std::alloc::{AllocError, Global};
 
@@ -19,15 +19,10 @@ pub struct PairTable {
     ghost whole: { vec_len marks ≡ size_of extent },
 }
 
-impl PairTable {
-    /// The table of two pieces by their cells at home.
-    pub fn build(alloc: Global, cells: &[Cell], others: &[Cell]) -> Result<PairTable, AllocError>
-        requires near { All (IsWithin 79) cells.now }
-        requires others_near { All (IsWithin 79) others.now }
-        requires small { DiameterAtMost 15 cells.now }
-        requires others_small { DiameterAtMost 15 others.now }
-        ensures { IfOk result (λ t. IsTableOf t.extent t.marks.items cells.now others.now) }
-    {
+impl PairAnswers for PairTable {
+    ghost Overlaps = { λ t. IsMarked t.extent t.marks.items };
+
+    fn build(alloc: Global, cells: &[Cell], others: &[Cell]) -> Result<PairTable, AllocError> {
         let hull = Extent::around(cells);
         let other_hull = Extent::around(others);
         let extent = hull.displacements_to(other_hull);
@@ -41,23 +36,14 @@ impl PairTable {
         Ok(PairTable { extent, marks })
     }
 
-    /// Whether the one overlaps the other at a displacement.
-    pub fn is_marked(&self, displacement: Cell) -> bool
-        ensures { IsTrue result ↔ IsMarked self.now.extent self.now.marks.items displacement }
-    {
+    fn blocked(&self, displacement: Cell) -> bool {
         self.extent.contains(displacement) && self.marks[self.extent.place(displacement)]
     }
 
-    /// Whether the one overlaps the other at no displacement any number of units, at least one,
-    /// ahead along a direction.
-    pub fn is_unmarked_ahead(&self, from: Cell, direction: Direction) -> bool
-        requires { IsWithin 512 from }
-        ensures { IsTrue result
-            ↔ IsUnmarkedAhead self.now.extent self.now.marks.items from direction }
-    {
-        let (first, last) = self.extent.units_ahead(from, direction);
+    fn free(&self, displacement: Cell, direction: Direction) -> bool {
+        let (first, last) = self.extent.units_ahead(displacement, direction);
         for units in first..=last {
-            if self.is_marked(from + direction.along(i32::from(units))) {
+            if self.blocked(displacement + direction.along(i32::from(units))) {
                 return false;
             }
         }

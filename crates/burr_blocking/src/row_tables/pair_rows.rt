@@ -4,12 +4,13 @@ ghost use Rattle.std.specs.List.{All};
 ghost use Rattle.burr_voxels.specs.Grid.{along, minus, plus};
 ghost use Rattle.burr_voxels.specs.Near.{IsWithin};
 ghost use Rattle.burr_voxels.specs.declared.cell.Cell.{Cell as CellOf};
-ghost use Rattle.burr_assembly.specs.Rules.Homes.{DiameterAtMost};
 ghost use Rattle.burr_blocking.specs.Views.Boxes.{IsInBox, row_of, column_of, row_count_of};
 ghost use Rattle.burr_blocking.specs.Views.Bits.{AreNext, HasBit, HasBitAt};
-ghost use Rattle.burr_blocking.specs.Views.PairBits.{AreBitsFrom, AreRowsOf, AreShort, HasBitIn, IsClearAhead, IsSet};
+ghost use Rattle.burr_blocking.specs.Views.Overlaps.{HasNoneAhead};
+ghost use Rattle.burr_blocking.specs.Views.PairBits.{AreBitsFrom, AreShort, HasBitIn, IsSet};
 
 use crate::extent::Extent;
+use crate::pair_answers::PairAnswers;
 use crate::row_tables::bits::{find_next, has_bit, is_clear_before, is_clear_from, join, set_bit};
 use burr_voxels::{Cell, Direction};
 use std::alloc::{AllocError, Global};
@@ -24,15 +25,10 @@ pub struct PairRows {
     ghost short: { AreShort extent rows.items },
 }
 
-impl PairRows {
-    /// The rows of two pieces by their cells at home.
-    pub fn build(alloc: Global, cells: &[Cell], others: &[Cell]) -> Result<PairRows, AllocError>
-        requires near { All (IsWithin 79) cells.now }
-        requires others_near { All (IsWithin 79) others.now }
-        requires small { DiameterAtMost 15 cells.now }
-        requires others_small { DiameterAtMost 15 others.now }
-        ensures { IfOk result (λ p. AreRowsOf p.extent p.rows.items cells.now others.now) }
-    {
+impl PairAnswers for PairRows {
+    ghost Overlaps = { λ p. IsSet p.extent p.rows.items };
+
+    fn build(alloc: Global, cells: &[Cell], others: &[Cell]) -> Result<PairRows, AllocError> {
         let hull = Extent::around(cells);
         let other_hull = Extent::around(others);
         let extent = hull.displacements_to(other_hull);
@@ -55,10 +51,7 @@ impl PairRows {
         Ok(PairRows { extent, rows })
     }
 
-    /// Whether the one overlaps the other at a displacement.
-    pub fn is_set(&self, displacement: Cell) -> bool
-        ensures { IsTrue result ↔ IsSet self.now.extent self.now.rows.items displacement }
-    {
+    fn blocked(&self, displacement: Cell) -> bool {
         self.extent.contains(displacement)
             && has_bit(
                 self.rows[self.extent.row(displacement)],
@@ -66,23 +59,19 @@ impl PairRows {
             )
     }
 
-    /// Whether the one overlaps the other at no displacement any number of units, at least one,
-    /// ahead along a direction.
-    pub fn is_clear_ahead(&self, from: Cell, direction: Direction) -> bool
-        requires { IsWithin 512 from }
-        ensures { IsTrue result
-            ↔ IsClearAhead self.now.extent self.now.rows.items from direction }
-    {
+    fn free(&self, displacement: Cell, direction: Direction) -> bool {
         match direction {
-            Direction::PlusX => self.is_clear_plus_x(from),
-            Direction::MinusX => self.is_clear_minus_x(from),
-            Direction::PlusY => self.is_clear_across(from, Direction::PlusY),
-            Direction::MinusY => self.is_clear_across(from, Direction::MinusY),
-            Direction::PlusZ => self.is_clear_across(from, Direction::PlusZ),
-            Direction::MinusZ => self.is_clear_across(from, Direction::MinusZ),
+            Direction::PlusX => self.is_clear_plus_x(displacement),
+            Direction::MinusX => self.is_clear_minus_x(displacement),
+            Direction::PlusY => self.is_clear_across(displacement, Direction::PlusY),
+            Direction::MinusY => self.is_clear_across(displacement, Direction::MinusY),
+            Direction::PlusZ => self.is_clear_across(displacement, Direction::PlusZ),
+            Direction::MinusZ => self.is_clear_across(displacement, Direction::MinusZ),
         }
     }
+}
 
+impl PairRows {
     /// The row in which a displacement lies, before, in or after the box; an empty one where it
     /// lies in none.
     fn row_at(&self, displacement: Cell) -> u32
@@ -96,31 +85,31 @@ impl PairRows {
         }
     }
 
-    /// The same along +x.
+    /// What `free` answers along +x.
     fn is_clear_plus_x(&self, from: Cell) -> bool
         requires { IsWithin 512 from }
         ensures { IsTrue result
-            ↔ IsClearAhead self.now.extent self.now.rows.items from PlusX }
+            ↔ HasNoneAhead (IsSet self.now.extent self.now.rows.items) from PlusX }
     {
         let next = self.extent.signed_column(from) + 1;
         is_clear_from(self.row_at(from), next)
     }
 
-    /// The same along -x.
+    /// What `free` answers along -x.
     fn is_clear_minus_x(&self, from: Cell) -> bool
         requires { IsWithin 512 from }
         ensures { IsTrue result
-            ↔ IsClearAhead self.now.extent self.now.rows.items from MinusX }
+            ↔ HasNoneAhead (IsSet self.now.extent self.now.rows.items) from MinusX }
     {
         is_clear_before(self.row_at(from), self.extent.signed_column(from))
     }
 
-    /// The same along a direction in which x stays.
+    /// What `free` answers along a direction in which x stays.
     fn is_clear_across(&self, from: Cell, direction: Direction) -> bool
         requires near { IsWithin 512 from }
         requires across { (k : ℤ) → (along direction k).x ≡ pos 0 }
         ensures { IsTrue result
-            ↔ IsClearAhead self.now.extent self.now.rows.items from direction }
+            ↔ HasNoneAhead (IsSet self.now.extent self.now.rows.items) from direction }
     {
         if self.extent.reaches_x(from) {
             !has_bit(self.rows_ahead(from, direction), self.extent.column(from))

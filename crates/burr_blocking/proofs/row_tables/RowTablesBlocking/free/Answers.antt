@@ -1,18 +1,6 @@
-use Rattle.std.proofs.Common.{subst, sym}
-use Rattle.burr_voxels.specs.Near.{IsWithin}
-use Rattle.burr_assembly.specs.Rules.Homes.{homes_of}
-use Rattle.burr_blocking.proofs.Reaches.{back_within}
-use Rattle.burr_blocking.specs.Views.PairBits.{IsSet}
-use Rattle.burr_blocking.proofs.Rows.{tells_free, tells_free_back}
+use Rattle.burr_blocking.proofs.Triangles.{tells_free_too}
 use Rattle.burr_blocking.proofs.row_tables.RowTablesBlocking.free.Goals as goal
 
-pub is_clear_ahead-requires-else-piece-other : goal.is_clear_ahead-requires-else-piece-other
-is_clear_ahead-requires-else-piece-other c = subst (IsWithin 512) (sym c.sub-back.ensures) (back_within 512 c.args.displacement c.requires.near)
-
-pub returns-then-piece-other : goal.returns-then-piece-other
-returns-then-piece-other c =
-    tells_free (homes_of c.args.self.now) c.args.piece c.args.other (IsSet c.pair.result.now.extent c.pair.result.now.rows.items) c.args.displacement c.args.direction c.is_clear_ahead.result c.pair.ensures c.is_clear_ahead.ensures
-
-pub returns-else-piece-other : goal.returns-else-piece-other
-returns-else-piece-other c =
-    tells_free_back (homes_of c.args.self.now) c.args.piece c.args.other (IsSet c.pair-else-piece-other.result.now.extent c.pair-else-piece-other.result.now.rows.items) c.args.displacement c.sub-back.result c.args.direction c.opposite.result c.is_clear_ahead-else-piece-other.result c.sub-back.ensures c.opposite.ensures c.pair-else-piece-other.ensures c.is_clear_ahead-else-piece-other.ensures
+pub returns : goal.returns
+returns c =
+    tells_free_too c.self.inside.tables c.args.self.now c.args.piece c.args.other c.args.displacement c.args.direction c.free.result c.self.view_is c.free.ensures

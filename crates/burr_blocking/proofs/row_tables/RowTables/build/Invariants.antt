@@ -1,8 +1,0 @@
-use Rattle.std.proofs.Common.{◌≡◌, vec_len}
-use Rattle.burr_assembly.specs.Rules.Homes.{homes_of}
-use Rattle.burr_blocking.specs.Views.PieceRows.{AreFirstPieces}
-use Rattle.burr_blocking.proofs.row_tables.RowTables.build.Given as goal
-
--- what there is so far is that of the first pieces
-abbrev pub invariant-loop-later : goal.invariant-loop-later
-invariant-loop-later l = (vec_len l.pieces ≡ l.later) × AreFirstPieces (homes_of l.fn.assembly) l.pieces.items
