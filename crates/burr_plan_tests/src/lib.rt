@@ -21,6 +21,8 @@ mod plans;
 #[cfg(test)]
 mod puts;
 #[cfg(test)]
+mod rods;
+#[cfg(test)]
 mod sheet;
 #[cfg(test)]
 mod sinks;

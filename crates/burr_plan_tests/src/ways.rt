@@ -59,7 +59,7 @@ pub fn answer<B: Blocking>(blocking: &B, question: &Question) -> Option<bool> {
 
 /// What answers for an assembly, in each way.
 #[derive(Drop)]
-struct Ways<'a> {
+pub struct Ways<'a> {
     plain: PlainCells<'a>,
     tables: CellTables<'a>,
     rows: RowTables<'a>,
@@ -67,7 +67,7 @@ struct Ways<'a> {
 
 impl Ways<'_> {
     /// What all ways answer; None also where they differ.
-    fn answer(&self, question: &Question) -> Option<bool> {
+    pub fn answer(&self, question: &Question) -> Option<bool> {
         let answered = answer(&self.plain, question)?;
         let by_tables = answer(&self.tables, question);
         if by_tables == Some(answered) && answer(&self.rows, question) == by_tables {
@@ -86,7 +86,7 @@ impl Ways<'_> {
 }
 
 /// All ways for an assembly.
-fn ways_of<'a>(rt: &impl Abort, alloc: Global, assembly: &'a Assembly) -> Ways<'a> {
+pub fn ways_of<'a>(rt: &impl Abort, alloc: Global, assembly: &'a Assembly) -> Ways<'a> {
     Ways {
         plain: cells_of(assembly),
         tables: tables_of(rt, alloc, assembly),
@@ -166,7 +166,7 @@ fn assert_alike(rt: &impl Abort, ways: &Ways<'_>, pieces: (u8, u8)) {
 }
 
 /// Asserts that all ways answer alike of any two pieces of an assembly, in both orders.
-fn assert_all_alike(rt: &impl Abort, alloc: Global, text: &str) {
+pub fn assert_all_alike(rt: &impl Abort, alloc: Global, text: &str) {
     let assembly = assembly_of(rt, alloc, text);
     let ways = ways_of(rt, alloc, &assembly);
     let count = u16::from(assembly.piece_count());
