@@ -18,7 +18,8 @@ or_shifted k a b = bit_or a (b * 2 ^ k % 2 ^ 32)
 abbrev pub joined_from : (ℕ → ℕ → ℕ) → ℕ → List ℕ → List ℕ → List ℕ
 joined_from join zero rows [] = rows
 joined_from join zero [] (other ∷ others) = []
-joined_from join zero (row ∷ rows) (other ∷ others) = join row other ∷ joined_from join zero rows others
+joined_from join zero (row ∷ rows) (other ∷ others) =
+    join row other ∷ joined_from join zero rows others
 joined_from join (suc first) [] others = []
 joined_from join (suc first) (row ∷ rows) others = row ∷ joined_from join first rows others
 
