@@ -3,6 +3,6 @@ use Rattle.burr_assembly.specs.Rules.Homes.{homes_of}
 use Rattle.burr_blocking.specs.Views.Triangles.{AreFirstPieces}
 use Rattle.burr_blocking.proofs.triangle.Triangle.build.Given as goal
 
--- what there is so far is that of the first pieces
+-- the pairs so far are those of the first pieces
 abbrev pub invariant-loop-later : goal.invariant-loop-later
 invariant-loop-later g l = (vec_len l.pieces ≡ l.later) × AreFirstPieces g.P.PairAnswers.Overlaps (homes_of l.fn.assembly) l.pieces.items
