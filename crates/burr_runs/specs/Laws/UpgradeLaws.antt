@@ -33,7 +33,8 @@ FramedAsBefore =
 -- motion.
 abbrev pub RunsAsBefore : Type 0
 RunsAsBefore =
-    (a : Assembly) (p : Plan) (answers : List ℤ) (motions : List Motion) (steps : ℕ) (closing : Closing)
+    (a : Assembly) (p : Plan) (answers : List ℤ) (motions : List Motion) (steps : ℕ)
+    (closing : Closing)
     → Run (setup_for a (upgraded p)) (upgraded p).budget (start (setup_for a (upgraded p))) answers
     motions steps closing
     ↔ Run (setup_for a p) p.budget (start (setup_for a p)) answers motions steps closing

@@ -30,7 +30,8 @@ pub record IsSafeSheetOf (a : Assembly) (p : Plan) (answers : List ℤ) (output 
   pub steps : ℕ
   pub closing : Closing
   pub run : Run (setup_for a p) p.budget (start (setup_for a p)) answers motions steps closing
-  pub safe : IsSafeRun (setup_for a p) p.budget (start (setup_for a p)) answers motions steps closing
+  pub safe : IsSafeRun (setup_for a p) p.budget (start (setup_for a p)) answers motions steps
+      closing
   pub text : output ≡ sheet (names_of a) motions steps closing
   pub closes : outcome ≡ outcome_of closing
 

@@ -46,7 +46,8 @@ numbers_part (n ∷ numbers) = codes " " ++ (signed_decimal n ++ numbers_part nu
 -- a point, where one is named that has a number
 abbrev pub point_part : Option (ArrayVec ℤ) → List ℕ
 point_part None = []
-point_part (Some point) = if length point.items == 0 then [] else (codes " point" ++ numbers_part point.items)
+point_part (Some point) =
+    if length point.items == 0 then [] else (codes " point" ++ numbers_part point.items)
 
 -- the line of a refused plan
 abbrev pub plan_refusal : Assembly → Refusal → List ℕ
@@ -75,7 +76,8 @@ IsVerdictLine kept a false line =
     (r : Refusal) × IsRefusedBy kept a r × (line ≡ plan_refusal a r)
 
 -- a sink took the line
-abbrev pub PutsVerdict : {S : Type 0} → SinkView S → S → S → ContainerView → Assembly → Bool → Type 0
+abbrev pub PutsVerdict : {S : Type 0} → SinkView S → S → S → ContainerView → Assembly → Bool
+    → Type 0
 PutsVerdict sink before after kept a is_accepted =
     (line : List ℕ) × IsVerdictLine kept a is_accepted line × Takes sink before after line
 

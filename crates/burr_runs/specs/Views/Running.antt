@@ -63,7 +63,8 @@ pub record IsInStep (b : Benched) (u : UnderWay) : Type 0 where
   pub outs : length u.levels + 1 ≡ parts b.state.places
 
 -- a run goes on with the same program and assembly, bench and sheet in step
-pub record GoesWith {S : Type 0} (sink : SinkView S) (before after : S) (p q : RunState) : Type 0 where
+pub record GoesWith {S : Type 0} (sink : SinkView S) (before after : S) (p q : RunState)
+    : Type 0 where
   pub in_step : IsInStep q.bench q.sheet
   pub same : IsSameRun p.bench q.bench
   pub puts : PutsPart sink before after p q
@@ -85,7 +86,8 @@ abbrev pub left_to_take : RunState → ℕ
 left_to_take p = (p.bench.program.budget - p.bench.state.steps) + length p.answers
 
 -- what a turn of the run came to: it goes on with these answers left, or closes where it stands
-abbrev pub TurnIs : {S : Type 0} → SinkView S → S → S → RunState → Benched → UnderWay → Turn → Type 0
+abbrev pub TurnIs : {S : Type 0} → SinkView S → S → S → RunState → Benched → UnderWay → Turn
+    → Type 0
 TurnIs sink before after p new more (turns.GoesOn left) =
     GoesWith sink before after p (run_state new left.now more)
     × (left_to_take (run_state new left.now more) < left_to_take p)

@@ -24,11 +24,14 @@ pub fn take_turn<'a, 'r, R: Runner<'r>, W: Sink>(
     requires running { (R.bench runner.old).state.mode ≡ Running }
     requires within { (R.bench runner.old).state.steps ≢ (R.bench runner.old).program.budget }
     ensures ok { IfOk result (TurnIs W.Sink sink.old sink.new
-        (run_state (R.bench runner.old) answers.entry.now sheet.old) (R.bench runner.new) sheet.new) }
+        (run_state (R.bench runner.old) answers.entry.now sheet.old)
+        (R.bench runner.new) sheet.new) }
     ensures err { OnErr result (FailsInRun W.Sink sink.old sink.new
         (run_state (R.bench runner.old) answers.entry.now sheet.old)) }
-    ensures stands { IfOk result (TurnStands (R.bench runner.old) answers.entry.now (R.bench runner.new)) }
-    ensures under_way { OnErr result (IsInRun (R.bench runner.old) answers.entry.now (R.bench runner.new)) }
+    ensures stands { IfOk result
+        (TurnStands (R.bench runner.old) answers.entry.now (R.bench runner.new)) }
+    ensures under_way { OnErr result
+        (IsInRun (R.bench runner.old) answers.entry.now (R.bench runner.new)) }
 {
     match runner.step(None) {
         Ok(Progress::Went(Some(motion))) => {
@@ -47,11 +50,18 @@ pub fn take_turn<'a, 'r, R: Runner<'r>, W: Sink>(
 }
 
 /// Gives a bench that asks the next answer; where there is none the run closes.
-fn give_answer<'a, 'r, R: Runner<'r>>(runner: &mut R, answers: &'a [i32], low: i32, high: i32) -> Turn<'a>
+fn give_answer<'a, 'r, R: Runner<'r>>(
+    runner: &mut R,
+    answers: &'a [i32],
+    low: i32,
+    high: i32,
+) -> Turn<'a>
     requires running { (R.bench runner.old).state.mode ≡ Running }
     requires within { (R.bench runner.old).state.steps ≢ (R.bench runner.old).program.budget }
-    requires asks { NextIs (setup_of (R.bench runner.old)) (R.bench runner.old).state (Asks low high) }
-    ensures is { AnswerIs (R.bench runner.old) answers.entry.now low high (R.bench runner.new) result }
+    requires asks { NextIs (setup_of (R.bench runner.old)) (R.bench runner.old).state
+        (Asks low high) }
+    ensures is { AnswerIs (R.bench runner.old) answers.entry.now low high (R.bench runner.new)
+        result }
     ensures stands { TurnStands (R.bench runner.old) answers.entry.now (R.bench runner.new) result }
 {
     let Some((answer, left)) = answers.split_first() else {

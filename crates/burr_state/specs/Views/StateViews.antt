@@ -31,7 +31,8 @@ standing places tray grip running callers steps mode = record {
 -- so many pieces at home in tray 0, and main at its begin
 abbrev pub at_start : ℕ → BenchState
 at_start pieces =
-    standing (replicate pieces (On 0 origin)) 0 0 (activation 0 0 (replicate 8 None) []) [] 0 Running
+    standing (replicate pieces (On 0 origin)) 0 0 (activation 0 0 (replicate 8 None) []) [] 0
+    Running
 
 -- each caller waits within its code, and called a procedure of a higher number
 abbrev pub IsCallChain : ℕ → List Activation → Type 0

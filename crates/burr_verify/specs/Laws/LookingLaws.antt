@@ -17,7 +17,8 @@ abbrev pub OnePassLooks : Type 0
 OnePassLooks =
     (homes : List (List Cell)) (plan : FramedPlan) (n : ℕ) (here : FramedProcedure) (stage : Stage)
     (j k : Judgement) (pass : Pass homes plan n here stage j)
-    (other : Pass homes plan n here stage k) (looks others : ℕ) → IsLaidOut here → LooksOf pass looks → LooksOf other others → looks ≡ others
+    (other : Pass homes plan n here stage k) (looks others : ℕ) → IsLaidOut here
+    → LooksOf pass looks → LooksOf other others → looks ≡ others
 
 -- a plan has a judgement with its looks
 abbrev pub SomeLooking : Type 0

@@ -22,12 +22,14 @@ OnePass =
 abbrev pub PassIsCut : Type 0
 PassIsCut =
     (homes : List (List Cell)) (plan : FramedPlan) (n : ℕ) (here : FramedProcedure) → IsLaidOut here
-    → Pass homes plan n here pass_start Passed ↔ ((rows : List Annotated) × IsCut homes plan n here rows)
+    → Pass homes plan n here pass_start Passed
+    ↔ ((rows : List Annotated) × IsCut homes plan n here rows)
 
 -- the pass refuses exactly with the first check that fails
 abbrev pub RefusalIsFirst : Type 0
 RefusalIsFirst =
-    (homes : List (List Cell)) (plan : FramedPlan) (n : ℕ) (here : FramedProcedure) (r : FailedCheck) → IsLaidOut here
+    (homes : List (List Cell)) (plan : FramedPlan) (n : ℕ) (here : FramedProcedure) (r : FailedCheck)
+    → IsLaidOut here
     → Pass homes plan n here pass_start (Refuses r) ↔ IsFirstFailure homes plan n here r
 
 -- a plan has exactly one judgement

@@ -29,7 +29,8 @@ last_from last [] = last
 last_from last (row ∷ rows) = last_from row.pc rows
 
 -- a front of a cut, up to a place into which this state falls
-pub record IsFront (homes : List (List Cell)) (plan : FramedPlan) (n : ℕ) (here : FramedProcedure) (rows : List Annotated) (to : ℕ) (out : Option AbstractState) : Type 0 where
+pub record IsFront (homes : List (List Cell)) (plan : FramedPlan) (n : ℕ) (here : FramedProcedure)
+    (rows : List Annotated) (to : ℕ) (out : Option AbstractState) : Type 0 where
   pub passes : PassesTo homes plan n here 0 None rows to out
   pub labels : (p : ℕ) (f : Frame) → p < to → IsLabelled here p f → IsBefore rows p (state_of f)
 

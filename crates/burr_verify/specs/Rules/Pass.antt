@@ -52,9 +52,11 @@ Hides here pc i =
     (p : ℕ) × (f : Frame) × IsLabelled here p f × (pc < p) × (p < pc + length (spelled i))
 
 -- The pass over procedure n, from a stage on.
-pub data Pass (homes : List (List Cell)) (plan : FramedPlan) (n : ℕ) (here : FramedProcedure) : Stage → Judgement → Type 0 where
+pub data Pass (homes : List (List Cell)) (plan : FramedPlan) (n : ℕ) (here : FramedProcedure)
+    : Stage → Judgement → Type 0 where
   -- The code ends with no state left: all is well.
-  ends : (last pc : ℕ) → pc ≡ length here.code → Pass homes plan n here (BeforeInstruction last pc None) Passed
+  ends : (last pc : ℕ) → pc ≡ length here.code
+      → Pass homes plan n here (BeforeInstruction last pc None) Passed
   -- The code ends with a state left: control falls off the end.
   falls_off : (last pc : ℕ) (s : AbstractState) → pc ≡ length here.code
       → Pass homes plan n here (BeforeInstruction last pc (Some s)) (refused n last rules.V5)
@@ -78,7 +80,8 @@ pub data Pass (homes : List (List Cell)) (plan : FramedPlan) (n : ℕ) (here : F
   -- No label stands here: the state that falls in goes on.
   goes_on : (last pc : ℕ) (s : AbstractState) (j : Judgement) → pc ≢ length here.code
       → HasNoLabel here pc
-      → Pass homes plan n here (AtInstruction pc s) j → Pass homes plan n here (BeforeInstruction last pc (Some s)) j
+      → Pass homes plan n here (AtInstruction pc s) j
+      → Pass homes plan n here (BeforeInstruction last pc (Some s)) j
   -- No instruction stands here.
   lacks_instruction : (pc : ℕ) (s : AbstractState) → ((i : Instruction) → ¬ StandsAt here.code pc i)
       → Pass homes plan n here (AtInstruction pc s) (refused n pc rules.V2)
@@ -91,8 +94,8 @@ pub data Pass (homes : List (List Cell)) (plan : FramedPlan) (n : ℕ) (here : F
       → Transfer homes plan n here s i (Breaks b)
       → Pass homes plan n here (AtInstruction pc s) (broken n pc b)
   -- Control falls out of the instruction with a state.
-  falls_through : (pc : ℕ) (s t : AbstractState) (i : Instruction) (j : Judgement) → StandsAt here.code pc i
-      → (¬ Hides here pc i)
+  falls_through : (pc : ℕ) (s t : AbstractState) (i : Instruction) (j : Judgement)
+      → StandsAt here.code pc i → (¬ Hides here pc i)
       → Transfer homes plan n here s i (FallsThrough t)
       → Pass homes plan n here (BeforeInstruction pc (pc + length (spelled i)) (Some t)) j
       → Pass homes plan n here (AtInstruction pc s) j

@@ -51,8 +51,8 @@ FallsOut NoSuccessor falling = falling ≡ None
 
 -- The code from pc on, into which this state falls, is cut into these instructions, and the rules hold
 -- of each.
-abbrev pub IsCutFrom : List (List Cell) → FramedPlan → ℕ → FramedProcedure → ℕ → Option AbstractState
-    → List Annotated → Type 0
+abbrev pub IsCutFrom : List (List Cell) → FramedPlan → ℕ → FramedProcedure → ℕ
+    → Option AbstractState → List Annotated → Type 0
 IsCutFrom homes plan n here pc falling [] = (pc ≡ length here.code) × (falling ≡ None)
 IsCutFrom homes plan n here pc falling (row ∷ rows) =
     (row.pc ≡ pc) × StandsAt here.code pc row.instruction × Enters here pc falling row.state
@@ -66,7 +66,8 @@ IsBefore rows pc s =
     (k : ℕ) × (row : Annotated) × (slice_get rows k ≡ Some row) × (row.pc ≡ pc) × (row.state ≡ s)
 
 -- a cut of a procedure's code: one pass from its first byte, with each label at an instruction
-pub record IsCut (homes : List (List Cell)) (plan : FramedPlan) (n : ℕ) (here : FramedProcedure) (rows : List Annotated) : Type 0 where
+pub record IsCut (homes : List (List Cell)) (plan : FramedPlan) (n : ℕ) (here : FramedProcedure)
+    (rows : List Annotated) : Type 0 where
   pub passes : IsCutFrom homes plan n here 0 None rows
   pub labels : (pc : ℕ) (f : Frame) → IsLabelled here pc f → IsBefore rows pc (state_of f)
 
@@ -96,7 +97,8 @@ pub record IsFormedExit (f : FramedExit) : Type 0 where
 abbrev pub IsTakenFrame : ℕ → Frame → Type 0
 IsTakenFrame parameters f = IsFormed parameters f × (box_size (live_ranges f.slots) ≤ 4096)
 
-pub record IsFramedProcedure (homes : List (List Cell)) (plan : FramedPlan) (n : ℕ) (here : FramedProcedure) : Type 0 where
+pub record IsFramedProcedure (homes : List (List Cell)) (plan : FramedPlan) (n : ℕ)
+    (here : FramedProcedure) : Type 0 where
   pub exit : (f : FramedExit) → here.exit ≡ Some f → IsFormedExit f
   pub entry : (f : Frame) → entry_of here ≡ Some f → IsFormedEntry here.parameters f
   pub frames : (pc : ℕ) (f : Frame) → IsLabelled here pc f → IsTakenFrame here.parameters f
@@ -112,7 +114,8 @@ pub record StartsWell (homes : List (List Cell)) (plan : FramedPlan) : Type 0 wh
   pub cost : value [] frame.cost ≤ℤ pos plan.budget
 
 -- A plan is well framed for these pieces.
-pub record IsWellFramed (name : List ℕ) (homes : List (List Cell)) (plan : FramedPlan) : Type 0 where
+pub record IsWellFramed (name : List ℕ) (homes : List (List Cell)) (plan : FramedPlan)
+    : Type 0 where
   pub same_name : plan.name ≡ name
   pub same_count : plan.pieces ≡ length homes
   pub each : (n : ℕ) (here : FramedProcedure) → slice_get plan.procedures n ≡ Some here
