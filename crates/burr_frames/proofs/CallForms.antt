@@ -1,5 +1,5 @@
 -- Forms and places with arguments in place of symbols, and the forms in the first slots.
-use Rattle.std.proofs.Common.{◌≡◌, ◌<◌, ℕ, zero, suc, ◌+◌, List, ◌∷◌, [], ◌++◌, ◌∙◌, sym, ap, refl, length, replicate, arith, Some, None, Option, slice_index_or, get_or, ℤ}
+use Rattle.std.proofs.Common.{◌≡◌, ◌<◌, ℕ, zero, suc, ◌+◌, List, ◌∷◌, [], ◌++◌, ◌∙◌, sym, ap, refl, replicate, arith, Some, None, Option, get_or, ℤ}
 use Rattle.std.specs.Prelude.{pos, ◌+ℤ◌, ◌*ℤ◌}
 use Rattle.std.proofs.lemmas.Int.{ints}
 use Rattle.std.proofs.lemmas.Option.{none-some, same_Some}
@@ -10,7 +10,6 @@ use Rattle.burr_code.specs.Places.{at_position}
 use Rattle.burr_forms.specs.Rules.Forms.{Form, number, times, plus_form, combined, substituted}
 use Rattle.burr_container.specs.Rules.Plans.{FormCell}
 use Rattle.burr_frames.specs.Rules.ControlRules.{substituted_cell, first_forms}
-use Rattle.burr_frames.specs.Rules.SpaceRules.{AllSmallPlaces}
 
 -- Zeros after the arguments
 
@@ -47,22 +46,6 @@ placed_padded arguments n (On tray c) =
     let y = substituted_padded arguments n c.y in
     let z = substituted_padded arguments n c.z in
     λ i. On tray (record { x = x i; y = y i; z = z i })
-
--- Small places
-
-pub small_place_at : (places : List (Placement FormCell)) (p : ℕ) (d : Placement FormCell) → p < length places
-    → AllSmallPlaces places → AllSmallPlaces (slice_index_or places p d ∷ [])
-small_place_at [] p d l s = absurd (omega (arith, l))
-small_place_at (Apart ∷ places) zero d l s = tt
-small_place_at (Apart ∷ places) (suc p) d l s = small_place_at places p d (omega (arith, l)) s
-small_place_at (On tray c ∷ places) zero d l s = (s.0, s.1, s.2, tt)
-small_place_at (On tray c ∷ places) (suc p) d l s = small_place_at places p d (omega (arith, l)) s.3
-
-pub small_place_push : (places : List (Placement FormCell)) (place : Placement FormCell) → AllSmallPlaces places
-    → AllSmallPlaces (place ∷ []) → AllSmallPlaces (places ++ place ∷ [])
-small_place_push [] place s p = p
-small_place_push (Apart ∷ places) place s p = small_place_push places place s p
-small_place_push (On tray c ∷ places) place s p = (s.0, s.1, s.2, small_place_push places place s.3 p)
 
 -- The first slots
 

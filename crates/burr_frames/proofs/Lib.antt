@@ -1,6 +1,5 @@
 pub mod Agreement
 pub mod Arrivals
-pub mod AsidePlaces
 pub mod After
 pub mod BenchOffsets
 pub mod CallArguments
@@ -28,10 +27,10 @@ pub mod OnePlace
 pub mod Operands
 pub mod Paying
 pub mod PlaceTests
-pub mod PlacesRead
 pub mod Reaches
 pub mod Rooms
 pub mod SearchedPairs
+pub mod SmallPlaces
 pub mod TopTwo
 pub mod WholeLooks
 pub mod WideValues

@@ -12,31 +12,7 @@ use Rattle.burr_forms.specs.Rules.Forms.{Form, number, IsSmall, AllSmall, IsSmal
 use Rattle.burr_container.specs.Rules.Plans.{FormCell}
 use Rattle.burr_frames.specs.Views.Clearing.{offsets_in}
 use Rattle.burr_frames.specs.Rules.SpaceRules.{AllSmallPlaces}
-
--- Small places
-
-pub small_place_at : (places : List (Placement FormCell)) (p : ℕ) (d : Placement FormCell) → AllSmallPlaces places
-    → p < length places → AllSmallPlaces (slice_index_or places p d ∷ [])
-small_place_at [] p d s l = absurd (omega (arith, l))
-small_place_at (Apart ∷ places) zero d s l = tt
-small_place_at (Apart ∷ places) (suc p) d s l = small_place_at places p d s (omega (arith, l))
-small_place_at (On tray c ∷ places) zero d s l = (s.0, s.1, s.2, tt)
-small_place_at (On tray c ∷ places) (suc p) d s l = small_place_at places p d s.3 (omega (arith, l))
-
-pub small_append : (xs ys : List (Placement FormCell)) → AllSmallPlaces xs → AllSmallPlaces ys → AllSmallPlaces (xs ++ ys)
-small_append [] ys s t = t
-small_append (Apart ∷ xs) ys s t = small_append xs ys s t
-small_append (On tray c ∷ xs) ys s t = (s.0, s.1, s.2, small_append xs ys s.3 t)
-
-pub small_after : (xs ys : List (Placement FormCell)) → AllSmallPlaces (xs ++ ys) → AllSmallPlaces ys
-small_after [] ys s = s
-small_after (Apart ∷ xs) ys s = small_after xs ys s
-small_after (On tray c ∷ xs) ys s = small_after xs ys s.3
-
-pub small_first : (place : Placement FormCell) (places : List (Placement FormCell)) → AllSmallPlaces (place ∷ places)
-    → AllSmallPlaces (place ∷ [])
-small_first Apart places s = tt
-small_first (On tray c) places s = (s.0, s.1, s.2, tt)
+use Rattle.burr_frames.proofs.SmallPlaces.{small_after, small_first}
 
 -- One place more
 

@@ -8,7 +8,7 @@ use Rattle.burr_frames.specs.Views.StateViews.{abstract_state}
 use Rattle.burr_frames.specs.Views.Changes.{with_grip, with_places}
 use Rattle.burr_frames.specs.Rules.SpaceRules.{AllSmallPlaces}
 use Rattle.burr_code.proofs.Common.Counts.{length-aside_places, refilled}
-use Rattle.burr_frames.proofs.AsidePlaces.{small_aside}
+use Rattle.burr_frames.proofs.SmallPlaces.{small_aside}
 use Rattle.burr_frames.proofs.state.State.go_aside.Goals as goal
 
 pub invariant_of-self : goal.invariant_of-self

@@ -8,13 +8,14 @@ use Rattle.burr_forms.specs.Rules.Forms.{Form}
 use Rattle.burr_container.specs.Rules.Plans.{FormCell}
 use Rattle.burr_frames.specs.Rules.ControlRules.{substituted_cell}
 use Rattle.burr_frames.specs.Rules.SpaceRules.{AllSmallPlaces}
-use Rattle.burr_frames.proofs.CallForms.{placed_padded, small_place_at, small_place_push}
+use Rattle.burr_frames.proofs.CallForms.{placed_padded}
+use Rattle.burr_frames.proofs.SmallPlaces.{small_place_at, small_append}
 use Rattle.burr_frames.proofs.state.after.places_with.Goals as goal
 
 pub substituted-requires-clause-small : goal.substituted-requires-clause-small
 substituted-requires-clause-small c =
     subst (λ (x : Placement FormCell). AllSmallPlaces (x ∷ [])) (sym c.index-there-piece.is)
-    (small_place_at c.args.there.now c.loop-piece.piece c.index-there-piece.result c.loop-piece-test.true c.requires.small_places)
+    (small_place_at c.args.there.now c.loop-piece.piece c.index-there-piece.result c.requires.small_places c.loop-piece-test.true)
 
 pub returns-in_err-substituted : goal.returns-in_err-substituted
 returns-in_err-substituted c =
@@ -31,7 +32,7 @@ returns-in_err-substituted c =
     rw p.1
     (λ small. c.in_err-substituted.ensures
     (subst (λ (x : Placement FormCell). AllSmallPlaces (x ∷ [])) (here ∙ sym given)
-    (small_place_at (map change there) piece place (omega (arith, length-map there change, c.loop-piece-test.true)) small)))
+    (small_place_at (map change there) piece place small (omega (arith, length-map there change, c.loop-piece-test.true)))))
 
 pub loop-piece-preserved : goal.loop-piece-preserved
 loop-piece-preserved c =
@@ -51,5 +52,5 @@ loop-piece-preserved c =
     ∙ ap (λ (x : Placement FormCell). map change (take piece there) ++ change x ∷ []) (sym c.index-there-piece.is) in
     record {
       is = items ∙ (λ i. c.loop-piece.invariant.is i ++ given i ∷ []) ∙ sym more;
-      small = subst AllSmallPlaces (sym items) (small_place_push before next c.loop-piece.invariant.small c.in_ok-substituted.ensures.1);
+      small = subst AllSmallPlaces (sym items) (small_append before (next ∷ []) c.loop-piece.invariant.small c.in_ok-substituted.ensures.1);
     }

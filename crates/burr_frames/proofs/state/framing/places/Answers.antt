@@ -7,7 +7,7 @@ use Rattle.burr_container.specs.Rules.Plans.{FormCell, live_slots, place_over_sy
 use Rattle.burr_container.specs.Views.Refs.{frame_of, placement_view}
 use Rattle.burr_frames.specs.Rules.SpaceRules.{AllSmallPlaces}
 use Rattle.burr_container.proofs.Common.ListsRead.{IsRead, read_on, all_read}
-use Rattle.burr_frames.proofs.PlacesRead.{small_push}
+use Rattle.burr_frames.proofs.SmallPlaces.{small_append, small_read}
 use Rattle.burr_frames.proofs.state.framing.places.Goals as goal
 
 pub loop-p-preserved : goal.loop-p-preserved
@@ -18,7 +18,7 @@ loop-p-preserved c =
     let items : c.push.new.self.items ≡ before ++ element ∷ [] = c.push.ensures.items ∙ ap (λ (e : Placement FormCell). before ++ e ∷ []) c.placed.ensures in
     record {
       read = subst (IsRead whole (c.loop-p.p + 1)) (sym items) (read_on whole c.loop-p.p before element c.place.ensures.place c.loop-p.invariant.read);
-      small = subst AllSmallPlaces (sym items) (small_push before c.place.result c.loop-p.invariant.small c.place.ensures.small);
+      small = subst AllSmallPlaces (sym items) (small_append before (element ∷ []) c.loop-p.invariant.small (small_read c.place.result c.place.ensures.small));
     }
 
 pub returns-clause-places : goal.returns-clause-places

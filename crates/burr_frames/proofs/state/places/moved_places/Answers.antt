@@ -6,7 +6,8 @@ use Rattle.burr_code.specs.declared.placement.Placement.{Placement}
 use Rattle.burr_code.specs.Places.{at_position}
 use Rattle.burr_container.specs.Rules.Plans.{FormCell}
 use Rattle.burr_frames.specs.Rules.SpaceRules.{moved, moved_forms, AllSmallPlaces}
-use Rattle.burr_frames.proofs.MovedPlaces.{small_place_at, small_append, one_changed, one_not_small}
+use Rattle.burr_frames.proofs.MovedPlaces.{one_changed, one_not_small}
+use Rattle.burr_frames.proofs.SmallPlaces.{small_place_at, small_append}
 use Rattle.burr_frames.proofs.state.places.moved_places.Goals as goal
 
 pub moved_place-requires-clause-small : goal.moved_place-requires-clause-small

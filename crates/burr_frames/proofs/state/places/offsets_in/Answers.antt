@@ -6,7 +6,8 @@ use Rattle.burr_code.specs.declared.placement.Placement.{Placement}
 use Rattle.burr_container.specs.Rules.Plans.{FormCell}
 use Rattle.burr_forms.specs.Rules.Forms.{Form, IsSmallForm, AllSmallForms}
 use Rattle.burr_frames.specs.Rules.SpaceRules.{AllSmallPlaces}
-use Rattle.burr_frames.proofs.MovedPlaces.{small_place_at, small_offset_in, offsets_one_more, three_forms, three_pushed}
+use Rattle.burr_frames.proofs.MovedPlaces.{small_offset_in, offsets_one_more, three_forms, three_pushed}
+use Rattle.burr_frames.proofs.SmallPlaces.{small_place_at}
 use Rattle.burr_frames.proofs.state.places.offsets_in.Goals as goal
 
 pub loop-piece-preserved : goal.loop-piece-preserved

@@ -6,7 +6,7 @@ use Rattle.burr_code.specs.declared.placement.Placement.TheVariants.{On}
 use Rattle.burr_container.specs.Rules.Plans.{FormCell}
 use Rattle.burr_frames.specs.Rules.SpaceRules.{AllSmallPlaces}
 use Rattle.burr_frames.specs.Rules.Starts.{home_position}
-use Rattle.burr_frames.proofs.CallForms.{small_place_push}
+use Rattle.burr_frames.proofs.SmallPlaces.{small_append}
 use Rattle.burr_frames.proofs.state.starting.home_places.Goals as goal
 
 one_after : {A : Type 0} (n : ℕ) (x : A) → replicate n x ++ x ∷ [] ≡ replicate (suc n) x
@@ -24,5 +24,5 @@ loop-preserved c =
       items ∙ ap (λ (e : Placement FormCell). before ++ e ∷ []) c.home.ensures.place
           ∙ ap (λ (xs : List (Placement FormCell)). xs ++ On 0 home_position ∷ []) c.loop.invariant.0
           ∙ one_more c.loop.counter (On 0 home_position),
-      subst AllSmallPlaces (sym items) (small_place_push before element c.loop.invariant.1 c.home.ensures.small),
+      subst AllSmallPlaces (sym items) (small_append before (element ∷ []) c.loop.invariant.1 c.home.ensures.small),
     )

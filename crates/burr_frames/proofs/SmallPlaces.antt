@@ -1,12 +1,46 @@
--- Places after a group that goes aside are small as before.
-use Rattle.std.proofs.Common.{◌==◌, if◌then◌else◌, ℕ, suc, List, [], ◌∷◌}
+-- Places whose forms are all small: one of them, more of them, and those after a group went aside.
+use Rattle.std.proofs.Common.{◌==◌, if◌then◌else◌, ℕ, zero, suc, ◌+◌, ◌<◌, List, [], ◌∷◌, ◌++◌, length, slice_index_or, Some, None, Option, arith}
 use Rattle.std.proofs.lemmas.Bool.{cond_both}
 use Rattle.burr_code.specs.PieceSets.{is_left_out}
 use Rattle.burr_code.specs.declared.placement.Placement.{Placement}
 use Rattle.burr_code.specs.declared.placement.Placement.TheVariants.{Apart, On}
 use Rattle.burr_code.specs.Places.{changed, to_tray, is_in, count_in, parted_in, parted, aside_places}
+use Rattle.burr_forms.specs.Rules.Forms.{Form}
 use Rattle.burr_container.specs.Rules.Plans.{FormCell}
+use Rattle.burr_container.specs.Views.Refs.{placement_view, IsSmallPlace}
 use Rattle.burr_frames.specs.Rules.SpaceRules.{AllSmallPlaces}
+
+-- One and more
+
+pub small_place_at : (places : List (Placement FormCell)) (p : ℕ) (d : Placement FormCell) → AllSmallPlaces places
+    → p < length places → AllSmallPlaces (slice_index_or places p d ∷ [])
+small_place_at [] p d s l = absurd (omega (arith, l))
+small_place_at (Apart ∷ places) zero d s l = tt
+small_place_at (Apart ∷ places) (suc p) d s l = small_place_at places p d s (omega (arith, l))
+small_place_at (On tray c ∷ places) zero d s l = (s.0, s.1, s.2, tt)
+small_place_at (On tray c ∷ places) (suc p) d s l = small_place_at places p d s.3 (omega (arith, l))
+
+pub small_append : (xs ys : List (Placement FormCell)) → AllSmallPlaces xs → AllSmallPlaces ys → AllSmallPlaces (xs ++ ys)
+small_append [] ys s t = t
+small_append (Apart ∷ xs) ys s t = small_append xs ys s t
+small_append (On tray c ∷ xs) ys s t = (s.0, s.1, s.2, small_append xs ys s.3 t)
+
+pub small_after : (xs ys : List (Placement FormCell)) → AllSmallPlaces (xs ++ ys) → AllSmallPlaces ys
+small_after [] ys s = s
+small_after (Apart ∷ xs) ys s = small_after xs ys s
+small_after (On tray c ∷ xs) ys s = small_after xs ys s.3
+
+pub small_first : (place : Placement FormCell) (places : List (Placement FormCell)) → AllSmallPlaces (place ∷ places)
+    → AllSmallPlaces (place ∷ [])
+small_first Apart places s = tt
+small_first (On tray c) places s = (s.0, s.1, s.2, tt)
+
+-- a place that is read
+pub small_read : (place : Option (ℕ × Form × Form × Form)) → IsSmallPlace place → AllSmallPlaces (placement_view place ∷ [])
+small_read None s = tt
+small_read (Some at) s = (s.0, s.1, s.2, tt)
+
+-- A group that went aside
 
 small_cons : (place other : Placement FormCell) (places others : List (Placement FormCell)) → AllSmallPlaces (place ∷ places)
     → (AllSmallPlaces (place ∷ []) → AllSmallPlaces (other ∷ [])) → (AllSmallPlaces places → AllSmallPlaces others)
