@@ -20,7 +20,7 @@ use crate::handing::hand_on;
 use crate::status::Status;
 use burr_assembly::{Assembly, AssemblyFault};
 use burr_bench::Checked;
-use burr_blocking::{Blocking, CellTables};
+use burr_blocking::{Blocking, RowTables};
 use burr_command::PlanTask;
 use burr_container::{Container, ContainerFault};
 use burr_io::{Sink, Source, WholeLines};
@@ -137,7 +137,7 @@ fn use_assembly<'a, 'x, W: Sink>(
     if let Err(refusal) = fits_assembly(&container, assembly) {
         return refuse_plan(&refusal, assembly, sink);
     }
-    let tables = CellTables::build(alloc, assembly)?;
+    let tables = RowTables::build(alloc, assembly)?;
     match task {
         PlanTask::Check => check_plan(&container, &tables, sink),
         PlanTask::Run => run_if_accepted(alloc, &container, &tables, answers, sink),

@@ -14,7 +14,7 @@ use crate::outcome::Outcome;
 use crate::reading::read_whole;
 use crate::running::run_bare;
 use burr_assembly::{Assembly, AssemblyFault};
-use burr_blocking::CellTables;
+use burr_blocking::RowTables;
 use burr_io::{Sink, Source, WriteFault, put_all};
 use std::alloc::Global;
 
@@ -71,7 +71,7 @@ fn write_text_output<W: Sink>(
 {
     match Assembly::read(alloc, text) {
         Ok(assembly) => {
-            let tables = CellTables::build(alloc, &assembly)?;
+            let tables = RowTables::build(alloc, &assembly)?;
             Ok(run_bare(&tables, code, sink)?)
         }
         Err(AssemblyFault::Memory) => Err(BenchFault::Memory),
