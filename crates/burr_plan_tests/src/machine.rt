@@ -82,11 +82,11 @@ fn run_and_go_back(
     let before = machine_words(alloc, machine).expect(rt, "memory");
     let wanted = bench_words(alloc, bench).expect(rt, "memory");
     assert!(rt; before == wanted, "{wanted}: {before}");
-    let (undo, left) = match (call_both(rt, alloc, machine, bench, None), answers.split_first()) {
-        (None, Some((answer, left))) => (
-            call_both(rt, alloc, machine, bench, Some(*answer)),
-            left,
-        ),
+    let (undo, left) = match (
+        call_both(rt, alloc, machine, bench, None),
+        answers.split_first(),
+    ) {
+        (None, Some((answer, left))) => (call_both(rt, alloc, machine, bench, Some(*answer)), left),
         (undo, _) => (undo, answers),
     };
     let is_over = undo.is_none() && left.is_empty();
