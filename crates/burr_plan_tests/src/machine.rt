@@ -1,6 +1,6 @@
 //! The machine beside the bench that tests each move: what both tell and show after each call, and
 //! the machine taken back by its records, step by step.
-ghost use Rattle.std.specs.Prelude.{◌≡◌};
+ghost use Rattle.std.specs.Prelude.{◌≡◌, MatchOption, Some};
 ghost use Rattle.burr_bench.specs.Recorded.{GoesBack};
 
 use crate::assemblies::SQUARE;
@@ -66,36 +66,53 @@ fn call_both(
     undo
 }
 
-/// Runs both on from where they stand, with these answers and so many calls at most, and asserts that
-/// they show the same after each step. Then takes the machine back, and asserts after each record
-/// that it shows what it showed before that step.
+/// Takes both a step on: gives them these answers, where they ask, until one fits. The record of the
+/// step and the answers that are left; None where no step was made.
+fn step_both<'a>(
+    rt: &impl Abort,
+    alloc: Global,
+    machine: &mut Machine<'_>,
+    bench: &mut Bench<'_, '_>,
+    answers: &'a [i32],
+) -> Option<(Undo, &'a [i32])>
+    ensures { MatchOption result (machine.new ≡ machine.old)
+        (λ made. GoesBack machine.old machine.new (Some made.0)) }
+{
+    if let Some(undo) = call_both(rt, alloc, machine, bench, None) {
+        return Some((undo, answers));
+    }
+    for used in 0..answers.len() {
+        if let Some(undo) = call_both(rt, alloc, machine, bench, Some(answers[used])) {
+            return Some((undo, &answers[used + 1..]));
+        }
+    }
+    None
+}
+
+/// Runs both on from where they stand, with these answers and so many steps at most, and asserts that
+/// they show the same before each. Then takes the machine back, and asserts after each record that it
+/// shows what it showed before that step.
 fn run_and_go_back(
     rt: &impl Abort,
     alloc: Global,
     machine: &mut Machine<'_>,
     bench: &mut Bench<'_, '_>,
     answers: &[i32],
-    calls: u32,
+    steps: u32,
 )
     ensures { machine.new ≡ machine.old }
 {
     let before = machine_words(alloc, machine).expect(rt, "memory");
     let wanted = bench_words(alloc, bench).expect(rt, "memory");
     assert!(rt; before == wanted, "{wanted}: {before}");
-    let (undo, left) = match (
-        call_both(rt, alloc, machine, bench, None),
-        answers.split_first(),
-    ) {
-        (None, Some((answer, left))) => (call_both(rt, alloc, machine, bench, Some(*answer)), left),
-        (undo, _) => (undo, answers),
+    if steps == 0 {
+        return;
+    }
+    let Some((undo, left)) = step_both(rt, alloc, machine, bench, answers) else {
+        return;
     };
-    let is_over = undo.is_none() && left.is_empty();
-    if calls > 0 && !is_over {
-        run_and_go_back(rt, alloc, machine, bench, left, calls - 1);
-    }
-    if let Some(undo) = undo {
-        machine.undo(undo);
-    }
+    run_and_go_back(rt, alloc, machine, bench, left, steps - 1);
+    machine.undo(undo);
     let after = machine_words(alloc, machine).expect(rt, "memory");
     assert!(rt; after == before, "{before}: {after}");
 }
