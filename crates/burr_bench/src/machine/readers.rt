@@ -12,7 +12,7 @@ use burr_state::Mode;
 use burr_voxels::Cell;
 
 impl<'a> Machine<'a> {
-    /// The steps made so far, at most the plan's budget.
+    /// The steps made so far.
     pub fn steps(&self) -> u64
         ensures { result ≡ self.now.state.steps }
     {
