@@ -1,5 +1,6 @@
 mod answering;
 mod executing;
+mod questions;
 mod readers;
 mod starting;
 mod undoing;

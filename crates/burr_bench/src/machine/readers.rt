@@ -1,8 +1,11 @@
-ghost use Rattle.std.specs.Prelude.{◌≡◌, ◌<◌, ◌↔◌, ◌+◌, length, IsTrue, Some, None, slice_get, get_or, reverse};
+ghost use Rattle.std.specs.Prelude.{◌≡◌, ◌<◌, ◌↔◌, ◌+◌, length, IsTrue, MatchOption, Some, None, slice_get, get_or, reverse};
 ghost use Rattle.burr_assembly.specs.Rules.Text.{IsAssembly};
 ghost use Rattle.burr_voxels.specs.Near.{IsWithin};
 ghost use Rattle.burr_code.specs.declared.limits.TheConstants.{SLOTS};
 ghost use Rattle.burr_state.specs.declared.mode.Mode.TheVariants.{Ended};
+ghost use Rattle.burr_state.specs.Rules.Bench.{HasLabelOf, IsLabelAt};
+ghost use Rattle.burr_state.specs.Rules.Step.{IsQuestionOf};
+ghost use Rattle.burr_state.specs.Views.Benches.{setup_of};
 ghost use Rattle.burr_state.specs.Views.Offsets.{PositionHolds};
 
 use crate::machine::Machine;
@@ -24,6 +27,14 @@ impl<'a> Machine<'a> {
         ensures { IsTrue result ↔ (self.now.state.mode ≡ Ended) }
     {
         self.bench.mode() == Mode::Ended
+    }
+
+    /// The question for which the run waits: the least and the greatest number that answer it; None
+    /// where it waits for none.
+    pub fn question(&self) -> Option<(i32, i32)>
+        ensures { IsQuestionOf (setup_of self.now) self.now.state result }
+    {
+        self.bench.question()
     }
 
     /// The assembly whose pieces are moved.
@@ -77,6 +88,15 @@ impl<'a> Machine<'a> {
         ensures { result ≡ self.now.state.running.pc }
     {
         self.bench.pc()
+    }
+
+    /// The position of a label in a procedure's code; None where there is no such procedure or
+    /// label.
+    pub fn label(&self, procedure: u8, label: u16) -> Option<u16>
+        ensures { MatchOption result (¬ HasLabelOf (setup_of self.now) procedure label)
+            (IsLabelAt (setup_of self.now) procedure label) }
+    {
+        self.bench.label(procedure, label)
     }
 
     /// The value of a slot of the running activation; None where it is empty. Slots are numbered

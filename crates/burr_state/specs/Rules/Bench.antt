@@ -1,6 +1,6 @@
 -- The bench: pieces that lie in trays, and where a run stands. Activations, their slots and
 -- operands are those of the JVM Specification, 2.6.
-use Rattle.std.specs.Prelude.{ℕ, ℤ, List, [], ◌∷◌, Option, None, map, replicate}
+use Rattle.std.specs.Prelude.{◌≡◌, ℕ, ℤ, List, [], ◌∷◌, Option, Some, None, map, replicate, slice_get}
 use Rattle.burr_voxels.specs.declared.cell.Cell.{Cell}
 use Rattle.burr_voxels.specs.Grid.{origin}
 use Rattle.burr_code.specs.declared.placement.Placement.{Placement}
@@ -65,6 +65,15 @@ bare homes code = record { homes = homes; procedures = bare_procedure code ∷ [
 -- the run of a program on pieces with these home cells
 abbrev pub running : List (List Cell) → Program → Setup
 running homes program = record { homes = homes; procedures = program.procedures }
+
+-- the position of a label of a procedure
+abbrev pub IsLabelAt : Setup → ℕ → ℕ → ℕ → Type 0
+IsLabelAt setup procedure label position =
+    (here : BenchProcedure) × (slice_get setup.procedures procedure ≡ Some here)
+    × (slice_get here.labels label ≡ Some position)
+
+abbrev pub HasLabelOf : Setup → ℕ → ℕ → Type 0
+HasLabelOf setup procedure label = (position : ℕ) × IsLabelAt setup procedure label position
 
 -- All pieces are at home in tray 0, nothing is gripped, and main is at its begin.
 abbrev pub start : Setup → BenchState

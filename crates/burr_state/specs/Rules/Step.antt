@@ -1,5 +1,5 @@
 -- One step of the bench, and one call of it.
-use Rattle.std.specs.Prelude.{◌≡◌, ℤ, Option, Some, None, Result, Ok, Err, slice_get, ◌⊎◌, ◌+◌, ◌-◌, ◌^◌, min}
+use Rattle.std.specs.Prelude.{◌≡◌, ℤ, Option, Some, None, MatchOption, Result, Ok, Err, slice_get, ◌⊎◌, ◌+◌, ◌-◌, ◌^◌, min}
 use Rattle.burr_code.specs.Instruction.{Instruction, Halt, Push, Load, Store, Add, Sub, Drop, Grip, Step, Aside, Tray, Jump, Down, Ask, Pick, Call, Ret, StandsAt}
 use Rattle.burr_state.specs.declared.mode.Mode.{Mode}
 use Rattle.burr_state.specs.declared.mode.Mode.TheVariants.{Running, Ended, Trapped}
@@ -53,6 +53,16 @@ NextIs setup s next =
 -- the state asks for a number of this range
 abbrev pub AsksFor : Setup → BenchState → ℤ → ℤ → Type 0
 AsksFor setup s low high = NextIs setup s (Asks low high)
+
+-- the run goes on, and waits for a number of this range
+abbrev pub AsksNow : Setup → BenchState → ℤ → ℤ → Type 0
+AsksNow setup s low high = (s.mode ≡ Running) × AsksFor setup s low high
+
+-- the question for which it waits, by its least and its greatest answer; none where it waits for none
+abbrev pub IsQuestionOf : Setup → BenchState → Option (ℤ × ℤ) → Type 0
+IsQuestionOf setup s question =
+    MatchOption question ((low high : ℤ) → ¬ AsksNow setup s low high)
+    (λ range. AsksNow setup s range.0 range.1)
 
 -- the answer is taken, and the run goes on so
 abbrev pub TakesAnswer : Setup → BenchState → ℤ → BenchState → Type 0

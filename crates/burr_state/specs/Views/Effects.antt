@@ -28,6 +28,12 @@ motion_made (Ok (effects.Goes motion)) = motion
 motion_made (Ok (effects.Asks low high)) = None
 motion_made (Err trap) = None
 
+-- the question that an instruction came to, by its least and its greatest answer
+abbrev pub question_in : Result Effect Trap → Option (ℤ × ℤ)
+question_in (Ok (effects.Goes motion)) = None
+question_in (Ok (effects.Asks low high)) = Some (low, high)
+question_in (Err trap) = None
+
 -- no motion was made
 abbrev pub NeverMoves : Result Effect Trap → Type 0
 NeverMoves (Ok (effects.Goes motion)) = motion ≡ None

@@ -54,7 +54,8 @@ impl<'a> Bench<'a> {
     pub fn move_grip(&mut self, direction: Direction, size: usize) -> Motion
         requires on_bench { StaysOnBench self.old.state direction }
         requires within { self.old.state.running.pc + size ≤ MOST_CODE }
-        ensures motion { result ≡ motion_of self.old.state.grip self.old.state.tray direction false }
+        ensures motion { result
+            ≡ motion_of self.old.state.grip self.old.state.tray direction false }
         ensures state { self.new.state ≡ moved_grip direction size self.old.state }
         ensures program { self.new.program ≡ self.old.program }
     {

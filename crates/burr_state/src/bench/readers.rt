@@ -1,7 +1,9 @@
-ghost use Rattle.std.specs.Prelude.{◌≡◌, ◌≤◌, ◌<◌, ◌+◌, ◌↔◌, length, IfSome, IsTrue, Some, None, slice_get, get_or, reverse};
+ghost use Rattle.std.specs.Prelude.{◌≡◌, ◌≤◌, ◌<◌, ◌+◌, ◌↔◌, List, length, IfSome, IsTrue, MatchOption, Some, None, slice_get, get_or, reverse};
+ghost use Rattle.burr_voxels.specs.declared.cell.Cell.{Cell};
 ghost use Rattle.burr_voxels.specs.Near.{IsWithin};
 ghost use Rattle.burr_code.specs.declared.limits.TheConstants.{MOST_BUDGET, SLOTS};
 ghost use Rattle.burr_code.specs.Places.{IsPartOfTray, IsEmptyTray};
+ghost use Rattle.burr_state.specs.Rules.Bench.{running, HasLabelOf, IsLabelAt};
 ghost use Rattle.burr_state.specs.Views.StateViews.{IsOffsetHere, StaysOnBench};
 ghost use Rattle.burr_state.specs.Views.Offsets.{AreNear, PositionHolds};
 
@@ -116,6 +118,16 @@ impl<'a> Bench<'a> {
         ensures { result ≡ self.now.state.running.pc }
     {
         self.state.pc() as u16
+    }
+
+    /// The position of a label in a procedure's code; None where there is no such procedure or
+    /// label.
+    pub fn label(&self, procedure: u8, label: u16) -> Option<u16>
+        ensures { (homes : List (List Cell)) → MatchOption result
+            (¬ HasLabelOf (running homes self.now.program) procedure label)
+            (IsLabelAt (running homes self.now.program) procedure label) }
+    {
+        self.program.procedure(procedure)?.label(label)
     }
 
     /// The value of a slot of the running activation; None where it is empty. Slots are numbered

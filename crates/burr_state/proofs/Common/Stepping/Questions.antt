@@ -1,22 +1,26 @@
 -- Which instructions ask, and which answers they take.
-use Rattle.std.proofs.Common.{◌≡◌, ◌<◌, ◌⊎◌, ℕ, ℤ, pos, ◌-ℤ◌, List, length, inl, inr, refl, subst, arith, Bool, true, false, Some, None, Option}
+use Rattle.std.proofs.Common.{◌≡◌, ◌<◌, ◌⊎◌, ℕ, ℤ, pos, ◌-ℤ◌, List, length, inl, inr, refl, subst, arith, Bool, true, false, Some, None, Option, Result, Ok, Err}
 use Rattle.burr_text.specs.Checks.{needs, finds}
 use Rattle.burr_text.proofs.Common.Decisions.{Decided, decide_below}
 use Rattle.burr_code.specs.Instruction.{Instruction, Halt, Push, Load, Store, Add, Sub, Drop, Grip, Step, Aside, Tray, Jump, Down, Ask, Pick, Call, Ret}
 use Rattle.burr_code.specs.Labels.{labelled}
 use Rattle.burr_code.proofs.Common.Labels.{picked}
+use Rattle.burr_state.specs.declared.effect.Effect.{Effect}
+use Rattle.burr_state.specs.declared.effect.Effect.TheVariants as effects
+use Rattle.burr_state.specs.declared.mode.Mode.TheVariants.{Running}
 use Rattle.burr_state.specs.declared.trap.Trap.{Trap}
 use Rattle.burr_state.specs.declared.trap.Trap.TheVariants as traps
 use Rattle.burr_state.specs.declared.motion.Motion.{Motion}
 use Rattle.burr_state.specs.Rules.Bench.{BenchProcedure, BenchState, Setup}
-use Rattle.burr_state.specs.Rules.Next.{Next, Traps, goes}
+use Rattle.burr_state.specs.Rules.Next.{Next, Goes, Asks, Traps, goes}
 use Rattle.burr_state.specs.Rules.Numbers.{HasRoom}
 use Rattle.burr_state.specs.Rules.Questions.{Fits}
-use Rattle.burr_state.specs.Rules.Step.{Executes, IsAt, IsUnfit}
-use Rattle.burr_state.specs.Views.Effects.{TakesNumber, TakesLabel, IsPicked}
+use Rattle.burr_state.specs.Rules.Step.{Executes, IsAt, NextIs, IsUnfit, IsQuestionOf}
+use Rattle.burr_state.specs.Views.Effects.{next_of, question_in, TakesNumber, TakesLabel, IsPicked}
 use Rattle.burr_state.specs.Views.Benches.{Answered}
 use Rattle.std.proofs.lemmas.Int.{ints}
 use Rattle.std.proofs.lemmas.Option.{slice_get_within}
+use Rattle.burr_state.proofs.Uniqueness.OneStep.{one_next}
 use Rattle.burr_state.proofs.Common.Leading.{answer_number}
 use Rattle.burr_state.proofs.Offers.{labelled_all, all_labelled, none_or_some}
 use Rattle.burr_state.proofs.Common.Existence.Executions.{some_execution}
@@ -62,6 +66,16 @@ no_question setup here s (Ask low high) still = absurd still
 no_question setup here s (Pick labels) still = absurd still
 no_question setup here s (Call callee) still = found _ _ _ λ there. found _ _ _ λ x. needed _ _ _ (given _ _)
 no_question setup here s Ret still = found _ _ _ λ up. found _ _ _ λ x. given _ _
+
+-- where no question stands next, the run waits for none
+waits_for_none : (setup : Setup) (s : BenchState) (next : Next) → NextIs setup s next → ¬ IsQuestion next → IsQuestionOf setup s None
+waits_for_none setup s next is none low high asks = none (subst IsQuestion (one_next setup s (Asks low high) next asks.1 is) tt)
+
+-- what the next instruction of a running bench comes to tells the question for which the run waits
+pub waits_for : (setup : Setup) (s new : BenchState) (outcome : Result Effect Trap) → s.mode ≡ Running → NextIs setup s (next_of outcome new) → IsQuestionOf setup s (question_in outcome)
+waits_for setup s new (Ok (effects.Goes motion)) runs is = waits_for_none setup s (Goes new motion) is (λ asks. asks)
+waits_for setup s new (Ok (effects.Asks low high)) runs is = (runs, is)
+waits_for setup s new (Err trap) runs is = waits_for_none setup s (Traps trap) is (λ asks. asks)
 
 -- where such an instruction stands, no answer fits
 pub unfit_at : (setup : Setup) (here : BenchProcedure) (s : BenchState) (i : Instruction) (answer : ℤ) → AsksNothing i → IsAt setup s here i → IsUnfit setup s answer
