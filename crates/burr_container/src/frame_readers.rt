@@ -55,7 +55,8 @@ impl FrameRef<'_> {
     /// Guard n, which is below `guard_count`.
     pub fn guard(&self, n: usize) -> Form
         requires { n < length (frame_of self.now).guards }
-        ensures guard { slice_get (map (over_symbols (live_slots self.now.slots)) (frame_of self.now).guards) n
+        ensures guard { slice_get (map (over_symbols (live_slots self.now.slots))
+            (frame_of self.now).guards) n
             ≡ Some result }
         ensures small { IsSmallForm result }
     {
@@ -73,7 +74,8 @@ impl FrameRef<'_> {
     /// Operand n, counted from the bottom, which is below `stack_count`.
     pub fn stack(&self, n: usize) -> Form
         requires { n < length (frame_of self.now).stack }
-        ensures operand { slice_get (map (over_symbols (live_slots self.now.slots)) (frame_of self.now).stack) n
+        ensures operand { slice_get (map (over_symbols (live_slots self.now.slots))
+            (frame_of self.now).stack) n
             ≡ Some result }
         ensures small { IsSmallForm result }
     {

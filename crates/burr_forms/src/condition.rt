@@ -68,7 +68,8 @@ pub trait Asking {
         ensures same { subject self.new ≡ subject self.old }
         ensures told { IsTrue result ↔ Says (subject self.old) values.now }
         ensures kept { MatchBool result (Unit {0}) (Kept self.new (subject self.old) values.now) }
-        ensures counted { (n : ℕ) × (n ≤ most (subject self.old)) × Counts (subject self.old) values.now n
+        ensures counted { (n : ℕ) × (n ≤ most (subject self.old))
+            × Counts (subject self.old) values.now n
             × (count self.new ≡ count self.old + n) };
 }
 

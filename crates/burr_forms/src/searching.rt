@@ -27,7 +27,8 @@ pub fn first_refused<C: Asking>(
     requires forms { AllSmallForms (C.wanted (C.subject condition.old)) }
     requires promised { Throughout (region ranges.now guards.now)
         (at_values (C.Promised (C.subject condition.old)) (C.wanted (C.subject condition.old))) }
-    requires room { C.count condition.old + C.most (C.subject condition.old) * count_in ranges.now ≤ 2 ^ 61 }
+    requires room { C.count condition.old + C.most (C.subject condition.old) * count_in ranges.now
+        ≤ 2 ^ 61 }
     ensures found { MatchOption result
         (Throughout (region ranges.now guards.now)
         (at_values (C.Says (C.subject condition.old)) (C.wanted (C.subject condition.old))))

@@ -150,7 +150,8 @@ fn hand_on<W: Sink, const N: usize>(
     sink: &mut W,
 ) -> Result<(), IoFailed>
     requires { count ≤ length held.old.items }
-    ensures ok { OnOk result (HandsOn W.Sink sink.old sink.new count held.old.items held.new.items) }
+    ensures ok { OnOk result
+        (HandsOn W.Sink sink.old sink.new count held.old.items held.new.items) }
     ensures err { OnErr result
         (HandsOnLess W.Sink sink.old sink.new count held.old.items held.new.items) }
 {

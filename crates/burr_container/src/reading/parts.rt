@@ -97,7 +97,8 @@ pub fn main_procedure(
     cursor: Cursor<'_>,
 ) -> Result<(StoredProcedure<'_>, Cursor<'_>), ContainerFault>
     requires { pieces ≤ 32 }
-    ensures { ReadsAs (IsProcedure pieces) (procedure_part version pieces true) cursor.entry result }
+    ensures { ReadsAs (IsProcedure pieces) (procedure_part version pieces true)
+        cursor.entry result }
 {
     let (parameters, after_parameters) = byte_within(cursor, 0, 0)?;
     let (results, after_results) = result_count(version, true, after_parameters)?;
@@ -119,7 +120,8 @@ pub fn other_procedure(
     cursor: Cursor<'_>,
 ) -> Result<(StoredProcedure<'_>, Cursor<'_>), ContainerFault>
     requires { pieces ≤ 32 }
-    ensures { ReadsAs (IsProcedure pieces) (procedure_part version pieces false) cursor.entry result }
+    ensures { ReadsAs (IsProcedure pieces) (procedure_part version pieces false)
+        cursor.entry result }
 {
     let (parameters, after_parameters) = byte_within(cursor, 0, MOST_PARAMETERS)?;
     let (results, after_results) = result_count(version, false, after_parameters)?;

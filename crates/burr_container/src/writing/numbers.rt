@@ -54,7 +54,8 @@ pub fn add_long(bytes: &mut Vec<u8>, number: u32) -> Result<(), AllocError>
 
 /// A signed number of 32 bits.
 pub fn add_signed_long(bytes: &mut Vec<u8>, number: i32) -> Result<(), AllocError>
-    ensures { OnOk result (bytes.new.items ≡ bytes.old.items ++ big_bytes 4 (cast_unsigned w32 number)) }
+    ensures { OnOk result
+        (bytes.new.items ≡ bytes.old.items ++ big_bytes 4 (cast_unsigned w32 number)) }
 {
     let mut long = [0; 4];
     BigEndian::write_i32(&mut long, number);
