@@ -8,7 +8,7 @@ use Rattle.burr_sheet.specs.Rules.SheetText.{MoveLine, alone, goes_onto, with_mo
 use Rattle.burr_sheet.specs.Views.SheetUnderWay.{is_one, with_growing}
 
 -- no two directions have one number
-same_direction : (d e : Direction) → number_of d ≡ number_of e → d ≡ e
+pub same_direction : (d e : Direction) → number_of d ≡ number_of e → d ≡ e
 same_direction d e same = grind arith
 
 -- one group in one tray along one direction
@@ -40,7 +40,7 @@ goes_onto-step m l step = rw step
 goes_onto-out : (m : Motion) (l : MoveLine) → m.out ≡ true → goes_onto m l ≡ false
 goes_onto-out m l out = rw out
 
-goes_onto-alike : (m : Motion) (l : MoveLine) → goes_onto m l ≡ true → Alike (alone m) l
+pub goes_onto-alike : (m : Motion) (l : MoveLine) → goes_onto m l ≡ true → Alike (alone m) l
 goes_onto-alike m l is =
     let direction = and_parts (not m.out && (m.group == l.group) && (m.tray == l.tray)) (number_of m.dir == number_of l.direction) is in
     let tray = and_parts (not m.out && (m.group == l.group)) (m.tray == l.tray) direction.0 in
@@ -60,10 +60,10 @@ record Begins (m : Motion) (lines : List MoveLine) : Type 0 where
 Alike-refl : (g : MoveLine) → Alike g g
 Alike-refl g = record { group = refl; tray = refl; direction = refl }
 
-with_motion-joined : (m : Motion) (l : MoveLine) (ls : List MoveLine) → goes_onto m l ≡ true → with_motion m (l ∷ ls) ≡ record l { units = l.units + 1 } ∷ ls
+pub with_motion-joined : (m : Motion) (l : MoveLine) (ls : List MoveLine) → goes_onto m l ≡ true → with_motion m (l ∷ ls) ≡ record l { units = l.units + 1 } ∷ ls
 with_motion-joined m l ls is = rw is
 
-with_motion-apart : (m : Motion) (l : MoveLine) (ls : List MoveLine) → goes_onto m l ≡ false → with_motion m (l ∷ ls) ≡ alone m ∷ l ∷ ls
+pub with_motion-apart : (m : Motion) (l : MoveLine) (ls : List MoveLine) → goes_onto m l ≡ false → with_motion m (l ∷ ls) ≡ alone m ∷ l ∷ ls
 with_motion-apart m l ls is = rw is
 
 begins_by : (m : Motion) (l : MoveLine) (ls : List MoveLine) (test : Bool) → goes_onto m l ≡ test → Begins m (with_motion m (l ∷ ls))
@@ -116,7 +116,7 @@ pub with_growing-longer : (g : MoveLine) (m : Motion) (lines : List MoveLine) �
 with_growing-longer g m [] one step goes = rw one (ap (λ h. h ∷ []) (longer g m one step goes))
 with_growing-longer g m (l ∷ ls) one step goes = longer_by g m l ls (goes_onto m l) refl one step goes
 
-with_motion-out : (m : Motion) (lines : List MoveLine) → m.out ≡ true → with_motion m lines ≡ alone m ∷ lines
+pub with_motion-out : (m : Motion) (lines : List MoveLine) → m.out ≡ true → with_motion m lines ≡ alone m ∷ lines
 with_motion-out m [] out = refl
 with_motion-out m (l ∷ ls) out = with_motion-apart m l ls (goes_onto-out m l out)
 

@@ -1,6 +1,10 @@
 pub mod ClosingLines
 pub mod End
+pub mod GroupNames
 pub mod GrowingLines
+pub mod LineByLine
+pub mod LineMotions
+pub mod LineTexts
 pub mod LineWords
 pub mod Motions
 pub mod OneClosing

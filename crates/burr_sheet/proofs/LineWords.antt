@@ -16,13 +16,13 @@ levels_word-some [] last some = absurd (omega arith)
 levels_word-some (level ∷ levels) last some = joined-join 46 (map decimal (level ∷ levels)) last
 
 -- the name of the p-th piece
-name-at : (pieces : List Piece) (p : ℕ) (name : List ℕ) → p < length pieces → IfSome (slice_get pieces p) (λ (piece : Piece). name ≡ piece.name)
+pub name-at : (pieces : List Piece) (p : ℕ) (name : List ℕ) → p < length pieces → IfSome (slice_get pieces p) (λ (piece : Piece). name ≡ piece.name)
     → get_or (map (λ (piece : Piece). piece.name) pieces) p [] ≡ name
 name-at [] p name inside is = absurd (omega arith)
 name-at (piece ∷ pieces) zero name inside is = sym is
 name-at (piece ∷ pieces) (suc p) name inside is = name-at pieces p name (omega arith) is
 
-names_from-at : (names : List (List ℕ)) (p group : ℕ) → p < length names
+pub names_from-at : (names : List (List ℕ)) (p group : ℕ) → p < length names
     → names_from p group (drop p names)
     ≡ (if is_left_out group p then names_from (p + 1) group (drop (p + 1) names) else (get_or names p [] ∷ names_from (p + 1) group (drop (p + 1) names)))
 names_from-at names p group inside = rw (add-one, drop-cons names p [])

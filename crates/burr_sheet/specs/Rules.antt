@@ -1,1 +1,2 @@
+pub mod Expanding
 pub mod SheetText

@@ -1,2 +1,3 @@
+pub mod MotionLines
 pub mod SheetUnderWay
 pub mod SheetView

@@ -1,9 +1,12 @@
-//! Move sheets: the motions of a run in longest lines, the levels, and how the run closed.
+//! Move sheets: the motions of a run in longest lines, the levels, and how the run closed; and the
+//! motions whose lines a text is.
 #![tactic(auto)]
 
+mod expanding;
 mod laws;
 mod sheet;
 
 pub use burr_state::Closing;
-pub use laws::a_sheet_closes_once;
+pub use expanding::expand;
+pub use laws::{a_sheet_closes_once, lines_are_of_one_list_of_motions};
 pub use sheet::Sheet;

@@ -110,9 +110,13 @@ closing_line (closings.Trapped trap procedure pc) steps =
     text_line (trap_words trap procedure pc ++ after_words steps)
 closing_line closings.Stopped steps = text_line (codes "stopped" ∷ after_words steps)
 
+-- the lines of motions
+abbrev pub motion_lines : List (List ℕ) → List Motion → List ℕ
+motion_lines names motions = move_lines names 1 (longest_lines motions)
+
 -- The sheet of a run, a function of its motions, its steps and its closing.
 abbrev pub sheet : List (List ℕ) → List Motion → ℕ → Closing → List ℕ
 sheet names motions steps closing =
-    move_lines names 1 (longest_lines motions)
+    motion_lines names motions
     ++ levels_line (levels_from 0 (longest_lines motions))
     ++ closing_line closing steps
