@@ -1,6 +1,14 @@
+mod Answering
+mod Commands
+mod EightSlots
+mod Going
+mod Labels
 mod Lines
+mod Lists
 mod OneLine
+mod Returning
+mod ShownWords
 mod SomeCommand
-mod Stepper
+mod UnderWay
 mod UndoRing
 mod WorkedTexts

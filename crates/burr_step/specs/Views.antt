@@ -1,1 +1,3 @@
+pub mod Stepping
 pub mod UndoRing
+pub mod ShownParts

@@ -1,12 +1,13 @@
 -- Laws of the stepper.
 use Rattle.std.specs.Prelude.{◌≡◌, ◌≢◌, ◌↔◌, ℕ, ◌+◌, ◌<◌, ℤ, List, ◌++◌}
 use Rattle.burr_state.specs.declared.mode.Mode.TheVariants.{Ended}
-use Rattle.burr_state.specs.Rules.Bench.{BenchState, Setup, start}
+use Rattle.burr_state.specs.Rules.Bench.{BenchState, Setup, start, HasLabelOf}
 use Rattle.burr_state.specs.Rules.Questions.{Fits}
 use Rattle.burr_state.specs.Views.Benches.{Benched, setup_of}
 use Rattle.burr_state.specs.Views.Benches.{in_state}
+use Rattle.burr_state.specs.Rules.Step.{AsksNow}
 use Rattle.burr_soundness.specs.Machine.{IsSafeBench}
-use Rattle.burr_step.specs.Rules.Stepper.{HasLabelOf, Leads, History, history, IsStateOf, AsksNow, IsAsking, StepCommand, Forward, Over, Until, Answer, Back, StepOutcome, Taken, Refused, S1, S2, S3, S4, Commanding, Commanded}
+use Rattle.burr_step.specs.Rules.Stepper.{Leads, History, history, IsStateOf, IsAsking, StepCommand, Forward, Over, Until, Answer, Back, StepOutcome, Taken, Refused, S1, S2, S3, S4, Commanding, Commanded}
 
 -- so many steps with these answers lead to one state
 abbrev pub OneLead : Type 0

@@ -11,8 +11,9 @@ use Rattle.burr_code.specs.declared.placement.Placement.{Placement}
 use Rattle.burr_code.specs.declared.placement.Placement.TheVariants.{Apart, On}
 use Rattle.burr_state.specs.declared.mode.Mode.{Mode}
 use Rattle.burr_state.specs.declared.mode.Mode.TheVariants.{Running, Ended, Trapped}
-use Rattle.burr_state.specs.Rules.Bench.{BenchState, Setup}
-use Rattle.burr_step.specs.Rules.Stepper.{History, AsksNow, IsAsking, HasLabelOf, StepCommand, Forward, Over, Until, Answer, Back, StepRefusal, S1, S2, S3, S4, StepOutcome, Taken, Refused, Commanding, history_left, state_left}
+use Rattle.burr_state.specs.Rules.Bench.{BenchState, Setup, HasLabelOf}
+use Rattle.burr_state.specs.Rules.Step.{AsksNow}
+use Rattle.burr_step.specs.Rules.Stepper.{History, IsAsking, StepCommand, Forward, Over, Until, Answer, Back, StepRefusal, S1, S2, S3, S4, StepOutcome, Taken, Refused, Commanding, history_left, state_left}
 
 -- What `show` writes
 

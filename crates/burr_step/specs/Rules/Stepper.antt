@@ -1,12 +1,12 @@
 -- A run step by step: what its commands fix, and what each of them comes to.
-use Rattle.std.specs.Prelude.{◌≡◌, ◌≢◌, ◌⊎◌, ℕ, suc, ◌+◌, ◌-◌, ◌≤◌, ℤ, List, [], ◌∷◌, ◌++◌, length, Option, Some, None, Ok, slice_get}
+use Rattle.std.specs.Prelude.{◌≡◌, ◌≢◌, ◌⊎◌, ℕ, suc, ◌+◌, ◌-◌, ◌≤◌, ℤ, List, [], ◌∷◌, ◌++◌, length, Option, Some, None, Ok}
 use Rattle.burr_text.specs.Checks.{needs}
-use Rattle.burr_state.specs.declared.mode.Mode.TheVariants.{Running, Ended}
+use Rattle.burr_state.specs.declared.mode.Mode.TheVariants.{Ended}
 use Rattle.burr_state.specs.declared.motion.Motion.{Motion}
 use Rattle.burr_state.specs.declared.progress.Progress.TheVariants as progress
-use Rattle.burr_state.specs.Rules.Bench.{BenchState, BenchProcedure, Setup, start}
+use Rattle.burr_state.specs.Rules.Bench.{BenchState, IsLabelAt, Setup, start}
 use Rattle.burr_state.specs.Rules.Questions.{Fits}
-use Rattle.burr_state.specs.Rules.Step.{AsksFor, Called}
+use Rattle.burr_state.specs.Rules.Step.{AsksNow, Called}
 
 -- So many steps lead from a state to another, and take exactly these answers.
 pub data Leads (setup : Setup) : BenchState → ℕ → List ℤ → BenchState → Type 0 where
@@ -32,9 +32,6 @@ IsStateOf setup h s = Leads setup (start setup) h.steps h.answers s
 
 -- Where a run stands
 
-abbrev pub AsksNow : Setup → BenchState → ℤ → ℤ → Type 0
-AsksNow setup s low high = (s.mode ≡ Running) × AsksFor setup s low high
-
 -- it waits for an answer
 abbrev pub IsAsking : Setup → BenchState → Type 0
 IsAsking setup s = (low high : ℤ) × AsksNow setup s low high
@@ -55,15 +52,6 @@ StopsOver setup depth s = IsHalted setup s ⊎ (depth_of s ≤ depth)
 abbrev pub StopsAt : Setup → ℕ → ℕ → BenchState → Type 0
 StopsAt setup procedure position s =
     IsHalted setup s ⊎ ((s.running.procedure ≡ procedure) × (s.running.pc ≡ position))
-
--- the position of a label of a procedure
-abbrev pub IsLabelAt : Setup → ℕ → ℕ → ℕ → Type 0
-IsLabelAt setup procedure label position =
-    (here : BenchProcedure) × (slice_get setup.procedures procedure ≡ Some here)
-    × (slice_get here.labels label ≡ Some position)
-
-abbrev pub HasLabelOf : Setup → ℕ → ℕ → Type 0
-HasLabelOf setup procedure label = (position : ℕ) × IsLabelAt setup procedure label position
 
 -- one step without an answer
 abbrev pub Goes : Setup → BenchState → BenchState → Type 0

@@ -1,4 +1,4 @@
-use Rattle.burr_step.proofs.Stepper.{going_is_refused, answer_is_refused}
+use Rattle.burr_step.proofs.Commands.{going_is_refused, answer_is_refused}
 use Rattle.burr_step.proofs.laws.commands_are_refused_so.Goals as goal
 
 pub returns : goal.returns

@@ -1,4 +1,4 @@
-use Rattle.burr_step.proofs.Stepper.{one_lead, one_outcome, taken_is_there, commands_are_there}
+use Rattle.burr_step.proofs.Commands.{one_lead, one_outcome, taken_is_there, commands_are_there}
 use Rattle.burr_step.proofs.laws.commands_lead_to_one_state.Goals as goal
 
 pub returns : goal.returns

@@ -1,0 +1,212 @@
+-- Each activation of a run of an accepted plan has eight slots.
+use Rattle.std.proofs.Common.{◌≡◌, ℕ, zero, suc, ◌-◌, ◌≤◌, ◌&&◌, ℤ, List, [], ◌∷◌, length, map, replicate, Bool, true, false, IsTrue, Option, Some, None, refl, sym, ap, subst, ◌∙◌, arith, inl, inr}
+use Rattle.std.specs.Prelude.{min, nat_le, nat_lt, reverse, set, slice_get, if◌then◌else◌}
+use Rattle.std.specs.List.{list_all}
+use Rattle.std.proofs.Math.ListN.{length-take}
+use Rattle.std.proofs.lemmas.Bool.{and_parts, leb-true}
+use Rattle.std.proofs.lemmas.List.{length-append, length-map, length-replicate, length-reverse, length-set}
+use Rattle.std.proofs.lemmas.Option.{none-some, same_Some}
+use Rattle.burr_code.specs.Instruction.{Instruction, Halt, Push, Load, Store, Add, Sub, Drop, Grip, Step, Aside, Tray, Jump, Down, Ask, Pick, Call, Ret}
+use Rattle.burr_code.specs.Labels.{callee_of, argument_slots}
+use Rattle.burr_code.specs.Stacks.{top, top_many, split_at}
+use Rattle.burr_code.specs.declared.limits.TheConstants.{MOST_PROCEDURES}
+use Rattle.burr_container.specs.Rules.Fitting.{is_procedure, are_procedures, are_parameters}
+use Rattle.burr_container.specs.Rules.Plans.{PlanProcedure}
+use Rattle.burr_container.proofs.Common.Containers.{plan_fits}
+use Rattle.burr_container.proofs.Common.Procedures.{procedure_fits}
+use Rattle.burr_state.specs.declared.motion.Motion.{Motion}
+use Rattle.burr_state.specs.declared.trap.Trap.{Trap}
+use Rattle.burr_state.specs.Rules.Bench.{Activation, BenchState, BenchProcedure, Program, Setup, start}
+use Rattle.burr_state.specs.Rules.Next.{Next, Goes, Asks, Traps}
+use Rattle.burr_state.specs.Rules.Questions.{Takes}
+use Rattle.burr_state.specs.Rules.Step.{Executes, NextIs}
+use Rattle.burr_state.specs.Rules.Undo.{Undo}
+use Rattle.burr_state.specs.Views.Benches.{Benched, setup_of, in_state}
+use Rattle.burr_state.specs.Views.Programs.{bench_procedure}
+use Rattle.burr_state.proofs.Common.Leading.{at_either}
+use Rattle.burr_state.proofs.Common.Outcomes.{TrapsOr, past_check, past_search, comes}
+use Rattle.burr_state.proofs.Common.StepCalls.{next_where_went, taken_where_answered}
+use Rattle.burr_soundness.specs.Machine.{IsSafeBench}
+use Rattle.burr_step.specs.Rules.Stepper.{Leads, stays, goes, takes}
+use Rattle.burr_step.specs.Views.Stepping.{Stepping, IsUnderWay}
+
+-- The parameters of a plan's procedures
+
+abbrev AreFew : List PlanProcedure → Type 0
+AreFew [] = Unit {0}
+AreFew (q ∷ qs) = (q.parameters ≤ 8) × AreFew qs
+
+few_parameters : (main : Bool) (parameters : ℕ) → IsTrue (are_parameters main parameters) → parameters ≤ 8
+few_parameters true parameters are = let none = leb-true parameters 0 are in omega (arith, none)
+few_parameters false parameters are = let few = leb-true parameters 4 are in omega (arith, few)
+
+few_of : (version pieces : ℕ) (main : Bool) (q : PlanProcedure) → IsTrue (is_procedure version pieces main q) → q.parameters ≤ 8
+few_of version pieces main q is = few_parameters main q.parameters (procedure_fits version pieces main q is).parameters
+
+all_few : (version pieces : ℕ) (qs : List PlanProcedure) → IsTrue (list_all (is_procedure version pieces false) qs) → AreFew qs
+all_few version pieces [] are = tt
+all_few version pieces (q ∷ qs) are =
+    let parts = and_parts (is_procedure version pieces false q) (list_all (is_procedure version pieces false) qs) are in
+    (few_of version pieces false q parts.0, all_few version pieces qs parts.1)
+
+are_few : (version pieces : ℕ) (qs : List PlanProcedure) → IsTrue (are_procedures version pieces qs) → AreFew qs
+are_few version pieces [] are = tt
+are_few version pieces (main ∷ others) are =
+    let is = is_procedure version pieces true main in
+    let all = list_all (is_procedure version pieces false) others in
+    let a = and_parts (is && all) (nat_le (length (main ∷ others)) MOST_PROCEDURES) are in
+    let b = and_parts is all a.0 in
+    (few_of version pieces true main b.0, all_few version pieces others b.1)
+
+-- no procedure has more than eight parameters
+abbrev HaveFew : List BenchProcedure → Type 0
+HaveFew procedures = (n : ℕ) (here : BenchProcedure) → slice_get procedures n ≡ Some here → here.parameters ≤ 8
+
+have_few : (qs : List PlanProcedure) → AreFew qs → HaveFew (map bench_procedure qs)
+have_few [] few n here is = absurd (none-some here is)
+have_few (q ∷ qs) few zero here is = subst (λ (p : BenchProcedure). p.parameters ≤ 8) (same_Some (bench_procedure q) here is) few.0
+have_few (q ∷ qs) few (suc n) here is = have_few qs few.1 n here is
+
+safe_has_few : (b : Benched) → IsSafeBench b → HaveFew (setup_of b).procedures
+safe_has_few b safe =
+    let fits = plan_fits safe.plan safe.fits in
+    subst (λ (p : Program). HaveFew p.procedures) (sym safe.program_is)
+    (have_few safe.plan.procedures (are_few safe.plan.version safe.plan.pieces safe.plan.procedures fits.procedures))
+
+-- Activations
+
+abbrev AllHaveEight : List Activation → Type 0
+AllHaveEight [] = Unit {0}
+AllHaveEight (a ∷ callers) = (length a.slots ≡ 8) × AllHaveEight callers
+
+-- the running activation has eight slots, and so has each caller
+record HaveEight (s : BenchState) : Type 0 where
+  running : length s.running.slots ≡ 8
+  callers : AllHaveEight s.callers
+
+arguments_eight : {A : Type 0} (xs : List A) → length xs ≤ 8 → length (argument_slots xs) ≡ 8
+arguments_eight {A = A} xs few =
+    let whole = length-append (map Some (reverse xs)) (replicate (8 - length xs) None) in
+    let front : length (map {B = Option A} Some (reverse xs)) ≡ length (reverse xs) = length-map (reverse xs) Some in
+    let same : length (reverse xs) ≡ length xs = length-reverse xs in
+    let rest : length (replicate {A = Option A} (8 - length xs) None) ≡ 8 - length xs = length-replicate (8 - length xs) None in
+    omega arith
+
+-- Stacks
+
+top_is : {A : Type 0} (xs : List A) (x : A × List A) → top xs ≡ Some x → xs ≡ x.0 ∷ x.1
+top_is [] x e = absurd (none-some x e)
+top_is {A = A} (y ∷ ys) x e = ap (λ (z : A × List A). z.0 ∷ z.1) (same_Some (y, ys) x e)
+
+-- so many are taken
+many_are : {A : Type 0} (n : ℕ) (xs : List A) (x : List A × List A) → top_many n xs ≡ Some x → length x.0 ≤ n
+many_are {A} n xs x e = by_test (nat_le n (length xs)) e
+  where
+    as_many : (n m : ℕ) → min n m ≤ n
+    as_many n m = omega arith
+
+    by_test : (b : Bool) → (if b then Some (split_at n xs) else None) ≡ Some x → length x.0 ≤ n
+    by_test true e =
+        subst (λ (z : List A × List A). length z.0 ≤ n) (same_Some (split_at n xs) x e) (simp length-take (as_many n (length xs)))
+    by_test false e = absurd (none-some x e)
+
+callee_there : {A : Type 0} (procedures : List A) (here callee : ℕ) (there : A) → callee_of procedures here callee ≡ Some there
+    → slice_get procedures callee ≡ Some there
+callee_there procedures here callee there is = by_test (nat_lt here callee) is
+  where
+    by_test : (b : Bool) → (if b then slice_get procedures callee else None) ≡ Some there → slice_get procedures callee ≡ Some there
+    by_test true is = is
+    by_test false is = absurd (none-some there is)
+
+-- Steps
+
+abbrev EightNext : Next → Type 0
+EightNext (Goes new motion) = HaveEight new
+EightNext (Asks low high) = Unit {0}
+EightNext (Traps trap) = Unit {0}
+
+-- the slots of the same activations
+kept : (s new : BenchState) → HaveEight s → length new.running.slots ≡ length s.running.slots → new.callers ≡ s.callers → HaveEight new
+kept s new have slots callers =
+    record { running = slots ∙ have.running; callers = subst AllHaveEight (sym callers) have.callers }
+
+module _ (setup : Setup) (few : HaveFew setup.procedures) (here : BenchProcedure) (s : BenchState) (have : HaveEight s) where
+  -- the arguments of a callee are no more than eight
+  few_arguments : (callee : ℕ) (there : BenchProcedure) (found : List ℤ × List ℤ)
+      → callee_of setup.procedures s.running.procedure callee ≡ Some there
+      → top_many there.parameters s.running.operands ≡ Some found → length found.0 ≤ 8
+  few_arguments callee there found is has =
+      let small = few callee there (callee_there setup.procedures s.running.procedure callee there is) in
+      let taken = many_are there.parameters s.running.operands found has in
+      omega (arith, small, taken)
+
+  callers_are : (up : Activation × List Activation) → top s.callers ≡ Some up → (length up.0.slots ≡ 8) × AllHaveEight up.1
+  callers_are up is = subst AllHaveEight (top_is s.callers up is) have.callers
+
+  by_rule : (i : Instruction) (next : Next) → Executes setup here s i next → TrapsOr EightNext next
+  by_rule Halt next rule = past_check rule λ main apart. past_check apart λ all gone. comes gone (kept s _ have refl refl)
+  by_rule (Push n) next rule = past_check rule λ room gone. comes gone (kept s _ have refl refl)
+  by_rule (Load v) next rule = past_search rule λ x is room. past_check room λ some gone. comes gone (kept s _ have refl refl)
+  by_rule (Store v) next rule =
+      past_check rule λ may top. past_search top λ x is gone. comes gone (kept s _ have (length-set s.running.slots v _) refl)
+  by_rule Add next rule = past_search rule λ x is number. past_check number λ small gone. comes gone (kept s _ have refl refl)
+  by_rule Sub next rule = past_search rule λ x is number. past_check number λ small gone. comes gone (kept s _ have refl refl)
+  by_rule Drop next rule = past_search rule λ x is gone. comes gone (kept s _ have refl refl)
+  by_rule (Grip set) next rule = past_check rule λ lie gone. comes gone (kept s _ have refl refl)
+  by_rule (Step direction) next rule =
+      past_check rule λ some on_bench. past_check on_bench λ all apart. past_check apart λ none gone.
+      comes gone (kept s _ have refl refl)
+  by_rule (Aside direction tray) next rule =
+      past_check rule λ part empty. past_check empty λ none free. past_check free λ way gone.
+      comes gone (kept s _ have refl refl)
+  by_rule (Tray tray) next rule = comes rule (kept s _ have refl refl)
+  by_rule (Jump label) next rule = past_search rule λ to is gone. comes gone (kept s _ have refl refl)
+  by_rule (Down v label) next rule =
+      past_search rule λ to is writable. past_check writable λ may full. past_search full λ x has count.
+      past_check count λ some gone.
+      comes gone (at_either HaveEight x _ _ (kept s _ have refl refl) (kept s _ have (length-set s.running.slots v _) refl))
+  by_rule (Ask low high) next rule = past_check rule λ room asked. comes asked tt
+  by_rule (Pick labels) next rule = past_search rule λ found is asked. comes asked tt
+  by_rule (Call callee) next rule =
+      past_search rule λ there is arguments. past_search arguments λ found has room. past_check room λ small gone.
+      comes gone (record {
+        running = arguments_eight found.0 (few_arguments callee there found is has);
+        callers = (have.running, have.callers);
+      })
+  by_rule Ret next rule =
+      past_search rule λ up is results. past_search results λ found has gone.
+      comes gone (record { running = (callers_are up is).0; callers = (callers_are up is).1 })
+
+  by_answer : (i : Instruction) (answer : ℤ) (new : BenchState) → Takes here s i answer new → HaveEight new
+  by_answer (Ask low high) answer new is = subst HaveEight (sym is) (kept s _ have refl refl)
+  by_answer (Pick labels) answer new taken = subst HaveEight (sym taken.6) (kept s _ have refl refl)
+  by_answer i answer new taken = absurd taken
+
+  gone : (i : Instruction) (new : BenchState) (motion : Option Motion) → Executes setup here s i (Goes new motion) → HaveEight new
+  gone i new motion rule = elim (by_rule i (Goes new motion) rule).cases [
+    | inl trapped ↦ absurd (goes-traps new motion trapped.0 trapped.1)
+    | inr so ↦ so
+  ]
+    where
+      goes-traps : (new : BenchState) (motion : Option Motion) (trap : Trap) → Goes new motion ≡ Traps trap → ⊥
+      goes-traps new motion trap e = cc
+
+module _ (setup : Setup) (few : HaveFew setup.procedures) where
+  by_next : (s new : BenchState) (motion : Option Motion) → HaveEight s → NextIs setup s (Goes new motion) → HaveEight new
+  by_next s new motion have (inl at) = gone setup few at.0 s have at.1 new motion at.3
+  by_next s new motion have (inr none) = subst EightNext (sym none.1) tt
+
+  along : (s last : BenchState) (steps : ℕ) (answers : List ℤ) → Leads setup s steps answers last → HaveEight s → HaveEight last
+  along _ _ _ _ (stays s) have = have
+  along _ _ _ _ (goes s new last motion steps answers called rest) have =
+      along new last steps answers rest (by_next s new motion have (next_where_went setup s new motion called))
+  along _ _ _ _ (takes s new last answer steps answers called rest) have =
+      let taken = taken_where_answered setup s new answer called in
+      along new last steps answers rest (by_answer setup few taken.0 s have taken.1 answer new taken.7)
+
+-- a run under way has eight slots
+pub has_eight : (s : Stepping) (undos : List Undo) → IsUnderWay s undos → length s.bench.state.running.slots ≡ 8
+has_eight s undos under_way =
+    let setup = setup_of s.bench in
+    (along setup (safe_has_few (in_state (start setup) s.bench) under_way.start) (start setup) s.bench.state s.history.steps s.history.answers
+    under_way.state (record { running = refl; callers = tt })).running

@@ -1,0 +1,49 @@
+use Rattle.std.proofs.Common.{subst, sym, ap, ◌≡◌, ◌∙◌, ◌≤◌, ◌-◌, ℕ, arith, take}
+use Rattle.std.specs.Prelude.{List, [], ℤ}
+use Rattle.burr_state.specs.Rules.Undo.{Undo}
+use Rattle.burr_step.specs.Rules.Stepper.{Back}
+use Rattle.burr_step.specs.Views.Stepping.{Stepping, stepping, IsUnderWay, HasRun, IsDone, commanding}
+use Rattle.burr_step.proofs.Returning.{restarted, has_run, again_done}
+use Rattle.burr_step.proofs.stepper.Stepper.back.Goals as goal
+
+at_most : (made steps : ℕ) → made - steps ≤ made
+at_most made steps = omega arith
+
+not_below : {made steps back : ℕ} → back ≡ steps → back ≤ made → steps ≤ made
+not_below e within = omega (arith, e, within)
+
+pub run_again-taken-requires-clause-under_way : goal.run_again-taken-requires-clause-under_way
+run_again-taken-requires-clause-under_way g c =
+    let start = c.start-self-inside.ensures in
+    subst (λ (l : List Undo). IsUnderWay (stepping c.start-self-inside.result []) l) (sym c.clear.ensures)
+    (restarted c.an_accepted_bench_never_traps.ensures.start c.self.inside.accepted.now (stepping c.self.inside.machine c.self.inside.answers.items)
+    c.self.inside.records c.self.invariant c.start-self-inside.result start.assembly start.program start.start).1
+
+pub run_again-taken-requires-clause-run : goal.run_again-taken-requires-clause-run
+run_again-taken-requires-clause-run g c =
+    let start = c.start-self-inside.ensures in
+    let old = stepping c.self.inside.machine c.self.inside.answers.items in
+    let again = restarted c.an_accepted_bench_never_traps.ensures.start c.self.inside.accepted.now old c.self.inside.records c.self.invariant
+    c.start-self-inside.result start.assembly start.program start.start in
+    let within : c.steps-made.result - c.from-steps_back.result ≤ old.history.steps =
+    subst (λ (n : ℕ). c.steps-made.result - c.from-steps_back.result ≤ n) c.steps-made.ensures (at_most c.steps-made.result c.from-steps_back.result) in
+    subst (λ (l : List ℤ). HasRun c.start-self-inside.result l (c.steps-made.result - c.from-steps_back.result)) (sym c.deref.ensures.value)
+    (has_run old c.self.inside.records c.self.invariant.under_way c.start-self-inside.result again.0 start.start _ within)
+
+pub returns-else-steps-len-clause-comes : goal.returns-else-steps-len-clause-comes
+returns-else-steps-len-clause-comes g c =
+    let start = c.start-self-inside.ensures in
+    let old = stepping c.self.inside.machine c.self.inside.answers.items in
+    let now = c.run_again-taken.new.machine in
+    let taken = c.run_again-taken.result in
+    let again = restarted c.an_accepted_bench_never_traps.ensures.start c.self.inside.accepted.now old c.self.inside.records c.self.invariant
+    c.start-self-inside.result start.assembly start.program start.start in
+    let under_way = subst (λ (l : List ℤ). IsUnderWay (stepping now (take taken l)) c.run_again-taken.new.records) c.deref.ensures.value c.run_again-taken.ensures.under_way in
+    let within : c.args.steps ≤ old.history.steps =
+    subst (λ (n : ℕ). c.args.steps ≤ n) c.steps-made.ensures (not_below c.from-steps_back.ensures c.if-made-steps_back.false) in
+    let count : now.state.steps ≡ old.history.steps - c.args.steps =
+    c.run_again-taken.ensures.steps ∙ ap (λ (n : ℕ). n - c.from-steps_back.result) c.steps-made.ensures
+    ∙ ap (λ (n : ℕ). old.history.steps - n) c.from-steps_back.ensures in
+    subst (λ (s : Stepping). IsDone s (commanding s (Back c.args.steps)) (stepping now c.truncate.new.self.items)) c.self.view_is
+    (subst (λ (l : List ℤ). IsDone old (commanding old (Back c.args.steps)) (stepping now l)) (sym c.truncate.ensures.items)
+    (again_done old c.start-self-inside.result now c.args.steps taken c.run_again-taken.new.records again.0 c.run_again-taken.ensures.same under_way within count))

@@ -1,0 +1,118 @@
+//! Going back.
+
+ghost use Rattle.std.specs.Prelude.{◌≤◌, ◌≡◌, [], length, take};
+ghost use Rattle.burr_state.specs.Views.Benches.{setup_of, IsAtStart, IsSameRun};
+ghost use Rattle.burr_step.specs.Rules.Stepper.{Back};
+ghost use Rattle.burr_step.specs.Views.Stepping.{CameTo, NeedsNoMemory, commanding, stepping, IsDone, IsUnderWay, HasRun, IsLeft, IsNextAnswer, taken_more};
+
+use crate::records::Records;
+use crate::refusal::StepRefusal;
+use crate::stepper::Stepper;
+use burr_bench::Machine;
+use burr_blocking::Blocking;
+use burr_soundness::an_accepted_bench_never_traps;
+use burr_verify::a_fitting_plan_is_from_a_container;
+
+impl<'s, 'a: 's, 'c: 'a, B: Blocking> Stepper<'s, 'a, 'c, B> {
+    /// Goes so many steps back, and forgets the answers that these took: by records where there are
+    /// as many, else by running again from the start. S4 where so many steps have not been made.
+    pub fn back(&mut self, steps: u32) -> Result<(), StepRefusal>
+        ensures comes { CameTo self.old (commanding self.old (Back steps)) result self.new }
+        ensures no_memory { NeedsNoMemory result }
+    {
+        an_accepted_bench_never_traps();
+        let made = self.machine.steps();
+        let steps_back = u64::from(steps);
+        if made < steps_back {
+            return Err(StepRefusal::S4);
+        }
+        if steps as usize <= self.records.len() {
+            undo_last(
+                steps,
+                &mut self.machine,
+                &mut self.answers,
+                &mut self.records,
+            );
+        } else {
+            self.machine = Machine::start(self.accepted);
+            self.records.clear();
+            let taken = run_again(
+                made - steps_back,
+                &mut self.machine,
+                &self.answers,
+                &mut self.records,
+            );
+            self.answers.truncate(taken);
+        }
+        Ok(())
+    }
+}
+
+/// Goes so many steps back by their records.
+fn undo_last(steps: u32, machine: &mut Machine<'_>, answers: &mut Vec<i32>, records: &mut Records)
+    requires under_way { IsUnderWay (stepping machine.old answers.old.items) records.old }
+    requires records { steps ≤ length records.old }
+    ensures under_way { IsUnderWay (stepping machine.new answers.new.items) records.new }
+    ensures back { let old = stepping machine.old answers.old.items in
+        IsDone old (commanding old (Back steps)) (stepping machine.new answers.new.items) }
+{
+    a_fitting_plan_is_from_a_container();
+    for _step in 0..steps {
+        let Some(undo) = records.pop() else {
+            unreachable!();
+        };
+        machine.undo(undo);
+        forget_answer(machine, answers);
+    }
+}
+
+/// Makes so many steps of a machine at its start with these answers; how many of them it took.
+fn run_again(steps: u64, machine: &mut Machine<'_>, answers: &[i32], records: &mut Records) -> usize
+    requires start { IsAtStart machine.old }
+    requires under_way { IsUnderWay (stepping machine.old []) records.old }
+    requires run { HasRun machine.old answers.now steps }
+    ensures same { IsSameRun machine.old machine.new }
+    ensures steps { machine.new.state.steps ≡ steps }
+    ensures under_way { IsUnderWay (stepping machine.new (take result answers.now)) records.new }
+{
+    a_fitting_plan_is_from_a_container();
+    let mut taken = 0;
+    for _step in 0..steps {
+        let (answer, taken_then) = next_answer(machine, answers, taken);
+        let (_progress, undo) = machine.step_recorded(answer);
+        let Some(undo) = undo else {
+            unreachable!();
+        };
+        records.push(undo);
+        taken = taken_then;
+    }
+    taken
+}
+
+/// Forgets the last answer where a machine waits for one: its step, which is undone, took that.
+fn forget_answer(machine: &Machine<'_>, answers: &mut Vec<i32>)
+    ensures { IsLeft (setup_of machine.now) machine.now.state answers.old.items answers.new.items }
+{
+    match machine.question() {
+        Some(_question) => {
+            let _ = answers.pop();
+        }
+        None => {}
+    }
+}
+
+/// The answer that a machine takes next after so many, None where it waits for none; and how many
+/// are then taken.
+fn next_answer(machine: &Machine<'_>, answers: &[i32], taken: usize) -> (Option<i32>, usize)
+    ensures answer { IsNextAnswer (setup_of machine.now) machine.now.state answers.now taken
+        result.0 }
+    ensures taken { result.1 ≡ taken_more result.0 taken }
+{
+    match machine.question() {
+        Some(_question) => match answers.get(taken) {
+            Some(answer) => (Some(*answer), taken + 1),
+            None => (None, taken),
+        },
+        None => (None, taken),
+    }
+}

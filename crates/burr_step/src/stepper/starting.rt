@@ -1,0 +1,39 @@
+ghost use Rattle.std.specs.Prelude.{◌≡◌, [], IfOk};
+ghost use Rattle.burr_container.specs.Rules.Plans.{Plan};
+ghost use Rattle.burr_container.specs.Views.Containers.{IsContainer};
+ghost use Rattle.burr_state.specs.Views.Programs.{plan_program};
+ghost use Rattle.burr_state.specs.Views.Benches.{IsAtStart};
+ghost use Rattle.burr_step.specs.Rules.Stepper.{history};
+
+use crate::records::Records;
+use crate::stepper::Stepper;
+use burr_bench::Machine;
+use burr_blocking::Blocking;
+use burr_soundness::an_accepted_bench_never_traps;
+use burr_verify::Accepted;
+use std::alloc::{AllocError, Global};
+
+impl<'s, 'a: 's, 'c: 'a, B: Blocking> Stepper<'s, 'a, 'c, B> {
+    /// A run of an accepted plan before its first step. All memory but that of answers is asked for
+    /// here.
+    pub fn new(
+        alloc: Global,
+        accepted: &'s Accepted<'a, 'c, B>,
+    ) -> Result<Stepper<'s, 'a, 'c, B>, AllocError>
+        ensures assembly { IfOk result (λ s. s.bench.assembly ≡ accepted.now.assembly) }
+        ensures program { IfOk result (λ s. (p : Plan) → IsContainer accepted.now.container p
+            → s.bench.program ≡ plan_program p) }
+        ensures start { IfOk result (λ s. IsAtStart s.bench) }
+        ensures history { IfOk result (λ s. s.history ≡ history 0 []) }
+    {
+        an_accepted_bench_never_traps();
+        let records = Records::new(alloc)?;
+        let _plan = accepted.plan();
+        Ok(Stepper {
+            accepted,
+            machine: Machine::start(accepted),
+            answers: Vec::new(alloc),
+            records,
+        })
+    }
+}
