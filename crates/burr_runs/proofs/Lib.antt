@@ -1,4 +1,6 @@
 pub mod AnswerTexts
+pub mod CommandAnswers
+pub mod CommandLines
 pub mod Headline
 pub mod Inputs
 pub mod OneOutput

@@ -1,4 +1,6 @@
 pub mod BenchText
+pub mod CommandLines
+pub mod Commanding
 pub mod ReadWhole
 pub mod Running
 pub mod Standing

@@ -1,7 +1,4 @@
 -- The machine's run is that of the container's plan, which is safe.
-use Rattle.std.proofs.Common.{◌∙◌, ap, sym, subst}
-use Rattle.burr_container.specs.Views.Containers.{ContainerView, IsContainer}
-use Rattle.burr_state.specs.Rules.Bench.{Program}
 use Rattle.burr_runs.proofs.Headline.{Laws, puts_safely, fails_safely, each_ends_well}
 use Rattle.burr_runs.proofs.accepted_runs.run_plan.Goals as goal
 

@@ -1,4 +1,4 @@
-use Rattle.std.proofs.Common.{◌≡◌, ◌≤◌, [], subst, sym, ap, ◌∙◌, inr}
+use Rattle.std.proofs.Common.{◌≡◌, [], subst, sym, ap, ◌∙◌, inr}
 use Rattle.std.specs.Io.KnownBytes.{Appends}
 use Rattle.burr_assembly.specs.Rules.Text.{Assembly}
 use Rattle.burr_assembly.specs.Rules.Homes.{names_of}
@@ -9,7 +9,7 @@ use Rattle.burr_runs.specs.Rules.Output.{outcome_of}
 use Rattle.burr_runs.specs.Views.Running.{FailsInRun, ClosesPart, PutsSheet, run_state}
 use Rattle.burr_runs.specs.Views.Standing.{IsAtRunEnd}
 use Rattle.burr_text.proofs.Common.Tests.{on_err}
-use Rattle.burr_runs.proofs.StepByStep.{in_step_at_start, sheet_of, fails_in_sheet, fails_at_close}
+use Rattle.burr_runs.proofs.StepByStep.{sheet_of, fails_in_sheet, fails_at_close}
 use Rattle.burr_runs.proofs.running.run.Goals as goal
 
 pub returns-in_err-closing-clause-err : goal.returns-in_err-closing-clause-err
