@@ -13,6 +13,10 @@ mod calls;
 #[cfg(test)]
 mod cases;
 #[cfg(test)]
+mod commands;
+#[cfg(test)]
+mod expansions;
+#[cfg(test)]
 mod looks;
 #[cfg(test)]
 mod machine;
@@ -28,6 +32,8 @@ mod sheet;
 mod sinks;
 #[cfg(test)]
 mod sources;
+#[cfg(test)]
+mod stepper;
 #[cfg(test)]
 mod tables;
 #[cfg(test)]

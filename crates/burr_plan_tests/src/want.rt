@@ -1,17 +1,21 @@
 //! What comes of calls while memory is wanting.
-use crate::calls::assembly_of;
+use crate::calls::{assembly_of, cells_of, container_of};
+use crate::plans::CUP_PLAN;
 use crate::puts::put_bare;
 use crate::sources::input_of;
 use crate::tables::Table;
 use crate::texts::bytes_of;
 use crate::ways::{Question, answer};
 use burr_assembly::Assembly;
-use burr_blocking::CellTables;
+use burr_blocking::{CellTables, PlainCells};
 use burr_container::Container;
 use burr_runs::{AnswersFault, read_answers, upgrade};
-use burr_testing::assemblies::DUO;
+use burr_sheet::expand;
+use burr_step::{StepRefusal, Stepper};
+use burr_testing::assemblies::{CUP, DUO};
 use burr_testing::plans::RESULT_PLAN;
 use burr_testing::{MemoryHog, Outcome, Portions, Trial, outcomes_in_want};
+use burr_verify::accept;
 use std::alloc::{AllocError, Global};
 use std::io::Cursor;
 use std::process::Abort;
@@ -35,6 +39,10 @@ enum Job<'a> {
     Tables(&'a Assembly),
     /// A container of version 2, of which that is made again.
     Upgrade(&'a [u8]),
+    /// An assembly and a plan for it that asks, which is taken by steps.
+    Steps(&'a Assembly, &'a [u8]),
+    /// The duo, and lines of its motions.
+    Lines(&'a Assembly, &'a str),
 }
 
 /// What comes of an input, with a source and a sink that need no memory.
@@ -107,6 +115,33 @@ fn come_of_upgrade(alloc: Global, bytes: &[u8]) -> Outcome {
     }
 }
 
+/// What comes of a plan by steps: its first, after which it asks.
+fn come_of_steps(alloc: Global, assembly: &Assembly, bytes: &[u8]) -> Outcome {
+    let Ok(container) = Container::parse(bytes) else {
+        return Outcome::Wrong;
+    };
+    let cells = PlainCells::new(assembly);
+    let Ok(accepted) = accept(&container, &cells) else {
+        return Outcome::Wrong;
+    };
+    let Ok(mut stepper) = Stepper::new(alloc, &accepted) else {
+        return Outcome::Want;
+    };
+    match (stepper.forward(), stepper.asks()) {
+        (Ok(()), Some((0, 2))) => Outcome::Right,
+        _ => Outcome::Wrong,
+    }
+}
+
+/// What comes of lines of motions.
+fn come_of_lines(alloc: Global, duo: &Assembly, text: &str) -> Outcome {
+    match expand(alloc, duo, text.as_bytes()) {
+        Ok(Some(motions)) if motions.len() == 200 => Outcome::Right,
+        Ok(_) => Outcome::Wrong,
+        Err(AllocError) => Outcome::Want,
+    }
+}
+
 impl Trial for Job<'_> {
     fn outcome(&mut self, alloc: Global) -> Outcome {
         match *self {
@@ -114,6 +149,8 @@ impl Trial for Job<'_> {
             Job::Answers(text, wanted) => come_of_answers(alloc, text, wanted),
             Job::Tables(duo) => come_of_tables(alloc, duo),
             Job::Upgrade(bytes) => come_of_upgrade(alloc, bytes),
+            Job::Steps(assembly, bytes) => come_of_steps(alloc, assembly, bytes),
+            Job::Lines(duo, text) => come_of_lines(alloc, duo, text),
         }
     }
 }
@@ -163,4 +200,38 @@ fn tells_a_want_of_memory_for_tables(rt: HostRuntime) {
 fn tells_a_want_of_memory_for_upgrades(rt: HostRuntime) {
     let bytes = bytes_of(&rt, rt.alloc(), RESULT_PLAN);
     assert_wants(&rt, rt.alloc(), Job::Upgrade(&bytes));
+}
+
+#[test]
+fn tells_a_want_of_memory_for_lines(rt: HostRuntime) {
+    let duo = assembly_of(&rt, rt.alloc(), DUO);
+    assert_wants(&rt, rt.alloc(), Job::Lines(&duo, "1 t0 A -x 200\n"));
+}
+
+#[test]
+fn tells_a_want_of_memory_for_steps(rt: HostRuntime) {
+    let assembly = assembly_of(&rt, rt.alloc(), CUP);
+    let bytes = bytes_of(&rt, rt.alloc(), CUP_PLAN);
+    assert_wants(&rt, rt.alloc(), Job::Steps(&assembly, &bytes));
+}
+
+/// After the refused answer the stepper stands where it stood, and takes it once there is memory.
+#[test]
+fn tells_a_want_of_memory_for_an_answer(rt: HostRuntime) {
+    let alloc = rt.alloc();
+    let assembly = assembly_of(&rt, alloc, CUP);
+    let cells = cells_of(&assembly);
+    let bytes = bytes_of(&rt, alloc, CUP_PLAN);
+    let container = container_of(&rt, &bytes);
+    let Ok(accepted) = accept(&container, &cells) else {
+        panic!(rt; "refused");
+    };
+    let mut stepper = Stepper::new(alloc, &accepted).expect(&rt, "memory");
+    assert!(rt; stepper.forward().is_ok());
+    let hog = memory_taken(&rt, alloc);
+    let refused = stepper.answer(1);
+    drop(hog);
+    assert!(rt; refused == Err(StepRefusal::Memory));
+    assert!(rt; stepper.steps() == 1 && stepper.asks() == Some((0, 2)));
+    assert!(rt; stepper.answer(1).is_ok() && stepper.steps() == 2);
 }
