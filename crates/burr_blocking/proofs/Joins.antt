@@ -2,8 +2,7 @@
 use Rattle.std.proofs.Common.{◌≡◌, ℕ, zero, suc, ◌+◌, ◌≤◌, ◌<◌, List, [], ◌∷◌, length, take, drop, refl, ap, sym, ◌∙◌, arith, slice_index_or, slice_set, zero-add}
 use Rattle.std.specs.Prelude.{replicate}
 use Rattle.std.specs.Simd.Lanes.{zip2, put_chunk}
-use Rattle.burr_blocking.specs.Views.Bits.{joined_from, or_shifted, IsNext}
-use Rattle.burr_blocking.proofs.Shifts.{or_nothing}
+use Rattle.burr_blocking.specs.Views.Bits.{joined_from, IsNext}
 
 -- eight rows
 
@@ -12,6 +11,34 @@ zip2_same f g k [] [] e = refl
 zip2_same f g k (x ∷ xs) (y ∷ ys) e = ap (λ r. f x (g y k) ∷ r) (zip2_same f g k xs ys (omega arith))
 zip2_same f g k [] (y ∷ ys) e = absurd (omega arith)
 zip2_same f g k (x ∷ xs) [] e = absurd (omega arith)
+
+pub zip2_twice : (f g : ℕ → ℕ → ℕ) (xs ys : List ℕ) → zip2 g (zip2 f xs ys) ys ≡ zip2 (λ x y. g (f x y) y) xs ys
+zip2_twice f g [] ys = refl
+zip2_twice f g (x ∷ xs) [] = refl
+zip2_twice f g (x ∷ xs) (y ∷ ys) = ap (λ r. g (f x y) y ∷ r) (zip2_twice f g xs ys)
+
+-- joined in twice
+
+pub joined_twice : (f g : ℕ → ℕ → ℕ) (first : ℕ) (xs ys : List ℕ) → joined_from (λ x y. g (f x y) y) first xs ys ≡ joined_from g first (joined_from f first xs ys) ys
+joined_twice f g zero xs [] = refl
+joined_twice f g zero [] (y ∷ ys) = refl
+joined_twice f g zero (x ∷ xs) (y ∷ ys) = ap (λ r. g (f x y) y ∷ r) (joined_twice f g zero xs ys)
+joined_twice f g (suc first) [] ys = refl
+joined_twice f g (suc first) (x ∷ xs) ys = ap (λ r. x ∷ r) (joined_twice f g first xs ys)
+
+pub joined_alike : (f g : ℕ → ℕ → ℕ) → ((x y : ℕ) → f x y ≡ g x y) → (first : ℕ) (xs ys : List ℕ) → joined_from f first xs ys ≡ joined_from g first xs ys
+joined_alike f g same zero xs [] = refl
+joined_alike f g same zero [] (y ∷ ys) = refl
+joined_alike f g same zero (x ∷ xs) (y ∷ ys) = ap (λ v. v ∷ joined_from f zero xs ys) (same x y) ∙ ap (λ r. g x y ∷ r) (joined_alike f g same zero xs ys)
+joined_alike f g same (suc first) [] ys = refl
+joined_alike f g same (suc first) (x ∷ xs) ys = ap (λ r. x ∷ r) (joined_alike f g same first xs ys)
+
+pub length_joined : (f : ℕ → ℕ → ℕ) (first : ℕ) (xs ys : List ℕ) → first + length ys ≤ length xs → length (joined_from f first xs ys) ≡ length xs
+length_joined f zero xs [] fits = refl
+length_joined f zero [] (y ∷ ys) fits = absurd (omega arith)
+length_joined f zero (x ∷ xs) (y ∷ ys) fits = ap (λ n. suc n) (length_joined f zero xs ys (omega arith))
+length_joined f (suc first) [] ys fits = refl
+length_joined f (suc first) (x ∷ xs) ys fits = ap (λ n. suc n) (length_joined f first xs ys (omega arith))
 
 -- nothing joined in
 
@@ -104,27 +131,27 @@ rest_next f first i xs ys rest now new le is rest_is put = put ∙ rw (is, rest_
 
 -- empty rows
 
-empty_front : (k m : ℕ) (xs ys : List ℕ) → ((j : ℕ) → j < m → slice_index_or ys j 0 ≡ 0) → xs ≡ joined_from (or_shifted k) 0 xs (take m ys)
-empty_front k zero xs ys none = refl
-empty_front k (suc m) xs [] none = refl
-empty_front k (suc m) [] (y ∷ ys) none = refl
-empty_front k (suc m) (x ∷ xs) (y ∷ ys) none = ap (λ r. r ∷ xs) (or_nothing k x y (none 0 (omega arith))) ∙ ap (λ r. or_shifted k x y ∷ r) (empty_front k m xs ys (λ j lt. none (suc j) (omega arith)))
+empty_front : (f : ℕ → ℕ → ℕ) (nothing : (x y : ℕ) → y ≡ 0 → x ≡ f x y) (m : ℕ) (xs ys : List ℕ) → ((j : ℕ) → j < m → slice_index_or ys j 0 ≡ 0) → xs ≡ joined_from f 0 xs (take m ys)
+empty_front f nothing zero xs ys none = refl
+empty_front f nothing (suc m) xs [] none = refl
+empty_front f nothing (suc m) [] (y ∷ ys) none = refl
+empty_front f nothing (suc m) (x ∷ xs) (y ∷ ys) none = ap (λ r. r ∷ xs) (nothing x y (none 0 (omega arith))) ∙ ap (λ r. f x y ∷ r) (empty_front f nothing m xs ys (λ j lt. none (suc j) (omega arith)))
 
-skip_zero : (k i m : ℕ) (xs ys : List ℕ) → i ≤ m → ((j : ℕ) → i ≤ j → j < m → slice_index_or ys j 0 ≡ 0) → joined_from (or_shifted k) 0 xs (take i ys) ≡ joined_from (or_shifted k) 0 xs (take m ys)
-skip_zero k zero m xs ys le none = empty_front k m xs ys (λ j lt. none j (omega arith) lt)
-skip_zero k (suc i) zero xs ys le none = absurd (omega arith)
-skip_zero k (suc i) (suc m) xs [] le none = refl
-skip_zero k (suc i) (suc m) [] (y ∷ ys) le none = refl
-skip_zero k (suc i) (suc m) (x ∷ xs) (y ∷ ys) le none = ap (λ r. or_shifted k x y ∷ r) (skip_zero k i m xs ys (omega arith) (λ j from to. none (suc j) (omega arith) (omega arith)))
+skip_zero : (f : ℕ → ℕ → ℕ) (nothing : (x y : ℕ) → y ≡ 0 → x ≡ f x y) (i m : ℕ) (xs ys : List ℕ) → i ≤ m → ((j : ℕ) → i ≤ j → j < m → slice_index_or ys j 0 ≡ 0) → joined_from f 0 xs (take i ys) ≡ joined_from f 0 xs (take m ys)
+skip_zero f nothing zero m xs ys le none = empty_front f nothing m xs ys (λ j lt. none j (omega arith) lt)
+skip_zero f nothing (suc i) zero xs ys le none = absurd (omega arith)
+skip_zero f nothing (suc i) (suc m) xs [] le none = refl
+skip_zero f nothing (suc i) (suc m) [] (y ∷ ys) le none = refl
+skip_zero f nothing (suc i) (suc m) (x ∷ xs) (y ∷ ys) le none = ap (λ r. f x y ∷ r) (skip_zero f nothing i m xs ys (omega arith) (λ j from to. none (suc j) (omega arith) (omega arith)))
 
-skip_joined : (k first i m : ℕ) (xs ys : List ℕ) → i ≤ m → ((j : ℕ) → i ≤ j → j < m → slice_index_or ys j 0 ≡ 0) → joined_from (or_shifted k) first xs (take i ys) ≡ joined_from (or_shifted k) first xs (take m ys)
-skip_joined k zero i m xs ys le none = skip_zero k i m xs ys le none
-skip_joined k (suc first) i m [] ys le none = refl
-skip_joined k (suc first) i m (x ∷ xs) ys le none = ap (λ r. x ∷ r) (skip_joined k first i m xs ys le none)
+skip_joined : (f : ℕ → ℕ → ℕ) (nothing : (x y : ℕ) → y ≡ 0 → x ≡ f x y) (first i m : ℕ) (xs ys : List ℕ) → i ≤ m → ((j : ℕ) → i ≤ j → j < m → slice_index_or ys j 0 ≡ 0) → joined_from f first xs (take i ys) ≡ joined_from f first xs (take m ys)
+skip_joined f nothing zero i m xs ys le none = skip_zero f nothing i m xs ys le none
+skip_joined f nothing (suc first) i m [] ys le none = refl
+skip_joined f nothing (suc first) i m (x ∷ xs) ys le none = ap (λ r. x ∷ r) (skip_joined f nothing first i m xs ys le none)
 
 -- joined up to the next row that is not empty
-pub skip_next : (k first i m : ℕ) (xs ys now : List ℕ) → now ≡ joined_from (or_shifted k) first xs (take i ys) → IsNext ys i m → now ≡ joined_from (or_shifted k) first xs (take m ys)
-skip_next k first i m xs ys now is next = is ∙ skip_joined k first i m xs ys next.from next.none
+pub skip_next : (f : ℕ → ℕ → ℕ) (nothing : (x y : ℕ) → y ≡ 0 → x ≡ f x y) (first i m : ℕ) (xs ys now : List ℕ) → now ≡ joined_from f first xs (take i ys) → IsNext ys i m → now ≡ joined_from f first xs (take m ys)
+skip_next f nothing first i m xs ys now is next = is ∙ skip_joined f nothing first i m xs ys next.from next.none
 
 -- the next rows from one on
 abbrev pub AreNextFrom : List ℕ → List ℕ → ℕ → Type 0

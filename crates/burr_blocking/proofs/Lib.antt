@@ -2,7 +2,10 @@ pub mod Common
 pub mod Hulls
 pub mod Reaches
 pub mod Marks
+pub mod Translated
+pub mod Classed
 pub mod Triangles
+pub mod Answered
 pub mod Shifts
 pub mod Joins
 pub mod Sets

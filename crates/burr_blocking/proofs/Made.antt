@@ -8,17 +8,18 @@ use Rattle.std.proofs.lemmas.Nat.{mul-le, mul-add-lt}
 use Rattle.std.proofs.lemmas.List.{take_more, take_all, take-append-le}
 use Rattle.std.proofs.lemmas.List.Elements.{All-get_or, All-contains, All-weaker, Contains-append_left, Contains-push, Contains-push_cases}
 use Rattle.burr_voxels.specs.declared.cell.Cell.{Cell}
-use Rattle.burr_voxels.specs.Grid.{plus, minus}
+use Rattle.burr_voxels.specs.Grid.{plus, minus, origin}
 use Rattle.burr_voxels.proofs.Common.Ahead.{same_cell}
 use Rattle.burr_blocking.specs.declared.extent.Extent.{Extent}
 use Rattle.burr_blocking.specs.Views.Boxes.{IsInBox, IsInRows, wide_of, deep_of, high_of, row_count_of, row_of, column_of}
-use Rattle.burr_blocking.specs.Views.Bits.{HasBit, HasBitAt, SetsBit, or_shifted, joined_from}
+use Rattle.burr_blocking.specs.Views.Bits.{HasBit, HasBitAt, SetsBit, or_shifted, or_both, joined_from}
 use Rattle.burr_blocking.specs.Views.Overlaps.{AreOverlapsOf}
-use Rattle.burr_blocking.specs.Views.PairBits.{IsSet, AreShort, AreBitsFrom}
+use Rattle.burr_blocking.specs.Views.PairBits.{IsSet, IsInRowOf, AreShort, AreBitsFrom}
 use Rattle.burr_blocking.proofs.Common.Reversed.{blocked_from, blocked_gives}
 use Rattle.burr_blocking.proofs.Reaches.{gap_value, gap_lt, gap_few}
 use Rattle.burr_blocking.proofs.Marks.{gap_once, parts_once, gap_sum, corner_sum, plus_minus, minus_plus, greatest_inside, IsBoxOf, box_inside, box_low, box_reach}
-use Rattle.burr_blocking.proofs.Shifts.{no_bit, joined_bits_from, joined_bits_old, joined_bits_new}
+use Rattle.burr_blocking.proofs.Joins.{joined_twice, joined_alike, length_joined}
+use Rattle.burr_blocking.proofs.Shifts.{no_bit, or_again, joined_bits_from, joined_bits_old, joined_bits_new}
 
 -- Rows and columns
 
@@ -147,6 +148,29 @@ made_more e hull other old source ps qs i first columns x box lt first_is column
       ],
     ) in
     subst (λ (cs : List Cell). AreMade e new cs qs) (sym (take_more ps i x lt)) both
+
+-- displacements to one place from cells of one row lie in one row
+row_alike : (e : Extent) (to p q : Cell) → p.y ≡ q.y → p.z ≡ q.z → row_of e (minus to p) ≡ row_of e (minus to q)
+row_alike e to p q y z =
+    ap (λ (t : ℤ). int_gap e.least.z (to.z -ℤ p.z) * deep_of e + int_gap e.least.y (to.y -ℤ t)) y ∙ ap (λ (t : ℤ). int_gap e.least.z (to.z -ℤ t) * deep_of e + int_gap e.least.y (to.y -ℤ q.y)) z
+
+-- two cells of a row more, or one
+pub made_both : (e hull other : Extent) (old source : List ℕ) (ps qs : List Cell) (i m first columns further : ℕ) → IsBoxOf e hull other ps qs → i < length ps → IsInRowOf ps i m → first ≡ row_of e (minus other.least (get_or ps i origin)) → columns ≡ column_of e (minus other.least (get_or ps i origin)) → further ≡ column_of e (minus other.least (get_or ps m origin)) → first + length source ≤ length old → AreBitsFrom e source hull.greatest qs → AreMade e old (take i ps) qs → AreMade e (joined_from (or_both columns further) first old source) (take (m + 1) ps) qs
+made_both e hull other old source ps qs i m first columns further box lt row first_is columns_are further_is fits bits so_far =
+    let mid : List ℕ = joined_from (or_shifted columns) first old source in
+    let new : List ℕ = joined_from (or_both columns further) first old source in
+    let one : AreMade e mid (take (i + 1) ps) qs = made_more e hull other old source ps qs i first columns origin box lt first_is columns_are fits bits so_far in
+    elim row.which [
+      | inl same ↦
+          let alike : further ≡ columns = further_is ∙ ap (λ (k : ℕ). column_of e (minus other.least (get_or ps k origin))) same ∙ sym columns_are in
+          let again : new ≡ mid = joined_alike (or_both columns further) (or_shifted columns) (λ x y. or_again columns further x y alike) first old source in
+          subst (λ (k : ℕ). AreMade e new (take (k + 1) ps) qs) (sym same) (subst (λ (rs : List ℕ). AreMade e rs (take (i + 1) ps) qs) (sym again) one)
+      | inr next ↦
+          let room : first + length source ≤ length mid = omega (arith, fits, length_joined (or_shifted columns) first old source fits) in
+          let first_too : first ≡ row_of e (minus other.least (get_or ps m origin)) = first_is ∙ row_alike e other.least (get_or ps i origin) (get_or ps m origin) (sym row.y) (sym row.z) in
+          let two : AreMade e (joined_from (or_shifted further) first mid source) (take (m + 1) ps) qs = made_more e hull other mid source ps qs m first further origin box row.inside first_too further_is room bits (subst (λ (k : ℕ). AreMade e mid (take k ps) qs) (sym next) one) in
+          subst (λ (rs : List ℕ). AreMade e rs (take (m + 1) ps) qs) (sym (joined_twice (or_shifted columns) (or_shifted further) first old source)) two
+    ]
 
 -- all cells
 pub made_all : (e : Extent) (rows : List ℕ) (ps qs : List Cell) (i : ℕ) → length ps ≤ i → AreMade e rows (take i ps) qs → AreMade e rows ps qs

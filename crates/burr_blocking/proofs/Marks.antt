@@ -170,6 +170,16 @@ pub record IsBoxOf (e hull other : Extent) (ps qs : List Cell) : Type 0 where
   pub cells : All (IsInBox hull) ps
   pub others : All (IsInBox other) qs
 
+pub is_box_of : (e hull other : Extent) (ps qs : List Cell) → e.least ≡ minus other.least hull.greatest → ((from to : Cell) → IsInBox hull from → IsInBox other to → IsInBox e (minus to from)) → AreCorners 15 hull.least hull.greatest → AreCorners 15 other.least other.greatest → All (IsInBox hull) ps → All (IsInBox other) qs → IsBoxOf e hull other ps qs
+is_box_of e hull other ps qs corner holds small also cells others = record {
+  corner = corner;
+  holds = holds;
+  hull_small = small;
+  other_small = also;
+  cells = cells;
+  others = others;
+}
+
 pub least_inside : (l g : Cell) → AreCorners 15 l g → IsBetween l g l
 least_inside l g corners = record {
   x_from = omega (arith, ints);

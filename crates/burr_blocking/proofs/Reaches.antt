@@ -108,21 +108,21 @@ one_first m first one = omega (arith, ints, clamps)
 pub last_units : (a b m : ℤ) (last k : ℕ) → m ≡ int_max a b → pos k ≤ℤ int_max a b → pos last ≡ int_max m (pos 1) → k ≤ last
 last_units a b m last k is high one = omega (arith, ints, clamps)
 
--- no more than 1000, where the two are no more than 700
-pub last_few : (a b m : ℤ) (last : ℕ) → m ≡ int_max a b → a ≤ℤ pos 700 → b ≤ℤ pos 700 → pos last ≡ int_max m (pos 1) → last ≤ 1000
+-- no more than 1016, where the two are no more than 1016
+pub last_few : (a b m : ℤ) (last : ℕ) → m ≡ int_max a b → a ≤ℤ pos 1016 → b ≤ℤ pos 1016 → pos last ≡ int_max m (pos 1) → last ≤ 1016
 last_few a b m last is low high one = omega (arith, ints, clamps)
 
 -- the units to a corner
-pub units_to : (direction : Direction) (n : ℕ) (corner from way : Cell) (u : ℤ) → u ≡ units_of direction way → way ≡ minus corner from → IsWithin n corner → IsWithin 512 from → n ≤ 188 → FewUnits 700 u
+pub units_to : (direction : Direction) (n : ℕ) (corner from way : Cell) (u : ℤ) → u ≡ units_of direction way → way ≡ minus corner from → IsWithin n corner → IsWithin 828 from → n ≤ 188 → FewUnits 1016 u
 units_to direction n corner from way u is way_is near from_near few =
-    let far : IsWithin 700 way = subst (IsWithin 700) (sym way_is) (farther_within (n + 512) 700 _ (omega arith) (minus_within n 512 corner from near from_near)) in
-    subst (FewUnits 700) (sym is) (few_units 700 direction way far)
+    let far : IsWithin 1016 way = subst (IsWithin 1016) (sym way_is) (farther_within (n + 828) 1016 _ (omega arith) (minus_within n 828 corner from near from_near)) in
+    subst (FewUnits 1016) (sym is) (few_units 1016 direction way far)
 
 -- a displacement moved along a direction fits 32 bits
-fits_moved : (z k : ℤ) → neg_ℤ (pos 512) ≤ℤ z → z ≤ℤ pos 512 → neg_ℤ (pos 1000) ≤ℤ k → k ≤ℤ pos 1000 → FitsSigned w32 (z +ℤ k)
+fits_moved : (z k : ℤ) → neg_ℤ (pos 828) ≤ℤ z → z ≤ℤ pos 828 → neg_ℤ (pos 1016) ≤ℤ k → k ≤ℤ pos 1016 → FitsSigned w32 (z +ℤ k)
 fits_moved z k a b c d = omega (arith, ints)
 
-fits_at : (from step : Cell) → IsWithin 512 from → IsWithin 1000 step → FitsCell (plus from step)
+fits_at : (from step : Cell) → IsWithin 828 from → IsWithin 1016 step → FitsCell (plus from step)
 fits_at from step near few = record {
   x = fits_moved from.x step.x near.x_above near.x_below few.x_above few.x_below;
   y = fits_moved from.y step.y near.y_above near.y_below few.y_above few.y_below;
@@ -140,8 +140,8 @@ along_within direction k n le = by_sign direction (omega (arith, ints)) (omega (
     by_sign PlusZ a b c d e f = record { x_above = e; x_below = f; y_above = e; y_below = f; z_above = a; z_below = b }
     by_sign MinusZ a b c d e f = record { x_above = e; x_below = f; y_above = e; y_below = f; z_above = c; z_below = d }
 
-pub fits_along : (direction : Direction) (from : Cell) (k : ℕ) → IsWithin 512 from → k ≤ 1000 → FitsCell (plus from (along direction (pos k)))
-fits_along direction from k near few = fits_at from (along direction (pos k)) near (along_within direction k 1000 few)
+pub fits_along : (direction : Direction) (from : Cell) (k : ℕ) → IsWithin 828 from → k ≤ 1016 → FitsCell (plus from (along direction (pos k)))
+fits_along direction from k near few = fits_at from (along direction (pos k)) near (along_within direction k 1016 few)
 
 pub back_within : (n : ℕ) (c : Cell) → IsWithin n c → IsWithin n (minus origin c)
 back_within n c near = record {

@@ -7,7 +7,7 @@ use Rattle.std.proofs.lemmas.Int.{ints}
 use Rattle.std.proofs.lemmas.Nat.{and_mask, shr-shr, pow_pos}
 use Rattle.std.proofs.lemmas.Nat.Bits.{bit_at_and, bit_at_or, bit_at-zero, bit_at_ones, bit_at-lt, bit_at_cat_low, bit_at_cat_high, bit_at_above, bit_at-pow_same, bit_at-pow_other, same_from_bits}
 use native.Mathlib.Decide.{ℕ_discrete, dec_lt}
-use Rattle.burr_blocking.specs.Views.Bits.{HasBit, HasBitAt, SetsBit, or_shifted, joined_from}
+use Rattle.burr_blocking.specs.Views.Bits.{HasBit, HasBitAt, SetsBit, or_shifted, joined_from, or_both}
 
 -- One row
 
@@ -202,3 +202,16 @@ or_nothing k x y none = same_from_bits x (or_shifted k x y) (λ i. sym (bit_at_o
 
     shift_none : (k y : ℕ) → y ≡ 0 → y * 2 ^ k % 2 ^ 32 ≡ 0
     shift_none k y is = rw is (omega arith)
+
+pub both_nothing : (j k x y : ℕ) → y ≡ 0 → x ≡ or_both j k x y
+both_nothing j k x y none = or_nothing j x y none ∙ or_nothing k (or_shifted j x y) y none
+
+-- a row joined in once more, shifted alike, changes nothing
+pub or_again : (j k x y : ℕ) → k ≡ j → or_both j k x y ≡ or_shifted j x y
+or_again j k x y same = same_from_bits (or_both j k x y) (or_shifted j x y) (λ i. bit_at_or (or_shifted j x y) (shift k) i ∙ again (bit_at (or_shifted j x y) i) (bit_at x i) (bit_at (shift j) i) (bit_at (shift k) i) (bit_at_or x (shift j) i) (ap (λ (m : ℕ). bit_at (shift m) i) same))
+  where
+    shift : ℕ → ℕ
+    shift m = y * 2 ^ m % 2 ^ 32
+
+    again : (r a b c : ℕ) → r ≡ max a b → c ≡ b → max r c ≡ r
+    again r a b c is also = omega arith

@@ -1,5 +1,5 @@
 -- Pairs of pieces in a triangle, and what is read of them.
-use Rattle.std.proofs.Common.{◌≡◌, ◌↔◌, ◌∙◌, ℕ, ◌<◌, ◌≤◌, Bool, List, [], ◌∷◌, ◌++◌, length, get_or, subst, sym, ap, arith, Option, unwrap_or}
+use Rattle.std.proofs.Common.{◌≡◌, ◌↔◌, ◌∙◌, ℕ, ◌<◌, Bool, List, [], ◌∷◌, ◌++◌, length, get_or, subst, sym, ap, arith, Option, unwrap_or}
 use Rattle.std.specs.Prelude.{ℤ, pos, IsTrue}
 use Rattle.std.proofs.lemmas.List.{get_or_append_left, length-append}
 use Rattle.std.proofs.lemmas.Option.{unwrap_or-slice_get}
@@ -12,7 +12,9 @@ use Rattle.burr_assembly.specs.Rules.Text.{Assembly}
 use Rattle.burr_assembly.specs.Rules.Homes.{HasHome, home_at, homes_of}
 use Rattle.burr_blocking.specs.Rules.Pairs.{IsBlocked, IsFreeFrom}
 use Rattle.burr_blocking.specs.Views.Overlaps.{AreOverlapsOf, HasNoneAhead}
+use Rattle.burr_blocking.specs.Views.Translates.{IsTranslate, displacement_of, representative_at}
 use Rattle.burr_blocking.proofs.Common.Reversed.{blocked_either, free_either}
+use Rattle.burr_blocking.proofs.Translated.{blocked_translates, free_translates}
 
 -- what holds of each of a list by its number, and of one more, holds of the list with it
 pub one_pushed : {A : Type 0} (P : ℕ → A → Type 0) (xs : List A) (x : A) → ((k : ℕ) (d : A) → k < length xs → P k (get_or xs k d)) → P (length xs) x → (k : ℕ) (d : A) → k < length (xs ++ x ∷ []) → P k (get_or (xs ++ x ∷ []) k d)
@@ -29,12 +31,12 @@ one_pushed P xs x each last k d below = elim (ℕ_discrete k (length xs)) [
 pub home_is : (homes : List (List Cell)) (p : ℕ) (cells : List Cell) → HasHome homes p cells → cells ≡ home_at homes p
 home_is homes p cells has = sym (ap (λ (o : Option (List Cell)). unwrap_or o []) has) ∙ unwrap_or-slice_get homes p []
 
--- what is told of the cells of two pieces is told of the pieces
-pub pair_made : (homes : List (List Cell)) (p n q : ℕ) (R : List Cell → List Cell → Type 0) (ps qs : List Cell) → n ≡ p → HasHome homes p ps → HasHome homes q qs → R ps qs → R (home_at homes n) (home_at homes q)
-pair_made homes p n q R ps qs same has_p has_q told =
-    let first : R (home_at homes p) qs = subst (λ (cs : List Cell). R cs qs) (home_is homes p ps has_p) told in
-    let both : R (home_at homes p) (home_at homes q) = subst (R (home_at homes p)) (home_is homes q qs has_q) first in
-    subst (λ (k : ℕ). R (home_at homes k) (home_at homes q)) (sym same) both
+-- what is told of the cells of the representatives of two classes is told of the classes
+pub pair_made : (homes : List (List Cell)) (rs : List ℕ) (a n b : ℕ) (R : List Cell → List Cell → Type 0) (ps qs : List Cell) → n ≡ a → ps ≡ representative_at homes rs a → qs ≡ representative_at homes rs b → R ps qs → R (representative_at homes rs n) (representative_at homes rs b)
+pair_made homes rs a n b R ps qs same ps_are qs_are told =
+    let first : R (representative_at homes rs a) qs = subst (λ (cs : List Cell). R cs qs) ps_are told in
+    let both : R (representative_at homes rs a) (representative_at homes rs b) = subst (R (representative_at homes rs a)) qs_are first in
+    subst (λ (k : ℕ). R (representative_at homes rs k) (representative_at homes rs b)) (sym same) both
 
 -- What is read
 
@@ -72,6 +74,18 @@ tells_free_back ps qs Overlaps d back direction turned r is other_way pair test 
       λ yes. either.1 (subst (λ (c : Cell). IsFreeFrom qs ps c turned) is (told.0 yes)),
       λ free. told.1 (subst (λ (c : Cell). IsFreeFrom qs ps c turned) (sym is) (either.0 free)),
     )
+
+-- The representatives of two pieces and the pieces
+
+pub tells_pieces_blocked : (ps qs ms ns : List Cell) (s t d way : Cell) (r : Bool) → IsTranslate ms s ps → IsTranslate ns t qs → way ≡ displacement_of s t d → IsTrue r ↔ IsBlocked ms ns way → IsTrue r ↔ IsBlocked ps qs d
+tells_pieces_blocked ps qs ms ns s t d way r ps_are qs_are is told =
+    let same = blocked_translates ms ns s t d in
+    rw (ps_are, qs_are) (λ yes. same.1 (subst (IsBlocked ms ns) is (told.0 yes)), λ blocked. told.1 (subst (IsBlocked ms ns) (sym is) (same.0 blocked)))
+
+pub tells_pieces_free : (ps qs ms ns : List Cell) (s t d way : Cell) (direction : Direction) (r : Bool) → IsTranslate ms s ps → IsTranslate ns t qs → way ≡ displacement_of s t d → IsTrue r ↔ IsFreeFrom ms ns way direction → IsTrue r ↔ IsFreeFrom ps qs d direction
+tells_pieces_free ps qs ms ns s t d way direction r ps_are qs_are is told =
+    let same = free_translates ms ns s t d direction in
+    rw (ps_are, qs_are) (λ yes. same.1 (subst (λ (c : Cell). IsFreeFrom ms ns c direction) is (told.0 yes)), λ free. told.1 (subst (λ (c : Cell). IsFreeFrom ms ns c direction) (sym is) (same.0 free)))
 
 -- What a triangle answers is answered by what holds it
 

@@ -1,7 +1,9 @@
 pub mod Bits
 pub mod Boxes
+pub mod Classes
 pub mod Corners
 pub mod Overlaps
 pub mod PairBits
 pub mod Tables
+pub mod Translates
 pub mod Triangles

@@ -9,7 +9,8 @@ use burr_assembly::Assembly;
 use burr_voxels::{Cell, Direction};
 
 /// Answers of how one piece of an assembly, displaced, meets another one at home. Each
-/// implementation proves that its answers are those of the pieces' cells. An answer takes no memory.
+/// implementation proves that its answers are those of the pieces' cells. An answer takes no
+/// memory.
 pub trait Blocking {
     /// The assembly whose pieces are asked of.
     ghost subject: { Self → AssemblyOf };

@@ -11,8 +11,9 @@ use std::alloc::{AllocError, Global};
 use std::marker::Model;
 
 /// The queries of pieces, answered by tables: one for each two pieces, with one truth value for
-/// each displacement at which they may overlap. To build them takes time in the product of the two
-/// pieces' cells; `blocked` reads one value, `free` at most 31.
+/// each displacement at which they may overlap. Pieces whose cells differ by a displacement alone
+/// share them. To build them takes time in the product of the two pieces' cells; `blocked` reads
+/// one value, `free` at most 31.
 #[derive(Debug, Drop)]
 pub struct CellTables<'a> {
     tables: Triangle<'a, PairTable>,

@@ -1,8 +1,8 @@
-ghost use Rattle.std.specs.Prelude.{◌≡◌, ◌+◌, ◌≤◌, ◌<◌, ◌↔◌, ◌≤ℤ◌, ◌-ℤ◌, ℕ, pos, neg_ℤ, IsTrue, Contains, length};
+ghost use Rattle.std.specs.Prelude.{◌≡◌, ◌+◌, ◌≤◌, ◌<◌, ◌↔◌, ◌≤ℤ◌, ◌-ℤ◌, ℕ, pos, neg_ℤ, IsTrue, Contains, length, slice_index_or};
 ghost use Rattle.std.specs.Int.{int_gap, int_max};
 ghost use Rattle.std.specs.List.{All};
 ghost use Rattle.burr_voxels.specs.declared.cell.Cell.{Cell as CellOf};
-ghost use Rattle.burr_voxels.specs.Grid.{minus, plus, along};
+ghost use Rattle.burr_voxels.specs.Grid.{minus, plus, along, origin};
 ghost use Rattle.burr_voxels.specs.Near.{IsWithin};
 ghost use Rattle.burr_assembly.specs.Rules.Homes.{DiameterAtMost};
 ghost use Rattle.burr_blocking.specs.Views.Corners.{AreCorners, lower_of, upper_of, units_of};
@@ -171,9 +171,9 @@ impl Extent {
 
     /// How far a displacement lies after the first one of its row; below 0 where it lies before it.
     pub fn signed_column(self, displacement: Cell) -> i32
-        requires { IsWithin 512 displacement }
+        requires { IsWithin 828 displacement }
         ensures value { result ≡ displacement.x -ℤ self.least.x }
-        ensures few { result ≤ℤ pos 700 }
+        ensures few { result ≤ℤ pos 1016 }
     {
         displacement.x - self.least.x
     }
@@ -207,9 +207,9 @@ impl Extent {
     /// The first and the last number of units, at least 1, that can take a displacement into the
     /// box along a direction; where there is none, both are 1.
     pub fn units_ahead(self, from: Cell, direction: Direction) -> (u16, u16)
-        requires { IsWithin 512 from }
+        requires { IsWithin 828 from }
         ensures first { 1 ≤ result.0 }
-        ensures few { result.1 ≤ 1000 }
+        ensures few { result.1 ≤ 1016 }
         ensures within { (k : ℕ) → 1 ≤ k → IsInBox self (plus from (along direction (pos k)))
             → (result.0 ≤ k) × (k ≤ result.1) }
     {
@@ -224,7 +224,7 @@ impl Extent {
 /// How many units a cell lies from the origin along a direction; below 0 where it lies the other
 /// way.
 fn units_along(cell: Cell, direction: Direction) -> i32
-    requires { IsWithin 700 cell }
+    requires { IsWithin 1016 cell }
     ensures { result ≡ units_of direction cell }
 {
     match direction {
@@ -239,15 +239,16 @@ fn units_along(cell: Cell, direction: Direction) -> i32
 
 /// A number of units, but 1 where there are fewer.
 fn at_least_one(units: i32) -> u16
-    requires { units ≤ℤ pos 1000 }
+    requires { units ≤ℤ pos 1016 }
     ensures { pos result ≡ int_max units (pos 1) }
 {
     units.max(1) as u16
 }
 
 /// The first of the cells; the origin where there is none.
-fn first_of(cells: &[Cell]) -> Cell
+pub fn first_of(cells: &[Cell]) -> Cell
     requires { All (IsWithin 79) cells.now }
+    ensures value { result ≡ slice_index_or cells.now 0 origin }
     ensures first { 0 < length cells.now → Contains cells.now result }
     ensures near { IsWithin 79 result }
 {

@@ -27,9 +27,9 @@ pub trait PairAnswers: Sized + Drop {
         ensures { IsTrue result ↔ Overlaps self.now displacement };
 
     /// Whether the one overlaps the other at no displacement any number of units, at least one,
-    /// ahead along a direction. The displacement lies within 512 a coordinate, the caller's
+    /// ahead along a direction. The displacement lies within 828 a coordinate, the caller's
     /// condition.
     fn free(&self, displacement: Cell, direction: Direction) -> bool
-        requires { IsWithin 512 displacement }
+        requires { IsWithin 828 displacement }
         ensures { IsTrue result ↔ HasNoneAhead (Overlaps self.now) displacement direction };
 }

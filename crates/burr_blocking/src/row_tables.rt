@@ -12,9 +12,10 @@ use std::alloc::{AllocError, Global};
 use std::marker::Model;
 
 /// The queries of pieces, answered by rows of bits: for each two pieces one bit for each
-/// displacement at which they may overlap, 31 to a row. To build them takes time in the product of
-/// the one piece's cells and the other's rows, an eighth each; `blocked` reads one bit, `free` one
-/// row along x, and at most 31 rows along y and z.
+/// displacement at which they may overlap, 31 to a row. Pieces whose cells differ by a displacement
+/// alone share them. To build them takes time in the product of the one piece's cells and the
+/// other's rows, an eighth each; `blocked` reads one bit, `free` one row along x, and at most 31
+/// rows along y and z.
 #[derive(Debug, Drop)]
 pub struct RowTables<'a> {
     tables: Triangle<'a, PairRows>,

@@ -44,7 +44,7 @@ cell_less a u b = same_cell _ _ (later_less a.x u.x b.x) (later_less a.y u.y b.y
 
 -- Lists of cells
 
-shifted_twice : (u a : Cell) (ps : List Cell) → shifted u (shifted a ps) ≡ shifted (plus a u) ps
+pub shifted_twice : (u a : Cell) (ps : List Cell) → shifted u (shifted a ps) ≡ shifted (plus a u) ps
 shifted_twice u a [] = refl
 shifted_twice u a (p ∷ ps) = ap (λ (c : Cell). c ∷ shifted u (shifted a ps)) (cell_twice p a u) ∙ ap (λ (cs : List Cell). plus p (plus a u) ∷ cs) (shifted_twice u a ps)
 

@@ -14,6 +14,10 @@ HasBitAt rows n k = HasBit (slice_index_or rows n 0) k
 abbrev pub or_shifted : ℕ → ℕ → ℕ → ℕ
 or_shifted k a b = bit_or a (b * 2 ^ k % 2 ^ 32)
 
+-- the first row joined with the second one, shifted j places and shifted k places
+abbrev pub or_both : ℕ → ℕ → ℕ → ℕ → ℕ
+or_both j k a b = or_shifted k (or_shifted j a b) b
+
 -- the rows from the first one on joined with others, one by one
 abbrev pub joined_from : (ℕ → ℕ → ℕ) → ℕ → List ℕ → List ℕ → List ℕ
 joined_from join zero rows [] = rows

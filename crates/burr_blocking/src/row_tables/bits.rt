@@ -1,6 +1,6 @@
 ghost use Rattle.std.specs.Prelude.{◌≡◌, ◌↔◌, ◌<◌, ◌≤ℤ◌, ◌+ℤ◌, ◌+◌, ◌≤◌, ◌⊎◌, ℕ, pos, length, slice_index_or, IsTrue};
 ghost use Rattle.std.specs.Simd.Lanes.{zip2};
-ghost use Rattle.burr_blocking.specs.Views.Bits.{AreNext, IsNext, HasBit, SetsBit, or_shifted, joined_from};
+ghost use Rattle.burr_blocking.specs.Views.Bits.{AreNext, IsNext, HasBit, SetsBit, or_both, joined_from};
 
 use std::simd::prelude::*;
 
@@ -62,25 +62,28 @@ pub fn set_bit(rows: &mut [u32], row: usize, column: u32)
     rows[row] |= 1 << column;
 }
 
-/// Joins the rows from a first one on with others, shifted so many columns, one row at a time.
-fn join_each(rows: &mut [u32], first: usize, others: &[u32], columns: u32)
+/// Joins the rows from a first one on with others, shifted so many columns and shifted so many
+/// others, one row at a time.
+fn join_each(rows: &mut [u32], first: usize, others: &[u32], columns: u32, further: u32)
     requires fits { first + length others.now ≤ length rows.old }
     requires columns { columns < 32 }
-    ensures { rows.new ≡ joined_from (or_shifted columns) first rows.old others.now }
+    requires further { further < 32 }
+    ensures { rows.new ≡ joined_from (or_both columns further) first rows.old others.now }
 {
     for i in 0..others.len() {
-        rows[first + i] |= others[i] << columns;
+        rows[first + i] = rows[first + i] | (others[i] << columns) | (others[i] << further);
     }
 }
 
-/// Eight rows joined with others, shifted so many columns.
-fn join_eight(rows: u32x8, others: u32x8, columns: u32) -> u32x8
+/// Eight rows joined with others, shifted so many columns and shifted so many others.
+fn join_eight(rows: u32x8, others: u32x8, columns: u32, further: u32) -> u32x8
     requires columns { columns < 32 }
+    requires further { further < 32 }
     requires width { length rows ≡ 8 }
     requires others_width { length others ≡ 8 }
-    ensures { result ≡ zip2 (or_shifted columns) rows others }
+    ensures { result ≡ zip2 (or_both columns further) rows others }
 {
-    rows | (others << u32x8::splat(columns))
+    rows | (others << u32x8::splat(columns)) | (others << u32x8::splat(further))
 }
 
 /// The number of the first row from one on that is not empty, and of the end where all are. A row
@@ -97,14 +100,23 @@ fn following(rows: &[u32], next: &[usize], number: usize) -> usize
     next[number]
 }
 
-/// Joins the rows from a first one on with others, shifted so many columns: what `join_each` gives,
-/// eight rows at a time, and without the empty ones, by where the next one is that is not empty.
-pub fn join(rows: &mut [u32], first: usize, others: &[u32], next: &[usize], columns: u32)
+/// Joins the rows from a first one on with others, shifted so many columns and shifted so many
+/// others: what `join_each` gives, eight rows at a time, and without the empty ones, by where the
+/// next one is that is not empty.
+pub fn join(
+    rows: &mut [u32],
+    first: usize,
+    others: &[u32],
+    next: &[usize],
+    columns: u32,
+    further: u32,
+)
     requires fits { first + length others.now ≤ length rows.old }
     requires columns { columns < 32 }
+    requires further { further < 32 }
     requires count { length next.now ≡ length others.now + 1 }
     requires next { AreNext others.now next.now }
-    ensures { rows.new ≡ joined_from (or_shifted columns) first rows.old others.now }
+    ensures { rows.new ≡ joined_from (or_both columns further) first rows.old others.now }
 {
     let count = others.len();
     let mut i = next[0];
@@ -113,11 +125,12 @@ pub fn join(rows: &mut [u32], first: usize, others: &[u32], next: &[usize], colu
             u32x8::from_slice(&rows[first + i..]),
             u32x8::from_slice(&others[i..]),
             columns,
+            further,
         );
         joined.copy_to_slice(&mut rows[first + i..]);
         i = following(others, next, i + 8);
     }
-    join_each(rows, first + i, &others[i..], columns);
+    join_each(rows, first + i, &others[i..], columns, further);
 }
 
 /// A row's number where the row is not empty, else the number of a later one.

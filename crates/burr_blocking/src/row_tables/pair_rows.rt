@@ -7,7 +7,7 @@ ghost use Rattle.burr_voxels.specs.declared.cell.Cell.{Cell as CellOf};
 ghost use Rattle.burr_blocking.specs.Views.Boxes.{IsInBox, row_of, column_of, row_count_of};
 ghost use Rattle.burr_blocking.specs.Views.Bits.{AreNext, HasBit, HasBitAt};
 ghost use Rattle.burr_blocking.specs.Views.Overlaps.{HasNoneAhead};
-ghost use Rattle.burr_blocking.specs.Views.PairBits.{AreBitsFrom, AreShort, HasBitIn, IsSet};
+ghost use Rattle.burr_blocking.specs.Views.PairBits.{AreBitsFrom, AreShort, HasBitIn, IsInRowOf, IsSet};
 
 use crate::extent::Extent;
 use crate::pair_answers::PairAnswers;
@@ -38,15 +38,20 @@ impl PairAnswers for PairRows {
         let other_rows = rows_from(alloc, extent, hull.greatest, last + 1, others)?;
         let next = next_rows(alloc, &other_rows)?;
         let mut rows = Vec::from_elem(alloc, 0u32, extent.row_count())?;
-        for cell in cells {
-            let low = other_hull.least - *cell;
+        let mut i = 0;
+        while i < cells.len() {
+            let also = last_in_row(cells, i);
+            let low = other_hull.least - cells[i];
+            let further = other_hull.least - cells[also];
             join(
                 &mut rows,
                 extent.row(low),
                 &other_rows,
                 &next,
                 extent.column(low),
+                extent.column(further),
             );
+            i = also + 1;
         }
         Ok(PairRows { extent, rows })
     }
@@ -87,7 +92,7 @@ impl PairRows {
 
     /// What `free` answers along +x.
     fn is_clear_plus_x(&self, from: Cell) -> bool
-        requires { IsWithin 512 from }
+        requires { IsWithin 828 from }
         ensures { IsTrue result
             ↔ HasNoneAhead (IsSet self.now.extent self.now.rows.items) from PlusX }
     {
@@ -97,7 +102,7 @@ impl PairRows {
 
     /// What `free` answers along -x.
     fn is_clear_minus_x(&self, from: Cell) -> bool
-        requires { IsWithin 512 from }
+        requires { IsWithin 828 from }
         ensures { IsTrue result
             ↔ HasNoneAhead (IsSet self.now.extent self.now.rows.items) from MinusX }
     {
@@ -106,7 +111,7 @@ impl PairRows {
 
     /// What `free` answers along a direction in which x stays.
     fn is_clear_across(&self, from: Cell, direction: Direction) -> bool
-        requires near { IsWithin 512 from }
+        requires near { IsWithin 828 from }
         requires across { (k : ℤ) → (along direction k).x ≡ pos 0 }
         ensures { IsTrue result
             ↔ HasNoneAhead (IsSet self.now.extent self.now.rows.items) from direction }
@@ -121,7 +126,7 @@ impl PairRows {
     /// The rows joined in which the displacements lie that are any number of units, at least one,
     /// ahead along a direction.
     fn rows_ahead(&self, from: Cell, direction: Direction) -> u32
-        requires { IsWithin 512 from }
+        requires { IsWithin 828 from }
         ensures has { (n : ℕ) → HasBit result n → (k : ℕ) × (1 ≤ k)
             × HasBitIn self.now.extent self.now.rows.items (plus from (along direction (pos k))) n }
         ensures all { (n k : ℕ) → 1 ≤ k → IsSet self.now.extent self.now.rows.items
@@ -157,6 +162,22 @@ fn rows_from(
         set_bit(&mut rows, extent.row(way), extent.column(way));
     }
     Ok(rows)
+}
+
+/// The number of the next cell where that one has the y and the z of this one, else of this one:
+/// the two are joined at once.
+fn last_in_row(cells: &[Cell], i: usize) -> usize
+    requires { i < length cells.now }
+    ensures { IsInRowOf cells.now i result }
+{
+    let next = i + 1;
+    if next >= cells.len() {
+        return i;
+    }
+    if cells[next].y != cells[i].y || cells[next].z != cells[i].z {
+        return i;
+    }
+    next
 }
 
 /// For each row, and for the end of the rows, the first from there on that is not empty.

@@ -9,12 +9,12 @@ use Rattle.burr_blocking.proofs.extent.Extent.units_ahead.Goals as goal
 pub units_along-to_least-requires : goal.units_along-to_least-requires
 units_along-to_least-requires c =
     let e = c.args.self in
-    subst (IsWithin 700) (sym c.sub.ensures) (farther_within 670 700 _ (omega arith) (minus_within 158 512 e.least c.args.from e.near c.requires))
+    subst (IsWithin 1016) (sym c.sub.ensures) (farther_within 986 1016 _ (omega arith) (minus_within 158 828 e.least c.args.from e.near c.requires))
 
 pub units_along-to_greatest-requires : goal.units_along-to_greatest-requires
 units_along-to_greatest-requires c =
     let e = c.args.self in
-    subst (IsWithin 700) (sym c.sub-2.ensures) (minus_within 188 512 e.greatest c.args.from (greatest_within 158 30 e.least e.greatest e.near e.small) c.requires)
+    subst (IsWithin 1016) (sym c.sub-2.ensures) (minus_within 188 828 e.greatest c.args.from (greatest_within 158 30 e.least e.greatest e.near e.small) c.requires)
 
 pub returns-clause-within : goal.returns-clause-within
 returns-clause-within c = λ k least inside.

@@ -1,19 +1,45 @@
-use Rattle.std.proofs.Common.{subst, sym}
+use Rattle.std.proofs.Common.{◌≡◌, ◌↔◌, IsTrue, sym, subst, arith}
 use Rattle.burr_voxels.specs.Near.{IsWithin}
-use Rattle.burr_assembly.specs.Rules.Homes.{homes_of, home_at}
 use Rattle.burr_blocking.proofs.Reaches.{back_within}
-use Rattle.burr_blocking.proofs.Triangles.{tells_free, tells_free_back}
+use Rattle.burr_assembly.specs.Rules.Text.{Assembly}
+use Rattle.burr_assembly.specs.Rules.Homes.{homes_of, home_at}
+use Rattle.burr_blocking.specs.Rules.Pairs.{IsFreeFrom}
+use Rattle.burr_blocking.proofs.Answered.{are_asked, has_home, pair_there, answers_free, answers_free_back}
 use Rattle.burr_blocking.proofs.triangle.TriangleBlocking.free.Goals as goal
 
-pub free-requires-else-piece-other : goal.free-requires-else-piece-other
-free-requires-else-piece-other g c = subst (IsWithin 512) (sym c.sub-back.ensures) (back_within 512 c.args.displacement c.requires.near)
+pub pair-requires : goal.pair-requires
+pair-requires g c =
+    let a : Assembly = c.self.inside.assembly.now in
+    let homes = homes_of a in
+    let first = has_home a c.args.self.now c.args.piece c.self.view_is c.requires.piece in
+    let second = has_home a c.args.self.now c.args.other c.self.view_is c.requires.other in
+    pair_there g.P.PairAnswers.Overlaps homes c.self.inside.classes c.self.inside.pairs.items c.args.piece c.args.other c.translate-from.result c.translate-to.result c.index.result.now c.self.invariant c.requires.two first second c.translate-from.ensures c.translate-to.ensures (omega (arith, c.if-from-to.true)) c.index.ensures
 
-pub returns-then-piece-other : goal.returns-then-piece-other
-returns-then-piece-other g c =
-    let homes = homes_of c.args.self.now in
-    tells_free (home_at homes c.args.piece) (home_at homes c.args.other) (g.P.PairAnswers.Overlaps c.pair.result.now) c.args.displacement c.args.direction c.free.result c.pair.ensures c.free.ensures
+pub pair-requires-else-from-to : goal.pair-requires-else-from-to
+pair-requires-else-from-to g c =
+    let a : Assembly = c.self.inside.assembly.now in
+    let homes = homes_of a in
+    let first = has_home a c.args.self.now c.args.piece c.self.view_is c.requires.piece in
+    let second = has_home a c.args.self.now c.args.other c.self.view_is c.requires.other in
+    pair_there g.P.PairAnswers.Overlaps homes c.self.inside.classes c.self.inside.pairs.items c.args.other c.args.piece c.translate-to.result c.translate-from.result c.index-else-from-to.result.now c.self.invariant (λ (e : c.args.other ≡ c.args.piece). c.requires.two (sym e)) second first c.translate-to.ensures c.translate-from.ensures (omega (arith, c.if-from-to.false)) c.index-else-from-to.ensures
 
-pub returns-else-piece-other : goal.returns-else-piece-other
-returns-else-piece-other g c =
-    let homes = homes_of c.args.self.now in
-    tells_free_back (home_at homes c.args.piece) (home_at homes c.args.other) (g.P.PairAnswers.Overlaps c.pair-else-piece-other.result.now) c.args.displacement c.sub-back.result c.args.direction c.opposite.result c.free-else-piece-other.result c.sub-back.ensures c.opposite.ensures c.pair-else-piece-other.ensures c.free-else-piece-other.ensures
+pub free-requires-else-from-to : goal.free-requires-else-from-to
+free-requires-else-from-to g c = subst (IsWithin 828) (sym c.sub-back.ensures) (back_within 828 c.between_representatives-way.result c.between_representatives-way.ensures.near)
+
+pub returns-then-from-to : goal.returns-then-from-to
+returns-then-from-to g c =
+    let a : Assembly = c.self.inside.assembly.now in
+    let homes = homes_of a in
+    let first = has_home a c.args.self.now c.args.piece c.self.view_is c.requires.piece in
+    let second = has_home a c.args.self.now c.args.other c.self.view_is c.requires.other in
+    let asked = are_asked homes c.self.inside.classes c.args.piece c.args.other c.args.displacement c.translate-from.result c.translate-to.result c.between_representatives-way.result c.requires.two first second c.translate-from.ensures c.translate-to.ensures c.between_representatives-way.ensures.value in
+    subst (λ (b : Assembly). IsTrue c.free.result ↔ IsFreeFrom (home_at (homes_of b) c.args.piece) (home_at (homes_of b) c.args.other) c.args.displacement c.args.direction) c.self.view_is (answers_free g.P.PairAnswers.Overlaps homes c.self.inside.classes c.self.inside.pairs.items c.args.piece c.args.other c.args.displacement c.translate-from.result c.translate-to.result c.between_representatives-way.result c.args.direction c.index.result.now c.pair.result.now c.free.result c.self.invariant asked (omega (arith, c.if-from-to.true)) c.index.ensures c.pair.ensures c.free.ensures)
+
+pub returns-else-from-to : goal.returns-else-from-to
+returns-else-from-to g c =
+    let a : Assembly = c.self.inside.assembly.now in
+    let homes = homes_of a in
+    let first = has_home a c.args.self.now c.args.piece c.self.view_is c.requires.piece in
+    let second = has_home a c.args.self.now c.args.other c.self.view_is c.requires.other in
+    let asked = are_asked homes c.self.inside.classes c.args.piece c.args.other c.args.displacement c.translate-from.result c.translate-to.result c.between_representatives-way.result c.requires.two first second c.translate-from.ensures c.translate-to.ensures c.between_representatives-way.ensures.value in
+    subst (λ (b : Assembly). IsTrue c.free-else-from-to.result ↔ IsFreeFrom (home_at (homes_of b) c.args.piece) (home_at (homes_of b) c.args.other) c.args.displacement c.args.direction) c.self.view_is (answers_free_back g.P.PairAnswers.Overlaps homes c.self.inside.classes c.self.inside.pairs.items c.args.piece c.args.other c.args.displacement c.translate-from.result c.translate-to.result c.between_representatives-way.result c.sub-back.result c.args.direction c.opposite-opposite.result c.index-else-from-to.result.now c.pair-else-from-to.result.now c.free-else-from-to.result c.self.invariant asked (omega (arith, c.if-from-to.false)) c.index-else-from-to.ensures c.pair-else-from-to.ensures c.sub-back.ensures c.opposite-opposite.ensures c.free-else-from-to.ensures)

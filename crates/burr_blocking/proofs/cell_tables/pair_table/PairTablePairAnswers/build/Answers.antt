@@ -7,7 +7,7 @@ use Rattle.burr_voxels.specs.Near.{IsWithin}
 use Rattle.burr_blocking.specs.Views.Boxes.{IsInBox, place_of, size_of}
 use Rattle.burr_blocking.specs.Views.Tables.{SetsMarks}
 use Rattle.burr_blocking.proofs.Hulls.{fits_minus}
-use Rattle.burr_blocking.proofs.Marks.{IsBoxOf, box_reach, box_inside, box_low, box_room, adds_places, IsSoFar, so_far_more, so_far_all}
+use Rattle.burr_blocking.proofs.Marks.{is_box_of, box_reach, box_inside, box_low, box_room, adds_places, IsSoFar, so_far_more, so_far_all}
 use Rattle.burr_blocking.proofs.cell_tables.pair_table.PairTablePairAnswers.build.Goals as goal
 
 -- a slice that is as long as what it was written over
@@ -22,14 +22,7 @@ places_from-requires-clause-inside c =
     let other = c.around-other_hull.result in
     let ps = c.args.cells.now in
     let qs = c.args.others.now in
-    let box : IsBoxOf e hull other ps qs = record {
-      corner = c.displacements_to-extent.ensures.corner;
-      holds = c.displacements_to-extent.ensures.holds;
-      hull_small = c.around-hull.ensures.small;
-      other_small = c.around-other_hull.ensures.small;
-      cells = c.around-hull.ensures.holds;
-      others = c.around-other_hull.ensures.holds;
-    } in
+    let box = is_box_of e hull other ps qs c.displacements_to-extent.ensures.corner c.displacements_to-extent.ensures.holds c.around-hull.ensures.small c.around-other_hull.ensures.small c.around-hull.ensures.holds c.around-other_hull.ensures.holds in
     box_reach e hull other ps qs box
 
 pub sub-requires : goal.sub-requires
@@ -43,14 +36,7 @@ place-requires c =
     let other = c.around-other_hull.result in
     let ps = c.args.cells.now in
     let qs = c.args.others.now in
-    let box : IsBoxOf e hull other ps qs = record {
-      corner = c.displacements_to-extent.ensures.corner;
-      holds = c.displacements_to-extent.ensures.holds;
-      hull_small = c.around-hull.ensures.small;
-      other_small = c.around-other_hull.ensures.small;
-      cells = c.around-hull.ensures.holds;
-      others = c.around-other_hull.ensures.holds;
-    } in
+    let box = is_box_of e hull other ps qs c.displacements_to-extent.ensures.corner c.displacements_to-extent.ensures.holds c.around-hull.ensures.small c.around-other_hull.ensures.small c.around-hull.ensures.holds c.around-other_hull.ensures.holds in
     subst (IsInBox e) (sym c.sub.ensures) (box_low e hull other ps qs c.loop-cell.cell-index origin box (omega arith))
 
 pub mark-requires : goal.mark-requires
@@ -60,14 +46,7 @@ mark-requires c =
     let other = c.around-other_hull.result in
     let ps = c.args.cells.now in
     let qs = c.args.others.now in
-    let box : IsBoxOf e hull other ps qs = record {
-      corner = c.displacements_to-extent.ensures.corner;
-      holds = c.displacements_to-extent.ensures.holds;
-      hull_small = c.around-hull.ensures.small;
-      other_small = c.around-other_hull.ensures.small;
-      cells = c.around-hull.ensures.holds;
-      others = c.around-other_hull.ensures.holds;
-    } in
+    let box = is_box_of e hull other ps qs c.displacements_to-extent.ensures.corner c.displacements_to-extent.ensures.holds c.around-hull.ensures.small c.around-other_hull.ensures.small c.around-hull.ensures.holds c.around-other_hull.ensures.holds in
     let first = c.place.ensures.value ∙ ap (place_of e) c.sub.ensures in
     let room = box_room e hull other ps qs c.loop-cell.cell-index c.place.result origin c.deref.result.now box (omega arith) first (c.deref.ensures.value ∙ c.in_ok-places.ensures) in
     let size : length c.deref_mut.result.now ≡ size_of e = ap length c.deref_mut.ensures.value ∙ c.loop-cell.invariant.size in
@@ -80,14 +59,7 @@ loop-cell-preserved c =
     let other = c.around-other_hull.result in
     let ps = c.args.cells.now in
     let qs = c.args.others.now in
-    let box : IsBoxOf e hull other ps qs = record {
-      corner = c.displacements_to-extent.ensures.corner;
-      holds = c.displacements_to-extent.ensures.holds;
-      hull_small = c.around-hull.ensures.small;
-      other_small = c.around-other_hull.ensures.small;
-      cells = c.around-hull.ensures.holds;
-      others = c.around-other_hull.ensures.holds;
-    } in
+    let box = is_box_of e hull other ps qs c.displacements_to-extent.ensures.corner c.displacements_to-extent.ensures.holds c.around-hull.ensures.small c.around-other_hull.ensures.small c.around-hull.ensures.holds c.around-other_hull.ensures.holds in
     let old = c.loop-cell.marks.items in
     let new = c.mark.new.marks in
     let i = c.loop-cell.cell-index in
