@@ -1,0 +1,4 @@
+pub mod Numbers
+pub mod Operands
+pub mod Sets
+pub mod Words

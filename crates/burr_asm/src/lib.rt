@@ -3,10 +3,9 @@
 
 mod assembling;
 mod fault;
-mod listing;
 mod text;
 mod version;
 
 pub use assembling::assemble;
+pub use burr_listing::{list, list_with_places};
 pub use fault::AsmFault;
-pub use listing::{list, list_with_places};

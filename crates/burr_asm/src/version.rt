@@ -15,23 +15,6 @@ impl Version {
         }
     }
 
-    /// The word with which the texts of such plans begin.
-    pub fn word(self) -> &'static [u8] {
-        match self {
-            Version::One => b"plan",
-            Version::Two => b"plan2",
-        }
-    }
-
-    /// The version with this number, which is 1 or 2.
-    pub fn numbered(number: u16) -> Version {
-        if number == 2 {
-            Version::Two
-        } else {
-            Version::One
-        }
-    }
-
     /// Its number: 1 or 2.
     pub fn number(self) -> u16 {
         match self {

@@ -1,7 +1,7 @@
 ghost use Rattle.std.specs.Prelude.{◌<◌, ◌≤◌, IfSome};
 
 use crate::text::plain_line::PlainLine;
-use crate::text::words::{cut_number, name};
+use crate::text::words::{NumberWord, name};
 use burr_text::is_name;
 
 /// A line of code by its form alone: an instruction's word and its operands, or one raw byte.
@@ -12,7 +12,7 @@ pub enum CodeLine<'a> {
     /// `jump LABEL`
     Jump(&'a [u8]),
     /// `down SLOT LABEL`
-    Down(&'a [u8], &'a [u8]),
+    Down(NumberWord<'a>, &'a [u8]),
     /// `pick LABEL LABEL ..`
     Pick(OfferWords<'a>),
     /// `call PROCEDURE`
@@ -60,7 +60,7 @@ impl CodeLine<'_> {
         match keyword {
             Keyword::Jump => Some(CodeLine::Jump(name(words)?)),
             Keyword::Down => {
-                let (slot, label) = cut_number(words)?;
+                let (slot, label) = NumberWord::cut(words)?;
                 Some(CodeLine::Down(slot, name(label)?))
             }
             Keyword::Pick => Some(CodeLine::Pick(OfferWords::parse(words)?)),

@@ -1,21 +1,22 @@
 ghost use Rattle.std.specs.Prelude.{◌<◌, ◌≤◌, IfSome, length};
 
 use crate::text::numbers::{coefficient, constant, slot};
+use crate::text::words::NumberWord;
 use burr_container::PlanForm;
-use burr_text::{cut_at, is_number};
+use burr_text::cut_at;
 
 /// The words of a form: its constant, and after it its terms.
 #[derive(Clone, Copy)]
 pub struct FormWords<'a> {
-    constant: &'a [u8],
+    constant: NumberWord<'a>,
     terms: &'a [u8],
 }
 
 /// The words of a term: its coefficient, without a `+`, and its slot.
 #[derive(Clone, Copy)]
 struct TermWords<'a> {
-    coefficient: &'a [u8],
-    slot: &'a [u8],
+    coefficient: NumberWord<'a>,
+    slot: NumberWord<'a>,
 }
 
 impl FormWords<'_> {
@@ -23,7 +24,8 @@ impl FormWords<'_> {
     pub fn parse(bytes: &[u8]) -> Option<FormWords<'_>> {
         let (_first, others) = bytes.split_first()?;
         let (constant, terms) = bytes.split_at(1 + before_sign(others));
-        (is_number(constant) && are_terms(terms)).then_some(FormWords { constant, terms })
+        let constant = NumberWord::parse(constant)?;
+        are_terms(terms).then_some(FormWords { constant, terms })
     }
 
     /// The form of these words; None where a number is out of its range, a slot isn't live, or the
@@ -72,8 +74,9 @@ impl TermWords<'_> {
     {
         let (coefficient, bytes) = cut_at(number_of(bytes)?, b'v')?;
         let (slot, rest) = bytes.split_at(before_sign(bytes));
-        let term = TermWords { coefficient, slot };
-        (is_number(coefficient) && is_number(slot)).then_some((term, rest))
+        let coefficient = NumberWord::parse(coefficient)?;
+        let slot = NumberWord::parse(slot)?;
+        Some((TermWords { coefficient, slot }, rest))
     }
 }
 

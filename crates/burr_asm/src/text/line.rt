@@ -1,7 +1,14 @@
+ghost use Rattle.std.specs.Prelude.{◌≡◌, None, Some, MatchOption};
+ghost use Rattle.burr_plantext.specs.Rules.Lines.{grip_line};
+ghost use Rattle.burr_plantext.specs.Rules.Operands.{two};
+ghost use Rattle.burr_plantext.specs.Rules.Texts.{words_of};
+ghost use Rattle.burr_plantext.specs.Rules.Written.{is_number};
+ghost use Rattle.burr_asm.specs.Views.LineWords.{grip_words, range_between, range_words};
+
 use crate::text::code_line::CodeLine;
 use crate::text::form::FormWords;
-use crate::text::set::is_set;
-use crate::text::words::{cut_name, cut_number, name, number};
+use crate::text::set::SetWord;
+use crate::text::words::{NumberWord, cut_name, name};
 use crate::version::Version;
 use burr_text::cut_at;
 
@@ -40,44 +47,44 @@ pub enum LineForm<'a> {
 pub struct PlanWords<'a> {
     pub version: Version,
     pub name: &'a [u8],
-    pub pieces: &'a [u8],
-    pub budget: &'a [u8],
+    pub pieces: NumberWord<'a>,
+    pub budget: NumberWord<'a>,
 }
 
 /// The words of a procedure's line.
 #[derive(Clone, Copy)]
 pub struct ProcedureWords<'a> {
     pub name: &'a [u8],
-    pub parameters: &'a [u8],
+    pub parameters: NumberWord<'a>,
     /// None where the line ends before them.
-    pub results: Option<&'a [u8]>,
+    pub results: Option<NumberWord<'a>>,
 }
 
 /// The words with which a frame begins.
 #[derive(Clone, Copy)]
 pub struct GripWords<'a> {
-    pub tray: &'a [u8],
-    pub set: &'a [u8],
+    pub tray: NumberWord<'a>,
+    pub set: SetWord<'a>,
 }
 
 /// The words of a slot's line.
 #[derive(Clone, Copy)]
 pub struct SlotWords<'a> {
-    pub slot: &'a [u8],
+    pub slot: NumberWord<'a>,
     pub range: RangeWords<'a>,
 }
 
 /// The words of a range.
 #[derive(Clone, Copy)]
 pub struct RangeWords<'a> {
-    pub low: &'a [u8],
-    pub high: &'a [u8],
+    pub low: NumberWord<'a>,
+    pub high: NumberWord<'a>,
 }
 
 /// The words of a piece's line.
 #[derive(Clone, Copy)]
 pub struct PieceWords<'a> {
-    pub piece: &'a [u8],
+    pub piece: NumberWord<'a>,
     pub place: PlaceWords<'a>,
 }
 
@@ -85,7 +92,7 @@ pub struct PieceWords<'a> {
 #[derive(Clone, Copy)]
 pub enum PlaceWords<'a> {
     Apart,
-    On(&'a [u8], FormWords<'a>, FormWords<'a>, FormWords<'a>),
+    On(NumberWord<'a>, FormWords<'a>, FormWords<'a>, FormWords<'a>),
 }
 
 impl LineForm<'_> {
@@ -141,8 +148,8 @@ impl PlanWords<'_> {
     /// A name and two numbers.
     fn parse(version: Version, bytes: &[u8]) -> Option<PlanWords<'_>> {
         let (name, rest) = cut_name(bytes)?;
-        let (pieces, rest) = cut_number(rest)?;
-        let budget = number(rest)?;
+        let (pieces, rest) = NumberWord::cut(rest)?;
+        let budget = NumberWord::parse(rest)?;
         Some(PlanWords {
             version,
             name,
@@ -156,9 +163,9 @@ impl ProcedureWords<'_> {
     /// A name and one number or two.
     fn parse(bytes: &[u8]) -> Option<ProcedureWords<'_>> {
         let (name, rest) = cut_name(bytes)?;
-        let (parameters, results) = match cut_number(rest) {
-            Some((parameters, results)) => (parameters, Some(number(results)?)),
-            None => (number(rest)?, None),
+        let (parameters, results) = match NumberWord::cut(rest) {
+            Some((parameters, results)) => (parameters, Some(NumberWord::parse(results)?)),
+            None => (NumberWord::parse(rest)?, None),
         };
         Some(ProcedureWords {
             name,
@@ -178,16 +185,20 @@ impl ProcedureWords<'_> {
 
 impl GripWords<'_> {
     /// A number and a set.
-    fn parse(bytes: &[u8]) -> Option<GripWords<'_>> {
-        let (tray, set) = cut_number(bytes)?;
-        is_set(set).then_some(GripWords { tray, set })
+    fn parse(bytes: &[u8]) -> Option<GripWords<'_>>
+        ensures { MatchOption result (grip_line (λ g. g) (words_of bytes.now) ≡ None) (λ words.
+            grip_line (λ g. g) (words_of bytes.now) ≡ Some (grip_words words)) }
+    {
+        let (tray, set) = NumberWord::cut(bytes)?;
+        let set = SetWord::parse(set)?;
+        Some(GripWords { tray, set })
     }
 }
 
 impl SlotWords<'_> {
     /// A number and a range.
     fn parse(bytes: &[u8]) -> Option<SlotWords<'_>> {
-        let (slot, range) = cut_number(bytes)?;
+        let (slot, range) = NumberWord::cut(bytes)?;
         let range = RangeWords::parse(range)?;
         Some(SlotWords { slot, range })
     }
@@ -195,9 +206,12 @@ impl SlotWords<'_> {
 
 impl RangeWords<'_> {
     /// Two numbers.
-    fn parse(bytes: &[u8]) -> Option<RangeWords<'_>> {
-        let (low, high) = cut_number(bytes)?;
-        let high = number(high)?;
+    fn parse(bytes: &[u8]) -> Option<RangeWords<'_>>
+        ensures { MatchOption result (two is_number is_number range_between (words_of bytes.now) ≡ None) (λ words.
+            two is_number is_number range_between (words_of bytes.now) ≡ Some (range_words words)) }
+    {
+        let (low, high) = NumberWord::cut(bytes)?;
+        let high = NumberWord::parse(high)?;
         Some(RangeWords { low, high })
     }
 }
@@ -205,7 +219,7 @@ impl RangeWords<'_> {
 impl PieceWords<'_> {
     /// A number and a place.
     fn parse(bytes: &[u8]) -> Option<PieceWords<'_>> {
-        let (piece, rest) = cut_number(bytes)?;
+        let (piece, rest) = NumberWord::cut(bytes)?;
         let place = PlaceWords::parse(rest)?;
         Some(PieceWords { piece, place })
     }
@@ -217,7 +231,7 @@ impl PlaceWords<'_> {
         if bytes == b"apart".as_slice() {
             return Some(PlaceWords::Apart);
         }
-        let (tray, forms) = cut_number(bytes)?;
+        let (tray, forms) = NumberWord::cut(bytes)?;
         let (x, y, z) = three_forms(forms)?;
         Some(PlaceWords::On(tray, x, y, z))
     }

@@ -1,9 +1,12 @@
 //! The numbers that words are, each None where it is out of its range.
 
 ghost use Rattle.std.specs.Prelude.{◌<◌, ◌≤◌, ◌≤ℤ◌, IfSome};
+ghost use Rattle.std.specs.Int.{w16, w32};
 ghost use Rattle.burr_code.specs.Instruction.{IsInNumberRange};
-ghost use Rattle.burr_code.specs.declared.limits.TheConstants.{SLOTS, TRAYS};
+ghost use Rattle.burr_code.specs.declared.limits.TheConstants.{MOST_BUDGET, SLOTS, TRAYS};
+ghost use Rattle.burr_asm.specs.Views.Numbers.{IsBelow, IsWithin, IsOperand, AreEnds, IsOfWidth};
 
+use crate::text::words::NumberWord;
 use burr_code::limits::{MOST_BUDGET, MOST_PARAMETERS, SLOTS, TRAYS};
 
 /// The fewest and the most pieces of a plan.
@@ -15,33 +18,45 @@ const MOST_PIECES: u8 = 32;
 const MOST_RESULTS: u8 = 2;
 
 /// A number of 0 to 255.
-pub fn byte(number: &[u8]) -> Option<u8> {
-    str::from_utf8(number).ok()?.parse().ok()
+pub fn byte(number: NumberWord<'_>) -> Option<u8>
+    ensures { IsBelow 256 number.entry.bytes.now result }
+{
+    number.as_str().parse().ok()
+}
+
+/// A number of 0 to 4,294,967,295.
+fn long(number: NumberWord<'_>) -> Option<u32>
+    ensures { IsBelow 4294967296 number.entry.bytes.now result }
+{
+    number.as_str().parse().ok()
 }
 
 /// How many pieces a plan is for: 2 to 32.
-pub fn piece_count(number: &[u8]) -> Option<u8>
+pub fn piece_count(number: NumberWord<'_>) -> Option<u8>
     ensures few { IfSome result (λ count. count ≤ 32) }
     ensures several { IfSome result (λ count. 2 ≤ count) }
+    ensures value { IsWithin 2 32 number.entry.bytes.now result }
 {
     let count = byte(number)?;
     (FEWEST_PIECES <= count && count <= MOST_PIECES).then_some(count)
 }
 
 /// The budget of a plan: 1 to 1,000,000.
-pub fn budget(number: &[u8]) -> Option<u32> {
-    let budget: u32 = str::from_utf8(number).ok()?.parse().ok()?;
+pub fn budget(number: NumberWord<'_>) -> Option<u32>
+    ensures { IsWithin 1 MOST_BUDGET number.entry.bytes.now result }
+{
+    let budget = long(number)?;
     (1 <= budget && budget <= MOST_BUDGET).then_some(budget)
 }
 
 /// How many parameters a procedure has: none for main, else 0 to 4.
-pub fn parameter_count(number: &[u8], main: bool) -> Option<u8> {
+pub fn parameter_count(number: NumberWord<'_>, main: bool) -> Option<u8> {
     count_of(number, main, MOST_PARAMETERS)
 }
 
 /// How many results a procedure has: none for main, else 0 to 2; none too where nothing is said of
 /// them.
-pub fn result_count(number: Option<&[u8]>, main: bool) -> Option<u8> {
+pub fn result_count(number: Option<NumberWord<'_>>, main: bool) -> Option<u8> {
     match number {
         Some(number) => count_of(number, main, MOST_RESULTS),
         None => Some(0),
@@ -49,52 +64,60 @@ pub fn result_count(number: Option<&[u8]>, main: bool) -> Option<u8> {
 }
 
 /// A number of 0 to so many, for main 0.
-fn count_of(number: &[u8], main: bool, most: u8) -> Option<u8> {
+fn count_of(number: NumberWord<'_>, main: bool, most: u8) -> Option<u8> {
     let most = if main { 0 } else { most };
     let count = byte(number)?;
     (count <= most).then_some(count)
 }
 
 /// A tray: 0 to 31.
-pub fn tray(number: &[u8]) -> Option<u8>
-    ensures { IfSome result (λ tray. tray < TRAYS) }
+pub fn tray(number: NumberWord<'_>) -> Option<u8>
+    ensures few { IfSome result (λ tray. tray < TRAYS) }
+    ensures value { IsBelow TRAYS number.entry.bytes.now result }
 {
     let tray = byte(number)?;
     (tray < TRAYS).then_some(tray)
 }
 
 /// A slot: 0 to 7.
-pub fn slot(number: &[u8]) -> Option<u8>
-    ensures { IfSome result (λ slot. slot < SLOTS) }
+pub fn slot(number: NumberWord<'_>) -> Option<u8>
+    ensures few { IfSome result (λ slot. slot < SLOTS) }
+    ensures value { IsBelow SLOTS number.entry.bytes.now result }
 {
     let slot = byte(number)?;
     (usize::from(slot) < SLOTS).then_some(slot)
 }
 
 /// What a slot or an operand may hold: -32,767 to 32,767.
-pub fn operand(number: &[u8]) -> Option<i16>
-    ensures { IfSome result IsInNumberRange }
+pub fn operand(number: NumberWord<'_>) -> Option<i16>
+    ensures range { IfSome result IsInNumberRange }
+    ensures value { IsOperand number.entry.bytes.now result }
 {
-    let operand: i16 = str::from_utf8(number).ok()?.parse().ok()?;
+    let operand = coefficient(number)?;
     (operand != i16::MIN).then_some(operand)
 }
 
 /// A range of operands, the lower end first.
-pub fn range(low: &[u8], high: &[u8]) -> Option<(i16, i16)>
+pub fn range(low: NumberWord<'_>, high: NumberWord<'_>) -> Option<(i16, i16)>
     ensures low { IfSome result (λ range. IsInNumberRange range.0) }
     ensures high { IfSome result (λ range. IsInNumberRange range.1) }
     ensures order { IfSome result (λ range. range.0 ≤ℤ range.1) }
+    ensures value { AreEnds low.entry.bytes.now high.entry.bytes.now result }
 {
     let (low, high) = (operand(low)?, operand(high)?);
     (low <= high).then_some((low, high))
 }
 
 /// The constant of a form: any of 32 bits.
-pub fn constant(number: &[u8]) -> Option<i32> {
-    str::from_utf8(number).ok()?.parse().ok()
+pub fn constant(number: NumberWord<'_>) -> Option<i32>
+    ensures { IsOfWidth w32 number.entry.bytes.now result }
+{
+    number.as_str().parse().ok()
 }
 
 /// The coefficient of a slot: any of 16 bits.
-pub fn coefficient(number: &[u8]) -> Option<i16> {
-    str::from_utf8(number).ok()?.parse().ok()
+pub fn coefficient(number: NumberWord<'_>) -> Option<i16>
+    ensures { IsOfWidth w16 number.entry.bytes.now result }
+{
+    number.as_str().parse().ok()
 }

@@ -1,5 +1,5 @@
-use crate::text::set::is_set;
-use crate::text::words::{cut_number, number};
+use crate::text::set::SetWord;
+use crate::text::words::NumberWord;
 use burr_text::cut_at;
 use burr_voxels::Direction;
 
@@ -9,11 +9,11 @@ pub enum PlainLine<'a> {
     /// `halt`
     Halt,
     /// `push NUMBER`
-    Push(&'a [u8]),
+    Push(NumberWord<'a>),
     /// `load SLOT`
-    Load(&'a [u8]),
+    Load(NumberWord<'a>),
     /// `store SLOT`
-    Store(&'a [u8]),
+    Store(NumberWord<'a>),
     /// `add`
     Add,
     /// `sub`
@@ -21,15 +21,15 @@ pub enum PlainLine<'a> {
     /// `drop`
     Drop,
     /// `grip SET`
-    Grip(&'a [u8]),
+    Grip(SetWord<'a>),
     /// `step DIRECTION`
     Step(Direction),
     /// `aside DIRECTION TRAY`
-    Aside(Direction, &'a [u8]),
+    Aside(Direction, NumberWord<'a>),
     /// `tray TRAY`
-    Tray(&'a [u8]),
+    Tray(NumberWord<'a>),
     /// `ask LOW HIGH`
-    Ask(&'a [u8], &'a [u8]),
+    Ask(NumberWord<'a>, NumberWord<'a>),
     /// `ret`
     Ret,
 }
@@ -51,12 +51,12 @@ impl PlainLine<'_> {
     /// form.
     pub fn with_operands<'a>(word: &[u8], words: &'a [u8]) -> Option<PlainLine<'a>> {
         match word {
-            b"push" => Some(PlainLine::Push(number(words)?)),
-            b"load" => Some(PlainLine::Load(number(words)?)),
-            b"store" => Some(PlainLine::Store(number(words)?)),
+            b"push" => Some(PlainLine::Push(NumberWord::parse(words)?)),
+            b"load" => Some(PlainLine::Load(NumberWord::parse(words)?)),
+            b"store" => Some(PlainLine::Store(NumberWord::parse(words)?)),
             b"ask" => {
-                let (low, high) = cut_number(words)?;
-                Some(PlainLine::Ask(low, number(high)?))
+                let (low, high) = NumberWord::cut(words)?;
+                Some(PlainLine::Ask(low, NumberWord::parse(high)?))
             }
             _ => PlainLine::in_space(word, words),
         }
@@ -65,13 +65,13 @@ impl PlainLine<'_> {
     /// The line of an instruction that moves pieces.
     fn in_space<'a>(word: &[u8], words: &'a [u8]) -> Option<PlainLine<'a>> {
         match word {
-            b"grip" => is_set(words).then_some(PlainLine::Grip(words)),
+            b"grip" => Some(PlainLine::Grip(SetWord::parse(words)?)),
             b"step" => Some(PlainLine::Step(Direction::named(words)?)),
             b"aside" => {
                 let (direction, tray) = cut_at(words, b' ')?;
-                Some(PlainLine::Aside(Direction::named(direction)?, number(tray)?))
+                Some(PlainLine::Aside(Direction::named(direction)?, NumberWord::parse(tray)?))
             }
-            b"tray" => Some(PlainLine::Tray(number(words)?)),
+            b"tray" => Some(PlainLine::Tray(NumberWord::parse(words)?)),
             _ => None,
         }
     }

@@ -1,28 +1,74 @@
-ghost use Rattle.std.specs.Prelude.{◌≤◌, ◌≢◌, IfSome};
+ghost use Rattle.std.specs.Prelude.{◌≡◌, ◌≤◌, ◌≢◌, IfSome, IsTrue, MatchOption, true, false};
+ghost use Rattle.std.specs.List.{list_all};
+ghost use Rattle.burr_plantext.specs.Rules.Written.{is_number, is_set, pieces};
 
 use crate::text::numbers::byte;
-use burr_text::is_number;
+use crate::text::words::NumberWord;
+use burr_text::{cut_at, is_number};
 
-/// Whether the bytes are of the form of a set of pieces: `-`, or numbers joined by `,`.
-pub fn is_set(bytes: &[u8]) -> bool {
-    bytes == b"-".as_slice()
-        || bytes
-            .split(|byte| *byte == b',')
-            .all(|word| is_number(word))
+/// A set of pieces as it is written: `-`, or numbers joined by `,`.
+#[derive(Clone, Copy)]
+pub struct SetWord<'a> {
+    bytes: &'a [u8],
+    ghost formed: { IsTrue (is_set bytes.now) },
 }
 
-/// The set that bytes of that form are, bit p for piece p; None where its numbers don't rise, or
+impl<'a> SetWord<'a> {
+    /// The set that is all of these bytes.
+    pub fn parse(bytes: &'a [u8]) -> Option<SetWord<'a>>
+        ensures { MatchOption result (is_set bytes.now ≡ false) (λ word.
+            (is_set bytes.now ≡ true) × (word.bytes.now ≡ bytes.now)) }
+    {
+        if is_set(bytes) {
+            Some(SetWord { bytes })
+        } else {
+            None
+        }
+    }
+
+    /// Its bytes.
+    fn bytes(self) -> &'a [u8]
+        ensures bytes { result.now ≡ self.entry.bytes.now }
+        ensures set { IsTrue (is_set self.entry.bytes.now) }
+    {
+        self.bytes
+    }
+}
+
+/// Whether the bytes are of the form of a set of pieces.
+fn is_set(bytes: &[u8]) -> bool
+    ensures { result ≡ is_set bytes.now }
+{
+    bytes == b"-".as_slice() || are_numbers(bytes)
+}
+
+/// Whether the bytes are numbers joined by `,`.
+fn are_numbers(bytes: &[u8]) -> bool
+    ensures { result ≡ list_all is_number (pieces 44 bytes.now) }
+{
+    let mut rest = bytes;
+    while let Some((number, more)) = cut_at(rest, b',') {
+        if !is_number(number) {
+            return false;
+        }
+        rest = more;
+    }
+    is_number(rest)
+}
+
+/// The set that a word writes, bit p for piece p; None where its numbers don't rise, or
 /// one of them isn't below the bound, which is at most 32.
-pub fn piece_set(bytes: &[u8], bound: u8) -> Option<u32>
+pub fn piece_set(word: SetWord<'_>, bound: u8) -> Option<u32>
     requires { bound ≤ 32 }
 {
+    let bytes = word.bytes();
     if bytes == b"-".as_slice() {
         return Some(0);
     }
     let mut set = 0;
     let mut least = 0;
     for number in bytes.split(|byte| *byte == b',') {
-        let piece = byte(number)?;
+        let piece = byte(NumberWord::parse(number)?)?;
         if piece < least || bound <= piece {
             return None;
         }
@@ -33,9 +79,9 @@ pub fn piece_set(bytes: &[u8], bound: u8) -> Option<u32>
 }
 
 /// The set in a `grip`: one piece at least, each below 32.
-pub fn gripped_set(bytes: &[u8]) -> Option<u32>
+pub fn gripped_set(word: SetWord<'_>) -> Option<u32>
     ensures { IfSome result (λ set. set ≢ 0) }
 {
-    let set = piece_set(bytes, 32)?;
+    let set = piece_set(word, 32)?;
     (set != 0).then_some(set)
 }

@@ -6,6 +6,7 @@ use crate::text::code_line::{CodeLine, OfferWords};
 use crate::text::names::Names;
 use crate::text::numbers::slot;
 use crate::text::plain::Plain;
+use crate::text::words::NumberWord;
 use burr_code::{Instr, Labels, encode};
 use std::alloc::Global;
 
@@ -42,7 +43,7 @@ pub struct Scope<'n, 'a> {
 
 impl Slot {
     /// The slot of a word; None where it is out of its range.
-    fn of(word: &[u8]) -> Option<Slot> {
+    fn of(word: NumberWord<'_>) -> Option<Slot> {
         Some(Slot {
             number: slot(word)?,
         })

@@ -1,0 +1,6 @@
+use Rattle.std.specs.Int.{w32}
+use Rattle.burr_asm.proofs.Numbers.{signed_read}
+use Rattle.burr_asm.proofs.text.numbers.constant.Goals as goal
+
+pub returns : goal.returns
+returns c = rw c.ok.ensures.value (signed_read w32 _ _ _ c.as_str.ensures.text c.as_str.ensures.number c.parse.ensures.value.0)

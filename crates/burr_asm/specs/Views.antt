@@ -1,0 +1,3 @@
+pub mod LineWords
+pub mod Numbers
+pub mod Words

@@ -1,0 +1,10 @@
+pub mod Steps
+pub mod SetSteps
+pub mod FrameSteps
+pub mod LiveSlots
+pub mod CodeSteps
+pub mod Offers
+pub mod PlanSteps
+pub mod Blocks
+pub mod PlainText
+pub mod ReadLines

@@ -1,0 +1,9 @@
+pub mod Blanks
+pub mod Cuts
+pub mod FormCuts
+pub mod Forms
+pub mod Numbers
+pub mod ParsedNumbers
+pub mod Pieces
+pub mod TextLines
+pub mod WordTests

@@ -1,0 +1,456 @@
+-- Worked rows of the definitions: texts with their plans and their faults, and a listing.
+use Rattle.std.proofs.Common.{◌≡◌, ℕ, List, [], ◌∷◌, ◌++◌, codes, refl, pos, neg_ℤ, ℤ, inl, inr, replicate, map, flat_map, suc, ◌+◌, ◌^◌, IsTrue, arith, ◌==◌, false}
+use Rattle.std.specs.Prelude.{Option, Some, None, Result, Ok, Err}
+use Rattle.std.specs.Fmt.{digits}
+use Rattle.std.proofs.lemmas.Bool.Decides.{nat_tests}
+use Rattle.burr_text.proofs.Common.Cuts.{same_head, same_tail}
+use Rattle.burr_code.specs.Instruction as code
+use Rattle.burr_code.specs.Instruction.{Instruction, Begins, spelled}
+use Rattle.burr_voxels.specs.declared.direction.Direction.TheVariants.{MinusX, PlusY}
+use Rattle.burr_code.specs.declared.placement.Placement.{Placement}
+use Rattle.burr_code.specs.declared.placement.Placement.TheVariants.{On}
+use Rattle.burr_forms.specs.Rules.Forms.{Form}
+use Rattle.burr_container.specs.Rules.Plans.{Range, FormCell, Frame, PlanProcedure, Plan}
+use Rattle.burr_plantext.specs.Rules.Statements.{Statement, Halt, Push, Byte}
+use Rattle.burr_plantext.specs.Rules.Lines.{ProcedureWords}
+use Rattle.burr_plantext.specs.Rules.Sources.{Block, ProcedureSource, PlanSource}
+use Rattle.burr_plantext.specs.Rules.Meaning.{plan_of}
+use Rattle.burr_plantext.specs.Rules.Texts.{StandsFor, lines_read}
+use Rattle.burr_plantext.specs.Rules.Checks.{P1, P2, P3, P4, P5}
+use Rattle.burr_plantext.specs.Rules.Faults.{PlacedFault, HasFault, judgement}
+use Rattle.burr_container.specs.Rules.Fitting.{is_fitting}
+use Rattle.burr_plantext.specs.Rules.Listing.{IsListing, MayBeListed, IsCodeListed, frame_listed, exit_listed, instruction_listed, title_of, head_of, label_name}
+
+-- Plans
+
+-- a form over two symbols
+abbrev form : ℤ → ℤ → ℤ → Form
+form constant a b = record { constant = constant; coefs = a ∷ b ∷ replicate 6 (pos 0) }
+
+abbrev plain : ℕ → Form
+plain n = form (pos n) (pos 0) (pos 0)
+
+-- in tray 0, moved along z alone
+abbrev along_z : Form → Placement FormCell
+along_z z = On 0 (record { x = plain 0; y = plain 0; z = z })
+
+abbrev slots : Option Range → Option Range → List (Option Range)
+slots a b = a ∷ b ∷ replicate 6 None
+
+abbrev up_to : ℕ → Option Range
+up_to n = Some (pos 0, pos n)
+
+-- a frame of two pieces, of which the second stays at home
+abbrev frame : ℕ → List (Option Range) → List Form → Form → Form → Frame
+frame grip live guards cost z = record {
+  tray = 0;
+  grip = grip;
+  slots = live;
+  guards = guards;
+  stack = [];
+  cost = cost;
+  places = along_z z ∷ along_z (plain 0) ∷ [];
+}
+
+abbrev start : ℕ → Frame
+start cost = frame 0 (slots None None) [] (plain cost) (plain 0)
+
+abbrev main : List (ℕ × Frame) → List ℕ → PlanProcedure
+main labels bytes = record { parameters = 0; results = 0; exit = None; labels = labels; code = bytes }
+
+abbrev ring : Plan
+ring = record {
+  version = 1;
+  name = codes "ring";
+  pieces = 2;
+  budget = 11;
+  procedures = main
+      ((0, start 11) ∷ (10, frame 1 (slots (up_to 2) None) [] (form (pos 4) (pos 2) (pos 0)) (form (pos 2) (neg_ℤ (pos 1)) (pos 0))) ∷ [])
+      (16 ∷ 0 ∷ 0 ∷ 0 ∷ 1 ∷ 1 ∷ 0 ∷ 2 ∷ 3 ∷ 0 ∷ 17 ∷ 4 ∷ 33 ∷ 0 ∷ 0 ∷ 1 ∷ 18 ∷ 4 ∷ 1 ∷ 0 ∷ []) ∷ [];
+}
+
+-- the guard and the offset of the cup's frames: one slot less the other, and a number
+abbrev above : ℤ → Form
+above n = form n (pos 1) (neg_ℤ (pos 1))
+
+abbrev cup_labels : List (ℕ × Frame)
+cup_labels =
+    (16, frame 1 (slots (up_to 2) (up_to 2)) (above (pos 0) ∷ []) (form (pos 3) (pos 0) (pos 3)) (above (pos 0)))
+    ∷ (24, frame 1 (slots (up_to 2) (up_to 1)) (above (neg_ℤ (pos 1)) ∷ []) (form (pos 5) (pos 0) (pos 3)) (above (neg_ℤ (pos 1))))
+    ∷ []
+
+abbrev cup : Plan
+cup = record {
+  version = 1;
+  name = codes "cup";
+  pieces = 2;
+  budget = 14;
+  procedures = main ((0, start 14) ∷ cup_labels)
+      (16 ∷ 0 ∷ 0 ∷ 0 ∷ 1 ∷ 34 ∷ 0 ∷ 0 ∷ 0 ∷ 2 ∷ 3 ∷ 0 ∷ 2 ∷ 0 ∷ 3 ∷ 1 ∷ 33 ∷ 1 ∷ 0 ∷ 2 ∷ 18 ∷ 4 ∷ 1 ∷ 0 ∷ 17 ∷ 4 ∷ 32 ∷ 0 ∷ 1 ∷ []) ∷ [];
+}
+
+-- Texts that stand for plans
+
+-- the source that a text is
+abbrev source_of : Result PlanSource PlacedFault → PlanSource → PlanSource
+source_of (Ok s) other = s
+source_of (Err found) other = other
+
+abbrev blank : PlanSource
+blank = record { title = record { version = 1; name = []; pieces = []; budget = [] }; procedures = [] }
+
+abbrev source_in : List ℕ → PlanSource
+source_in text = source_of (judgement (lines_read text)) blank
+
+abbrev ring_text : List ℕ
+ring_text = codes "plan ring 2 11\nproc main 0\nlabel start\nframe 0 -\ncost 11\nat 0 0 0 0 0\nat 1 0 0 0 0\ngrip 0\npush 2\nstore 0\nlabel L\nframe 0 0\nslot 0 0 2\ncost 4+2v0\nat 0 0 0 0 2-1v0\nat 1 0 0 0 0\nstep +z\ndown 0 L\naside +z 1\nhalt\n"
+
+ring_stands : StandsFor ring_text ring
+ring_stands = (source_in ring_text, record { right = refl; lines = refl }, refl)
+
+ring_fits : IsTrue (is_fitting ring)
+ring_fits = refl
+
+abbrev cup_text : List ℕ
+cup_text = codes "plan cup 2 14\nproc main 0\nlabel start\nframe 0 -\ncost 14\nat 0 0 0 0 0\nat 1 0 0 0 0\ngrip 0\nask 0 2\nstore 0\nload 0\nstore 1\nlabel L\nframe 0 0\nslot 0 0 2\nslot 1 0 2\nguard 0+1v0-1v1\ncost 3+3v1\nat 0 0 0 0 0+1v0-1v1\nat 1 0 0 0 0\ndown 1 M\naside +z 1\nhalt\nlabel M\nframe 0 0\nslot 0 0 2\nslot 1 0 1\nguard -1+1v0-1v1\ncost 5+3v1\nat 0 0 0 0 -1+1v0-1v1\nat 1 0 0 0 0\nstep +z\njump L\n"
+
+cup_stands : StandsFor cup_text cup
+cup_stands = (source_in cup_text, record { right = refl; lines = refl }, refl)
+
+cup_fits : IsTrue (is_fitting cup)
+cup_fits = refl
+
+-- the same with a comment and an empty line
+commented_cup_stands : StandsFor (codes "; a dot in a bowl\n\n" ++ cup_text) cup
+commented_cup_stands = (source_in cup_text, record { right = refl; lines = refl }, refl)
+
+-- a plan of version 2, whose second procedure has a result
+abbrev lift_text : List ℕ
+lift_text = codes "plan2 cup 2 18\nproc main 0 0\nlabel start\nframe 0 -\ncost 18\nat 0 0 0 0 0\nat 1 0 0 0 0\ngrip 0\ncall lift\ndrop\naside +z 1\nhalt\nproc lift 0 1\nexit 0 0\nresult 0 2\nat 0 0 0 0 0+1v0\nat 1 0 0 0 0\nlabel start\nframe 0 0\ncost 13\nat 0 0 0 0 0\nat 1 0 0 0 0\nask 0 2\nstore 0\nload 0\nstore 1\nlabel L\nframe 0 0\nslot 0 0 2\nslot 1 0 2\nguard 0+1v0-1v1\ncost 3+3v1\nat 0 0 0 0 0+1v0-1v1\nat 1 0 0 0 0\ndown 1 M\nload 0\nret\nlabel M\nframe 0 0\nslot 0 0 2\nslot 1 0 1\nguard -1+1v0-1v1\ncost 5+3v1\nat 0 0 0 0 -1+1v0-1v1\nat 1 0 0 0 0\nstep +z\njump L\n"
+
+abbrev lift : Plan
+lift = plan_of (source_in lift_text)
+
+lift_stands : StandsFor lift_text lift
+lift_stands = (source_in lift_text, record { right = refl; lines = refl }, refl)
+
+lift_fits : IsTrue (is_fitting lift)
+lift_fits = refl
+
+-- the code and the exit frame of its procedures
+lift_code : map (λ (p : PlanProcedure). p.code) lift.procedures
+    ≡ (16 ∷ 0 ∷ 0 ∷ 0 ∷ 1 ∷ 36 ∷ 1 ∷ 6 ∷ 18 ∷ 4 ∷ 1 ∷ 0 ∷ []) ∷ (34 ∷ 0 ∷ 0 ∷ 0 ∷ 2 ∷ 3 ∷ 0 ∷ 2 ∷ 0 ∷ 3 ∷ 1 ∷ 33 ∷ 1 ∷ 0 ∷ 2 ∷ 2 ∷ 0 ∷ 37 ∷ 17 ∷ 4 ∷ 32 ∷ 0 ∷ 1 ∷ []) ∷ []
+lift_code = refl
+
+lift_exit : map (λ (p : PlanProcedure). p.exit) lift.procedures
+    ≡ None ∷ Some (record { tray = 0; grip = 1; results = (pos 0, pos 2) ∷ []; guards = []; places = along_z (form (pos 0) (pos 1) (pos 0)) ∷ along_z (plain 0) ∷ [] }) ∷ []
+lift_exit = refl
+
+-- Faults
+
+without_first_label : HasFault (codes "plan ring 2 11\nproc main 0\nframe 0 -\ncost 11\nat 0 0 0 0 0\nat 1 0 0 0 0\ngrip 0\npush 2\nstore 0\nlabel L\nframe 0 0\nslot 0 0 2\ncost 4+2v0\nat 0 0 0 0 2-1v0\nat 1 0 0 0 0\nstep +z\ndown 0 L\naside +z 1\nhalt\n") P5 3
+without_first_label = record { place = 2; found = refl; number = refl }
+
+cut_behind_label : HasFault (codes "plan ring 2 11\nproc main 0\nlabel start\nframe 0 -\ncost 11\nat 0 0 0 0 0\nat 1 0 0 0 0\ngrip 0\npush 2\nstore 0\nlabel L\n") P5 12
+cut_behind_label = record { place = 11; found = refl; number = refl }
+
+dead_slot : HasFault (codes "plan ring 2 11\nproc main 0\nlabel start\nframe 0 -\ncost 11\nat 0 0 0 0 0\nat 1 0 0 0 0\ngrip 0\npush 2\nstore 0\nlabel L\nframe 0 0\nslot 0 0 2\ncost 4+2v1\nat 0 0 0 0 2-1v0\nat 1 0 0 0 0\nstep +z\ndown 0 L\naside +z 1\nhalt\n") P3 14
+dead_slot = record { place = 13; found = refl; number = refl }
+
+unknown_label : HasFault (codes "plan ring 2 11\nproc main 0\nlabel start\nframe 0 -\ncost 11\nat 0 0 0 0 0\nat 1 0 0 0 0\ngrip 0\npush 2\nstore 0\nlabel L\nframe 0 0\nslot 0 0 2\ncost 4+2v0\nat 0 0 0 0 2-1v0\nat 1 0 0 0 0\nstep +z\ndown 0 M\naside +z 1\nhalt\n") P2 18
+unknown_label = record { place = 17; found = refl; number = refl }
+
+malformed_frame : HasFault (codes "plan ring 2 11\nproc main 0\nlabel start\nframe 0\ncost 11\nat 0 0 0 0 0\nat 1 0 0 0 0\ngrip 0\npush 2\nstore 0\nlabel L\nframe 0 0\nslot 0 0 2\ncost 4+2v0\nat 0 0 0 0 2-1v0\nat 1 0 0 0 0\nstep +z\ndown 0 L\naside +z 1\nhalt\n") P1 4
+malformed_frame = record { place = 3; found = refl; number = refl }
+
+no_frame : HasFault (codes "plan ring 2 11\nproc main 0\nlabel start\nfram 0 -\ncost 11\nat 0 0 0 0 0\nat 1 0 0 0 0\ngrip 0\npush 2\nstore 0\nlabel L\nframe 0 0\nslot 0 0 2\ncost 4+2v0\nat 0 0 0 0 2-1v0\nat 1 0 0 0 0\nstep +z\ndown 0 L\naside +z 1\nhalt\n") P5 4
+no_frame = record { place = 3; found = refl; number = refl }
+
+blank_before_frame : HasFault (codes "plan ring 2 11\nproc main 0\nlabel start\n frame 0 -\ncost 11\nat 0 0 0 0 0\nat 1 0 0 0 0\ngrip 0\npush 2\nstore 0\nlabel L\nframe 0 0\nslot 0 0 2\ncost 4+2v0\nat 0 0 0 0 2-1v0\nat 1 0 0 0 0\nstep +z\ndown 0 L\naside +z 1\nhalt\n") P5 4
+blank_before_frame = record { place = 3; found = refl; number = refl }
+
+label_at_end : HasFault (codes "plan ring 2 11\nproc main 0\nlabel start\nframe 0 -\ncost 11\nat 0 0 0 0 0\nat 1 0 0 0 0\ngrip 0\npush 2\nstore 0\nlabel L\nframe 0 0\nslot 0 0 2\ncost 4+2v0\nat 0 0 0 0 2-1v0\nat 1 0 0 0 0\nstep +z\ndown 0 L\naside +z 1\nhalt\nlabel M\nframe 0 -\ncost 1\nat 0 apart\nat 1 apart\n") P4 21
+label_at_end = record { place = 20; found = refl; number = refl }
+
+label_at_procedure : HasFault (codes "plan ring 2 11\nproc main 0\nlabel start\nframe 0 -\ncost 11\nat 0 0 0 0 0\nat 1 0 0 0 0\ngrip 0\npush 2\nstore 0\nlabel L\nframe 0 0\nslot 0 0 2\ncost 4+2v0\nat 0 0 0 0 2-1v0\nat 1 0 0 0 0\nstep +z\ndown 0 L\naside +z 1\nhalt\nlabel M\nframe 0 -\ncost 1\nat 0 apart\nat 1 apart\nproc main 9\n") P4 21
+label_at_procedure = record { place = 20; found = refl; number = refl }
+
+no_label_seen : HasFault (codes "plan ring 2 11\nproc main 0\nlabel start\nframe 0 -\ncost 11\nat 0 0 0 0 0\nat 1 0 0 0 0\ngrip 0\npush 2\nstore 0\nlabel L\nframe 0 0\nslot 0 0 2\ncost 4+2v0\nat 0 0 0 0 2-1v0\nat 1 0 0 0 0\nstep +z\ndown 0 L\naside +z 1\nhalt\nlabel M\nframe 0 -\ncost 1\nat 0 apart\nat 1 apart\nproc main x\n") P1 26
+no_label_seen = record { place = 25; found = refl; number = refl }
+
+without_last_end : HasFault (codes "plan ring 2 11\nproc main 0\nlabel start\nframe 0 -\ncost 11\nat 0 0 0 0 0\nat 1 0 0 0 0\ngrip 0\npush 2\nstore 0\nlabel L\nframe 0 0\nslot 0 0 2\ncost 4+2v0\nat 0 0 0 0 2-1v0\nat 1 0 0 0 0\nstep +z\ndown 0 L\naside +z 1\nhalt") P1 20
+without_last_end = record { place = 19; found = refl; number = refl }
+
+comment_without_end : HasFault (codes "plan ring 2 11\nproc main 0\nlabel start\n; here") P1 4
+comment_without_end = record { place = 3; found = refl; number = refl }
+
+skipped_lines : HasFault (codes "; a plan\n\nplan ring 2 11\nproc main 0\nlabel start\nframe 0 -\ncost 11\nat 0 0 0 0 0\nat 1 0 0 0 0\ngrip 0\npush 2\nstore 0\nlabel L\nframe 0 0\nslot 0 0 2\ncost 4+2v0\nat 0 0 0 0 2-1v0\nat 1 0 0 0 0\nstep +z\n\ndown 0 M\n; no M\naside +z 1\nhalt\n") P2 21
+skipped_lines = record { place = 17; found = refl; number = refl }
+
+repeated_label : HasFault (codes "plan ring 2 11\nproc main 0\nlabel start\nframe 0 -\ncost 11\nat 0 0 0 0 0\nat 1 0 0 0 0\ngrip 0\npush 2\nstore 0\nlabel start\nframe 0 0\nslot 0 0 2\ncost 4+2v0\nat 0 0 0 0 2-1v0\nat 1 0 0 0 0\nstep +z\ndown 0 L\naside +z 1\nhalt\n") P2 11
+repeated_label = record { place = 10; found = refl; number = refl }
+
+wrong_piece : HasFault (codes "plan ring 2 11\nproc main 0\nlabel start\nframe 0 -\ncost 11\nat 1 0 0 0 0\nat 1 0 0 0 0\ngrip 0\npush 2\nstore 0\nlabel L\nframe 0 0\nslot 0 0 2\ncost 4+2v0\nat 0 0 0 0 2-1v0\nat 1 0 0 0 0\nstep +z\ndown 0 L\naside +z 1\nhalt\n") P1 6
+wrong_piece = record { place = 5; found = refl; number = refl }
+
+falling_set : HasFault (codes "plan ring 2 11\nproc main 0\nlabel start\nframe 0 -\ncost 11\nat 0 0 0 0 0\nat 1 0 0 0 0\ngrip 1,0\npush 2\nstore 0\nlabel L\nframe 0 0\nslot 0 0 2\ncost 4+2v0\nat 0 0 0 0 2-1v0\nat 1 0 0 0 0\nstep +z\ndown 0 L\naside +z 1\nhalt\n") P3 8
+falling_set = record { place = 7; found = refl; number = refl }
+
+no_count : HasFault (codes "plan ring 2 11\nproc main 0\nlabel start\nframe 0 -\ncost 11\nat 0 0 0 0 0\nat 1 0 0 0 0\ngrip 0\npush 2\nstore 0\nlabel L\nframe 0 0\nslot 0 0 2\ncost 4+0v0\nat 0 0 0 0 2-1v0\nat 1 0 0 0 0\nstep +z\ndown 0 L\naside +z 1\nhalt\n") P1 14
+no_count = record { place = 13; found = refl; number = refl }
+
+large_number : HasFault (codes "plan ring 2 11\nproc main 0\nlabel start\nframe 0 -\ncost 11\nat 0 0 0 0 0\nat 1 0 0 0 0\ngrip 0\npush 99999999999999999999999999999999999999999999999999999999999999999999999999\nstore 0\nlabel L\nframe 0 0\nslot 0 0 2\ncost 4+2v0\nat 0 0 0 0 2-1v0\nat 1 0 0 0 0\nstep +z\ndown 0 L\naside +z 1\nhalt\n") P3 9
+large_number = record { place = 8; found = refl; number = refl }
+
+many_results : HasFault (codes "plan2 cup 2 18\nproc main 0 0\nlabel start\nframe 0 -\ncost 18\nat 0 0 0 0 0\nat 1 0 0 0 0\ngrip 0\ncall lift\ndrop\naside +z 1\nhalt\nproc lift 0 3\nexit 0 0\nresult 0 2\nat 0 0 0 0 0+1v0\nat 1 0 0 0 0\nlabel start\nframe 0 0\ncost 13\nat 0 0 0 0 0\nat 1 0 0 0 0\nask 0 2\nstore 0\nload 0\nstore 1\nlabel L\nframe 0 0\nslot 0 0 2\nslot 1 0 2\nguard 0+1v0-1v1\ncost 3+3v1\nat 0 0 0 0 0+1v0-1v1\nat 1 0 0 0 0\ndown 1 M\nload 0\nret\nlabel M\nframe 0 0\nslot 0 0 2\nslot 1 0 1\nguard -1+1v0-1v1\ncost 5+3v1\nat 0 0 0 0 -1+1v0-1v1\nat 1 0 0 0 0\nstep +z\njump L\n") P3 13
+many_results = record { place = 12; found = refl; number = refl }
+
+main_with_results : HasFault (codes "plan2 cup 2 18\nproc main 0 1\nlabel start\nframe 0 -\ncost 18\nat 0 0 0 0 0\nat 1 0 0 0 0\ngrip 0\ncall lift\ndrop\naside +z 1\nhalt\nproc lift 0 1\nexit 0 0\nresult 0 2\nat 0 0 0 0 0+1v0\nat 1 0 0 0 0\nlabel start\nframe 0 0\ncost 13\nat 0 0 0 0 0\nat 1 0 0 0 0\nask 0 2\nstore 0\nload 0\nstore 1\nlabel L\nframe 0 0\nslot 0 0 2\nslot 1 0 2\nguard 0+1v0-1v1\ncost 3+3v1\nat 0 0 0 0 0+1v0-1v1\nat 1 0 0 0 0\ndown 1 M\nload 0\nret\nlabel M\nframe 0 0\nslot 0 0 2\nslot 1 0 1\nguard -1+1v0-1v1\ncost 5+3v1\nat 0 0 0 0 -1+1v0-1v1\nat 1 0 0 0 0\nstep +z\njump L\n") P3 2
+main_with_results = record { place = 1; found = refl; number = refl }
+
+no_result_line : HasFault (codes "plan2 cup 2 18\nproc main 0 0\nlabel start\nframe 0 -\ncost 18\nat 0 0 0 0 0\nat 1 0 0 0 0\ngrip 0\ncall lift\ndrop\naside +z 1\nhalt\nproc lift 0 1\nexit 0 0\nat 0 0 0 0 0+1v0\nat 1 0 0 0 0\nlabel start\nframe 0 0\ncost 13\nat 0 0 0 0 0\nat 1 0 0 0 0\nask 0 2\nstore 0\nload 0\nstore 1\nlabel L\nframe 0 0\nslot 0 0 2\nslot 1 0 2\nguard 0+1v0-1v1\ncost 3+3v1\nat 0 0 0 0 0+1v0-1v1\nat 1 0 0 0 0\ndown 1 M\nload 0\nret\nlabel M\nframe 0 0\nslot 0 0 2\nslot 1 0 1\nguard -1+1v0-1v1\ncost 5+3v1\nat 0 0 0 0 -1+1v0-1v1\nat 1 0 0 0 0\nstep +z\njump L\n") P1 15
+no_result_line = record { place = 14; found = refl; number = refl }
+
+results_in_version_1 : HasFault (codes "plan ring 2 11\nproc main 0 0\nlabel start\nframe 0 -\ncost 11\nat 0 0 0 0 0\nat 1 0 0 0 0\ngrip 0\npush 2\nstore 0\nlabel L\nframe 0 0\nslot 0 0 2\ncost 4+2v0\nat 0 0 0 0 2-1v0\nat 1 0 0 0 0\nstep +z\ndown 0 L\naside +z 1\nhalt\n") P1 2
+results_in_version_1 = record { place = 1; found = refl; number = refl }
+
+no_results_in_version_2 : HasFault (codes "plan2 cup 2 18\nproc main 0\nlabel start\nframe 0 -\ncost 18\nat 0 0 0 0 0\nat 1 0 0 0 0\ngrip 0\ncall lift\ndrop\naside +z 1\nhalt\nproc lift 0 1\nexit 0 0\nresult 0 2\nat 0 0 0 0 0+1v0\nat 1 0 0 0 0\nlabel start\nframe 0 0\ncost 13\nat 0 0 0 0 0\nat 1 0 0 0 0\nask 0 2\nstore 0\nload 0\nstore 1\nlabel L\nframe 0 0\nslot 0 0 2\nslot 1 0 2\nguard 0+1v0-1v1\ncost 3+3v1\nat 0 0 0 0 0+1v0-1v1\nat 1 0 0 0 0\ndown 1 M\nload 0\nret\nlabel M\nframe 0 0\nslot 0 0 2\nslot 1 0 1\nguard -1+1v0-1v1\ncost 5+3v1\nat 0 0 0 0 -1+1v0-1v1\nat 1 0 0 0 0\nstep +z\njump L\n") P1 2
+no_results_in_version_2 = record { place = 1; found = refl; number = refl }
+
+exit_over_no_result : HasFault (codes "plan2 cup 2 18\nproc main 0 0\nlabel start\nframe 0 -\ncost 18\nat 0 0 0 0 0\nat 1 0 0 0 0\ngrip 0\ncall lift\ndrop\naside +z 1\nhalt\nproc lift 0 1\nexit 0 0\nresult 0 2\nat 0 0 0 0 0+1v1\nat 1 0 0 0 0\nlabel start\nframe 0 0\ncost 13\nat 0 0 0 0 0\nat 1 0 0 0 0\nask 0 2\nstore 0\nload 0\nstore 1\nlabel L\nframe 0 0\nslot 0 0 2\nslot 1 0 2\nguard 0+1v0-1v1\ncost 3+3v1\nat 0 0 0 0 0+1v0-1v1\nat 1 0 0 0 0\ndown 1 M\nload 0\nret\nlabel M\nframe 0 0\nslot 0 0 2\nslot 1 0 1\nguard -1+1v0-1v1\ncost 5+3v1\nat 0 0 0 0 -1+1v0-1v1\nat 1 0 0 0 0\nstep +z\njump L\n") P3 16
+exit_over_no_result = record { place = 15; found = refl; number = refl }
+
+fifth_guard : HasFault (codes "plan cup 2 14\nproc main 0\nlabel start\nframe 0 -\ncost 14\nat 0 0 0 0 0\nat 1 0 0 0 0\ngrip 0\nask 0 2\nstore 0\nload 0\nstore 1\nlabel L\nframe 0 0\nslot 0 0 2\nslot 1 0 2\nguard 0\nguard 0\nguard 0\nguard 0\nguard 0\ncost 3+3v1\nat 0 0 0 0 0+1v0-1v1\nat 1 0 0 0 0\ndown 1 M\naside +z 1\nhalt\nlabel M\nframe 0 0\nslot 0 0 2\nslot 1 0 1\nguard -1+1v0-1v1\ncost 5+3v1\nat 0 0 0 0 -1+1v0-1v1\nat 1 0 0 0 0\nstep +z\njump L\n") P4 21
+fifth_guard = record { place = 20; found = refl; number = refl }
+
+fifth_guard_out_of_range : HasFault (codes "plan cup 2 14\nproc main 0\nlabel start\nframe 0 -\ncost 14\nat 0 0 0 0 0\nat 1 0 0 0 0\ngrip 0\nask 0 2\nstore 0\nload 0\nstore 1\nlabel L\nframe 0 0\nslot 0 0 2\nslot 1 0 2\nguard 0\nguard 0\nguard 0\nguard 0\nguard 0+1v7\ncost 3+3v1\nat 0 0 0 0 0+1v0-1v1\nat 1 0 0 0 0\ndown 1 M\naside +z 1\nhalt\nlabel M\nframe 0 0\nslot 0 0 2\nslot 1 0 1\nguard -1+1v0-1v1\ncost 5+3v1\nat 0 0 0 0 -1+1v0-1v1\nat 1 0 0 0 0\nstep +z\njump L\n") P3 21
+fifth_guard_out_of_range = record { place = 20; found = refl; number = refl }
+
+negative_in_set : HasFault (codes "plan ring 2 11\nproc main 0\nlabel start\nframe 0 -1\ncost 11\nat 0 0 0 0 0\nat 1 0 0 0 0\ngrip 0\npush 2\nstore 0\nlabel L\nframe 0 0\nslot 0 0 2\ncost 4+2v0\nat 0 0 0 0 2-1v0\nat 1 0 0 0 0\nstep +z\ndown 0 L\naside +z 1\nhalt\n") P3 4
+negative_in_set = record { place = 3; found = refl; number = refl }
+
+empty_in_set : HasFault (codes "plan ring 2 11\nproc main 0\nlabel start\nframe 0 0,\ncost 11\nat 0 0 0 0 0\nat 1 0 0 0 0\ngrip 0\npush 2\nstore 0\nlabel L\nframe 0 0\nslot 0 0 2\ncost 4+2v0\nat 0 0 0 0 2-1v0\nat 1 0 0 0 0\nstep +z\ndown 0 L\naside +z 1\nhalt\n") P1 4
+empty_in_set = record { place = 3; found = refl; number = refl }
+
+slot_without_digits : HasFault (codes "plan ring 2 11\nproc main 0\nlabel start\nframe 0 -\ncost 11\nat 0 0 0 0 0\nat 1 0 0 0 0\ngrip 0\npush 2\nstore 0\nlabel L\nframe 0 0\nslot 0 0 2\ncost 1+1v-1\nat 0 0 0 0 2-1v0\nat 1 0 0 0 0\nstep +z\ndown 0 L\naside +z 1\nhalt\n") P1 14
+slot_without_digits = record { place = 13; found = refl; number = refl }
+
+slot_with_zero : HasFault (codes "plan ring 2 11\nproc main 0\nlabel start\nframe 0 -\ncost 11\nat 0 0 0 0 0\nat 1 0 0 0 0\ngrip 0\npush 2\nstore 0\nlabel L\nframe 0 0\nslot 0 0 2\ncost 1+1v01\nat 0 0 0 0 2-1v0\nat 1 0 0 0 0\nstep +z\ndown 0 L\naside +z 1\nhalt\n") P1 14
+slot_with_zero = record { place = 13; found = refl; number = refl }
+
+exit_of_main : HasFault (codes "plan ring 2 11\nproc main 0\nexit 0 -\nframe 0 -\ncost 11\nat 0 0 0 0 0\nat 1 0 0 0 0\ngrip 0\npush 2\nstore 0\nlabel L\nframe 0 0\nslot 0 0 2\ncost 4+2v0\nat 0 0 0 0 2-1v0\nat 1 0 0 0 0\nstep +z\ndown 0 L\naside +z 1\nhalt\n") P5 3
+exit_of_main = record { place = 2; found = refl; number = refl }
+
+no_exit : HasFault (codes "plan2 cup 2 18\nproc main 0 0\nlabel start\nframe 0 -\ncost 18\nat 0 0 0 0 0\nat 1 0 0 0 0\ngrip 0\ncall lift\ndrop\naside +z 1\nhalt\nproc lift 0 1\nresult 0 2\nat 0 0 0 0 0+1v0\nat 1 0 0 0 0\nlabel start\nframe 0 0\ncost 13\nat 0 0 0 0 0\nat 1 0 0 0 0\nask 0 2\nstore 0\nload 0\nstore 1\nlabel L\nframe 0 0\nslot 0 0 2\nslot 1 0 2\nguard 0+1v0-1v1\ncost 3+3v1\nat 0 0 0 0 0+1v0-1v1\nat 1 0 0 0 0\ndown 1 M\nload 0\nret\nlabel M\nframe 0 0\nslot 0 0 2\nslot 1 0 1\nguard -1+1v0-1v1\ncost 5+3v1\nat 0 0 0 0 -1+1v0-1v1\nat 1 0 0 0 0\nstep +z\njump L\n") P1 14
+no_exit = record { place = 13; found = refl; number = refl }
+
+parameters_of_main : HasFault (codes "plan ring 2 11\nproc main 1\nlabel start\nframe 0 -\ncost 11\nat 0 0 0 0 0\nat 1 0 0 0 0\ngrip 0\npush 2\nstore 0\nlabel L\nframe 0 0\nslot 0 0 2\ncost 4+2v0\nat 0 0 0 0 2-1v0\nat 1 0 0 0 0\nstep +z\ndown 0 L\naside +z 1\nhalt\n") P3 2
+parameters_of_main = record { place = 1; found = refl; number = refl }
+
+low_above_high : HasFault (codes "plan ring 2 11\nproc main 0\nlabel start\nframe 0 -\ncost 11\nat 0 0 0 0 0\nat 1 0 0 0 0\ngrip 0\npush 2\nstore 0\nlabel L\nframe 0 0\nslot 0 2 0\ncost 4+2v0\nat 0 0 0 0 2-1v0\nat 1 0 0 0 0\nstep +z\ndown 0 L\naside +z 1\nhalt\n") P3 13
+low_above_high = record { place = 12; found = refl; number = refl }
+
+one_offered : HasFault (codes "plan ring 2 11\nproc main 0\nlabel start\nframe 0 -\ncost 11\nat 0 0 0 0 0\nat 1 0 0 0 0\ngrip 0\npush 2\nstore 0\nlabel L\nframe 0 0\nslot 0 0 2\ncost 4+2v0\nat 0 0 0 0 2-1v0\nat 1 0 0 0 0\nstep +z\npick L\naside +z 1\nhalt\n") P1 18
+one_offered = record { place = 17; found = refl; number = refl }
+
+repeated_procedure : HasFault (codes "plan2 cup 2 18\nproc main 0 0\nlabel start\nframe 0 -\ncost 18\nat 0 0 0 0 0\nat 1 0 0 0 0\ngrip 0\ncall lift\ndrop\naside +z 1\nhalt\nproc main 9 9\nexit 0 0\nresult 0 2\nat 0 0 0 0 0+1v0\nat 1 0 0 0 0\nlabel start\nframe 0 0\ncost 13\nat 0 0 0 0 0\nat 1 0 0 0 0\nask 0 2\nstore 0\nload 0\nstore 1\nlabel L\nframe 0 0\nslot 0 0 2\nslot 1 0 2\nguard 0+1v0-1v1\ncost 3+3v1\nat 0 0 0 0 0+1v0-1v1\nat 1 0 0 0 0\ndown 1 M\nload 0\nret\nlabel M\nframe 0 0\nslot 0 0 2\nslot 1 0 1\nguard -1+1v0-1v1\ncost 5+3v1\nat 0 0 0 0 -1+1v0-1v1\nat 1 0 0 0 0\nstep +z\njump L\n") P2 13
+repeated_procedure = record { place = 12; found = refl; number = refl }
+
+labels_at_one_place : HasFault (codes "plan ring 2 11\nproc main 0\nlabel start\nframe 0 -\ncost 11\nat 0 0 0 0 0\nat 1 0 0 0 0\ngrip 0\npush 2\nstore 0\nlabel L\nframe 0 0\nslot 0 0 2\ncost 4+2v0\nat 0 0 0 0 2-1v0\nat 1 0 0 0 0\nstep +z\ndown 0 L\naside +z 1\nlabel M\nframe 0 -\ncost 1\nat 0 apart\nat 1 apart\nlabel N\n") P4 25
+labels_at_one_place = record { place = 24; found = refl; number = refl }
+
+ends_in_a_frame : HasFault (codes "plan ring 2 11\nproc main 0\nlabel start\nframe 0 -\ncost 11\nat 0 0 0 0 0\nat 1 0 0 0 0\ngrip 0\npush 2\nstore 0\nlabel L\nframe 0 0\nslot 0 0 2\n") P1 14
+ends_in_a_frame = record { place = 13; found = refl; number = refl }
+
+too_many_results : HasFault (codes "plan2 cup 2 18\nproc main 0 0\nlabel start\nframe 0 -\ncost 18\nat 0 0 0 0 0\nat 1 0 0 0 0\ngrip 0\ncall lift\ndrop\naside +z 1\nhalt\nproc lift 0 1\nexit 0 0\nresult 0 2\nresult 0 2\nat 0 0 0 0 0+1v0\nat 1 0 0 0 0\nlabel start\nframe 0 0\ncost 13\nat 0 0 0 0 0\nat 1 0 0 0 0\nask 0 2\nstore 0\nload 0\nstore 1\nlabel L\nframe 0 0\nslot 0 0 2\nslot 1 0 2\nguard 0+1v0-1v1\ncost 3+3v1\nat 0 0 0 0 0+1v0-1v1\nat 1 0 0 0 0\ndown 1 M\nload 0\nret\nlabel M\nframe 0 0\nslot 0 0 2\nslot 1 0 1\nguard -1+1v0-1v1\ncost 5+3v1\nat 0 0 0 0 -1+1v0-1v1\nat 1 0 0 0 0\nstep +z\njump L\n") P1 16
+too_many_results = record { place = 15; found = refl; number = refl }
+
+exit_guard_in_version_1 : HasFault (codes "plan ring 2 11\nproc main 0\nlabel start\nframe 0 -\ncost 11\nat 0 0 0 0 0\nat 1 0 0 0 0\ngrip 0\npush 2\nstore 0\nlabel L\nframe 0 0\nslot 0 0 2\ncost 4+2v0\nat 0 0 0 0 2-1v0\nat 1 0 0 0 0\nstep +z\ndown 0 L\naside +z 1\nhalt\nproc q 0\nexit 0 -\nguard 0\n") P1 23
+exit_guard_in_version_1 = record { place = 22; found = refl; number = refl }
+
+large_budget : HasFault (codes "plan ring 2 1000001\nproc main 0\nlabel start\nframe 0 -\ncost 11\nat 0 0 0 0 0\nat 1 0 0 0 0\ngrip 0\npush 2\nstore 0\nlabel L\nframe 0 0\nslot 0 0 2\ncost 4+2v0\nat 0 0 0 0 2-1v0\nat 1 0 0 0 0\nstep +z\ndown 0 L\naside +z 1\nhalt\n") P3 1
+large_budget = record { place = 0; found = refl; number = refl }
+
+unended_wrong_word : HasFault (codes "plan ring 2 11\nproc main 0\nlabel start\nfram 0 -") P5 4
+unended_wrong_word = record { place = 3; found = refl; number = refl }
+
+unended_frame : HasFault (codes "plan ring 2 11\nproc main 0\nlabel start\nframe 0 -") P1 4
+unended_frame = record { place = 3; found = refl; number = refl }
+
+upper_case_byte : HasFault (codes "plan ring 2 11\nproc main 0\nlabel start\nframe 0 -\ncost 11\nat 0 0 0 0 0\nat 1 0 0 0 0\ngrip 0\npush 2\nstore 0\nlabel L\nframe 0 0\nslot 0 0 2\ncost 4+2v0\nat 0 0 0 0 2-1v0\nat 1 0 0 0 0\nstep +z\ndown 0 L\naside +z 1\nbyte 0A\n") P1 20
+upper_case_byte = record { place = 19; found = refl; number = refl }
+
+unknown_before_label_at_end : HasFault (codes "plan ring 2 11\nproc main 0\nlabel start\nframe 0 -\ncost 11\nat 0 0 0 0 0\nat 1 0 0 0 0\ngrip 0\npush 2\nstore 0\nlabel L\nframe 0 0\nslot 0 0 2\ncost 4+2v0\nat 0 0 0 0 2-1v0\nat 1 0 0 0 0\nstep +z\ndown 0 M\naside +z 1\nhalt\nlabel N\nframe 0 -\ncost 1\nat 0 apart\nat 1 apart\n") P4 21
+unknown_before_label_at_end = record { place = 20; found = refl; number = refl }
+
+empty_text : HasFault (codes "") P1 1
+empty_text = record { place = 0; found = refl; number = refl }
+
+-- A listing
+
+-- code with a label inside its first instruction
+abbrev duo : Plan
+duo = record {
+  version = 1;
+  name = codes "duo";
+  pieces = 2;
+  budget = 3;
+  procedures = main ((0, start 3) ∷ (1, start 3) ∷ []) (16 ∷ 0 ∷ 0 ∷ 0 ∷ 1 ∷ 18 ∷ 1 ∷ 1 ∷ 0 ∷ []) ∷ [];
+}
+
+abbrev duo_text : List ℕ
+duo_text = codes "plan duo 2 3\nproc p0 0\nlabel L0\nframe 0 -\ncost 3\nat 0 0 0 0 0\nat 1 0 0 0 0\nbyte 10\nlabel L1\nframe 0 -\ncost 3\nat 0 0 0 0 0\nat 1 0 0 0 0\nhalt\nhalt\nhalt\npush 4609\nbyte 01\nhalt\n"
+
+differ : (a b : ℕ) (r s : List ℕ) → (a == b) ≡ false → a ∷ r ≡ b ∷ s → ⊥
+differ a b r s other e = grind (arith, same_head a b r s e, nat_tests)
+
+too_short : (a b c : ℕ) (s : List ℕ) → a ∷ [] ≡ b ∷ c ∷ s → ⊥
+too_short a b c s e = cc
+
+-- no instruction is so short
+short_grip : (i : Instruction) → MayBeListed 2 1 i → ¬ Begins (16 ∷ []) i
+short_grip code.Halt may (rest, e) = differ 16 0 _ _ refl e
+short_grip (code.Push n) may (rest, e) = differ 16 1 _ _ refl e
+short_grip (code.Load v) may (rest, e) = differ 16 2 _ _ refl e
+short_grip (code.Store v) may (rest, e) = differ 16 3 _ _ refl e
+short_grip code.Add may (rest, e) = differ 16 4 _ _ refl e
+short_grip code.Sub may (rest, e) = differ 16 5 _ _ refl e
+short_grip code.Drop may (rest, e) = differ 16 6 _ _ refl e
+short_grip (code.Grip s) may (rest, e) = too_short 16 16 _ _ e
+short_grip (code.Step d) may (rest, e) = differ 16 17 _ _ refl e
+short_grip (code.Aside d t) may (rest, e) = differ 16 18 _ _ refl e
+short_grip (code.Tray t) may (rest, e) = differ 16 19 _ _ refl e
+short_grip (code.Jump l) may (rest, e) = differ 16 32 _ _ refl e
+short_grip (code.Down v l) may (rest, e) = differ 16 33 _ _ refl e
+short_grip (code.Ask a b) may (rest, e) = differ 16 34 _ _ refl e
+short_grip (code.Pick ls) may (rest, e) = differ 16 35 _ _ refl e
+short_grip (code.Call q) may (rest, e) = differ 16 36 _ _ refl e
+short_grip code.Ret may (rest, e) = differ 16 37 _ _ refl e
+
+short_push : (i : Instruction) → MayBeListed 2 1 i → ¬ Begins (1 ∷ 0 ∷ []) i
+short_push code.Halt may (rest, e) = differ 1 0 _ _ refl e
+short_push (code.Push n) may (rest, e) = too_short 0 _ _ _ (same_tail 1 1 _ _ e)
+short_push (code.Load v) may (rest, e) = differ 1 2 _ _ refl e
+short_push (code.Store v) may (rest, e) = differ 1 3 _ _ refl e
+short_push code.Add may (rest, e) = differ 1 4 _ _ refl e
+short_push code.Sub may (rest, e) = differ 1 5 _ _ refl e
+short_push code.Drop may (rest, e) = differ 1 6 _ _ refl e
+short_push (code.Grip s) may (rest, e) = differ 1 16 _ _ refl e
+short_push (code.Step d) may (rest, e) = differ 1 17 _ _ refl e
+short_push (code.Aside d t) may (rest, e) = differ 1 18 _ _ refl e
+short_push (code.Tray t) may (rest, e) = differ 1 19 _ _ refl e
+short_push (code.Jump l) may (rest, e) = differ 1 32 _ _ refl e
+short_push (code.Down v l) may (rest, e) = differ 1 33 _ _ refl e
+short_push (code.Ask a b) may (rest, e) = differ 1 34 _ _ refl e
+short_push (code.Pick ls) may (rest, e) = differ 1 35 _ _ refl e
+short_push (code.Call q) may (rest, e) = differ 1 36 _ _ refl e
+short_push code.Ret may (rest, e) = differ 1 37 _ _ refl e
+
+abbrev first_block : Block
+first_block = record { label = label_name 0; frame = frame_listed (start 3); code = Byte 16 ∷ [] }
+
+abbrev second_block : Block
+second_block = record { label = label_name 1; frame = frame_listed (start 3); code = Halt ∷ Halt ∷ Halt ∷ Push (codes "4609") ∷ Byte 1 ∷ Halt ∷ [] }
+
+abbrev duo_source : PlanSource
+duo_source = record {
+  title = title_of duo;
+  procedures = record { head = head_of 1 0 (main [] []); exit = None; blocks = first_block ∷ second_block ∷ [] } ∷ [];
+}
+
+halts : MayBeListed 2 1 code.Halt
+halts = record { in_range = tt; names = refl }
+
+first_code : IsCodeListed 2 1 (16 ∷ []) first_block.code
+first_code = ([], inr (short_grip, 16, refl, refl), refl)
+
+second_code : IsCodeListed 2 1 (0 ∷ 0 ∷ 0 ∷ 1 ∷ 18 ∷ 1 ∷ 1 ∷ 0 ∷ []) second_block.code
+unfolding digits
+second_code = (
+  0 ∷ 0 ∷ 1 ∷ 18 ∷ 1 ∷ 1 ∷ 0 ∷ [],
+  inl (code.Halt, halts, refl, refl),
+  (
+    0 ∷ 1 ∷ 18 ∷ 1 ∷ 1 ∷ 0 ∷ [],
+    inl (code.Halt, halts, refl, refl),
+    (
+      1 ∷ 18 ∷ 1 ∷ 1 ∷ 0 ∷ [],
+      inl (code.Halt, halts, refl, refl),
+      (
+        1 ∷ 0 ∷ [],
+        inl (code.Push (pos 4609), record { in_range = (omega arith, omega arith); names = refl }, refl, refl),
+        (
+          0 ∷ [],
+          inr (short_push, 1, refl, refl),
+          ([], inl (code.Halt, halts, refl, refl), refl),
+        ),
+      ),
+    ),
+  ),
+)
+
+duo_listed : IsListing duo duo_text
+unfolding digits
+duo_listed = (
+  duo_source,
+  record {
+    title = refl;
+    procedures = (record { head = refl; exit = refl; blocks = (refl, refl, first_code, (refl, refl, second_code, tt)) }, tt);
+  },
+  refl,
+)
+
+-- All that a frame may say, and all instructions: the words of the text are those of the listing.
+abbrev all_text : List ℕ
+all_text = codes "plan All_9- 3 1000000\nproc p0 0\nlabel L0\nframe 31 -\nslot 2 -32767 32767\nslot 7 -1 -1\nguard -2147483648-32768v2+32767v7\nguard 0\nstack 2147483647\nstack 0+1v7\ncost 0-1v2\nat 0 31 0 1-1v2 2+1v7\nat 1 apart\nat 2 0 0 0 0\nadd\nsub\ndrop\nload 7\nstore 0\ngrip 0,2,31\nstep -x\naside +y 0\ntray 31\njump L1\ndown 7 L0\nask -32767 32767\npick L1 L0 L1\npick L0 L0 L0 L0 L0 L0 L0 L1\ncall p1\ncall p0\nret\nbyte ff\nbyte 0f\nlabel L1\nframe 0 0,1,2\ncost 0\nat 0 apart\nat 1 apart\nat 2 apart\npush -32767\nhalt\nproc p1 4\nexit 1 1\nat 0 5 1-1v0 2+2v1-3v2 3+4v3\nat 1 apart\nat 2 0 0 0 0\nlabel L0\nframe 0 -\nslot 0 0 0\ncost 1\nat 0 apart\nat 1 apart\nat 2 apart\nret\n"
+
+abbrev all_plan : Plan
+all_plan = plan_of (source_in all_text)
+
+all_stands : StandsFor all_text all_plan
+all_stands = (source_in all_text, record { right = refl; lines = refl }, refl)
+
+all_fits : IsTrue (is_fitting all_plan)
+all_fits = refl
+
+all_title : (source_in all_text).title ≡ title_of all_plan
+unfolding digits
+all_title = refl
+
+abbrev heads_from : ℕ → List PlanProcedure → List ProcedureWords
+heads_from n [] = []
+heads_from n (p ∷ ps) = head_of 1 n p ∷ heads_from (suc n) ps
+
+all_heads : map (λ (p : ProcedureSource). p.head) (source_in all_text).procedures
+    ≡ heads_from 0 all_plan.procedures
+unfolding digits
+all_heads = refl
+
+all_exits : map (λ (p : ProcedureSource). p.exit) (source_in all_text).procedures ≡ map (λ (p : PlanProcedure). exit_listed p.exit) all_plan.procedures
+unfolding digits
+all_exits = refl
+
+all_frames : map (λ (p : ProcedureSource). map (λ (b : Block). b.frame) p.blocks) (source_in all_text).procedures
+    ≡ map (λ (p : PlanProcedure). map (λ (l : ℕ × Frame). frame_listed l.1) p.labels) all_plan.procedures
+unfolding digits
+all_frames = refl
+
+abbrev all_instructions : List Instruction
+all_instructions =
+    code.Add ∷ code.Sub ∷ code.Drop ∷ code.Load 7 ∷ code.Store 0 ∷ code.Grip (1 + 4 + 2 ^ 31) ∷ code.Step MinusX ∷ code.Aside PlusY 0 ∷ code.Tray 31
+    ∷ code.Jump 1 ∷ code.Down 7 0 ∷ code.Ask (neg_ℤ (pos 32767)) (pos 32767) ∷ code.Pick (1 ∷ 0 ∷ 1 ∷ []) ∷ code.Pick (0 ∷ 0 ∷ 0 ∷ 0 ∷ 0 ∷ 0 ∷ 0 ∷ 1 ∷ [])
+    ∷ code.Call 1 ∷ code.Call 0 ∷ code.Ret ∷ []
+
+-- the code of a procedure's blocks
+abbrev codes_of : ProcedureSource → List (List Statement)
+codes_of p = map (λ (b : Block). b.code) p.blocks
+
+all_code : map codes_of (source_in all_text).procedures
+    ≡ ((map instruction_listed all_instructions ++ (Byte 255 ∷ Byte 15 ∷ [])) ∷ (Push (codes "-32767") ∷ Halt ∷ []) ∷ [])
+    ∷ ((instruction_listed code.Ret ∷ []) ∷ []) ∷ []
+unfolding digits
+all_code = refl
+
+-- the bytes of the code are those of the instructions
+all_bytes : map (λ (p : PlanProcedure). p.code) all_plan.procedures
+    ≡ (flat_map spelled all_instructions ++ (255 ∷ 15 ∷ (spelled (code.Push (neg_ℤ (pos 32767))) ++ (0 ∷ [])))) ∷ (37 ∷ []) ∷ []
+all_bytes = refl

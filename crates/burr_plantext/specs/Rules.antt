@@ -1,0 +1,12 @@
+pub mod Checks
+pub mod Faults
+pub mod Lines
+pub mod Listing
+pub mod Meaning
+pub mod Operands
+pub mod Right
+pub mod Sources
+pub mod Statements
+pub mod Texts
+pub mod Writing
+pub mod Written

@@ -1,0 +1,10 @@
+//! Plans as texts: what a plan text stands for, its faults and the listing of a plan, with the laws
+//! that hold of them.
+#![tactic(auto)]
+
+mod laws;
+
+pub use laws::{
+    a_listing_stands_for_its_plan, a_plan_has_one_listing, a_text_has_a_fault_or_a_plan,
+    a_text_has_one_plan, a_text_stands_for_a_plan_within_the_format,
+};
