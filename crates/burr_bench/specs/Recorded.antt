@@ -12,8 +12,8 @@ use Rattle.burr_bench.specs.Sound.{IsSound}
 abbrev pub gone_back : Undo → Benched → Benched
 gone_back u b = in_state (laid_over u b.state) b
 
--- The record takes a machine back: with its old values laid over it that is at work and runs safely,
--- and its step, with some answer or none, gives this machine and this record.
+-- The record takes a machine back: with its old values laid over it that is at work and runs
+-- safely, and its step, with some answer or none, gives this machine and this record.
 pub record TakesBack (b : Benched) (u : Undo) : Type 0 where
   pub sound : IsSound (gone_back u b)
   pub undo : IsUndoOf b u

@@ -25,5 +25,6 @@ impl<'a, B: Blocking> Model for Checked<'a, B> {
 
     ghost view = { λ c. benched (B.subject c.blocking.now) c.bench.program c.bench.state };
 
-    ghost invariant = { λ c. IsSound (benched (B.subject c.blocking.now) c.bench.program c.bench.state) };
+    ghost invariant = { λ c.
+        IsSound (benched (B.subject c.blocking.now) c.bench.program c.bench.state) };
 }

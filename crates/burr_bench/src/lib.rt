@@ -1,5 +1,5 @@
-//! The benches that run programs on an assembly's pieces, step by step: one that tests each move, and
-//! one for accepted plans, which tests none and can go back.
+//! The benches that run programs on an assembly's pieces, step by step: one that tests each move,
+//! and one for accepted plans, which tests none and can go back.
 #![tactic(auto)]
 
 mod checked;

@@ -1,6 +1,9 @@
 pub mod Conditions
 pub mod Counts
 pub mod Labels
+pub mod Near
+pub mod OneAnswer
 pub mod Orders
 pub mod PieceSets
 pub mod Reading
+pub mod Turned

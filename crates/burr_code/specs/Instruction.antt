@@ -5,7 +5,7 @@ use Rattle.std.specs.Int.{w16, cast_unsigned}
 use Rattle.byteorder.specs.Endian.{big_bytes}
 use Rattle.burr_voxels.specs.declared.direction.Direction.{Direction}
 use Rattle.burr_voxels.specs.Grid.{number_of}
-use Rattle.burr_code.specs.declared.limits.TheConstants.{SLOTS, TRAYS}
+use Rattle.burr_code.specs.declared.limits.TheConstants.{MOST_NUMBER, SLOTS, TRAYS}
 
 -- the seventeen instructions, with their operands
 pub data Instruction : Type 0 where
@@ -57,7 +57,7 @@ spelled Ret = 0x25 ∷ []
 
 -- a number that an operand or a slot may be
 abbrev pub IsInNumberRange : ℤ → Type 0
-IsInNumberRange n = (neg_ℤ (pos 32767) ≤ℤ n) × (n ≤ℤ pos 32767)
+IsInNumberRange n = (neg_ℤ (pos MOST_NUMBER) ≤ℤ n) × (n ≤ℤ pos MOST_NUMBER)
 
 -- labels that `pick` may offer
 abbrev pub AreLabels : List ℕ → Type 0

@@ -33,8 +33,8 @@ pub enum Instr<'a> {
     Tray(u8),
     /// Goes on at a label.
     Jump(u16),
-    /// Goes on with the next instruction where a slot holds 0, else counts the slot down and goes on at
-    /// a label.
+    /// Goes on with the next instruction where a slot holds 0, else counts the slot down and goes
+    /// on at a label.
     Down(u8, u16),
     /// Asks for a number of the first to the second, which is not below the first, and pushes it.
     Ask(i16, i16),

@@ -29,3 +29,15 @@ pub const MOST_PARAMETERS: u8 = 4;
 
 /// A frame has at most this many guards.
 pub const MOST_GUARDS: usize = 4;
+
+/// A procedure has at most this many results.
+pub const MOST_RESULTS: usize = 2;
+
+/// A state of the verifier has at most this many guards.
+pub const MOST_STATE_GUARDS: usize = 8;
+
+/// A number of the bench, an operand or one in a slot, is at most this, either way.
+pub const MOST_NUMBER: u16 = 32_767;
+
+/// A piece in a tray lies at most this far from home, a coordinate, either way.
+pub const MOST_OFFSET: u16 = 256;

@@ -19,6 +19,8 @@ pub mod Numbers
 pub mod PartsRead
 pub mod PlaceWalk
 pub mod PlacesRead
+pub mod Restored
+pub mod RestoredPlans
 mod WorkedRows
 pub mod SlotWalk
 pub mod ProceduresRead

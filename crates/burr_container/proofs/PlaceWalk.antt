@@ -30,6 +30,17 @@ nth_form live (suc count) (suc n) bytes value small is =
     let there : drop (suc n * size) bytes ≡ drop (n * size) (drop size bytes) = ap (λ (k : ℕ). drop k bytes) moved ∙ after size (n * size) bytes in
     nth_form live count n (drop size bytes) value (omega arith) (is ∙ ap (λ (b : List ℕ). over_symbols live (form_in live b)) there)
 
+-- a place of three forms
+pub place_parts : (live : List Bool) (bytes : List ℕ) (x y z : Form) → (slice_index bytes 0 == 255) ≡ false
+    → x ≡ form_in live (drop 1 bytes) → y ≡ form_in live (drop (1 + form_size live) bytes)
+    → z ≡ form_in live (drop (1 + form_size live + form_size live) bytes)
+    → On (slice_index bytes 0) (record { x = x; y = y; z = z }) ≡ place_in live (slice_index bytes 0) (drop 1 bytes)
+place_parts live bytes x y z lies first second third =
+    let size = form_size live in
+    let to_y : drop (1 + size) bytes ≡ drop size (drop 1 bytes) = after 1 size bytes in
+    let to_z : drop (1 + size + size) bytes ≡ drop size (drop size (drop 1 bytes)) = after (1 + size) size bytes ∙ ap (drop size) to_y in
+    rw (lies, first, second, third, to_y, to_z) refl
+
 -- a place by forms over symbols
 pub place_told : (live : List Bool) (bytes : List ℕ) (x y z : Form) → (slice_index bytes 0 == 255) ≡ false
     → x ≡ over_symbols live (form_in live (drop 1 bytes))
@@ -38,9 +49,10 @@ pub place_told : (live : List Bool) (bytes : List ℕ) (x y z : Form) → (slice
     → On (slice_index bytes 0) (record { x = x; y = y; z = z }) ≡ place_over_symbols live (place_in live (slice_index bytes 0) (drop 1 bytes))
 place_told live bytes x y z lies first second third =
     let size = form_size live in
-    let to_y : drop (1 + size) bytes ≡ drop size (drop 1 bytes) = after 1 size bytes in
-    let to_z : drop (1 + size + size) bytes ≡ drop size (drop size (drop 1 bytes)) = after (1 + size) size bytes ∙ ap (drop size) to_y in
-    rw (lies, first, second, third, to_y, to_z) refl
+    let parts =
+    place_parts live bytes (form_in live (drop 1 bytes)) (form_in live (drop (1 + size) bytes)) (form_in live (drop (1 + size + size) bytes)) lies refl
+    refl refl in
+    (λ i. On (slice_index bytes 0) (record { x = first i; y = second i; z = third i })) ∙ ap (place_over_symbols live) parts
 
 -- all that follows the first byte of a place is there
 whole_by : (b : Bool) (live : List Bool) (first : ℕ) (bytes : List ℕ) → IsTrue (stands_by b live first bytes) → rest_by b live ≤ length bytes

@@ -15,6 +15,7 @@ use crate::exit_ref::ExitRef;
 use crate::fault::ContainerFault;
 use crate::frame_ref::FrameRef;
 use crate::header::Header;
+use crate::layout::Layout;
 use crate::procedure_ref::ProcedureRef;
 use crate::reading::{Cursor, count_within, header, main_procedure, other_procedure};
 use crate::stored_procedure::StoredProcedure;
@@ -29,7 +30,11 @@ impl<'a> Container<'a> {
     {
         let begin = Cursor::new(bytes);
         let (header, after_header) = header(begin)?;
-        let (procedures, end) = procedures(header.version, header.pieces, after_header)?;
+        let layout = Layout {
+            version: header.version,
+            pieces: header.pieces,
+        };
+        let (procedures, end) = procedures(layout, after_header)?;
         if !end.rest.is_empty() {
             return Err(ContainerFault::C6 { at: end.at });
         }
@@ -134,24 +139,21 @@ impl<'a> Container<'a> {
     }
 }
 
-/// The procedures of a plan of this version and of so many pieces, with their count in front of
-/// them.
+/// The procedures of a plan, with their count in front of them.
 fn procedures(
-    version: u16,
-    pieces: u8,
+    layout: Layout,
     cursor: Cursor<'_>,
 ) -> Result<(ArrayVec<StoredProcedure<'_>, MOST_PROCEDURES>, Cursor<'_>), ContainerFault>
-    requires { pieces ≤ 32 }
-    ensures { ReadsAs (λ kept ps. AreFor (IsProcedure pieces) kept.items ps)
-        (procedures_part version pieces) cursor.entry result }
+    ensures { ReadsAs (λ kept ps. AreFor (IsProcedure layout.pieces) kept.items ps)
+        (procedures_part layout.version layout.pieces) cursor.entry result }
 {
     let (count, after_count) = count_within(cursor, 1, MOST_PROCEDURES)?;
-    let (main, after_main) = main_procedure(version, pieces, after_count)?;
+    let (main, after_main) = main_procedure(layout, after_count)?;
     let mut procedures = ArrayVec::new();
     procedures.push(main);
     let mut cursor = after_main;
     for _ in 0..count - 1 {
-        let (procedure, next) = other_procedure(version, pieces, cursor)?;
+        let (procedure, next) = other_procedure(layout, cursor)?;
         procedures.push(procedure);
         cursor = next;
     }

@@ -1,7 +1,7 @@
 use thiserror::Error;
 
-/// Why bytes are no container: the first field that fails, by the position of its first byte from 0.
-/// Fields are judged in their order, each once all its bytes are there.
+/// Why bytes are no container: the first field that fails, by the position of its first byte from
+/// 0. Fields are judged in their order, each once all its bytes are there.
 #[derive(Clone, Copy, Debug, PartialEq, Eq, Error)]
 pub enum ContainerFault {
     /// The position is the number of bytes that there are.

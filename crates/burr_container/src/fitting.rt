@@ -2,10 +2,11 @@
 
 ghost use Rattle.std.specs.Prelude.{◌≡◌, ◌≤◌, ◌&&◌, length, false, Some, pos, neg_ℤ, IsTrue};
 ghost use Rattle.std.specs.List.{list_all};
-ghost use Rattle.burr_container.specs.Rules.Fitting.{is_fitting, is_version as fits_version, is_budget as fits_budget, is_piece_count as fits_piece_count, is_name_text as fits_name, are_procedures as fit_procedures, is_procedure as fits_procedure, is_exit as fits_exit, are_labels as fit_labels, are_parameters as fit_parameters, most_results as most_of_results, are_results as fit_results, most_exit_guards as most_of_exit_guards, is_code, rise_from, is_exit_frame as fits_exit_frame, is_exit_rest as fits_exit_rest, is_frame as fits_frame, is_frame_rest as fits_frame_rest, is_between, is_set_of as fits_set, is_range as fits_range, are_ranges as fit_ranges, are_forms as fit_forms, is_form as fits_form, are_coefficients, is_coefficient, are_places as fit_places, is_place as fits_place};
+ghost use Rattle.burr_container.specs.Rules.Fitting.{is_fitting, is_version as fits_version, is_budget as fits_budget, is_piece_count as fits_piece_count, is_name_text as fits_name, are_procedures as fit_procedures, is_procedure as fits_procedure, is_exit as fits_exit, are_labels as fit_labels, are_parameters as fit_parameters, are_results as fit_results, is_code, rise_from, is_exit_frame as fits_exit_frame, is_exit_rest as fits_exit_rest, is_frame as fits_frame, is_frame_rest as fits_frame_rest, is_between, is_set_of as fits_set, is_range as fits_range, are_ranges as fit_ranges, are_forms as fit_forms, is_form as fits_form, are_coefficients, is_coefficient, are_places as fit_places, is_place as fits_place};
 ghost use Rattle.burr_container.specs.Views.OwnedPlaces.{placement_of, placements_of};
 
 use crate::frame::{ExitFrame, Frame};
+use crate::layout::Layout;
 use crate::live::{exit_symbols, live_slots};
 use crate::place::Place;
 use crate::plan::{Plan, Procedure};
@@ -25,7 +26,13 @@ impl Plan {
             && is_budget(self.budget)
             && is_piece_count(self.pieces)
             && is_name_text(&self.name)
-            && are_procedures(self.version, self.pieces, &self.procs)
+            && are_procedures(
+                Layout {
+                    version: self.version,
+                    pieces: self.pieces,
+                },
+                &self.procs,
+            )
     }
 }
 
@@ -55,44 +62,41 @@ fn is_name_text(name: &[u8]) -> bool
 }
 
 /// Main first, and then other procedures.
-fn are_procedures(version: u16, pieces: u8, procedures: &[Procedure]) -> bool
-    requires { pieces ≤ 32 }
-    ensures { result ≡ fit_procedures version pieces procedures.now }
+fn are_procedures(layout: Layout, procedures: &[Procedure]) -> bool
+    ensures { result ≡ fit_procedures layout.version layout.pieces procedures.now }
 {
     match procedures {
         [] => false,
         [main, others @ ..] => {
-            is_procedure(version, pieces, true, main)
-                && all_others(version, pieces, others)
+            is_procedure(layout, true, main)
+                && all_others(layout, others)
                 && procedures.len() <= MOST_PROCEDURES
         }
     }
 }
 
-fn all_others(version: u16, pieces: u8, procedures: &[Procedure]) -> bool
-    requires { pieces ≤ 32 }
-    ensures { result ≡ list_all (fits_procedure version pieces false) procedures.now }
+fn all_others(layout: Layout, procedures: &[Procedure]) -> bool
+    ensures { result ≡ list_all (fits_procedure layout.version layout.pieces false) procedures.now }
 {
     procedures
         .iter()
-        .all(|other| is_procedure(version, pieces, false, other))
+        .all(|other| is_procedure(layout, false, other))
 }
 
-fn is_procedure(version: u16, pieces: u8, main: bool, procedure: &Procedure) -> bool
-    requires { pieces ≤ 32 }
-    ensures { result ≡ fits_procedure version pieces main procedure.now }
+fn is_procedure(layout: Layout, main: bool, procedure: &Procedure) -> bool
+    ensures { result ≡ fits_procedure layout.version layout.pieces main procedure.now }
 {
     if !are_parameters(main, procedure.params) {
         return false;
     }
-    if !are_results(version, main, procedure.results) {
+    if !are_results(layout, main, procedure.results) {
         return false;
     }
     let (parameters, results) = (procedure.params, procedure.results);
-    if !is_exit(version, pieces, main, parameters, results, &procedure.exit) {
+    if !is_exit(layout, main, parameters, results, &procedure.exit) {
         return false;
     }
-    is_body(pieces, &procedure.labels, &procedure.code)
+    is_body(layout, &procedure.labels, &procedure.code)
 }
 
 /// Whether so many parameters may be; main has none.
@@ -104,52 +108,40 @@ fn are_parameters(main: bool, parameters: u8) -> bool
 }
 
 /// Whether so many results may be; main has none, and in version 1 no procedure has one.
-fn are_results(version: u16, main: bool, results: u8) -> bool
-    ensures test { result ≡ fit_results version main results }
+fn are_results(layout: Layout, main: bool, results: u8) -> bool
+    ensures test { result ≡ fit_results layout.version main results }
     ensures few { IsTrue result → results ≤ 2 }
 {
-    results <= most_results(version, main)
+    results <= layout.most_results(main)
 }
 
-/// How many results there may be.
-pub fn most_results(version: u16, main: bool) -> u8
-    ensures most { result ≡ most_of_results version main }
-    ensures few { result ≤ 2 }
+fn is_body(layout: Layout, labels: &[(u16, Frame)], code: &[u8]) -> bool
+    ensures { result ≡ (fit_labels layout.pieces (length code.now) labels.now && is_code code.now) }
 {
-    if main || version != 2 { 0 } else { 2 }
-}
-
-fn is_body(pieces: u8, labels: &[(u16, Frame)], code: &[u8]) -> bool
-    requires { pieces ≤ 32 }
-    ensures { result ≡ (fit_labels pieces (length code.now) labels.now && is_code code.now) }
-{
-    are_labels(pieces, code.len(), labels) && code.len() <= MOST_CODE
+    are_labels(layout, code.len(), labels) && code.len() <= MOST_CODE
 }
 
 fn is_exit(
-    version: u16,
-    pieces: u8,
+    layout: Layout,
     main: bool,
     parameters: u8,
     results: u8,
     exit: &Option<ExitFrame>,
 ) -> bool
-    requires pieces { pieces ≤ 32 }
     requires parameters { parameters ≤ 4 }
     requires results { results ≤ 2 }
-    ensures { result ≡ fits_exit version main pieces parameters results exit.now }
+    ensures { result ≡ fits_exit layout.version main layout.pieces parameters results exit.now }
 {
     match (main, exit) {
         (true, None) => true,
         (true, Some(_)) => false,
         (false, None) => false,
-        (false, Some(exit)) => is_exit_frame(version, pieces, parameters, results, exit),
+        (false, Some(exit)) => is_exit_frame(layout, parameters, results, exit),
     }
 }
 
-fn are_labels(pieces: u8, end: usize, labels: &[(u16, Frame)]) -> bool
-    requires { pieces ≤ 32 }
-    ensures { result ≡ fit_labels pieces end labels.now }
+fn are_labels(layout: Layout, end: usize, labels: &[(u16, Frame)]) -> bool
+    ensures { result ≡ fit_labels layout.pieces end labels.now }
 {
     match labels {
         [] => false,
@@ -157,16 +149,15 @@ fn are_labels(pieces: u8, end: usize, labels: &[(u16, Frame)]) -> bool
             first.0 == 0
                 && rise(labels, end)
                 && labels.len() <= MOST_LABELS
-                && all_frames(pieces, labels)
+                && all_frames(layout, labels)
         }
     }
 }
 
-fn all_frames(pieces: u8, labels: &[(u16, Frame)]) -> bool
-    requires { pieces ≤ 32 }
-    ensures { result ≡ list_all (λ label. fits_frame pieces label.1) labels.now }
+fn all_frames(layout: Layout, labels: &[(u16, Frame)]) -> bool
+    ensures { result ≡ list_all (λ label. fits_frame layout.pieces label.1) labels.now }
 {
-    labels.iter().all(|label| is_frame(pieces, &label.1))
+    labels.iter().all(|label| is_frame(layout, &label.1))
 }
 
 /// Whether the labels rise, below the end of the code.
@@ -184,40 +175,32 @@ fn rise(labels: &[(u16, Frame)], end: usize) -> bool
     true
 }
 
-fn is_exit_frame(version: u16, pieces: u8, parameters: u8, results: u8, exit: &ExitFrame) -> bool
-    requires pieces { pieces ≤ 32 }
+fn is_exit_frame(layout: Layout, parameters: u8, results: u8, exit: &ExitFrame) -> bool
     requires parameters { parameters ≤ 4 }
     requires results { results ≤ 2 }
-    ensures { result ≡ fits_exit_frame version pieces parameters results exit.now }
+    ensures { result ≡ fits_exit_frame layout.version layout.pieces parameters results exit.now }
 {
     if TRAYS <= exit.tray {
         return false;
     }
-    if !is_set_of(pieces, exit.grip) {
+    if !is_set_of(layout, exit.grip) {
         return false;
     }
     let live = exit_symbols(parameters, results);
-    is_exit_rest(version, pieces, results, &live, exit)
+    is_exit_rest(layout, results, &live, exit)
 }
 
 /// Whether what follows the grip of an exit frame is within the format.
-fn is_exit_rest(version: u16, pieces: u8, results: u8, live: &[bool; 8], exit: &ExitFrame) -> bool
-    ensures { result ≡ fits_exit_rest version pieces results live.now exit.now }
+fn is_exit_rest(layout: Layout, results: u8, live: &[bool; 8], exit: &ExitFrame) -> bool
+    ensures { result ≡ fits_exit_rest layout.version layout.pieces results live.now exit.now }
 {
     if !are_result_ranges(results, &exit.results) {
         return false;
     }
-    if !are_forms(most_exit_guards(version), live, &exit.guards) {
+    if !are_forms(layout.most_exit_guards(), live, &exit.guards) {
         return false;
     }
-    are_places(pieces, live, &exit.places)
-}
-
-/// How many guards an exit frame may have.
-fn most_exit_guards(version: u16) -> usize
-    ensures { result ≡ most_of_exit_guards version }
-{
-    if version == 2 { MOST_GUARDS } else { 0 }
+    are_places(layout, live, &exit.places)
 }
 
 /// A range for each result.
@@ -233,25 +216,24 @@ fn all_ranges(ranges: &[(i16, i16)]) -> bool
     ranges.iter().all(|range| is_range(Some(*range)))
 }
 
-fn is_frame(pieces: u8, frame: &Frame) -> bool
-    requires { pieces ≤ 32 }
-    ensures { result ≡ fits_frame pieces frame.now }
+fn is_frame(layout: Layout, frame: &Frame) -> bool
+    ensures { result ≡ fits_frame layout.pieces frame.now }
 {
     if TRAYS <= frame.tray {
         return false;
     }
-    if !is_set_of(pieces, frame.grip) {
+    if !is_set_of(layout, frame.grip) {
         return false;
     }
     if !are_ranges(&frame.slots) {
         return false;
     }
-    is_frame_rest(pieces, &live_slots(&frame.slots), frame)
+    is_frame_rest(layout, &live_slots(&frame.slots), frame)
 }
 
 /// Whether what follows the slots of a frame is within the format.
-fn is_frame_rest(pieces: u8, live: &[bool; 8], frame: &Frame) -> bool
-    ensures { result ≡ fits_frame_rest pieces live.now frame.now }
+fn is_frame_rest(layout: Layout, live: &[bool; 8], frame: &Frame) -> bool
+    ensures { result ≡ fits_frame_rest layout.pieces live.now frame.now }
 {
     if !are_forms(MOST_GUARDS, live, &frame.guards) {
         return false;
@@ -262,15 +244,14 @@ fn is_frame_rest(pieces: u8, live: &[bool; 8], frame: &Frame) -> bool
     if !is_form(live, &frame.cost) {
         return false;
     }
-    are_places(pieces, live, &frame.places)
+    are_places(layout, live, &frame.places)
 }
 
 /// Whether these are some of so many pieces.
-fn is_set_of(pieces: u8, set: u32) -> bool
-    requires { pieces ≤ 32 }
-    ensures { result ≡ fits_set pieces set }
+fn is_set_of(layout: Layout, set: u32) -> bool
+    ensures { result ≡ fits_set layout.pieces set }
 {
-    u64::from(set) < 1u64 << pieces
+    u64::from(set) < 1u64 << layout.pieces
 }
 
 fn are_ranges(slots: &[Option<(i16, i16)>]) -> bool
@@ -332,10 +313,10 @@ fn is_coef(is_live: bool, coef: i16) -> bool
     is_live || coef == 0
 }
 
-fn are_places(pieces: u8, live: &[bool; 8], places: &[Place]) -> bool
-    ensures { result ≡ fit_places pieces live.now (placements_of places.now) }
+fn are_places(layout: Layout, live: &[bool; 8], places: &[Place]) -> bool
+    ensures { result ≡ fit_places layout.pieces live.now (placements_of places.now) }
 {
-    places.len() == usize::from(pieces) && all_places(live, places)
+    places.len() == usize::from(layout.pieces) && all_places(live, places)
 }
 
 fn all_places(live: &[bool; 8], places: &[Place]) -> bool

@@ -11,6 +11,7 @@ ghost use Rattle.burr_container.specs.Views.InPlace.{AreFor, IsLabel};
 use crate::fault::ContainerFault;
 use crate::frame_ref::FrameRef;
 use crate::label_table::LabelTable;
+use crate::layout::Layout;
 use crate::reading::{Cursor, frame};
 
 impl<'a> LabelTable<'a> {
@@ -30,12 +31,12 @@ impl<'a> LabelTable<'a> {
     /// The position of label n, and its frame.
     pub fn label(&self, n: usize) -> (u16, FrameRef<'a>)
         requires { n < length self.now.starts.items }
-        ensures places { result.1.places.count ≡ self.now.pieces }
+        ensures places { result.1.places.count ≡ self.now.layout.pieces }
         ensures label { (ls : List (ℕ × Frame)) (l : ℕ × Frame)
-            → AreFor (IsLabel self.now.pieces) self.now.starts.items ls → slice_get ls n ≡ Some l
-            → (result.0 ≡ l.0) × (frame_of result.1 ≡ l.1) }
+            → AreFor (IsLabel self.now.layout.pieces) self.now.starts.items ls
+            → slice_get ls n ≡ Some l → (result.0 ≡ l.0) × (frame_of result.1 ≡ l.1) }
     {
-        let Ok((label, _next)) = label(self.pieces, Cursor::new(self.starts[n])) else {
+        let Ok((label, _next)) = label(self.layout, Cursor::new(self.starts[n])) else {
             unreachable!();
         };
         label
@@ -50,17 +51,16 @@ fn any_position(cursor: Cursor<'_>) -> Result<(u16, Cursor<'_>), ContainerFault>
     Ok((position, next))
 }
 
-/// A label in a plan of so many pieces: its position, of which nothing is asked here, and its frame.
+/// A label: its position, of which nothing is asked here, and its frame.
 fn label(
-    pieces: u8,
+    layout: Layout,
     cursor: Cursor<'_>,
 ) -> Result<((u16, FrameRef<'_>), Cursor<'_>), ContainerFault>
-    requires { pieces ≤ 32 }
-    ensures places { IfOk result (λ ok. ok.0.1.places.count ≡ pieces) }
-    ensures reads { ReadsInPlace (λ kept. (kept.0, frame_of kept.1)) (label_part (λ p. true) pieces)
-        cursor.entry result }
+    ensures places { IfOk result (λ ok. ok.0.1.places.count ≡ layout.pieces) }
+    ensures reads { ReadsInPlace (λ kept. (kept.0, frame_of kept.1))
+        (label_part (λ p. true) layout.pieces) cursor.entry result }
 {
     let (position, after_position) = any_position(cursor)?;
-    let (frame, next) = frame(pieces, after_position)?;
+    let (frame, next) = frame(layout, after_position)?;
     Ok(((position, frame), next))
 }

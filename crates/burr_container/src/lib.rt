@@ -15,6 +15,7 @@ mod header;
 mod label_readers;
 mod label_table;
 mod laws;
+mod layout;
 mod list_readers;
 mod lists;
 mod live;
@@ -24,6 +25,7 @@ mod plan_form;
 mod procedure_readers;
 mod procedure_ref;
 mod reading;
+mod restoring;
 mod stored_procedure;
 mod writing;
 

@@ -66,7 +66,7 @@ impl PlaceList<'_> {
 }
 
 /// The bytes after the place at the front of some bytes.
-fn after_place<'a>(live: &[bool; 8], bytes: &'a [u8]) -> &'a [u8]
+pub fn after_place<'a>(live: &[bool; 8], bytes: &'a [u8]) -> &'a [u8]
     requires first { 0 < length bytes.now }
     requires whole { 1 + place_rest live.now (slice_index bytes.now 0) ≤ length bytes.now }
     ensures { result.now ≡ drop (1 + place_rest live.now (slice_index bytes.now 0)) bytes.now }
@@ -97,7 +97,7 @@ fn place_of(live: &[bool; 8], bytes: &[u8]) -> Option<(u8, Form, Form, Form)>
 }
 
 /// What is after the first bytes, so many.
-fn after(bytes: &[u8], count: usize) -> &[u8]
+pub fn after(bytes: &[u8], count: usize) -> &[u8]
     requires { count ≤ length bytes.now }
     ensures { result.now ≡ drop count bytes.now }
 {

@@ -10,9 +10,9 @@ use crate::form_values::Point;
 use arrayvec::ArrayVec;
 
 impl Form {
-    /// Its least value at a point of a box, guards not counted. There are at most eight ranges, each
-    /// of which holds a number, and numbers within ±32,767 alone; its own numbers lie within ±2^40:
-    /// all is the caller's condition.
+    /// Its least value at a point of a box, guards not counted. There are at most eight ranges,
+    /// each of which holds a number, and numbers within ±32,767 alone; its own numbers lie within
+    /// ±2^40: all is the caller's condition.
     pub fn least_in(&self, ranges: &[(i32, i32)]) -> i64
         requires few { length ranges.now ≤ 8 }
         requires ranges { AreRanges ranges.now }

@@ -131,7 +131,8 @@ pub fn passes<C: Asking>(
     ensures same { C.subject condition.new ≡ C.subject condition.old }
     ensures told { MatchBool result
         (NoneNegative signs.now.items
-        → at_values (C.Says (C.subject condition.old)) (C.wanted (C.subject condition.old)) point.now.items)
+        → at_values (C.Says (C.subject condition.old)) (C.wanted (C.subject condition.old))
+        point.now.items)
         (NoneNegative signs.now.items
         × (¬ at_values (C.Says (C.subject condition.old)) (C.wanted (C.subject condition.old))
         point.now.items)) }

@@ -3,11 +3,9 @@ ghost use Rattle.burr_forms.specs.Rules.Forms.{value, plus_form, minus_form, sub
 ghost use Rattle.burr_forms.specs.Rules.Forms.{IsSmall, IsSmallForm, AllSmallForms, AllNear};
 ghost use Rattle.burr_forms.specs.Views.Results.{IsFormOf};
 
+use crate::limits::MOST_FORM_NUMBER;
 use crate::wide::Wide;
 use std::marker::Model;
-
-/// A number of a form is at most this, either way.
-const MOST: i64 = 1 << 40;
 
 /// A linear form over at most eight symbols. Its value is the constant plus each coefficient times
 /// the value of its symbol; the coefficient of a symbol that isn't there is 0.
@@ -105,5 +103,5 @@ pub fn is_small(form: &Form) -> bool
 fn is_small_number(number: i64) -> bool
     ensures { IsTrue result ↔ IsSmall number }
 {
-    -MOST <= number && number <= MOST
+    -MOST_FORM_NUMBER <= number && number <= MOST_FORM_NUMBER
 }

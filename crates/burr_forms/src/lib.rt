@@ -9,6 +9,7 @@ mod form;
 mod form_values;
 mod guards;
 mod laws;
+pub mod limits;
 mod points;
 mod ranges;
 mod relevant;

@@ -1,10 +1,8 @@
 ghost use Rattle.std.specs.Prelude.{◌≡◌, ◌↔◌, IsTrue, MatchOption};
 ghost use Rattle.burr_forms.specs.Rules.Points.{AreRanges, IsRange, IsBox, padded};
 
+use crate::limits::MOST_SYMBOL_VALUE;
 use std::marker::Model;
-
-/// A number of a range is at most this, either way.
-const REACH: i32 = 32767;
 
 /// Ranges of at most eight symbols, both ends in them; a symbol that isn't there has 0 alone.
 #[derive(Clone, Copy, Debug, PartialEq, Eq)]
@@ -58,5 +56,6 @@ impl Box8 {
 fn is_range(range: (i32, i32)) -> bool
     ensures { IsTrue result ↔ IsRange range }
 {
-    range.0 <= range.1 && -REACH <= range.0 && range.1 <= REACH
+    let most = i32::from(MOST_SYMBOL_VALUE);
+    range.0 <= range.1 && -most <= range.0 && range.1 <= most
 }

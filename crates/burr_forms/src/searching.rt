@@ -12,8 +12,8 @@ use crate::form_values::{Point, advance_point, evaluate, lowest_point, steps_alo
 use crate::sweep::Sweep;
 use arrayvec::ArrayVec;
 
-/// The first failing point of a box, as `first_failing` gives it, by a look at each point. Along the
-/// last symbol values are carried on by addition.
+/// The first failing point of a box, as `first_failing` gives it, by a look at each point. Along
+/// the last symbol values are carried on by addition.
 pub fn first_refused<C: Asking>(
     ranges: &[(i32, i32)],
     guards: &[Form],
@@ -33,7 +33,8 @@ pub fn first_refused<C: Asking>(
         (Throughout (region ranges.now guards.now)
         (at_values (C.Says (C.subject condition.old)) (C.wanted (C.subject condition.old))))
         (λ point. FailsFirstAt (region ranges.now guards.now)
-        (at_values (C.Says (C.subject condition.old)) (C.wanted (C.subject condition.old))) point.items) }
+        (at_values (C.Says (C.subject condition.old)) (C.wanted (C.subject condition.old)))
+        point.items) }
     ensures kept { MatchOption result (Unit {0}) (λ point. C.Kept condition.new
         (C.subject condition.old) (values point.items (C.wanted (C.subject condition.old)))) }
     ensures same { C.subject condition.new ≡ C.subject condition.old }

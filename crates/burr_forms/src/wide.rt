@@ -4,10 +4,8 @@ ghost use Rattle.burr_forms.specs.Views.Results.{IsFormOf};
 ghost use Rattle.burr_forms.specs.Views.Wides.{AllWithin, IsWideForm};
 
 use crate::form::{Form, FormTooLarge};
+use crate::limits::MOST_FORM_NUMBER;
 use std::marker::Model;
-
-/// A number of a form is at most this, either way.
-const MOST: i128 = 1 << 40;
 
 /// A form under way, whose numbers may be larger than a form's.
 #[derive(Clone, Copy, Debug)]
@@ -96,7 +94,8 @@ fn small(number: i128) -> Result<i64, FormTooLarge>
     ensures { MatchResult result (λ given. (given ≡ number) × IsSmall number)
         (λ _. ¬ IsSmall number) }
 {
-    if number < -MOST || MOST < number {
+    let most = i128::from(MOST_FORM_NUMBER);
+    if number < -most || most < number {
         return Err(FormTooLarge);
     }
     Ok(number as i64)

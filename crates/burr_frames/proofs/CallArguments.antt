@@ -1,56 +1,14 @@
 -- The arguments of a call: the topmost operands, and lists of eight that are filled from the front.
-use Rattle.std.proofs.Common.{◌≡◌, ◌<◌, ◌≤◌, ℕ, suc, ◌+◌, ◌-◌, List, ◌∷◌, [], ◌++◌, ◌∙◌, sym, ap, refl, length, map, take, drop, set, replicate, arith, Some, None, Option, slice_index_or}
+use Rattle.std.proofs.Common.{◌≡◌, ◌<◌, ◌≤◌, ℕ, suc, ◌+◌, ◌-◌, List, ◌∷◌, [], ◌++◌, ◌∙◌, sym, ap, length, map, take, drop, set, replicate, arith, Some, None, Option, slice_index_or}
 use Rattle.std.specs.Prelude.{reverse}
-use Rattle.std.proofs.lemmas.Bool.{le-leb, lt-leb}
-use Rattle.std.proofs.lemmas.List.{take-append-drop, take_at, drop_at, reverse-append, length-drop, length-reverse, reverse-reverse, length-map, length-take-le, take_all, take_more, append_assoc, set-append_right, get_or-map}
-use Rattle.burr_code.specs.Stacks.{top_many}
+use Rattle.std.proofs.lemmas.List.{length-drop, length-reverse, reverse-reverse, length-map, length-take-le, take_all, take_more, append_assoc, set-append_right, get_or-map}
 use Rattle.burr_code.specs.Labels.{argument_slots}
-
--- Operands in the code, the bottom first, and in definitions, the top first
-
--- all but the last k, turned round, are all but the first k of all turned round
-pub drop_reverse : {X : Type 0} (k : ℕ) (xs : List X) → k ≤ length xs
-    → drop k (reverse xs) ≡ reverse (take (length xs - k) xs)
-drop_reverse k xs some =
-    let m = length xs - k in
-    let many : length (reverse (drop m xs)) ≡ k = length-reverse (drop m xs) ∙ length-drop m xs ∙ omega (arith, some) in
-    ap (λ ys. drop k (reverse ys)) (sym (take-append-drop m xs))
-    ∙ ap (λ ys. drop k ys) (reverse-append (take m xs) (drop m xs))
-    ∙ drop_at (reverse (drop m xs)) (reverse (take m xs)) k many
-
--- the first k of all turned round are the last k, turned round
-take_reverse : {X : Type 0} (k : ℕ) (xs : List X) → k ≤ length xs
-    → take k (reverse xs) ≡ reverse (drop (length xs - k) xs)
-take_reverse k xs some =
-    let m = length xs - k in
-    let many : length (reverse (drop m xs)) ≡ k = length-reverse (drop m xs) ∙ length-drop m xs ∙ omega (arith, some) in
-    ap (λ ys. take k (reverse ys)) (sym (take-append-drop m xs))
-    ∙ ap (λ ys. take k ys) (reverse-append (take m xs) (drop m xs))
-    ∙ take_at (reverse (drop m xs)) (reverse (take m xs)) k many
-
--- a stack of at least k has its k topmost
-pub top_many_of : {X : Type 0} (k : ℕ) (xs : List X) → k ≤ length xs
-    → top_many k (reverse xs) ≡ Some (reverse (drop (length xs - k) xs), drop k (reverse xs))
-top_many_of k xs some =
-    has k xs some ∙ ap (λ ys. Some (ys, drop k (reverse xs))) (take_reverse k xs some)
-  where
-    has : {X : Type 0} (k : ℕ) (xs : List X) → k ≤ length xs
-        → top_many k (reverse xs) ≡ Some (take k (reverse xs), drop k (reverse xs))
-    has k xs some = rw (length-reverse xs, le-leb k (length xs) some) refl
-
--- a smaller one has not
-pub no_top_many : {X : Type 0} (k : ℕ) (xs : List X) → length xs < k → top_many k (reverse xs) ≡ None
-no_top_many k xs few = rw (length-reverse xs, lt-leb k (length xs) few) refl
 
 -- how many operands are left where so many are gone
 pub left_many : {X : Type 0} (count : ℕ) (items operands : List X) → reverse items ≡ operands
     → length (drop count operands) ≡ length items - count
 left_many count items operands same =
     length-drop count operands ∙ ap (λ xs. length xs - count) (sym same) ∙ ap (λ n. n - count) (length-reverse items)
-
--- from the n-th on, cut at the end
-pub cut_at_end : {X : Type 0} (n : ℕ) (xs : List X) → take (length xs - n) (drop n xs) ≡ drop n xs
-cut_at_end n xs = let many = length-drop n xs in take_all (length xs - n) (drop n xs) (omega (arith, many))
 
 -- Lists of eight
 

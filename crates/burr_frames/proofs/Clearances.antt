@@ -1,17 +1,16 @@
 -- What the tests of pairs of pieces come to.
 use Rattle.std.proofs.Common.{◌≡◌, ◌≢◌, ◌∙◌, ◌<◌, ◌≤◌, ◌==◌, ℕ, ℤ, List, [], length, Bool, true, Some, if◌then◌else◌, sym, subst, ap, arith}
-use Rattle.std.specs.Prelude.{slice_get, slice_index_or, pos, neg_ℤ, ◌-ℤ◌, ◌≤ℤ◌, ◌+◌}
+use Rattle.std.specs.Prelude.{slice_get, slice_index_or}
 use Rattle.std.proofs.lemmas.Bool.{cond_both}
 use Rattle.std.proofs.lemmas.Bool.Decides.{nat_tests}
-use Rattle.std.proofs.lemmas.Int.{ints}
 use Rattle.std.proofs.lemmas.Option.{same_Some, slice_get_within, slice_get-get_or, get_or_from_slice_get}
 use Rattle.burr_voxels.specs.declared.cell.Cell.{Cell}
 use Rattle.burr_voxels.specs.Grid.{minus, shifted}
-use Rattle.burr_voxels.specs.Near.{IsWithin}
 use Rattle.burr_code.specs.PieceSets.{IsInSet, is_left_out}
 use Rattle.burr_code.specs.declared.placement.Placement.{Placement}
 use Rattle.burr_code.specs.declared.placement.Placement.TheVariants.{Apart, On}
 use Rattle.burr_code.specs.Places.{LiesAt}
+use Rattle.burr_code.proofs.Common.Near.{near_difference}
 use Rattle.burr_code.proofs.Common.PieceSets.{not_left_out, left_out, in_set, not_in_set}
 use Rattle.burr_assembly.specs.Rules.Homes.{HasHome, home_at}
 use Rattle.burr_blocking.specs.declared.query.Query.{Query}
@@ -91,24 +90,6 @@ left_role tray grip n places found are p c below lies out =
     ∙ ap (λ (rest : Bool). Some (if rest then Resting else Gripped)) (left_out grip p out)
 
 -- Two groups of cells at offsets
-
--- the difference of two numbers within a bound is within twice the bound
-below_difference : (n : ℕ) (a b : ℤ) → neg_ℤ (pos n) ≤ℤ a → b ≤ℤ pos n → neg_ℤ (pos (n + n)) ≤ℤ (a -ℤ b)
-below_difference n a b least greatest = omega (arith, ints)
-
-above_difference : (n : ℕ) (a b : ℤ) → a ≤ℤ pos n → neg_ℤ (pos n) ≤ℤ b → (a -ℤ b) ≤ℤ pos (n + n)
-above_difference n a b greatest least = omega (arith, ints)
-
--- so the difference of two offsets is one that may be asked of
-near_difference : (a b : Cell) → IsWithin 256 a → IsWithin 256 b → IsWithin 512 (minus a b)
-near_difference a b near also = record {
-  x_above = below_difference 256 a.x b.x near.x_above also.x_below;
-  x_below = above_difference 256 a.x b.x near.x_below also.x_above;
-  y_above = below_difference 256 a.y b.y near.y_above also.y_below;
-  y_below = above_difference 256 a.y b.y near.y_below also.y_above;
-  z_above = below_difference 256 a.z b.z near.z_above also.z_below;
-  z_below = above_difference 256 a.z b.z near.z_below also.z_above;
-}
 
 clear_where_apart : (query : Query) (a b : Cell) (ps qs : List Cell) → IsApartBy query (shifted a ps) (shifted b qs)
     → Clears query ps qs (minus a b)

@@ -1,14 +1,11 @@
 -- What the tests of places come to.
-use Rattle.std.proofs.Common.{◌≡◌, ◌↔◌, ◌<◌, ◌≤◌, ◌^◌, ◌==◌, ℕ, List, length, Some, slice_get, sym, ap, ◌∙◌, inl, inr, arith, IsTrue}
+use Rattle.std.proofs.Common.{◌≡◌, ◌↔◌, ◌≤◌, ◌==◌, ℕ, List, length, Some, slice_get, sym, ap, ◌∙◌, arith, IsTrue}
 use Rattle.std.proofs.lemmas.Bool.Decides.{nat_tests}
 use Rattle.std.proofs.lemmas.Option.{same_Some, slice_get_within}
 use Rattle.burr_text.proofs.Common.Tests.{no_iff}
-use Rattle.burr_text.proofs.Common.Decisions.{decide_below}
-use Rattle.burr_code.specs.PieceSets.{IsInSet}
 use Rattle.burr_code.specs.declared.placement.Placement.{Placement}
 use Rattle.burr_code.specs.declared.placement.Placement.TheVariants.{Apart, On}
-use Rattle.burr_code.specs.Places.{LiesIn, AllLieIn, is_in}
-use Rattle.burr_code.proofs.Common.PieceSets.{no_bit_above}
+use Rattle.burr_code.specs.Places.{LiesIn, is_in}
 use Rattle.burr_code.proofs.Common.Conditions.{apart-on, same_tray}
 
 -- One piece
@@ -32,17 +29,3 @@ pub lies_nowhere : {Position : Type 0} (places : List (Placement Position)) (p t
 lies_nowhere places p tray far lies =
     let inside = slice_get_within places p (On tray lies.0) lies.1 in
     absurd (omega (arith, far, inside))
-
--- Sets
-
--- a set of 32 bits has no other
-bit_below : (set p : ℕ) → set < 2 ^ 32 → IsInSet set p → p < 32
-bit_below set p small bit = elim (decide_below p 32) [
-  | inl below ↦ below
-  | inr above ↦ absurd (no_bit_above set 32 p small (omega (arith, above)) bit)
-]
-
--- the set lies here where each of its first 32 pieces does
-pub all_lie_of : {Position : Type 0} (places : List (Placement Position)) (tray set : ℕ) → set < 2 ^ 32
-    → ((p : ℕ) → p < 32 → IsInSet set p → LiesIn places p tray) → AllLieIn places tray set
-all_lie_of places tray set small each p bit = each p (bit_below set p small bit) bit

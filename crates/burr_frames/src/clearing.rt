@@ -2,6 +2,7 @@
 
 ghost use Rattle.std.specs.Prelude.{◌≡◌, ◌≢◌, ◌<◌, ◌≤◌, ◌*◌, ◌+◌, ◌^◌, ◌↔◌, ℕ, IsTrue, length};
 ghost use Rattle.burr_voxels.specs.Near.{IsWithin};
+ghost use Rattle.burr_code.specs.declared.limits.TheConstants.{MOST_OFFSET};
 ghost use Rattle.burr_assembly.specs.Rules.Homes.{homes_of};
 ghost use Rattle.burr_blocking.specs.Rules.Counted.{with_more};
 ghost use Rattle.burr_frames.specs.declared.clearing.Role.TheVariants.{Gripped};
@@ -41,6 +42,7 @@ pub struct Clearing<'a, 'b, B: Blocking> {
 }
 
 impl<'a, 'b, B: Blocking> Asking for Clearing<'a, 'b, B> {
+    ghost use Rattle.burr_code.specs.declared.limits.TheConstants.{MOST_OFFSET};
     ghost use Rattle.burr_assembly.specs.Rules.Homes.{homes_of};
     ghost use Rattle.burr_frames.specs.Views.Ranges.{AllInReach};
     ghost use Rattle.burr_frames.specs.Views.Clearing.{AllClear, FirstPairOf};
@@ -55,7 +57,7 @@ impl<'a, 'b, B: Blocking> Asking for Clearing<'a, 'b, B> {
 
     ghost wanted = { λ s. s.forms };
 
-    ghost Promised = { λ _ values. AllInReach 256 values };
+    ghost Promised = { λ _ values. AllInReach MOST_OFFSET values };
 
     ghost Says = { λ s values. AllClear s.query (homes_of s.assembly) s.roles values };
 
@@ -78,8 +80,8 @@ impl<'a, 'b, B: Blocking> Asking for Clearing<'a, 'b, B> {
 
 /// The first pair that is not clear where the offsets have these values: the first gripped piece
 /// that is in the way of another one, and the first such. There are at most 32 sides, of pieces of
-/// the assembly, three values for each, all within ±256, and at most 2^61 looks so far: the caller's
-/// conditions.
+/// the assembly, three values for each, all within ±256, and at most 2^61 looks so far: the
+/// caller's conditions.
 fn first_pair<B: Blocking>(
     looks: &mut Looks<'_, B>,
     query: Query,
@@ -89,7 +91,7 @@ fn first_pair<B: Blocking>(
     requires shape { 3 * length roles.now ≤ length values.now }
     requires pieces { length roles.now ≤ length looks.old.assembly.pieces }
     requires few { length roles.now ≤ 32 }
-    requires reach { AllInReach 256 values.now }
+    requires reach { AllInReach MOST_OFFSET values.now }
     requires room { looks.old.count ≤ 2 ^ 61 }
     ensures found { FirstPairOf query (homes_of looks.old.assembly) roles.now values.now result }
     ensures counted { (n : ℕ) × (n ≤ 1024)
@@ -118,7 +120,7 @@ fn first_against<B: Blocking>(
     requires shape { 3 * length roles.now ≤ length values.now }
     requires pieces { length roles.now ≤ length looks.old.assembly.pieces }
     requires few { length roles.now ≤ 32 }
-    requires reach { AllInReach 256 values.now }
+    requires reach { AllInReach MOST_OFFSET values.now }
     requires room { looks.old.count ≤ 2 ^ 61 + 1024 }
     requires piece { piece < length roles.now }
     requires gripped { IsRole roles.now piece Gripped }
@@ -152,7 +154,7 @@ fn is_clear<B: Blocking>(
     requires two { piece ≢ other }
     requires inside { 3 * piece + 3 ≤ length values.now }
     requires other_inside { 3 * other + 3 ≤ length values.now }
-    requires reach { AllInReach 256 values.now }
+    requires reach { AllInReach MOST_OFFSET values.now }
     requires room { looks.old.count < 2 ^ 62 }
     ensures answer { IsTrue result
         ↔ IsPairClear query (homes_of looks.old.assembly) values.now piece other }
@@ -173,9 +175,9 @@ fn is_on(roles: &[Role], piece: usize, role: Role) -> bool
 /// The offset of a piece, of values that stand three by three, each within ±256.
 fn offset_of(values: &[i64], piece: u8) -> Cell
     requires inside { 3 * piece + 3 ≤ length values.now }
-    requires reach { AllInReach 256 values.now }
+    requires reach { AllInReach MOST_OFFSET values.now }
     ensures value { result ≡ cell_of values.now piece }
-    ensures near { IsWithin 256 result }
+    ensures near { IsWithin MOST_OFFSET result }
 {
     let first = 3 * usize::from(piece);
     Cell {

@@ -3,10 +3,8 @@ ghost use Rattle.std.specs.Int.RustNames.{unsigned_abs};
 ghost use Rattle.burr_forms.specs.Rules.Forms.{raised, IsSmallForm};
 ghost use Rattle.burr_forms.specs.Views.Results.{IsFormOf};
 
+use burr_forms::limits::MOST_FORM_NUMBER;
 use burr_forms::{Form, FormTooLarge};
-
-/// A number of a form is at most this, either way.
-const MOST: i64 = 1 << 40;
 
 /// A form whose constant is so much higher, one at most, either way.
 pub fn raised_by(form: &Form, number: i64) -> Result<Form, FormTooLarge>
@@ -15,7 +13,7 @@ pub fn raised_by(form: &Form, number: i64) -> Result<Form, FormTooLarge>
     ensures { IsFormOf result (raised number form.now) }
 {
     let constant = form.constant + number;
-    if constant < -MOST || MOST < constant {
+    if constant < -MOST_FORM_NUMBER || MOST_FORM_NUMBER < constant {
         return Err(FormTooLarge);
     }
     Ok(Form {

@@ -16,7 +16,7 @@ mod starting;
 
 use arrayvec::ArrayVec;
 use burr_code::Placement;
-use burr_code::limits::MOST_PIECES;
+use burr_code::limits::{MOST_OPERANDS, MOST_PIECES, MOST_STATE_GUARDS, SLOTS};
 use burr_container::FormOffset;
 use burr_forms::Form;
 pub use meeting::{Miss, arrives, meets_entry, meets_exit};
@@ -29,11 +29,11 @@ pub struct State {
     /// Of each symbol, both ends in it.
     ranges: ArrayVec<(i32, i32), 8>,
     /// Forms that are negative at no point.
-    guards: ArrayVec<Form, 8>,
+    guards: ArrayVec<Form, MOST_STATE_GUARDS>,
     /// None where nothing is known of a slot's value.
-    slots: [Option<Form>; 8],
+    slots: [Option<Form>; SLOTS],
     /// The top last.
-    operands: ArrayVec<Form, 8>,
+    operands: ArrayVec<Form, MOST_OPERANDS>,
     places: ArrayVec<Placement<FormOffset>, MOST_PIECES>,
     /// The current tray.
     tray: u8,

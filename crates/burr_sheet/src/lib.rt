@@ -1,5 +1,5 @@
 //! Move sheets: the motions of a run in longest lines, the levels, and how the run closed; and the
-//! motions whose lines a text is.
+//! motions whose lines a text is. The names of a group's pieces.
 #![tactic(auto)]
 
 mod expanding;
@@ -9,4 +9,4 @@ mod sheet;
 pub use burr_state::Closing;
 pub use expanding::expand;
 pub use laws::{a_sheet_closes_once, lines_are_of_one_list_of_motions};
-pub use sheet::Sheet;
+pub use sheet::{Sheet, put_names};

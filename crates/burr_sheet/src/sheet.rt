@@ -1,5 +1,6 @@
 ghost use Rattle.std.specs.Prelude.{◌≡◌, ◌+◌, ◌<◌, ◌≤◌, [], true, false, Some, length, IfOk, OnOk, OnErr};
 ghost use Rattle.burr_io.specs.Sink.{Puts};
+ghost use Rattle.burr_code.specs.declared.limits.TheConstants.{MOST_BUDGET};
 ghost use Rattle.burr_assembly.specs.Rules.Homes.{names_of};
 ghost use Rattle.burr_sheet.specs.Rules.SheetText.{alone};
 ghost use Rattle.burr_sheet.specs.Views.SheetUnderWay.{blank, still, outs_of, growing_text, move_line_of, is_one, PutsBefore, PutsMotion, FailsInMotion};
@@ -11,12 +12,14 @@ use crate::sheet::ending::{put_closing, put_levels};
 use crate::sheet::line::{GrowingLine, put_line};
 use arrayvec::ArrayVec;
 use burr_assembly::Assembly;
+use burr_code::limits::MOST_PIECES;
 use burr_io::{Sink, WriteFault};
 use burr_state::{Closing, Motion};
+pub use line::put_names;
 use std::marker::Model;
 
-/// The most outs of a run: each makes one group of pieces two, and there are at most 32 pieces.
-const MOST_OUTS: usize = 31;
+/// The most outs of a run: each makes one group of pieces two.
+const MOST_OUTS: usize = MOST_PIECES - 1;
 
 /// The sheet of a run, written as its motions come. It keeps nothing but the growing line and
 /// counts.
@@ -64,7 +67,7 @@ impl<'a> Sheet<'a> {
 
     /// Takes the next motion, and puts the lines that it closes.
     pub fn motion<W: Sink>(&mut self, motion: Motion, sink: &mut W) -> Result<(), WriteFault>
-        requires few { self.old.motions < 1000000 }
+        requires few { self.old.motions < MOST_BUDGET }
         requires outs { length self.old.levels + outs_of motion ≤ 31 }
         ensures ok { OnOk result (PutsMotion W.Sink sink.old sink.new self.old motion self.new) }
         ensures motions { OnOk result (self.new.motions ≡ self.old.motions + 1) }

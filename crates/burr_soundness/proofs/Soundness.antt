@@ -2,7 +2,6 @@ pub mod Arrival
 pub mod Asides
 pub mod Asks
 pub mod Branches
-pub mod CallRule
 pub mod CallSteps
 pub mod Carried
 pub mod Comes

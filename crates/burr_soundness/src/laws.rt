@@ -6,15 +6,16 @@ ghost use Rattle.burr_soundness.specs.Soundness.{VerifierIsSound, AcceptedHasRun
 use burr_state::pieces_never_overlap;
 use burr_verify::a_fitting_plan_is_from_a_container;
 
-/// Each run of a plan that is well framed ends with every piece apart within the budget, or waits for
-/// an answer before it: it meets no trap, and is not stopped. And it has runs, whatever the answers.
+/// Each run of a plan that is well framed ends with every piece apart within the budget, or waits
+/// for an answer before it: it meets no trap, and is not stopped. And it has runs, whatever the
+/// answers.
 pub fn a_well_framed_plan_runs_safely()
     ensures safe { VerifierIsSound }
     ensures some { AcceptedHasRuns }
 {}
 
-/// A bench that runs an accepted plan meets no trap, and stays one: before each of its calls the run
-/// has ended well, or what the verifier knows of the next instruction holds, callers and costs
+/// A bench that runs an accepted plan meets no trap, and stays one: before each of its calls the
+/// run has ended well, or what the verifier knows of the next instruction holds, callers and costs
 /// included.
 pub fn an_accepted_bench_never_traps()
     ensures start { StartIsSafe }
@@ -29,8 +30,8 @@ pub fn an_accepted_bench_never_traps()
     pieces_never_overlap();
 }
 
-/// A bench that runs an accepted plan and makes a step has a record of it, and any record of it takes
-/// it back.
+/// A bench that runs an accepted plan and makes a step has a record of it, and any record of it
+/// takes it back.
 pub fn an_accepted_step_is_recorded()
     ensures some { StepIsRecorded }
     ensures each { EachRecordUndoes }

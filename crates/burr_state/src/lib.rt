@@ -1,4 +1,5 @@
-//! The bench's state: what a bench runs, where its pieces lie, and what each instruction does to it.
+//! The bench's state: what a bench runs, where its pieces lie, and what each instruction does
+//! to it.
 #![tactic(auto)]
 
 mod activation;

@@ -32,7 +32,8 @@ impl<'a> Model for Procedure<'a> {
 
     ghost view = { λ p. procedure_of p.parameters p.results p.labels.items p.code.now };
 
-    ghost invariant = { λ p. IsRunnable (procedure_of p.parameters p.results p.labels.items p.code.now) };
+    ghost invariant = { λ p.
+        IsRunnable (procedure_of p.parameters p.results p.labels.items p.code.now) };
 }
 
 impl<'a> Procedure<'a> {

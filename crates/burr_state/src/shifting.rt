@@ -1,5 +1,5 @@
 ghost use Rattle.std.specs.Prelude.{◌≡◌, ◌≤◌, ◌↔◌, length, pos, IsTrue};
-ghost use Rattle.burr_code.specs.declared.limits.TheConstants.{MOST_PIECES};
+ghost use Rattle.burr_code.specs.declared.limits.TheConstants.{MOST_OFFSET, MOST_PIECES};
 ghost use Rattle.burr_code.specs.Places.{at_position};
 ghost use Rattle.burr_code.specs.declared.placement.Placement.TheVariants.{On};
 ghost use Rattle.burr_voxels.specs.Grid.{along, plus, origin};
@@ -8,7 +8,7 @@ ghost use Rattle.burr_state.specs.Views.Offsets.{PositionHolds, AreNear};
 ghost use Rattle.burr_state.specs.Rules.Space.{moved_places};
 
 use arrayvec::ArrayVec;
-use burr_code::limits::MOST_PIECES;
+use burr_code::limits::{MOST_OFFSET, MOST_PIECES};
 use burr_code::{Placement, is_in_set};
 use burr_voxels::{Cell, Direction};
 
@@ -25,7 +25,7 @@ pub fn home(tray: u8) -> Placement<Cell>
 /// The place one unit along a direction, of a piece that lies within 256 of home; a piece that is
 /// apart stays so.
 pub fn shifted(place: Placement<Cell>, direction: Direction) -> Placement<Cell>
-    requires { PositionHolds (IsWithin 256) place }
+    requires { PositionHolds (IsWithin MOST_OFFSET) place }
     ensures { result ≡ at_position (λ offset. plus offset (along direction (pos 1))) place }
 {
     match place {
@@ -39,7 +39,7 @@ pub fn shifted(place: Placement<Cell>, direction: Direction) -> Placement<Cell>
 
 /// One unit along a direction from an offset on the bench.
 pub fn one_unit_on(offset: Cell, direction: Direction) -> Cell
-    requires { IsWithin 256 offset }
+    requires { IsWithin MOST_OFFSET offset }
     ensures { result ≡ plus offset (along direction (pos 1)) }
 {
     offset + direction.unit()
@@ -47,15 +47,16 @@ pub fn one_unit_on(offset: Cell, direction: Direction) -> Cell
 
 /// Whether an offset is on the bench: within 256 a coordinate.
 pub fn is_on_bench(offset: Cell) -> bool
-    ensures { IsTrue result ↔ IsWithin 256 offset }
+    ensures { IsTrue result ↔ IsWithin MOST_OFFSET offset }
 {
-    if offset.x < -256 || 256 < offset.x {
+    let most = i32::from(MOST_OFFSET);
+    if offset.x < -most || most < offset.x {
         return false;
     }
-    if offset.y < -256 || 256 < offset.y {
+    if offset.y < -most || most < offset.y {
         return false;
     }
-    -256 <= offset.z && offset.z <= 256
+    -most <= offset.z && offset.z <= most
 }
 
 /// The same places.

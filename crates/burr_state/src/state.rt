@@ -47,6 +47,6 @@ impl Model for BenchState {
     ghost view = { λ s.
         standing s.places.items s.tray s.grip s.running (reverse s.callers.items) s.steps s.mode };
 
-    ghost invariant = { λ s. IsOrderly
-        (standing s.places.items s.tray s.grip s.running (reverse s.callers.items) s.steps s.mode) };
+    ghost invariant = { λ s. IsOrderly (standing s.places.items s.tray s.grip s.running
+        (reverse s.callers.items) s.steps s.mode) };
 }

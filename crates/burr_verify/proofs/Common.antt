@@ -1,3 +1,4 @@
+pub mod CallRule
 pub mod Costs
 pub mod FineVerdicts
 pub mod FormValues

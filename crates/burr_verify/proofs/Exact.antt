@@ -6,7 +6,7 @@ use Rattle.burr_voxels.specs.declared.cell.Cell.{Cell}
 use Rattle.burr_container.specs.Rules.Plans.{Frame}
 use Rattle.burr_frames.specs.Rules.FramedPlans.{FramedExit, FramedProcedure, FramedPlan}
 use Rattle.burr_frames.specs.Rules.ControlRules.{entry_of, first_frame}
-use Rattle.burr_frames.proofs.Common.Unique.{IsOne, one_given, one_needed, one_found}
+use Rattle.burr_code.proofs.Common.OneAnswer.{IsOne, one_given, one_needed, one_found}
 use Rattle.burr_verify.specs.Rules.WellFramed.{IsLabelled, IsFormed, IsFormedEntry, IsFormedExit, IsWellFramed}
 use Rattle.burr_verify.specs.Rules.Pass.{Judgement, Passed, Refuses, FailedCheck, pass_start, IsLaidOut, Pass}
 use Rattle.burr_verify.specs.Rules.Judging.{Rest, HasRoomForPoints, judging_labels, judging_entry, judging_exit, judging_frames, judging_start, judging_code, go_on, passes, Judging}

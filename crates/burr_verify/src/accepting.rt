@@ -35,8 +35,8 @@ impl<'a, 'c: 'a, B: Blocking> Model for Accepted<'a, 'c, B> {
     ghost invariant = { λ a. IsAccepted (judged a.container.now (B.subject a.blocking.now)) };
 }
 
-/// Accepts a container's plan for the pieces of an assembly where `verify` finds nothing wrong; else
-/// the refusal.
+/// Accepts a container's plan for the pieces of an assembly where `verify` finds nothing wrong;
+/// else the refusal.
 pub fn accept<'a, 'c: 'a, B: Blocking>(
     container: &'a Container<'c>,
     blocking: &'a B,

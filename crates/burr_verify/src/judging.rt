@@ -6,6 +6,7 @@ ghost use Rattle.burr_voxels.specs.declared.cell.Cell.{Cell as CellOf};
 ghost use Rattle.burr_container.specs.Views.Containers.{IsContainer, HasPlan};
 ghost use Rattle.burr_assembly.specs.Rules.Text.{IsAssembly};
 ghost use Rattle.burr_assembly.specs.Rules.Homes.{homes_of};
+ghost use Rattle.burr_forms.specs.declared.limits.TheConstants.{MOST_POINTS};
 ghost use Rattle.burr_frames.specs.Rules.FramedPlans.{framed_plan};
 ghost use Rattle.burr_verify.specs.Rules.Judging.{Judging, judging_frames, judging_start, passes};
 ghost use Rattle.burr_verify.specs.Rules.Pass.{Passed};
@@ -15,17 +16,17 @@ ghost use Rattle.burr_verify.specs.Views.Judgements.{judgement_of, AnswersPart};
 
 use crate::fitting::fits_assembly;
 use crate::forming::judge_frames;
-use crate::laws::a_plan_has_so_many_looks;
+use crate::laws::{a_container_has_a_plan, a_plan_has_so_many_looks, an_assembly_has_few_pieces};
 use crate::passing::judge_code;
 use crate::refusal::Refusal;
 use burr_blocking::{Blocking, Looks};
 use burr_container::Container;
 use burr_frames::{Rule, State, meets_entry};
 
-/// Judges a container's plan for the pieces of an assembly, without running anything: whether it is for
-/// them, each frame by itself, the start against main's entry frame, and then the code of each
-/// procedure, in one pass over code and frames. It takes no memory. A refusal names the first check that
-/// fails.
+/// Judges a container's plan for the pieces of an assembly, without running anything: whether it is
+/// for them, each frame by itself, the start against main's entry frame, and then the code of each
+/// procedure, in one pass over code and frames. It takes no memory. A refusal names the first check
+/// that fails.
 pub fn verify<B: Blocking>(container: &Container<'_>, blocking: &B) -> Result<(), Refusal>
     ensures judged { (p : Plan) → IsContainer container.now p
         → Judging (B.subject blocking.now).name (homes_of (B.subject blocking.now))
@@ -39,10 +40,10 @@ pub fn verify<B: Blocking>(container: &Container<'_>, blocking: &B) -> Result<()
     verify_counted(container, &mut Looks::new(blocking))
 }
 
-/// Judges as `verify` does, and leaves the number of its looks at the pieces: of each `step` and `aside`
-/// that it comes to, one for each point and each pair of a gripped piece and one that is left in the tray,
-/// in order, until one fails; none else. They are at most 4,096 times 256 for each byte of the plan's
-/// code. No look was made before, the caller's condition.
+/// Judges as `verify` does, and leaves the number of its looks at the pieces: of each `step` and
+/// `aside` that it comes to, one for each point and each pair of a gripped piece and one that is
+/// left in the tray, in order, until one fails; none else. They are at most 4,096 times 256 for
+/// each byte of the plan's code. No look was made before, the caller's condition.
 pub fn verify_counted<B: Blocking>(
     container: &Container<'_>,
     looks: &mut Looks<'_, B>,
@@ -52,7 +53,7 @@ pub fn verify_counted<B: Blocking>(
         → Looking looks.old.assembly.name (homes_of looks.old.assembly) (framed_plan p)
         (judgement_of result) looks.new.count }
     ensures few { (p : Plan) → IsContainer container.now p
-        → looks.new.count ≤ code_size (framed_plan p).procedures * (4096 * 256) }
+        → looks.new.count ≤ code_size (framed_plan p).procedures * (MOST_POINTS * 256) }
     ensures judged { (p : Plan) → IsContainer container.now p
         → Judging looks.old.assembly.name (homes_of looks.old.assembly) (framed_plan p)
         (judgement_of result) }
@@ -63,8 +64,8 @@ pub fn verify_counted<B: Blocking>(
     // What references to a container and to an assembly hold.
     ensures known { HasPlan container.now × IsAssembly looks.old.assembly }
 {
-    let _header = container.header();
-    let _count = looks.assembly().piece_count();
+    a_container_has_a_plan(container);
+    an_assembly_has_few_pieces(looks.assembly());
     a_plan_has_so_many_looks();
     judge_plan(container, looks)
 }
@@ -104,7 +105,7 @@ fn judge_start(container: &Container<'_>, pieces: u8) -> Result<(), Refusal>
     ensures { (p : Plan) (homes : List (List CellOf)) → IsContainer container.now p
         → length homes ≡ pieces → AnswersPart (judging_start homes (framed_plan p)) result }
 {
-    let _some = container.proc_count();
+    a_container_has_a_plan(container);
     let main = container.procedure(0);
     if main.label_count() == 0 {
         return Err(Refusal::plain(0, 0, Rule::V27));
@@ -119,8 +120,8 @@ fn judge_start(container: &Container<'_>, pieces: u8) -> Result<(), Refusal>
     Ok(())
 }
 
-/// Judges the code of each procedure. All frames hold by themselves, and no look was made before: the
-/// caller's conditions.
+/// Judges the code of each procedure. All frames hold by themselves, and no look was made before:
+/// the caller's conditions.
 fn judge_all_code<B: Blocking>(
     container: &Container<'_>,
     looks: &mut Looks<'_, B>,
@@ -133,8 +134,7 @@ fn judge_all_code<B: Blocking>(
         (judgement_of result) looks.new.count }
     ensures same { looks.new.assembly ≡ looks.old.assembly }
 {
-    // A container has a plan.
-    let _header = container.header();
+    a_container_has_a_plan(container);
     for number in 0..container.proc_count() {
         judge_code(container.procedure(number), looks)?;
     }

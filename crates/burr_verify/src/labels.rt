@@ -5,9 +5,11 @@ ghost use Rattle.burr_container.specs.Views.Lent.{LentHasLabel, OfLent};
 ghost use Rattle.burr_frames.specs.Views.Here.{OfFramedProcedure};
 ghost use Rattle.burr_verify.specs.Views.Judgements.{AreBefore, IsLabelWithin};
 
+use crate::laws::a_container_has_a_plan;
 use burr_container::ProcedureRef;
 
-/// The first label of a procedure at a place from one on and before another; None where there is none.
+/// The first label of a procedure at a place from one on and before another; None where there is
+/// none.
 pub fn label_within(procedure: ProcedureRef<'_, '_>, from: usize, end: usize) -> Option<usize>
     ensures has { IfSome result (LentHasLabel procedure.entry) }
     ensures found { OfFramedProcedure procedure.entry (λ plan here.
@@ -29,8 +31,8 @@ fn count_before(procedure: ProcedureRef<'_, '_>, place: usize) -> usize
     ensures many { OfLent procedure.entry (λ p q. result ≤ length q.labels) }
     ensures before { OfFramedProcedure procedure.entry (λ plan here. AreBefore here place result) }
 {
-    // A container's plan is within the format.
-    let _header = procedure.container().header();
+    // The plan is within the format, so that its labels stand at rising places.
+    a_container_has_a_plan(procedure.container());
     let count = procedure.label_count();
     let mut low = 0;
     let mut high = count;

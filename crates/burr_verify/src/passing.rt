@@ -13,6 +13,7 @@ ghost use Rattle.burr_verify.specs.Rules.PassLooks.{LookedPass};
 ghost use Rattle.burr_verify.specs.Views.Judgements.{judgement_of};
 
 use crate::labels::label_within;
+use crate::laws::an_assembly_has_few_pieces;
 use crate::refusal::Refusal;
 use crate::transfer::{Successor, transfer};
 use burr_blocking::{Blocking, Looks};
@@ -20,9 +21,9 @@ use burr_code::fetch;
 use burr_container::ProcedureRef;
 use burr_frames::{Rule, State};
 
-/// Judges a procedure's code in one pass from its first byte, with one state at a time. The boxes of
-/// its frames have at most 4,096 points, and the count of looks leaves room for 2^32 more, as many as
-/// 4,096 bytes of code can ask for: the caller's conditions.
+/// Judges a procedure's code in one pass from its first byte, with one state at a time. The boxes
+/// of its frames have at most 4,096 points, and the count of looks leaves room for 2^32 more, as
+/// many as 4,096 bytes of code can ask for: the caller's conditions.
 pub fn judge_code<B: Blocking>(
     procedure: ProcedureRef<'_, '_>,
     looks: &mut Looks<'_, B>,
@@ -36,7 +37,7 @@ pub fn judge_code<B: Blocking>(
     ensures few { looks.new.count ≤ looks.old.count + 2 ^ 32 }
     ensures same { looks.new.assembly ≡ looks.old.assembly }
 {
-    let _few = looks.assembly().piece_count();
+    an_assembly_has_few_pieces(looks.assembly());
     let size = procedure.code().len();
     let mut last = 0;
     let mut pc = 0;
@@ -54,8 +55,8 @@ pub fn judge_code<B: Blocking>(
     }
 }
 
-/// The state before the instruction at pc: that of the frame there, at which what falls in arrives, or
-/// what falls in itself. What falls in falls out of the instruction at `last`.
+/// The state before the instruction at pc: that of the frame there, at which what falls in arrives,
+/// or what falls in itself. What falls in falls out of the instruction at `last`.
 fn enter(
     procedure: ProcedureRef<'_, '_>,
     last: usize,
@@ -89,9 +90,9 @@ fn enter(
     }
 }
 
-/// Judges the instruction at pc in this state: the place after it, and the state that falls out of it.
-/// The looks of its rule are counted, at most 2^20. The state has at most 4,096 points, the assembly at
-/// most 32 pieces, and at most 2^40 looks were made so far: the caller's conditions.
+/// Judges the instruction at pc in this state: the place after it, and the state that falls out of
+/// it. The looks of its rule are counted, at most 2^20. The state has at most 4,096 points, the
+/// assembly at most 32 pieces, and at most 2^40 looks were made so far: the caller's conditions.
 fn judge_at<B: Blocking>(
     procedure: ProcedureRef<'_, '_>,
     pc: usize,

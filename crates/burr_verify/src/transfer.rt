@@ -24,9 +24,10 @@ pub enum Successor {
     None,
 }
 
-/// Changes the state before an instruction of a procedure to the one after it, or tells which of the
-/// instruction's checks fails first, and where. The looks are counted that its rule has. The state has
-/// at most 4,096 points, and at most 2^40 looks were made so far, the caller's conditions.
+/// Changes the state before an instruction of a procedure to the one after it, or tells which of
+/// the instruction's checks fails first, and where. The looks are counted that its rule has. The
+/// state has at most 4,096 points, and at most 2^40 looks were made so far, the caller's
+/// conditions.
 pub fn transfer<B: Blocking>(
     state: &mut State,
     instruction: &Instr<'_>,

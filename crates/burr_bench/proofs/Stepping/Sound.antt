@@ -27,7 +27,8 @@ use Rattle.burr_state.specs.Views.Benches.{Benched, benched, setup_of, GoesOn}
 use Rattle.burr_state.proofs.Common.Reached.{disjoint_at_start, homes_are_disjoint}
 use Rattle.burr_state.proofs.Common.Pieces.{no_overlap_moved, no_overlap_aside}
 use Rattle.burr_state.proofs.Common.Trays.Shifts.{lies_after_shift, parts-shift, length-moved}
-use Rattle.burr_state.proofs.Common.Trays.Parts.{parts_at_most, parts_at_start, parts_after_aside, all_lie_in_nothing, length-aside_places}
+use Rattle.burr_code.proofs.Common.Counts.{length-aside_places}
+use Rattle.burr_state.proofs.Common.Trays.Parts.{parts_at_most, parts_at_start, parts_after_aside, all_lie_in_nothing}
 use Rattle.burr_bench.specs.Sound.{IsSound}
 
 -- there are at most 32 parts

@@ -17,8 +17,8 @@ use burr_state::Bench;
 use burr_verify::{Refusal, fits_assembly};
 
 impl<'a, B: Blocking> Checked<'a, B> {
-    /// The bench at the start of a container's plan: all pieces in tray 0 at home, nothing gripped. A
-    /// plan for another assembly is refused by V1, and nothing else is judged.
+    /// The bench at the start of a container's plan: all pieces in tray 0 at home, nothing gripped.
+    /// A plan for another assembly is refused by V1, and nothing else is judged.
     pub fn start<'c: 'a>(
         container: &Container<'c>,
         blocking: &'a B,

@@ -1,5 +1,6 @@
 ghost use Rattle.std.specs.Prelude.{◌≡◌};
 ghost use Rattle.burr_voxels.specs.Near.{IsWithin};
+ghost use Rattle.burr_code.specs.declared.limits.TheConstants.{MOST_OFFSET};
 ghost use Rattle.burr_bench.specs.Ways.{query_of, setting_out};
 
 use burr_blocking::Query;
@@ -26,7 +27,7 @@ impl Way {
 
     /// Where a piece at an offset is asked of: after its one unit, or where it sets out.
     pub fn setting_out(self, offset: Cell) -> Cell
-        requires { IsWithin 256 offset }
+        requires { IsWithin MOST_OFFSET offset }
         ensures { result ≡ setting_out self offset }
     {
         match self {

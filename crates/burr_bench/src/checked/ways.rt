@@ -1,5 +1,6 @@
 ghost use Rattle.std.specs.Prelude.{◌≡◌, ◌≢◌, ◌<◌, ◌≤◌, ◌↔◌, length, IfSome, IsTrue};
 ghost use Rattle.burr_voxels.specs.Near.{IsWithin};
+ghost use Rattle.burr_code.specs.declared.limits.TheConstants.{MOST_OFFSET};
 ghost use Rattle.burr_code.specs.PieceSets.{IsInSet};
 ghost use Rattle.burr_assembly.specs.Rules.Homes.{homes_of};
 ghost use Rattle.burr_bench.specs.BenchViews.{SetsOut, GripPasses};
@@ -53,7 +54,7 @@ impl<B: Blocking> Checked<'_, B> {
         requires piece { piece < length self.now.assembly.pieces }
         requires other { other < length self.now.assembly.pieces }
         requires two { piece ≢ other }
-        requires near { IsWithin 256 from }
+        requires near { IsWithin MOST_OFFSET from }
         ensures { IsTrue result ↔ PassesPiece query (homes_of self.now.assembly)
             self.now.state.places self.now.state.tray piece from other }
     {
@@ -66,7 +67,7 @@ impl<B: Blocking> Checked<'_, B> {
     /// How far from home a piece lies in the current tray; None where it isn't there.
     fn offset_here(&self, piece: u8) -> Option<Cell>
         ensures offset { IsOffsetHere self.now.state piece result }
-        ensures near { IfSome result (IsWithin 256) }
+        ensures near { IfSome result (IsWithin MOST_OFFSET) }
     {
         self.bench.offset_here(piece)
     }

@@ -1,7 +1,7 @@
 ghost use Rattle.std.specs.Prelude.{◌≡◌, ◌<◌, ◌↔◌, ◌+◌, length, IsTrue, MatchOption, Some, None, slice_get, get_or, reverse};
 ghost use Rattle.burr_assembly.specs.Rules.Text.{IsAssembly};
 ghost use Rattle.burr_voxels.specs.Near.{IsWithin};
-ghost use Rattle.burr_code.specs.declared.limits.TheConstants.{SLOTS};
+ghost use Rattle.burr_code.specs.declared.limits.TheConstants.{MOST_OFFSET, SLOTS};
 ghost use Rattle.burr_state.specs.declared.mode.Mode.TheVariants.{Ended};
 ghost use Rattle.burr_state.specs.Rules.Bench.{HasLabelOf, IsLabelAt};
 ghost use Rattle.burr_state.specs.Rules.Step.{IsQuestionOf};
@@ -45,12 +45,12 @@ impl<'a> Machine<'a> {
         self.assembly
     }
 
-    /// Where a piece is: apart, or in a tray, 0 to 31, and how far from home it lies there. Its number is
-    /// below the count of pieces, the caller's condition.
+    /// Where a piece is: apart, or in a tray, 0 to 31, and how far from home it lies there. Its
+    /// number is below the count of pieces, the caller's condition.
     pub fn place(&self, piece: u8) -> Placement<Cell>
         requires { piece < length self.now.assembly.pieces }
         ensures place { slice_get self.now.state.places piece ≡ Some result }
-        ensures near { PositionHolds (IsWithin 256) result }
+        ensures near { PositionHolds (IsWithin MOST_OFFSET) result }
     {
         self.bench.place(piece)
     }

@@ -34,9 +34,9 @@ impl Machine<'_> {
         }
     }
 
-    /// Goes back a step, by its record: the machine is as it was before, its steps too. The record's
-    /// old values, laid over the machine, give a machine that runs safely and whose step, with some
-    /// answer or none, gives this one and this record, the caller's condition.
+    /// Goes back a step, by its record: the machine is as it was before, its steps too. The
+    /// record's old values, laid over the machine, give a machine that runs safely and whose step,
+    /// with some answer or none, gives this one and this record, the caller's condition.
     pub fn undo(&mut self, undo: Undo)
         requires { TakesBack self.old undo }
         ensures { self.new ≡ gone_back undo self.old }

@@ -2,6 +2,7 @@ ghost use Rattle.std.specs.Prelude.{◌≡◌};
 ghost use Rattle.burr_container.specs.Rules.Plans.{Plan};
 ghost use Rattle.burr_container.specs.Views.Containers.{IsContainer};
 ghost use Rattle.burr_state.specs.Views.Programs.{plan_program};
+ghost use Rattle.burr_verify.specs.Rules.Accepting.{IsAccepted};
 ghost use Rattle.burr_state.specs.Views.Benches.{IsAtStart};
 
 use crate::machine::Machine;
@@ -12,11 +13,13 @@ use burr_verify::Accepted;
 
 impl<'a> Machine<'a> {
     /// The machine at the start of an accepted plan: all pieces in tray 0 at home, nothing gripped.
+    /// Each `Accepted` is of a plan that is accepted.
     pub fn start<'c: 'a, B: Blocking>(accepted: &Accepted<'a, 'c, B>) -> Machine<'a>
         ensures assembly { result.assembly ≡ accepted.now.assembly }
         ensures program { (p : Plan) → IsContainer accepted.now.container p
             → result.program ≡ plan_program p }
         ensures start { IsAtStart result }
+        ensures accepted { IsAccepted accepted.now }
     {
         an_accepted_bench_never_traps();
         let assembly = accepted.assembly();

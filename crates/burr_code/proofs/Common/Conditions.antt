@@ -1,5 +1,5 @@
 -- For crates above: whether the conditions on places hold.
-use Rattle.std.proofs.Common.{◌≡◌, ℕ, ◌<◌, ◌≤◌, List, length, Option, Some, None, inl, inr, refl, sym, subst, ap, ◌∙◌, arith}
+use Rattle.std.proofs.Common.{◌≡◌, ℕ, ◌<◌, ◌≤◌, ◌^◌, List, length, Option, Some, None, inl, inr, refl, sym, subst, ap, ◌∙◌, arith}
 use Rattle.std.specs.Prelude.{slice_get}
 use Rattle.std.proofs.lemmas.Option.{none-some, same_Some, slice_get_within}
 use Rattle.burr_text.proofs.Common.Decisions.{Decided, decided_like, decided_and, decided_not, decide_same, decide_below, decide_some_below}
@@ -7,7 +7,7 @@ use Rattle.burr_code.specs.PieceSets.{IsInSet}
 use Rattle.burr_code.specs.declared.placement.Placement.{Placement}
 use Rattle.burr_code.specs.declared.placement.Placement.TheVariants.{Apart, On}
 use Rattle.burr_code.specs.Places.{LiesAt, LiesIn, AllLieIn, AllApart, IsPartOfTray, IsEmptyTray}
-use Rattle.burr_code.proofs.Common.PieceSets.{decide_bit, no_bit_from_set}
+use Rattle.burr_code.proofs.Common.PieceSets.{decide_bit, no_bit_above, no_bit_from_set}
 
 -- Conditions on all numbers and all values
 
@@ -125,3 +125,17 @@ pub decide_empty_tray : {Position : Type 0} (places : List (Placement Position))
 decide_empty_tray places tray =
     decide_all_numbers (λ p. ¬ LiesIn places p tray) (λ p. decided_not (decide_lies places p tray)) (length places)
     (λ p far lies. let near = lies_within places p tray lies in absurd (omega arith))
+
+-- Sets
+
+-- a set of 32 bits has no other
+bit_below : (set p : ℕ) → set < 2 ^ 32 → IsInSet set p → p < 32
+bit_below set p small bit = elim (decide_below p 32) [
+  | inl below ↦ below
+  | inr above ↦ absurd (no_bit_above set 32 p small (omega (arith, above)) bit)
+]
+
+-- the set lies here where each of its first 32 pieces does
+pub all_lie_of : {Position : Type 0} (places : List (Placement Position)) (tray set : ℕ) → set < 2 ^ 32
+    → ((p : ℕ) → p < 32 → IsInSet set p → LiesIn places p tray) → AllLieIn places tray set
+all_lie_of places tray set small each p bit = each p (bit_below set p small bit) bit

@@ -32,7 +32,8 @@ counts_empty places tray count is = (
 
 -- How many
 
-length-changed : {Place : Type 0} (f : Place → Place) (group p : ℕ) (places : List Place)
+-- a change leaves as many places
+pub length-changed : {Place : Type 0} (f : Place → Place) (group p : ℕ) (places : List Place)
     → length (changed f group p places) ≡ length places
 length-changed f group p [] = refl
 length-changed f group p (place ∷ places) = ap suc (length-changed f group (suc p) places)

@@ -1,8 +1,8 @@
 -- For crates above: lists that are read element by element.
-use Rattle.std.proofs.Common.{◌≡◌, ℕ, ◌+◌, ◌<◌, List, [], ◌∷◌, ◌++◌, length, take, drop, set, Option, Some, sym, ap, ◌∙◌, subst, refl, arith}
-use Rattle.std.specs.Prelude.{slice_get, get_or, map, is_some, None}
+use Rattle.std.proofs.Common.{◌≡◌, ℕ, ◌+◌, ◌<◌, List, [], ◌∷◌, ◌++◌, length, take, drop, Some, sym, ap, ◌∙◌, subst, refl, arith}
+use Rattle.std.specs.Prelude.{slice_get, get_or}
 use Rattle.std.proofs.lemmas.Option.{slice_get_within, get_or_from_slice_get, slice_get-get_or}
-use Rattle.std.proofs.lemmas.List.{drop_more, take_more, take_more_set, take_all, length_push}
+use Rattle.std.proofs.lemmas.List.{drop_more, take_more, take_all, length_push}
 
 pub drop_here : {A : Type 0} (xs : List A) (i : ℕ) (x : A) → slice_get xs i ≡ Some x → drop i xs ≡ x ∷ drop (i + 1) xs
 drop_here xs i x e =
@@ -38,16 +38,3 @@ pub pushed : {A : Type 0} (whole : List A) (n : ℕ) (xs new : List A) (x made :
     → made ≡ x → new ≡ xs ++ made ∷ [] → IsRead whole n xs → IsRead whole (n + 1) new
 pushed {A} whole n xs new x made at same items r =
     subst (λ (ys : List A). IsRead whole (n + 1) ys) (sym (items ∙ ap (λ y. xs ++ y ∷ []) same)) (read_on whole n xs x at r)
-
--- one more is read, and put at its place
-pub put_next : {A : Type 0} (whole xs : List A) (v k : ℕ) (x : A) → k ≡ v → v < length xs → slice_get whole v ≡ Some x
-    → take v xs ≡ take v whole → take (v + 1) (set xs k x) ≡ take (v + 1) whole
-put_next whole xs v k x same less at so_far =
-    ap (λ (m : ℕ). take (v + 1) (set xs m x)) same ∙ take_more_set xs v x less ∙ ap (λ ys. ys ++ x ∷ []) so_far
-    ∙ sym (take_here whole v x at)
-
--- which of eight elements there are
-pub eight : {A : Type 0} (xs : List (Option A)) → length xs ≡ 8
-    → map is_some xs ≡ is_some (get_or xs 0 None) ∷ is_some (get_or xs 1 None) ∷ is_some (get_or xs 2 None) ∷ is_some (get_or xs 3 None) ∷ is_some (get_or xs 4 None) ∷ is_some (get_or xs 5 None) ∷ is_some (get_or xs 6 None) ∷ is_some (get_or xs 7 None) ∷ []
-eight (a ∷ b ∷ c ∷ d ∷ e ∷ f ∷ g ∷ h ∷ []) long = refl
-eight xs long = absurd (omega arith)

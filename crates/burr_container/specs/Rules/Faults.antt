@@ -1,5 +1,5 @@
--- The first fault of a container: the first field that fails. Fields are judged in their order, each
--- once all its bytes are there.
+-- The first fault of a container: the first field that fails. Fields are judged in their order,
+-- each once all its bytes are there.
 use Rattle.std.specs.Str.{bytes_eq}
 use Rattle.std.specs.Prelude.{◌≡◌, ◌≢◌, ℕ, zero, suc, pred, ◌||◌, ◌+◌, ◌^◌, ◌/◌, ◌%◌, ◌<◌, ◌≤◌, ℤ, int_le, List, [], ◌∷◌, ◌++◌, length, take, codes, Option, Some, None, Bool, true, false, ◌&&◌, ◌⊎◌, ◌==◌, nat_le, nat_lt, IsTrue}
 use Rattle.std.specs.List.{flat_map, list_all}

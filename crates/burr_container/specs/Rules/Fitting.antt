@@ -79,7 +79,8 @@ is_frame pieces f =
 abbrev pub most_exit_guards : ℕ → ℕ
 most_exit_guards version = if version == 2 then MOST_GUARDS else 0
 
--- what follows the grip of an exit frame over these symbols: a range for each result, guards, places
+-- what follows the grip of an exit frame over these symbols: a range for each result, guards,
+-- places
 abbrev pub is_exit_rest : ℕ → ℕ → ℕ → List Bool → ExitFrame → Bool
 is_exit_rest version pieces results live f =
     are_ranges results f.results && are_forms (most_exit_guards version) live f.guards

@@ -101,7 +101,7 @@ procedure_bytes version p =
     ++ exit_bytes version p.parameters p.results p.exit ++ labels_bytes p.labels
     ++ code_bytes p.code
 
--- what stands in front of the procedures: the version, the budget, the number of pieces and the name
+-- what stands in front of the procedures: the version, the budget, how many pieces, and the name
 abbrev pub front_bytes : ℕ → ℕ → ℕ → List ℕ → List ℕ
 front_bytes version budget pieces name =
     codes "BPLN" ++ big_bytes 2 version ++ big_bytes 4 budget ++ pieces ∷ length name ∷ name

@@ -32,7 +32,8 @@ pub record IsContainer (kept : ContainerView) (p : Plan) : Type 0 where
 abbrev pub HasPlan : ContainerView → Type 0
 HasPlan kept = (p : Plan) × IsTrue (is_fitting p) × IsContainer kept p
 
--- the bytes are those of a plan within the format, and the container is that plan's; or how they fail
+-- the bytes are those of a plan within the format, and the container is that plan's; or how they
+-- fail
 abbrev pub ReadsContainer : List ℕ → Result ContainerView ContainerFault → Type 0
 ReadsContainer bytes result =
     MatchResult result

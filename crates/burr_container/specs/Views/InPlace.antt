@@ -31,8 +31,8 @@ AreFor Is (x ∷ xs) [] = ⊥
 abbrev pub IsLabel : ℕ → Bor (List ℕ) → ℕ × Frame → Type 0
 IsLabel pieces start l = BeginWith (label (λ position. true) pieces) start.now l
 
--- a header stands at the cursor, and after it the next one; how the procedures fail there is how the
--- container fails
+-- a header stands at the cursor, and after it the next one; how the procedures fail there is how
+-- the container fails
 pub record IsHeaderAt (cursor : Cursor) (h : Header) (next : Cursor) : Type 0 where
   pub version : IsTrue (is_version h.version)
   pub budget : IsTrue (is_budget h.budget)
@@ -53,14 +53,14 @@ ReadsHeader cursor result =
 -- labels, and the position of the last one
 pub record AreLabels (pieces : ℕ) (kept : LabelTable × Option ℕ) (ls : List (ℕ × Frame)) : Type 0
   where
-    pub of_plan : kept.0.pieces ≡ pieces
+    pub of_plan : kept.0.layout.pieces ≡ pieces
     pub labels : AreFor (IsLabel pieces) kept.0.starts.items ls
     pub last : kept.1 ≡ last_label ls
 
 -- labels and code
 pub record IsBody (pieces : ℕ) (kept : LabelTable × Bor (List ℕ))
     (body : List (ℕ × Frame) × List ℕ) : Type 0 where
-  pub of_plan : kept.0.pieces ≡ pieces
+  pub of_plan : kept.0.layout.pieces ≡ pieces
   pub labels : AreFor (IsLabel pieces) kept.0.starts.items body.0
   pub code : kept.1.now ≡ body.1
 
@@ -86,6 +86,6 @@ pub record IsProcedure (pieces : ℕ) (kept : StoredProcedure) (p : PlanProcedur
   pub parameters : kept.parameters ≡ p.parameters
   pub results : kept.results ≡ p.results
   pub exit : IsExit pieces p.parameters p.results kept.exit p.exit
-  pub of_plan : kept.labels.pieces ≡ pieces
+  pub of_plan : kept.labels.layout.pieces ≡ pieces
   pub labels : AreFor (IsLabel pieces) kept.labels.starts.items p.labels
   pub code : kept.code.now ≡ p.code

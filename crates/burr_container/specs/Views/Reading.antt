@@ -6,9 +6,10 @@ use Rattle.burr_container.specs.Views.Cuts.{IsCut}
 use Rattle.burr_container.specs.Rules.Faults.{Part}
 
 -- a value of the part stands at the cursor, and after it the next one
-pub record IsAt {A : Type 0} (part : Part A) (cursor : Cursor) (value : A) (next : Cursor) : Type 0 where
-  pub fits : IsTrue (part.fits value)
-  pub cut : IsCut cursor.at cursor.rest.now (part.bytes value) next.at next.rest.now
+pub record IsAt {A : Type 0} (part : Part A) (cursor : Cursor) (value : A) (next : Cursor) : Type 0
+  where
+    pub fits : IsTrue (part.fits value)
+    pub cut : IsCut cursor.at cursor.rest.now (part.bytes value) next.at next.rest.now
 
 -- a value of the part stands at the cursor, and after it the next one; or how the part fails
 abbrev pub GoesOver : {A : Type 0} → Part A → Cursor → Result Cursor ContainerFault → Type 0

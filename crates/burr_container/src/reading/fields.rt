@@ -5,6 +5,7 @@ ghost use Rattle.burr_container.specs.Rules.Faults.{number, range as range_part}
 ghost use Rattle.burr_container.specs.Views.Reading.{Reads};
 
 use crate::fault::ContainerFault;
+use crate::layout::Layout;
 use crate::reading::cursor::Cursor;
 use burr_code::limits::TRAYS;
 
@@ -66,13 +67,12 @@ pub fn tray(cursor: Cursor<'_>) -> Result<(u8, Cursor<'_>), ContainerFault>
     Ok((tray, next))
 }
 
-/// A set of some of so many pieces.
-pub fn piece_set(pieces: u8, cursor: Cursor<'_>) -> Result<(u32, Cursor<'_>), ContainerFault>
-    requires { pieces ≤ 32 }
-    ensures { Reads (number 4 C4_at (is_set_of pieces)) cursor.entry result }
+/// A set of some of the pieces.
+pub fn piece_set(layout: Layout, cursor: Cursor<'_>) -> Result<(u32, Cursor<'_>), ContainerFault>
+    ensures { Reads (number 4 C4_at (is_set_of layout.pieces)) cursor.entry result }
 {
     let (set, next) = cursor.long()?;
-    if u64::from(set) >= 1u64 << pieces {
+    if u64::from(set) >= 1u64 << layout.pieces {
         return Err(ContainerFault::C4 { at: cursor.at });
     }
     Ok((set, next))

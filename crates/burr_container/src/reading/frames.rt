@@ -10,26 +10,29 @@ ghost use Rattle.burr_container.specs.Views.Refs.{ReadsInPlace, form_in_list, fo
 use crate::exit_ref::ExitRef;
 use crate::fault::ContainerFault;
 use crate::frame_ref::FrameRef;
+use crate::layout::Layout;
 use crate::lists::{FormList, PlaceList, form_size};
 use crate::live::{exit_symbols, live_slots};
 use crate::reading::cursor::Cursor;
 use crate::reading::fields::{count_within, piece_set, range, tray};
 use burr_code::limits::{MOST_GUARDS, MOST_OPERANDS, SLOTS, TRAYS};
 
-/// A frame of a label in a plan with so many pieces.
-pub fn frame(pieces: u8, cursor: Cursor<'_>) -> Result<(FrameRef<'_>, Cursor<'_>), ContainerFault>
-    requires { pieces ≤ 32 }
-    ensures places { IfOk result (λ ok. ok.0.places.count ≡ pieces) }
-    ensures reads { ReadsInPlace frame_of (frame_part pieces) cursor.entry result }
+/// A frame of a label.
+pub fn frame(
+    layout: Layout,
+    cursor: Cursor<'_>,
+) -> Result<(FrameRef<'_>, Cursor<'_>), ContainerFault>
+    ensures places { IfOk result (λ ok. ok.0.places.count ≡ layout.pieces) }
+    ensures reads { ReadsInPlace frame_of (frame_part layout.pieces) cursor.entry result }
 {
     let (tray, after_tray) = tray(cursor)?;
-    let (grip, after_grip) = piece_set(pieces, after_tray)?;
+    let (grip, after_grip) = piece_set(layout, after_tray)?;
     let (slots, after_slots) = slots(after_grip)?;
     let live = live_slots(&slots);
     let (guards, after_guards) = forms(live, MOST_GUARDS, after_slots)?;
     let (stack, after_stack) = forms(live, MOST_OPERANDS, after_guards)?;
     let (cost, after_cost) = form(live, after_stack)?;
-    let (places, next) = places(pieces, live, after_cost)?;
+    let (places, next) = places(layout, live, after_cost)?;
     let frame = FrameRef {
         tray,
         grip,
@@ -42,31 +45,28 @@ pub fn frame(pieces: u8, cursor: Cursor<'_>) -> Result<(FrameRef<'_>, Cursor<'_>
     Ok((frame, next))
 }
 
-/// The exit frame of a procedure with so many parameters and results, in a plan of this version with
-/// so many pieces.
+/// The exit frame of a procedure with so many parameters and results.
 pub fn exit_frame(
-    version: u16,
-    pieces: u8,
+    layout: Layout,
     parameters: u8,
     results: u8,
     cursor: Cursor<'_>,
 ) -> Result<(ExitRef<'_>, Cursor<'_>), ContainerFault>
-    requires pieces { pieces ≤ 32 }
     requires parameters { parameters ≤ 4 }
     requires results { results ≤ 2 }
-    ensures places { IfOk result (λ ok. (ok.0.places.count ≡ pieces)
+    ensures places { IfOk result (λ ok. (ok.0.places.count ≡ layout.pieces)
         × (ok.0.places.live ≡ first_ones parameters results)) }
     ensures parameters { IfOk result (λ ok. parameters_of ok.0 ≡ parameters) }
-    ensures reads { ReadsInPlace exit_frame_of (exit_frame_part version pieces parameters results)
-        cursor.entry result }
+    ensures reads { ReadsInPlace exit_frame_of
+        (exit_frame_part layout.version layout.pieces parameters results) cursor.entry result }
 {
     let (tray, after_tray) = tray(cursor)?;
-    let (grip, after_grip) = piece_set(pieces, after_tray)?;
+    let (grip, after_grip) = piece_set(layout, after_tray)?;
     let live = exit_symbols(parameters, results);
     let result_count = results;
     let (results, after_results) = ranges(result_count, after_grip)?;
-    let (guards, after_guards) = exit_guards(version, live, after_results)?;
-    let (places, next) = places(pieces, live, after_guards)?;
+    let (guards, after_guards) = exit_guards(layout, live, after_results)?;
+    let (places, next) = places(layout, live, after_guards)?;
     let exit = ExitRef {
         tray,
         grip,
@@ -97,15 +97,16 @@ fn ranges(count: u8, cursor: Cursor<'_>) -> Result<([(i16, i16); 2], Cursor<'_>)
 
 /// The guards of an exit frame over these symbols, in version 2 alone.
 fn exit_guards(
-    version: u16,
+    layout: Layout,
     live: [bool; 8],
     cursor: Cursor<'_>,
 ) -> Result<(FormList<'_>, Cursor<'_>), ContainerFault>
     ensures live { IfOk result (λ ok. ok.0.live ≡ live) }
     ensures few { IfOk result (λ ok. ok.0.count ≤ MOST_GUARDS) }
-    ensures reads { ReadsInPlace forms_of (exit_guards_part version live) cursor.entry result }
+    ensures reads { ReadsInPlace forms_of (exit_guards_part layout.version live)
+        cursor.entry result }
 {
-    if version != 2 {
+    if !layout.has_results() {
         let none = FormList {
             live,
             count: 0,
@@ -160,21 +161,21 @@ fn form(live: [bool; 8], cursor: Cursor<'_>) -> Result<(FormList<'_>, Cursor<'_>
     Ok((FormList { live, count, bytes }, next))
 }
 
-/// The places of so many pieces, by forms over these live slots.
+/// The places of the pieces, by forms over these live slots.
 fn places(
-    pieces: u8,
+    layout: Layout,
     live: [bool; 8],
     cursor: Cursor<'_>,
 ) -> Result<(PlaceList<'_>, Cursor<'_>), ContainerFault>
-    ensures live { IfOk result (λ ok. (ok.0.live ≡ live) × (ok.0.count ≡ pieces)) }
-    ensures reads { ReadsInPlace places_of (places_part pieces live) cursor.entry result }
+    ensures live { IfOk result (λ ok. (ok.0.live ≡ live) × (ok.0.count ≡ layout.pieces)) }
+    ensures reads { ReadsInPlace places_of (places_part layout.pieces live) cursor.entry result }
 {
     let bytes = cursor.rest;
     let mut cursor = cursor;
-    for _ in 0..pieces {
+    for _ in 0..layout.pieces {
         cursor = place(&live, cursor)?;
     }
-    let count = usize::from(pieces);
+    let count = usize::from(layout.pieces);
     Ok((PlaceList { live, count, bytes }, cursor))
 }
 

@@ -7,9 +7,9 @@ ghost use Rattle.burr_container.specs.Views.Refs.{ReadsInPlace};
 ghost use Rattle.burr_container.specs.Views.InPlace.{ReadsHeader, AreLabels, IsBody, IsProcedure};
 
 use crate::fault::ContainerFault;
-use crate::fitting::most_results;
 use crate::header::Header;
 use crate::label_table::LabelTable;
+use crate::layout::Layout;
 use crate::reading::cursor::Cursor;
 use crate::reading::fields::{byte_within, count_within, word_within};
 use crate::reading::frames::{exit_frame, frame};
@@ -89,20 +89,17 @@ fn name_text(length: usize, cursor: Cursor<'_>) -> Result<(&[u8], Cursor<'_>), C
     Ok((name, next))
 }
 
-/// Main in a plan of this version and of so many pieces: it has no parameters, no results and no exit
-/// frame.
+/// Main: it has no parameters, no results and no exit frame.
 pub fn main_procedure(
-    version: u16,
-    pieces: u8,
+    layout: Layout,
     cursor: Cursor<'_>,
 ) -> Result<(StoredProcedure<'_>, Cursor<'_>), ContainerFault>
-    requires { pieces ≤ 32 }
-    ensures { ReadsAs (IsProcedure pieces) (procedure_part version pieces true)
-        cursor.entry result }
+    ensures { ReadsAs (IsProcedure layout.pieces)
+        (procedure_part layout.version layout.pieces true) cursor.entry result }
 {
     let (parameters, after_parameters) = byte_within(cursor, 0, 0)?;
-    let (results, after_results) = result_count(version, true, after_parameters)?;
-    let ((labels, code), next) = body(pieces, after_results)?;
+    let (results, after_results) = result_count(layout, true, after_parameters)?;
+    let ((labels, code), next) = body(layout, after_results)?;
     let procedure = StoredProcedure {
         parameters,
         results,
@@ -113,20 +110,18 @@ pub fn main_procedure(
     Ok((procedure, next))
 }
 
-/// A procedure other than main in a plan of this version and of so many pieces.
+/// A procedure other than main.
 pub fn other_procedure(
-    version: u16,
-    pieces: u8,
+    layout: Layout,
     cursor: Cursor<'_>,
 ) -> Result<(StoredProcedure<'_>, Cursor<'_>), ContainerFault>
-    requires { pieces ≤ 32 }
-    ensures { ReadsAs (IsProcedure pieces) (procedure_part version pieces false)
-        cursor.entry result }
+    ensures { ReadsAs (IsProcedure layout.pieces)
+        (procedure_part layout.version layout.pieces false) cursor.entry result }
 {
     let (parameters, after_parameters) = byte_within(cursor, 0, MOST_PARAMETERS)?;
-    let (results, after_results) = result_count(version, false, after_parameters)?;
-    let (exit, after_exit) = exit_frame(version, pieces, parameters, results, after_results)?;
-    let ((labels, code), next) = body(pieces, after_exit)?;
+    let (results, after_results) = result_count(layout, false, after_parameters)?;
+    let (exit, after_exit) = exit_frame(layout, parameters, results, after_results)?;
+    let ((labels, code), next) = body(layout, after_exit)?;
     let procedure = StoredProcedure {
         parameters,
         results,
@@ -139,65 +134,63 @@ pub fn other_procedure(
 
 /// How many results a procedure has, which version 2 alone tells.
 fn result_count(
-    version: u16,
+    layout: Layout,
     main: bool,
     cursor: Cursor<'_>,
 ) -> Result<(u8, Cursor<'_>), ContainerFault>
     ensures few { IfOk result (λ ok. ok.0 ≤ 2) }
-    ensures reads { Reads (result_count_part version main) cursor.entry result }
+    ensures reads { Reads (result_count_part layout.version main) cursor.entry result }
 {
-    if version != 2 {
+    if !layout.has_results() {
         return Ok((0, cursor));
     }
-    byte_within(cursor, 0, most_results(version, main))
+    byte_within(cursor, 0, layout.most_results(main))
 }
 
-/// What follows the parameters, the results and the exit frame of a procedure: its labels and its code.
+/// What follows the parameters, the results and the exit frame of a procedure: its labels and its
+/// code.
 fn body(
-    pieces: u8,
+    layout: Layout,
     cursor: Cursor<'_>,
 ) -> Result<((LabelTable<'_>, &[u8]), Cursor<'_>), ContainerFault>
-    requires { pieces ≤ 32 }
-    ensures { ReadsAs (IsBody pieces) (body_part pieces) cursor.entry result }
+    ensures { ReadsAs (IsBody layout.pieces) (body_part layout.pieces) cursor.entry result }
 {
-    let ((labels, last), after_labels) = labels(pieces, cursor)?;
+    let ((labels, last), after_labels) = labels(layout, cursor)?;
     let (code, next) = code(last, after_labels)?;
     Ok(((labels, code), next))
 }
 
 /// The labels of a procedure, and the position of the last one.
 fn labels(
-    pieces: u8,
+    layout: Layout,
     cursor: Cursor<'_>,
 ) -> Result<((LabelTable<'_>, Option<u16>), Cursor<'_>), ContainerFault>
-    requires { pieces ≤ 32 }
-    ensures { ReadsAs (AreLabels pieces) (labels_part pieces) cursor.entry result }
+    ensures { ReadsAs (AreLabels layout.pieces) (labels_part layout.pieces) cursor.entry result }
 {
     let (count, after_count) = word_within(cursor, 1, MOST_LABELS)?;
     let mut starts = ArrayVec::new();
     let mut last = None;
     let mut cursor = after_count;
     for _ in 0..count {
-        let (position, next) = label(last, pieces, cursor)?;
+        let (position, next) = label(last, layout, cursor)?;
         starts.push(cursor.rest);
         last = Some(position);
         cursor = next;
     }
-    Ok(((LabelTable { pieces, starts }, last), cursor))
+    Ok(((LabelTable { layout, starts }, last), cursor))
 }
 
 /// A label after the one at `last`: its position.
 fn label(
     last: Option<u16>,
-    pieces: u8,
+    layout: Layout,
     cursor: Cursor<'_>,
 ) -> Result<(u16, Cursor<'_>), ContainerFault>
-    requires { pieces ≤ 32 }
     ensures { ReadsAs (λ position l. position ≡ l.0)
-        (label_part (is_next_label last) pieces) cursor.entry result }
+        (label_part (is_next_label last) layout.pieces) cursor.entry result }
 {
     let (position, after_position) = position(last, cursor)?;
-    let (_frame, next) = frame(pieces, after_position)?;
+    let (_frame, next) = frame(layout, after_position)?;
     Ok((position, next))
 }
 

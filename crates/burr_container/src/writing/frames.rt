@@ -6,6 +6,7 @@ ghost use Rattle.burr_container.specs.Rules.Plans.{live_slots as live_ones};
 ghost use Rattle.burr_container.specs.Rules.Spelling.{mask_of as mask_of_live, range_bytes, ranges_bytes, slots_bytes, frame_bytes, exit_guards_bytes, exit_rest, exit_frame_bytes};
 
 use crate::frame::{ExitFrame, Frame};
+use crate::layout::Layout;
 use crate::live::{exit_symbols, live_slots};
 use crate::plan_form::PlanForm;
 use crate::writing::forms::{add_form, add_forms, add_places};
@@ -15,7 +16,7 @@ use std::alloc::AllocError;
 /// The exit frame of a procedure with so many parameters and results.
 pub fn add_exit_frame(
     bytes: &mut Vec<u8>,
-    version: u16,
+    layout: Layout,
     parameters: u8,
     results: u8,
     exit: &ExitFrame,
@@ -24,42 +25,44 @@ pub fn add_exit_frame(
     requires results { results ≤ 2 }
     requires guards { length exit.now.guards < 256 }
     ensures { OnOk result
-        (bytes.new.items ≡ bytes.old.items ++ exit_frame_bytes version parameters results exit.now) }
+        (bytes.new.items ≡ bytes.old.items
+        ++ exit_frame_bytes layout.version parameters results exit.now) }
 {
     let live = exit_symbols(parameters, results);
     bytes.push(exit.tray)?;
     add_long(bytes, exit.grip)?;
-    add_exit_rest(bytes, version, &live, exit)
+    add_exit_rest(bytes, layout, &live, exit)
 }
 
 /// What follows the grip of an exit frame.
 fn add_exit_rest(
     bytes: &mut Vec<u8>,
-    version: u16,
+    layout: Layout,
     live: &[bool; 8],
     exit: &ExitFrame,
 ) -> Result<(), AllocError>
     requires { length exit.now.guards < 256 }
     ensures { OnOk result
-        (bytes.new.items ≡ bytes.old.items ++ exit_rest version live.now exit.now) }
+        (bytes.new.items ≡ bytes.old.items ++ exit_rest layout.version live.now exit.now) }
 {
     add_ranges(bytes, &exit.results)?;
-    add_exit_guards(bytes, version, live, &exit.guards)?;
+    add_exit_guards(bytes, layout, live, &exit.guards)?;
     add_places(bytes, live, &exit.places)
 }
 
 /// The guards of an exit frame, in version 2 alone.
 fn add_exit_guards(
     bytes: &mut Vec<u8>,
-    version: u16,
+    layout: Layout,
     live: &[bool; 8],
     guards: &[PlanForm],
 ) -> Result<(), AllocError>
     requires { length guards.now < 256 }
     ensures { OnOk result
-        (bytes.new.items ≡ bytes.old.items ++ exit_guards_bytes version live.now guards.now) }
+        (bytes.new.items ≡ bytes.old.items
+        ++ exit_guards_bytes layout.version live.now guards.now) }
 {
-    if version != 2 {
+    if !layout.has_results() {
         return Ok(());
     }
     add_forms(bytes, live, guards)

@@ -1,6 +1,7 @@
 -- Linear forms over symbols: this project's own.
-use Rattle.std.specs.Prelude.{◌^◌, ◌≤◌, ℕ, ◌-◌, ℤ, pos, neg_ℤ, ◌+ℤ◌, ◌*ℤ◌, ◌≤ℤ◌, List, [], ◌∷◌, ◌++◌, map, replicate, All}
+use Rattle.std.specs.Prelude.{◌≤◌, ℕ, ◌-◌, ℤ, pos, neg_ℤ, ◌+ℤ◌, ◌*ℤ◌, ◌≤ℤ◌, List, [], ◌∷◌, ◌++◌, map, replicate, All}
 use Rattle.std.specs.Int.RustNames.{unsigned_abs}
+use Rattle.burr_forms.specs.declared.limits.TheConstants.{MOST_FORM_NUMBER, MOST_SYMBOL_VALUE}
 
 -- a constant and a multiple of each symbol
 pub record Form : Type 0 where
@@ -72,9 +73,9 @@ substituted arguments f = raised f.constant (combined f.coefs arguments)
 
 -- Limits
 
--- the number is at most 2^40, either way
+-- a number that a form may have: at most 2^40, either way
 abbrev pub IsSmall : ℤ → Type 0
-IsSmall n = (neg_ℤ (pos (2 ^ 40)) ≤ℤ n) × (n ≤ℤ pos (2 ^ 40))
+IsSmall n = (neg_ℤ MOST_FORM_NUMBER ≤ℤ n) × (n ≤ℤ MOST_FORM_NUMBER)
 
 abbrev pub AllSmall : List ℤ → Type 0
 AllSmall numbers = All IsSmall numbers
@@ -88,7 +89,7 @@ AllSmallForms forms = All IsSmallForm forms
 
 -- the number is one of a code
 abbrev pub IsNear : ℤ → Type 0
-IsNear x = unsigned_abs x ≤ 32767
+IsNear x = unsigned_abs x ≤ MOST_SYMBOL_VALUE
 
 abbrev pub AllNear : Point → Type 0
 AllNear point = All IsNear point

@@ -2,6 +2,7 @@
 use Rattle.std.specs.Prelude.{ℕ, zero, suc, ◌+◌, ◌-◌, ◌*◌, ◌≤◌, ℤ, pos, neg_ℤ, ◌+ℤ◌, ◌-ℤ◌, ◌≤ℤ◌, ◌<ℤ◌, nat_abs, ◌≡◌, ◌⊎◌, Bool, not, List, [], ◌∷◌, ◌++◌, length, map, filter, flat_map, replicate, All, int_lt}
 use Rattle.std.specs.List.{list_all}
 use Rattle.std.specs.Int.{int_gap}
+use Rattle.burr_forms.specs.declared.limits.TheConstants.{MOST_SYMBOL_VALUE}
 use Rattle.burr_forms.specs.Rules.Forms.{Form, Point, value, AllSmallForms}
 
 -- Boxes
@@ -9,8 +10,8 @@ use Rattle.burr_forms.specs.Rules.Forms.{Form, Point, value, AllSmallForms}
 -- a range that holds a number, and only numbers of a code
 pub record IsRange (range : ℤ × ℤ) : Type 0 where
   pub rising : range.0 ≤ℤ range.1
-  pub low : neg_ℤ (pos 32767) ≤ℤ range.0
-  pub high : range.1 ≤ℤ pos 32767
+  pub low : neg_ℤ (pos MOST_SYMBOL_VALUE) ≤ℤ range.0
+  pub high : range.1 ≤ℤ pos MOST_SYMBOL_VALUE
 
 abbrev pub AreRanges : List (ℤ × ℤ) → Type 0
 AreRanges ranges = All IsRange ranges

@@ -1,12 +1,11 @@
 -- For crates above: one verdict a state and instruction at most: the checks of the rules, one by
 -- one.
-use Rattle.std.proofs.Common.{◌≡◌, ◌⊎◌, ℕ, ◌<◌, ℤ, List, [], ◌∷◌, Option, refl, sym, ap, subst, ◌∙◌, inl, inr}
+use Rattle.std.proofs.Common.{◌≡◌, ◌⊎◌, ℕ, ◌<◌, ℤ, List, [], ◌∷◌, refl, sym, ap, subst, ◌∙◌, inl, inr}
 use Rattle.std.specs.Prelude.{◌<ℤ◌}
 use Rattle.std.proofs.lemmas.Bool.{cases_order}
-use Rattle.std.proofs.lemmas.Option.{none-some, same_Some}
-use Rattle.burr_text.specs.Checks.{needs, finds}
 use Rattle.burr_voxels.specs.declared.cell.Cell.{Cell}
 use Rattle.burr_code.specs.Instruction.{Instruction, Halt, Push, Load, Store, Add, Sub, Drop, Grip, Step, Aside, Tray, Jump, Down, Ask, Pick, Call, Ret}
+use Rattle.burr_code.proofs.Common.OneAnswer.{IsOne, one_given, one_needed, one_found}
 use Rattle.burr_code.proofs.Common.Orders.{whole_order}
 use Rattle.burr_forms.specs.Rules.Forms.{Form, Point}
 use Rattle.burr_forms.specs.Rules.Points.{InBox, Precedes}
@@ -16,27 +15,6 @@ use Rattle.burr_frames.specs.Rules.FramedPlans.{FramedProcedure, FramedPlan}
 use Rattle.burr_frames.specs.Rules.States.{AbstractState, IsFirstFailing}
 use Rattle.burr_frames.specs.Rules.Verdicts.{Rest, IsFirstPair, everywhere, everywhere_of_pairs, at_point, at_pair, paying, meeting, arriving, arriving_at_all}
 use Rattle.burr_frames.specs.Rules.Transfer.{Transfer}
-
--- one value at most is so
-abbrev pub IsOne : {A : Type 0} → (A → Type 0) → Type 0
-IsOne {A} IsSo = (x y : A) → IsSo x → IsSo y → x ≡ y
-
-pub one_given : {A : Type 0} (v : A) → IsOne (λ x. x ≡ v)
-one_given v x y p q = p ∙ sym q
-
-pub one_needed : {A : Type 0} (C : Type 0) (v : A) (rest : A → Type 0) → IsOne rest → IsOne (needs C v rest)
-one_needed C v rest one x y (inl p) (inl q) = p.1 ∙ sym q.1
-one_needed C v rest one x y (inl p) (inr q) = absurd (p.0 q.0)
-one_needed C v rest one x y (inr p) (inl q) = absurd (q.0 p.0)
-one_needed C v rest one x y (inr p) (inr q) = one x y p.1 q.1
-
-pub one_found : {A B : Type 0} (found : Option B) (v : A) (rest : B → A → Type 0) → ((b : B) → IsOne (rest b))
-    → IsOne (finds found v rest)
-one_found found v rest one x y (inl p) (inl q) = p.1 ∙ sym q.1
-one_found found v rest one x y (inl p) (inr q) = absurd (none-some q.0 (sym p.0 ∙ q.1))
-one_found found v rest one x y (inr p) (inl q) = absurd (none-some p.0 (sym q.0 ∙ p.1))
-one_found found v rest one x y (inr p) (inr q) =
-    one p.0 x y p.2 (subst (λ b. rest b y) (same_Some q.0 p.0 (sym q.1 ∙ p.1)) q.2)
 
 -- Points in their order
 

@@ -2,6 +2,7 @@
 use Rattle.std.specs.Prelude.{◌≡◌, ◌≤◌, ◌*◌, ℕ, List, length}
 use Rattle.burr_voxels.specs.declared.cell.Cell.{Cell}
 use Rattle.burr_code.specs.Instruction.{Instruction, Step, Aside}
+use Rattle.burr_forms.specs.declared.limits.TheConstants.{MOST_POINTS}
 use Rattle.burr_forms.specs.Rules.Points.{box_size, AreRanges}
 use Rattle.burr_frames.specs.Rules.FramedPlans.{FramedProcedure, FramedPlan}
 use Rattle.burr_frames.specs.Rules.SpaceRules.{moved}
@@ -26,8 +27,8 @@ OneRuleLooks =
 abbrev pub FewRuleLooks : Type 0
 FewRuleLooks =
     (homes : List (List Cell)) (s : AbstractState) (i : Instruction) (looks : ℕ)
-    → length homes ≤ 32 → box_size s.ranges ≤ 4096 → RuleLooks homes s i looks
-    → looks ≤ 4096 * 256
+    → length homes ≤ 32 → box_size s.ranges ≤ MOST_POINTS → RuleLooks homes s i looks
+    → looks ≤ MOST_POINTS * 256
 
 -- all looks of an instruction's rule: each pair at each point
 abbrev pub whole_looks : List (List Cell) → AbstractState → Instruction → ℕ

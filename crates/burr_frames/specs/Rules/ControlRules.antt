@@ -2,10 +2,12 @@
 -- after.
 use Rattle.std.specs.Prelude.{◌≡◌, ℕ, zero, suc, ◌+◌, ◌<◌, ◌≤◌, pos, neg_ℤ, ◌≤ℤ◌, List, [], ◌∷◌, ◌++◌, length, map, reverse, replicate, set, get_or, Option, Some, None, slice_get}
 use Rattle.burr_text.specs.Checks.{needs, finds}
+use Rattle.burr_code.specs.declared.limits.TheConstants.{MOST_STATE_GUARDS}
 use Rattle.burr_code.specs.declared.placement.Placement.{Placement}
 use Rattle.burr_code.specs.Places.{AllApart, at_position, tray_of}
 use Rattle.burr_code.specs.Stacks.{top_many}
 use Rattle.burr_code.specs.Labels.{callee_of, argument_slots}
+use Rattle.burr_forms.specs.declared.limits.TheConstants.{MOST_POINTS}
 use Rattle.burr_forms.specs.Rules.Forms.{Form, Point, value, values, symbol, minus_form, times, one_less, substituted, IsSmallForm, AllSmallForms}
 use Rattle.burr_forms.specs.Rules.Points.{box_size, InBox, GuardsHold}
 use Rattle.burr_container.specs.Rules.Plans.{FormCell, Frame}
@@ -101,7 +103,8 @@ after_call s arguments below exit =
 
 abbrev pub HasRoomForSymbols : AbstractState → Type 0
 HasRoomForSymbols s =
-    (length s.ranges ≤ 8) × (length s.guards ≤ 8) × (box_size s.ranges ≤ 4096)
+    (length s.ranges ≤ 8) × (length s.guards ≤ MOST_STATE_GUARDS)
+    × (box_size s.ranges ≤ MOST_POINTS)
 
 -- the state in which a callee begins: its arguments, given with the last of them first, and no
 -- operand

@@ -9,6 +9,7 @@ use Rattle.burr_code.specs.declared.placement.Placement.{Placement}
 use Rattle.burr_code.specs.Places.{is_in, IsPartOfTray, IsEmptyTray}
 use Rattle.burr_blocking.specs.declared.query.Query.{Query}
 use Rattle.burr_blocking.specs.declared.query.Query.TheVariants as queries
+use Rattle.burr_forms.specs.declared.limits.TheConstants.{MOST_POINTS}
 use Rattle.burr_forms.specs.Rules.Forms.{Point}
 use Rattle.burr_forms.specs.Rules.Points.{box_size, points_of}
 use Rattle.burr_container.specs.Rules.Plans.{FormCell}
@@ -98,4 +99,4 @@ RuleLooks homes s i looks = looks ≡ 0
 
 -- the symbols of a state have at most 4,096 points, guards not counted
 abbrev pub HasRoom : AbstractState → Type 0
-HasRoom s = box_size s.ranges ≤ 4096
+HasRoom s = box_size s.ranges ≤ MOST_POINTS

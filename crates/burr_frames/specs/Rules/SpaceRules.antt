@@ -6,6 +6,7 @@ use Rattle.burr_voxels.specs.declared.direction.Direction.{Direction}
 use Rattle.burr_voxels.specs.Grid.{shifted, along}
 use Rattle.burr_voxels.specs.CellSets.{Overlap, IsFree}
 use Rattle.burr_voxels.specs.Near.{IsWithin}
+use Rattle.burr_code.specs.declared.limits.TheConstants.{MOST_OFFSET}
 use Rattle.burr_code.specs.PieceSets.{IsInSet}
 use Rattle.burr_code.specs.declared.placement.Placement.{Placement}
 use Rattle.burr_code.specs.declared.placement.Placement.TheVariants.{Apart, On}
@@ -22,7 +23,7 @@ use Rattle.burr_frames.specs.Rules.Verdicts.{Rest, plainly, everywhere, everywhe
 -- each piece of the tray is on the bench
 abbrev pub OnBenchAt : List (Placement FormCell) → ℕ → Point → Type 0
 OnBenchAt places tray point =
-    (p : ℕ) (c : FormCell) → LiesAt places p tray c → IsWithin 256 (cell_at point c)
+    (p : ℕ) (c : FormCell) → LiesAt places p tray c → IsWithin MOST_OFFSET (cell_at point c)
 
 -- p and q of the tray, with p gripped and q not, are to each other so
 abbrev pub PairAt : (List Cell → List Cell → Type 0) → List (List Cell) → List (Placement FormCell)

@@ -2,6 +2,7 @@
 use Rattle.std.specs.Prelude.{◌≡◌, ◌⊎◌, ◌≤◌, ℕ, ℤ, List, length, map, drop, reverse, Option, Some, None, MatchOption, Result, MatchResult, pos, ◌≤ℤ◌}
 use Rattle.arrayvec.specs.ArrayVec.{ArrayVec}
 use Rattle.burr_code.specs.Stacks.{top_many}
+use Rattle.burr_forms.specs.declared.limits.TheConstants.{MOST_POINTS}
 use Rattle.burr_forms.specs.Rules.Forms.{Form, Point, value, one_less, substituted, IsSmallForm, AllSmallForms}
 use Rattle.burr_forms.specs.Rules.Points.{AreRanges, box_size}
 use Rattle.burr_forms.specs.declared.form.FormTooLarge.{FormTooLarge}
@@ -76,7 +77,7 @@ GivesAfter after result =
 
 -- the ranges, where they and their points are few; or they are not
 abbrev pub AreFewRanges : List Range → Type 0
-AreFewRanges ranges = (length ranges ≤ 8) × (box_size ranges ≤ 4096)
+AreFewRanges ranges = (length ranges ≤ 8) × (box_size ranges ≤ MOST_POINTS)
 
 abbrev pub GivesRanges : List Range → Option (ArrayVec (ℤ × ℤ)) → Type 0
 GivesRanges ranges result =

@@ -59,7 +59,8 @@ abbrev pub pairs_after : List Role → ℕ → ℕ → List (ℕ × ℕ)
 pairs_after pieces p q =
     map (λ other. (p, other)) (resting_pieces q (drop q pieces)) ++ pairs_from pieces (suc p)
 
--- so many have been asked of: what comes of those that are left, comes of the whole with so many more
+-- this many have been asked of: what comes of those that are left comes of the whole, with as
+-- many more
 abbrev pub AsksOn : {A : Type 0} → (A → Type 0) → List A → List A → ℕ → Type 0
 AsksOn IsSo whole left asked =
     (n : ℕ) → until_one_fails IsSo left n → until_one_fails IsSo whole (asked + n)

@@ -1,5 +1,5 @@
--- Values of a state's forms beside those of the forms of a frame or an exit frame, where its symbols
--- have the values that come first.
+-- Values of a state's forms beside those of the forms of a frame or an exit frame, where its
+-- symbols have the values that come first.
 use Rattle.std.specs.Prelude.{◌≡◌, ◌+◌, ℕ, ℤ, ◌≤ℤ◌, List, [], ◌∷◌, length, take, drop}
 use Rattle.burr_code.specs.declared.placement.Placement.{Placement}
 use Rattle.burr_code.specs.declared.placement.Placement.TheVariants.{Apart, On}

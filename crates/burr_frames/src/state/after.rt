@@ -1,6 +1,7 @@
 //! The state after a call.
 
 ghost use Rattle.std.specs.Prelude.{◌≡◌, ◌+◌, ◌-◌, ◌≤◌, ◌++◌, MatchResult, length, map, take, drop, reverse, replicate, pos};
+ghost use Rattle.burr_code.specs.declared.limits.TheConstants.{MOST_GUARDS};
 ghost use Rattle.burr_forms.specs.Rules.Forms.{number, AllSmallForms};
 ghost use Rattle.burr_frames.specs.Rules.ControlRules.{after_call, symbols_from, substituted_places};
 ghost use Rattle.burr_frames.specs.Rules.SpaceRules.{AllSmallPlaces};
@@ -16,11 +17,9 @@ use crate::offset::substituted;
 use crate::rule::Rule;
 use arrayvec::ArrayVec;
 use burr_code::Placement;
+use burr_code::limits::{MOST_GUARDS, MOST_STATE_GUARDS};
 use burr_container::FormOffset;
 use burr_forms::{Form, FormTooLarge};
-
-/// The most guards of a state.
-const MOST_GUARDS: usize = 8;
 
 impl State {
     /// The state after a call with these arguments, the topmost operands, by the callee's exit
@@ -39,7 +38,7 @@ impl State {
         let Some(ranges) = self.ranges_after(exit) else {
             return Err(Break::plain(Rule::V25));
         };
-        if MOST_GUARDS < self.guards.len() + exit.guards.len() {
+        if MOST_STATE_GUARDS < self.guards.len() + exit.guards.len() {
             return Err(Break::plain(Rule::V25));
         }
         let results = symbols_from(self.ranges.len(), exit.results.len());
@@ -143,8 +142,11 @@ fn places_with(
 }
 
 /// The same guards with these forms in place of their symbols.
-fn guards_with(there: &[Form], symbols: &[Form]) -> Result<ArrayVec<Form, 4>, FormTooLarge>
-    requires few_guards { length there.now ≤ 4 }
+fn guards_with(
+    there: &[Form],
+    symbols: &[Form],
+) -> Result<ArrayVec<Form, MOST_GUARDS>, FormTooLarge>
+    requires few_guards { length there.now ≤ MOST_GUARDS }
     requires small_guards { AllSmallForms there.now }
     requires few { length symbols.now ≤ 8 }
     requires small { AllSmallForms symbols.now }

@@ -1,9 +1,11 @@
 //! The rules of the instructions that ask.
 
 ghost use Rattle.std.specs.Prelude.{ℕ, List, Some, ◌≡◌, ◌<◌, ◌≤◌, ◌↔◌, IsTrue, IfErr, length};
+ghost use Rattle.burr_code.specs.declared.limits.TheConstants.{MOST_STATE_GUARDS};
 ghost use Rattle.burr_code.specs.Labels.{labelled};
 ghost use Rattle.burr_container.specs.Rules.Plans.{Frame as FrameOf};
 ghost use Rattle.burr_frames.specs.Rules.Verdicts.{arriving_at_all, no_successor};
+ghost use Rattle.burr_forms.specs.declared.limits.TheConstants.{MOST_POINTS};
 ghost use Rattle.burr_forms.specs.Rules.Points.{IsRange, AreRanges, box_size};
 ghost use Rattle.burr_frames.specs.Rules.QuestionRules.{ask_rule, pick_rule, with_symbol, asked};
 ghost use Rattle.burr_frames.specs.Rules.ControlRules.{HasRoomForSymbols};
@@ -18,9 +20,7 @@ use crate::finding::{frame_at, has_labels};
 use crate::rule::Rule;
 use burr_code::Labels;
 use burr_container::ProcedureRef;
-
-/// The symbols of a state have at most this many points.
-const MOST_POINTS: u32 = 4096;
+use burr_forms::limits::MOST_POINTS;
 
 impl State {
     /// `ask`: a symbol of this range more, which is the topmost operand.
@@ -83,8 +83,7 @@ impl State {
         requires { IsRange (low, high) }
         ensures { IsTrue result ↔ HasRoomForSymbols (with_symbol low high self.now) }
     {
-        // the guards have their room as always, eight at most
-        let _guards = self.guards.len();
+        self.guards_are_few();
         if self.ranges.is_full() {
             return false;
         }
@@ -93,9 +92,16 @@ impl State {
         has_room(ranges.as_slice())
     }
 
+    /// A law of each state: it has no more guards than there is room for.
+    fn guards_are_few(&self)
+        ensures { length self.now.guards ≤ MOST_STATE_GUARDS }
+    {
+        let _ = self.guards.len();
+    }
+
     /// Whether the symbols have no more than 4,096 points, guards not counted.
     pub fn has_room_for_points(&self) -> bool
-        ensures { IsTrue result ↔ (box_size self.now.ranges ≤ 4096) }
+        ensures { IsTrue result ↔ (box_size self.now.ranges ≤ MOST_POINTS) }
     {
         has_room(self.ranges.as_slice())
     }
@@ -117,7 +123,7 @@ impl State {
 /// Whether a box has no more than 4,096 points.
 pub(super) fn has_room(ranges: &[(i32, i32)]) -> bool
     requires { AreRanges ranges.now }
-    ensures { IsTrue result ↔ (box_size ranges.now ≤ 4096) }
+    ensures { IsTrue result ↔ (box_size ranges.now ≤ MOST_POINTS) }
 {
     let mut count: u32 = 1;
     for symbol in 0..ranges.len() {

@@ -19,11 +19,9 @@ use crate::finding::frame_at;
 use crate::raising::raised_by;
 use crate::rule::Rule;
 use arrayvec::ArrayVec;
+use burr_code::limits::MOST_OPERANDS;
 use burr_container::{FrameRef, ProcedureRef};
 use burr_forms::Form;
-
-/// The most operands of a state.
-const MOST_OPERANDS: usize = 8;
 
 impl State {
     /// `call`: the topmost operands are the arguments of a procedure of a higher number, whose

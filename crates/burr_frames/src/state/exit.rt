@@ -1,6 +1,7 @@
 //! The exit frame of a procedure.
 
 ghost use Rattle.std.specs.Prelude.{◌≡◌, ◌≤◌, length, map};
+ghost use Rattle.burr_code.specs.declared.limits.TheConstants.{MOST_RESULTS};
 ghost use Rattle.burr_forms.specs.Rules.Forms.{AllSmallForms};
 ghost use Rattle.burr_forms.specs.Rules.Points.{AreRanges};
 ghost use Rattle.burr_container.specs.Rules.Plans.{over_symbols};
@@ -12,6 +13,7 @@ use super::MOST_PIECES;
 use crate::offset::placed;
 use arrayvec::ArrayVec;
 use burr_code::Placement;
+use burr_code::limits::{MOST_GUARDS, MOST_RESULTS};
 use burr_container::{ExitRef, FormOffset};
 use burr_forms::Form;
 use std::marker::Model;
@@ -21,9 +23,9 @@ use std::marker::Model;
 #[derive(Debug, Drop)]
 pub struct Exit {
     /// Of each result, both ends in it.
-    pub results: ArrayVec<(i32, i32), 2>,
+    pub results: ArrayVec<(i32, i32), MOST_RESULTS>,
     /// Forms that are not negative.
-    pub guards: ArrayVec<Form, 4>,
+    pub guards: ArrayVec<Form, MOST_GUARDS>,
     pub places: ArrayVec<Placement<FormOffset>, MOST_PIECES>,
     /// The current tray.
     pub tray: u8,
@@ -37,7 +39,8 @@ impl Model for Exit {
 
     ghost Value = { FramedExit };
 
-    ghost view = { λ e. framed_exit_with e.results.items e.guards.items e.places.items e.tray e.grip };
+    ghost view = { λ e.
+        framed_exit_with e.results.items e.guards.items e.places.items e.tray e.grip };
 
     ghost invariant = { λ e. IsSmallExit (framed_exit_with e.results.items e.guards.items
         e.places.items e.tray e.grip) };
@@ -47,7 +50,7 @@ impl Exit {
     /// What an exit frame says that is read in place.
     pub fn of(exit: &ExitRef<'_>) -> Exit
         ensures exit { result ≡ framed_ref exit.now }
-        ensures few { length result.results ≤ 2 }
+        ensures few { length result.results ≤ MOST_RESULTS }
     {
         Exit {
             results: results(exit),
@@ -60,7 +63,7 @@ impl Exit {
 }
 
 /// The ranges of the results.
-fn results(exit: &ExitRef<'_>) -> ArrayVec<(i32, i32), 2>
+fn results(exit: &ExitRef<'_>) -> ArrayVec<(i32, i32), MOST_RESULTS>
     ensures ranges { result.items ≡ (exit_frame_of exit.now).results }
     ensures are { AreRanges result.items }
 {
@@ -73,7 +76,7 @@ fn results(exit: &ExitRef<'_>) -> ArrayVec<(i32, i32), 2>
 }
 
 /// The guards over symbols.
-fn guards(exit: &ExitRef<'_>) -> ArrayVec<Form, 4>
+fn guards(exit: &ExitRef<'_>) -> ArrayVec<Form, MOST_GUARDS>
     ensures guards { result.items
         ≡ map (over_symbols exit.now.places.live) (exit_frame_of exit.now).guards }
     ensures small { AllSmallForms result.items }

@@ -18,13 +18,11 @@ use crate::clearing::Clearing;
 use crate::rule::Rule;
 use arrayvec::ArrayVec;
 use burr_blocking::{Blocking, Looks, Query};
+use burr_code::limits::MOST_OFFSET;
 use burr_code::{Placement, is_empty_tray, is_in_set, take_aside};
 use burr_container::FormOffset;
 use burr_forms::{FormTooLarge, first_refused, the_points_are_given};
 use burr_voxels::Direction;
-
-/// A piece on the bench lies at most so far from home, a coordinate.
-const BENCH: u16 = 256;
 
 impl State {
     /// `grip`: pieces of the current tray are gripped.
@@ -83,8 +81,8 @@ impl State {
     }
 
     /// `aside`: the grip, which is not the whole tray, goes out along a direction to an empty tray,
-    /// free of the rest of its tray. A piece that is alone in a tray then is apart. Each pair at each
-    /// point is a look, and the caller's conditions are those of `step`.
+    /// free of the rest of its tray. A piece that is alone in a tray then is apart. Each pair at
+    /// each point is a look, and the caller's conditions are those of `step`.
     pub fn aside<B: Blocking>(
         &mut self,
         looks: &mut Looks<'_, B>,
@@ -137,7 +135,7 @@ impl State {
     {
         the_points_are_given();
         let offsets = offsets_in(self.tray, places);
-        self.stays_within(offsets.as_slice(), BENCH, Rule::V18)?;
+        self.stays_within(offsets.as_slice(), MOST_OFFSET, Rule::V18)?;
         let pieces = looks.assembly().piece_count();
         let roles = roles_in(self.tray, self.grip, places, pieces);
         let mut clearing = Clearing {

@@ -10,6 +10,7 @@ ghost use Rattle.burr_frames.specs.Views.Here.{OfFramedProcedure};
 use super::State;
 use crate::breaking::Break;
 use crate::rule::Rule;
+use burr_code::limits::MOST_NUMBER;
 use burr_container::ProcedureRef;
 use burr_forms::Form;
 
@@ -82,7 +83,7 @@ impl State {
             (next_verdict self.new result) }
         ensures kept { IfErr result (λ _. self.new ≡ self.old) }
     {
-        self.stays_within(&[form], 32767, Rule::V12)?;
+        self.stays_within(&[form], MOST_NUMBER, Rule::V12)?;
         let cost = self.paid()?;
         self.set_cost(cost);
         self.take_off();
@@ -105,8 +106,8 @@ impl State {
         Ok(())
     }
 
-    /// `store`: slot v, which is no parameter of the procedure, has the topmost operand's form, which
-    /// is taken off.
+    /// `store`: slot v, which is no parameter of the procedure, has the topmost operand's form,
+    /// which is taken off.
     pub fn store(&mut self, procedure: ProcedureRef<'_, '_>, v: u8) -> Result<(), Break>
         requires { v < 8 }
         ensures verdict { OfFramedProcedure procedure.entry (λ plan here.

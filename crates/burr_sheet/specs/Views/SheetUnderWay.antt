@@ -2,6 +2,7 @@
 use Rattle.std.specs.Prelude.{◌≡◌, ℕ, ◌+◌, ◌≤◌, ◌==◌, ◌&&◌, List, [], ◌∷◌, ◌++◌, Bool, Option, Some, None, MatchOption, if◌then◌else◌}
 use Rattle.burr_io.specs.Sink.{SinkView, Takes, FailsWithin}
 use Rattle.burr_voxels.specs.Grid.{number_of}
+use Rattle.burr_code.specs.declared.limits.TheConstants.{MOST_BUDGET}
 use Rattle.burr_state.specs.declared.motion.Motion.{Motion}
 use Rattle.burr_state.specs.declared.closing.Closing.{Closing}
 use Rattle.burr_sheet.specs.declared.sheet.line.GrowingLine.{GrowingLine}
@@ -98,7 +99,7 @@ growing_lines (Some l) = 1
 
 -- the counts are in their bounds: there are never more lines than motions
 pub record IsCounted (u : UnderWay) : Type 0 where
-  pub motions : u.motions ≤ 1000000
+  pub motions : u.motions ≤ MOST_BUDGET
   pub lines : u.lines + growing_lines u.growing ≤ u.motions
   pub level : u.level ≤ u.lines
   pub units : MatchOption u.growing (Unit {0}) (λ l. l.units ≤ u.motions)

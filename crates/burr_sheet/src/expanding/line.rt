@@ -5,6 +5,7 @@ ghost use Rattle.burr_sheet.specs.Views.MotionLines.{AreWordsOf, BeginsWithLine,
 
 use crate::expanding::group::group_named;
 use crate::expanding::words::{LineWords, count, ending, words_at};
+use crate::laws::a_reference_holds_an_assembly;
 use burr_assembly::Assembly;
 use burr_code::limits::TRAYS;
 use burr_state::Motion;
@@ -71,8 +72,8 @@ pub fn line_at<'a>(
         (λ read. BeginsWithLine (names_of assembly.now) number text.now (line_of read.0)
         read.1.now) }
 {
-    // What a reference to an assembly holds is one, so that its names hold no blank.
-    let _pieces = assembly.piece_count();
+    // So its names hold no blank.
+    a_reference_holds_an_assembly(assembly);
     let (words, after) = words_at(number, text)?;
     Some((line_with(assembly, words)?, after))
 }

@@ -2,6 +2,7 @@ ghost use Rattle.std.specs.Prelude.{◌≡◌, ◌==◌, ◌+◌, ◌≤◌, ◌
 ghost use Rattle.std.specs.List.{join_with_byte};
 ghost use Rattle.burr_io.specs.Sink.{Puts};
 ghost use Rattle.burr_voxels.specs.Grid.{name_of};
+ghost use Rattle.burr_code.specs.declared.limits.TheConstants.{MOST_BUDGET};
 ghost use Rattle.burr_assembly.specs.Rules.Homes.{names_of};
 ghost use Rattle.burr_text.specs.Words.{text_line};
 ghost use Rattle.burr_sheet.specs.Rules.SheetText.{alone, move_line, names_from, out_word};
@@ -54,7 +55,7 @@ impl GrowingLine {
 
     /// The line with one step more.
     pub fn with_step(self) -> GrowingLine
-        requires { self.units ≤ 1000000 }
+        requires { self.units ≤ MOST_BUDGET }
         ensures { result ≡ record self { units = self.units + 1 } }
     {
         GrowingLine {
@@ -105,7 +106,7 @@ fn put_steps<W: Sink>(
 }
 
 /// Puts the names of the pieces of a group, as `A,B`.
-fn put_names<W: Sink>(assembly: &Assembly, group: u32, sink: &mut W) -> Result<(), WriteFault>
+pub fn put_names<W: Sink>(assembly: &Assembly, group: u32, sink: &mut W) -> Result<(), WriteFault>
     ensures { Puts W.Sink sink.old sink.new
         (join_with_byte 44 (names_from 0 group (names_of assembly.now))) result }
 {

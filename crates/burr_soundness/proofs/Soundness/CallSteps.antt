@@ -1,6 +1,6 @@
 -- A call: the callee stands for its entry frame, and the caller waits.
 use Rattle.std.proofs.Common.{◌≡◌, ℕ, zero, suc, ◌+◌, ◌-◌, ◌^◌, ◌<◌, ◌≤◌, List, [], ◌∷◌, ◌++◌, length, Option, Some, None, Bool, true, false, refl, sym, subst, ap, ◌∙◌, arith, length-append, append-nil}
-use Rattle.std.specs.Prelude.{ℤ, pos, neg_ℤ, ◌+ℤ◌, ◌-ℤ◌, ◌≤ℤ◌, min, map, take, drop, reverse, replicate, slice_get, get_or, nat_le, nat_lt, if◌then◌else◌}
+use Rattle.std.specs.Prelude.{ℤ, pos, ◌+ℤ◌, ◌-ℤ◌, ◌≤ℤ◌, min, map, take, drop, reverse, replicate, slice_get, get_or, nat_le, nat_lt, if◌then◌else◌}
 use Rattle.std.specs.Option.{option_map}
 use Rattle.std.proofs.lemmas.Int.{ints}
 use Rattle.std.proofs.lemmas.List.{length-map, map-append, length-reverse}
@@ -30,14 +30,13 @@ use Rattle.burr_state.specs.Rules.Control.{called}
 use Rattle.burr_soundness.specs.Framing.{bench_part, framed_setup}
 use Rattle.burr_soundness.specs.Standing.{Stands}
 use Rattle.burr_soundness.specs.Invariant.{IsGood, HasParameters, IsAdmitted, ReturnsAs}
-use Rattle.burr_soundness.proofs.Soundness.CallRule.{call_holds}
+use Rattle.burr_verify.proofs.Common.CallRule.{call_holds}
+use Rattle.burr_verify.proofs.Common.Costs.{cost_after}
 use Rattle.burr_verify.proofs.Common.FineVerdicts.{IsFine}
 use Rattle.burr_soundness.proofs.Soundness.Failing.{goes_past, goes_with}
-use Rattle.burr_verify.proofs.Common.FormValues.{value_raised, value_minus}
 use Rattle.burr_soundness.proofs.Soundness.Values.{value_more}
 use Rattle.burr_soundness.proofs.Soundness.Arrival.{stands_at_frame}
 use Rattle.burr_soundness.proofs.Soundness.Tidy.{box_length, box_more, values_more, guards_more}
-use Rattle.burr_verify.proofs.Common.FormValues.{value_substituted}
 use Rattle.burr_soundness.proofs.Soundness.Substitutions.{places_substituted, guards_substituted, symbols_are}
 use Rattle.burr_soundness.proofs.Soundness.Returns.{top_many_map, map_reverse}
 use Rattle.burr_soundness.proofs.Soundness.Mapped.{map_at}
@@ -267,16 +266,6 @@ pub record CallsOn (homes : List (List Cell)) (plan : FramedPlan) (n q : ℕ) (s
   pub steps : new.steps ≡ min (b.steps + 1) (2 ^ 64 - 1)
   pub mode : new.mode ≡ b.mode
   pub good : IsGood homes new.places new.tray new.grip
-
--- the cost after a call
-pub cost_after : (cost : Form) (forms : List Form) (entry : Form) (x : Point)
-    → value x (minus_form (one_less cost) (substituted forms entry))
-    ≡ ((value x cost -ℤ pos 1) -ℤ value (values x forms) entry)
-cost_after cost forms entry x =
-    let a = value_minus (one_less cost) (substituted forms entry) x in
-    let c = value_substituted forms entry x in
-    let d = value_raised (neg_ℤ (pos 1)) cost x in
-    omega (arith, ints)
 
 cost_more : (cost : Form) (forms : List Form) (entry : Form) (n : ℕ) (point more : Point)
     → length point ≡ n → IsWellScoped n cost → AllOver n forms

@@ -25,7 +25,8 @@ use Rattle.burr_verify.proofs.Common.FineVerdicts.{IsFine}
 use Rattle.burr_soundness.proofs.Soundness.Asks.{sound_ask}
 use Rattle.burr_soundness.proofs.Soundness.Others.{sound_pick}
 use Rattle.burr_soundness.proofs.Soundness.Mapped.{map_at}
-use Rattle.burr_soundness.proofs.Soundness.Judged.{Judged, judged, fine_falls, same_goes, goes-traps, asks-other, same_low, same_high}
+use Rattle.burr_verify.proofs.Common.Costs.{fine_falls}
+use Rattle.burr_soundness.proofs.Soundness.Judged.{Judged, judged, same_goes, goes-traps, asks-other, same_low, same_high}
 use Rattle.burr_code.proofs.Common.Reading.{one_stands_at}
 use Rattle.burr_soundness.proofs.Soundness.Costs.{AreTidy, one_step, ended_cost, within_cost, waiting}
 use Rattle.burr_soundness.proofs.Soundness.Comes.{Comes, falls_through, sent, ends, asks, returns, calls, comes}

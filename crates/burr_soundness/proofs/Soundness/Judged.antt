@@ -7,14 +7,13 @@ use Rattle.burr_voxels.specs.declared.cell.Cell.{Cell}
 use Rattle.burr_code.specs.Instruction.{StandsAt}
 use Rattle.burr_frames.specs.Rules.FramedPlans.{FramedProcedure, FramedPlan}
 use Rattle.burr_frames.specs.Rules.States.{AbstractState}
-use Rattle.burr_frames.specs.Rules.Verdicts.{Verdict, Breaks, FallsThrough, NoSuccessor}
+use Rattle.burr_frames.specs.Rules.Verdicts.{Verdict, FallsThrough}
 use Rattle.burr_frames.specs.Rules.Transfer.{Transfer}
 use Rattle.burr_verify.specs.Rules.WellFramed.{Annotated, after, Enters, FallsOut, IsCutFrom}
 use Rattle.burr_state.specs.declared.motion.Motion.{Motion}
 use Rattle.burr_state.specs.declared.trap.Trap.{Trap}
 use Rattle.burr_state.specs.Rules.Bench.{BenchState}
 use Rattle.burr_state.specs.Rules.Next.{Next, Goes, Asks, Traps}
-use Rattle.burr_verify.proofs.Common.FineVerdicts.{IsFine}
 
 -- what the pass says of an instruction, and of the next
 pub record Judged (homes : List (List Cell)) (plan : FramedPlan) (n : ℕ) (here : FramedProcedure)
@@ -59,11 +58,6 @@ judged homes plan n here (first ∷ rows) pc falling (suc k) row p e =
       falls_through = j.falls_through;
       next = j.next;
     }
-
-pub fine_falls : (v : Verdict) (out : Option AbstractState) → FallsOut v out → IsFine v
-fine_falls (Breaks b) out h = h
-fine_falls (FallsThrough s) out h = tt
-fine_falls NoSuccessor out h = tt
 
 pub falls_out : (v : Verdict) (out : Option AbstractState) (s : AbstractState) → FallsOut v out
     → v ≡ FallsThrough s → out ≡ Some s

@@ -15,8 +15,9 @@ use Rattle.burr_soundness.proofs.Soundness.StepOutcomes.{FallsOn, SentOn}
 use Rattle.burr_soundness.specs.Invariant.{HasParameters, Waits, AllWait, IsSafeState}
 use Rattle.burr_soundness.proofs.Soundness.Returns.{entered, ReturnsTo}
 use Rattle.burr_soundness.proofs.Soundness.CallSteps.{CallsOn, caller_of}
-use Rattle.burr_soundness.proofs.Soundness.Judged.{Judged, fine_falls, falls_out}
-use Rattle.burr_soundness.proofs.Soundness.Costs.{AreTidy, costs, fell, sent_cost, call_cost, ret_cost, one_step}
+use Rattle.burr_verify.proofs.Common.Costs.{costs, fine_falls}
+use Rattle.burr_soundness.proofs.Soundness.Judged.{Judged, falls_out}
+use Rattle.burr_soundness.proofs.Soundness.Costs.{AreTidy, fell, sent_cost, call_cost, ret_cost, one_step}
 
 -- the cost of the running instruction is at least one
 pub running_cost : (homes : List (List Cell)) (plan : FramedPlan) → HasFraming homes plan
@@ -24,7 +25,7 @@ pub running_cost : (homes : List (List Cell)) (plan : FramedPlan) → HasFraming
     → Judged homes plan b.running.procedure safe.here safe.rows safe.k safe.row
     → pos 1 ≤ℤ value safe.point safe.row.state.cost
 running_cost homes plan ok b safe j =
-    costs homes plan ok (length plan.procedures) b.running.procedure safe.here safe.here_is
+    costs homes plan ok.cut (length plan.procedures) b.running.procedure safe.here safe.here_is
     (omega arith) safe.row.instruction safe.row.state j.verdict (fine_falls j.verdict j.out j.falls_through)
     j.transfer safe.point safe.stands.running.is_point
 

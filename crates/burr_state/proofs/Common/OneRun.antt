@@ -14,7 +14,8 @@ use Rattle.burr_state.specs.Rules.Run.{Run, ends, stops, traps, waits, passes, t
 use Rattle.burr_state.specs.declared.closing.Closing.{Closing}
 use Rattle.burr_state.specs.Laws.RunLaws.{OneResult}
 use Rattle.burr_state.specs.declared.closing.Closing.TheVariants as closings
-use Rattle.burr_state.proofs.Uniqueness.OneStep.{IsOne, one_given, one_needed, one_next, one_way_on, asks_where_taken}
+use Rattle.burr_code.proofs.Common.OneAnswer.{IsOne, one_given, one_needed}
+use Rattle.burr_state.proofs.Uniqueness.OneStep.{one_next, one_way_on, asks_where_taken}
 
 -- what a run does first: it closes, or goes on at a state with the answers that are left and makes these motions
 data Turn : Type 0 where

@@ -7,6 +7,7 @@ use Rattle.burr_voxels.specs.declared.direction.Direction.{Direction}
 use Rattle.burr_voxels.specs.Grid.{plus, shifted, along}
 use Rattle.burr_voxels.specs.CellSets.{Overlap, IsFree}
 use Rattle.burr_voxels.specs.Near.{IsWithin}
+use Rattle.burr_code.specs.declared.limits.TheConstants.{MOST_OFFSET}
 use Rattle.burr_code.specs.Instruction.{Grip, Step, Aside, Tray}
 use Rattle.burr_code.specs.PieceSets.{IsInSet}
 use Rattle.burr_code.specs.declared.placement.Placement.{Placement}
@@ -32,7 +33,7 @@ NoOverlap homes places = (tray : ℕ) → NoOverlapIn homes places tray
 -- each piece of this tray is on the bench
 abbrev pub AllOnBench : List (Placement Cell) → ℕ → Type 0
 AllOnBench places tray =
-    (p : ℕ) (offset : Cell) → LiesAt places p tray offset → IsWithin 256 offset
+    (p : ℕ) (offset : Cell) → LiesAt places p tray offset → IsWithin MOST_OFFSET offset
 
 -- Shifted any whole number of units along a direction, no piece of the group overlaps a piece of
 -- the tray that is not in the group.

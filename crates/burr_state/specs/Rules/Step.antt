@@ -58,7 +58,7 @@ AsksFor setup s low high = NextIs setup s (Asks low high)
 abbrev pub AsksNow : Setup → BenchState → ℤ → ℤ → Type 0
 AsksNow setup s low high = (s.mode ≡ Running) × AsksFor setup s low high
 
--- the question for which it waits, by its least and its greatest answer; none where it waits for none
+-- the question for which it waits, by its least and its greatest answer; none where there is none
 abbrev pub IsQuestionOf : Setup → BenchState → Option (ℤ × ℤ) → Type 0
 IsQuestionOf setup s question =
     MatchOption question ((low high : ℤ) → ¬ AsksNow setup s low high)

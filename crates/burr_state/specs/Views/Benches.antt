@@ -28,7 +28,7 @@ benched assembly program state =
 abbrev pub in_state : BenchState → Benched → Benched
 in_state state b = record b { state = state }
 
--- a bench that has made no step: it stands at the start of what it runs, and all pieces are one part
+-- a bench that has made no step: it stands at the start of what it runs, all pieces in one part
 pub record IsAtStart (b : Benched) : Type 0 where
   pub state : b.state ≡ start (setup_of b)
   pub parts : parts b.state.places ≡ 1

@@ -3,6 +3,7 @@ use Rattle.std.specs.Prelude.{List}
 use Rattle.std.specs.List.{All}
 use Rattle.burr_voxels.specs.declared.cell.Cell.{Cell}
 use Rattle.burr_voxels.specs.Near.{IsWithin}
+use Rattle.burr_code.specs.declared.limits.TheConstants.{MOST_OFFSET}
 use Rattle.burr_code.specs.declared.placement.Placement.{Placement}
 use Rattle.burr_code.specs.declared.placement.Placement.TheVariants.{Apart, On}
 
@@ -17,4 +18,4 @@ PositionsHold P places = All (PositionHolds P) places
 
 -- the pieces lie at most 256 from home, a coordinate
 abbrev pub AreNear : List (Placement Cell) → Type 0
-AreNear places = PositionsHold (IsWithin 256) places
+AreNear places = PositionsHold (IsWithin MOST_OFFSET) places

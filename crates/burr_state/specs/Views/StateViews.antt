@@ -4,6 +4,7 @@ use Rattle.burr_voxels.specs.declared.cell.Cell.{Cell}
 use Rattle.burr_voxels.specs.declared.direction.Direction.{Direction}
 use Rattle.burr_voxels.specs.Grid.{origin, plus, along}
 use Rattle.burr_voxels.specs.Near.{IsWithin}
+use Rattle.burr_code.specs.declared.limits.TheConstants.{MOST_OFFSET}
 use Rattle.burr_code.specs.PieceSets.{IsInSet}
 use Rattle.burr_code.specs.declared.placement.Placement.{Placement}
 use Rattle.burr_code.specs.declared.placement.Placement.TheVariants.{On}
@@ -73,7 +74,7 @@ gone_aside tray size s = record (after size s) {
 abbrev pub PieceStaysOnBench : BenchState → Direction → ℕ → Type 0
 PieceStaysOnBench s direction p =
     (offset : Cell) → LiesAt s.places p s.tray offset
-    → IsWithin 256 (plus offset (along direction (pos 1)))
+    → IsWithin MOST_OFFSET (plus offset (along direction (pos 1)))
 
 -- each piece of the current tray is, after one unit of the grip
 abbrev pub StaysOnBench : BenchState → Direction → Type 0

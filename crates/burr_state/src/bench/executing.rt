@@ -30,8 +30,8 @@ impl<'a> Bench<'a> {
         fetch(procedure.code(), self.state.pc())
     }
 
-    /// Carries out the next instruction, of so many bytes, where that is neither `step` nor `aside`;
-    /// a trap or a question changes nothing.
+    /// Carries out the next instruction, of this many bytes, where that is neither `step` nor
+    /// `aside`; a trap or a question changes nothing.
     pub fn execute(&mut self, instruction: &Instr<'_>, size: usize) -> Result<Effect, Trap>
         requires still { MovesNoPiece (meaning instruction.now) }
         requires next { IsNext self.old (meaning instruction.now) size }
@@ -49,8 +49,8 @@ impl<'a> Bench<'a> {
             .execute(instruction, procedure, &self.program, size)
     }
 
-    /// The step of a `step` of so many bytes, which is not tested here: the grip goes one unit along
-    /// a direction, and stays on the bench.
+    /// The step of a `step` of this many bytes, which is not tested here: the grip goes one unit
+    /// along a direction, and stays on the bench.
     pub fn move_grip(&mut self, direction: Direction, size: usize) -> Motion
         requires on_bench { StaysOnBench self.old.state direction }
         requires within { self.old.state.running.pc + size ≤ MOST_CODE }

@@ -1,7 +1,7 @@
 ghost use Rattle.std.specs.Prelude.{◌≡◌, ◌≤◌, ◌<◌, ◌+◌, ◌↔◌, List, length, IfSome, IsTrue, MatchOption, Some, None, slice_get, get_or, reverse};
 ghost use Rattle.burr_voxels.specs.declared.cell.Cell.{Cell};
 ghost use Rattle.burr_voxels.specs.Near.{IsWithin};
-ghost use Rattle.burr_code.specs.declared.limits.TheConstants.{MOST_BUDGET, SLOTS};
+ghost use Rattle.burr_code.specs.declared.limits.TheConstants.{MOST_BUDGET, MOST_OFFSET, SLOTS};
 ghost use Rattle.burr_code.specs.Places.{IsPartOfTray, IsEmptyTray};
 ghost use Rattle.burr_state.specs.Rules.Bench.{running, HasLabelOf, IsLabelAt};
 ghost use Rattle.burr_state.specs.Views.StateViews.{IsOffsetHere, StaysOnBench};
@@ -44,12 +44,12 @@ impl<'a> Bench<'a> {
         self.state.piece_count()
     }
 
-    /// Where a piece is: apart, or in a tray, 0 to 31, and how far from home it lies there. Its number is
-    /// below the count of pieces, the caller's condition.
+    /// Where a piece is: apart, or in a tray, 0 to 31, and how far from home it lies there. Its
+    /// number is below the count of pieces, the caller's condition.
     pub fn place(&self, piece: u8) -> Placement<Cell>
         requires { piece < length self.now.state.places }
         ensures place { slice_get self.now.state.places piece ≡ Some result }
-        ensures near { PositionHolds (IsWithin 256) result }
+        ensures near { PositionHolds (IsWithin MOST_OFFSET) result }
     {
         self.state.place(piece)
     }
@@ -57,7 +57,7 @@ impl<'a> Bench<'a> {
     /// How far from home a piece lies in the current tray; None where it isn't there.
     pub fn offset_here(&self, piece: u8) -> Option<Cell>
         ensures offset { IsOffsetHere self.now.state piece result }
-        ensures near { IfSome result (IsWithin 256) }
+        ensures near { IfSome result (IsWithin MOST_OFFSET) }
     {
         self.state.offset_here(piece)
     }

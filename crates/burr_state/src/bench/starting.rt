@@ -12,8 +12,8 @@ use crate::state::BenchState;
 use burr_container::Container;
 
 impl<'a> Bench<'a> {
-    /// A container's plan before its first step, with so many pieces: all in tray 0 at home, nothing
-    /// gripped.
+    /// A container's plan before its first step, with this many pieces: all in tray 0 at home,
+    /// nothing gripped.
     pub fn of<'c: 'a>(container: &Container<'c>, pieces: u8) -> Bench<'a>
         requires { pieces ≤ 32 }
         ensures program { (p : Plan) → IsContainer container.entry.now p

@@ -18,8 +18,8 @@ impl BenchState {
         self.mode = Mode::Trapped(trap);
     }
 
-    /// The step of a `step` of so many bytes: the grip goes one unit along a direction, and stays on
-    /// the bench.
+    /// The step of a `step` of this many bytes: the grip goes one unit along a direction, and stays
+    /// on the bench.
     pub fn move_grip(&mut self, direction: Direction, size: usize)
         requires on_bench { StaysOnBench self.old direction }
         requires within { self.old.running.pc + size ≤ MOST_CODE }

@@ -37,7 +37,8 @@ impl BenchState {
         Ok(Effect::Goes(None))
     }
 
-    /// `jump`: goes on at a label, which stands at this position; None where there is no such label.
+    /// `jump`: goes on at a label, which stands at this position; None where there is no such
+    /// label.
     pub fn jump(&mut self, label: u16, position: Option<u16>) -> Result<Effect, Trap>
         ensures next { (here : BenchProcedure) → slice_get here.labels label ≡ position
             → jumping here self.old label (next_of result self.new) }
@@ -52,8 +53,8 @@ impl BenchState {
         Ok(Effect::Goes(None))
     }
 
-    /// `down`, in a procedure with so many parameters: at 0 it goes on after, else the slot holds one
-    /// less and it goes on at a label, which stands at this position; None where there is none.
+    /// `down`, in a procedure with this many parameters: at 0 it goes on after, else the slot holds
+    /// one less and it goes on at a label, which stands at this position; None where there is none.
     pub fn down(
         &mut self,
         slot: u8,
@@ -93,8 +94,8 @@ impl BenchState {
         Ok(Effect::Goes(None))
     }
 
-    /// `call`: the topmost operands become the first slots of a procedure of a higher number, the top
-    /// the last of them.
+    /// `call`: the topmost operands become the first slots of a procedure of a higher number, the
+    /// top the last of them.
     pub fn call(&mut self, callee: u8, program: &Program<'_>, size: usize) -> Result<Effect, Trap>
         requires within { self.old.running.pc + size ≤ MOST_CODE }
         requires size { size ≡ length (spelled (Call callee)) }

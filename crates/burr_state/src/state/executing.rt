@@ -9,6 +9,7 @@ ghost use Rattle.burr_state.specs.Rules.Bench.{running};
 ghost use Rattle.burr_state.specs.Views.Programs.{FitsProgram};
 ghost use Rattle.burr_state.specs.Rules.Step.{Executes};
 ghost use Rattle.burr_state.specs.Views.Effects.{next_of, KeepsUnlessGoes, NeverMoves, StaysFitting, MovesNoPiece};
+ghost use Rattle.burr_state.specs.Views.StateViews.{IsOrderly};
 
 use crate::effect::Effect;
 use crate::program::{Procedure, Program};
@@ -17,8 +18,8 @@ use crate::trap::Trap;
 use burr_code::Instr;
 
 impl BenchState {
-    /// Carries out an instruction of so many bytes that moves no piece, in the procedure that runs; a
-    /// trap changes nothing.
+    /// Carries out an instruction of this many bytes that moves no piece, in the procedure that
+    /// runs; a trap changes nothing.
     pub fn execute(
         &mut self,
         instruction: &Instr<'_>,
@@ -39,7 +40,7 @@ impl BenchState {
         ensures no_motion { NeverMoves result }
         ensures stays { StaysFitting program.now.procedures self.old self.new }
     {
-        let _ = &self.places;
+        self.each_state_is_orderly();
         match instruction {
             Instr::Halt => self.halt(),
             Instr::Push(number) => self.push(*number, size),
@@ -61,5 +62,13 @@ impl BenchState {
             Instr::Ret => self.ret(procedure.results()),
             Instr::Step(_) | Instr::Aside(..) => unreachable!(),
         }
+    }
+
+    /// A law of each state: the gripped pieces lie in the current tray, and callers have lower
+    /// numbers than those that they call.
+    fn each_state_is_orderly(&self)
+        ensures { IsOrderly self.now }
+    {
+        let _ = &self.grip;
     }
 }

@@ -10,6 +10,7 @@ ghost use Rattle.burr_state.specs.Views.Effects.{next_of, KeepsUnlessGoes, Never
 use crate::effect::Effect;
 use crate::state::BenchState;
 use crate::trap::Trap;
+use burr_code::limits::MOST_NUMBER;
 
 impl BenchState {
     /// `push`: a number comes on top of the operands.
@@ -135,7 +136,8 @@ fn in_number_range(number: i64) -> Option<i32>
     ensures { MatchOption result (¬ IsInNumberRange number)
         (λ same. (same ≡ number) × IsInNumberRange number) }
 {
-    if number < -32_767 || 32_767 < number {
+    let most = i64::from(MOST_NUMBER);
+    if number < -most || most < number {
         return None;
     }
     Some(number as i32)

@@ -39,8 +39,8 @@ impl BenchState {
         Ok(Effect::Asks(0, last_number(labels)))
     }
 
-    /// An answer to `ask`: pushed, where there is room and it fits; else nothing changes. Whether it
-    /// is taken.
+    /// An answer to `ask`: pushed, where there is room and it fits; else nothing changes. Whether
+    /// it is taken.
     pub fn take_number(&mut self, low: i16, high: i16, answer: i32, size: usize) -> bool
         requires within { self.old.running.pc + size ≤ MOST_CODE }
         requires size { size ≡ length (spelled (Ask low high)) }
@@ -55,8 +55,8 @@ impl BenchState {
         true
     }
 
-    /// An answer to `pick`: the run goes on at the label that it numbers, where all labels are there
-    /// and it fits; else nothing changes. Whether it is taken.
+    /// An answer to `pick`: the run goes on at the label that it numbers, where all labels are
+    /// there and it fits; else nothing changes. Whether it is taken.
     pub fn take_label(
         &mut self,
         labels: &Labels<'_>,

@@ -1,5 +1,6 @@
 ghost use Rattle.std.specs.Prelude.{◌≡◌, ◌≤◌, ◌<◌, ◌+◌, length, IfSome, Some, slice_get};
 ghost use Rattle.burr_voxels.specs.Near.{IsWithin};
+ghost use Rattle.burr_code.specs.declared.limits.TheConstants.{MOST_OFFSET};
 ghost use Rattle.burr_state.specs.Views.StateViews.{at_start, IsOffsetHere};
 ghost use Rattle.burr_state.specs.Views.Offsets.{AreNear, PositionHolds};
 
@@ -102,7 +103,7 @@ impl BenchState {
     pub fn place(&self, piece: u8) -> Placement<Cell>
         requires { piece < length self.now.places }
         ensures place { slice_get self.now.places piece ≡ Some result }
-        ensures near { PositionHolds (IsWithin 256) result }
+        ensures near { PositionHolds (IsWithin MOST_OFFSET) result }
     {
         self.places[usize::from(piece)]
     }
@@ -110,7 +111,7 @@ impl BenchState {
     /// How far from home a piece lies in the current tray; None where it isn't there.
     pub fn offset_here(&self, piece: u8) -> Option<Cell>
         ensures offset { IsOffsetHere self.now piece result }
-        ensures near { IfSome result (IsWithin 256) }
+        ensures near { IfSome result (IsWithin MOST_OFFSET) }
     {
         self.places.get(usize::from(piece))?.position_in(self.tray)
     }

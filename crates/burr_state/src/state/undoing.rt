@@ -80,7 +80,8 @@ impl BenchState {
         self.mode = Mode::Running;
     }
 
-    /// Lays the old values of a change over the state, where the instruction stands at this position.
+    /// Lays the old values of a change over the state, where the instruction stands at this
+    /// position.
     fn change_back(&mut self, pc: usize, change: Change)
         requires orderly { IsOrderly (changed_back pc (kept_change change) self.old) }
         requires few { length (changed_back pc (kept_change change) self.old).callers

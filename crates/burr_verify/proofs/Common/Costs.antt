@@ -10,11 +10,11 @@ use Rattle.burr_forms.specs.Rules.Forms.{Form, Point, value, values, one_less, s
 use Rattle.burr_container.specs.Rules.Plans.{Frame}
 use Rattle.burr_frames.specs.Rules.FramedPlans.{FramedProcedure, FramedPlan}
 use Rattle.burr_frames.specs.Rules.States.{AbstractState, IsPoint, Everywhere, state_of}
-use Rattle.burr_frames.specs.Rules.ControlRules.{entry_of, called_with, left_of, call_rule}
-use Rattle.burr_frames.specs.Rules.Arrival.{Meets}
+use Rattle.burr_frames.specs.Rules.ControlRules.{entry_of, left_of}
 use Rattle.burr_frames.specs.Rules.Verdicts.{Verdict, Breaks, FallsThrough, NoSuccessor}
 use Rattle.burr_frames.specs.Rules.Transfer.{Transfer}
 use Rattle.burr_verify.specs.Rules.WellFramed.{Annotated, after, FallsOut, IsCutFrom, IsCut}
+use Rattle.burr_verify.proofs.Common.CallRule.{call_holds}
 use Rattle.burr_verify.proofs.Common.FineVerdicts.{IsFine, held, found, held_everywhere, held_of_pairs, paid}
 use Rattle.burr_verify.proofs.Common.FormValues.{value_raised, value_minus, value_substituted}
 use Rattle.burr_verify.proofs.Common.FromContainers.{first_label}
@@ -44,7 +44,7 @@ more_than : (a b c : ℤ) → c ≡ ((a -ℤ pos 1) -ℤ b) → pos 0 ≤ℤ c �
 more_than a b c e h k = omega (arith, ints)
 
 -- the cost after a call
-cost_after : (cost : Form) (forms : List Form) (entry : Form) (x : Point)
+pub cost_after : (cost : Form) (forms : List Form) (entry : Form) (x : Point)
     → value x (left_of cost (substituted forms entry)) ≡ ((value x cost -ℤ pos 1) -ℤ value (values x forms) entry)
 cost_after cost forms entry x =
     let a = value_minus (one_less cost) (substituted forms entry) x in
@@ -65,40 +65,6 @@ callee_above ps n q there = by_test (nat_lt n q) refl
     by_test true is e = (lt_true n q is, e)
     by_test false is e = absurd (none-some _ e)
 
--- what a call costs, where it breaks no rule
-record CallCosts (plan : FramedPlan) (n q : ℕ) (s : AbstractState) : Type 0 where
-  there : FramedProcedure
-  there_is : callee_of plan.procedures n q ≡ Some there
-  entry : Frame
-  entry_is : entry_of there ≡ Some entry
-  arguments : List Form
-  meets : Meets (called_with arguments s) entry
-  enough : Everywhere s (λ point. pos 0 ≤ℤ value point (left_of s.cost (substituted meets.forms entry.cost)))
-
-call_costs : (plan : FramedPlan) (n q : ℕ) (s : AbstractState) (v : Verdict) → IsFine v → call_rule plan n s q v
-    → CallCosts plan n q s
-call_costs plan n q s v fine t =
-    let there = found fine t in
-    let exit = found fine there.2 in
-    let entry = found fine exit.2 in
-    let taken = found fine entry.2 in
-    let room = held fine taken.2 in
-    let forms = found fine room.1 in
-    let alike = held fine forms.2 in
-    let agrees = held_everywhere (called_with taken.0.0 s) fine alike.1 in
-    let symbols = held fine agrees.1 in
-    let small = held fine symbols.1 in
-    let costs_small = held fine small.1 in
-    let cost = held_everywhere s fine costs_small.1 in record {
-      there = there.0;
-      there_is = there.1;
-      entry = entry.0;
-      entry_is = entry.1;
-      arguments = taken.0.0;
-      meets = record { forms = forms.0; known = forms.1; alike = alike.0; agrees = agrees.0 };
-      enough = cost.0;
-    }
-
 -- Cuts
 
 -- the rule of an instruction of a cut
@@ -107,7 +73,7 @@ record RowRule (homes : List (List Cell)) (plan : FramedPlan) (n : ℕ) (here : 
   fine : IsFine verdict
   rule : Transfer homes plan n here row.state row.instruction verdict
 
-fine_falls : (v : Verdict) (out : Option AbstractState) → FallsOut v out → IsFine v
+pub fine_falls : (v : Verdict) (out : Option AbstractState) → FallsOut v out → IsFine v
 fine_falls (Breaks b) out h = h
 fine_falls (FallsThrough s) out h = tt
 fine_falls NoSuccessor out h = tt
@@ -189,7 +155,7 @@ costs homes plan cuts (suc fuel) n here is few (Ask low high) s v fine t point a
 costs homes plan cuts (suc fuel) n here is few (Pick labels) s v fine t point at =
     let f = found fine t in from_one_less s point at (paid s fine f.2).0
 costs homes plan cuts (suc fuel) n here is few (Call q) s v fine t point at =
-    let c = call_costs plan n q s v fine t in
+    let c = call_holds plan n q s v fine t in
     let callee = callee_above plan.procedures n q c.there c.there_is in
     let cut = cuts q c.there callee.1 in
     let lower : length plan.procedures ≤ q + fuel = further n q fuel (length plan.procedures) callee.0 few in

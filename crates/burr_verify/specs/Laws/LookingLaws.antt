@@ -1,6 +1,7 @@
 -- Laws of the looks of passes and of judgements.
 use Rattle.std.specs.Prelude.{◌≡◌, ◌≤◌, ◌*◌, ℕ, List, length}
 use Rattle.burr_voxels.specs.declared.cell.Cell.{Cell}
+use Rattle.burr_forms.specs.declared.limits.TheConstants.{MOST_POINTS}
 use Rattle.burr_frames.specs.Rules.FramedPlans.{FramedProcedure, FramedPlan}
 use Rattle.burr_verify.specs.Rules.Judging.{Judging}
 use Rattle.burr_verify.specs.Rules.Pass.{Judgement, Stage, Pass, IsLaidOut, AllLaidOut}
@@ -44,4 +45,4 @@ abbrev pub FewLooks : Type 0
 FewLooks =
     (name : List ℕ) (homes : List (List Cell)) (plan : FramedPlan) (j : Judgement) (looks : ℕ)
     → length homes ≤ 32 → Looking name homes plan j looks
-    → looks ≤ code_size plan.procedures * (4096 * 256)
+    → looks ≤ code_size plan.procedures * (MOST_POINTS * 256)

@@ -28,8 +28,8 @@ PassIsCut =
 -- the pass refuses exactly with the first check that fails
 abbrev pub RefusalIsFirst : Type 0
 RefusalIsFirst =
-    (homes : List (List Cell)) (plan : FramedPlan) (n : ℕ) (here : FramedProcedure) (r : FailedCheck)
-    → IsLaidOut here
+    (homes : List (List Cell)) (plan : FramedPlan) (n : ℕ) (here : FramedProcedure)
+    (r : FailedCheck) → IsLaidOut here
     → Pass homes plan n here pass_start (Refuses r) ↔ IsFirstFailure homes plan n here r
 
 -- a plan has exactly one judgement
@@ -44,7 +44,8 @@ JudgingIsFraming =
     (name : List ℕ) (homes : List (List Cell)) (plan : FramedPlan) → AllLaidOut plan
     → Judging name homes plan Passed ↔ IsWellFramed name homes plan
 
--- where the judgement of the code refuses, each earlier procedure is cut, and in this one it is the first check that fails
+-- where the judgement of the code refuses, each earlier procedure is cut, and in this one it is the
+-- first check that fails
 abbrev pub RefusedInCode : List (List Cell) → FramedPlan → FailedCheck → Type 0
 RefusedInCode homes plan r =
     (k : ℕ) × (here : FramedProcedure) × (slice_get plan.procedures k ≡ Some here)
@@ -64,7 +65,8 @@ RefusedBefore name homes plan r = judging_before name homes plan nothing (Refuse
 abbrev pub HoldsBefore : List ℕ → List (List Cell) → FramedPlan → Type 0
 HoldsBefore name homes plan = judging_before name homes plan passes Passed
 
--- a refusal names the first check that fails: one before the code, or one of the code where all those hold
+-- a refusal names the first check that fails: one before the code, or one of the code where all
+-- those hold
 abbrev pub JudgingRefuses : Type 0
 JudgingRefuses =
     (name : List ℕ) (homes : List (List Cell)) (plan : FramedPlan) (r : FailedCheck)

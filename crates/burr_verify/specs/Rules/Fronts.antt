@@ -1,4 +1,5 @@
--- What a refusal of the pass means: up to its place the code is cut and the rules hold, and there a check fails.
+-- What a refusal of the pass means: up to its place the code is cut and the rules hold, and there a
+-- check fails.
 use Rattle.std.specs.Prelude.{◌≡◌, ◌≢◌, ◌⊎◌, ℕ, ◌<◌, List, [], ◌∷◌, length, Option, Some, None}
 use Rattle.burr_voxels.specs.declared.cell.Cell.{Cell}
 use Rattle.burr_code.specs.Instruction.{Instruction, StandsAt}
@@ -11,8 +12,8 @@ use Rattle.burr_verify.specs.Rules.Pass.{FailedCheck, Refuses, broken, refused, 
 use Rattle.burr_verify.specs.Rules.WellFramed.{Annotated, after, IsLabelled, HasNoLabel, Enters, FallsOut, IsBefore}
 use Rattle.burr_frames.specs.declared.rule.Rule.TheVariants as rules
 
--- The code from pc on, into which this state falls, is cut into these instructions up to a place into which `out` falls; the
--- rules hold of each, and no label is inside one.
+-- The code from pc on, into which this state falls, is cut into these instructions up to a place
+-- into which `out` falls; the rules hold of each, and no label is inside one.
 abbrev pub PassesTo : List (List Cell) → FramedPlan → ℕ → FramedProcedure → ℕ → Option AbstractState
     → List Annotated → ℕ → Option AbstractState → Type 0
 PassesTo homes plan n here pc falling [] to out = (pc ≡ to) × (falling ≡ out)
@@ -34,7 +35,8 @@ pub record IsFront (homes : List (List Cell)) (plan : FramedPlan) (n : ℕ) (her
   pub passes : PassesTo homes plan n here 0 None rows to out
   pub labels : (p : ℕ) (f : Frame) → p < to → IsLabelled here p f → IsBefore rows p (state_of f)
 
--- a check between instructions fails: a frame is missing, the code ends too early, or the state does not arrive
+-- a check between instructions fails: a frame is missing, the code ends too early, or the state
+-- does not arrive
 abbrev pub FailsBetween : ℕ → FramedProcedure → ℕ → ℕ → Option AbstractState → FailedCheck → Type 0
 FailsBetween n here last pc None r =
     (pc ≢ length here.code) × HasNoLabel here pc × (Refuses r ≡ refused n pc rules.V4)
@@ -43,7 +45,8 @@ FailsBetween n here last pc (Some s) r =
     ⊎ ((f : Frame) × (b : Broken) × (pc ≢ length here.code) × IsLabelled here pc f
     × arriving s f no_successor (Breaks b) × (Refuses r ≡ broken n last b))
 
--- a check of the instruction at pc fails in this state: none stands there, it hides a label, or its rule is broken
+-- a check of the instruction at pc fails in this state: none stands there, it hides a label, or its
+-- rule is broken
 abbrev pub FailsAt : List (List Cell) → FramedPlan → ℕ → FramedProcedure → ℕ → AbstractState
     → FailedCheck → Type 0
 FailsAt homes plan n here pc s r =

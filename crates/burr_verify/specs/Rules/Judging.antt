@@ -2,6 +2,7 @@
 use Rattle.std.specs.Prelude.{◌≡◌, ℕ, suc, ◌≤◌, pos, ◌≤ℤ◌, List, [], ◌∷◌, length, Option, Some, None, slice_get}
 use Rattle.burr_text.specs.Checks.{needs, finds}
 use Rattle.burr_voxels.specs.declared.cell.Cell.{Cell}
+use Rattle.burr_forms.specs.declared.limits.TheConstants.{MOST_POINTS}
 use Rattle.burr_forms.specs.Rules.Forms.{value}
 use Rattle.burr_forms.specs.Rules.Points.{box_size}
 use Rattle.burr_container.specs.Rules.Plans.{Frame}
@@ -24,7 +25,7 @@ nothing answer = ⊥
 
 -- the box of a frame's symbols has room
 abbrev pub HasRoomForPoints : Frame → Type 0
-HasRoomForPoints f = box_size (live_ranges f.slots) ≤ 4096
+HasRoomForPoints f = box_size (live_ranges f.slots) ≤ MOST_POINTS
 
 -- the frames of these labels, in order: each well formed, and then its box
 abbrev pub judging_labels : ℕ → ℕ → List (ℕ × Frame) → Rest → Rest

@@ -67,7 +67,8 @@ pub data Pass (homes : List (List Cell)) (plan : FramedPlan) (n : ℕ) (here : F
   resumes : (last pc : ℕ) (f : Frame) (j : Judgement) → pc ≢ length here.code → IsLabelled here pc f
       → Pass homes plan n here (AtInstruction pc (state_of f)) j
       → Pass homes plan n here (BeforeInstruction last pc None) j
-  -- The state that falls in does not arrive at the frame; this is judged at the instruction that falls.
+  -- The state that falls in does not arrive at the frame; this is judged at the instruction that
+  -- falls.
   misses : (last pc : ℕ) (s : AbstractState) (f : Frame) (b : Broken) → pc ≢ length here.code
       → IsLabelled here pc f
       → arriving s f no_successor (Breaks b)

@@ -1,10 +1,11 @@
--- Plans that are well framed: code that can be cut into instructions with a state before each, as the
--- type checker of the JVM Specification, 4.10.1, merges code and stack map frames.
+-- Plans that are well framed: code that can be cut into instructions with a state before each, as
+-- the type checker of the JVM Specification, 4.10.1, merges code and stack map frames.
 use Rattle.std.specs.Prelude.{◌≡◌, ◌≢◌, ◌⊎◌, ℕ, ◌+◌, ◌<◌, ◌≤◌, pos, ◌≤ℤ◌, List, [], ◌∷◌, length, Option, Some, None, slice_get}
 use Rattle.burr_voxels.specs.declared.cell.Cell.{Cell}
 use Rattle.burr_code.specs.declared.placement.Placement.{Placement}
 use Rattle.burr_code.specs.Places.{AllLieIn, count_in}
 use Rattle.burr_code.specs.Instruction.{Instruction, spelled, StandsAt}
+use Rattle.burr_forms.specs.declared.limits.TheConstants.{MOST_POINTS}
 use Rattle.burr_forms.specs.Rules.Forms.{value}
 use Rattle.burr_forms.specs.Rules.Points.{box_size}
 use Rattle.burr_container.specs.Rules.Plans.{FormCell, Range, Frame}
@@ -49,8 +50,8 @@ FallsOut (Breaks broken) falling = ⊥
 FallsOut (FallsThrough s) falling = falling ≡ Some s
 FallsOut NoSuccessor falling = falling ≡ None
 
--- The code from pc on, into which this state falls, is cut into these instructions, and the rules hold
--- of each.
+-- The code from pc on, into which this state falls, is cut into these instructions, and the rules
+-- hold of each.
 abbrev pub IsCutFrom : List (List Cell) → FramedPlan → ℕ → FramedProcedure → ℕ
     → Option AbstractState → List Annotated → Type 0
 IsCutFrom homes plan n here pc falling [] = (pc ≡ length here.code) × (falling ≡ None)
@@ -95,7 +96,8 @@ pub record IsFormedExit (f : FramedExit) : Type 0 where
 
 -- the frame is formed, and its box has no more than 4,096 points
 abbrev pub IsTakenFrame : ℕ → Frame → Type 0
-IsTakenFrame parameters f = IsFormed parameters f × (box_size (live_ranges f.slots) ≤ 4096)
+IsTakenFrame parameters f =
+    IsFormed parameters f × (box_size (live_ranges f.slots) ≤ MOST_POINTS)
 
 pub record IsFramedProcedure (homes : List (List Cell)) (plan : FramedPlan) (n : ℕ)
     (here : FramedProcedure) : Type 0 where

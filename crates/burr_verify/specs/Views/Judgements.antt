@@ -32,8 +32,8 @@ verdict_of s (Ok successors.FallsThrough) = FallsThrough s
 verdict_of s (Ok successors.None) = NoSuccessor
 verdict_of s (Err b) = Breaks (broken_of b)
 
--- A part of the checks: where they hold, nothing is wrong as far as what follows goes, and else they are
--- what refuses, whatever would follow.
+-- A part of the checks: where they hold, nothing is wrong as far as what follows goes, and else
+-- they are what refuses, whatever would follow.
 abbrev pub AnswersPart : (Rest → Rest) → Result ⊤ Refusal → Type 0
 AnswersPart part result =
     MatchResult result (λ _. part passes Passed) (λ r. part nothing (Refuses (failed_check r)))

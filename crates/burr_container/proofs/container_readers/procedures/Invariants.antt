@@ -8,5 +8,5 @@ use Rattle.burr_container.proofs.container_readers.procedures.Given as goal
 
 abbrev pub invariant-loop : goal.invariant-loop
 invariant-loop l =
-    IsKeptWalk (procedure l.version l.pieces false) (IsProcedure l.pieces) (l.count - 1) l.initial.cursor
+    IsKeptWalk (procedure l.layout.version l.layout.pieces false) (IsProcedure l.layout.pieces) (l.count - 1) l.initial.cursor
     l.initial.procedures.items l.counter l.procedures.items l.cursor

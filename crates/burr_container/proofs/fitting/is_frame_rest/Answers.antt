@@ -15,7 +15,7 @@ returns-then-not-are_forms c =
     let off : c.are_forms.result ≡ false = search rules in
     let guards = sym c.are_forms.ensures ∙ off in
     let told = ap (λ (fs : List Form). are_forms 4 live fs) c.deref.ensures.value in
-    subst (λ (f : Frame). false ≡ is_frame_rest c.args.pieces live f) c.frame.view_is (first_fails _ _ _ _ (sym told ∙ guards))
+    subst (λ (f : Frame). false ≡ is_frame_rest c.args.layout.pieces live f) c.frame.view_is (first_fails _ _ _ _ (sym told ∙ guards))
 
 pub returns-then-not-are_forms-2 : goal.returns-then-not-are_forms-2
 returns-then-not-are_forms-2 c =
@@ -24,7 +24,7 @@ returns-then-not-are_forms-2 c =
     let off : c.are_forms-2.result ≡ false = search rules in
     let guards = sym (ap (λ (fs : List Form). are_forms 4 live fs) c.deref.ensures.value) ∙ sym c.are_forms.ensures ∙ on in
     let stack = sym (ap (λ (fs : List Form). are_forms 8 live fs) c.deref-2.ensures.value) ∙ sym c.are_forms-2.ensures ∙ off in
-    subst (λ (f : Frame). false ≡ is_frame_rest c.args.pieces live f) c.frame.view_is (second_fails _ _ _ _ guards stack)
+    subst (λ (f : Frame). false ≡ is_frame_rest c.args.layout.pieces live f) c.frame.view_is (second_fails _ _ _ _ guards stack)
 
 pub returns : goal.returns
 returns c =
@@ -35,5 +35,5 @@ returns c =
     let guards = sym (ap (λ (fs : List Form). are_forms 4 live fs) c.deref.ensures.value) ∙ sym c.are_forms.ensures ∙ on in
     let stack = sym (ap (λ (fs : List Form). are_forms 8 live fs) c.deref-2.ensures.value) ∙ sym c.are_forms-2.ensures ∙ also in
     let cost = sym c.is_form.ensures ∙ costs in
-    let places = sym (ap (λ (ps : List Place). are_places c.args.pieces live (placements_of ps)) c.deref-3.ensures.value) ∙ sym c.are_places.ensures in
-    subst (λ (f : Frame). c.are_places.result ≡ is_frame_rest c.args.pieces live f) c.frame.view_is (last_of_four _ _ _ _ _ guards stack cost places)
+    let places = sym (ap (λ (ps : List Place). are_places c.args.layout.pieces live (placements_of ps)) c.deref-3.ensures.value) ∙ sym c.are_places.ensures in
+    subst (λ (f : Frame). c.are_places.result ≡ is_frame_rest c.args.layout.pieces live f) c.frame.view_is (last_of_four _ _ _ _ _ guards stack cost places)

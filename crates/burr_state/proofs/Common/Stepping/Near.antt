@@ -1,11 +1,10 @@
 -- Pieces stay within 256 of home.
-use Rattle.std.proofs.Common.{◌≡◌, ℕ, List, Some, sym, subst, inl, inr, arith, ◌∙◌}
-use Rattle.std.specs.Prelude.{ℤ, pos, neg_ℤ, ◌-ℤ◌, ◌≤ℤ◌, ◌+◌, slice_get, slice_index_or}
-use Rattle.std.proofs.lemmas.Int.{ints}
+use Rattle.std.proofs.Common.{◌≡◌, ℕ, List, Some, sym, subst, inl, inr, ◌∙◌}
+use Rattle.std.specs.Prelude.{pos, slice_get, slice_index_or}
 use Rattle.std.proofs.lemmas.Option.{get_or_from_slice_get, slice_get-get_or, same_Some}
 use Rattle.burr_voxels.specs.declared.cell.Cell.{Cell}
 use Rattle.burr_voxels.specs.declared.direction.Direction.{Direction}
-use Rattle.burr_voxels.specs.Grid.{plus, minus, along}
+use Rattle.burr_voxels.specs.Grid.{plus, along}
 use Rattle.burr_voxels.specs.Near.{IsWithin}
 use Rattle.burr_code.specs.PieceSets.{IsInSet}
 use Rattle.burr_code.specs.declared.placement.Placement.{Placement}
@@ -15,24 +14,6 @@ use Rattle.burr_state.specs.Views.Offsets.{PositionHolds, AreNear}
 use Rattle.burr_state.specs.Rules.Space.{AllOnBench, moved_places}
 use Rattle.burr_code.proofs.Common.Conditions.{same_tray, lies_within}
 use Rattle.burr_state.proofs.Common.Trays.Shifts.{IsShifted, lay_before_shift, lies_at_shifted}
-
--- the difference of two numbers within a bound is within twice the bound
-below_difference : (n : ℕ) (a b : ℤ) → neg_ℤ (pos n) ≤ℤ a → b ≤ℤ pos n → neg_ℤ (pos (n + n)) ≤ℤ (a -ℤ b)
-below_difference n a b least greatest = omega (arith, ints)
-
-above_difference : (n : ℕ) (a b : ℤ) → a ≤ℤ pos n → neg_ℤ (pos n) ≤ℤ b → (a -ℤ b) ≤ℤ pos (n + n)
-above_difference n a b greatest least = omega (arith, ints)
-
--- so the difference of two offsets is one that may be asked of
-pub near_difference : (a b : Cell) → IsWithin 256 a → IsWithin 256 b → IsWithin 512 (minus a b)
-near_difference a b near also = record {
-  x_above = below_difference 256 a.x b.x near.x_above also.x_below;
-  x_below = above_difference 256 a.x b.x near.x_below also.x_above;
-  y_above = below_difference 256 a.y b.y near.y_above also.y_below;
-  y_below = above_difference 256 a.y b.y near.y_below also.y_above;
-  z_above = below_difference 256 a.z b.z near.z_above also.z_below;
-  z_below = above_difference 256 a.z b.z near.z_below also.z_above;
-}
 
 -- where all places are near, so is each piece
 pub near_lying : (places : List (Placement Cell)) (p tray : ℕ) (offset : Cell) → AreNear places → LiesAt places p tray offset → IsWithin 256 offset

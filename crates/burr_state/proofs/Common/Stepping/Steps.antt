@@ -1,14 +1,12 @@
 -- What the instructions of a bench at work come to.
-use Rattle.std.proofs.Common.{◌≡◌, ℕ, List, length, drop, ◌∙◌, refl, sym, ap, subst, inl, inr, arith, true, false, ◌≢◌, pos}
+use Rattle.std.proofs.Common.{◌≡◌, ℕ, List, length, ◌∙◌, refl, ap, subst, inl, inr, arith, true, false, ◌≢◌, pos}
 use Rattle.std.specs.Prelude.{Some, ◌<◌, ◌^◌, slice_get}
-use Rattle.std.specs.List.{refill}
-use lib.Seq.{take-append_seam}
 use Rattle.burr_voxels.specs.declared.cell.Cell.{Cell}
 use Rattle.burr_voxels.specs.declared.direction.Direction.{Direction}
 use Rattle.burr_voxels.specs.Grid.{plus, along}
 use Rattle.burr_voxels.specs.Near.{IsWithin}
-use Rattle.burr_code.specs.declared.placement.Placement.{Placement}
 use Rattle.burr_code.specs.Places.{IsPartOfTray, IsEmptyTray, aside_places}
+use Rattle.burr_code.proofs.Common.Counts.{length-aside_places}
 use Rattle.burr_code.specs.Instruction.{Instruction, Step, Aside, spelled, StandsAt}
 use Rattle.burr_state.specs.declared.trap.Trap.TheVariants as traps
 use Rattle.burr_state.specs.declared.motion.Motion.{Motion}
@@ -19,7 +17,7 @@ use Rattle.burr_state.specs.Rules.Step.{Executes, IsAt}
 use Rattle.burr_state.specs.Views.StateViews.{IsOrderly, IsCallChain, after, moved_grip, StaysOnBench}
 use Rattle.burr_state.proofs.Common.Stepping.Near.{near_after_unit}
 use Rattle.burr_state.proofs.Common.Trays.Shifts.{lies_after_shift, length-moved}
-use Rattle.burr_state.proofs.Common.Trays.Parts.{all_lie_in_nothing, length-aside_places, PositionsHold-aside_places}
+use Rattle.burr_state.proofs.Common.Trays.Parts.{all_lie_in_nothing, PositionsHold-aside_places}
 
 -- Instructions: what each does, and its traps
 
@@ -60,12 +58,6 @@ is_at setup s here i procedure pc code same_one same_place runs of stands =
     (subst (λ n. slice_get setup.procedures n ≡ Some here) same_one runs, subst (λ n. StandsAt here.code n i) same_place (subst (λ (bytes : List ℕ). StandsAt bytes pc i) of stands))
 
 -- What stays true
-
--- places that are written back whole are those that were written
-pub refilled : (places moved new : List (Placement Cell)) → moved ≡ new → length new ≡ length places → refill (length places) places moved ≡ new
-refilled places moved new is as_many =
-    let same : length places ≡ length moved = sym as_many ∙ sym (ap length is) in
-    rw same (take-append_seam moved (drop (length moved) places) ∙ is)
 
 -- a state with the places after a unit is orderly
 pub orderly_unit : (s t : BenchState) (direction : Direction) → IsOrderly s → StaysOnBench s direction → t.places ≡ moved_places s.grip direction s.places → t.tray ≡ s.tray → t.grip ≡ s.grip → t.running.pc < 2 ^ 16 → IsCallChain t.running.procedure t.callers → IsOrderly t

@@ -13,7 +13,7 @@ use Rattle.burr_state.specs.Laws.AsideLaws.{LiesApart, NoneLone, CanGoAside, IsG
 use Rattle.burr_code.proofs.Common.Conditions.{same_tray, same_position}
 use Rattle.burr_state.proofs.Common.Trays.Counts.{changed_place, is_changed, is_kept, changed_back, lies_still_at, lies_still, lies_there_at, lies_there, apart_still, group_taken, count_in-third}
 use Rattle.burr_state.proofs.Common.Trays.Lone.{one_where_lone, lone_where_one, parted_place, slice_get-parted, parted_back, parted_place-apart, parted_place-other, parted_place-lone, parted_place-kept, not_lone_parted, count_in-parted}
-use Rattle.burr_state.proofs.Common.Trays.Parts.{length-aside_places}
+use Rattle.burr_code.proofs.Common.Counts.{length-aside_places}
 
 -- the places where the group has gone to the other tray, and no piece is apart yet
 abbrev gone : {Position : Type 0} → ℕ → ℕ → List (Placement Position) → List (Placement Position)

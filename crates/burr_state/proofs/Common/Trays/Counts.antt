@@ -1,6 +1,6 @@
 -- Places of which those of a set are changed, and how many pieces are counted in a tray.
-use Rattle.std.proofs.Common.{◌≡◌, ◌≢◌, ◌⊎◌, ℕ, zero, suc, ◌+◌, ◌≤◌, ◌==◌, if◌then◌else◌}
-use Rattle.std.proofs.Common.{List, [], ◌∷◌, length, slice_get, Some, All}
+use Rattle.std.proofs.Common.{◌≡◌, ◌≢◌, ◌⊎◌, ℕ, zero, suc, ◌+◌, ◌==◌, if◌then◌else◌}
+use Rattle.std.proofs.Common.{List, [], ◌∷◌, slice_get, Some, All}
 use Rattle.std.proofs.Common.{refl, sym, ap, subst, ◌∙◌, inl, inr, arith}
 use Rattle.std.proofs.lemmas.Bool.{cond_both}
 use Rattle.std.proofs.lemmas.Bool.Decides.{nat_tests}
@@ -12,7 +12,7 @@ use Rattle.burr_code.specs.PieceSets.{IsInSet, is_left_out}
 use Rattle.burr_code.proofs.Common.PieceSets.{not_left_out, left_out, decide_bit}
 use Rattle.burr_code.specs.declared.placement.Placement.{Placement}
 use Rattle.burr_code.specs.declared.placement.Placement.TheVariants.{Apart, On}
-use Rattle.burr_code.specs.Places.{LiesAt, LiesIn, AllLieIn, IsEmptyTray, changed, to_tray, is_in, count_in, parted_in}
+use Rattle.burr_code.specs.Places.{LiesAt, LiesIn, AllLieIn, changed, to_tray, is_in, count_in, parted_in}
 
 -- The places of a set are changed
 
@@ -27,11 +27,6 @@ is_changed f group p place bit = ap (λ b. if b then place else f place) (not_le
 pub is_kept : {Place : Type 0} (f : Place → Place) (group p : ℕ) (place : Place)
     → ¬ IsInSet group p → changed_place f group p place ≡ place
 is_kept f group p place none = ap (λ b. if b then place else f place) (left_out group p none)
-
-pub length-changed : {Place : Type 0} (f : Place → Place) (group p : ℕ) (places : List Place)
-    → length (changed f group p places) ≡ length places
-length-changed f group p [] = refl
-length-changed f group p (place ∷ places) = ap suc (length-changed f group (suc p) places)
 
 -- what the change keeps holds of all places afterwards
 pub All-changed : {Place : Type 0} (P : Place → Type 0) (f : Place → Place) (group p : ℕ) (places : List Place)
@@ -102,18 +97,6 @@ count_in-same t position places = grind (arith, nat_tests)
 pub count_in-other : {Position : Type 0} (t u : ℕ) (position : Position) (places : List (Placement Position))
     → u ≢ t → count_in t (On u position ∷ places) ≡ count_in t places
 count_in-other t u position places other = grind (arith, nat_tests)
-
-pub count_in-empty : {Position : Type 0} (t : ℕ) (places : List (Placement Position)) → IsEmptyTray places t → count_in t places ≡ 0
-count_in-empty t [] empty = refl
-count_in-empty t (Apart ∷ places) empty = omega (arith, count_in-empty t places (λ p. empty (suc p)))
-count_in-empty t (On u position ∷ places) empty =
-    let other : u ≢ t = λ e. empty 0 (position, ap (λ v. Some (On v position)) e) in
-    count_in-other t u position places other ∙ count_in-empty t places (λ p. empty (suc p))
-
-pub count_in-some : {Position : Type 0} (t p : ℕ) (places : List (Placement Position)) → LiesIn places p t → 1 ≤ count_in t places
-count_in-some t p [] lies = absurd (none-some _ lies.1)
-count_in-some t zero (place ∷ places) lies = rw (same_Some _ _ lies.1) (omega (arith, count_in-same t lies.0 places))
-count_in-some t (suc p) (place ∷ places) lies = omega (arith, count_in-some t p places lies)
 
 -- Pieces go from one tray to another
 

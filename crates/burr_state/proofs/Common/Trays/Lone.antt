@@ -8,7 +8,8 @@ use Rattle.burr_code.specs.declared.placement.Placement.{Placement}
 use Rattle.burr_code.specs.declared.placement.Placement.TheVariants.{Apart, On}
 use Rattle.burr_code.specs.Places.{LiesAt, LiesIn, is_in, count_in, parted_in, parted}
 use Rattle.burr_code.proofs.Common.Conditions.{apart-on}
-use Rattle.burr_state.proofs.Common.Trays.Counts.{count_in-same, count_in-other, count_in-empty, count_in-some, count_in-parted_in}
+use Rattle.burr_code.proofs.Common.Counts.{count_in-empty, count_in-some}
+use Rattle.burr_state.proofs.Common.Trays.Counts.{count_in-same, count_in-other, count_in-parted_in}
 
 -- A tray with exactly one piece
 

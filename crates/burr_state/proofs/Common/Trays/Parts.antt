@@ -12,8 +12,9 @@ use Rattle.burr_code.specs.declared.placement.Placement.TheVariants.{Apart, On}
 use Rattle.burr_code.specs.Places.{LiesIn, AllLieIn, IsPartOfTray, IsEmptyTray, changed, to_tray, is_in, count_in, parted_in, parted, aside_places}
 use Rattle.burr_state.specs.Views.Parts.{parts}
 use Rattle.burr_code.proofs.Common.PieceSets.{no_bit, set_bit}
-use Rattle.burr_state.proofs.Common.Trays.Counts.{length-changed, All-changed, lies_still, lies_there}
-use Rattle.burr_state.proofs.Common.Trays.Counts.{count_in-same, count_in-other, count_in-empty, count_in-some, IsTaken, group_taken, count_in-third, parted_in-same, parted_in-other, count_in-parted_in}
+use Rattle.burr_state.proofs.Common.Trays.Counts.{All-changed, lies_still, lies_there}
+use Rattle.burr_code.proofs.Common.Counts.{count_in-empty, count_in-some}
+use Rattle.burr_state.proofs.Common.Trays.Counts.{count_in-same, count_in-other, IsTaken, group_taken, count_in-third, parted_in-same, parted_in-other, count_in-parted_in}
 
 last_or_more : (n : ℕ) → (if n == 0 then 1 else 0) + min n 1 ≡ 1
 last_or_more n = grind (arith, nat_tests)
@@ -149,20 +150,6 @@ parts_after_aside group here there places lie part empty =
 -- all pieces of no group lie in any tray
 pub all_lie_in_nothing : {Position : Type 0} (places : List (Placement Position)) (tray : ℕ) → AllLieIn places tray 0
 all_lie_in_nothing places tray p bit = absurd (no_bit p bit)
-
-length-parted_in : {Position : Type 0} (t : ℕ) (places : List (Placement Position)) → length (parted_in t places) ≡ length places
-length-parted_in t [] = refl
-length-parted_in t (place ∷ places) = ap suc (length-parted_in t places)
-
-length-parted : {Position : Type 0} (t : ℕ) (places : List (Placement Position)) → length (parted t places) ≡ length places
-length-parted t places =
-    cond_both (count_in t places == 1) (parted_in t places) places (λ more. length more ≡ length places) (λ lone. length-parted_in t places) (λ kept. refl)
-
-pub length-aside_places : {Position : Type 0} (group here there : ℕ) (places : List (Placement Position))
-    → length (aside_places group here there places) ≡ length places
-length-aside_places group here there places =
-    let gone = changed (to_tray there) group 0 places in
-    length-parted there (parted here gone) ∙ length-parted here gone ∙ length-changed (to_tray there) group 0 places
 
 -- the condition holds of the position, where the piece has one
 PositionHolds-to_tray : {Position : Type 0} (P : Position → Type 0) (tray : ℕ) (place : Placement Position)

@@ -14,7 +14,8 @@ use Rattle.burr_voxels.specs.Grid.{plus, along}
 use Rattle.burr_state.specs.Rules.Space.{moved_places}
 use Rattle.burr_state.specs.Views.Parts.{is_last, parts}
 use Rattle.burr_code.proofs.Common.Conditions.{apart-on, same_tray, same_position}
-use Rattle.burr_state.proofs.Common.Trays.Counts.{changed_place, is_changed, is_kept, length-changed, slice_get-changed, changed_back}
+use Rattle.burr_code.proofs.Common.Counts.{length-changed}
+use Rattle.burr_state.proofs.Common.Trays.Counts.{changed_place, is_changed, is_kept, slice_get-changed, changed_back}
 
 -- a position, and what it is afterwards
 abbrev pub IsShifted : {Position : Type 0} → (Position → Position) → ℕ → ℕ → Position → Position → Type 0

@@ -55,7 +55,7 @@ loop-number-init g c = (
 
 pub judge_code-requires-clause-framed : goal.judge_code-requires-clause-framed
 judge_code-requires-clause-framed g c =
-    let has = c.header-header.ensures.container in
+    let has = c.a_container_has_a_plan.ensures.plan in
     let kept = c.args.container.now in
     let n = c.loop-number.number in
     let r = c.procedure.result in

@@ -23,7 +23,7 @@ returns-then-label_count-eq0 c =
     let lent = c.procedure-main.ensures in
     λ p homes is many.
     subst (λ (r : Refusal). judging_start homes (framed_plan p) nothing (Refuses (failed_check r))) (sym c.plain.ensures)
-    (start_lacks_entry homes p (omega (arith, c.proc_count-some.ensures.some, c.proc_count-some.ensures.plan p is))
+    (start_lacks_entry homes p (c.a_container_has_a_plan.ensures.procedures p is)
     (λ q e. sym (c.label_count.ensures.plan p q (lent_is kept 0 main p lent is) (lent_at p.procedures kept 0 main q lent e)) ∙ c.if-label_count-eq0.true))
 
 pub returns-then-is_err : goal.returns-then-is_err
@@ -34,7 +34,7 @@ returns-then-is_err c =
     λ p homes is many.
     let f = frame_of c.frame-entry.result in
     let entry =
-    has_entry p f (omega (arith, c.proc_count-some.ensures.some, c.proc_count-some.ensures.plan p is))
+    has_entry p f (c.a_container_has_a_plan.ensures.procedures p is)
     (λ q e. (let some = c.label_count.ensures.plan p q (lent_is kept 0 main p lent is) (lent_at p.procedures kept 0 main q lent e) in omega (arith, c.if-label_count-eq0.false, some)))
     (λ q e l at. c.frame-entry.ensures.plan p q (lent_is kept 0 main p lent is) (lent_at p.procedures kept 0 main q lent e) l at) in
     let misses =
@@ -52,7 +52,7 @@ returns-then-from-cost c =
     λ p homes is many.
     let f = frame_of c.frame-entry.result in
     let entry =
-    has_entry p f (omega (arith, c.proc_count-some.ensures.some, c.proc_count-some.ensures.plan p is))
+    has_entry p f (c.a_container_has_a_plan.ensures.procedures p is)
     (λ q e. (let some = c.label_count.ensures.plan p q (lent_is kept 0 main p lent is) (lent_at p.procedures kept 0 main q lent e) in omega (arith, c.if-label_count-eq0.false, some)))
     (λ q e l at. c.frame-entry.ensures.plan p q (lent_is kept 0 main p lent is) (lent_at p.procedures kept 0 main q lent e) l at) in
     let meets =
@@ -79,7 +79,7 @@ returns c =
     λ p homes is many.
     let f = frame_of c.frame-entry.result in
     let entry =
-    has_entry p f (omega (arith, c.proc_count-some.ensures.some, c.proc_count-some.ensures.plan p is))
+    has_entry p f (c.a_container_has_a_plan.ensures.procedures p is)
     (λ q e. (let some = c.label_count.ensures.plan p q (lent_is kept 0 main p lent is) (lent_at p.procedures kept 0 main q lent e) in omega (arith, c.if-label_count-eq0.false, some)))
     (λ q e l at. c.frame-entry.ensures.plan p q (lent_is kept 0 main p lent is) (lent_at p.procedures kept 0 main q lent e) l at) in
     let meets =

@@ -15,14 +15,13 @@ pub returns-clause-few : goal.returns-clause-few
 returns-clause-few g c =
     let a = c.args.looks.now.assembly in
     let same = ap (λ (b : Assembly). length b.pieces) c.assembly.ensures in
-    let count = c.piece_count-count.ensures.count in
-    let most = c.piece_count-count.ensures.few in
-    let few : length (homes_of a) ≤ 32 = omega (arith, as_many_homes a, same, count, most) in
+    let most = c.an_assembly_has_few_pieces.ensures.few in
+    let few : length (homes_of a) ≤ 32 = omega (arith, as_many_homes a, same, most) in
     λ p is. c.a_plan_has_so_many_looks.ensures.few a.name (homes_of a) (framed_plan p) (judgement_of c.judge_plan.result) _ few
     (c.judge_plan.ensures.looked p is)
 
 pub returns-clause-framed : goal.returns-clause-framed
 returns-clause-framed g c =
     let a = c.args.looks.now.assembly in
-    λ p is. framed_exactly c.args.container.now a.name (homes_of a) p c.judge_plan.result c.header-header.ensures.container is
+    λ p is. framed_exactly c.args.container.now a.name (homes_of a) p c.judge_plan.result c.a_container_has_a_plan.ensures.plan is
     (c.a_plan_has_so_many_looks.ensures.judged _ _ _ _ _ (c.judge_plan.ensures.looked p is))

@@ -30,7 +30,7 @@ loop-low-preserved-then-from-place c = record {
       let y = element_at here.labels middle inside in
       let place = place_of c.args.procedure.container.now c.args.procedure.number middle c.label.result c.label.ensures p here kept at y.0 y.1 in
       let less : y.0.0 < c.args.place = omega (arith, place, c.from.ensures, c.if-from-place.true) in
-      let laid = laid_out_here c.args.procedure.container.now p c.args.procedure.number here (subst HasPlan c.container.ensures c.header-header.ensures.container) kept at in (
+      let laid = laid_out_here c.args.procedure.container.now p c.args.procedure.number here (subst HasPlan c.container.ensures c.a_container_has_a_plan.ensures.plan) kept at in (
         (λ before. up_to_middle here laid middle y.0 y.1 c.args.place less k x standing before),
         (λ after. (c.loop-low.invariant.split p here kept at k x standing).1 after),
       ));
@@ -47,7 +47,7 @@ loop-low-preserved c = record {
       let y = element_at here.labels middle inside in
       let place = place_of c.args.procedure.container.now c.args.procedure.number middle c.label.result c.label.ensures p here kept at y.0 y.1 in
       let more : c.args.place ≤ y.0.0 = omega (arith, place, c.from.ensures, c.if-from-place.false) in
-      let laid = laid_out_here c.args.procedure.container.now p c.args.procedure.number here (subst HasPlan c.container.ensures c.header-header.ensures.container) kept at in (
+      let laid = laid_out_here c.args.procedure.container.now p c.args.procedure.number here (subst HasPlan c.container.ensures c.a_container_has_a_plan.ensures.plan) kept at in (
         (λ before. (c.loop-low.invariant.split p here kept at k x standing).0 before),
         (λ after. from_middle here laid middle y.0 y.1 c.args.place more k x standing after),
       ));

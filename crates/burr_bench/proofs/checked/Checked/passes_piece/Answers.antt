@@ -5,7 +5,7 @@ use Rattle.burr_assembly.specs.Rules.Homes.{homes_of, home_at}
 use Rattle.burr_blocking.specs.Rules.Pairs.{Clears}
 use Rattle.burr_text.proofs.Common.Tests.{yes_iff}
 use Rattle.burr_state.specs.Views.Benches.{Benched}
-use Rattle.burr_state.proofs.Common.Stepping.Near.{near_difference}
+use Rattle.burr_code.proofs.Common.Near.{near_difference}
 use Rattle.burr_bench.proofs.Stepping.Ways.{passes_absent, passes_present}
 use Rattle.burr_bench.proofs.checked.Checked.passes_piece.Goals as goal
 

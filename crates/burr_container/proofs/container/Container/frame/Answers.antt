@@ -15,7 +15,7 @@ returns-clause-places c =
     let kept = c.args.self.now in
     let same : c.deref.result.now ≡ kept.procedures = c.deref.ensures.0 ∙ ap (λ (k : ContainerView). k.procedures) c.self.view_is in
     let there = slice_get-get_or kept.procedures i c.index-deref-i.result c.requires.procedure in
-    let pieces = ap (λ (xs : List StoredProcedure). (slice_index_or xs i c.index-deref-i.result).labels.pieces) same in
+    let pieces = ap (λ (xs : List StoredProcedure). (slice_index_or xs i c.index-deref-i.result).labels.layout.pieces) same in
     c.label.ensures.places ∙ pieces
     ∙ labels_of_plan kept i (slice_index_or kept.procedures i c.index-deref-i.result) (subst HasPlan c.self.view_is c.self.invariant) there
 

@@ -19,5 +19,5 @@ pub unreachable-requires : goal.unreachable-requires
 unreachable-requires c =
     let table = c.args.self.now in
     let default : Bor (List ℕ) = record { ref_ptr = (0, 0); now = [] } in
-    kept_never table.pieces c.args.n table.starts.items c.deref.result.now default c.new.result _ table.readable c.requires c.deref.ensures.0
+    kept_never table.layout.pieces c.args.n table.starts.items c.deref.result.now default c.new.result _ table.readable c.requires c.deref.ensures.0
     c.new.ensures.rest (inl c.in_default.ensures)

@@ -7,24 +7,24 @@ pub returns-in_err-results-clause-reads : goal.returns-in_err-results-clause-rea
 returns-in_err-results-clause-reads c =
     let p = err_from_is_err_and c.from_residual-in_err-results.result c.from_residual-in_err-results.ensures.1 in
     rw (p.1, p.2)
-    (ranges_fail_in_exit c.args.version c.args.pieces c.args.parameters c.args.results _ _ _ _ _ c.in_ok-tray.ensures c.in_ok-grip.ensures _
+    (ranges_fail_in_exit c.args.layout.version c.args.layout.pieces c.args.parameters c.args.results _ _ _ _ _ c.in_ok-tray.ensures c.in_ok-grip.ensures _
     c.in_err-results.ensures.reads)
 
 pub returns-in_err-guards-clause-reads : goal.returns-in_err-guards-clause-reads
 returns-in_err-guards-clause-reads c =
     let p = err_from_is_err_and c.from_residual-in_err-guards.result c.from_residual-in_err-guards.ensures.1 in
     rw (p.1, p.2)
-    (guards_fail_in_exit c.args.version c.args.pieces c.args.parameters c.args.results _ _ _ _ _ c.in_ok-tray.ensures c.in_ok-grip.ensures _
+    (guards_fail_in_exit c.args.layout.version c.args.layout.pieces c.args.parameters c.args.results _ _ _ _ _ c.in_ok-tray.ensures c.in_ok-grip.ensures _
     c.exit_symbols-live.ensures _ _ c.in_ok-results.ensures.reads _ c.in_err-guards.ensures.reads)
 
 pub returns-in_err-places-clause-reads : goal.returns-in_err-places-clause-reads
 returns-in_err-places-clause-reads c =
     let p = err_from_is_err_and c.from_residual-in_err-places.result c.from_residual-in_err-places.ensures.1 in
     rw (p.1, p.2)
-    (places_fail_in_exit c.args.version c.args.pieces c.args.parameters c.args.results _ _ _ _ _ c.in_ok-tray.ensures c.in_ok-grip.ensures _
+    (places_fail_in_exit c.args.layout.version c.args.layout.pieces c.args.parameters c.args.results _ _ _ _ _ c.in_ok-tray.ensures c.in_ok-grip.ensures _
     c.exit_symbols-live.ensures _ _ c.in_ok-results.ensures.reads _ _ c.in_ok-guards.ensures.reads _ c.in_err-places.ensures.reads)
 
 pub returns-clause-reads : goal.returns-clause-reads
 returns-clause-reads c =
-    exit_frame_at c.args.version c.args.pieces c.args.parameters c.args.results _ _ _ _ _ c.in_ok-tray.ensures c.in_ok-grip.ensures _
+    exit_frame_at c.args.layout.version c.args.layout.pieces c.args.parameters c.args.results _ _ _ _ _ c.in_ok-tray.ensures c.in_ok-grip.ensures _
     c.exit_symbols-live.ensures _ _ c.in_ok-results.ensures.reads _ _ c.in_ok-guards.ensures.reads _ _ c.in_ok-places.ensures.reads

@@ -59,5 +59,5 @@ invariant_of-frame c =
       ranges = c.in_ok-slots.ensures.fits;
       few_guards = few_forms MOST_GUARDS c.live_slots-live.result guards.live guards.count guards.bytes.now c.in_ok-guards.ensures.reads.fits;
       few_operands = few_forms MOST_OPERANDS c.live_slots-live.result stack.live stack.count stack.bytes.now c.in_ok-stack.ensures.reads.fits;
-      few_places = omega (arith, c.in_ok-places.ensures.live, c.requires);
+      few_places = omega (arith, c.in_ok-places.ensures.live, c.args.layout.few);
     }

@@ -3,4 +3,4 @@ use Rattle.burr_container.proofs.PlacesRead.{ArePlacesRead}
 use Rattle.burr_container.proofs.reading.frames.places.Given as goal
 
 abbrev pub invariant-loop : goal.invariant-loop
-invariant-loop l = ArePlacesRead l.live l.pieces l.initial.cursor l.counter l.cursor
+invariant-loop l = ArePlacesRead l.live l.layout.pieces l.initial.cursor l.counter l.cursor

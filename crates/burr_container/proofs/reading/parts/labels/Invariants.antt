@@ -4,4 +4,4 @@ use Rattle.burr_container.proofs.reading.parts.labels.Given as goal
 
 abbrev pub invariant-loop : goal.invariant-loop
 invariant-loop l =
-    IsLabelsWalk l.pieces l.count l.initial.cursor l.counter l.starts.items l.last l.cursor
+    IsLabelsWalk l.layout.pieces l.count l.initial.cursor l.counter l.starts.items l.last l.cursor

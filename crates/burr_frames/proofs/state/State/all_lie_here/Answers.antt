@@ -1,6 +1,6 @@
 use Rattle.std.proofs.Common.{rules, arith, IsBitSet}
 use Rattle.burr_code.specs.Places.{LiesIn}
-use Rattle.burr_frames.proofs.PlaceTests.{all_lie_of}
+use Rattle.burr_code.proofs.Common.Conditions.{all_lie_of}
 use Rattle.burr_text.proofs.Common.Tests.{yes_of, no_of, yes_iff, one_more_number}
 use Rattle.burr_frames.proofs.state.State.all_lie_here.Goals as goal
 use Rattle.burr_frames.proofs.state.State.all_lie_here.Goals.{else-is_in_set-via-then-is_in_set+else-not-lies_here, else-is_in_set-via-else-is_in_set}

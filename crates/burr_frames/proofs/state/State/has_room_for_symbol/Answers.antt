@@ -23,8 +23,7 @@ returns c =
     let same : old ≡ s.ranges = ap (λ (a : AbstractState). a.ranges) c.self.view_is in
     let now : c.as_slice.result.now ≡ s.ranges ++ range ∷ [] =
     c.as_slice.ensures.value ∙ c.push.ensures.items ∙ (λ i. (c.copied-ranges.ensures ∙ same) i ++ put i ∷ []) in
-    let few : length (s.ranges ++ range ∷ []) ≤ 8 = omega (arith, c.as_slice.ensures.fits, ap (length {A = Range}) now) in
-    let guards : length s.guards ≤ 8 = omega (arith, c.len-guards.ensures.fits, c.len-guards.ensures.value, ap (λ (a : AbstractState). length a.guards) c.self.view_is) in (
-      λ room. (few, guards, subst (λ (ranges : List Range). box_size ranges ≤ 4096) now (c.has_room.ensures.0 room)),
+    let few : length (s.ranges ++ range ∷ []) ≤ 8 = omega (arith, c.as_slice.ensures.fits, ap (length {A = Range}) now) in (
+      λ room. (few, c.guards_are_few.ensures, subst (λ (ranges : List Range). box_size ranges ≤ 4096) now (c.has_room.ensures.0 room)),
       λ room. c.has_room.ensures.1 (subst (λ (ranges : List Range). box_size ranges ≤ 4096) (sym now) room.2),
     )

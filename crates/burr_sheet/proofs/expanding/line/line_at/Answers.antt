@@ -8,19 +8,19 @@ use Rattle.burr_sheet.proofs.expanding.line.line_at.Goals as goal
 pub returns-in_err-words : goal.returns-in_err-words
 returns-in_err-words c =
     let names = names_of c.args.assembly.now in
-    let are = names_of_assembly c.args.assembly.now c.piece_count-pieces.ensures.assembly in
+    let are = names_of_assembly c.args.assembly.now c.a_reference_holds_an_assembly.ensures in
     rw c.from_residual.ensures (λ l after line e. c.in_err-words.ensures _ _ _ _ after (words_are_plain names l are) (e ∙ line-words names c.args.number l after))
 
 pub returns-in_err-line_with : goal.returns-in_err-line_with
 returns-in_err-line_with c =
-    let are = names_of_assembly c.args.assembly.now c.piece_count-pieces.ensures.assembly in
+    let are = names_of_assembly c.args.assembly.now c.a_reference_holds_an_assembly.ensures in
     rw c.from_residual-in_err-line_with.ensures (λ l after line e.
     c.in_err-line_with.ensures l line (words_of_line _ c.args.number _ _ _ l after are c.in_ok-words.ensures.0 c.in_ok-words.ensures.1 e))
 
 pub returns : goal.returns
 returns c =
     let names = names_of c.args.assembly.now in
-    let are = names_of_assembly c.args.assembly.now c.piece_count-pieces.ensures.assembly in
+    let are = names_of_assembly c.args.assembly.now c.a_reference_holds_an_assembly.ensures in
     let line = line_of c.in_ok-line_with.field-0 in
     let parts = line_of_words names c.args.number _ _ _ line c.in_ok-line_with.ensures.1 c.in_ok-words.ensures.1 in
     record {

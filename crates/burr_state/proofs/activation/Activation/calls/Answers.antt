@@ -1,10 +1,11 @@
 -- What is left of the caller, and the activation of the callee.
 use Rattle.std.proofs.Common.{rules, ◌≡◌, ◌≤◌, ◌-◌, ◌+◌, ℤ, List, [], length, drop, take, reverse, sym, ap, ◌∙◌, arith}
-use Rattle.std.proofs.lemmas.List.{length-reverse, length-take-le}
+use Rattle.std.proofs.lemmas.List.{length-reverse, length-take-le, take_rest}
 use Rattle.burr_code.specs.Labels.{argument_slots}
 use Rattle.burr_state.specs.Rules.Bench.{activation}
 use Rattle.burr_state.specs.Views.Effects.{slots_with}
-use Rattle.burr_state.proofs.Operands.{top_many_of, slots_of_arguments, drop_reverse, cut_at_end}
+use Rattle.burr_code.proofs.Common.Turned.{drop_reverse, top_many_of}
+use Rattle.burr_state.proofs.Operands.{slots_of_arguments}
 use Rattle.burr_state.proofs.activation.Activation.calls.Goals as goal
 
 pub returns-clause-calls : goal.returns-clause-calls
@@ -15,9 +16,9 @@ returns-clause-calls c =
     let first : c.in-Some.first ≡ length items - count = search rules in
     let deref : c.deref.result.now ≡ items = search rules in
     let slots : c.slots_of-slots.result ≡ argument_slots (take count (reverse items)) =
-    c.slots_of-slots.ensures ∙ ap slots_with (cut_at_end c.in-Some.first c.deref.result.now ∙ ap (λ xs. drop c.in-Some.first xs) deref ∙ ap (λ n. drop n items) first) ∙ slots_of_arguments count items some in
+    c.slots_of-slots.ensures ∙ ap slots_with (take_rest c.deref.result.now c.in-Some.first ∙ ap (λ xs. drop c.in-Some.first xs) deref ∙ ap (λ n. drop n items) first) ∙ slots_of_arguments count items some in
     let kept : c.truncate.new.self.items ≡ take (length items - count) items = c.truncate.ensures.items ∙ ap (λ n. take n items) first in
-    let below : reverse c.truncate.new.self.items ≡ drop count (reverse items) = ap reverse kept ∙ sym (drop_reverse count items some) in
+    let below : reverse c.truncate.new.self.items ≡ drop count (reverse items) = ap reverse kept ∙ sym (drop_reverse count items) in
     let empty : reverse c.new.result.items ≡ [] = ap reverse c.new.ensures in
     let room : length (reverse c.truncate.new.self.items) + c.args.results ≤ 8 =
     (let long = length-reverse c.truncate.new.self.items in

@@ -1,6 +1,6 @@
 use Rattle.std.proofs.Common.{rules, ◌≡◌, ◌-◌, ◌∙◌, List, ℤ, length, take, reverse, sym, ap}
+use Rattle.burr_code.proofs.Common.Turned.{drop_reverse}
 use Rattle.burr_state.specs.Rules.Bench.{activation}
-use Rattle.burr_state.proofs.Operands.{drop_reversed}
 use Rattle.burr_state.proofs.activation.Activation.drop_many.Goals as goal
 
 pub returns : goal.returns
@@ -10,4 +10,4 @@ returns c =
     let kept : c.truncate.new.self.items ≡ take (length old - c.args.count) old =
     c.truncate.ensures.items ∙ ap (λ n. take n old) many in
     rw (← c.self.view_is) (ap (λ (ns : List ℤ). activation c.self.inside.procedure c.self.inside.pc c.self.inside.slots ns)
-    (ap reverse kept ∙ sym (drop_reversed c.args.count old)))
+    (ap reverse kept ∙ sym (drop_reverse c.args.count old)))

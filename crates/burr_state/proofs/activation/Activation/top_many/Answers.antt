@@ -1,7 +1,8 @@
 -- The last of the operands are the topmost.
 use Rattle.std.proofs.Common.{rules, ◌≡◌, ◌≤◌, ◌-◌, ◌∙◌, ℤ, List, ap, take, drop, length}
+use Rattle.std.proofs.lemmas.List.{take_rest}
 use Rattle.burr_state.specs.Rules.Bench.{Activation}
-use Rattle.burr_state.proofs.Operands.{topmost_given, cut_at_end}
+use Rattle.burr_state.proofs.Operands.{topmost_given}
 use Rattle.burr_state.proofs.activation.Activation.top_many.Goals as goal
 
 pub returns : goal.returns
@@ -13,6 +14,6 @@ returns c =
     let first : c.in_ok-first.first ≡ length items - count = search rules in
     let last = take (length c.deref.result.now - c.in_ok-first.first) (drop c.in_ok-first.first c.deref.result.now) in
     let same : last ≡ drop (length items - count) items =
-    cut_at_end c.in_ok-first.first c.deref.result.now ∙ (λ i. drop (first i) (c.deref.ensures.0 i)) in
+    take_rest c.deref.result.now c.in_ok-first.first ∙ (λ i. drop (first i) (c.deref.ensures.0 i)) in
     topmost_given count items c.args.self.now.operands last c.try_from.result c.ok.result some few
     (ap (λ (a : Activation). a.operands) c.self.view_is) same c.ok.ensures.value c.try_from.ensures

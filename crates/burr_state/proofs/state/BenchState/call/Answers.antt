@@ -8,7 +8,7 @@ use Rattle.burr_state.specs.Rules.Bench.{Activation, BenchState, running}
 use Rattle.burr_state.specs.Views.Effects.{IsCalledFor, CannotBeCalled}
 use Rattle.burr_state.specs.Views.Programs.{HasRoomFor, FitsProgram}
 use Rattle.burr_state.specs.Views.StateViews.{standing}
-use Rattle.burr_state.proofs.Operands.{reverse_snoc}
+use Rattle.burr_code.proofs.Common.Turned.{reverse_snoc}
 use Rattle.burr_state.proofs.Common.Stepping.Callers.{chain_depth}
 use Rattle.burr_state.proofs.Common.Stepping.Calls.{cannot_call, called_on, fits_called}
 use Rattle.burr_state.proofs.state.BenchState.call.Goals as goal

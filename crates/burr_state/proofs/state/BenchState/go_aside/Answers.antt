@@ -2,8 +2,8 @@ use Rattle.std.proofs.Common.{◌∙◌, refl, ap, reverse}
 use Rattle.burr_code.specs.Places.{aside_places}
 use Rattle.burr_state.specs.Rules.Bench.{BenchState}
 use Rattle.burr_state.specs.Views.StateViews.{standing, after}
-use Rattle.burr_state.proofs.Common.Stepping.Steps.{orderly_aside, refilled}
-use Rattle.burr_state.proofs.Common.Trays.Parts.{length-aside_places}
+use Rattle.burr_code.proofs.Common.Counts.{length-aside_places, refilled}
+use Rattle.burr_state.proofs.Common.Stepping.Steps.{orderly_aside}
 use Rattle.burr_state.proofs.state.BenchState.go_aside.Goals as goal
 
 pub invariant_of-self : goal.invariant_of-self

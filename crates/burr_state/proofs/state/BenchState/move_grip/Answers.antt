@@ -1,7 +1,8 @@
 use Rattle.std.proofs.Common.{◌∙◌, refl, ap, reverse, subst, sym}
 use Rattle.burr_state.specs.Rules.Bench.{BenchState}
 use Rattle.burr_state.specs.Views.StateViews.{standing, after, StaysOnBench, moved_grip}
-use Rattle.burr_state.proofs.Common.Stepping.Steps.{orderly_unit, refilled}
+use Rattle.burr_code.proofs.Common.Counts.{refilled}
+use Rattle.burr_state.proofs.Common.Stepping.Steps.{orderly_unit}
 use Rattle.burr_state.proofs.Common.Trays.Shifts.{length-moved}
 use Rattle.burr_state.proofs.state.BenchState.move_grip.Goals as goal
 

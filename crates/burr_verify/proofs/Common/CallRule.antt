@@ -1,4 +1,4 @@
--- What the rule of a call gives where none of its checks fails.
+-- For crates above too: what the rule of a call gives where none of its checks fails.
 use Rattle.std.proofs.Common.{◌≡◌, ℕ, ◌+◌, ◌≤◌, List, length, Some}
 use Rattle.std.specs.Prelude.{pos, ◌≤ℤ◌, reverse}
 use Rattle.burr_code.specs.Stacks.{top_many}
