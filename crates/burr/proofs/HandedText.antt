@@ -5,12 +5,12 @@ use Rattle.std.proofs.lemmas.List.{append_assoc}
 use Rattle.std.specs.Io.KnownBytes.{Appends, append_known}
 use Rattle.burr_io.specs.Sink.{SinkView, Takes, FailsWithin, HoldsFront, Puts}
 use Rattle.burr_io.specs.WholeLines.{Lines, lines_view}
-use Rattle.burr_io.proofs.Common.Lines.{append_known-nil, handed_text, held_front, front_front, failed_front}
+use Rattle.burr_io.proofs.Common.Lines.{nothing_held, went, failed_late, failed_early, held_front, front_front, failed_front, put_since}
 use Rattle.burr.specs.declared.fault.Fault.{Fault}
 use Rattle.burr.specs.Faults.{line_of}
 use Rattle.burr.specs.declared.status.Status.{Status}
 use Rattle.burr.specs.Statuses.{code_of}
-use Rattle.burr.specs.Ends.{took, TakesText, TakesSome, FailsInText, FailsInOutput, HasNoOutcome, WritesLess, WritesOrFails, IsDone}
+use Rattle.burr.specs.Ends.{Taken, took, TakesText, TakesSome, FailsInText, FailsInOutput, HasNoOutcome, WritesLess, WritesOrFails, EndsEarly, IsDone}
 use Rattle.burr.specs.HandedOn.{HandsOnDone}
 use Rattle.burr_io.specs.Source.{SourceView}
 use Rattle.burr_runs.specs.declared.outcome.Outcome.{Outcome}
@@ -18,37 +18,6 @@ use Rattle.burr_runs.specs.declared.fault.BenchFault.{BenchFault}
 use Rattle.burr_runs.specs.declared.fault.BenchFault.TheVariants.{Read, TooLong, Write, Memory}
 use Rattle.burr_runs.specs.Views.BenchText.{streams, Succeeds, Fails}
 use Rattle.burr.specs.PlanEnds.{Ends, PutsEnd, FailsToEnd, StopsBeforeEnd}
-
--- where nothing was held back, the sink below had taken all that was put
-pub nothing_held : {S : Type 0} (sink : SinkView S) (old : Lines S) → old.held ≡ [] → append_known (sink.taken old.sink) old.held ≡ sink.taken old.sink
-nothing_held sink old none = ap (append_known (sink.taken old.sink)) none ∙ append_known-nil (sink.taken old.sink)
-
--- so what was put since then is put on what it had taken
-put_since : {S : Type 0} (sink : SinkView S) (old mid : Lines S) (text : List ℕ) → old.held ≡ []
-    → Takes (lines_view sink) old mid text → Appends (sink.taken old.sink) (append_known (sink.taken mid.sink) mid.held) text
-put_since sink old mid text none put =
-    subst (λ (t : Option (List ℕ)). Appends t (append_known (sink.taken mid.sink) mid.held) text) (nothing_held sink old none) put
-
--- all went
-pub went : {S : Type 0} (sink : SinkView S) (old mid new : Lines S) (text : List ℕ) → old.held ≡ []
-    → Takes (lines_view sink) old mid text → Takes sink mid.sink new.sink mid.held → Takes sink old.sink new.sink text
-went sink old mid new text none put took =
-    handed_text (sink.taken old.sink) (sink.taken mid.sink) (sink.taken new.sink) mid.held text (put_since sink old mid text none put) took
-
--- the sink below failed when it was handed on
-pub failed_late : {S : Type 0} (sink : SinkView S) (old mid new : Lines S) (text : List ℕ) → old.held ≡ []
-    → Takes (lines_view sink) old mid text → FailsWithin sink mid.sink new.sink mid.held
-    → FailsInText (took (sink.taken old.sink) (sink.taken new.sink) (sink.has_failed new.sink)) text
-failed_late sink old mid new text none put fails =
-    (failed_front (sink.taken old.sink) (sink.taken mid.sink) (sink.taken new.sink) mid.held text (put_since sink old mid text none put) fails.takes, fails.fails)
-
--- the sink below failed before all was put
-pub failed_early : {S : Type 0} (sink : SinkView S) (old mid : Lines S) (text : List ℕ) → old.held ≡ []
-    → FailsWithin (lines_view sink) old mid text
-    → FailsInText (took (sink.taken old.sink) (sink.taken mid.sink) (sink.has_failed mid.sink)) text
-failed_early sink old mid text none fails =
-    let (front, rest, parts, put) = fails.takes in
-    (front_front (sink.taken old.sink) (sink.taken mid.sink) mid.held text (front, rest, parts, put_since sink old mid front none put), fails.fails)
 
 -- what is printed with a status was handed on
 pub ends_handed : {S : Type 0} (sink : SinkView S) (old mid new : Lines S) (AreEnds : Ends) (done result : Result Status Fault) → old.held ≡ []
@@ -98,6 +67,11 @@ less_handed {S} sink old mid new (Err done) (Err fault) none (same, left) some (
     let early : FailsInText (took (sink.taken old.sink) (sink.taken mid.sink) (sink.has_failed mid.sink)) text =
     (held_front (sink.taken old.sink) (sink.taken mid.sink) mid.held text (put_since sink old mid text none put), fails) in
     inr (text, subst (λ (l : Lines S). FailsInText (took (sink.taken old.sink) (sink.taken l.sink) (sink.has_failed l.sink)) text) (sym left) early)
+
+-- what the sink took where a fault is told
+pub early : (t : Taken) (r : Result Status Fault) → OnErr r (WritesLess t) → IfErr r (λ fault. EndsEarly t (line_of fault))
+early t (Ok status) less = tt
+early t (Err fault) less = inl less
 
 -- and the status is what it was
 pub done_handed : {S : Type 0} (sink : SinkView S) (mid new : Lines S) (done result : Result Status Fault)

@@ -1,2 +1,3 @@
 mod Ending
 pub mod HandedText
+mod Stepping

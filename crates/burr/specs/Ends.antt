@@ -98,10 +98,19 @@ abbrev pub Means : ℕ → List ℕ → Type 0
 Means status line =
     (status ≡ 2) ⊎ ((status ≡ 3) × IsFileLine line) ⊎ ((status ≡ 4) × (line ≡ codes "no memory\n"))
 
+-- commands were answered, and then standard input failed or memory was refused
+abbrev pub LeavesOff : Taken → List ℕ → Type 0
+LeavesOff sink line =
+    TakesSome sink × ((line ≡ cannot_read (codes "-")) ⊎ (line ≡ codes "no memory\n"))
+
+-- what the sink took where this line is told
+abbrev pub EndsEarly : Taken → List ℕ → Type 0
+EndsEarly sink line = WritesLess sink ⊎ LeavesOff sink line
+
 -- a complaint was told, and the status goes with it
 abbrev pub Complains : Taken → Taken → ℕ → Type 0
 Complains sink complaints status =
-    (line : List ℕ) × Means status line × WritesLess sink × TakesText complaints line
+    (line : List ℕ) × Means status line × EndsEarly sink line × TakesText complaints line
 
 -- The words were answered: all was written, or a complaint was told.
 abbrev pub IsEnd : Taken → Taken → ℕ → Type 0

@@ -4,3 +4,4 @@ pub mod HandedOn
 pub mod PlanEnds
 pub mod Refusals
 pub mod Statuses
+pub mod StepEnds

@@ -10,6 +10,7 @@ mod plan_commands;
 mod plan_text_refusal;
 mod program;
 mod status;
+mod step_command;
 
 use crate::program::{end_without_words, run_words};
 use burr_io::{Reading, WholeLines, Writing};

@@ -102,7 +102,7 @@ fn judge_text<'a, W: Sink>(
 }
 
 /// Refuses an assembly's text.
-fn refuse_text<'a, W: Sink>(
+pub fn refuse_text<'a, W: Sink>(
     text: &[u8],
     fault: AssemblyFault,
     sink: &mut W,
@@ -146,7 +146,10 @@ fn use_assembly<'a, 'x, W: Sink>(
 }
 
 /// Refuses a container.
-fn refuse_container<'a, W: Sink>(fault: ContainerFault, sink: &mut W) -> Result<Status, Fault<'a>>
+pub fn refuse_container<'a, W: Sink>(
+    fault: ContainerFault,
+    sink: &mut W,
+) -> Result<Status, Fault<'a>>
     ensures ok { IfOk result (PutsEnd W.Sink sink.old sink.new
         (IsRefusal (container_refusal fault))) }
     ensures err { IfErr result (λ problem. FailsToEnd W.Sink sink.old sink.new
@@ -157,7 +160,7 @@ fn refuse_container<'a, W: Sink>(fault: ContainerFault, sink: &mut W) -> Result<
 }
 
 /// Refuses a plan.
-fn refuse_plan<'a, W: Sink>(
+pub fn refuse_plan<'a, W: Sink>(
     refusal: &Refusal,
     assembly: &Assembly,
     sink: &mut W,

@@ -1,10 +1,10 @@
 //! What the program does with its words and its streams, and the status that it ends with.
 
-ghost use Rattle.std.specs.Prelude.{◌≡◌, ◌≢◌, ◌≤◌, ◌<◌, [], codes, length, IfOk, OnOk, OnErr};
+ghost use Rattle.std.specs.Prelude.{◌≡◌, ◌≢◌, ◌≤◌, ◌<◌, [], codes, length, IfErr, IfOk, OnOk, OnErr};
 ghost use Rattle.burr_runs.specs.declared.fault.BenchFault.TheVariants.{Memory};
 ghost use Rattle.burr_io.specs.Sink.{Takes};
 ghost use Rattle.burr_runs.specs.Views.BenchText.{streams};
-ghost use Rattle.burr.specs.Ends.{took, TakesText, FailsInText, TakesSome, WritesLess};
+ghost use Rattle.burr.specs.Ends.{took, TakesText, FailsInText, TakesSome, EndsEarly};
 ghost use Rattle.burr.specs.Ends.{IsDone, IsRun, IsEnd};
 ghost use Rattle.burr.specs.Ends.{Means};
 ghost use Rattle.burr.specs.Faults.{complaint_of, line_of, status_of_fault};
@@ -16,6 +16,7 @@ use crate::file_commands::{assemble_file, list_file, upgrade_file};
 use crate::handing::hand_on;
 use crate::plan_commands::use_files;
 use crate::status::Status;
+use crate::step_command::step_files;
 use burr_command::{Job, Reply, Request, request_of};
 use burr_io::{Sink, Source, WholeLines, WriteFault, put_all};
 use burr_runs::{BenchFault, bench_text};
@@ -97,8 +98,9 @@ fn do_job<'a, F: Files + AllocGlobal, R: Source, W: Sink, const N: usize>(
     ensures status { IfOk result (λ status. IsDone (code_of status)) }
     ensures ok { OnOk result (TakesSome
         (took (W.taken sink.old.sink) (W.taken sink.new.sink) (W.has_failed sink.new.sink))) }
-    ensures err { OnErr result (WritesLess
-        (took (W.taken sink.old.sink) (W.taken sink.new.sink) (W.has_failed sink.new.sink))) }
+    ensures err { IfErr result (λ fault. EndsEarly
+        (took (W.taken sink.old.sink) (W.taken sink.new.sink) (W.has_failed sink.new.sink))
+        (line_of fault)) }
 {
     match job {
         Job::Assemble { text, out } => {
@@ -118,6 +120,7 @@ fn do_job<'a, F: Files + AllocGlobal, R: Source, W: Sink, const N: usize>(
             assembly,
             plan,
         } => use_files(files, *task, assembly, plan, source, sink),
+        Job::Step { assembly, plan } => step_files(files, assembly, plan, source, sink),
         Job::Explain { line } => {
             let done = explain_line(line, sink);
             hand_on(done, sink)
@@ -208,7 +211,8 @@ fn put_whole<W: Sink, const N: usize>(
     requires fresh { sink.old.held ≡ [] }
     ensures ok { OnOk result (Takes W.Sink sink.old.sink sink.new.sink text.now) }
     ensures err { OnErr result (FailsInText
-        (took (W.taken sink.old.sink) (W.taken sink.new.sink) (W.has_failed sink.new.sink)) text.now) }
+        (took (W.taken sink.old.sink) (W.taken sink.new.sink) (W.has_failed sink.new.sink))
+        text.now) }
 {
     put_all(text, sink)?;
     sink.flush()

@@ -14,6 +14,7 @@ mod files;
 mod memory;
 mod plans;
 mod results;
+mod stepping;
 mod streams;
 mod transcript;
 mod traps;

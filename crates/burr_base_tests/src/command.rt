@@ -39,6 +39,7 @@ fn job_text(alloc: Global, job: &Job<'_>) -> Result<String, AllocError> {
         Job::Assemble { text, out } => format!(in alloc; "=assemble {text} to {out}\n"),
         Job::List { plan, places } => format!(in alloc; "=list {plan} {places}\n"),
         Job::Upgrade { plan, out } => format!(in alloc; "=upgrade {plan} to {out}\n"),
+        Job::Step { assembly, plan } => format!(in alloc; "=step {assembly} {plan}\n"),
         Job::Explain { line } => format!(in alloc; "=explain {line}\n"),
         Job::Plan {
             task,
@@ -79,6 +80,7 @@ $burr --help
 >  check    Says whether a plan is accepted
 >  run      Runs a plan that is accepted
 >  try      Runs a plan on the bench, without accepting it
+>  step     Goes through a plan that is accepted, step by step
 >  explain  Says what a refusal, a trap or another line means
 >  help     Print this message or the help of the given subcommand(s)
 >
@@ -229,6 +231,35 @@ $burr try --help
 >closed. Status 5: it waits for an answer.
 >
 >Example: echo 2 | ./burr try examples/cup.assembly /tmp/cup.bpln
+$burr step --help
+>Goes through a plan that is accepted, step by step
+>
+>Usage: burr step <ASSEMBLY> <PLAN>
+>
+>Arguments:
+>  <ASSEMBLY>  The assembly text
+>  <PLAN>      The container
+>
+>Options:
+>  -h, --help  Print help
+>
+>A plan that `check` refuses is not run: the refusal is printed, with status 1.
+>Else commands are read from standard input, one a line, and each is answered
+>before the next one is read:
+>
+>  forward     one step
+>  over        one step, and where it is a call the whole procedure
+>  until P L   on to label L of procedure P, both counted from 0
+>  answer N    gives the number N that is asked for
+>  back N      N steps back
+>  show        where the run stands, its slots, operands and pieces
+>  quit        the end; so is the end of the input
+>
+>An answer is `after 3 steps`, with `asks 0 2` or `ended` after it where that
+>holds, or a refusal that changes nothing: `refused S2`, `refused command`. The
+>status is 0 whatever was refused. docs/STEPPER.md says more.
+>
+>Example: echo forward | ./burr step examples/cup.assembly /tmp/cup.bpln
 $burr explain --help
 >Says what a refusal, a trap or another line means
 >
@@ -241,9 +272,9 @@ $burr explain --help
 >  -h, --help  Print help
 >
 >LINE is a word or a whole line that burr printed, in any case: A1 to A8, C1 to
->C6, P1 to P5, V1 to V28, `input`, `answers`, a trap by its number or name, or
->`waiting`, `stopped`, `apart`, `levels`, `accepted` and the lines of moves.
->docs/FAULTS.md has all of them.
+>C6, P1 to P5, V1 to V28, S1 to S4, `input`, `answers`, `command`, a trap by its
+>number or name, or `waiting`, `stopped`, `apart`, `levels`, `accepted`, `after`
+>and the lines of moves. docs/FAULTS.md has all of them.
 >
 >Examples: ./burr explain A8
 >          ./burr explain refused V15 proc 0 pc 24 pieces A B point 0 1
@@ -381,6 +412,8 @@ $burr run a b
 =run a b
 $burr try a b
 =try a b
+$burr step a b
+=step a b
 $burr explain V15
 =explain V15
 $burr explain refused V15 proc 0 pc 24 pieces A B point 0 -1

@@ -30,6 +30,10 @@ apart in 3 steps=apart
 levels 8.1.2=levels
 levels -=levels
 accepted cost 14 budget 14 looks 6=accepted
+refused command=refused command
+refused S2=refused S2
+after 1 steps asks 0 2=after
+after 2 steps proc 0 pc 10=after
 move=move
 1 t0 A -x 0 out=move
 12 t31 A,B +z 3=move
@@ -84,6 +88,10 @@ V25=refused V25
 V26=refused V26
 V27=refused V27
 V28=refused V28
+S1=refused S1
+S2=refused S2
+S3=refused S3
+S4=refused S4
 ";
 
 /// Each trap by its number and by its name.
@@ -136,7 +144,8 @@ C7=nothing
 P6=nothing
 V0=nothing
 V29=nothing
-S1=nothing
+S0=nothing
+S5=nothing
 0=nothing
 01=nothing
 18=nothing

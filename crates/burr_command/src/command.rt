@@ -32,7 +32,8 @@ fn with_plans<'a>(alloc: Global, command: Command<'a>) -> Result<Command<'a>, Al
     command
         .subcommand(check(alloc)?)?
         .subcommand(run(alloc)?)?
-        .subcommand(attempt(alloc)?)
+        .subcommand(attempt(alloc)?)?
+        .subcommand(step(alloc)?)
 }
 
 /// The command `asm`.
@@ -89,6 +90,12 @@ fn run<'a>(alloc: Global) -> Result<Command<'a>, AllocError> {
 fn attempt<'a>(alloc: Global) -> Result<Command<'a>, AllocError> {
     let about = "Runs a plan on the bench, without accepting it";
     on_plan(alloc, "try", about, help::TRY)
+}
+
+/// The command `step`.
+fn step<'a>(alloc: Global) -> Result<Command<'a>, AllocError> {
+    let about = "Goes through a plan that is accepted, step by step";
+    on_plan(alloc, "step", about, help::STEP)
 }
 
 /// A command on an assembly and a plan.

@@ -89,12 +89,32 @@ closed. Status 5: it waits for an answer.
 
 Example: echo 2 | ./burr try examples/cup.assembly /tmp/cup.bpln";
 
+/// What help says of `step` last.
+pub const STEP: &str = "\
+A plan that `check` refuses is not run: the refusal is printed, with status 1.
+Else commands are read from standard input, one a line, and each is answered
+before the next one is read:
+
+  forward     one step
+  over        one step, and where it is a call the whole procedure
+  until P L   on to label L of procedure P, both counted from 0
+  answer N    gives the number N that is asked for
+  back N      N steps back
+  show        where the run stands, its slots, operands and pieces
+  quit        the end; so is the end of the input
+
+An answer is `after 3 steps`, with `asks 0 2` or `ended` after it where that
+holds, or a refusal that changes nothing: `refused S2`, `refused command`. The
+status is 0 whatever was refused. docs/STEPPER.md says more.
+
+Example: echo forward | ./burr step examples/cup.assembly /tmp/cup.bpln";
+
 /// What help says of `explain` last.
 pub const EXPLAIN: &str = "\
 LINE is a word or a whole line that burr printed, in any case: A1 to A8, C1 to
-C6, P1 to P5, V1 to V28, `input`, `answers`, a trap by its number or name, or
-`waiting`, `stopped`, `apart`, `levels`, `accepted` and the lines of moves.
-docs/FAULTS.md has all of them.
+C6, P1 to P5, V1 to V28, S1 to S4, `input`, `answers`, `command`, a trap by its
+number or name, or `waiting`, `stopped`, `apart`, `levels`, `accepted`, `after`
+and the lines of moves. docs/FAULTS.md has all of them.
 
 Examples: ./burr explain A8
           ./burr explain refused V15 proc 0 pc 24 pieces A B point 0 1";

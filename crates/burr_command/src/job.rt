@@ -22,6 +22,11 @@ pub enum Job<'a> {
         assembly: &'a str,
         plan: &'a str,
     },
+    /// Goes through an accepted plan by the commands of standard input.
+    Step {
+        assembly: &'a str,
+        plan: &'a str,
+    },
     /// Says what a word or a line means that the program prints.
     Explain {
         line: String,

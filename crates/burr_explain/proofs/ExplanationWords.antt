@@ -8,7 +8,7 @@ use Rattle.burr_explain.specs.declared.explanation.Explanation.{Explanation}
 use Rattle.burr_explain.specs.declared.explanation.Subject.{Subject}
 use Rattle.burr_explain.specs.declared.explanation.Subject.TheVariants.{Refusal, Trap, Line}
 use Rattle.burr_explain.specs.Asked.{IsAskedBy, HasKey, lower_case, words_of, words_in, words_among, keys_among, known_keys}
-use Rattle.burr_explain.specs.Known.{known_words, assembly_words, container_words, plan_text_words, code_rule_words, space_rule_words, frame_rule_words, output_words, trap_words}
+use Rattle.burr_explain.specs.Known.{known_words, assembly_words, container_words, plan_text_words, code_rule_words, space_rule_words, frame_rule_words, output_words, stepper_words, trap_words}
 
 -- the keys of some explanations
 abbrev keys_in : List Explanation → List (List ℕ)
@@ -117,16 +117,16 @@ MatchOption-keys key fs (Some e) ((k, f, inside, is, listed), asked) =
     (All-contains (Told key (words_among fs)) f.now e.now among listed asked, asked)
 
 -- the words of all families
-abbrev Whole : (a c p v w x o t : List Explanation) → List (List ℕ)
-Whole a c p v w x o t =
-    words_in a ++ (words_in c ++ (words_in p ++ (words_in v ++ (words_in w ++ (words_in x ++ (words_in o ++ (words_in t ++ [])))))))
+abbrev Whole : (a c p v w x o s t : List Explanation) → List (List ℕ)
+Whole a c p v w x o s t =
+    words_in a ++ (words_in c ++ (words_in p ++ (words_in v ++ (words_in w ++ (words_in x ++ (words_in o ++ (words_in s ++ (words_in t ++ []))))))))
 
 -- what was found in families that have these words was found among the known ones
-pub MatchOption-known : (key : List ℕ) (a c p v w x o t : List Explanation) (r : Option (Bor Explanation)) → words_in a ≡ assembly_words → words_in c ≡ container_words
+pub MatchOption-known : (key : List ℕ) (a c p v w x o s t : List Explanation) (r : Option (Bor Explanation)) → words_in a ≡ assembly_words → words_in c ≡ container_words
     → words_in p ≡ plan_text_words → words_in v ≡ code_rule_words → words_in w ≡ space_rule_words → words_in x ≡ frame_rule_words → words_in o ≡ output_words
-    → words_in t ≡ trap_words
-    → MatchOption r (¬ Contains (map lower_case (Whole a c p v w x o t)) key) (λ e. Contains (map lower_case (Whole a c p v w x o t)) key × IsAskedBy key e.now)
+    → words_in s ≡ stepper_words → words_in t ≡ trap_words
+    → MatchOption r (¬ Contains (map lower_case (Whole a c p v w x o s t)) key) (λ e. Contains (map lower_case (Whole a c p v w x o s t)) key × IsAskedBy key e.now)
     → MatchOption r (¬ Contains known_keys key) (λ e. Contains known_keys key × IsAskedBy key e.now)
-MatchOption-known key a c p v w x o t r assembly container plan_text code space frame output trap found =
-    let whole : Whole a c p v w x o t ≡ known_words = rw (assembly, container, plan_text, code, space, frame, output, trap) refl in
+MatchOption-known key a c p v w x o s t r assembly container plan_text code space frame output stepper trap found =
+    let whole : Whole a c p v w x o s t ≡ known_words = rw (assembly, container, plan_text, code, space, frame, output, stepper, trap) refl in
     subst (λ (words : List (List ℕ)). MatchOption r (¬ Contains (map lower_case words) key) (λ e. Contains (map lower_case words) key × IsAskedBy key e.now)) whole found

@@ -40,6 +40,11 @@ output_words =
     codes "answers" ∷ codes "waiting" ∷ codes "stopped" ∷ codes "apart" ∷ codes "levels"
     ∷ codes "accepted" ∷ codes "move" ∷ []
 
+-- of lines of the stepper
+abbrev pub stepper_words : List (List ℕ)
+stepper_words =
+    codes "S1" ∷ codes "S2" ∷ codes "S3" ∷ codes "S4" ∷ codes "command" ∷ codes "after" ∷ []
+
 -- traps, each by its number and by its name
 abbrev pub trap_words : List (List ℕ)
 trap_words =
@@ -55,4 +60,5 @@ trap_words =
 abbrev pub known_words : List (List ℕ)
 known_words =
     assembly_words ++ (container_words ++ (plan_text_words ++ (code_rule_words
-    ++ (space_rule_words ++ (frame_rule_words ++ (output_words ++ trap_words))))))
+    ++ (space_rule_words ++ (frame_rule_words ++ (output_words
+    ++ (stepper_words ++ trap_words)))))))

@@ -4,11 +4,11 @@ ghost use Rattle.burr_explain.specs.Asked.{IsAskedBy, IsKeyOf, keys_among, known
 
 use crate::asked::key_of;
 use crate::explanation::Explanation;
-use crate::{assembly, container, output, plan_text, rules, traps};
+use crate::{assembly, container, output, plan_text, rules, stepper, traps};
 
 /// The explanation that a word or a whole line asks for, as burr prints it, in any case: a
 /// refusal's own word, as `A4`, `V15` or `input`, a trap's number or name, as `3` or `NotFree`, the
-/// first word of another line, as `waiting`, or `move`. None for every other.
+/// first word of another line, as `waiting` or `after`, or `move`. None for every other.
 pub fn explanation_of(line: &[u8]) -> Option<&'static Explanation>
     ensures { (key : List ℕ) → IsKeyOf line.now key → MatchOption result
         (¬ Contains known_keys key) (λ e. Contains known_keys key × IsAskedBy key e.now) }
@@ -29,6 +29,7 @@ fn explanation_under(key: &[u8]) -> Option<&'static Explanation>
         rules::space::rules(),
         rules::frames::rules(),
         output::lines(),
+        stepper::lines(),
         traps::traps(),
     ];
     find_in_families(&families, key)

@@ -11,6 +11,7 @@ mod output;
 mod plan_text;
 mod putting;
 mod rules;
+mod stepper;
 mod traps;
 
 pub use explanation::{Explanation, Subject};

@@ -111,3 +111,29 @@ piece c29 cube +x+y+z 29 0 0/piece c30 cube +x+y+z 30 0 0/piece c31 cube +x+y+z 
 /// The first lines of a text, up to its first piece.
 pub const FRONT: &str = "\
 assembly duo/shape cube/layer/#/end/piece A cube +x+y+z 0 0 0/";
+
+/// Three pieces of one form in one orientation, one of them by a shape of another name, and a turned
+/// one: what is kept of two of the three serves the others.
+pub const TWINS: &str = "\
+assembly twins
+shape ell
+layer
+##
+#.
+layer
+#.
+..
+end
+shape hook
+layer
+##
+#.
+layer
+#.
+..
+end
+piece A ell +x+y+z 0 0 0
+piece B ell +x+y+z 3 0 0
+piece C hook +x+y+z 0 3 1
+piece D ell -y+x+z 6 6 0
+";

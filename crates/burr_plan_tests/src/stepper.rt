@@ -79,7 +79,7 @@ fn shown(
 
 /// Asserts what comes of commands: on each line one of them, and after `: ` the steps, the refusal, and
 /// what is asked or that the run has ended; of `show`, the text.
-fn assert_session(rt: &impl Abort, alloc: Global, plan: &(&str, &str, &str), session: &str) {
+fn assert_dialogue(rt: &impl Abort, alloc: Global, plan: &(&str, &str, &str), dialogue: &str) {
     let assembly = assembly_of(rt, alloc, plan.0);
     let cells = cells_of(&assembly);
     let bytes = bytes_of(rt, alloc, &edited(rt, alloc, plan.1, plan.2));
@@ -88,7 +88,7 @@ fn assert_session(rt: &impl Abort, alloc: Global, plan: &(&str, &str, &str), ses
         panic!(rt; "refused");
     };
     let mut stepper = Stepper::new(alloc, &accepted).expect(rt, "memory");
-    for line in session.lines() {
+    for line in dialogue.lines() {
         let (command, wanted) = line.split_once(": ").unwrap_or((line, ""));
         let told = if command == "show" {
             shown(rt, alloc, &stepper)
@@ -118,7 +118,7 @@ const RING_RUN: (&str, &str, &str) = (
 #[test]
 fn steps_answers_and_goes_back(rt: HostRuntime) {
     let alloc = rt.alloc();
-    assert_session(
+    assert_dialogue(
         &rt,
         alloc,
         &CUP_RUN,
@@ -150,7 +150,7 @@ answer 0: 2",
 #[test]
 fn goes_until_labels(rt: HostRuntime) {
     let alloc = rt.alloc();
-    assert_session(
+    assert_dialogue(
         &rt,
         alloc,
         &CUP_RUN,
@@ -173,7 +173,7 @@ back 11: 0",
 #[test]
 fn goes_over_calls(rt: HostRuntime) {
     let alloc = rt.alloc();
-    assert_session(
+    assert_dialogue(
         &rt,
         alloc,
         &RESULT_RUN,
@@ -200,9 +200,13 @@ until 0 0: 12 ended
 over: 12 S1 ended
 show: after 12 steps proc 0 pc 11 ended/tray 0 grip -/slots - - - - - - - -/stack -/A apart/B apart/",
     );
-    assert_session(
+}
+
+#[test]
+fn goes_over_calls_of_a_lift(rt: HostRuntime) {
+    assert_dialogue(
         &rt,
-        alloc,
+        rt.alloc(),
         &(CUP, LIFT_PLAN, "none"),
         "\
 forward: 1
@@ -225,7 +229,7 @@ over: 5",
 #[test]
 fn goes_back_further_than_its_records(rt: HostRuntime) {
     let alloc = rt.alloc();
-    assert_session(
+    assert_dialogue(
         &rt,
         alloc,
         &RING_RUN,

@@ -9,7 +9,8 @@ use crate::ways::{Question, answer};
 use burr_assembly::Assembly;
 use burr_blocking::{CellTables, PlainCells};
 use burr_container::Container;
-use burr_runs::{AnswersFault, read_answers, upgrade};
+use burr_io::Writing;
+use burr_runs::{AnswersFault, StepFault, command, read_answers, upgrade};
 use burr_sheet::expand;
 use burr_step::{StepRefusal, Stepper};
 use burr_testing::assemblies::{CUP, DUO};
@@ -115,7 +116,8 @@ fn come_of_upgrade(alloc: Global, bytes: &[u8]) -> Outcome {
     }
 }
 
-/// What comes of a plan by steps: its first, after which it asks.
+/// What comes of a plan by steps: its first, after which it asks, and an answer by a line. Where memory
+/// is wanting for the answer, nothing has changed and nothing was put.
 fn come_of_steps(alloc: Global, assembly: &Assembly, bytes: &[u8]) -> Outcome {
     let Ok(container) = Container::parse(bytes) else {
         return Outcome::Wrong;
@@ -127,8 +129,18 @@ fn come_of_steps(alloc: Global, assembly: &Assembly, bytes: &[u8]) -> Outcome {
     let Ok(mut stepper) = Stepper::new(alloc, &accepted) else {
         return Outcome::Want;
     };
-    match (stepper.forward(), stepper.asks()) {
-        (Ok(()), Some((0, 2))) => Outcome::Right,
+    if stepper.forward().is_err() || stepper.asks() != Some((0, 2)) {
+        return Outcome::Wrong;
+    }
+    let mut room = [0u8; 40];
+    let mut written = Cursor::new(room.as_mut_slice());
+    let mut sink = Writing::new(&mut written);
+    match (
+        command(&mut stepper, b"answer 1", &mut sink),
+        stepper.steps(),
+    ) {
+        (Ok(true), 2) => Outcome::Right,
+        (Err(StepFault::Memory), 1) => Outcome::Want,
         _ => Outcome::Wrong,
     }
 }

@@ -2,7 +2,7 @@
 ghost use Rattle.std.specs.Prelude.{IfSome};
 ghost use Rattle.burr_voxels.specs.Near.{IsWithin};
 
-use crate::assemblies::{COMBS, STAIRS};
+use crate::assemblies::{COMBS, STAIRS, TWINS};
 use crate::calls::{assembly_of, cells_of, rows_of, tables_of};
 use burr_assembly::Assembly;
 use burr_blocking::{Blocking, CellTables, PlainCells, RowTables};
@@ -193,4 +193,9 @@ fn all_ways_answer_alike_for_combs_and_a_hook(rt: HostRuntime) {
 #[test]
 fn all_ways_answer_alike_for_turned_stairs(rt: HostRuntime) {
     assert_all_alike(&rt, rt.alloc(), STAIRS);
+}
+
+#[test]
+fn all_ways_answer_alike_for_pieces_of_one_form(rt: HostRuntime) {
+    assert_all_alike(&rt, rt.alloc(), TWINS);
 }

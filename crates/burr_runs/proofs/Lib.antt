@@ -1,6 +1,7 @@
 pub mod AnswerTexts
 pub mod CommandAnswers
 pub mod CommandLines
+mod Dialogues
 pub mod Headline
 pub mod Inputs
 pub mod OneOutput

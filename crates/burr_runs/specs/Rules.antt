@@ -1,4 +1,5 @@
 pub mod Answers
+pub mod Dialogue
 pub mod Headline
 pub mod Input
 pub mod Output

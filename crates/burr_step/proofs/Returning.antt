@@ -14,10 +14,10 @@ use Rattle.burr_verify.specs.Rules.Accepting.{Judged}
 use Rattle.burr_state.specs.Views.Programs.{plan_program}
 use Rattle.burr_soundness.specs.Machine.{StartIsSafe}
 use Rattle.burr_bench.specs.Recorded.{TakesBack, MadeStep, gone_back}
-use Rattle.burr_step.specs.Rules.Stepper.{Leads, stays, goes, takes, History, history, IsStateOf, IsAsking, IsKept, Back, Taken}
+use Rattle.burr_step.specs.Rules.Stepper.{Leads, History, history, IsStateOf, IsAsking, IsKept, Back, Taken}
 use Rattle.burr_step.specs.Views.UndoRing.{AreRecordsOf, answers_more, StepsTo}
 use Rattle.burr_step.specs.Views.Stepping.{Stepping, stepping, IsUnderWay, IsStepping, IsDone, commanding, HasRun, IsUndone, IsAgain, IsLeft, IsNextAnswer, taken_more}
-use Rattle.burr_step.proofs.Commands.{Begins, begins, same_front, nothing_more}
+use Rattle.burr_step.proofs.Commands.{Begins, begins, same_front, split_at, nothing_more}
 use Rattle.burr_step.proofs.Lists.{all_but_last}
 use Rattle.burr_step.proofs.UndoRing.{kept_before, kept_of_kept}
 use Rattle.burr_step.proofs.UnderWay.{same_setup, is_counted, goes_further, begins_bare, MadeOne}
@@ -146,59 +146,6 @@ back_done old now steps same kept count =
     within old now steps e = omega (arith, e)
 
 -- By running again
-
--- so many steps, and those that follow
-record Split (setup : Setup) (s t : BenchState) (m k : ℕ) (answers : List ℤ) : Type 0 where
-  taken : List ℤ
-  later : List ℤ
-  is : answers ≡ taken ++ later
-  state : BenchState
-  first : Leads setup s m taken state
-  second : Leads setup state k later t
-
-split_at : (setup : Setup) (m k : ℕ) (s t : BenchState) (answers : List ℤ) → Leads setup s (m + k) answers t
-    → Split setup s t m k answers
-split_at setup zero k s t answers leads = record {
-  taken = [];
-  later = answers;
-  is = refl;
-  state = s;
-  first = stays s;
-  second = subst (λ (n : ℕ). Leads setup s n answers t) (none_first k) leads;
-}
-  where
-    none_first : (n : ℕ) → 0 + n ≡ n
-    none_first n = omega arith
-split_at setup (suc m) k s t answers leads =
-    by_first (begins setup s t (suc (m + k)) answers
-    (subst (λ (n : ℕ). Leads setup s n answers t) (one_first m k) leads)) (split_at setup m k)
-  where
-    one_first : (m n : ℕ) → suc m + n ≡ suc (m + n)
-    one_first m n = omega arith
-
-    by_first : Begins setup s (suc (m + k)) answers t
-        → ((s t : BenchState) (answers : List ℤ) → Leads setup s (m + k) answers t → Split setup s t m k answers)
-        → Split setup s t (suc m) k answers
-    by_first (inl (motion, new, called, rest)) later =
-        let f = later new t answers rest in
-        record {
-          taken = f.taken;
-          later = f.later;
-          is = f.is;
-          state = f.state;
-          first = goes s new f.state motion m f.taken called f.first;
-          second = f.second;
-        }
-    by_first (inr (answer, others, new, e, called, rest)) later =
-        let f = later new t others rest in
-        record {
-          taken = answer ∷ f.taken;
-          later = f.later;
-          is = e ∙ ap (λ (l : List ℤ). answer ∷ l) f.is;
-          state = f.state;
-          first = takes s new f.state answer m f.taken called f.first;
-          second = f.second;
-        }
 
 -- the next step of a run that is made again, and its answer, if it takes one
 abbrev pub IsNextStep : Setup → BenchState → List ℤ → ℕ → Type 0

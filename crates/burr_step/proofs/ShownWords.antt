@@ -1,20 +1,17 @@
 -- What the words of a shown state come to.
-use Rattle.std.proofs.Common.{◌≡◌, ℕ, zero, suc, ◌+◌, ◌<◌, if◌then◌else◌, IfSome, List, [], ◌∷◌, ◌++◌, false, length, get_or, slice_get, drop, map, codes, decimal, refl, sym, ap, subst, ◌∙◌, arith, add-one, drop-cons, append_assoc, append-nil}
+use Rattle.std.proofs.Common.{◌≡◌, ℕ, zero, suc, ◌+◌, ◌<◌, IfSome, List, [], ◌∷◌, ◌++◌, false, length, get_or, slice_get, drop, map, codes, decimal, refl, sym, ap, subst, ◌∙◌, arith, add-one, drop-cons, append_assoc}
 use Rattle.std.specs.Prelude.{◌==◌, ℤ, Some, reverse}
 use Rattle.std.specs.Fmt.{signed_decimal}
 use Rattle.std.specs.List.{join_with_byte}
 use Rattle.std.proofs.lemmas.List.{length-map}
 use Rattle.std.proofs.lemmas.Option.{none-some, same_Some}
 use Rattle.burr_assembly.specs.Rules.Text.{Piece}
-use Rattle.burr_code.specs.PieceSets.{IsInSet, is_left_out}
-use Rattle.burr_code.proofs.Common.PieceSets.{not_left_out, left_out}
 use Rattle.burr_code.specs.declared.placement.Placement.{Placement}
 use Rattle.burr_voxels.specs.declared.cell.Cell.{Cell}
 use Rattle.burr_state.specs.declared.mode.Mode.{Mode}
 use Rattle.burr_state.specs.declared.mode.Mode.TheVariants.{Running, Ended, Trapped}
-use Rattle.burr_io.proofs.Common.Puts.{joined, joined-join}
 use Rattle.burr_text.specs.Words.{text_line}
-use Rattle.burr_step.specs.Rules.StepTexts.{ended_word, joined_or_none, group_names, slot_word, stack_words, piece_line, piece_lines}
+use Rattle.burr_step.specs.Rules.StepTexts.{ended_word, grip_word, slot_word, stack_words, piece_line, piece_lines}
 use Rattle.burr_state.specs.Rules.Bench.{BenchState}
 use Rattle.burr_step.specs.Views.ShownParts.{slots_line, spaced_words, stack_line, tray_line}
 
@@ -43,8 +40,8 @@ tray_parts : (tray names : List ℕ) → text_line (codes "tray" ∷ tray ∷ co
 tray_parts tray names = simp append_assoc
 
 pub tray_line-parts : (names : List (List ℕ)) (s : BenchState)
-    → tray_line names s ≡ codes "tray " ++ (decimal s.tray ++ (codes " grip " ++ (joined_or_none (group_names 0 s.grip names) ++ codes "\n")))
-tray_line-parts names s = tray_parts (decimal s.tray) (joined_or_none (group_names 0 s.grip names))
+    → tray_line names s ≡ codes "tray " ++ (decimal s.tray ++ (codes " grip " ++ (grip_word names s.grip ++ codes "\n")))
+tray_line-parts names s = tray_parts (decimal s.tray) (grip_word names s.grip)
 
 -- that of the slots
 pub slots_line-parts : (s : BenchState) → slots_line s ≡ codes "slots" ++ (spaced_words (map slot_word s.running.slots) ++ codes "\n")
@@ -72,60 +69,14 @@ name-at [] p name inside is = absurd (omega arith)
 name-at (piece ∷ pieces) zero name inside is = sym is
 name-at (piece ∷ pieces) (suc p) name inside is = name-at pieces p name (omega arith) is
 
-group_names-at : (names : List (List ℕ)) (p group : ℕ) → p < length names
-    → group_names p group (drop p names)
-    ≡ (if is_left_out group p then group_names (p + 1) group (drop (p + 1) names) else (get_or names p [] ∷ group_names (p + 1) group (drop (p + 1) names)))
-group_names-at names p group inside = rw (add-one, drop-cons names p [])
-
 module _ (pieces : List Piece) (p : ℕ) (inside : p < length pieces) where
   here : p < length (map (λ (piece : Piece). piece.name) pieces)
   here = rw length-map inside
-
-  -- a piece of the group is the next whose name is to come
-  group_names-in : (group : ℕ) (name : List ℕ) → IsInSet group p → IfSome (slice_get pieces p) (λ (piece : Piece). name ≡ piece.name)
-      → group_names p group (drop p (map (λ (piece : Piece). piece.name) pieces)) ≡ name ∷ group_names (p + 1) group (drop (p + 1) (map (λ (piece : Piece). piece.name) pieces))
-  group_names-in group name is has = rw (group_names-at _ p group here, not_left_out group p is, name-at pieces p name inside has)
-
-  -- a piece of another group is passed over
-  pub group_names-out : (group : ℕ) → (¬ IsInSet group p)
-      → group_names p group (drop p (map (λ (piece : Piece). piece.name) pieces)) ≡ group_names (p + 1) group (drop (p + 1) (map (λ (piece : Piece). piece.name) pieces))
-  group_names-out group none = rw (group_names-at _ p group here, left_out group p none)
 
   -- the next of all names
   pub names-at : (name : List ℕ) → IfSome (slice_get pieces p) (λ (piece : Piece). name ≡ piece.name)
       → drop p (map (λ (piece : Piece). piece.name) pieces) ≡ name ∷ drop (p + 1) (map (λ (piece : Piece). piece.name) pieces)
   names-at name has = rw (add-one, drop-cons (map (λ (piece : Piece). piece.name) pieces) p [] here, name-at pieces p name inside has)
-
--- Names joined by commas, after this separator: where it is empty none was put, and `-` stands for none.
-abbrev pub after_separator : List ℕ → List (List ℕ) → List ℕ
-after_separator [] [] = codes "-"
-after_separator (b ∷ bytes) [] = []
-after_separator separator (name ∷ names) = separator ++ (name ++ joined (44 ∷ []) 44 names [])
-
-pub none_put : (names : List (List ℕ)) → joined_or_none names ≡ after_separator [] names
-none_put [] = refl
-none_put (name ∷ names) = sym (append-nil (join_with_byte 44 (name ∷ names))) ∙ joined-join 44 (name ∷ names) []
-
-one_put : (separator name : List ℕ) (names : List (List ℕ))
-    → after_separator separator (name ∷ names) ≡ separator ++ (name ++ after_separator (44 ∷ []) names)
-one_put [] name [] = refl
-one_put [] name (next ∷ names) = refl
-one_put (b ∷ bytes) name [] = refl
-one_put (b ∷ bytes) name (next ∷ names) = refl
-
--- after some names nothing is wanting
-pub some_put : (separator : List ℕ) → false ≡ (length separator == 0) → after_separator separator [] ≡ []
-some_put [] some = cc
-some_put (b ∷ bytes) some = refl
-
--- the next name, after its separator
-pub next_name : (pieces : List Piece) (p group : ℕ) (separator name : List ℕ) → p < length pieces → IsInSet group p
-    → IfSome (slice_get pieces p) (λ (piece : Piece). name ≡ piece.name)
-    → after_separator separator (group_names p group (drop p (map (λ (piece : Piece). piece.name) pieces)))
-    ≡ separator ++ (name ++ after_separator (44 ∷ []) (group_names (p + 1) group (drop (p + 1) (map (λ (piece : Piece). piece.name) pieces))))
-next_name pieces p group separator name inside is has =
-    ap (λ (names : List (List ℕ)). after_separator separator names) (group_names-in pieces p inside group name is has)
-    ∙ one_put separator name (group_names (p + 1) group (drop (p + 1) (map (λ (piece : Piece). piece.name) pieces)))
 
 -- Numbers, slots and pieces
 

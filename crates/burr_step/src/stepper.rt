@@ -11,8 +11,8 @@ use burr_blocking::Blocking;
 use burr_verify::Accepted;
 use std::marker::Model;
 
-/// A run of an accepted plan, step by step: it goes forwards by commands, and back by records of its
-/// last 256 steps, or by running again with the answers that are kept.
+/// A run of an accepted plan, step by step: it goes forwards by commands, and back by records of
+/// its last 256 steps, or by running again with the answers that are kept.
 #[derive(Drop)]
 pub struct Stepper<'s, 'a: 's, 'c: 'a, B: Blocking> {
     accepted: &'s Accepted<'a, 'c, B>,
@@ -30,5 +30,6 @@ impl<'s, 'a: 's, 'c: 'a, B: Blocking> Model for Stepper<'s, 'a, 'c, B> {
 
     ghost view = { λ s. stepping s.machine s.answers.items };
 
-    ghost invariant = { λ s. IsStepping s.accepted.now (stepping s.machine s.answers.items) s.records };
+    ghost invariant = { λ s.
+        IsStepping s.accepted.now (stepping s.machine s.answers.items) s.records };
 }

@@ -1,4 +1,1 @@
-pub mod Filled
-pub mod Fitting
-pub mod Restored
 pub mod Upgraded

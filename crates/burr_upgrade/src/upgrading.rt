@@ -5,8 +5,7 @@ ghost use Rattle.burr_container.specs.Rules.Spelling.{plan_bytes};
 ghost use Rattle.burr_container.specs.Views.Containers.{IsContainer};
 ghost use Rattle.burr_upgrade.specs.Upgrades.{upgraded};
 
-use crate::plans::plan_of;
-use burr_container::{Container, write};
+use burr_container::{Container, Plan, write};
 use std::alloc::{AllocError, Global};
 
 /// The container of version 2 of the same plan: each procedure has no results and each exit frame
@@ -16,7 +15,7 @@ pub fn upgrade(alloc: Global, container: &Container<'_>) -> Result<Vec<u8>, Allo
         → bytes.items ≡ plan_bytes (upgraded p)) }
     ensures fits { (p : PlanOf) → IsContainer container.now p → IsTrue (is_fitting (upgraded p)) }
 {
-    let mut plan = plan_of(alloc, container)?;
+    let mut plan = Plan::of(alloc, container)?;
     plan.version = 2;
     write(alloc, &plan)
 }

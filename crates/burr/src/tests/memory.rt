@@ -144,5 +144,6 @@ fn tells_a_want_of_memory_for_a_plan(rt: HostRuntime) -> Result<(), Fail> {
     assert_wants(&rt, "burr check cup cup.bpln", "", 0)?;
     assert_wants(&rt, "burr run cup cup.bpln", "2\n", 0)?;
     assert_wants(&rt, "burr run cup duo.bpln", "", 1)?;
+    assert_wants(&rt, "burr step cup cup.bpln", "", 0)?;
     Ok(())
 }

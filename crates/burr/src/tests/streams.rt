@@ -14,6 +14,7 @@ fn tells_a_source_that_fails(rt: HostRuntime) -> Result<(), Fail> {
     assert_reads(&rt, "burr try cup cup.bpln", "2\n", 3)?;
     // these read nothing
     assert_reads(&rt, "burr check cup cup.bpln", "2\n", 0)?;
+    assert_reads(&rt, "burr step cup duo.bpln", "quit\n", 0)?;
     assert_reads(&rt, "burr --help", "2\n", 0)?;
     assert_reads(&rt, "burr solve", "2\n", 0)?;
     Ok(())
@@ -110,6 +111,8 @@ fn tells_a_sink_that_fails(rt: HostRuntime) -> Result<(), Fail> {
     assert_fronts(&rt, "burr run cup cup.bpln", "")?;
     assert_fronts(&rt, "burr run cup duo.bpln", "")?;
     assert_fronts(&rt, "burr try cup cup.bpln", "2\n")?;
+    assert_fronts(&rt, "burr step cup cup.bpln", "forward\nanswer 1\nshow\n")?;
+    assert_fronts(&rt, "burr step cup duo.bpln", "forward\n")?;
     Ok(())
 }
 

@@ -1,18 +1,18 @@
 -- What the stepper writes, and the lines that it takes.
-use Rattle.std.specs.Prelude.{◌≡◌, ◌≢◌, ◌⊎◌, ◌<◌, ◌≤◌, ◌^◌, ℕ, suc, ℤ, List, [], ◌∷◌, ◌++◌, length, map, reverse, Bool, true, false, Option, Some, None, codes, decimal, FitsSigned, if◌then◌else◌}
+use Rattle.std.specs.Prelude.{◌≡◌, ◌==◌, ◌≢◌, ◌⊎◌, ◌<◌, ◌≤◌, ◌^◌, ℕ, ℤ, List, [], ◌∷◌, ◌++◌, length, map, reverse, Bool, true, false, Option, Some, None, codes, decimal, FitsSigned, if◌then◌else◌}
 use Rattle.std.specs.Int.{w32}
 use Rattle.std.specs.List.{join_with_byte}
 use Rattle.std.specs.Fmt.{signed_decimal}
 use Rattle.burr_text.specs.Checks.{looks_for}
 use Rattle.burr_text.specs.Words.{text_line}
 use Rattle.burr_voxels.specs.declared.cell.Cell.{Cell}
-use Rattle.burr_code.specs.PieceSets.{is_left_out}
 use Rattle.burr_code.specs.declared.placement.Placement.{Placement}
 use Rattle.burr_code.specs.declared.placement.Placement.TheVariants.{Apart, On}
 use Rattle.burr_state.specs.declared.mode.Mode.{Mode}
 use Rattle.burr_state.specs.declared.mode.Mode.TheVariants.{Running, Ended, Trapped}
 use Rattle.burr_state.specs.Rules.Bench.{BenchState, Setup, HasLabelOf}
 use Rattle.burr_state.specs.Rules.Step.{AsksNow}
+use Rattle.burr_sheet.specs.Rules.SheetText.{names_from}
 use Rattle.burr_step.specs.Rules.Stepper.{History, IsAsking, StepCommand, Forward, Over, Until, Answer, Back, StepRefusal, S1, S2, S3, S4, StepOutcome, Taken, Refused, Commanding, history_left, state_left}
 
 -- What `show` writes
@@ -23,17 +23,10 @@ ended_word Running = []
 ended_word Ended = codes "ended" ∷ []
 ended_word (Trapped trap) = []
 
--- words joined by commas, and `-` for none
-abbrev pub joined_or_none : List (List ℕ) → List ℕ
-joined_or_none [] = codes "-"
-joined_or_none (word ∷ words) = join_with_byte 44 (word ∷ words)
-
--- of the names of the pieces from piece p on, those of the pieces of a group
-abbrev pub group_names : ℕ → ℕ → List (List ℕ) → List (List ℕ)
-group_names p group [] = []
-group_names p group (name ∷ names) =
-    if is_left_out group p then group_names (suc p) group names
-    else (name ∷ group_names (suc p) group names)
+-- the names of the gripped pieces joined by commas, and `-` where nothing is gripped
+abbrev pub grip_word : List (List ℕ) → ℕ → List ℕ
+grip_word names grip =
+    if grip == 0 then codes "-" else join_with_byte 44 (names_from 0 grip names)
 
 -- a slot's number, and `-` for an empty one
 abbrev pub slot_word : Option ℤ → List ℕ
@@ -63,7 +56,7 @@ show_text names s =
     text_line (codes "after" ∷ decimal s.steps ∷ codes "steps" ∷ codes "proc"
     ∷ decimal s.running.procedure ∷ codes "pc" ∷ decimal s.running.pc ∷ ended_word s.mode)
     ++ (text_line (codes "tray" ∷ decimal s.tray ∷ codes "grip"
-    ∷ joined_or_none (group_names 0 s.grip names) ∷ [])
+    ∷ grip_word names s.grip ∷ [])
     ++ (text_line (codes "slots" ∷ map slot_word s.running.slots)
     ++ (text_line (codes "stack" ∷ stack_words s.running.operands)
     ++ piece_lines names s.places)))

@@ -2,7 +2,7 @@
 use Rattle.std.specs.Prelude.{ℕ, List, [], ◌∷◌, ◌++◌, map, codes, decimal}
 use Rattle.burr_text.specs.Words.{text_line}
 use Rattle.burr_state.specs.Rules.Bench.{BenchState}
-use Rattle.burr_step.specs.Rules.StepTexts.{ended_word, joined_or_none, group_names, slot_word, stack_words}
+use Rattle.burr_step.specs.Rules.StepTexts.{ended_word, grip_word, slot_word, stack_words}
 
 -- how far the run is
 abbrev pub after_line : BenchState → List ℕ
@@ -14,7 +14,7 @@ after_line s =
 abbrev pub tray_line : List (List ℕ) → BenchState → List ℕ
 tray_line names s =
     text_line (codes "tray" ∷ decimal s.tray ∷ codes "grip"
-    ∷ joined_or_none (group_names 0 s.grip names) ∷ [])
+    ∷ grip_word names s.grip ∷ [])
 
 -- the slots of the running activation
 abbrev pub slots_line : BenchState → List ℕ

@@ -24,8 +24,8 @@ pub record Stepping : Type 0 where
 abbrev pub stepping : Benched → List ℤ → Stepping
 stepping b answers = record { bench = b; history = history b.state.steps answers }
 
--- These records are of the last steps of a run of an accepted plan, which stands where its steps and
--- answers lead.
+-- These records are of the last steps of a run of an accepted plan, which stands where its steps
+-- and answers lead.
 pub record IsUnderWay (s : Stepping) (undos : List Undo) : Type 0 where
   pub start : IsSafeBench (in_state (start (setup_of s.bench)) s.bench)
   pub state : IsStateOf (setup_of s.bench) s.history s.bench.state
@@ -96,8 +96,8 @@ IsThere (stops.Position procedure position) s =
 abbrev pub StopsFor : Setup → Stop → BenchState → Type 0
 StopsFor setup stop s = IsHalted setup s ⊎ IsThere stop s
 
--- After some steps, one at least, none of which but perhaps the last led to a state that is so: what
--- leads from here to the first that is so leads there from the beginning.
+-- After some steps, one at least, none of which but perhaps the last led to a state that is so:
+-- what leads from here to the first that is so leads there from the beginning.
 pub record IsUpTo (IsSo : BenchState → Type 0) (old now : Stepping) : Type 0 where
   pub same : IsSameRun old.bench now.bench
   pub begins : ¬ IsHalted (setup_of old.bench) old.bench.state

@@ -56,8 +56,8 @@ UndoingIsBack =
 -- a step's record is one more
 abbrev pub RecordIsKept : Type 0
 RecordIsKept =
-    (b : Benched) (h : History) (undos : List Undo) (answer : Option ℤ) (new : BenchState) (u : Undo)
-    → IsStateOf (setup_of b) h b.state → AreRecordsOf b h undos
+    (b : Benched) (h : History) (undos : List Undo) (answer : Option ℤ) (new : BenchState)
+    (u : Undo) → IsStateOf (setup_of b) h b.state → AreRecordsOf b h undos
     → StepsTo (setup_of b) b.state answer new
     → TakesBack (in_state new b) u → laid_over u new ≡ b.state
     → AreRecordsOf (in_state new b) (one_more answer h) (u ∷ undos)

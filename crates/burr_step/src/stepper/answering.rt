@@ -8,8 +8,8 @@ use burr_verify::a_fitting_plan_is_from_a_container;
 
 impl<'s, 'a: 's, 'c: 'a, B: Blocking> Stepper<'s, 'a, 'c, B> {
     /// Answers the question for which the run waits, which makes one step. S1 where the run has
-    /// ended, S3 where it waits for no answer or this one does not fit; `Memory` where a request for
-    /// memory was refused.
+    /// ended, S3 where it waits for no answer or this one does not fit; `Memory` where a request
+    /// for memory was refused.
     pub fn answer(&mut self, answer: i32) -> Result<(), StepRefusal>
         ensures { CameTo self.old (commanding self.old (Answer answer)) result self.new }
     {

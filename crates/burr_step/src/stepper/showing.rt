@@ -6,23 +6,23 @@ ghost use Rattle.burr_assembly.specs.Rules.Homes.{names_of};
 ghost use Rattle.burr_io.specs.Sink.{Puts};
 ghost use Rattle.burr_code.specs.declared.limits.TheConstants.{SLOTS};
 ghost use Rattle.burr_code.specs.declared.placement.Placement.TheVariants.{On};
-ghost use Rattle.burr_step.specs.Rules.StepTexts.{group_names, joined_or_none, piece_line, piece_lines, show_text, slot_word};
+ghost use Rattle.burr_step.specs.Rules.StepTexts.{grip_word, piece_line, piece_lines, show_text, slot_word};
 ghost use Rattle.burr_step.specs.Views.ShownParts.{after_line, slots_line, spaced_words, stack_line, tray_line};
 
 use crate::stepper::Stepper;
-use burr_assembly::Assembly;
 use burr_bench::Machine;
 use burr_blocking::Blocking;
+use burr_code::Placement;
 use burr_code::limits::SLOTS;
-use burr_code::{Placement, is_in_set};
 use burr_io::{Sink, WriteFault, put_all, put_number, put_words};
+use burr_sheet::put_names;
 use burr_voxels::Cell;
 use itoa::Buffer;
 
 impl<'s, 'a: 's, 'c: 'a, B: Blocking> Stepper<'s, 'a, 'c, B> {
     /// Puts where the run stands: its steps, procedure and position; the tray and the names of the
-    /// gripped pieces; the slots and operands of the running activation, the bottom operand first; and
-    /// where each piece is, by how far from home it lies.
+    /// gripped pieces; the slots and operands of the running activation, the bottom operand first;
+    /// and where each piece is, by how far from home it lies.
     pub fn show<W: Sink>(&self, sink: &mut W) -> Result<(), WriteFault>
         ensures { Puts W.Sink sink.old sink.new
             (show_text (names_of self.now.bench.assembly) self.now.bench.state) result }
@@ -65,28 +65,19 @@ fn put_tray<W: Sink>(machine: &Machine, sink: &mut W) -> Result<(), WriteFault>
     put_all(b"tray ", sink)?;
     put_number(machine.tray(), sink)?;
     put_all(b" grip ", sink)?;
-    put_names(machine.assembly(), machine.grip(), sink)?;
+    put_grip(machine, sink)?;
     put_all(b"\n", sink)
 }
 
-/// Puts the names of the pieces of a group, as `A,B`; `-` where it has none.
-fn put_names<W: Sink>(assembly: &Assembly, group: u32, sink: &mut W) -> Result<(), WriteFault>
+/// Puts the names of the gripped pieces, as `A,B`; `-` where nothing is gripped.
+fn put_grip<W: Sink>(machine: &Machine, sink: &mut W) -> Result<(), WriteFault>
     ensures { Puts W.Sink sink.old sink.new
-        (joined_or_none (group_names 0 group (names_of assembly.now))) result }
+        (grip_word (names_of machine.now.assembly) machine.now.state.grip) result }
 {
-    let mut separator: &[u8] = b"";
-    for piece in 0..assembly.piece_count() {
-        if is_in_set(group, piece) {
-            let name = assembly.piece_name(piece).as_bytes();
-            put_all(separator, sink)?;
-            put_all(name, sink)?;
-            separator = b",";
-        }
-    }
-    if separator.is_empty() {
+    if machine.grip() == 0 {
         return put_all(b"-", sink);
     }
-    Ok(())
+    put_names(machine.assembly(), machine.grip(), sink)
 }
 
 /// Puts the slots, of which there are eight, as `slots 3 - - - - - - -`.

@@ -28,7 +28,6 @@ impl<'s, 'a: 's, 'c: 'a, B: Blocking> Stepper<'s, 'a, 'c, B> {
     {
         an_accepted_bench_never_traps();
         let records = Records::new(alloc)?;
-        let _plan = accepted.plan();
         Ok(Stepper {
             accepted,
             machine: Machine::start(accepted),

@@ -1,4 +1,5 @@
-use Rattle.burr.proofs.HandedText.{failed_early, on_err}
+use Rattle.burr_io.proofs.Common.Lines.{failed_early}
+use Rattle.burr.proofs.HandedText.{on_err}
 use Rattle.burr.proofs.program.put_whole.Goals as goal
 
 pub returns-in_err-put_all-clause-err : goal.returns-in_err-put_all-clause-err

@@ -9,14 +9,14 @@ use Rattle.burr_upgrade.proofs.upgrading.upgrade.Goals as goal
 
 pub returns-in_err-plan-clause-fits : goal.returns-in_err-plan-clause-fits
 returns-in_err-plan-clause-fits c p of =
-    stays_fitting p (fits_where_kept c.args.container.now p c.plan_of.ensures.container of)
+    stays_fitting p (fits_where_kept c.args.container.now p c.of.ensures.container of)
 
 pub write-requires : goal.write-requires
 write-requires c =
-    let has = c.plan_of.ensures.container in
+    let has = c.of.ensures.container in
     let same = c.plan.view_is ∙ c.in_ok-plan.ensures.plan has.0 has.2 in
     subst (λ (p : Plan). IsTrue (is_fitting (upgraded p))) (sym same) (stays_fitting has.0 has.1)
 
 pub returns-clause-fits : goal.returns-clause-fits
 returns-clause-fits c p of =
-    stays_fitting p (fits_where_kept c.args.container.now p c.plan_of.ensures.container of)
+    stays_fitting p (fits_where_kept c.args.container.now p c.of.ensures.container of)

@@ -20,17 +20,15 @@ returns-in_err-put_all-2 g c =
     rw (tray_line-parts (names_of c.args.machine.now.assembly) c.args.machine.now.state)
     (Puts-more c.in_ok-put_all.ensures.puts (Puts-more tray (Puts-fails _ c.in_err-put_all-2.ensures.puts c.from_residual-in_err-put_all-2.ensures.0)))
 
-pub returns-in_err-put_names : goal.returns-in_err-put_names
-returns-in_err-put_names g c =
+pub returns-in_err-put_grip : goal.returns-in_err-put_grip
+returns-in_err-put_grip g c =
     let tray = rw c.tray.ensures at c.in_ok-put_number.ensures in
-    let put = rw (c.assembly.ensures.assembly, c.grip.ensures) at c.in_err-put_names.ensures in
     rw (tray_line-parts (names_of c.args.machine.now.assembly) c.args.machine.now.state)
     (Puts-more c.in_ok-put_all.ensures.puts (Puts-more tray (Puts-more c.in_ok-put_all-2.ensures.puts
-    (Puts-fails _ put c.from_residual-in_err-put_names.ensures.0))))
+    (Puts-fails _ c.in_err-put_grip.ensures c.from_residual-in_err-put_grip.ensures.0))))
 
 pub returns : goal.returns
 returns g c =
     let tray = rw c.tray.ensures at c.in_ok-put_number.ensures in
-    let names = rw (c.assembly.ensures.assembly, c.grip.ensures) at c.in_ok-put_names.ensures in
     rw (tray_line-parts (names_of c.args.machine.now.assembly) c.args.machine.now.state)
-    (Puts-more c.in_ok-put_all.ensures.puts (Puts-more tray (Puts-more c.in_ok-put_all-2.ensures.puts (Puts-more names c.put_all-3.ensures.puts))))
+    (Puts-more c.in_ok-put_all.ensures.puts (Puts-more tray (Puts-more c.in_ok-put_all-2.ensures.puts (Puts-more c.in_ok-put_grip.ensures c.put_all-3.ensures.puts))))
