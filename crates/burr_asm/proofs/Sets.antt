@@ -1,10 +1,9 @@
 -- The test of a set, number by number.
-use Rattle.std.proofs.Common.{◌≡◌, ℕ, List, [], ◌∷◌, Bool, true, false, Contains, refl, sym, ap, ◌∙◌}
-use Rattle.std.specs.Prelude.{◌&&◌, ◌||◌, codes, if◌then◌else◌}
+use Rattle.std.proofs.Common.{◌≡◌, ℕ, List, Bool, true, false, Contains, sym, ap, ◌∙◌}
+use Rattle.std.specs.Prelude.{◌&&◌}
 use Rattle.std.specs.List.{list_all}
-use Rattle.std.specs.Str.{bytes_eq}
 use Rattle.burr_text.specs.Words.{IsCutAt}
-use Rattle.burr_plantext.specs.Rules.Written.{is_number, is_set, pieces}
+use Rattle.burr_plantext.specs.Rules.Written.{is_number, pieces}
 use Rattle.burr_plantext.proofs.Common.Cuts.{all_cut, all_uncut}
 
 abbrev pub are_numbers : List ℕ → Bool

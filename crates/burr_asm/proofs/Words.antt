@@ -1,10 +1,9 @@
 -- Words that the code cuts off are the words of the line.
-use Rattle.std.proofs.Common.{◌≡◌, ℕ, List, [], ◌∷◌, Bool, true, false, IsTrue, Contains, refl, sym, ap, ◌∙◌}
+use Rattle.std.proofs.Common.{◌≡◌, ℕ, List, [], ◌∷◌, Bool, true, false, Contains, refl, sym, ap, ◌∙◌}
 use Rattle.std.specs.Prelude.{Option, Some, None, MatchOption, if◌then◌else◌, slice_index_or}
 use Rattle.std.specs.Bool.{then_some}
 use Rattle.std.specs.Borrow.{Bor}
 use Rattle.burr_text.specs.Words.{IsCutAt}
-use Rattle.burr_plantext.specs.Rules.Written.{pieces}
 use Rattle.burr_plantext.specs.Rules.Texts.{first_word, words_of}
 use Rattle.burr_plantext.proofs.Common.Cuts.{some_pieces, pieces_cut, pieces_uncut}
 use Rattle.burr_asm.specs.Views.Words.{cut_word}

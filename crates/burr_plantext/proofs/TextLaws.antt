@@ -8,7 +8,7 @@ use Rattle.burr_plantext.specs.Rules.Meaning.{plan_of}
 use Rattle.burr_plantext.specs.Rules.Texts.{numbered_from, is_skipped, ended_line, LineRead, lines_read, line_number, IsTextOf, StandsFor}
 use Rattle.burr_plantext.specs.Rules.Checks.{FaultKind}
 use Rattle.burr_plantext.specs.Rules.Faults.{PlacedFault, HasFault, judgement}
-use Rattle.burr_plantext.specs.Laws.PlanTexts.{OnePlan, FaultOrPlan, NoFaultOfPlan, OneFault, FaultIsInText}
+use Rattle.burr_plantext.specs.Laws.PlanTexts.{OnePlan, JudgedSource, FaultOrPlan, NoFaultOfPlan, OneFault, FaultIsInText}
 use Rattle.burr_plantext.proofs.Complete.{source_judged}
 use Rattle.burr_plantext.proofs.Sound.{judged_source}
 
@@ -31,11 +31,14 @@ one_source text s t h k = same_ok (sym (text_judged text s h) ∙ text_judged te
 pub one_plan : OnePlan
 one_plan text p q (s, h, e) (t, k, f) = e ∙ ap plan_of (one_source text s t h k) ∙ sym f
 
+pub judged_text : JudgedSource
+judged_text text s e = let h = judged_source (lines_read text) s e in record { right = h.0; lines = h.1 }
+
 pub fault_or_plan : FaultOrPlan
 fault_or_plan text = by (judgement (lines_read text)) refl
   where
     by : (r : Result PlanSource PlacedFault) → judgement (lines_read text) ≡ r → ((p : Plan) × StandsFor text p) ⊎ ((kind : FaultKind) × (line : ℕ) × HasFault text kind line)
-    by (Ok s) e = let h = judged_source (lines_read text) s e in inl (plan_of s, (s, record { right = h.0; lines = h.1 }, refl))
+    by (Ok s) e = inl (plan_of s, (s, judged_text text s e, refl))
     by (Err f) e = inr (f.0, line_number text f.1, record { place = f.1; found = e; number = refl })
 
 pub no_fault_of_plan : NoFaultOfPlan

@@ -1,10 +1,15 @@
 ghost use Rattle.burr_plantext.specs.Laws.PlanTexts.{OnePlan, FaultOrPlan, NoFaultOfPlan, OneFault};
 ghost use Rattle.burr_plantext.specs.Laws.PlanTexts.{FaultIsInText, SomeListing, OneListing};
-ghost use Rattle.burr_plantext.specs.Laws.PlanTexts.{ListingStands, PlanFits};
+ghost use Rattle.burr_plantext.specs.Laws.PlanTexts.{JudgedSource, ListingStands, PlanFits};
 
 /// No text stands for two plans.
 pub fn a_text_has_one_plan()
     ensures { OnePlan }
+{}
+
+/// The source that the lines of a text are judged to be is that of the text.
+pub fn a_judged_text_is_of_its_source()
+    ensures { JudgedSource }
 {}
 
 /// A text has a fault exactly where it stands for no plan, and then only one.

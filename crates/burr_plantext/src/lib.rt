@@ -5,6 +5,6 @@
 mod laws;
 
 pub use laws::{
-    a_listing_stands_for_its_plan, a_plan_has_one_listing, a_text_has_a_fault_or_a_plan,
-    a_text_has_one_plan, a_text_stands_for_a_plan_within_the_format,
+    a_judged_text_is_of_its_source, a_listing_stands_for_its_plan, a_plan_has_one_listing,
+    a_text_has_a_fault_or_a_plan, a_text_has_one_plan, a_text_stands_for_a_plan_within_the_format,
 };

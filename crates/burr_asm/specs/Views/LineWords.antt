@@ -1,8 +1,75 @@
 -- The words of lines that the code's values are.
-use Rattle.std.specs.Prelude.{ℕ, List}
-use Rattle.burr_plantext.specs.Rules.Lines.{GripWords, RangeWords}
+use Rattle.std.specs.Prelude.{ℕ, List, Option, Some, None}
+use Rattle.burr_plantext.specs.Rules.Texts.{words_of}
+use Rattle.burr_plantext.specs.Rules.Statements.{Statement, Halt, Push, Load, Store, Add, Sub, Drop, Grip, Step, Aside, Tray, Jump, Down, Ask, Pick, Call, Ret, Byte}
+use Rattle.burr_plantext.specs.Rules.Lines.{Line, PlanLine, ProcLine, ExitLine, ResultLine, LabelLine, FrameLine, SlotLine, GuardLine, StackLine, CostLine, AtLine, CodeLine, PlanWords, ProcedureWords, GripWords, RangeWords, SlotWords, PlaceWords, Apart, On, PieceWords}
+use Rattle.burr_asm.specs.Views.Versions.{number_of_version}
+use Rattle.burr_asm.specs.declared.text.words.NumberWord.{NumberWord}
+use Rattle.burr_asm.specs.declared.text.plain_line.PlainLine.{PlainLine}
+use Rattle.burr_asm.specs.declared.text.plain_line.PlainLine.TheVariants as plain
+use Rattle.burr_asm.specs.declared.text.code_line.CodeLine.{CodeLine as CodeParts}
+use Rattle.burr_asm.specs.declared.text.code_line.CodeLine.TheVariants as code
+use Rattle.burr_asm.specs.declared.text.line.PlanWords.{PlanWords as PlanParts}
+use Rattle.burr_asm.specs.declared.text.line.ProcedureWords.{ProcedureWords as ProcedureParts}
 use Rattle.burr_asm.specs.declared.text.line.GripWords.{GripWords as GripParts}
 use Rattle.burr_asm.specs.declared.text.line.RangeWords.{RangeWords as RangeParts}
+use Rattle.burr_asm.specs.declared.text.line.SlotWords.{SlotWords as SlotParts}
+use Rattle.burr_asm.specs.declared.text.line.PlaceWords.{PlaceWords as PlaceParts}
+use Rattle.burr_asm.specs.declared.text.line.PlaceWords.TheVariants as place
+use Rattle.burr_asm.specs.declared.text.line.PieceWords.{PieceWords as PieceParts}
+use Rattle.burr_asm.specs.declared.text.line.LineForm.{LineForm}
+use Rattle.burr_asm.specs.declared.text.line.LineForm.TheVariants as form
+
+-- Code
+
+-- the line of an instruction that names nothing
+abbrev pub plain_words : PlainLine → Statement
+plain_words plain.Halt = Halt
+plain_words (plain.Push number) = Push number.bytes.now
+plain_words (plain.Load slot) = Load slot.bytes.now
+plain_words (plain.Store slot) = Store slot.bytes.now
+plain_words plain.Add = Add
+plain_words plain.Sub = Sub
+plain_words plain.Drop = Drop
+plain_words (plain.Grip set) = Grip set.bytes.now
+plain_words (plain.Step direction) = Step direction
+plain_words (plain.Aside direction tray) = Aside direction tray.bytes.now
+plain_words (plain.Tray tray) = Tray tray.bytes.now
+plain_words (plain.Ask low high) = Ask low.bytes.now high.bytes.now
+plain_words plain.Ret = Ret
+
+-- a line of code
+abbrev pub code_words : CodeParts → Statement
+code_words (code.Plain line) = plain_words line
+code_words (code.Jump label) = Jump label.now
+code_words (code.Down slot label) = Down slot.bytes.now label.now
+code_words (code.Pick labels) = Pick (words_of labels.names.now)
+code_words (code.Call procedure) = Call procedure.now
+code_words (code.Byte byte) = Byte byte
+
+-- Other lines
+
+-- a word, if there is one
+abbrev pub word_if_any : Option NumberWord → Option (List ℕ)
+word_if_any None = None
+word_if_any (Some word) = Some word.bytes.now
+
+-- the plan's line
+abbrev pub plan_words : PlanParts → PlanWords
+plan_words w = record {
+  version = number_of_version w.version;
+  name = w.name.now;
+  pieces = w.pieces.bytes.now;
+  budget = w.budget.bytes.now;
+}
+
+-- a procedure's line
+abbrev pub procedure_words : ProcedureParts → ProcedureWords
+procedure_words w = record {
+  name = w.name.now;
+  parameters = w.parameters.bytes.now;
+  results = word_if_any w.results;
+}
 
 -- the words with which a frame begins
 abbrev pub grip_words : GripParts → GripWords
@@ -15,3 +82,35 @@ range_words w = record { low = w.low.bytes.now; high = w.high.bytes.now }
 -- the range with these ends
 abbrev pub range_between : List ℕ → List ℕ → RangeWords
 range_between low high = record { low = low; high = high }
+
+-- the words of a slot
+abbrev pub slot_words : SlotParts → SlotWords
+slot_words w = record { slot = w.slot.bytes.now; ends = range_words w.range }
+
+-- the slot with a range between these ends
+abbrev pub slot_between : List ℕ → List ℕ → List ℕ → SlotWords
+slot_between slot low high = record { slot = slot; ends = range_between low high }
+
+-- where a piece lies
+abbrev pub place_words : PlaceParts → PlaceWords
+place_words place.Apart = Apart
+place_words (place.On tray x y z) = On tray.bytes.now x.bytes.now y.bytes.now z.bytes.now
+
+-- the words of a piece
+abbrev pub piece_words : PieceParts → PieceWords
+piece_words w = record { piece = w.piece.bytes.now; spot = place_words w.place }
+
+-- The line
+abbrev pub line_words : LineForm → Line
+line_words (form.Plan words) = PlanLine (plan_words words)
+line_words (form.Procedure words) = ProcLine (procedure_words words)
+line_words (form.Exit words) = ExitLine (grip_words words)
+line_words (form.Result words) = ResultLine (range_words words)
+line_words (form.Label name) = LabelLine name.now
+line_words (form.Frame words) = FrameLine (grip_words words)
+line_words (form.Slot words) = SlotLine (slot_words words)
+line_words (form.Guard word) = GuardLine word.bytes.now
+line_words (form.Stack word) = StackLine word.bytes.now
+line_words (form.Cost word) = CostLine word.bytes.now
+line_words (form.At words) = AtLine (piece_words words)
+line_words (form.Code line) = CodeLine (code_words line)

@@ -3,6 +3,8 @@ use Rattle.std.specs.Prelude.{◌≡◌, ℕ, ℤ, List, Option, MatchOption, Fi
 use Rattle.std.specs.Int.{Width}
 use Rattle.burr_container.specs.Rules.Plans.{Range}
 use Rattle.burr_plantext.specs.Rules.Written.{natural_in, number_in, is_below, is_within, is_operand, are_ends}
+use Rattle.burr_plantext.specs.Rules.Meaning.{result_count}
+use Rattle.burr_plantext.specs.Rules.Checks.{is_result_count}
 
 -- the number that the word writes, where it is below the bound
 abbrev pub IsBelow : ℕ → List ℕ → Option ℕ → Type 0
@@ -33,3 +35,9 @@ abbrev pub IsOfWidth : Width → List ℕ → Option ℤ → Type 0
 IsOfWidth width word found =
     MatchOption found (¬ FitsSigned width (number_in word)) (λ n.
     FitsSigned width (number_in word) × (n ≡ number_in word))
+
+-- the number of results that the word writes, if there is one, where it is at most this
+abbrev pub IsResultCount : ℕ → Option (List ℕ) → Option ℕ → Type 0
+IsResultCount most word found =
+    MatchOption found (is_result_count most word ≡ false) (λ n.
+    (is_result_count most word ≡ true) × (n ≡ result_count word))

@@ -1,8 +1,13 @@
-ghost use Rattle.std.specs.Prelude.{◌<◌, ◌≤◌, IfSome};
+ghost use Rattle.std.specs.Prelude.{◌≡◌, ◌<◌, [], false, true, IfSome, MatchOption, None, Some};
+ghost use Rattle.burr_plantext.specs.Rules.Statements.{code_of, hex_value, is_hex_digit};
+ghost use Rattle.burr_plantext.specs.Rules.Statements.{raw_byte, Byte};
+ghost use Rattle.burr_plantext.specs.Rules.Texts.{words_of};
+ghost use Rattle.burr_asm.specs.Views.CodeKeywords.{IsNoKeyword, IsNoOther, keyword_line, word_of};
+ghost use Rattle.burr_asm.specs.Views.LineWords.{code_words};
 
+use crate::text::offer::OfferWords;
 use crate::text::plain_line::PlainLine;
 use crate::text::words::{NumberWord, name};
-use burr_text::is_name;
 
 /// A line of code by its form alone: an instruction's word and its operands, or one raw byte.
 #[derive(Clone, Copy)]
@@ -31,24 +36,21 @@ enum Keyword {
     Byte,
 }
 
-/// The words of a `pick`: the names of 2 to 8 labels, joined by blanks.
-#[derive(Clone, Copy)]
-pub struct OfferWords<'a> {
-    pub names: &'a [u8],
-    /// How many names there are.
-    pub count: usize,
-    ghost few: { count ≤ 8 },
-}
-
 impl CodeLine<'_> {
     /// The line that is this one word; None where it is of no form.
-    pub fn of_word(word: &[u8]) -> Option<CodeLine<'_>> {
+    pub fn of_word(word: &[u8]) -> Option<CodeLine<'_>>
+        ensures { MatchOption result (code_of word.now [] ≡ None) (λ line.
+            code_of word.now [] ≡ Some (code_words line)) }
+    {
         Some(CodeLine::Plain(PlainLine::of_word(word)?))
     }
 
     /// The line that begins with this word, and what stands after the blank; None where it is of no
     /// form.
-    pub fn with_operands<'a>(word: &[u8], words: &'a [u8]) -> Option<CodeLine<'a>> {
+    pub fn with_operands<'a>(word: &[u8], words: &'a [u8]) -> Option<CodeLine<'a>>
+        ensures { MatchOption result (code_of word.now (words_of words.now) ≡ None) (λ line.
+            code_of word.now (words_of words.now) ≡ Some (code_words line)) }
+    {
         match Keyword::of(word) {
             Some(keyword) => CodeLine::with_keyword(keyword, words),
             None => Some(CodeLine::Plain(PlainLine::with_operands(word, words)?)),
@@ -56,7 +58,10 @@ impl CodeLine<'_> {
     }
 
     /// The line that begins with a keyword, and what stands after the blank.
-    fn with_keyword(keyword: Keyword, words: &[u8]) -> Option<CodeLine<'_>> {
+    fn with_keyword(keyword: Keyword, words: &[u8]) -> Option<CodeLine<'_>>
+        ensures { MatchOption result (keyword_line keyword (words_of words.now) ≡ None) (λ line.
+            keyword_line keyword (words_of words.now) ≡ Some (code_words line)) }
+    {
         match keyword {
             Keyword::Jump => Some(CodeLine::Jump(name(words)?)),
             Keyword::Down => {
@@ -72,7 +77,10 @@ impl CodeLine<'_> {
 
 impl Keyword {
     /// The keyword that a word is.
-    fn of(word: &[u8]) -> Option<Keyword> {
+    fn of(word: &[u8]) -> Option<Keyword>
+        ensures { MatchOption result (IsNoKeyword word.now) (λ keyword.
+            word.now ≡ word_of keyword) }
+    {
         match word {
             b"jump" => Some(Keyword::Jump),
             b"pick" => Some(Keyword::Pick),
@@ -81,7 +89,9 @@ impl Keyword {
     }
 
     /// The keyword that a word is, if it is one of the rest.
-    fn other(word: &[u8]) -> Option<Keyword> {
+    fn other(word: &[u8]) -> Option<Keyword>
+        ensures { MatchOption result (IsNoOther word.now) (λ keyword. word.now ≡ word_of keyword) }
+    {
         match word {
             b"down" => Some(Keyword::Down),
             b"call" => Some(Keyword::Call),
@@ -91,27 +101,11 @@ impl Keyword {
     }
 }
 
-impl OfferWords<'_> {
-    /// The 2 to 8 names that bytes are, joined by blanks.
-    fn parse(bytes: &[u8]) -> Option<OfferWords<'_>> {
-        let count = bytes.split(|byte| *byte == b' ').count();
-        if count < 2 || 8 < count || !are_names(bytes) {
-            return None;
-        }
-        Some(OfferWords {
-            names: bytes,
-            count,
-        })
-    }
-}
-
-/// Whether the bytes are names, joined by blanks.
-fn are_names(bytes: &[u8]) -> bool {
-    bytes.split(|byte| *byte == b' ').all(|word| is_name(word))
-}
-
 /// The byte with two digits of base 16.
-fn hex_byte(bytes: &[u8]) -> Option<u8> {
+fn hex_byte(bytes: &[u8]) -> Option<u8>
+    ensures { MatchOption result (raw_byte bytes.now ≡ None) (λ byte.
+        raw_byte bytes.now ≡ Some (Byte byte)) }
+{
     match bytes {
         [high, low] => Some(16 * hex_digit(*high)? + hex_digit(*low)?),
         _ => None,
@@ -120,7 +114,9 @@ fn hex_byte(bytes: &[u8]) -> Option<u8> {
 
 /// The digit, 0 to 15, where the byte is one in lower case.
 fn hex_digit(byte: u8) -> Option<u8>
-    ensures { IfSome result (λ digit. digit < 16) }
+    ensures few { IfSome result (λ digit. digit < 16) }
+    ensures value { MatchOption result (is_hex_digit byte ≡ false) (λ digit.
+        (is_hex_digit byte ≡ true) × (digit ≡ hex_value byte)) }
 {
     match byte {
         b'0'..=b'9' => Some(byte - b'0'),

@@ -1,35 +1,25 @@
+ghost use Rattle.std.specs.Prelude.{◌≡◌, ◌==◌, ◌&&◌, ℕ, [], length, nat_lt, not};
+ghost use Rattle.burr_plantext.specs.Rules.Checks.{is_empty};
+ghost use Rattle.burr_plantext.specs.Rules.Lines.{AtLine, GripWords as GripSource, GuardLine};
+ghost use Rattle.burr_plantext.specs.Rules.Lines.{ProcedureWords, ResultLine};
+ghost use Rattle.burr_plantext.specs.Rules.Right.{exit_source};
+ghost use Rattle.burr_asm.specs.Views.ExitFrames.{AddsExitGuard, AddsExitPiece};
+ghost use Rattle.burr_asm.specs.Views.ExitLines.{AddsExitLine};
+ghost use Rattle.burr_asm.specs.Views.Exits.{is_second, IsExitFor, IsSignature};
+ghost use Rattle.burr_asm.specs.Views.Frames.{IsGrip};
+ghost use Rattle.burr_asm.specs.Views.LineWords.{line_words, piece_words, range_words};
+
 use crate::fault::AsmFault;
-use crate::text::form::FormWords;
+use crate::text::form::FormWord;
 use crate::text::frame::{Grip, add_form};
 use crate::text::line::{LineForm, PieceWords, RangeWords};
 use crate::text::numbers::range;
 use crate::text::places::add_place;
+use crate::text::signature::Signature;
 use crate::version::Version;
 use burr_code::limits::MOST_GUARDS;
 use burr_container::ExitFrame;
 use std::alloc::Global;
-
-/// What a procedure takes and gives, and the version of its plan: what its exit frame may say.
-#[derive(Clone, Copy)]
-pub struct Signature {
-    pub version: Version,
-    /// How many parameters it has: 0 to 4.
-    pub parameters: u8,
-    /// How many results it has: 0 to 2, in version 1 none.
-    pub results: u8,
-}
-
-impl Signature {
-    /// Which symbols the forms of the exit frame may have: the parameters, and then the results.
-    fn symbols(self) -> [bool; 8] {
-        let count = usize::from(self.parameters) + usize::from(self.results);
-        let mut symbols = [false; 8];
-        for symbol in symbols.iter_mut().take(count) {
-            *symbol = true;
-        }
-        symbols
-    }
-}
 
 /// An exit frame as far as it has been read: its results first, then its guards, then its pieces.
 #[derive(Drop)]
@@ -40,7 +30,11 @@ pub struct Exit {
 
 impl Exit {
     /// An exit frame of which only the first line has been read.
-    pub fn new(alloc: Global, signature: Signature, grip: Grip) -> Exit {
+    pub fn new(alloc: Global, signature: Signature, grip: Grip) -> Exit
+        ensures { (version : ℕ) (h : ProcedureWords) (words : GripSource)
+            → IsSignature signature version h → IsGrip grip words
+            → IsExitFor result version h (exit_source words [] [] []) }
+    {
         Exit {
             signature,
             frame: ExitFrame {
@@ -54,39 +48,58 @@ impl Exit {
     }
 
     /// One more line.
-    pub fn add(&mut self, form: LineForm<'_>, line: usize) -> Result<(), AsmFault> {
+    pub fn add(&mut self, form: LineForm<'_>, line: usize) -> Result<(), AsmFault>
+        ensures { AddsExitLine self.old (line_words form.entry) line self.new result }
+    {
         match form {
-            LineForm::Result(words) if self.lacks_results() => self.add_result(words, line),
-            LineForm::Guard(form) if self.takes_guards() => self.add_guard(form, line),
-            LineForm::At(words) if !self.lacks_results() => self.add_piece(words, line),
+            LineForm::Result(words) => self.add_result(words, line),
+            LineForm::Guard(form) => self.add_guard(form, line),
+            LineForm::At(words) => self.add_piece(words, line),
             _ => Err(AsmFault::P1 { line }),
         }
     }
 
     /// Whether the places of so many pieces have all been read.
-    pub fn is_whole(&self, pieces: u8) -> bool {
-        self.frame.places.len() >= usize::from(pieces)
+    pub fn is_whole(&self, pieces: u8) -> bool
+        ensures { result ≡ (length self.now.frame.places == pieces) }
+    {
+        self.frame.places.len() == usize::from(pieces)
     }
 
     /// What has been read.
-    pub fn into_frame(self) -> ExitFrame {
+    pub fn into_frame(self) -> ExitFrame
+        ensures { result ≡ self.frame }
+    {
         self.frame
     }
 
     /// Whether results are still due.
-    fn lacks_results(&self) -> bool {
+    fn lacks_results(&self) -> bool
+        ensures { result ≡ nat_lt (length self.now.frame.results) self.now.signature.results }
+    {
         self.frame.results.len() < usize::from(self.signature.results)
     }
 
     /// Whether a guard may stand next.
-    fn takes_guards(&self) -> bool {
-        self.signature.version == Version::Two
-            && !self.lacks_results()
-            && self.frame.places.is_empty()
+    fn takes_guards(&self) -> bool
+        ensures { result ≡ (is_second self.now.signature.version
+            && not (nat_lt (length self.now.frame.results) self.now.signature.results)
+            && is_empty self.now.frame.places) }
+    {
+        match self.signature.version {
+            Version::One => false,
+            Version::Two => !self.lacks_results() && self.frame.places.is_empty(),
+        }
     }
 
-    /// A line `result`.
-    fn add_result(&mut self, words: RangeWords<'_>, line: usize) -> Result<(), AsmFault> {
+    /// A line `result`, before all guards and pieces.
+    fn add_result(&mut self, words: RangeWords<'_>, line: usize) -> Result<(), AsmFault>
+        ensures { AddsExitLine self.old (ResultLine (range_words words.entry)) line
+            self.new result }
+    {
+        if !self.lacks_results() {
+            return Err(AsmFault::P1 { line });
+        }
         match range(words.low, words.high) {
             Some(range) => {
                 self.frame.results.push(range)?;
@@ -96,15 +109,49 @@ impl Exit {
         }
     }
 
-    /// A line `guard`.
-    fn add_guard(&mut self, form: FormWords<'_>, line: usize) -> Result<(), AsmFault> {
+    /// A line `guard`, after all results and before all pieces.
+    fn add_guard(&mut self, form: FormWord<'_>, line: usize) -> Result<(), AsmFault>
+        ensures { AddsExitLine self.old (GuardLine form.entry.bytes.now) line self.new result }
+    {
+        if !self.takes_guards() {
+            return Err(AsmFault::P1 { line });
+        }
         let symbols = self.signature.symbols();
-        add_form(&mut self.frame.guards, MOST_GUARDS, &symbols, form, line)
+        add_guard(&mut self.frame, &symbols, form, line)
     }
 
-    /// A line `at`.
-    fn add_piece(&mut self, words: PieceWords<'_>, line: usize) -> Result<(), AsmFault> {
+    /// A line `at`, after all results.
+    fn add_piece(&mut self, words: PieceWords<'_>, line: usize) -> Result<(), AsmFault>
+        ensures { AddsExitLine self.old (AtLine (piece_words words.entry)) line self.new result }
+    {
+        if self.lacks_results() {
+            return Err(AsmFault::P1 { line });
+        }
         let symbols = self.signature.symbols();
-        add_place(&mut self.frame.places, &symbols, words, line)
+        add_piece(&mut self.frame, &symbols, words, line)
     }
+}
+
+/// A guard of an exit frame, over these symbols.
+fn add_guard(
+    frame: &mut ExitFrame,
+    symbols: &[bool; 8],
+    form: FormWord<'_>,
+    line: usize,
+) -> Result<(), AsmFault>
+    ensures { AddsExitGuard symbols.now frame.old form.entry.bytes.now line frame.new result }
+{
+    add_form(&mut frame.guards, MOST_GUARDS, symbols, form, line)
+}
+
+/// A piece of an exit frame, over these symbols.
+fn add_piece(
+    frame: &mut ExitFrame,
+    symbols: &[bool; 8],
+    words: PieceWords<'_>,
+    line: usize,
+) -> Result<(), AsmFault>
+    ensures { AddsExitPiece symbols.now frame.old (piece_words words.entry) line frame.new result }
+{
+    add_place(&mut frame.places, symbols, words, line)
 }

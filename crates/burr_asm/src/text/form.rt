@@ -1,15 +1,23 @@
-ghost use Rattle.std.specs.Prelude.{◌<◌, ◌≤◌, IfSome, length};
+ghost use Rattle.std.specs.Prelude.{◌≡◌, ◌<◌, ◌≤◌, IfSome, IsTrue, MatchOption, false, length, true};
+ghost use Rattle.std.specs.List.{list_all, position, position_or_len};
+ghost use Rattle.std.specs.Str.Parse.{without_leading_plus};
+ghost use Rattle.burr_code.specs.declared.limits.TheConstants.{SLOTS};
+ghost use Rattle.burr_plantext.specs.Rules.Written.{constant_word, form_in, is_form, is_form_over};
+ghost use Rattle.burr_plantext.specs.Rules.Written.{is_number, is_sign, is_term};
+ghost use Rattle.burr_plantext.specs.Rules.Checks.{is_empty};
+ghost use Rattle.burr_asm.specs.Views.Forms.{IsConstantCut, IsLiveSlot, IsTermCut};
+ghost use Rattle.burr_asm.specs.Views.Forms.{begins_signed, begins_term, terms_of};
 
 use crate::text::numbers::{coefficient, constant, slot};
 use crate::text::words::NumberWord;
 use burr_container::PlanForm;
 use burr_text::cut_at;
 
-/// The words of a form: its constant, and after it its terms.
+/// A form as it is written: its constant, and after it its terms.
 #[derive(Clone, Copy)]
-pub struct FormWords<'a> {
-    constant: NumberWord<'a>,
-    terms: &'a [u8],
+pub struct FormWord<'a> {
+    bytes: &'a [u8],
+    ghost formed: { IsTrue (is_form bytes.now) },
 }
 
 /// The words of a term: its coefficient, without a `+`, and its slot.
@@ -19,47 +27,94 @@ struct TermWords<'a> {
     slot: NumberWord<'a>,
 }
 
-impl FormWords<'_> {
-    /// The words of a form; None where the bytes are of no form.
-    pub fn parse(bytes: &[u8]) -> Option<FormWords<'_>> {
-        let (_first, others) = bytes.split_first()?;
-        let (constant, terms) = bytes.split_at(1 + before_sign(others));
-        let constant = NumberWord::parse(constant)?;
-        are_terms(terms).then_some(FormWords { constant, terms })
+impl<'a> FormWord<'a> {
+    /// The form that is all of these bytes; None where they are of no form.
+    pub fn parse(bytes: &'a [u8]) -> Option<FormWord<'a>>
+        ensures { MatchOption result (is_form bytes.now ≡ false) (λ word.
+            (is_form bytes.now ≡ true) × (word.bytes.now ≡ bytes.now)) }
+    {
+        if is_form(bytes) {
+            Some(FormWord { bytes })
+        } else {
+            None
+        }
     }
 
-    /// The form of these words; None where a number is out of its range, a slot isn't live, or the
-    /// slots don't rise.
-    pub fn value(&self, live: &[bool; 8]) -> Option<PlanForm> {
+    /// The form that is written; None where a number is out of its range, a slot isn't live, or
+    /// the slots don't rise.
+    pub fn value(self, live: &[bool; 8]) -> Option<PlanForm>
+        ensures { MatchOption result (is_form_over live.now self.entry.bytes.now ≡ false) (λ form.
+            (is_form_over live.now self.entry.bytes.now ≡ true)
+            × (form ≡ form_in self.entry.bytes.now)) }
+    {
+        let (first, terms) = cut_constant(self.bytes)?;
         let mut coefs = [0; 8];
         let mut least = 0;
-        let mut rest = self.terms;
+        let mut rest = terms;
         while let Some((term, more)) = TermWords::cut(rest) {
-            let slot = usize::from(slot(term.slot)?);
-            if slot < least || !live[slot] {
-                return None;
-            }
+            let slot = live_slot(term.slot, least, live)?;
             coefs[slot] = coefficient(term.coefficient)?;
             least = slot + 1;
             rest = more;
         }
-        let constant = constant(self.constant)?;
+        let constant = constant(first)?;
         Some(PlanForm { constant, coefs })
     }
 }
 
+/// The slot of this number; None where it is below the least, or isn't live.
+fn live_slot(number: NumberWord<'_>, least: usize, live: &[bool; 8]) -> Option<usize>
+    ensures few { IfSome result (λ slot. slot < SLOTS) }
+    ensures value { IsLiveSlot live.now least number.entry.bytes.now result }
+{
+    let slot = usize::from(slot(number)?);
+    (least <= slot && live[slot]).then_some(slot)
+}
+
+/// Whether the bytes are of the form of a form.
+fn is_form(bytes: &[u8]) -> bool
+    ensures { result ≡ is_form bytes.now }
+{
+    match cut_constant(bytes) {
+        Some((_constant, terms)) => are_terms(terms),
+        None => false,
+    }
+}
+
+/// The constant with which bytes begin, and the terms after it.
+fn cut_constant(bytes: &[u8]) -> Option<(NumberWord<'_>, &[u8])>
+    ensures { MatchOption result (is_number (constant_word bytes.now) ≡ false) (λ found.
+        (is_number (constant_word bytes.now) ≡ true)
+        × IsConstantCut bytes.now found.0.bytes.now found.1.now) }
+{
+    let (_first, others) = bytes.split_first()?;
+    let (constant, terms) = bytes.split_at(1 + before_sign(others));
+    Some((NumberWord::parse(constant)?, terms))
+}
+
 /// How many bytes stand before the first sign, or in all where there is none.
 fn before_sign(bytes: &[u8]) -> usize
-    ensures { result ≤ length bytes.now }
+    ensures few { result ≤ length bytes.now }
+    ensures value { result ≡ position_or_len is_sign bytes.now }
 {
-    match bytes.iter().position(|byte| matches!(byte, b'+' | b'-')) {
+    match first_sign(bytes) {
         Some(at) => at,
         None => bytes.len(),
     }
 }
 
-/// Whether the bytes are terms, one after the other.
-fn are_terms(bytes: &[u8]) -> bool {
+/// Where the first sign stands.
+fn first_sign(bytes: &[u8]) -> Option<usize>
+    ensures { result ≡ position is_sign bytes.now }
+{
+    bytes.iter().position(|byte| matches!(byte, b'+' | b'-'))
+}
+
+/// Whether the bytes, which begin with a sign where there are any, are terms.
+fn are_terms(bytes: &[u8]) -> bool
+    requires { IsTrue (begins_term bytes.now) }
+    ensures { result ≡ list_all is_term (terms_of bytes.now) }
+{
     let mut rest = bytes;
     while let Some((_term, more)) = TermWords::cut(rest) {
         rest = more;
@@ -70,7 +125,10 @@ fn are_terms(bytes: &[u8]) -> bool {
 impl TermWords<'_> {
     /// The term with which bytes begin, and what stands after it; None where they begin with none.
     fn cut(bytes: &[u8]) -> Option<(TermWords<'_>, &[u8])>
-        ensures { IfSome result (λ found. length found.1.now < length bytes.now) }
+        requires { IsTrue (begins_term bytes.now) }
+        ensures { MatchOption result
+            (list_all is_term (terms_of bytes.now) ≡ is_empty bytes.now) (λ found.
+            IsTermCut bytes.now found.0.coefficient.bytes.now found.0.slot.bytes.now found.1.now) }
     {
         let (coefficient, bytes) = cut_at(number_of(bytes)?, b'v')?;
         let (slot, rest) = bytes.split_at(before_sign(bytes));
@@ -82,7 +140,8 @@ impl TermWords<'_> {
 
 /// What a signed number that isn't 0 is without a `+`, to the end of the bytes.
 fn number_of(signed: &[u8]) -> Option<&[u8]>
-    ensures { IfSome result (λ number. length number.now ≤ length signed.now) }
+    ensures { MatchOption result (begins_signed signed.now ≡ false) (λ number.
+        (begins_signed signed.now ≡ true) × (number.now ≡ without_leading_plus signed.now)) }
 {
     match signed {
         [b'+', b'1'..=b'9', ..] => Some(&signed[1..]),

@@ -1,8 +1,25 @@
-ghost use Rattle.std.specs.Prelude.{◌<◌, ◌≤◌, IfSome};
+ghost use Rattle.std.specs.Prelude.{◌≡◌, ◌<◌, ◌≤◌, ◌++◌, ◌∷◌, [], false, true, IfSome, MatchOption};
+ghost use Rattle.std.specs.Prelude.{MatchResult, None, is_none, ◌&&◌};
+ghost use Rattle.std.specs.List.{list_all};
 ghost use Rattle.burr_code.specs.declared.limits.TheConstants.{SLOTS};
+ghost use Rattle.burr_container.specs.Rules.Plans.{live_slots};
+ghost use Rattle.burr_plantext.specs.Rules.Checks.{cost_check, grip_check, is_empty, live_in};
+ghost use Rattle.burr_plantext.specs.Rules.Checks.{piece_check};
+ghost use Rattle.burr_plantext.specs.Rules.Meaning.{frame_in};
+ghost use Rattle.burr_plantext.specs.Rules.Right.{conditions as source_of};
+ghost use Rattle.burr_plantext.specs.Rules.Sources.{Conditions as ConditionsSource, FrameSource};
+ghost use Rattle.burr_plantext.specs.Rules.Written.{form_in, is_form_over};
+ghost use Rattle.burr_plantext.specs.Rules.Lines.{GripWords as GripSource, GuardLine, SlotLine};
+ghost use Rattle.burr_plantext.specs.Rules.Lines.{StackLine};
+ghost use Rattle.burr_asm.specs.declared.fault.AsmFault.TheVariants.{P3};
+ghost use Rattle.burr_asm.specs.Views.Faults.{IsRefusal};
+ghost use Rattle.burr_asm.specs.Views.Frames.{form_check, is_grip, AreFor, IsGrip};
+ghost use Rattle.burr_asm.specs.Views.Frames.{IsSlotAbove};
+ghost use Rattle.burr_asm.specs.Views.FrameLines.{costed, with_piece, AddsCondition};
+ghost use Rattle.burr_asm.specs.Views.LineWords.{grip_words, line_words, piece_words, slot_words};
 
 use crate::fault::AsmFault;
-use crate::text::form::FormWords;
+use crate::text::form::FormWord;
 use crate::text::line::{GripWords, LineForm, PieceWords, SlotWords};
 use crate::text::numbers::{range, slot, tray};
 use crate::text::places::add_place;
@@ -10,6 +27,7 @@ use crate::text::set::piece_set;
 use burr_code::limits::{MOST_GUARDS, MOST_OPERANDS};
 use burr_container::{Frame, PlanForm};
 use std::alloc::Global;
+use std::marker::Model;
 
 /// The current tray and the grip, with which frames begin.
 #[derive(Clone, Copy)]
@@ -22,11 +40,27 @@ impl Grip {
     /// What the words say in a plan with so many pieces.
     pub fn of(words: GripWords<'_>, pieces: u8, line: usize) -> Result<Grip, AsmFault>
         requires { pieces ≤ 32 }
+        ensures { MatchResult result
+            (λ grip. (grip_check pieces (grip_words words.entry) ≡ None)
+            × IsGrip grip (grip_words words.entry))
+            (IsRefusal (grip_check pieces (grip_words words.entry)) line) }
     {
-        match (tray(words.tray), piece_set(words.set, pieces)) {
-            (Some(tray), Some(set)) => Ok(Grip { tray, set }),
-            _ => Err(AsmFault::P3 { line }),
+        match Grip::in_range(words, pieces) {
+            Some(grip) => Ok(grip),
+            None => Err(AsmFault::P3 { line }),
         }
+    }
+
+    /// What the words say, where the tray and all pieces are in their ranges.
+    fn in_range(words: GripWords<'_>, pieces: u8) -> Option<Grip>
+        requires { pieces ≤ 32 }
+        ensures { MatchOption result (is_grip pieces (grip_words words.entry) ≡ false) (λ grip.
+            (is_grip pieces (grip_words words.entry) ≡ true)
+            × IsGrip grip (grip_words words.entry)) }
+    {
+        let tray = tray(words.tray)?;
+        let set = piece_set(words.set, pieces)?;
+        Some(Grip { tray, set })
     }
 }
 
@@ -39,9 +73,27 @@ pub struct Conditions {
     stack: Vec<PlanForm>,
 }
 
+impl Model for Conditions {
+    ghost use Rattle.burr_asm.specs.Views.Frames.{ConditionParts};
+
+    ghost Value = { ConditionParts };
+
+    ghost view = { λ c.
+        record {
+          tray = c.grip.tray;
+          grip = c.grip.set;
+          slots = c.slots;
+          guards = c.guards.items;
+          stack = c.stack.items;
+        } };
+}
+
 impl Conditions {
     /// A frame of which only the first line has been read.
-    pub fn new(alloc: Global, grip: Grip) -> Conditions {
+    pub fn new(alloc: Global, grip: Grip) -> Conditions
+        ensures { (words : GripSource) → IsGrip grip words
+            → AreFor result (source_of words [] [] []) }
+    {
         Conditions {
             grip,
             slots: [None; 8],
@@ -51,7 +103,9 @@ impl Conditions {
     }
 
     /// A line before the cost: slots first, then guards, then operands.
-    pub fn add(&mut self, form: LineForm<'_>, line: usize) -> Result<(), AsmFault> {
+    pub fn add(&mut self, form: LineForm<'_>, line: usize) -> Result<(), AsmFault>
+        ensures { AddsCondition self.old (line_words form.entry) line self.new result }
+    {
         match form {
             LineForm::Slot(words) => self.add_slot(words, line),
             LineForm::Guard(form) => self.add_guard(form, line),
@@ -60,9 +114,25 @@ impl Conditions {
         }
     }
 
+    /// Whether a slot may stand next: there are no guards and no operands yet.
+    fn takes_slots(&self) -> bool
+        ensures { result ≡ (is_empty self.now.guards && is_empty self.now.stack) }
+    {
+        self.guards.is_empty() && self.stack.is_empty()
+    }
+
+    /// Whether a guard may stand next: there are no operands yet.
+    fn takes_guards(&self) -> bool
+        ensures { result ≡ is_empty self.now.stack }
+    {
+        self.stack.is_empty()
+    }
+
     /// A line `slot`, before all guards and operands.
-    fn add_slot(&mut self, words: SlotWords<'_>, line: usize) -> Result<(), AsmFault> {
-        if !self.guards.is_empty() || !self.stack.is_empty() {
+    fn add_slot(&mut self, words: SlotWords<'_>, line: usize) -> Result<(), AsmFault>
+        ensures { AddsCondition self.old (SlotLine (slot_words words.entry)) line self.new result }
+    {
+        if !self.takes_slots() {
             return Err(AsmFault::P1 { line });
         }
         match slot_above(&self.slots, words) {
@@ -75,8 +145,10 @@ impl Conditions {
     }
 
     /// A line `guard`, before all operands.
-    fn add_guard(&mut self, form: FormWords<'_>, line: usize) -> Result<(), AsmFault> {
-        if !self.stack.is_empty() {
+    fn add_guard(&mut self, form: FormWord<'_>, line: usize) -> Result<(), AsmFault>
+        ensures { AddsCondition self.old (GuardLine form.entry.bytes.now) line self.new result }
+    {
+        if !self.takes_guards() {
             return Err(AsmFault::P1 { line });
         }
         let live = live_slots(&self.slots);
@@ -84,7 +156,9 @@ impl Conditions {
     }
 
     /// A line `stack`.
-    fn add_operand(&mut self, form: FormWords<'_>, line: usize) -> Result<(), AsmFault> {
+    fn add_operand(&mut self, form: FormWord<'_>, line: usize) -> Result<(), AsmFault>
+        ensures { AddsCondition self.old (StackLine form.entry.bytes.now) line self.new result }
+    {
         let live = live_slots(&self.slots);
         add_form(&mut self.stack, MOST_OPERANDS, &live, form, line)
     }
@@ -93,9 +167,14 @@ impl Conditions {
     pub fn with_cost(
         self,
         alloc: Global,
-        form: FormWords<'_>,
+        form: FormWord<'_>,
         line: usize,
-    ) -> Result<Frame, AsmFault> {
+    ) -> Result<Frame, AsmFault>
+        ensures { (c : ConditionsSource) → AreFor self c → MatchResult result
+            (λ frame. (cost_check c form.entry.bytes.now ≡ None)
+            × (frame ≡ frame_in (costed c form.entry.bytes.now)))
+            (IsRefusal (cost_check c form.entry.bytes.now) line) }
+    {
         let cost = form_over(&live_slots(&self.slots), form, line)?;
         Ok(Frame {
             tray: self.grip.tray,
@@ -111,15 +190,19 @@ impl Conditions {
 
 /// The slot of a line, with its range, where it stands above all live slots.
 fn slot_above(slots: &[Option<(i16, i16)>; 8], words: SlotWords<'_>) -> Option<(u8, (i16, i16))>
-    ensures { IfSome result (λ found. found.0 < SLOTS) }
+    ensures few { IfSome result (λ found. found.0 < SLOTS) }
+    ensures value { IsSlotAbove slots.now (slot_words words.entry) result }
 {
     let slot = slot(words.slot)?;
     let range = range(words.range.low, words.range.high)?;
-    let is_above = slots
-        .iter()
-        .skip(usize::from(slot))
-        .all(|slot| slot.is_none());
-    is_above.then_some((slot, range))
+    are_unused(&slots[usize::from(slot)..]).then_some((slot, range))
+}
+
+/// Whether none of the slots is live.
+fn are_unused(slots: &[Option<(i16, i16)>]) -> bool
+    ensures { result ≡ list_all is_none slots.now }
+{
+    slots.iter().all(|slot| slot.is_none())
 }
 
 /// Adds the form of a line to others, of which there may be so many, over these live slots.
@@ -127,9 +210,14 @@ pub fn add_form(
     forms: &mut Vec<PlanForm>,
     most: usize,
     live: &[bool; 8],
-    words: FormWords<'_>,
+    words: FormWord<'_>,
     line: usize,
-) -> Result<(), AsmFault> {
+) -> Result<(), AsmFault>
+    ensures { MatchResult result
+        (λ _done. (form_check most live.now forms.old.items words.entry.bytes.now ≡ None)
+        × (forms.new.items ≡ forms.old.items ++ form_in words.entry.bytes.now ∷ []))
+        (IsRefusal (form_check most live.now forms.old.items words.entry.bytes.now) line) }
+{
     let form = form_over(live, words, line)?;
     if forms.len() >= most {
         return Err(AsmFault::P4 { line });
@@ -139,7 +227,12 @@ pub fn add_form(
 }
 
 /// The form of these words over these live slots.
-fn form_over(live: &[bool; 8], words: FormWords<'_>, line: usize) -> Result<PlanForm, AsmFault> {
+fn form_over(live: &[bool; 8], words: FormWord<'_>, line: usize) -> Result<PlanForm, AsmFault>
+    ensures { MatchResult result
+        (λ form. (is_form_over live.now words.entry.bytes.now ≡ true)
+        × (form ≡ form_in words.entry.bytes.now))
+        (λ fault. (is_form_over live.now words.entry.bytes.now ≡ false) × (fault ≡ P3 line)) }
+{
     match words.value(live) {
         Some(form) => Ok(form),
         None => Err(AsmFault::P3 { line }),
@@ -147,16 +240,30 @@ fn form_over(live: &[bool; 8], words: FormWords<'_>, line: usize) -> Result<Plan
 }
 
 /// Which slots are live.
-fn live_slots(slots: &[Option<(i16, i16)>; 8]) -> [bool; 8] {
-    let mut live = [false; 8];
-    for (is_live, slot) in live.iter_mut().zip(slots.iter()) {
-        *is_live = slot.is_some();
-    }
-    live
+fn live_slots(slots: &[Option<(i16, i16)>; 8]) -> [bool; 8]
+    ensures { result ≡ live_slots slots.now }
+{
+    let [a, b, c, d, e, f, g, h] = *slots;
+    [
+        a.is_some(),
+        b.is_some(),
+        c.is_some(),
+        d.is_some(),
+        e.is_some(),
+        f.is_some(),
+        g.is_some(),
+        h.is_some(),
+    ]
 }
 
 /// A line `at` of the pieces of a frame.
-pub fn add_piece(frame: &mut Frame, words: PieceWords<'_>, line: usize) -> Result<(), AsmFault> {
+pub fn add_piece(frame: &mut Frame, words: PieceWords<'_>, line: usize) -> Result<(), AsmFault>
+    ensures { (f : FrameSource) → frame.old ≡ frame_in f → MatchResult result
+        (λ _done.
+        (piece_check (live_in f.conditions) f.pieces (piece_words words.entry) ≡ None)
+        × (frame.new ≡ frame_in (with_piece f (piece_words words.entry))))
+        (IsRefusal (piece_check (live_in f.conditions) f.pieces (piece_words words.entry)) line) }
+{
     let live = live_slots(&frame.slots);
     add_place(&mut frame.places, &live, words, line)
 }

@@ -1,3 +1,10 @@
+ghost use Rattle.std.specs.Prelude.{◌≡◌};
+ghost use Rattle.burr_plantext.specs.Rules.Texts.{first_word, unended_line, Unread};
+ghost use Rattle.burr_asm.specs.Views.LineWords.{line_words, procedure_words};
+ghost use Rattle.burr_asm.specs.Views.FrontSteps.{BeginsMain, EndsText, GivesFault, GivesFront};
+ghost use Rattle.burr_asm.specs.Views.FrontSteps.{GivesNext, GivesUnderWay, GivesWithin};
+ghost use Rattle.burr_asm.specs.Views.FrontSteps.{misses, NextProcedure};
+
 use crate::fault::AsmFault;
 use crate::text::line::{LineForm, ProcedureWords};
 use crate::text::outline::Outline;
@@ -21,45 +28,54 @@ pub enum Front<'a> {
 impl<'a> Front<'a> {
     /// What the lines have been with the next one, which is given without its end; or that line's
     /// first fault.
-    pub fn next(self, alloc: Global, bytes: &'a [u8], line: usize) -> Result<Front<'a>, AsmFault> {
+    pub fn next(self, alloc: Global, bytes: &'a [u8], line: usize) -> Result<Front<'a>, AsmFault>
+        ensures { GivesNext self.entry bytes.now line result }
+    {
         if is_skipped(bytes) {
             return Ok(self);
         }
-        let form = self.form(bytes, line)?;
-        self.with(alloc, form, line)
-    }
-
-    /// The form of the next line.
-    fn form<'b>(&self, bytes: &'b [u8], line: usize) -> Result<LineForm<'b>, AsmFault> {
-        if self.misses_part(bytes) {
-            return Err(AsmFault::P5 { line });
-        }
         match LineForm::parse(bytes) {
-            Some(form) => Ok(form),
-            None => Err(AsmFault::P1 { line }),
+            Some(form) => self.with(alloc, form, line),
+            None => Err(self.unread(bytes, line)),
         }
     }
 
-    /// Whether a line that isn't skipped shows by its first word that a procedure's first label or
-    /// the frame of a label is missing.
-    fn misses_part(&self, bytes: &[u8]) -> bool {
-        match self {
-            Front::InProcedure(_, _, stage) => stage.misses_part(bytes),
-            Front::AwaitsPlan | Front::AwaitsMain(_) => false,
-        }
-    }
-
-    /// The fault of a last line that isn't ended.
-    pub fn unended(&self, bytes: &[u8], line: usize) -> AsmFault {
-        if !is_skipped(bytes) && self.misses_part(bytes) {
+    /// The fault of a line that is of no form, or isn't ended; it isn't skipped.
+    fn unread(&self, bytes: &[u8], line: usize) -> AsmFault
+        ensures { GivesFault self.now (Unread (first_word bytes.now)) line result }
+    {
+        if self.misses_part(bytes) {
             AsmFault::P5 { line }
         } else {
             AsmFault::P1 { line }
         }
     }
 
+    /// Whether a line shows by its first word that a part of the procedure under way is missing.
+    fn misses_part(&self, bytes: &[u8]) -> bool
+        ensures { result ≡ misses self.now (first_word bytes.now) }
+    {
+        match self {
+            Front::AwaitsPlan | Front::AwaitsMain(_) => false,
+            Front::InProcedure(_, _, stage) => stage.misses_part(bytes),
+        }
+    }
+
+    /// The fault of a last line that isn't ended.
+    pub fn unended(&self, bytes: &[u8], line: usize) -> AsmFault
+        ensures { GivesFault self.now (unended_line bytes.now) line result }
+    {
+        if is_skipped(bytes) {
+            AsmFault::P1 { line }
+        } else {
+            self.unread(bytes, line)
+        }
+    }
+
     /// What the lines have been with one more of this form.
-    fn with(self, alloc: Global, form: LineForm<'a>, line: usize) -> Result<Front<'a>, AsmFault> {
+    fn with(self, alloc: Global, form: LineForm<'a>, line: usize) -> Result<Front<'a>, AsmFault>
+        ensures { GivesFront self.entry (line_words form.entry) line result }
+    {
         match self {
             Front::AwaitsPlan => match form {
                 LineForm::Plan(words) => {
@@ -68,9 +84,7 @@ impl<'a> Front<'a> {
                 _ => Err(AsmFault::P1 { line }),
             },
             Front::AwaitsMain(outline) => match form {
-                LineForm::Procedure(words) if words.are_of(outline.version()) => {
-                    begin(alloc, outline, words, Stage::AwaitsLabel, line)
-                }
+                LineForm::Procedure(words) => begin_main(alloc, outline, words, line),
                 _ => Err(AsmFault::P1 { line }),
             },
             Front::InProcedure(outline, routine, stage) => {
@@ -80,7 +94,9 @@ impl<'a> Front<'a> {
     }
 
     /// The plan, where the text may end here; `line` is the one after the last.
-    pub fn finish(self, alloc: Global, line: usize) -> Result<Plan, AsmFault> {
+    pub fn finish(self, alloc: Global, line: usize) -> Result<Plan, AsmFault>
+        ensures { EndsText self.entry line result }
+    {
         match self {
             Front::InProcedure(outline, routine, stage) => {
                 stage.end(line)?;
@@ -91,34 +107,71 @@ impl<'a> Front<'a> {
     }
 }
 
-/// A line `proc` after procedures that have all ended; the stage is what follows it.
-fn begin<'a>(
+/// The line of main after the plan's.
+fn begin_main<'a>(
     alloc: Global,
     mut outline: Outline<'a>,
     words: ProcedureWords<'a>,
-    stage: Stage,
     line: usize,
-) -> Result<Front<'a>, AsmFault> {
+) -> Result<Front<'a>, AsmFault>
+    ensures { BeginsMain outline.entry (procedure_words words.entry) line result }
+{
+    if !words.are_of(outline.version()) {
+        return Err(AsmFault::P1 { line });
+    }
     let routine = outline.begin(alloc, words, line)?;
-    Ok(Front::InProcedure(outline, routine, stage))
+    Ok(Front::InProcedure(outline, routine, Stage::AwaitsLabel))
+}
+
+/// A line `proc` after the code of a procedure, which ends here.
+fn next_procedure<'a>(
+    alloc: Global,
+    outline: Outline<'a>,
+    routine: Routine<'a>,
+    words: ProcedureWords<'a>,
+    line: usize,
+) -> Result<Front<'a>, AsmFault>
+    ensures { NextProcedure outline.entry routine.entry (procedure_words words.entry) line result }
+{
+    if !words.are_of(outline.version()) {
+        return Err(AsmFault::P1 { line });
+    }
+    let mut outline = outline.end(routine)?;
+    let routine = outline.begin(alloc, words, line)?;
+    Ok(Front::InProcedure(outline, routine, Stage::AwaitsExit))
 }
 
 /// A line of a procedure that has not ended, or of the next one.
 fn in_procedure<'a>(
     alloc: Global,
     outline: Outline<'a>,
+    routine: Routine<'a>,
+    stage: Stage,
+    form: LineForm<'a>,
+    line: usize,
+) -> Result<Front<'a>, AsmFault>
+    ensures { GivesUnderWay outline.entry routine.entry stage (line_words form.entry) line result }
+{
+    match form {
+        LineForm::Procedure(words) => match stage {
+            Stage::InCode => next_procedure(alloc, outline, routine, words, line),
+            stage => within_procedure(alloc, outline, routine, stage, form, line),
+        },
+        _ => within_procedure(alloc, outline, routine, stage, form, line),
+    }
+}
+
+/// A line after which the procedure has not ended.
+fn within_procedure<'a>(
+    alloc: Global,
+    outline: Outline<'a>,
     mut routine: Routine<'a>,
     stage: Stage,
     form: LineForm<'a>,
     line: usize,
-) -> Result<Front<'a>, AsmFault> {
-    match (stage, form) {
-        (Stage::InCode, LineForm::Procedure(words)) if words.are_of(outline.version()) => {
-            begin(alloc, outline.end(routine)?, words, Stage::AwaitsExit, line)
-        }
-        (stage, form) => {
-            let stage = stage.next(alloc, &mut routine, outline.pieces(), form, line)?;
-            Ok(Front::InProcedure(outline, routine, stage))
-        }
-    }
+) -> Result<Front<'a>, AsmFault>
+    ensures { GivesWithin outline.entry routine.entry stage (line_words form.entry) line result }
+{
+    let stage = stage.next(alloc, &mut routine, outline.pieces(), form, line)?;
+    Ok(Front::InProcedure(outline, routine, stage))
 }

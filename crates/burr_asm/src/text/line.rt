@@ -1,12 +1,23 @@
-ghost use Rattle.std.specs.Prelude.{◌≡◌, None, Some, MatchOption};
-ghost use Rattle.burr_plantext.specs.Rules.Lines.{grip_line};
-ghost use Rattle.burr_plantext.specs.Rules.Operands.{two};
+ghost use Rattle.std.specs.Prelude.{◌≡◌, ◌∷◌, None, Some, IsTrue, MatchOption};
+ghost use Rattle.burr_plantext.specs.Rules.Checks.{is_of_version};
+ghost use Rattle.burr_plantext.specs.Rules.Lines.{PlanLine, ProcLine, AtLine, code_line};
+ghost use Rattle.burr_plantext.specs.Rules.Lines.{grip_line, line_of, piece_line, procedure_line};
+ghost use Rattle.burr_plantext.specs.Rules.Lines.{title_line};
+ghost use Rattle.burr_plantext.specs.Rules.Operands.{three, two};
+ghost use Rattle.burr_plantext.specs.Rules.Statements.{code_of};
 ghost use Rattle.burr_plantext.specs.Rules.Texts.{words_of};
-ghost use Rattle.burr_plantext.specs.Rules.Written.{is_number};
-ghost use Rattle.burr_asm.specs.Views.LineWords.{grip_words, range_between, range_words};
+ghost use Rattle.burr_plantext.specs.Rules.Written.{is_form, is_number};
+ghost use Rattle.burr_asm.specs.Views.Keywords.{form_or_code, frame_or_code, part_or_code};
+ghost use Rattle.burr_asm.specs.Views.LineWords.{grip_words, line_words};
+ghost use Rattle.burr_asm.specs.Views.LineWords.{piece_words, place_words, plan_words};
+ghost use Rattle.burr_asm.specs.Views.LineWords.{procedure_words, range_between, range_words};
+ghost use Rattle.burr_asm.specs.Views.LineWords.{slot_between, slot_words, word_if_any};
+ghost use Rattle.burr_asm.specs.Views.Places.{place_line, three_words};
+ghost use Rattle.burr_asm.specs.Views.Versions.{number_of_version};
+ghost use Rattle.burr_asm.specs.Views.Words.{cut_word};
 
 use crate::text::code_line::CodeLine;
-use crate::text::form::FormWords;
+use crate::text::form::FormWord;
 use crate::text::set::SetWord;
 use crate::text::words::{NumberWord, cut_name, name};
 use crate::version::Version;
@@ -31,11 +42,11 @@ pub enum LineForm<'a> {
     /// `slot SLOT LOW HIGH`
     Slot(SlotWords<'a>),
     /// `guard FORM`
-    Guard(FormWords<'a>),
+    Guard(FormWord<'a>),
     /// `stack FORM`
-    Stack(FormWords<'a>),
+    Stack(FormWord<'a>),
     /// `cost FORM`
-    Cost(FormWords<'a>),
+    Cost(FormWord<'a>),
     /// `at PIECE apart` or `at PIECE TRAY FORM FORM FORM`
     At(PieceWords<'a>),
     /// A line of code.
@@ -92,12 +103,15 @@ pub struct PieceWords<'a> {
 #[derive(Clone, Copy)]
 pub enum PlaceWords<'a> {
     Apart,
-    On(NumberWord<'a>, FormWords<'a>, FormWords<'a>, FormWords<'a>),
+    On(NumberWord<'a>, FormWord<'a>, FormWord<'a>, FormWord<'a>),
 }
 
 impl LineForm<'_> {
     /// The line with these bytes, which are without its end; None where it is of no form.
-    pub fn parse(bytes: &[u8]) -> Option<LineForm<'_>> {
+    pub fn parse(bytes: &[u8]) -> Option<LineForm<'_>>
+        ensures { MatchOption result (line_of (words_of bytes.now) ≡ None) (λ form.
+            line_of (words_of bytes.now) ≡ Some (line_words form)) }
+    {
         match cut_at(bytes, b' ') {
             Some((word, words)) => LineForm::with_words(word, words),
             None => Some(LineForm::Code(CodeLine::of_word(bytes)?)),
@@ -105,10 +119,21 @@ impl LineForm<'_> {
     }
 
     /// The line that begins with this word, and what stands after the blank.
-    fn with_words<'a>(word: &[u8], words: &'a [u8]) -> Option<LineForm<'a>> {
-        if let Some(version) = Version::begun_by(word) {
-            return Some(LineForm::Plan(PlanWords::parse(version, words)?));
+    fn with_words<'a>(word: &[u8], words: &'a [u8]) -> Option<LineForm<'a>>
+        ensures { MatchOption result (line_of (word.now ∷ words_of words.now) ≡ None) (λ form.
+            line_of (word.now ∷ words_of words.now) ≡ Some (line_words form)) }
+    {
+        match Version::begun_by(word) {
+            Some(version) => Some(LineForm::Plan(PlanWords::parse(version, words)?)),
+            None => LineForm::of_part(word, words),
         }
+    }
+
+    /// The line with which a part of the text begins, or another one.
+    fn of_part<'a>(word: &[u8], words: &'a [u8]) -> Option<LineForm<'a>>
+        ensures { MatchOption result (part_or_code word.now (words_of words.now) ≡ None) (λ form.
+            part_or_code word.now (words_of words.now) ≡ Some (line_words form)) }
+    {
         match word {
             b"proc" => Some(LineForm::Procedure(ProcedureWords::parse(words)?)),
             b"exit" => Some(LineForm::Exit(GripWords::parse(words)?)),
@@ -119,7 +144,10 @@ impl LineForm<'_> {
     }
 
     /// The line within a frame, or after it.
-    fn of_frame<'a>(word: &[u8], words: &'a [u8]) -> Option<LineForm<'a>> {
+    fn of_frame<'a>(word: &[u8], words: &'a [u8]) -> Option<LineForm<'a>>
+        ensures { MatchOption result (frame_or_code word.now (words_of words.now) ≡ None) (λ form.
+            frame_or_code word.now (words_of words.now) ≡ Some (line_words form)) }
+    {
         match word {
             b"slot" => Some(LineForm::Slot(SlotWords::parse(words)?)),
             b"result" => Some(LineForm::Result(RangeWords::parse(words)?)),
@@ -129,24 +157,36 @@ impl LineForm<'_> {
     }
 
     /// The line of a form, or of code.
-    fn of_form<'a>(word: &[u8], words: &'a [u8]) -> Option<LineForm<'a>> {
+    fn of_form<'a>(word: &[u8], words: &'a [u8]) -> Option<LineForm<'a>>
+        ensures { MatchOption result (form_or_code word.now (words_of words.now) ≡ None) (λ form.
+            form_or_code word.now (words_of words.now) ≡ Some (line_words form)) }
+    {
         match word {
-            b"guard" => Some(LineForm::Guard(FormWords::parse(words)?)),
-            b"stack" => Some(LineForm::Stack(FormWords::parse(words)?)),
-            b"cost" => Some(LineForm::Cost(FormWords::parse(words)?)),
+            b"guard" => Some(LineForm::Guard(FormWord::parse(words)?)),
+            b"stack" => Some(LineForm::Stack(FormWord::parse(words)?)),
+            b"cost" => Some(LineForm::Cost(FormWord::parse(words)?)),
             _ => LineForm::of_code(word, words),
         }
     }
 
     /// The line of code.
-    fn of_code<'a>(word: &[u8], words: &'a [u8]) -> Option<LineForm<'a>> {
+    fn of_code<'a>(word: &[u8], words: &'a [u8]) -> Option<LineForm<'a>>
+        ensures { MatchOption result
+            (code_line (code_of word.now (words_of words.now)) ≡ None)
+            (λ form. code_line (code_of word.now (words_of words.now)) ≡ Some (line_words form)) }
+    {
         Some(LineForm::Code(CodeLine::with_operands(word, words)?))
     }
 }
 
 impl PlanWords<'_> {
     /// A name and two numbers.
-    fn parse(version: Version, bytes: &[u8]) -> Option<PlanWords<'_>> {
+    fn parse(version: Version, bytes: &[u8]) -> Option<PlanWords<'_>>
+        ensures { MatchOption result
+            (title_line (number_of_version version) (words_of bytes.now) ≡ None)
+            (λ words. title_line (number_of_version version) (words_of bytes.now)
+            ≡ Some (PlanLine (plan_words words))) }
+    {
         let (name, rest) = cut_name(bytes)?;
         let (pieces, rest) = NumberWord::cut(rest)?;
         let budget = NumberWord::parse(rest)?;
@@ -161,21 +201,33 @@ impl PlanWords<'_> {
 
 impl ProcedureWords<'_> {
     /// A name and one number or two.
-    fn parse(bytes: &[u8]) -> Option<ProcedureWords<'_>> {
+    fn parse(bytes: &[u8]) -> Option<ProcedureWords<'_>>
+        ensures { MatchOption result (procedure_line (words_of bytes.now) ≡ None) (λ words.
+            procedure_line (words_of bytes.now) ≡ Some (ProcLine (procedure_words words))) }
+    {
         let (name, rest) = cut_name(bytes)?;
-        let (parameters, results) = match NumberWord::cut(rest) {
-            Some((parameters, results)) => (parameters, Some(NumberWord::parse(results)?)),
-            None => (NumberWord::parse(rest)?, None),
-        };
-        Some(ProcedureWords {
-            name,
-            parameters,
-            results,
-        })
+        match NumberWord::cut(rest) {
+            Some((parameters, results)) => {
+                let results = Some(NumberWord::parse(results)?);
+                Some(ProcedureWords {
+                    name,
+                    parameters,
+                    results,
+                })
+            }
+            None => Some(ProcedureWords {
+                name,
+                parameters: NumberWord::parse(rest)?,
+                results: None,
+            }),
+        }
     }
 
     /// Whether the line of a procedure has these words in a plan of this version.
-    pub fn are_of(&self, version: Version) -> bool {
+    pub fn are_of(&self, version: Version) -> bool
+        ensures { result ≡
+            is_of_version (number_of_version version) (word_if_any self.now.results) }
+    {
         match version {
             Version::One => self.results.is_none(),
             Version::Two => self.results.is_some(),
@@ -197,7 +249,12 @@ impl GripWords<'_> {
 
 impl SlotWords<'_> {
     /// A number and a range.
-    fn parse(bytes: &[u8]) -> Option<SlotWords<'_>> {
+    fn parse(bytes: &[u8]) -> Option<SlotWords<'_>>
+        ensures { MatchOption result
+            (three is_number is_number is_number slot_between (words_of bytes.now) ≡ None)
+            (λ words. three is_number is_number is_number slot_between (words_of bytes.now)
+            ≡ Some (slot_words words)) }
+    {
         let (slot, range) = NumberWord::cut(bytes)?;
         let range = RangeWords::parse(range)?;
         Some(SlotWords { slot, range })
@@ -207,8 +264,10 @@ impl SlotWords<'_> {
 impl RangeWords<'_> {
     /// Two numbers.
     fn parse(bytes: &[u8]) -> Option<RangeWords<'_>>
-        ensures { MatchOption result (two is_number is_number range_between (words_of bytes.now) ≡ None) (λ words.
-            two is_number is_number range_between (words_of bytes.now) ≡ Some (range_words words)) }
+        ensures { MatchOption result
+            (two is_number is_number range_between (words_of bytes.now) ≡ None)
+            (λ words. two is_number is_number range_between (words_of bytes.now)
+            ≡ Some (range_words words)) }
     {
         let (low, high) = NumberWord::cut(bytes)?;
         let high = NumberWord::parse(high)?;
@@ -218,7 +277,10 @@ impl RangeWords<'_> {
 
 impl PieceWords<'_> {
     /// A number and a place.
-    fn parse(bytes: &[u8]) -> Option<PieceWords<'_>> {
+    fn parse(bytes: &[u8]) -> Option<PieceWords<'_>>
+        ensures { MatchOption result (piece_line (words_of bytes.now) ≡ None) (λ words.
+            piece_line (words_of bytes.now) ≡ Some (AtLine (piece_words words))) }
+    {
         let (piece, rest) = NumberWord::cut(bytes)?;
         let place = PlaceWords::parse(rest)?;
         Some(PieceWords { piece, place })
@@ -227,7 +289,10 @@ impl PieceWords<'_> {
 
 impl PlaceWords<'_> {
     /// `apart`, or a number and three forms.
-    fn parse(bytes: &[u8]) -> Option<PlaceWords<'_>> {
+    fn parse(bytes: &[u8]) -> Option<PlaceWords<'_>>
+        ensures { MatchOption result (place_line (words_of bytes.now) ≡ None) (λ words.
+            place_line (words_of bytes.now) ≡ Some (place_words words)) }
+    {
         if bytes == b"apart".as_slice() {
             return Some(PlaceWords::Apart);
         }
@@ -238,12 +303,22 @@ impl PlaceWords<'_> {
 }
 
 /// Three forms, joined by blanks.
-fn three_forms(bytes: &[u8]) -> Option<(FormWords<'_>, FormWords<'_>, FormWords<'_>)> {
-    let (x, rest) = cut_at(bytes, b' ')?;
-    let (y, z) = cut_at(rest, b' ')?;
-    Some((
-        FormWords::parse(x)?,
-        FormWords::parse(y)?,
-        FormWords::parse(z)?,
-    ))
+fn three_forms(bytes: &[u8]) -> Option<(FormWord<'_>, FormWord<'_>, FormWord<'_>)>
+    ensures { MatchOption result
+        (three is_form is_form is_form three_words (words_of bytes.now) ≡ None)
+        (λ forms. three is_form is_form is_form three_words (words_of bytes.now)
+        ≡ Some (forms.0.bytes.now, forms.1.bytes.now, forms.2.bytes.now)) }
+{
+    let (x, rest) = cut_form(bytes)?;
+    let (y, rest) = cut_form(rest)?;
+    Some((x, y, FormWord::parse(rest)?))
+}
+
+/// A form up to the first blank, and what stands after the blank.
+fn cut_form(bytes: &[u8]) -> Option<(FormWord<'_>, &[u8])>
+    ensures { MatchOption result (cut_word is_form (words_of bytes.now) ≡ None) (λ parts.
+        cut_word is_form (words_of bytes.now) ≡ Some (parts.0.bytes.now, words_of parts.1.now)) }
+{
+    let (form, rest) = cut_at(bytes, b' ')?;
+    Some((FormWord::parse(form)?, rest))
 }

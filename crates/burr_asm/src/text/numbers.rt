@@ -1,10 +1,14 @@
 //! The numbers that words are, each None where it is out of its range.
 
-ghost use Rattle.std.specs.Prelude.{◌<◌, ◌≤◌, ◌≤ℤ◌, IfSome};
+ghost use Rattle.std.specs.Prelude.{◌<◌, ◌≤◌, ◌≤ℤ◌, if◌then◌else◌, IfSome};
 ghost use Rattle.std.specs.Int.{w16, w32};
 ghost use Rattle.burr_code.specs.Instruction.{IsInNumberRange};
 ghost use Rattle.burr_code.specs.declared.limits.TheConstants.{MOST_BUDGET, SLOTS, TRAYS};
+ghost use Rattle.burr_code.specs.declared.limits.TheConstants.{MOST_PARAMETERS};
+ghost use Rattle.burr_asm.specs.declared.text.numbers.TheConstants.{MOST_RESULTS};
+ghost use Rattle.burr_asm.specs.Views.LineWords.{word_if_any};
 ghost use Rattle.burr_asm.specs.Views.Numbers.{IsBelow, IsWithin, IsOperand, AreEnds, IsOfWidth};
+ghost use Rattle.burr_asm.specs.Views.Numbers.{IsResultCount};
 
 use crate::text::words::NumberWord;
 use burr_code::limits::{MOST_BUDGET, MOST_PARAMETERS, SLOTS, TRAYS};
@@ -31,6 +35,13 @@ fn long(number: NumberWord<'_>) -> Option<u32>
     number.as_str().parse().ok()
 }
 
+/// The number of an element of a list.
+pub fn index(number: NumberWord<'_>) -> Option<usize>
+    ensures { IsBelow 18446744073709551616 number.entry.bytes.now result }
+{
+    number.as_str().parse().ok()
+}
+
 /// How many pieces a plan is for: 2 to 32.
 pub fn piece_count(number: NumberWord<'_>) -> Option<u8>
     ensures few { IfSome result (λ count. count ≤ 32) }
@@ -50,13 +61,19 @@ pub fn budget(number: NumberWord<'_>) -> Option<u32>
 }
 
 /// How many parameters a procedure has: none for main, else 0 to 4.
-pub fn parameter_count(number: NumberWord<'_>, main: bool) -> Option<u8> {
+pub fn parameter_count(number: NumberWord<'_>, main: bool) -> Option<u8>
+    ensures few { IfSome result (λ count. count ≤ MOST_PARAMETERS) }
+    ensures value { IsWithin 0 (if main then 0 else MOST_PARAMETERS) number.entry.bytes.now result }
+{
     count_of(number, main, MOST_PARAMETERS)
 }
 
 /// How many results a procedure has: none for main, else 0 to 2; none too where nothing is said of
 /// them.
-pub fn result_count(number: Option<NumberWord<'_>>, main: bool) -> Option<u8> {
+pub fn result_count(number: Option<NumberWord<'_>>, main: bool) -> Option<u8>
+    ensures few { IfSome result (λ count. count ≤ MOST_RESULTS) }
+    ensures value { IsResultCount (if main then 0 else 2) (word_if_any number.entry) result }
+{
     match number {
         Some(number) => count_of(number, main, MOST_RESULTS),
         None => Some(0),
@@ -64,7 +81,10 @@ pub fn result_count(number: Option<NumberWord<'_>>, main: bool) -> Option<u8> {
 }
 
 /// A number of 0 to so many, for main 0.
-fn count_of(number: NumberWord<'_>, main: bool, most: u8) -> Option<u8> {
+fn count_of(number: NumberWord<'_>, main: bool, most: u8) -> Option<u8>
+    ensures few { IfSome result (λ count. count ≤ most) }
+    ensures value { IsWithin 0 (if main then 0 else most) number.entry.bytes.now result }
+{
     let most = if main { 0 } else { most };
     let count = byte(number)?;
     (count <= most).then_some(count)

@@ -1,15 +1,26 @@
-ghost use Rattle.std.specs.Prelude.{◌≤◌};
+ghost use Rattle.std.specs.Prelude.{◌≡◌, ◌≤◌, false, true, MatchOption, MatchResult, None};
+ghost use Rattle.burr_plantext.specs.Rules.Checks.{title_check};
+ghost use Rattle.burr_asm.specs.Views.Exits.{IsSignature};
+ghost use Rattle.burr_asm.specs.Views.Faults.{IsRefusal, IsUnknown};
+ghost use Rattle.burr_asm.specs.Views.LineWords.{plan_words, procedure_words};
+ghost use Rattle.burr_asm.specs.Views.Routines.{are_counts, begun, ends_with_label};
+ghost use Rattle.burr_asm.specs.Views.Routines.{head_refusal};
+ghost use Rattle.burr_asm.specs.Views.Routines.{plan_of_outline, procedures_of, titled_outline};
+ghost use Rattle.burr_asm.specs.Views.Routines.{unknown_among, unknown_line, with_name};
+ghost use Rattle.burr_asm.specs.Views.Routines.{with_routine, IsLabelAtEnd};
+ghost use Rattle.burr_asm.specs.Views.Versions.{number_of_version};
 
 use crate::fault::AsmFault;
-use crate::text::exit::Signature;
 use crate::text::line::{PlanWords, ProcedureWords};
 use crate::text::names::Names;
 use crate::text::numbers::{budget, parameter_count, piece_count, result_count};
 use crate::text::procedure::Routine;
+use crate::text::signature::Signature;
 use crate::version::Version;
 use burr_code::limits::MOST_PROCEDURES;
 use burr_container::{Plan, Procedure};
 use std::alloc::Global;
+use std::marker::Model;
 
 /// A plan as far as it has been read: what its first line says, the names of all procedures that
 /// have begun, and those that have ended.
@@ -21,12 +32,36 @@ pub struct Outline<'a> {
     budget: u32,
     names: Names<'a>,
     ended: Vec<Routine<'a>>,
-    ghost few: { pieces ≤ 32 },
+}
+
+impl<'a> Model for Outline<'a> {
+    ghost use Rattle.std.specs.Prelude.{◌≤◌};
+    ghost use Rattle.burr_asm.specs.Views.Routines.{OutlineParts};
+    ghost use Rattle.burr_asm.specs.Views.Versions.{number_of_version};
+
+    ghost Value = { OutlineParts };
+
+    ghost view = { λ o.
+        record {
+          version = number_of_version o.version;
+          name = o.name.now;
+          pieces = o.pieces;
+          budget = o.budget;
+          names = o.names;
+          ended = o.ended.items;
+        } };
+
+    ghost invariant = { λ o. (2 ≤ o.pieces) × (o.pieces ≤ 32) };
 }
 
 impl<'a> Outline<'a> {
     /// A plan of which only the first line has been read.
-    pub fn new(alloc: Global, words: PlanWords<'a>, line: usize) -> Result<Outline<'a>, AsmFault> {
+    pub fn new(alloc: Global, words: PlanWords<'a>, line: usize) -> Result<Outline<'a>, AsmFault>
+        ensures { MatchResult result
+            (λ outline. (title_check (plan_words words.entry) ≡ None)
+            × (outline ≡ titled_outline (plan_words words.entry)))
+            (IsRefusal (title_check (plan_words words.entry)) line) }
+    {
         match (piece_count(words.pieces), budget(words.budget)) {
             (Some(pieces), Some(budget)) => Ok(Outline {
                 version: words.version,
@@ -41,13 +76,17 @@ impl<'a> Outline<'a> {
     }
 
     /// The version of the plan.
-    pub fn version(&self) -> Version {
+    pub fn version(&self) -> Version
+        ensures { number_of_version result ≡ self.now.version }
+    {
         self.version
     }
 
     /// How many pieces the plan is for: 2 to 32.
     pub fn pieces(&self) -> u8
-        ensures { result ≤ 32 }
+        ensures count { result ≡ self.now.pieces }
+        ensures several { 2 ≤ result }
+        ensures few { result ≤ 32 }
     {
         self.pieces
     }
@@ -58,14 +97,21 @@ impl<'a> Outline<'a> {
         alloc: Global,
         words: ProcedureWords<'a>,
         line: usize,
-    ) -> Result<Routine<'a>, AsmFault> {
+    ) -> Result<Routine<'a>, AsmFault>
+        ensures { MatchResult result
+            (λ routine. (head_refusal self.old (procedure_words words.entry) ≡ None)
+            × (routine ≡ begun routine.signature)
+            × IsSignature routine.signature self.old.version (procedure_words words.entry)
+            × (self.new ≡ with_name self.old words.entry.name.now))
+            (IsRefusal (head_refusal self.old (procedure_words words.entry)) line) }
+    {
         if self.names.number(words.name).is_some() {
             return Err(AsmFault::P2 { line });
         }
         let Some(signature) = self.signature(words) else {
             return Err(AsmFault::P3 { line });
         };
-        if self.names.names.len() >= MOST_PROCEDURES {
+        if self.names.count() >= MOST_PROCEDURES {
             return Err(AsmFault::P4 { line });
         }
         self.names.add(words.name)?;
@@ -73,7 +119,12 @@ impl<'a> Outline<'a> {
     }
 
     /// What the next procedure takes and gives; None where a count is out of its range.
-    fn signature(&self, words: ProcedureWords<'_>) -> Option<Signature> {
+    fn signature(&self, words: ProcedureWords<'_>) -> Option<Signature>
+        ensures { MatchOption result
+            (are_counts self.now (procedure_words words.entry) ≡ false)
+            (λ signature. (are_counts self.now (procedure_words words.entry) ≡ true)
+            × IsSignature signature self.now.version (procedure_words words.entry)) }
+    {
         let main = self.ended.is_empty();
         Some(Signature {
             version: self.version,
@@ -83,7 +134,12 @@ impl<'a> Outline<'a> {
     }
 
     /// The plan with the procedure that has begun last, which ends here.
-    pub fn end(mut self, routine: Routine<'a>) -> Result<Outline<'a>, AsmFault> {
+    pub fn end(mut self, routine: Routine<'a>) -> Result<Outline<'a>, AsmFault>
+        ensures { MatchResult result
+            (λ outline. (ends_with_label routine.entry ≡ false)
+            × (outline ≡ with_routine self.entry routine.entry))
+            (IsLabelAtEnd routine.entry) }
+    {
         if let Some(line) = routine.label_at_end() {
             return Err(AsmFault::P4 { line });
         }
@@ -93,7 +149,11 @@ impl<'a> Outline<'a> {
 
     /// The plan, where all names in its code are known; else the fault of the first line in which
     /// one is not.
-    pub fn resolve(self, alloc: Global) -> Result<Plan, AsmFault> {
+    pub fn resolve(self, alloc: Global) -> Result<Plan, AsmFault>
+        ensures { MatchResult result
+            (λ plan. (unknown_line self.entry ≡ None) × (plan ≡ plan_of_outline self.entry))
+            (IsUnknown (unknown_line self.entry)) }
+    {
         let name = Vec::from_slice(alloc, self.name)?;
         let procs = resolved(alloc, self.ended, &self.names)?;
         Ok(Plan {
@@ -111,7 +171,12 @@ fn resolved(
     alloc: Global,
     routines: Vec<Routine<'_>>,
     names: &Names<'_>,
-) -> Result<Vec<Procedure>, AsmFault> {
+) -> Result<Vec<Procedure>, AsmFault>
+    ensures { MatchResult result
+        (λ procedures. (unknown_among names.now routines.entry.items ≡ None)
+        × (procedures.items ≡ procedures_of names.now routines.entry.items))
+        (IsUnknown (unknown_among names.now routines.entry.items)) }
+{
     let mut procedures = Vec::new(alloc);
     for routine in routines {
         procedures.push(routine.resolve(alloc, names)?)?;

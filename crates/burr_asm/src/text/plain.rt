@@ -1,6 +1,9 @@
-ghost use Rattle.std.specs.Prelude.{◌≡◌, IfSome};
-ghost use Rattle.burr_code.specs.Instruction.{IsInRange};
+ghost use Rattle.std.specs.Prelude.{◌≡◌, ◌≤◌, false, length, true, IfOk, IfSome, MatchOption};
+ghost use Rattle.burr_code.specs.Instruction.{spelled, IsInRange};
 ghost use Rattle.burr_code.specs.Meaning.{meaning};
+ghost use Rattle.burr_plantext.specs.Rules.Checks.{is_in_range};
+ghost use Rattle.burr_asm.specs.Views.LineWords.{plain_words};
+ghost use Rattle.burr_asm.specs.Views.Plain.{IsPlain};
 
 use crate::text::numbers::{operand, range, slot, tray};
 use crate::text::plain_line::PlainLine;
@@ -16,37 +19,52 @@ pub struct Plain<'a> {
 }
 
 impl<'a> Model for Plain<'a> {
-    ghost use Rattle.burr_code.specs.Instruction.{Instruction, IsInRange};
+    ghost use Rattle.std.specs.Prelude.{◌≤◌, length};
+    ghost use Rattle.burr_code.specs.Instruction.{spelled, Instruction, IsInRange};
     ghost use Rattle.burr_code.specs.Meaning.{meaning};
 
     ghost Value = { Instruction };
 
     ghost view = { λ p. meaning p.instr };
 
-    ghost invariant = { λ p. IsInRange (meaning p.instr) };
+    ghost invariant = { λ p. IsInRange (meaning p.instr)
+        × (length (spelled (meaning p.instr)) ≤ 5) };
 }
 
 impl<'a> Plain<'a> {
     /// The instruction of a line; None where a number or a set is out of its range.
-    pub fn of(line: PlainLine<'a>) -> Option<Plain<'a>> {
+    pub fn of(line: PlainLine<'a>) -> Option<Plain<'a>>
+        ensures { MatchOption result (is_in_range (plain_words line.entry) ≡ false) (λ plain.
+            (is_in_range (plain_words line.entry) ≡ true)
+            × IsPlain plain (plain_words line.entry)) }
+    {
         Some(Plain {
             instr: instr(line)?,
         })
     }
 
     /// How many bytes it has: 1 to 5.
-    pub fn size(&self) -> usize {
+    pub fn size(&self) -> usize
+        ensures size { result ≡ length (spelled self.now) }
+        ensures few { result ≤ 5 }
+    {
         self.instr.size()
     }
 
     /// Its bytes.
-    pub fn encode(&self, alloc: Global) -> Result<Vec<u8>, AllocError> {
+    pub fn encode(&self, alloc: Global) -> Result<Vec<u8>, AllocError>
+        ensures { IfOk result (λ bytes. bytes.items ≡ spelled self.now) }
+    {
         encode(alloc, &self.instr)
     }
 }
 
 fn instr<'a>(line: PlainLine<'a>) -> Option<Instr<'a>>
-    ensures { IfSome result (λ instr. IsInRange (meaning instr)) }
+    ensures range { IfSome result (λ instr. IsInRange (meaning instr)) }
+    ensures short { IfSome result (λ instr. length (spelled (meaning instr)) ≤ 5) }
+    ensures value { MatchOption result (is_in_range (plain_words line.entry) ≡ false) (λ instr.
+        (is_in_range (plain_words line.entry) ≡ true)
+        × IsPlain (meaning instr) (plain_words line.entry)) }
 {
     match line {
         PlainLine::Halt => Some(Instr::Halt),

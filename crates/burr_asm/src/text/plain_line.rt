@@ -1,3 +1,9 @@
+ghost use Rattle.std.specs.Prelude.{◌≡◌, [], MatchOption, None, Some};
+ghost use Rattle.burr_plantext.specs.Rules.Statements.{code_of};
+ghost use Rattle.burr_plantext.specs.Rules.Texts.{words_of};
+ghost use Rattle.burr_asm.specs.Views.Keywords.{plain_line, space_line};
+ghost use Rattle.burr_asm.specs.Views.LineWords.{plain_words};
+
 use crate::text::set::SetWord;
 use crate::text::words::NumberWord;
 use burr_text::cut_at;
@@ -36,7 +42,10 @@ pub enum PlainLine<'a> {
 
 impl PlainLine<'_> {
     /// The line that is this one word; None where it is of no form.
-    pub fn of_word(word: &[u8]) -> Option<PlainLine<'_>> {
+    pub fn of_word(word: &[u8]) -> Option<PlainLine<'_>>
+        ensures { MatchOption result (code_of word.now [] ≡ None) (λ line.
+            code_of word.now [] ≡ Some (plain_words line)) }
+    {
         match word {
             b"halt" => Some(PlainLine::Halt),
             b"add" => Some(PlainLine::Add),
@@ -49,7 +58,10 @@ impl PlainLine<'_> {
 
     /// The line that begins with this word, and what stands after the blank; None where it is of no
     /// form.
-    pub fn with_operands<'a>(word: &[u8], words: &'a [u8]) -> Option<PlainLine<'a>> {
+    pub fn with_operands<'a>(word: &[u8], words: &'a [u8]) -> Option<PlainLine<'a>>
+        ensures { MatchOption result (plain_line word.now (words_of words.now) ≡ None) (λ line.
+            plain_line word.now (words_of words.now) ≡ Some (plain_words line)) }
+    {
         match word {
             b"push" => Some(PlainLine::Push(NumberWord::parse(words)?)),
             b"load" => Some(PlainLine::Load(NumberWord::parse(words)?)),
@@ -63,7 +75,10 @@ impl PlainLine<'_> {
     }
 
     /// The line of an instruction that moves pieces.
-    fn in_space<'a>(word: &[u8], words: &'a [u8]) -> Option<PlainLine<'a>> {
+    fn in_space<'a>(word: &[u8], words: &'a [u8]) -> Option<PlainLine<'a>>
+        ensures { MatchOption result (space_line word.now (words_of words.now) ≡ None) (λ line.
+            space_line word.now (words_of words.now) ≡ Some (plain_words line)) }
+    {
         match word {
             b"grip" => Some(PlainLine::Grip(SetWord::parse(words)?)),
             b"step" => Some(PlainLine::Step(Direction::named(words)?)),

@@ -1,11 +1,22 @@
+ghost use Rattle.std.specs.Prelude.{◌≡◌, ◌+◌, ◌≤◌, nat_le, if◌then◌else◌, IfOk, None, Some};
+ghost use Rattle.std.specs.Prelude.{MatchResult};
+ghost use Rattle.burr_code.specs.declared.limits.TheConstants.{MOST_CODE};
+ghost use Rattle.burr_plantext.specs.Rules.Checks.{unless, P4};
+ghost use Rattle.burr_asm.specs.Views.CodeParts.{with_statement};
+ghost use Rattle.burr_asm.specs.Views.Coded.{code_of_all, coded_size, first_unknown};
+ghost use Rattle.burr_asm.specs.Views.Faults.{IsRefusal, IsUnknown};
+ghost use Rattle.burr_asm.specs.Views.Routines.{begun, ends_with_label, label_refusal};
+ghost use Rattle.burr_asm.specs.Views.Routines.{procedure_of, with_frame, with_label};
+
 use crate::fault::AsmFault;
 use crate::text::code::Code;
-use crate::text::exit::Signature;
 use crate::text::names::Names;
+use crate::text::signature::Signature;
 use crate::text::statement::{Scope, Statement};
 use burr_code::limits::MOST_LABELS;
 use burr_container::{ExitFrame, Frame, Procedure};
 use std::alloc::{AllocError, Global};
+use std::marker::Model;
 
 /// A procedure as far as it has been read.
 #[derive(Drop)]
@@ -19,9 +30,27 @@ pub struct Routine<'a> {
     code: Code<'a>,
 }
 
+impl<'a> Model for Routine<'a> {
+    ghost use Rattle.burr_asm.specs.Views.Routines.{RoutineParts};
+
+    ghost Value = { RoutineParts };
+
+    ghost view = { λ r.
+        record {
+          signature = r.signature;
+          exit = r.exit;
+          names = r.names;
+          labels = r.labels.items;
+          last = r.last;
+          code = r.code;
+        } };
+}
+
 impl<'a> Routine<'a> {
     /// A procedure of which only the first line has been read.
-    pub fn new(alloc: Global, signature: Signature) -> Routine<'a> {
+    pub fn new(alloc: Global, signature: Signature) -> Routine<'a>
+        ensures { result ≡ begun signature }
+    {
         Routine {
             signature,
             exit: None,
@@ -33,21 +62,30 @@ impl<'a> Routine<'a> {
     }
 
     /// What it takes and gives.
-    pub fn signature(&self) -> Signature {
+    pub fn signature(&self) -> Signature
+        ensures { result ≡ self.now.signature }
+    {
         self.signature
     }
 
     /// Its exit frame.
-    pub fn set_exit(&mut self, exit: ExitFrame) {
+    pub fn set_exit(&mut self, exit: ExitFrame)
+        ensures { self.new ≡ record self.old { exit = Some exit } }
+    {
         self.exit = Some(exit);
     }
 
     /// A line `label NAME`, whose frame is still to come.
-    pub fn add_label(&mut self, name: &'a [u8], line: usize) -> Result<(), AsmFault> {
+    pub fn add_label(&mut self, name: &'a [u8], line: usize) -> Result<(), AsmFault>
+        ensures { MatchResult result
+            (λ _done. (label_refusal self.old name.now ≡ None)
+            × (self.new ≡ with_label self.old name.now line))
+            (IsRefusal (label_refusal self.old name.now) line) }
+    {
         if self.names.number(name).is_some() {
             return Err(AsmFault::P2 { line });
         }
-        if self.names.names.len() >= MOST_LABELS || self.ends_with_label() {
+        if self.names.count() >= MOST_LABELS || self.ends_with_label() {
             return Err(AsmFault::P4 { line });
         }
         self.names.add(name)?;
@@ -56,18 +94,31 @@ impl<'a> Routine<'a> {
     }
 
     /// The frame of the label that has come last.
-    pub fn add_frame(&mut self, frame: Frame) -> Result<(), AllocError> {
+    pub fn add_frame(&mut self, frame: Frame) -> Result<(), AllocError>
+        ensures { IfOk result (λ _done. self.new ≡ with_frame self.old frame) }
+    {
         self.labels.push((self.code.size(), frame))?;
         Ok(())
     }
 
     /// One more statement after its code.
-    pub fn add_statement(&mut self, statement: Statement<'a>, line: usize) -> Result<(), AsmFault> {
+    pub fn add_statement(&mut self, statement: Statement<'a>, line: usize) -> Result<(), AsmFault>
+        ensures { MatchResult result
+            (λ _done. (self.old.code.size + coded_size statement.entry ≤ MOST_CODE)
+            × (self.new ≡ record self.old {
+              code = with_statement self.old.code line statement.entry;
+            }))
+            (IsRefusal
+            (unless (nat_le (self.old.code.size + coded_size statement.entry) MOST_CODE) P4 None)
+            line) }
+    {
         self.code.add(statement, line)
     }
 
     /// Whether the last label stands at the end of the code.
-    fn ends_with_label(&self) -> bool {
+    fn ends_with_label(&self) -> bool
+        ensures { result ≡ ends_with_label self.now }
+    {
         match self.labels.last() {
             Some((position, _frame)) => *position == self.code.size(),
             None => false,
@@ -76,13 +127,22 @@ impl<'a> Routine<'a> {
 
     /// The line of the last label, where it stands at the end of the code: a fault, where the
     /// procedure ends there.
-    pub fn label_at_end(&self) -> Option<usize> {
+    pub fn label_at_end(&self) -> Option<usize>
+        ensures { result ≡ if ends_with_label self.now then Some self.now.last else None }
+    {
         self.ends_with_label().then_some(self.last)
     }
 
     /// The procedure, where all names in its code are known; else the fault of the first line in
     /// which one is not.
-    pub fn resolve(self, alloc: Global, procedures: &Names<'_>) -> Result<Procedure, AsmFault> {
+    pub fn resolve(self, alloc: Global, procedures: &Names<'_>) -> Result<Procedure, AsmFault>
+        ensures { MatchResult result
+            (λ procedure.
+            (first_unknown self.entry.names procedures.now self.entry.code.statements ≡ None)
+            × (procedure ≡ procedure_of self.entry procedures.now))
+            (IsUnknown
+            (first_unknown self.entry.names procedures.now self.entry.code.statements)) }
+    {
         let code = self.encode(alloc, procedures)?;
         Ok(Procedure {
             params: self.signature.parameters,
@@ -94,7 +154,15 @@ impl<'a> Routine<'a> {
     }
 
     /// The bytes of its code.
-    fn encode(&self, alloc: Global, procedures: &Names<'_>) -> Result<Vec<u8>, AsmFault> {
+    fn encode(&self, alloc: Global, procedures: &Names<'_>) -> Result<Vec<u8>, AsmFault>
+        ensures { MatchResult result
+            (λ bytes.
+            (first_unknown self.now.names procedures.now self.now.code.statements ≡ None)
+            × (bytes.items
+            ≡ code_of_all self.now.names procedures.now self.now.code.statements))
+            (IsUnknown
+            (first_unknown self.now.names procedures.now self.now.code.statements)) }
+    {
         let scope = Scope {
             labels: &self.names,
             procedures,

@@ -1,11 +1,15 @@
+ghost use Rattle.burr_asm.specs.Views.Reading.{ReadsPlan};
+
 use crate::fault::AsmFault;
 use crate::text::front::Front;
 use burr_container::Plan;
 use burr_text::cut_at;
 use std::alloc::Global;
 
-/// The plan that a text stands for, and the line after its last; or the text's first fault.
-pub fn read_plan(alloc: Global, text: &[u8]) -> Result<(Plan, usize), AsmFault> {
+/// The plan that a text stands for, or the text's first fault.
+pub fn read_plan(alloc: Global, text: &[u8]) -> Result<Plan, AsmFault>
+    ensures { ReadsPlan text.now result }
+{
     let mut front = Front::AwaitsPlan;
     let mut rest = text;
     let mut line = 1;
@@ -17,5 +21,5 @@ pub fn read_plan(alloc: Global, text: &[u8]) -> Result<(Plan, usize), AsmFault> 
         rest = more;
         line += 1;
     }
-    Ok((front.finish(alloc, line)?, line))
+    front.finish(alloc, line)
 }

@@ -1,6 +1,7 @@
 ghost use Rattle.std.specs.Prelude.{◌≡◌, ◌≤◌, ◌≢◌, IfSome, IsTrue, MatchOption, true, false};
 ghost use Rattle.std.specs.List.{list_all};
 ghost use Rattle.burr_plantext.specs.Rules.Written.{is_number, is_set, pieces};
+ghost use Rattle.burr_asm.specs.Views.Sets.{IsGripped, IsMember, IsSetBelow};
 
 use crate::text::numbers::byte;
 use crate::text::words::NumberWord;
@@ -60,6 +61,7 @@ fn are_numbers(bytes: &[u8]) -> bool
 /// one of them isn't below the bound, which is at most 32.
 pub fn piece_set(word: SetWord<'_>, bound: u8) -> Option<u32>
     requires { bound ≤ 32 }
+    ensures { IsSetBelow bound word.entry.bytes.now result }
 {
     let bytes = word.bytes();
     if bytes == b"-".as_slice() {
@@ -67,20 +69,30 @@ pub fn piece_set(word: SetWord<'_>, bound: u8) -> Option<u32>
     }
     let mut set = 0;
     let mut least = 0;
-    for number in bytes.split(|byte| *byte == b',') {
-        let piece = byte(NumberWord::parse(number)?)?;
-        if piece < least || bound <= piece {
-            return None;
-        }
+    let mut rest = bytes;
+    while let Some((number, more)) = cut_at(rest, b',') {
+        let piece = member(NumberWord::parse(number)?, least, bound)?;
         set |= 1u32 << piece;
         least = piece + 1;
+        rest = more;
     }
-    Some(set)
+    let piece = member(NumberWord::parse(rest)?, least, bound)?;
+    Some(set | 1u32 << piece)
+}
+
+/// The piece of this number; None where it is below the least, or isn't below the bound.
+fn member(number: NumberWord<'_>, least: u8, bound: u8) -> Option<u8>
+    requires { bound ≤ 32 }
+    ensures { IsMember least bound number.entry.bytes.now result }
+{
+    let piece = byte(number)?;
+    (least <= piece && piece < bound).then_some(piece)
 }
 
 /// The set in a `grip`: one piece at least, each below 32.
 pub fn gripped_set(word: SetWord<'_>) -> Option<u32>
-    ensures { IfSome result (λ set. set ≢ 0) }
+    ensures some { IfSome result (λ set. set ≢ 0) }
+    ensures value { IsGripped word.entry.bytes.now result }
 {
     let set = piece_set(word, 32)?;
     (set != 0).then_some(set)

@@ -1,4 +1,12 @@
-ghost use Rattle.std.specs.Prelude.{◌≤◌};
+ghost use Rattle.std.specs.Prelude.{◌≡◌, ◌≤◌};
+ghost use Rattle.burr_plantext.specs.Rules.Lines.{AtLine};
+ghost use Rattle.burr_plantext.specs.Rules.Texts.{first_word};
+ghost use Rattle.burr_asm.specs.Views.LineWords.{line_words, piece_words};
+ghost use Rattle.burr_asm.specs.Views.Routines.{RoutineParts};
+ghost use Rattle.burr_asm.specs.Views.Steps.{misses_part, EndsStage, GivesInAny, GivesStage};
+ghost use Rattle.burr_asm.specs.declared.text.stage.Stage.TheVariants.{AwaitsExit, AwaitsFrame};
+ghost use Rattle.burr_asm.specs.declared.text.stage.Stage.TheVariants.{AwaitsLabel, AwaitsPieces};
+ghost use Rattle.burr_asm.specs.declared.text.stage.Stage.TheVariants.{InCode, InExit, InFrame};
 
 use crate::fault::AsmFault;
 use crate::text::exit::Exit;
@@ -30,9 +38,11 @@ pub enum Stage {
 }
 
 impl Stage {
-    /// Whether a line that isn't skipped shows by its first word that the procedure's first label or
-    /// the frame of a label is missing.
-    pub fn misses_part(&self, bytes: &[u8]) -> bool {
+    /// Whether a line shows by its first word that the procedure's first label or the frame of a
+    /// label is missing.
+    pub fn misses_part(&self, bytes: &[u8]) -> bool
+        ensures { result ≡ misses_part self.now (first_word bytes.now) }
+    {
         match self {
             Stage::AwaitsLabel => first_word(bytes) != b"label".as_slice(),
             Stage::AwaitsFrame => first_word(bytes) != b"frame".as_slice(),
@@ -41,7 +51,9 @@ impl Stage {
     }
 
     /// The fault of a text that ends here, if it may not; `line` is the one after its last.
-    pub fn end(&self, line: usize) -> Result<(), AsmFault> {
+    pub fn end(&self, line: usize) -> Result<(), AsmFault>
+        ensures { EndsStage self.now line result }
+    {
         match self {
             Stage::InCode => Ok(()),
             Stage::AwaitsLabel | Stage::AwaitsFrame => Err(AsmFault::P5 { line }),
@@ -51,7 +63,7 @@ impl Stage {
     }
 
     /// What the lines have been with one more of this form, which is added to the procedure; the
-    /// plan has so many pieces.
+    /// plan has so many pieces. After a frame no other procedure may begin.
     pub fn next<'a>(
         self,
         alloc: Global,
@@ -60,29 +72,41 @@ impl Stage {
         form: LineForm<'a>,
         line: usize,
     ) -> Result<Stage, AsmFault>
-        requires { pieces ≤ 32 }
+        requires few { pieces ≤ 32 }
+        requires several { 2 ≤ pieces }
+        ensures { let given = line_words form.entry in
+            GivesStage self routine.old pieces given line routine.new result }
     {
-        match (self, form) {
-            (Stage::AwaitsExit, LineForm::Exit(words)) => {
-                let grip = Grip::of(words, pieces, line)?;
-                Ok(Stage::InExit(Exit::new(alloc, routine.signature(), grip)))
-            }
-            (Stage::InExit(exit), form) => in_exit(routine, exit, pieces, form, line),
-            (Stage::AwaitsLabel, LineForm::Label(name)) => {
-                routine.add_label(name, line)?;
-                Ok(Stage::AwaitsFrame)
-            }
-            (Stage::AwaitsFrame, LineForm::Frame(words)) => {
-                let grip = Grip::of(words, pieces, line)?;
-                Ok(Stage::InFrame(Conditions::new(alloc, grip)))
-            }
-            (Stage::InFrame(conditions), form) => in_frame(alloc, conditions, form, line),
-            (Stage::AwaitsPieces(frame), LineForm::At(words)) => {
-                in_pieces(routine, frame, pieces, words, line)
-            }
-            (Stage::InCode, form) => in_code(routine, form, line),
-            _ => Err(AsmFault::P1 { line }),
+        match self {
+            Stage::AwaitsExit => begins_exit(alloc, routine, pieces, form, line),
+            Stage::InExit(exit) => in_exit(routine, exit, pieces, form, line),
+            Stage::AwaitsLabel => first_label(routine, form, line),
+            Stage::AwaitsFrame => begins_frame(alloc, pieces, form, line),
+            Stage::InFrame(conditions) => in_frame(alloc, conditions, form, line),
+            Stage::AwaitsPieces(frame) => in_pieces(routine, frame, pieces, form, line),
+            Stage::InCode => in_code(routine, form, line),
         }
+    }
+}
+
+/// The first line of an exit frame.
+fn begins_exit(
+    alloc: Global,
+    routine: &Routine<'_>,
+    pieces: u8,
+    form: LineForm<'_>,
+    line: usize,
+) -> Result<Stage, AsmFault>
+    requires { pieces ≤ 32 }
+    ensures { let given = line_words form.entry in
+        GivesStage AwaitsExit routine.now pieces given line routine.now result }
+{
+    match form {
+        LineForm::Exit(words) => {
+            let grip = Grip::of(words, pieces, line)?;
+            Ok(Stage::InExit(Exit::new(alloc, routine.signature(), grip)))
+        }
+        _ => Err(AsmFault::P1 { line }),
     }
 }
 
@@ -93,7 +117,11 @@ fn in_exit(
     pieces: u8,
     form: LineForm<'_>,
     line: usize,
-) -> Result<Stage, AsmFault> {
+) -> Result<Stage, AsmFault>
+    requires { 2 ≤ pieces }
+    ensures { let given = line_words form.entry in
+        GivesStage (InExit exit) routine.old pieces given line routine.new result }
+{
     exit.add(form, line)?;
     if !exit.is_whole(pieces) {
         return Ok(Stage::InExit(exit));
@@ -102,13 +130,53 @@ fn in_exit(
     Ok(Stage::AwaitsLabel)
 }
 
+/// The line of a procedure's first label.
+fn first_label<'a>(
+    routine: &mut Routine<'a>,
+    form: LineForm<'a>,
+    line: usize,
+) -> Result<Stage, AsmFault>
+    ensures { GivesInAny AwaitsLabel routine.old (line_words form.entry) line routine.new result }
+{
+    match form {
+        LineForm::Label(name) => {
+            routine.add_label(name, line)?;
+            Ok(Stage::AwaitsFrame)
+        }
+        _ => Err(AsmFault::P5 { line }),
+    }
+}
+
+/// The first line of a label's frame.
+fn begins_frame(
+    alloc: Global,
+    pieces: u8,
+    form: LineForm<'_>,
+    line: usize,
+) -> Result<Stage, AsmFault>
+    requires { pieces ≤ 32 }
+    ensures { (r : RoutineParts)
+        → GivesStage AwaitsFrame r pieces (line_words form.entry) line r result }
+{
+    match form {
+        LineForm::Frame(words) => {
+            let grip = Grip::of(words, pieces, line)?;
+            Ok(Stage::InFrame(Conditions::new(alloc, grip)))
+        }
+        _ => Err(AsmFault::P5 { line }),
+    }
+}
+
 /// A line of a frame, as far as its cost.
 fn in_frame(
     alloc: Global,
     mut conditions: Conditions,
     form: LineForm<'_>,
     line: usize,
-) -> Result<Stage, AsmFault> {
+) -> Result<Stage, AsmFault>
+    ensures { (r : RoutineParts)
+        → GivesInAny (InFrame conditions) r (line_words form.entry) line r result }
+{
     if let LineForm::Cost(form) = form {
         return Ok(Stage::AwaitsPieces(conditions.with_cost(alloc, form, line)?));
     }
@@ -116,16 +184,36 @@ fn in_frame(
     Ok(Stage::InFrame(conditions))
 }
 
-/// A line `at` of a label's frame.
+/// A line of a label's frame after its cost.
 fn in_pieces(
+    routine: &mut Routine<'_>,
+    frame: Frame,
+    pieces: u8,
+    form: LineForm<'_>,
+    line: usize,
+) -> Result<Stage, AsmFault>
+    ensures { let given = line_words form.entry in
+        GivesStage (AwaitsPieces frame) routine.old pieces given line routine.new result }
+{
+    match form {
+        LineForm::At(words) => with_piece(routine, frame, pieces, words, line),
+        _ => Err(AsmFault::P1 { line }),
+    }
+}
+
+/// A line `at` of a label's frame.
+fn with_piece(
     routine: &mut Routine<'_>,
     mut frame: Frame,
     pieces: u8,
     words: PieceWords<'_>,
     line: usize,
-) -> Result<Stage, AsmFault> {
+) -> Result<Stage, AsmFault>
+    ensures { let given = AtLine (piece_words words.entry) in
+        GivesStage (AwaitsPieces frame) routine.old pieces given line routine.new result }
+{
     add_piece(&mut frame, words, line)?;
-    if frame.places.len() < usize::from(pieces) {
+    if frame.places.len() != usize::from(pieces) {
         return Ok(Stage::AwaitsPieces(frame));
     }
     routine.add_frame(frame)?;
@@ -137,7 +225,9 @@ fn in_code<'a>(
     routine: &mut Routine<'a>,
     form: LineForm<'a>,
     line: usize,
-) -> Result<Stage, AsmFault> {
+) -> Result<Stage, AsmFault>
+    ensures { GivesInAny InCode routine.old (line_words form.entry) line routine.new result }
+{
     match form {
         LineForm::Code(code) => match Statement::of(code) {
             Some(statement) => {

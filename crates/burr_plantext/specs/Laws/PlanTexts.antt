@@ -1,16 +1,22 @@
 -- What holds of all plan texts.
-use Rattle.std.specs.Prelude.{◌≡◌, ◌⊎◌, ◌≤◌, ℕ, List, length, IsTrue}
+use Rattle.std.specs.Prelude.{◌≡◌, ◌⊎◌, ◌≤◌, ℕ, List, length, IsTrue, Ok}
 use Rattle.burr_container.specs.Rules.Plans.{Plan}
 use Rattle.burr_plantext.specs.Rules.Written.{pieces}
-use Rattle.burr_plantext.specs.Rules.Texts.{StandsFor}
+use Rattle.burr_plantext.specs.Rules.Sources.{PlanSource}
+use Rattle.burr_plantext.specs.Rules.Texts.{lines_read, IsTextOf, StandsFor}
 use Rattle.burr_plantext.specs.Rules.Checks.{FaultKind}
-use Rattle.burr_plantext.specs.Rules.Faults.{HasFault}
+use Rattle.burr_plantext.specs.Rules.Faults.{HasFault, judgement}
 use Rattle.burr_container.specs.Rules.Fitting.{is_fitting}
 use Rattle.burr_plantext.specs.Rules.Listing.{IsListing}
 
 -- a text stands for one plan at most
 abbrev pub OnePlan : Type 0
 OnePlan = (text : List ℕ) (p q : Plan) → StandsFor text p → StandsFor text q → p ≡ q
+
+-- a text that is judged to be a source is one of that source
+abbrev pub JudgedSource : Type 0
+JudgedSource =
+    (text : List ℕ) (s : PlanSource) → judgement (lines_read text) ≡ Ok s → IsTextOf text s
 
 -- each text stands for a plan or has a fault
 abbrev pub FaultOrPlan : Type 0

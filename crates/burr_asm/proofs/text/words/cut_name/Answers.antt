@@ -1,7 +1,5 @@
-use Rattle.std.proofs.Common.{ap, ◌∙◌}
-use Rattle.std.specs.Prelude.{ℕ, List, Option, Some}
+use Rattle.std.proofs.Common.{◌∙◌}
 use Rattle.burr_container.specs.Rules.Fitting.{is_name_text}
-use Rattle.burr_plantext.specs.Rules.Texts.{words_of}
 use Rattle.burr_asm.proofs.Words.{word_alone, word_failed, word_passed, front_is}
 use Rattle.burr_asm.proofs.text.words.cut_name.Goals as goal
 

@@ -1,0 +1,85 @@
+-- A procedure ends with a label where its last block has no code.
+use Rattle.std.proofs.Common.{◌≡◌, ℕ, ◌+◌, ◌<◌, ◌==◌, true, false, not, List, [], ◌∷◌, ◌++◌, length, sym, ap, ◌∙◌, arith}
+use Rattle.std.proofs.lemmas.List.{length-append}
+use Rattle.std.proofs.lemmas.Grind.{flat_map-append}
+use Rattle.burr_plantext.specs.Rules.Statements.{Statement, Halt, Push, Load, Store, Add, Sub, Drop, Grip, Step, Aside, Tray, Jump, Down, Ask, Pick, Call, Ret, Byte}
+use Rattle.burr_plantext.specs.Rules.Sources.{Block}
+use Rattle.burr_plantext.specs.Rules.Meaning.{statement_bytes, code_bytes, code_size, block_code, labels_in}
+use Rattle.burr_plantext.specs.Rules.Checks.{is_empty, has_code}
+use Rattle.burr_asm.specs.Views.Routines.{RoutineParts, ends_at, ends_with_label}
+
+-- a line of code has some bytes
+pub some_bytes : (s : Statement) → 0 < length (statement_bytes [] [] s)
+some_bytes Halt = omega arith
+some_bytes (Push number) = omega arith
+some_bytes (Load slot) = omega arith
+some_bytes (Store slot) = omega arith
+some_bytes Add = omega arith
+some_bytes Sub = omega arith
+some_bytes Drop = omega arith
+some_bytes (Grip set) = omega arith
+some_bytes (Step direction) = omega arith
+some_bytes (Aside direction tray) = omega arith
+some_bytes (Tray tray) = omega arith
+some_bytes (Jump label) = omega arith
+some_bytes (Down slot label) = omega arith
+some_bytes (Ask low high) = omega arith
+some_bytes (Pick names) = omega arith
+some_bytes (Call procedure) = omega arith
+some_bytes Ret = omega arith
+some_bytes (Byte byte) = omega arith
+
+-- two pieces of code have the bytes of both
+pub size_both : (xs ys : List Statement) → code_size (xs ++ ys) ≡ code_size xs + code_size ys
+size_both xs ys =
+    ap length (flat_map-append (statement_bytes [] []) xs ys)
+    ∙ length-append (code_bytes [] [] xs) (code_bytes [] [] ys)
+
+-- where the last of the labels stands
+last_stands : (size position : ℕ) (blocks : List Block) (b : Block)
+    → ends_at size (labels_in position (blocks ++ b ∷ []))
+    ≡ (position + code_size (block_code blocks) == size)
+last_stands size position [] b =
+    let none : position ≡ position + 0 = omega arith in ap (λ (n : ℕ). n == size) none
+last_stands size position (c ∷ []) b =
+    let both = size_both c.code [] in
+    let moved : position + code_size c.code ≡ position + code_size (c.code ++ []) =
+    omega (arith, both) in
+    ap (λ (n : ℕ). n == size) moved
+last_stands size position (c ∷ d ∷ blocks) b =
+    let both = size_both c.code (block_code (d ∷ blocks)) in
+    let moved : (position + code_size c.code) + code_size (block_code (d ∷ blocks))
+    ≡ position + code_size (block_code (c ∷ d ∷ blocks)) = omega (arith, both) in
+    last_stands size (position + code_size c.code) (d ∷ blocks) b
+    ∙ ap (λ (n : ℕ). n == size) moved
+
+same_size : (n more : ℕ) → more ≡ n + 0 → (n == more) ≡ true
+same_size n more e = grind (arith, e)
+
+less_size : (n k more : ℕ) → 0 < k → more ≡ n + k → (n == more) ≡ false
+less_size n k more some e = grind (arith, some, e)
+
+-- the same size before code means that there is none
+code_after : (n more : ℕ) (code : List Statement) → more ≡ n + code_size code
+    → (n == more) ≡ is_empty code
+code_after n more [] e = same_size n more e
+code_after n more (s ∷ code) e =
+    let long = length-append (statement_bytes [] [] s) (code_bytes [] [] code) in
+    let some = some_bytes s in
+    let more_than : 0 < code_size (s ∷ code) = omega (arith, long, some) in
+    less_size n (code_size (s ∷ code)) more more_than e
+
+-- The last label has no code after it where the last block has none.
+pub ends_with_block : (r : RoutineParts) (blocks : List Block) (b : Block)
+    → r.labels ≡ labels_in 0 (blocks ++ b ∷ [])
+    → r.code.size ≡ code_size (block_code (blocks ++ b ∷ []))
+    → has_code b ≡ not (ends_with_label r)
+ends_with_block r blocks b labels size =
+    let code = ap code_size (flat_map-append (λ (c : Block). c.code) blocks (b ∷ [])) in
+    let both = size_both (block_code blocks) (block_code (b ∷ [])) in
+    let last = size_both b.code [] in
+    let whole : r.code.size ≡ (0 + code_size (block_code blocks)) + code_size b.code =
+    omega (arith, size, code, both, last) in
+    let stands = last_stands r.code.size 0 blocks b in
+    let empty = code_after (0 + code_size (block_code blocks)) r.code.size b.code whole in
+    ap not (sym (ap (ends_at r.code.size) labels ∙ stands ∙ empty))

@@ -1,0 +1,52 @@
+-- Why the first line of a plan or of a procedure is refused.
+use Rattle.std.proofs.Common.{◌≡◌, ℕ, ◌≤◌, List, length, Bool, true, false, inr, refl, sym, ap, ◌∙◌, subst}
+use Rattle.std.specs.Prelude.{Option, Some, None, not, nat_lt, ◌&&◌, if◌then◌else◌}
+use Rattle.std.specs.Option.{is_some}
+use Rattle.std.proofs.lemmas.Bool.{le-ltb}
+use Rattle.burr_code.specs.declared.limits.TheConstants.{MOST_BUDGET, MOST_PROCEDURES}
+use Rattle.burr_plantext.specs.Rules.Written.{is_within}
+use Rattle.burr_plantext.specs.Rules.Lines.{PlanWords, ProcedureWords}
+use Rattle.burr_plantext.specs.Rules.Checks.{FaultKind, P2, P3, P4, unless, is_known, title_check}
+use Rattle.burr_plantext.specs.Rules.Meaning.{number_of}
+use Rattle.burr_asm.specs.declared.fault.AsmFault.TheVariants as fault
+use Rattle.burr_asm.specs.Views.Faults.{IsRefusal}
+use Rattle.burr_asm.specs.Views.Names.{number_if_known}
+use Rattle.burr_asm.specs.Views.Routines.{OutlineParts, are_counts, head_refusal}
+
+-- the plan's line, of which a number is out of its range
+title_refused : (t : PlanWords) (line : ℕ) → (is_within 2 32 t.pieces && is_within 1 MOST_BUDGET t.budget) ≡ false → IsRefusal (title_check t) line (fault.P3 line)
+title_refused t line e = inr (P3, ap (λ (test : Bool). unless test P3 None) e, refl)
+
+-- it is the number of pieces
+pub pieces_refused : (t : PlanWords) (line : ℕ) → is_within 2 32 t.pieces ≡ false → IsRefusal (title_check t) line (fault.P3 line)
+pieces_refused t line e = title_refused t line (ap (λ (test : Bool). test && is_within 1 MOST_BUDGET t.budget) e)
+
+-- it is the budget
+pub budget_refused : (t : PlanWords) (line : ℕ) → is_within 1 MOST_BUDGET t.budget ≡ false → IsRefusal (title_check t) line (fault.P3 line)
+budget_refused t line e = title_refused t line (by (is_within 2 32 t.pieces))
+  where
+    by : (test : Bool) → (test && is_within 1 MOST_BUDGET t.budget) ≡ false
+    by true = e
+    by false = refl
+
+-- a name that has no number is none of the names
+no_number : (known : Bool) (number : ℕ) → false ≡ is_some (if known then Some number else None) → known ≡ false
+no_number true number e = sym e
+no_number false number e = refl
+
+-- what is wrong with a procedure's line, by its three tests
+abbrev refusal : Bool → Bool → Bool → Option FaultKind
+refusal known counted few = unless (not known) P2 (unless counted P3 (unless few P4 None))
+
+-- a procedure's line, with a new name and right numbers, after as many procedures as a plan may have
+pub head_full : (o : OutlineParts) (h : ProcedureWords) (line count : ℕ) (names : List (List ℕ)) → names ≡ o.names → false ≡ is_some (number_if_known names h.name) → are_counts o h ≡ true → count ≡ length names → MOST_PROCEDURES ≤ count → IsRefusal (head_refusal o h) line (fault.P4 line)
+head_full o h line count names same new counted many full =
+    let unknown : is_known o.names h.name ≡ false = ap (λ (ns : List (List ℕ)). is_known ns h.name) (sym same) ∙ no_number (is_known names h.name) (number_of names h.name) new in
+    let none_left : nat_lt (length o.names) MOST_PROCEDURES ≡ false = le-ltb (length o.names) MOST_PROCEDURES (subst (λ (n : ℕ). MOST_PROCEDURES ≤ n) (many ∙ ap length same) full) in
+    inr (
+      P4,
+      ap (λ (known : Bool). refusal known (are_counts o h) (nat_lt (length o.names) MOST_PROCEDURES)) unknown
+          ∙ ap (λ (test : Bool). refusal false test (nat_lt (length o.names) MOST_PROCEDURES)) counted
+          ∙ ap (refusal false true) none_left,
+      refl,
+    )

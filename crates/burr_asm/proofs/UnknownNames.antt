@@ -1,0 +1,95 @@
+-- The line of the first unknown name, as the code finds it, is that of the rules.
+use Rattle.std.proofs.Common.{◌≡◌, ℕ, suc, ◌+◌, List, [], ◌∷◌, ◌++◌, length, map, Bool, true, false, refl, sym, ap, ◌∙◌, arith}
+use Rattle.std.specs.Prelude.{Option, Some, None, if◌then◌else◌}
+use Rattle.std.specs.List.{flat_map}
+use Rattle.burr_plantext.specs.Rules.Lines.{Line, PlanLine, ProcLine, ExitLine, ResultLine, LabelLine, FrameLine, SlotLine, GuardLine, StackLine, CostLine, AtLine, CodeLine}
+use Rattle.burr_plantext.specs.Rules.Sources.{ProcedureSource, procedure_lines}
+use Rattle.burr_plantext.specs.Rules.Meaning.{label_names}
+use Rattle.burr_plantext.specs.Rules.Right.{has_unknown_name, unknown_in, first_true, one_later}
+use Rattle.burr_asm.specs.declared.text.statement.Statement.{Statement as CodedStatement}
+use Rattle.burr_asm.specs.Views.Coded.{first_unknown, has_unknown}
+use Rattle.burr_asm.specs.Views.Routines.{RoutineParts, line_or, unknown_among}
+use Rattle.burr_asm.specs.Views.Beginnings.{code_lines, AreCoded, AreEnded}
+
+-- the number of the line so many places after one
+abbrev pub placed : (ℕ → ℕ) → ℕ → Option ℕ → Option ℕ
+placed number start None = None
+placed number start (Some k) = Some (number (start + k))
+
+placed_later : (number : ℕ → ℕ) (start : ℕ) (o : Option ℕ) → placed number (suc start) o ≡ placed number start (one_later o)
+placed_later number start None = refl
+placed_later number start (Some k) = ap (λ (n : ℕ). Some (number n)) (omega arith)
+
+-- a line without code has no unknown name
+module _ (number : ℕ → ℕ) (labels procedures : List (List ℕ)) where
+  -- what the code finds among statements is what the rules find among their lines
+  pub first_among : (lines : List Line) (code : List (ℕ × CodedStatement)) (start : ℕ) → AreCoded code (code_lines number start lines)
+      → first_unknown labels procedures code ≡ placed number start (first_true (map (has_unknown_name labels procedures) lines))
+  first_among [] [] start h = refl
+  first_among [] (s ∷ code) start h = absurd h
+  first_among (PlanLine title ∷ lines) code start h = first_among lines code (suc start) h ∙ placed_later number start _
+  first_among (ProcLine head ∷ lines) code start h = first_among lines code (suc start) h ∙ placed_later number start _
+  first_among (ExitLine grip ∷ lines) code start h = first_among lines code (suc start) h ∙ placed_later number start _
+  first_among (ResultLine ends ∷ lines) code start h = first_among lines code (suc start) h ∙ placed_later number start _
+  first_among (LabelLine name ∷ lines) code start h = first_among lines code (suc start) h ∙ placed_later number start _
+  first_among (FrameLine grip ∷ lines) code start h = first_among lines code (suc start) h ∙ placed_later number start _
+  first_among (SlotLine slot ∷ lines) code start h = first_among lines code (suc start) h ∙ placed_later number start _
+  first_among (GuardLine form ∷ lines) code start h = first_among lines code (suc start) h ∙ placed_later number start _
+  first_among (StackLine form ∷ lines) code start h = first_among lines code (suc start) h ∙ placed_later number start _
+  first_among (CostLine form ∷ lines) code start h = first_among lines code (suc start) h ∙ placed_later number start _
+  first_among (AtLine piece ∷ lines) code start h = first_among lines code (suc start) h ∙ placed_later number start _
+  first_among (CodeLine s ∷ lines) [] start h = absurd h
+  first_among (CodeLine s ∷ lines) (c ∷ code) start (line, coded, more) =
+      by (has_unknown_name labels procedures (CodeLine s)) (has_unknown labels procedures c.1) (coded.unknown labels procedures) (first_among lines code (suc start) more)
+    where
+      rest : Option ℕ
+      rest = first_true (map (has_unknown_name labels procedures) lines)
+
+      by : (t u : Bool) → u ≡ t → first_unknown labels procedures code ≡ placed number (suc start) rest
+          → (if u then Some c.0 else first_unknown labels procedures code) ≡ placed number start (first_true (t ∷ map (has_unknown_name labels procedures) lines))
+      by true u e next = ap (λ (t : Bool). if t then Some c.0 else first_unknown labels procedures code) e ∙ ap (λ (n : ℕ). Some n) line ∙ ap (λ (n : ℕ). Some (number n)) (omega arith)
+      by false u e next = ap (λ (t : Bool). if t then Some c.0 else first_unknown labels procedures code) e ∙ next ∙ placed_later number start rest
+
+-- the first among two lists, one after the other
+abbrev pub first_or : Option ℕ → ℕ → Option ℕ → Option ℕ
+first_or (Some k) n other = Some k
+first_or None n None = None
+first_or None n (Some k) = Some (n + k)
+
+later_or : (o : Option ℕ) (n : ℕ) (other : Option ℕ) → one_later (first_or o n other) ≡ first_or (one_later o) (suc n) other
+later_or (Some k) n other = refl
+later_or None n None = refl
+later_or None n (Some k) = ap (λ (m : ℕ). Some m) (omega arith)
+
+first_of_none : (other : Option ℕ) → other ≡ first_or None 0 other
+first_of_none None = refl
+first_of_none (Some k) = ap (λ (m : ℕ). Some m) (omega arith)
+
+first_of_two : (xs ys : List Bool) → first_true (xs ++ ys) ≡ first_or (first_true xs) (length xs) (first_true ys)
+first_of_two [] ys = first_of_none (first_true ys)
+first_of_two (true ∷ xs) ys = refl
+first_of_two (false ∷ xs) ys = ap one_later (first_of_two xs ys) ∙ later_or (first_true xs) (length xs) (first_true ys)
+
+placed_or : (number : ℕ → ℕ) (start n : ℕ) (o other : Option ℕ) → line_or (placed number start o) (placed number (start + n) other) ≡ placed number start (first_or o n other)
+placed_or number start n (Some k) other = refl
+placed_or number start n None None = refl
+placed_or number start n None (Some k) = ap (λ (n : ℕ). Some (number n)) (omega arith)
+
+length_map : {A B : Type 0} (f : A → B) (xs : List A) → length (map f xs) ≡ length xs
+length_map f [] = refl
+length_map f (x ∷ xs) = ap suc (length_map f xs)
+
+-- The code finds among procedures what the rules find among theirs.
+pub first_in_all : (number : ℕ → ℕ) (version : ℕ) (procedures : List (List ℕ)) (start : ℕ) (rs : List RoutineParts) (ps : List ProcedureSource) → AreEnded number start version rs ps
+    → unknown_among procedures rs ≡ placed number start (first_true (flat_map (unknown_in procedures) ps))
+first_in_all number version procedures start [] [] h = refl
+first_in_all number version procedures start [] (p ∷ ps) h = absurd h
+first_in_all number version procedures start (r ∷ rs) [] h = absurd h
+first_in_all number version procedures start (r ∷ rs) (p ∷ ps) ((routine, names), more) =
+    let one : first_unknown r.names procedures r.code.statements ≡ placed number start (first_true (unknown_in procedures p)) =
+    ap (λ (labels : List (List ℕ)). first_unknown labels procedures r.code.statements) names ∙ first_among number (label_names p.blocks) procedures (procedure_lines p) r.code.statements start routine.code in
+    let all = first_in_all number version procedures (start + length (procedure_lines p)) rs ps more in
+    let size = length_map (has_unknown_name (label_names p.blocks) procedures) (procedure_lines p) in
+    (λ i. line_or (one i) (all i))
+    ∙ placed_or number start (length (procedure_lines p)) (first_true (unknown_in procedures p)) (first_true (flat_map (unknown_in procedures) ps))
+    ∙ ap (placed number start) (ap (λ (n : ℕ). first_or (first_true (unknown_in procedures p)) n (first_true (flat_map (unknown_in procedures) ps))) (sym size) ∙ sym (first_of_two (unknown_in procedures p) (flat_map (unknown_in procedures) ps)))
