@@ -49,7 +49,8 @@ abbrev pub lines_of : ProcedureWords → Option ExitSource → List Block → Li
 lines_of h exit blocks = ProcLine h ∷ (some_exit_lines exit ++ flat_map block_lines blocks)
 
 -- The code has this of a procedure whose first line stands at the place `start`.
-pub record IsRoutine (number : ℕ → ℕ) (start version : ℕ) (r : RoutineParts) (h : ProcedureWords) (exit : Option ExitSource) (blocks : List Block) : Type 0 where
+pub record IsRoutine (number : ℕ → ℕ) (start version : ℕ) (r : RoutineParts)
+    (h : ProcedureWords) (exit : Option ExitSource) (blocks : List Block) : Type 0 where
   pub signature : IsSignature r.signature version h
   pub exit_is : r.exit ≡ some_exit_in exit
   pub labels : r.labels ≡ labels_in 0 blocks
@@ -82,7 +83,8 @@ module _ (number : ℕ → ℕ) (place start version : ℕ) (r : RoutineParts) (
     pub next : place ≡ start + lines
 
   -- a label after blocks, and so many lines from the label on
-  pub record UnderLabel (exit : Option ExitSource) (blocks : List Block) (label : List ℕ) (lines : ℕ) : Type 0 where
+  pub record UnderLabel (exit : Option ExitSource) (blocks : List Block) (label : List ℕ)
+      (lines : ℕ) : Type 0 where
     pub routine : IsRoutine number start version r h exit blocks
     pub full : IsTrue (list_all has_code blocks)
     pub names : r.names ≡ label_names blocks ++ label ∷ []

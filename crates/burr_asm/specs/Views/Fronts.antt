@@ -23,7 +23,8 @@ use Rattle.burr_asm.specs.Views.Beginnings.{AreEnded, IsStage}
 
 -- The code has this of a plan: its first line, the procedures that have ended, and the names of all
 -- that have begun.
-pub record IsOutline (number : ℕ → ℕ) (o : OutlineParts) (title : PlanWords) (before : List ProcedureSource) (begun : List (List ℕ)) : Type 0 where
+pub record IsOutline (number : ℕ → ℕ) (o : OutlineParts) (title : PlanWords)
+    (before : List ProcedureSource) (begun : List (List ℕ)) : Type 0 where
   pub version_is : o.version ≡ title.version
   pub name_is : o.name ≡ title.name
   pub pieces_are : o.pieces ≡ natural_in title.pieces

@@ -1,4 +1,5 @@
-ghost use Rattle.std.specs.Prelude.{◌≡◌, ◌<◌, ◌≤◌, IfSome, IsTrue, MatchOption, false, length, true};
+ghost use Rattle.std.specs.Prelude.{◌≡◌, ◌<◌, ◌≤◌, false, length, true, IfSome, IsTrue};
+ghost use Rattle.std.specs.Prelude.{MatchOption};
 ghost use Rattle.std.specs.List.{list_all, position, position_or_len};
 ghost use Rattle.std.specs.Str.Parse.{without_leading_plus};
 ghost use Rattle.burr_code.specs.declared.limits.TheConstants.{SLOTS};

@@ -29,7 +29,8 @@ impl<'a> NumberWord<'a> {
     /// A number up to the first blank, and what stands after the blank.
     pub fn cut(bytes: &'a [u8]) -> Option<(NumberWord<'a>, &'a [u8])>
         ensures { MatchOption result (cut_word is_number (words_of bytes.now) ≡ None) (λ parts.
-            cut_word is_number (words_of bytes.now) ≡ Some (parts.0.bytes.now, words_of parts.1.now)) }
+            cut_word is_number (words_of bytes.now)
+            ≡ Some (parts.0.bytes.now, words_of parts.1.now)) }
     {
         let (word, rest) = cut_at(bytes, b' ')?;
         Some((NumberWord::parse(word)?, rest))
