@@ -1,3 +1,4 @@
 mod Ending
+mod FileEnding
 pub mod HandedText
 mod Stepping

@@ -1,5 +1,6 @@
 pub mod Ends
 pub mod Faults
+pub mod FileEnds
 pub mod HandedOn
 pub mod PlanEnds
 pub mod Refusals

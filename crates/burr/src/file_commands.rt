@@ -1,17 +1,24 @@
 //! What is done with one file: a plan text is assembled, a container is listed or upgraded.
 
-ghost use Rattle.std.specs.Prelude.{OnErr, OnOk, IfOk};
+ghost use Rattle.std.specs.Prelude.{◌≡◌, IfErr, IfOk, MatchOption, OnErr, OnOk};
+ghost use Rattle.burr_asm.specs.Rules.Assembling.{IsAssembled};
 ghost use Rattle.burr.specs.Ends.{took, TakesSome, WritesOrFails, IsDone};
+ghost use Rattle.burr.specs.Faults.{line_of};
+ghost use Rattle.burr.specs.FileEnds.{FailsToAssemble, RefusesText};
+ghost use Rattle.burr.specs.FileEnds.{IsContainerListing, ListEnds, ListingEnds};
+ghost use Rattle.burr.specs.PlanEnds.{FailsToEnd, PutsEnd};
 ghost use Rattle.burr.specs.Statuses.{code_of};
 
 use crate::fault::Fault;
 use crate::files::{are_one_file, read_file, write_file};
+use crate::plan_commands::refuse_container;
 use crate::plan_text_refusal::put_plan_text_refusal;
 use crate::status::Status;
 use burr_asm::{AsmFault, assemble, list, list_with_places};
 use burr_container::Container;
 use burr_io::{Sink, put_all};
 use burr_runs::{put_container_refusal, upgrade};
+use std::alloc::{AllocError, Global};
 use std::rt::Files;
 
 /// Assembles a plan text and makes a file of its container; a refusal is put on the sink, and the
@@ -31,15 +38,34 @@ pub fn assemble_file<'a, F: Files + AllocGlobal, W: Sink>(
         return Err(Fault::Same("TEXT", out));
     }
     let bytes = read_file(files, text)?;
-    match assemble(files.alloc(), &bytes) {
-        Ok(container) => {
+    match container_of(files.alloc(), &bytes, sink)? {
+        Some(container) => {
             write_file(files, out, &container)?;
             Ok(Status::Done)
         }
+        None => Ok(Status::Refused),
+    }
+}
+
+/// The container of the plan that a text stands for; None where it stands for none, whose first
+/// fault is then put.
+fn container_of<'a, W: Sink>(
+    alloc: Global,
+    text: &[u8],
+    sink: &mut W,
+) -> Result<Option<Vec<u8>>, Fault<'a>>
+    ensures ok { IfOk result (λ made. MatchOption made
+        (RefusesText W.Sink sink.old sink.new text.now)
+        (λ bytes. IsAssembled text.now bytes.items × (sink.new ≡ sink.old))) }
+    ensures err { IfErr result (λ fault. FailsToAssemble W.Sink sink.old sink.new text.now
+        (line_of fault)) }
+{
+    match assemble(alloc, text) {
+        Ok(container) => Ok(Some(container)),
         Err(AsmFault::Memory) => Err(Fault::Memory),
         Err(fault) => {
             put_plan_text_refusal(fault, sink)?;
-            Ok(Status::Refused)
+            Ok(None)
         }
     }
 }
@@ -58,20 +84,52 @@ pub fn list_file<'a, F: Files + AllocGlobal, W: Sink>(
     ensures err { OnErr result (WritesOrFails W.Sink sink.old sink.new) }
 {
     let bytes = read_file(files, plan)?;
-    match Container::parse(&bytes) {
-        Ok(container) => {
-            let text = if places {
-                list_with_places(files.alloc(), &container)?
-            } else {
-                list(files.alloc(), &container)?
-            };
-            put_all(&text, sink)?;
-            Ok(Status::Done)
-        }
-        Err(fault) => {
-            put_container_refusal(fault, sink)?;
-            Ok(Status::Refused)
-        }
+    list_bytes(files.alloc(), &bytes, places, sink)
+}
+
+/// Puts the plan text of the container of these bytes, with the places of code or without, or the
+/// container's refusal.
+fn list_bytes<'a, W: Sink>(
+    alloc: Global,
+    bytes: &[u8],
+    places: bool,
+    sink: &mut W,
+) -> Result<Status, Fault<'a>>
+    ensures ok { IfOk result (PutsEnd W.Sink sink.old sink.new (ListEnds places bytes.now)) }
+    ensures err { IfErr result (λ fault. FailsToEnd W.Sink sink.old sink.new
+        (ListEnds places bytes.now) (line_of fault)) }
+{
+    match Container::parse(bytes) {
+        Ok(container) => put_listing(alloc, &container, places, sink),
+        Err(fault) => refuse_container(fault, sink),
+    }
+}
+
+/// Puts the plan text of a container, with the places of code or without.
+fn put_listing<'a, W: Sink>(
+    alloc: Global,
+    container: &Container<'_>,
+    places: bool,
+    sink: &mut W,
+) -> Result<Status, Fault<'a>>
+    ensures ok { IfOk result (PutsEnd W.Sink sink.old sink.new
+        (ListingEnds places container.now)) }
+    ensures err { IfErr result (λ fault. FailsToEnd W.Sink sink.old sink.new
+        (ListingEnds places container.now) (line_of fault)) }
+{
+    let text = listing(alloc, container, places)?;
+    put_all(&text, sink)?;
+    Ok(Status::Done)
+}
+
+/// The plan text of a container, with the places of code or without.
+fn listing(alloc: Global, container: &Container<'_>, places: bool) -> Result<Vec<u8>, AllocError>
+    ensures { IfOk result (λ text. IsContainerListing places container.now text.items) }
+{
+    if places {
+        list_with_places(alloc, container)
+    } else {
+        list(alloc, container)
     }
 }
 
