@@ -1,5 +1,5 @@
 -- A run and its sheet, taken step by step.
-use Rattle.std.proofs.Common.{◌≡◌, ◌≢◌, ◌<◌, ◌≤◌, ◌+◌, ◌++◌, ◌∷◌, ◌∙◌, ◌⊎◌, ◌^◌, ℕ, ℤ, List, [], length, refl, sym, ap, subst, inl, inr, append_assoc, arith}
+use Rattle.std.proofs.Common.{◌≡◌, ◌≢◌, ◌<◌, ◌≤◌, ◌+◌, ◌++◌, ◌∷◌, ◌∙◌, ◌⊎◌, ◌^◌, ℕ, ℤ, List, [], length, refl, sym, ap, subst, inl, inr, append_assoc, arith, false}
 use Rattle.std.specs.Prelude.{Some, None, Result, Ok, OnOk}
 use Rattle.std.specs.Io.KnownBytes.{Appends}
 use Rattle.std.proofs.KnownBytes.{Appends-nil, Appends-trans}
@@ -160,16 +160,18 @@ in_step_still b new u step same under counted on = record {
   few = subst (λ (p : Program). p.budget ≤ 1000000) (sym same.program) step.few;
   motions = let m = step.motions in omega (arith, m, counted);
   outs = let o = step.outs in let p = on.outs in omega (arith, o, p);
+  unfailed = step.unfailed;
 }
 
 pub in_step_motion : (b new : Benched) (u more : UnderWay) (motion : Motion) → IsInStep b u → IsSameRun b new → IsUnderWay new.program.budget new.state × (new.state.steps ≡ b.state.steps + 1) → GoesOn b new (Some motion)
-    → (more.motions ≡ u.motions + 1) × (length more.levels ≡ length u.levels + outs_of motion) → IsInStep new more
-in_step_motion b new u more motion step same (under, counted) on (motions, levels) = record {
+    → (more.motions ≡ u.motions + 1) × (length more.levels ≡ length u.levels + outs_of motion) → more.failed ≡ false → IsInStep new more
+in_step_motion b new u more motion step same (under, counted) on (motions, levels) unfailed = record {
   mode = under.mode;
   within = under.within;
   few = subst (λ (p : Program). p.budget ≤ 1000000) (sym same.program) step.few;
   motions = let m = step.motions in omega (arith, m, counted, motions);
   outs = let o = step.outs in let p = on.outs in omega (arith, o, p, levels);
+  unfailed = unfailed;
 }
 
 -- at the start they are in step
@@ -180,6 +182,7 @@ in_step_at_start b u at_start few sheet = record {
   few = few;
   motions = let none = ap (λ (v : UnderWay). v.motions) sheet in omega (arith, none);
   outs = rw sheet (sym at_start.parts);
+  unfailed = ap (λ (v : UnderWay). v.failed) sheet;
 }
 
 -- a step is one less to take

@@ -1,7 +1,7 @@
 pub mod runner;
 mod turns;
 
-ghost use Rattle.std.specs.Prelude.{◌≡◌, ◌≤◌, [], length, IfOk, OnErr};
+ghost use Rattle.std.specs.Prelude.{◌≡◌, ◌≤◌, [], false, length, IfOk, OnErr, OnOk};
 ghost use Rattle.burr_code.specs.declared.limits.TheConstants.{MOST_BUDGET, MOST_CODE};
 ghost use Rattle.burr_state.specs.Rules.Bench.{bare_program};
 ghost use Rattle.burr_state.specs.Views.Benches.{IsAtStart};
@@ -111,6 +111,7 @@ fn run_to_close<'a, R: Runner<'a>, W: Sink>(
     ensures ok { IfOk result (λ closing. ClosesPart W.Sink sink.old sink.new
         (run_state (R.bench runner.old) answers.now sheet.old)
         (run_state (R.bench runner.new) [] sheet.new) closing) }
+    ensures unfailed { OnOk result (sheet.new.failed ≡ false) }
     ensures err { OnErr result (FailsInRun W.Sink sink.old sink.new
         (run_state (R.bench runner.old) answers.now sheet.old)) }
     ensures end { IfOk result (λ closing.

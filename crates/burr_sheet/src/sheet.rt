@@ -3,7 +3,10 @@ ghost use Rattle.burr_io.specs.Sink.{Puts};
 ghost use Rattle.burr_code.specs.declared.limits.TheConstants.{MOST_BUDGET};
 ghost use Rattle.burr_assembly.specs.Rules.Homes.{names_of};
 ghost use Rattle.burr_sheet.specs.Rules.SheetText.{alone};
-ghost use Rattle.burr_sheet.specs.Views.SheetUnderWay.{blank, still, outs_of, growing_text, move_line_of, is_one, PutsBefore, PutsMotion, FailsInMotion};
+ghost use Rattle.burr_sheet.specs.Views.SheetUnderWay.{blank, still, outs_of, growing_text};
+ghost use Rattle.burr_sheet.specs.Views.SheetUnderWay.{move_line_of, is_one, KeepsCounts, OnUnfailed};
+ghost use Rattle.burr_sheet.specs.Views.SheetUnderWay.{PutsBefore, PutsMotion, FailsInMotion};
+ghost use Rattle.burr_sheet.specs.Views.SheetUnderWay.{StaysUnfailed};
 
 mod ending;
 mod line;
@@ -36,6 +39,8 @@ pub struct Sheet<'a> {
     levels: ArrayVec<u32, MOST_OUTS>,
     /// How many motions have come.
     motions: u32,
+    /// Whether a sink has failed.
+    failed: bool,
 }
 
 impl<'a> Model for Sheet<'a> {
@@ -62,17 +67,42 @@ impl<'a> Sheet<'a> {
             level: 0,
             levels: ArrayVec::new(),
             motions: 0,
+            failed: false,
         }
     }
 
-    /// Takes the next motion, and puts the lines that it closes.
+    /// Takes the next motion, and puts the lines that it closes. After a fault each later call
+    /// answers `WriteFault`, whatever the sink, and puts nothing.
     pub fn motion<W: Sink>(&mut self, motion: Motion, sink: &mut W) -> Result<(), WriteFault>
+        requires few { self.old.motions < MOST_BUDGET }
+        requires outs { length self.old.levels + outs_of motion ≤ 31 }
+        ensures unfailed { OnOk result (StaysUnfailed self.old self.new) }
+        ensures ok { OnOk result (PutsMotion W.Sink sink.old sink.new self.old motion self.new) }
+        ensures motions { OnOk result (self.new.motions ≡ self.old.motions + 1) }
+        ensures levels { OnOk result
+            (length self.new.levels ≡ length self.old.levels + outs_of motion) }
+        ensures failed { OnErr result (self.new.failed ≡ true) }
+        ensures kept { OnErr result (KeepsCounts self.old self.new) }
+        ensures err { OnErr result (OnUnfailed self.old sink.old sink.new
+            (FailsInMotion W.Sink sink.old sink.new self.old motion)) }
+    {
+        if self.failed {
+            return Err(WriteFault);
+        }
+        let put = self.put_motion(motion, sink);
+        self.failed = put.is_err();
+        put
+    }
+
+    /// Takes the next motion of a sheet that has not failed.
+    fn put_motion<W: Sink>(&mut self, motion: Motion, sink: &mut W) -> Result<(), WriteFault>
         requires few { self.old.motions < MOST_BUDGET }
         requires outs { length self.old.levels + outs_of motion ≤ 31 }
         ensures ok { OnOk result (PutsMotion W.Sink sink.old sink.new self.old motion self.new) }
         ensures motions { OnOk result (self.new.motions ≡ self.old.motions + 1) }
         ensures levels { OnOk result
             (length self.new.levels ≡ length self.old.levels + outs_of motion) }
+        ensures kept { OnErr result (KeepsCounts self.old self.new) }
         ensures err { OnErr result (FailsInMotion W.Sink sink.old sink.new self.old motion) }
     {
         let line = self.line_for(motion, sink)?;
@@ -96,8 +126,7 @@ impl<'a> Sheet<'a> {
         ensures ok { IfOk result (λ line. PutsBefore W.Sink sink.old sink.new self.old motion
             (record self.new { growing = Some (move_line_of line false) })) }
         ensures units { IfOk result (λ line. line.units ≤ self.old.motions) }
-        ensures motions { OnOk result (self.new.motions ≡ self.old.motions) }
-        ensures levels { OnOk result (self.new.levels ≡ self.old.levels) }
+        ensures kept { KeepsCounts self.old self.new }
         ensures err { OnErr result (FailsInMotion W.Sink sink.old sink.new self.old motion) }
     {
         let Some(line) = self.growing else {
@@ -113,15 +142,21 @@ impl<'a> Sheet<'a> {
         Ok(GrowingLine::before(motion))
     }
 
-    /// Closes the sheet: puts the growing line, the levels and how the run closed.
+    /// Closes the sheet: puts the growing line, the levels and how the run closed; nothing, and
+    /// `WriteFault`, where it has failed.
     pub fn close<W: Sink>(
         self,
         closing: Closing,
         steps: u64,
         sink: &mut W,
     ) -> Result<(), WriteFault>
-        ensures { Puts W.Sink sink.old sink.new (still self.entry [] steps closing) result }
+        ensures unfailed { OnOk result (self.entry.failed ≡ false) }
+        ensures end { OnUnfailed self.entry sink.old sink.new
+            (Puts W.Sink sink.old sink.new (still self.entry [] steps closing) result) }
     {
+        if self.failed {
+            return Err(WriteFault);
+        }
         self.put_growing(sink)?;
         put_levels(self.levels.as_slice(), sink)?;
         put_closing(closing, steps, sink)

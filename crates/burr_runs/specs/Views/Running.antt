@@ -1,5 +1,5 @@
 -- A run and its sheet, both under way.
-use Rattle.std.specs.Prelude.{◌≡◌, ◌<◌, ◌≤◌, ◌+◌, ◌-◌, ◌++◌, ◌⊎◌, ℕ, ℤ, List, [], ◌∷◌, length, None}
+use Rattle.std.specs.Prelude.{◌≡◌, ◌<◌, ◌≤◌, ◌+◌, ◌-◌, ◌++◌, ◌⊎◌, ℕ, ℤ, List, [], ◌∷◌, length, None, false}
 use Rattle.burr_io.specs.Sink.{SinkView, Takes, FailsWithin}
 use Rattle.burr_assembly.specs.Rules.Text.{Assembly}
 use Rattle.burr_state.specs.declared.mode.Mode.TheVariants.{Running, Ended}
@@ -61,6 +61,7 @@ pub record IsInStep (b : Benched) (u : UnderWay) : Type 0 where
   pub motions : u.motions ≤ b.state.steps
   -- so many parts more as there were outs
   pub outs : length u.levels + 1 ≡ parts b.state.places
+  pub unfailed : u.failed ≡ false
 
 -- a run goes on with the same program and assembly, bench and sheet in step
 pub record GoesWith {S : Type 0} (sink : SinkView S) (before after : S) (p q : RunState)

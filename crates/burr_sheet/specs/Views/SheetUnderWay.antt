@@ -1,5 +1,5 @@
 -- A sheet under way: its motions come one at a time, and what they close is written at once.
-use Rattle.std.specs.Prelude.{◌≡◌, ℕ, ◌+◌, ◌≤◌, ◌==◌, ◌&&◌, List, [], ◌∷◌, ◌++◌, Bool, Option, Some, None, MatchOption, if◌then◌else◌}
+use Rattle.std.specs.Prelude.{◌≡◌, ℕ, ◌+◌, ◌≤◌, ◌==◌, ◌&&◌, List, [], ◌∷◌, ◌++◌, Bool, true, false, Option, Some, None, MatchOption, if◌then◌else◌}
 use Rattle.burr_io.specs.Sink.{SinkView, Takes, FailsWithin}
 use Rattle.burr_voxels.specs.Grid.{number_of}
 use Rattle.burr_code.specs.declared.limits.TheConstants.{MOST_BUDGET}
@@ -22,6 +22,8 @@ pub record UnderWay : Type 0 where
   pub levels : List ℕ
   -- how many motions have come
   pub motions : ℕ
+  -- a sink has failed
+  pub failed : Bool
 
 -- a sheet to which no motion has come
 abbrev pub blank : List (List ℕ) → UnderWay
@@ -32,6 +34,7 @@ blank names = record {
   level = 0;
   levels = [];
   motions = 0;
+  failed = false;
 }
 
 -- the growing line and the first of those that follow are one
@@ -79,6 +82,19 @@ abbrev pub FailsInMotion : {S : Type 0} → SinkView S → S → S → UnderWay 
 FailsInMotion sink before after old motion =
     (motions : List Motion) (steps : ℕ) (closing : Closing)
     → FailsWithin sink before after (still old (motion ∷ motions) steps closing)
+
+-- the sheet had not failed, and has not failed now
+abbrev pub StaysUnfailed : UnderWay → UnderWay → Type 0
+StaysUnfailed old new = (old.failed ≡ false) × (new.failed ≡ false)
+
+-- a sheet that had failed leaves the sink as it is; of another one this holds
+abbrev pub OnUnfailed : {S : Type 0} → UnderWay → S → S → Type 0 → Type 0
+OnUnfailed old before after told =
+    ((old.failed ≡ true) → after ≡ before) × ((old.failed ≡ false) → told)
+
+-- the counts of motions and outs are as they were
+abbrev pub KeepsCounts : UnderWay → UnderWay → Type 0
+KeepsCounts old new = (new.motions ≡ old.motions) × (new.levels ≡ old.levels)
 
 -- Whatever follows, these bytes are closed before the motion goes on the growing line.
 abbrev pub ClosesBefore : UnderWay → Motion → UnderWay → List ℕ → Type 0

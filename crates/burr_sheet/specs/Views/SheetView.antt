@@ -20,4 +20,5 @@ under_way s = record {
   level = s.level;
   levels = s.levels.items;
   motions = s.motions;
+  failed = s.failed;
 }

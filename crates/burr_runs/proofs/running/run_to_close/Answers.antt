@@ -3,6 +3,7 @@ use Rattle.std.proofs.KnownBytes.{Appends-nil}
 use Rattle.burr_state.specs.Rules.Bench.{Program}
 use Rattle.burr_state.specs.Rules.Run.{ends, stops}
 use Rattle.burr_state.specs.declared.closing.Closing.TheVariants as closings
+use Rattle.burr_sheet.specs.Views.SheetUnderWay.{UnderWay}
 use Rattle.burr_runs.specs.declared.running.Turn.{Turn}
 use Rattle.burr_runs.specs.Rules.Output.{outcome_of}
 use Rattle.burr_runs.specs.Views.Running.{TurnIs, run_state}
@@ -68,3 +69,17 @@ loop-answers-preserved g c =
       come_further (g.R.Runner.bench c.args.runner.now) now new c.args.answers.now c.loop-answers.answers.now c.in-GoesOn.left.now c.loop-answers.invariant.1 stands,
       parts_join g.W.Sink (run_state (g.R.Runner.bench c.args.runner.now) c.args.answers.now c.args.sheet.now) here (run_state new c.in-GoesOn.left.now c.take_turn.new.sheet) _ _ _ c.loop-answers.invariant.2 turn.0.puts,
     )
+
+pub returns-then-ended-clause-unfailed : goal.returns-then-ended-clause-unfailed
+returns-then-ended-clause-unfailed g c = c.loop-answers.invariant.0.unfailed
+
+pub returns-then-steps-budget-clause-unfailed : goal.returns-then-steps-budget-clause-unfailed
+returns-then-steps-budget-clause-unfailed g c = c.loop-answers.invariant.0.unfailed
+
+pub returns-in-Closes-clause-unfailed : goal.returns-in-Closes-clause-unfailed
+returns-in-Closes-clause-unfailed g c =
+    let now = g.R.Runner.bench c.loop-answers.runner in
+    let new = g.R.Runner.bench c.take_turn.new.runner in
+    let here = run_state now c.loop-answers.answers.now c.loop-answers.sheet in
+    let turn = subst (λ (t : Turn). TurnIs g.W.Sink c.loop-answers.sink c.take_turn.new.sink here new c.take_turn.new.sheet t) c.in-Closes.is c.in_ok-left.ensures.ok in
+    ap (λ (u : UnderWay). u.failed) turn.1 ∙ c.loop-answers.invariant.0.unfailed

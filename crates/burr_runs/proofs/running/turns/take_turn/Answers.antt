@@ -70,7 +70,7 @@ returns-in_ok-motion-in-Ok-Went-Some-clause-ok g c =
     let step = leads_from (setup_of b) b.state (Goes new.state (Some motion)) c.requires.running next in
     let under = under_way b new c.args.sheet.now c.requires.in_step c.requires.running c.requires.within step same in (
       record {
-        in_step = in_step_motion b new c.args.sheet.now c.motion.new.self motion c.requires.in_step same under on (c.in_ok-motion-in-Ok-Went-Some.ensures.motions, c.in_ok-motion-in-Ok-Went-Some.ensures.levels);
+        in_step = in_step_motion b new c.args.sheet.now c.motion.new.self motion c.requires.in_step same under on (c.in_ok-motion-in-Ok-Went-Some.ensures.motions, c.in_ok-motion-in-Ok-Went-Some.ensures.levels) c.in_ok-motion-in-Ok-Went-Some.ensures.unfailed.1;
         same = same;
         puts = (
           puts.0,
@@ -94,7 +94,7 @@ returns-in_err-motion-in-Ok-Went-Some-clause-err g c =
     let under = under_way b new c.args.sheet.now c.requires.in_step c.requires.running c.requires.within step same in
     on_err c.from_residual.result
     (fails_at_motion g.W.Sink b new c.args.answers.now c.args.sheet.now motion c.args.sink.now c.motion.new.sink c.requires.in_step
-    (record { running = c.requires.running; within = c.requires.within }) next same under.0 c.in_err-motion-in-Ok-Went-Some.ensures.err)
+    (record { running = c.requires.running; within = c.requires.within }) next same under.0 (c.in_err-motion-in-Ok-Went-Some.ensures.err.1 c.requires.in_step.unfailed))
 
 pub returns-in-Err-clause-stands : goal.returns-in-Err-clause-stands
 returns-in-Err-clause-stands g c =

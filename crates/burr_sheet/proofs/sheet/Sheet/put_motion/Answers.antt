@@ -3,8 +3,8 @@ use Rattle.burr_sheet.specs.Views.SheetUnderWay.{UnderWay, move_line_of}
 use Rattle.burr_sheet.specs.Views.SheetView.{under_way}
 use Rattle.burr_text.proofs.Common.Tests.{on_err}
 use Rattle.burr_sheet.proofs.Motions.{PutsMotion-step, PutsMotion-out, FailsInMotion-out}
-use Rattle.burr_sheet.proofs.sheet.Sheet.motion.Goals as goal
-use Rattle.burr_sheet.proofs.sheet.Sheet.motion.Goals.{then-motion+in_ok-put_line, else-motion}
+use Rattle.burr_sheet.proofs.sheet.Sheet.put_motion.Goals as goal
+use Rattle.burr_sheet.proofs.sheet.Sheet.put_motion.Goals.{then-motion+in_ok-put_line, else-motion}
 
 pub returns-in_err-put_line-clause-err : goal.returns-in_err-put_line-clause-err
 returns-in_err-put_line-clause-err g c =
