@@ -55,8 +55,8 @@ unread_given : (number : ℕ → ℕ) (place : ℕ) (f : Front) (b : Beginning) 
     → with_line place b (Unread word) ≡ Err (missing (misses f word), place)
 unread_given number place AwaitsPlan Blank word is = refl
 unread_given number place (AwaitsMain o) (Titled title) word is = refl
-unread_given number place (InProcedure o r s) (Within u t) word is =
-    unread_within number place r s u t word is.1
+unread_given number place (InProcedure w) (Within u t) word is =
+    unread_within number place w.routine w.stage u t word is.1
 unread_given number place f b word is = absurd is
 
 -- What is answered where a line is of no form.

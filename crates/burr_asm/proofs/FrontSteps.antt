@@ -7,7 +7,7 @@ use Rattle.burr_plantext.specs.Rules.Meaning.{procedure_names}
 use Rattle.burr_plantext.specs.Rules.Texts.{Reads}
 use Rattle.burr_plantext.specs.Rules.Checks.{FaultKind, P1, is_of_version, head_check, has_code, title_check}
 use Rattle.burr_plantext.specs.Rules.Faults as faults
-use Rattle.burr_plantext.specs.Rules.Faults.{Beginning, Blank, Titled, Within, OpenProcedure, PlacedFault, open_procedure, judged, needing, ended_with, at_label, in_code, with_line}
+use Rattle.burr_plantext.specs.Rules.Faults.{Beginning, Blank, Titled, Within, within, OpenProcedure, PlacedFault, LineResult, open_procedure, judged, needing, ended_with, at_label, in_code, with_line}
 use Rattle.burr_asm.specs.declared.fault.AsmFault.{AsmFault}
 use Rattle.burr_asm.specs.declared.fault.AsmFault.TheVariants as fault
 use Rattle.burr_asm.specs.declared.text.line.LineForm.{LineForm}
@@ -18,14 +18,15 @@ use Rattle.burr_asm.specs.declared.text.stage.Stage.{Stage}
 use Rattle.burr_asm.specs.declared.text.stage.Stage.TheVariants as stage
 use Rattle.burr_asm.specs.declared.text.front.Front.{Front}
 use Rattle.burr_asm.specs.declared.text.front.Front.TheVariants.{AwaitsPlan, AwaitsMain, InProcedure}
+use Rattle.burr_asm.specs.declared.text.front.UnderWay.{UnderWay}
 use Rattle.burr_asm.specs.Views.LineWords.{line_words, plan_words}
 use Rattle.burr_asm.specs.Views.Exits.{IsSignature}
 use Rattle.burr_asm.specs.Rules.Faults.{fault_at}
 use Rattle.burr_asm.specs.Views.Faults.{IsRefusal}
 use Rattle.burr_asm.specs.Views.Routines.{RoutineParts, OutlineParts, begun, ends_with_label, head_refusal, with_name, with_routine, IsLabelAtEnd, titled_outline}
 use Rattle.burr_asm.specs.Views.Beginnings.{AfterFrame, BeforeLabels}
-use Rattle.burr_asm.specs.Views.Fronts.{IsOutline, IsUnderWay, IsFront, IsFaultOf, IsNext, names_begun, start_of}
-use Rattle.burr_asm.specs.Views.Steps.{GivesStage}
+use Rattle.burr_asm.specs.Views.Fronts.{IsOutline, IsUnderWay, IsFront, IsFaultOf, IsNext, names_begun, start_of, in_procedure, within_one}
+use Rattle.burr_asm.specs.Views.Steps.{GivesStage, changed}
 use Rattle.burr_asm.specs.Views.FrontSteps.{BeginsMain, NextProcedure, GivesWithin, GivesFront}
 use Rattle.burr_asm.proofs.FrontHeads.{head_same, outline_titled, outline_begun, outline_ended, lines_more, routine_begun}
 use Rattle.burr_asm.proofs.FrontBlocks.{ends_with_block}
@@ -123,7 +124,7 @@ main_refused o h n t e told so refused = λ number title at is.
 -- Main has begun.
 pub main_begun : (o new : OutlineParts) (h : ProcedureWords) (r : RoutineParts) (n : ℕ) (t : Bool)
     → t ≡ is_of_version o.version h.results → t ≡ true → HasBegun o h r new
-    → BeginsMain o h n (Ok (InProcedure new r stage.AwaitsLabel))
+    → BeginsMain o h n (Ok (in_procedure new r stage.AwaitsLabel))
 main_begun o new h r n t told so has = λ number title at is.
     let next = main_open title h in (
       next,
@@ -241,7 +242,7 @@ next_refused o with_ended r h n t e told so ends same refused = λ number place 
 pub next_begun : (o with_ended new : OutlineParts) (r after : RoutineParts) (h : ProcedureWords)
     (n : ℕ) (t : Bool) → t ≡ is_of_version o.version h.results → t ≡ true
     → ends_with_label r ≡ false → with_ended ≡ with_routine o r → HasBegun with_ended h after new
-    → NextProcedure o r h n (Ok (InProcedure new after stage.AwaitsExit))
+    → NextProcedure o r h n (Ok (in_procedure new after stage.AwaitsExit))
 next_begun o with_ended new r after h n t told so ends same has = λ number place u exit blocks b at is.
     let before = ended_with u exit blocks b in
     let next = next_open u exit blocks b h in
@@ -263,7 +264,7 @@ next_begun o with_ended new r after h n t told so ends same has = λ number plac
 -- A line that leaves the procedure under way: the stage and what the code has of it.
 pub stage_goes_on : (o : OutlineParts) (old new : RoutineParts) (s after : Stage) (pieces : ℕ)
     (line : Line) (n : ℕ) → pieces ≡ o.pieces → GivesStage s old pieces line n new (Ok after)
-    → GivesWithin o old s line n (Ok (InProcedure o new after))
+    → GivesWithin o old s line n (Ok (in_procedure o new after))
 stage_goes_on o old new s after pieces line n count gives = λ number place u t at is.
     let next = gives number place u t (count ∙ is.0.pieces_are) at is.1 in
     (Within u next.0, next.1, (is.0, next.2))
@@ -273,6 +274,43 @@ pub stage_refused : (o : OutlineParts) (old new : RoutineParts) (s : Stage) (pie
     → GivesStage s old pieces line n new (Err e) → GivesWithin o old s line n (Err e)
 stage_refused o old new s pieces line n e count gives = λ number place u t at is.
     gives number place u t (count ∙ is.0.pieces_are) at is.1
+
+-- the same in place
+pub stage_changed : (w new : UnderWay) (pieces : ℕ) (line : Line) (n : ℕ)
+    (result : Result (Unit {0}) AsmFault) → pieces ≡ w.outline.pieces → new.outline ≡ w.outline
+    → GivesStage w.stage w.routine pieces line n new.routine (changed new.stage result)
+    → GivesWithin w.outline w.routine w.stage line n (changed (InProcedure new) result)
+stage_changed w new pieces line n (Ok done) count same gives =
+    subst (λ (o : OutlineParts). GivesWithin w.outline w.routine w.stage line n (Ok (in_procedure o new.routine new.stage)))
+    (sym same)
+    (stage_goes_on w.outline w.routine new.routine w.stage new.stage pieces line n count gives)
+stage_changed w new pieces line n (Err e) count same gives =
+    stage_refused w.outline w.routine new.routine w.stage pieces line n e count gives
+
+-- after a frame only a procedure's line is another one's
+one_within : (place : ℕ) (u : OpenProcedure) (t : faults.Stage) (l : LineForm)
+    → ((words : ProcedureParts) → l ≡ form.Procedure words → ⊥)
+    → within_one place u t (line_words l) ≡ within place u t (Reads (line_words l))
+one_within place u (faults.InCode exit blocks b) (form.Procedure words) other =
+    absurd (other words refl)
+one_within place u t l other = refl
+
+-- a line that begins no procedure, within one
+pub goes_on_within : (f : Front) (w : UnderWay) (l : LineForm) (n : ℕ) (result : Result Front AsmFault)
+    → f ≡ InProcedure w → ((words : ProcedureParts) → l ≡ form.Procedure words → ⊥)
+    → GivesWithin w.outline w.routine w.stage (line_words l) n result
+    → GivesFront f (line_words l) n result
+goes_on_within f w l n result is other gives = λ number place b at h.
+    by number place b at (subst (λ (f : Front). IsFront number place f b) is h)
+  where
+    by : (number : ℕ → ℕ) (place : ℕ) (b : Beginning) → n ≡ number place
+        → IsFront number place (InProcedure w) b
+        → IsNext number place (with_line place b (Reads (line_words l))) result
+    by number place Blank at h = absurd h
+    by number place (Titled title) at h = absurd h
+    by number place (Within u t) at h =
+        subst (λ (given : LineResult). IsNext number place given result) (one_within place u t l other)
+        (gives number place u t at h)
 
 -- Fronts
 

@@ -17,7 +17,7 @@ use Rattle.burr_asm.specs.declared.text.front.Front.TheVariants.{AwaitsPlan, Awa
 use Rattle.burr_asm.specs.Views.Faults.{IsUnknown}
 use Rattle.burr_asm.specs.Views.Routines.{RoutineParts, OutlineParts, IsLabelAtEnd, ends_with_label, plan_of_outline, unknown_line, with_routine}
 use Rattle.burr_asm.specs.Views.Beginnings.{AfterFrame, IsStage}
-use Rattle.burr_asm.specs.Views.Fronts.{IsFaultOf, IsFront, IsOutline, IsPlanOf, ending, names_begun, start_of}
+use Rattle.burr_asm.specs.Views.Fronts.{IsFaultOf, IsFront, IsOutline, IsPlanOf, ending, in_procedure, names_begun, start_of}
 use Rattle.burr_asm.specs.Views.Steps.{EndsStage}
 use Rattle.burr_asm.proofs.Finishing.{resolved_is, source_of}
 use Rattle.burr_asm.proofs.FrontBlocks.{ends_with_block}
@@ -27,7 +27,7 @@ use Rattle.burr_asm.proofs.FrontHeads.{outline_ended}
 abbrev pub has_procedure : Front → Bool
 has_procedure AwaitsPlan = false
 has_procedure (AwaitsMain o) = false
-has_procedure (InProcedure o r stage) = true
+has_procedure (InProcedure w) = true
 
 -- after a frame the code and the rules are there both
 pub after_frame : (number : ℕ → ℕ) (place : ℕ) (u : OpenProcedure) (r : RoutineParts) (stage : Stage) (exit : Option ExitSource) (blocks : List Block) (b : Block)
@@ -45,7 +45,7 @@ abbrev then_named : Result PlanSource PlacedFault → Result PlanSource PlacedFa
 then_named given = and_next given (λ s. with_known_names s (first_true (unknown_names s)))
 
 -- The text may not end in this stage.
-pub stage_fails : (number : ℕ → ℕ) (place n : ℕ) (o : OutlineParts) (r : RoutineParts) (stage : Stage) (b : Beginning) (e : AsmFault) → n ≡ number place → IsFront number place (InProcedure o r stage) b
+pub stage_fails : (number : ℕ → ℕ) (place n : ℕ) (o : OutlineParts) (r : RoutineParts) (stage : Stage) (b : Beginning) (e : AsmFault) → n ≡ number place → IsFront number place (in_procedure o r stage) b
     → EndsStage {A = Unit {0}} stage n (Err e) → IsFaultOf number (ending place b) e
 stage_fails number place n o r stage Blank e is h ends = absurd h
 stage_fails number place n o r stage (Titled title) e is h ends = absurd h
@@ -80,8 +80,8 @@ module _ (number : ℕ → ℕ) (place : ℕ) (o : OutlineParts) (r : RoutinePar
       (sym (ap ending_if (has_code_is false ends)))
       (resolved_is number whole u.title ps (subst (λ (w : OutlineParts). IsOutline number w u.title ps (procedure_names ps)) (sym is) outline) result told)
 
-module _ (number : ℕ → ℕ) (place n : ℕ) (f : Front) (o : OutlineParts) (r : RoutineParts) (stage : Stage) (b : Beginning) (same : f ≡ InProcedure o r stage) (is : n ≡ number place) (h : IsFront number place f b) where
-  front_is : IsFront number place (InProcedure o r stage) b
+module _ (number : ℕ → ℕ) (place n : ℕ) (f : Front) (o : OutlineParts) (r : RoutineParts) (stage : Stage) (b : Beginning) (same : f ≡ in_procedure o r stage) (is : n ≡ number place) (h : IsFront number place f b) where
+  front_is : IsFront number place (in_procedure o r stage) b
   front_is = subst (λ (g : Front). IsFront number place g b) same h
 
   -- the text may not end in this stage
@@ -92,7 +92,7 @@ module _ (number : ℕ → ℕ) (place n : ℕ) (f : Front) (o : OutlineParts) (
   pub ends_with_bare_label : (e : AsmFault) (result : Result Plan AsmFault) (done : Unit {0}) → result ≡ Err e → EndsStage {A = Unit {0}} stage n (Ok done) → IsLabelAtEnd r e → IsPlanOf number (ending place b) result
   ends_with_bare_label e result done err ends bare = subst (λ (r : Result Plan AsmFault). IsPlanOf number (ending place b) r) (sym err) (by b front_is)
     where
-      by : (b : Beginning) → IsFront number place (InProcedure o r stage) b → IsFaultOf number (ending place b) e
+      by : (b : Beginning) → IsFront number place (in_procedure o r stage) b → IsFaultOf number (ending place b) e
       by Blank h = absurd h
       by (Titled title) h = absurd h
       by (Within u t) h =
@@ -105,7 +105,7 @@ module _ (number : ℕ → ℕ) (place n : ℕ) (f : Front) (o : OutlineParts) (
       → MatchResult result (λ plan. (unknown_line whole ≡ None) × (plan ≡ plan_of_outline whole)) (IsUnknown (unknown_line whole)) → IsPlanOf number (ending place b) result
   ends_well whole result done ends full more told = by b front_is
     where
-      by : (b : Beginning) → IsFront number place (InProcedure o r stage) b → IsPlanOf number (ending place b) result
+      by : (b : Beginning) → IsFront number place (in_procedure o r stage) b → IsPlanOf number (ending place b) result
       by Blank h = absurd h
       by (Titled title) h = absurd h
       by (Within u t) h =
@@ -121,7 +121,7 @@ ends_before number place n AwaitsPlan (Within u t) none is h = absurd h
 ends_before number place n (AwaitsMain o) Blank none is h = absurd h
 ends_before number place n (AwaitsMain o) (Titled title) none is h = inr ((P1, place), refl, ap fault.P1 is)
 ends_before number place n (AwaitsMain o) (Within u t) none is h = absurd h
-ends_before number place n (InProcedure o r stage) b none is h = absurd (never none)
+ends_before number place n (InProcedure w) b none is h = absurd (never none)
   where
     never : true ≡ false → ⊥
     never e = cc

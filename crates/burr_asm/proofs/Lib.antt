@@ -25,7 +25,11 @@ pub mod Sets
 pub mod SlotRanges
 pub mod StageLabels
 pub mod StagePlaces
-pub mod StageSteps
+pub mod StageCode
+pub mod StageEnds
+pub mod StageExits
+pub mod StageFrames
+pub mod StageLines
 pub mod StatementBytes
 pub mod UnknownNames
 pub mod Words

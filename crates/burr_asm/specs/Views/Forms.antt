@@ -1,5 +1,5 @@
 -- Forms that the code cuts into the words of their constant and of their terms.
-use Rattle.std.specs.Prelude.{◌≡◌, ◌<◌, ℕ, List, [], ◌∷◌, length, drop, slice_index, slice_index_or, Option, MatchOption, Bool, true, false, not, ◌&&◌, ◌||◌, ◌==◌, nat_le, IsTrue}
+use Rattle.std.specs.Prelude.{◌≡◌, ◌<◌, ◌≤◌, ℕ, List, [], ◌∷◌, length, take, drop, slice_index, slice_index_or, Option, MatchOption, Bool, true, false, not, ◌&&◌, ◌||◌, ◌==◌, nat_le, IsTrue}
 use Rattle.std.specs.Str.Parse.{starts_with_minus}
 use Rattle.burr_plantext.specs.Rules.Written.{is_sign, signed_parts, constant_word, term_words, coefficient_word, slot_word, is_term, natural_in, number_in}
 
@@ -17,6 +17,11 @@ pub record IsConstantCut (bytes word terms : List ℕ) : Type 0 where
   pub constant : word ≡ constant_word bytes
   pub others : terms_of terms ≡ term_words bytes
   pub begins : IsTrue (begins_term terms)
+
+-- the constant of a form ends after so many of the bytes
+abbrev pub IsConstantEnd : List ℕ → ℕ → Type 0
+IsConstantEnd bytes end =
+    (end ≤ length bytes) × IsConstantCut bytes (take end bytes) (drop end bytes)
 
 -- a sign, and what can stand after it: a digit that isn't `0`, or anything after a `-`
 abbrev pub begins_signed : List ℕ → Bool

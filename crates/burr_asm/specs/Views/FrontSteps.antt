@@ -20,7 +20,7 @@ use Rattle.burr_asm.specs.Views.Fronts.{IsFront, IsOutline, IsUnderWay, IsNext, 
 abbrev pub misses : Front → List ℕ → Bool
 misses AwaitsPlan word = false
 misses (AwaitsMain o) word = false
-misses (InProcedure o r stage) word = misses_part stage word
+misses (InProcedure u) word = misses_part u.stage word
 
 -- A line with its end: one that is skipped changes nothing.
 abbrev pub GivesNext : Front → List ℕ → ℕ → Result Front AsmFault → Type 0

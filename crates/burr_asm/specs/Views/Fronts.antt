@@ -47,13 +47,17 @@ IsUnderWay number place o r stage u t =
     IsOutline number o u.title u.ended (names_begun u)
     × IsStage number place (start_of u) u.title.version r u.head stage t
 
+-- a procedure under way, in its plan
+abbrev pub in_procedure : OutlineParts → RoutineParts → Stage → Front
+in_procedure o r stage = InProcedure (record { outline = o; routine = r; stage = stage })
+
 -- What the code has read before a place is this beginning.
 abbrev pub IsFront : (ℕ → ℕ) → ℕ → Front → Beginning → Type 0
 IsFront number place AwaitsPlan Blank = place ≡ 0
 IsFront number place (AwaitsMain o) (Titled title) =
     IsOutline number o title [] [] × (place ≡ 1)
-IsFront number place (InProcedure o r stage) (Within u t) =
-    IsUnderWay number place o r stage u t
+IsFront number place (InProcedure w) (Within u t) =
+    IsUnderWay number place w.outline w.routine w.stage u t
 IsFront number place f b = ⊥
 
 -- Results

@@ -1,5 +1,5 @@
 -- What a line more, or the end of the text, makes of a stage.
-use Rattle.std.specs.Prelude.{◌≡◌, ℕ, List, Option, codes, Bool, false, not, Result, Err, MatchResult}
+use Rattle.std.specs.Prelude.{◌≡◌, ℕ, List, Option, Some, None, codes, Bool, false, not, Result, Ok, Err, MatchResult}
 use Rattle.std.specs.Str.{bytes_eq}
 use Rattle.burr_plantext.specs.Rules.Written.{natural_in}
 use Rattle.burr_plantext.specs.Rules.Lines.{Line}
@@ -28,6 +28,17 @@ misses_part InCode word = false
 abbrev pub IsStageOf : (ℕ → ℕ) → ℕ → OpenProcedure → RoutineParts → Stage → faults.Stage → Type 0
 IsStageOf number place u r stage t =
     IsStage number place (start_of u) u.title.version r u.head stage t
+
+-- what a change in place gives: what is there after it, or the fault
+abbrev pub changed : {A U E : Type 0} → A → Result U E → Result A E
+changed now (Ok done) = Ok now
+changed now (Err e) = Err e
+
+-- the stage after a line: the next one, or this one as the line has left it; or the fault
+abbrev pub stage_after : {E : Type 0} → Stage → Result (Option Stage) E → Result Stage E
+stage_after now (Ok None) = Ok now
+stage_after now (Ok (Some next)) = Ok next
+stage_after now (Err e) = Err e
 
 -- What a line of this number gives in a plan for so many pieces.
 abbrev pub GivesStage : Stage → RoutineParts → ℕ → Line → ℕ → RoutineParts

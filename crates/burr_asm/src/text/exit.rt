@@ -20,6 +20,7 @@ use crate::version::Version;
 use burr_code::limits::MOST_GUARDS;
 use burr_container::ExitFrame;
 use std::alloc::Global;
+use std::mem::replace;
 
 /// An exit frame as far as it has been read: its results first, then its guards, then its pieces.
 #[derive(Drop)]
@@ -66,11 +67,17 @@ impl Exit {
         self.frame.places.len() == usize::from(pieces)
     }
 
-    /// What has been read.
-    pub fn into_frame(self) -> ExitFrame
-        ensures { result ≡ self.frame }
+    /// Takes out what has been read.
+    pub fn take_frame(&mut self, alloc: Global) -> ExitFrame
+        ensures { result ≡ self.old.frame }
     {
-        self.frame
+        ExitFrame {
+            tray: self.frame.tray,
+            grip: self.frame.grip,
+            results: replace(&mut self.frame.results, Vec::new(alloc)),
+            guards: replace(&mut self.frame.guards, Vec::new(alloc)),
+            places: replace(&mut self.frame.places, Vec::new(alloc)),
+        }
     }
 
     /// Whether results are still due.

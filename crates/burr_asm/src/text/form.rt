@@ -6,7 +6,7 @@ ghost use Rattle.burr_code.specs.declared.limits.TheConstants.{SLOTS};
 ghost use Rattle.burr_plantext.specs.Rules.Written.{constant_word, form_in, is_form, is_form_over};
 ghost use Rattle.burr_plantext.specs.Rules.Written.{is_number, is_sign, is_term};
 ghost use Rattle.burr_plantext.specs.Rules.Checks.{is_empty};
-ghost use Rattle.burr_asm.specs.Views.Forms.{IsConstantCut, IsLiveSlot, IsTermCut};
+ghost use Rattle.burr_asm.specs.Views.Forms.{IsConstantEnd, IsLiveSlot, IsTermCut};
 ghost use Rattle.burr_asm.specs.Views.Forms.{begins_signed, begins_term, terms_of};
 
 use crate::text::numbers::{coefficient, constant, slot};
@@ -18,7 +18,10 @@ use burr_text::cut_at;
 #[derive(Clone, Copy)]
 pub struct FormWord<'a> {
     bytes: &'a [u8],
+    /// How many of the bytes are the constant's.
+    constant: usize,
     ghost formed: { IsTrue (is_form bytes.now) },
+    ghost cut: { IsConstantEnd bytes.now constant },
 }
 
 /// The words of a term: its coefficient, without a `+`, and its slot.
@@ -34,8 +37,9 @@ impl<'a> FormWord<'a> {
         ensures { MatchOption result (is_form bytes.now ≡ false) (λ word.
             (is_form bytes.now ≡ true) × (word.bytes.now ≡ bytes.now)) }
     {
-        if is_form(bytes) {
-            Some(FormWord { bytes })
+        let constant = constant_end(bytes)?;
+        if are_terms(&bytes[constant..]) {
+            Some(FormWord { bytes, constant })
         } else {
             None
         }
@@ -48,7 +52,7 @@ impl<'a> FormWord<'a> {
             (is_form_over live.now self.entry.bytes.now ≡ true)
             × (form ≡ form_in self.entry.bytes.now)) }
     {
-        let (first, terms) = cut_constant(self.bytes)?;
+        let (first, terms) = self.bytes.split_at(self.constant);
         let mut coefs = [0; 8];
         let mut least = 0;
         let mut rest = terms;
@@ -58,7 +62,7 @@ impl<'a> FormWord<'a> {
             least = slot + 1;
             rest = more;
         }
-        let constant = constant(first)?;
+        let constant = constant(NumberWord::of(first))?;
         Some(PlanForm { constant, coefs })
     }
 }
@@ -72,25 +76,15 @@ fn live_slot(number: NumberWord<'_>, least: usize, live: &[bool; 8]) -> Option<u
     (least <= slot && live[slot]).then_some(slot)
 }
 
-/// Whether the bytes are of the form of a form.
-fn is_form(bytes: &[u8]) -> bool
-    ensures { result ≡ is_form bytes.now }
-{
-    match cut_constant(bytes) {
-        Some((_constant, terms)) => are_terms(terms),
-        None => false,
-    }
-}
-
-/// The constant with which bytes begin, and the terms after it.
-fn cut_constant(bytes: &[u8]) -> Option<(NumberWord<'_>, &[u8])>
-    ensures { MatchOption result (is_number (constant_word bytes.now) ≡ false) (λ found.
-        (is_number (constant_word bytes.now) ≡ true)
-        × IsConstantCut bytes.now found.0.bytes.now found.1.now) }
+/// Where the constant ends with which bytes begin.
+fn constant_end(bytes: &[u8]) -> Option<usize>
+    ensures { MatchOption result (is_number (constant_word bytes.now) ≡ false) (λ end.
+        (is_number (constant_word bytes.now) ≡ true) × IsConstantEnd bytes.now end) }
 {
     let (_first, others) = bytes.split_first()?;
-    let (constant, terms) = bytes.split_at(1 + before_sign(others));
-    Some((NumberWord::parse(constant)?, terms))
+    let end = 1 + before_sign(others);
+    NumberWord::parse(&bytes[..end])?;
+    Some(end)
 }
 
 /// How many bytes stand before the first sign, or in all where there is none.

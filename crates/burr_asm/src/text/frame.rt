@@ -28,6 +28,7 @@ use burr_code::limits::{MOST_GUARDS, MOST_OPERANDS};
 use burr_container::{Frame, PlanForm};
 use std::alloc::Global;
 use std::marker::Model;
+use std::mem::replace;
 
 /// The current tray and the grip, with which frames begin.
 #[derive(Clone, Copy)]
@@ -163,14 +164,14 @@ impl Conditions {
         add_form(&mut self.stack, MOST_OPERANDS, &live, form, line)
     }
 
-    /// A line `cost`: the frame, of which no piece has its place yet.
-    pub fn with_cost(
-        self,
+    /// A line `cost`: takes out the frame, of which no piece has its place yet.
+    pub fn take_frame(
+        &mut self,
         alloc: Global,
         form: FormWord<'_>,
         line: usize,
     ) -> Result<Frame, AsmFault>
-        ensures { (c : ConditionsSource) → AreFor self c → MatchResult result
+        ensures { (c : ConditionsSource) → AreFor self.old c → MatchResult result
             (λ frame. (cost_check c form.entry.bytes.now ≡ None)
             × (frame ≡ frame_in (costed c form.entry.bytes.now)))
             (IsRefusal (cost_check c form.entry.bytes.now) line) }
@@ -180,8 +181,8 @@ impl Conditions {
             tray: self.grip.tray,
             grip: self.grip.set,
             slots: self.slots,
-            guards: self.guards,
-            stack: self.stack,
+            guards: replace(&mut self.guards, Vec::new(alloc)),
+            stack: replace(&mut self.stack, Vec::new(alloc)),
             cost,
             places: Vec::new(alloc),
         })
@@ -254,6 +255,21 @@ fn live_slots(slots: &[Option<(i16, i16)>; 8]) -> [bool; 8]
         g.is_some(),
         h.is_some(),
     ]
+}
+
+/// Takes out a frame whose pieces all have their places.
+pub fn take_frame(alloc: Global, frame: &mut Frame) -> Frame
+    ensures { result ≡ frame.old }
+{
+    Frame {
+        tray: frame.tray,
+        grip: frame.grip,
+        slots: frame.slots,
+        guards: replace(&mut frame.guards, Vec::new(alloc)),
+        stack: replace(&mut frame.stack, Vec::new(alloc)),
+        cost: frame.cost,
+        places: replace(&mut frame.places, Vec::new(alloc)),
+    }
 }
 
 /// A line `at` of the pieces of a frame.

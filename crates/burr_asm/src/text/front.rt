@@ -4,6 +4,8 @@ ghost use Rattle.burr_asm.specs.Views.LineWords.{line_words, procedure_words};
 ghost use Rattle.burr_asm.specs.Views.FrontSteps.{BeginsMain, EndsText, GivesFault, GivesFront};
 ghost use Rattle.burr_asm.specs.Views.FrontSteps.{GivesNext, GivesUnderWay, GivesWithin};
 ghost use Rattle.burr_asm.specs.Views.FrontSteps.{misses, NextProcedure};
+ghost use Rattle.burr_asm.specs.Views.Steps.{changed};
+ghost use Rattle.burr_asm.specs.declared.text.front.Front.TheVariants.{InProcedure};
 
 use crate::fault::AsmFault;
 use crate::text::line::{LineForm, ProcedureWords};
@@ -13,6 +15,7 @@ use crate::text::stage::Stage;
 use crate::text::words::is_skipped;
 use burr_container::Plan;
 use std::alloc::Global;
+use std::mem::replace;
 
 /// What the lines so far have been, and so what may stand next.
 #[derive(Drop)]
@@ -22,22 +25,50 @@ pub enum Front<'a> {
     /// The plan's line: that of main is due.
     AwaitsMain(Outline<'a>),
     /// Lines of a procedure that has not ended, after procedures that have.
-    InProcedure(Outline<'a>, Routine<'a>, Stage),
+    InProcedure(UnderWay<'a>),
+}
+
+/// A procedure that has not ended, in its plan.
+#[derive(Drop)]
+pub struct UnderWay<'a> {
+    outline: Outline<'a>,
+    routine: Routine<'a>,
+    stage: Stage,
 }
 
 impl<'a> Front<'a> {
-    /// What the lines have been with the next one, which is given without its end; or that line's
-    /// first fault.
-    pub fn next(self, alloc: Global, bytes: &'a [u8], line: usize) -> Result<Front<'a>, AsmFault>
-        ensures { GivesNext self.entry bytes.now line result }
+    /// One more line, which is given without its end; or that line's first fault.
+    pub fn add(&mut self, alloc: Global, bytes: &'a [u8], line: usize) -> Result<(), AsmFault>
+        ensures { GivesNext self.old bytes.now line (changed self.new result) }
     {
         if is_skipped(bytes) {
-            return Ok(self);
+            return Ok(());
         }
         match LineForm::parse(bytes) {
-            Some(form) => self.with(alloc, form, line),
+            Some(form) => self.add_form(alloc, form, line),
             None => Err(self.unread(bytes, line)),
         }
+    }
+
+    /// One more line of this form.
+    fn add_form(&mut self, alloc: Global, form: LineForm<'a>, line: usize) -> Result<(), AsmFault>
+        ensures { GivesFront self.old (line_words form.entry) line (changed self.new result) }
+    {
+        match self {
+            Front::InProcedure(under_way) => match form {
+                LineForm::Procedure(_) => self.turn(alloc, form, line),
+                _ => under_way.add(alloc, form, line),
+            },
+            Front::AwaitsPlan | Front::AwaitsMain(_) => self.turn(alloc, form, line),
+        }
+    }
+
+    /// One more line of this form, with which the plan or a procedure may begin.
+    fn turn(&mut self, alloc: Global, form: LineForm<'a>, line: usize) -> Result<(), AsmFault>
+        ensures { GivesFront self.old (line_words form.entry) line (changed self.new result) }
+    {
+        *self = replace(self, Front::AwaitsPlan).with(alloc, form, line)?;
+        Ok(())
     }
 
     /// The fault of a line that is of no form, or isn't ended; it isn't skipped.
@@ -57,7 +88,7 @@ impl<'a> Front<'a> {
     {
         match self {
             Front::AwaitsPlan | Front::AwaitsMain(_) => false,
-            Front::InProcedure(_, _, stage) => stage.misses_part(bytes),
+            Front::InProcedure(under_way) => under_way.stage.misses_part(bytes),
         }
     }
 
@@ -87,9 +118,7 @@ impl<'a> Front<'a> {
                 LineForm::Procedure(words) => begin_main(alloc, outline, words, line),
                 _ => Err(AsmFault::P1 { line }),
             },
-            Front::InProcedure(outline, routine, stage) => {
-                in_procedure(alloc, outline, routine, stage, form, line)
-            }
+            Front::InProcedure(under_way) => in_procedure(alloc, under_way, form, line),
         }
     }
 
@@ -98,10 +127,7 @@ impl<'a> Front<'a> {
         ensures { EndsText self.entry line result }
     {
         match self {
-            Front::InProcedure(outline, routine, stage) => {
-                stage.end(line)?;
-                outline.end(routine)?.resolve(alloc)
-            }
+            Front::InProcedure(under_way) => under_way.finish(alloc, line),
             Front::AwaitsPlan | Front::AwaitsMain(_) => Err(AsmFault::P1 { line }),
         }
     }
@@ -120,58 +146,85 @@ fn begin_main<'a>(
         return Err(AsmFault::P1 { line });
     }
     let routine = outline.begin(alloc, words, line)?;
-    Ok(Front::InProcedure(outline, routine, Stage::AwaitsLabel))
-}
-
-/// A line `proc` after the code of a procedure, which ends here.
-fn next_procedure<'a>(
-    alloc: Global,
-    outline: Outline<'a>,
-    routine: Routine<'a>,
-    words: ProcedureWords<'a>,
-    line: usize,
-) -> Result<Front<'a>, AsmFault>
-    ensures { NextProcedure outline.entry routine.entry (procedure_words words.entry) line result }
-{
-    if !words.are_of(outline.version()) {
-        return Err(AsmFault::P1 { line });
-    }
-    let mut outline = outline.end(routine)?;
-    let routine = outline.begin(alloc, words, line)?;
-    Ok(Front::InProcedure(outline, routine, Stage::AwaitsExit))
+    let stage = Stage::AwaitsLabel;
+    Ok(Front::InProcedure(UnderWay {
+        outline,
+        routine,
+        stage,
+    }))
 }
 
 /// A line of a procedure that has not ended, or of the next one.
 fn in_procedure<'a>(
     alloc: Global,
-    outline: Outline<'a>,
-    routine: Routine<'a>,
-    stage: Stage,
+    under_way: UnderWay<'a>,
     form: LineForm<'a>,
     line: usize,
 ) -> Result<Front<'a>, AsmFault>
-    ensures { GivesUnderWay outline.entry routine.entry stage (line_words form.entry) line result }
+    ensures { let w = under_way.entry in
+        GivesUnderWay w.outline w.routine w.stage (line_words form.entry) line result }
 {
     match form {
-        LineForm::Procedure(words) => match stage {
-            Stage::InCode => next_procedure(alloc, outline, routine, words, line),
-            stage => within_procedure(alloc, outline, routine, stage, form, line),
+        LineForm::Procedure(words) => match under_way.stage {
+            Stage::InCode => next_procedure(alloc, under_way, words, line),
+            _ => within_procedure(alloc, under_way, form, line),
         },
-        _ => within_procedure(alloc, outline, routine, stage, form, line),
+        _ => within_procedure(alloc, under_way, form, line),
     }
+}
+
+/// A line `proc` after the code of a procedure, which ends here.
+fn next_procedure<'a>(
+    alloc: Global,
+    under_way: UnderWay<'a>,
+    words: ProcedureWords<'a>,
+    line: usize,
+) -> Result<Front<'a>, AsmFault>
+    ensures { let w = under_way.entry in
+        NextProcedure w.outline w.routine (procedure_words words.entry) line result }
+{
+    if !words.are_of(under_way.outline.version()) {
+        return Err(AsmFault::P1 { line });
+    }
+    let mut outline = under_way.outline.end(under_way.routine)?;
+    let routine = outline.begin(alloc, words, line)?;
+    let stage = Stage::AwaitsExit;
+    Ok(Front::InProcedure(UnderWay {
+        outline,
+        routine,
+        stage,
+    }))
 }
 
 /// A line after which the procedure has not ended.
 fn within_procedure<'a>(
     alloc: Global,
-    outline: Outline<'a>,
-    mut routine: Routine<'a>,
-    stage: Stage,
+    mut under_way: UnderWay<'a>,
     form: LineForm<'a>,
     line: usize,
 ) -> Result<Front<'a>, AsmFault>
-    ensures { GivesWithin outline.entry routine.entry stage (line_words form.entry) line result }
+    ensures { let w = under_way.entry in
+        GivesWithin w.outline w.routine w.stage (line_words form.entry) line result }
 {
-    let stage = stage.next(alloc, &mut routine, outline.pieces(), form, line)?;
-    Ok(Front::InProcedure(outline, routine, stage))
+    under_way.add(alloc, form, line)?;
+    Ok(Front::InProcedure(under_way))
+}
+
+impl<'a> UnderWay<'a> {
+    /// One more line, after which the procedure has not ended.
+    fn add(&mut self, alloc: Global, form: LineForm<'a>, line: usize) -> Result<(), AsmFault>
+        ensures { GivesWithin self.old.outline self.old.routine self.old.stage
+            (line_words form.entry) line (changed (InProcedure self.new) result) }
+    {
+        let pieces = self.outline.pieces();
+        self.stage.add(alloc, &mut self.routine, pieces, form, line)
+    }
+
+    /// The plan, where the text may end here; `line` is the one after the last.
+    fn finish(self, alloc: Global, line: usize) -> Result<Plan, AsmFault>
+        ensures { EndsText (InProcedure self.entry) line result }
+    {
+        self.stage.end(line)?;
+        self.outline.end(self.routine)?.resolve(alloc)
+    }
 }

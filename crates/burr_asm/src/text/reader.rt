@@ -17,7 +17,7 @@ pub fn read_plan(alloc: Global, text: &[u8]) -> Result<Plan, AsmFault>
         let Some((bytes, more)) = cut_at(rest, b'\n') else {
             return Err(front.unended(rest, line));
         };
-        front = front.next(alloc, bytes, line)?;
+        front.add(alloc, bytes, line)?;
         rest = more;
         line += 1;
     }

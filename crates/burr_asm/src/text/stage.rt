@@ -4,13 +4,14 @@ ghost use Rattle.burr_plantext.specs.Rules.Texts.{first_word};
 ghost use Rattle.burr_asm.specs.Views.LineWords.{line_words, piece_words};
 ghost use Rattle.burr_asm.specs.Views.Routines.{RoutineParts};
 ghost use Rattle.burr_asm.specs.Views.Steps.{misses_part, EndsStage, GivesInAny, GivesStage};
+ghost use Rattle.burr_asm.specs.Views.Steps.{changed, stage_after};
 ghost use Rattle.burr_asm.specs.declared.text.stage.Stage.TheVariants.{AwaitsExit, AwaitsFrame};
 ghost use Rattle.burr_asm.specs.declared.text.stage.Stage.TheVariants.{AwaitsLabel, AwaitsPieces};
 ghost use Rattle.burr_asm.specs.declared.text.stage.Stage.TheVariants.{InCode, InExit, InFrame};
 
 use crate::fault::AsmFault;
 use crate::text::exit::Exit;
-use crate::text::frame::{Conditions, Grip, add_piece};
+use crate::text::frame::{Conditions, Grip, add_piece, take_frame};
 use crate::text::line::{LineForm, PieceWords};
 use crate::text::procedure::Routine;
 use crate::text::statement::Statement;
@@ -62,28 +63,50 @@ impl Stage {
         }
     }
 
-    /// What the lines have been with one more of this form, which is added to the procedure; the
-    /// plan has so many pieces. After a frame no other procedure may begin.
-    pub fn next<'a>(
-        self,
+    /// One more line of this form, which is added to the procedure; the plan has so many pieces.
+    /// After a frame no other procedure may begin.
+    pub fn add<'a>(
+        &mut self,
         alloc: Global,
         routine: &mut Routine<'a>,
         pieces: u8,
         form: LineForm<'a>,
         line: usize,
-    ) -> Result<Stage, AsmFault>
+    ) -> Result<(), AsmFault>
         requires few { pieces ≤ 32 }
         requires several { 2 ≤ pieces }
         ensures { let given = line_words form.entry in
-            GivesStage self routine.old pieces given line routine.new result }
+            GivesStage self.old routine.old pieces given line routine.new
+            (changed self.new result) }
+    {
+        if let Some(next) = self.next(alloc, routine, pieces, form, line)? {
+            *self = next;
+        }
+        Ok(())
+    }
+
+    /// The stage after one more line; None where this one goes on.
+    fn next<'a>(
+        &mut self,
+        alloc: Global,
+        routine: &mut Routine<'a>,
+        pieces: u8,
+        form: LineForm<'a>,
+        line: usize,
+    ) -> Result<Option<Stage>, AsmFault>
+        requires few { pieces ≤ 32 }
+        requires several { 2 ≤ pieces }
+        ensures { let given = line_words form.entry in
+            GivesStage self.old routine.old pieces given line routine.new
+            (stage_after self.new result) }
     {
         match self {
             Stage::AwaitsExit => begins_exit(alloc, routine, pieces, form, line),
-            Stage::InExit(exit) => in_exit(routine, exit, pieces, form, line),
+            Stage::InExit(exit) => in_exit(alloc, routine, exit, pieces, form, line),
             Stage::AwaitsLabel => first_label(routine, form, line),
             Stage::AwaitsFrame => begins_frame(alloc, pieces, form, line),
             Stage::InFrame(conditions) => in_frame(alloc, conditions, form, line),
-            Stage::AwaitsPieces(frame) => in_pieces(routine, frame, pieces, form, line),
+            Stage::AwaitsPieces(frame) => in_pieces(alloc, routine, frame, pieces, form, line),
             Stage::InCode => in_code(routine, form, line),
         }
     }
@@ -96,15 +119,16 @@ fn begins_exit(
     pieces: u8,
     form: LineForm<'_>,
     line: usize,
-) -> Result<Stage, AsmFault>
+) -> Result<Option<Stage>, AsmFault>
     requires { pieces ≤ 32 }
     ensures { let given = line_words form.entry in
-        GivesStage AwaitsExit routine.now pieces given line routine.now result }
+        GivesStage AwaitsExit routine.now pieces given line routine.now
+        (stage_after AwaitsExit result) }
 {
     match form {
         LineForm::Exit(words) => {
             let grip = Grip::of(words, pieces, line)?;
-            Ok(Stage::InExit(Exit::new(alloc, routine.signature(), grip)))
+            Ok(Some(Stage::InExit(Exit::new(alloc, routine.signature(), grip))))
         }
         _ => Err(AsmFault::P1 { line }),
     }
@@ -112,22 +136,24 @@ fn begins_exit(
 
 /// A line of an exit frame, after its first.
 fn in_exit(
+    alloc: Global,
     routine: &mut Routine<'_>,
-    mut exit: Exit,
+    exit: &mut Exit,
     pieces: u8,
     form: LineForm<'_>,
     line: usize,
-) -> Result<Stage, AsmFault>
+) -> Result<Option<Stage>, AsmFault>
     requires { 2 ≤ pieces }
     ensures { let given = line_words form.entry in
-        GivesStage (InExit exit) routine.old pieces given line routine.new result }
+        GivesStage (InExit exit.old) routine.old pieces given line routine.new
+        (stage_after (InExit exit.new) result) }
 {
     exit.add(form, line)?;
     if !exit.is_whole(pieces) {
-        return Ok(Stage::InExit(exit));
+        return Ok(None);
     }
-    routine.set_exit(exit.into_frame());
-    Ok(Stage::AwaitsLabel)
+    routine.set_exit(exit.take_frame(alloc));
+    Ok(Some(Stage::AwaitsLabel))
 }
 
 /// The line of a procedure's first label.
@@ -135,13 +161,14 @@ fn first_label<'a>(
     routine: &mut Routine<'a>,
     form: LineForm<'a>,
     line: usize,
-) -> Result<Stage, AsmFault>
-    ensures { GivesInAny AwaitsLabel routine.old (line_words form.entry) line routine.new result }
+) -> Result<Option<Stage>, AsmFault>
+    ensures { GivesInAny AwaitsLabel routine.old (line_words form.entry) line routine.new
+        (stage_after AwaitsLabel result) }
 {
     match form {
         LineForm::Label(name) => {
             routine.add_label(name, line)?;
-            Ok(Stage::AwaitsFrame)
+            Ok(Some(Stage::AwaitsFrame))
         }
         _ => Err(AsmFault::P5 { line }),
     }
@@ -153,15 +180,15 @@ fn begins_frame(
     pieces: u8,
     form: LineForm<'_>,
     line: usize,
-) -> Result<Stage, AsmFault>
+) -> Result<Option<Stage>, AsmFault>
     requires { pieces ≤ 32 }
-    ensures { (r : RoutineParts)
-        → GivesStage AwaitsFrame r pieces (line_words form.entry) line r result }
+    ensures { (r : RoutineParts) → GivesStage AwaitsFrame r pieces (line_words form.entry) line r
+        (stage_after AwaitsFrame result) }
 {
     match form {
         LineForm::Frame(words) => {
             let grip = Grip::of(words, pieces, line)?;
-            Ok(Stage::InFrame(Conditions::new(alloc, grip)))
+            Ok(Some(Stage::InFrame(Conditions::new(alloc, grip))))
         }
         _ => Err(AsmFault::P5 { line }),
     }
@@ -170,54 +197,60 @@ fn begins_frame(
 /// A line of a frame, as far as its cost.
 fn in_frame(
     alloc: Global,
-    mut conditions: Conditions,
+    conditions: &mut Conditions,
     form: LineForm<'_>,
     line: usize,
-) -> Result<Stage, AsmFault>
+) -> Result<Option<Stage>, AsmFault>
     ensures { (r : RoutineParts)
-        → GivesInAny (InFrame conditions) r (line_words form.entry) line r result }
+        → GivesInAny (InFrame conditions.old) r (line_words form.entry) line r
+        (stage_after (InFrame conditions.new) result) }
 {
     if let LineForm::Cost(form) = form {
-        return Ok(Stage::AwaitsPieces(conditions.with_cost(alloc, form, line)?));
+        let frame = conditions.take_frame(alloc, form, line)?;
+        return Ok(Some(Stage::AwaitsPieces(frame)));
     }
     conditions.add(form, line)?;
-    Ok(Stage::InFrame(conditions))
+    Ok(None)
 }
 
 /// A line of a label's frame after its cost.
 fn in_pieces(
+    alloc: Global,
     routine: &mut Routine<'_>,
-    frame: Frame,
+    frame: &mut Frame,
     pieces: u8,
     form: LineForm<'_>,
     line: usize,
-) -> Result<Stage, AsmFault>
+) -> Result<Option<Stage>, AsmFault>
     ensures { let given = line_words form.entry in
-        GivesStage (AwaitsPieces frame) routine.old pieces given line routine.new result }
+        GivesStage (AwaitsPieces frame.old) routine.old pieces given line routine.new
+        (stage_after (AwaitsPieces frame.new) result) }
 {
     match form {
-        LineForm::At(words) => with_piece(routine, frame, pieces, words, line),
+        LineForm::At(words) => with_piece(alloc, routine, frame, pieces, words, line),
         _ => Err(AsmFault::P1 { line }),
     }
 }
 
 /// A line `at` of a label's frame.
 fn with_piece(
+    alloc: Global,
     routine: &mut Routine<'_>,
-    mut frame: Frame,
+    frame: &mut Frame,
     pieces: u8,
     words: PieceWords<'_>,
     line: usize,
-) -> Result<Stage, AsmFault>
+) -> Result<Option<Stage>, AsmFault>
     ensures { let given = AtLine (piece_words words.entry) in
-        GivesStage (AwaitsPieces frame) routine.old pieces given line routine.new result }
+        GivesStage (AwaitsPieces frame.old) routine.old pieces given line routine.new
+        (stage_after (AwaitsPieces frame.new) result) }
 {
-    add_piece(&mut frame, words, line)?;
+    add_piece(frame, words, line)?;
     if frame.places.len() != usize::from(pieces) {
-        return Ok(Stage::AwaitsPieces(frame));
+        return Ok(None);
     }
-    routine.add_frame(frame)?;
-    Ok(Stage::InCode)
+    routine.add_frame(take_frame(alloc, frame))?;
+    Ok(Some(Stage::InCode))
 }
 
 /// A line after a frame: code or a label.
@@ -225,20 +258,21 @@ fn in_code<'a>(
     routine: &mut Routine<'a>,
     form: LineForm<'a>,
     line: usize,
-) -> Result<Stage, AsmFault>
-    ensures { GivesInAny InCode routine.old (line_words form.entry) line routine.new result }
+) -> Result<Option<Stage>, AsmFault>
+    ensures { GivesInAny InCode routine.old (line_words form.entry) line routine.new
+        (stage_after InCode result) }
 {
     match form {
         LineForm::Code(code) => match Statement::of(code) {
             Some(statement) => {
                 routine.add_statement(statement, line)?;
-                Ok(Stage::InCode)
+                Ok(None)
             }
             None => Err(AsmFault::P3 { line }),
         },
         LineForm::Label(name) => {
             routine.add_label(name, line)?;
-            Ok(Stage::AwaitsFrame)
+            Ok(Some(Stage::AwaitsFrame))
         }
         _ => Err(AsmFault::P1 { line }),
     }

@@ -26,6 +26,14 @@ impl<'a> NumberWord<'a> {
         }
     }
 
+    /// The number that all of these bytes are known to be.
+    pub fn of(bytes: &'a [u8]) -> NumberWord<'a>
+        requires { IsTrue (is_number bytes.now) }
+        ensures { result.bytes.now ≡ bytes.now }
+    {
+        NumberWord { bytes }
+    }
+
     /// A number up to the first blank, and what stands after the blank.
     pub fn cut(bytes: &'a [u8]) -> Option<(NumberWord<'a>, &'a [u8])>
         ensures { MatchOption result (cut_word is_number (words_of bytes.now) ≡ None) (λ parts.

@@ -5,14 +5,14 @@ use Rattle.burr_asm.proofs.text.front.next_procedure.Goals as goal
 
 pub returns-then-not-are_of : goal.returns-then-not-are_of
 returns-then-not-are_of c =
-    next_of_other c.args.outline c.args.routine (procedure_words c.args.words) c.args.line c.are_of.result
+    next_of_other c.args.under_way.outline c.args.under_way.routine (procedure_words c.args.words) c.args.line c.are_of.result
     (version_told _ _ _ (procedure_words c.args.words).results c.are_of.ensures c.version.ensures) c.if-not-are_of.true
 
 pub returns-in_err-outline : goal.returns-in_err-outline
 returns-in_err-outline c =
     let p = err_from_is_err_and c.from_residual.result c.from_residual.ensures.1 in
     rw (p.1, p.2)
-    (next_at_label c.args.outline c.args.routine (procedure_words c.args.words) c.args.line c.are_of.result c.in_err-outline.field-0.0
+    (next_at_label c.args.under_way.outline c.args.under_way.routine (procedure_words c.args.words) c.args.line c.are_of.result c.in_err-outline.field-0.0
     (version_told _ _ _ (procedure_words c.args.words).results c.are_of.ensures c.version.ensures) c.if-not-are_of.false c.in_err-outline.ensures)
 
 pub returns-in_err-routine : goal.returns-in_err-routine
@@ -20,11 +20,11 @@ returns-in_err-routine c =
     let p = err_from_is_err_and c.from_residual-in_err-routine.result c.from_residual-in_err-routine.ensures.1 in
     let (ends, same) = c.in_ok-outline.ensures in
     rw (p.1, p.2)
-    (next_refused c.args.outline c.in_ok-outline.outline c.args.routine (procedure_words c.args.words) c.args.line c.are_of.result c.in_err-routine.field-0.0
+    (next_refused c.args.under_way.outline c.in_ok-outline.outline c.args.under_way.routine (procedure_words c.args.words) c.args.line c.are_of.result c.in_err-routine.field-0.0
     (version_told _ _ _ (procedure_words c.args.words).results c.are_of.ensures c.version.ensures) c.if-not-are_of.false ends same c.in_err-routine.ensures)
 
 pub returns : goal.returns
 returns c =
     let (ends, same) = c.in_ok-outline.ensures in
-    next_begun c.args.outline c.in_ok-outline.outline c.begin.new.self c.args.routine c.in_ok-routine.routine (procedure_words c.args.words) c.args.line c.are_of.result
+    next_begun c.args.under_way.outline c.in_ok-outline.outline c.begin.new.self c.args.under_way.routine c.in_ok-routine.routine (procedure_words c.args.words) c.args.line c.are_of.result
     (version_told _ _ _ (procedure_words c.args.words).results c.are_of.ensures c.version.ensures) c.if-not-are_of.false ends same c.in_ok-routine.ensures

@@ -12,15 +12,15 @@ returns-in_default c =
     let some : 0 < length c.loop-rest.rest.now = search rules in
     last_fails _ _ _ _ c.loop-rest.invariant.1 _ some c.in_default.ensures c.unended.ensures
 
-pub returns-in_err-front : goal.returns-in_err-front
-returns-in_err-front c =
+pub returns-in_err-add : goal.returns-in_err-add
+returns-in_err-add c =
     let p = err_from_is_err_and c.from_residual.result c.from_residual.ensures.1 in
-    rw (p.1, p.2) (next_fails _ _ _ _ c.loop-rest.invariant.1 _ _ _ c.in-Some.ensures c.in_err-front.ensures)
+    rw (p.1, p.2) (next_fails _ _ _ _ c.loop-rest.invariant.1 _ _ _ c.in-Some.ensures c.in_err-add.ensures)
 
 pub loop-rest-preserved : goal.loop-rest-preserved
 loop-rest-preserved c = (
   line_ends _ _ _ _ _ c.in-Some.ensures c.loop-rest.invariant.0,
-  read_on _ _ _ _ c.loop-rest.invariant.1 _ _ _ _ (omega arith) c.in-Some.ensures c.in_ok-front.ensures,
+  read_on _ _ _ _ c.loop-rest.invariant.1 _ _ _ _ (omega arith) c.in-Some.ensures c.in_ok-add.ensures,
 )
 
 pub returns : goal.returns

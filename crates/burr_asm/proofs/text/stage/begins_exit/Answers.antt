@@ -7,7 +7,7 @@ use Rattle.burr_asm.specs.declared.text.stage.Stage.TheVariants.{AwaitsExit, InE
 use Rattle.burr_asm.specs.Views.Exits.{IsSignature}
 use Rattle.burr_asm.specs.Views.LineWords.{line_words, grip_words}
 use Rattle.burr_asm.specs.Views.Steps.{GivesStage}
-use Rattle.burr_asm.proofs.StageSteps.{exit_grip_refused, exit_begun, other_exits, no_exit}
+use Rattle.burr_asm.proofs.StageExits.{exit_grip_refused, exit_begun, other_exits, no_exit}
 use Rattle.burr_asm.proofs.text.stage.begins_exit.Goals as goal
 
 pub returns-in_ok-grip-in-Exit : goal.returns-in_ok-grip-in-Exit

@@ -6,7 +6,7 @@ use Rattle.burr_asm.specs.declared.text.stage.Stage.TheVariants.{AwaitsFrame, In
 use Rattle.burr_asm.specs.Views.LineWords.{line_words, grip_words}
 use Rattle.burr_asm.specs.Views.Routines.{RoutineParts}
 use Rattle.burr_asm.specs.Views.Steps.{GivesStage}
-use Rattle.burr_asm.proofs.StageSteps.{frame_refused, frame_begun, other_begins, no_frame}
+use Rattle.burr_asm.proofs.StageFrames.{frame_refused, frame_begun, other_begins, no_frame}
 use Rattle.burr_asm.proofs.text.stage.begins_frame.Goals as goal
 
 pub returns-in_ok-grip-in-Frame : goal.returns-in_ok-grip-in-Frame

@@ -5,7 +5,7 @@ use Rattle.burr_asm.specs.declared.text.line.LineForm.{LineForm}
 use Rattle.burr_asm.specs.declared.text.stage.Stage.TheVariants.{AwaitsLabel, AwaitsFrame}
 use Rattle.burr_asm.specs.Views.LineWords.{line_words}
 use Rattle.burr_asm.specs.Views.Steps.{GivesInAny}
-use Rattle.burr_asm.proofs.StageSteps.{first_refused, first_added, other_first, no_label}
+use Rattle.burr_asm.proofs.StageCode.{first_refused, first_added, other_first, no_label}
 use Rattle.burr_asm.proofs.text.stage.first_label.Goals as goal
 
 pub returns-in_ok-add_label-in-Label : goal.returns-in_ok-add_label-in-Label

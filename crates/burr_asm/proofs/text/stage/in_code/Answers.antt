@@ -6,7 +6,7 @@ use Rattle.burr_asm.specs.declared.text.line.LineForm.{LineForm}
 use Rattle.burr_asm.specs.declared.text.stage.Stage.TheVariants.{AwaitsFrame, InCode}
 use Rattle.burr_asm.specs.Views.LineWords.{line_words, code_words}
 use Rattle.burr_asm.specs.Views.Steps.{GivesInAny}
-use Rattle.burr_asm.proofs.StageSteps.{code_out, code_refused, code_added, label_refused, label_added, other_follows, no_code_or_label}
+use Rattle.burr_asm.proofs.StageCode.{code_out, code_refused, code_added, label_refused, label_added, other_follows, no_code_or_label}
 use Rattle.burr_asm.proofs.text.stage.in_code.Goals as goal
 
 pub returns-in_err-add_label-in-Label : goal.returns-in_err-add_label-in-Label

@@ -6,27 +6,27 @@ use Rattle.burr_asm.specs.declared.text.stage.Stage.TheVariants.{InFrame, Awaits
 use Rattle.burr_asm.specs.Views.LineWords.{line_words}
 use Rattle.burr_asm.specs.Views.Routines.{RoutineParts}
 use Rattle.burr_asm.specs.Views.Steps.{GivesInAny}
-use Rattle.burr_asm.proofs.StageSteps.{cost_refused, cost_added, condition_refused, condition_added, no_cost}
+use Rattle.burr_asm.proofs.StageFrames.{cost_refused, cost_added, condition_refused, condition_added, no_cost}
 use Rattle.burr_asm.proofs.text.stage.in_frame.Goals as goal
 
 pub returns-in-Cost : goal.returns-in-Cost
 returns-in-Cost c =
-    subst (λ (f : LineForm). (r : RoutineParts) → GivesInAny (InFrame c.args.conditions) r (line_words f) c.args.line r (Ok (AwaitsPieces c.in_ok-with_cost.field-0))) (sym c.in-Cost.is)
-    (cost_added c.args.conditions c.in-Cost.form.bytes.now c.args.line c.in_ok-with_cost.field-0 c.in_ok-with_cost.ensures)
+    subst (λ (f : LineForm). (r : RoutineParts) → GivesInAny (InFrame c.args.conditions.now) r (line_words f) c.args.line r (Ok (AwaitsPieces c.in_ok-frame.frame))) (sym c.in-Cost.is)
+    (cost_added c.args.conditions.now c.in-Cost.form.bytes.now c.args.line c.in_ok-frame.frame c.in_ok-frame.ensures)
 
 pub returns : goal.returns
 returns c =
-    condition_added c.args.conditions c.add.new.self (line_words c.args.form) c.args.line
+    condition_added c.args.conditions.now c.add.new.self (line_words c.args.form) c.args.line
     (no_cost c.args.form c.in_default.not-Cost) c.in_ok-add.ensures
 
-pub returns-in_err-with_cost : goal.returns-in_err-with_cost
-returns-in_err-with_cost c =
+pub returns-in_err-frame : goal.returns-in_err-frame
+returns-in_err-frame c =
     let e = err_from_is_err_and c.from_residual.result c.from_residual.ensures.1 in
     rw (c.in-Cost.is, e.1, e.2)
-    (cost_refused c.args.conditions c.in-Cost.form.bytes.now c.args.line c.in_err-with_cost.field-0.0 c.in_err-with_cost.ensures)
+    (cost_refused c.args.conditions.now c.in-Cost.form.bytes.now c.args.line c.in_err-frame.field-0.0 c.in_err-frame.ensures)
 
 pub returns-in_err-add : goal.returns-in_err-add
 returns-in_err-add c =
     let e = err_from_is_err_and c.from_residual-in_err-add.result c.from_residual-in_err-add.ensures.1 in
     rw (e.1, e.2)
-    (condition_refused c.args.conditions (line_words c.args.form) c.args.line c.in_err-add.field-0.0 (no_cost c.args.form c.in_default.not-Cost) c.in_err-add.ensures)
+    (condition_refused c.args.conditions.now (line_words c.args.form) c.args.line c.in_err-add.field-0.0 (no_cost c.args.form c.in_default.not-Cost) c.in_err-add.ensures)

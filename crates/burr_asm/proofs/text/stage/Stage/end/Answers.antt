@@ -1,5 +1,5 @@
 -- The fault of a text that ends early is that of the rules.
-use Rattle.burr_asm.proofs.StageSteps.{ends_in_part, ends_before_part}
+use Rattle.burr_asm.proofs.StageEnds.{ends_in_part, ends_before_part}
 use Rattle.burr_asm.proofs.text.stage.Stage.end.Goals as goal
 
 pub returns-in-AwaitsExit : goal.returns-in-AwaitsExit
