@@ -10,6 +10,7 @@ use std::test::Fail;
 
 mod bench;
 mod examples;
+mod file_faults;
 mod files;
 mod memory;
 mod plans;
@@ -19,6 +20,9 @@ mod streams;
 mod transcript;
 mod traps;
 mod words;
+
+/// The most bytes of a file, and of standard input.
+const LIMIT: usize = 16_777_216;
 
 /// The words of a command line, the program's name first; a blank stands between two of them. No text
 /// is no words.

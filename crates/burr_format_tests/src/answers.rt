@@ -11,6 +11,7 @@
 //! - `places`: the same with places, after the version and the size
 //! - `size`: the version and the size of what a text is assembled to
 //! - `container`: the fault of bytes, or what `places` tells of them
+//! - `written`: the fault of bytes, or `right`
 //! - `plan`: whether the plan of two cubes is written as these bytes
 //!
 //! `unlike` stands in an answer where what was read is not written, spelled or assembled again as
@@ -19,7 +20,7 @@ use crate::container::two_cubes;
 use burr_asm::{AsmFault, assemble, list, list_with_places};
 use burr_assembly::{Assembly, piece_name};
 use burr_code::{Labels, encode, fetch};
-use burr_container::{Container, write};
+use burr_container::{Container, Plan, write};
 use burr_voxels::Cell;
 use std::alloc::{AllocError, Global};
 use std::fmt::Write;
@@ -36,7 +37,7 @@ pub fn answer(
         "labels" => add_labels(input, found),
         "assembly" | "cells" => add_assembly(alloc, kind, input, found),
         "asm" | "listing" | "places" | "size" => add_assembled(alloc, kind, input, found),
-        "container" => add_container(alloc, kind, input, found),
+        "container" | "written" => add_container(alloc, kind, input, found),
         "plan" => add_plan(alloc, input, found),
         _ => add_name(kind, input, found),
     }
@@ -156,6 +157,12 @@ fn add_container(
         Ok(container) => container,
         Err(fault) => return write!(found, "{fault:?}"),
     };
+    if !is_rewritten(alloc, &container, bytes)? {
+        return found.push_str("unlike");
+    }
+    if kind == "written" {
+        return found.push_str("right");
+    }
     let text = match kind {
         "asm" | "listing" => list(alloc, &container)?,
         _ => list_with_places(alloc, &container)?,
@@ -175,6 +182,19 @@ fn add_container(
             add_bytes(&text, found)
         }
     }
+}
+
+/// Whether the plan of a container is written as its bytes again.
+fn is_rewritten(
+    alloc: Global,
+    container: &Container<'_>,
+    bytes: &[u8],
+) -> Result<bool, AllocError> {
+    let plan = Plan::of(alloc, container)?;
+    if !plan.fits() {
+        return Ok(false);
+    }
+    Ok(write(alloc, &plan)?.as_slice() == bytes)
 }
 
 fn add_size(container: &Container<'_>, bytes: &[u8], found: &mut String) -> Result<(), AllocError> {

@@ -18,7 +18,7 @@ use results::*;
 pub use results::{ANSWERED_LIFT, ANSWERED_LIFT_PLACES, DUO_2_PLACES};
 
 /// Two cubes side by side: the first is taken aside.
-const DUO: &str = "plan duo 2 3\n\
+pub const DUO: &str = "plan duo 2 3\n\
      proc main 0\n\
      label start\n\
      frame 0 -\n\
@@ -52,7 +52,7 @@ pub const RING: &str = "plan ring 2 11\n\
      halt\n";
 
 /// A dot in a bowl: the operator says how far it is lifted.
-const CUP: &str = "plan cup 2 14\n\
+pub const CUP: &str = "plan cup 2 14\n\
      proc main 0\n\
      label start\n\
      frame 0 -\n\

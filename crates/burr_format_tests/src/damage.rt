@@ -1,6 +1,6 @@
 //! Texts and containers that are damaged at each of their places in turn.
 use crate::answers::answer;
-use crate::asm::{ANSWERED_LIFT, LIFT, RING as RING_TEXT};
+use crate::asm::{ANSWERED_LIFT, CUP as CUP_TEXT, DUO as DUO_TEXT, LIFT, RING as RING_TEXT};
 use crate::inputs::{input_of, text_of};
 use burr_testing::assemblies::{CUP, DUO, RING};
 use burr_testing::plans::{DUO_PLAN, RESULT_PLAN, RING_PLAN};
@@ -15,6 +15,12 @@ enum Want {
     Front([usize; 3]),
     /// What a front of a container lacks: C1 at its end.
     Bytes,
+    /// What a front of a plan's text lacks after each number of whole lines: `right` where it is
+    /// listed as it stands, or the fault and its line. Within a line it is P1, but P5 where that is
+    /// the fault before the line too and the line's first word is not whole.
+    Lines(&'static str),
+    /// `right`, or a fault of the container's field of the place or of a later one.
+    Field,
     /// `right`, or a fault of the line of the place or of a later one.
     After,
     /// `right`, or a fault of any line.
@@ -24,7 +30,7 @@ enum Want {
     Byte(&'static str, &'static str),
 }
 
-use Want::{After, Anywhere, Byte, Bytes, Front};
+use Want::{After, Anywhere, Byte, Bytes, Field, Front, Lines};
 
 /// The kind of an answer and what the input is made of; how many bytes are taken out from each
 /// place on, the bytes of which one is put in there, if there are any; and what is wanted then.
@@ -39,13 +45,16 @@ const OF_NO_LINE: &[u8] = b" \t\r\0\x7f\x80\xa0\xff";
 /// Bytes that have a meaning in plans.
 const OF_PLANS: &[u8] = b"\n ;01-,v";
 
-const DAMAGES: [Damage<'static>; 12] = [
+const DAMAGES: [Damage<'static>; 15] = [
     ("assembly", DUO, REST, b"", Front([5, 6, 6])),
     ("assembly", RING, REST, b"", Front([9, 15, 16])),
     ("assembly", CUP, REST, b"", Front([5, 15, 16])),
     ("container", DUO_PLAN, REST, b"", Bytes),
     ("container", RING_PLAN, REST, b"", Bytes),
     ("container", RESULT_PLAN, REST, b"", Bytes),
+    ("listing", DUO_TEXT, REST, b"", Lines(DUO_FRONTS)),
+    ("listing", RING_TEXT, REST, b"", Lines(RING_FRONTS)),
+    ("listing", CUP_TEXT, REST, b"", Lines(CUP_FRONTS)),
     ("assembly", DUO, 0, OF_NO_LINE, Byte("", "")),
     ("assembly", RING, 0, OF_NO_LINE, Byte("", "")),
     ("assembly", CUP, 0, OF_NO_LINE, Byte("", "")),
@@ -53,6 +62,20 @@ const DAMAGES: [Damage<'static>; 12] = [
     ("asm", LIFT, 1, OF_PLANS, Anywhere),
     ("asm", ANSWERED_LIFT, 1, OF_PLANS, Anywhere),
 ];
+
+/// The answers to the fronts of the plan of two cubes, the first to that of no line.
+const DUO_FRONTS: &str = "P1 1,P1 2,P5 3,P5 4,P1 5,P1 6,P1 7,P4 3,right,right";
+
+/// The same of the counted loop, whose second label is at line 11.
+const RING_FRONTS: &str = "\
+P1 1,P1 2,P5 3,P5 4,P1 5,P1 6,P1 7,P4 3,right,right,right,\
+P5 12,P1 13,P1 14,P1 15,P1 16,P4 11,right,right,right";
+
+/// The same of the question: line 21 names the label of line 24.
+const CUP_FRONTS: &str = "\
+P1 1,P1 2,P5 3,P5 4,P1 5,P1 6,P1 7,P4 3,right,right,right,right,right,\
+P5 14,P1 15,P1 16,P1 17,P1 18,P1 19,P1 20,P4 13,P2 21,P2 21,P2 21,\
+P5 25,P1 26,P1 27,P1 28,P1 29,P1 30,P1 31,P4 24,right";
 
 /// All bytes but an LF.
 fn of_lines() -> [u8; 255] {
@@ -68,12 +91,18 @@ fn of_lines() -> [u8; 255] {
     bytes
 }
 
-/// Asserts that no text but one stands for an assembly: where a byte is taken out, and where another
-/// one is put in its place.
-fn assert_only_text(rt: &impl Abort, alloc: Global, text: &'static str) -> Result<(), AllocError> {
+/// Asserts what is wanted at each place: where a byte is taken out, and where any one is put in its
+/// place.
+fn assert_bytes(
+    rt: &impl Abort,
+    alloc: Global,
+    kind: &'static str,
+    base: &'static str,
+    want: Want,
+) -> Result<(), AllocError> {
     let others = of_lines();
     for put in [b"".as_slice(), b"\n", &others] {
-        assert_damage(rt, alloc, ("assembly", text, 1, put, After))?;
+        assert_damage(rt, alloc, (kind, base, 1, put, want))?;
     }
     Ok(())
 }
@@ -88,23 +117,39 @@ fn judges_what_is_damaged(rt: HostRuntime) -> Result<(), Fail> {
 
 #[test]
 fn reads_no_second_text_of_two_cubes(rt: HostRuntime) -> Result<(), Fail> {
-    Ok(assert_only_text(&rt, rt.alloc(), DUO)?)
+    Ok(assert_bytes(&rt, rt.alloc(), "assembly", DUO, After)?)
 }
 
 #[test]
 fn reads_no_second_text_of_a_rod_in_a_ring(rt: HostRuntime) -> Result<(), Fail> {
-    Ok(assert_only_text(&rt, rt.alloc(), RING)?)
+    Ok(assert_bytes(&rt, rt.alloc(), "assembly", RING, After)?)
+}
+
+#[test]
+fn writes_each_container_again(rt: HostRuntime) -> Result<(), Fail> {
+    Ok(assert_bytes(&rt, rt.alloc(), "written", DUO_PLAN, Field)?)
 }
 
 /// Asserts what is wanted at each place. What is put in can stand at the end too.
 fn assert_damage(rt: &impl Abort, alloc: Global, damage: Damage<'_>) -> Result<(), AllocError> {
     let (kind, base, taken, _put, _want) = damage;
-    let input = input_of(alloc, kind, base, "")?;
+    let input = damaged_of(alloc, kind, base)?;
     let end = if taken == 0 { 1 } else { 0 };
     for place in 0..input.len().saturating_add(end) {
         assert_place(rt, alloc, damage, &input, place)?;
     }
     Ok(())
+}
+
+/// What is damaged: an input, or what is listed of it.
+fn damaged_of(alloc: Global, kind: &str, base: &str) -> Result<Vec<u8>, AllocError> {
+    let input = input_of(alloc, kind, base, "")?;
+    if kind != "listing" {
+        return Ok(input);
+    }
+    let mut listing = String::new(alloc);
+    answer(alloc, kind, &input, &mut listing)?;
+    Vec::from_slice(alloc, listing.as_bytes())
 }
 
 /// Asserts what is wanted at a place.
@@ -142,6 +187,8 @@ fn is_wanted(want: Want, byte: &[u8], damaged: &[u8], place: usize, found: &str)
         }
         Front(_lines) => is_fault(found, "A1 ", line),
         Bytes => is_fault(found, "C1 ", place),
+        Lines(answers) => is_of_lines(answers, front, ends, found),
+        Field => is_of_field(found, place, damaged.len()),
         After => is_sound(found, line, line_ends(damaged)),
         Anywhere => is_sound(found, 1, line_ends(damaged)),
         Byte(right, other) => match byte {
@@ -149,6 +196,38 @@ fn is_wanted(want: Want, byte: &[u8], damaged: &[u8], place: usize, found: &str)
             [byte] if byte.is_ascii_graphic() => found == other,
             _ => is_fault(found, "A1 ", line),
         },
+    }
+}
+
+/// Whether this is the answer to a front of a plan's text, in which so many lines end.
+fn is_of_lines(answers: &str, front: &[u8], ends: usize, found: &str) -> bool {
+    let answer = answers.split(',').nth(ends).unwrap_or("");
+    let text = str::from_utf8(front).unwrap_or("");
+    let begun = match text.rsplit_once('\n') {
+        Some((_whole, begun)) => begun,
+        None => text,
+    };
+    if !begun.is_empty() {
+        let is_word = begun.starts_with("label") || begun.starts_with("frame");
+        let is_due = answer.starts_with("P5") && !is_word;
+        return is_fault(
+            found,
+            if is_due { "P5 " } else { "P1 " },
+            ends.wrapping_add(1),
+        );
+    }
+    match answer.split_once(' ') {
+        Some((name, line)) => found.starts_with(name) && number_of(found) == line.parse().ok(),
+        None => answer == "right" && found == text,
+    }
+}
+
+/// Whether a container of so many bytes is right, or has a fault of the field of a place or of a later
+/// one. The fields of the plans here that may be faulty have at most four bytes.
+fn is_of_field(found: &str, place: usize, size: usize) -> bool {
+    match number_of(found) {
+        Some(at) => place < at.wrapping_add(4) && at <= size,
+        None => found == "right",
     }
 }
 

@@ -11,7 +11,9 @@ pub fn input_of(alloc: Global, kind: &str, base: &str, input: &str) -> Result<Ve
     let text = text_of(alloc, base, input)?;
     match kind {
         // a word that is no number would be the fault of a table
-        "code" | "labels" | "container" | "plan" => bytes_of(alloc, &text).ok_or(AllocError),
+        "code" | "labels" | "container" | "written" | "plan" => {
+            bytes_of(alloc, &text).ok_or(AllocError)
+        }
         _ => Vec::from_slice(alloc, text.as_bytes()),
     }
 }

@@ -1,6 +1,6 @@
 //! What a want of memory gives.
 use crate::answers::answer;
-use crate::asm::{ANSWERED_LIFT, LIFT};
+use crate::asm::{ANSWERED_LIFT, LIFT, RING, RING_PLACES};
 use crate::inputs::input_of;
 use burr_testing::assemblies::DUO;
 use burr_testing::plans::DUO_PLAN;
@@ -10,7 +10,7 @@ use std::process::Abort;
 use std::test::Fail;
 
 /// A kind of answers, what the input is made of, the input, and the answer with memory.
-const ASKED: [[&str; 4]; 7] = [
+const ASKED: [[&str; 4]; 8] = [
     ["code", "@", "22 00 00 00 02", "Ask(0, 2)"],
     ["assembly", DUO, "", "right"],
     [
@@ -22,6 +22,7 @@ const ASKED: [[&str; 4]; 7] = [
     ["asm", LIFT, "", "right"],
     ["asm", LIFT, "10 call lid", "P2 { line: 10 }"],
     ["asm", ANSWERED_LIFT, "15 result 0 2/guard 0+1v0", "right"],
+    ["places", RING, "", RING_PLACES],
     ["plan", "@", DUO_PLAN, "right"],
 ];
 

@@ -23,6 +23,14 @@ const APART: [Table; 1] = [Table {
     cases: bare::DUO_APART,
 }];
 
+/// Bare code that is tried with sinks and sources that fail, too.
+const LEVELS: [Table; 1] = [Table {
+    kind: Kind::Bare,
+    assembly: SQUARE,
+    plan: "code ?/",
+    cases: bare::FOUR_APART,
+}];
+
 /// Bare code that is tried while memory is wanting, too: the most pieces, and a fault of the text.
 const FULL: [Table; 2] = [
     Table {
@@ -319,6 +327,7 @@ fn reads_answers(rt: HostRuntime) {
 #[test]
 fn runs_bare_code(rt: HostRuntime) {
     assert_tables(&rt, rt.alloc(), How::Plainly, &APART);
+    assert_tables(&rt, rt.alloc(), How::Plainly, &LEVELS);
     assert_tables(&rt, rt.alloc(), How::Plainly, &FULL);
     assert_tables(&rt, rt.alloc(), How::Plainly, &BARE);
 }
@@ -347,12 +356,14 @@ fn judges_and_runs_plans_with_results(rt: HostRuntime) {
 #[test]
 fn puts_fronts_to_sinks_that_fail(rt: HostRuntime) {
     assert_tables(&rt, rt.alloc(), How::InFronts, &APART);
+    assert_tables(&rt, rt.alloc(), How::InFronts, &LEVELS);
     assert_tables(&rt, rt.alloc(), How::InFronts, &LIFTED);
 }
 
 #[test]
 fn reads_from_sources_that_fail(rt: HostRuntime) {
     assert_tables(&rt, rt.alloc(), How::InPortions, &APART);
+    assert_tables(&rt, rt.alloc(), How::InPortions, &LEVELS);
 }
 
 #[test]

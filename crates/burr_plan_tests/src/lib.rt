@@ -15,6 +15,8 @@ mod cases;
 #[cfg(test)]
 mod commands;
 #[cfg(test)]
+mod damage;
+#[cfg(test)]
 mod expansions;
 #[cfg(test)]
 mod looks;

@@ -2,8 +2,9 @@
 use crate::assemblies::SQUARE;
 use crate::calls::assembly_of;
 use burr_bench::{Motion, Trap};
-use burr_io::Writing;
+use burr_io::{WriteFault, Writing};
 use burr_sheet::{Closing, Sheet};
+use burr_testing::Narrow;
 use burr_testing::assemblies::DUO;
 use burr_voxels::Direction;
 use std::alloc::Global;
@@ -105,4 +106,27 @@ fn counts_levels_between_outs(rt: HostRuntime) -> Result<(), Fail> {
     let output = "1 t0 C,D +y 0 out\n2 t0 A +z 1\n3 t0 A +x 1\n4 t0 A -x 0 out\n\
         5 t1 C -x 0 out\nlevels 1.3.1\napart in 9 steps\n";
     assert_sheet(&rt, rt.alloc(), SQUARE, &motions, Closing::Apart, 9, output)
+}
+
+/// A sheet that a sink has failed puts nothing into another one.
+#[test]
+fn stays_failed(rt: HostRuntime) -> Result<(), Fail> {
+    let alloc = rt.alloc();
+    let assembly = assembly_of(&rt, alloc, DUO);
+    let mut sheet = Sheet::new(&assembly);
+    let mut narrow = Narrow::new(alloc, 3, None);
+    let away = Motion {
+        group: 1,
+        tray: 0,
+        dir: Direction::MinusX,
+        out: true,
+    };
+    let taken = sheet.motion(away, &mut Writing::new(&mut narrow));
+    assert_eq!(&rt; taken, Err(WriteFault));
+    let mut written = Vec::new(alloc);
+    let mut sink = Writing::new(&mut written);
+    let closed = sheet.close(Closing::Apart, 1, &mut sink);
+    assert_eq!(&rt; closed, Err(WriteFault));
+    assert!(&rt; written.is_empty());
+    Ok(())
 }

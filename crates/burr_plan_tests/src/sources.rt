@@ -2,6 +2,8 @@
 use crate::puts::put_bare;
 use crate::tables::Table;
 use crate::texts::{edited, lines_of};
+use burr_io::Reading;
+use burr_runs::{BenchFault, read_whole};
 use burr_testing::Portions;
 use std::alloc::Global;
 use std::io::ErrorKind;
@@ -27,6 +29,12 @@ fn assert_end(
     assert!(rt; written.as_slice() == text.as_bytes(), "{wanted}");
 }
 
+/// Whether a source's bytes are read to its end, which gives so many a call.
+fn is_read_whole(alloc: Global, bytes: &[u8], each: usize) -> Result<bool, BenchFault> {
+    let read = read_whole(alloc, &mut Reading::new(Portions::new(bytes, each)))?;
+    Ok(read.as_slice() == bytes)
+}
+
 /// Asserts what comes of a case's input from a source that gives a byte a call: a call that fails,
 /// from the first to the one that would tell the end, leaves nothing written.
 pub fn assert_portions(rt: &impl Abort, alloc: Global, table: &Table, given: &str, wanted: &str) {
@@ -38,6 +46,7 @@ pub fn assert_portions(rt: &impl Abort, alloc: Global, table: &Table, given: &st
     }
     let wanted = wanted.split_once(" | ").expect(rt, "a text");
     assert_end(rt, alloc, Portions::new(bytes, 1), wanted);
+    assert!(rt; is_read_whole(alloc, bytes, 1) == Ok(true), "{given}");
 }
 
 /// So many line ends, how many of them are given a call, whether they fail then, how that ends, and
@@ -65,4 +74,8 @@ fn tells_that_a_source_fails_or_is_too_long(rt: HostRuntime) {
         };
         assert_end(&rt, rt.alloc(), source, *wanted);
     }
+    let most = many.as_bytes().get(..16_777_216).expect(&rt, "so many");
+    let more = many.as_bytes().get(..16_777_217).expect(&rt, "so many");
+    assert!(rt; is_read_whole(rt.alloc(), most, 8192) == Ok(true));
+    assert!(rt; is_read_whole(rt.alloc(), more, 8192) == Err(BenchFault::TooLong));
 }

@@ -3,13 +3,14 @@ use std::alloc::Global;
 use std::process::Abort;
 
 /// Words that stand for a text many times.
-const MANY: [(&str, usize, &str); 6] = [
+const MANY: [(&str, usize, &str); 7] = [
     ("doubled39", 39, "02 00 02 00 04 03 00"),
     ("doubled40", 40, "02 00 02 00 04 03 00"),
     ("doubled41", 41, "02 00 02 00 04 03 00"),
     ("far", 256, "11 00"),
     ("units", 257, "11 01"),
     ("moves\n", 256, UNIT),
+    ("trays", 2048, "1300"),
 ];
 
 /// What the bench tells of a unit.

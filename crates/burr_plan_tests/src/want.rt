@@ -1,13 +1,13 @@
 //! What comes of calls while memory is wanting.
 use crate::calls::{assembly_of, cells_of, container_of};
-use crate::plans::CUP_PLAN;
+use crate::plans::{CUP_PLAN, DUO_CODE};
 use crate::puts::put_bare;
 use crate::sources::input_of;
 use crate::tables::Table;
-use crate::texts::bytes_of;
+use crate::texts::{bytes_of, edited};
 use crate::ways::{Question, answer};
 use burr_assembly::Assembly;
-use burr_blocking::{CellTables, PlainCells};
+use burr_blocking::{Blocking, CellTables, PlainCells, RowTables};
 use burr_container::Container;
 use burr_io::Writing;
 use burr_runs::{AnswersFault, StepFault, command, read_answers, upgrade};
@@ -90,14 +90,22 @@ fn question(at: (i32, i32, i32)) -> Question {
     }
 }
 
-/// What comes of the duo's tables.
+/// Whether the cubes of the duo overlap after a unit along x, and not at home.
+fn is_of_duo<B: Blocking>(tables: &B) -> bool {
+    let beside = answer(tables, &question((1, 0, 0)));
+    let at_home = answer(tables, &question((0, 0, 0)));
+    beside == Some(true) && at_home == Some(false)
+}
+
+/// What comes of the duo's tables, of both kinds.
 fn come_of_tables(alloc: Global, duo: &Assembly) -> Outcome {
-    let Ok(tables) = CellTables::build(alloc, duo) else {
+    let Ok(cells) = CellTables::build(alloc, duo) else {
         return Outcome::Want;
     };
-    let beside = answer(&tables, &question((1, 0, 0)));
-    let at_home = answer(&tables, &question((0, 0, 0)));
-    if beside == Some(true) && at_home == Some(false) {
+    let Ok(rows) = RowTables::build(alloc, duo) else {
+        return Outcome::Want;
+    };
+    if is_of_duo(&cells) && is_of_duo(&rows) {
         Outcome::Right
     } else {
         Outcome::Wrong
@@ -134,13 +142,10 @@ fn come_of_steps(alloc: Global, assembly: &Assembly, bytes: &[u8]) -> Outcome {
     }
     let mut room = [0u8; 40];
     let mut written = Cursor::new(room.as_mut_slice());
-    let mut sink = Writing::new(&mut written);
-    match (
-        command(&mut stepper, b"answer 1", &mut sink),
-        stepper.steps(),
-    ) {
-        (Ok(true), 2) => Outcome::Right,
-        (Err(StepFault::Memory), 1) => Outcome::Want,
+    let told = command(&mut stepper, b"answer 1", &mut Writing::new(&mut written));
+    match (told, stepper.steps(), written.position()) {
+        (Ok(true), 2, 14) => Outcome::Right,
+        (Err(StepFault::Memory), 1, 0) => Outcome::Want,
         _ => Outcome::Wrong,
     }
 }
@@ -227,23 +232,52 @@ fn tells_a_want_of_memory_for_steps(rt: HostRuntime) {
     assert_wants(&rt, rt.alloc(), Job::Steps(&assembly, &bytes));
 }
 
-/// After the refused answer the stepper stands where it stood, and takes it once there is memory.
+/// A plan for the duo that asks eight times for 0, and drops it, before it takes the cubes apart.
+const QUESTIONS: &str = "\
+00000013, 0039 22 0000 0000 06 22 0000 0000 06 22 0000 0000 06 22 0000 0000 06 22 0000 0000 06 \
+22 0000 0000 06 22 0000 0000 06 22 0000 0000 06 10 00000001 12 01 01 00";
+
+/// Answers a question while no memory can be had. Where that is refused, the stepper stands where it
+/// stood, nothing is put, and it takes the answer once there is memory. Whether it was refused.
+fn is_refused(
+    rt: &impl Abort,
+    alloc: Global,
+    stepper: &mut Stepper<'_, '_, '_, PlainCells<'_>>,
+) -> bool {
+    let steps = stepper.steps();
+    let hog = memory_taken(rt, alloc);
+    let answered = stepper.answer(0);
+    if answered.is_ok() {
+        return false;
+    }
+    let mut room = [0u8; 40];
+    let mut written = Cursor::new(room.as_mut_slice());
+    let told = command(stepper, b"answer 0", &mut Writing::new(&mut written));
+    drop(hog);
+    assert!(rt; answered == Err(StepRefusal::Memory) && told == Err(StepFault::Memory));
+    assert!(rt; written.position() == 0 && stepper.steps() == steps);
+    assert!(rt; stepper.asks() == Some((0, 0)) && stepper.answer(0).is_ok());
+    true
+}
+
+/// The list of the answers that are kept grows by doubling: at the first answer, and later too.
 #[test]
 fn tells_a_want_of_memory_for_an_answer(rt: HostRuntime) {
     let alloc = rt.alloc();
-    let assembly = assembly_of(&rt, alloc, CUP);
+    let assembly = assembly_of(&rt, alloc, DUO);
     let cells = cells_of(&assembly);
-    let bytes = bytes_of(&rt, alloc, CUP_PLAN);
+    let bytes = bytes_of(&rt, alloc, &edited(&rt, alloc, DUO_CODE, QUESTIONS));
     let container = container_of(&rt, &bytes);
     let Ok(accepted) = accept(&container, &cells) else {
         panic!(rt; "refused");
     };
     let mut stepper = Stepper::new(alloc, &accepted).expect(&rt, "memory");
-    assert!(rt; stepper.forward().is_ok());
-    let hog = memory_taken(&rt, alloc);
-    let refused = stepper.answer(1);
-    drop(hog);
-    assert!(rt; refused == Err(StepRefusal::Memory));
-    assert!(rt; stepper.steps() == 1 && stepper.asks() == Some((0, 2)));
-    assert!(rt; stepper.answer(1).is_ok() && stepper.steps() == 2);
+    let mut refused = 0u8;
+    for _ in 0..8u8 {
+        if is_refused(&rt, alloc, &mut stepper) {
+            refused = refused.wrapping_add(1);
+        }
+        assert!(rt; stepper.forward().is_ok());
+    }
+    assert!(rt; refused > 1 && stepper.steps() == 16);
 }

@@ -178,34 +178,6 @@ fn ends_commands_by_what_they_met(rt: HostRuntime) -> Result<(), Fail> {
     Ok(())
 }
 
-/// The most bytes of a file.
-const LIMIT: usize = 16_777_216;
-
-/// Files of as many bytes as may be, and of one more.
-const SIZES: &str = "\
-$burr list full
->refused C2 at 0
-?1
-$burr list long
-!cannot read long
-?3
-$burr asm long kept
-!cannot read long
-?3
-$burr check full long
-!cannot read long
-?3
-";
-
-#[test]
-fn reads_no_file_that_is_too_long(rt: HostRuntime) -> Result<(), Fail> {
-    let mut bytes = vec![in rt.alloc(); b'x'; LIMIT]?;
-    fs::write(&rt, "full", &bytes)?;
-    bytes.push(b'x')?;
-    fs::write(&rt, "long", &bytes)?;
-    assert_transcript(&rt, SIZES)
-}
-
 /// Plans that are accepted, and how they run; `check` leaves standard input alone. An answer that does
 /// not fit is passed over.
 const ACCEPTED: &str = "\

@@ -1,4 +1,4 @@
-//! Streams that fail at any call.
+//! Streams that fail at any call, or give too many bytes.
 use super::examples::{DUO, EXAMPLES};
 use super::transcript::assert_transcript;
 use super::*;
@@ -13,6 +13,10 @@ fn tells_a_source_that_fails(rt: HostRuntime) -> Result<(), Fail> {
     assert_reads(&rt, "burr run cup cup.bpln", "2\n", 3)?;
     assert_reads(&rt, "burr try cup cup.bpln", "2\n", 3)?;
     // these read nothing
+    assert_reads(&rt, "burr asm duo.plan made", "2\n", 0)?;
+    assert_reads(&rt, "burr list duo.bpln", "2\n", 0)?;
+    assert_reads(&rt, "burr upgrade duo.bpln made", "2\n", 0)?;
+    assert_reads(&rt, "burr explain V15", "2\n", 0)?;
     assert_reads(&rt, "burr check cup cup.bpln", "2\n", 0)?;
     assert_reads(&rt, "burr step cup duo.bpln", "quit\n", 0)?;
     assert_reads(&rt, "burr --help", "2\n", 0)?;
@@ -103,7 +107,11 @@ fn tells_a_sink_that_fails(rt: HostRuntime) -> Result<(), Fail> {
     assert_transcript(&rt, EXAMPLES)?;
     assert_fronts(&rt, "burr", DUO)?;
     assert_fronts(&rt, "burr --version", "")?;
+    assert_fronts(&rt, "burr asm duo made", "")?;
     assert_fronts(&rt, "burr list duo.bpln", "")?;
+    assert_fronts(&rt, "burr list --places duo.bpln", "")?;
+    assert_fronts(&rt, "burr list duo", "")?;
+    assert_fronts(&rt, "burr upgrade duo made", "")?;
     assert_fronts(&rt, "burr explain V15", "")?;
     assert_fronts(&rt, "burr check cup cup.bpln", "")?;
     assert_fronts(&rt, "burr check cup duo.bpln", "")?;
@@ -113,6 +121,17 @@ fn tells_a_sink_that_fails(rt: HostRuntime) -> Result<(), Fail> {
     assert_fronts(&rt, "burr try cup cup.bpln", "2\n")?;
     assert_fronts(&rt, "burr step cup cup.bpln", "forward\nanswer 1\nshow\n")?;
     assert_fronts(&rt, "burr step cup duo.bpln", "forward\n")?;
+    // these put nothing, and never meet the fault
+    for line in ["burr asm duo.plan made", "burr upgrade duo.bpln made"] {
+        let right = end_of(&rt, line, "")?;
+        let taken = Vec::new(rt.alloc());
+        let mut writer = Narrow {
+            taken,
+            room: 0,
+            fails: true,
+        };
+        assert_front(&rt, line, "", &right, &mut writer)?;
+    }
     Ok(())
 }
 
@@ -155,5 +174,36 @@ fn keeps_the_status_where_standard_error_fails(rt: HostRuntime) -> Result<(), Fa
         2,
         "error: nothing is explained under A9\n",
     )?;
+    Ok(())
+}
+
+/// Calls the program over a source of so many equal bytes, and asserts its status and what it puts on
+/// standard output and on standard error.
+fn assert_length<T: Abort + Files + AllocGlobal>(
+    rt: &T,
+    line: &str,
+    length: usize,
+    wanted: (u8, &str, &str),
+) -> Result<(), AllocError> {
+    let (status, output, complaint) = wanted;
+    let mut source = Reading::new(io::repeat(b'x').take(length as u64));
+    let mut put = Vec::new(rt.alloc());
+    let mut told = Vec::new(rt.alloc());
+    let words = words_of(rt.alloc(), line)?;
+    let got = status_of(rt, &words, &mut source, &mut put, &mut told);
+    assert_eq!(rt; got, status, "{line} {length}");
+    assert_eq!(rt; put.as_slice(), output.as_bytes(), "{line} {length}");
+    assert_eq!(rt; told.as_slice(), complaint.as_bytes(), "{line} {length}");
+    Ok(())
+}
+
+/// Standard input of as many bytes as may be, and of one more.
+#[test]
+fn tells_an_input_that_is_too_long(rt: HostRuntime) -> Result<(), Fail> {
+    assert_transcript(&rt, EXAMPLES)?;
+    assert_length(&rt, "burr", LIMIT, (1, "refused input\n", ""))?;
+    for line in ["burr", "burr run cup cup.bpln", "burr try cup cup.bpln"] {
+        assert_length(&rt, line, LIMIT + 1, (3, "", "cannot read -\n"))?;
+    }
     Ok(())
 }

@@ -29,7 +29,10 @@ trap 2 GripOff proc 0 pc 8 after 2 steps/
 10000000011101110312010100 | Apart | 1 t0 A -x 1/2 t0 A -y 1/3 t0 A -x 0 out/levels 3/\
 apart in 5 steps/
 1000000003110210000000011201011101 | Trapped | 1 t0 A,B +y 1/2 t0 A -x 0 out/levels 2/\
-trap 4 BadGroup proc 0 pc 15 after 4 steps/";
+trap 4 BadGroup proc 0 pc 15 after 4 steps/
+# 4,096 bytes, and 4,097
+trays | Trapped | levels -/trap 10 BadCode proc 0 pc 4096 after 2048 steps/
+trays13 | Refused | refused input/";
 
 /// For three cubes in a row.
 pub const THREE_ROWS: &str = "\
@@ -42,6 +45,11 @@ pub const FAR_ROWS: &str = "\
 100000000112000100 | Trapped | levels -/trap 3 NotFree proc 0 pc 5 after 1 steps/
 1000000001110011001100 | Trapped | 1 t0 A +x 2/levels -/\
 trap 1 Collision proc 0 pc 9 after 3 steps/";
+
+/// For four cubes in a square: two trays, and three outs.
+pub const FOUR_APART: &str = "\
+100000000c12020110000000011201021301100000000412010200 | Apart | 1 t0 C,D +y 0 out/\
+2 t0 A -x 0 out/3 t1 C -x 0 out/levels 1.1.1/apart in 8 steps/";
 
 /// For four cubes in a square.
 pub const FOUR_ROWS: &str = "\

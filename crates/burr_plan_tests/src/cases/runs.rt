@@ -14,10 +14,13 @@ pub const ANSWERS: &str = "\
 1\r/ | Err(Line(1))
  1/ | Err(Line(1))";
 
-/// Checks of the duo's plan: A goes out along -x; along +x, where B is in the way.
+/// Checks of the duo's plan: A goes out along -x; along +x, where B is in the way; 4,096 bytes of code
+/// without an end.
 pub const DUO_CHECKS: &str = "\
 none | accepted | accepted cost 3 budget 3 looks 1/
-12 01 01 > 12 00 01 | refused | refused V16 proc 0 pc 5 pieces A B/";
+12 01 01 > 12 00 01 | refused | refused V16 proc 0 pc 5 pieces A B/
+0001 00000003 > 0001 00000800, 00 00 00 00000003 > 00 00 00 00000800, \
+0009 10 00000001 12 01 01 00 > 1000 trays | refused | refused V5 proc 0 pc 4094/";
 
 /// Checks of the plan of the rod in the ring: with a budget of one step less than its cost;
 /// with a cost at the loop that grows by 1 for each turn, where a turn makes two steps.
@@ -72,6 +75,7 @@ pub const RING_RUNS: &str = "\
 /// Runs of the plan of the dot in the cup.
 pub const CUP_RUNS: &str = "\
 0/ | Apart | 1 t0 A +z 0 out/levels 1/apart in 8 steps/
+1/ | Apart | 1 t0 A +z 1 out/levels 1/apart in 11 steps/
 2/ | Apart | 1 t0 A +z 2 out/levels 1/apart in 14 steps/
 # answers that do not fit are passed over; none is left
 7/-1/2/ | Apart | 1 t0 A +z 2 out/levels 1/apart in 14 steps/
