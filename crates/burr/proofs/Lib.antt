@@ -1,4 +1,5 @@
 mod Ending
 mod FileEnding
 pub mod HandedText
+mod Reasons
 mod Stepping

@@ -6,3 +6,4 @@ pub mod PlanEnds
 pub mod Refusals
 pub mod Statuses
 pub mod StepEnds
+pub mod WhyEnds

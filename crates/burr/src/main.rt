@@ -11,6 +11,7 @@ mod plan_text_refusal;
 mod program;
 mod status;
 mod step_command;
+mod why_command;
 
 use crate::program::{end_without_words, run_words};
 use burr_io::{Reading, WholeLines, Writing};

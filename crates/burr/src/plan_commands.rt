@@ -117,7 +117,7 @@ pub fn refuse_text<'a, W: Sink>(
 }
 
 /// The same with an assembly that was read.
-fn use_assembly<'a, 'x, W: Sink>(
+pub fn use_assembly<'a, 'x, W: Sink>(
     alloc: Global,
     task: PlanTask,
     assembly: &'x Assembly,

@@ -17,6 +17,7 @@ use crate::handing::hand_on;
 use crate::plan_commands::use_files;
 use crate::status::Status;
 use crate::step_command::step_files;
+use crate::why_command::why_files;
 use burr_command::{Job, Reply, Request, request_of};
 use burr_io::{Sink, Source, WholeLines, WriteFault, put_all};
 use burr_runs::{BenchFault, bench_text};
@@ -121,6 +122,10 @@ fn do_job<'a, F: Files + AllocGlobal, R: Source, W: Sink, const N: usize>(
             plan,
         } => use_files(files, *task, assembly, plan, source, sink),
         Job::Step { assembly, plan } => step_files(files, assembly, plan, source, sink),
+        Job::Why { assembly, text } => {
+            let done = why_files(files, assembly, text, sink);
+            hand_on(done, sink)
+        }
         Job::Explain { line } => {
             let done = explain_line(line, sink);
             hand_on(done, sink)

@@ -19,6 +19,7 @@ mod stepping;
 mod streams;
 mod transcript;
 mod traps;
+mod why;
 mod words;
 
 /// The most bytes of a file, and of standard input.

@@ -40,6 +40,7 @@ fn job_text(alloc: Global, job: &Job<'_>) -> Result<String, AllocError> {
         Job::List { plan, places } => format!(in alloc; "=list {plan} {places}\n"),
         Job::Upgrade { plan, out } => format!(in alloc; "=upgrade {plan} to {out}\n"),
         Job::Step { assembly, plan } => format!(in alloc; "=step {assembly} {plan}\n"),
+        Job::Why { assembly, text } => format!(in alloc; "=why {assembly} {text}\n"),
         Job::Explain { line } => format!(in alloc; "=explain {line}\n"),
         Job::Plan {
             task,
@@ -81,6 +82,7 @@ $burr --help
 >  run      Runs a plan that is accepted
 >  try      Runs a plan on the bench, without accepting it
 >  step     Goes through a plan that is accepted, step by step
+>  why      Says why a plan text is refused, and which lines are at fault
 >  explain  Says what a refusal, a trap or another line means
 >  help     Print this message or the help of the given subcommand(s)
 >
@@ -260,6 +262,24 @@ $burr step --help
 >status is 0 whatever was refused. docs/STEPPER.md says more.
 >
 >Example: echo forward | ./burr step examples/cup.assembly /tmp/cup.bpln
+$burr why --help
+>Says why a plan text is refused, and which lines are at fault
+>
+>Usage: burr why <ASSEMBLY> <TEXT>
+>
+>Arguments:
+>  <ASSEMBLY>  The assembly text
+>  <TEXT>      The plan text
+>
+>Options:
+>  -h, --help  Print help
+>
+>TEXT is assembled and judged, and no file is written. The first line that is
+>printed, and the status, are those of `asm` and `check`. Where TEXT is refused,
+>the lines at fault are named below, as `cup.plan:35: jump L`, each with what was
+>compared there and what was found, and at the end what the refusal means.
+>
+>Example: ./burr why examples/cup.assembly examples/cup.plan
 $burr explain --help
 >Says what a refusal, a trap or another line means
 >
@@ -420,6 +440,8 @@ $burr explain refused V15 proc 0 pc 24 pieces A B point 0 -1
 =explain refused V15 proc 0 pc 24 pieces A B point 0 -1
 $burr explain -
 =explain -
+$burr why a t
+=why a t
 ";
 
 const ANSWERS: [&str; 4] = [HELP, COMMAND_HELP, FAULTS, JOBS];

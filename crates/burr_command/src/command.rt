@@ -7,7 +7,9 @@ use std::alloc::{AllocError, Global};
 /// The command line: the commands, help and the version.
 pub fn command<'a>(alloc: Global) -> Result<Command<'a>, AllocError> {
     let with_files = with_files(alloc, without_commands(alloc))?;
-    with_plans(alloc, with_files)?.subcommand(explain(alloc)?)
+    with_plans(alloc, with_files)?
+        .subcommand(why(alloc)?)?
+        .subcommand(explain(alloc)?)
 }
 
 /// The command line without its commands.
@@ -110,6 +112,15 @@ fn on_plan<'a>(
         .after_help(example)
         .arg(word(alloc, "ASSEMBLY", "The assembly text"))?
         .arg(word(alloc, "PLAN", "The container"))
+}
+
+/// The command `why`.
+fn why<'a>(alloc: Global) -> Result<Command<'a>, AllocError> {
+    Command::new(alloc, "why")
+        .about("Says why a plan text is refused, and which lines are at fault")
+        .after_help(help::WHY)
+        .arg(word(alloc, "ASSEMBLY", "The assembly text"))?
+        .arg(word(alloc, "TEXT", "The plan text"))
 }
 
 /// The command `explain`.

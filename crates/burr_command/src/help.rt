@@ -109,6 +109,15 @@ status is 0 whatever was refused. docs/STEPPER.md says more.
 
 Example: echo forward | ./burr step examples/cup.assembly /tmp/cup.bpln";
 
+/// What help says of `why` last.
+pub const WHY: &str = "\
+TEXT is assembled and judged, and no file is written. The first line that is
+printed, and the status, are those of `asm` and `check`. Where TEXT is refused,
+the lines at fault are named below, as `cup.plan:35: jump L`, each with what was
+compared there and what was found, and at the end what the refusal means.
+
+Example: ./burr why examples/cup.assembly examples/cup.plan";
+
 /// What help says of `explain` last.
 pub const EXPLAIN: &str = "\
 LINE is a word or a whole line that burr printed, in any case: A1 to A8, C1 to

@@ -27,6 +27,11 @@ pub enum Job<'a> {
         assembly: &'a str,
         plan: &'a str,
     },
+    /// Says why a plan text is refused for an assembly.
+    Why {
+        assembly: &'a str,
+        text: &'a str,
+    },
     /// Says what a word or a line means that the program prints.
     Explain {
         line: String,

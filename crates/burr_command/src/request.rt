@@ -89,6 +89,10 @@ fn file_job<'a>(name: &str, words: &ArgMatches<'a>) -> Option<Job<'a>> {
         "check" => plan_job(PlanTask::Check, words),
         "run" => plan_job(PlanTask::Run, words),
         "try" => plan_job(PlanTask::Try, words),
+        "why" => Some(Job::Why {
+            assembly: words.get_str("ASSEMBLY")?,
+            text: words.get_str("TEXT")?,
+        }),
         "step" => Some(Job::Step {
             assembly: words.get_str("ASSEMBLY")?,
             plan: words.get_str("PLAN")?,

@@ -19,6 +19,8 @@ burr try * duo.bpln
 burr try duo *
 burr step * duo.bpln
 burr step duo *
+burr why * duo.plan
+burr why duo *
 ";
 
 /// The commands that write a file, with `*` in its place.

@@ -163,6 +163,8 @@ fn tells_a_want_of_memory_for_a_plan(rt: HostRuntime) -> Result<(), Fail> {
     assert_wants(&rt, "burr run cup duo.bpln", "", 1)?;
     assert_wants(&rt, "burr try cup cup.bpln", "2\n", 0)?;
     assert_wants(&rt, "burr step cup cup.bpln", "", 0)?;
+    assert_wants(&rt, "burr why cup cup.plan", "", 0)?;
+    assert_wants(&rt, "burr why cup duo.plan", "", 1)?;
     Ok(())
 }
 

@@ -5,7 +5,7 @@ use super::*;
 
 /// A dot in a cup is lifted by a procedure that asks how far and gives that back: its listing, its
 /// runs, and what is said where the range of the result or the exit place is too small.
-const LIFT: &str = "\
+pub const LIFT: &str = "\
 <plan2 cup 2 18
 <proc main 0 0
 <label start

@@ -1,0 +1,231 @@
+//! The lines of a plan text, each with what it says.
+
+use crate::part::{Part, Place};
+use burr_code::fetch;
+use burr_container::Container;
+use burr_text::{cut_at, integer};
+use std::alloc::{AllocError, Global};
+
+/// A line: its number, counted from 1, and its bytes without the line feed.
+#[derive(Clone, Copy, Debug)]
+pub struct Line<'a> {
+    pub number: usize,
+    pub bytes: &'a [u8],
+}
+
+impl<'a> Line<'a> {
+    /// Whether it is empty, or a comment.
+    fn is_skipped(&self) -> bool {
+        self.bytes.is_empty() || self.bytes.starts_with(b";")
+    }
+
+    /// The first word.
+    pub fn word(&self) -> &'a [u8] {
+        before_blank(self.bytes).0
+    }
+
+    /// The second word; nothing where there is none.
+    pub fn operand(&self) -> &'a [u8] {
+        before_blank(before_blank(self.bytes).1).0
+    }
+}
+
+/// What stands before the first blank, and what after it.
+fn before_blank(bytes: &[u8]) -> (&[u8], &[u8]) {
+    match cut_at(bytes, b' ') {
+        Some(parts) => parts,
+        None => (bytes, b""),
+    }
+}
+
+/// The line of this number; none where the text ends before it.
+pub fn numbered_line(text: &[u8], number: usize) -> Option<Line<'_>> {
+    let mut rest = text;
+    for _ in 1..number {
+        rest = cut_at(rest, b'\n')?.1;
+    }
+    if rest.is_empty() {
+        return None;
+    }
+    let bytes = match cut_at(rest, b'\n') {
+        Some((bytes, _)) => bytes,
+        None => rest,
+    };
+    Some(Line { number, bytes })
+}
+
+/// How many lines of some words a frame has had so far.
+#[derive(Clone, Copy, Default)]
+struct Counts {
+    results: u8,
+    guards: u8,
+    operands: u8,
+}
+
+/// The lines of a plan text that is assembled to a container, each with what it says; lines that
+/// are skipped are left out.
+#[derive(Drop)]
+pub struct PlanLines<'a> {
+    lines: Vec<(Place, Line<'a>)>,
+}
+
+impl<'a> PlanLines<'a> {
+    /// The lines of a text, and what they say.
+    pub fn of(
+        alloc: Global,
+        text: &'a [u8],
+        container: &Container<'_>,
+    ) -> Result<PlanLines<'a>, AllocError> {
+        let mut lines = Vec::new(alloc);
+        let mut places = Places::new(container);
+        let mut rest = text;
+        let mut number: usize = 1;
+        while let Some((bytes, more)) = cut_at(rest, b'\n') {
+            let line = Line { number, bytes };
+            if !line.is_skipped() {
+                lines.push((places.place_of(&line), line))?;
+            }
+            rest = more;
+            number = number.saturating_add(1);
+        }
+        Ok(PlanLines { lines })
+    }
+
+    /// The line that says this; none where there is none.
+    pub fn line_of(&self, place: Place) -> Option<Line<'a>> {
+        for (found, line) in &self.lines {
+            if *found == place {
+                return Some(*line);
+            }
+        }
+        None
+    }
+
+    /// The name that stands in a line; nothing where there is no such line.
+    pub fn name_at(&self, place: Place) -> &'a [u8] {
+        match self.line_of(place) {
+            Some(line) => line.operand(),
+            None => b"",
+        }
+    }
+}
+
+/// Where a plan text is that is gone over line by line.
+#[derive(Drop)]
+struct Places<'a, 'c> {
+    container: &'a Container<'c>,
+    /// How many procedures have begun.
+    procedures: usize,
+    /// How many labels of the procedure have begun.
+    labels: usize,
+    counts: Counts,
+    /// How many bytes of the procedure's code stand before.
+    pc: usize,
+}
+
+impl<'a, 'c> Places<'a, 'c> {
+    /// Before the first line.
+    fn new(container: &'a Container<'c>) -> Places<'a, 'c> {
+        Places {
+            container,
+            procedures: 0,
+            labels: 0,
+            counts: Counts::default(),
+            pc: 0,
+        }
+    }
+
+    /// What a line says.
+    fn place_of(&mut self, line: &Line<'_>) -> Place {
+        match line.word() {
+            b"plan" | b"plan2" => Place::Plan,
+            b"proc" => self.begin_procedure(),
+            b"label" => self.begin_label(),
+            word => match self.part_of(word, line.operand()) {
+                Some(part) => self.frame_place(part),
+                None => self.code_place(word),
+            },
+        }
+    }
+
+    /// The line of a procedure.
+    fn begin_procedure(&mut self) -> Place {
+        let procedure = self.procedures;
+        self.procedures = procedure.saturating_add(1);
+        self.labels = 0;
+        self.pc = 0;
+        Place::Procedure(procedure)
+    }
+
+    /// The line of a label.
+    fn begin_label(&mut self) -> Place {
+        let label = self.labels;
+        self.labels = label.saturating_add(1);
+        Place::Label(self.procedure(), label)
+    }
+
+    /// The number of the procedure that has begun last.
+    fn procedure(&self) -> usize {
+        self.procedures.saturating_sub(1)
+    }
+
+    /// What a line of a frame tells, by its first two words; none of a line of code.
+    fn part_of(&mut self, word: &[u8], operand: &[u8]) -> Option<Part> {
+        match word {
+            b"exit" | b"frame" => {
+                self.counts = Counts::default();
+                Some(Part::Head)
+            }
+            b"slot" => Some(Part::Slot(number_of(operand))),
+            b"at" => Some(Part::Piece(number_of(operand))),
+            b"cost" => Some(Part::Cost),
+            b"result" => Some(Part::Result(counted(&mut self.counts.results))),
+            b"guard" => Some(Part::Guard(counted(&mut self.counts.guards))),
+            b"stack" => Some(Part::Operand(counted(&mut self.counts.operands))),
+            _ => None,
+        }
+    }
+
+    /// A line of the frame of the label that has begun last, or of the exit frame before the first
+    /// label.
+    fn frame_place(&self, part: Part) -> Place {
+        if self.labels == 0 {
+            return Place::Exit(self.procedure(), part);
+        }
+        Place::Frame(self.procedure(), self.labels.saturating_sub(1), part)
+    }
+
+    /// A line of code; the next one stands after its bytes.
+    fn code_place(&mut self, word: &[u8]) -> Place {
+        let pc = self.pc;
+        self.pc = pc.saturating_add(self.size_of(word));
+        Place::Code(self.procedure(), pc)
+    }
+
+    /// How many bytes of code a line stands for.
+    fn size_of(&self, word: &[u8]) -> usize {
+        let procedure = self.procedure();
+        if word == b"byte".as_slice() || self.container.proc_count() <= procedure {
+            return 1;
+        }
+        match fetch(self.container.code(procedure), self.pc) {
+            Some((_, size)) => size,
+            None => 1,
+        }
+    }
+}
+
+/// The number of a line of its kind, which is counted.
+fn counted(count: &mut u8) -> u8 {
+    let number = *count;
+    *count = number.saturating_add(1);
+    number
+}
+
+/// The number that a word tells; 255 where it tells none of 0 to 255.
+fn number_of(word: &[u8]) -> u8 {
+    match integer(word) {
+        Some(number) => u8::try_from(number).unwrap_or(255),
+        None => 255,
+    }
+}

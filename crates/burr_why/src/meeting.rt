@@ -1,0 +1,102 @@
+//! The cells at which two pieces meet.
+
+use crate::offset::Offset;
+use burr_voxels::{Cell, Direction};
+
+/// Where a piece meets another one: the cell, and after how many units along the direction.
+#[derive(Clone, Copy, Debug, PartialEq, Eq)]
+pub struct Meeting {
+    pub cell: Offset,
+    pub units: i64,
+}
+
+/// The first cell of a piece, in the order of its cells, that another piece has too; both lie so
+/// far from home.
+pub fn common_cell(
+    cells: &[Cell],
+    offset: Offset,
+    others: &[Cell],
+    other_offset: Offset,
+) -> Option<Offset> {
+    for cell in cells {
+        let there = lies_at(cell, offset);
+        if others
+            .iter()
+            .any(|other| lies_at(other, other_offset) == there)
+        {
+            return Some(there);
+        }
+    }
+    None
+}
+
+/// Where a piece that goes along a direction first meets another one, after one unit or more; both
+/// lie so far from home.
+pub fn first_meeting(
+    cells: &[Cell],
+    offset: Offset,
+    others: &[Cell],
+    other_offset: Offset,
+    direction: Direction,
+) -> Option<Meeting> {
+    let mut first = None;
+    for cell in cells {
+        let from = lies_at(cell, offset);
+        first = sooner(first, meeting_from(from, others, other_offset, direction));
+    }
+    first
+}
+
+/// Where a cell that goes along a direction first meets another piece.
+fn meeting_from(
+    from: Offset,
+    others: &[Cell],
+    other_offset: Offset,
+    direction: Direction,
+) -> Option<Meeting> {
+    let mut first = None;
+    for other in others {
+        let cell = lies_at(other, other_offset);
+        let units = units_between(from, cell, direction);
+        first = sooner(first, units.map(|units| Meeting { cell, units }));
+    }
+    first
+}
+
+/// The meeting after fewer units; the first one where both come after as many.
+fn sooner(first: Option<Meeting>, second: Option<Meeting>) -> Option<Meeting> {
+    match (first, second) {
+        (Some(first), Some(second)) if second.units < first.units => Some(second),
+        (Some(first), _) => Some(first),
+        (None, second) => second,
+    }
+}
+
+/// How many units a cell goes along a direction to another one, 1 or more; none where it does not
+/// come there.
+fn units_between(from: Offset, to: Offset, direction: Direction) -> Option<i64> {
+    let x = to.x.saturating_sub(from.x);
+    let y = to.y.saturating_sub(from.y);
+    let z = to.z.saturating_sub(from.z);
+    let (units, rest) = match direction {
+        Direction::PlusX => (x, [y, z]),
+        Direction::MinusX => (0i64.saturating_sub(x), [y, z]),
+        Direction::PlusY => (y, [x, z]),
+        Direction::MinusY => (0i64.saturating_sub(y), [x, z]),
+        Direction::PlusZ => (z, [x, y]),
+        Direction::MinusZ => (0i64.saturating_sub(z), [x, y]),
+    };
+    if rest != [0, 0] || units < 1 {
+        return None;
+    }
+    Some(units)
+}
+
+/// Where a cell of a piece lies that is so far from home.
+fn lies_at(cell: &Cell, offset: Offset) -> Offset {
+    offset.plus(Offset {
+        x: i64::from(cell.x),
+        y: i64::from(cell.y),
+        z: i64::from(cell.z),
+    })
+}

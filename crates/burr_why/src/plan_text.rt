@@ -1,0 +1,82 @@
+//! A plan text beside the container that it is assembled to.
+
+use burr_assembly::Assembly;
+use burr_code::limits::MOST_LABELS;
+use burr_container::{Container, ExitRef, FrameRef};
+
+/// A plan text, the container that it is assembled to, and the assembly that it was judged for.
+#[derive(Clone, Copy)]
+pub struct PlanText<'a, 'c> {
+    /// The name of the file, as it was given.
+    pub file: &'a str,
+    pub text: &'a [u8],
+    pub container: &'a Container<'c>,
+    pub assembly: &'a Assembly,
+}
+
+impl<'a, 'c> PlanText<'a, 'c> {
+    /// The name of a piece; nothing where there is no such piece.
+    pub fn piece_name(&self, piece: u8) -> &'a str {
+        if self.assembly.piece_count() <= piece {
+            return "";
+        }
+        self.assembly.piece_name(piece)
+    }
+
+    /// How many parameters a procedure has; 0 where there is no such procedure.
+    pub fn parameters(&self, procedure: usize) -> u8 {
+        if self.container.proc_count() <= procedure {
+            return 0;
+        }
+        self.container.params(procedure)
+    }
+
+    /// The exit frame of a procedure; none of main, and where there is no such procedure.
+    pub fn exit(&self, procedure: usize) -> Option<ExitRef<'c>> {
+        if self.container.proc_count() <= procedure {
+            return None;
+        }
+        self.container.exit(procedure)
+    }
+
+    /// The position of a label in its procedure's code; none where there is no such label.
+    pub fn position(&self, procedure: usize, label: usize) -> Option<usize> {
+        if self.container.proc_count() <= procedure
+            || self.container.label_count(procedure) <= label
+        {
+            return None;
+        }
+        Some(usize::from(self.container.label(procedure, label)))
+    }
+
+    /// The frame of a label; none where there is no such label.
+    pub fn frame(&self, procedure: usize, label: usize) -> Option<FrameRef<'c>> {
+        if self.container.proc_count() <= procedure
+            || self.container.label_count(procedure) <= label
+        {
+            return None;
+        }
+        Some(self.container.frame(procedure, label))
+    }
+
+    /// The last label of a procedure at a place of its code or before it; none where there is none.
+    pub fn label_before(&self, procedure: usize, pc: usize) -> Option<usize> {
+        let mut last = None;
+        for label in 0..MOST_LABELS {
+            match self.position(procedure, label) {
+                Some(position) if position <= pc => last = Some(label),
+                _ => {}
+            }
+        }
+        last
+    }
+
+    /// The label of a procedure at a place of its code; none where there is none.
+    pub fn label_at(&self, procedure: usize, pc: usize) -> Option<usize> {
+        let label = self.label_before(procedure, pc)?;
+        if self.position(procedure, label)? == pc {
+            return Some(label);
+        }
+        None
+    }
+}

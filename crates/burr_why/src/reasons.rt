@@ -1,0 +1,107 @@
+//! What is said of each rule that refuses a plan.
+
+mod code;
+mod control;
+mod costs;
+mod forming;
+mod frames;
+mod numbers;
+mod site;
+mod space;
+
+use crate::lines::PlanLines;
+use crate::part::{Part, Place};
+use crate::plan_text::PlanText;
+use crate::report::Report;
+use burr_frames::Rule;
+use burr_verify::Refusal;
+use site::Site;
+use std::alloc::{AllocError, Global};
+use std::fmt;
+
+/// Says why a plan is refused.
+#[derive(Drop)]
+pub struct Reasons<'a, 'c> {
+    alloc: Global,
+    plan: PlanText<'a, 'c>,
+    lines: PlanLines<'a>,
+    report: Report,
+}
+
+impl<'a, 'c> Reasons<'a, 'c> {
+    /// Nothing is said yet.
+    pub fn new(alloc: Global, plan: PlanText<'a, 'c>) -> Result<Reasons<'a, 'c>, AllocError> {
+        Ok(Reasons {
+            alloc,
+            plan,
+            lines: PlanLines::of(alloc, plan.text, plan.container)?,
+            report: Report::new(alloc),
+        })
+    }
+
+    /// What was said.
+    pub fn into_report(self) -> Report {
+        self.report
+    }
+
+    /// Says why this refusal was made.
+    pub fn add(&mut self, refusal: &Refusal) -> Result<(), AllocError> {
+        match refusal.rule {
+            Rule::V1 => self.add_other_assembly(),
+            Rule::V27 => self.add_malformed_frame(refusal),
+            Rule::V28 => self.add_small_budget(),
+            Rule::V25 if self.is_wide_frame(refusal) => self.add_wide_frame(refusal),
+            rule => self.add_at_site(rule, refusal),
+        }
+    }
+
+    /// Says why an instruction breaks a rule.
+    fn add_at_site(&mut self, rule: Rule, refusal: &Refusal) -> Result<(), AllocError> {
+        let site = Site::of(&self.plan, refusal);
+        self.add_place(Place::Code(site.procedure, site.pc))?;
+        self.add_surroundings(&site)?;
+        match rule {
+            Rule::V2 | Rule::V3 | Rule::V4 | Rule::V5 => self.add_bad_code(rule, &site),
+            Rule::V6 | Rule::V7 | Rule::V8 | Rule::V9 | Rule::V11 | Rule::V12 => {
+                self.add_bad_number(rule, &site)
+            }
+            Rule::V13 | Rule::V14 | Rule::V17 | Rule::V18 => self.add_bad_grip(rule, &site),
+            Rule::V15 | Rule::V16 => self.add_meeting(refusal.pieces, &site),
+            Rule::V10 | Rule::V19 | Rule::V23 => self.add_bad_control(rule, &site),
+            Rule::V20 | Rule::V21 | Rule::V22 => self.add_missed_frame(rule, &site),
+            Rule::V24 | Rule::V25 | Rule::V26 => self.add_bad_cost(rule, &site),
+            Rule::V1 | Rule::V27 | Rule::V28 => Ok(()),
+        }
+    }
+
+    /// Says that the plan is for another assembly.
+    fn add_other_assembly(&mut self) -> Result<(), AllocError> {
+        self.add_place(Place::Plan)?;
+        let assembly = self.plan.assembly;
+        let name = assembly.name();
+        let pieces = assembly.piece_count();
+        self.note(format_args!("the assembly is {name} and has {pieces} pieces"))
+    }
+
+    /// Names the line that says this, where there is one.
+    fn add_place(&mut self, place: Place) -> Result<(), AllocError> {
+        match self.lines.line_of(place) {
+            Some(line) => self.report.add_line(self.plan.file, &line),
+            None => Ok(()),
+        }
+    }
+
+    /// Names the line of a part of a label's frame; where the frame has none, that it begins with.
+    fn add_part(&mut self, procedure: usize, label: usize, part: Part) -> Result<(), AllocError> {
+        let place = Place::Frame(procedure, label, part);
+        if self.lines.line_of(place).is_some() {
+            return self.add_place(place);
+        }
+        self.add_place(Place::Frame(procedure, label, Part::Head))
+    }
+
+    /// Notes something of the line that was named last.
+    fn note<D: fmt::Display + Drop>(&mut self, note: D) -> Result<(), AllocError> {
+        self.report.add_note(note)
+    }
+}

@@ -1,0 +1,164 @@
+//! What holds at a place of the code, at one point.
+
+mod carrying_out;
+
+use crate::offset::{Offset, placed};
+use arrayvec::ArrayVec;
+use burr_code::Placement;
+use burr_code::limits::{MOST_OPERANDS, MOST_PIECES, SLOTS};
+use burr_container::{ExitRef, FrameRef};
+use burr_forms::Form;
+use std::alloc::AllocError;
+
+/// Where an open number comes from: a live slot of the frame, the answer of an instruction, or a
+/// result that it brought; instructions are told by their places.
+#[derive(Clone, Copy, Debug, PartialEq, Eq)]
+pub enum Origin {
+    Slot(u8),
+    Answer(usize),
+    Result(usize, u8),
+}
+
+/// An open number, and what it is at the point.
+#[derive(Clone, Copy, Debug, PartialEq, Eq)]
+pub struct Symbol {
+    pub origin: Origin,
+    pub value: i64,
+}
+
+impl Default for Symbol {
+    fn default() -> Symbol {
+        Symbol {
+            origin: Origin::Slot(0),
+            value: 0,
+        }
+    }
+}
+
+/// What holds at a place of the code, at one point: numbers in place of the verifier's forms.
+#[derive(Clone, Debug, Drop)]
+pub struct Standing {
+    /// The numbers that were open, in the order of the point.
+    pub symbols: ArrayVec<Symbol, 8>,
+    pub slots: [Option<i64>; SLOTS],
+    /// The top last.
+    pub operands: ArrayVec<i64, MOST_OPERANDS>,
+    pub places: ArrayVec<Placement<Offset>, MOST_PIECES>,
+    pub tray: u8,
+    pub grip: u32,
+    /// The place of the `grip` that gripped these pieces; none where the frame tells of them.
+    pub gripped_at: Option<usize>,
+    /// The procedure whose exit frame tells where the pieces lie, after a call of it; none where
+    /// the frame of the last label does.
+    pub returned_from: Option<usize>,
+    pub cost: i64,
+}
+
+impl Standing {
+    /// So many pieces at home in tray 0, with nothing gripped.
+    pub fn at_home(pieces: u8) -> Standing {
+        let mut places = ArrayVec::new();
+        for _ in 0..pieces {
+            let _ = places.try_push(Placement::On {
+                tray: 0,
+                position: Offset::default(),
+            });
+        }
+        Standing {
+            symbols: ArrayVec::new(),
+            slots: [None; SLOTS],
+            operands: ArrayVec::new(),
+            places,
+            tray: 0,
+            grip: 0,
+            gripped_at: None,
+            returned_from: None,
+            cost: 0,
+        }
+    }
+
+    /// What a frame says at a point; a number that the point does not have is the lowest of its
+    /// range.
+    pub fn of(frame: &FrameRef<'_>, point: &[i32]) -> Standing {
+        let mut standing = Standing::at_home(0);
+        standing.open_slots(frame, point);
+        let symbols = standing.values();
+        for n in 0..frame.stack_count() {
+            let _ = standing.operands.try_push(value(&frame.stack(n), &symbols));
+        }
+        for piece in 0..frame.piece_count() {
+            let place = placed(frame.place(piece), &symbols);
+            let _ = standing.places.try_push(place);
+        }
+        standing.tray = frame.tray();
+        standing.grip = frame.grip();
+        standing.cost = value(&frame.cost(), &symbols);
+        standing
+    }
+
+    /// What an exit frame says, where nothing is known of its parameters and results.
+    pub fn at_exit(exit: &ExitRef<'_>) -> Standing {
+        let mut standing = Standing::at_home(0);
+        standing.return_to(exit, &[]);
+        standing
+    }
+
+    /// What holds where a procedure with so many parameters is called: the arguments are in its
+    /// slots.
+    pub fn called(&self, parameters: u8) -> Result<Standing, AllocError> {
+        let mut called = self.clone()?;
+        called.slots = [None; SLOTS];
+        for (slot, argument) in called.slots.iter_mut().zip(&self.arguments(parameters)) {
+            *slot = Some(*argument);
+        }
+        called.operands = ArrayVec::new();
+        Ok(called)
+    }
+
+    /// The same with a slot counted down once.
+    pub fn counted_down(&self, slot: u8) -> Result<Standing, AllocError> {
+        let mut counted = self.clone()?;
+        if let Some(place) = counted.slots.get_mut(usize::from(slot)) {
+            *place = place.map(|number| number.saturating_sub(1));
+        }
+        Ok(counted)
+    }
+
+    /// Opens the live slots of a frame.
+    fn open_slots(&mut self, frame: &FrameRef<'_>, point: &[i32]) {
+        for v in 0..8 {
+            if let Some((low, _)) = frame.slot(v) {
+                let value = self.open(Origin::Slot(v), low, point);
+                self.slots[usize::from(v)] = Some(value);
+            }
+        }
+    }
+
+    /// Opens a number, the lowest of whose range is this, and gives what it is at the point.
+    fn open(&mut self, origin: Origin, low: i16, point: &[i32]) -> i64 {
+        let value = match point.get(self.symbols.len()) {
+            Some(number) => i64::from(*number),
+            None => i64::from(low),
+        };
+        let _ = self.symbols.try_push(Symbol { origin, value });
+        value
+    }
+
+    /// The open numbers.
+    fn values(&self) -> ArrayVec<i64, 8> {
+        let mut values = ArrayVec::new();
+        for symbol in &self.symbols {
+            let _ = values.try_push(symbol.value);
+        }
+        values
+    }
+}
+
+/// What a form is where its symbols have these values.
+pub fn value(form: &Form, symbols: &[i64]) -> i64 {
+    let mut sum = form.constant;
+    for (coefficient, symbol) in form.coefs.iter().zip(symbols) {
+        sum = sum.saturating_add(coefficient.saturating_mul(*symbol));
+    }
+    sum
+}

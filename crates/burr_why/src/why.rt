@@ -1,0 +1,35 @@
+//! Why a plan is refused, as a text.
+
+use crate::lines::numbered_line;
+use crate::plan_text::PlanText;
+use crate::reasons::Reasons;
+use crate::report::Report;
+use burr_verify::Refusal;
+use std::alloc::{AllocError, Global};
+
+/// Says why a plan is refused: the lines of its text that are at fault, each as `cup.plan:38: jump
+/// L`, and below each what was compared there.
+pub fn reason_of_refusal(
+    alloc: Global,
+    plan: PlanText<'_, '_>,
+    refusal: &Refusal,
+) -> Result<String, AllocError> {
+    let mut reasons = Reasons::new(alloc, plan)?;
+    reasons.add(refusal)?;
+    Ok(reasons.into_report().into_text())
+}
+
+/// Names a faulty line of a text, as `cup.plan:38: jump`; or says that the text ends before it.
+pub fn reason_of_line(
+    alloc: Global,
+    file: &str,
+    text: &[u8],
+    number: usize,
+) -> Result<String, AllocError> {
+    let mut report = Report::new(alloc);
+    match numbered_line(text, number) {
+        Some(line) => report.add_line(file, &line)?,
+        None => report.add_text(format_args!("{file}:{number}: the text ends before this line"))?,
+    }
+    Ok(report.into_text())
+}
