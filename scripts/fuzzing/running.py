@@ -30,6 +30,7 @@ REFUSAL = re.compile(
     rb"refused (?:input|(?:A[1-7]|P[1-5]|answers) line \d+|A8 line \d+ " + NAME + b" " + NAME + rb"|C[1-6] at \d+"
     rb"|V\d+ proc \d+ pc \d+(?: pieces " + NAME + b" " + NAME + rb")?(?: point(?: -?\d+)+)?)\n"
 )
+REASON = re.compile(REFUSAL.pattern + rb"(?:[ -~]+\n)+`burr explain [APV]\d+` says more\n")
 ACCEPTED = re.compile(rb"accepted cost (\d+) budget (\d+) looks \d+\n")
 REPLY = re.compile(
     rb"refused (?:S[1-4]|command)\n|after \d+ steps(?: asks -?\d+ -?\d+| ended)?\n"
@@ -92,7 +93,7 @@ def is_done(command, output):
         return closing and closing["apart"]
     if command == "step":
         return is_dialogue(output)
-    return {"check": ACCEPTED, "list": LISTED}[command].fullmatch(output)
+    return {"check": ACCEPTED, "list": LISTED, "why": ACCEPTED}[command].fullmatch(output)
 
 
 def judge(command, answer, is_free):
@@ -104,7 +105,7 @@ def judge(command, answer, is_free):
     is_known = {
         0: lambda: not complaint and (is_free or is_done(command, output)),
         1: lambda: not complaint
-        and (REFUSAL.fullmatch(output) or closing and not closing["apart"] and not closing["waiting"]),
+        and ((REASON if command == "why" else REFUSAL).fullmatch(output) or closing and not closing["apart"] and not closing["waiting"]),
         2: lambda: has_failed and COMPLAINT.fullmatch(complaint),
         3: lambda: has_failed and FAULT.fullmatch(complaint),
         4: lambda: has_failed and complaint == b"no memory\n",

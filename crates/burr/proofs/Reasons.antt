@@ -22,24 +22,24 @@ begins_among These Those among output status (first, more, parts, is) = (first, 
 pub reason_puts : {S : Type 0} (sink : SinkView S) (old mid new : S) (AreEnds : Ends) (reason : List ℕ) (done result : Result Status Fault)
     → AddsReason sink mid new reason done result → IfOk done (PutsEnd sink old mid AreEnds)
     → IfOk result (PutsEnd sink old new (Begins AreEnds))
-reason_puts sink old mid new AreEnds reason (Ok done) (Ok status) (same, put) (output, is, took) =
+reason_puts sink old mid new AreEnds reason (Ok given) (Ok status) (same, put) (output, is, took) =
     (output ++ reason, (output, reason, refl, subst (AreEnds output) (sym same) is), Appends-trans (sink.taken old) (sink.taken mid) (sink.taken new) output reason took put)
-reason_puts sink old mid new AreEnds reason (Ok done) (Err fault) adds puts = tt
-reason_puts sink old mid new AreEnds reason (Err done) (Ok status) adds puts = absurd adds
-reason_puts sink old mid new AreEnds reason (Err done) (Err fault) adds puts = tt
+reason_puts sink old mid new AreEnds reason (Ok given) (Err fault) adds puts = tt
+reason_puts sink old mid new AreEnds reason (Err given) (Ok status) adds puts = absurd adds
+reason_puts sink old mid new AreEnds reason (Err given) (Err fault) adds puts = tt
 
 -- or why it was not
 pub reason_fails : {S : Type 0} (sink : SinkView S) (old mid new : S) (AreEnds : Ends) (reason : List ℕ) (done result : Result Status Fault)
     → AddsReason sink mid new reason done result → IfOk done (PutsEnd sink old mid AreEnds)
     → IfErr done (λ fault. FailsToEnd sink old mid AreEnds (line_of fault))
     → IfErr result (λ fault. FailsToEnd sink old new (Begins AreEnds) (line_of fault))
-reason_fails sink old mid new AreEnds reason (Ok done) (Ok status) adds puts fails = tt
-reason_fails sink old mid new AreEnds reason (Ok done) (Err fault) (line, within) (output, is, took) fails =
-    inl (line, (output ++ reason, done, (output, reason, refl, is), FailsWithin-more output took within))
-reason_fails sink old mid new AreEnds reason (Err done) (Ok status) adds puts fails = tt
-reason_fails {S} sink old mid new AreEnds reason (Err done) (Err fault) (same, left) puts (inl (line, (output, status, is, within))) =
+reason_fails sink old mid new AreEnds reason (Ok given) (Ok status) adds puts fails = tt
+reason_fails sink old mid new AreEnds reason (Ok given) (Err fault) (line, within) (output, is, took) fails =
+    inl (line, (output ++ reason, given, (output, reason, refl, is), FailsWithin-more output took within))
+reason_fails sink old mid new AreEnds reason (Err given) (Ok status) adds puts fails = tt
+reason_fails {S} sink old mid new AreEnds reason (Err given) (Err fault) (same, left) puts (inl (line, (output, status, is, within))) =
     inl (ap line_of same ∙ line, (output, status, (output, [], sym (append-nil output), is), subst (λ (s : S). FailsWithin sink old s output) (sym left) within))
-reason_fails sink old mid new AreEnds reason (Err done) (Err fault) (same, left) puts (inr (line, kept)) =
+reason_fails sink old mid new AreEnds reason (Err given) (Err fault) (same, left) puts (inr (line, kept)) =
     inr (ap line_of same ∙ line, left ∙ kept)
 
 -- what is done for a plan text ends with a status of what is done

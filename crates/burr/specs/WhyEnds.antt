@@ -1,5 +1,5 @@
 -- How `why` ends: what it prints begins with the line that `asm` or `check` prints.
-use Rattle.std.specs.Prelude.{◌≡◌, ◌⊎◌, ◌++◌, ℕ, List, [], ⊥, Result, Ok, Err}
+use Rattle.std.specs.Prelude.{◌≡◌, ◌⊎◌, ◌++◌, ℕ, List, [], Result, Ok, Err}
 use Rattle.burr_io.specs.Sink.{SinkView, Takes, FailsWithin}
 use Rattle.burr_assembly.specs.Rules.Text.{Assembly}
 use Rattle.burr_asm.specs.declared.fault.AsmFault.{AsmFault}
@@ -33,9 +33,9 @@ WhyEnds text plan = Begins (TextEnds text (PlanTextEnds plan))
 -- nothing was put
 abbrev pub AddsReason : {S : Type 0} → SinkView S → S → S → List ℕ → Result Status Fault
     → Result Status Fault → Type 0
-AddsReason sink old new reason (Ok done) (Ok status) =
-    (status ≡ done) × Takes sink old new reason
-AddsReason sink old new reason (Ok done) (Err fault) =
+AddsReason sink old new reason (Ok given) (Ok status) =
+    (status ≡ given) × Takes sink old new reason
+AddsReason sink old new reason (Ok given) (Err fault) =
     (line_of fault ≡ output_failed) × FailsWithin sink old new reason
-AddsReason sink old new reason (Err done) (Ok status) = ⊥
-AddsReason sink old new reason (Err done) (Err fault) = (fault ≡ done) × (new ≡ old)
+AddsReason sink old new reason (Err given) (Ok status) = ⊥
+AddsReason sink old new reason (Err given) (Err fault) = (fault ≡ given) × (new ≡ old)

@@ -65,9 +65,9 @@ fn why_texts<'a, W: Sink>(
     sink: &mut W,
 ) -> Result<Status, Fault<'a>>
     ensures ok { IfOk result (PutsEnd W.Sink sink.old sink.new
-        (WhyEnds texts.drawing.now texts.text.now)) }
+        (WhyEnds texts.entry.drawing.now texts.entry.text.now)) }
     ensures err { IfErr result (λ fault. FailsToEnd W.Sink sink.old sink.new
-        (WhyEnds texts.drawing.now texts.text.now) (line_of fault)) }
+        (WhyEnds texts.entry.drawing.now texts.entry.text.now) (line_of fault)) }
 {
     match Assembly::read(alloc, texts.drawing) {
         Ok(assembly) => why_text(alloc, texts, &assembly, sink),
@@ -88,9 +88,9 @@ fn why_text<'a, W: Sink>(
     sink: &mut W,
 ) -> Result<Status, Fault<'a>>
     ensures ok { IfOk result (PutsEnd W.Sink sink.old sink.new
-        (Begins (PlanTextEnds texts.text.now assembly.now))) }
+        (Begins (PlanTextEnds texts.entry.text.now assembly.now))) }
     ensures err { IfErr result (λ fault. FailsToEnd W.Sink sink.old sink.new
-        (Begins (PlanTextEnds texts.text.now assembly.now)) (line_of fault)) }
+        (Begins (PlanTextEnds texts.entry.text.now assembly.now)) (line_of fault)) }
 {
     match assemble(alloc, texts.text) {
         Ok(container) => {

@@ -26,3 +26,8 @@ pub returns-in-Explain-clause-err : goal.returns-in-Explain-clause-err
 returns-in-Explain-clause-err g c =
     early (took (g.W.Sink.taken c.args.sink.now.sink) (g.W.Sink.taken c.hand_on-in-Explain.new.sink.sink) (g.W.Sink.has_failed c.hand_on-in-Explain.new.sink.sink)) c.hand_on-in-Explain.result (
     less_handed g.W.Sink c.args.sink.now c.explain_line-done.new.sink c.hand_on-in-Explain.new.sink c.explain_line-done.result c.hand_on-in-Explain.result c.requires.fresh c.hand_on-in-Explain.ensures c.explain_line-done.ensures.ok c.explain_line-done.ensures.err)
+
+pub returns-in-Why-clause-err : goal.returns-in-Why-clause-err
+returns-in-Why-clause-err g c =
+    early (took (g.W.Sink.taken c.args.sink.now.sink) (g.W.Sink.taken c.hand_on-in-Why.new.sink.sink) (g.W.Sink.has_failed c.hand_on-in-Why.new.sink.sink)) c.hand_on-in-Why.result (
+    less_handed g.W.Sink c.args.sink.now c.why_files-done.new.sink c.hand_on-in-Why.new.sink c.why_files-done.result c.hand_on-in-Why.result c.requires.fresh c.hand_on-in-Why.ensures c.why_files-done.ensures.ok c.why_files-done.ensures.err)
