@@ -1,17 +1,16 @@
 //! What holds at a point beside what a frame says.
 
 use crate::difference::Difference;
-use crate::offset::{Offset, placed};
+use crate::offset::{Offset, exit_places, frame_places};
 use crate::plan_text::PlanText;
 use crate::standing::{Standing, value};
 use arrayvec::ArrayVec;
 use burr_code::Placement;
 use burr_container::{ExitRef, FrameRef};
-use burr_forms::Form;
 use std::alloc::{AllocError, Global};
 
 /// What of a frame is compared beyond where the pieces lie.
-#[derive(Clone, Copy, Debug, PartialEq, Eq)]
+#[derive(Clone, Copy, PartialEq, Eq)]
 pub enum Compared {
     /// Where a procedure is called, or a run begins: slots, no operand.
     Entry,
@@ -42,7 +41,7 @@ impl<'a, 'c> Comparison<'a, 'c> {
         };
         comparison.compare_head(standing, frame.tray(), frame.grip())?;
         comparison.compare_operand_count(standing, frame.stack_count())?;
-        comparison.compare_trays(standing, frame)?;
+        comparison.compare_trays(standing, &frame_places(frame, &[]))?;
         let symbols = comparison.live_values(standing, frame)?;
         if comparison.found.is_empty() {
             comparison.compare_numbers(standing, frame, &symbols)?;
@@ -65,12 +64,12 @@ impl<'a, 'c> Comparison<'a, 'c> {
             found: Vec::new(alloc),
         };
         comparison.compare_head(standing, exit.tray(), exit.grip())?;
-        comparison.compare_exit_trays(standing, exit)?;
+        comparison.compare_trays(standing, &exit_places(exit, &[]))?;
         if comparison.found.is_empty() {
             let symbols = exit_values(standing, exit);
             comparison.compare_results(exit, &symbols)?;
             comparison.compare_exit_guards(exit, &symbols)?;
-            comparison.compare_exit_offsets(standing, exit, &symbols)?;
+            comparison.compare_offsets(standing, &exit_places(exit, &symbols))?;
         }
         Ok(comparison.found)
     }
@@ -108,22 +107,10 @@ impl<'a, 'c> Comparison<'a, 'c> {
     fn compare_trays(
         &mut self,
         standing: &Standing,
-        frame: &FrameRef<'_>,
+        wanted: &[Placement<Offset>],
     ) -> Result<(), AllocError> {
-        for piece in 0..frame.piece_count() {
-            self.compare_tray(standing, piece, tray_of(frame.place(piece)))?;
-        }
-        Ok(())
-    }
-
-    /// The same of an exit frame.
-    fn compare_exit_trays(
-        &mut self,
-        standing: &Standing,
-        exit: &ExitRef<'_>,
-    ) -> Result<(), AllocError> {
-        for piece in 0..exit.piece_count() {
-            self.compare_tray(standing, piece, tray_of(exit.place(piece)))?;
+        for (piece, wanted) in wanted.iter().enumerate() {
+            self.compare_tray(standing, piece, wanted.tray())?;
         }
         Ok(())
     }
@@ -182,7 +169,7 @@ impl<'a, 'c> Comparison<'a, 'c> {
             self.compare_guard(n as u8, value(&frame.guard(n), symbols))?;
         }
         self.compare_operands(standing, frame, symbols)?;
-        self.compare_offsets(standing, frame, symbols)
+        self.compare_offsets(standing, &frame_places(frame, symbols))
     }
 
     /// The ranges of slots.
@@ -233,12 +220,10 @@ impl<'a, 'c> Comparison<'a, 'c> {
     fn compare_offsets(
         &mut self,
         standing: &Standing,
-        frame: &FrameRef<'_>,
-        symbols: &[i64],
+        wanted: &[Placement<Offset>],
     ) -> Result<(), AllocError> {
-        for piece in 0..frame.piece_count() {
-            let wanted = placed(frame.place(piece), symbols);
-            self.compare_offset(standing, piece, &wanted)?;
+        for (piece, wanted) in wanted.iter().enumerate() {
+            self.compare_offset(standing, piece, wanted)?;
         }
         Ok(())
     }
@@ -276,20 +261,6 @@ impl Comparison<'_, '_> {
     ) -> Result<(), AllocError> {
         for n in 0..exit.guard_count() {
             self.compare_guard(n, value(&exit.guard(n), symbols))?;
-        }
-        Ok(())
-    }
-
-    /// The offsets of an exit frame.
-    fn compare_exit_offsets(
-        &mut self,
-        standing: &Standing,
-        exit: &ExitRef<'_>,
-        symbols: &[i64],
-    ) -> Result<(), AllocError> {
-        for piece in 0..exit.piece_count() {
-            let wanted = placed(exit.place(piece), symbols);
-            self.compare_offset(standing, piece, &wanted)?;
         }
         Ok(())
     }
@@ -339,11 +310,6 @@ fn exit_values(standing: &Standing, exit: &ExitRef<'_>) -> ArrayVec<i64, 8> {
         let _ = values.try_push(*result);
     }
     values
-}
-
-/// The tray of a place; none where it is apart.
-fn tray_of(place: Option<(u8, Form, Form, Form)>) -> Option<u8> {
-    place.map(|place| place.0)
 }
 
 /// Whether a number lies in a range.

@@ -85,6 +85,20 @@ impl Difference<'_> {
 impl fmt::Display for Difference<'_> {
     fn fmt<W: fmt::Write>(&self, f: &mut fmt::Formatter<W>) -> fmt::Result {
         match self {
+            Difference::Tray { .. }
+            | Difference::Grip { .. }
+            | Difference::OperandCount { .. }
+            | Difference::Whereabouts { .. }
+            | Difference::Unknown { .. } => self.write_structure(f),
+            _ => self.write_number(f),
+        }
+    }
+}
+
+impl Difference<'_> {
+    /// Writes what differs without regard to points.
+    fn write_structure<W: fmt::Write>(&self, f: &mut fmt::Formatter<W>) -> fmt::Result {
+        match self {
             Difference::Tray { is, wanted } => {
                 write!(f, "the current tray is {is}, the frame says {wanted}")
             }
@@ -111,6 +125,13 @@ impl fmt::Display for Difference<'_> {
                 write!(f, "{name} is {is}, the frame says {wanted}")
             }
             Difference::Unknown { slot } => write!(f, "slot {slot} is not known"),
+            _ => Ok(()),
+        }
+    }
+
+    /// Writes which number differs.
+    fn write_number<W: fmt::Write>(&self, f: &mut fmt::Formatter<W>) -> fmt::Result {
+        match self {
             Difference::Slot { slot, is, range } => {
                 let (low, high) = *range;
                 write!(f, "slot {slot} is {is}, the frame wants {low} to {high}")
@@ -136,6 +157,7 @@ impl fmt::Display for Difference<'_> {
             Difference::Cost { is, wanted } => {
                 write!(f, "cost {is} is left, the frame wants {wanted}")
             }
+            _ => Ok(()),
         }
     }
 }

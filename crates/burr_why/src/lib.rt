@@ -15,5 +15,8 @@ mod report;
 mod standing;
 mod why;
 
+pub use lines::{Line, PlanLines};
+pub use part::{Part, Place};
 pub use plan_text::PlanText;
+pub use report::Shown;
 pub use why::{reason_of_line, reason_of_refusal};

@@ -7,7 +7,7 @@ use burr_text::{cut_at, integer};
 use std::alloc::{AllocError, Global};
 
 /// A line: its number, counted from 1, and its bytes without the line feed.
-#[derive(Clone, Copy, Debug)]
+#[derive(Clone, Copy)]
 pub struct Line<'a> {
     pub number: usize,
     pub bytes: &'a [u8],
@@ -89,6 +89,11 @@ impl<'a> PlanLines<'a> {
             number = number.saturating_add(1);
         }
         Ok(PlanLines { lines })
+    }
+
+    /// The lines, in their order.
+    pub fn lines(&self) -> &[(Place, Line<'a>)] {
+        &self.lines
     }
 
     /// The line that says this; none where there is none.

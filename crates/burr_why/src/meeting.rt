@@ -4,59 +4,61 @@ use crate::offset::Offset;
 use burr_voxels::{Cell, Direction};
 
 /// Where a piece meets another one: the cell, and after how many units along the direction.
-#[derive(Clone, Copy, Debug, PartialEq, Eq)]
+#[derive(Clone, Copy, PartialEq, Eq)]
 pub struct Meeting {
     pub cell: Offset,
     pub units: i64,
 }
 
-/// The first cell of a piece, in the order of its cells, that another piece has too; both lie so
-/// far from home.
-pub fn common_cell(
-    cells: &[Cell],
-    offset: Offset,
-    others: &[Cell],
-    other_offset: Offset,
-) -> Option<Offset> {
-    for cell in cells {
-        let there = lies_at(cell, offset);
-        if others
+/// A piece that is not apart.
+#[derive(Clone, Copy)]
+pub struct Displaced<'a> {
+    pub name: &'a str,
+    /// Its cells at home.
+    pub cells: &'a [Cell],
+    /// How far from home it lies.
+    pub offset: Offset,
+}
+
+impl Displaced<'_> {
+    /// Whether a cell of it lies there.
+    fn has(&self, there: Offset) -> bool {
+        self.cells
             .iter()
-            .any(|other| lies_at(other, other_offset) == there)
-        {
+            .any(|cell| lies_at(cell, self.offset) == there)
+    }
+}
+
+/// The first cell of a piece, in the order of its cells, that another piece has too.
+pub fn common_cell(piece: &Displaced<'_>, other: &Displaced<'_>) -> Option<Offset> {
+    for cell in piece.cells {
+        let there = lies_at(cell, piece.offset);
+        if other.has(there) {
             return Some(there);
         }
     }
     None
 }
 
-/// Where a piece that goes along a direction first meets another one, after one unit or more; both
-/// lie so far from home.
+/// Where a piece that goes along a direction first meets another one, after one unit or more.
 pub fn first_meeting(
-    cells: &[Cell],
-    offset: Offset,
-    others: &[Cell],
-    other_offset: Offset,
+    piece: &Displaced<'_>,
+    other: &Displaced<'_>,
     direction: Direction,
 ) -> Option<Meeting> {
     let mut first = None;
-    for cell in cells {
-        let from = lies_at(cell, offset);
-        first = sooner(first, meeting_from(from, others, other_offset, direction));
+    for cell in piece.cells {
+        let from = lies_at(cell, piece.offset);
+        first = sooner(first, meeting_from(from, other, direction));
     }
     first
 }
 
-/// Where a cell that goes along a direction first meets another piece.
-fn meeting_from(
-    from: Offset,
-    others: &[Cell],
-    other_offset: Offset,
-    direction: Direction,
-) -> Option<Meeting> {
+/// Where a cell that goes along a direction first meets a piece.
+fn meeting_from(from: Offset, piece: &Displaced<'_>, direction: Direction) -> Option<Meeting> {
     let mut first = None;
-    for other in others {
-        let cell = lies_at(other, other_offset);
+    for cell in piece.cells {
+        let cell = lies_at(cell, piece.offset);
         let units = units_between(from, cell, direction);
         first = sooner(first, units.map(|units| Meeting { cell, units }));
     }

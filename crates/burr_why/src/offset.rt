@@ -1,9 +1,12 @@
 use crate::standing::value;
+use arrayvec::ArrayVec;
 use burr_code::Placement;
+use burr_code::limits::MOST_PIECES;
+use burr_container::{ExitRef, FrameRef};
 use burr_forms::Form;
 
 /// How far a piece lies from home, in cells.
-#[derive(Clone, Copy, Debug, Default, PartialEq, Eq)]
+#[derive(Clone, Copy, Default, PartialEq, Eq)]
 pub struct Offset {
     pub x: i64,
     pub y: i64,
@@ -26,8 +29,32 @@ impl Offset {
     }
 }
 
+/// Where a frame has the pieces, for these values of its symbols.
+pub fn frame_places(
+    frame: &FrameRef<'_>,
+    symbols: &[i64],
+) -> ArrayVec<Placement<Offset>, MOST_PIECES> {
+    let mut places = ArrayVec::new();
+    for piece in 0..frame.piece_count() {
+        let _ = places.try_push(placed(frame.place(piece), symbols));
+    }
+    places
+}
+
+/// The same of an exit frame.
+pub fn exit_places(
+    exit: &ExitRef<'_>,
+    symbols: &[i64],
+) -> ArrayVec<Placement<Offset>, MOST_PIECES> {
+    let mut places = ArrayVec::new();
+    for piece in 0..exit.piece_count() {
+        let _ = places.try_push(placed(exit.place(piece), symbols));
+    }
+    places
+}
+
 /// The place that forms give for these values of their symbols.
-pub fn placed(place: Option<(u8, Form, Form, Form)>, symbols: &[i64]) -> Placement<Offset> {
+fn placed(place: Option<(u8, Form, Form, Form)>, symbols: &[i64]) -> Placement<Offset> {
     match place {
         None => Placement::Apart,
         Some((tray, x, y, z)) => Placement::On {

@@ -1,7 +1,7 @@
 //! The places of a plan text.
 
 /// What a line of a frame or of an exit frame tells.
-#[derive(Clone, Copy, Debug, PartialEq, Eq)]
+#[derive(Clone, Copy, PartialEq, Eq)]
 pub enum Part {
     /// The current tray and the grip.
     Head,
@@ -16,7 +16,7 @@ pub enum Part {
 
 /// What a line of a plan text says: procedures, their labels and the bytes of their code are told
 /// by their numbers, from 0.
-#[derive(Clone, Copy, Debug, PartialEq, Eq)]
+#[derive(Clone, Copy, PartialEq, Eq)]
 pub enum Place {
     Plan,
     Procedure(usize),

@@ -3,6 +3,7 @@
 use burr_assembly::Assembly;
 use burr_code::limits::MOST_LABELS;
 use burr_container::{Container, ExitRef, FrameRef};
+use burr_voxels::Cell;
 
 /// A plan text, the container that it is assembled to, and the assembly that it was judged for.
 #[derive(Clone, Copy)]
@@ -21,6 +22,14 @@ impl<'a, 'c> PlanText<'a, 'c> {
             return "";
         }
         self.assembly.piece_name(piece)
+    }
+
+    /// The cells of a piece at home; none where there is no such piece.
+    pub fn cells(&self, piece: u8) -> &'a [Cell] {
+        if self.assembly.piece_count() <= piece {
+            return &[];
+        }
+        self.assembly.cells(piece)
     }
 
     /// How many parameters a procedure has; 0 where there is no such procedure.

@@ -2,7 +2,7 @@
 
 mod carrying_out;
 
-use crate::offset::{Offset, placed};
+use crate::offset::{Offset, frame_places};
 use arrayvec::ArrayVec;
 use burr_code::Placement;
 use burr_code::limits::{MOST_OPERANDS, MOST_PIECES, SLOTS};
@@ -12,7 +12,7 @@ use std::alloc::AllocError;
 
 /// Where an open number comes from: a live slot of the frame, the answer of an instruction, or a
 /// result that it brought; instructions are told by their places.
-#[derive(Clone, Copy, Debug, PartialEq, Eq)]
+#[derive(Clone, Copy, PartialEq, Eq)]
 pub enum Origin {
     Slot(u8),
     Answer(usize),
@@ -20,7 +20,7 @@ pub enum Origin {
 }
 
 /// An open number, and what it is at the point.
-#[derive(Clone, Copy, Debug, PartialEq, Eq)]
+#[derive(Clone, Copy, PartialEq, Eq)]
 pub struct Symbol {
     pub origin: Origin,
     pub value: i64,
@@ -36,7 +36,7 @@ impl Default for Symbol {
 }
 
 /// What holds at a place of the code, at one point: numbers in place of the verifier's forms.
-#[derive(Clone, Debug, Drop)]
+#[derive(Clone, Drop)]
 pub struct Standing {
     /// The numbers that were open, in the order of the point.
     pub symbols: ArrayVec<Symbol, 8>,
@@ -86,10 +86,7 @@ impl Standing {
         for n in 0..frame.stack_count() {
             let _ = standing.operands.try_push(value(&frame.stack(n), &symbols));
         }
-        for piece in 0..frame.piece_count() {
-            let place = placed(frame.place(piece), &symbols);
-            let _ = standing.places.try_push(place);
-        }
+        standing.places = frame_places(frame, &symbols);
         standing.tray = frame.tray();
         standing.grip = frame.grip();
         standing.cost = value(&frame.cost(), &symbols);

@@ -7,8 +7,8 @@ use crate::report::Report;
 use burr_verify::Refusal;
 use std::alloc::{AllocError, Global};
 
-/// Says why a plan is refused: the lines of its text that are at fault, each as `cup.plan:38: jump
-/// L`, and below each what was compared there.
+/// Says why a plan is refused: the lines of its text that are at fault, each as
+/// `cup.plan:38: jump L`, and below each what was compared there.
 pub fn reason_of_refusal(
     alloc: Global,
     plan: PlanText<'_, '_>,

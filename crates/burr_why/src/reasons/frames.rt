@@ -14,7 +14,7 @@ use std::alloc::AllocError;
 const MOST_TOLD: usize = 12;
 
 /// A frame of a plan: that of a label, or an exit frame.
-#[derive(Clone, Copy, Debug, PartialEq, Eq)]
+#[derive(Clone, Copy, PartialEq, Eq)]
 pub enum FramePlace {
     Label(usize, usize),
     Exit(usize),

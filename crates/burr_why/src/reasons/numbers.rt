@@ -15,7 +15,7 @@ impl Reasons<'_, '_> {
         rule: Rule,
         site: &Site<'_, '_>,
     ) -> Result<(), AllocError> {
-        let (Some((instruction, _)), Some(standing)) = (&site.instruction, &site.standing) else {
+        let Some((instruction, standing)) = site.judged() else {
             return Ok(());
         };
         match rule {

@@ -46,6 +46,16 @@ impl<'r, 'c> Site<'r, 'c> {
     }
 }
 
+impl<'c> Site<'_, 'c> {
+    /// The instruction and what holds before it; none where one of them is not known.
+    pub fn judged(&self) -> Option<(&Instr<'c>, &Standing)> {
+        match (&self.instruction, &self.standing) {
+            (Some((instruction, _)), Some(standing)) => Some((instruction, standing)),
+            _ => None,
+        }
+    }
+}
+
 /// The instruction at a place of a procedure's code, and how many bytes it has.
 fn instruction_at<'c>(
     plan: &PlanText<'_, 'c>,

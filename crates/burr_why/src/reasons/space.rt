@@ -2,7 +2,7 @@
 
 use super::{Reasons, Site};
 use crate::group::{Group, Whereabouts};
-use crate::meeting::{common_cell, first_meeting};
+use crate::meeting::{Displaced, common_cell, first_meeting};
 use crate::offset::Offset;
 use crate::part::{Part, Place};
 use crate::report::Shown;
@@ -19,7 +19,7 @@ impl Reasons<'_, '_> {
         rule: Rule,
         site: &Site<'_, '_>,
     ) -> Result<(), AllocError> {
-        let (Some((instruction, _)), Some(standing)) = (&site.instruction, &site.standing) else {
+        let Some((instruction, standing)) = site.judged() else {
             return Ok(());
         };
         match (rule, instruction) {
@@ -155,11 +155,7 @@ impl Reasons<'_, '_> {
         pieces: Option<(u8, u8)>,
         site: &Site<'_, '_>,
     ) -> Result<(), AllocError> {
-        let (Some((piece, other)), Some((instruction, _)), Some(standing)) = (
-            pieces,
-            &site.instruction,
-            &site.standing,
-        ) else {
+        let (Some((piece, other)), Some((instruction, standing))) = (pieces, site.judged()) else {
             return Ok(());
         };
         match instruction {
@@ -184,24 +180,14 @@ impl Reasons<'_, '_> {
 
     /// The cell that two pieces share after a step.
     fn add_overlap(&mut self, piece: u8, other: u8, standing: &Standing) -> Result<(), AllocError> {
-        let assembly = self.plan.assembly;
-        if assembly.piece_count() <= piece || assembly.piece_count() <= other {
-            return Ok(());
-        }
-        let (Some(offset), Some(other_offset)) = (
-            offset_of(standing, piece),
-            offset_of(standing, other),
-        ) else {
+        let Some((one, two)) = self.displaced_pair(piece, other, standing) else {
             return Ok(());
         };
-        let cells = assembly.cells(piece);
-        if let Some(cell) = common_cell(cells, offset, assembly.cells(other), other_offset) {
-            let name = self.plan.piece_name(piece);
-            let other_name = self.plan.piece_name(other);
+        if let Some(cell) = common_cell(&one, &two) {
             let Offset { x, y, z } = cell;
-            self.note(format_args!(
-                "after it {name} and {other_name} overlap at cell {x} {y} {z}"
-            ))?;
+            let name = one.name;
+            let other = two.name;
+            self.note(format_args!("after it {name} and {other} overlap at cell {x} {y} {z}"))?;
         }
         Ok(())
     }
@@ -214,30 +200,45 @@ impl Reasons<'_, '_> {
         direction: Direction,
         standing: &Standing,
     ) -> Result<(), AllocError> {
-        let assembly = self.plan.assembly;
-        if assembly.piece_count() <= piece || assembly.piece_count() <= other {
-            return Ok(());
-        }
-        let (Some(offset), Some(other_offset)) = (
-            offset_of(standing, piece),
-            offset_of(standing, other),
-        ) else {
+        let Some((one, two)) = self.displaced_pair(piece, other, standing) else {
             return Ok(());
         };
-        let cells = assembly.cells(piece);
-        let others = assembly.cells(other);
-        if let Some(meeting) = first_meeting(cells, offset, others, other_offset, direction) {
-            let name = self.plan.piece_name(piece);
-            let other_name = self.plan.piece_name(other);
+        if let Some(meeting) = first_meeting(&one, &two, direction) {
+            let name = one.name;
+            let other = two.name;
             let Offset { x, y, z } = meeting.cell;
             let units = meeting.units;
             let way = direction.name();
             let way = Shown(&way);
             self.note(format_args!(
-                "{name} and {other_name} overlap at cell {x} {y} {z}, {units} along {way}"
+                "{name} and {other} overlap at cell {x} {y} {z}, {units} along {way}"
             ))?;
         }
         Ok(())
+    }
+}
+
+impl<'a> Reasons<'a, '_> {
+    /// Two pieces of the current tray; none where one of them isn't there.
+    fn displaced_pair(
+        &self,
+        piece: u8,
+        other: u8,
+        standing: &Standing,
+    ) -> Option<(Displaced<'a>, Displaced<'a>)> {
+        let one = self.displaced(piece, standing)?;
+        let two = self.displaced(other, standing)?;
+        Some((one, two))
+    }
+
+    /// A piece of the current tray; none where it isn't there.
+    fn displaced(&self, piece: u8, standing: &Standing) -> Option<Displaced<'a>> {
+        let place = standing.places.get(usize::from(piece))?;
+        Some(Displaced {
+            name: self.plan.piece_name(piece),
+            cells: self.plan.cells(piece),
+            offset: place.position_in(standing.tray)?,
+        })
     }
 }
 
@@ -247,14 +248,6 @@ fn lies_in(standing: &Standing, piece: u8, tray: u8) -> bool {
         Some(place) => place.is_in(tray),
         None => false,
     }
-}
-
-/// How far a piece of the current tray is from home.
-fn offset_of(standing: &Standing, piece: u8) -> Option<Offset> {
-    standing
-        .places
-        .get(usize::from(piece))?
-        .position_in(standing.tray)
 }
 
 /// Whether a piece is too far from home.

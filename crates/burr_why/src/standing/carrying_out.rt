@@ -1,7 +1,7 @@
 //! What instructions do, where they keep their rules.
 
 use super::{Origin, Standing, value};
-use crate::offset::{Offset, placed};
+use crate::offset::{Offset, exit_places};
 use arrayvec::ArrayVec;
 use burr_code::{Instr, Placement, is_in_set, take_aside};
 use burr_container::{Container, ExitRef};
@@ -169,11 +169,7 @@ impl Standing {
         self.tray = exit.tray();
         self.grip = exit.grip();
         self.gripped_at = None;
-        self.places = ArrayVec::new();
-        for piece in 0..exit.piece_count() {
-            let place = placed(exit.place(piece), symbols);
-            let _ = self.places.try_push(place);
-        }
+        self.places = exit_places(exit, symbols);
     }
 }
 
