@@ -1,0 +1,4 @@
+mod FaultyLines
+mod FirstLines
+mod PlanTexts
+mod SheetFronts

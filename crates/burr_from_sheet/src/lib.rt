@@ -1,0 +1,18 @@
+//! Plans of sheets: the text of a plan without loops and questions whose run has the move lines of a
+//! sheet. The plan is judged and run before it is handed back.
+#![tactic(auto)]
+
+mod checking;
+mod code;
+mod drafting;
+mod fault;
+mod kept;
+mod lines;
+mod planning;
+mod sheet_plans;
+
+pub use fault::{RefusedDraft, SheetFault};
+pub use sheet_plans::plan_of_sheet;
+
+#[cfg(test)]
+mod tests;
