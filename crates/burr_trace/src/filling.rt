@@ -1,0 +1,152 @@
+//! Frames that are read off a run, in place of lines `auto`.
+
+use crate::following::{costs_of, follow};
+use crate::labels::Labels;
+use crate::seen::Seen;
+use crate::summary::Summary;
+use crate::walk::Walk;
+use burr_bench::Closing;
+use burr_blocking::Blocking;
+use burr_text::cut_at;
+use burr_why::{PlanLines, PlanText};
+use std::alloc::{AllocError, Global};
+
+/// How many lines a blank frame has beside those of pieces.
+const HEAD_LINES: usize = 2;
+
+/// A plan text in which a line `auto` may stand after a label, in place of its frame, for an assembly
+/// of so many pieces.
+#[derive(Clone, Copy)]
+pub struct Unframed<'a> {
+    pub text: &'a [u8],
+    pub pieces: u8,
+}
+
+/// What comes of reading frames off a run; lines are counted from 1.
+#[derive(Drop)]
+pub enum Filled {
+    /// The text, with a frame in place of each line `auto`.
+    Whole(Vec<u8>),
+    /// The run does not come to its end, with all pieces apart.
+    Unended,
+    /// The run does not come to the label before this line.
+    Unseen(usize),
+    /// No frame is found that agrees with all that was seen at the label before this line.
+    Various(usize),
+}
+
+impl Unframed<'_> {
+    /// The text, with a frame that says nothing in place of each line `auto`.
+    pub fn with_blank_frames(&self, alloc: Global) -> Result<Vec<u8>, AllocError> {
+        let mut made = Vec::new(alloc);
+        let mut rest = self.text;
+        while let Some((line, more)) = cut_at(rest, b'\n') {
+            if is_auto(line) {
+                self.add_blank_frame(alloc, &mut made)?;
+            } else {
+                add_line(line, &mut made)?;
+            }
+            rest = more;
+        }
+        made.extend_from_slice(rest)?;
+        Ok(made)
+    }
+
+    /// Adds a frame that says nothing.
+    fn add_blank_frame(&self, alloc: Global, made: &mut Vec<u8>) -> Result<(), AllocError> {
+        made.extend_from_slice(b"frame 0 -\ncost 0\n")?;
+        for piece in 0..self.pieces {
+            let line = format!(in alloc; "at {piece} apart\n")?;
+            made.extend_from_slice(line.as_bytes())?;
+        }
+        Ok(())
+    }
+
+    /// The number of a line of the text with blank frames, in the text itself.
+    pub fn own_line(&self, number: usize) -> usize {
+        let mut own: usize = 1;
+        let mut blank: usize = 1;
+        let mut rest = self.text;
+        while let Some((line, more)) = cut_at(rest, b'\n') {
+            let lines = if is_auto(line) { self.blank_lines() } else { 1 };
+            blank = blank.saturating_add(lines);
+            if number < blank {
+                return own;
+            }
+            own = own.saturating_add(1);
+            rest = more;
+        }
+        own
+    }
+
+    /// How many lines a blank frame has.
+    fn blank_lines(&self) -> usize {
+        HEAD_LINES.saturating_add(usize::from(self.pieces))
+    }
+
+    /// The text, with the frames in place of lines `auto` that are read off the run of the plan of the
+    /// text with blank frames, with these answers.
+    pub fn fill<B: Blocking>(
+        &self,
+        alloc: Global,
+        plan: PlanText<'_, '_>,
+        blocking: &B,
+        answers: &[i32],
+    ) -> Result<Filled, AllocError> {
+        let lines = PlanLines::of(alloc, plan.text, plan.container)?;
+        let labels = Labels::of(alloc, &lines, plan.container)?;
+        let costs = costs_of(alloc, plan.container, &labels, blocking, answers)?;
+        let mut summary = Summary::new(alloc, &labels, &costs)?;
+        let Some(mut walk) = Walk::start(plan.container, blocking, answers) else {
+            return Ok(Filled::Unended);
+        };
+        if follow(&mut walk, &labels, &mut summary)? != Closing::Apart {
+            return Ok(Filled::Unended);
+        }
+        self.with_frames(alloc, summary.seen())
+    }
+
+    /// The text, with the frames of what was seen at each label in place of lines `auto`.
+    fn with_frames(&self, alloc: Global, seen: &[Option<Seen>]) -> Result<Filled, AllocError> {
+        let mut made = Vec::new(alloc);
+        let mut labels: usize = 0;
+        let mut number: usize = 1;
+        let mut rest = self.text;
+        while let Some((line, more)) = cut_at(rest, b'\n') {
+            if line.starts_with(b"label ") {
+                labels = labels.saturating_add(1);
+            }
+            if is_auto(line) {
+                match seen.get(labels.saturating_sub(1)) {
+                    Some(Some(seen)) if seen.is_one_frame() => add_frame(alloc, seen, &mut made)?,
+                    Some(Some(_)) => return Ok(Filled::Various(number)),
+                    _ => return Ok(Filled::Unseen(number)),
+                }
+            } else {
+                add_line(line, &mut made)?;
+            }
+            number = number.saturating_add(1);
+            rest = more;
+        }
+        Ok(Filled::Whole(made))
+    }
+}
+
+/// Whether a line stands in place of a frame.
+fn is_auto(line: &[u8]) -> bool {
+    line == b"auto".as_slice()
+}
+
+/// Adds a line.
+fn add_line(line: &[u8], made: &mut Vec<u8>) -> Result<(), AllocError> {
+    made.extend_from_slice(line)?;
+    made.push(b'\n')?;
+    Ok(())
+}
+
+/// Adds the lines of the frame that all agrees with that was seen.
+fn add_frame(alloc: Global, seen: &Seen, made: &mut Vec<u8>) -> Result<(), AllocError> {
+    let mut frame = String::new(alloc);
+    seen.add_frame(&mut frame)?;
+    made.extend_from_slice(frame.as_bytes())
+}

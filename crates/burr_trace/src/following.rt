@@ -1,0 +1,82 @@
+//! A run that is followed from label to label.
+
+use crate::costs::Costs;
+use crate::labels::Labels;
+use crate::walk::{Turn, Walk};
+use burr_bench::Closing;
+use burr_blocking::Blocking;
+use burr_container::Container;
+use std::alloc::{AllocError, Global};
+
+/// Who follows a run.
+pub trait Observer {
+    /// The run has come to the label of this number.
+    fn arrive<B: Blocking>(
+        &mut self,
+        label: usize,
+        walk: &Walk<'_, '_, B>,
+    ) -> Result<(), AllocError>;
+
+    /// A turn was made.
+    fn note_turn<B: Blocking>(&mut self, walk: &Walk<'_, '_, B>);
+}
+
+/// Follows a run from its start to where it closes.
+pub fn follow<B: Blocking, O: Observer>(
+    walk: &mut Walk<'_, '_, B>,
+    labels: &Labels<'_>,
+    observer: &mut O,
+) -> Result<Closing, AllocError> {
+    let mut came = true;
+    for _ in 0..walk.most_turns() {
+        if came && let Some(label) = label_of(walk, labels) {
+            observer.arrive(label, walk)?;
+        }
+        match walk.turn() {
+            Turn::Goes => came = true,
+            Turn::Passes => came = false,
+            Turn::Closes(closing) => return Ok(closing),
+        }
+        observer.note_turn(walk);
+    }
+    Ok(Closing::Stopped)
+}
+
+/// The number of the label at which a run stands that has not ended.
+fn label_of<B: Blocking>(walk: &Walk<'_, '_, B>, labels: &Labels<'_>) -> Option<usize> {
+    let bench = walk.bench();
+    if bench.ended() {
+        return None;
+    }
+    labels.at(usize::from(bench.proc()), usize::from(bench.pc()))
+}
+
+/// The steps from each arrival on, in the run with these answers.
+pub fn costs_of<B: Blocking>(
+    alloc: Global,
+    container: &Container<'_>,
+    labels: &Labels<'_>,
+    blocking: &B,
+    answers: &[i32],
+) -> Result<Costs, AllocError> {
+    let mut costs = Costs::new(alloc);
+    if let Some(mut walk) = Walk::start(container, blocking, answers) {
+        follow(&mut walk, labels, &mut costs)?;
+        costs.close_above(0, walk.bench().steps());
+    }
+    Ok(costs)
+}
+
+impl Observer for Costs {
+    fn arrive<B: Blocking>(
+        &mut self,
+        _label: usize,
+        walk: &Walk<'_, '_, B>,
+    ) -> Result<(), AllocError> {
+        Costs::arrive(self, walk.bench().depth(), walk.bench().steps())
+    }
+
+    fn note_turn<B: Blocking>(&mut self, walk: &Walk<'_, '_, B>) {
+        self.close_above(walk.bench().depth(), walk.bench().steps());
+    }
+}

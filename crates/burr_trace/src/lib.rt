@@ -1,0 +1,19 @@
+//! The run of a plan as its author looks at it: what holds whenever the run comes to a label, in
+//! the words of frames, and for each label the frame that all of these agree with. Nothing here is
+//! trusted: what is accepted is accepted by the verifier alone.
+#![tactic(auto)]
+
+mod costs;
+mod filling;
+mod fit;
+mod following;
+mod frame_lines;
+mod labels;
+mod seen;
+mod snapshot;
+mod summary;
+mod trace;
+mod walk;
+
+pub use filling::{Filled, Unframed};
+pub use trace::trace_of;

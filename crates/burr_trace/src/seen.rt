@@ -1,0 +1,299 @@
+//! What was seen at a label, and the frame that all of it agrees with.
+
+use crate::fit::{Fit, Form, Live, Slots};
+use crate::frame_lines::Pieces;
+use crate::snapshot::Snapshot;
+use burr_code::Placement;
+use burr_code::limits::SLOTS;
+use burr_voxels::Cell;
+use std::alloc::{AllocError, Global};
+use std::fmt;
+
+/// Where a piece was seen.
+#[derive(Clone, Copy)]
+enum SeenPlace {
+    Apart,
+    In { tray: u8, offset: [Fit; 3] },
+    /// Not always in one tray, or not always apart.
+    Various,
+}
+
+impl SeenPlace {
+    /// A piece that was seen once.
+    fn new(place: &Placement<Cell>) -> SeenPlace {
+        match place {
+            Placement::Apart => SeenPlace::Apart,
+            Placement::On { tray, position } => SeenPlace::In {
+                tray: *tray,
+                offset: coordinates(*position).map(Fit::new),
+            },
+        }
+    }
+
+    /// Sees the piece, where the slots hold these, and held those when it was first seen.
+    fn see(&mut self, place: &Placement<Cell>, slots: &Slots, first: &Slots) {
+        if !self.is_where(place) {
+            *self = SeenPlace::Various;
+            return;
+        }
+        if let (SeenPlace::In { offset, .. }, Placement::On { position, .. }) = (self, place) {
+            see_offset(offset, *position, slots, first);
+        }
+    }
+
+    /// Whether the piece is apart or in a tray as it always was.
+    fn is_where(&self, place: &Placement<Cell>) -> bool {
+        match (self, place) {
+            (SeenPlace::Apart, Placement::Apart) => true,
+            (SeenPlace::In { tray, .. }, Placement::On { tray: now, .. }) => tray == now,
+            _ => false,
+        }
+    }
+}
+
+/// Sees how far a piece is from home.
+fn see_offset(offset: &mut [Fit; 3], position: Cell, slots: &Slots, first: &Slots) {
+    for (fit, number) in offset.iter_mut().zip(coordinates(position)) {
+        fit.see(number, slots, first);
+    }
+}
+
+/// The three coordinates.
+fn coordinates(cell: Cell) -> [i64; 3] {
+    [i64::from(cell.x), i64::from(cell.y), i64::from(cell.z)]
+}
+
+/// What was seen at a label.
+#[derive(Drop)]
+pub struct Seen {
+    times: u64,
+    /// The current tray and the grip; none where they were not always the same.
+    head: Option<(u8, u32)>,
+    /// What the slots held at first.
+    first: Slots,
+    /// Of each slot that always held a number, the least and the greatest.
+    ranges: [Option<(i64, i64)>; SLOTS],
+    /// Whether there were always as many operands.
+    as_many: bool,
+    operands: Vec<Fit>,
+    cost: Fit,
+    places: Vec<SeenPlace>,
+}
+
+impl Seen {
+    /// A label that was come to once.
+    pub fn new(alloc: Global, now: &Snapshot) -> Result<Seen, AllocError> {
+        let mut operands = Vec::new(alloc);
+        for operand in now.operands.iter() {
+            operands.push(Fit::new(*operand))?;
+        }
+        let mut places = Vec::new(alloc);
+        for place in now.places.iter() {
+            places.push(SeenPlace::new(place))?;
+        }
+        Ok(Seen {
+            times: 1,
+            head: Some((now.tray, now.grip)),
+            first: now.slots,
+            ranges: now.slots.map(|held| held.map(|number| (number, number))),
+            as_many: true,
+            operands,
+            cost: Fit::new(cost_of(now)),
+            places,
+        })
+    }
+
+    /// Comes to the label once more.
+    pub fn see(&mut self, now: &Snapshot) {
+        self.times = self.times.saturating_add(1);
+        if self.head != Some((now.tray, now.grip)) {
+            self.head = None;
+        }
+        self.see_slots(now);
+        self.cost.see(cost_of(now), &now.slots, &self.first);
+        self.see_operands(now);
+        self.see_places(now);
+    }
+
+    /// Sees what the slots hold.
+    fn see_slots(&mut self, now: &Snapshot) {
+        for (range, held) in self.ranges.iter_mut().zip(&now.slots) {
+            *range = match (*range, held) {
+                (Some((least, greatest)), Some(number)) => {
+                    Some((least.min(*number), greatest.max(*number)))
+                }
+                _ => None,
+            };
+        }
+    }
+
+    /// Sees the operands.
+    fn see_operands(&mut self, now: &Snapshot) {
+        if self.operands.len() != now.operands.len() {
+            self.as_many = false;
+        }
+        for (fit, operand) in self.operands.iter_mut().zip(now.operands.iter()) {
+            fit.see(*operand, &now.slots, &self.first);
+        }
+    }
+
+    /// Sees the pieces.
+    fn see_places(&mut self, now: &Snapshot) {
+        for (seen, place) in self.places.iter_mut().zip(now.places.iter()) {
+            seen.see(place, &now.slots, &self.first);
+        }
+    }
+
+    /// How often the label was come to.
+    pub fn times(&self) -> u64 {
+        self.times
+    }
+
+    /// Adds the lines of the frame that all of it agrees with; what no such line says is a comment.
+    pub fn add_frame(&self, text: &mut String) -> Result<(), AllocError> {
+        match self.head {
+            Some((tray, grip)) => {
+                let grip = Pieces(grip);
+                writeln!(text, "frame {tray} {grip}")?;
+            }
+            None => text.push_str("; frame: not always one tray and grip\n")?,
+        }
+        self.add_slots(text)?;
+        self.add_operands(text)?;
+        let cost = self.most_cost();
+        writeln!(text, "cost {cost}")?;
+        self.add_places(text)
+    }
+
+    /// Adds the lines of the slots that always held a number.
+    fn add_slots(&self, text: &mut String) -> Result<(), AllocError> {
+        for (slot, range) in self.ranges.iter().enumerate() {
+            if let Some((least, greatest)) = range {
+                writeln!(text, "slot {slot} {least} {greatest}")?;
+            }
+        }
+        Ok(())
+    }
+
+    /// Adds the lines of the operands.
+    fn add_operands(&self, text: &mut String) -> Result<(), AllocError> {
+        if !self.as_many {
+            return text.push_str("; stack: not always as many operands\n");
+        }
+        for fit in &self.operands {
+            self.add_number(text, "stack", fit)?;
+        }
+        Ok(())
+    }
+
+    /// Adds the lines of the pieces.
+    fn add_places(&self, text: &mut String) -> Result<(), AllocError> {
+        for (piece, seen) in self.places.iter().enumerate() {
+            match seen {
+                SeenPlace::Apart => writeln!(text, "at {piece} apart")?,
+                SeenPlace::Various => {
+                    writeln!(
+                        text,
+                        "; at {piece}: not always in one tray, or not always apart"
+                    )?;
+                }
+                SeenPlace::In { tray, offset } => self.add_place(text, piece, *tray, offset)?,
+            }
+        }
+        Ok(())
+    }
+
+    /// The cost as a form; where there is none, the greatest.
+    fn most_cost(&self) -> Form {
+        match self.extent(&self.cost) {
+            Extent::Form(form) => form,
+            Extent::Range(_, greatest) => Form::of_constant(greatest),
+        }
+    }
+
+    /// Whether the lines of the frame are a frame.
+    pub fn is_one_frame(&self) -> bool {
+        self.head.is_some()
+            && self.as_many
+            && self.operands.iter().all(|fit| self.extent(fit).is_form())
+            && self.places.iter().all(|seen| self.is_one_place(seen))
+    }
+
+    /// Whether the line of a piece is one of a frame.
+    fn is_one_place(&self, seen: &SeenPlace) -> bool {
+        match seen {
+            SeenPlace::Apart => true,
+            SeenPlace::Various => false,
+            SeenPlace::In { offset, .. } => offset.iter().all(|fit| self.extent(fit).is_form()),
+        }
+    }
+
+    /// Adds the line of a number with this word.
+    fn add_number(&self, text: &mut String, word: &str, fit: &Fit) -> Result<(), AllocError> {
+        let number = self.extent(fit);
+        let mark = if number.is_form() { "" } else { "; " };
+        writeln!(text, "{mark}{word} {number}")
+    }
+
+    /// Adds the line of a piece that was always in one tray.
+    fn add_place(
+        &self,
+        text: &mut String,
+        piece: usize,
+        tray: u8,
+        offset: &[Fit; 3],
+    ) -> Result<(), AllocError> {
+        let [x, y, z] = offset;
+        let x = self.extent(x);
+        let y = self.extent(y);
+        let z = self.extent(z);
+        if x.is_form() && y.is_form() && z.is_form() {
+            return writeln!(text, "at {piece} {tray} {x} {y} {z}");
+        }
+        writeln!(text, "; at {piece} {tray}: x {x}, y {y}, z {z}")
+    }
+
+    /// Which slots always held a number.
+    fn live(&self) -> Live {
+        self.ranges.map(|range| range.is_some())
+    }
+
+    /// A number that was seen at the label, as a form where there is one.
+    fn extent(&self, fit: &Fit) -> Extent {
+        match fit.form(&self.first, &self.live()) {
+            Some(form) => Extent::Form(form),
+            None => {
+                let (least, greatest) = fit.range();
+                Extent::Range(least, greatest)
+            }
+        }
+    }
+}
+
+/// The cost of a snapshot.
+fn cost_of(now: &Snapshot) -> i64 {
+    i64::try_from(now.cost).unwrap_or(i64::MAX)
+}
+
+/// A form, or how far the numbers go for which there is none.
+#[derive(Clone, Copy, Drop)]
+enum Extent {
+    Form(Form),
+    Range(i64, i64),
+}
+
+impl Extent {
+    /// Whether it is a form.
+    fn is_form(&self) -> bool {
+        matches!(self, Extent::Form(_))
+    }
+}
+
+impl fmt::Display for Extent {
+    fn fmt<W: fmt::Write>(&self, f: &mut fmt::Formatter<W>) -> fmt::Result {
+        match self {
+            Extent::Form(form) => write!(f, "{form}"),
+            Extent::Range(least, greatest) => write!(f, "{least} to {greatest}"),
+        }
+    }
+}

@@ -1,0 +1,75 @@
+//! What was seen at each label.
+
+use crate::costs::Costs;
+use crate::following::Observer;
+use crate::labels::Labels;
+use crate::seen::Seen;
+use crate::snapshot::Snapshot;
+use crate::walk::Walk;
+use burr_blocking::Blocking;
+use std::alloc::{AllocError, Global};
+
+/// What was seen at each label of a run so far.
+#[derive(Drop)]
+pub struct Summary<'x> {
+    alloc: Global,
+    costs: &'x Costs,
+    /// How many arrivals there were.
+    arrivals: usize,
+    /// In the order of labels.
+    seen: Vec<Option<Seen>>,
+}
+
+impl<'x> Summary<'x> {
+    /// Before the run.
+    pub fn new(
+        alloc: Global,
+        labels: &Labels<'_>,
+        costs: &'x Costs,
+    ) -> Result<Summary<'x>, AllocError> {
+        let mut seen = Vec::new(alloc);
+        for _label in labels.as_slice() {
+            seen.push(None)?;
+        }
+        Ok(Summary {
+            alloc,
+            costs,
+            arrivals: 0,
+            seen,
+        })
+    }
+
+    /// What was seen at each label, in their order; none where the run did not come to it.
+    pub fn seen(&self) -> &[Option<Seen>] {
+        &self.seen
+    }
+
+    /// Sees what holds at a label, and gives it.
+    pub fn see<B: Blocking>(
+        &mut self,
+        label: usize,
+        walk: &Walk<'_, '_, B>,
+    ) -> Result<Snapshot, AllocError> {
+        let now = Snapshot::of(walk.bench(), self.costs.of(self.arrivals));
+        self.arrivals = self.arrivals.saturating_add(1);
+        match self.seen.get_mut(label) {
+            Some(Some(seen)) => seen.see(&now),
+            Some(place) => *place = Some(Seen::new(self.alloc, &now)?),
+            None => {}
+        }
+        Ok(now)
+    }
+}
+
+impl Observer for Summary<'_> {
+    fn arrive<B: Blocking>(
+        &mut self,
+        label: usize,
+        walk: &Walk<'_, '_, B>,
+    ) -> Result<(), AllocError> {
+        let _now = self.see(label, walk)?;
+        Ok(())
+    }
+
+    fn note_turn<B: Blocking>(&mut self, _walk: &Walk<'_, '_, B>) {}
+}
