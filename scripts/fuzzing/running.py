@@ -27,10 +27,12 @@ CLOSING = re.compile(
     rb"|trap (?:[1-9]|1[0-7]) [A-Za-z]+ proc \d+ pc \d+ after \d+ steps"
 )
 REFUSAL = re.compile(
-    rb"refused (?:input|(?:A[1-7]|P[1-5]|answers) line \d+|A8 line \d+ " + NAME + b" " + NAME + rb"|C[1-6] at \d+"
+    rb"refused (?:input|(?:A[1-7]|P[1-5]|answers|sheet|frame) line \d+|A8 line \d+ " + NAME + b" " + NAME + rb"|C[1-6] at \d+"
     rb"|V\d+ proc \d+ pc \d+(?: pieces " + NAME + b" " + NAME + rb")?(?: point(?: -?\d+)+)?)\n"
 )
-REASON = re.compile(REFUSAL.pattern + rb"(?:[ -~]+\n)+`burr explain [APV]\d+` says more\n")
+REASON = re.compile(REFUSAL.pattern + rb"(?:[ -~]+\n)+`burr explain (?:[APV]\d+|sheet|frame)` says more\n")
+TOLD = re.compile(rb"(?:\n(?:[ -~]+\n)+)+")
+WITH_REASON = ("why", "trace", "frames", "plan")
 ACCEPTED = re.compile(rb"accepted cost (\d+) budget (\d+) looks \d+\n")
 REPLY = re.compile(
     rb"refused (?:S[1-4]|command)\n|after \d+ steps(?: asks -?\d+ -?\d+| ended)?\n"
@@ -41,7 +43,7 @@ LISTED = re.compile(rb"(?:[ -~]+\n)+")
 FAULT = re.compile(rb"cannot (?:read|write) .*\n", re.DOTALL)
 COMPLAINT = re.compile(
     rb"error: (?:a word of the command line is not UTF-8|nothing is explained under .*"
-    rb"|OUT is (?:TEXT|PLAN) itself: .*)\n"
+    rb"|OUT is (?:TEXT|PLAN|SHEET|ASSEMBLY) itself: .*)\n"
     rb"|error: (?:unrecognized subcommand '.*'|unexpected argument '.*' found"
     rb"|unexpected value '.*' for '.*' found; no more were expected|the argument '.*' cannot be used multiple times"
     rb"|the following required arguments were not provided:(?:\n  <[A-Z]+>(?:\.\.\.)?)+)\n(?:\n  tip: .*\n)?\n"
@@ -73,6 +75,12 @@ def closing_of(sheet):
     return CLOSING.fullmatch(closing) if levels == b"levels " + (b".".join(counts) or b"-") else None
 
 
+def parts_of(command, output):
+    """What is printed, of `trace` what `try` prints, and what it tells of labels."""
+    end = output.find(b"\n\n")
+    return (output[: end + 1], output[end + 1 :]) if command == "trace" and end >= 0 else (output, b"")
+
+
 def is_dialogue(output):
     """Whether this is nothing but replies of the stepper."""
     place = 0
@@ -86,9 +94,9 @@ def is_dialogue(output):
 
 def is_done(command, output):
     """Whether a command may print this with status 0."""
-    if command in ("asm", "upgrade"):
+    if command in ("asm", "upgrade", "frames", "plan"):
         return not output
-    if command in ("run", "try", None):
+    if command in ("run", "try", "trace", None):
         closing = closing_of(output)
         return closing and closing["apart"]
     if command == "step":
@@ -100,12 +108,16 @@ def judge(command, answer, is_free):
     """Tells whether status, output and complaint go together. Where `is_free`, the words may have asked for help, and
     files may be missing or too large."""
     status, output, complaint = answer
+    output, told = parts_of(command, output)
+    if told and not TOLD.fullmatch(told):
+        raise Wrong(f"trace tells {told[-200:]}")
+    refusals = (REASON, REFUSAL) if command in WITH_REASON else (REFUSAL,)
     closing = closing_of(output) if status in (1, 5) else None
     has_failed = is_free and (command == "step" or not output or complaint == b"cannot write -\n")
     is_known = {
         0: lambda: not complaint and (is_free or is_done(command, output)),
         1: lambda: not complaint
-        and ((REASON if command == "why" else REFUSAL).fullmatch(output) or closing and not closing["apart"] and not closing["waiting"]),
+        and (any(form.fullmatch(output) for form in refusals) or closing and not closing["apart"] and not closing["waiting"]),
         2: lambda: has_failed and COMPLAINT.fullmatch(complaint),
         3: lambda: has_failed and FAULT.fullmatch(complaint),
         4: lambda: has_failed and complaint == b"no memory\n",

@@ -1,5 +1,6 @@
 mod Ending
+mod Refusing
 mod FileEnding
 pub mod HandedText
-mod Reasons
+mod Notes
 mod Stepping

@@ -6,12 +6,14 @@ mod fault;
 mod file_commands;
 mod files;
 mod handing;
+mod making;
 mod plan_commands;
 mod plan_text_refusal;
 mod program;
+mod reasons;
 mod status;
 mod step_command;
-mod why_command;
+mod text_commands;
 
 use crate::program::{end_without_words, run_words};
 use burr_io::{Reading, WholeLines, Writing};

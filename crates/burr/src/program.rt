@@ -14,10 +14,11 @@ use crate::explain_command::explain_line;
 use crate::fault::{Fault, put_fault};
 use crate::file_commands::{assemble_file, list_file, upgrade_file};
 use crate::handing::hand_on;
+use crate::making::{frames_file, plan_sheet_file};
 use crate::plan_commands::use_files;
 use crate::status::Status;
 use crate::step_command::step_files;
-use crate::why_command::why_files;
+use crate::text_commands::text_files;
 use burr_command::{Job, Reply, Request, request_of};
 use burr_io::{Sink, Source, WholeLines, WriteFault, put_all};
 use burr_runs::{BenchFault, bench_text};
@@ -122,8 +123,28 @@ fn do_job<'a, F: Files + AllocGlobal, R: Source, W: Sink, const N: usize>(
             plan,
         } => use_files(files, *task, assembly, plan, source, sink),
         Job::Step { assembly, plan } => step_files(files, assembly, plan, source, sink),
-        Job::Why { assembly, text } => {
-            let done = why_files(files, assembly, text, sink);
+        Job::Text {
+            task,
+            assembly,
+            text,
+        } => {
+            let done = text_files(files, *task, assembly, text, source, sink);
+            hand_on(done, sink)
+        }
+        Job::PlanSheet {
+            assembly,
+            sheet,
+            out,
+        } => {
+            let done = plan_sheet_file(files, assembly, sheet, out, sink);
+            hand_on(done, sink)
+        }
+        Job::Frames {
+            assembly,
+            text,
+            out,
+        } => {
+            let done = frames_file(files, assembly, text, out, source, sink);
             hand_on(done, sink)
         }
         Job::Explain { line } => {

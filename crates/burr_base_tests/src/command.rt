@@ -1,5 +1,5 @@
 //! Words, and what they ask for: help, the version, faults, jobs.
-use burr_command::{Job, PlanTask, Request, request_of};
+use burr_command::{Job, PlanTask, Request, TextTask, request_of};
 use std::alloc::{AllocError, Global};
 use std::process::Abort;
 
@@ -40,7 +40,27 @@ fn job_text(alloc: Global, job: &Job<'_>) -> Result<String, AllocError> {
         Job::List { plan, places } => format!(in alloc; "=list {plan} {places}\n"),
         Job::Upgrade { plan, out } => format!(in alloc; "=upgrade {plan} to {out}\n"),
         Job::Step { assembly, plan } => format!(in alloc; "=step {assembly} {plan}\n"),
-        Job::Why { assembly, text } => format!(in alloc; "=why {assembly} {text}\n"),
+        Job::Text {
+            task,
+            assembly,
+            text,
+        } => {
+            let task = match task {
+                TextTask::Why => "why",
+                TextTask::Trace => "trace",
+            };
+            format!(in alloc; "={task} {assembly} {text}\n")
+        }
+        Job::PlanSheet {
+            assembly,
+            sheet,
+            out,
+        } => format!(in alloc; "=plan {assembly} {sheet} to {out}\n"),
+        Job::Frames {
+            assembly,
+            text,
+            out,
+        } => format!(in alloc; "=frames {assembly} {text} to {out}\n"),
         Job::Explain { line } => format!(in alloc; "=explain {line}\n"),
         Job::Plan {
             task,
@@ -83,6 +103,9 @@ $burr --help
 >  try      Runs a plan on the bench, without accepting it
 >  step     Goes through a plan that is accepted, step by step
 >  why      Says why a plan text is refused, and which lines are at fault
+>  trace    Runs a plan text, and prints what holds at each label
+>  frames   Fills in frames that a plan text leaves out
+>  plan     Makes a plan text from a sheet of moves
 >  explain  Says what a refusal, a trap or another line means
 >  help     Print this message or the help of the given subcommand(s)
 >
@@ -280,6 +303,66 @@ $burr why --help
 >compared there and what was found, and at the end what the refusal means.
 >
 >Example: ./burr why examples/cup.assembly examples/cup.plan
+$burr trace --help
+>Runs a plan text, and prints what holds at each label
+>
+>Usage: burr trace <ASSEMBLY> <TEXT>
+>
+>Arguments:
+>  <ASSEMBLY>  The assembly text
+>  <TEXT>      The plan text
+>
+>Options:
+>  -h, --help  Print help
+>
+>TEXT is assembled and run as by `try`, and no file is written. Answers are read
+>from standard input, a number on each line. What is printed begins with what
+>`try` prints. Below, whenever the run came to a label, stand the lines of a
+>frame that holds there, with the steps that were still to come as its cost; and
+>at the end, for each label, how often the run came to it, and the lines of one
+>frame for all of these times. What no line of a frame can say is a comment.
+>
+>Example: echo 2 | ./burr trace examples/cup.assembly examples/cup.plan
+$burr frames --help
+>Fills in frames that a plan text leaves out
+>
+>Usage: burr frames <ASSEMBLY> <TEXT> <OUT>
+>
+>Arguments:
+>  <ASSEMBLY>  The assembly text
+>  <TEXT>      The plan text, with lines `auto`
+>  <OUT>       The plan text that is made
+>
+>Options:
+>  -h, --help  Print help
+>
+>In TEXT a line `auto` may stand after a label, in place of its frame. The plan is
+>run as by `try`, with the answers of standard input, and OUT is TEXT with the
+>frames that `trace` finds in place of these lines. Where the run does not come
+>to its end, what `try` prints is printed; where no frame is found at a label,
+>`refused frame line 12`. OUT is left alone then. Whether OUT is accepted, `check`
+>says: a frame knows of this run alone.
+>
+>Example: ./burr frames puzzle.assembly draft.plan whole.plan < /dev/null
+$burr plan --help
+>Makes a plan text from a sheet of moves
+>
+>Usage: burr plan <ASSEMBLY> <SHEET> <OUT>
+>
+>Arguments:
+>  <ASSEMBLY>  The assembly text
+>  <SHEET>     The sheet
+>  <OUT>       The plan text that is made
+>
+>Options:
+>  -h, --help  Print help
+>
+>SHEET has lines of moves, as `run` prints them: `1 t0 rod +z 3 out`. What stands
+>from a line `levels` on is left aside. OUT is the text of a plan that makes these
+>moves: it is accepted, and `run` prints the same lines of it. Where there is no
+>such plan, the line of SHEET that fails is named, and why, and OUT is left alone.
+>
+>Example: ./burr plan examples/cup.assembly moves.sheet /tmp/moves.plan
 $burr explain --help
 >Says what a refusal, a trap or another line means
 >
@@ -292,9 +375,10 @@ $burr explain --help
 >  -h, --help  Print help
 >
 >LINE is a word or a whole line that burr printed, in any case: A1 to A8, C1 to
->C6, P1 to P5, V1 to V28, S1 to S4, `input`, `answers`, `command`, a trap by its
->number or name, or `waiting`, `stopped`, `apart`, `levels`, `accepted`, `after`
->and the lines of moves. docs/FAULTS.md has all of them.
+>C6, P1 to P5, V1 to V28, S1 to S4, `input`, `answers`, `command`, `sheet`,
+>`frame`, a trap by its number or name, or `waiting`, `stopped`, `apart`,
+>`levels`, `accepted`, `after` and the lines of moves. docs/FAULTS.md has all of
+>them.
 >
 >Examples: ./burr explain A8
 >          ./burr explain refused V15 proc 0 pc 24 pieces A B point 0 1
@@ -442,6 +526,12 @@ $burr explain -
 =explain -
 $burr why a t
 =why a t
+$burr trace a t
+=trace a t
+$burr frames a t o
+=frames a t to o
+$burr plan a s o
+=plan a s to o
 ";
 
 const ANSWERS: [&str; 4] = [HELP, COMMAND_HELP, FAULTS, JOBS];

@@ -7,9 +7,8 @@ use std::alloc::{AllocError, Global};
 /// The command line: the commands, help and the version.
 pub fn command<'a>(alloc: Global) -> Result<Command<'a>, AllocError> {
     let with_files = with_files(alloc, without_commands(alloc))?;
-    with_plans(alloc, with_files)?
-        .subcommand(why(alloc)?)?
-        .subcommand(explain(alloc)?)
+    let with_plans = with_plans(alloc, with_files)?;
+    with_texts(alloc, with_plans)?.subcommand(explain(alloc)?)
 }
 
 /// The command line without its commands.
@@ -36,6 +35,15 @@ fn with_plans<'a>(alloc: Global, command: Command<'a>) -> Result<Command<'a>, Al
         .subcommand(run(alloc)?)?
         .subcommand(attempt(alloc)?)?
         .subcommand(step(alloc)?)
+}
+
+/// A command line with the commands for who writes plan texts after its own.
+fn with_texts<'a>(alloc: Global, command: Command<'a>) -> Result<Command<'a>, AllocError> {
+    command
+        .subcommand(why(alloc)?)?
+        .subcommand(trace(alloc)?)?
+        .subcommand(frames(alloc)?)?
+        .subcommand(plan(alloc)?)
 }
 
 /// The command `asm`.
@@ -116,11 +124,48 @@ fn on_plan<'a>(
 
 /// The command `why`.
 fn why<'a>(alloc: Global) -> Result<Command<'a>, AllocError> {
-    Command::new(alloc, "why")
-        .about("Says why a plan text is refused, and which lines are at fault")
-        .after_help(help::WHY)
+    let about = "Says why a plan text is refused, and which lines are at fault";
+    on_text(alloc, "why", about, help::WHY)
+}
+
+/// The command `trace`.
+fn trace<'a>(alloc: Global) -> Result<Command<'a>, AllocError> {
+    let about = "Runs a plan text, and prints what holds at each label";
+    on_text(alloc, "trace", about, help::TRACE)
+}
+
+/// A command on an assembly and a plan text.
+fn on_text<'a>(
+    alloc: Global,
+    name: &'a str,
+    about: &'a str,
+    example: &'a str,
+) -> Result<Command<'a>, AllocError> {
+    Command::new(alloc, name)
+        .about(about)
+        .after_help(example)
         .arg(word(alloc, "ASSEMBLY", "The assembly text"))?
         .arg(word(alloc, "TEXT", "The plan text"))
+}
+
+/// The command `frames`.
+fn frames<'a>(alloc: Global) -> Result<Command<'a>, AllocError> {
+    Command::new(alloc, "frames")
+        .about("Fills in frames that a plan text leaves out")
+        .after_help(help::FRAMES)
+        .arg(word(alloc, "ASSEMBLY", "The assembly text"))?
+        .arg(word(alloc, "TEXT", "The plan text, with lines `auto`"))?
+        .arg(word(alloc, "OUT", "The plan text that is made"))
+}
+
+/// The command `plan`.
+fn plan<'a>(alloc: Global) -> Result<Command<'a>, AllocError> {
+    Command::new(alloc, "plan")
+        .about("Makes a plan text from a sheet of moves")
+        .after_help(help::PLAN)
+        .arg(word(alloc, "ASSEMBLY", "The assembly text"))?
+        .arg(word(alloc, "SHEET", "The sheet"))?
+        .arg(word(alloc, "OUT", "The plan text that is made"))
 }
 
 /// The command `explain`.

@@ -118,12 +118,44 @@ compared there and what was found, and at the end what the refusal means.
 
 Example: ./burr why examples/cup.assembly examples/cup.plan";
 
+/// What help says of `trace` last.
+pub const TRACE: &str = "\
+TEXT is assembled and run as by `try`, and no file is written. Answers are read
+from standard input, a number on each line. What is printed begins with what
+`try` prints. Below, whenever the run came to a label, stand the lines of a
+frame that holds there, with the steps that were still to come as its cost; and
+at the end, for each label, how often the run came to it, and the lines of one
+frame for all of these times. What no line of a frame can say is a comment.
+
+Example: echo 2 | ./burr trace examples/cup.assembly examples/cup.plan";
+
+/// What help says of `frames` last.
+pub const FRAMES: &str = "\
+In TEXT a line `auto` may stand after a label, in place of its frame. The plan is
+run as by `try`, with the answers of standard input, and OUT is TEXT with the
+frames that `trace` finds in place of these lines. Where the run does not come
+to its end, what `try` prints is printed; where no frame is found at a label,
+`refused frame line 12`. OUT is left alone then. Whether OUT is accepted, `check`
+says: a frame knows of this run alone.
+
+Example: ./burr frames puzzle.assembly draft.plan whole.plan < /dev/null";
+
+/// What help says of `plan` last.
+pub const PLAN: &str = "\
+SHEET has lines of moves, as `run` prints them: `1 t0 rod +z 3 out`. What stands
+from a line `levels` on is left aside. OUT is the text of a plan that makes these
+moves: it is accepted, and `run` prints the same lines of it. Where there is no
+such plan, the line of SHEET that fails is named, and why, and OUT is left alone.
+
+Example: ./burr plan examples/cup.assembly moves.sheet /tmp/moves.plan";
+
 /// What help says of `explain` last.
 pub const EXPLAIN: &str = "\
 LINE is a word or a whole line that burr printed, in any case: A1 to A8, C1 to
-C6, P1 to P5, V1 to V28, S1 to S4, `input`, `answers`, `command`, a trap by its
-number or name, or `waiting`, `stopped`, `apart`, `levels`, `accepted`, `after`
-and the lines of moves. docs/FAULTS.md has all of them.
+C6, P1 to P5, V1 to V28, S1 to S4, `input`, `answers`, `command`, `sheet`,
+`frame`, a trap by its number or name, or `waiting`, `stopped`, `apart`,
+`levels`, `accepted`, `after` and the lines of moves. docs/FAULTS.md has all of
+them.
 
 Examples: ./burr explain A8
           ./burr explain refused V15 proc 0 pc 24 pieces A B point 0 1";

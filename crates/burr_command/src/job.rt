@@ -27,10 +27,23 @@ pub enum Job<'a> {
         assembly: &'a str,
         plan: &'a str,
     },
-    /// Says why a plan text is refused for an assembly.
-    Why {
+    /// Says why a plan text is refused for an assembly, or what its run comes to at each label.
+    Text {
+        task: TextTask,
         assembly: &'a str,
         text: &'a str,
+    },
+    /// Makes the plan text of the move lines of a sheet, for an assembly.
+    PlanSheet {
+        assembly: &'a str,
+        sheet: &'a str,
+        out: &'a str,
+    },
+    /// Fills in the frames of a plan text that are left out, for an assembly.
+    Frames {
+        assembly: &'a str,
+        text: &'a str,
+        out: &'a str,
     },
     /// Says what a word or a line means that the program prints.
     Explain {
@@ -47,4 +60,14 @@ pub enum PlanTask {
     Run,
     /// Runs the plan with the answers of standard input, without accepting it.
     Try,
+}
+
+/// What is done with a plan text and an assembly.
+#[derive(Clone, Copy)]
+pub enum TextTask {
+    /// Says why the plan is refused.
+    Why,
+    /// Runs the plan with the answers of standard input, without accepting it, and tells what holds
+    /// whenever the run comes to a label.
+    Trace,
 }

@@ -6,5 +6,5 @@ mod help;
 mod job;
 mod request;
 
-pub use job::{Job, PlanTask};
+pub use job::{Job, PlanTask, TextTask};
 pub use request::{Reply, Request, request_of};

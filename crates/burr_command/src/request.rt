@@ -1,7 +1,7 @@
 //! What words ask for.
 
 use crate::command::command;
-use crate::job::{Job, PlanTask};
+use crate::job::{Job, PlanTask, TextTask};
 use clap::error::ErrorKind;
 use clap::{ArgMatches, Error};
 use std::alloc::{AllocError, Global};
@@ -89,9 +89,17 @@ fn file_job<'a>(name: &str, words: &ArgMatches<'a>) -> Option<Job<'a>> {
         "check" => plan_job(PlanTask::Check, words),
         "run" => plan_job(PlanTask::Run, words),
         "try" => plan_job(PlanTask::Try, words),
-        "why" => Some(Job::Why {
+        "why" => text_job(TextTask::Why, words),
+        "trace" => text_job(TextTask::Trace, words),
+        "plan" => Some(Job::PlanSheet {
+            assembly: words.get_str("ASSEMBLY")?,
+            sheet: words.get_str("SHEET")?,
+            out: words.get_str("OUT")?,
+        }),
+        "frames" => Some(Job::Frames {
             assembly: words.get_str("ASSEMBLY")?,
             text: words.get_str("TEXT")?,
+            out: words.get_str("OUT")?,
         }),
         "step" => Some(Job::Step {
             assembly: words.get_str("ASSEMBLY")?,
@@ -107,5 +115,14 @@ fn plan_job<'a>(task: PlanTask, words: &ArgMatches<'a>) -> Option<Job<'a>> {
         task,
         assembly: words.get_str("ASSEMBLY")?,
         plan: words.get_str("PLAN")?,
+    })
+}
+
+/// The job of a command on a plan text and an assembly.
+fn text_job<'a>(task: TextTask, words: &ArgMatches<'a>) -> Option<Job<'a>> {
+    Some(Job::Text {
+        task,
+        assembly: words.get_str("ASSEMBLY")?,
+        text: words.get_str("TEXT")?,
     })
 }

@@ -5,7 +5,7 @@ ghost use Rattle.burr_explain.specs.Known.{output_words};
 
 use crate::explanation::{Explanation, Subject};
 
-/// The refusal of answers, the closing lines of sheets but traps, their levels and moves, and the
+/// The refusals of answers, of sheets and of frames that are left out, the closing lines of sheets but traps, their levels and moves, and the
 /// verdict of a plan that is accepted.
 pub fn lines() -> &'static [Explanation]
     ensures { words_in result.now ≡ output_words }
@@ -33,6 +33,44 @@ const LINES: &[Explanation] = &[
         ],
         setting: "the second answer has a plus sign; `refused answers line 2`",
         example: &["1", "+2"],
+    },
+    Explanation {
+        subject: Subject::Refusal("sheet"),
+        meaning: &[
+            "`burr plan` can't go on at the line of the sheet that is named, counted from 1.",
+            "It is not the next move line of this assembly's pieces, or with it the plan has",
+            "more than 4,096 bytes of code, which is some 2,000 moves of a unit.",
+        ],
+        cause: &[
+            "a number of a line left out or twice, pieces out of their order, a name that",
+            "the assembly does not have, `x` in place of `+x`, two lines that are one since",
+            "pieces, tray and direction are the same, or no line feed at the end.",
+        ],
+        remedy: &[
+            "write each line as `burr run` prints it. A way out to any distance is one",
+            "`out`, and needs no units.",
+        ],
+        setting: "the second line has the number 3; `refused sheet line 2`",
+        example: &["1 t0 rod +z 3", "3 t0 rod +x 0 out"],
+    },
+    Explanation {
+        subject: Subject::Refusal("frame"),
+        meaning: &[
+            "`burr frames` finds no frame to put in place of the line `auto` that is named,",
+            "counted from 1. The run does not come to the label before it, or it comes there",
+            "several times and no frame agrees with all of them.",
+        ],
+        cause: &[
+            "a label that other answers lead to; a loop in which a piece lies now",
+            "in one tray, now in another, or moves by no fixed number of units for each",
+            "count of a slot.",
+        ],
+        remedy: &[
+            "see with `burr trace` what holds there each time, and write the frame",
+            "yourself, or give answers with which the run comes there.",
+        ],
+        setting: "nothing jumps to the label; `refused frame line 12`",
+        example: &["label spare", "auto"],
     },
     Explanation {
         subject: Subject::Line("waiting"),

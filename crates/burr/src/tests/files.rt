@@ -21,12 +21,19 @@ burr step * duo.bpln
 burr step duo *
 burr why * duo.plan
 burr why duo *
+burr trace * duo.plan
+burr trace duo *
+burr frames * duo.plan made
+burr frames duo * made
+burr plan * duo made
+burr plan duo * made
 ";
 
 /// The commands that write a file, with `*` in its place.
 const WRITING: &str = "\
 burr asm duo.plan *
 burr upgrade duo.bpln *
+burr frames duo duo.plan *
 ";
 
 /// Asserts that each of the commands ends with this line on standard error where a name stands for `*`,

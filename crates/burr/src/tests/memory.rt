@@ -165,6 +165,9 @@ fn tells_a_want_of_memory_for_a_plan(rt: HostRuntime) -> Result<(), Fail> {
     assert_wants(&rt, "burr step cup cup.bpln", "", 0)?;
     assert_wants(&rt, "burr why cup cup.plan", "", 0)?;
     assert_wants(&rt, "burr why cup duo.plan", "", 1)?;
+    assert_wants(&rt, "burr trace cup cup.plan", "2\n", 0)?;
+    assert_wants(&rt, "burr frames cup cup.plan made", "2\n", 0)?;
+    assert_wants(&rt, "burr plan duo cup made", "", 1)?;
     Ok(())
 }
 

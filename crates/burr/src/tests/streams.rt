@@ -16,6 +16,9 @@ fn tells_a_source_that_fails(rt: HostRuntime) -> Result<(), Fail> {
     assert_reads(&rt, "burr asm duo.plan made", "2\n", 0)?;
     assert_reads(&rt, "burr list duo.bpln", "2\n", 0)?;
     assert_reads(&rt, "burr upgrade duo.bpln made", "2\n", 0)?;
+    assert_reads(&rt, "burr trace cup cup.plan", "2\n", 3)?;
+    assert_reads(&rt, "burr frames cup cup.plan made", "2\n", 3)?;
+    assert_reads(&rt, "burr plan duo cup made", "2\n", 0)?;
     assert_reads(&rt, "burr why cup cup.plan", "2\n", 0)?;
     assert_reads(&rt, "burr explain V15", "2\n", 0)?;
     assert_reads(&rt, "burr check cup cup.bpln", "2\n", 0)?;
@@ -115,6 +118,9 @@ fn tells_a_sink_that_fails(rt: HostRuntime) -> Result<(), Fail> {
     assert_fronts(&rt, "burr upgrade duo made", "")?;
     assert_fronts(&rt, "burr why cup cup.plan", "")?;
     assert_fronts(&rt, "burr why cup duo.plan", "")?;
+    assert_fronts(&rt, "burr trace duo duo.plan", "")?;
+    assert_fronts(&rt, "burr frames cup cup.plan made", "")?;
+    assert_fronts(&rt, "burr plan duo cup made", "")?;
     assert_fronts(&rt, "burr explain V15", "")?;
     assert_fronts(&rt, "burr check cup cup.bpln", "")?;
     assert_fronts(&rt, "burr check cup duo.bpln", "")?;
