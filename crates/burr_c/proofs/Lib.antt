@@ -1,0 +1,3 @@
+mod Conversations
+mod Ending
+mod Printing

@@ -1,0 +1,26 @@
+-- What there is to print, and how it is given to the caller.
+use Rattle.std.proofs.Common.{◌≡◌, ◌↔◌, List, ℕ, [], refl, sym, subst, inl, inr, arith}
+use Rattle.std.specs.Prelude.{Option, Some, Result, Ok, Err, IfOk, IfErr}
+use Rattle.std.specs.Io.KnownBytes.{Appends}
+use Rattle.burr_c.specs.declared.fault.Fault.{Fault}
+use Rattle.burr_c.specs.declared.fault.Fault.TheVariants.{TooLong, Memory}
+use Rattle.burr_c.specs.declared.printed.Printed.{Printed}
+use Rattle.burr_c.specs.declared.status.Status.{Status}
+use Rattle.burr_c.specs.Calls.{Call, Gives, Returns}
+use Rattle.burr_c.specs.PlanEnds.{Ends}
+use Rattle.burr_c.specs.Statuses.{status_of_fault}
+
+-- what was put since there was nothing is all that is kept
+pub all_kept : (AreEnds : Ends) (old new : Option (List ℕ)) (bytes : List ℕ) (status : Status) → old ≡ Some [] → new ≡ Some bytes
+    → ((output : List ℕ) × AreEnds output status × Appends old new output) → AreEnds bytes status
+all_kept AreEnds old new bytes status first last (output, is, took) =
+    let same : Appends (Some []) (Some bytes) output = subst (λ (o : Option (List ℕ)). Appends o (Some bytes) output) first (subst (λ (n : Option (List ℕ)). Appends old n output) last took) in
+    subst (λ (b : List ℕ). AreEnds b status) (sym same) is
+
+-- what is printed, or a fault, is given
+pub returned : (printed : Result Printed Fault) (TooMuch : Type 0) (AreEnds : Ends) (c : Call) → IfOk printed (λ p. AreEnds p.bytes.items p.status)
+    → IfOk printed (λ _. ¬ TooMuch) → IfErr printed (λ fault. fault ≡ TooLong ↔ TooMuch) → IfOk printed (λ p. Gives p.bytes.items p.status c)
+    → IfErr printed (λ fault. Gives [] (status_of_fault fault) c) → Returns TooMuch AreEnds c
+returned (Ok p) TooMuch AreEnds c ends short long gives fails = inr (short, inr (p.bytes.items, p.status, ends, gives))
+returned (Err TooLong) TooMuch AreEnds c ends short long gives fails = inl (long.0 refl, fails)
+returned (Err Memory) TooMuch AreEnds c ends short long gives fails = inr ((λ much. let is : Memory ≡ TooLong = long.1 much in absurd (grind arith)), inl fails)

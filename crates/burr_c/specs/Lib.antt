@@ -1,0 +1,5 @@
+pub mod AssemblingEnds
+pub mod Calls
+pub mod PlanEnds
+pub mod Statuses
+pub mod StepEnds

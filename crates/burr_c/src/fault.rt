@@ -1,0 +1,38 @@
+use crate::no_memory::NoMemory;
+use crate::status::Status;
+use thiserror::Error;
+
+/// Why there is nothing to print.
+#[derive(Clone, Copy, Debug, PartialEq, Eq, Error)]
+pub enum Fault {
+    #[error("an input has more than 16777216 bytes")]
+    TooLong,
+    #[error("no memory")]
+    Memory,
+}
+
+impl Fault {
+    ghost use Rattle.std.specs.Prelude.{◌≡◌};
+    ghost use Rattle.burr_c.specs.Statuses.{status_of_fault};
+
+    /// The status to end with.
+    pub fn status(self) -> Status
+        ensures { result ≡ status_of_fault self }
+    {
+        match self {
+            Fault::TooLong => Status::TooLong,
+            Fault::Memory => Status::Memory,
+        }
+    }
+}
+
+impl From<NoMemory> for Fault {
+    ghost use Rattle.std.specs.Prelude.{◌≡◌};
+    ghost use Rattle.burr_c.specs.declared.fault.Fault.TheVariants.{Memory};
+
+    ghost from_gives = { λ _ e. e ≡ Memory };
+
+    fn from(_e: NoMemory) -> Fault {
+        Fault::Memory
+    }
+}

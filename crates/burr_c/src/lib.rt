@@ -1,0 +1,119 @@
+//! What a program in C, or in Rust, calls of burr; `library/burr.h` declares it.
+//!
+//! A call takes the bytes of its inputs, and a room for what the program `burr` would print on
+//! standard output. It gives the number that the program would end with: 0, 1, 3, 4 or 5, as
+//! `Status` has them. `size` is how many bytes are printed. The room takes as many of them as it has
+//! bytes, and is left alone beyond them. So a caller whose room was too small sees a `size` above
+//! its length, and calls again with a larger one.
+//!
+//! Each call answers for its arguments alone: it reads no file, keeps nothing, and gives back all
+//! memory that it asks for. Where an input has more than 16,777,216 bytes the status is 3, where a
+//! request for memory was refused 4, and then `size` is 0 and the room is left alone.
+#![tactic(auto)]
+
+mod fault;
+mod giving;
+mod judging;
+mod kept;
+mod no_memory;
+mod printed;
+mod refusing;
+mod status;
+mod stepping;
+mod task;
+
+ghost use Rattle.std.specs.Prelude.{[]};
+ghost use Rattle.burr_c.specs.declared.task.Task.TheVariants.{Check, Run, Try};
+ghost use Rattle.burr_c.specs.AssemblingEnds.{AssemblingEnds};
+ghost use Rattle.burr_c.specs.Calls.{call, IsTooLong, IsEitherTooLong, IsAnyTooLong, Returns};
+ghost use Rattle.burr_c.specs.PlanEnds.{PlanEnds};
+ghost use Rattle.burr_c.specs.StepEnds.{StepTextEnds};
+
+use crate::giving::give;
+use crate::printed::{print_assembled, print_judgement, print_steps};
+use crate::task::Task;
+use std::alloc::Global;
+
+/// Judges the container `plan` for the text of an assembly, as `burr check` does.
+#[unsafe(no_mangle)]
+pub extern "C" fn burr_check(
+    alloc: Global,
+    assembly: &[u8],
+    plan: &[u8],
+    room: &mut [u8],
+    size: &mut usize,
+) -> u8
+    ensures { Returns (IsAnyTooLong assembly.now plan.now [])
+        (PlanEnds Check assembly.now plan.now [])
+        (call room.old room.new size.new result) }
+{
+    let printed = print_judgement(alloc, Task::Check, assembly, plan, &[]);
+    give(printed, room, size)
+}
+
+/// Runs the container `plan`, where it is accepted, with the lines of `answers`, as `burr run`
+/// does.
+#[unsafe(no_mangle)]
+pub extern "C" fn burr_run(
+    alloc: Global,
+    assembly: &[u8],
+    plan: &[u8],
+    answers: &[u8],
+    room: &mut [u8],
+    size: &mut usize,
+) -> u8
+    ensures { Returns (IsAnyTooLong assembly.now plan.now answers.now)
+        (PlanEnds Run assembly.now plan.now answers.now)
+        (call room.old room.new size.new result) }
+{
+    let printed = print_judgement(alloc, Task::Run, assembly, plan, answers);
+    give(printed, room, size)
+}
+
+/// Runs the container `plan` without judging it, with the lines of `answers`, as `burr try` does.
+#[unsafe(no_mangle)]
+pub extern "C" fn burr_try(
+    alloc: Global,
+    assembly: &[u8],
+    plan: &[u8],
+    answers: &[u8],
+    room: &mut [u8],
+    size: &mut usize,
+) -> u8
+    ensures { Returns (IsAnyTooLong assembly.now plan.now answers.now)
+        (PlanEnds Try assembly.now plan.now answers.now)
+        (call room.old room.new size.new result) }
+{
+    let printed = print_judgement(alloc, Task::Try, assembly, plan, answers);
+    give(printed, room, size)
+}
+
+/// Goes through the container `plan`, where it is accepted, from its start by the lines of
+/// `commands`, as `burr step` does.
+#[unsafe(no_mangle)]
+pub extern "C" fn burr_step_through(
+    alloc: Global,
+    assembly: &[u8],
+    plan: &[u8],
+    commands: &[u8],
+    room: &mut [u8],
+    size: &mut usize,
+) -> u8
+    ensures { Returns (IsEitherTooLong assembly.now plan.now)
+        (StepTextEnds commands.now assembly.now plan.now)
+        (call room.old room.new size.new result) }
+{
+    let printed = print_steps(alloc, assembly, plan, commands);
+    give(printed, room, size)
+}
+
+/// Assembles a plan text, as `burr asm` does: with status 0 the bytes are those of the container,
+/// with status 1 they are the line that refuses the text.
+#[unsafe(no_mangle)]
+pub extern "C" fn burr_assemble(alloc: Global, text: &[u8], room: &mut [u8], size: &mut usize) -> u8
+    ensures { Returns (IsTooLong text.now) (AssemblingEnds text.now)
+        (call room.old room.new size.new result) }
+{
+    let printed = print_assembled(alloc, text);
+    give(printed, room, size)
+}

@@ -1,0 +1,121 @@
+//! What there is to print for a call, kept in memory.
+
+ghost use Rattle.std.specs.Prelude.{◌≡◌, ◌↔◌, IfOk, IfErr, IsTrue};
+ghost use Rattle.burr_c.specs.declared.fault.Fault.TheVariants.{TooLong};
+ghost use Rattle.burr_c.specs.AssemblingEnds.{AssemblingEnds, PlanTextFaultEnds};
+ghost use Rattle.burr_c.specs.Calls.{IsTooLong, IsEitherTooLong, IsAnyTooLong};
+ghost use Rattle.burr_c.specs.PlanEnds.{PlanEnds};
+ghost use Rattle.burr_c.specs.StepEnds.{StepTextEnds};
+
+use crate::fault::Fault;
+use crate::judging::judge_text;
+use crate::kept::Kept;
+use crate::no_memory::NoMemory;
+use crate::refusing::refuse_plan_text;
+use crate::status::Status;
+use crate::stepping::step_text;
+use crate::task::Task;
+use burr_asm::{AsmFault, assemble};
+use burr_runs::LIMIT;
+use std::alloc::Global;
+
+/// What is printed, and the status that goes with it.
+#[derive(Drop)]
+pub struct Printed {
+    pub bytes: Vec<u8>,
+    pub status: Status,
+}
+
+/// What `check`, `run` or `try` print of an assembly's text, a container and a text of answers.
+/// `TooLong` where one of them has more than 16,777,216 bytes, and `Memory` where a request for
+/// memory was refused.
+pub fn print_judgement(
+    alloc: Global,
+    task: Task,
+    text: &[u8],
+    container: &[u8],
+    answers: &[u8],
+) -> Result<Printed, Fault>
+    ensures ok { IfOk result (λ printed.
+        PlanEnds task text.now container.now answers.now printed.bytes.items printed.status) }
+    ensures short { IfOk result (λ _. ¬ IsAnyTooLong text.now container.now answers.now) }
+    ensures long { IfErr result (λ fault.
+        fault ≡ TooLong ↔ IsAnyTooLong text.now container.now answers.now) }
+{
+    if is_too_long(text) || is_too_long(container) || is_too_long(answers) {
+        return Err(Fault::TooLong);
+    }
+    let mut kept = Kept::new(alloc);
+    let status = judge_text(alloc, task, text, container, answers, &mut kept)?;
+    Ok(Printed {
+        bytes: kept.into_bytes(),
+        status,
+    })
+}
+
+/// What `step` prints of an assembly's text and a container for lines of commands. `TooLong` where
+/// the text or the container has more than 16,777,216 bytes, and `Memory` where a request for
+/// memory was refused.
+pub fn print_steps(
+    alloc: Global,
+    text: &[u8],
+    container: &[u8],
+    commands: &[u8],
+) -> Result<Printed, Fault>
+    ensures ok { IfOk result (λ printed.
+        StepTextEnds commands.now text.now container.now printed.bytes.items printed.status) }
+    ensures short { IfOk result (λ _. ¬ IsEitherTooLong text.now container.now) }
+    ensures long { IfErr result (λ fault.
+        fault ≡ TooLong ↔ IsEitherTooLong text.now container.now) }
+{
+    if is_too_long(text) || is_too_long(container) {
+        return Err(Fault::TooLong);
+    }
+    let mut kept = Kept::new(alloc);
+    let status = step_text(alloc, text, container, commands, &mut kept)?;
+    Ok(Printed {
+        bytes: kept.into_bytes(),
+        status,
+    })
+}
+
+/// The container of a plan text, with `Done`; or the line that refuses the text. `TooLong` where it
+/// has more than 16,777,216 bytes, and `Memory` where a request for memory was refused.
+pub fn print_assembled(alloc: Global, text: &[u8]) -> Result<Printed, Fault>
+    ensures ok { IfOk result (λ printed.
+        AssemblingEnds text.now printed.bytes.items printed.status) }
+    ensures short { IfOk result (λ _. ¬ IsTooLong text.now) }
+    ensures long { IfErr result (λ fault. fault ≡ TooLong ↔ IsTooLong text.now) }
+{
+    if is_too_long(text) {
+        return Err(Fault::TooLong);
+    }
+    match assemble(alloc, text) {
+        Ok(bytes) => Ok(Printed {
+            bytes,
+            status: Status::Done,
+        }),
+        Err(AsmFault::Memory) => Err(Fault::Memory),
+        Err(fault) => Ok(print_text_refusal(alloc, fault)?),
+    }
+}
+
+/// The line that refuses a plan text.
+fn print_text_refusal(alloc: Global, fault: AsmFault) -> Result<Printed, NoMemory>
+    ensures { IfOk result (λ printed.
+        PlanTextFaultEnds fault printed.bytes.items printed.status) }
+{
+    let mut kept = Kept::new(alloc);
+    let status = refuse_plan_text(fault, &mut kept)?;
+    Ok(Printed {
+        bytes: kept.into_bytes(),
+        status,
+    })
+}
+
+/// Whether there are more bytes than the program reads.
+fn is_too_long(bytes: &[u8]) -> bool
+    ensures { IsTrue result ↔ IsTooLong bytes.now }
+{
+    bytes.len() > LIMIT
+}

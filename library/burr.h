@@ -1,0 +1,293 @@
+/* What a program in C calls of burr. docs/LIBRARY.md says how it is built and linked.
+
+   The five functions below are those of the library libburr_c.a. Nothing compares these
+   declarations with the library's source: they were written by hand to fit it. What stands after
+   them is plain C over these five, which hands over what is printed line by line. */
+#ifndef BURR_H
+#define BURR_H
+
+#include <stddef.h>
+#include <stdint.h>
+#include <stdlib.h>
+#include <string.h>
+
+#ifdef __cplusplus
+extern "C" {
+#endif
+
+/* What a call gives: the exit status that the program would end with. */
+enum burr_status {
+    BURR_DONE = 0,      /* all pieces are apart; a plan is accepted; what was asked is done */
+    BURR_REFUSED = 1,   /* refused, trapped or stopped: the lines say why */
+    BURR_TOO_LONG = 3,  /* an input has more than 16,777,216 bytes; nothing is printed */
+    BURR_NO_MEMORY = 4, /* a request for memory was refused; nothing is printed */
+    BURR_WAITING = 5    /* the run waits for an answer: the last line says which */
+};
+
+/* The library's own functions. An input is a pointer and a number of bytes; the pointer is never
+   null, also where there are no bytes. *size becomes the number of bytes that there are to print.
+   The room takes as many of them as it has bytes, from the first on, and keeps its other bytes. The
+   bytes of the room and *size have to be initialised, and none of them may be one of an input. */
+uint8_t burr_check(const uint8_t *assembly, size_t assembly_length, const uint8_t *plan,
+                   size_t plan_length, uint8_t *room, size_t room_length, size_t *size);
+uint8_t burr_run(const uint8_t *assembly, size_t assembly_length, const uint8_t *plan,
+                 size_t plan_length, const uint8_t *answers, size_t answers_length, uint8_t *room,
+                 size_t room_length, size_t *size);
+uint8_t burr_try(const uint8_t *assembly, size_t assembly_length, const uint8_t *plan,
+                 size_t plan_length, const uint8_t *answers, size_t answers_length, uint8_t *room,
+                 size_t room_length, size_t *size);
+uint8_t burr_step_through(const uint8_t *assembly, size_t assembly_length, const uint8_t *plan,
+                          size_t plan_length, const uint8_t *commands, size_t commands_length,
+                          uint8_t *room, size_t room_length, size_t *size);
+uint8_t burr_assemble(const uint8_t *text, size_t text_length, uint8_t *room, size_t room_length,
+                      size_t *size);
+
+/* Bytes of the caller's. Where there are none the pointer may be null. */
+struct burr_bytes {
+    const void *at;
+    size_t length;
+};
+
+/* Bytes that were printed, in memory of malloc, a zero after the last. burr_free frees them. */
+struct burr_text {
+    char *at;
+    size_t length;
+};
+
+/* Takes a line that was printed, without its end; a zero stands after its last byte. The line lasts
+   as long as the call. */
+typedef void burr_line(void *context, const char *line, size_t length);
+
+static inline struct burr_bytes burr_bytes_of(const void *at, size_t length)
+{
+    struct burr_bytes bytes;
+    bytes.at = at;
+    bytes.length = length;
+    return bytes;
+}
+
+static inline void burr_free(struct burr_text *text)
+{
+    free(text->at);
+    text->at = NULL;
+    text->length = 0;
+}
+
+/* Which of the five functions is called. */
+enum burr_command_ {
+    BURR_CHECK_,
+    BURR_RUN_,
+    BURR_TRY_,
+    BURR_STEP_,
+    BURR_ASSEMBLE_
+};
+
+/* What it is called with: an assembly's text, or a plan text where that is assembled; a container;
+   and answers, or commands. */
+struct burr_inputs_ {
+    struct burr_bytes text, plan, more;
+};
+
+static inline const uint8_t *burr_pointer_(struct burr_bytes bytes)
+{
+    static const uint8_t nothing[1] = {0};
+    return bytes.length == 0 ? nothing : (const uint8_t *)bytes.at;
+}
+
+static inline int burr_call_(enum burr_command_ command, struct burr_inputs_ in, uint8_t *room,
+                             size_t length, size_t *size)
+{
+    const uint8_t *text = burr_pointer_(in.text);
+    const uint8_t *plan = burr_pointer_(in.plan);
+    const uint8_t *more = burr_pointer_(in.more);
+    switch (command) {
+    case BURR_CHECK_:
+        return burr_check(text, in.text.length, plan, in.plan.length, room, length, size);
+    case BURR_RUN_:
+        return burr_run(text, in.text.length, plan, in.plan.length, more, in.more.length, room,
+                        length, size);
+    case BURR_TRY_:
+        return burr_try(text, in.text.length, plan, in.plan.length, more, in.more.length, room,
+                        length, size);
+    case BURR_STEP_:
+        return burr_step_through(text, in.text.length, plan, in.plan.length, more, in.more.length,
+                                 room, length, size);
+    default:
+        return burr_assemble(text, in.text.length, room, length, size);
+    }
+}
+
+/* All that is printed. A room that was too small is replaced by one that is large enough, and the
+   call is made again: it prints the same. */
+static inline int burr_print_(enum burr_command_ command, struct burr_inputs_ in,
+                              struct burr_text *out)
+{
+    size_t length = 4096;
+    out->at = NULL;
+    out->length = 0;
+    for (;;) {
+        size_t size = 0;
+        int status;
+        char *room = (char *)calloc(length + 1, 1);
+        if (room == NULL)
+            return BURR_NO_MEMORY;
+        status = burr_call_(command, in, (uint8_t *)room, length, &size);
+        if (size <= length) {
+            out->at = room;
+            out->length = size;
+            return status;
+        }
+        free(room);
+        length = size;
+    }
+}
+
+/* Hands over the lines from so many bytes on. */
+static inline void burr_hand_over_(struct burr_text *text, size_t from, burr_line *take,
+                                   void *context)
+{
+    while (from < text->length) {
+        char *line = text->at + from;
+        char *end = (char *)memchr(line, '\n', text->length - from);
+        size_t length = end == NULL ? text->length - from : (size_t)(end - line);
+        line[length] = '\0';
+        take(context, line, length);
+        from += length + 1;
+    }
+}
+
+static inline int burr_hand_lines_(enum burr_command_ command, struct burr_inputs_ in,
+                                   burr_line *take, void *context)
+{
+    struct burr_text text;
+    int status = burr_print_(command, in, &text);
+    burr_hand_over_(&text, 0, take, context);
+    burr_free(&text);
+    return status;
+}
+
+/* Judges a container for the text of an assembly, and hands over the line that says so. */
+static inline int burr_check_lines(struct burr_bytes assembly, struct burr_bytes plan,
+                                   burr_line *take, void *context)
+{
+    struct burr_inputs_ in;
+    in.text = assembly;
+    in.plan = plan;
+    in.more = burr_bytes_of(NULL, 0);
+    return burr_hand_lines_(BURR_CHECK_, in, take, context);
+}
+
+/* Runs a plan that is accepted, with the lines of answers, and hands over the lines of its sheet;
+   or hands over the refusal. */
+static inline int burr_run_lines(struct burr_bytes assembly, struct burr_bytes plan,
+                                 struct burr_bytes answers, burr_line *take, void *context)
+{
+    struct burr_inputs_ in;
+    in.text = assembly;
+    in.plan = plan;
+    in.more = answers;
+    return burr_hand_lines_(BURR_RUN_, in, take, context);
+}
+
+/* The same without judging the plan: each move is checked, and the run may end in a trap. */
+static inline int burr_try_lines(struct burr_bytes assembly, struct burr_bytes plan,
+                                 struct burr_bytes answers, burr_line *take, void *context)
+{
+    struct burr_inputs_ in;
+    in.text = assembly;
+    in.plan = plan;
+    in.more = answers;
+    return burr_hand_lines_(BURR_TRY_, in, take, context);
+}
+
+/* Assembles a plan text. With BURR_DONE the container is in *container, which burr_free frees; else
+   *container is empty, and the line that refuses the text is handed over. */
+static inline int burr_assemble_text(struct burr_bytes text, struct burr_text *container,
+                                     burr_line *take, void *context)
+{
+    struct burr_inputs_ in;
+    int status;
+    in.text = text;
+    in.plan = in.more = burr_bytes_of(NULL, 0);
+    status = burr_print_(BURR_ASSEMBLE_, in, container);
+    if (status != BURR_DONE) {
+        burr_hand_over_(container, 0, take, context);
+        burr_free(container);
+    }
+    return status;
+}
+
+/* An accepted plan that is gone through step by step. The bytes of the assembly and of the plan
+   stay the caller's, and have to last, unchanged, until burr_stepper_close. Only the commands so
+   far are kept: with each command the plan is judged again and taken through all of them. */
+struct burr_stepper {
+    struct burr_bytes assembly, plan;
+    char *commands;         /* the commands so far, a line each, in memory of malloc */
+    size_t commands_length; /* how many bytes these are */
+    size_t handed;          /* how many bytes of answers were handed over */
+};
+
+/* Takes the commands so far, and hands over the answers that were not yet. */
+static inline int burr_stepper_go_(struct burr_stepper *stepper, burr_line *take, void *context)
+{
+    struct burr_text text;
+    struct burr_inputs_ in;
+    int status;
+    in.text = stepper->assembly;
+    in.plan = stepper->plan;
+    in.more = burr_bytes_of(stepper->commands, stepper->commands_length);
+    status = burr_print_(BURR_STEP_, in, &text);
+    burr_hand_over_(&text, stepper->handed, take, context);
+    if (status == BURR_DONE)
+        stepper->handed = text.length;
+    burr_free(&text);
+    return status;
+}
+
+/* Opens a stepper at the start of a plan. BURR_DONE where the plan is accepted; else the refusal is
+   handed over, and there is nothing to close. */
+static inline int burr_stepper_open(struct burr_stepper *stepper, struct burr_bytes assembly,
+                                    struct burr_bytes plan, burr_line *take, void *context)
+{
+    stepper->assembly = assembly;
+    stepper->plan = plan;
+    stepper->commands = NULL;
+    stepper->commands_length = 0;
+    stepper->handed = 0;
+    return burr_stepper_go_(stepper, take, context);
+}
+
+/* Takes a command, as "forward" or "answer 2", and hands over the lines that answer it. BURR_DONE
+   whatever the answer is, also where the command is refused; with BURR_NO_MEMORY it counts as not
+   given. After "quit" nothing is answered. */
+static inline int burr_stepper_command(struct burr_stepper *stepper, const char *command,
+                                       burr_line *take, void *context)
+{
+    size_t before = stepper->commands_length;
+    size_t length = strlen(command);
+    char *commands = (char *)realloc(stepper->commands, before + length + 1);
+    int status;
+    if (commands == NULL)
+        return BURR_NO_MEMORY;
+    memcpy(commands + before, command, length);
+    commands[before + length] = '\n';
+    stepper->commands = commands;
+    stepper->commands_length = before + length + 1;
+    status = burr_stepper_go_(stepper, take, context);
+    if (status != BURR_DONE)
+        stepper->commands_length = before;
+    return status;
+}
+
+static inline void burr_stepper_close(struct burr_stepper *stepper)
+{
+    free(stepper->commands);
+    stepper->commands = NULL;
+    stepper->commands_length = 0;
+}
+
+#ifdef __cplusplus
+}
+#endif
+
+#endif
