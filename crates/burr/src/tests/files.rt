@@ -33,7 +33,6 @@ burr plan duo * made
 const WRITING: &str = "\
 burr asm duo.plan *
 burr upgrade duo.bpln *
-burr frames duo duo.plan *
 ";
 
 /// Asserts that each of the commands ends with this line on standard error where a name stands for `*`,
