@@ -23,6 +23,7 @@ use std::rt::Files;
 
 /// Assembles a plan text and makes a file of its container; a refusal is put on the sink, and the
 /// file is then left alone. That file may not be the plan text itself.
+#[inline(never)]
 pub fn assemble_file<'a, F: Files + AllocGlobal, W: Sink>(
     files: &F,
     text: &'a str,
@@ -72,6 +73,7 @@ fn container_of<'a, W: Sink>(
 
 /// Puts the plan text of a container that a file holds, with the places of code or without, or the
 /// container's refusal.
+#[inline(never)]
 pub fn list_file<'a, F: Files + AllocGlobal, W: Sink>(
     files: &F,
     plan: &'a str,
@@ -136,6 +138,7 @@ fn listing(alloc: Global, container: &Container<'_>, places: bool) -> Result<Vec
 /// Makes a file of the container of version 2 of the plan of a container that a file holds; a
 /// refusal is put on the sink, and the file is then left alone. That file may not be the one that is
 /// read.
+#[inline(never)]
 pub fn upgrade_file<'a, F: Files + AllocGlobal, W: Sink>(
     files: &F,
     plan: &'a str,

@@ -36,6 +36,7 @@ use std::rt::Files;
 /// a refusal, that the plan is accepted, or a run's sheet. The files are read in order, and then,
 /// where there may be a run, the source whole, before anything is judged: the text, the container,
 /// the plan for the assembly, and the answers. A plan for another assembly takes no memory more.
+#[inline(never)]
 pub fn use_files<'a, F: Files + AllocGlobal, R: Source, W: Sink, const N: usize>(
     files: &F,
     task: PlanTask,
@@ -117,6 +118,7 @@ pub fn refuse_text<'a, W: Sink>(
 }
 
 /// The same with an assembly that was read.
+#[inline(never)]
 pub fn use_assembly<'a, 'x, W: Sink>(
     alloc: Global,
     task: PlanTask,

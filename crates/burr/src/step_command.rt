@@ -29,6 +29,7 @@ use std::rt::Files;
 /// Goes through the plan of a container, step by step, by the commands that the source gives, and puts
 /// an answer to each, which is handed on before the next is read; or puts a refusal. The files are
 /// read in order before anything is judged, and the source only where the plan is accepted.
+#[inline(never)]
 pub fn step_files<'a, F: Files + AllocGlobal, R: Source, W: Sink, const N: usize>(
     files: &F,
     assembly: &'a str,

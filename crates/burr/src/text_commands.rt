@@ -42,6 +42,7 @@ struct Texts<'x> {
 /// Puts whether a plan text is accepted for an assembly, as `asm` and `check` do, and where it is
 /// not, why; or its run, as `asm` and `try` do, and what it came to at each label. The files are
 /// read in order, and then, where there is a run, the source whole, before anything is judged.
+#[inline(never)]
 pub fn text_files<'a, F: Files + AllocGlobal, R: Source, W: Sink>(
     files: &F,
     task: TextTask,
@@ -165,6 +166,7 @@ pub fn add_notes<'a, W: Sink>(
 }
 
 /// What is to be said of the container that a plan text is assembled to.
+#[inline(never)]
 fn notes_of_container(
     alloc: Global,
     texts: Texts<'_>,
@@ -187,6 +189,7 @@ fn notes_of_container(
 }
 
 /// Why a plan is refused; nothing where it is accepted.
+#[inline(never)]
 fn reason_of_plan(alloc: Global, plan: PlanText<'_, '_>) -> Result<String, AllocError> {
     match refusal_of(alloc, plan.container, plan.assembly)? {
         Some(refusal) => reason_with_meaning(alloc, plan, &refusal),
@@ -196,6 +199,7 @@ fn reason_of_plan(alloc: Global, plan: PlanText<'_, '_>) -> Result<String, Alloc
 
 /// What the run of a plan with a text of answers comes to at each label; why there is no run where the
 /// plan is for another assembly, and nothing where the answers are faulty.
+#[inline(never)]
 fn trace_of_plan(
     alloc: Global,
     plan: PlanText<'_, '_>,

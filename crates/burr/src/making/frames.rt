@@ -28,6 +28,7 @@ use std::rt::Files;
 /// Makes a file of a plan text with a frame in place of each line `auto`, read off the run with the
 /// answers of standard input; where there is none, why is put, and the file is then left alone. That
 /// file may not be one that is read.
+#[inline(never)]
 pub fn frames_file<'a, F: Files + AllocGlobal, R: Source, W: Sink>(
     files: &F,
     assembly: &'a str,
@@ -192,6 +193,7 @@ fn try_run<'a, W: Sink>(alloc: Global, run: Run<'_>, sink: &mut W) -> Result<Sta
 }
 
 /// What comes of reading frames off the run.
+#[inline(never)]
 fn filled_of(
     alloc: Global,
     unframed: Unframed<'_>,

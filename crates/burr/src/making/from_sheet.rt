@@ -24,6 +24,7 @@ use std::rt::Files;
 
 /// Makes a file of the plan text of a sheet's move lines; where there is none, why is put, and the
 /// file is then left alone. That file may not be one that is read.
+#[inline(never)]
 pub fn plan_sheet_file<'a, F: Files + AllocGlobal, W: Sink>(
     files: &F,
     assembly: &'a str,
@@ -114,6 +115,7 @@ fn refuse_sheet<'a, W: Sink>(
 
 /// Says why the plan of a sheet is refused: the verdict, the line of the sheet, and what was compared
 /// in the plan text that is not written.
+#[inline(never)]
 fn refuse_draft<'a, W: Sink>(
     alloc: Global,
     assembly: &Assembly,
