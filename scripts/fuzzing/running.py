@@ -47,7 +47,7 @@ COMPLAINT = re.compile(
     rb"|error: (?:unrecognized subcommand '.*'|unexpected argument '.*' found"
     rb"|unexpected value '.*' for '.*' found; no more were expected|the argument '.*' cannot be used multiple times"
     rb"|the following required arguments were not provided:(?:\n  <[A-Z]+>(?:\.\.\.)?)+)\n(?:\n  tip: .*\n)?\n"
-    rb"Usage: burr [^\n]+\n(?:       burr < INPUT\n)?\nFor more information, try '--help'.\n",
+    rb"Usage: burr (?:help \[COMMAND\]\.\.\.\n|[^\n]+\n(?:       burr < INPUT\n)?\nFor more information, try '--help'.\n)",
     re.DOTALL,
 )
 
