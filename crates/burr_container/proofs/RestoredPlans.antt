@@ -8,8 +8,8 @@ use Rattle.burr_container.specs.Views.Refs.{exit_frame_of}
 use Rattle.burr_container.specs.Views.InPlace.{IsExit}
 
 -- a label below their count is there
-pub has_label : (o : Option StoredProcedure) (n count : ℕ) → IfSome o (λ p. count ≡ length p.labels.starts.items)
-    → n < count → IfSome o (λ p. n < length p.labels.starts.items)
+pub has_label : (o : Option StoredProcedure) (n count : ℕ) → IfSome o (λ p. count ≡ length p.labels.starts)
+    → n < count → IfSome o (λ p. n < length p.labels.starts)
 has_label None n count is less = tt
 has_label (Some p) n count is less = omega (arith, is, less)
 

@@ -1,10 +1,10 @@
 //! Reading a container.
 
-ghost use Rattle.std.specs.Prelude.{◌≡◌, ◌≤◌, ◌<◌, length, slice_get, IfSome};
+ghost use Rattle.std.specs.Prelude.{◌≡◌, ◌≤◌, ◌<◌, [], length, slice_get, IfSome};
 ghost use Rattle.burr_code.specs.declared.limits.TheConstants.{MOST_BUDGET, MOST_CODE, MOST_PARAMETERS, MOST_PROCEDURES};
 ghost use Rattle.burr_container.specs.Rules.Plans.{Plan};
 ghost use Rattle.burr_container.specs.Rules.Faults.{procedures as procedures_part};
-ghost use Rattle.burr_container.specs.Views.Reading.{ReadsAs};
+ghost use Rattle.burr_container.specs.Views.Reading.{ReadsInto};
 ghost use Rattle.burr_container.specs.Views.Refs.{frame_of};
 ghost use Rattle.burr_container.specs.Views.InPlace.{AreFor, IsProcedure, IsExit};
 ghost use Rattle.burr_container.specs.Views.Containers.{ReadsContainer, IsContainer, HasPlan, IsHeader, HasLabel, OfProcedure, OfLabel};
@@ -34,7 +34,8 @@ impl<'a> Container<'a> {
             version: header.version,
             pieces: header.pieces,
         };
-        let (procedures, end) = procedures(layout, after_header)?;
+        let mut procedures = ArrayVec::new();
+        let end = read_procedures(layout, after_header, &mut procedures)?;
         if !end.rest.is_empty() {
             return Err(ContainerFault::C6 { at: end.at });
         }
@@ -94,11 +95,11 @@ impl<'a> Container<'a> {
     pub fn label_count(&self, i: usize) -> usize
         requires { i < length self.now.procedures }
         ensures count { IfSome (slice_get self.now.procedures i)
-            (λ p. result ≡ length p.labels.starts.items) }
+            (λ p. result ≡ length p.labels.starts) }
         ensures few { result ≤ 256 }
         ensures plan { OfProcedure self.now i (λ p q. result ≡ length q.labels) }
     {
-        self.procedures[i].labels.starts.len()
+        self.procedures[i].labels.count()
     }
 
     /// The position in its code of label n of procedure i.
@@ -139,17 +140,19 @@ impl<'a> Container<'a> {
     }
 }
 
-/// The procedures of a plan, with their count in front of them.
-fn procedures(
+/// Reads the procedures of a plan, with their count in front of them, into a list that is empty, and
+/// gives what is next. They are read where they are to stay, since they take much of the stack.
+fn read_procedures<'a>(
     layout: Layout,
-    cursor: Cursor<'_>,
-) -> Result<(ArrayVec<StoredProcedure<'_>, MOST_PROCEDURES>, Cursor<'_>), ContainerFault>
-    ensures { ReadsAs (λ kept ps. AreFor (IsProcedure layout.pieces) kept.items ps)
+    cursor: Cursor<'a>,
+    procedures: &mut ArrayVec<StoredProcedure<'a>, MOST_PROCEDURES>,
+) -> Result<Cursor<'a>, ContainerFault>
+    requires { procedures.old.items ≡ [] }
+    ensures { ReadsInto (AreFor (IsProcedure layout.pieces)) procedures.new.items
         (procedures_part layout.version layout.pieces) cursor.entry result }
 {
     let (count, after_count) = count_within(cursor, 1, MOST_PROCEDURES)?;
     let (main, after_main) = main_procedure(layout, after_count)?;
-    let mut procedures = ArrayVec::new();
     procedures.push(main);
     let mut cursor = after_main;
     for _ in 0..count - 1 {
@@ -157,5 +160,5 @@ fn procedures(
         procedures.push(procedure);
         cursor = next;
     }
-    Ok((procedures, cursor))
+    Ok(cursor)
 }

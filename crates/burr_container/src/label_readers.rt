@@ -1,12 +1,14 @@
 //! Reading labels again, each from its first byte on.
 
 ghost use Rattle.std.specs.Prelude.{◌≡◌, ◌≤◌, ◌<◌, ℕ, List, Some, length, slice_get, true, IfOk};
+ghost use Rattle.burr_code.specs.declared.limits.TheConstants.{MOST_LABELS};
 ghost use Rattle.burr_container.specs.Rules.Plans.{Frame};
 ghost use Rattle.burr_container.specs.Rules.Faults.{number, label as label_part};
 ghost use Rattle.burr_container.specs.declared.fault.ContainerFault.TheVariants.{C5 as C5_at};
 ghost use Rattle.burr_container.specs.Views.Reading.{Reads};
 ghost use Rattle.burr_container.specs.Views.Refs.{ReadsInPlace, frame_of};
 ghost use Rattle.burr_container.specs.Views.InPlace.{AreFor, IsLabel};
+ghost use Rattle.burr_container.specs.Views.Readable.{NeverFails};
 
 use crate::fault::ContainerFault;
 use crate::frame_ref::FrameRef;
@@ -15,31 +17,55 @@ use crate::layout::Layout;
 use crate::reading::{Cursor, frame};
 
 impl<'a> LabelTable<'a> {
-    /// The position of label n. Its frame is not read.
+    /// How many labels there are.
+    pub fn count(&self) -> usize
+        ensures count { result ≡ length self.now.starts }
+        ensures few { result ≤ MOST_LABELS }
+    {
+        self.begins.len()
+    }
+
+    /// The position of label n in the code. Its frame is not read.
     pub fn position(&self, n: usize) -> u16
-        requires { n < length self.now.starts.items }
+        requires { n < length self.now.starts }
         ensures { (pieces : ℕ) (ls : List (ℕ × Frame)) (l : ℕ × Frame)
-            → AreFor (IsLabel pieces) self.now.starts.items ls → slice_get ls n ≡ Some l
+            → AreFor (IsLabel pieces) self.now.starts ls → slice_get ls n ≡ Some l
             → result ≡ l.0 }
     {
-        let Ok((position, _next)) = any_position(Cursor::new(self.starts[n])) else {
+        let Ok((position, _next)) = any_position(self.begin(n)) else {
             unreachable!();
         };
         position
     }
 
-    /// The position of label n, and its frame.
+    /// The position of label n in the code, and its frame.
     pub fn label(&self, n: usize) -> (u16, FrameRef<'a>)
-        requires { n < length self.now.starts.items }
+        requires { n < length self.now.starts }
         ensures places { result.1.places.count ≡ self.now.layout.pieces }
         ensures label { (ls : List (ℕ × Frame)) (l : ℕ × Frame)
-            → AreFor (IsLabel self.now.layout.pieces) self.now.starts.items ls
+            → AreFor (IsLabel self.now.layout.pieces) self.now.starts ls
             → slice_get ls n ≡ Some l → (result.0 ≡ l.0) × (frame_of result.1 ≡ l.1) }
     {
-        let Ok((label, _next)) = label(self.layout, Cursor::new(self.starts[n])) else {
+        let Ok((label, _next)) = label(self.layout(), self.begin(n)) else {
             unreachable!();
         };
         label
+    }
+
+    fn layout(&self) -> Layout
+        ensures { result ≡ self.now.layout }
+    {
+        self.layout
+    }
+
+    /// At the begin of label n, which can be read there.
+    fn begin(&self, n: usize) -> Cursor<'a>
+        requires { n < length self.now.starts }
+        ensures begin { slice_get self.now.starts n ≡ Some result.rest.now }
+        ensures readable { NeverFails (label_part (λ position. true) self.now.layout.pieces) result.rest.now }
+    {
+        let begin = self.begins[n] as usize;
+        Cursor::new(&self.bytes[begin..])
     }
 }
 

@@ -60,7 +60,7 @@ impl<'a, 'c: 'a> ProcedureRef<'a, 'c> {
     /// How many labels it has, 1 to 256.
     pub fn label_count(&self) -> usize
         ensures count { IfSome (slice_get self.now.container.now.procedures self.now.number)
-            (λ p. result ≡ length p.labels.starts.items) }
+            (λ p. result ≡ length p.labels.starts) }
         ensures few { result ≤ 256 }
         ensures plan { OfLent self.now (λ p q. result ≡ length q.labels) }
     {

@@ -93,9 +93,9 @@ pub has_label_in : (kept : ContainerView) (p : Plan) (q : PlanProcedure) (i n : 
     → n < length q.labels
 has_label_in kept p q i n is here has =
     let (stored, there, for) = for_at (IsProcedure p.pieces) kept.procedures p.procedures i q is.procedures here in
-    let many = as_many (IsLabel p.pieces) stored.labels.starts.items q.labels for.labels in
-    let below : n < length stored.labels.starts.items =
-    subst (λ (found : Option StoredProcedure). IfSome found (λ p. n < length p.labels.starts.items)) there has in
+    let many = as_many (IsLabel p.pieces) stored.labels.starts q.labels for.labels in
+    let below : n < length stored.labels.starts =
+    subst (λ (found : Option StoredProcedure). IfSome found (λ p. n < length p.labels.starts)) there has in
     omega (arith, below, many)
 
 -- labels within the format, of whatever plan the container is of

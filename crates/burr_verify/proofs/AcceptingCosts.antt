@@ -34,7 +34,7 @@ as_many_for Is (x ∷ xs) (y ∷ ys) are = ap suc (as_many_for Is xs ys are.1)
 
 -- the first of these procedures is there, and it has a label
 abbrev HasFirst : List StoredProcedure → Type 0
-HasFirst kept = (0 < length kept) × IfSome (slice_get kept 0) (λ p. 0 < length p.labels.starts.items)
+HasFirst kept = (0 < length kept) × IfSome (slice_get kept 0) (λ p. 0 < length p.labels.starts)
 
 has_first : (pieces : ℕ) (kept : List StoredProcedure) (qs : List PlanProcedure) → AreFor (IsProcedure pieces) kept qs
     → 1 ≤ length qs → ((q : PlanProcedure) → slice_get qs 0 ≡ Some q → 1 ≤ length q.labels) → HasFirst kept
@@ -42,7 +42,7 @@ has_first pieces [] [] are some labels = absurd (omega (arith, some))
 has_first pieces [] (q ∷ qs) are some labels = absurd are
 has_first pieces (k ∷ kept) [] are some labels = absurd are
 has_first pieces (k ∷ kept) (q ∷ qs) are some labels =
-    let many = as_many_for _ k.labels.starts.items q.labels are.0.labels in
+    let many = as_many_for _ k.labels.starts q.labels are.0.labels in
     let label = labels q refl in (omega arith, omega (arith, many, label))
 
 -- each first procedure of a fitting plan has a label

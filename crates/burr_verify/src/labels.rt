@@ -27,7 +27,7 @@ pub fn label_within(procedure: ProcedureRef<'_, '_>, from: usize, end: usize) ->
 /// by bisection.
 fn count_before(procedure: ProcedureRef<'_, '_>, place: usize) -> usize
     ensures few { IfSome (slice_get procedure.entry.container.now.procedures procedure.entry.number)
-        (λ p. result ≤ length p.labels.starts.items) }
+        (λ p. result ≤ length p.labels.starts) }
     ensures many { OfLent procedure.entry (λ p q. result ≤ length q.labels) }
     ensures before { OfFramedProcedure procedure.entry (λ plan here. AreBefore here place result) }
 {

@@ -48,7 +48,7 @@ label pieces last = label_at (is_next_label last) pieces
 pub label_sound : (pieces : ℕ) (last : Option ℕ) → pieces ≤ 32 → Sound (label pieces last)
 label_sound pieces last few = label_at_sound (is_next_label last) pieces few
 
--- LabelTable from one on
+-- Labels from one on
 
 -- the position of the last of these labels, which stand after this one
 abbrev pub last_from : Option ℕ → List (ℕ × Frame) → Option ℕ

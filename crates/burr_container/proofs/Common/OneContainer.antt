@@ -1,6 +1,5 @@
 -- For crates above: a container is that of one plan at most, and where it has a plan it is that of a fitting one.
 use Rattle.std.proofs.Common.{◌≡◌, ℕ, ◌≤◌, true, IsTrue, nat_le, Option, Some, None, List, [], ◌∷◌, refl, sym, ap, ◌∙◌, subst, leb-true}
-use Rattle.std.specs.Borrow.{Bor}
 use Rattle.std.proofs.lemmas.Bool.{and_parts}
 use Rattle.burr_container.specs.declared.exit_ref.ExitRef.{ExitRef}
 use Rattle.burr_container.specs.declared.stored_procedure.StoredProcedure.{StoredProcedure}
@@ -22,10 +21,10 @@ same_for Is one (a ∷ kept) (x ∷ xs) [] e f = absurd f
 same_for Is one (a ∷ kept) (x ∷ xs) (y ∷ ys) e f =
     let head = one a x y e.0 f.0 in let tail = same_for Is one kept xs ys e.1 f.1 in λ i. head i ∷ tail i
 
-one_label : (pieces : ℕ) → pieces ≤ 32 → (start : Bor (List ℕ)) (l m : ℕ × Frame) → IsLabel pieces start l
+one_label : (pieces : ℕ) → pieces ≤ 32 → (start : List ℕ) (l m : ℕ × Frame) → IsLabel pieces start l
     → IsLabel pieces start m → l ≡ m
 one_label pieces few start l m e f =
-    ((label_at_sound (λ position. true) pieces few).one l m start.now e.rest f.rest (e.fits, e.parts)
+    ((label_at_sound (λ position. true) pieces few).one l m start e.rest f.rest (e.fits, e.parts)
     (f.fits, f.parts)).0
 
 one_exit : (pieces parameters results : ℕ) (kept : Option ExitRef) (f g : Option ExitFrame)
@@ -47,7 +46,7 @@ one_procedure pieces few kept p q e f =
     (subst (λ (n : ℕ). IsExit pieces n q.results kept.exit p.exit) parameters
     (subst (λ (n : ℕ). IsExit pieces p.parameters n kept.exit p.exit) results e.exit)) f.exit in
     let labels : p.labels ≡ q.labels =
-    same_for (IsLabel pieces) (one_label pieces few) kept.labels.starts.items p.labels q.labels e.labels f.labels in
+    same_for (IsLabel pieces) (one_label pieces few) kept.labels.starts p.labels q.labels e.labels f.labels in
     let code : p.code ≡ q.code = sym e.code ∙ f.code in λ i. record {
       parameters = parameters i;
       results = results i;

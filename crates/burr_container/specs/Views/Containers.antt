@@ -43,7 +43,7 @@ ReadsContainer bytes result =
 -- procedure i of the container has a label n
 abbrev pub HasLabel : ContainerView → ℕ → ℕ → Type 0
 HasLabel kept i n =
-    IfSome (slice_get kept.procedures i) (λ p. n < length p.labels.starts.items)
+    IfSome (slice_get kept.procedures i) (λ p. n < length p.labels.starts)
 
 -- it holds of procedure i of the container's plan
 abbrev pub OfProcedure : ContainerView → ℕ → (Plan → PlanProcedure → Type 0) → Type 0

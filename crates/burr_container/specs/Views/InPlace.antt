@@ -4,11 +4,11 @@ use Rattle.std.specs.Borrow.{Bor}
 use Rattle.burr_container.specs.declared.fault.ContainerFault.{ContainerFault}
 use Rattle.burr_container.specs.declared.reading.cursor.Cursor.{Cursor}
 use Rattle.burr_container.specs.declared.header.Header.{Header}
-use Rattle.burr_container.specs.declared.label_table.LabelTable.{LabelTable}
 use Rattle.burr_container.specs.declared.exit_ref.ExitRef.{ExitRef}
 use Rattle.burr_container.specs.declared.stored_procedure.StoredProcedure.{StoredProcedure}
 use Rattle.burr_container.specs.Rules.Plans.{Frame, ExitFrame, PlanProcedure, exit_symbols}
 use Rattle.burr_container.specs.Views.Cuts.{IsCut}
+use Rattle.burr_container.specs.Views.Readable.{LabelsView}
 use Rattle.burr_container.specs.Rules.Spelling.{front_bytes}
 use Rattle.burr_container.specs.Rules.Fitting.{is_version, is_budget, is_piece_count, is_name_text}
 use Rattle.burr_container.specs.Rules.Faults.{Part, label, last_label, ProceduresFail, ContainerFails}
@@ -28,8 +28,8 @@ AreFor Is [] (y ∷ ys) = ⊥
 AreFor Is (x ∷ xs) [] = ⊥
 
 -- the bytes from a label on, wherever it stands
-abbrev pub IsLabel : ℕ → Bor (List ℕ) → ℕ × Frame → Type 0
-IsLabel pieces start l = BeginWith (label (λ position. true) pieces) start.now l
+abbrev pub IsLabel : ℕ → List ℕ → ℕ × Frame → Type 0
+IsLabel pieces start l = BeginWith (label (λ position. true) pieces) start l
 
 -- a header stands at the cursor, and after it the next one; how the procedures fail there is how
 -- the container fails
@@ -51,17 +51,17 @@ ReadsHeader cursor result =
     (λ fault. ContainerFails cursor.at cursor.rest.now fault)
 
 -- labels, and the position of the last one
-pub record AreLabels (pieces : ℕ) (kept : LabelTable × Option ℕ) (ls : List (ℕ × Frame)) : Type 0
+pub record AreLabels (pieces : ℕ) (kept : LabelsView × Option ℕ) (ls : List (ℕ × Frame)) : Type 0
   where
     pub of_plan : kept.0.layout.pieces ≡ pieces
-    pub labels : AreFor (IsLabel pieces) kept.0.starts.items ls
+    pub labels : AreFor (IsLabel pieces) kept.0.starts ls
     pub last : kept.1 ≡ last_label ls
 
 -- labels and code
-pub record IsBody (pieces : ℕ) (kept : LabelTable × Bor (List ℕ))
+pub record IsBody (pieces : ℕ) (kept : LabelsView × Bor (List ℕ))
     (body : List (ℕ × Frame) × List ℕ) : Type 0 where
   pub of_plan : kept.0.layout.pieces ≡ pieces
-  pub labels : AreFor (IsLabel pieces) kept.0.starts.items body.0
+  pub labels : AreFor (IsLabel pieces) kept.0.starts body.0
   pub code : kept.1.now ≡ body.1
 
 -- the exit frame of a procedure with so many parameters and results
@@ -87,5 +87,5 @@ pub record IsProcedure (pieces : ℕ) (kept : StoredProcedure) (p : PlanProcedur
   pub results : kept.results ≡ p.results
   pub exit : IsExit pieces p.parameters p.results kept.exit p.exit
   pub of_plan : kept.labels.layout.pieces ≡ pieces
-  pub labels : AreFor (IsLabel pieces) kept.labels.starts.items p.labels
+  pub labels : AreFor (IsLabel pieces) kept.labels.starts p.labels
   pub code : kept.code.now ≡ p.code

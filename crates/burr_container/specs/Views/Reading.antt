@@ -24,6 +24,14 @@ ReadsAs {A = A} Is part cursor result =
     MatchResult result (λ ok. (a : A) × Is ok.0 a × IsAt part cursor a ok.1)
     (λ fault. part.Fails cursor.at cursor.rest.now fault)
 
+-- the part is read, and the next cursor is given: what is kept is of the value that stands at the
+-- cursor
+abbrev pub ReadsInto : {A V : Type 0} → (V → A → Type 0) → V → Part A → Cursor
+    → Result Cursor ContainerFault → Type 0
+ReadsInto {A = A} Is kept part cursor result =
+    MatchResult result (λ next. (a : A) × Is kept a × IsAt part cursor a next)
+    (λ fault. part.Fails cursor.at cursor.rest.now fault)
+
 -- the part is read: the value that stands at the cursor and the next cursor, or how it fails
 abbrev pub Reads : {A : Type 0} → Part A → Cursor → Result (A × Cursor) ContainerFault → Type 0
 Reads part cursor result =

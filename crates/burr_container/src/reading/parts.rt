@@ -168,16 +168,22 @@ fn labels(
     ensures { ReadsAs (AreLabels layout.pieces) (labels_part layout.pieces) cursor.entry result }
 {
     let (count, after_count) = word_within(cursor, 1, MOST_LABELS)?;
-    let mut starts = ArrayVec::new();
+    let bytes = after_count.rest;
+    let mut begins = ArrayVec::new();
     let mut last = None;
     let mut cursor = after_count;
     for _ in 0..count {
         let (position, next) = label(last, layout, cursor)?;
-        starts.push(cursor.rest);
+        begins.push((cursor.at - after_count.at) as u32);
         last = Some(position);
         cursor = next;
     }
-    Ok(((LabelTable { layout, starts }, last), cursor))
+    let table = LabelTable {
+        layout,
+        bytes,
+        begins,
+    };
+    Ok(((table, last), cursor))
 }
 
 /// A label after the one at `last`: its position.

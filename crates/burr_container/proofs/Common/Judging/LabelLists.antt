@@ -145,7 +145,7 @@ labels_judged pieces =
     (λ ls bytes r small here. here) (labels_fail_back pieces count)
     (labels_from_judged pieces None count)))
 
--- LabelTable of a code
+-- Labels of a code
 
 rise_back : (end : ℕ) (l : ℕ × Frame) (ls : List (ℕ × Frame)) → IsTrue (are_rising (Some l.0) ls)
     → IsTrue (is_above (last_label (l ∷ ls)) end)

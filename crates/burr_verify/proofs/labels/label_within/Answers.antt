@@ -7,7 +7,7 @@ use Rattle.burr_verify.proofs.labels.label_within.Goals as goal
 
 pub returns-then-label-after-clause-has : goal.returns-then-label-after-clause-has
 returns-then-label-after-clause-has c =
-    below_few (slice_get c.args.procedure.container.now.procedures c.args.procedure.number) (λ (p : StoredProcedure). length p.labels.starts.items) c.count_before-label.result c.count_before-after.result c.count_before-after.ensures.few c.if-label-after.true
+    below_few (slice_get c.args.procedure.container.now.procedures c.args.procedure.number) (λ (p : StoredProcedure). length p.labels.starts) c.count_before-label.result c.count_before-after.result c.count_before-after.ensures.few c.if-label-after.true
 
 pub returns-then-label-after-clause-found : goal.returns-then-label-after-clause-found
 returns-then-label-after-clause-found c p here kept at =

@@ -24,6 +24,6 @@ returns-clause-plan c = λ p q is at l there.
     let here = (for_at (IsProcedure p.pieces) c.deref.result.now p.procedures c.args.i q c.index-deref-i.result
     (subst (λ (xs : List StoredProcedure). AreFor (IsProcedure p.pieces) xs p.procedures) (sym c.deref.ensures.0) (subst (λ (k : ContainerView). IsContainer k p) (sym c.self.view_is) is).procedures) at) in
     let kept =
-    subst (λ (n : ℕ). AreFor (IsLabel n) (slice_index_or c.deref.result.now c.args.i c.index-deref-i.result).labels.starts.items q.labels)
+    subst (λ (n : ℕ). AreFor (IsLabel n) (slice_index_or c.deref.result.now c.args.i c.index-deref-i.result).labels.starts q.labels)
     (sym here.of_plan) here.labels in
     (c.label.ensures.label q.labels l kept there).1

@@ -11,4 +11,4 @@ pub returns-clause-plan : goal.returns-clause-plan
 returns-clause-plan c = λ p q is at.
     let here = (for_at (IsProcedure p.pieces) c.deref.result.now p.procedures c.args.i q c.index-deref-i.result
     (subst (λ (xs : List StoredProcedure). AreFor (IsProcedure p.pieces) xs p.procedures) (sym c.deref.ensures.0) (subst (λ (k : ContainerView). IsContainer k p) (sym c.self.view_is) is).procedures) at) in
-    c.len.ensures.value ∙ for_length (IsLabel p.pieces) _ q.labels here.labels
+    c.count.ensures.count ∙ for_length (IsLabel p.pieces) _ q.labels here.labels

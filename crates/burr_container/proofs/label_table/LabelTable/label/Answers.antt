@@ -1,29 +1,27 @@
 -- The label that stands at the bytes from it on.
-use Rattle.std.proofs.Common.{sym, ap, subst, ℕ}
-use Rattle.std.specs.Prelude.{List, [], slice_index_or}
-use Rattle.std.specs.Borrow.{Bor}
+use Rattle.std.proofs.Common.{ap, refl, sym, subst, ℕ, true}
+use Rattle.burr_container.specs.declared.layout.Layout.{Layout}
 use Rattle.burr_container.specs.Rules.Plans.{Frame}
+use Rattle.burr_container.specs.Rules.Faults.{label}
+use Rattle.burr_container.specs.Views.Reading.{IsAt}
+use Rattle.burr_container.specs.Views.Readable.{NeverFails}
 use Rattle.burr_container.specs.Views.Refs.{frame_of}
-use Rattle.burr_container.specs.Views.InPlace.{AreFor, IsLabel}
-use Rattle.burr_container.proofs.Kept.{for_at, label_is, kept_never}
+use Rattle.burr_container.specs.Views.InPlace.{IsLabel}
+use Rattle.burr_container.proofs.Kept.{for_get, label_is}
 use Rattle.burr_container.proofs.label_table.LabelTable.label.Goals as goal
 
 pub returns-clause-label : goal.returns-clause-label
 returns-clause-label c = λ ls l are at.
     let pieces = c.args.self.now.layout.pieces in
-    let default : Bor (List ℕ) = record { ref_ptr = (0, 0); now = [] } in
-    let start = slice_index_or c.deref.result.now c.args.n default in
-    let there =
-    for_at (IsLabel pieces) c.deref.result.now ls c.args.n l default
-    (subst (λ (xs : List (Bor (List ℕ))). AreFor (IsLabel pieces) xs ls) (sym c.deref.ensures.0) are) at in
-    let same =
-    label_is pieces c.args.self.now.layout.few c.new.result c.in-Ok._next (c.in-Ok.label.0, frame_of c.in-Ok.label.1) l start c.new.ensures.rest
-    c.in-Ok.ensures.reads there in
+    let kept : ℕ × Frame = (c.in-Ok.label.0, frame_of c.in-Ok.label.1) in
+    let there = for_get (IsLabel pieces) c.args.self.now.starts ls c.args.n c.begin.result.rest.now l are c.begin.ensures.begin at in
+    let here =
+    subst (λ (n : ℕ). IsAt (label (λ position. true) n) c.begin.result kept c.in-Ok._next) (ap (λ (l : Layout). l.pieces) c.layout.ensures)
+    c.in-Ok.ensures.reads in
+    let same = label_is pieces c.args.self.now.layout.few c.begin.result c.in-Ok._next kept l c.begin.result.rest.now refl here there in
     (ap (λ (v : ℕ × Frame). v.0) same, ap (λ (v : ℕ × Frame). v.1) same)
 
 pub unreachable-requires : goal.unreachable-requires
 unreachable-requires c =
-    let table = c.args.self.now in
-    let default : Bor (List ℕ) = record { ref_ptr = (0, 0); now = [] } in
-    kept_never table.layout.pieces c.args.n table.starts.items c.deref.result.now default c.new.result _ table.readable c.requires c.deref.ensures.0
-    c.new.ensures.rest c.in_default.ensures.reads
+    (subst (λ (n : ℕ). NeverFails (label (λ position. true) n) c.begin.result.rest.now) (sym (ap (λ (l : Layout). l.pieces) c.layout.ensures))
+    c.begin.ensures.readable) _ _ c.in_default.ensures.reads

@@ -4,7 +4,7 @@ use Rattle.std.specs.Prelude.{false}
 use Rattle.burr_container.specs.Rules.Faults.{procedure}
 use Rattle.burr_container.specs.Views.InPlace.{IsProcedure}
 use Rattle.burr_container.proofs.KeptWalk.{IsKeptWalk}
-use Rattle.burr_container.proofs.container_readers.procedures.Given as goal
+use Rattle.burr_container.proofs.container_readers.read_procedures.Given as goal
 
 abbrev pub invariant-loop : goal.invariant-loop
 invariant-loop l =

@@ -8,7 +8,7 @@ use Rattle.burr_container.specs.Views.InPlace.{AreFor, IsProcedure}
 use Rattle.burr_container.proofs.EachWalk.{each_fails}
 use Rattle.burr_container.proofs.KeptWalk.{kept_goes_on, kept_ends}
 use Rattle.burr_container.proofs.ProceduresRead.{main_fails_first, others_fail_then, procedures_at, counted_within, one_less}
-use Rattle.burr_container.proofs.container_readers.procedures.Goals as goal
+use Rattle.burr_container.proofs.container_readers.read_procedures.Goals as goal
 
 pub returns-in_err-main : goal.returns-in_err-main
 returns-in_err-main c =
