@@ -105,7 +105,14 @@ pub on_err : {A E : Type 0} (r : Result A E) {P : Type 0} → P → OnErr r P
 on_err (Ok a) p = tt
 on_err (Err e) p = p
 
--- the sink below failed when the output of a whole input was handed on
+-- the output of a whole input was handed on
+pub output_handed : {R S : Type 0} (source : SourceView R) (before after : R) (sink : SinkView S) (old mid new : Lines S) (outcome : Outcome) → old.held ≡ []
+    → Succeeds (streams source before after (lines_view sink) old mid) outcome → Takes sink mid.sink new.sink mid.held
+    → Succeeds (streams source before after sink old.sink new.sink) outcome
+output_handed source before after sink old mid new outcome none (input, whole, (output, is, put)) handed =
+    (input, whole, (output, is, went sink old mid new output none put handed))
+
+-- or the sink below failed then
 pub output_failed_late : {R S : Type 0} (source : SourceView R) (before after : R) (sink : SinkView S) (old mid new : Lines S) (outcome : Outcome) → old.held ≡ []
     → Succeeds (streams source before after (lines_view sink) old mid) outcome → FailsWithin sink mid.sink new.sink mid.held
     → FailsInOutput (streams source before after sink old.sink new.sink)

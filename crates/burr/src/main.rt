@@ -20,13 +20,15 @@ use burr_io::{Reading, WholeLines, Writing};
 use std::process::ExitCode;
 use std::{env, io};
 
-/// How many bytes of lines are held back of standard output, and of standard error.
+/// How many bytes of lines are held back of standard output.
 const HELD: usize = 65_536;
+/// The same of standard error, which gets few and short lines. Both stand on the stack.
+const HELD_COMPLAINTS: usize = 2_048;
 
 fn main(rt: HostRuntime) -> ExitCode {
     let mut source = Reading::new(rt.reader());
     let mut sink: WholeLines<_, HELD> = WholeLines::new(Writing::new(rt.stdout()));
-    let mut complaints: WholeLines<_, HELD> = WholeLines::new(Writing::new(rt.stderr()));
+    let mut complaints: WholeLines<_, HELD_COMPLAINTS> = WholeLines::new(Writing::new(rt.stderr()));
     let status = match words(&rt) {
         Ok(words) => run_words(&rt, &words, &mut source, &mut sink, &mut complaints),
         Err(error) => end_without_words(error.kind(), &mut complaints),

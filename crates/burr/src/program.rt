@@ -36,12 +36,19 @@ use std::rt::Files;
 /// version was written; 1 where the input was refused, or the run trapped or was stopped; 2 for a
 /// fault of the words; 3 where a file, the source or the sink failed, or an input is too long; 4
 /// where memory was refused; 5 where the run waits for an answer.
-pub fn run_words<F: Files + AllocGlobal, R: Source, W: Sink, E: Sink, const N: usize>(
+pub fn run_words<
+    F: Files + AllocGlobal,
+    R: Source,
+    W: Sink,
+    E: Sink,
+    const N: usize,
+    const M: usize,
+>(
     files: &F,
     words: &[String],
     source: &mut R,
     sink: &mut WholeLines<W, N>,
-    complaints: &mut WholeLines<E, N>,
+    complaints: &mut WholeLines<E, M>,
 ) -> u8
     requires fresh { sink.old.held ≡ [] }
     requires told { complaints.old.held ≡ [] }
@@ -68,12 +75,12 @@ pub fn run_words<F: Files + AllocGlobal, R: Source, W: Sink, E: Sink, const N: u
 }
 
 /// Does a command's job, and gives the status to end with.
-fn work<F: Files + AllocGlobal, R: Source, W: Sink, E: Sink, const N: usize>(
+fn work<F: Files + AllocGlobal, R: Source, W: Sink, E: Sink, const N: usize, const M: usize>(
     files: &F,
     job: &Job<'_>,
     source: &mut R,
     sink: &mut WholeLines<W, N>,
-    complaints: &mut WholeLines<E, N>,
+    complaints: &mut WholeLines<E, M>,
 ) -> Status
     requires fresh { sink.old.held ≡ [] }
     requires told { complaints.old.held ≡ [] }
@@ -205,10 +212,10 @@ pub fn end_without_words<E: Sink, const N: usize>(
 }
 
 /// Puts a reply where it belongs, and gives the status to end with.
-fn give<W: Sink, E: Sink, const N: usize>(
+fn give<W: Sink, E: Sink, const N: usize, const M: usize>(
     reply: &Reply,
     sink: &mut WholeLines<W, N>,
-    complaints: &mut WholeLines<E, N>,
+    complaints: &mut WholeLines<E, M>,
 ) -> Status
     requires fresh { sink.old.held ≡ [] }
     requires told { complaints.old.held ≡ [] }
@@ -245,11 +252,11 @@ fn put_whole<W: Sink, const N: usize>(
 }
 
 /// Writes the output for the source to the sink, and gives the status to end with.
-fn run<R: Source, W: Sink, E: Sink, const N: usize>(
+fn run<R: Source, W: Sink, E: Sink, const N: usize, const M: usize>(
     alloc: Global,
     source: &mut R,
     sink: &mut WholeLines<W, N>,
-    complaints: &mut WholeLines<E, N>,
+    complaints: &mut WholeLines<E, M>,
 ) -> Status
     requires fresh { sink.old.held ≡ [] }
     requires told { complaints.old.held ≡ [] }
