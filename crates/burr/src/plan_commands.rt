@@ -177,6 +177,7 @@ pub fn refuse_plan<'a, W: Sink>(
 }
 
 /// Puts whether the plan is accepted.
+#[inline(never)]
 fn check_plan<'a, 'x, B: Blocking, W: Sink>(
     container: &'x Container<'_>,
     blocking: &'x B,
@@ -196,6 +197,7 @@ fn check_plan<'a, 'x, B: Blocking, W: Sink>(
 
 /// Runs the plan where it is accepted, with the answers of a text; else puts the refusal, as a check
 /// does.
+#[inline(never)]
 fn run_if_accepted<'a, 'x, B: Blocking, W: Sink>(
     alloc: Global,
     container: &'x Container<'_>,
@@ -235,6 +237,7 @@ fn run_accepted<'a, B: Blocking, W: Sink>(
 }
 
 /// Runs the plan on the bench, where it is for the assembly, with the answers of a text.
+#[inline(never)]
 fn try_on_bench<'a, 'x, B: Blocking, W: Sink>(
     alloc: Global,
     container: &Container<'x>,

@@ -252,6 +252,7 @@ fn put_whole<W: Sink, const N: usize>(
 }
 
 /// Writes the output for the source to the sink, and gives the status to end with.
+#[inline(never)]
 fn run<R: Source, W: Sink, E: Sink, const N: usize, const M: usize>(
     alloc: Global,
     source: &mut R,

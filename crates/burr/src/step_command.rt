@@ -115,6 +115,7 @@ fn step_assembly<'a, 'x, R: Source, W: Sink, const N: usize>(
 }
 
 /// Goes through the plan where it is accepted; else puts the refusal, as a check does.
+#[inline(never)]
 fn step_if_accepted<'a, 'x, B: Blocking, R: Source, W: Sink, const N: usize>(
     alloc: Global,
     container: &'x Container<'_>,
@@ -145,6 +146,7 @@ fn step_if_accepted<'a, 'x, B: Blocking, R: Source, W: Sink, const N: usize>(
 }
 
 /// Goes through an accepted plan.
+#[inline(never)]
 fn step_accepted<'a, B: Blocking, R: Source, W: Sink, const N: usize>(
     alloc: Global,
     accepted: &Accepted<'_, '_, B>,

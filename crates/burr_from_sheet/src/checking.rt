@@ -17,6 +17,7 @@ use std::alloc::{AllocError, Global};
 
 /// The listing of the container of drafted code, where its plan is accepted and the sheet of its run
 /// has these move lines.
+#[inline(never)]
 pub fn checked_text<B: Blocking>(
     alloc: Global,
     blocking: &B,
@@ -40,6 +41,7 @@ pub fn checked_text<B: Blocking>(
 
 /// The listing of a container, where the sheet of its run has these move lines; or the refusal of
 /// its plan.
+#[inline(never)]
 fn text_if_accepted<'x, B: Blocking>(
     alloc: Global,
     container: &'x Container<'_>,
@@ -62,6 +64,7 @@ fn text_if_accepted<'x, B: Blocking>(
 
 /// Runs an accepted plan without answers, and compares: all pieces are apart at its end, and its
 /// sheet has these move lines.
+#[inline(never)]
 fn compare_run<B: Blocking>(
     alloc: Global,
     accepted: &Accepted<'_, '_, B>,

@@ -36,6 +36,7 @@ pub fn judge_frames(procedure: ProcedureRef<'_, '_>) -> Result<(), Refusal>
 }
 
 /// Judges the exit frame of a procedure, if there is one.
+#[inline(never)]
 fn judge_exit(procedure: ProcedureRef<'_, '_>) -> Result<(), Refusal>
     ensures { OfFramedProcedure procedure.entry (λ plan here.
         AnswersPart (judging_exit procedure.entry.number here.exit) result) }
@@ -52,6 +53,7 @@ fn judge_exit(procedure: ProcedureRef<'_, '_>) -> Result<(), Refusal>
 }
 
 /// Judges the frame of a label of a procedure; that of the first is its entry frame.
+#[inline(never)]
 fn judge_frame(procedure: ProcedureRef<'_, '_>, label: usize) -> Result<(), Refusal>
     requires { LentHasLabel procedure label }
     ensures { OfFramedProcedure procedure.entry (λ plan here. (l : ℕ × Frame)

@@ -88,6 +88,7 @@ fn judge_plan<B: Blocking>(
 }
 
 /// Judges the frames of each procedure.
+#[inline(never)]
 fn judge_all_frames(container: &Container<'_>) -> Result<(), Refusal>
     ensures { (p : Plan) → IsContainer container.now p
         → AnswersPart (judging_frames 0 (framed_plan p).procedures) result }
@@ -100,6 +101,7 @@ fn judge_all_frames(container: &Container<'_>) -> Result<(), Refusal>
 
 /// Judges the start against main's entry frame: all pieces of so many at home in tray 0, nothing
 /// gripped, and no cost above the budget.
+#[inline(never)]
 fn judge_start(container: &Container<'_>, pieces: u8) -> Result<(), Refusal>
     requires { pieces ≤ 32 }
     ensures { (p : Plan) (homes : List (List CellOf)) → IsContainer container.now p
@@ -122,6 +124,7 @@ fn judge_start(container: &Container<'_>, pieces: u8) -> Result<(), Refusal>
 
 /// Judges the code of each procedure. All frames hold by themselves, and no look was made before:
 /// the caller's conditions.
+#[inline(never)]
 fn judge_all_code<B: Blocking>(
     container: &Container<'_>,
     looks: &mut Looks<'_, B>,

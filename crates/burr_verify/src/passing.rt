@@ -24,6 +24,7 @@ use burr_frames::{Rule, State};
 /// Judges a procedure's code in one pass from its first byte, with one state at a time. The boxes
 /// of its frames have at most 4,096 points, and the count of looks leaves room for 2^32 more, as
 /// many as 4,096 bytes of code can ask for: the caller's conditions.
+#[inline(never)]
 pub fn judge_code<B: Blocking>(
     procedure: ProcedureRef<'_, '_>,
     looks: &mut Looks<'_, B>,
@@ -57,6 +58,7 @@ pub fn judge_code<B: Blocking>(
 
 /// The state before the instruction at pc: that of the frame there, at which what falls in arrives,
 /// or what falls in itself. What falls in falls out of the instruction at `last`.
+#[inline(never)]
 fn enter(
     procedure: ProcedureRef<'_, '_>,
     last: usize,
@@ -93,6 +95,7 @@ fn enter(
 /// Judges the instruction at pc in this state: the place after it, and the state that falls out of
 /// it. The looks of its rule are counted, at most 2^20. The state has at most 4,096 points, the
 /// assembly at most 32 pieces, and at most 2^40 looks were made so far: the caller's conditions.
+#[inline(never)]
 fn judge_at<B: Blocking>(
     procedure: ProcedureRef<'_, '_>,
     pc: usize,

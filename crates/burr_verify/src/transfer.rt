@@ -28,6 +28,7 @@ pub enum Successor {
 /// the instruction's checks fails first, and where. The looks are counted that its rule has. The
 /// state has at most 4,096 points, and at most 2^40 looks were made so far, the caller's
 /// conditions.
+#[inline(never)]
 pub fn transfer<B: Blocking>(
     state: &mut State,
     instruction: &Instr<'_>,

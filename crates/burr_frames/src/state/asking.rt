@@ -24,6 +24,7 @@ use burr_forms::limits::MOST_POINTS;
 
 impl State {
     /// `ask`: a symbol of this range more, which is the topmost operand.
+    #[inline(never)]
     pub fn ask(&mut self, low: i16, high: i16) -> Result<(), Break>
         requires { IsRange (low, high) }
         ensures verdict { ask_rule self.old low high (next_verdict self.new result) }
@@ -42,6 +43,7 @@ impl State {
     }
 
     /// `pick`: arrives at each of these labels.
+    #[inline(never)]
     pub fn pick(&self, procedure: ProcedureRef<'_, '_>, labels: &Labels<'_>) -> Result<(), Break>
         ensures { OfFramedProcedure procedure.entry (λ plan here.
             pick_rule here self.now labels.now (last_verdict result)) }

@@ -28,6 +28,7 @@ impl State {
     /// entry frame they meet; after it the pieces lie as its exit frame says of them and of the
     /// results, which are the topmost operands in place of the arguments, and its cost at the
     /// arguments is paid beside the step.
+    #[inline(never)]
     pub fn call(&mut self, procedure: ProcedureRef<'_, '_>, callee: u8) -> Result<(), Break>
         ensures verdict { OfFramedProcedure procedure.entry (λ plan here.
             call_rule plan procedure.entry.number self.old callee (next_verdict self.new result)) }

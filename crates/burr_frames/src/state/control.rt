@@ -34,6 +34,7 @@ impl State {
     }
 
     /// `jump`: arrives at a label.
+    #[inline(never)]
     pub fn jump(&self, procedure: ProcedureRef<'_, '_>, label: u16) -> Result<(), Break>
         ensures { OfFramedProcedure procedure.entry (λ plan here.
             jump_rule here self.now label (last_verdict result)) }
@@ -49,6 +50,7 @@ impl State {
 
     /// `down`: where the counter in slot v is above 0, it arrives at a label with the counter one
     /// less; where it is 0, it goes on after.
+    #[inline(never)]
     pub fn down(&mut self, procedure: ProcedureRef<'_, '_>, v: u8, label: u16) -> Result<(), Break>
         requires { v < 8 }
         ensures verdict { OfFramedProcedure procedure.entry (λ plan here.

@@ -58,6 +58,7 @@ pub fn meets_entry(state: &State, frame: &FrameRef<'_>) -> Result<(), Miss>
 
 impl State {
     /// The state of a frame at which this one arrives, as `arrives` says it.
+    #[inline(never)]
     pub fn arrive(&self, frame: &FrameRef<'_>) -> Result<State, Miss>
         ensures verdict { arriving self.now (framed (frame_of frame.now)) no_successor
             (arrival_verdict result) }

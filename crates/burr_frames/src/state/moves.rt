@@ -54,6 +54,7 @@ impl State {
     /// bench, and no gripped piece overlaps another one of the tray. At each point, in order, each
     /// such pair is a look, up to the first that overlaps. The state has at most 4,096 points, and
     /// at most 2^40 looks were made so far, the caller's conditions.
+    #[inline(never)]
     pub fn step<B: Blocking>(
         &mut self,
         looks: &mut Looks<'_, B>,
@@ -83,6 +84,7 @@ impl State {
     /// `aside`: the grip, which is not the whole tray, goes out along a direction to an empty tray,
     /// free of the rest of its tray. A piece that is alone in a tray then is apart. Each pair at
     /// each point is a look, and the caller's conditions are those of `step`.
+    #[inline(never)]
     pub fn aside<B: Blocking>(
         &mut self,
         looks: &mut Looks<'_, B>,

@@ -18,6 +18,7 @@ use burr_forms::Form;
 impl State {
     /// `ret`: the topmost operands are the results, and they and the pieces are as the procedure's
     /// exit frame says of its parameters.
+    #[inline(never)]
     pub fn ret(&self, procedure: ProcedureRef<'_, '_>) -> Result<(), Break>
         ensures { OfFramedProcedure procedure.entry (λ plan here.
             ret_rule here self.now (last_verdict result)) }
