@@ -1,13 +1,13 @@
 //! The pass over a procedure's code and frames.
 
-ghost use Rattle.std.specs.Prelude.{◌≡◌, ◌≢◌, ◌<◌, ◌≤◌, ◌+◌, ◌^◌, List, IfOk, MatchResult, length};
+ghost use Rattle.std.specs.Prelude.{◌≡◌, ◌≢◌, ◌<◌, ◌≤◌, ◌+◌, ◌^◌, List, Some, IsSome, IfOk, MatchResult, length};
 ghost use Rattle.burr_assembly.specs.Rules.Homes.{homes_of};
 ghost use Rattle.burr_blocking.specs.Rules.Counted.{HasCounted};
 ghost use Rattle.burr_code.specs.declared.limits.TheConstants.{MOST_CODE};
 ghost use Rattle.burr_voxels.specs.declared.cell.Cell.{Cell};
 ghost use Rattle.burr_frames.specs.Views.Here.{OfFramedProcedure};
-ghost use Rattle.burr_frames.specs.Rules.Looks.{HasRoom};
-ghost use Rattle.burr_verify.specs.Views.LookViews.{LooksOn, LooksStop, HasRoomBefore, HasRoomyFrames};
+ghost use Rattle.burr_frames.specs.Rules.States.{AbstractState};
+ghost use Rattle.burr_verify.specs.Views.LookViews.{LooksOn, LooksInto, LooksStop, HasRoomBefore, HasRoomyFrames};
 ghost use Rattle.burr_verify.specs.Rules.Pass.{BeforeInstruction, AtInstruction, pass_start};
 ghost use Rattle.burr_verify.specs.Rules.PassLooks.{LookedPass};
 ghost use Rattle.burr_verify.specs.Views.Judgements.{judgement_of};
@@ -42,82 +42,91 @@ pub fn judge_code<B: Blocking>(
     let size = procedure.code().len();
     let mut last = 0;
     let mut pc = 0;
-    let mut falling = None;
+    let mut state = None;
     while pc < size {
-        let state = enter(procedure, last, pc, falling)?;
-        let (after, next) = judge_at(procedure, pc, state, looks)?;
+        enter(procedure, last, pc, &mut state)?;
+        let next = judge_at(procedure, pc, &mut state, looks)?;
         last = pc;
-        pc = after;
-        falling = next;
+        pc = next;
     }
-    match falling {
+    match state {
         None => Ok(()),
         Some(_) => Err(Refusal::plain(procedure.number(), last as u16, Rule::V5)),
     }
 }
 
-/// The state before the instruction at pc: that of the frame there, at which what falls in arrives,
-/// or what falls in itself. What falls in falls out of the instruction at `last`.
+/// Takes the state that falls in at pc, if one does, to the state before the instruction there: that
+/// of the frame at pc, at which what falls in arrives, or what falls in itself. What falls in falls
+/// out of the instruction at `last`.
 #[inline(never)]
 fn enter(
     procedure: ProcedureRef<'_, '_>,
     last: usize,
     pc: usize,
-    falling: Option<State>,
-) -> Result<State, Refusal>
+    state: &mut Option<State>,
+) -> Result<(), Refusal>
     requires short { pc < MOST_CODE }
     requires rising { last ≤ pc }
     requires framed { HasRoomyFrames procedure }
-    requires room { HasRoomBefore falling }
+    requires room { HasRoomBefore state.old }
     ensures passes { (homes : List (List Cell)) → OfFramedProcedure procedure.entry (λ plan here.
         pc ≢ length here.code → MatchResult result
-        (λ s. LooksOn homes plan procedure.entry.number here (BeforeInstruction last pc falling)
-        (AtInstruction pc s) 0)
-        (λ r. LooksStop homes plan procedure.entry.number here (BeforeInstruction last pc falling)
-        r 0)) }
-    ensures room { IfOk result HasRoom }
+        (λ _. LooksInto homes plan procedure.entry.number here
+        (BeforeInstruction last pc state.old) pc state.new)
+        (λ r. LooksStop homes plan procedure.entry.number here
+        (BeforeInstruction last pc state.old) r 0)) }
+    ensures there { IfOk result (λ _. IsSome state.new) }
+    ensures room { IfOk result (λ _. HasRoomBefore state.new) }
 {
     let label = label_within(procedure, pc, pc + 1);
-    match (label, falling) {
+    match (label, &*state) {
         (None, None) => Err(Refusal::plain(procedure.number(), pc as u16, Rule::V4)),
-        (None, Some(state)) => Ok(state),
-        (Some(label), None) => Ok(State::of(&procedure.frame(label))),
-        (Some(label), Some(state)) => {
-            let frame = procedure.frame(label);
-            match state.arrive(&frame) {
-                Ok(there) => Ok(there),
+        (None, Some(_)) => Ok(()),
+        (Some(label), None) => {
+            *state = Some(State::of(&procedure.frame(label)));
+            Ok(())
+        }
+        (Some(label), Some(before)) => {
+            match before.arrive(&procedure.frame(label)) {
+                Ok(there) => {
+                    *state = Some(there);
+                    Ok(())
+                }
                 Err(miss) => Err(Refusal::missed(procedure.number(), last as u16, miss)),
             }
         }
     }
 }
 
-/// Judges the instruction at pc in this state: the place after it, and the state that falls out of
-/// it. The looks of its rule are counted, at most 2^20. The state has at most 4,096 points, the
-/// assembly at most 32 pieces, and at most 2^40 looks were made so far: the caller's conditions.
+/// Judges the instruction at pc in this state: the place after it. The state is then the one that
+/// falls out of it, if one does. The looks of its rule are counted, at most 2^20. There is a state,
+/// with at most 4,096 points, the assembly has at most 32 pieces, and at most 2^40 looks were made
+/// so far: the caller's conditions.
 #[inline(never)]
 fn judge_at<B: Blocking>(
     procedure: ProcedureRef<'_, '_>,
     pc: usize,
-    state: State,
+    state: &mut Option<State>,
     looks: &mut Looks<'_, B>,
-) -> Result<(usize, Option<State>), Refusal>
+) -> Result<usize, Refusal>
     requires short { pc < MOST_CODE }
     requires framed { HasRoomyFrames procedure }
-    requires points { HasRoom state }
+    requires there { IsSome state.old }
+    requires points { HasRoomBefore state.old }
     requires few_pieces { length looks.old.assembly.pieces ≤ 32 }
     requires room { looks.old.count ≤ 2 ^ 40 }
-    ensures after { IfOk result (λ ok. pc < ok.0) }
+    ensures after { IfOk result (λ next. pc < next) }
     ensures within { OfFramedProcedure procedure.entry (λ plan here.
-        IfOk result (λ ok. ok.0 ≤ length here.code)) }
-    ensures passes { OfFramedProcedure procedure.entry (λ plan here. HasCounted (λ n.
+        IfOk result (λ next. next ≤ length here.code)) }
+    ensures passes { (s : AbstractState) → state.old ≡ Some s
+        → OfFramedProcedure procedure.entry (λ plan here. HasCounted (λ n.
         MatchResult result
-        (λ ok. LooksOn (homes_of looks.old.assembly) plan procedure.entry.number here
-        (AtInstruction pc state) (BeforeInstruction pc ok.0 ok.1) n)
+        (λ next. LooksOn (homes_of looks.old.assembly) plan procedure.entry.number here
+        (AtInstruction pc s) (BeforeInstruction pc next state.new) n)
         (λ r. LooksStop (homes_of looks.old.assembly) plan procedure.entry.number here
-        (AtInstruction pc state) r n))
+        (AtInstruction pc s) r n))
         looks.old looks.new) }
-    ensures points { IfOk result (λ ok. HasRoomBefore ok.1) }
+    ensures points { IfOk result (λ _. HasRoomBefore state.new) }
     ensures few { looks.new.count ≤ looks.old.count + 2 ^ 20 }
     ensures same { looks.new.assembly ≡ looks.old.assembly }
 {
@@ -127,10 +136,15 @@ fn judge_at<B: Blocking>(
     if label_within(procedure, pc + 1, pc + size).is_some() {
         return Err(Refusal::plain(procedure.number(), pc as u16, Rule::V3));
     }
-    let mut state = state;
-    match transfer(&mut state, &instruction, procedure, looks) {
-        Ok(Successor::FallsThrough) => Ok((pc + size, Some(state))),
-        Ok(Successor::None) => Ok((pc + size, None)),
+    let Some(before) = state else {
+        unreachable!();
+    };
+    match transfer(before, &instruction, procedure, looks) {
+        Ok(Successor::FallsThrough) => Ok(pc + size),
+        Ok(Successor::None) => {
+            *state = None;
+            Ok(pc + size)
+        }
         Err(broken) => Err(Refusal::of(procedure.number(), pc as u16, broken)),
     }
 }

@@ -26,6 +26,7 @@ impl State {
     /// frame, its cost not yet paid: the results are symbols more, with the frame's ranges, and the
     /// topmost operands; its guards hold; and the pieces lie as it says. First there has to be room
     /// for the symbols and the guards, and then all forms have to be small.
+    #[inline(never)]
     pub(super) fn after_call(&self, arguments: &[Form], exit: &Exit) -> Result<State, Break>
         requires few { length arguments.now + length exit.now.results ≤ 8 }
         requires there { length arguments.now ≤ length self.now.operands }

@@ -1,11 +1,12 @@
 //! The rule of `call`.
 
-ghost use Rattle.std.specs.Prelude.{◌≡◌, ◌+◌, ◌<◌, ◌≤◌, IfErr, All, length, reverse, drop};
+ghost use Rattle.std.specs.Prelude.{◌≡◌, ◌+◌, ◌<◌, ◌≤◌, [], IfErr, All, length, reverse, drop};
 ghost use Rattle.burr_code.specs.Labels.{argument_slots as slots_of};
 ghost use Rattle.burr_container.specs.Views.Refs.{frame_of};
 ghost use Rattle.burr_forms.specs.Rules.Forms.{substituted, IsSmallForm, AllSmallForms};
 ghost use Rattle.burr_frames.specs.Rules.ControlRules.{call_rule, calling, paying_call, after_call, called_with};
 ghost use Rattle.burr_frames.specs.Rules.FramedPlans.{framed};
+ghost use Rattle.burr_frames.specs.Views.ArrivalViews.{AgreesOrMisses};
 ghost use Rattle.burr_frames.specs.Views.StateViews.{IsSmallSlot};
 ghost use Rattle.burr_frames.specs.Views.Breaks.{next_verdict};
 ghost use Rattle.burr_frames.specs.Views.CallViews.{PaysBeside, GivesTopmost};
@@ -14,6 +15,7 @@ ghost use Rattle.burr_frames.specs.Views.Here.{OfFramedProcedure};
 use super::State;
 use super::after::padded;
 use super::exit::Exit;
+use super::meeting::Miss;
 use crate::breaking::Break;
 use crate::finding::frame_at;
 use crate::raising::raised_by;
@@ -63,15 +65,28 @@ impl State {
         if MOST_OPERANDS < self.operands.len() - count + exit.results.len() {
             return Err(Break::plain(Rule::V7));
         }
-        let live = match self.called_with(arguments.as_slice()).met(entry) {
+        let live = match self.met_with(arguments.as_slice(), entry) {
             Ok(live) => live,
             Err(miss) => return Err(Break::missed(Rule::V20, miss)),
         };
         self.pays_for(arguments.as_slice(), exit, &entry.cost(), live.as_slice())
     }
 
+    /// The forms in the slots that are live in an entry frame, where the state in which a callee
+    /// begins with these arguments meets it.
+    #[inline(never)]
+    fn met_with(&self, arguments: &[Form], entry: &FrameRef<'_>) -> Result<ArrayVec<Form, 8>, Miss>
+        requires few { length arguments.now ≤ 8 }
+        requires small { AllSmallForms arguments.now }
+        ensures { AgreesOrMisses (called_with (reverse arguments.now) self.now)
+            (framed (frame_of entry.now)) [] [] result }
+    {
+        self.called_with(arguments).met(entry)
+    }
+
     /// A call with these arguments, its entry frame met, of a procedure with an exit frame and a
     /// cost, which is a form over what is in the slots live at its entry.
+    #[inline(never)]
     fn pays_for(
         &mut self,
         arguments: &[Form],

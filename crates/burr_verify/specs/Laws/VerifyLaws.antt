@@ -6,7 +6,7 @@ use Rattle.burr_container.specs.Rules.Plans.{Plan}
 use Rattle.burr_frames.specs.Rules.FramedPlans.{FramedProcedure, FramedPlan, framed_plan}
 use Rattle.burr_verify.specs.Views.FromContainers.{IsFromContainer}
 use Rattle.burr_verify.specs.Rules.Fronts.{IsFirstFailure}
-use Rattle.burr_verify.specs.Rules.Judging.{Rest, Judging, judging_before, judging_code, passes, nothing}
+use Rattle.burr_verify.specs.Rules.Judging.{Judging, judging_before, judging_code, passes, nothing}
 use Rattle.burr_verify.specs.Rules.Pass.{Judgement, Passed, Refuses, FailedCheck, pass_start, Pass, IsLaidOut, AllLaidOut}
 use Rattle.burr_verify.specs.Rules.WellFramed.{Annotated, IsCut, IsWellFramed}
 

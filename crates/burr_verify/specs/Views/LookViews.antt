@@ -8,7 +8,7 @@ use Rattle.burr_frames.specs.Rules.FramedPlans.{FramedProcedure, FramedPlan, fra
 use Rattle.burr_frames.specs.Rules.Looks.{HasRoom}
 use Rattle.burr_frames.specs.Rules.States.{AbstractState}
 use Rattle.burr_verify.specs.Rules.Judging.{HasRoomForPoints}
-use Rattle.burr_verify.specs.Rules.Pass.{Judgement, Refuses, Stage}
+use Rattle.burr_verify.specs.Rules.Pass.{Judgement, Refuses, Stage, AtInstruction}
 use Rattle.burr_verify.specs.Views.Judgements.{failed_check}
 use Rattle.burr_verify.specs.declared.refusal.Refusal.{Refusal}
 use Rattle.burr_verify.specs.Rules.PassLooks.{LookedPass, looking_code}
@@ -20,6 +20,12 @@ abbrev pub LooksOn : List (List Cell) → FramedPlan → ℕ → FramedProcedure
 LooksOn homes plan n here from to looks =
     (j : Judgement) (after : ℕ) → LookedPass homes plan n here to j after
     → LookedPass homes plan n here from j (looks + after)
+
+-- from one stage a pass goes on, by no look, to the instruction at pc, in the state that is there
+abbrev pub LooksInto : List (List Cell) → FramedPlan → ℕ → FramedProcedure → Stage → ℕ
+    → Option AbstractState → Type 0
+LooksInto homes plan n here from pc there =
+    (s : AbstractState) × (there ≡ Some s) × LooksOn homes plan n here from (AtInstruction pc s) 0
 
 -- the pass ends after so many looks, by this refusal
 abbrev pub LooksStop : List (List Cell) → FramedPlan → ℕ → FramedProcedure → Stage → Refusal → ℕ

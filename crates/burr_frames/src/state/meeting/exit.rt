@@ -39,6 +39,7 @@ pub fn meets_exit(state: &State, exit: &ExitRef<'_>) -> Result<(), Miss>
 
 impl State {
     /// Whether the state meets an exit frame where these forms are the parameters and the results.
+    #[inline(never)]
     pub(in crate::state) fn meets_exit_with(
         &self,
         exit: &Exit,

@@ -53,8 +53,8 @@ went_like : (plan : FramedPlan) (n : ℕ) (here : FramedProcedure) (from to : St
 went_like plan n here from to mid new hs homes same counted =
     subst (λ (xs : List (List Cell)). HasCounted (λ k. LooksOn xs plan n here from to k) mid new) same counted
 
-pub returns-in_err-state-clause-passed : goal.returns-in_err-state-clause-passed
-returns-in_err-state-clause-passed g c =
+pub returns-in_err-enter-clause-passed : goal.returns-in_err-enter-clause-passed
+returns-in_err-enter-clause-passed g c =
     let e = err_from_is_err_and c.from_residual.result c.from_residual.ensures.1 in
     rw (e.1, e.2)
     (λ p here kept at. (let code = code_read c.args.procedure.container.now c.args.procedure.number c.code-size.result.now c.code-size.ensures.plan p here kept at in
@@ -62,22 +62,22 @@ returns-in_err-state-clause-passed g c =
     let so_far = c.loop-pc.invariant.0 p here kept at in
     ends_by homes (framed_plan p) c.args.procedure.number here pass_start _ _ c.args.looks.now c.loop-pc.looks c.loop-pc.looks so_far.0
     (by_none homes (framed_plan p) c.args.procedure.number here _ _ c.loop-pc.looks
-    (c.in_err-state.ensures.passes homes p here kept at
+    (c.in_err-enter.ensures.passes homes p here kept at
     (before_end c.code-size.result.now here.code c.loop-pc.pc code c.loop-pc-test.true)))))
 
-pub returns-in_err-after-clause-passed : goal.returns-in_err-after-clause-passed
-returns-in_err-after-clause-passed g c =
-    let e = err_from_is_err_and c.from_residual-in_err-after.result c.from_residual-in_err-after.ensures.1 in
+pub returns-in_err-next-clause-passed : goal.returns-in_err-next-clause-passed
+returns-in_err-next-clause-passed g c =
+    let e = err_from_is_err_and c.from_residual-in_err-next.result c.from_residual-in_err-next.ensures.1 in
     rw (e.1, e.2)
     (λ p here kept at. (let code = code_read c.args.procedure.container.now c.args.procedure.number c.code-size.result.now c.code-size.ensures.plan p here kept at in
     let homes = homes_of c.args.looks.now.assembly in
     let so_far = c.loop-pc.invariant.0 p here kept at in
     let same = ap homes_of c.loop-pc.invariant.5 in
-    let entered = c.in_ok-state.ensures.passes homes p here kept at (before_end c.code-size.result.now here.code c.loop-pc.pc code c.loop-pc-test.true) in
+    let entered = c.in_ok-enter.ensures.passes homes p here kept at (before_end c.code-size.result.now here.code c.loop-pc.pc code c.loop-pc-test.true) in
     ends_by homes (framed_plan p) c.args.procedure.number here pass_start _ _ c.args.looks.now c.loop-pc.looks c.judge_at.new.looks so_far.0
     (ends_by homes (framed_plan p) c.args.procedure.number here _ _ _ c.loop-pc.looks c.loop-pc.looks c.judge_at.new.looks
-    (on_by_none homes (framed_plan p) c.args.procedure.number here _ _ c.loop-pc.looks entered)
-    (stopped_like (framed_plan p) c.args.procedure.number here _ _ c.loop-pc.looks c.judge_at.new.looks _ _ same (c.in_err-after.ensures.passes p here kept at)))))
+    (on_by_none homes (framed_plan p) c.args.procedure.number here _ _ c.loop-pc.looks entered.2)
+    (stopped_like (framed_plan p) c.args.procedure.number here _ _ c.loop-pc.looks c.judge_at.new.looks _ _ same (c.in_err-next.ensures.passes entered.0 entered.1 p here kept at)))))
 
 pub loop-pc-preserved : goal.loop-pc-preserved
 loop-pc-preserved g c = (
@@ -85,18 +85,18 @@ loop-pc-preserved g c = (
       let homes = homes_of c.args.looks.now.assembly in
       let so_far = c.loop-pc.invariant.0 p here kept at in
       let same = ap homes_of c.loop-pc.invariant.5 in
-      let entered = c.in_ok-state.ensures.passes homes p here kept at (before_end c.code-size.result.now here.code c.loop-pc.pc code c.loop-pc-test.true) in (
+      let entered = c.in_ok-enter.ensures.passes homes p here kept at (before_end c.code-size.result.now here.code c.loop-pc.pc code c.loop-pc-test.true) in (
         goes_by homes (framed_plan p) c.args.procedure.number here pass_start _ _ c.args.looks.now c.loop-pc.looks c.judge_at.new.looks so_far.0
             (goes_by homes (framed_plan p) c.args.procedure.number here _ _ _ c.loop-pc.looks c.loop-pc.looks c.judge_at.new.looks
-            (on_by_none homes (framed_plan p) c.args.procedure.number here _ _ c.loop-pc.looks entered)
-            (went_like (framed_plan p) c.args.procedure.number here _ _ c.loop-pc.looks c.judge_at.new.looks _ _ same (c.in_ok-after.ensures.passes p here kept at))),
-        c.in_ok-after.ensures.within p here kept at,
+            (on_by_none homes (framed_plan p) c.args.procedure.number here _ _ c.loop-pc.looks entered.2)
+            (went_like (framed_plan p) c.args.procedure.number here _ _ c.loop-pc.looks c.judge_at.new.looks _ _ same (c.in_ok-next.ensures.passes entered.0 entered.1 p here kept at))),
+        c.in_ok-next.ensures.within p here kept at,
       ))),
-  omega (arith, c.in_ok-after.ensures.after),
+  omega (arith, c.in_ok-next.ensures.after),
   (let below = c.loop-pc-test.true in let short = c.code-size.ensures.short in omega (arith, below, short)),
-  c.in_ok-after.ensures.points,
-  (let few = c.in_ok-after.ensures.few in let so_far = c.loop-pc.invariant.4 in let on = c.in_ok-after.ensures.after in omega (arith, few, so_far, on)),
-  c.in_ok-after.ensures.same ∙ c.loop-pc.invariant.5,
+  c.in_ok-next.ensures.points,
+  (let few = c.in_ok-next.ensures.few in let so_far = c.loop-pc.invariant.4 in let on = c.in_ok-next.ensures.after in omega (arith, few, so_far, on)),
+  c.in_ok-next.ensures.same ∙ c.loop-pc.invariant.5,
 )
 
 pub returns-in-None-clause-passed : goal.returns-in-None-clause-passed
@@ -106,7 +106,7 @@ returns-in-None-clause-passed g c = λ p here kept at.
     let so_far = c.loop-pc.invariant.0 p here kept at in
     ends_by homes (framed_plan p) c.args.procedure.number here pass_start _ _ c.args.looks.now c.loop-pc.looks c.loop-pc.looks so_far.0
     (by_none homes (framed_plan p) c.args.procedure.number here _ _ c.loop-pc.looks
-    (well_ended homes (framed_plan p) c.args.procedure.number here c.loop-pc.last c.loop-pc.pc c.loop-pc.falling c.in-None.is
+    (well_ended homes (framed_plan p) c.args.procedure.number here c.loop-pc.last c.loop-pc.pc c.loop-pc.state c.in-None.is
     (at_end c.code-size.result.now here.code c.loop-pc.pc code (omega (arith, c.loop-pc-test.false)) so_far.1))))
 
 pub returns-in-Some-clause-passed : goal.returns-in-Some-clause-passed
@@ -116,7 +116,7 @@ returns-in-Some-clause-passed g c = λ p here kept at.
     let so_far = c.loop-pc.invariant.0 p here kept at in
     ends_by homes (framed_plan p) c.args.procedure.number here pass_start _ _ c.args.looks.now c.loop-pc.looks c.loop-pc.looks so_far.0
     (by_none homes (framed_plan p) c.args.procedure.number here _ _ c.loop-pc.looks
-    (fallen_off homes (framed_plan p) c.args.procedure.number here c.loop-pc.last c.loop-pc.pc c.loop-pc.falling c.in-Some.field-0 c.plain.result c.in-Some.is
+    (fallen_off homes (framed_plan p) c.args.procedure.number here c.loop-pc.last c.loop-pc.pc c.loop-pc.state c.in-Some.field-0 c.plain.result c.in-Some.is
     (at_end c.code-size.result.now here.code c.loop-pc.pc code (omega (arith, c.loop-pc-test.false)) so_far.1) (c.plain.ensures ∙ ap (λ (k : ℕ). plain_refusal k c.loop-pc.last rules.V5) c.number.ensures.number))))
 
 pub returns-in-None-clause-few : goal.returns-in-None-clause-few

@@ -11,10 +11,10 @@ use Rattle.burr_verify.proofs.passing.judge_code.Given as goal
 abbrev pub invariant-loop-pc : goal.invariant-loop-pc
 invariant-loop-pc g l =
     OfFramedProcedure l.procedure (λ plan here.
-    HasCounted (LooksOn (homes_of l.initial.looks.assembly) plan l.procedure.number here pass_start (BeforeInstruction l.last l.pc l.falling))
+    HasCounted (LooksOn (homes_of l.initial.looks.assembly) plan l.procedure.number here pass_start (BeforeInstruction l.last l.pc l.state))
     l.initial.looks l.looks
     × (l.pc ≤ length here.code))
-    × (l.last ≤ l.pc) × (l.last < MOST_CODE) × HasRoomBefore l.falling
+    × (l.last ≤ l.pc) × (l.last < MOST_CODE) × HasRoomBefore l.state
     × (l.looks.count ≤ l.initial.looks.count + l.pc * 2 ^ 20)
     × (l.looks.assembly ≡ l.initial.looks.assembly)
 

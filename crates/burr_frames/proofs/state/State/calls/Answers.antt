@@ -32,15 +32,16 @@ returns-in-Err-clause-verdict c =
     let many = c.len-2.ensures.value ∙ ap results_of c.exit.view_is in
     let all = c.len.ensures.value in
     let room : length (drop count s.operands) + length exit.results ≤ 8 = omega (arith, left, few, many, all) in
-    let called : c.called_with.result ≡ called_with (reverse arguments) s =
-    c.called_with.ensures ∙ ap (λ (xs : List Form). called_with (reverse xs) s) c.as_slice.ensures.value in
+    let begun : AbstractState = called_with (reverse c.as_slice.result.now) s in
+    let called : begun ≡ called_with (reverse arguments) s =
+    ap (λ (xs : List Form). called_with (reverse xs) s) c.as_slice.ensures.value in
     let missed =
-    meeting_breaks c.called_with.result entry rules.V20 (λ live. PaysCall s arguments exit (substituted live entry.cost))
+    meeting_breaks begun entry rules.V20 (λ live. PaysCall s arguments exit (substituted live entry.cost))
     (option_map (λ point. point.items) c.in-Err.miss.point) c.in-Err.ensures in
     subst (λ (n : ℕ). calling s n (length exit.results) entry exit (Breaks (broken_of c.missed.result))) c.from-count.ensures
     (calling_on s count entry exit arguments (Breaks (broken_of c.missed.result)) room c.in-Some.ensures.operands.1 c.in-Some.ensures.operands.0
     (subst (λ (b : AbstractState). meeting b entry rules.V20 (λ live. PaysCall s arguments exit (substituted live entry.cost)) (Breaks (broken_of c.missed.result))) called
-    (subst (λ b. meeting c.called_with.result entry rules.V20 (λ live. PaysCall s arguments exit (substituted live entry.cost)) (Breaks b)) (sym c.missed.ensures) missed)))
+    (subst (λ b. meeting begun entry rules.V20 (λ live. PaysCall s arguments exit (substituted live entry.cost)) (Breaks b)) (sym c.missed.ensures) missed)))
 
 pub returns-clause-verdict : goal.returns-clause-verdict
 returns-clause-verdict c =
@@ -55,8 +56,9 @@ returns-clause-verdict c =
     let many = c.len-2.ensures.value ∙ ap results_of c.exit.view_is in
     let all = c.len.ensures.value in
     let room : length (drop count s.operands) + length exit.results ≤ 8 = omega (arith, left, few, many, all) in
-    let called : c.called_with.result ≡ called_with (reverse arguments) s =
-    c.called_with.ensures ∙ ap (λ (xs : List Form). called_with (reverse xs) s) c.as_slice.ensures.value in
+    let begun : AbstractState = called_with (reverse c.as_slice.result.now) s in
+    let called : begun ≡ called_with (reverse arguments) s =
+    ap (λ (xs : List Form). called_with (reverse xs) s) c.as_slice.ensures.value in
     let paid : PaysCall s arguments exit (substituted c.in-Ok.live.items entry.cost) v =
     subst (λ (fs : List Form). PaysCall s fs exit (substituted c.in-Ok.live.items entry.cost) v) c.as_slice-2.ensures.value
     (subst (λ (f : Form). PaysCall s c.as_slice-2.result.now exit f v)
@@ -64,7 +66,7 @@ returns-clause-verdict c =
     subst (λ (n : ℕ). calling s n (length exit.results) entry exit v) c.from-count.ensures
     (calling_on s count entry exit arguments v room c.in-Some.ensures.operands.1 c.in-Some.ensures.operands.0
     (subst (λ (b : AbstractState). meeting b entry rules.V20 (λ live. PaysCall s arguments exit (substituted live entry.cost)) v) called
-    (meeting_on c.called_with.result entry rules.V20 (λ live. PaysCall s arguments exit (substituted live entry.cost)) c.in-Ok.live.items v c.in-Ok.ensures.0 paid)))
+    (meeting_on begun entry rules.V20 (λ live. PaysCall s arguments exit (substituted live entry.cost)) c.in-Ok.live.items v c.in-Ok.ensures.0 paid)))
 
 pub returns-then-len-count-gt-MOST_OPERANDS-clause-verdict : goal.returns-then-len-count-gt-MOST_OPERANDS-clause-verdict
 returns-then-len-count-gt-MOST_OPERANDS-clause-verdict c =
