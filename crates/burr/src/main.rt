@@ -1,22 +1,8 @@
-//! burr takes interlocking puzzles apart by programs: what the program of this name does.
+//! burr takes interlocking puzzles apart by programs: the program, its words and its streams.
 #![tactic(auto)]
 
-mod explain_command;
-mod fault;
-mod file_commands;
-mod files;
-mod handing;
-mod making;
-mod plan_commands;
-mod plan_text_refusal;
-mod program;
-mod reasons;
-mod status;
-mod step_command;
-mod text_commands;
-
-use crate::program::{end_without_words, run_words};
 use burr_io::{Reading, WholeLines, Writing};
+use burr_program::{end_without_words, run_words};
 use std::process::ExitCode;
 use std::{env, io};
 
@@ -40,6 +26,3 @@ fn main(rt: HostRuntime) -> ExitCode {
 fn words(rt: &HostRuntime) -> io::Result<Vec<String>> {
     Ok(env::args(rt)?.collect(rt.alloc())?)
 }
-
-#[cfg(test)]
-mod tests;

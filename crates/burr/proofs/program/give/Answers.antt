@@ -1,5 +1,0 @@
-use Rattle.std.proofs.Common.{inl, inr}
-use Rattle.burr.proofs.program.give.Goals as goal
-
-pub returns-in-Err : goal.returns-in-Err
-returns-in-Err g c = inr (_, c.end_by.ensures.means, inl (inr (_, c.in-Err.ensures.err)), c.end_by.ensures.told)

@@ -1,0 +1,7 @@
+use Rattle.burr_program.proofs.FileEnding.{kept_takes_some}
+use Rattle.burr_program.proofs.making.frames.frames_file.Goals as goal
+
+pub returns-in-Text-clause-ok : goal.returns-in-Text-clause-ok
+returns-in-Text-clause-ok g c =
+    let made = rw c.in-Text.is at c.in_ok-text.ensures.ok in
+    kept_takes_some g.W.Sink c.args.sink.now c.framed_text.new.sink made.1

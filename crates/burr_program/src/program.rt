@@ -1,0 +1,291 @@
+//! What the program does with its words and its streams, and the status that it ends with.
+
+ghost use Rattle.std.specs.Prelude.{◌≡◌, ◌≢◌, ◌≤◌, ◌<◌, [], codes, length, IfErr, IfOk, OnOk, OnErr};
+ghost use Rattle.burr_runs.specs.declared.fault.BenchFault.TheVariants.{Memory};
+ghost use Rattle.burr_io.specs.Sink.{Takes};
+ghost use Rattle.burr_runs.specs.Views.BenchText.{streams};
+ghost use Rattle.burr_program.specs.Ends.{took, TakesText, FailsInText, TakesSome, EndsEarly};
+ghost use Rattle.burr_program.specs.Ends.{IsDone, IsRun, IsEnd};
+ghost use Rattle.burr_program.specs.Ends.{Means};
+ghost use Rattle.burr_program.specs.Faults.{complaint_of, line_of, status_of_fault};
+ghost use Rattle.burr_program.specs.Statuses.{code_of};
+
+use crate::explain_command::explain_line;
+use crate::fault::{Fault, put_fault};
+use crate::file_commands::{assemble_file, list_file, upgrade_file};
+use crate::handing::hand_on;
+use crate::making::{frames_file, plan_sheet_file};
+use crate::plan_commands::use_files;
+use crate::status::Status;
+use crate::step_command::step_files;
+use crate::text_commands::text_files;
+use burr_command::{Job, Reply, Request, request_of};
+use burr_io::{Sink, Source, WholeLines, WriteFault, put_all};
+use burr_runs::{BenchFault, bench_text};
+use std::alloc::{AllocError, Global};
+use std::io::ErrorKind;
+use std::rt::Files;
+
+/// Does all that the program does, and gives the status to end with. Without a word but the
+/// program's name it writes the output for the source to the sink, as `bench_text` does. With more
+/// words a command's job is done on the files that it names; `run` and `try` alone read the source;
+/// help and the version are written to the sink, and a fault of the words is told to the complaints.
+/// These take one line for status 3 and one for status 4.
+///
+/// The status is 0 where all pieces are apart, a command has done what it is for, or help or the
+/// version was written; 1 where the input was refused, or the run trapped or was stopped; 2 for a
+/// fault of the words; 3 where a file, the source or the sink failed, or an input is too long; 4
+/// where memory was refused; 5 where the run waits for an answer.
+pub fn run_words<
+    F: Files + AllocGlobal,
+    R: Source,
+    W: Sink,
+    E: Sink,
+    const N: usize,
+    const M: usize,
+>(
+    files: &F,
+    words: &[String],
+    source: &mut R,
+    sink: &mut WholeLines<W, N>,
+    complaints: &mut WholeLines<E, M>,
+) -> u8
+    requires fresh { sink.old.held ≡ [] }
+    requires told { complaints.old.held ≡ [] }
+    ensures run { length words.now ≤ 1 → IsRun
+        (streams R.Source source.old source.new W.Sink sink.old.sink sink.new.sink)
+        (took (E.taken complaints.old.sink) (E.taken complaints.new.sink)
+        (E.has_failed complaints.new.sink))
+        result }
+    ensures end { 1 < length words.now → IsEnd
+        (took (W.taken sink.old.sink) (W.taken sink.new.sink) (W.has_failed sink.new.sink))
+        (took (E.taken complaints.old.sink) (E.taken complaints.new.sink)
+        (E.has_failed complaints.new.sink))
+        result }
+{
+    let alloc = files.alloc();
+    if words.len() <= 1 {
+        return run(alloc, source, sink, complaints).code();
+    }
+    match request_of(alloc, words) {
+        Ok(Request::Reply(reply)) => give(&reply, sink, complaints).code(),
+        Ok(Request::Job(job)) => work(files, &job, source, sink, complaints).code(),
+        Err(AllocError) => end_by(&Fault::Memory, complaints).code(),
+    }
+}
+
+/// Does a command's job, and gives the status to end with.
+fn work<F: Files + AllocGlobal, R: Source, W: Sink, E: Sink, const N: usize, const M: usize>(
+    files: &F,
+    job: &Job<'_>,
+    source: &mut R,
+    sink: &mut WholeLines<W, N>,
+    complaints: &mut WholeLines<E, M>,
+) -> Status
+    requires fresh { sink.old.held ≡ [] }
+    requires told { complaints.old.held ≡ [] }
+    ensures { IsEnd
+        (took (W.taken sink.old.sink) (W.taken sink.new.sink) (W.has_failed sink.new.sink))
+        (took (E.taken complaints.old.sink) (E.taken complaints.new.sink)
+        (E.has_failed complaints.new.sink))
+        (code_of result) }
+{
+    match do_job(files, job, source, sink) {
+        Ok(status) => status,
+        Err(fault) => end_by(&fault, complaints),
+    }
+}
+
+/// Does a command's job, and hands on all that there is to print.
+fn do_job<'a, F: Files + AllocGlobal, R: Source, W: Sink, const N: usize>(
+    files: &F,
+    job: &'a Job<'_>,
+    source: &mut R,
+    sink: &mut WholeLines<W, N>,
+) -> Result<Status, Fault<'a>>
+    requires fresh { sink.old.held ≡ [] }
+    ensures status { IfOk result (λ status. IsDone (code_of status)) }
+    ensures ok { OnOk result (TakesSome
+        (took (W.taken sink.old.sink) (W.taken sink.new.sink) (W.has_failed sink.new.sink))) }
+    ensures err { IfErr result (λ fault. EndsEarly
+        (took (W.taken sink.old.sink) (W.taken sink.new.sink) (W.has_failed sink.new.sink))
+        (line_of fault)) }
+{
+    match job {
+        Job::Assemble { text, out } => {
+            let done = assemble_file(files, text, out, sink);
+            hand_on(done, sink)
+        }
+        Job::List { plan, places } => {
+            let done = list_file(files, plan, *places, sink);
+            hand_on(done, sink)
+        }
+        Job::Upgrade { plan, out } => {
+            let done = upgrade_file(files, plan, out, sink);
+            hand_on(done, sink)
+        }
+        Job::Plan {
+            task,
+            assembly,
+            plan,
+        } => use_files(files, *task, assembly, plan, source, sink),
+        Job::Step { assembly, plan } => step_files(files, assembly, plan, source, sink),
+        Job::Text {
+            task,
+            assembly,
+            text,
+        } => {
+            let done = text_files(files, *task, assembly, text, source, sink);
+            hand_on(done, sink)
+        }
+        Job::PlanSheet {
+            assembly,
+            sheet,
+            out,
+        } => {
+            let done = plan_sheet_file(files, assembly, sheet, out, sink);
+            hand_on(done, sink)
+        }
+        Job::Frames {
+            assembly,
+            text,
+            out,
+        } => {
+            let done = frames_file(files, assembly, text, out, source, sink);
+            hand_on(done, sink)
+        }
+        Job::Explain { line } => {
+            let done = explain_line(line, sink);
+            hand_on(done, sink)
+        }
+    }
+}
+
+/// Puts the line of standard error for a fault, and hands it on.
+fn complain_of<E: Sink, const N: usize>(fault: &Fault<'_>, complaints: &mut WholeLines<E, N>)
+    requires told { complaints.old.held ≡ [] }
+    ensures { TakesText
+        (took (E.taken complaints.old.sink) (E.taken complaints.new.sink)
+        (E.has_failed complaints.new.sink))
+        (line_of fault.now) }
+{
+    let _ = put_fault(fault, complaints);
+    let _ = complaints.flush();
+}
+
+/// Puts a text on standard error, and hands it on.
+fn complain<E: Sink, const N: usize>(text: &[u8], complaints: &mut WholeLines<E, N>)
+    requires told { complaints.old.held ≡ [] }
+    ensures { TakesText
+        (took (E.taken complaints.old.sink) (E.taken complaints.new.sink)
+        (E.has_failed complaints.new.sink))
+        text.now }
+{
+    let _ = put_all(text, complaints);
+    let _ = complaints.flush();
+}
+
+/// Ends where the words of the command line can't be had, and gives the status to end with: 4 where
+/// memory was refused, else 2, since a word is not UTF-8. The complaints take the line for it.
+pub fn end_without_words<E: Sink, const N: usize>(
+    kind: ErrorKind,
+    complaints: &mut WholeLines<E, N>,
+) -> u8
+    requires told { complaints.old.held ≡ [] }
+    ensures memory { kind ≡ ErrorKind.OutOfMemory → (result ≡ 4) × TakesText
+        (took (E.taken complaints.old.sink) (E.taken complaints.new.sink)
+        (E.has_failed complaints.new.sink))
+        (complaint_of Memory) }
+    ensures fault { kind ≢ ErrorKind.OutOfMemory → (result ≡ 2) × TakesText
+        (took (E.taken complaints.old.sink) (E.taken complaints.new.sink)
+        (E.has_failed complaints.new.sink))
+        (codes "error: a word of the command line is not UTF-8\n") }
+{
+    if kind == ErrorKind::OutOfMemory {
+        return end_by(&Fault::Memory, complaints).code();
+    }
+    complain(
+        b"error: a word of the command line is not UTF-8\n",
+        complaints,
+    );
+    Status::CommandLine.code()
+}
+
+/// Puts a reply where it belongs, and gives the status to end with.
+fn give<W: Sink, E: Sink, const N: usize, const M: usize>(
+    reply: &Reply,
+    sink: &mut WholeLines<W, N>,
+    complaints: &mut WholeLines<E, M>,
+) -> Status
+    requires fresh { sink.old.held ≡ [] }
+    requires told { complaints.old.held ≡ [] }
+    ensures { IsEnd
+        (took (W.taken sink.old.sink) (W.taken sink.new.sink) (W.has_failed sink.new.sink))
+        (took (E.taken complaints.old.sink) (E.taken complaints.new.sink)
+        (E.has_failed complaints.new.sink))
+        (code_of result) }
+{
+    let text = reply.text.as_bytes();
+    if reply.is_fault {
+        complain(text, complaints);
+        return Status::CommandLine;
+    }
+    match put_whole(text, sink) {
+        Ok(()) => Status::Done,
+        Err(fault) => end_by(&Fault::from(fault), complaints),
+    }
+}
+
+/// Puts a text, and hands it on.
+fn put_whole<W: Sink, const N: usize>(
+    text: &[u8],
+    sink: &mut WholeLines<W, N>,
+) -> Result<(), WriteFault>
+    requires fresh { sink.old.held ≡ [] }
+    ensures ok { OnOk result (Takes W.Sink sink.old.sink sink.new.sink text.now) }
+    ensures err { OnErr result (FailsInText
+        (took (W.taken sink.old.sink) (W.taken sink.new.sink) (W.has_failed sink.new.sink))
+        text.now) }
+{
+    put_all(text, sink)?;
+    sink.flush()
+}
+
+/// Writes the output for the source to the sink, and gives the status to end with.
+#[inline(never)]
+fn run<R: Source, W: Sink, E: Sink, const N: usize, const M: usize>(
+    alloc: Global,
+    source: &mut R,
+    sink: &mut WholeLines<W, N>,
+    complaints: &mut WholeLines<E, M>,
+) -> Status
+    requires fresh { sink.old.held ≡ [] }
+    requires told { complaints.old.held ≡ [] }
+    ensures { IsRun
+        (streams R.Source source.old source.new W.Sink sink.old.sink sink.new.sink)
+        (took (E.taken complaints.old.sink) (E.taken complaints.new.sink)
+        (E.has_failed complaints.new.sink))
+        (code_of result) }
+{
+    match bench_text(alloc, source, sink) {
+        Ok(outcome) => match sink.flush() {
+            Ok(()) => Status::from(outcome),
+            Err(WriteFault) => end_by(&Fault::from(BenchFault::Write), complaints),
+        },
+        Err(fault) => end_by(&Fault::from(fault), complaints),
+    }
+}
+
+/// Tells a fault, and gives the status to end with.
+fn end_by<E: Sink, const N: usize>(fault: &Fault<'_>, complaints: &mut WholeLines<E, N>) -> Status
+    requires told { complaints.old.held ≡ [] }
+    ensures status { result ≡ status_of_fault fault.now }
+    ensures means { Means (code_of result) (line_of fault.now) }
+    ensures told { TakesText
+        (took (E.taken complaints.old.sink) (E.taken complaints.new.sink)
+        (E.has_failed complaints.new.sink))
+        (line_of fault.now) }
+{
+    complain_of(fault, complaints);
+    fault.status()
+}
