@@ -10,7 +10,7 @@ TOP = os.path.dirname(os.path.dirname(os.path.dirname(os.path.abspath(__file__))
 BURR = os.path.abspath(os.environ.get("BURR", os.path.join(TOP, "crates", "burr", "out", "burr")))
 LIMITS = (
     (resource.RLIMIT_AS, 64 << 20),
-    (resource.RLIMIT_STACK, 384 << 10),
+    (resource.RLIMIT_STACK, 256 << 10),
     (resource.RLIMIT_CPU, 10),
     (resource.RLIMIT_CORE, 0),
     # what is printed is held in memory; beyond this burr has to say that it cannot write
