@@ -55,8 +55,8 @@ fn assert_told<T: Abort + Files + AllocGlobal>(
         let words = words_of(alloc, &line)?;
         let status = status_of(rt, &words, &mut source, &mut output, &mut complaint);
         let wanted = format!(in alloc; "{told} {name}\n")?;
-        assert_eq!(rt; (status, output.is_empty()), (3, true), "{line}");
-        assert_eq!(rt; complaint.as_slice(), wanted.as_bytes(), "{line}");
+        assert!(rt; (status, output.is_empty()) == (3, true), "{line}");
+        assert!(rt; complaint.as_slice() == wanted.as_bytes(), "{line}");
     }
     Ok(())
 }
@@ -85,7 +85,7 @@ fn tells_what_cannot_be_read(rt: HostRuntime) -> Result<(), Fail> {
         assert_told(&rt, READING, name, "cannot read")?;
     }
     assert_transcript(&rt, FULL)?;
-    assert_eq!(rt; fs::read_to_string(&rt, "made")?.as_str(), "as before");
+    assert!(rt; fs::read_to_string(&rt, "made")?.as_str() == "as before");
     Ok(())
 }
 
@@ -107,7 +107,7 @@ fn tells_what_cannot_be_written(rt: HostRuntime) -> Result<(), Fail> {
             "{name}"
         );
     }
-    assert_eq!(rt; fs::read_to_string(&rt, "sealed")?.as_str(), "as before");
+    assert!(rt; fs::read_to_string(&rt, "sealed")?.as_str() == "as before");
     Ok(())
 }
 
@@ -154,11 +154,8 @@ fn never_writes_over_a_plan_text(rt: HostRuntime) -> Result<(), Fail> {
     fs::hard_link(&rt, "ring.plan", "other.plan")?;
     assert_transcript(&rt, OVER)?;
     let end = end_of(&rt, "burr asm ring.plan other.plan", "")?;
-    assert_eq!(rt; end.status, 2);
-    assert_eq!(rt;
-        fs::read_to_string(&rt, "ring.plan")?.as_str(),
-        text.as_str()
-    );
+    assert!(rt; end.status == 2);
+    assert!(rt; fs::read_to_string(&rt, "ring.plan")?.as_str() == text.as_str());
     Ok(())
 }
 
@@ -176,21 +173,15 @@ fn replaces_a_container_whole(rt: HostRuntime) -> Result<(), Fail> {
         &rt,
         "$burr asm duo.plan old.bpln\n!cannot write old.bpln\n?3\n",
     )?;
-    assert_eq!(rt; fs::read_to_string(&rt, "old.bpln")?.as_str(), "old");
+    assert!(rt; fs::read_to_string(&rt, "old.bpln")?.as_str() == "old");
     fs::remove_file(&rt, "old.bpln")?;
     assert_transcript(&rt, "$burr asm duo.plan old.bpln\n?0\n")?;
-    assert_eq!(rt;
-        fs::read(&rt, "old.bpln")?.as_slice(),
-        fs::read(&rt, "duo.bpln")?.as_slice()
-    );
-    assert_eq!(rt; fs::read_to_string(&rt, "old.bpln.new0")?.as_str(), "kept");
+    assert!(rt; fs::read(&rt, "old.bpln")?.as_slice() == fs::read(&rt, "duo.bpln")?.as_slice());
+    assert!(rt; fs::read_to_string(&rt, "old.bpln.new0")?.as_str() == "kept");
     assert!(rt; !fs::exists(&rt, "old.bpln.new1")?);
     symlink(&rt, "old.bpln", "link")?;
     assert_transcript(&rt, "$burr asm cup.plan link\n?0\n")?;
     assert!(rt; fs::symlink_metadata(&rt, "link")?.is_symlink());
-    assert_eq!(rt;
-        fs::read(&rt, "old.bpln")?.as_slice(),
-        fs::read(&rt, "cup.bpln")?.as_slice()
-    );
+    assert!(rt; fs::read(&rt, "old.bpln")?.as_slice() == fs::read(&rt, "cup.bpln")?.as_slice());
     Ok(())
 }

@@ -63,7 +63,7 @@ fn assembles_and_lists(rt: HostRuntime) -> Result<(), Fail> {
     assert_transcript(&rt, EXAMPLES)?;
     assert_transcript(&rt, CONTAINERS)?;
     let bytes = fs::read(&rt, "--duo")?;
-    assert_eq!(rt; bytes.as_slice(), DUO_BYTES);
+    assert!(rt; bytes.as_slice() == DUO_BYTES);
     Ok(())
 }
 
@@ -174,7 +174,7 @@ fn ends_commands_by_what_they_met(rt: HostRuntime) -> Result<(), Fail> {
     assert_transcript(&rt, REFUSALS)?;
     // A refusal, and an input that can't be read, leave the output file alone.
     let kept = fs::read(&rt, "kept")?;
-    assert_eq!(rt; kept.as_slice(), b"as before\n".as_slice());
+    assert!(rt; kept.as_slice() == b"as before\n".as_slice());
     Ok(())
 }
 

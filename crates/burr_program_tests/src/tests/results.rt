@@ -236,12 +236,9 @@ $burr upgrade duo.bpln none/two
 fn upgrades_containers(rt: HostRuntime) -> Result<(), Fail> {
     assert_transcript(&rt, EXAMPLES)?;
     assert_transcript(&rt, UPGRADES)?;
-    assert_eq!(rt; fs::read(&rt, "two.bpln")?.len(), 71);
-    assert_eq!(rt; fs::read(&rt, "two.ring")?.len(), 141);
-    assert_eq!(rt;
-        fs::read(&rt, "same.bpln")?.as_slice(),
-        fs::read(&rt, "two.bpln")?.as_slice()
-    );
-    assert_eq!(rt; fs::read_to_string(&rt, "kept")?.as_str(), "kept\n");
+    assert!(rt; fs::read(&rt, "two.bpln")?.len() == 71);
+    assert!(rt; fs::read(&rt, "two.ring")?.len() == 141);
+    assert!(rt; fs::read(&rt, "same.bpln")?.as_slice() == fs::read(&rt, "two.bpln")?.as_slice());
+    assert!(rt; fs::read_to_string(&rt, "kept")?.as_str() == "kept\n");
     Ok(())
 }

@@ -107,7 +107,7 @@ fn reads_up_to_the_end_or_quit(rt: HostRuntime) -> Result<(), Fail> {
     let line = "burr step cup cup.bpln";
     let last = end_of(&rt, line, "forward\nanswer 1")?;
     let wanted = b"after 1 steps asks 0 2\nafter 2 steps\n";
-    assert_eq!(rt; last.output.as_slice(), wanted.as_slice());
+    assert!(rt; last.output.as_slice() == wanted.as_slice());
     let words = words_of(alloc, line)?;
     let mut rest = Drips {
         left: b"forward\nquit\nforward\n",
@@ -117,11 +117,8 @@ fn reads_up_to_the_end_or_quit(rt: HostRuntime) -> Result<(), Fail> {
     let mut complaint = Vec::new(alloc);
     let mut source = Reading::new(&mut rest);
     let status = status_of(&rt, &words, &mut source, &mut output, &mut complaint);
-    assert_eq!(rt;
-        (status, output.as_slice()),
-        (0, b"after 1 steps asks 0 2\n".as_slice())
-    );
-    assert_eq!(rt; rest.left, b"forward\n".as_slice());
+    assert!(rt; (status, output.as_slice()) == (0, b"after 1 steps asks 0 2\n".as_slice()));
+    assert!(rt; rest.left == b"forward\n".as_slice());
     Ok(())
 }
 
@@ -139,9 +136,8 @@ fn answers_long_lines(rt: HostRuntime) -> Result<(), Fail> {
         input.push_str("\nforward\n")?;
         let end = end_of(&rt, "burr step cup cup.bpln", &input)?;
         let wanted = b"refused command\nafter 1 steps asks 0 2\n";
-        assert_eq!(rt;
-            (end.status, end.output.as_slice()),
-            (0, wanted.as_slice()),
+        assert!(rt;
+            (end.status, end.output.as_slice()) == (0, wanted.as_slice()),
             "{length}"
         );
     }
@@ -165,10 +161,9 @@ fn tells_a_source_that_fails_between_commands(rt: HostRuntime) -> Result<(), Fai
         } else {
             b"after 1 steps asks 0 2\n"
         };
-        assert_eq!(rt; (status, output.as_slice()), (3, answered), "{calls}");
-        assert_eq!(rt;
-            complaint.as_slice(),
-            b"cannot read -\n".as_slice(),
+        assert!(rt; (status, output.as_slice()) == (3, answered), "{calls}");
+        assert!(rt;
+            complaint.as_slice() == b"cannot read -\n".as_slice(),
             "{calls}"
         );
     }

@@ -44,15 +44,17 @@ fn assert_reads<T: Abort + Files + AllocGlobal>(
         let words = words_of(rt.alloc(), line)?;
         let status = status_of(rt, &words, &mut source, &mut output, &mut complaint);
         if calls < needed {
-            assert_eq!(rt; (status, output.is_empty()), (3, true), "{line} {calls}");
-            assert_eq!(rt;
-                complaint.as_slice(),
-                b"cannot read -\n".as_slice(),
+            assert!(rt; (status, output.is_empty()) == (3, true), "{line} {calls}");
+            assert!(rt;
+                complaint.as_slice() == b"cannot read -\n".as_slice(),
                 "{line} {calls}"
             );
         } else {
-            assert_eq!(rt; (status, source.failed()), (right.status, false), "{line}");
-            assert_eq!(rt; output.as_slice(), right.output.as_slice(), "{line}");
+            assert!(rt;
+                (status, source.failed()) == (right.status, false),
+                "{line}"
+            );
+            assert!(rt; output.as_slice() == right.output.as_slice(), "{line}");
         }
     }
     Ok(())
@@ -77,11 +79,10 @@ fn assert_front<T: Abort + Files + AllocGlobal>(
     } else {
         (right.status, "")
     };
-    assert_eq!(rt; status, wanted, "{line} {room}");
-    assert_eq!(rt; complaint.as_slice(), told.as_bytes(), "{line} {room}");
-    assert_eq!(rt;
-        Some(writer.taken.as_slice()),
-        right.output.get(..room),
+    assert!(rt; status == wanted, "{line} {room}");
+    assert!(rt; complaint.as_slice() == told.as_bytes(), "{line} {room}");
+    assert!(rt;
+        Some(writer.taken.as_slice()) == right.output.get(..room),
         "{line} {room}"
     );
     Ok(())
@@ -164,10 +165,9 @@ fn assert_told_fronts<T: Abort + Files + AllocGlobal>(
         let words = words_of(rt.alloc(), line)?;
         let mut source = Reading::new(Drips { left, calls: 7 });
         let got = status_of(rt, &words, &mut source, &mut output, &mut writer);
-        assert_eq!(rt; (got, output.is_empty()), (status, true), "{line} {room}");
-        assert_eq!(rt;
-            Some(writer.taken.as_slice()),
-            told.as_bytes().get(..room),
+        assert!(rt; (got, output.is_empty()) == (status, true), "{line} {room}");
+        assert!(rt;
+            Some(writer.taken.as_slice()) == told.as_bytes().get(..room),
             "{line} {room}"
         );
     }
@@ -200,9 +200,9 @@ fn assert_length<T: Abort + Files + AllocGlobal>(
     let mut told = Vec::new(rt.alloc());
     let words = words_of(rt.alloc(), line)?;
     let got = status_of(rt, &words, &mut source, &mut put, &mut told);
-    assert_eq!(rt; got, status, "{line} {length}");
-    assert_eq!(rt; put.as_slice(), output.as_bytes(), "{line} {length}");
-    assert_eq!(rt; told.as_slice(), complaint.as_bytes(), "{line} {length}");
+    assert!(rt; got == status, "{line} {length}");
+    assert!(rt; put.as_slice() == output.as_bytes(), "{line} {length}");
+    assert!(rt; told.as_slice() == complaint.as_bytes(), "{line} {length}");
     Ok(())
 }
 

@@ -97,8 +97,8 @@ fn assert_trap<T: Abort + Files + AllocGlobal>(rt: &T, line: &str) -> Result<(),
     assert_transcript(rt, "$burr asm plan bpln\n?0\n")?;
     let end = end_of(rt, "burr try duo bpln", "0\n")?;
     let printed = printed.replace(alloc, ";", "\n")?;
-    assert_eq!(rt; end.output.as_slice(), printed.as_bytes(), "{line}");
-    assert_eq!(rt; end.status, 1, "{line}");
+    assert!(rt; end.output.as_slice() == printed.as_bytes(), "{line}");
+    assert!(rt; end.status == 1, "{line}");
     Ok(())
 }
 
