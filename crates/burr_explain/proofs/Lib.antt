@@ -1,3 +1,2 @@
-mod ExplanationLines
 mod ExplanationWords
 mod Keys

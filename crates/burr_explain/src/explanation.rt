@@ -13,19 +13,19 @@ pub enum Subject {
     Line(&'static str),
 }
 
-/// What a line means that burr prints. Its texts are lines without their line feeds.
+/// What a line means that burr prints. Its texts have a line feed between two lines, and none at
+/// their ends.
 #[derive(Clone, Copy)]
 pub struct Explanation {
     pub subject: Subject,
-    pub meaning: &'static [&'static str],
-    /// What has mostly happened where it is met; nothing where that is no question.
-    pub cause: &'static [&'static str],
-    /// What to do next, where something is; else nothing.
-    pub remedy: &'static [&'static str],
-    /// What the example shows, or what holds where it stands.
-    pub setting: &'static str,
-    /// Lines of a text, a plan or a sheet, or bytes.
-    pub example: &'static [&'static str],
+    pub meaning: &'static str,
+    /// What has mostly happened where it is met; empty where that is no question.
+    pub cause: &'static str,
+    /// What to do next, where something is; else empty.
+    pub remedy: &'static str,
+    /// What it shows, or what holds where it stands; an empty line; and lines of a text, a plan or a
+    /// sheet, or bytes, each after four blanks.
+    pub example: &'static str,
 }
 
 impl Explanation {

@@ -1,8 +1,7 @@
 //! How an explanation is written.
-ghost use Rattle.std.specs.Prelude.{[], ◌++◌, map};
 ghost use Rattle.burr_io.specs.Sink.{Puts};
-ghost use Rattle.burr_explain.specs.Layout.{explanation_text, heading, example_text};
-ghost use Rattle.burr_explain.specs.Layout.{indented, all_indented, paragraph_if_any};
+ghost use Rattle.burr_explain.specs.Layout.{explanation_text, heading};
+ghost use Rattle.burr_explain.specs.Layout.{paragraph, paragraph_if_any};
 
 use crate::explanation::{Explanation, Subject};
 use burr_io::{Sink, WriteFault, put_all, put_words};
@@ -16,17 +15,7 @@ pub fn put_explanation<W: Sink>(entry: &Explanation, sink: &mut W) -> Result<(),
     put_paragraph(b"\n", entry.meaning, sink)?;
     put_if_any(b"\nUsual cause: ", entry.cause, sink)?;
     put_if_any(b"\nWhat to do: ", entry.remedy, sink)?;
-    put_example(entry, sink)
-}
-
-/// Puts lines, of which the first stands after these bytes; where there are none, nothing.
-fn put_if_any<W: Sink>(before: &[u8], lines: &[&str], sink: &mut W) -> Result<(), WriteFault>
-    ensures { Puts W.Sink sink.old sink.new (paragraph_if_any before.now lines.now) result }
-{
-    if lines.is_empty() {
-        return Ok(());
-    }
-    put_paragraph(before, lines, sink)
+    put_paragraph(b"\nExample: ", entry.example, sink)
 }
 
 /// Puts the first line, `refused A4`, `trap 3 NotFree` or `waiting`.
@@ -42,40 +31,20 @@ fn put_heading<W: Sink>(subject: &Subject, sink: &mut W) -> Result<(), WriteFaul
     }
 }
 
-/// Puts what the example shows, and its lines after an indent.
-fn put_example<W: Sink>(entry: &Explanation, sink: &mut W) -> Result<(), WriteFault>
-    ensures { Puts W.Sink sink.old sink.new (example_text entry.now) result }
+/// Puts a text after these bytes, and a line feed; nothing where the text is empty.
+fn put_if_any<W: Sink>(before: &[u8], text: &str, sink: &mut W) -> Result<(), WriteFault>
+    ensures { Puts W.Sink sink.old sink.new (paragraph_if_any before.now text.now) result }
 {
-    put_all(b"\nExample: ", sink)?;
-    put_line(b"", entry.setting, sink)?;
-    put_all(b"\n", sink)?;
-    put_lines(b"    ", entry.example, sink)
+    if text.is_empty() {
+        return Ok(());
+    }
+    put_paragraph(before, text, sink)
 }
 
-/// Puts lines, of which the first stands after these bytes.
-fn put_paragraph<W: Sink>(before: &[u8], lines: &[&str], sink: &mut W) -> Result<(), WriteFault>
-    ensures { Puts W.Sink sink.old sink.new
-        (before.now ++ all_indented [] (map (λ l. l.now) lines.now)) result }
+/// Puts a text after these bytes, and a line feed.
+fn put_paragraph<W: Sink>(before: &[u8], text: &str, sink: &mut W) -> Result<(), WriteFault>
+    ensures { Puts W.Sink sink.old sink.new (paragraph before.now text.now) result }
 {
     put_all(before, sink)?;
-    put_lines(b"", lines, sink)
-}
-
-/// Puts lines, each after the same indent.
-fn put_lines<W: Sink>(indent: &[u8], lines: &[&str], sink: &mut W) -> Result<(), WriteFault>
-    ensures { Puts W.Sink sink.old sink.new
-        (all_indented indent.now (map (λ l. l.now) lines.now)) result }
-{
-    for line in lines {
-        put_line(indent, line, sink)?;
-    }
-    Ok(())
-}
-
-/// Puts a line after an indent.
-fn put_line<W: Sink>(indent: &[u8], line: &str, sink: &mut W) -> Result<(), WriteFault>
-    ensures { Puts W.Sink sink.old sink.new (indented indent.now line.now) result }
-{
-    put_all(indent, sink)?;
-    put_words(&[line.as_bytes()], sink)
+    put_words(&[text.as_bytes()], sink)
 }

@@ -72,9 +72,9 @@ pub fn with_meaning(mut reason: String, key: &str) -> Result<String, AllocError>
     Ok(reason)
 }
 
-/// Adds the first sentence of lines, as lines.
-fn push_sentence(text: &mut String, lines: &[&str]) -> Result<(), AllocError> {
-    for line in lines {
+/// Adds the first sentence of a meaning, as lines.
+fn push_sentence(text: &mut String, meaning: &str) -> Result<(), AllocError> {
+    for line in meaning.lines() {
         if let Some((sentence, _)) = line.split_once(". ") {
             text.push_str(sentence)?;
             return text.push_str(".\n");

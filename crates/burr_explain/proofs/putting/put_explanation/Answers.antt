@@ -22,4 +22,4 @@ returns-in_err-put_if_any-2 g c =
 pub returns : goal.returns
 returns g c =
     Puts-more c.in_ok-put_heading.ensures (Puts-more c.in_ok-put_paragraph.ensures (Puts-more c.in_ok-put_if_any.ensures
-    (Puts-more c.in_ok-put_if_any-2.ensures c.put_example.ensures)))
+    (Puts-more c.in_ok-put_if_any-2.ensures c.put_paragraph-2.ensures)))
