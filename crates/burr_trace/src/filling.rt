@@ -1,14 +1,13 @@
 //! Frames that are read off a run, in place of lines `auto`.
 
-use crate::following::{costs_of, follow};
-use crate::labels::Labels;
+use crate::following::{Prepared, follow};
 use crate::seen::Seen;
 use crate::summary::Summary;
 use crate::walk::Walk;
 use burr_bench::Closing;
 use burr_blocking::Blocking;
 use burr_text::cut_at;
-use burr_why::{PlanLines, PlanText};
+use burr_why::PlanText;
 use std::alloc::{AllocError, Global};
 
 /// How many lines a blank frame has beside those of pieces.
@@ -93,14 +92,12 @@ impl Unframed<'_> {
         blocking: &B,
         answers: &[i32],
     ) -> Result<Filled, AllocError> {
-        let lines = PlanLines::of(alloc, plan.text, plan.container)?;
-        let labels = Labels::of(alloc, &lines, plan.container)?;
-        let costs = costs_of(alloc, plan.container, &labels, blocking, answers)?;
-        let mut summary = Summary::new(alloc, &labels, &costs)?;
+        let prepared = Prepared::of(alloc, plan, blocking, answers)?;
+        let mut summary = Summary::new(alloc, &prepared)?;
         let Some(mut walk) = Walk::start(plan.container, blocking, answers) else {
             return Ok(Filled::Unended);
         };
-        if follow(&mut walk, &labels, &mut summary)? != Closing::Apart {
+        if follow(&mut walk, &prepared.labels, &mut summary)? != Closing::Apart {
             return Ok(Filled::Unended);
         }
         self.with_frames(alloc, summary.seen())

@@ -6,6 +6,7 @@ use crate::walk::{Turn, Walk};
 use burr_bench::Closing;
 use burr_blocking::Blocking;
 use burr_container::Container;
+use burr_why::{PlanLines, PlanText};
 use std::alloc::{AllocError, Global};
 
 /// Who follows a run.
@@ -51,20 +52,50 @@ fn label_of<B: Blocking>(walk: &Walk<'_, '_, B>, labels: &Labels<'_>) -> Option<
     labels.at(usize::from(bench.proc()), usize::from(bench.pc()))
 }
 
-/// The steps from each arrival on, in the run with these answers.
-pub fn costs_of<B: Blocking>(
-    alloc: Global,
-    container: &Container<'_>,
-    labels: &Labels<'_>,
-    blocking: &B,
-    answers: &[i32],
-) -> Result<Costs, AllocError> {
-    let mut costs = Costs::new(alloc);
-    if let Some(mut walk) = Walk::start(container, blocking, answers) {
-        follow(&mut walk, labels, &mut costs)?;
-        costs.close_above(0, walk.bench().steps());
+/// What is found out of a plan before its run is followed.
+#[derive(Drop)]
+pub struct Prepared<'a> {
+    pub lines: PlanLines<'a>,
+    pub labels: Labels<'a>,
+    /// The steps from each arrival on.
+    pub costs: Costs,
+}
+
+impl<'a> Prepared<'a> {
+    /// Finds it out for the run with these answers.
+    pub fn of<B: Blocking>(
+        alloc: Global,
+        plan: PlanText<'a, '_>,
+        blocking: &B,
+        answers: &[i32],
+    ) -> Result<Prepared<'a>, AllocError> {
+        let lines = PlanLines::of(alloc, plan.text, plan.container)?;
+        let labels = Labels::of(alloc, &lines, plan.container)?;
+        let mut costs = Costs::new(alloc);
+        costs.see(plan.container, &labels, blocking, answers)?;
+        Ok(Prepared {
+            lines,
+            labels,
+            costs,
+        })
     }
-    Ok(costs)
+}
+
+impl Costs {
+    /// Sees the run with these answers.
+    fn see<B: Blocking>(
+        &mut self,
+        container: &Container<'_>,
+        labels: &Labels<'_>,
+        blocking: &B,
+        answers: &[i32],
+    ) -> Result<(), AllocError> {
+        if let Some(mut walk) = Walk::start(container, blocking, answers) {
+            follow(&mut walk, labels, self)?;
+            self.close_above(0, walk.bench().steps());
+        }
+        Ok(())
+    }
 }
 
 impl Observer for Costs {

@@ -1,8 +1,7 @@
 //! What was seen at each label.
 
 use crate::costs::Costs;
-use crate::following::Observer;
-use crate::labels::Labels;
+use crate::following::{Observer, Prepared};
 use crate::seen::Seen;
 use crate::snapshot::Snapshot;
 use crate::walk::Walk;
@@ -22,18 +21,14 @@ pub struct Summary<'x> {
 
 impl<'x> Summary<'x> {
     /// Before the run.
-    pub fn new(
-        alloc: Global,
-        labels: &Labels<'_>,
-        costs: &'x Costs,
-    ) -> Result<Summary<'x>, AllocError> {
+    pub fn new(alloc: Global, prepared: &'x Prepared<'_>) -> Result<Summary<'x>, AllocError> {
         let mut seen = Vec::new(alloc);
-        for _label in labels.as_slice() {
+        for _label in prepared.labels.as_slice() {
             seen.push(None)?;
         }
         Ok(Summary {
             alloc,
-            costs,
+            costs: &prepared.costs,
             arrivals: 0,
             seen,
         })

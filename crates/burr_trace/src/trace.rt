@@ -1,14 +1,15 @@
 //! A trace: what holds whenever a run comes to a label, and what was seen at each.
 
-use crate::costs::Costs;
-use crate::following::{Observer, costs_of, follow};
+use crate::following::{Observer, Prepared, follow};
 use crate::frame_lines::add_frame;
-use crate::labels::{Label, Labels};
+use crate::labels::Label;
+use crate::seen::Seen;
 use crate::summary::Summary;
 use crate::walk::Walk;
 use burr_bench::Closing;
 use burr_blocking::Blocking;
-use burr_why::{Place, PlanLines, PlanText, Shown};
+use burr_container::Container;
+use burr_why::{Place, PlanText, Shown};
 use std::alloc::{AllocError, Global};
 
 /// What holds whenever the run of a plan, with these answers, comes to a label: where the text names
@@ -22,17 +23,9 @@ pub fn trace_of<B: Blocking>(
     blocking: &B,
     answers: &[i32],
 ) -> Result<String, AllocError> {
-    let lines = PlanLines::of(alloc, plan.text, plan.container)?;
-    let labels = Labels::of(alloc, &lines, plan.container)?;
-    let costs = costs_of(alloc, plan.container, &labels, blocking, answers)?;
-    let mut trace = Trace::new(alloc, plan.file, &labels, &costs)?;
-    if let Some(mut walk) = Walk::start(plan.container, blocking, answers) {
-        let closing = follow(&mut walk, &labels, &mut trace)?;
-        if closing != Closing::Apart {
-            trace.add_end(&walk, &lines)?;
-        }
-        trace.add_labels()?;
-    }
+    let prepared = Prepared::of(alloc, plan, blocking, answers)?;
+    let mut trace = Trace::new(alloc, plan.file, &prepared)?;
+    trace.follow(plan.container, blocking, answers)?;
     Ok(trace.text)
 }
 
@@ -40,7 +33,7 @@ pub fn trace_of<B: Blocking>(
 #[derive(Drop)]
 struct Trace<'a, 'x> {
     file: &'x str,
-    labels: &'x Labels<'a>,
+    prepared: &'x Prepared<'a>,
     summary: Summary<'x>,
     text: String,
 }
@@ -50,26 +43,38 @@ impl<'a, 'x> Trace<'a, 'x> {
     fn new(
         alloc: Global,
         file: &'x str,
-        labels: &'x Labels<'a>,
-        costs: &'x Costs,
+        prepared: &'x Prepared<'a>,
     ) -> Result<Trace<'a, 'x>, AllocError> {
         Ok(Trace {
             file,
-            labels,
-            summary: Summary::new(alloc, labels, costs)?,
+            prepared,
+            summary: Summary::new(alloc, prepared)?,
             text: String::new(alloc),
         })
     }
 
-    /// Adds the line where a run stands that did not come to its end.
-    fn add_end<B: Blocking>(
+    /// Follows the run with these answers; adds nothing where the plan is for another assembly.
+    fn follow<B: Blocking>(
         &mut self,
-        walk: &Walk<'_, '_, B>,
-        lines: &PlanLines<'_>,
+        container: &Container<'_>,
+        blocking: &B,
+        answers: &[i32],
     ) -> Result<(), AllocError> {
+        let Some(mut walk) = Walk::start(container, blocking, answers) else {
+            return Ok(());
+        };
+        let labels = &self.prepared.labels;
+        if follow(&mut walk, labels, self)? != Closing::Apart {
+            self.add_end(&walk)?;
+        }
+        self.add_labels()
+    }
+
+    /// Adds the line where a run stands that did not come to its end.
+    fn add_end<B: Blocking>(&mut self, walk: &Walk<'_, '_, B>) -> Result<(), AllocError> {
         let bench = walk.bench();
         let place = Place::Code(usize::from(bench.proc()), usize::from(bench.pc()));
-        let Some(line) = lines.line_of(place) else {
+        let Some(line) = self.prepared.lines.line_of(place) else {
             return Ok(());
         };
         let file = self.file;
@@ -80,16 +85,10 @@ impl<'a, 'x> Trace<'a, 'x> {
 
     /// Adds what was seen at each label.
     fn add_labels(&mut self) -> Result<(), AllocError> {
-        for (label, seen) in self.labels.as_slice().iter().zip(self.summary.seen()) {
-            let times = match seen {
-                Some(seen) => seen.times(),
-                None => 0,
-            };
+        let labels = self.prepared.labels.as_slice();
+        for (label, seen) in labels.iter().zip(self.summary.seen()) {
             add_label(&mut self.text, self.file, label)?;
-            writeln!(self.text, ": times {times}")?;
-            if let Some(seen) = seen {
-                seen.add_frame(&mut self.text)?;
-            }
+            add_seen(&mut self.text, seen)?;
         }
         Ok(())
     }
@@ -102,15 +101,10 @@ impl Observer for Trace<'_, '_> {
         walk: &Walk<'_, '_, B>,
     ) -> Result<(), AllocError> {
         let now = self.summary.see(label, walk)?;
-        if let Some(place) = self.labels.as_slice().get(label) {
+        if let Some(place) = self.prepared.labels.as_slice().get(label) {
             add_label(&mut self.text, self.file, place)?;
         }
-        let steps = walk.bench().steps();
-        write!(self.text, ": steps {steps}")?;
-        if let Some(answer) = walk.answered() {
-            write!(self.text, ", answer {answer}")?;
-        }
-        self.text.push_str("\n")?;
+        add_arrival(&mut self.text, walk)?;
         add_frame(&mut self.text, &now)
     }
 
@@ -123,4 +117,23 @@ fn add_label(text: &mut String, file: &str, label: &Label<'_>) -> Result<(), All
     let name = Shown(label.line.operand());
     let procedure = Shown(label.procedure_line.operand());
     write!(text, "\n; {file}:{number}: label {name} of {procedure}")
+}
+
+/// Ends the comment with how often the run came to a label, and adds the frame that it agrees with.
+fn add_seen(text: &mut String, seen: &Option<Seen>) -> Result<(), AllocError> {
+    let Some(seen) = seen else {
+        return text.push_str(": times 0\n");
+    };
+    let times = seen.times();
+    writeln!(text, ": times {times}")?;
+    seen.add_frame(text)
+}
+
+/// Ends the comment with the steps that were made and the answer last taken.
+fn add_arrival<B: Blocking>(text: &mut String, walk: &Walk<'_, '_, B>) -> Result<(), AllocError> {
+    let steps = walk.bench().steps();
+    match walk.answered() {
+        Some(answer) => writeln!(text, ": steps {steps}, answer {answer}"),
+        None => writeln!(text, ": steps {steps}"),
+    }
 }
