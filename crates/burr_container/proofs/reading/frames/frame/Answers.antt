@@ -45,8 +45,8 @@ returns-clause-reads c =
     frame_at _ _ _ _ _ _ c.in_ok-tray.ensures c.in_ok-grip.ensures _ _ c.live_slots-live.ensures _ c.in_ok-slots.ensures _ _
     c.in_ok-guards.ensures.reads _ _ c.in_ok-stack.ensures.reads _ _ c.in_ok-cost.ensures.reads _ _ c.in_ok-places.ensures.reads
 
-pub invariant_of-frame : goal.invariant_of-frame
-invariant_of-frame c =
+pub invariant_of-result : goal.invariant_of-result
+invariant_of-result c =
     let live = c.live_slots-live.ensures in
     let guards = c.in_ok-guards.guards in
     let stack = c.in_ok-stack.stack in
