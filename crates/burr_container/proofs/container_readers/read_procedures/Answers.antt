@@ -1,5 +1,5 @@
 -- A procedure is read each turn, main first.
-use Rattle.std.proofs.Common.{◌≡◌, ◌-◌, arith, ap, sym, subst, ◌∙◌, ◌++◌, ◌∷◌, [], length, length-append, rules}
+use Rattle.std.proofs.Common.{inl, ◌≡◌, ◌-◌, arith, ap, sym, subst, ◌∙◌, ◌++◌, ◌∷◌, [], length, length-append, rules}
 use Rattle.std.specs.Prelude.{List, false}
 use Rattle.std.proofs.lemmas.Result.{err_from_is_err_and}
 use Rattle.burr_container.specs.declared.stored_procedure.StoredProcedure.{StoredProcedure}
@@ -9,6 +9,11 @@ use Rattle.burr_container.proofs.EachWalk.{each_fails}
 use Rattle.burr_container.proofs.KeptWalk.{kept_goes_on, kept_ends}
 use Rattle.burr_container.proofs.ProceduresRead.{main_fails_first, others_fail_then, procedures_at, counted_within, one_less}
 use Rattle.burr_container.proofs.container_readers.read_procedures.Goals as goal
+
+pub returns-in_err-count : goal.returns-in_err-count
+returns-in_err-count c =
+    let p = err_from_is_err_and c.from_residual.result c.from_residual.ensures.1 in
+    rw (p.1, p.2) (inl c.in_err-count.ensures)
 
 pub returns-in_err-main : goal.returns-in_err-main
 returns-in_err-main c =

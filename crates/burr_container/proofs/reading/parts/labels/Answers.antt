@@ -1,5 +1,5 @@
 -- A label is read each turn.
-use Rattle.std.proofs.Common.{◌≡◌, ◌++◌, ◌∷◌, [], ◌-◌, ◌+◌, List, ℕ, arith, refl, sym, subst}
+use Rattle.std.proofs.Common.{inl, ◌≡◌, ◌++◌, ◌∷◌, [], ◌-◌, ◌+◌, List, ℕ, arith, refl, sym, subst}
 use Rattle.std.specs.Prelude.{Some}
 use Rattle.std.proofs.lemmas.Result.{err_from_is_err_and}
 use Rattle.burr_container.specs.Views.Readable.{starts_at}
@@ -7,6 +7,11 @@ use Rattle.burr_container.proofs.Kept.{all_readable}
 use Rattle.burr_container.proofs.LabelsWalk.{IsLabelsWalk, labels_go_on, labels_fail_on, labels_end, labels_at, labels_fail_at, came_on, came_to, starts_more, within_more}
 use Rattle.burr_container.specs.Rules.Faults.{is_next_label}
 use Rattle.burr_container.proofs.reading.parts.labels.Goals as goal
+
+pub returns-in_err-count : goal.returns-in_err-count
+returns-in_err-count c =
+    let p = err_from_is_err_and c.from_residual.result c.from_residual.ensures.1 in
+    rw (p.1, p.2) (inl c.in_err-count.ensures)
 
 pub returns-in_err-position : goal.returns-in_err-position
 returns-in_err-position c =
