@@ -1,5 +1,5 @@
 -- A label is read each turn.
-use Rattle.std.proofs.Common.{inl, ◌≡◌, ◌++◌, ◌∷◌, [], ◌-◌, ◌+◌, List, ℕ, arith, refl, sym, subst}
+use Rattle.std.proofs.Common.{inl, ◌-◌, ◌+◌, List, ℕ, arith, refl, sym, subst}
 use Rattle.std.specs.Prelude.{Some}
 use Rattle.std.proofs.lemmas.Result.{err_from_is_err_and}
 use Rattle.burr_container.specs.Views.Readable.{starts_at}
