@@ -15,6 +15,15 @@ use Rattle.burr_container.proofs.Common.Frames.{FormPlaces, AfterHead, OfCost, c
 use Rattle.burr_container.proofs.Common.Judging.Frames.{frame_back}
 use Rattle.burr_container.proofs.Chains.{IsAfter, small_of, after_part, stands_at, then_fails, then_stands}
 
+-- a tray stands there, and the set of pieces fails
+pub set_fails : (pieces tray : ℕ) (cursor after_tray : Cursor)
+    → IsAt (number 1 C4 is_tray) cursor tray after_tray → (more : Failing) (fault : ContainerFault)
+    → (number 4 C4 (is_set_of pieces)).Fails after_tray.at after_tray.rest.now fault
+    → head_fails pieces more cursor.at cursor.rest.now fault
+set_fails pieces tray cursor after_tray tray_at more fault fails =
+    then_fails (number 1 C4 is_tray) cursor after_tray tray
+    (λ tray. first (number 4 C4 (is_set_of pieces)) (λ grip. more)) fault tray_at (inl fails)
+
 -- a tray and a set of pieces
 module _ (pieces tray grip : ℕ) (cursor after_tray after_grip : Cursor)
     (tray_at : IsAt (number 1 C4 is_tray) cursor tray after_tray)

@@ -34,6 +34,22 @@ front_apart : (magic version budget : List ℕ) (pieces size : ℕ) (text r : Li
     ≡ magic ++ (version ++ (budget ++ (pieces ∷ (size ∷ (text ++ r)))))
 front_apart magic version budget pieces size text r = simp append_assoc
 
+-- the magic stands there, and the version fails
+pub version_fails_next : (c0 c1 : Cursor) (magic : List ℕ) → IsAt (raw 4 C2 is_magic) c0 magic c1
+    → (fault : ContainerFault) → (number 2 C3 is_version).Fails c1.at c1.rest.now fault
+    → ContainerFails c0.at c0.rest.now fault
+version_fails_next c0 c1 magic magic_at fault fails =
+    then_fails (raw 4 C2 is_magic) c0 c1 magic (λ magic. version_fails) fault magic_at (inl fails)
+
+-- the magic and the version stand there, and the budget fails
+pub budget_fails_next : (c0 c1 c2 : Cursor) (magic : List ℕ) (version : ℕ)
+    → IsAt (raw 4 C2 is_magic) c0 magic c1 → IsAt (number 2 C3 is_version) c1 version c2
+    → (fault : ContainerFault) → (number 4 C4 is_budget).Fails c2.at c2.rest.now fault
+    → ContainerFails c0.at c0.rest.now fault
+budget_fails_next c0 c1 c2 magic version magic_at version_at fault fails =
+    then_fails (raw 4 C2 is_magic) c0 c1 magic (λ magic. version_fails) fault magic_at
+    (then_fails (number 2 C3 is_version) c1 c2 version budget_fails fault version_at (inl fails))
+
 module _ (c0 c1 c2 c3 : Cursor) (magic : List ℕ) (version budget : ℕ)
     (magic_at : IsAt (raw 4 C2 is_magic) c0 magic c1)
     (version_at : IsAt (number 2 C3 is_version) c1 version c2)

@@ -1,7 +1,7 @@
 -- Forms and places that are restored one by one from their bytes.
 use Rattle.std.proofs.Common.{◌≡◌, ℕ, suc, ◌+◌, ◌-◌, ◌*◌, ◌<◌, ◌≤◌, List, [], ◌∷◌, ◌++◌, length, length-drop, drop, set, Some, ℤ, pos, refl, sym, ap, subst, ◌∙◌, arith, append_assoc}
 use Rattle.std.specs.Prelude.{replicate, slice_get, slice_index, Bool, true, false, IsTrue}
-use Rattle.std.proofs.lemmas.List.{drop_all, length_push, set-append_right}
+use Rattle.std.proofs.lemmas.List.{append-nil, drop_all, length_push, set-append_right}
 use Rattle.burr_code.specs.declared.placement.Placement.{Placement}
 use Rattle.burr_forms.specs.Rules.Forms.{Form}
 use Rattle.burr_container.specs.Rules.Plans.{FormCell}
@@ -96,11 +96,22 @@ form_added live all k m forms new rest next form e items is to are =
       sized = omega (arith, sized, cut);
     }
 
+-- with none of the rest these are all
+pub forms_whole : (live : List Bool) (all : List Form) (k : ℕ) (forms : List Form) (rest : List ℕ) → k ≡ 0
+    → AreForms live all k forms rest → forms ≡ all
+forms_whole live all k forms rest e are =
+    sym (append-nil forms) ∙ ap (λ (j : ℕ). forms ++ forms_in live j rest) (sym e) ∙ are.is
+
 -- with so many places of the rest these are all
 pub record ArePlaces (live : List Bool) (all : List (Placement FormCell)) (k : ℕ) (places : List (Placement FormCell)) (rest : List ℕ) : Type 0
   where
     pub is : places ++ places_in live k rest ≡ all
     pub stand : IsTrue (places_stand live k rest)
+
+pub places_whole : (live : List Bool) (all : List (Placement FormCell)) (k : ℕ) (places : List (Placement FormCell)) (rest : List ℕ)
+    → k ≡ 0 → ArePlaces live all k places rest → places ≡ all
+places_whole live all k places rest e are =
+    sym (append-nil places) ∙ ap (λ (j : ℕ). places ++ places_in live j rest) (sym e) ∙ are.is
 
 pub place_added : (live : List Bool) (all : List (Placement FormCell)) (k m : ℕ) (places new : List (Placement FormCell))
     (rest next : List ℕ) (place : Placement FormCell) → k ≡ suc m → new ≡ places ++ place ∷ []

@@ -1,5 +1,5 @@
 -- Procedures that are restored one by one.
-use Rattle.std.proofs.Common.{◌≡◌, ℕ, ◌<◌, Option, Some, None, List, length, refl, ap, ◌∙◌, arith}
+use Rattle.std.proofs.Common.{◌≡◌, ℕ, ◌<◌, Option, Some, None, length, refl, ap, ◌∙◌, arith}
 use Rattle.std.specs.Prelude.{IfSome}
 use Rattle.burr_container.specs.declared.exit_ref.ExitRef.{ExitRef}
 use Rattle.burr_container.specs.declared.stored_procedure.StoredProcedure.{StoredProcedure}

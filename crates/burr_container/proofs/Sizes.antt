@@ -1,5 +1,5 @@
 -- How many bytes the parts of a frame take at most.
-use Rattle.std.proofs.Common.{◌≡◌, ℕ, ◌+◌, ◌*◌, ◌≤◌, ◌^◌, ◌&&◌, ◌==◌, Bool, true, false, IsTrue, nat_lt, nat_le, Option, Some, None, List, [], ◌∷◌, ◌++◌, length, flat_map, refl, arith, length-append, eqb-true, leb-true}
+use Rattle.std.proofs.Common.{◌≡◌, ℕ, ◌+◌, ◌*◌, ◌≤◌, ◌^◌, ◌&&◌, ◌==◌, Bool, true, false, IsTrue, nat_lt, nat_le, Option, Some, None, List, [], ◌∷◌, ◌++◌, length, flat_map, arith, length-append, eqb-true, leb-true}
 use Rattle.std.specs.Prelude.{is_some}
 use Rattle.std.specs.List.{list_all}
 use Rattle.std.proofs.lemmas.Bool.{and_parts}

@@ -1,5 +1,5 @@
 -- Coefficients and masks, one slot after the other; counts of plans that fit.
-use Rattle.std.proofs.Common.{◌≡◌, ℕ, zero, suc, ◌+◌, ◌*◌, ◌<◌, ◌≤◌, List, [], ◌∷◌, ◌++◌, length, drop, get_or, refl, sym, ap, ◌∙◌, arith, append_assoc}
+use Rattle.std.proofs.Common.{◌≡◌, ℕ, zero, suc, ◌+◌, ◌*◌, ◌<◌, ◌≤◌, List, [], ◌∷◌, ◌++◌, length, drop, get_or, refl, sym, ap, ◌∙◌, subst, arith, append_assoc}
 use Rattle.std.specs.Prelude.{Option, Some, None, ◌==◌, Bool, true, false, ◌&&◌, ℤ, pos, IsTrue, if◌then◌else◌, nat_le, nat_lt, ◌^◌}
 use Rattle.std.specs.List.{flat_map, list_all}
 use Rattle.std.proofs.lemmas.Bool.Decides.{nat_tests}
@@ -65,6 +65,12 @@ both_tests a b h k = rw (h, k) refl
 pub all_also : {A : Type 0} (p q : A → Bool) → ((x : A) → IsTrue (p x) → IsTrue (q x)) → (xs : List A) → IsTrue (list_all p xs) → IsTrue (list_all q xs)
 all_also p q also [] h = refl
 all_also p q also (x ∷ xs) h = both_tests (q x) (list_all q xs) (also x (first_test (p x) (list_all p xs) h)) (all_also p q also xs (second_test (p x) (list_all p xs) h))
+
+-- what is so of all is so of each
+pub each_also : {A : Type 0} (p : A → Bool) (xs : List A) (i : ℕ) (x : A) → IsTrue (list_all p xs) → i < length xs → x ≡ get_or xs i x → IsTrue (p x)
+each_also p [] i x all h is = absurd (omega arith)
+each_also p (y ∷ ys) zero x all h is = subst (λ z. IsTrue (p z)) (sym is) (first_test (p y) (list_all p ys) all)
+each_also p (y ∷ ys) (suc i) x all h is = each_also p ys i x (second_test (p y) (list_all p ys) all) (omega arith) is
 
 pub below : (a b : ℕ) → a < b → IsTrue (nat_lt a b)
 below a b h = grind (arith, nat_tests)

@@ -28,16 +28,16 @@ impl<'a> Container<'a> {
     pub fn parse(bytes: &'a [u8]) -> Result<Container<'a>, ContainerFault>
         ensures { ReadsContainer bytes.now result }
     {
-        let begin = Cursor::new(bytes);
-        let (header, after_header) = header(begin)?;
+        let mut cursor = Cursor::new(bytes);
+        let header = header(&mut cursor)?;
         let layout = Layout {
             version: header.version,
             pieces: header.pieces,
         };
         let mut procedures = ArrayVec::new();
-        let end = read_procedures(layout, after_header, &mut procedures)?;
-        if !end.rest.is_empty() {
-            return Err(ContainerFault::C6 { at: end.at });
+        read_procedures(layout, &mut cursor, &mut procedures)?;
+        if !cursor.rest.is_empty() {
+            return Err(ContainerFault::C6 { at: cursor.at });
         }
         Ok(Container { header, procedures })
     }
@@ -140,25 +140,23 @@ impl<'a> Container<'a> {
     }
 }
 
-/// Reads the procedures of a plan, with their count in front of them, into a list that is empty, and
-/// gives what is next. They are read where they are to stay, since they take much of the stack.
+/// Reads the procedures of a plan, with their count in front of them, into a list that is empty.
+/// They are read where they are to stay, since they take much of the stack.
 fn read_procedures<'a>(
     layout: Layout,
-    cursor: Cursor<'a>,
+    cursor: &mut Cursor<'a>,
     procedures: &mut ArrayVec<StoredProcedure<'a>, MOST_PROCEDURES>,
-) -> Result<Cursor<'a>, ContainerFault>
+) -> Result<(), ContainerFault>
     requires { procedures.old.items ≡ [] }
     ensures { ReadsInto (AreFor (IsProcedure layout.pieces)) procedures.new.items
-        (procedures_part layout.version layout.pieces) cursor.entry result }
+        (procedures_part layout.version layout.pieces) cursor.old cursor.new result }
 {
-    let (count, after_count) = count_within(cursor, 1, MOST_PROCEDURES)?;
-    let (main, after_main) = main_procedure(layout, after_count)?;
+    let count = count_within(cursor, 1, MOST_PROCEDURES)?;
+    let main = main_procedure(layout, cursor)?;
     procedures.push(main);
-    let mut cursor = after_main;
     for _ in 0..count - 1 {
-        let (procedure, next) = other_procedure(layout, cursor)?;
+        let procedure = other_procedure(layout, cursor)?;
         procedures.push(procedure);
-        cursor = next;
     }
-    Ok(cursor)
+    Ok(())
 }

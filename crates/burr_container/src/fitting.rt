@@ -65,14 +65,16 @@ fn is_name_text(name: &[u8]) -> bool
 fn are_procedures(layout: Layout, procedures: &[Procedure]) -> bool
     ensures { result ≡ fit_procedures layout.version layout.pieces procedures.now }
 {
-    match procedures {
-        [] => false,
-        [main, others @ ..] => {
-            is_procedure(layout, true, main)
-                && all_others(layout, others)
-                && procedures.len() <= MOST_PROCEDURES
-        }
+    let [main, others @ ..] = procedures else {
+        return false;
+    };
+    if !is_procedure(layout, true, main) {
+        return false;
     }
+    if !all_others(layout, others) {
+        return false;
+    }
+    procedures.len() <= MOST_PROCEDURES
 }
 
 fn all_others(layout: Layout, procedures: &[Procedure]) -> bool

@@ -3,7 +3,7 @@ use crate::plan_form::PlanForm;
 use std::marker::Model;
 
 /// What holds at a label.
-#[derive(Debug, Drop)]
+#[derive(Drop)]
 pub struct Frame {
     /// The current tray, 0 to 31.
     pub tray: u8,
@@ -41,7 +41,7 @@ impl Model for Frame {
 
 /// What holds where a procedure returns. Its forms are over the parameters, which are the first
 /// symbols, and after them the results.
-#[derive(Debug, Drop)]
+#[derive(Drop)]
 pub struct ExitFrame {
     /// The current tray, 0 to 31.
     pub tray: u8,

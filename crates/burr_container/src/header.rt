@@ -1,5 +1,5 @@
 /// What stands at the front of a container.
-#[derive(Clone, Copy, Debug)]
+#[derive(Clone, Copy)]
 pub struct Header<'a> {
     /// The version of the format: 1, or 2, where procedures may have results.
     pub version: u16,

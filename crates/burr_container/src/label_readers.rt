@@ -32,7 +32,7 @@ impl<'a> LabelTable<'a> {
             → AreFor (IsLabel pieces) self.now.starts ls → slice_get ls n ≡ Some l
             → result ≡ l.0 }
     {
-        let Ok((position, _next)) = any_position(self.begin(n)) else {
+        let Ok(position) = any_position(&mut self.begin(n)) else {
             unreachable!();
         };
         position
@@ -46,7 +46,7 @@ impl<'a> LabelTable<'a> {
             → AreFor (IsLabel self.now.layout.pieces) self.now.starts ls
             → slice_get ls n ≡ Some l → (result.0 ≡ l.0) × (frame_of result.1 ≡ l.1) }
     {
-        let Ok((label, _next)) = label(self.layout(), self.begin(n)) else {
+        let Ok(label) = label(self.layout(), &mut self.begin(n)) else {
             unreachable!();
         };
         label
@@ -62,7 +62,8 @@ impl<'a> LabelTable<'a> {
     fn begin(&self, n: usize) -> Cursor<'a>
         requires { n < length self.now.starts }
         ensures begin { slice_get self.now.starts n ≡ Some result.rest.now }
-        ensures readable { NeverFails (label_part (λ position. true) self.now.layout.pieces) result.rest.now }
+        ensures readable { NeverFails (label_part (λ position. true) self.now.layout.pieces)
+            result.rest.now }
     {
         let begin = self.begins[n] as usize;
         Cursor::new(&self.bytes[begin..])
@@ -70,23 +71,19 @@ impl<'a> LabelTable<'a> {
 }
 
 /// A position, of which nothing is asked.
-fn any_position(cursor: Cursor<'_>) -> Result<(u16, Cursor<'_>), ContainerFault>
-    ensures { Reads (number 2 C5_at (λ p. true)) cursor.entry result }
+fn any_position(cursor: &mut Cursor<'_>) -> Result<u16, ContainerFault>
+    ensures { Reads (number 2 C5_at (λ p. true)) cursor.old cursor.new result }
 {
-    let (position, next) = cursor.word()?;
-    Ok((position, next))
+    cursor.word()
 }
 
 /// A label: its position, of which nothing is asked here, and its frame.
-fn label(
-    layout: Layout,
-    cursor: Cursor<'_>,
-) -> Result<((u16, FrameRef<'_>), Cursor<'_>), ContainerFault>
-    ensures places { IfOk result (λ ok. ok.0.1.places.count ≡ layout.pieces) }
+fn label<'a>(layout: Layout, cursor: &mut Cursor<'a>) -> Result<(u16, FrameRef<'a>), ContainerFault>
+    ensures places { IfOk result (λ ok. ok.1.places.count ≡ layout.pieces) }
     ensures reads { ReadsInPlace (λ kept. (kept.0, frame_of kept.1))
-        (label_part (λ p. true) layout.pieces) cursor.entry result }
+        (label_part (λ p. true) layout.pieces) cursor.old cursor.new result }
 {
-    let (position, after_position) = any_position(cursor)?;
-    let (frame, next) = frame(layout, after_position)?;
-    Ok(((position, frame), next))
+    let position = any_position(cursor)?;
+    let frame = frame(layout, cursor)?;
+    Ok((position, frame))
 }

@@ -2,7 +2,7 @@ use crate::frame::{ExitFrame, Frame};
 use std::marker::Model;
 
 /// A plan.
-#[derive(Debug, Drop)]
+#[derive(Drop)]
 pub struct Plan {
     /// The version of the format: 1, or 2, where procedures may have results.
     pub version: u16,
@@ -32,7 +32,7 @@ impl Model for Plan {
 }
 
 /// A procedure of a plan.
-#[derive(Debug, Drop)]
+#[derive(Drop)]
 pub struct Procedure {
     /// How many of the first slots are parameters: 0 to 4, of main 0.
     pub params: u8,

@@ -3,7 +3,7 @@ use std::marker::Model;
 /// A form of a plan: a constant, and a coefficient for each of the eight slots, which is 0 for a
 /// slot that isn't live. In an exit frame the first symbols are the parameters, and the results
 /// follow them.
-#[derive(Clone, Copy, Debug, PartialEq, Eq)]
+#[derive(Clone, Copy, PartialEq, Eq)]
 pub struct PlanForm {
     pub constant: i32,
     pub coefs: [i16; 8],

@@ -45,9 +45,9 @@ pub record IsHeaderAt (cursor : Cursor) (h : Header) (next : Cursor) : Type 0 wh
       → ContainerFails cursor.at cursor.rest.now fault
 
 -- the header is read; or how the container fails
-abbrev pub ReadsHeader : Cursor → Result (Header × Cursor) ContainerFault → Type 0
-ReadsHeader cursor result =
-    MatchResult result (λ ok. IsHeaderAt cursor ok.0 ok.1)
+abbrev pub ReadsHeader : (cursor next : Cursor) → Result Header ContainerFault → Type 0
+ReadsHeader cursor next result =
+    MatchResult result (λ h. IsHeaderAt cursor h next)
     (λ fault. ContainerFails cursor.at cursor.rest.now fault)
 
 -- labels, and the position of the last one

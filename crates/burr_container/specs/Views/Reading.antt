@@ -12,28 +12,29 @@ pub record IsAt {A : Type 0} (part : Part A) (cursor : Cursor) (value : A) (next
     pub cut : IsCut cursor.at cursor.rest.now (part.bytes value) next.at next.rest.now
 
 -- a value of the part stands at the cursor, and after it the next one; or how the part fails
-abbrev pub GoesOver : {A : Type 0} → Part A → Cursor → Result Cursor ContainerFault → Type 0
-GoesOver {A = A} part cursor result =
-    MatchResult result (λ next. (a : A) × IsAt part cursor a next)
+abbrev pub GoesOver : {A B : Type 0} → Part A → (cursor next : Cursor) → Result B ContainerFault
+    → Type 0
+GoesOver {A = A} part cursor next result =
+    MatchResult result (λ done. (a : A) × IsAt part cursor a next)
     (λ fault. part.Fails cursor.at cursor.rest.now fault)
 
 -- the part is read: what is kept is of the value that stands at the cursor
-abbrev pub ReadsAs : {A V : Type 0} → (V → A → Type 0) → Part A → Cursor
-    → Result (V × Cursor) ContainerFault → Type 0
-ReadsAs {A = A} Is part cursor result =
-    MatchResult result (λ ok. (a : A) × Is ok.0 a × IsAt part cursor a ok.1)
+abbrev pub ReadsAs : {A V : Type 0} → (V → A → Type 0) → Part A → (cursor next : Cursor)
+    → Result V ContainerFault → Type 0
+ReadsAs {A = A} Is part cursor next result =
+    MatchResult result (λ kept. (a : A) × Is kept a × IsAt part cursor a next)
     (λ fault. part.Fails cursor.at cursor.rest.now fault)
 
--- the part is read, and the next cursor is given: what is kept is of the value that stands at the
--- cursor
-abbrev pub ReadsInto : {A V : Type 0} → (V → A → Type 0) → V → Part A → Cursor
-    → Result Cursor ContainerFault → Type 0
-ReadsInto {A = A} Is kept part cursor result =
-    MatchResult result (λ next. (a : A) × Is kept a × IsAt part cursor a next)
+-- the part is gone over: what is kept elsewhere is of the value that stands at the cursor
+abbrev pub ReadsInto : {A V B : Type 0} → (V → A → Type 0) → V → Part A → (cursor next : Cursor)
+    → Result B ContainerFault → Type 0
+ReadsInto {A = A} Is kept part cursor next result =
+    MatchResult result (λ done. (a : A) × Is kept a × IsAt part cursor a next)
     (λ fault. part.Fails cursor.at cursor.rest.now fault)
 
--- the part is read: the value that stands at the cursor and the next cursor, or how it fails
-abbrev pub Reads : {A : Type 0} → Part A → Cursor → Result (A × Cursor) ContainerFault → Type 0
-Reads part cursor result =
-    MatchResult result (λ ok. IsAt part cursor ok.0 ok.1)
+-- the part is read: the value that stands at the cursor, and the next cursor after it; or how it
+-- fails
+abbrev pub Reads : {A : Type 0} → Part A → (cursor next : Cursor) → Result A ContainerFault → Type 0
+Reads part cursor next result =
+    MatchResult result (λ a. IsAt part cursor a next)
     (λ fault. part.Fails cursor.at cursor.rest.now fault)

@@ -49,10 +49,10 @@ abbrev pub parameters_of : ExitRef → ℕ
 parameters_of f = f.parameters
 
 -- a part is read in place: what is kept stands for the value at the cursor; or how the part fails
-abbrev pub ReadsInPlace : {A V : Type 0} → (V → A) → Part A → Cursor
-    → Result (V × Cursor) ContainerFault → Type 0
-ReadsInPlace value_of part cursor result =
-    MatchResult result (λ ok. IsAt part cursor (value_of ok.0) ok.1)
+abbrev pub ReadsInPlace : {A V : Type 0} → (V → A) → Part A → (cursor next : Cursor)
+    → Result V ContainerFault → Type 0
+ReadsInPlace value_of part cursor next result =
+    MatchResult result (λ kept. IsAt part cursor (value_of kept) next)
     (λ fault. part.Fails cursor.at cursor.rest.now fault)
 
 -- where a piece lies, as it is told: apart, or its tray and three forms

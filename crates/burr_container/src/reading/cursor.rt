@@ -26,12 +26,12 @@ impl<'a> Cursor<'a> {
     }
 
     /// The next bytes, so many.
-    pub fn bytes(self, count: usize) -> Result<(&'a [u8], Cursor<'a>), ContainerFault>
-        ensures small { IfOk result (λ ok. AreBytes ok.0.now) }
+    pub fn bytes(&mut self, count: usize) -> Result<&'a [u8], ContainerFault>
+        ensures small { IfOk result (λ ok. AreBytes ok.now) }
         ensures taken { MatchResult result
-            (λ ok. (length ok.0.now ≡ count)
-            × IsCut self.entry.at self.entry.rest.now ok.0.now ok.1.at ok.1.rest.now)
-            (λ fault. IsShort count self.entry.at self.entry.rest.now fault) }
+            (λ ok. (length ok.now ≡ count)
+            × IsCut self.old.at self.old.rest.now ok.now self.new.at self.new.rest.now)
+            (λ fault. IsShort count self.old.at self.old.rest.now fault) }
     {
         match self.rest.split_at_checked(count) {
             None => Err(ContainerFault::C1 {
@@ -39,48 +39,52 @@ impl<'a> Cursor<'a> {
             }),
             Some((bytes, rest)) => {
                 let at = self.at + count;
-                Ok((bytes, Cursor { at, rest }))
+                *self = Cursor { at, rest };
+                Ok(bytes)
             }
         }
     }
 
     /// The next byte.
-    pub fn byte(self) -> Result<(u8, Cursor<'a>), ContainerFault>
+    pub fn byte(&mut self) -> Result<u8, ContainerFault>
         ensures { MatchResult result
-            (λ ok. IsCut self.entry.at self.entry.rest.now (ok.0 ∷ []) ok.1.at ok.1.rest.now)
-            (λ fault. IsShort 1 self.entry.at self.entry.rest.now fault) }
+            (λ ok. IsCut self.old.at self.old.rest.now (ok ∷ []) self.new.at self.new.rest.now)
+            (λ fault. IsShort 1 self.old.at self.old.rest.now fault) }
     {
-        let (bytes, next) = self.bytes(1)?;
-        Ok((bytes[0], next))
+        let bytes = self.bytes(1)?;
+        Ok(bytes[0])
     }
 
     /// The next number of 16 bits.
-    pub fn word(self) -> Result<(u16, Cursor<'a>), ContainerFault>
+    pub fn word(&mut self) -> Result<u16, ContainerFault>
         ensures { MatchResult result
-            (λ ok. IsCut self.entry.at self.entry.rest.now (big_bytes 2 ok.0) ok.1.at ok.1.rest.now)
-            (λ fault. IsShort 2 self.entry.at self.entry.rest.now fault) }
+            (λ ok. IsCut self.old.at self.old.rest.now (big_bytes 2 ok)
+            self.new.at self.new.rest.now)
+            (λ fault. IsShort 2 self.old.at self.old.rest.now fault) }
     {
-        let (bytes, next) = self.bytes(2)?;
-        Ok((BigEndian::read_u16(bytes), next))
+        let bytes = self.bytes(2)?;
+        Ok(BigEndian::read_u16(bytes))
     }
 
     /// The next signed number of 16 bits.
-    pub fn signed(self) -> Result<(i16, Cursor<'a>), ContainerFault>
+    pub fn signed(&mut self) -> Result<i16, ContainerFault>
         ensures { MatchResult result
-            (λ ok. IsCut self.entry.at self.entry.rest.now (signed_word ok.0) ok.1.at ok.1.rest.now)
-            (λ fault. IsShort 2 self.entry.at self.entry.rest.now fault) }
+            (λ ok. IsCut self.old.at self.old.rest.now (signed_word ok)
+            self.new.at self.new.rest.now)
+            (λ fault. IsShort 2 self.old.at self.old.rest.now fault) }
     {
-        let (bytes, next) = self.bytes(2)?;
-        Ok((BigEndian::read_i16(bytes), next))
+        let bytes = self.bytes(2)?;
+        Ok(BigEndian::read_i16(bytes))
     }
 
     /// The next number of 32 bits.
-    pub fn long(self) -> Result<(u32, Cursor<'a>), ContainerFault>
+    pub fn long(&mut self) -> Result<u32, ContainerFault>
         ensures { MatchResult result
-            (λ ok. IsCut self.entry.at self.entry.rest.now (big_bytes 4 ok.0) ok.1.at ok.1.rest.now)
-            (λ fault. IsShort 4 self.entry.at self.entry.rest.now fault) }
+            (λ ok. IsCut self.old.at self.old.rest.now (big_bytes 4 ok)
+            self.new.at self.new.rest.now)
+            (λ fault. IsShort 4 self.old.at self.old.rest.now fault) }
     {
-        let (bytes, next) = self.bytes(4)?;
-        Ok((BigEndian::read_u32(bytes), next))
+        let bytes = self.bytes(4)?;
+        Ok(BigEndian::read_u32(bytes))
     }
 }

@@ -10,85 +10,91 @@ use crate::reading::cursor::Cursor;
 use burr_code::limits::TRAYS;
 
 /// A byte within a range, both ends in it; else C4 at it.
-pub fn byte_within(
-    cursor: Cursor<'_>,
-    low: u8,
-    high: u8,
-) -> Result<(u8, Cursor<'_>), ContainerFault>
-    ensures { Reads (number 1 C4_at (λ n. nat_le low n && nat_le n high)) cursor.entry result }
+pub fn byte_within(cursor: &mut Cursor<'_>, low: u8, high: u8) -> Result<u8, ContainerFault>
+    ensures { Reads (number 1 C4_at (λ n. nat_le low n && nat_le n high))
+        cursor.old cursor.new result }
 {
-    let (byte, next) = cursor.byte()?;
+    let at = cursor.at;
+    let byte = cursor.byte()?;
     if byte < low || high < byte {
-        return Err(ContainerFault::C4 { at: cursor.at });
+        return Err(ContainerFault::C4 { at });
     }
-    Ok((byte, next))
+    Ok(byte)
 }
 
 /// A count of one byte within a range, both ends in it; else C4 at it.
 pub fn count_within(
-    cursor: Cursor<'_>,
+    cursor: &mut Cursor<'_>,
     low: usize,
     high: usize,
-) -> Result<(usize, Cursor<'_>), ContainerFault>
-    ensures { Reads (number 1 C4_at (λ n. nat_le low n && nat_le n high)) cursor.entry result }
+) -> Result<usize, ContainerFault>
+    ensures { Reads (number 1 C4_at (λ n. nat_le low n && nat_le n high))
+        cursor.old cursor.new result }
 {
-    let (byte, next) = cursor.byte()?;
+    let at = cursor.at;
+    let byte = cursor.byte()?;
     let count = usize::from(byte);
     if count < low || high < count {
-        return Err(ContainerFault::C4 { at: cursor.at });
+        return Err(ContainerFault::C4 { at });
     }
-    Ok((count, next))
+    Ok(count)
 }
 
 /// A number of 16 bits within a range, both ends in it; else C4 at it.
 pub fn word_within(
-    cursor: Cursor<'_>,
+    cursor: &mut Cursor<'_>,
     low: usize,
     high: usize,
-) -> Result<(usize, Cursor<'_>), ContainerFault>
-    ensures { Reads (number 2 C4_at (λ n. nat_le low n && nat_le n high)) cursor.entry result }
+) -> Result<usize, ContainerFault>
+    ensures { Reads (number 2 C4_at (λ n. nat_le low n && nat_le n high))
+        cursor.old cursor.new result }
 {
-    let (word, next) = cursor.word()?;
+    let at = cursor.at;
+    let word = cursor.word()?;
     let number = usize::from(word);
     if number < low || high < number {
-        return Err(ContainerFault::C4 { at: cursor.at });
+        return Err(ContainerFault::C4 { at });
     }
-    Ok((number, next))
+    Ok(number)
 }
 
 /// The number of a tray.
-pub fn tray(cursor: Cursor<'_>) -> Result<(u8, Cursor<'_>), ContainerFault>
-    ensures { Reads (number 1 C4_at is_tray) cursor.entry result }
+pub fn tray(cursor: &mut Cursor<'_>) -> Result<u8, ContainerFault>
+    ensures { Reads (number 1 C4_at is_tray) cursor.old cursor.new result }
 {
-    let (tray, next) = cursor.byte()?;
+    let at = cursor.at;
+    let tray = cursor.byte()?;
     if TRAYS <= tray {
-        return Err(ContainerFault::C4 { at: cursor.at });
+        return Err(ContainerFault::C4 { at });
     }
-    Ok((tray, next))
+    Ok(tray)
 }
 
 /// A set of some of the pieces.
-pub fn piece_set(layout: Layout, cursor: Cursor<'_>) -> Result<(u32, Cursor<'_>), ContainerFault>
-    ensures { Reads (number 4 C4_at (is_set_of layout.pieces)) cursor.entry result }
+pub fn piece_set(layout: Layout, cursor: &mut Cursor<'_>) -> Result<u32, ContainerFault>
+    ensures { Reads (number 4 C4_at (is_set_of layout.pieces)) cursor.old cursor.new result }
 {
-    let (set, next) = cursor.long()?;
+    let at = cursor.at;
+    let set = cursor.long()?;
     if u64::from(set) >= 1u64 << layout.pieces {
-        return Err(ContainerFault::C4 { at: cursor.at });
+        return Err(ContainerFault::C4 { at });
     }
-    Ok((set, next))
+    Ok(set)
 }
 
 /// The range of a live slot: two numbers of -32,767 to 32,767, the lower first.
-pub fn range(cursor: Cursor<'_>) -> Result<((i16, i16), Cursor<'_>), ContainerFault>
-    ensures { Reads range_part cursor.entry result }
+pub fn range(cursor: &mut Cursor<'_>) -> Result<(i16, i16), ContainerFault>
+    ensures { Reads range_part cursor.old cursor.new result }
 {
-    let (low, after_low) = cursor.signed()?;
+    let low_at = cursor.at;
+    let low = cursor.signed()?;
     if low == i16::MIN {
-        return Err(ContainerFault::C4 { at: cursor.at });
+        return Err(ContainerFault::C4 { at: low_at });
     }
-    let (high, next) = after_low.signed()?;
+    let high_at = cursor.at;
+    let high = cursor.signed()?;
     if high < low {
-        return Err(ContainerFault::C4 { at: after_low.at });
+        return Err(ContainerFault::C4 { at: high_at });
     }
-    Ok(((low, high), next))
+    Ok((low, high))
 }

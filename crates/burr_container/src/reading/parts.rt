@@ -19,211 +19,207 @@ use burr_code::limits::{MOST_BUDGET, MOST_CODE, MOST_LABELS, MOST_PARAMETERS};
 use burr_text::is_name;
 
 /// The header: magic, version, budget, pieces and name.
-pub fn header(cursor: Cursor<'_>) -> Result<(Header<'_>, Cursor<'_>), ContainerFault>
-    ensures few { IfOk result (λ ok. ok.0.pieces ≤ 32) }
-    ensures reads { ReadsHeader cursor.entry result }
+pub fn header<'a>(cursor: &mut Cursor<'a>) -> Result<Header<'a>, ContainerFault>
+    ensures few { IfOk result (λ ok. ok.pieces ≤ 32) }
+    ensures reads { ReadsHeader cursor.old cursor.new result }
 {
-    let after_magic = magic(cursor)?;
-    let (version, after_version) = version(after_magic)?;
-    let (budget, after_budget) = budget(after_version)?;
-    let (pieces, after_pieces) = byte_within(after_budget, 2, 32)?;
-    let (name, after_name) = name(after_pieces)?;
-    let header = Header {
+    magic(cursor)?;
+    let version = version(cursor)?;
+    let budget = budget(cursor)?;
+    let pieces = byte_within(cursor, 2, 32)?;
+    let name = name(cursor)?;
+    Ok(Header {
         version,
         budget,
         pieces,
         name,
-    };
-    Ok((header, after_name))
+    })
 }
 
 /// The bytes that each container begins with; else C2 at them.
-fn magic(cursor: Cursor<'_>) -> Result<Cursor<'_>, ContainerFault>
-    ensures { GoesOver (raw 4 C2_at is_magic) cursor.entry result }
+fn magic(cursor: &mut Cursor<'_>) -> Result<(), ContainerFault>
+    ensures { GoesOver (raw 4 C2_at is_magic) cursor.old cursor.new result }
 {
-    let (magic, next) = cursor.bytes(4)?;
+    let at = cursor.at;
+    let magic = cursor.bytes(4)?;
     if magic != b"BPLN".as_slice() {
-        return Err(ContainerFault::C2 { at: cursor.at });
+        return Err(ContainerFault::C2 { at });
     }
-    Ok(next)
+    Ok(())
 }
 
 /// The version, which is 1 or 2; else C3 at it.
-fn version(cursor: Cursor<'_>) -> Result<(u16, Cursor<'_>), ContainerFault>
-    ensures { Reads (number 2 C3_at is_version) cursor.entry result }
+fn version(cursor: &mut Cursor<'_>) -> Result<u16, ContainerFault>
+    ensures { Reads (number 2 C3_at is_version) cursor.old cursor.new result }
 {
-    let (version, next) = cursor.word()?;
+    let at = cursor.at;
+    let version = cursor.word()?;
     if version != 1 && version != 2 {
-        return Err(ContainerFault::C3 { at: cursor.at });
+        return Err(ContainerFault::C3 { at });
     }
-    Ok((version, next))
+    Ok(version)
 }
 
 /// The budget.
-fn budget(cursor: Cursor<'_>) -> Result<(u32, Cursor<'_>), ContainerFault>
-    ensures { Reads (number 4 C4_at is_budget) cursor.entry result }
+fn budget(cursor: &mut Cursor<'_>) -> Result<u32, ContainerFault>
+    ensures { Reads (number 4 C4_at is_budget) cursor.old cursor.new result }
 {
-    let (budget, next) = cursor.long()?;
+    let at = cursor.at;
+    let budget = cursor.long()?;
     if budget < 1 || MOST_BUDGET < budget {
-        return Err(ContainerFault::C4 { at: cursor.at });
+        return Err(ContainerFault::C4 { at });
     }
-    Ok((budget, next))
+    Ok(budget)
 }
 
 /// A name, with its length in front of it.
-fn name(cursor: Cursor<'_>) -> Result<(&[u8], Cursor<'_>), ContainerFault>
-    ensures { ReadsInPlace (λ name. name.now) name_part cursor.entry result }
+fn name<'a>(cursor: &mut Cursor<'a>) -> Result<&'a [u8], ContainerFault>
+    ensures { ReadsInPlace (λ name. name.now) name_part cursor.old cursor.new result }
 {
-    let (length, after_length) = count_within(cursor, 1, 32)?;
-    name_text(length, after_length)
+    let length = count_within(cursor, 1, 32)?;
+    name_text(length, cursor)
 }
 
 /// A name of so many bytes; else C4 at it.
-fn name_text(length: usize, cursor: Cursor<'_>) -> Result<(&[u8], Cursor<'_>), ContainerFault>
-    ensures { ReadsInPlace (λ name. name.now) (raw length C4_at is_name_text) cursor.entry result }
+fn name_text<'a>(length: usize, cursor: &mut Cursor<'a>) -> Result<&'a [u8], ContainerFault>
+    ensures { ReadsInPlace (λ name. name.now) (raw length C4_at is_name_text)
+        cursor.old cursor.new result }
 {
-    let (name, next) = cursor.bytes(length)?;
+    let at = cursor.at;
+    let name = cursor.bytes(length)?;
     if !is_name(name) {
-        return Err(ContainerFault::C4 { at: cursor.at });
+        return Err(ContainerFault::C4 { at });
     }
-    Ok((name, next))
+    Ok(name)
 }
 
 /// Main: it has no parameters, no results and no exit frame.
-pub fn main_procedure(
+pub fn main_procedure<'a>(
     layout: Layout,
-    cursor: Cursor<'_>,
-) -> Result<(StoredProcedure<'_>, Cursor<'_>), ContainerFault>
+    cursor: &mut Cursor<'a>,
+) -> Result<StoredProcedure<'a>, ContainerFault>
     ensures { ReadsAs (IsProcedure layout.pieces)
-        (procedure_part layout.version layout.pieces true) cursor.entry result }
+        (procedure_part layout.version layout.pieces true) cursor.old cursor.new result }
 {
-    let (parameters, after_parameters) = byte_within(cursor, 0, 0)?;
-    let (results, after_results) = result_count(layout, true, after_parameters)?;
-    let ((labels, code), next) = body(layout, after_results)?;
-    let procedure = StoredProcedure {
+    let parameters = byte_within(cursor, 0, 0)?;
+    let results = result_count(layout, true, cursor)?;
+    let (labels, code) = body(layout, cursor)?;
+    Ok(StoredProcedure {
         parameters,
         results,
         exit: None,
         labels,
         code,
-    };
-    Ok((procedure, next))
+    })
 }
 
 /// A procedure other than main.
-pub fn other_procedure(
+pub fn other_procedure<'a>(
     layout: Layout,
-    cursor: Cursor<'_>,
-) -> Result<(StoredProcedure<'_>, Cursor<'_>), ContainerFault>
+    cursor: &mut Cursor<'a>,
+) -> Result<StoredProcedure<'a>, ContainerFault>
     ensures { ReadsAs (IsProcedure layout.pieces)
-        (procedure_part layout.version layout.pieces false) cursor.entry result }
+        (procedure_part layout.version layout.pieces false) cursor.old cursor.new result }
 {
-    let (parameters, after_parameters) = byte_within(cursor, 0, MOST_PARAMETERS)?;
-    let (results, after_results) = result_count(layout, false, after_parameters)?;
-    let (exit, after_exit) = exit_frame(layout, parameters, results, after_results)?;
-    let ((labels, code), next) = body(layout, after_exit)?;
-    let procedure = StoredProcedure {
+    let parameters = byte_within(cursor, 0, MOST_PARAMETERS)?;
+    let results = result_count(layout, false, cursor)?;
+    let exit = exit_frame(layout, parameters, results, cursor)?;
+    let (labels, code) = body(layout, cursor)?;
+    Ok(StoredProcedure {
         parameters,
         results,
         exit: Some(exit),
         labels,
         code,
-    };
-    Ok((procedure, next))
+    })
 }
 
 /// How many results a procedure has, which version 2 alone tells.
-fn result_count(
-    layout: Layout,
-    main: bool,
-    cursor: Cursor<'_>,
-) -> Result<(u8, Cursor<'_>), ContainerFault>
-    ensures few { IfOk result (λ ok. ok.0 ≤ 2) }
-    ensures reads { Reads (result_count_part layout.version main) cursor.entry result }
+fn result_count(layout: Layout, main: bool, cursor: &mut Cursor<'_>) -> Result<u8, ContainerFault>
+    ensures few { IfOk result (λ ok. ok ≤ 2) }
+    ensures reads { Reads (result_count_part layout.version main) cursor.old cursor.new result }
 {
     if !layout.has_results() {
-        return Ok((0, cursor));
+        return Ok(0);
     }
     byte_within(cursor, 0, layout.most_results(main))
 }
 
 /// What follows the parameters, the results and the exit frame of a procedure: its labels and its
 /// code.
-fn body(
+fn body<'a>(
     layout: Layout,
-    cursor: Cursor<'_>,
-) -> Result<((LabelTable<'_>, &[u8]), Cursor<'_>), ContainerFault>
-    ensures { ReadsAs (IsBody layout.pieces) (body_part layout.pieces) cursor.entry result }
+    cursor: &mut Cursor<'a>,
+) -> Result<(LabelTable<'a>, &'a [u8]), ContainerFault>
+    ensures { ReadsAs (IsBody layout.pieces) (body_part layout.pieces)
+        cursor.old cursor.new result }
 {
-    let ((labels, last), after_labels) = labels(layout, cursor)?;
-    let (code, next) = code(last, after_labels)?;
-    Ok(((labels, code), next))
+    let (labels, last) = labels(layout, cursor)?;
+    let code = code(last, cursor)?;
+    Ok((labels, code))
 }
 
 /// The labels of a procedure, and the position of the last one.
-fn labels(
+fn labels<'a>(
     layout: Layout,
-    cursor: Cursor<'_>,
-) -> Result<((LabelTable<'_>, Option<u16>), Cursor<'_>), ContainerFault>
-    ensures { ReadsAs (AreLabels layout.pieces) (labels_part layout.pieces) cursor.entry result }
+    cursor: &mut Cursor<'a>,
+) -> Result<(LabelTable<'a>, Option<u16>), ContainerFault>
+    ensures { ReadsAs (AreLabels layout.pieces) (labels_part layout.pieces)
+        cursor.old cursor.new result }
 {
-    let (count, after_count) = word_within(cursor, 1, MOST_LABELS)?;
-    let bytes = after_count.rest;
+    let count = word_within(cursor, 1, MOST_LABELS)?;
+    let first = *cursor;
     let mut begins = ArrayVec::new();
     let mut last = None;
-    let mut cursor = after_count;
     for _ in 0..count {
-        let (position, next) = label(last, layout, cursor)?;
-        begins.push((cursor.at - after_count.at) as u32);
+        let begin = cursor.at;
+        let position = label(last, layout, cursor)?;
+        begins.push((begin - first.at) as u32);
         last = Some(position);
-        cursor = next;
     }
     let table = LabelTable {
         layout,
-        bytes,
+        bytes: first.rest,
         begins,
     };
-    Ok(((table, last), cursor))
+    Ok((table, last))
 }
 
 /// A label after the one at `last`: its position.
-fn label(
-    last: Option<u16>,
-    layout: Layout,
-    cursor: Cursor<'_>,
-) -> Result<(u16, Cursor<'_>), ContainerFault>
+fn label(last: Option<u16>, layout: Layout, cursor: &mut Cursor<'_>) -> Result<u16, ContainerFault>
     ensures { ReadsAs (λ position l. position ≡ l.0)
-        (label_part (is_next_label last) layout.pieces) cursor.entry result }
+        (label_part (is_next_label last) layout.pieces) cursor.old cursor.new result }
 {
-    let (position, after_position) = position(last, cursor)?;
-    let (_frame, next) = frame(layout, after_position)?;
-    Ok((position, next))
+    let position = position(last, cursor)?;
+    let _frame = frame(layout, cursor)?;
+    Ok(position)
 }
 
 /// The position of the label after the one at `last`: the first is at 0, each later one rises.
-fn position(last: Option<u16>, cursor: Cursor<'_>) -> Result<(u16, Cursor<'_>), ContainerFault>
-    ensures { Reads (number 2 C5_at (is_next_label last)) cursor.entry result }
+fn position(last: Option<u16>, cursor: &mut Cursor<'_>) -> Result<u16, ContainerFault>
+    ensures { Reads (number 2 C5_at (is_next_label last)) cursor.old cursor.new result }
 {
-    let (position, next) = cursor.word()?;
+    let at = cursor.at;
+    let position = cursor.word()?;
     let rises = match last {
         None => position == 0,
         Some(last) => last < position,
     };
     if !rises {
-        return Err(ContainerFault::C5 { at: cursor.at });
+        return Err(ContainerFault::C5 { at });
     }
-    Ok((position, next))
+    Ok(position)
 }
 
 /// The code, with its length in front of it, in which the last label stands here.
-fn code(last: Option<u16>, cursor: Cursor<'_>) -> Result<(&[u8], Cursor<'_>), ContainerFault>
-    ensures { ReadsInPlace (λ code. code.now) (code_part last) cursor.entry result }
+fn code<'a>(last: Option<u16>, cursor: &mut Cursor<'a>) -> Result<&'a [u8], ContainerFault>
+    ensures { ReadsInPlace (λ code. code.now) (code_part last) cursor.old cursor.new result }
 {
     let least = match last {
         None => 0,
         Some(last) => usize::from(last) + 1,
     };
-    let (length, after_length) = word_within(cursor, least, MOST_CODE)?;
-    let (code, next) = after_length.bytes(length)?;
-    Ok((code, next))
+    let length = word_within(cursor, least, MOST_CODE)?;
+    let code = cursor.bytes(length)?;
+    Ok(code)
 }

@@ -16,9 +16,9 @@ returns-clause-label c = λ ls l are at.
     let kept : ℕ × Frame = (c.in-Ok.label.0, frame_of c.in-Ok.label.1) in
     let there = for_get (IsLabel pieces) c.args.self.now.starts ls c.args.n c.begin.result.rest.now l are c.begin.ensures.begin at in
     let here =
-    subst (λ (n : ℕ). IsAt (label (λ position. true) n) c.begin.result kept c.in-Ok._next) (ap (λ (l : Layout). l.pieces) c.layout.ensures)
+    subst (λ (n : ℕ). IsAt (label (λ position. true) n) c.begin.result kept c.label.new.cursor) (ap (λ (l : Layout). l.pieces) c.layout.ensures)
     c.in-Ok.ensures.reads in
-    let same = label_is pieces c.args.self.now.layout.few c.begin.result c.in-Ok._next kept l c.begin.result.rest.now refl here there in
+    let same = label_is pieces c.args.self.now.layout.few c.begin.result c.label.new.cursor kept l c.begin.result.rest.now refl here there in
     (ap (λ (v : ℕ × Frame). v.0) same, ap (λ (v : ℕ × Frame). v.1) same)
 
 pub unreachable-requires : goal.unreachable-requires

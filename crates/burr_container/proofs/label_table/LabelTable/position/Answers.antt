@@ -6,7 +6,7 @@ use Rattle.burr_container.proofs.label_table.LabelTable.position.Goals as goal
 
 pub returns : goal.returns
 returns c = λ pieces ls l are at.
-    position_is pieces c.begin.result c.in-Ok._next c.in-Ok.position l c.begin.result.rest.now refl c.in-Ok.ensures
+    position_is pieces c.begin.result c.any_position.new.cursor c.in-Ok.position l c.begin.result.rest.now refl c.in-Ok.ensures
     (for_get (IsLabel pieces) c.args.self.now.starts ls c.args.n c.begin.result.rest.now l are c.begin.ensures.begin at)
 
 pub unreachable-requires : goal.unreachable-requires

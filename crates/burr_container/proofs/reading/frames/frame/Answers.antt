@@ -1,10 +1,22 @@
 -- The parts of a frame stand one after the other.
-use Rattle.std.proofs.Common.{◌∙◌, arith}
+use Rattle.std.proofs.Common.{◌∙◌, arith, inl}
 use Rattle.std.proofs.lemmas.Result.{err_from_is_err_and}
 use Rattle.burr_code.specs.declared.limits.TheConstants.{MOST_GUARDS, MOST_OPERANDS}
+use Rattle.burr_container.proofs.Common.Frames.{slots_fail}
 use Rattle.burr_container.proofs.PlaceWalk.{few_forms}
-use Rattle.burr_container.proofs.FramesRead.{slots_fail_in_frame, guards_fail_in_frame, stack_fails_in_frame, cost_fails_in_frame, places_fail_in_frame, frame_at}
+use Rattle.burr_container.proofs.FramesRead.{set_fails, slots_fail_in_frame, guards_fail_in_frame, stack_fails_in_frame, cost_fails_in_frame, places_fail_in_frame, frame_at}
 use Rattle.burr_container.proofs.reading.frames.frame.Goals as goal
+
+pub returns-in_err-tray-clause-reads : goal.returns-in_err-tray-clause-reads
+returns-in_err-tray-clause-reads c =
+    let p = err_from_is_err_and c.from_residual.result c.from_residual.ensures.1 in
+    rw (p.1, p.2) (inl c.in_err-tray.ensures)
+
+pub returns-in_err-grip-clause-reads : goal.returns-in_err-grip-clause-reads
+returns-in_err-grip-clause-reads c =
+    let p = err_from_is_err_and c.from_residual-in_err-grip.result c.from_residual-in_err-grip.ensures.1 in
+    rw (p.1, p.2)
+    (set_fails c.args.layout.pieces _ _ _ c.in_ok-tray.ensures (slots_fail c.args.layout.pieces) _ c.in_err-grip.ensures)
 
 pub returns-in_err-slots-clause-reads : goal.returns-in_err-slots-clause-reads
 returns-in_err-slots-clause-reads c =
@@ -45,8 +57,8 @@ returns-clause-reads c =
     frame_at _ _ _ _ _ _ c.in_ok-tray.ensures c.in_ok-grip.ensures _ _ c.live_slots-live.ensures _ c.in_ok-slots.ensures _ _
     c.in_ok-guards.ensures.reads _ _ c.in_ok-stack.ensures.reads _ _ c.in_ok-cost.ensures.reads _ _ c.in_ok-places.ensures.reads
 
-pub invariant_of-frame : goal.invariant_of-frame
-invariant_of-frame c =
+pub invariant_of-result : goal.invariant_of-result
+invariant_of-result c =
     let live = c.live_slots-live.ensures in
     let guards = c.in_ok-guards.guards in
     let stack = c.in_ok-stack.stack in

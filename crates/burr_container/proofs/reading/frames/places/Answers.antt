@@ -9,19 +9,19 @@ use Rattle.burr_container.proofs.reading.frames.places.Goals as goal
 
 pub loop-preserved : goal.loop-preserved
 loop-preserved c =
-    let place = c.in_ok-cursor.ensures.reads in
-    places_go_on c.args.live c.args.layout.pieces c.loop.counter c.args.cursor c.loop.cursor c.in_ok-cursor.cursor place.0 (omega arith) c.loop.invariant
-    c.in_ok-cursor.ensures.over place.1
+    let place = c.in_ok-place.ensures.reads in
+    places_go_on c.args.live c.args.layout.pieces c.loop.counter c.args.cursor.now c.loop.cursor c.place.new.cursor place.0 (omega arith) c.loop.invariant
+    c.in_ok-place.ensures.over place.1
 
-pub returns-in_err-cursor-clause-reads : goal.returns-in_err-cursor-clause-reads
-returns-in_err-cursor-clause-reads c =
+pub returns-in_err-place-clause-reads : goal.returns-in_err-place-clause-reads
+returns-in_err-place-clause-reads c =
     let p = err_from_is_err_and c.from_residual.result c.from_residual.ensures.1 in
     rw (p.1, p.2)
-    (each_fails (place c.args.live) c.args.layout.pieces c.args.cursor c.loop.counter c.loop.cursor _ (omega arith) c.loop.invariant.walk c.in_err-cursor.ensures.reads)
+    (each_fails (place c.args.live) c.args.layout.pieces c.args.cursor.now c.loop.counter c.loop.cursor _ (omega arith) c.loop.invariant.walk c.in_err-place.ensures.reads)
 
 pub returns-clause-reads : goal.returns-clause-reads
 returns-clause-reads c =
     let all =
-    each_ends (place c.args.live) c.args.layout.pieces c.args.cursor c.loop.counter c.loop.cursor (omega arith) c.loop.invariant.walk in
+    each_ends (place c.args.live) c.args.layout.pieces c.args.cursor.now c.loop.counter c.loop.cursor (omega arith) c.loop.invariant.walk in
     rw c.from-count.ensures
-    (places_at c.args.layout.pieces c.args.live c.args.cursor c.loop.cursor all.0 all.1 c.loop.invariant.walk.after)
+    (places_at c.args.layout.pieces c.args.live c.args.cursor.now c.loop.cursor all.0 all.1 c.loop.invariant.walk.after)

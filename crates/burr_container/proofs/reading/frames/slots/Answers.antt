@@ -10,13 +10,13 @@ use Rattle.burr_container.proofs.reading.frames.slots.Goals as goal
 
 pub returns-in_err-range : goal.returns-in_err-range
 returns-in_err-range c =
-    let first = c.in_ok-mask.after_mask in
+    let first = c.byte.new.self in
     let head =
-    byte_at C4 (λ _. true) c.args.cursor first c.in_ok-mask.mask (search rules) refl c.in_ok-mask.ensures in
+    byte_at C4 (λ _. true) c.args.cursor.now first c.in_ok-mask.mask (search rules) refl c.in_ok-mask.ensures in
     let fails =
     walk_fails first c.loop-v.cursor c.in_ok-mask.mask c.loop-v.v c.loop-v.bits c.loop-v.slots (omega arith)
     c.loop-v.invariant _ (omega (arith, c.if-bits-eq1.true)) c.in_err-range.ensures in
-    let all = then_fails (number 1 C4 (λ _. true)) c.args.cursor first c.in_ok-mask.mask (λ mask. RangesFail (bits 8 mask)) _ head fails in
+    let all = then_fails (number 1 C4 (λ _. true)) c.args.cursor.now first c.in_ok-mask.mask (λ mask. RangesFail (bits 8 mask)) _ head fails in
     let p = err_from_is_err_and c.from_residual-in_err-range.result c.from_residual-in_err-range.ensures.1 in
     rw (p.1, p.2) all
 
@@ -25,19 +25,19 @@ loop-v-preserved c =
     elim c.if-bits-eq1.branch [
       | then-bits-eq1+in_ok-range w ↦
           rw (w.slots-is, w.cursor-is)
-          (walk_live c.in_ok-mask.after_mask c.loop-v.cursor c.in_ok-mask.mask c.loop-v.v c.loop-v.bits c.loop-v.slots (omega arith)
+          (walk_live c.byte.new.self c.loop-v.cursor c.in_ok-mask.mask c.loop-v.v c.loop-v.bits c.loop-v.slots (omega arith)
           c.loop-v.invariant _ _ (omega (arith, w.if-bits-eq1)) w.in_ok-range.ensures)
       | else-bits-eq1 w ↦
           rw (w.slots-is, w.cursor-is)
-          (walk_dead c.in_ok-mask.after_mask c.loop-v.cursor c.in_ok-mask.mask c.loop-v.v c.loop-v.bits c.loop-v.slots (omega arith)
+          (walk_dead c.byte.new.self c.loop-v.cursor c.in_ok-mask.mask c.loop-v.v c.loop-v.bits c.loop-v.slots (omega arith)
           c.loop-v.invariant (search rules))
     ]
 
 pub returns : goal.returns
 returns c =
-    let first = c.in_ok-mask.after_mask in
+    let first = c.byte.new.self in
     let head =
-    byte_at C4 (λ _. true) c.args.cursor first c.in_ok-mask.mask (search rules) refl c.in_ok-mask.ensures in
-    slots_at c.args.cursor first c.loop-v.cursor c.in_ok-mask.mask c.loop-v.slots head
+    byte_at C4 (λ _. true) c.args.cursor.now first c.in_ok-mask.mask (search rules) refl c.in_ok-mask.ensures in
+    slots_at c.args.cursor.now first c.loop-v.cursor c.in_ok-mask.mask c.loop-v.slots head
     (walk_ends first c.loop-v.cursor c.in_ok-mask.mask c.loop-v.v c.loop-v.bits c.loop-v.slots (omega arith) c.loop-v.invariant)
     c.loop-v.invariant.after

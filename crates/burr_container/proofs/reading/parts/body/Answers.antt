@@ -14,13 +14,13 @@ returns-in_err-code c =
     let labels = c.in_ok-labels.ensures in
     let p = err_from_is_err_and c.from_residual-in_err-code.result c.from_residual-in_err-code.ensures.1 in
     rw (p.1, p.2)
-    (code_fails c.args.layout.pieces c.args.cursor c.in_ok-labels.after_labels labels.0 c.in_ok-labels.last labels.1.last labels.2 _ c.in_err-code.ensures)
+    (code_fails c.args.layout.pieces c.args.cursor.now c.labels.new.cursor labels.0 c.in_ok-labels.last labels.1.last labels.2 _ c.in_err-code.ensures)
 
 pub returns : goal.returns
 returns c =
     let labels = c.in_ok-labels.ensures in (
       (labels.0, c.in_ok-code.code.now),
       record { of_plan = labels.1.of_plan; labels = labels.1.labels; code = refl },
-      body_at c.args.layout.pieces c.args.cursor c.in_ok-labels.after_labels labels.0 c.in_ok-labels.last labels.1.last labels.2 c.in_ok-code.next
+      body_at c.args.layout.pieces c.args.cursor.now c.labels.new.cursor labels.0 c.in_ok-labels.last labels.1.last labels.2 c.code.new.cursor
           c.in_ok-code.code.now c.in_ok-code.ensures,
     )

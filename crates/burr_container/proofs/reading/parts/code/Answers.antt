@@ -9,5 +9,5 @@ returns c =
     let took = c.in_ok-code.ensures in
     let least : c.match-last.least ≡ least_above c.args.last =
     elim c.match-last.branch [ in-None w ↦ rw (w.least-is, w.in-None.is) refl | in-Some w ↦ rw (w.least-is, w.in-Some.is) (search rules) ] in
-    code_at c.args.last c.match-last.least c.in_ok-length.length c.args.cursor c.in_ok-length.after_length c.in_ok-code.next c.in_ok-code.code.now least
+    code_at c.args.last c.match-last.least c.in_ok-length.length c.args.cursor.now c.word_within.new.cursor c.bytes.new.self c.in_ok-code.code.now least
     c.in_ok-length.ensures took.taken.0 took.small took.taken.1

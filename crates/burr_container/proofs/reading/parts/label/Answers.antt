@@ -10,13 +10,13 @@ pub returns-in_err-_frame : goal.returns-in_err-_frame
 returns-in_err-_frame c =
     let p = err_from_is_err_and c.from_residual-in_err-_frame.result c.from_residual-in_err-_frame.ensures.1 in
     rw (p.1, p.2)
-    (label_fails (is_next_label c.args.last) c.args.layout.pieces c.in_ok-position.position c.args.cursor c.in_ok-position.after_position _ c.in_ok-position.ensures
+    (label_fails (is_next_label c.args.last) c.args.layout.pieces c.in_ok-position.position c.args.cursor.now c.position.new.cursor _ c.in_ok-position.ensures
     c.in_err-_frame.ensures.reads)
 
 pub returns : goal.returns
 returns c = (
   (c.in_ok-position.position, frame_of c.in_ok-_frame._frame),
   refl,
-  label_at (is_next_label c.args.last) c.args.layout.pieces c.in_ok-position.position (frame_of c.in_ok-_frame._frame) c.args.cursor
-      c.in_ok-position.after_position c.in_ok-_frame.next c.in_ok-position.ensures c.in_ok-_frame.ensures.reads,
+  label_at (is_next_label c.args.last) c.args.layout.pieces c.in_ok-position.position (frame_of c.in_ok-_frame._frame) c.args.cursor.now
+      c.position.new.cursor c.frame.new.cursor c.in_ok-position.ensures c.in_ok-_frame.ensures.reads,
 )

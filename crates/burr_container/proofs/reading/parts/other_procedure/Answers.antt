@@ -10,23 +10,23 @@ pub returns-in_err-results : goal.returns-in_err-results
 returns-in_err-results c =
     let p = err_from_is_err_and c.from_residual-in_err-results.result c.from_residual-in_err-results.ensures.1 in
     rw (p.1, p.2)
-    (count_fails c.args.layout.version c.args.layout.pieces false c.in_ok-parameters.parameters c.args.cursor c.in_ok-parameters.after_parameters _
-    (other_head c.in_ok-parameters.parameters c.args.cursor c.in_ok-parameters.after_parameters c.in_ok-parameters.ensures) c.in_err-results.ensures.reads)
+    (count_fails c.args.layout.version c.args.layout.pieces false c.in_ok-parameters.parameters c.args.cursor.now c.byte_within.new.cursor _
+    (other_head c.in_ok-parameters.parameters c.args.cursor.now c.byte_within.new.cursor c.in_ok-parameters.ensures) c.in_err-results.ensures.reads)
 
 pub returns-in_err-exit : goal.returns-in_err-exit
 returns-in_err-exit c =
     let p = err_from_is_err_and c.from_residual-in_err-exit.result c.from_residual-in_err-exit.ensures.1 in
     rw (p.1, p.2)
-    (exit_frame_fails c.args.layout.version c.args.layout.pieces c.in_ok-parameters.parameters c.in_ok-results.results c.args.cursor c.in_ok-parameters.after_parameters
-    c.in_ok-results.after_results c.in_ok-parameters.ensures c.in_ok-results.ensures.reads _ c.in_err-exit.ensures.reads)
+    (exit_frame_fails c.args.layout.version c.args.layout.pieces c.in_ok-parameters.parameters c.in_ok-results.results c.args.cursor.now c.byte_within.new.cursor
+    c.result_count.new.cursor c.in_ok-parameters.ensures c.in_ok-results.ensures.reads _ c.in_err-exit.ensures.reads)
 
 pub returns-in_err-labels : goal.returns-in_err-labels
 returns-in_err-labels c =
     let p = err_from_is_err_and c.from_residual-in_err-labels.result c.from_residual-in_err-labels.ensures.1 in
     rw (p.1, p.2)
-    (other_body_fails c.args.layout.version c.args.layout.pieces c.in_ok-parameters.parameters c.in_ok-results.results c.args.cursor c.in_ok-parameters.after_parameters
-    c.in_ok-results.after_results c.in_ok-parameters.ensures c.in_ok-results.ensures.reads
-    (exit_frame_of c.in_ok-exit.exit) c.in_ok-exit.after_exit c.in_ok-exit.ensures.reads _ c.in_err-labels.ensures)
+    (other_body_fails c.args.layout.version c.args.layout.pieces c.in_ok-parameters.parameters c.in_ok-results.results c.args.cursor.now c.byte_within.new.cursor
+    c.result_count.new.cursor c.in_ok-parameters.ensures c.in_ok-results.ensures.reads
+    (exit_frame_of c.in_ok-exit.exit) c.exit_frame.new.cursor c.in_ok-exit.ensures.reads _ c.in_err-labels.ensures)
 
 pub returns : goal.returns
 returns c =
@@ -41,6 +41,6 @@ returns c =
         labels = body.1.labels;
         code = body.1.code;
       },
-      other_at c.args.layout.version c.args.layout.pieces c.in_ok-parameters.parameters c.in_ok-results.results c.args.cursor c.in_ok-parameters.after_parameters
-          c.in_ok-results.after_results c.in_ok-parameters.ensures c.in_ok-results.ensures.reads (exit_frame_of c.in_ok-exit.exit) c.in_ok-exit.after_exit exit.reads body.0.0 body.0.1 c.in_ok-labels.next body.2,
+      other_at c.args.layout.version c.args.layout.pieces c.in_ok-parameters.parameters c.in_ok-results.results c.args.cursor.now c.byte_within.new.cursor
+          c.result_count.new.cursor c.in_ok-parameters.ensures c.in_ok-results.ensures.reads (exit_frame_of c.in_ok-exit.exit) c.exit_frame.new.cursor exit.reads body.0.0 body.0.1 c.body.new.cursor body.2,
     )

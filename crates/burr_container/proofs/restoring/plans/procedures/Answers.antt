@@ -1,7 +1,7 @@
 -- One more procedure is read.
 use Rattle.std.proofs.Common.{◌<◌, length, sym, subst, arith}
 use Rattle.std.specs.Prelude.{slice_get, Some, ◌≡◌, ℕ}
-use Rattle.burr_container.specs.Views.Containers.{ContainerView, IsContainer, OfProcedure}
+use Rattle.burr_container.specs.Views.Containers.{ContainerView, IsContainer}
 use Rattle.burr_container.proofs.Common.ListsRead.{some_at, pushed}
 use Rattle.burr_container.proofs.restoring.plans.procedures.Goals as goal
 

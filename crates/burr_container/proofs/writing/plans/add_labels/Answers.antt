@@ -3,8 +3,12 @@ use Rattle.std.proofs.Common.{◌++◌, ◌+◌, drop, arith, [], sym, ap, ◌�
 use Rattle.std.specs.List.{flat_map}
 use Rattle.burr_container.specs.Rules.Plans.{Frame}
 use Rattle.burr_container.specs.Rules.Spelling.{label_bytes}
-use Rattle.burr_container.proofs.Written.{next_of, one_more}
+use Rattle.burr_container.specs.Views.Counts.{has_room_in_label}
+use Rattle.burr_container.proofs.Written.{next_of, one_more, each_also}
 use Rattle.burr_container.proofs.writing.plans.add_labels.Goals as goal
+
+pub add_label-requires : goal.add_label-requires
+add_label-requires c = each_also has_room_in_label c.args.labels.now c.loop-label.label-index c.label-item.result c.requires.room c.loop-label-test.true c.label-item.is
 
 pub loop-label-preserved : goal.loop-label-preserved
 loop-label-preserved c =

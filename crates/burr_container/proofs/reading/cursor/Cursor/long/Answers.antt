@@ -5,4 +5,4 @@ use Rattle.burr_container.proofs.reading.cursor.Cursor.long.Goals as goal
 pub returns : goal.returns
 returns c =
     let took = c.in_ok-bytes.ensures in
-    cut_long c.args.self.at c.args.self.rest.now c.in_ok-bytes.bytes.now c.read_u32.result _ _ took.taken.0 took.small c.read_u32.ensures took.taken.1
+    cut_long c.args.self.now.at c.args.self.now.rest.now c.in_ok-bytes.bytes.now c.read_u32.result _ _ took.taken.0 took.small c.read_u32.ensures took.taken.1

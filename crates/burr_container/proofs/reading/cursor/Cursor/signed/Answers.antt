@@ -11,4 +11,4 @@ returns c =
     let took = c.in_ok-bytes.ensures in
     let fits : FitsSigned w16 c.read_i16.result = search rules in
     rw (to_z-of_z w16 c.read_i16.result fits)
-    (cut_signed c.args.self.at c.args.self.rest.now c.in_ok-bytes.bytes.now c.read_i16.result _ _ took.taken.0 took.small c.read_i16.ensures took.taken.1)
+    (cut_signed c.args.self.now.at c.args.self.now.rest.now c.in_ok-bytes.bytes.now c.read_i16.result _ _ took.taken.0 took.small c.read_i16.ensures took.taken.1)
