@@ -2,7 +2,7 @@
 use Rattle.std.proofs.Common.{rules, ◌∙◌, sym, ap, subst, w32, FitsSigned, to_z-of_z}
 use Rattle.burr_voxels.specs.declared.cell.Cell.{Cell}
 use Rattle.burr_forms.specs.Rules.Forms.{raised, IsSmallForm}
-use Rattle.burr_frames.proofs.OnePlace.{moved_place}
+use Rattle.burr_frames.proofs.OnePlace.{moved_place, small_offset, IsOneAtMost, unit_steps}
 use Rattle.burr_frames.proofs.offset.moved.Goals as goal
 
 pub returns : goal.returns
@@ -23,3 +23,30 @@ returns c =
           (z.0 ∙ ap (λ n. raised n from.z) (to_z-of_z fits_z ∙ ap (λ (u : Cell). u.z) c.unit-unit.ensures)),
       (subst IsSmallForm (sym x.0) x.1, subst IsSmallForm (sym y.0) y.1, subst IsSmallForm (sym z.0) z.1, tt),
     )
+
+pub one_along-requires-clause-small : goal.one_along-requires-clause-small
+one_along-requires-clause-small c = (small_offset c.args.place.now c.in-On.tray c.in-On.position c.in-On.is c.requires).0
+
+pub one_along-requires-clause-one : goal.one_along-requires-clause-one
+one_along-requires-clause-one c =
+    let unit = c.unit-unit.result in
+    let fits : FitsSigned w32 unit.x = search rules in
+    subst IsOneAtMost (sym (to_z-of_z fits ∙ ap (λ (u : Cell). u.x) c.unit-unit.ensures)) (unit_steps c.args.direction).0
+
+pub one_along-requires-2-clause-small : goal.one_along-requires-2-clause-small
+one_along-requires-2-clause-small c = (small_offset c.args.place.now c.in-On.tray c.in-On.position c.in-On.is c.requires).1
+
+pub one_along-requires-2-clause-one : goal.one_along-requires-2-clause-one
+one_along-requires-2-clause-one c =
+    let unit = c.unit-unit.result in
+    let fits : FitsSigned w32 unit.y = search rules in
+    subst IsOneAtMost (sym (to_z-of_z fits ∙ ap (λ (u : Cell). u.y) c.unit-unit.ensures)) (unit_steps c.args.direction).1
+
+pub one_along-requires-3-clause-small : goal.one_along-requires-3-clause-small
+one_along-requires-3-clause-small c = (small_offset c.args.place.now c.in-On.tray c.in-On.position c.in-On.is c.requires).2
+
+pub one_along-requires-3-clause-one : goal.one_along-requires-3-clause-one
+one_along-requires-3-clause-one c =
+    let unit = c.unit-unit.result in
+    let fits : FitsSigned w32 unit.z = search rules in
+    subst IsOneAtMost (sym (to_z-of_z fits ∙ ap (λ (u : Cell). u.z) c.unit-unit.ensures)) (unit_steps c.args.direction).2
