@@ -49,3 +49,20 @@ unit_steps PlusY = (no_step, one_on, no_step)
 unit_steps MinusY = (no_step, one_back, no_step)
 unit_steps PlusZ = (no_step, no_step, one_on)
 unit_steps MinusZ = (no_step, no_step, one_back)
+
+-- one of the forms is too large once it is moved
+
+pub large_x : (direction : Direction) (tray : ℕ) (cell : FormCell) (place : Placement FormCell) → place ≡ On tray cell
+    → (¬ IsSmallForm (raised (along direction (pos 1)).x cell.x)) → ¬ AllSmallPlaces (at_position (moved_forms direction) place ∷ [])
+large_x direction tray cell place is large small =
+    large (subst (λ (p : Placement FormCell). AllSmallPlaces (at_position (moved_forms direction) p ∷ [])) is small).0
+
+pub large_y : (direction : Direction) (tray : ℕ) (cell : FormCell) (place : Placement FormCell) → place ≡ On tray cell
+    → (¬ IsSmallForm (raised (along direction (pos 1)).y cell.y)) → ¬ AllSmallPlaces (at_position (moved_forms direction) place ∷ [])
+large_y direction tray cell place is large small =
+    large (subst (λ (p : Placement FormCell). AllSmallPlaces (at_position (moved_forms direction) p ∷ [])) is small).1
+
+pub large_z : (direction : Direction) (tray : ℕ) (cell : FormCell) (place : Placement FormCell) → place ≡ On tray cell
+    → (¬ IsSmallForm (raised (along direction (pos 1)).z cell.z)) → ¬ AllSmallPlaces (at_position (moved_forms direction) place ∷ [])
+large_z direction tray cell place is large small =
+    large (subst (λ (p : Placement FormCell). AllSmallPlaces (at_position (moved_forms direction) p ∷ [])) is small).2

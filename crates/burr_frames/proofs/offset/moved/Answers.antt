@@ -1,8 +1,9 @@
 -- Each of the three forms is as much higher as the unit is long along its axis.
 use Rattle.std.proofs.Common.{rules, ◌∙◌, sym, ap, subst, w32, FitsSigned, to_z-of_z}
+use Rattle.std.proofs.lemmas.Result.{err_from_is_err_and}
 use Rattle.burr_voxels.specs.declared.cell.Cell.{Cell}
 use Rattle.burr_forms.specs.Rules.Forms.{raised, IsSmallForm}
-use Rattle.burr_frames.proofs.OnePlace.{moved_place, small_offset, IsOneAtMost, unit_steps}
+use Rattle.burr_frames.proofs.OnePlace.{moved_place, small_offset, IsOneAtMost, unit_steps, large_x, large_y, large_z}
 use Rattle.burr_frames.proofs.offset.moved.Goals as goal
 
 pub returns : goal.returns
@@ -50,3 +51,36 @@ one_along-requires-3-clause-one c =
     let unit = c.unit-unit.result in
     let fits : FitsSigned w32 unit.z = search rules in
     subst IsOneAtMost (sym (to_z-of_z fits ∙ ap (λ (u : Cell). u.z) c.unit-unit.ensures)) (unit_steps c.args.direction).2
+
+pub returns-in_err-one_along : goal.returns-in_err-one_along
+returns-in_err-one_along c =
+    let unit = c.unit-unit.result in
+    let from = c.in-On.position in
+    let fits : FitsSigned w32 unit.x = search rules in
+    let step = to_z-of_z fits ∙ ap (λ (u : Cell). u.x) c.unit-unit.ensures in
+    let r = err_from_is_err_and c.from_residual.result c.from_residual.ensures.1 in
+    rw r.1
+    (large_x c.args.direction c.in-On.tray from c.args.place.now c.in-On.is
+    (subst (λ n. ¬ IsSmallForm (raised n from.x)) step c.in_err-one_along.ensures))
+
+pub returns-in_err-one_along-2 : goal.returns-in_err-one_along-2
+returns-in_err-one_along-2 c =
+    let unit = c.unit-unit.result in
+    let from = c.in-On.position in
+    let fits : FitsSigned w32 unit.y = search rules in
+    let step = to_z-of_z fits ∙ ap (λ (u : Cell). u.y) c.unit-unit.ensures in
+    let r = err_from_is_err_and c.from_residual-in_err-one_along-2.result c.from_residual-in_err-one_along-2.ensures.1 in
+    rw r.1
+    (large_y c.args.direction c.in-On.tray from c.args.place.now c.in-On.is
+    (subst (λ n. ¬ IsSmallForm (raised n from.y)) step c.in_err-one_along-2.ensures))
+
+pub returns-in_err-one_along-3 : goal.returns-in_err-one_along-3
+returns-in_err-one_along-3 c =
+    let unit = c.unit-unit.result in
+    let from = c.in-On.position in
+    let fits : FitsSigned w32 unit.z = search rules in
+    let step = to_z-of_z fits ∙ ap (λ (u : Cell). u.z) c.unit-unit.ensures in
+    let r = err_from_is_err_and c.from_residual-in_err-one_along-3.result c.from_residual-in_err-one_along-3.ensures.1 in
+    rw r.1
+    (large_z c.args.direction c.in-On.tray from c.args.place.now c.in-On.is
+    (subst (λ n. ¬ IsSmallForm (raised n from.z)) step c.in_err-one_along-3.ensures))
