@@ -1,5 +1,5 @@
 -- The state after a call: whether there is room for its symbols, and whether its forms are small.
-use Rattle.std.proofs.Common.{◌≡◌, ◌<◌, ◌≤◌, ◌+◌, ◌++◌, ◌∙◌, List, length, map, ap, subst, refl, arith}
+use Rattle.std.proofs.Common.{◌≡◌, ◌<◌, ◌≤◌, ◌+◌, ◌++◌, ◌∙◌, List, length, map, ap, sym, subst, refl, arith}
 use Rattle.std.proofs.lemmas.List.{length-append, length-map}
 use Rattle.std.proofs.lemmas.List.Elements.{All-append, All-drop}
 use Rattle.burr_forms.specs.Rules.Forms.{Form, IsSmallForm, AllSmallForms, substituted}
@@ -9,6 +9,11 @@ use Rattle.burr_frames.specs.Rules.SpaceRules.{AllSmallPlaces}
 use Rattle.burr_frames.specs.Rules.ControlRules.{after_call, result_symbols, substituted_places, HasRoomForSymbols}
 use Rattle.burr_frames.specs.Views.CallViews.{AreFewRanges, IsSmallAfter}
 use Rattle.burr_frames.proofs.Agreement.{drop_front}
+
+-- forms that are two small lists, one after the other
+pub small_joined : (first second both given : List Form) → AllSmallForms first → AllSmallForms second → both ≡ first ++ second
+    → given ≡ both → AllSmallForms given
+small_joined first second both given small more is same = subst AllSmallForms (sym (same ∙ is)) (All-append IsSmallForm first second small more)
 
 module _ (s : AbstractState) (arguments below : List Form) (exit : FramedExit) where
   -- the forms of the exit frame's symbols
@@ -32,6 +37,9 @@ module _ (s : AbstractState) (arguments below : List Form) (exit : FramedExit) w
   pub has_room : AreFewRanges (s.ranges ++ exit.results) → length s.guards + length exit.guards ≤ 8
       → HasRoomForSymbols state
   has_room ranges few = let many = guards_many in (ranges.0, omega (arith, few, many), ranges.1)
+
+  pub large_places : (¬ AllSmallPlaces (substituted_places symbols exit.places)) → ¬ IsSmallAfter state
+  large_places large small = large small.0
 
   pub large_guards : (¬ AllSmallForms (map (substituted symbols) exit.guards)) → ¬ IsSmallAfter state
   large_guards large small =

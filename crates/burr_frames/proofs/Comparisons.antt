@@ -48,6 +48,27 @@ none_below_more point forms numbers k f v l same e is not_less none =
     subst (λ (xs : List ℤ). NoneBelow xs (take (k + 1) numbers)) (sym fronts)
     (subst (NoneBelow (values point (take k forms) ++ v ∷ [])) (sym (take_more numbers k (pos 0) (omega (arith, same, l)))) after)
 
+-- Values
+
+-- a number that is not its form's value
+pub one_unlike : (point : Point) (forms : List Form) (numbers : List ℤ) (k : ℕ) (f : Form) (v : ℤ) → k < length forms
+    → f ≡ slice_index_or forms k f → v ≡ value point f → (¬ (slice_index_or numbers k (pos 0) ≡ v))
+    → ¬ (values point forms ≡ numbers)
+one_unlike point forms numbers k f v l e is unlike same =
+    unlike
+    (sym (ap (λ (xs : List ℤ). slice_index_or xs k (pos 0)) same) ∙ get_or-map (value point) forms k f (pos 0) l
+    ∙ ap (value point) (sym e) ∙ sym is)
+
+-- number k is its form's value, and so are those before it
+pub values_more : (point : Point) (forms : List Form) (numbers : List ℤ) (k : ℕ) (f : Form) (v : ℤ) → k < length forms
+    → length numbers ≡ length forms → f ≡ slice_index_or forms k f → v ≡ value point f → slice_index_or numbers k (pos 0) ≡ v
+    → values point (take k forms) ≡ take k numbers → values point (take (k + 1) forms) ≡ take (k + 1) numbers
+values_more point forms numbers k f v l same e is here before =
+    let last : value point (slice_index_or forms k f) ≡ slice_index_or numbers k (pos 0) =
+    ap (value point) (sym e) ∙ sym is ∙ sym here in
+    map_more (value point) forms k f l ∙ (λ i. before i ++ last i ∷ [])
+    ∙ sym (take_more numbers k (pos 0) (omega (arith, same, l)))
+
 -- Boxes
 
 in_range_at : (ranges : List (ℤ × ℤ)) (numbers : List ℤ) (k : ℕ) (d : ℤ × ℤ) → InBox ranges numbers → k < length ranges

@@ -4,9 +4,11 @@ use Rattle.std.specs.Prelude.{◌-ℤ◌, nat_abs}
 use Rattle.std.specs.Int.RustNames.{unsigned_abs}
 use Rattle.std.proofs.lemmas.Int.{ints, fits_signed_from_abs}
 use Rattle.std.proofs.lemmas.Nat.{mul-le}
-use Rattle.std.proofs.lemmas.List.{drop_more}
+use Rattle.std.proofs.lemmas.List.{drop_more, drop_all}
 use Rattle.std.proofs.lemmas.List.Elements.{All-push}
 use Rattle.std.proofs.Math.Facts.{Fits-of_lt}
+use Rattle.std.proofs.Math.Dec.{T}
+use Rattle.std.specs.Int.Signed.{non_neg, yes_non_neg}
 use Rattle.burr_container.specs.Rules.Plans.{Range}
 use Rattle.burr_forms.specs.Rules.Points.{IsRange, AreRanges, box_size}
 
@@ -36,6 +38,40 @@ size_bound range is =
     let high = is.high in
     omega (arith, ints)
 
+-- the difference of a range's ends, as the code counts
+abbrev pub counted_gap : Range → ℤ
+counted_gap range = to_z w32 (of_z w32 range.1) -ℤ to_z w32 (of_z w32 range.0)
+
+gap_right : (range : Range) → IsRange range → counted_gap range ≡ range.1 -ℤ range.0
+gap_right range is =
+    let rising = is.rising in
+    let low = is.low in
+    let high = is.high in
+    let low_fits : FitsSigned w32 range.0 = fits_signed_from_abs w32 range.0 (omega (arith, ints)) in
+    let high_fits : FitsSigned w32 range.1 = fits_signed_from_abs w32 range.1 (omega (arith, ints)) in
+    λ i. to_z-of_z high_fits i -ℤ to_z-of_z low_fits i
+
+-- the difference fits, and its count of numbers
+pub gap_fits : (range : Range) → IsRange range → FitsSigned w32 (counted_gap range)
+gap_fits range is =
+    let rising = is.rising in
+    let low = is.low in
+    let high = is.high in
+    rw (gap_right range is) (fits_signed_from_abs w32 (range.1 -ℤ range.0) (omega (arith, ints)))
+
+pub gap_casts : (range : Range) → IsRange range
+    → T (non_neg (to_z w32 (of_z w32 (counted_gap range)))) × Fits w32 (nat_abs (to_z w32 (of_z w32 (counted_gap range))))
+gap_casts range is =
+    let rising = is.rising in
+    let size = size_bound range is in
+    let e : to_z w32 (of_z w32 (counted_gap range)) ≡ range.1 -ℤ range.0 = to_z-of_z (gap_fits range is) ∙ gap_right range is in
+    rw e (yes_non_neg (omega (arith, ints)), Fits-of_lt (omega arith))
+
+pub size_fits : (range : Range) → IsRange range → Fits w32 (counted_size range)
+size_fits range is =
+    let size = size_bound range is in
+    rw (counted_right range is) (Fits-of_lt (omega arith))
+
 some_point : (ranges : List Range) → 1 ≤ box_size ranges
 some_point [] = omega arith
 some_point (range ∷ ranges) = mul-le 1 1 (range_size range) (box_size ranges) (omega arith) (some_point ranges)
@@ -56,6 +92,13 @@ counted_on ranges i count d are inside e =
     ap (λ size. count * size * box_size rest) (counted_right range (are i d inside))
     ∙ mul_assoc count (range_size range) (box_size rest)
     ∙ sym (ap (λ (left : List Range). count * box_size left) (drop_more ranges i d inside)) ∙ e
+
+-- the product with all ranges is the box's size
+pub all_counted : (ranges : List Range) (i count : ℕ) → length ranges ≤ i → count * box_size (drop i ranges) ≡ box_size ranges
+    → count ≤ 4096 → box_size ranges ≤ 4096
+all_counted ranges i count past e room =
+    let whole : count * 1 ≡ box_size ranges = sym (ap (λ (left : List Range). count * box_size left) (drop_all i ranges past)) ∙ e in
+    omega (arith, whole, room)
 
 -- too many so far are too many
 pub too_many : (ranges rest : List Range) (count : ℕ) → 4096 < count → count * box_size rest ≡ box_size ranges

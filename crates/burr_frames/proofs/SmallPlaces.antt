@@ -1,5 +1,5 @@
 -- Places whose forms are all small: one of them, more of them, and those after a group went aside.
-use Rattle.std.proofs.Common.{◌==◌, if◌then◌else◌, ℕ, zero, suc, ◌+◌, ◌<◌, List, [], ◌∷◌, ◌++◌, length, slice_index_or, Some, None, Option, arith}
+use Rattle.std.proofs.Common.{◌==◌, if◌then◌else◌, ℕ, zero, suc, ◌<◌, List, [], ◌∷◌, ◌++◌, length, slice_index_or, Some, None, Option, arith}
 use Rattle.std.proofs.lemmas.Bool.{cond_both}
 use Rattle.burr_code.specs.PieceSets.{is_left_out}
 use Rattle.burr_code.specs.declared.placement.Placement.{Placement}

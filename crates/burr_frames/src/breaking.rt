@@ -6,7 +6,7 @@ use crate::state::Miss;
 use burr_forms::Point;
 
 /// A rule that does not hold at an instruction, and where.
-#[derive(Clone, Debug, PartialEq, Eq, Drop)]
+#[derive(Drop)]
 pub struct Break {
     /// The first of the instruction's checks that fails.
     pub rule: Rule,

@@ -16,7 +16,7 @@ use burr_voxels::Cell;
 
 /// Where a piece stands as pairs are asked of: it is in another tray or apart, it is gripped, or it
 /// is in the tray and left there.
-#[derive(Clone, Copy, Debug, Default, PartialEq, Eq)]
+#[derive(Clone, Copy, Default, PartialEq, Eq)]
 pub enum Role {
     #[default]
     Elsewhere,

@@ -24,7 +24,7 @@ use std::marker::Model;
 
 /// What is known where an instruction stands, at all points of its symbols at once: forms in place
 /// of numbers. The numbers of all forms lie within ±2^40.
-#[derive(Clone, Debug, Drop)]
+#[derive(Drop)]
 pub struct State {
     /// Of each symbol, both ends in it.
     ranges: ArrayVec<(i32, i32), 8>,

@@ -8,7 +8,7 @@ ghost use Rattle.burr_frames.specs.Rules.SpaceRules.{AllSmallPlaces};
 ghost use Rattle.burr_frames.specs.Views.CallViews.{GivesAfter, GivesRanges, GivesSubstituted};
 
 use super::asking::has_room;
-use super::copying::copied_slots;
+use super::copying::{copied_slots, extend};
 use super::exit::Exit;
 use super::framing::symbol;
 use super::{MOST_PIECES, State};
@@ -111,12 +111,8 @@ pub(super) fn joined<T: Copy + Default>(first: &[T], second: &[T]) -> ArrayVec<T
     ensures { result.items ≡ first.now ++ second.now }
 {
     let mut joined = ArrayVec::new();
-    for element in first {
-        joined.push(*element);
-    }
-    for after in second {
-        joined.push(*after);
-    }
+    extend(&mut joined, first);
+    extend(&mut joined, second);
     joined
 }
 

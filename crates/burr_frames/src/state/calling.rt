@@ -14,6 +14,7 @@ ghost use Rattle.burr_frames.specs.Views.Here.{OfFramedProcedure};
 
 use super::State;
 use super::after::padded;
+use super::copying::extend;
 use super::exit::Exit;
 use super::meeting::Miss;
 use crate::breaking::Break;
@@ -164,9 +165,7 @@ fn taken(forms: &[Form]) -> ArrayVec<Form, 8>
     ensures { result.items ≡ forms.now }
 {
     let mut taken = ArrayVec::new();
-    for form in forms {
-        taken.push(*form);
-    }
+    extend(&mut taken, forms);
     taken
 }
 

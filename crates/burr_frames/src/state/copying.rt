@@ -1,6 +1,6 @@
-//! Copies of states.
+//! Copies of states and of lists.
 
-ghost use Rattle.std.specs.Prelude.{◌≡◌};
+ghost use Rattle.std.specs.Prelude.{◌≡◌, ◌+◌, ◌≤◌, ◌++◌, length};
 
 use super::State;
 use arrayvec::ArrayVec;
@@ -28,12 +28,19 @@ impl State {
 pub(super) fn copied<T: Copy + Default, const N: usize>(from: &ArrayVec<T, N>) -> ArrayVec<T, N>
     ensures { result.items ≡ from.now.items }
 {
-    let elements = from.as_slice();
     let mut to = ArrayVec::new();
-    for element in elements {
-        to.push(*element);
-    }
+    extend(&mut to, from.as_slice());
     to
+}
+
+/// Puts elements after those of a list. There is room, the caller's condition.
+pub(super) fn extend<T: Copy + Default, const N: usize>(list: &mut ArrayVec<T, N>, more: &[T])
+    requires { length list.old.items + length more.now ≤ N }
+    ensures { list.new.items ≡ list.old.items ++ more.now }
+{
+    if list.try_extend_from_slice(more).is_err() {
+        unreachable!();
+    }
 }
 
 /// The same forms.

@@ -20,7 +20,7 @@ use std::marker::Model;
 
 /// What holds where a procedure returns. Its forms are over the parameters and, after them, the
 /// results; their numbers lie within ±2^40.
-#[derive(Debug, Drop)]
+#[derive(Drop)]
 pub struct Exit {
     /// Of each result, both ends in it.
     pub results: ArrayVec<(i32, i32), MOST_RESULTS>,

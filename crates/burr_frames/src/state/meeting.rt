@@ -23,7 +23,7 @@ use burr_forms::{Form, Point, first_failing};
 pub use exit::meets_exit;
 
 /// Why a state does not agree with what a frame says.
-#[derive(Clone, Debug, PartialEq, Eq, Drop)]
+#[derive(Drop)]
 pub struct Miss {
     /// The first of the state's points at which it does not agree with the frame; None where they
     /// differ without regard to points.

@@ -13,6 +13,7 @@ ghost use Rattle.burr_frames.specs.Views.StateViews.{IsSmallSlot, GivesLiveForms
 
 use crate::offset::offset_forms;
 use crate::state::State;
+use crate::state::copying::extend;
 use crate::state::exit::Exit;
 use arrayvec::ArrayVec;
 use burr_code::Placement;
@@ -141,9 +142,7 @@ fn append(forms: &mut ArrayVec<Form, 120>, more: &[Form])
     ensures forms { forms.new.items ≡ forms.old.items ++ more.now }
     ensures small { AllSmallForms forms.new.items }
 {
-    for form in more {
-        forms.push(*form);
-    }
+    extend(forms, more);
 }
 
 /// Puts the forms of offsets after others. There is room, the caller's condition.

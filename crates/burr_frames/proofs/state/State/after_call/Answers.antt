@@ -1,7 +1,7 @@
 -- Where there is no state after, and what it is where there is one.
-use Rattle.std.proofs.Common.{rules, ℕ, All, Option, ◌≡◌, ◌≤◌, ◌∙◌, ◌+◌, ◌++◌, ap, sym, subst, List, length, drop, map, inl, inr}
+use Rattle.std.proofs.Common.{rules, ℕ, All, Option, ◌≡◌, ◌<◌, ◌≤◌, ◌∙◌, ◌+◌, ◌++◌, ap, sym, subst, List, length, drop, map, inl, inr, arith}
 use Rattle.std.specs.Prelude.{reverse}
-use Rattle.std.proofs.lemmas.List.{reverse-reverse}
+use Rattle.std.proofs.lemmas.List.{reverse-reverse, length-append}
 use Rattle.std.proofs.lemmas.List.Elements.{All-append}
 use Rattle.burr_forms.specs.Rules.Points.{AreRanges}
 use Rattle.burr_forms.specs.Rules.Forms.{Form, IsSmallForm, AllSmallForms, substituted}
@@ -11,11 +11,14 @@ use Rattle.burr_frames.specs.Rules.FramedPlans.{FramedExit}
 use Rattle.burr_frames.specs.Rules.SpaceRules.{AllSmallPlaces}
 use Rattle.burr_frames.specs.Rules.ControlRules.{symbols_from, result_symbols, substituted_places}
 use Rattle.burr_frames.proofs.Offsets.{small_reversed}
-use Rattle.burr_frames.proofs.After.{too_many_ranges, has_room, large_guards, small_after}
+use Rattle.burr_frames.proofs.After.{too_many_ranges, too_many_guards, has_room, large_places, large_guards, small_after, small_joined}
 use Rattle.burr_frames.proofs.state.State.after_call.Goals as goal
 
 abbrev ranges_in : AbstractState → ℕ
 ranges_in s = length s.ranges
+
+abbrev guards_in : AbstractState → ℕ
+guards_in s = length s.guards
 
 abbrev results_in : FramedExit → ℕ
 results_in exit = length exit.results
@@ -111,4 +114,95 @@ returns c =
       },
       has_room s arguments below exit c.in-Some.ensures.1 few,
       small_after s arguments below exit guards_small (subst AllSmallPlaces places c.in-Ok.ensures.1) (subst AllSmallForms guards c.in-Ok-guards_with.ensures.1),
+    )
+
+-- What the calls ask for
+
+pub symbols_from-results-requires : goal.symbols_from-results-requires
+symbols_from-results-requires c =
+    omega (
+      arith,
+      c.in-Some.ensures.1.0,
+      length-append c.args.self.now.ranges c.args.exit.now.results,
+      c.len-3.ensures.value ∙ ap ranges_in c.self.view_is,
+      c.len-4.ensures.value ∙ ap results_in c.exit.view_is,
+    )
+
+pub joined-symbols-requires : goal.joined-symbols-requires
+joined-symbols-requires c =
+    omega (
+      arith,
+      c.requires.few,
+      ap (length {A = Form}) c.as_slice.ensures.value,
+      c.symbols_from-results.ensures.many,
+      c.len-4.ensures.value ∙ ap results_in c.exit.view_is,
+    )
+
+pub places_with-requires-clause-small_places : goal.places_with-requires-clause-small_places
+places_with-requires-clause-small_places c = subst AllSmallPlaces (sym c.as_slice-2.ensures.value) c.exit.invariant.places
+
+pub places_with-requires-clause-small : goal.places_with-requires-clause-small
+places_with-requires-clause-small c =
+    small_joined c.args.arguments.now c.as_slice.result.now c.joined-symbols.result.items c.as_slice-3.result.now c.requires.small
+    (subst AllSmallForms (sym c.as_slice.ensures.value) c.symbols_from-results.ensures.small) c.joined-symbols.ensures c.as_slice-3.ensures.value
+
+pub guards_with-requires-clause-small_guards : goal.guards_with-requires-clause-small_guards
+guards_with-requires-clause-small_guards c = subst AllSmallForms (sym c.as_slice-4.ensures.value) c.exit.invariant.guards
+
+pub guards_with-requires-clause-small : goal.guards_with-requires-clause-small
+guards_with-requires-clause-small c =
+    small_joined c.args.arguments.now c.as_slice.result.now c.joined-symbols.result.items c.as_slice-5.result.now c.requires.small
+    (subst AllSmallForms (sym c.as_slice.ensures.value) c.symbols_from-results.ensures.small) c.joined-symbols.ensures c.as_slice-5.ensures.value
+
+pub operands_after-requires-clause-small : goal.operands_after-requires-clause-small
+operands_after-requires-clause-small c = subst AllSmallForms (sym c.as_slice-8.ensures.value) c.symbols_from-results.ensures.small
+
+pub operands_after-requires-clause-room : goal.operands_after-requires-clause-room
+operands_after-requires-clause-room c =
+    omega (
+      arith,
+      c.requires.room,
+      ap (length {A = Form}) c.as_slice-8.ensures.value,
+      c.symbols_from-results.ensures.many,
+      c.len-4.ensures.value ∙ ap results_in c.exit.view_is,
+    )
+
+pub returns-then-len-gt-MOST_STATE_GUARDS : goal.returns-then-len-gt-MOST_STATE_GUARDS
+returns-then-len-gt-MOST_STATE_GUARDS c =
+    let s = c.args.self.now in
+    let arguments = c.args.arguments.now in
+    let more : 8 < length s.guards + length c.args.exit.now.guards = omega (
+      arith,
+      c.if-len-gt-MOST_STATE_GUARDS.true,
+      c.len.ensures.value ∙ ap guards_in c.self.view_is,
+      c.len-2.ensures.value ∙ ap (λ (guards : List Form). length guards) (ap exit_guards c.exit.view_is),
+    ) in
+    inl (
+      too_many_guards s arguments (drop (length arguments) s.operands) c.args.exit.now more,
+      c.plain-then-len-gt-MOST_STATE_GUARDS.ensures,
+    )
+
+pub returns-in_default-places_with : goal.returns-in_default-places_with
+returns-in_default-places_with c =
+    let s = c.args.self.now in
+    let exit = c.args.exit.now in
+    let arguments = c.args.arguments.now in
+    let below = drop (length arguments) s.operands in
+    let results : c.as_slice.result.now ≡ result_symbols s exit =
+    c.as_slice.ensures.value ∙ c.symbols_from-results.ensures.symbols
+    ∙ (λ i. symbols_from ((c.len-3.ensures.value ∙ ap ranges_in c.self.view_is) i) ((c.len-4.ensures.value ∙ ap results_in c.exit.view_is) i)) in
+    let made : c.as_slice-3.result.now ≡ arguments ++ result_symbols s exit =
+    c.as_slice-3.ensures.value ∙ c.joined-symbols.ensures ∙ (λ i. arguments ++ results i) in
+    let places : c.as_slice-2.result.now ≡ exit.places = c.as_slice-2.ensures.value ∙ ap (λ (e : FramedExit). e.places) c.exit.view_is in
+    let few : length s.guards + length exit.guards ≤ 8 = omega (
+      arith,
+      c.if-len-gt-MOST_STATE_GUARDS.false,
+      c.len.ensures.value ∙ ap guards_in c.self.view_is,
+      c.len-2.ensures.value ∙ ap (λ (guards : List Form). length guards) (ap exit_guards c.exit.view_is),
+    ) in
+    inr (
+      has_room s arguments below exit c.in-Some.ensures.1 few,
+      large_places s arguments below exit
+          (λ small. c.in_default-places_with.ensures (subst AllSmallPlaces (λ i. substituted_places (sym made i) (sym places i)) small)),
+      c.plain-in_default-places_with.ensures,
     )

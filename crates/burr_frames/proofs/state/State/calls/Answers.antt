@@ -1,7 +1,7 @@
 -- An entry frame that is not met, and what follows where it is.
 use Rattle.std.proofs.Common.{◌≡◌, ◌≤◌, ◌+◌, ◌∙◌, ap, sym, subst, ℕ, List, length, drop, inl, inr, arith}
 use Rattle.std.specs.Prelude.{reverse, option_map}
-use Rattle.burr_forms.specs.Rules.Forms.{Form, substituted}
+use Rattle.burr_forms.specs.Rules.Forms.{Form, AllSmallForms, substituted}
 use Rattle.burr_container.specs.Views.Refs.{frame_of}
 use Rattle.burr_frames.specs.declared.rule.Rule.TheVariants as rules
 use Rattle.burr_frames.specs.Rules.States.{AbstractState}
@@ -87,3 +87,33 @@ returns-then-len-count-gt-MOST_OPERANDS-clause-verdict c =
       c.in-Some.ensures.operands.0,
       inl (full, ap Breaks c.plain-then-len-count-gt-MOST_OPERANDS.ensures),
     ))
+
+pub returns-in_default-clause-verdict : goal.returns-in_default-clause-verdict
+returns-in_default-clause-verdict c =
+    let exit = c.args.exit.now in
+    subst (λ (n : ℕ). calling c.args.self.now n (length exit.results) (framed (frame_of c.args.entry.now)) exit (Breaks (broken_of c.plain.result)))
+    c.from-count.ensures (inl (c.in_default.ensures.operands, ap Breaks c.plain.ensures))
+
+-- What the calls ask for
+
+pub met_with-requires-clause-small : goal.met_with-requires-clause-small
+met_with-requires-clause-small c = subst AllSmallForms (sym c.as_slice.ensures.value) c.in-Some.ensures.operands.2
+
+pub pays_for-requires-clause-small : goal.pays_for-requires-clause-small
+pays_for-requires-clause-small c = subst AllSmallForms (sym c.as_slice-2.ensures.value) c.in-Some.ensures.operands.2
+
+pub pays_for-requires-clause-few : goal.pays_for-requires-clause-few
+pays_for-requires-clause-few c =
+    omega (arith, c.requires.few, c.from-count.ensures, c.in-Some.ensures.operands.1, ap (length {A = Form}) c.as_slice-2.ensures.value)
+
+pub pays_for-requires-clause-room : goal.pays_for-requires-clause-room
+pays_for-requires-clause-room c =
+    let s = c.args.self.now in
+    let count = c.from-count.result in
+    let given : length c.as_slice-2.result.now ≡ count = ap (length {A = Form}) c.as_slice-2.ensures.value ∙ c.in-Some.ensures.operands.1 in
+    let left = left_many count c.self.inside.operands.items s.operands (ap operands_of c.self.view_is) in
+    let few = c.if-len-count-gt-MOST_OPERANDS.false in
+    let many = c.len-2.ensures.value ∙ ap results_of c.exit.view_is in
+    let all = c.len.ensures.value in
+    let room : length (drop count s.operands) + length c.args.exit.now.results ≤ 8 = omega (arith, left, few, many, all) in
+    subst (λ (n : ℕ). length (drop n s.operands) + length c.args.exit.now.results ≤ 8) (sym given) room

@@ -1,8 +1,9 @@
 -- The checks in their order, and the counter one less or 0.
-use Rattle.std.proofs.Common.{◌≡◌, ◌∙◌, ap, subst, inl, inr, arith}
+use Rattle.std.proofs.Common.{◌≡◌, ◌<◌, ◌∙◌, length, ap, sym, subst, inl, inr, arith}
 use Rattle.std.proofs.lemmas.Result.{err_from_is_err_and}
 use Rattle.burr_text.proofs.Common.Tests.{yes_of, no_of}
 use Rattle.burr_container.specs.Views.Refs.{frame_of}
+use Rattle.burr_forms.specs.Rules.Forms.{IsSmallForm}
 use Rattle.burr_frames.specs.Rules.FramedPlans.{framed}
 use Rattle.burr_frames.specs.Rules.States.{AbstractState}
 use Rattle.burr_frames.specs.Rules.Verdicts.{Breaks, FallsThrough, NoSuccessor, falls_through, no_successor, arriving}
@@ -14,6 +15,9 @@ use Rattle.burr_frames.proofs.Paying.{paying_on, paying_breaks}
 use Rattle.burr_frames.proofs.Arrivals.{arriving_on, arriving_breaks}
 use Rattle.burr_frames.proofs.Counters.{IsCounting, branches, counting_on, counted_on}
 use Rattle.burr_frames.proofs.state.State.down.Goals as goal
+
+pub returns-in_default-clause-verdict : goal.returns-in_default-clause-verdict
+returns-in_default-clause-verdict c = λ p here is e. inl (c.in_default.ensures p here is e, ap Breaks c.plain.ensures)
 
 pub returns-then-v-params-clause-verdict : goal.returns-then-v-params-clause-verdict
 returns-then-v-params-clause-verdict c = λ p here is e.
@@ -132,3 +136,30 @@ returns-clause-verdict c = λ p here is e.
     c.in-Ok.ensures.1 c.in_ok-never_negative.ensures (yes_of c.if-guards_are_full.ensures)
     (paying_on s cost (branches v count to) (FallsThrough c.add_guard.new.self) c.in_ok-cost.ensures
     (arriving_on (counted_down v count (at_cost cost s)) to (falls_through (counted_out count (at_cost cost s))) (FallsThrough c.add_guard.new.self) arrives (ap FallsThrough out)))
+
+-- What the calls ask for
+
+pub raised_by-requires-clause-small : goal.raised_by-requires-clause-small
+raised_by-requires-clause-small c = c.in-Some-form_in.ensures.small
+
+pub never_negative-requires : goal.never_negative-requires
+never_negative-requires c = c.in-Some-form_in.ensures.small
+
+pub negated-requires : goal.negated-requires
+negated-requires c = record { small = c.in-Some-form_in.ensures.small }
+
+pub branch-self-requires-clause-room : goal.branch-self-requires-clause-room
+branch-self-requires-clause-room c = yes_of c.if-guards_are_full.ensures
+
+pub branch-self-requires-clause-small : goal.branch-self-requires-clause-small
+branch-self-requires-clause-small c = subst IsSmallForm (sym c.in-Ok.ensures.0) c.in-Ok.ensures.1
+
+pub branch-self-requires-clause-cost_small : goal.branch-self-requires-clause-cost_small
+branch-self-requires-clause-cost_small c = c.in_ok-cost.ensures.small
+
+pub add_guard-requires-clause-room : goal.add_guard-requires-clause-room
+add_guard-requires-clause-room c =
+    subst (λ (a : AbstractState). length a.guards < 8) (sym c.set_cost.ensures) (yes_of c.if-guards_are_full.ensures)
+
+pub add_guard-requires-clause-small : goal.add_guard-requires-clause-small
+add_guard-requires-clause-small c = c.negated.ensures.small

@@ -9,6 +9,8 @@ use Rattle.burr_container.specs.Rules.Plans.{FormCell, Range}
 use Rattle.burr_frames.specs.Rules.FramedPlans.{FramedExit}
 use Rattle.burr_frames.specs.Rules.States.{AbstractState, region_of}
 use Rattle.burr_frames.specs.Views.Comparing.{offset_forms}
+use Rattle.burr_frames.specs.Rules.SpaceRules.{AllSmallPlaces}
+use Rattle.burr_frames.proofs.After.{small_joined}
 use Rattle.burr_frames.proofs.Agreement.{as_many, Handed, FailsAsHanded}
 use Rattle.burr_frames.proofs.ExitMeetings.{asked_at_exit, sought_at_exit, exit_difference}
 use Rattle.burr_frames.proofs.state.State.first_exit_missed.Goals as goal
@@ -76,3 +78,25 @@ returns c =
     } in
     exit_difference s exit parameters results c.requires.many c.requires.alike.2 c.first_failing.result
     (subst (FailsAsHanded c.first_failing.result) handed c.first_failing.ensures)
+
+-- What the calls ask for
+
+pub with_offsets-compared-requires-clause-small : goal.with_offsets-compared-requires-clause-small
+with_offsets-compared-requires-clause-small c =
+    small_joined c.args.parameters.now c.args.results.now c.joined-symbols.result.items c.as_slice.result.now c.requires.small c.requires.results_small
+    c.joined-symbols.ensures c.as_slice.ensures.value
+
+pub with_offsets-compared-requires-clause-places_small : goal.with_offsets-compared-requires-clause-places_small
+with_offsets-compared-requires-clause-places_small c = subst AllSmallPlaces (sym c.as_slice-2.ensures.value) c.self.invariant.places
+
+pub with_offsets-same-requires-clause-places_small : goal.with_offsets-same-requires-clause-places_small
+with_offsets-same-requires-clause-places_small c = subst AllSmallPlaces (sym c.as_slice-3.ensures.value) c.exit.invariant.places
+
+pub first_failing-requires-clause-forms : goal.first_failing-requires-clause-forms
+first_failing-requires-clause-forms c = subst AllSmallForms (sym c.as_slice-4.ensures.value) c.with_offsets-compared.ensures.small
+
+pub first_failing-requires-clause-ranges : goal.first_failing-requires-clause-ranges
+first_failing-requires-clause-ranges c = subst AreRanges (sym c.as_slice-8.ensures.value) c.self.invariant.ranges
+
+pub first_failing-requires-clause-guards : goal.first_failing-requires-clause-guards
+first_failing-requires-clause-guards c = subst AllSmallForms (sym c.as_slice-9.ensures.value) c.self.invariant.guards

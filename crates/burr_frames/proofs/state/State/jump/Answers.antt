@@ -1,13 +1,29 @@
 -- The step is paid for at a label that is there.
-use Rattle.std.proofs.Common.{◌≡◌, ◌∙◌, ap, subst, inr}
+use Rattle.std.proofs.Common.{◌≡◌, ◌∙◌, ap, subst, inl, inr}
+use Rattle.std.proofs.lemmas.Result.{err_from_is_err_and}
 use Rattle.burr_container.specs.Views.Refs.{frame_of}
 use Rattle.burr_frames.specs.Rules.FramedPlans.{framed}
 use Rattle.burr_frames.specs.Rules.States.{AbstractState}
-use Rattle.burr_frames.specs.Rules.Verdicts.{no_successor, arriving}
+use Rattle.burr_frames.specs.Rules.Verdicts.{Breaks, no_successor, arriving}
 use Rattle.burr_frames.specs.Views.Breaks.{last_verdict}
 use Rattle.burr_frames.specs.Views.Changes.{at_cost}
-use Rattle.burr_frames.proofs.Paying.{paying_on}
+use Rattle.burr_frames.proofs.Paying.{paying_on, paying_breaks}
 use Rattle.burr_frames.proofs.state.State.jump.Goals as goal
+
+pub returns-in_default : goal.returns-in_default
+returns-in_default c = λ p here is e. inl (c.in_default.ensures p here is e, ap Breaks c.plain.ensures)
+
+pub returns-in_err-cost : goal.returns-in_err-cost
+returns-in_err-cost c = λ p here is e.
+    let to = framed (frame_of c.in-Some.frame) in
+    let found = c.in-Some.ensures p here is e in
+    let r = err_from_is_err_and c.from_residual.result c.from_residual.ensures.1 in
+    rw (r.1, r.2)
+    (inr (
+      (found.0, to),
+      found.1,
+      paying_breaks c.args.self.now c.in_err-cost.field-0.0 (λ (a : AbstractState). arriving a to no_successor) c.in_err-cost.ensures,
+    ))
 
 pub returns : goal.returns
 returns c = λ p here is e.
