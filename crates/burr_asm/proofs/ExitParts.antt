@@ -80,6 +80,10 @@ module _ (x : Exit) (version : ℕ) (h : ProcedureWords) (e : ExitSource) (is : 
   pub no_result : (ends : RangeWords) (test : Bool) → test ≡ lacks → test ≡ true → are_ends ends.low ends.high ≡ false → result_check h e ends ≡ Some P3
   no_result ends test test_is more no_ends = passed _ P1 (unless (are_ends ends.low ends.high) P3 None) (first_is ∙ sym test_is ∙ more) ∙ failed _ P3 None no_ends
 
+  -- no result may stand here
+  pub late_result : (ends : RangeWords) (test : Bool) → test ≡ lacks → test ≡ false → result_check h e ends ≡ Some P1
+  late_result ends test test_is no_more = failed _ P1 (unless (are_ends ends.low ends.high) P3 None) (first_is ∙ sym test_is ∙ no_more)
+
   -- Guards
 
   taken_is : (is_second x.signature.version && not lacks && is_empty x.frame.places) ≡ ((version == 2) && is_empty e.pieces && (length e.results == result_count h.results))

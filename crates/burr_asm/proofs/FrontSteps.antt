@@ -7,7 +7,7 @@ use Rattle.burr_plantext.specs.Rules.Meaning.{procedure_names}
 use Rattle.burr_plantext.specs.Rules.Texts.{Reads}
 use Rattle.burr_plantext.specs.Rules.Checks.{FaultKind, P1, is_of_version, head_check, has_code, title_check}
 use Rattle.burr_plantext.specs.Rules.Faults as faults
-use Rattle.burr_plantext.specs.Rules.Faults.{Beginning, Blank, Titled, Within, within, OpenProcedure, PlacedFault, LineResult, open_procedure, judged, needing, ended_with, at_label, in_code, with_line}
+use Rattle.burr_plantext.specs.Rules.Faults.{Beginning, Blank, Titled, Within, within, OpenProcedure, PlacedFault, open_procedure, judged, needing, ended_with, at_label, in_code, with_line}
 use Rattle.burr_asm.specs.declared.fault.AsmFault.{AsmFault}
 use Rattle.burr_asm.specs.declared.fault.AsmFault.TheVariants as fault
 use Rattle.burr_asm.specs.declared.text.line.LineForm.{LineForm}
@@ -19,13 +19,13 @@ use Rattle.burr_asm.specs.declared.text.stage.Stage.TheVariants as stage
 use Rattle.burr_asm.specs.declared.text.front.Front.{Front}
 use Rattle.burr_asm.specs.declared.text.front.Front.TheVariants.{AwaitsPlan, AwaitsMain, InProcedure}
 use Rattle.burr_asm.specs.declared.text.front.UnderWay.{UnderWay}
-use Rattle.burr_asm.specs.Views.LineWords.{line_words, plan_words}
+use Rattle.burr_asm.specs.Views.LineWords.{line_words, plan_words, procedure_words}
 use Rattle.burr_asm.specs.Views.Exits.{IsSignature}
 use Rattle.burr_asm.specs.Rules.Faults.{fault_at}
 use Rattle.burr_asm.specs.Views.Faults.{IsRefusal}
 use Rattle.burr_asm.specs.Views.Routines.{RoutineParts, OutlineParts, begun, ends_with_label, head_refusal, with_name, with_routine, IsLabelAtEnd, titled_outline}
 use Rattle.burr_asm.specs.Views.Beginnings.{AfterFrame, BeforeLabels}
-use Rattle.burr_asm.specs.Views.Fronts.{IsOutline, IsUnderWay, IsFront, IsFaultOf, IsNext, names_begun, start_of, in_procedure, within_one}
+use Rattle.burr_asm.specs.Views.Fronts.{IsOutline, IsUnderWay, IsFront, IsFaultOf, IsNext, names_begun, start_of, in_procedure}
 use Rattle.burr_asm.specs.Views.Steps.{GivesStage, changed}
 use Rattle.burr_asm.specs.Views.FrontSteps.{BeginsMain, NextProcedure, GivesWithin, GivesFront}
 use Rattle.burr_asm.proofs.FrontHeads.{head_same, outline_titled, outline_begun, outline_ended, lines_more, routine_begun}
@@ -287,31 +287,6 @@ stage_changed w new pieces line n (Ok done) count same gives =
 stage_changed w new pieces line n (Err e) count same gives =
     stage_refused w.outline w.routine new.routine w.stage pieces line n e count gives
 
--- after a frame only a procedure's line is another one's
-one_within : (place : ℕ) (u : OpenProcedure) (t : faults.Stage) (l : LineForm)
-    → ((words : ProcedureParts) → l ≡ form.Procedure words → ⊥)
-    → within_one place u t (line_words l) ≡ within place u t (Reads (line_words l))
-one_within place u (faults.InCode exit blocks b) (form.Procedure words) other =
-    absurd (other words refl)
-one_within place u t l other = refl
-
--- a line that begins no procedure, within one
-pub goes_on_within : (f : Front) (w : UnderWay) (l : LineForm) (n : ℕ) (result : Result Front AsmFault)
-    → f ≡ InProcedure w → ((words : ProcedureParts) → l ≡ form.Procedure words → ⊥)
-    → GivesWithin w.outline w.routine w.stage (line_words l) n result
-    → GivesFront f (line_words l) n result
-goes_on_within f w l n result is other gives = λ number place b at h.
-    by number place b at (subst (λ (f : Front). IsFront number place f b) is h)
-  where
-    by : (number : ℕ → ℕ) (place : ℕ) (b : Beginning) → n ≡ number place
-        → IsFront number place (InProcedure w) b
-        → IsNext number place (with_line place b (Reads (line_words l))) result
-    by number place Blank at h = absurd h
-    by number place (Titled title) at h = absurd h
-    by number place (Within u t) at h =
-        subst (λ (given : LineResult). IsNext number place given result) (one_within place u t l other)
-        (gives number place u t at h)
-
 -- Fronts
 
 title_by : (title : PlanWords) (o : OutlineParts) (number : ℕ → ℕ) (place : ℕ) (b : Beginning)
@@ -352,6 +327,25 @@ pub title_other : (f : Front) (l : LineForm) (n : ℕ) → f ≡ AwaitsPlan
     → GivesFront f (line_words l) n (Err (fault.P1 n))
 title_other f l n due other = λ number place b at is.
     title_other_by l n number place b other at (subst (λ (f : Front). IsFront number place f b) due is)
+
+main_due_by : (o : OutlineParts) (h : ProcedureWords) (n : ℕ) (result : Result Front AsmFault)
+    (number : ℕ → ℕ) (place : ℕ) (b : Beginning) → BeginsMain o h n result → n ≡ number place
+    → IsFront number place (AwaitsMain o) b
+    → IsNext number place (with_line place b (Reads (ProcLine h))) result
+main_due_by o h n result number place Blank begins at is = absurd is
+main_due_by o h n result number place (Titled title) begins at is =
+    subst (λ (p : ℕ). IsNext number p (with_line p (Titled title) (Reads (ProcLine h))) result) (sym is.1)
+    (begins number title (at ∙ ap number is.1) is.0)
+main_due_by o h n result number place (Within u t) begins at is = absurd is
+
+-- The line of a procedure stands where main's is due.
+pub main_due : (o : OutlineParts) (l : LineForm) (words : ProcedureParts) (n : ℕ)
+    (result : Result Front AsmFault) → l ≡ form.Procedure words
+    → BeginsMain o (procedure_words words) n result → GivesFront (AwaitsMain o) (line_words l) n result
+main_due o l words n result is_procedure begins = λ number place b at is.
+    subst (λ (l : LineForm). IsNext number place (with_line place b (Reads (line_words l))) result)
+    (sym is_procedure)
+    (main_due_by o (procedure_words words) n result number place b begins at is)
 
 main_other_by : (o : OutlineParts) (l : LineForm) (n : ℕ) (number : ℕ → ℕ) (place : ℕ)
     (b : Beginning) → ((words : ProcedureParts) → l ≡ form.Procedure words → ⊥)

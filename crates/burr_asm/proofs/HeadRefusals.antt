@@ -30,13 +30,35 @@ budget_refused t line e = title_refused t line (by (is_within 2 32 t.pieces))
     by false = refl
 
 -- a name that has no number is none of the names
-no_number : (known : Bool) (number : ℕ) → false ≡ is_some (if known then Some number else None) → known ≡ false
+pub no_number : (known : Bool) (number : ℕ) → false ≡ is_some (if known then Some number else None) → known ≡ false
 no_number true number e = sym e
 no_number false number e = refl
+
+-- a name that has a number is one of the names
+a_number : (known : Bool) (number : ℕ) → true ≡ is_some (if known then Some number else None) → known ≡ true
+a_number true number e = refl
+a_number false number e = sym e
 
 -- what is wrong with a procedure's line, by its three tests
 abbrev refusal : Bool → Bool → Bool → Option FaultKind
 refusal known counted few = unless (not known) P2 (unless counted P3 (unless few P4 None))
+
+-- a procedure's line with a name that is taken
+pub head_known : (o : OutlineParts) (h : ProcedureWords) (line : ℕ) (names : List (List ℕ)) → names ≡ o.names → true ≡ is_some (number_if_known names h.name) → IsRefusal (head_refusal o h) line (fault.P2 line)
+head_known o h line names same taken =
+    let known : is_known o.names h.name ≡ true = ap (λ (ns : List (List ℕ)). is_known ns h.name) (sym same) ∙ a_number (is_known names h.name) (number_of names h.name) taken in
+    inr (P2, ap (λ (known : Bool). refusal known (are_counts o h) (nat_lt (length o.names) MOST_PROCEDURES)) known, refl)
+
+-- a procedure's line with a new name, of which a number is out of its range
+pub head_counts : (o : OutlineParts) (h : ProcedureWords) (line : ℕ) (names : List (List ℕ)) → names ≡ o.names → false ≡ is_some (number_if_known names h.name) → are_counts o h ≡ false → IsRefusal (head_refusal o h) line (fault.P3 line)
+head_counts o h line names same new counted =
+    let unknown : is_known o.names h.name ≡ false = ap (λ (ns : List (List ℕ)). is_known ns h.name) (sym same) ∙ no_number (is_known names h.name) (number_of names h.name) new in
+    inr (
+      P3,
+      ap (λ (known : Bool). refusal known (are_counts o h) (nat_lt (length o.names) MOST_PROCEDURES)) unknown
+          ∙ ap (λ (test : Bool). refusal false test (nat_lt (length o.names) MOST_PROCEDURES)) counted,
+      refl,
+    )
 
 -- a procedure's line, with a new name and right numbers, after as many procedures as a plan may have
 pub head_full : (o : OutlineParts) (h : ProcedureWords) (line count : ℕ) (names : List (List ℕ)) → names ≡ o.names → false ≡ is_some (number_if_known names h.name) → are_counts o h ≡ true → count ≡ length names → MOST_PROCEDURES ≤ count → IsRefusal (head_refusal o h) line (fault.P4 line)

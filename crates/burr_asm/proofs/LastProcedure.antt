@@ -14,6 +14,7 @@ use Rattle.burr_asm.specs.declared.text.stage.Stage.{Stage}
 use Rattle.burr_asm.specs.declared.text.stage.Stage.TheVariants.{AwaitsExit, InExit, AwaitsLabel, AwaitsFrame, InFrame, AwaitsPieces, InCode}
 use Rattle.burr_asm.specs.declared.text.front.Front.{Front}
 use Rattle.burr_asm.specs.declared.text.front.Front.TheVariants.{AwaitsPlan, AwaitsMain, InProcedure}
+use Rattle.burr_asm.specs.declared.text.front.UnderWay.{UnderWay}
 use Rattle.burr_asm.specs.Views.Faults.{IsUnknown}
 use Rattle.burr_asm.specs.Views.Routines.{RoutineParts, OutlineParts, IsLabelAtEnd, ends_with_label, plan_of_outline, unknown_line, with_routine}
 use Rattle.burr_asm.specs.Views.Beginnings.{AfterFrame, IsStage}
@@ -28,6 +29,11 @@ abbrev pub has_procedure : Front → Bool
 has_procedure AwaitsPlan = false
 has_procedure (AwaitsMain o) = false
 has_procedure (InProcedure w) = true
+
+pub no_procedure : (f : Front) → ((w : UnderWay) → f ≡ InProcedure w → ⊥) → has_procedure f ≡ false
+no_procedure AwaitsPlan other = refl
+no_procedure (AwaitsMain o) other = refl
+no_procedure (InProcedure w) other = absurd (other w refl)
 
 -- after a frame the code and the rules are there both
 pub after_frame : (number : ℕ → ℕ) (place : ℕ) (u : OpenProcedure) (r : RoutineParts) (stage : Stage) (exit : Option ExitSource) (blocks : List Block) (b : Block)

@@ -43,6 +43,21 @@ set_begins bound word rest dash same h is_dash e =
       value = let e = ap (λ (w : List ℕ). set_of (pieces 44 w)) same in omega (arith, e);
     }
 
+-- the word of no pieces
+pub no_pieces : (bound : ℕ) (word rest dash : List ℕ) → rest ≡ word → dash ≡ codes "-" → true ≡ bytes_eq rest dash → (are_members 0 bound (set_numbers word) ≡ true) × (0 ≡ set_in word)
+no_pieces bound word rest dash same is_dash e =
+    let none : set_numbers word ≡ [] =
+    ap (λ (t : Bool). if t then [] else pieces 44 word) ((λ i. bytes_eq (sym same i) (sym is_dash i)) ∙ sym e) in
+    (ap (are_members 0 bound) none, sym (ap set_of none))
+
+-- a member is below 32
+pub member_few : (least bound piece : ℕ) (number front : List ℕ) → number ≡ front → is_member least bound number ≡ true → piece ≡ natural_in number → bound ≤ 32 → piece < 32
+member_few least bound piece number front same is value low =
+    let tests = and_parts (is_below bound number) (nat_le least (natural_in number)) is in
+    let below = and_parts (not (starts_with_minus number)) (nat_lt (natural_in number) bound) tests.0 in
+    let few = ltb-true (natural_in number) bound below.1 in
+    omega (arith, value, few, low)
+
 -- and is this set with one piece more, which is above all others
 pub next_set : (set least piece : ℕ) → set < 2 ^ least → least ≤ piece → piece < 32 → bit_or set (1 * 2 ^ piece % 4294967296) ≡ set + 2 ^ piece
 next_set set least piece few low high =

@@ -11,6 +11,7 @@ use Rattle.burr_plantext.specs.Rules.Faults.{Beginning, Blank, PlacedFault, Line
 use Rattle.burr_plantext.proofs.Common.TextLines.{numbered_cut, numbered_last, number_here, number_at_end, pieces_count}
 use Rattle.burr_asm.specs.declared.fault.AsmFault.{AsmFault}
 use Rattle.burr_asm.specs.declared.text.front.Front.{Front}
+use Rattle.burr_asm.specs.declared.text.front.Front.TheVariants.{AwaitsPlan}
 use Rattle.burr_asm.specs.Views.Fronts.{IsFront, IsFaultOf, IsPlanOf, ending}
 use Rattle.burr_asm.specs.Views.FrontSteps.{GivesNext, GivesFault, EndsText}
 
@@ -40,8 +41,10 @@ line_ends text rest bytes more line cut h =
     let both = length-append bytes (10 ∷ more) in
     omega (arith, size, both, h)
 
-pub nothing_read : (text : List ℕ) (f : Front) → IsFront (line_number text) 0 f Blank → IsReading text text 1 f
-nothing_read text f h = record { place = 0; so_far = Blank; before = []; lines = refl; count = refl; judged = refl; front = h; left = omega arith }
+pub nothing_read : (text : List ℕ) (f : Front) → f ≡ AwaitsPlan → IsReading text text 1 f
+nothing_read text f due =
+    let front : IsFront (line_number text) 0 f Blank = subst (λ (g : Front). IsFront (line_number text) 0 g Blank) (sym due) refl in
+    record { place = 0; so_far = Blank; before = []; lines = refl; count = refl; judged = refl; front = front; left = omega arith }
 
 module _ (text rest : List ℕ) (line : ℕ) (f : Front) (h : IsReading text rest line f) where
   -- the next line has this number

@@ -1,5 +1,5 @@
 -- What a line more, or the end of the text, makes of what has been read.
-use Rattle.std.specs.Prelude.{◌≡◌, ℕ, List, [], Option, Bool, true, false, Result, Ok, Err}
+use Rattle.std.specs.Prelude.{◌≡◌, ℕ, List, [], Option, None, Some, Bool, true, false, Result, Ok, Err}
 use Rattle.burr_container.specs.Rules.Plans.{Plan}
 use Rattle.burr_plantext.specs.Rules.Lines.{Line, ProcedureWords, PlanWords, ProcLine}
 use Rattle.burr_plantext.specs.Rules.Sources.{ExitSource, Block}
@@ -21,6 +21,12 @@ abbrev pub misses : Front → List ℕ → Bool
 misses AwaitsPlan word = false
 misses (AwaitsMain o) word = false
 misses (InProcedure u) word = misses_part u.stage word
+
+-- what has been read after a line: the next front, or this one as the line has left it; or the fault
+abbrev pub front_after : Front → Result (Option Front) AsmFault → Result Front AsmFault
+front_after now (Ok None) = Ok now
+front_after now (Ok (Some next)) = Ok next
+front_after now (Err e) = Err e
 
 -- A line with its end: one that is skipped changes nothing.
 abbrev pub GivesNext : Front → List ℕ → ℕ → Result Front AsmFault → Type 0

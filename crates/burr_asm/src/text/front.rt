@@ -3,8 +3,9 @@ ghost use Rattle.burr_plantext.specs.Rules.Texts.{first_word, unended_line, Unre
 ghost use Rattle.burr_asm.specs.Views.LineWords.{line_words, procedure_words};
 ghost use Rattle.burr_asm.specs.Views.FrontSteps.{BeginsMain, EndsText, GivesFault, GivesFront};
 ghost use Rattle.burr_asm.specs.Views.FrontSteps.{GivesNext, GivesUnderWay, GivesWithin};
-ghost use Rattle.burr_asm.specs.Views.FrontSteps.{misses, NextProcedure};
+ghost use Rattle.burr_asm.specs.Views.FrontSteps.{front_after, misses, NextProcedure};
 ghost use Rattle.burr_asm.specs.Views.Steps.{changed};
+ghost use Rattle.burr_asm.specs.declared.text.front.Front.TheVariants.{AwaitsMain, AwaitsPlan};
 ghost use Rattle.burr_asm.specs.declared.text.front.Front.TheVariants.{InProcedure};
 
 use crate::fault::AsmFault;
@@ -15,7 +16,6 @@ use crate::text::stage::Stage;
 use crate::text::words::is_skipped;
 use burr_container::Plan;
 use std::alloc::Global;
-use std::mem::replace;
 
 /// What the lines so far have been, and so what may stand next.
 #[derive(Drop)]
@@ -54,21 +54,27 @@ impl<'a> Front<'a> {
     fn add_form(&mut self, alloc: Global, form: LineForm<'a>, line: usize) -> Result<(), AsmFault>
         ensures { GivesFront self.old (line_words form.entry) line (changed self.new result) }
     {
-        match self {
-            Front::InProcedure(under_way) => match form {
-                LineForm::Procedure(_) => self.turn(alloc, form, line),
-                _ => under_way.add(alloc, form, line),
-            },
-            Front::AwaitsPlan | Front::AwaitsMain(_) => self.turn(alloc, form, line),
+        if let Some(next) = self.next(alloc, form, line)? {
+            *self = next;
         }
+        Ok(())
     }
 
-    /// One more line of this form, with which the plan or a procedure may begin.
-    fn turn(&mut self, alloc: Global, form: LineForm<'a>, line: usize) -> Result<(), AsmFault>
-        ensures { GivesFront self.old (line_words form.entry) line (changed self.new result) }
+    /// What the lines have been with one more of this form; None where the procedure under way goes
+    /// on.
+    fn next(
+        &mut self,
+        alloc: Global,
+        form: LineForm<'a>,
+        line: usize,
+    ) -> Result<Option<Front<'a>>, AsmFault>
+        ensures { GivesFront self.old (line_words form.entry) line (front_after self.new result) }
     {
-        *self = replace(self, Front::AwaitsPlan).with(alloc, form, line)?;
-        Ok(())
+        match self {
+            Front::AwaitsPlan => begin_plan(alloc, form, line),
+            Front::AwaitsMain(outline) => begin_main(alloc, outline, form, line),
+            Front::InProcedure(under_way) => under_way.next(alloc, form, line),
+        }
     }
 
     /// The fault of a line that is of no form, or isn't ended; it isn't skipped.
@@ -103,128 +109,128 @@ impl<'a> Front<'a> {
         }
     }
 
-    /// What the lines have been with one more of this form.
-    fn with(self, alloc: Global, form: LineForm<'a>, line: usize) -> Result<Front<'a>, AsmFault>
-        ensures { GivesFront self.entry (line_words form.entry) line result }
-    {
-        match self {
-            Front::AwaitsPlan => match form {
-                LineForm::Plan(words) => {
-                    Ok(Front::AwaitsMain(Outline::new(alloc, words, line)?))
-                }
-                _ => Err(AsmFault::P1 { line }),
-            },
-            Front::AwaitsMain(outline) => match form {
-                LineForm::Procedure(words) => begin_main(alloc, outline, words, line),
-                _ => Err(AsmFault::P1 { line }),
-            },
-            Front::InProcedure(under_way) => in_procedure(alloc, under_way, form, line),
-        }
-    }
-
     /// The plan, where the text may end here; `line` is the one after the last.
-    pub fn finish(self, alloc: Global, line: usize) -> Result<Plan, AsmFault>
-        ensures { EndsText self.entry line result }
+    pub fn finish(&mut self, alloc: Global, line: usize) -> Result<Plan, AsmFault>
+        ensures { EndsText self.old line result }
     {
         match self {
             Front::InProcedure(under_way) => under_way.finish(alloc, line),
-            Front::AwaitsPlan | Front::AwaitsMain(_) => Err(AsmFault::P1 { line }),
+            _ => Err(AsmFault::P1 { line }),
         }
+    }
+}
+
+/// The plan's line.
+fn begin_plan(alloc: Global, form: LineForm<'_>, line: usize) -> Result<Option<Front<'_>>, AsmFault>
+    ensures { GivesFront AwaitsPlan (line_words form.entry) line (front_after AwaitsPlan result) }
+{
+    match form {
+        LineForm::Plan(words) => { Ok(Some(Front::AwaitsMain(Outline::new(alloc, words, line)?))) }
+        _ => Err(AsmFault::P1 { line }),
     }
 }
 
 /// The line of main after the plan's.
 fn begin_main<'a>(
     alloc: Global,
-    mut outline: Outline<'a>,
+    outline: &mut Outline<'a>,
+    form: LineForm<'a>,
+    line: usize,
+) -> Result<Option<Front<'a>>, AsmFault>
+    ensures { GivesFront (AwaitsMain outline.old) (line_words form.entry) line
+        (front_after (AwaitsMain outline.new) result) }
+{
+    match form {
+        LineForm::Procedure(words) => first_procedure(alloc, outline, words, line),
+        _ => Err(AsmFault::P1 { line }),
+    }
+}
+
+/// A line `proc` after the plan's, with which main begins.
+fn first_procedure<'a>(
+    alloc: Global,
+    outline: &mut Outline<'a>,
     words: ProcedureWords<'a>,
     line: usize,
-) -> Result<Front<'a>, AsmFault>
-    ensures { BeginsMain outline.entry (procedure_words words.entry) line result }
+) -> Result<Option<Front<'a>>, AsmFault>
+    ensures { BeginsMain outline.old (procedure_words words.entry) line
+        (front_after (AwaitsMain outline.new) result) }
 {
     if !words.are_of(outline.version()) {
         return Err(AsmFault::P1 { line });
     }
     let routine = outline.begin(alloc, words, line)?;
-    let stage = Stage::AwaitsLabel;
-    Ok(Front::InProcedure(UnderWay {
-        outline,
+    Ok(Some(Front::InProcedure(UnderWay {
+        outline: outline.take(alloc),
         routine,
-        stage,
-    }))
-}
-
-/// A line of a procedure that has not ended, or of the next one.
-fn in_procedure<'a>(
-    alloc: Global,
-    under_way: UnderWay<'a>,
-    form: LineForm<'a>,
-    line: usize,
-) -> Result<Front<'a>, AsmFault>
-    ensures { let w = under_way.entry in
-        GivesUnderWay w.outline w.routine w.stage (line_words form.entry) line result }
-{
-    match form {
-        LineForm::Procedure(words) => match under_way.stage {
-            Stage::InCode => next_procedure(alloc, under_way, words, line),
-            _ => within_procedure(alloc, under_way, form, line),
-        },
-        _ => within_procedure(alloc, under_way, form, line),
-    }
-}
-
-/// A line `proc` after the code of a procedure, which ends here.
-fn next_procedure<'a>(
-    alloc: Global,
-    under_way: UnderWay<'a>,
-    words: ProcedureWords<'a>,
-    line: usize,
-) -> Result<Front<'a>, AsmFault>
-    ensures { let w = under_way.entry in
-        NextProcedure w.outline w.routine (procedure_words words.entry) line result }
-{
-    if !words.are_of(under_way.outline.version()) {
-        return Err(AsmFault::P1 { line });
-    }
-    let mut outline = under_way.outline.end(under_way.routine)?;
-    let routine = outline.begin(alloc, words, line)?;
-    let stage = Stage::AwaitsExit;
-    Ok(Front::InProcedure(UnderWay {
-        outline,
-        routine,
-        stage,
-    }))
-}
-
-/// A line after which the procedure has not ended.
-fn within_procedure<'a>(
-    alloc: Global,
-    mut under_way: UnderWay<'a>,
-    form: LineForm<'a>,
-    line: usize,
-) -> Result<Front<'a>, AsmFault>
-    ensures { let w = under_way.entry in
-        GivesWithin w.outline w.routine w.stage (line_words form.entry) line result }
-{
-    under_way.add(alloc, form, line)?;
-    Ok(Front::InProcedure(under_way))
+        stage: Stage::AwaitsLabel,
+    })))
 }
 
 impl<'a> UnderWay<'a> {
+    /// What the lines have been with one more of this form; None where the procedure goes on.
+    fn next(
+        &mut self,
+        alloc: Global,
+        form: LineForm<'a>,
+        line: usize,
+    ) -> Result<Option<Front<'a>>, AsmFault>
+        ensures { GivesUnderWay self.old.outline self.old.routine self.old.stage
+            (line_words form.entry) line (front_after (InProcedure self.new) result) }
+    {
+        match form {
+            LineForm::Procedure(words) => match self.stage {
+                Stage::InCode => self.next_procedure(alloc, words, line),
+                _ => self.add(alloc, form, line),
+            },
+            _ => self.add(alloc, form, line),
+        }
+    }
+
+    /// A line `proc` after the code of the procedure, which ends here.
+    fn next_procedure(
+        &mut self,
+        alloc: Global,
+        words: ProcedureWords<'a>,
+        line: usize,
+    ) -> Result<Option<Front<'a>>, AsmFault>
+        ensures { NextProcedure self.old.outline self.old.routine (procedure_words words.entry)
+            line (front_after (InProcedure self.new) result) }
+    {
+        if !words.are_of(self.outline.version()) {
+            return Err(AsmFault::P1 { line });
+        }
+        self.outline.end(alloc, &mut self.routine)?;
+        let routine = self.outline.begin(alloc, words, line)?;
+        Ok(Some(Front::InProcedure(UnderWay {
+            outline: self.outline.take(alloc),
+            routine,
+            stage: Stage::AwaitsExit,
+        })))
+    }
+
     /// One more line, after which the procedure has not ended.
-    fn add(&mut self, alloc: Global, form: LineForm<'a>, line: usize) -> Result<(), AsmFault>
+    fn add(
+        &mut self,
+        alloc: Global,
+        form: LineForm<'a>,
+        line: usize,
+    ) -> Result<Option<Front<'a>>, AsmFault>
         ensures { GivesWithin self.old.outline self.old.routine self.old.stage
-            (line_words form.entry) line (changed (InProcedure self.new) result) }
+            (line_words form.entry) line (front_after (InProcedure self.new) result) }
     {
         let pieces = self.outline.pieces();
-        self.stage.add(alloc, &mut self.routine, pieces, form, line)
+        self.stage
+            .add(alloc, &mut self.routine, pieces, form, line)?;
+        Ok(None)
     }
 
     /// The plan, where the text may end here; `line` is the one after the last.
-    fn finish(self, alloc: Global, line: usize) -> Result<Plan, AsmFault>
-        ensures { EndsText (InProcedure self.entry) line result }
+    fn finish(&mut self, alloc: Global, line: usize) -> Result<Plan, AsmFault>
+        ensures { EndsText (InProcedure self.old) line result }
     {
         self.stage.end(line)?;
-        self.outline.end(self.routine)?.resolve(alloc)
+        self.outline.end(alloc, &mut self.routine)?;
+        self.outline.take(alloc).resolve(alloc)
     }
 }

@@ -42,14 +42,23 @@ pub fn index(number: NumberWord<'_>) -> Option<usize>
     number.as_str().parse().ok()
 }
 
+/// A number that is at least the one, and at most the other.
+fn within(number: NumberWord<'_>, least: u8, most: u8) -> Option<u8>
+    ensures few { IfSome result (λ found. found ≤ most) }
+    ensures many { IfSome result (λ found. least ≤ found) }
+    ensures value { IsWithin least most number.entry.bytes.now result }
+{
+    let found = byte(number)?;
+    (least <= found && found <= most).then_some(found)
+}
+
 /// How many pieces a plan is for: 2 to 32.
 pub fn piece_count(number: NumberWord<'_>) -> Option<u8>
     ensures few { IfSome result (λ count. count ≤ 32) }
     ensures several { IfSome result (λ count. 2 ≤ count) }
     ensures value { IsWithin 2 32 number.entry.bytes.now result }
 {
-    let count = byte(number)?;
-    (FEWEST_PIECES <= count && count <= MOST_PIECES).then_some(count)
+    within(number, FEWEST_PIECES, MOST_PIECES)
 }
 
 /// The budget of a plan: 1 to 1,000,000.
@@ -85,9 +94,11 @@ fn count_of(number: NumberWord<'_>, main: bool, most: u8) -> Option<u8>
     ensures few { IfSome result (λ count. count ≤ most) }
     ensures value { IsWithin 0 (if main then 0 else most) number.entry.bytes.now result }
 {
-    let most = if main { 0 } else { most };
-    let count = byte(number)?;
-    (count <= most).then_some(count)
+    if main {
+        within(number, 0, 0)
+    } else {
+        within(number, 0, most)
+    }
 }
 
 /// A tray: 0 to 31.

@@ -21,6 +21,7 @@ use burr_code::limits::MOST_PROCEDURES;
 use burr_container::{Plan, Procedure};
 use std::alloc::Global;
 use std::marker::Model;
+use std::mem::replace;
 
 /// A plan as far as it has been read: what its first line says, the names of all procedures that
 /// have begun, and those that have ended.
@@ -133,18 +134,32 @@ impl<'a> Outline<'a> {
         })
     }
 
-    /// The plan with the procedure that has begun last, which ends here.
-    pub fn end(mut self, routine: Routine<'a>) -> Result<Outline<'a>, AsmFault>
+    /// The procedure that has begun last ends here, and is taken out.
+    pub fn end(&mut self, alloc: Global, routine: &mut Routine<'a>) -> Result<(), AsmFault>
         ensures { MatchResult result
-            (λ outline. (ends_with_label routine.entry ≡ false)
-            × (outline ≡ with_routine self.entry routine.entry))
-            (IsLabelAtEnd routine.entry) }
+            (λ _done. (ends_with_label routine.old ≡ false)
+            × (self.new ≡ with_routine self.old routine.old))
+            (IsLabelAtEnd routine.old) }
     {
         if let Some(line) = routine.label_at_end() {
             return Err(AsmFault::P4 { line });
         }
-        self.ended.push(routine)?;
-        Ok(self)
+        self.ended.push(routine.take(alloc))?;
+        Ok(())
+    }
+
+    /// Takes out what has been read.
+    pub fn take(&mut self, alloc: Global) -> Outline<'a>
+        ensures { result ≡ self.old }
+    {
+        Outline {
+            version: self.version,
+            name: self.name,
+            pieces: self.pieces,
+            budget: self.budget,
+            names: replace(&mut self.names, Names::new(alloc)),
+            ended: replace(&mut self.ended, Vec::new(alloc)),
+        }
     }
 
     /// The plan, where all names in its code are known; else the fault of the first line in which

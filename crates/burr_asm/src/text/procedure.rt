@@ -17,6 +17,7 @@ use burr_code::limits::MOST_LABELS;
 use burr_container::{ExitFrame, Frame, Procedure};
 use std::alloc::{AllocError, Global};
 use std::marker::Model;
+use std::mem::replace;
 
 /// A procedure as far as it has been read.
 #[derive(Drop)]
@@ -59,6 +60,14 @@ impl<'a> Routine<'a> {
             last: 0,
             code: Code::new(alloc),
         }
+    }
+
+    /// Takes out what has been read.
+    pub fn take(&mut self, alloc: Global) -> Routine<'a>
+        ensures { result ≡ self.old }
+    {
+        let signature = self.signature;
+        replace(self, Routine::new(alloc, signature))
     }
 
     /// What it takes and gives.

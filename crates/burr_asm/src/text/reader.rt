@@ -1,4 +1,6 @@
+ghost use Rattle.std.specs.Prelude.{◌≡◌};
 ghost use Rattle.burr_asm.specs.Views.Reading.{ReadsPlan};
+ghost use Rattle.burr_asm.specs.declared.text.front.Front.TheVariants.{AwaitsPlan};
 
 use crate::fault::AsmFault;
 use crate::text::front::Front;
@@ -10,7 +12,14 @@ use std::alloc::Global;
 pub fn read_plan(alloc: Global, text: &[u8]) -> Result<Plan, AsmFault>
     ensures { ReadsPlan text.now result }
 {
-    let mut front = Front::AwaitsPlan;
+    read_lines(alloc, &mut Front::AwaitsPlan, text)
+}
+
+/// The same, with a front to which no line has come yet.
+fn read_lines<'a>(alloc: Global, front: &mut Front<'a>, text: &'a [u8]) -> Result<Plan, AsmFault>
+    requires { front.now ≡ AwaitsPlan }
+    ensures { ReadsPlan text.now result }
+{
     let mut rest = text;
     let mut line = 1;
     while !rest.is_empty() {

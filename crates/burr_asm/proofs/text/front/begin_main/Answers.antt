@@ -1,21 +1,10 @@
-use Rattle.std.proofs.lemmas.Result.{err_from_is_err_and}
-use Rattle.burr_asm.specs.Views.LineWords.{procedure_words}
-use Rattle.burr_asm.proofs.FrontSteps.{version_told, main_of_other, main_refused, main_begun}
+use Rattle.std.proofs.Common.{refl}
+use Rattle.burr_asm.specs.declared.text.front.Front.TheVariants.{AwaitsMain}
+use Rattle.burr_asm.proofs.FrontSteps.{main_due, main_other}
 use Rattle.burr_asm.proofs.text.front.begin_main.Goals as goal
 
-pub returns-then-not-are_of : goal.returns-then-not-are_of
-returns-then-not-are_of c =
-    main_of_other c.args.outline (procedure_words c.args.words) c.args.line c.are_of.result
-    (version_told _ _ _ (procedure_words c.args.words).results c.are_of.ensures c.version.ensures) c.if-not-are_of.true
+pub returns-in-Procedure : goal.returns-in-Procedure
+returns-in-Procedure c = main_due c.args.outline.now c.args.form c.in-Procedure.words c.args.line _ c.in-Procedure.is c.first_procedure.ensures
 
-pub returns-in_err-routine : goal.returns-in_err-routine
-returns-in_err-routine c =
-    let p = err_from_is_err_and c.from_residual.result c.from_residual.ensures.1 in
-    rw (p.1, p.2)
-    (main_refused c.args.outline (procedure_words c.args.words) c.args.line c.are_of.result c.in_err-routine.field-0.0
-    (version_told _ _ _ (procedure_words c.args.words).results c.are_of.ensures c.version.ensures) c.if-not-are_of.false c.in_err-routine.ensures)
-
-pub returns : goal.returns
-returns c =
-    main_begun c.args.outline c.begin.new.self (procedure_words c.args.words) c.in_ok-routine.routine c.args.line c.are_of.result
-    (version_told _ _ _ (procedure_words c.args.words).results c.are_of.ensures c.version.ensures) c.if-not-are_of.false c.in_ok-routine.ensures
+pub returns-in_default : goal.returns-in_default
+returns-in_default c = main_other (AwaitsMain c.args.outline.now) c.args.outline.now c.args.form c.args.line refl c.in_default.not-Procedure

@@ -1,8 +1,8 @@
-use Rattle.std.proofs.Common.{ap, ◌∙◌}
+use Rattle.std.proofs.Common.{ap, ◌∙◌, arith}
 use Rattle.std.specs.Option.{is_some}
 use Rattle.burr_asm.specs.Views.LineWords.{procedure_words}
 use Rattle.burr_asm.specs.Views.Routines.{OutlineParts}
-use Rattle.burr_asm.proofs.HeadRefusals.{head_full}
+use Rattle.burr_asm.proofs.HeadRefusals.{head_counts, head_full, head_known, no_number}
 use Rattle.burr_asm.proofs.text.outline.Outline.begin.Goals as goal
 
 pub returns-then-count-ge-MOST_PROCEDURES : goal.returns-then-count-ge-MOST_PROCEDURES
@@ -10,3 +10,19 @@ returns-then-count-ge-MOST_PROCEDURES c =
     head_full c.args.self.now (procedure_words c.args.words) c.args.line c.count.result c.self.inside.names
     (ap (λ (o : OutlineParts). o.names) c.self.view_is)
     (c.if-is_some.ensures ∙ ap is_some c.number.ensures) c.in-Some.ensures.0 c.count.ensures c.if-count-ge-MOST_PROCEDURES.true
+
+pub returns-then-is_some : goal.returns-then-is_some
+returns-then-is_some c =
+    head_known c.args.self.now (procedure_words c.args.words) c.args.line c.self.inside.names
+    (ap (λ (o : OutlineParts). o.names) c.self.view_is) (c.if-is_some.ensures ∙ ap is_some c.number.ensures)
+
+pub returns-in_default : goal.returns-in_default
+returns-in_default c =
+    head_counts c.args.self.now (procedure_words c.args.words) c.args.line c.self.inside.names
+    (ap (λ (o : OutlineParts). o.names) c.self.view_is) (c.if-is_some.ensures ∙ ap is_some c.number.ensures) c.in_default.ensures
+
+pub add-requires-clause-room : goal.add-requires-clause-room
+add-requires-clause-room c = omega arith
+
+pub add-requires-clause-new : goal.add-requires-clause-new
+add-requires-clause-new c = no_number _ _ (c.if-is_some.ensures ∙ ap is_some c.number.ensures)

@@ -1,6 +1,6 @@
 use Rattle.std.proofs.Common.{◌≤◌, ◌+◌, length}
 use Rattle.burr_asm.proofs.ReadLines.{IsReading}
-use Rattle.burr_asm.proofs.text.reader.read_plan.Given as goal
+use Rattle.burr_asm.proofs.text.reader.read_lines.Given as goal
 
 -- each line has its end, and the lines so far have led here
 abbrev pub invariant-loop-rest : goal.invariant-loop-rest

@@ -1,11 +1,10 @@
-use Rattle.std.proofs.Common.{◌≡◌, ◌<◌, length, rules, refl, arith}
+use Rattle.std.proofs.Common.{◌≡◌, ◌<◌, length, rules, arith}
 use Rattle.std.proofs.lemmas.Result.{err_from_is_err_and}
-use Rattle.burr_asm.specs.declared.text.front.Front.TheVariants.{AwaitsPlan}
 use Rattle.burr_asm.proofs.ReadLines.{line_ends, nothing_read, read_on, next_fails, last_fails, text_ends}
-use Rattle.burr_asm.proofs.text.reader.read_plan.Goals as goal
+use Rattle.burr_asm.proofs.text.reader.read_lines.Goals as goal
 
 pub loop-rest-init : goal.loop-rest-init
-loop-rest-init c = (omega arith, nothing_read c.args.text.now AwaitsPlan refl)
+loop-rest-init c = (omega arith, nothing_read c.args.text.now c.args.front.now c.requires)
 
 pub returns-in_default : goal.returns-in_default
 returns-in_default c =
