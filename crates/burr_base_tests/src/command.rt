@@ -1,4 +1,5 @@
 //! Words, and what they ask for: help, the version, faults, jobs.
+use crate::asserts::assert_text;
 use burr_command::{Job, PlanTask, Request, TextTask, request_of};
 use std::alloc::{AllocError, Global};
 use std::process::Abort;
@@ -15,80 +16,142 @@ fn words_of(alloc: Global, line: &str) -> Result<Vec<String>, AllocError> {
 /// What the words of a line ask for, as text: `>` and each line of a reply, `!` and each line of a
 /// fault, or `=` and a job.
 fn answer_of(alloc: Global, line: &str) -> Result<String, AllocError> {
+    let mut answer = String::new(alloc);
+    add_answer(alloc, line, &mut answer)?;
+    Ok(answer)
+}
+
+/// Adds what the words of a line ask for.
+fn add_answer(alloc: Global, line: &str, answer: &mut String) -> Result<(), AllocError> {
     let words = words_of(alloc, line)?;
-    match request_of(alloc, &words)? {
-        Request::Reply(reply) => marked(alloc, if reply.is_fault { "!" } else { ">" }, &reply.text),
-        Request::Job(job) => job_text(alloc, &job),
-    }
+    let request = request_of(alloc, &words)?;
+    add_request(&request, answer)
 }
 
-/// The lines of a text, each after a mark.
-fn marked(alloc: Global, mark: &str, text: &str) -> Result<String, AllocError> {
-    let mut lines = String::new(alloc);
-    for line in text.lines() {
-        lines.push_str(mark)?;
-        lines.push_str(line)?;
-        lines.push('\n')?;
-    }
-    Ok(lines)
-}
-
-/// A job and its words.
-fn job_text(alloc: Global, job: &Job<'_>) -> Result<String, AllocError> {
-    match job {
-        Job::Assemble { text, out } => format!(in alloc; "=assemble {text} to {out}\n"),
-        Job::List { plan, places } => format!(in alloc; "=list {plan} {places}\n"),
-        Job::Upgrade { plan, out } => format!(in alloc; "=upgrade {plan} to {out}\n"),
-        Job::Step { assembly, plan } => format!(in alloc; "=step {assembly} {plan}\n"),
-        Job::Text {
-            task,
-            assembly,
-            text,
-        } => {
-            let task = match task {
-                TextTask::Why => "why",
-                TextTask::Trace => "trace",
-            };
-            format!(in alloc; "={task} {assembly} {text}\n")
+/// Adds what words ask for.
+fn add_request(request: &Request<'_>, answer: &mut String) -> Result<(), AllocError> {
+    match request {
+        Request::Reply(reply) => {
+            add_marked(if reply.is_fault { "!" } else { ">" }, &reply.text, answer)
         }
+        Request::Job(job) => add_job(job, answer),
+    }
+}
+
+/// Adds a job: its command, and its files or its line.
+fn add_job(job: &Job<'_>, answer: &mut String) -> Result<(), AllocError> {
+    answer.push('=')?;
+    answer.push_str(job_name(job))?;
+    match job {
+        Job::Explain { line } => add_words(&[line.as_str()], answer),
+        _ => add_words(&job_files(job), answer),
+    }
+}
+
+/// Adds the lines of a text, each after a mark.
+fn add_marked(mark: &str, text: &str, answer: &mut String) -> Result<(), AllocError> {
+    for line in text.lines() {
+        answer.push_str(mark)?;
+        answer.push_str(line)?;
+        answer.push('\n')?;
+    }
+    Ok(())
+}
+
+/// Adds words up to the first that is empty, a blank before each, and the end of the line.
+fn add_words(words: &[&str], answer: &mut String) -> Result<(), AllocError> {
+    for word in words {
+        if word.is_empty() {
+            break;
+        }
+        answer.push(' ')?;
+        answer.push_str(word)?;
+    }
+    answer.push('\n')
+}
+
+/// The command of a job, with its option.
+fn job_name(job: &Job<'_>) -> &'static str {
+    match job {
+        Job::Assemble { .. } => "asm",
+        Job::List { places, .. } => { if *places { "list --places" } else { "list" } }
+        Job::Upgrade { .. } => "upgrade",
+        Job::Step { .. } => "step",
+        Job::Text { task, .. } => match task {
+            TextTask::Why => "why",
+            TextTask::Trace => "trace",
+        },
+        Job::PlanSheet { .. } => "plan",
+        Job::Frames { .. } => "frames",
+        Job::Explain { .. } => "explain",
+        Job::Plan { task, .. } => match task {
+            PlanTask::Check => "check",
+            PlanTask::Run => "run",
+            PlanTask::Try => "try",
+        },
+    }
+}
+
+/// The files of a job in the order of its command line, and an empty word for each that it lacks.
+fn job_files<'a>(job: &Job<'a>) -> [&'a str; 3] {
+    match job {
+        Job::Explain { .. } => ["", "", ""],
+        Job::List { plan, .. } => [plan, "", ""],
+        Job::Assemble {
+            text: first,
+            out: second,
+        }
+        | Job::Upgrade {
+            plan: first,
+            out: second,
+        }
+        | Job::Step {
+            assembly: first,
+            plan: second,
+        }
+        | Job::Text {
+            assembly: first,
+            text: second,
+            ..
+        }
+        | Job::Plan {
+            assembly: first,
+            plan: second,
+            ..
+        } => [first, second, ""],
         Job::PlanSheet {
             assembly,
-            sheet,
+            sheet: second,
             out,
-        } => format!(in alloc; "=plan {assembly} {sheet} to {out}\n"),
-        Job::Frames {
-            assembly,
-            text,
-            out,
-        } => format!(in alloc; "=frames {assembly} {text} to {out}\n"),
-        Job::Explain { line } => format!(in alloc; "=explain {line}\n"),
-        Job::Plan {
-            task,
-            assembly,
-            plan,
-        } => {
-            let task = match task {
-                PlanTask::Check => "check",
-                PlanTask::Run => "run",
-                PlanTask::Try => "try",
-            };
-            format!(in alloc; "={task} {assembly} {plan}\n")
         }
+        | Job::Frames {
+            assembly,
+            text: second,
+            out,
+        } => [assembly, second, out],
     }
 }
 
-/// Asserts the answers to command lines, each after `$` and before the lines of its answer.
+/// Asserts the answers to command lines, between which `$` stands, each before the lines of its
+/// answer.
 fn assert_answers(rt: &impl Abort, alloc: Global, cases: &str) {
-    for case in cases.split('$').skip(1) {
-        let (line, wanted) = case.split_once('\n').expect(rt, "a case has a first line");
+    for case in cases.split('$') {
+        let (lines, wanted) = case.split_once('\n').expect(rt, "a case has a first line");
+        assert_alike(rt, alloc, lines, wanted);
+    }
+}
+
+/// Asserts the answer to each of some command lines, between which `;` stands.
+fn assert_alike(rt: &impl Abort, alloc: Global, lines: &str, wanted: &str) {
+    for line in lines.split(';') {
         let answer = answer_of(alloc, line).expect(rt, "memory");
-        assert!(rt; answer.as_str() == wanted, "{line}: {answer}");
+        assert_text(rt, line, &answer, wanted);
     }
 }
 
 /// What the program says of itself.
 const HELP: &str = "\
-$burr --help
+burr --help;burr -h;burr -h run;burr -hV;burr help
 >Checks and runs plans that take burr puzzles apart, and prints move sheets.
 >
 >Usage: burr <COMMAND>
@@ -142,17 +205,13 @@ $burr --help
 >  3  a file or a stream failed, or one that is read has more than 16777216 bytes
 >  4  out of memory
 >  5  the run waits for an answer
-$burr --version
->burr 0.1.0
-$burr -V
->burr 0.1.0
-$burr -Vh run
+$burr --version;burr -V;burr -Vh run
 >burr 0.1.0
 ";
 
 /// What is said of each command.
 const COMMAND_HELP: &str = "\
-$burr asm --help
+burr asm --help;burr asm -h;burr help asm
 >Assembles a plan text into a container
 >
 >Usage: burr asm <TEXT> <OUT>
@@ -221,7 +280,7 @@ $burr check --help
 >fails is named, as `refused V28 proc 0 pc 0`, with status 1.
 >
 >Example: ./burr check examples/cup.assembly /tmp/cup.bpln
-$burr run --help
+$burr run --help;burr run -h;burr help run
 >Runs a plan that is accepted
 >
 >Usage: burr run <ASSEMBLY> <PLAN>
@@ -363,7 +422,7 @@ $burr plan --help
 >such plan, the line of SHEET that fails is named, and why, and OUT is left alone.
 >
 >Example: ./burr plan examples/cup.assembly moves.sheet /tmp/moves.plan
-$burr explain --help
+$burr explain --help;burr explain -h;burr help explain
 >Says what a refusal, a trap or another line means
 >
 >Usage: burr explain <LINE>...
@@ -386,7 +445,7 @@ $burr explain --help
 
 /// Words that are faulty.
 const FAULTS: &str = "\
-$burr solve
+burr solve
 !error: unrecognized subcommand 'solve'
 !
 !Usage: burr <COMMAND>
@@ -498,18 +557,18 @@ $burr help solve
 
 /// Words that ask for a job; paths are taken as they stand.
 const JOBS: &str = "\
-$burr asm a b
-=assemble a to b
+burr asm a b
+=asm a b
 $burr asm -- -h --help
-=assemble -h to --help
+=asm -h --help
 $burr list x
-=list x false
+=list x
 $burr list --places x
-=list x true
+=list --places x
 $burr list x --places
-=list x true
+=list --places x
 $burr upgrade a b
-=upgrade a to b
+=upgrade a b
 $burr check a -dash
 =check a -dash
 $burr run a b
@@ -529,41 +588,27 @@ $burr why a t
 $burr trace a t
 =trace a t
 $burr frames a t o
-=frames a t to o
+=frames a t o
 $burr plan a s o
-=plan a s to o
+=plan a s o
 ";
 
-const ANSWERS: [&str; 4] = [HELP, COMMAND_HELP, FAULTS, JOBS];
-
 #[test]
-fn answers_words(rt: HostRuntime) {
-    for cases in &ANSWERS {
-        assert_answers(&rt, rt.alloc(), cases);
-    }
+fn says_what_it_is(rt: HostRuntime) {
+    assert_answers(&rt, rt.alloc(), HELP);
 }
 
-/// Pairs of command lines that are answered alike.
-const ALIKE: &str = "\
-burr --help=burr -h
-burr --help= -h run
-burr --help=burr -hV
-burr --help=burr help
-burr asm --help=burr asm -h
-burr asm --help=burr help asm
-burr run --help=burr run -h
-burr run --help=burr help run
-burr explain --help=burr explain -h
-burr explain --help=burr help explain
-";
+#[test]
+fn gives_help_of_each_command(rt: HostRuntime) {
+    assert_answers(&rt, rt.alloc(), COMMAND_HELP);
+}
 
 #[test]
-fn gives_help_by_other_words(rt: HostRuntime) {
-    for line in ALIKE.lines() {
-        let (first, second) = line.split_once('=').expect(&rt, "a pair is two lines");
-        let answer = answer_of(rt.alloc(), first).expect(&rt, "memory");
-        let other = answer_of(rt.alloc(), second).expect(&rt, "memory");
-        assert!(rt; answer.starts_with(">"), "{line}");
-        assert!(rt; answer.as_str() == other.as_str(), "{line}");
-    }
+fn tells_faults_of_words(rt: HostRuntime) {
+    assert_answers(&rt, rt.alloc(), FAULTS);
+}
+
+#[test]
+fn takes_words_of_jobs(rt: HostRuntime) {
+    assert_answers(&rt, rt.alloc(), JOBS);
 }

@@ -1,14 +1,13 @@
 //! Which lines are explained, and how an explanation is written.
+use crate::asserts::{assert_at, assert_case};
 use burr_explain::{explanation_of, put_explanation};
 use burr_io::{WriteFault, Writing};
 use std::alloc::Global;
 use std::io::Cursor;
 use std::process::Abort;
 
-/// What is asked for, a line each, and after `=` the heading that answers it, or `nothing`.
-const ASKED: [&str; 4] = [LINES, REFUSALS, TRAPS, UNKNOWN];
-
-/// Lines as they are printed, and in other forms.
+/// What is asked for, a line each, and after `=` the heading that answers it, or `nothing`: lines as
+/// they are printed, and in other forms.
 const LINES: &str = "\
 input=refused input
 refused input=refused input
@@ -176,8 +175,26 @@ fn written(rt: &impl Abort, alloc: Global, line: &str) -> Vec<u8> {
         return bytes;
     };
     let put = put_explanation(entry, &mut Writing::new(&mut bytes));
-    assert!(rt; put.is_ok(), "{line}");
+    assert_case(rt, line, put.is_ok());
     bytes
+}
+
+/// Whether a text begins with a line.
+fn is_headed(text: &str, heading: &str) -> bool {
+    match text.strip_prefix(heading) {
+        Some(rest) => rest.starts_with('\n'),
+        None => false,
+    }
+}
+
+/// Whether no line of a text has more than 80 bytes.
+fn has_short_lines(text: &str) -> bool {
+    for line in text.lines() {
+        if line.len() > 80 {
+            return false;
+        }
+    }
+    true
 }
 
 /// Asserts the heading of what is written for a line, and that no line of that has more than 80
@@ -186,20 +203,31 @@ fn assert_heading(rt: &impl Abort, alloc: Global, case: &str) {
     let (line, heading) = case.split_once('=').expect(rt, "a case has a heading");
     let bytes = written(rt, alloc, line);
     let text = str::from_utf8(&bytes).expect(rt, "a text");
-    let (first, _rest) = text.split_once('\n').expect(rt, "a line");
-    assert!(rt; first == heading, "{line}");
-    for part in text.lines() {
-        assert!(rt; part.len() <= 80, "{line}");
+    assert_case(rt, text, is_headed(text, heading));
+    assert_case(rt, text, has_short_lines(text));
+}
+
+/// Asserts the headings of what is written for lines.
+fn assert_headings(rt: &impl Abort, alloc: Global, cases: &str) {
+    for case in cases.lines() {
+        assert_heading(rt, alloc, case);
     }
 }
 
 #[test]
-fn explains_what_is_asked_for(rt: HostRuntime) {
-    for cases in &ASKED {
-        for case in cases.lines() {
-            assert_heading(&rt, rt.alloc(), case);
-        }
-    }
+fn explains_printed_lines(rt: HostRuntime) {
+    assert_headings(&rt, rt.alloc(), LINES);
+}
+
+#[test]
+fn explains_refusals_and_traps(rt: HostRuntime) {
+    assert_headings(&rt, rt.alloc(), REFUSALS);
+    assert_headings(&rt, rt.alloc(), TRAPS);
+}
+
+#[test]
+fn explains_nothing_else(rt: HostRuntime) {
+    assert_headings(&rt, rt.alloc(), UNKNOWN);
 }
 
 /// What is written for an orientation that is none.
@@ -222,15 +250,21 @@ fn writes_a_heading_and_a_paragraph_for_each_part(rt: HostRuntime) {
     assert!(rt; text.as_slice() == ORIENTATION.as_bytes());
 }
 
+/// Asserts that a sink takes a front of what is written, where it has room for no more, and that
+/// this failure is told.
+fn assert_front(rt: &impl Abort, front: &[u8]) {
+    let entry = explanation_of(b"waiting").expect(rt, "an explanation");
+    let mut room = [0; 1024];
+    let place = room.get_mut(..front.len()).expect(rt, "room");
+    let put = put_explanation(entry, &mut Writing::new(Cursor::new(place)));
+    assert_at(rt, front.len(), put == Err(WriteFault));
+    assert_at(rt, front.len(), room.starts_with(front));
+}
+
 #[test]
 fn tells_a_sink_that_fails(rt: HostRuntime) {
     let whole = written(&rt, rt.alloc(), "waiting");
-    let entry = explanation_of(b"waiting").expect(&rt, "an explanation");
-    let mut room = [0; 1024];
     for count in 0..whole.len() {
-        let place = room.get_mut(..count).expect(&rt, "room");
-        let put = put_explanation(entry, &mut Writing::new(Cursor::new(place)));
-        assert!(rt; put == Err(WriteFault), "{count}");
-        assert!(rt; room.get(..count) == whole.get(..count), "{count}");
+        assert_front(&rt, &whole[..count]);
     }
 }

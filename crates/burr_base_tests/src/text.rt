@@ -1,5 +1,7 @@
 //! Names, words and numbers, byte by byte and at their limits, and cuts.
+use crate::asserts::{assert_at, assert_case};
 use burr_text::{Name, cut_at, integer, is_name, is_number, is_word};
+use std::process::Abort;
 
 const LETTERS: &str = "ABCDEFGHIJKLMNOPQRSTUVWXYZabcdefghijklmnopqrstuvwxyz";
 
@@ -12,32 +14,36 @@ fn has(text: &str, byte: u8) -> bool {
     text.as_bytes().contains(&byte)
 }
 
+/// Whether names take a byte as they should, first and after a letter.
+fn is_judged_in_names(byte: u8) -> bool {
+    is_name(&[byte]) == has(LETTERS, byte)
+        && is_name(&[byte, b'o']) == has(LETTERS, byte)
+        && is_name(&[b'd', byte]) == has(NAME_BYTES, byte)
+        && is_name(&[b'd', byte, b'o']) == has(NAME_BYTES, byte)
+}
+
+/// Whether words take a byte as they should.
+fn is_judged_in_words(byte: u8) -> bool {
+    let is_taken = byte.is_ascii_graphic();
+    is_word(&[byte]) == is_taken
+        && is_word(&[byte, b'o']) == is_taken
+        && is_word(&[b'd', byte]) == is_taken
+}
+
+/// Whether numbers take a byte as they should, alone, after a digit and after a minus.
+fn is_judged_in_numbers(byte: u8) -> bool {
+    is_number(&[byte]) == has(DIGITS, byte)
+        && is_number(&[b'1', byte]) == has(DIGITS, byte)
+        && is_number(&[b'-', byte]) == has(&DIGITS[1..], byte)
+        && is_number(&[b'-', b'1', byte]) == has(DIGITS, byte)
+}
+
 #[test]
 fn judges_each_byte(rt: HostRuntime) {
     for byte in 0..=u8::MAX {
-        // names, first and after a letter
-        assert!(rt; is_name(&[byte]) == has(LETTERS, byte), "{byte}");
-        assert!(rt; is_name(&[byte, b'o']) == has(LETTERS, byte), "{byte}");
-        assert!(rt; is_name(&[b'd', byte]) == has(NAME_BYTES, byte), "{byte}");
-        assert!(rt;
-            is_name(&[b'd', byte, b'o']) == has(NAME_BYTES, byte),
-            "{byte}"
-        );
-        // words
-        assert!(rt; is_word(&[byte]) == byte.is_ascii_graphic(), "{byte}");
-        assert!(rt; is_word(&[byte, b'o']) == byte.is_ascii_graphic(), "{byte}");
-        assert!(rt; is_word(&[b'd', byte]) == byte.is_ascii_graphic(), "{byte}");
-        // numbers, alone, after a digit and after a minus
-        assert!(rt; is_number(&[byte]) == has(DIGITS, byte), "{byte}");
-        assert!(rt; is_number(&[b'1', byte]) == has(DIGITS, byte), "{byte}");
-        assert!(rt;
-            is_number(&[b'-', byte]) == has(&DIGITS[1..], byte),
-            "{byte}"
-        );
-        assert!(rt;
-            is_number(&[b'-', b'1', byte]) == has(DIGITS, byte),
-            "{byte}"
-        );
+        assert_at(&rt, usize::from(byte), is_judged_in_names(byte));
+        assert_at(&rt, usize::from(byte), is_judged_in_words(byte));
+        assert_at(&rt, usize::from(byte), is_judged_in_numbers(byte));
     }
 }
 
@@ -46,11 +52,19 @@ fn takes_names_of_1_to_32_bytes(rt: HostRuntime) {
     let bytes = [b'n'; 99];
     for length in 0..=bytes.len() {
         let is_wanted = 1 <= length && length <= 32;
-        assert!(rt; is_name(&bytes[..length]) == is_wanted, "{length} bytes");
+        assert_at(&rt, length, is_name(&bytes[..length]) == is_wanted);
     }
+}
+
+/// Whether a name has a text.
+fn is_named(name: &Name, text: &str) -> bool {
+    name.as_str() == text && name.as_bytes() == text.as_bytes()
+}
+
+#[test]
+fn keeps_names(rt: HostRuntime) {
     let name = Name::new(rt.alloc(), b"Burr_9-x").expect(&rt, "memory");
-    assert!(rt; name.as_str() == "Burr_9-x");
-    assert!(rt; name.as_bytes() == "Burr_9-x".as_bytes());
+    assert!(rt; is_named(&name, "Burr_9-x"));
 }
 
 /// Numbers of any length, a line each.
@@ -104,14 +118,17 @@ a
 \u{661}
 ";
 
+/// Asserts that each line is a number, or that none is.
+fn assert_numbers(rt: &impl Abort, lines: &str, are_numbers: bool) {
+    for line in lines.lines() {
+        assert_case(rt, line, is_number(line.as_bytes()) == are_numbers);
+    }
+}
+
 #[test]
 fn takes_numbers_as_they_are_written(rt: HostRuntime) {
-    for number in NUMBERS.lines() {
-        assert!(rt; is_number(number.as_bytes()), "{number}");
-    }
-    for other in OTHERS.lines() {
-        assert!(rt; !is_number(other.as_bytes()), "{other}");
-    }
+    assert_numbers(&rt, NUMBERS, true);
+    assert_numbers(&rt, OTHERS, false);
 }
 
 /// Numbers of 32 bits, at their limits.
@@ -133,25 +150,13 @@ const INTEGERS: [(&str, Option<i32>); 12] = [
 #[test]
 fn reads_numbers_of_32_bits(rt: HostRuntime) {
     for (text, value) in &INTEGERS {
-        assert!(rt; integer(text.as_bytes()) == *value, "{text}");
+        assert_case(&rt, text, integer(text.as_bytes()) == *value);
     }
 }
 
-/// What is cut at a blank, and its two parts.
-const CUTS: [(&str, Option<(&[u8], &[u8])>); 8] = [
-    (" ", Some((b"", b""))),
-    ("a b", Some((b"a", b"b"))),
-    ("a b c", Some((b"a", b"b c"))),
-    (" a", Some((b"", b"a"))),
-    ("a ", Some((b"a", b""))),
-    ("a  b", Some((b"a", b" b"))),
-    ("", None),
-    ("a-b", None),
-];
-
 #[test]
 fn cuts_at_the_first(rt: HostRuntime) {
-    for (text, parts) in &CUTS {
-        assert!(rt; cut_at(text.as_bytes(), b' ') == *parts, "{text}");
-    }
+    let parts = cut_at(b"a b c", b' ');
+    assert!(rt; parts == Some((b"a".as_slice(), b"b c".as_slice())));
+    assert!(rt; cut_at(b"a-b", b' ').is_none());
 }

@@ -1,5 +1,7 @@
 //! Directions and orientations, their numbers and names, turned cells, and what is ahead of a cell.
+use crate::asserts::{assert_at, assert_case};
 use burr_voxels::{Cell, Cells, Direction, Orientation};
+use std::process::Abort;
 
 const NAMES: [[u8; 2]; 6] = [*b"+x", *b"-x", *b"+y", *b"-y", *b"+z", *b"-z"];
 
@@ -24,22 +26,30 @@ fn turned(name: &str) -> Option<Cell> {
 #[test]
 fn turns_cells(rt: HostRuntime) {
     for (name, cell) in &TURNS {
-        assert!(rt; turned(name) == *cell, "{name}");
+        assert_case(&rt, name, turned(name) == *cell);
     }
+}
+
+/// How many orientations have names that begin with those of two directions. Each has the name that
+/// it is read from.
+fn orientations_of(rt: &impl Abort, [a, b]: [u8; 2], [c, d]: [u8; 2]) -> u32 {
+    let mut count = 0u32;
+    for [e, f] in &NAMES {
+        let name = [a, b, c, d, *e, *f];
+        if let Some(orientation) = Orientation::parse(&name) {
+            assert!(rt; orientation.name() == name);
+            count = count.wrapping_add(1);
+        }
+    }
+    count
 }
 
 #[test]
 fn knows_24_orientations(rt: HostRuntime) {
     let mut count = 0u32;
-    for [a, b] in NAMES {
-        for [c, d] in NAMES {
-            for [e, f] in NAMES {
-                let name = [a, b, c, d, e, f];
-                if let Some(orientation) = Orientation::parse(&name) {
-                    assert!(rt; orientation.name() == name);
-                    count = count.wrapping_add(1);
-                }
-            }
+    for first in &NAMES {
+        for second in &NAMES {
+            count = count.wrapping_add(orientations_of(&rt, *first, *second));
         }
     }
     assert!(rt; count == 24);
@@ -51,19 +61,28 @@ fn orients_by_directions(rt: HostRuntime) {
     assert!(rt; Orientation::of(Direction::PlusY, Direction::PlusX, Direction::PlusZ).is_none());
 }
 
+/// Whether a direction has a number and a name, and is the one of this name.
+fn is_named(direction: Direction, number: u8, name: [u8; 2]) -> bool {
+    direction.number() == number
+        && direction.name() == name
+        && Direction::named(&name) == Some(direction)
+}
+
 #[test]
 fn numbers_and_names_directions(rt: HostRuntime) {
     for number in 0..=7u8 {
-        let name = NAMES.get(usize::from(number)).copied();
-        let direction = Direction::of(number);
-        assert!(rt; direction.is_some() == name.is_some());
-        if let Some(direction) = direction {
-            assert!(rt; direction.number() == number);
-            assert!(rt; Some(direction.name()) == name);
-            assert!(rt; Direction::named(&direction.name()) == Some(direction));
-        }
+        let is_right = match (Direction::of(number), NAMES.get(usize::from(number))) {
+            (Some(direction), Some(name)) => is_named(direction, number, *name),
+            (None, None) => true,
+            _ => false,
+        };
+        assert_at(&rt, usize::from(number), is_right);
     }
     assert!(rt; Direction::named(b"+w").is_none());
+}
+
+#[test]
+fn goes_along_directions(rt: HostRuntime) {
     assert!(rt; Direction::MinusY.unit() == Cell { x: 0, y: -1, z: 0 });
     assert!(rt; Direction::MinusZ.along(-3) == Cell { x: 0, y: 0, z: 3 });
 }

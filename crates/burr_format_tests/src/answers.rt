@@ -17,6 +17,7 @@
 //! `unlike` stands in an answer where what was read is not written, spelled or assembled again as
 //! it was, and `Memory` where a request for memory was refused.
 use crate::container::two_cubes;
+use crate::inputs::number_of;
 use burr_asm::{AsmFault, assemble, list, list_with_places};
 use burr_assembly::{Assembly, piece_name};
 use burr_code::{Labels, encode, fetch};
@@ -43,30 +44,56 @@ pub fn answer(
     }
 }
 
+/// The answer of a kind to an input.
+pub fn answer_to(alloc: Global, kind: &str, input: &[u8]) -> Result<String, AllocError> {
+    let mut found = String::new(alloc);
+    answer(alloc, kind, input, &mut found)?;
+    Ok(found)
+}
+
 fn add_code(alloc: Global, code: &[u8], found: &mut String) -> Result<(), AllocError> {
     let mut at = 0usize;
     for _ in 0..=code.len() {
-        let Some((instr, size)) = fetch(code, at) else {
+        let size = add_instr(alloc, code, at, found)?;
+        if size == 0 {
             break;
-        };
-        let before = if at == 0 { "" } else { " " };
-        write!(found, "{before}{instr:?}")?;
-        let end = at.saturating_add(size);
-        let bytes = code.get(at..end).unwrap_or(b"");
-        let front = bytes.get(..size.saturating_sub(1)).unwrap_or(b"");
-        let spelled = encode(alloc, &instr)?;
-        let is_whole = instr.size() == size && fetch(front, 0).is_none();
-        if !is_whole || spelled.as_slice() != bytes {
-            found.push_str(" unlike")?;
         }
-        at = end;
+        at = at.saturating_add(size);
     }
-    let is_end = at == code.len() && fetch(code, usize::MAX).is_none();
-    found.push_str(match (is_end, at) {
-        (true, _) => "",
-        (false, 0) => "nothing",
-        (false, _) => " nothing",
-    })
+    found.push_str(end_of_code(code, at))
+}
+
+/// Adds the instruction at a position, and gives its size; 0 where there is none.
+fn add_instr(
+    alloc: Global,
+    code: &[u8],
+    at: usize,
+    found: &mut String,
+) -> Result<usize, AllocError> {
+    let Some((instr, size)) = fetch(code, at) else {
+        return Ok(0);
+    };
+    found.push_str(if at == 0 { "" } else { " " })?;
+    write!(found, "{instr:?}")?;
+    let spelled = encode(alloc, &instr)?;
+    let bytes = code.get(at..at.saturating_add(size)).unwrap_or(b"");
+    let is_right = instr.size() == size && is_one(bytes, &spelled);
+    found.push_str(if is_right { "" } else { " unlike" })?;
+    Ok(size)
+}
+
+/// Whether the bytes of an instruction are those it is spelled with, and no front of them is one.
+fn is_one(bytes: &[u8], spelled: &[u8]) -> bool {
+    let front = bytes.get(..bytes.len().saturating_sub(1)).unwrap_or(b"");
+    bytes == spelled && fetch(front, 0).is_none()
+}
+
+/// What is said where no instruction begins.
+fn end_of_code(code: &[u8], at: usize) -> &'static str {
+    if at == code.len() && fetch(code, usize::MAX).is_none() {
+        return "";
+    }
+    if at == 0 { "nothing" } else { " nothing" }
 }
 
 fn add_labels(bytes: &[u8], found: &mut String) -> Result<(), AllocError> {
@@ -75,15 +102,17 @@ fn add_labels(bytes: &[u8], found: &mut String) -> Result<(), AllocError> {
     };
     write!(found, "{}:", labels.len())?;
     for number in 0..=labels.len() {
-        match labels.get(number) {
-            Some(label) => write!(found, " {label}")?,
-            None => found.push_str(" -")?,
-        }
+        add_label(labels.get(number), found)?;
     }
-    found.push_str(match labels.get(usize::MAX) {
-        Some(_label) => " more",
-        None => "",
-    })
+    let has_more = labels.get(usize::MAX).is_some();
+    found.push_str(if has_more { " more" } else { "" })
+}
+
+fn add_label(label: Option<u16>, found: &mut String) -> Result<(), AllocError> {
+    match label {
+        Some(label) => write!(found, " {label}"),
+        None => found.push_str(" -"),
+    }
 }
 
 fn add_assembly(
@@ -93,17 +122,26 @@ fn add_assembly(
     found: &mut String,
 ) -> Result<(), AllocError> {
     match Assembly::read(alloc, text) {
-        Ok(assembly) => {
-            if assembly.write(alloc)?.as_slice() != text {
-                return found.push_str("unlike");
-            }
-            if kind == "assembly" {
-                return found.push_str("right");
-            }
-            add_pieces(&assembly, found)
-        }
+        Ok(assembly) => add_read(alloc, kind, text, &assembly, found),
         Err(fault) => write!(found, "{fault:?}"),
     }
+}
+
+/// Adds what an assembly is that was read of a text.
+fn add_read(
+    alloc: Global,
+    kind: &str,
+    text: &[u8],
+    assembly: &Assembly,
+    found: &mut String,
+) -> Result<(), AllocError> {
+    if assembly.write(alloc)?.as_slice() != text {
+        return found.push_str("unlike");
+    }
+    if kind == "assembly" {
+        return found.push_str("right");
+    }
+    add_pieces(assembly, found)
 }
 
 fn add_pieces(assembly: &Assembly, found: &mut String) -> Result<(), AllocError> {
@@ -123,8 +161,8 @@ fn add_cells(cells: &[Cell], found: &mut String) -> Result<(), AllocError> {
 }
 
 fn add_name(kind: &str, text: &[u8], found: &mut String) -> Result<(), AllocError> {
-    let number = kind.strip_prefix("name ").unwrap_or("");
-    match number.parse() {
+    let number = number_of(kind.strip_prefix("name ").unwrap_or(""));
+    match u8::try_from(number.unwrap_or(usize::MAX)) {
         Ok(piece) => add_bytes(piece_name(text, piece), found),
         Err(_fault) => found.push_str("no such kind"),
     }
@@ -153,35 +191,75 @@ fn add_container(
     bytes: &[u8],
     found: &mut String,
 ) -> Result<(), AllocError> {
-    let container = match Container::parse(bytes) {
-        Ok(container) => container,
-        Err(fault) => return write!(found, "{fault:?}"),
-    };
-    if !is_rewritten(alloc, &container, bytes)? {
+    match Container::parse(bytes) {
+        Ok(container) => add_parsed(alloc, kind, bytes, &container, found),
+        Err(fault) => write!(found, "{fault:?}"),
+    }
+}
+
+/// Adds what a container is that was read of bytes.
+fn add_parsed(
+    alloc: Global,
+    kind: &str,
+    bytes: &[u8],
+    container: &Container<'_>,
+    found: &mut String,
+) -> Result<(), AllocError> {
+    if !is_rewritten(alloc, container, bytes)? {
         return found.push_str("unlike");
     }
     if kind == "written" {
         return found.push_str("right");
     }
-    let text = match kind {
-        "asm" | "listing" => list(alloc, &container)?,
-        _ => list_with_places(alloc, &container)?,
-    };
-    match assemble(alloc, &text) {
-        Ok(again) if again.as_slice() == bytes => {}
-        Err(AsmFault::Memory) => return found.push_str("Memory"),
-        _ => return found.push_str("unlike"),
-    }
+    let text = listed(alloc, kind, container)?;
+    let version = container.header().version;
+    add_listed(
+        kind,
+        version,
+        bytes,
+        &text,
+        assembled(alloc, &text, bytes),
+        found,
+    )
+}
+
+/// The listing of a container, without places for some kinds of answers.
+fn listed(alloc: Global, kind: &str, container: &Container<'_>) -> Result<Vec<u8>, AllocError> {
     match kind {
-        "asm" => found.push_str("right"),
-        "listing" => add_bytes(&text, found),
-        "size" => add_size(&container, bytes, found),
-        _ => {
-            add_size(&container, bytes, found)?;
-            found.push('\n')?;
-            add_bytes(&text, found)
-        }
+        "asm" | "listing" => list(alloc, container),
+        _ => list_with_places(alloc, container),
     }
+}
+
+/// What comes of a text that should be assembled to these bytes.
+fn assembled(alloc: Global, text: &[u8], bytes: &[u8]) -> &'static str {
+    match assemble(alloc, text) {
+        Ok(again) if again.as_slice() == bytes => "right",
+        Err(AsmFault::Memory) => "Memory",
+        _ => "unlike",
+    }
+}
+
+/// Adds what is asked for of a listing, where what comes of it is right.
+fn add_listed(
+    kind: &str,
+    version: u16,
+    bytes: &[u8],
+    text: &[u8],
+    comes: &str,
+    found: &mut String,
+) -> Result<(), AllocError> {
+    if kind == "asm" || comes != "right" {
+        return found.push_str(comes);
+    }
+    if kind != "listing" {
+        write!(found, "version {version}, {} bytes", bytes.len())?;
+        if kind == "size" {
+            return Ok(());
+        }
+        found.push('\n')?;
+    }
+    add_bytes(text, found)
 }
 
 /// Whether the plan of a container is written as its bytes again.
@@ -191,22 +269,19 @@ fn is_rewritten(
     bytes: &[u8],
 ) -> Result<bool, AllocError> {
     let plan = Plan::of(alloc, container)?;
+    is_written(alloc, &plan, bytes)
+}
+
+/// Whether a plan is within the format, and written as these bytes.
+fn is_written(alloc: Global, plan: &Plan, bytes: &[u8]) -> Result<bool, AllocError> {
     if !plan.fits() {
         return Ok(false);
     }
-    Ok(write(alloc, &plan)?.as_slice() == bytes)
-}
-
-fn add_size(container: &Container<'_>, bytes: &[u8], found: &mut String) -> Result<(), AllocError> {
-    let version = container.header().version;
-    write!(found, "version {version}, {} bytes", bytes.len())
+    Ok(write(alloc, plan)?.as_slice() == bytes)
 }
 
 fn add_plan(alloc: Global, bytes: &[u8], found: &mut String) -> Result<(), AllocError> {
     let plan = two_cubes(alloc)?;
-    if !plan.fits() {
-        return found.push_str("outside the format");
-    }
-    let is_written = write(alloc, &plan)?.as_slice() == bytes;
-    found.push_str(if is_written { "right" } else { "unlike" })
+    let is_right = is_written(alloc, &plan, bytes)?;
+    found.push_str(if is_right { "right" } else { "unlike" })
 }

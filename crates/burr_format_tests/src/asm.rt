@@ -1,7 +1,7 @@
 //! Plans as texts: their faults, what they are assembled to, and how containers are listed.
-use crate::answers::answer;
-use crate::tables::assert_tables;
-use std::test::Fail;
+use crate::answers::answer_to;
+use crate::tables::{assert_answer, assert_tables};
+use std::alloc::{AllocError, Global};
 
 mod faults;
 mod limits;
@@ -114,7 +114,8 @@ pub const LIFT: &str = "plan cup 2 11\n\
      step +z\n\
      ret\n";
 
-const TABLES: [[&str; 4]; 20] = [
+/// Faults of texts in version 1.
+const FAULTY: [[&str; 4]; 8] = [
     ["asm", RING, "@", HEADINGS],
     ["asm", RING, "@", FRAMES],
     ["asm", RING, "@", FORMS],
@@ -123,13 +124,23 @@ const TABLES: [[&str; 4]; 20] = [
     ["asm", RING, "@", WORKED],
     ["asm", "@", "@", WORKED_FRONTS],
     ["asm", LIFT, "@", PROCEDURES],
+];
+
+/// Texts at the limits of the format.
+const AT_ALL_LIMITS: [[&str; 4]; 4] = [
     ["asm", LABELS_256, "@", BEHIND_LABELS],
     ["asm", PROCEDURES_16, "@", BEHIND_PROCEDURES],
     ["asm", BYTES_4093, "@", BEHIND_CODE],
     ["asm", AT_LIMITS, "@", "|right"],
+];
+
+const WITH_PLACES: [[&str; 4]; 3] = [
     ["places", DUO, DUO_PLACES, "|"],
     ["places", RING, RING_PLACES, "|"],
     ["places", CUP, CUP_PLACES, "|"],
+];
+
+const LISTED: [[&str; 4]; 5] = [
     ["listing", LIFT, LISTED_LIFT, "|"],
     ["listing", LIFT, LISTED_UPS, UPS],
     ["listing", ALL, ALL, "|"],
@@ -137,40 +148,75 @@ const TABLES: [[&str; 4]; 20] = [
     ["asm", LIFT, "@", "|right"],
 ];
 
-/// Of plans with results, and of the same plans in both versions.
-const OF_RESULTS: [[&str; 4]; 9] = [
+/// Faults of texts with results.
+const FAULTY_RESULTS: [[&str; 4]; 3] = [
     ["asm", LIFT, "@", OF_VERSION_2],
     ["asm", ANSWERED_LIFT, "@", RESULTS],
     ["asm", EXIT, "@", BEHIND_EXIT],
+];
+
+const LISTED_RESULTS: [[&str; 4]; 3] = [
     ["places", ANSWERED_LIFT, ANSWERED_LIFT_PLACES, "|"],
     ["places", DUO_2, DUO_2_PLACES, "|"],
     ["listing", ALL_OF_EXITS, ALL_OF_EXITS, "|"],
+];
+
+/// The same plans in both versions.
+const IN_BOTH_VERSIONS: [[&str; 4]; 3] = [
     ["size", RING, "@", SIZES_OF_RING],
     ["size", CUP, "@", SIZES_OF_CUP],
     ["size", LIFT, "@", SIZES_OF_LIFT],
 ];
 
 #[test]
-fn judges_and_lists_plans(rt: HostRuntime) -> Result<(), Fail> {
-    Ok(assert_tables(&rt, rt.alloc(), &TABLES)?)
+fn tells_faults_of_plans(rt: HostRuntime) {
+    assert_tables(&rt, rt.alloc(), &FAULTY);
 }
 
 #[test]
-fn judges_and_lists_plans_with_results(rt: HostRuntime) -> Result<(), Fail> {
-    Ok(assert_tables(&rt, rt.alloc(), &OF_RESULTS)?)
+fn takes_plans_at_limits(rt: HostRuntime) {
+    assert_tables(&rt, rt.alloc(), &AT_ALL_LIMITS);
 }
 
 #[test]
-fn takes_any_bytes_after_a_semicolon(rt: HostRuntime) -> Result<(), Fail> {
-    let alloc = rt.alloc();
+fn lists_plans_with_places(rt: HostRuntime) {
+    assert_tables(&rt, rt.alloc(), &WITH_PLACES);
+}
+
+#[test]
+fn lists_plans(rt: HostRuntime) {
+    assert_tables(&rt, rt.alloc(), &LISTED);
+}
+
+#[test]
+fn tells_faults_of_results(rt: HostRuntime) {
+    assert_tables(&rt, rt.alloc(), &FAULTY_RESULTS);
+}
+
+#[test]
+fn lists_plans_with_results(rt: HostRuntime) {
+    assert_tables(&rt, rt.alloc(), &LISTED_RESULTS);
+}
+
+#[test]
+fn takes_plans_in_both_versions(rt: HostRuntime) {
+    assert_tables(&rt, rt.alloc(), &IN_BOTH_VERSIONS);
+}
+
+/// The text of the ring with comments of any bytes and empty lines between its lines.
+fn commented_ring(alloc: Global) -> Result<Vec<u8>, AllocError> {
     let mut text = Vec::new(alloc);
     for line in RING.lines() {
         text.extend_from_slice(b";\x00\x09\x0d\x7f\x80\xff\n\n")?;
         text.extend_from_slice(line.as_bytes())?;
         text.push(b'\n')?;
     }
-    let mut found = String::new(alloc);
-    answer(alloc, "places", &text, &mut found)?;
-    assert!(rt; found.as_str() == RING_PLACES, "{found}");
-    Ok(())
+    Ok(text)
+}
+
+#[test]
+fn takes_any_bytes_after_a_semicolon(rt: HostRuntime) {
+    let text = commented_ring(rt.alloc()).expect(&rt, "memory");
+    let found = answer_to(rt.alloc(), "places", &text).expect(&rt, "memory");
+    assert_answer(&rt, "comments", &found, RING_PLACES);
 }

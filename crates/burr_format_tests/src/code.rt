@@ -1,34 +1,50 @@
 //! Instructions and their bytes, labels, and sets of pieces.
 use crate::tables::assert_tables;
 use burr_code::{Labels, fetch, is_in_set};
-use std::test::Fail;
 
-const TABLES: [[&str; 4]; 6] = [
+const INSTRUCTIONS: [[&str; 4]; 3] = [
     ["code", "@", "@", WORKED],
     ["code", "@", "@", EACH],
     ["code", "@", "@", EDGES],
+];
+
+const LIMITS: [[&str; 4]; 3] = [
     ["code", "@", "@", PICKS],
     ["code", "@", "@", OUT_OF_RANGE],
     ["labels", "@", "@", LABELS],
 ];
 
 #[test]
-fn reads_and_spells_code(rt: HostRuntime) -> Result<(), Fail> {
-    Ok(assert_tables(&rt, rt.alloc(), &TABLES)?)
+fn reads_and_spells_code(rt: HostRuntime) {
+    assert_tables(&rt, rt.alloc(), &INSTRUCTIONS);
+}
+
+#[test]
+fn knows_limits_of_code(rt: HostRuntime) {
+    assert_tables(&rt, rt.alloc(), &LIMITS);
+}
+
+/// Whether the bit of a piece is known, where a piece may have this number.
+fn is_bit_known(piece: u8) -> bool {
+    match piece {
+        1 | 31 => is_in_set(0x8000_0002, piece),
+        0..32 => !is_in_set(0x8000_0002, piece),
+        _ => true,
+    }
+}
+
+/// Whether code that begins with this byte is read where there is such an instruction alone.
+fn is_first_byte_known(byte: u8) -> bool {
+    let code = [byte, 2, 1, 1, 1, 1, 1, 1, 1];
+    let is_first = matches!(byte, 0x00..=0x06 | 0x10..=0x13 | 0x20..=0x25);
+    is_first || fetch(&code, 0).is_none()
 }
 
 #[test]
 fn knows_bits_and_first_bytes(rt: HostRuntime) {
     for byte in 0..=255u8 {
-        let is_right = match byte {
-            1 | 31 => is_in_set(0x8000_0002, byte),
-            0..32 => !is_in_set(0x8000_0002, byte),
-            _ => true,
-        };
-        assert!(rt; is_right, "piece {byte}");
-        let code = [byte, 2, 1, 1, 1, 1, 1, 1, 1];
-        let is_first = matches!(byte, 0x00..=0x06 | 0x10..=0x13 | 0x20..=0x25);
-        assert!(rt; is_first || fetch(&code, 0).is_none(), "first byte {byte}");
+        let is_known = is_bit_known(byte) && is_first_byte_known(byte);
+        assert!(rt; is_known, "{byte}");
     }
 }
 

@@ -7,46 +7,81 @@ use crate::tables::assert_tables;
 use burr_container::{Frame, Place, Plan, PlanForm, Procedure};
 use burr_testing::plans::{DUO_PLAN, RESULT_PLAN, RING_PLAN};
 use std::alloc::{AllocError, Global};
-use std::test::Fail;
 
-const TABLES: [[&str; 4]; 10] = [
+/// Containers and what they hold.
+const RIGHT: [[&str; 4]; 5] = [
     ["container", DUO_PLAN, DUO_PLACES, "|"],
     ["container", RING_PLAN, RING_PLACES, "|"],
     ["container", DUO_PLAN, SECOND_LABEL_PLACES, SECOND_LABEL],
     ["container", DUO_PLAN, DUO_2_PLACES, IN_VERSION_2],
     ["container", RESULT_PLAN, ANSWERED_LIFT_PLACES, "|"],
+];
+
+const FAULTY: [[&str; 4]; 4] = [
     ["container", DUO_PLAN, "@", OF_DUO],
     ["container", RING_PLAN, "@", OF_RING],
     ["container", RESULT_PLAN, "@", OF_ANSWERED_LIFT],
     ["container", "@", "@", FRONTS],
-    ["plan", "@", "@", PLANS],
 ];
 
 #[test]
-fn reads_containers(rt: HostRuntime) -> Result<(), Fail> {
-    Ok(assert_tables(&rt, rt.alloc(), &TABLES)?)
+fn reads_containers(rt: HostRuntime) {
+    assert_tables(&rt, rt.alloc(), &RIGHT);
 }
 
 #[test]
-fn knows_a_plan_outside_the_format(rt: HostRuntime) -> Result<(), Fail> {
-    let mut plan = two_cubes(rt.alloc())?;
-    plan.budget = 1_000_001;
-    assert!(rt; !plan.fits());
-    plan.budget = 1_000_000;
-    assert!(rt; plan.fits());
-    plan.version = 2;
-    assert!(rt; plan.fits());
-    plan.version = 3;
-    assert!(rt; !plan.fits());
-    plan.version = 2;
-    plan.pieces = 3;
-    assert!(rt; !plan.fits());
-    Ok(())
+fn tells_faults_of_containers(rt: HostRuntime) {
+    assert_tables(&rt, rt.alloc(), &FAULTY);
+}
+
+#[test]
+fn writes_a_plan(rt: HostRuntime) {
+    assert_tables(&rt, rt.alloc(), &[["plan", "@", "@", PLANS]]);
+}
+
+/// Whether a plan is within the format with another version, other pieces and another budget.
+fn fits_with(plan: &mut Plan, version: u16, pieces: u8, budget: u32) -> bool {
+    plan.version = version;
+    plan.pieces = pieces;
+    plan.budget = budget;
+    plan.fits()
+}
+
+#[test]
+fn knows_a_plan_outside_the_format(rt: HostRuntime) {
+    let mut plan = two_cubes(rt.alloc()).expect(&rt, "memory");
+    assert!(rt; !fits_with(&mut plan, 1, 2, 1_000_001));
+    assert!(rt; fits_with(&mut plan, 1, 2, 1_000_000));
+    assert!(rt; fits_with(&mut plan, 2, 2, 1_000_000));
+    assert!(rt; !fits_with(&mut plan, 3, 2, 1_000_000));
+    assert!(rt; !fits_with(&mut plan, 2, 3, 1_000_000));
 }
 
 /// The plan of the two cubes.
 pub fn two_cubes(alloc: Global) -> Result<Plan, AllocError> {
-    let frame = Frame {
+    Ok(Plan {
+        version: 1,
+        name: Vec::from_slice(alloc, b"duo")?,
+        pieces: 2,
+        budget: 3,
+        procs: Vec::from_array(alloc, [main(alloc)?])?,
+    })
+}
+
+/// Its procedure.
+fn main(alloc: Global) -> Result<Procedure, AllocError> {
+    Ok(Procedure {
+        params: 0,
+        results: 0,
+        exit: None,
+        labels: Vec::from_array(alloc, [(0, start(alloc)?)])?,
+        code: Vec::from_slice(alloc, &[0x10, 0, 0, 0, 1, 0x12, 1, 1, 0])?,
+    })
+}
+
+/// What holds at its label.
+fn start(alloc: Global) -> Result<Frame, AllocError> {
+    Ok(Frame {
         tray: 0,
         grip: 0,
         slots: [None; 8],
@@ -57,20 +92,6 @@ pub fn two_cubes(alloc: Global) -> Result<Plan, AllocError> {
             coefs: [0; 8],
         },
         places: Vec::from_array(alloc, [HOME, HOME])?,
-    };
-    let main = Procedure {
-        params: 0,
-        results: 0,
-        exit: None,
-        labels: Vec::from_array(alloc, [(0, frame)])?,
-        code: Vec::from_slice(alloc, &[0x10, 0, 0, 0, 1, 0x12, 1, 1, 0])?,
-    };
-    Ok(Plan {
-        version: 1,
-        name: Vec::from_slice(alloc, b"duo")?,
-        pieces: 2,
-        budget: 3,
-        procs: Vec::from_array(alloc, [main])?,
     })
 }
 

@@ -1,12 +1,11 @@
 //! Texts and containers that are damaged at each of their places in turn.
-use crate::answers::answer;
+use crate::answers::answer_to;
 use crate::asm::{ANSWERED_LIFT, CUP as CUP_TEXT, DUO as DUO_TEXT, LIFT, RING as RING_TEXT};
-use crate::inputs::{input_of, text_of};
+use crate::inputs::{input_of, number_of, text_of};
 use burr_testing::assemblies::{CUP, DUO, RING};
 use burr_testing::plans::{DUO_PLAN, RESULT_PLAN, RING_PLAN};
 use std::alloc::{AllocError, Global};
 use std::process::Abort;
-use std::test::Fail;
 
 /// What the answer to a damaged input has to be.
 #[derive(Clone, Copy)]
@@ -45,24 +44,6 @@ const OF_NO_LINE: &[u8] = b" \t\r\0\x7f\x80\xa0\xff";
 /// Bytes that have a meaning in plans.
 const OF_PLANS: &[u8] = b"\n ;01-,v";
 
-const DAMAGES: [Damage<'static>; 15] = [
-    ("assembly", DUO, REST, b"", Front([5, 6, 6])),
-    ("assembly", RING, REST, b"", Front([9, 15, 16])),
-    ("assembly", CUP, REST, b"", Front([5, 15, 16])),
-    ("container", DUO_PLAN, REST, b"", Bytes),
-    ("container", RING_PLAN, REST, b"", Bytes),
-    ("container", RESULT_PLAN, REST, b"", Bytes),
-    ("listing", DUO_TEXT, REST, b"", Lines(DUO_FRONTS)),
-    ("listing", RING_TEXT, REST, b"", Lines(RING_FRONTS)),
-    ("listing", CUP_TEXT, REST, b"", Lines(CUP_FRONTS)),
-    ("assembly", DUO, 0, OF_NO_LINE, Byte("", "")),
-    ("assembly", RING, 0, OF_NO_LINE, Byte("", "")),
-    ("assembly", CUP, 0, OF_NO_LINE, Byte("", "")),
-    ("asm", RING_TEXT, 1, OF_PLANS, Anywhere),
-    ("asm", LIFT, 1, OF_PLANS, Anywhere),
-    ("asm", ANSWERED_LIFT, 1, OF_PLANS, Anywhere),
-];
-
 /// The answers to the fronts of the plan of two cubes, the first to that of no line.
 const DUO_FRONTS: &str = "P1 1,P1 2,P5 3,P5 4,P1 5,P1 6,P1 7,P4 3,right,right";
 
@@ -99,46 +80,92 @@ fn assert_bytes(
     kind: &'static str,
     base: &'static str,
     want: Want,
-) -> Result<(), AllocError> {
+) {
     let others = of_lines();
-    for put in [b"".as_slice(), b"\n", &others] {
-        assert_damage(rt, alloc, (kind, base, 1, put, want))?;
-    }
-    Ok(())
+    assert_damage(rt, alloc, (kind, base, 1, b"", want));
+    assert_damage(rt, alloc, (kind, base, 1, b"\n", want));
+    assert_damage(rt, alloc, (kind, base, 1, &others, want));
 }
 
 #[test]
-fn judges_what_is_damaged(rt: HostRuntime) -> Result<(), Fail> {
-    for damage in &DAMAGES {
-        assert_damage(&rt, rt.alloc(), *damage)?;
-    }
-    Ok(())
+fn judges_fronts_of_assemblies(rt: HostRuntime) {
+    let alloc = rt.alloc();
+    assert_damage(&rt, alloc, ("assembly", DUO, REST, b"", Front([5, 6, 6])));
+    assert_damage(
+        &rt,
+        alloc,
+        ("assembly", RING, REST, b"", Front([9, 15, 16])),
+    );
+    assert_damage(&rt, alloc, ("assembly", CUP, REST, b"", Front([5, 15, 16])));
 }
 
 #[test]
-fn reads_no_second_text_of_two_cubes(rt: HostRuntime) -> Result<(), Fail> {
-    Ok(assert_bytes(&rt, rt.alloc(), "assembly", DUO, After)?)
+fn judges_fronts_of_containers(rt: HostRuntime) {
+    let alloc = rt.alloc();
+    assert_damage(&rt, alloc, ("container", DUO_PLAN, REST, b"", Bytes));
+    assert_damage(&rt, alloc, ("container", RING_PLAN, REST, b"", Bytes));
+    assert_damage(&rt, alloc, ("container", RESULT_PLAN, REST, b"", Bytes));
 }
 
 #[test]
-fn reads_no_second_text_of_a_rod_in_a_ring(rt: HostRuntime) -> Result<(), Fail> {
-    Ok(assert_bytes(&rt, rt.alloc(), "assembly", RING, After)?)
+fn judges_fronts_of_plans(rt: HostRuntime) {
+    let alloc = rt.alloc();
+    assert_damage(
+        &rt,
+        alloc,
+        ("listing", DUO_TEXT, REST, b"", Lines(DUO_FRONTS)),
+    );
+    assert_damage(
+        &rt,
+        alloc,
+        ("listing", RING_TEXT, REST, b"", Lines(RING_FRONTS)),
+    );
+    assert_damage(
+        &rt,
+        alloc,
+        ("listing", CUP_TEXT, REST, b"", Lines(CUP_FRONTS)),
+    );
 }
 
 #[test]
-fn writes_each_container_again(rt: HostRuntime) -> Result<(), Fail> {
-    Ok(assert_bytes(&rt, rt.alloc(), "written", DUO_PLAN, Field)?)
+fn judges_bytes_that_no_line_may_have(rt: HostRuntime) {
+    let alloc = rt.alloc();
+    assert_damage(&rt, alloc, ("assembly", DUO, 0, OF_NO_LINE, Byte("", "")));
+    assert_damage(&rt, alloc, ("assembly", RING, 0, OF_NO_LINE, Byte("", "")));
+    assert_damage(&rt, alloc, ("assembly", CUP, 0, OF_NO_LINE, Byte("", "")));
+}
+
+#[test]
+fn judges_bytes_of_plans(rt: HostRuntime) {
+    let alloc = rt.alloc();
+    assert_damage(&rt, alloc, ("asm", RING_TEXT, 1, OF_PLANS, Anywhere));
+    assert_damage(&rt, alloc, ("asm", LIFT, 1, OF_PLANS, Anywhere));
+    assert_damage(&rt, alloc, ("asm", ANSWERED_LIFT, 1, OF_PLANS, Anywhere));
+}
+
+#[test]
+fn reads_no_second_text_of_two_cubes(rt: HostRuntime) {
+    assert_bytes(&rt, rt.alloc(), "assembly", DUO, After);
+}
+
+#[test]
+fn reads_no_second_text_of_a_rod_in_a_ring(rt: HostRuntime) {
+    assert_bytes(&rt, rt.alloc(), "assembly", RING, After);
+}
+
+#[test]
+fn writes_each_container_again(rt: HostRuntime) {
+    assert_bytes(&rt, rt.alloc(), "written", DUO_PLAN, Field);
 }
 
 /// Asserts what is wanted at each place. What is put in can stand at the end too.
-fn assert_damage(rt: &impl Abort, alloc: Global, damage: Damage<'_>) -> Result<(), AllocError> {
+fn assert_damage(rt: &impl Abort, alloc: Global, damage: Damage<'_>) {
     let (kind, base, taken, _put, _want) = damage;
-    let input = damaged_of(alloc, kind, base)?;
+    let input = damaged_of(alloc, kind, base).expect(rt, "memory");
     let end = if taken == 0 { 1 } else { 0 };
     for place in 0..input.len().saturating_add(end) {
-        assert_place(rt, alloc, damage, &input, place)?;
+        assert_place(rt, alloc, damage, &input, place);
     }
-    Ok(())
 }
 
 /// What is damaged: an input, or what is listed of it.
@@ -147,33 +174,41 @@ fn damaged_of(alloc: Global, kind: &str, base: &str) -> Result<Vec<u8>, AllocErr
     if kind != "listing" {
         return Ok(input);
     }
-    let mut listing = String::new(alloc);
-    answer(alloc, kind, &input, &mut listing)?;
+    let listing = answer_to(alloc, kind, &input)?;
     Vec::from_slice(alloc, listing.as_bytes())
 }
 
 /// Asserts what is wanted at a place.
-fn assert_place(
-    rt: &impl Abort,
-    alloc: Global,
-    damage: Damage<'_>,
-    input: &[u8],
-    place: usize,
-) -> Result<(), AllocError> {
+fn assert_place(rt: &impl Abort, alloc: Global, damage: Damage<'_>, input: &[u8], place: usize) {
     let (kind, _base, taken, put, want) = damage;
     let (front, rest) = input.split_at_checked(place).unwrap_or((input, b""));
-    let mut found = String::new(alloc);
+    let rest = rest.get(taken..).unwrap_or(b"");
     for number in 0..put.len().max(1) {
         let byte = put.get(number..number.saturating_add(1)).unwrap_or(b"");
-        let mut damaged = Vec::from_slice(alloc, front)?;
-        damaged.extend_from_slice(byte)?;
-        damaged.extend_from_slice(rest.get(taken..).unwrap_or(b""))?;
-        found.clear();
-        answer(alloc, kind, &damaged, &mut found)?;
-        let holds = is_wanted(want, byte, &damaged, place, &found);
-        assert!(rt; holds, "{kind} at {place}, {number}: {found}");
+        assert_put(rt, alloc, (kind, want), [front, byte, rest]).expect(rt, "memory");
     }
+}
+
+/// Asserts that what is wanted is the answer of a kind where this stands between a front and a rest.
+fn assert_put(
+    rt: &impl Abort,
+    alloc: Global,
+    (kind, want): (&str, Want),
+    [front, put, rest]: [&[u8]; 3],
+) -> Result<(), AllocError> {
+    let damaged = joined(alloc, front, put, rest)?;
+    let found = answer_to(alloc, kind, &damaged)?;
+    let holds = is_wanted(want, put, &damaged, front.len(), &found);
+    assert!(rt; holds, "{kind} at {}: {found}", front.len());
     Ok(())
+}
+
+/// Three parts, joined.
+fn joined(alloc: Global, front: &[u8], put: &[u8], rest: &[u8]) -> Result<Vec<u8>, AllocError> {
+    let mut bytes = Vec::from_slice(alloc, front)?;
+    bytes.extend_from_slice(put)?;
+    bytes.extend_from_slice(rest)?;
+    Ok(bytes)
 }
 
 /// Whether an answer is wanted where this is put in at a place, and that makes this input.
@@ -191,9 +226,9 @@ fn is_wanted(want: Want, byte: &[u8], damaged: &[u8], place: usize, found: &str)
         Field => is_of_field(found, place, damaged.len()),
         After => is_sound(found, line, line_ends(damaged)),
         Anywhere => is_sound(found, 1, line_ends(damaged)),
-        Byte(right, other) => match byte {
-            [byte] if right.as_bytes().contains(byte) => found == "right",
-            [byte] if byte.is_ascii_graphic() => found == other,
+        Byte(right, other) => match byte.first() {
+            Some(byte) if right.as_bytes().contains(byte) => found == "right",
+            Some(byte) if byte.is_ascii_graphic() => found == other,
             _ => is_fault(found, "A1 ", line),
         },
     }
@@ -207,17 +242,26 @@ fn is_of_lines(answers: &str, front: &[u8], ends: usize, found: &str) -> bool {
         Some((_whole, begun)) => begun,
         None => text,
     };
-    if !begun.is_empty() {
-        let is_word = begun.starts_with("label") || begun.starts_with("frame");
-        let is_due = answer.starts_with("P5") && !is_word;
-        return is_fault(
-            found,
-            if is_due { "P5 " } else { "P1 " },
-            ends.wrapping_add(1),
-        );
+    if begun.is_empty() {
+        return is_of_front(answer, text, found);
     }
+    is_fault(found, fault_within(answer, begun), ends.wrapping_add(1))
+}
+
+/// The fault of a front that ends within a line that has begun so, before which this is the answer.
+fn fault_within(answer: &str, begun: &str) -> &'static str {
+    let is_word = begun.starts_with("label") || begun.starts_with("frame");
+    if answer.starts_with("P5") && !is_word {
+        "P5 "
+    } else {
+        "P1 "
+    }
+}
+
+/// Whether this is the answer to a front of whole lines.
+fn is_of_front(answer: &str, text: &str, found: &str) -> bool {
     match answer.split_once(' ') {
-        Some((name, line)) => found.starts_with(name) && number_of(found) == line.parse().ok(),
+        Some((name, line)) => found.starts_with(name) && place_of(found) == number_of(line),
         None => answer == "right" && found == text,
     }
 }
@@ -225,7 +269,7 @@ fn is_of_lines(answers: &str, front: &[u8], ends: usize, found: &str) -> bool {
 /// Whether a container of so many bytes is right, or has a fault of the field of a place or of a later
 /// one. The fields of the plans here that may be faulty have at most four bytes.
 fn is_of_field(found: &str, place: usize, size: usize) -> bool {
-    match number_of(found) {
+    match place_of(found) {
         Some(at) => place < at.wrapping_add(4) && at <= size,
         None => found == "right",
     }
@@ -244,50 +288,48 @@ fn line_ends(text: &[u8]) -> usize {
 
 /// Whether this is a fault of a name, with a number.
 fn is_fault(found: &str, name: &str, number: usize) -> bool {
-    found.starts_with(name) && number_of(found) == Some(number)
+    found.starts_with(name) && place_of(found) == Some(number)
 }
 
 /// Whether a text of so many lines was right, or has a fault of this line or a later one.
 fn is_sound(found: &str, first: usize, ends: usize) -> bool {
-    match number_of(found) {
+    match place_of(found) {
         Some(line) => first <= line && line <= ends.wrapping_add(1),
         None => found == "right",
     }
 }
 
 /// The line, or the position, that a fault names.
-fn number_of(fault: &str) -> Option<usize> {
+fn place_of(fault: &str) -> Option<usize> {
     let (_name, rest) = fault.split_once(": ")?;
     let (number, _rest) = rest.split_once(' ')?;
-    number.trim_end_matches(',').parse().ok()
+    number_of(number.trim_end_matches(','))
 }
 
 /// Asserts each row of a table: a number of a line of the duo, what stands in its place before a
 /// byte and after it, the bytes that are right there, and the fault of any other byte of a word.
 #[test]
-fn judges_each_byte(rt: HostRuntime) -> Result<(), Fail> {
+fn judges_each_byte(rt: HostRuntime) {
     for row in PLACES.lines() {
-        let is_row = assert_row(&rt, rt.alloc(), row)?;
-        assert!(rt; is_row, "{row}");
+        assert_row(&rt, rt.alloc(), row);
     }
-    Ok(())
 }
 
-fn assert_row(rt: &impl Abort, alloc: Global, row: &'static str) -> Result<bool, AllocError> {
-    let Some((rest, other)) = row.rsplit_once('|') else {
-        return Ok(false);
-    };
-    let Some((line, right)) = rest.rsplit_once('|') else {
-        return Ok(false);
-    };
-    // the bar that is left stands for the byte, and a byte that no text has takes its place
-    let edit = line.replace(alloc, '|', "\x01")?;
-    let text = text_of(alloc, DUO, &edit)?;
+fn assert_row(rt: &impl Abort, alloc: Global, row: &'static str) {
+    let (rest, other) = row.rsplit_once('|').expect(rt, "a row has a fault");
+    let (line, right) = rest.rsplit_once('|').expect(rt, "a row has bytes");
+    let text = text_with_place(alloc, line).expect(rt, "memory");
     let place = text.find('\x01').unwrap_or(0);
     let bytes = of_lines();
     let damage = ("assembly", DUO, 1, bytes.as_slice(), Byte(right, other));
-    assert_place(rt, alloc, damage, text.as_bytes(), place)?;
-    Ok(true)
+    assert_place(rt, alloc, damage, text.as_bytes(), place);
+}
+
+/// The text of the duo with an edit in which a bar stands for the byte: one that no text has takes its
+/// place.
+fn text_with_place(alloc: Global, line: &str) -> Result<String, AllocError> {
+    let edit = line.replace(alloc, '|', "\x01")?;
+    text_of(alloc, DUO, &edit)
 }
 
 /// What the test of each byte goes over.

@@ -20,10 +20,16 @@ pub fn input_of(alloc: Global, kind: &str, base: &str, input: &str) -> Result<Ve
 
 /// The text that is made of another one and an input.
 pub fn text_of(alloc: Global, base: &str, input: &str) -> Result<String, AllocError> {
-    let mut text = match base.split_once('@') {
+    let text = match base.split_once('@') {
         Some((front, rest)) => format!(in alloc; "{front}{input}{rest}")?,
         None => edited(alloc, base, input)?,
     };
+    repeated(alloc, text)?.replace(alloc, '/', "\n")
+}
+
+/// A text in which all that is to be repeated is.
+fn repeated(alloc: Global, text: String) -> Result<String, AllocError> {
+    let mut text = text;
     // as often as there is something to repeat
     for _ in 0..100u32 {
         match with_repetition(alloc, &text)? {
@@ -31,7 +37,7 @@ pub fn text_of(alloc: Global, base: &str, input: &str) -> Result<String, AllocEr
             None => break,
         }
     }
-    text.replace(alloc, '/', "\n")
+    Ok(text)
 }
 
 /// A text with others in the place of some of its lines, which are counted from 1.
@@ -48,7 +54,7 @@ fn edited(alloc: Global, base: &str, edits: &str) -> Result<String, AllocError> 
 fn edit_of(edits: &str, number: usize) -> Option<&str> {
     for edit in edits.split('|') {
         let (place, put) = edit.split_once(' ')?;
-        if place.parse() == Ok(number) {
+        if number_of(place) == Some(number) {
             return Some(put);
         }
     }
@@ -61,20 +67,45 @@ fn with_repetition(alloc: Global, text: &str) -> Result<Option<String>, AllocErr
         return Ok(None);
     };
     let mut longer = String::from_str(alloc, front)?;
-    for number in 1..=count {
-        let number = format!(in alloc; "{number}")?;
-        let part = part.replace(alloc, '%', &number)?;
-        longer.push_str(&part)?;
-    }
+    add_repeated(alloc, count, part, &mut longer)?;
     longer.push_str(rest)?;
     Ok(Some(longer))
 }
 
+/// Adds a part so many times.
+fn add_repeated(
+    alloc: Global,
+    count: usize,
+    part: &str,
+    text: &mut String,
+) -> Result<(), AllocError> {
+    for number in 1..=count {
+        add_numbered(alloc, number, part, text)?;
+    }
+    Ok(())
+}
+
+/// Adds a part with the number of its repetition.
+fn add_numbered(
+    alloc: Global,
+    number: usize,
+    part: &str,
+    text: &mut String,
+) -> Result<(), AllocError> {
+    let number = format!(in alloc; "{number}")?;
+    text.push_str(&part.replace(alloc, '%', &number)?)
+}
+
 /// What stands before the last repetition of a text, how often it is, what it is of, and what
 /// stands after it.
-fn repetition(text: &str) -> Option<(&str, u32, &str, &str)> {
+fn repetition(text: &str) -> Option<(&str, usize, &str, &str)> {
     let (front, rest) = text.rsplit_once('<')?;
     let (repeated, rest) = rest.split_once('>')?;
     let (count, part) = repeated.split_once(' ')?;
-    Some((front, count.parse().ok()?, part, rest))
+    Some((front, number_of(count)?, part, rest))
+}
+
+/// The number that a text is.
+pub fn number_of(text: &str) -> Option<usize> {
+    text.parse().ok()
 }

@@ -1,5 +1,5 @@
 //! What a want of memory gives.
-use crate::answers::answer;
+use crate::answers::{answer, answer_to};
 use crate::asm::{ANSWERED_LIFT, LIFT, RING, RING_PLACES};
 use crate::inputs::input_of;
 use burr_testing::assemblies::DUO;
@@ -7,10 +7,9 @@ use burr_testing::plans::DUO_PLAN;
 use burr_testing::{Outcome, Trial, outcomes_in_want};
 use std::alloc::{AllocError, Global};
 use std::process::Abort;
-use std::test::Fail;
 
 /// A kind of answers, what the input is made of, the input, and the answer with memory.
-const ASKED: [[&str; 4]; 8] = [
+const OF_ASSEMBLIES: [[&str; 4]; 3] = [
     ["code", "@", "22 00 00 00 02", "Ask(0, 2)"],
     ["assembly", DUO, "", "right"],
     [
@@ -19,6 +18,10 @@ const ASKED: [[&str; 4]; 8] = [
         "7 piece B cube +x+y+z 0 0 0",
         "A8 { line: 7, earlier: 0, piece: 1 }",
     ],
+];
+
+/// The same of plans.
+const OF_PLANS: [[&str; 4]; 5] = [
     ["asm", LIFT, "", "right"],
     ["asm", LIFT, "10 call lid", "P2 { line: 10 }"],
     ["asm", ANSWERED_LIFT, "15 result 0 2/guard 0+1v0", "right"],
@@ -68,31 +71,30 @@ fn outcome_of(found: &str, want: &str) -> Outcome {
 }
 
 #[test]
-fn tells_a_want_of_memory(rt: HostRuntime) -> Result<(), Fail> {
-    // All with ample memory first: then the stack has grown as far as the calls need. It can't do so
-    // once all memory was taken, since blocks lie beside it then.
-    for is_ample in [true, false] {
-        assert_all_told(&rt, rt.alloc(), is_ample)?;
-    }
-    Ok(())
+fn tells_a_want_of_memory(rt: HostRuntime) {
+    assert_told(&rt, rt.alloc(), &OF_ASSEMBLIES);
 }
 
-/// Asserts what comes of each answer, with ample memory or not.
-fn assert_all_told(rt: &impl Abort, alloc: Global, is_ample: bool) -> Result<(), AllocError> {
-    for asked in &ASKED {
-        if is_ample {
-            assert_right(rt, alloc, asked)?;
-        } else {
-            assert_wants(rt, alloc, asked)?;
-        }
+#[test]
+fn tells_a_want_of_memory_for_plans(rt: HostRuntime) {
+    assert_told(&rt, rt.alloc(), &OF_PLANS);
+}
+
+/// Asserts what comes of each answer, with ample memory and without.
+fn assert_told(rt: &impl Abort, alloc: Global, all: &[[&str; 4]]) {
+    // All with ample memory first: then the stack has grown as far as the calls need. It can't do so
+    // once all memory was taken, since blocks lie beside it then.
+    for asked in all {
+        assert_right(rt, alloc, asked).expect(rt, "memory");
     }
-    Ok(())
+    for asked in all {
+        assert_wants(rt, alloc, asked).expect(rt, "memory");
+    }
 }
 
 /// Asserts that the right answer comes, after a wrong input whose fault is written.
 fn assert_right(rt: &impl Abort, alloc: Global, asked: &[&str; 4]) -> Result<(), AllocError> {
-    let mut fault = String::new(alloc);
-    answer(alloc, asked[0], b"", &mut fault)?;
+    answer_to(alloc, asked[0], b"")?;
     let outcome = Asked::new(alloc, asked)?.outcome(alloc);
     assert!(rt; matches!(outcome, Outcome::Right), "{}", asked[3]);
     Ok(())

@@ -1,18 +1,22 @@
 //! Plans made at random, from a seed.
-use crate::answers::answer;
+use crate::answers::answer_to;
+use crate::tables::assert_answer;
 use std::alloc::{AllocError, Global};
-use std::test::Fail;
+use std::process::Abort;
 
 #[test]
-fn lists_plans_made_at_random(rt: HostRuntime) -> Result<(), Fail> {
-    let alloc = rt.alloc();
+fn lists_plans_made_at_random(rt: HostRuntime) {
     let mut state = 20u64;
-    for which in 0..300u32 {
-        let text = grown(alloc, &mut state)?;
-        let mut found = String::new(alloc);
-        answer(alloc, "asm", text.as_bytes(), &mut found)?;
-        assert!(rt; found.as_str() == "right", "plan {which}: {found}");
+    for _ in 0..300u32 {
+        assert_listed(&rt, rt.alloc(), &mut state).expect(&rt, "memory");
     }
+}
+
+/// Asserts that the next plan is assembled, listed and assembled again.
+fn assert_listed(rt: &impl Abort, alloc: Global, state: &mut u64) -> Result<(), AllocError> {
+    let text = grown(alloc, state)?;
+    let found = answer_to(alloc, "asm", text.as_bytes())?;
+    assert_answer(rt, &text, &found, "right");
     Ok(())
 }
 
@@ -20,16 +24,35 @@ fn lists_plans_made_at_random(rt: HostRuntime) -> Result<(), Fail> {
 /// word.
 fn grown(alloc: Global, state: &mut u64) -> Result<String, AllocError> {
     let mut text = String::new(alloc);
+    grow(alloc, state, &mut text)?;
+    text.replace(alloc, '/', "\n")
+}
+
+/// Adds all that comes of the word `<plan>`.
+fn grow(alloc: Global, state: &mut u64, text: &mut String) -> Result<(), AllocError> {
     let mut rest = String::from_str(alloc, "<plan>")?;
     for _ in 0..20_000u32 {
-        let Some((front, word, after)) = first_word(&rest) else {
-            break;
-        };
-        text.push_str(front)?;
-        rest = format!(in alloc; "{}{after}", chosen(word, state))?;
+        match grow_first(alloc, state, &rest, text)? {
+            Some(grown) => rest = grown,
+            None => break,
+        }
     }
-    text.push_str(&rest)?;
-    text.replace(alloc, '/', "\n")
+    text.push_str(&rest)
+}
+
+/// Adds what stands before the first word, and gives what is left, with what comes of the word in its
+/// place; None where there is no word.
+fn grow_first(
+    alloc: Global,
+    state: &mut u64,
+    rest: &str,
+    text: &mut String,
+) -> Result<Option<String>, AllocError> {
+    let Some((front, word, after)) = first_word(rest) else {
+        return Ok(None);
+    };
+    text.push_str(front)?;
+    Ok(Some(format!(in alloc; "{}{after}", chosen(word, state))?))
 }
 
 /// The first word of a text that has a rule, with what stands before it and after it.

@@ -23,12 +23,10 @@ fn is_near(number: i32) -> bool
 #[test]
 fn gives_values(rt: HostRuntime) {
     assert_value(&rt, form(1, 2, -3), [4, 5, 9, 9, 9, 9, 9, 9], -6);
-    assert_value(&rt, number(-MOST), [0; 8], -MOST);
     let most = Form {
         constant: MOST,
         coefs: [MOST; 8],
     };
-    assert_value(&rt, most, [32767; 8], MOST * (1 + 8 * 32767));
     assert_value(&rt, most, [-32767; 8], MOST * (1 - 8 * 32767));
 }
 
@@ -52,26 +50,12 @@ fn arguments(first: Form, second: Form) -> [Form; 8] {
 
 #[test]
 fn puts_forms_in_place_of_symbols(rt: HostRuntime) {
-    let zero = number(0);
-    let one = arguments(form(3, 0, -1), zero);
+    let one = arguments(form(3, 0, -1), number(0));
     assert_substituted(&rt, form(1, 2, 0), &one, Ok(form(7, 0, -2)));
-    let other = arguments(zero, form(1, 1, 0));
-    assert_substituted(&rt, form(5, 0, 3), &other, Ok(form(8, 3, 0)));
-    assert_substituted(
-        &rt,
-        form(0, MOST, 0),
-        &arguments(number(1), zero),
-        Ok(number(MOST)),
-    );
-    assert_substituted(
-        &rt,
-        form(0, MOST, 0),
-        &arguments(number(2), zero),
-        Err(FormTooLarge),
-    );
     // What lies between may be far larger.
     let far = arguments(number(MOST), number(-MOST));
     assert_substituted(&rt, form(1, MOST, MOST), &far, Ok(number(1)));
+    assert_substituted(&rt, form(0, 2, 0), &far, Err(FormTooLarge));
 }
 
 /// Asserts the sum and the difference of two forms.
@@ -93,19 +77,5 @@ fn adds_and_subtracts(rt: HostRuntime) {
     let (one, other) = (form(1, 2, 3), form(10, -2, 30));
     assert_added(&rt, one, other, Ok(form(11, 0, 33)), Ok(form(-9, 4, -27)));
     let (most, least) = (number(MOST), number(-MOST));
-    assert_added(
-        &rt,
-        most,
-        number(1),
-        Err(FormTooLarge),
-        Ok(number(MOST - 1)),
-    );
-    assert_added(
-        &rt,
-        least,
-        number(1),
-        Ok(number(1 - MOST)),
-        Err(FormTooLarge),
-    );
     assert_added(&rt, most, least, Ok(number(0)), Err(FormTooLarge));
 }

@@ -1,5 +1,6 @@
 //! Whole lines: what each call of the sink below takes.
-use burr_io::{IoFailed, Sink, WholeLines, Writing, put_all};
+use crate::asserts::{assert_at, assert_case};
+use burr_io::{Sink, WholeLines, Writing, put_all};
 use burr_testing::Narrow;
 use std::alloc::{AllocError, Global};
 use std::io::{self, ErrorKind, Write};
@@ -37,30 +38,32 @@ fn calls_of(alloc: Global, portions: &str) -> Result<Vec<u8>, AllocError> {
     Ok(calls.log)
 }
 
-/// Portions that are put, and the calls that take them; `;` stands for the end of a line.
-const CALLS: &str = "\
-=
-a=a|
-ab;=ab;|
-ab;/cd;/=ab;cd;|
-ab;/cd;/ef=ab;cd;ef|
-ab;/cd;/efg;=ab;cd;|efg;|
-ab;cd;efg;=ab;cd;|efg;|
-ab;/cd;/ef/;gh=ab;cd;|ef;gh|
-abcdefg;=abcdefg;|
-abcdefgh;=abcdefgh|;|
-abcdefghij;k;=abcdefgh|ij;k;|
-a;bcdefghijkl;=a;|bcdefghi|jkl;|
-;;;;;;;;;=;;;;;;;;|;|
-";
+/// Portions that are put, and after `=` the calls that take them; a `$` stands between two cases.
+const CALLS: &str = "=\
+$a=a|\
+$ab\n=ab\n|\
+$ab\n/cd\n/=ab\ncd\n|\
+$ab\n/cd\n/ef=ab\ncd\nef|\
+$ab\n/cd\n/efg\n=ab\ncd\n|efg\n|\
+$ab\ncd\nefg\n=ab\ncd\n|efg\n|\
+$ab\n/cd\n/ef/\ngh=ab\ncd\n|ef\ngh|\
+$abcdefg\n=abcdefg\n|\
+$abcdefgh\n=abcdefgh|\n|\
+$abcdefghij\nk\n=abcdefgh|ij\nk\n|\
+$a\nbcdefghijkl\n=a\n|bcdefghi|jkl\n|\
+$\n\n\n\n\n\n\n\n\n=\n\n\n\n\n\n\n\n|\n|";
+
+/// Asserts the calls that take portions.
+fn assert_calls(rt: &impl Abort, alloc: Global, case: &str) {
+    let (portions, wanted) = case.split_once('=').expect(rt, "a case has calls");
+    let calls = calls_of(alloc, portions).expect(rt, "memory");
+    assert_case(rt, case, calls.as_slice() == wanted.as_bytes());
+}
 
 #[test]
 fn hands_on_whole_lines(rt: HostRuntime) {
-    for line in CALLS.lines() {
-        let case = line.replace(rt.alloc(), ";", "\n").expect(&rt, "memory");
-        let (portions, wanted) = case.split_once('=').expect(&rt, "a case has calls");
-        let calls = calls_of(rt.alloc(), portions).expect(&rt, "memory");
-        assert!(rt; calls.as_slice() == wanted.as_bytes(), "{line}");
+    for case in CALLS.split('$') {
+        assert_calls(&rt, rt.alloc(), case);
     }
 }
 
@@ -73,13 +76,16 @@ fn is_put_into(writer: &mut Narrow, text: &[u8]) -> bool {
     put.is_ok() && flushed.is_ok() && !sink.failed()
 }
 
-/// Asserts that the writer took a front of the text, and that a failure was told.
+/// Asserts that the writer took a front of the text, that a failure was told, and that after it the
+/// writer was not called again.
 fn assert_front(rt: &impl Abort, writer: &mut Narrow, text: &[u8]) {
     let room = writer.refuses_at;
     let all = is_put_into(writer, text);
-    assert!(rt; all == (room >= text.len()), "{room}");
-    let front = text.get(..room.min(text.len()));
-    assert!(rt; Some(writer.taken.as_slice()) == front, "{room}");
+    assert_at(rt, room, all == (room >= text.len()));
+    let taken = room.min(text.len());
+    assert_at(rt, room, writer.taken.as_slice() == &text[..taken]);
+    let calls = if all { taken } else { taken + 1 };
+    assert_at(rt, room, writer.calls == calls);
 }
 
 #[test]
@@ -91,18 +97,4 @@ fn hands_on_a_front_where_the_sink_below_fails(rt: HostRuntime) {
             assert_front(&rt, &mut writer, text);
         }
     }
-}
-
-/// After a failure nothing more is handed on, and every call fails.
-#[test]
-fn stays_failed_where_the_sink_below_fails(rt: HostRuntime) {
-    let mut writer = Narrow::new(rt.alloc(), 1, None);
-    let mut sink: WholeLines<_, 4> = WholeLines::new(Writing::new(&mut writer));
-    assert!(rt; sink.put(b"ab") == Ok(2));
-    assert!(rt; sink.flush().is_err());
-    assert!(rt; sink.failed());
-    assert!(rt; sink.put(b"c") == Err(IoFailed));
-    assert!(rt; sink.flush().is_err());
-    assert!(rt; writer.taken.as_slice() == b"a".as_slice());
-    assert!(rt; writer.calls == 2);
 }
