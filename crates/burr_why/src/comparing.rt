@@ -1,175 +1,196 @@
 //! What holds at a point beside what a frame says.
 
-use crate::difference::Difference;
-use crate::offset::{Offset, exit_places, frame_places};
-use crate::plan_text::PlanText;
+use crate::difference::Differences;
+use crate::group::{Group, Whereabouts, piece_name};
+use crate::offset::Offset;
+use crate::part::Part;
 use crate::standing::{Standing, value};
-use arrayvec::ArrayVec;
+use burr_assembly::Assembly;
 use burr_code::Placement;
 use burr_container::{ExitRef, FrameRef};
-use std::alloc::{AllocError, Global};
+use std::alloc::AllocError;
+use std::fmt;
 
-/// What of a frame is compared beyond where the pieces lie.
-#[derive(Clone, Copy, PartialEq, Eq)]
-pub enum Compared {
-    /// Where a procedure is called, or a run begins: slots, no operand.
-    Entry,
-    /// At a label: slots, operands and the cost.
-    Arrival,
-}
-
-/// Gathers differences in the order in which a check finds them.
-#[derive(Drop)]
-pub struct Comparison<'a, 'c> {
-    plan: PlanText<'a, 'c>,
-    found: Vec<Difference<'a>>,
-}
-
-impl<'a, 'c> Comparison<'a, 'c> {
-    /// What differs between what holds and a frame: where something does without regard to points,
-    /// that alone.
-    pub fn with_frame(
-        alloc: Global,
-        plan: PlanText<'a, 'c>,
+impl Differences {
+    /// Adds what differs between what holds and a frame: where something does without regard to
+    /// points, that alone. The cost is compared where one is given that is left.
+    pub fn add_of_frame(
+        &mut self,
+        assembly: &Assembly,
         standing: &Standing,
         frame: &FrameRef<'_>,
-        compared: Compared,
-    ) -> Result<Vec<Difference<'a>>, AllocError> {
-        let mut comparison = Comparison {
-            plan,
-            found: Vec::new(alloc),
-        };
-        comparison.compare_head(standing, frame.tray(), frame.grip())?;
-        comparison.compare_operand_count(standing, frame.stack_count())?;
-        comparison.compare_trays(standing, &frame_places(frame, &[]))?;
-        let symbols = comparison.live_values(standing, frame)?;
-        if comparison.found.is_empty() {
-            comparison.compare_numbers(standing, frame, &symbols)?;
-            if compared == Compared::Arrival {
-                comparison.compare_cost(standing.cost, value(&frame.cost(), &symbols))?;
-            }
+        left: Option<i64>,
+    ) -> Result<(), AllocError> {
+        let symbols = standing.live_values(frame);
+        let wanted = Standing::framed(frame, &symbols);
+        self.compare_structure(assembly, standing, &wanted, frame)?;
+        if !self.found.is_empty() {
+            return Ok(());
         }
-        Ok(comparison.found)
+        self.compare_numbers(assembly, standing, &wanted, frame)?;
+        match left {
+            Some(left) => self.compare_cost(left, wanted.cost),
+            None => Ok(()),
+        }
     }
 
-    /// What differs between what holds where a procedure ends and its exit frame.
-    pub fn with_exit(
-        alloc: Global,
-        plan: PlanText<'a, 'c>,
+    /// All of a frame that is compared without regard to points.
+    fn compare_structure(
+        &mut self,
+        assembly: &Assembly,
+        standing: &Standing,
+        wanted: &Standing,
+        frame: &FrameRef<'_>,
+    ) -> Result<(), AllocError> {
+        self.compare_head(assembly, standing, wanted)?;
+        self.compare_operand_count(standing.operands.len(), wanted.operands.len())?;
+        self.compare_trays(assembly, standing, wanted)?;
+        self.add_unknown_slots(standing, frame)
+    }
+
+    /// All of a frame that is compared at points, but the cost.
+    fn compare_numbers(
+        &mut self,
+        assembly: &Assembly,
+        standing: &Standing,
+        wanted: &Standing,
+        frame: &FrameRef<'_>,
+    ) -> Result<(), AllocError> {
+        self.compare_slots(standing, frame)?;
+        self.compare_guards(standing, frame)?;
+        self.compare_operands(standing, wanted)?;
+        self.compare_offsets(assembly, standing, wanted)
+    }
+
+    /// Adds what differs between what holds where a procedure ends and its exit frame.
+    pub fn add_of_exit(
+        &mut self,
+        assembly: &Assembly,
         standing: &Standing,
         exit: &ExitRef<'_>,
-    ) -> Result<Vec<Difference<'a>>, AllocError> {
-        let mut comparison = Comparison {
-            plan,
-            found: Vec::new(alloc),
-        };
-        comparison.compare_head(standing, exit.tray(), exit.grip())?;
-        comparison.compare_trays(standing, &exit_places(exit, &[]))?;
-        if comparison.found.is_empty() {
-            let symbols = exit_values(standing, exit);
-            comparison.compare_results(exit, &symbols)?;
-            comparison.compare_exit_guards(exit, &symbols)?;
-            comparison.compare_offsets(standing, &exit_places(exit, &symbols))?;
+    ) -> Result<(), AllocError> {
+        let symbols = standing.exit_values(exit);
+        let wanted = Standing::at_exit(exit, &symbols);
+        self.compare_exit(assembly, standing, &wanted, exit, &symbols)
+    }
+
+    /// All of an exit frame, for these values of its symbols.
+    fn compare_exit(
+        &mut self,
+        assembly: &Assembly,
+        standing: &Standing,
+        wanted: &Standing,
+        exit: &ExitRef<'_>,
+        symbols: &[i64],
+    ) -> Result<(), AllocError> {
+        self.compare_head(assembly, standing, wanted)?;
+        self.compare_trays(assembly, standing, wanted)?;
+        if !self.found.is_empty() {
+            return Ok(());
         }
-        Ok(comparison.found)
+        self.compare_results(exit, symbols)?;
+        self.compare_exit_guards(exit, symbols)?;
+        self.compare_offsets(assembly, standing, wanted)
     }
 
     /// The current tray and the grip.
-    fn compare_head(&mut self, standing: &Standing, tray: u8, grip: u32) -> Result<(), AllocError> {
-        if standing.tray != tray {
-            let is = standing.tray;
-            self.found.push(Difference::Tray { is, wanted: tray })?;
+    fn compare_head(
+        &mut self,
+        assembly: &Assembly,
+        standing: &Standing,
+        wanted: &Standing,
+    ) -> Result<(), AllocError> {
+        self.compare_number(
+            Part::Head,
+            "the current tray",
+            i64::from(standing.tray),
+            i64::from(wanted.tray),
+        )?;
+        self.compare_grip(assembly, standing.grip, wanted.grip)
+    }
+
+    /// A number that a frame says.
+    fn compare_number<D: fmt::Display + Drop>(
+        &mut self,
+        part: Part,
+        subject: D,
+        is: i64,
+        wanted: i64,
+    ) -> Result<(), AllocError> {
+        if is == wanted {
+            return Ok(());
         }
-        if standing.grip != grip {
-            self.found.push(Difference::Grip {
-                assembly: self.plan.assembly,
-                is: standing.grip,
-                wanted: grip,
-            })?;
+        self.add(
+            part,
+            format_args!("{subject} is {is}, the frame says {wanted}"),
+        )
+    }
+
+    /// The grip.
+    fn compare_grip(
+        &mut self,
+        assembly: &Assembly,
+        is: u32,
+        wanted: u32,
+    ) -> Result<(), AllocError> {
+        if is == wanted {
+            return Ok(());
         }
-        Ok(())
+        let is = Group { assembly, set: is };
+        let wanted = Group {
+            assembly,
+            set: wanted,
+        };
+        self.add(
+            Part::Head,
+            format_args!("gripped: {is}, the frame says {wanted}"),
+        )
     }
 
     /// How many operands there are.
-    fn compare_operand_count(
-        &mut self,
-        standing: &Standing,
-        wanted: usize,
-    ) -> Result<(), AllocError> {
-        let is = standing.operands.len();
-        if is != wanted {
-            self.found.push(Difference::OperandCount { is, wanted })?;
+    fn compare_operand_count(&mut self, is: usize, wanted: usize) -> Result<(), AllocError> {
+        if is == wanted {
+            return Ok(());
         }
-        Ok(())
+        self.add(
+            Part::Head,
+            format_args!("operands: {is} are there, the frame says {wanted}"),
+        )
     }
 
     /// Of each piece whether it is apart, or else its tray.
     fn compare_trays(
         &mut self,
+        assembly: &Assembly,
         standing: &Standing,
-        wanted: &[Placement<Offset>],
+        wanted: &Standing,
     ) -> Result<(), AllocError> {
-        for (piece, wanted) in wanted.iter().enumerate() {
-            self.compare_tray(standing, piece, wanted.tray())?;
-        }
-        Ok(())
-    }
-
-    /// The tray of a piece.
-    fn compare_tray(
-        &mut self,
-        standing: &Standing,
-        piece: usize,
-        wanted: Option<u8>,
-    ) -> Result<(), AllocError> {
-        let Some(place) = standing.places.get(piece) else {
-            return Ok(());
-        };
-        let is = place.tray();
-        if is != wanted {
-            self.found.push(Difference::Whereabouts {
-                piece: piece as u8,
-                name: self.plan.piece_name(piece as u8),
-                is,
-                wanted,
-            })?;
-        }
-        Ok(())
-    }
-
-    /// What is in the slots that are live in a frame.
-    fn live_values(
-        &mut self,
-        standing: &Standing,
-        frame: &FrameRef<'_>,
-    ) -> Result<ArrayVec<i64, 8>, AllocError> {
-        let mut values = ArrayVec::new();
-        for v in 0..8 {
-            if frame.slot(v).is_some() {
-                match standing.slots[usize::from(v)] {
-                    Some(number) => {
-                        let _ = values.try_push(number);
-                    }
-                    None => self.found.push(Difference::Unknown { slot: v })?,
-                }
+        for piece in 0..32 {
+            let is = Whereabouts(standing.place(piece).tray());
+            let wanted = Whereabouts(wanted.place(piece).tray());
+            if is.0 != wanted.0 {
+                let name = piece_name(assembly, piece);
+                self.add(
+                    Part::Piece(piece),
+                    format_args!("{name} is {is}, the frame says {wanted}"),
+                )?;
             }
         }
-        Ok(values)
+        Ok(())
     }
 
-    /// All that is compared at points but the cost, where the live slots have these values.
-    fn compare_numbers(
+    /// The slots that are live in a frame, and of which nothing is known.
+    fn add_unknown_slots(
         &mut self,
         standing: &Standing,
         frame: &FrameRef<'_>,
-        symbols: &[i64],
     ) -> Result<(), AllocError> {
-        self.compare_slots(standing, frame)?;
-        for n in 0..frame.guard_count() {
-            self.compare_guard(n as u8, value(&frame.guard(n), symbols))?;
+        for v in 0..8 {
+            if frame.slot(v).is_some() && standing.slots[usize::from(v)].is_none() {
+                self.add(Part::Slot(v), format_args!("slot {v} is not known"))?;
+            }
         }
-        self.compare_operands(standing, frame, symbols)?;
-        self.compare_offsets(standing, &frame_places(frame, symbols))
+        Ok(())
     }
 
     /// The ranges of slots.
@@ -180,75 +201,51 @@ impl<'a, 'c> Comparison<'a, 'c> {
     ) -> Result<(), AllocError> {
         for v in 0..8 {
             if let (Some(range), Some(is)) = (frame.slot(v), standing.slots[usize::from(v)]) {
-                if !is_within(is, range) {
-                    self.found.push(Difference::Slot { slot: v, is, range })?;
-                }
+                self.compare_range(Part::Slot(v), "slot", v, is, range)?;
             }
         }
         Ok(())
     }
 
-    /// A guard, which comes to this.
-    fn compare_guard(&mut self, number: u8, is: i64) -> Result<(), AllocError> {
-        if is < 0 {
-            self.found.push(Difference::Guard { number, is })?;
+    /// The ranges of results, which stand behind the parameters.
+    fn compare_results(&mut self, exit: &ExitRef<'_>, symbols: &[i64]) -> Result<(), AllocError> {
+        let parameters = usize::from(exit.parameters());
+        for n in 0..exit.result_count() {
+            if let Some(is) = symbols.get(parameters + usize::from(n)) {
+                self.compare_range(Part::Result(n), "result", n, *is, exit.result(n))?;
+            }
         }
         Ok(())
     }
 
-    /// The operands.
-    fn compare_operands(
+    /// A range of a slot or of a result.
+    fn compare_range(
+        &mut self,
+        part: Part,
+        kind: &str,
+        number: u8,
+        is: i64,
+        range: (i16, i16),
+    ) -> Result<(), AllocError> {
+        let (low, high) = range;
+        if i64::from(low) <= is && is <= i64::from(high) {
+            return Ok(());
+        }
+        self.add(
+            part,
+            format_args!("{kind} {number} is {is}, the frame wants {low} to {high}"),
+        )
+    }
+
+    /// The guards of a frame.
+    fn compare_guards(
         &mut self,
         standing: &Standing,
         frame: &FrameRef<'_>,
-        symbols: &[i64],
     ) -> Result<(), AllocError> {
-        for n in 0..frame.stack_count() {
-            let wanted = value(&frame.stack(n), symbols);
-            if let Some(is) = standing.operands.get(n) {
-                if *is != wanted {
-                    let is = *is;
-                    let number = n as u8;
-                    self.found.push(Difference::Operand { number, is, wanted })?;
-                }
-            }
-        }
-        Ok(())
-    }
-
-    /// The offsets of the pieces.
-    fn compare_offsets(
-        &mut self,
-        standing: &Standing,
-        wanted: &[Placement<Offset>],
-    ) -> Result<(), AllocError> {
-        for (piece, wanted) in wanted.iter().enumerate() {
-            self.compare_offset(standing, piece, wanted)?;
-        }
-        Ok(())
-    }
-
-    /// The cost.
-    fn compare_cost(&mut self, is: i64, wanted: i64) -> Result<(), AllocError> {
-        if is < wanted {
-            self.found.push(Difference::Cost { is, wanted })?;
-        }
-        Ok(())
-    }
-}
-
-impl Comparison<'_, '_> {
-    /// The ranges of results, which stand behind the parameters.
-    fn compare_results(&mut self, exit: &ExitRef<'_>, symbols: &[i64]) -> Result<(), AllocError> {
-        for n in 0..exit.result_count() {
-            let range = exit.result(n);
-            if let Some(is) = symbols.get(usize::from(exit.parameters()) + usize::from(n)) {
-                if !is_within(*is, range) {
-                    let is = *is;
-                    let number = n;
-                    self.found.push(Difference::Result { number, is, range })?;
-                }
-            }
+        let symbols = standing.live_values(frame);
+        for n in 0..frame.guard_count() {
+            self.compare_guard(n as u8, value(&frame.guard(n), &symbols))?;
         }
         Ok(())
     }
@@ -265,54 +262,95 @@ impl Comparison<'_, '_> {
         Ok(())
     }
 
-    /// The offset of a piece, coordinate by coordinate.
-    fn compare_offset(
+    /// A guard, which comes to this.
+    fn compare_guard(&mut self, number: u8, is: i64) -> Result<(), AllocError> {
+        if is >= 0 {
+            return Ok(());
+        }
+        self.add(
+            Part::Guard(number),
+            format_args!("this guard is {is}, so below 0"),
+        )
+    }
+
+    /// The operands.
+    fn compare_operands(
         &mut self,
         standing: &Standing,
-        piece: usize,
-        wanted: &Placement<Offset>,
+        wanted: &Standing,
     ) -> Result<(), AllocError> {
-        let (
-            Some(Placement::On { position: is, .. }),
-            Placement::On {
-                position: wanted,
-                ..
-            },
-        ) = (standing.places.get(piece), wanted)
-        else {
-            return Ok(());
-        };
-        let name = self.plan.piece_name(piece as u8);
-        let coordinates = is.coordinates();
-        for ((axis, is), (_, wanted)) in coordinates.iter().zip(&wanted.coordinates()) {
-            if is != wanted {
-                self.found.push(Difference::Offset {
-                    piece: piece as u8,
-                    name,
-                    axis: *axis,
-                    is: *is,
-                    wanted: *wanted,
-                })?;
+        for n in 0..8 {
+            let operand = usize::from(n);
+            if let (Some(is), Some(wanted)) = (
+                standing.operands.get(operand),
+                wanted.operands.get(operand),
+            ) {
+                self.compare_number(Part::Operand(n), format_args!("operand {n}"), *is, *wanted)?;
             }
         }
         Ok(())
     }
-}
 
-/// The values of an exit frame's symbols: the parameters, and the topmost operands as results.
-fn exit_values(standing: &Standing, exit: &ExitRef<'_>) -> ArrayVec<i64, 8> {
-    let mut values = ArrayVec::new();
-    for v in 0..usize::from(exit.parameters()) {
-        let parameter = standing.slots.get(v).copied().flatten();
-        let _ = values.try_push(parameter.unwrap_or(0));
+    /// The offsets of the pieces.
+    fn compare_offsets(
+        &mut self,
+        assembly: &Assembly,
+        standing: &Standing,
+        wanted: &Standing,
+    ) -> Result<(), AllocError> {
+        for piece in 0..32 {
+            if let (
+                Placement::On { position: is, .. },
+                Placement::On {
+                    position: wanted,
+                    ..
+                },
+            ) = (standing.place(piece), wanted.place(piece))
+            {
+                self.compare_offset(piece, piece_name(assembly, piece), is, wanted)?;
+            }
+        }
+        Ok(())
     }
-    for result in &standing.arguments(exit.result_count()) {
-        let _ = values.try_push(*result);
-    }
-    values
-}
 
-/// Whether a number lies in a range.
-fn is_within(number: i64, range: (i16, i16)) -> bool {
-    i64::from(range.0) <= number && number <= i64::from(range.1)
+    /// The offset of a piece, coordinate by coordinate.
+    fn compare_offset(
+        &mut self,
+        piece: u8,
+        name: &str,
+        is: Offset,
+        wanted: Offset,
+    ) -> Result<(), AllocError> {
+        self.compare_coordinate(piece, name, 'x', is.x, wanted.x)?;
+        self.compare_coordinate(piece, name, 'y', is.y, wanted.y)?;
+        self.compare_coordinate(piece, name, 'z', is.z, wanted.z)
+    }
+
+    /// A coordinate of a piece's offset.
+    fn compare_coordinate(
+        &mut self,
+        piece: u8,
+        name: &str,
+        axis: char,
+        is: i64,
+        wanted: i64,
+    ) -> Result<(), AllocError> {
+        self.compare_number(
+            Part::Piece(piece),
+            format_args!("{axis} of {name}"),
+            is,
+            wanted,
+        )
+    }
+
+    /// The cost.
+    fn compare_cost(&mut self, is: i64, wanted: i64) -> Result<(), AllocError> {
+        if is >= wanted {
+            return Ok(());
+        }
+        self.add(
+            Part::Cost,
+            format_args!("cost {is} is left, the frame wants {wanted}"),
+        )
+    }
 }

@@ -4,6 +4,14 @@ use burr_assembly::Assembly;
 use burr_code::is_in_set;
 use std::fmt;
 
+/// The name of a piece; nothing where there is no such piece.
+pub fn piece_name(assembly: &Assembly, piece: u8) -> &str {
+    if assembly.piece_count() <= piece {
+        return "";
+    }
+    assembly.piece_name(piece)
+}
+
 /// Some of an assembly's pieces: bit p is piece p.
 #[derive(Clone, Copy, Drop)]
 pub struct Group<'a> {
@@ -29,7 +37,7 @@ impl fmt::Display for Group<'_> {
 }
 
 /// Where a piece is, without regard to how far from home: apart, or in a tray.
-#[derive(Clone, Copy, PartialEq, Eq, Drop)]
+#[derive(Clone, Copy, Drop)]
 pub struct Whereabouts(pub Option<u8>);
 
 impl fmt::Display for Whereabouts {

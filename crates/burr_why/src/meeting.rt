@@ -4,7 +4,7 @@ use crate::offset::Offset;
 use burr_voxels::{Cell, Direction};
 
 /// Where a piece meets another one: the cell, and after how many units along the direction.
-#[derive(Clone, Copy, PartialEq, Eq)]
+#[derive(Clone, Copy)]
 pub struct Meeting {
     pub cell: Offset,
     pub units: i64,
@@ -13,7 +13,6 @@ pub struct Meeting {
 /// A piece that is not apart.
 #[derive(Clone, Copy)]
 pub struct Displaced<'a> {
-    pub name: &'a str,
     /// Its cells at home.
     pub cells: &'a [Cell],
     /// How far from home it lies.

@@ -4,9 +4,10 @@ use burr_code::Placement;
 use burr_code::limits::MOST_PIECES;
 use burr_container::{ExitRef, FrameRef};
 use burr_forms::Form;
+use std::fmt;
 
 /// How far a piece lies from home, in cells.
-#[derive(Clone, Copy, Default, PartialEq, Eq)]
+#[derive(Clone, Copy, Default, PartialEq, Eq, Drop)]
 pub struct Offset {
     pub x: i64,
     pub y: i64,
@@ -14,11 +15,6 @@ pub struct Offset {
 }
 
 impl Offset {
-    /// The three coordinates with their names.
-    pub fn coordinates(&self) -> [(char, i64); 3] {
-        [('x', self.x), ('y', self.y), ('z', self.z)]
-    }
-
     /// The offset so much further.
     pub fn plus(&self, other: Offset) -> Offset {
         Offset {
@@ -26,6 +22,13 @@ impl Offset {
             y: self.y.saturating_add(other.y),
             z: self.z.saturating_add(other.z),
         }
+    }
+}
+
+impl fmt::Display for Offset {
+    fn fmt<W: fmt::Write>(&self, f: &mut fmt::Formatter<W>) -> fmt::Result {
+        let Offset { x, y, z } = *self;
+        write!(f, "{x} {y} {z}")
     }
 }
 

@@ -1,7 +1,9 @@
 //! A plan text beside the container that it is assembled to.
 
+use crate::group::piece_name;
 use burr_assembly::Assembly;
 use burr_code::limits::MOST_LABELS;
+use burr_code::{Instr, fetch};
 use burr_container::{Container, ExitRef, FrameRef};
 use burr_voxels::Cell;
 
@@ -18,10 +20,7 @@ pub struct PlanText<'a, 'c> {
 impl<'a, 'c> PlanText<'a, 'c> {
     /// The name of a piece; nothing where there is no such piece.
     pub fn piece_name(&self, piece: u8) -> &'a str {
-        if self.assembly.piece_count() <= piece {
-            return "";
-        }
-        self.assembly.piece_name(piece)
+        piece_name(self.assembly, piece)
     }
 
     /// The cells of a piece at home; none where there is no such piece.
@@ -87,5 +86,23 @@ impl<'a, 'c> PlanText<'a, 'c> {
             return Some(label);
         }
         None
+    }
+
+    /// The instruction at a place of a procedure's code, and how many bytes it has; none where none
+    /// stands there.
+    pub(crate) fn instruction_at(&self, procedure: usize, pc: usize) -> Option<(Instr<'c>, usize)> {
+        if self.container.proc_count() <= procedure {
+            return None;
+        }
+        fetch(self.container.code(procedure), pc)
+    }
+
+    /// Where the instruction at a place of a procedure's code ends; that place where none stands
+    /// there.
+    pub(crate) fn end_of_instruction(&self, procedure: usize, pc: usize) -> usize {
+        match self.instruction_at(procedure, pc) {
+            Some((_, size)) => pc.saturating_add(size),
+            None => pc,
+        }
     }
 }

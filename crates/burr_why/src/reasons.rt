@@ -17,7 +17,6 @@ use burr_frames::Rule;
 use burr_verify::Refusal;
 use site::Site;
 use std::alloc::{AllocError, Global};
-use std::fmt;
 
 /// Says why a plan is refused.
 #[derive(Drop)]
@@ -55,32 +54,44 @@ impl<'a, 'c> Reasons<'a, 'c> {
         }
     }
 
-    /// Says why an instruction breaks a rule.
+    /// Says why a place of the code breaks a rule.
     fn add_at_site(&mut self, rule: Rule, refusal: &Refusal) -> Result<(), AllocError> {
         let site = Site::of(&self.plan, refusal);
         self.add_place(Place::Code(site.procedure, site.pc))?;
         self.add_surroundings(&site)?;
         match rule {
             Rule::V2 | Rule::V3 | Rule::V4 | Rule::V5 => self.add_bad_code(rule, &site),
-            Rule::V6 | Rule::V7 | Rule::V8 | Rule::V9 | Rule::V11 | Rule::V12 => {
-                self.add_bad_number(rule, &site)
-            }
-            Rule::V13 | Rule::V14 | Rule::V17 | Rule::V18 => self.add_bad_grip(rule, &site),
             Rule::V15 | Rule::V16 => self.add_meeting(refusal.pieces, &site),
-            Rule::V10 | Rule::V19 | Rule::V23 => self.add_bad_control(rule, &site),
-            Rule::V20 | Rule::V21 | Rule::V22 => self.add_missed_frame(rule, &site),
-            Rule::V24 | Rule::V25 | Rule::V26 => self.add_bad_cost(rule, &site),
-            Rule::V1 | Rule::V27 | Rule::V28 => Ok(()),
+            _ => self.add_bad_instruction(rule, &site),
+        }
+    }
+
+    /// Says why an instruction breaks a rule.
+    fn add_bad_instruction(&mut self, rule: Rule, site: &Site) -> Result<(), AllocError> {
+        let Some((instruction, _)) = self.plan.instruction_at(site.procedure, site.pc) else {
+            return Ok(());
+        };
+        match rule {
+            Rule::V6 | Rule::V7 | Rule::V8 | Rule::V9 | Rule::V11 | Rule::V12 => {
+                self.add_bad_number(rule, &instruction, site)
+            }
+            Rule::V13 | Rule::V14 | Rule::V17 | Rule::V18 => {
+                self.add_bad_grip(rule, &instruction, site)
+            }
+            Rule::V10 | Rule::V19 | Rule::V23 => self.add_bad_control(rule, &instruction, site),
+            Rule::V20 | Rule::V21 | Rule::V22 => self.add_missed_frame(rule, &instruction, site),
+            Rule::V24 | Rule::V25 | Rule::V26 => self.add_bad_cost(rule, &instruction, site),
+            Rule::V1 | Rule::V2 | Rule::V3 | Rule::V4 | Rule::V5 => Ok(()),
+            Rule::V15 | Rule::V16 | Rule::V27 | Rule::V28 => Ok(()),
         }
     }
 
     /// Says that the plan is for another assembly.
     fn add_other_assembly(&mut self) -> Result<(), AllocError> {
         self.add_place(Place::Plan)?;
-        let assembly = self.plan.assembly;
-        let name = assembly.name();
-        let pieces = assembly.piece_count();
-        self.note(format_args!("the assembly is {name} and has {pieces} pieces"))
+        let name = self.plan.assembly.name();
+        let pieces = self.plan.assembly.piece_count();
+        self.report.add_note(format_args!("the assembly is {name} and has {pieces} pieces"))
     }
 
     /// Names the line that says this, where there is one.
@@ -98,10 +109,5 @@ impl<'a, 'c> Reasons<'a, 'c> {
             return self.add_place(place);
         }
         self.add_place(Place::Frame(procedure, label, Part::Head))
-    }
-
-    /// Notes something of the line that was named last.
-    fn note<D: fmt::Display + Drop>(&mut self, note: D) -> Result<(), AllocError> {
-        self.report.add_note(note)
     }
 }

@@ -8,11 +8,10 @@ use burr_code::Placement;
 use burr_code::limits::{MOST_OPERANDS, MOST_PIECES, SLOTS};
 use burr_container::{ExitRef, FrameRef};
 use burr_forms::Form;
-use std::alloc::AllocError;
 
 /// Where an open number comes from: a live slot of the frame, the answer of an instruction, or a
 /// result that it brought; instructions are told by their places.
-#[derive(Clone, Copy, PartialEq, Eq)]
+#[derive(Clone, Copy)]
 pub enum Origin {
     Slot(u8),
     Answer(usize),
@@ -20,7 +19,7 @@ pub enum Origin {
 }
 
 /// An open number, and what it is at the point.
-#[derive(Clone, Copy, PartialEq, Eq)]
+#[derive(Clone, Copy)]
 pub struct Symbol {
     pub origin: Origin,
     pub value: i64,
@@ -36,7 +35,7 @@ impl Default for Symbol {
 }
 
 /// What holds at a place of the code, at one point: numbers in place of the verifier's forms.
-#[derive(Clone, Drop)]
+#[derive(Drop)]
 pub struct Standing {
     /// The numbers that were open, in the order of the point.
     pub symbols: ArrayVec<Symbol, 8>,
@@ -82,43 +81,82 @@ impl Standing {
     pub fn of(frame: &FrameRef<'_>, point: &[i32]) -> Standing {
         let mut standing = Standing::at_home(0);
         standing.open_slots(frame, point);
-        let symbols = standing.values();
-        for n in 0..frame.stack_count() {
-            let _ = standing.operands.try_push(value(&frame.stack(n), &symbols));
-        }
-        standing.places = frame_places(frame, &symbols);
-        standing.tray = frame.tray();
-        standing.grip = frame.grip();
-        standing.cost = value(&frame.cost(), &symbols);
+        let symbols = standing.live_values(frame);
+        standing.lay(frame, &symbols);
         standing
     }
 
-    /// What an exit frame says, where nothing is known of its parameters and results.
-    pub fn at_exit(exit: &ExitRef<'_>) -> Standing {
+    /// What a frame says of all but its slots, for these values of its symbols.
+    pub fn framed(frame: &FrameRef<'_>, symbols: &[i64]) -> Standing {
         let mut standing = Standing::at_home(0);
-        standing.return_to(exit, &[]);
+        standing.lay(frame, symbols);
         standing
     }
 
-    /// What holds where a procedure with so many parameters is called: the arguments are in its
-    /// slots.
-    pub fn called(&self, parameters: u8) -> Result<Standing, AllocError> {
-        let mut called = self.clone()?;
-        called.slots = [None; SLOTS];
-        for (slot, argument) in called.slots.iter_mut().zip(&self.arguments(parameters)) {
-            *slot = Some(*argument);
-        }
-        called.operands = ArrayVec::new();
-        Ok(called)
+    /// What an exit frame says, for these values of its symbols.
+    pub fn at_exit(exit: &ExitRef<'_>, symbols: &[i64]) -> Standing {
+        let mut standing = Standing::at_home(0);
+        standing.return_to(exit, symbols);
+        standing
     }
 
-    /// The same with a slot counted down once.
-    pub fn counted_down(&self, slot: u8) -> Result<Standing, AllocError> {
-        let mut counted = self.clone()?;
-        if let Some(place) = counted.slots.get_mut(usize::from(slot)) {
+    /// Goes on where a procedure with so many parameters is called: the arguments are in its slots.
+    pub fn enter(&mut self, parameters: u8) {
+        let arguments = self.arguments(parameters);
+        for v in 0..SLOTS {
+            self.slots[v] = arguments.get(v).copied();
+        }
+        self.operands.clear();
+    }
+
+    /// Counts a slot down once.
+    pub fn count_down(&mut self, slot: u8) {
+        if let Some(place) = self.slots.get_mut(usize::from(slot)) {
             *place = place.map(|number| number.saturating_sub(1));
         }
-        Ok(counted)
+    }
+
+    /// Where a piece is; apart where there is no such piece.
+    pub fn place(&self, piece: u8) -> Placement<Offset> {
+        match self.places.get(usize::from(piece)) {
+            Some(place) => *place,
+            None => Placement::Apart,
+        }
+    }
+
+    /// What is in the slots that are live in a frame; 0 where it is not known.
+    pub fn live_values(&self, frame: &FrameRef<'_>) -> ArrayVec<i64, 8> {
+        let mut values = ArrayVec::new();
+        for v in 0..8 {
+            if frame.slot(v).is_some() {
+                let _ = values.try_push(self.slots[usize::from(v)].unwrap_or(0));
+            }
+        }
+        values
+    }
+
+    /// The values of an exit frame's symbols: the parameters, and the topmost operands as results.
+    pub fn exit_values(&self, exit: &ExitRef<'_>) -> ArrayVec<i64, 8> {
+        let mut values = ArrayVec::new();
+        for v in 0..usize::from(exit.parameters()) {
+            let parameter = self.slots.get(v).copied().flatten();
+            let _ = values.try_push(parameter.unwrap_or(0));
+        }
+        for result in &self.arguments(exit.result_count()) {
+            let _ = values.try_push(*result);
+        }
+        values
+    }
+
+    /// Takes over what a frame says of all but its slots, for these values of its symbols.
+    fn lay(&mut self, frame: &FrameRef<'_>, symbols: &[i64]) {
+        for n in 0..frame.stack_count() {
+            let _ = self.operands.try_push(value(&frame.stack(n), symbols));
+        }
+        self.places = frame_places(frame, symbols);
+        self.tray = frame.tray();
+        self.grip = frame.grip();
+        self.cost = value(&frame.cost(), symbols);
     }
 
     /// Opens the live slots of a frame.
@@ -139,15 +177,6 @@ impl Standing {
         };
         let _ = self.symbols.try_push(Symbol { origin, value });
         value
-    }
-
-    /// The open numbers.
-    fn values(&self) -> ArrayVec<i64, 8> {
-        let mut values = ArrayVec::new();
-        for symbol in &self.symbols {
-            let _ = values.try_push(symbol.value);
-        }
-        values
     }
 }
 

@@ -7,28 +7,22 @@ use std::alloc::AllocError;
 
 impl Reasons<'_, '_> {
     /// Says what is wrong with the code itself.
-    pub(super) fn add_bad_code(
-        &mut self,
-        rule: Rule,
-        site: &Site<'_, '_>,
-    ) -> Result<(), AllocError> {
-        match rule {
-            Rule::V2 => self.note("no instruction begins with these bytes"),
-            Rule::V3 => self.add_label_inside(site),
-            Rule::V4 => self.note(
-                "nothing goes on to here: a label with its frame has to stand before, or nothing",
-            ),
-            _ => self.note("the code ends here, and this instruction goes on after it"),
-        }
+    pub(super) fn add_bad_code(&mut self, rule: Rule, site: &Site) -> Result<(), AllocError> {
+        let fault = match rule {
+            Rule::V2 => "no instruction begins with these bytes",
+            Rule::V3 => return self.add_label_inside(site),
+            Rule::V4 => {
+                "nothing goes on to here: a label with its frame has to stand before, or nothing"
+            }
+            _ => "the code ends here, and this instruction goes on after it",
+        };
+        self.report.add_note(fault)
     }
 
     /// Names the label that stands inside an instruction.
-    fn add_label_inside(&mut self, site: &Site<'_, '_>) -> Result<(), AllocError> {
-        self.note("this instruction has a label inside, after its first byte")?;
-        let Some((_, size)) = &site.instruction else {
-            return Ok(());
-        };
-        let last = site.pc.saturating_add(*size).saturating_sub(1);
+    fn add_label_inside(&mut self, site: &Site) -> Result<(), AllocError> {
+        self.report.add_note("this instruction has a label inside, after its first byte")?;
+        let last = site.end.saturating_sub(1);
         match self.plan.label_before(site.procedure, last) {
             Some(label) => self.add_place(Place::Label(site.procedure, label)),
             None => Ok(()),

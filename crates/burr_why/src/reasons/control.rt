@@ -1,10 +1,9 @@
 //! Labels, procedures, and the end of a run.
 
 use super::{Reasons, Site};
-use crate::group::Whereabouts;
+use crate::group::piece_name;
 use crate::part::Place;
 use crate::report::Shown;
-use crate::standing::Standing;
 use burr_code::Instr;
 use burr_frames::Rule;
 use std::alloc::AllocError;
@@ -14,35 +13,43 @@ impl Reasons<'_, '_> {
     pub(super) fn add_bad_control(
         &mut self,
         rule: Rule,
-        site: &Site<'_, '_>,
+        instruction: &Instr<'_>,
+        site: &Site,
     ) -> Result<(), AllocError> {
-        let Some((instruction, standing)) = site.judged() else {
-            return Ok(());
-        };
         match (rule, instruction) {
             (Rule::V19, Instr::Call(callee)) => self.add_bad_callee(usize::from(*callee), site),
-            (Rule::V23, _) => self.add_pieces_together(standing),
-            _ => self.note("the procedure has no label of this number"),
+            (Rule::V23, _) => self.add_pieces_together(site),
+            _ => self
+                .report
+                .add_note("the procedure has no label of this number"),
         }
     }
 
     /// Why a procedure may not be called here.
-    fn add_bad_callee(&mut self, callee: usize, site: &Site<'_, '_>) -> Result<(), AllocError> {
+    fn add_bad_callee(&mut self, callee: usize, site: &Site) -> Result<(), AllocError> {
         if self.plan.container.proc_count() <= callee {
-            return self.note(format_args!("there is no procedure {callee}"));
+            return self
+                .report
+                .add_note(format_args!("there is no procedure {callee}"));
         }
-        let caller = Shown(self.lines.name_at(Place::Procedure(site.procedure)));
-        self.note(format_args!("{caller} calls only procedures that stand after it"))?;
+        self.add_late_caller(site)?;
         self.add_place(Place::Procedure(callee))
     }
 
+    /// Notes that a procedure calls one that does not stand after it.
+    fn add_late_caller(&mut self, site: &Site) -> Result<(), AllocError> {
+        let caller = Shown(self.lines.name_at(Place::Procedure(site.procedure)));
+        self.report.add_note(format_args!("{caller} calls only procedures that stand after it"))
+    }
+
     /// The pieces that are not apart.
-    fn add_pieces_together(&mut self, standing: &Standing) -> Result<(), AllocError> {
-        for (piece, place) in standing.places.iter().enumerate() {
-            if !place.is_apart() {
-                let name = self.plan.piece_name(piece as u8);
-                let place = Whereabouts(place.tray());
-                self.note(format_args!("{name} is {place}, and not apart"))?;
+    fn add_pieces_together(&mut self, site: &Site) -> Result<(), AllocError> {
+        let standing = site.before(&self.plan);
+        for piece in 0..32 {
+            if let Some(tray) = standing.place(piece).tray() {
+                let name = piece_name(self.plan.assembly, piece);
+                self.report
+                    .add_note(format_args!("{name} is in tray {tray}, and not apart"))?;
             }
         }
         Ok(())

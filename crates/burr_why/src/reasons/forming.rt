@@ -2,8 +2,8 @@
 
 use super::Reasons;
 use super::frames::FramePlace;
-use crate::comparing::{Compared, Comparison};
-use crate::group::Whereabouts;
+use crate::group::{Whereabouts, piece_name};
+use crate::offset::Offset;
 use crate::part::{Part, Place};
 use crate::standing::Standing;
 use burr_code::{Placement, count_in_tray, is_in_set};
@@ -32,7 +32,7 @@ impl Reasons<'_, '_> {
         match self.plan.exit(procedure) {
             None => Ok(false),
             Some(exit) => {
-                let standing = Standing::at_exit(&exit);
+                let standing = Standing::at_exit(&exit, &[]);
                 self.add_malformed_places(FramePlace::Exit(procedure), &standing)
             }
         }
@@ -60,22 +60,14 @@ impl Reasons<'_, '_> {
     ) -> Result<bool, AllocError> {
         let mut any = false;
         for v in 0..8 {
-            let is_live = frame.slot(v).is_some();
-            if v < parameters && !is_live {
-                self.add_fault(place, Part::Slot(v), "a parameter has no line here")?;
-                any = true;
-            }
-            if parameters <= v && is_live && label == 0 {
-                self.add_fault(place, Part::Slot(v), "no parameter, so not known at first")?;
+            if let Some(fault) = fault_of_slot(v < parameters, frame.slot(v).is_some(), label) {
+                self.add_fault(place, Part::Slot(v), fault)?;
                 any = true;
             }
         }
         if label == 0 && frame.stack_count() != 0 {
-            self.add_fault(
-                place,
-                Part::Operand(0),
-                "a procedure begins without operands",
-            )?;
+            let fault = "a procedure begins without operands";
+            self.add_fault(place, Part::Operand(0), fault)?;
             any = true;
         }
         Ok(any)
@@ -89,25 +81,38 @@ impl Reasons<'_, '_> {
     ) -> Result<bool, AllocError> {
         let mut any = false;
         for piece in 0..32 {
-            let place = match standing.places.get(usize::from(piece)) {
-                Some(place) => *place,
-                None => Placement::Apart,
-            };
-            let name = self.plan.piece_name(piece);
+            let place = standing.place(piece);
             if is_in_set(standing.grip, piece) && !place.is_in(standing.tray) {
-                let place = Whereabouts(place.tray());
-                let tray = standing.tray;
-                let fault = format_args!("{name} is {place}, and is gripped in tray {tray}");
-                self.add_fault(frame, Part::Head, fault)?;
+                self.add_far_grip(frame, piece, standing)?;
                 any = true;
             }
             if is_alone(standing, place) {
-                let fault = format_args!("{name} is alone in its tray, so it is apart");
-                self.add_fault(frame, Part::Piece(piece), fault)?;
+                self.add_alone(frame, piece)?;
                 any = true;
             }
         }
         Ok(any)
+    }
+
+    /// Names the line of a grip, of which a piece is not in the current tray.
+    fn add_far_grip(
+        &mut self,
+        frame: FramePlace,
+        piece: u8,
+        standing: &Standing,
+    ) -> Result<(), AllocError> {
+        let name = piece_name(self.plan.assembly, piece);
+        let place = Whereabouts(standing.place(piece).tray());
+        let tray = standing.tray;
+        let fault = format_args!("{name} is {place}, and is gripped in tray {tray}");
+        self.add_fault(frame, Part::Head, fault)
+    }
+
+    /// Names the line of a piece that is alone in its tray.
+    fn add_alone(&mut self, frame: FramePlace, piece: u8) -> Result<(), AllocError> {
+        let name = piece_name(self.plan.assembly, piece);
+        let fault = format_args!("{name} is alone in its tray, so it is apart");
+        self.add_fault(frame, Part::Piece(piece), fault)
     }
 
     /// Names a line of a frame, and notes what is wrong there.
@@ -117,28 +122,38 @@ impl Reasons<'_, '_> {
         part: Part,
         fault: D,
     ) -> Result<(), AllocError> {
-        match frame {
-            FramePlace::Label(procedure, label) => self.add_part(procedure, label, part)?,
-            FramePlace::Exit(procedure) => self.add_place(Place::Exit(procedure, part))?,
-        }
-        self.note(fault)
+        self.add_frame_line(frame, part)?;
+        self.report.add_note(fault)
     }
 
     /// Says how the start of a run differs from main's first frame.
     fn add_missed_start(&mut self) -> Result<(), AllocError> {
-        let Some(frame) = self.plan.frame(0, 0) else {
+        if self.plan.position(0, 0).is_none() {
             return Ok(());
-        };
+        }
         self.add_place(Place::Label(0, 0))?;
-        self.note("a run begins here, with all pieces at home in tray 0 and nothing gripped")?;
+        self.report.add_note(
+            "a run begins here, with all pieces at home in tray 0 and nothing gripped",
+        )?;
         let start = Standing::at_home(self.plan.assembly.piece_count());
-        let found = Comparison::with_frame(self.alloc, self.plan, &start, &frame, Compared::Entry)?;
-        self.add_differences(FramePlace::Label(0, 0), &found)
+        let differences = self.differences(0, 0, &start, None)?;
+        self.add_differences(FramePlace::Label(0, 0), &differences)
     }
 }
 
+/// What is wrong with a slot of a label's frame, which is a parameter or not, and live or not.
+fn fault_of_slot(is_parameter: bool, is_live: bool, label: usize) -> Option<&'static str> {
+    if is_parameter && !is_live {
+        return Some("a parameter has no line here");
+    }
+    if !is_parameter && is_live && label == 0 {
+        return Some("no parameter, so not known at first");
+    }
+    None
+}
+
 /// Whether a piece that is there is alone in its tray.
-fn is_alone(standing: &Standing, place: Placement<crate::offset::Offset>) -> bool {
+fn is_alone(standing: &Standing, place: Placement<Offset>) -> bool {
     match place.tray() {
         Some(tray) => count_in_tray(standing.places.as_slice(), tray) == 1,
         None => false,

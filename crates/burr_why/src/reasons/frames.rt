@@ -1,8 +1,7 @@
 //! Frames that are not met.
 
 use super::{Reasons, Site};
-use crate::comparing::{Compared, Comparison};
-use crate::difference::Difference;
+use crate::difference::Differences;
 use crate::part::{Part, Place};
 use crate::report::Shown;
 use crate::standing::Standing;
@@ -14,117 +13,92 @@ use std::alloc::AllocError;
 const MOST_TOLD: usize = 12;
 
 /// A frame of a plan: that of a label, or an exit frame.
-#[derive(Clone, Copy, PartialEq, Eq)]
+#[derive(Clone, Copy)]
 pub enum FramePlace {
     Label(usize, usize),
     Exit(usize),
 }
 
-impl FramePlace {
-    /// The place of the line that tells a difference's part.
-    fn line_of(self, difference: &Difference<'_>) -> Place {
-        let part = difference.part();
-        match self {
-            FramePlace::Label(procedure, label) => Place::Frame(procedure, label, part),
-            FramePlace::Exit(procedure) => Place::Exit(procedure, part),
-        }
-    }
-}
-
-impl<'a> Reasons<'a, '_> {
+impl Reasons<'_, '_> {
     /// Says what differs from the frame that is not met.
     pub(super) fn add_missed_frame(
         &mut self,
         rule: Rule,
-        site: &Site<'_, '_>,
+        instruction: &Instr<'_>,
+        site: &Site,
     ) -> Result<(), AllocError> {
-        let (Some((instruction, size)), Some(standing)) = (&site.instruction, &site.standing) else {
-            return Ok(());
-        };
         match (rule, instruction) {
-            (Rule::V20, Instr::Call(callee)) => {
-                self.add_missed_entry(usize::from(*callee), site, standing)
-            }
-            (Rule::V22, _) => self.add_missed_exit(site, standing),
-            _ => self.add_missed_label(instruction, *size, site, standing),
+            (Rule::V20, Instr::Call(callee)) => self.add_missed_entry(usize::from(*callee), site),
+            (Rule::V22, Instr::Ret) => self.add_missed_exit(site),
+            (Rule::V22, _) => self.add_wrong_end(site),
+            _ => self.add_missed_label(instruction, site),
         }
     }
 
     /// What differs from the first frame of a procedure that is called.
-    fn add_missed_entry(
-        &mut self,
-        callee: usize,
-        site: &Site<'_, '_>,
-        standing: &Standing,
-    ) -> Result<(), AllocError> {
-        self.add_point(site, standing)?;
-        let Some(frame) = self.plan.frame(callee, 0) else {
-            return Ok(());
-        };
-        let called = standing.called(self.plan.parameters(callee))?;
-        let found = Comparison::with_frame(
-            self.alloc,
-            self.plan,
-            &called,
-            &frame,
-            Compared::Entry,
-        )?;
-        self.add_differences(FramePlace::Label(callee, 0), &found)
+    fn add_missed_entry(&mut self, callee: usize, site: &Site) -> Result<(), AllocError> {
+        let mut standing = site.before(&self.plan);
+        self.add_point(site, &standing)?;
+        standing.enter(self.plan.parameters(callee));
+        let differences = self.differences(callee, 0, &standing, None)?;
+        self.add_differences(FramePlace::Label(callee, 0), &differences)
     }
 
-    /// What differs from the exit frame at a `ret`, or that a `halt` or a `ret` may not stand here.
-    fn add_missed_exit(
-        &mut self,
-        site: &Site<'_, '_>,
-        standing: &Standing,
-    ) -> Result<(), AllocError> {
-        let is_halt = matches!(site.instruction, Some((Instr::Halt, _)));
+    /// What differs from the exit frame at a `ret`.
+    fn add_missed_exit(&mut self, site: &Site) -> Result<(), AllocError> {
+        let Some(exit) = self.plan.exit(site.procedure) else {
+            return self.add_wrong_end(site);
+        };
+        let standing = site.before(&self.plan);
+        self.add_point(site, &standing)?;
+        let mut differences = Differences::new(self.alloc);
+        differences.add_of_exit(self.plan.assembly, &standing, &exit)?;
+        self.add_differences(FramePlace::Exit(site.procedure), &differences)
+    }
+
+    /// That a `halt` or a `ret` may not stand here.
+    fn add_wrong_end(&mut self, site: &Site) -> Result<(), AllocError> {
         match self.plan.exit(site.procedure) {
-            Some(exit) if !is_halt => {
-                self.add_point(site, standing)?;
-                let found = Comparison::with_exit(self.alloc, self.plan, standing, &exit)?;
-                self.add_differences(FramePlace::Exit(site.procedure), &found)
-            }
-            Some(_) => self.note("only main ends by `halt`; other procedures end by `ret`"),
-            None => self.note("main ends by `halt`"),
+            Some(_) => self
+                .report
+                .add_note("only main ends by `halt`; other procedures end by `ret`"),
+            None => self.report.add_note("main ends by `halt`"),
         }
     }
 
     /// What differs from the frame of the label that control comes to.
-    fn add_missed_label(
-        &mut self,
-        instruction: &Instr<'_>,
-        size: usize,
-        site: &Site<'_, '_>,
-        standing: &Standing,
-    ) -> Result<(), AllocError> {
-        let mut after = standing.clone()?;
-        after.carry_out(instruction, site.pc, self.plan.container, site.point);
+    fn add_missed_label(&mut self, instruction: &Instr<'_>, site: &Site) -> Result<(), AllocError> {
+        let after = site.after(&self.plan);
         self.add_point(site, &after)?;
         match instruction {
             Instr::Jump(label) => self.add_arrival(site, usize::from(*label), &after),
             Instr::Pick(labels) => self.add_first_arrival(site, labels, &after),
             Instr::Down(slot, label) => {
-                let branch = after.counted_down(*slot)?;
-                let missed = self.arrival(site, usize::from(*label), &branch)?;
-                if missed.is_empty() {
-                    return self.add_next_arrival(site, size, &after);
-                }
-                self.add_arrival(site, usize::from(*label), &branch)
+                self.add_count_down(site, *slot, usize::from(*label), &after)
             }
-            _ => self.add_next_arrival(site, size, &after),
+            _ => self.add_next_arrival(site, &after),
         }
     }
 
-    /// The same of the label after an instruction.
-    fn add_next_arrival(
+    /// The same of the label of a `down`, or where nothing differs there of the next one.
+    fn add_count_down(
         &mut self,
-        site: &Site<'_, '_>,
-        size: usize,
+        site: &Site,
+        slot: u8,
+        label: usize,
         after: &Standing,
     ) -> Result<(), AllocError> {
-        let next = site.pc.saturating_add(size);
-        match self.plan.label_at(site.procedure, next) {
+        let mut branch = site.after(&self.plan);
+        branch.count_down(slot);
+        if self.differs(site, label, &branch)? {
+            return self.add_arrival(site, label, &branch);
+        }
+        self.add_next_arrival(site, after)
+    }
+
+    /// The same of the label after an instruction.
+    fn add_next_arrival(&mut self, site: &Site, after: &Standing) -> Result<(), AllocError> {
+        match self.plan.label_at(site.procedure, site.end) {
             Some(label) => self.add_arrival(site, label, after),
             None => Ok(()),
         }
@@ -133,13 +107,13 @@ impl<'a> Reasons<'a, '_> {
     /// The same of the first label offered at which something differs.
     fn add_first_arrival(
         &mut self,
-        site: &Site<'_, '_>,
+        site: &Site,
         labels: &Labels<'_>,
         after: &Standing,
     ) -> Result<(), AllocError> {
         for n in 0..labels.len() {
             if let Some(label) = labels.get(n) {
-                if !self.arrival(site, usize::from(label), after)?.is_empty() {
+                if self.differs(site, usize::from(label), after)? {
                     return self.add_arrival(site, usize::from(label), after);
                 }
             }
@@ -147,75 +121,91 @@ impl<'a> Reasons<'a, '_> {
         Ok(())
     }
 
-    /// What differs from the frame of a label.
-    fn arrival(
-        &self,
-        site: &Site<'_, '_>,
-        label: usize,
-        standing: &Standing,
-    ) -> Result<Vec<Difference<'a>>, AllocError> {
-        let Some(frame) = self.plan.frame(site.procedure, label) else {
-            return Ok(Vec::new(self.alloc));
-        };
-        Comparison::with_frame(self.alloc, self.plan, standing, &frame, Compared::Arrival)
+    /// Whether something differs from the frame of a label that control comes to.
+    fn differs(&self, site: &Site, label: usize, after: &Standing) -> Result<bool, AllocError> {
+        let differences = self.differences(site.procedure, label, after, Some(after.cost))?;
+        Ok(!differences.found.is_empty())
     }
 
-    /// Says what differs from the frame of a label.
-    fn add_arrival(
-        &mut self,
-        site: &Site<'_, '_>,
+    /// What differs between what holds and the frame of a label, and of the cost that is left where
+    /// it is given.
+    pub(super) fn differences(
+        &self,
+        procedure: usize,
         label: usize,
         standing: &Standing,
+        left: Option<i64>,
+    ) -> Result<Differences, AllocError> {
+        let mut differences = Differences::new(self.alloc);
+        if let Some(frame) = self.plan.frame(procedure, label) {
+            differences.add_of_frame(self.plan.assembly, standing, &frame, left)?;
+        }
+        Ok(differences)
+    }
+
+    /// Says what differs from the frame of a label that control comes to.
+    fn add_arrival(
+        &mut self,
+        site: &Site,
+        label: usize,
+        after: &Standing,
     ) -> Result<(), AllocError> {
-        let place = Place::Label(site.procedure, label);
-        let name = Shown(self.lines.name_at(place));
-        self.note(format_args!("what holds after it is not what the frame of {name} says"))?;
-        let found = self.arrival(site, label, standing)?;
-        self.add_differences(FramePlace::Label(site.procedure, label), &found)?;
+        self.add_missed_name(Place::Label(site.procedure, label))?;
+        let differences = self.differences(site.procedure, label, after, Some(after.cost))?;
+        self.add_differences(FramePlace::Label(site.procedure, label), &differences)?;
         match site.label {
-            Some(last) if last != label && found.iter().any(is_of_cost) => {
+            Some(last) if last != label && differences.has_cost() => {
                 self.add_part(site.procedure, last, Part::Cost)?;
-                self.note("what is left is counted down from here")
+                self.report
+                    .add_note("what is left is counted down from here")
             }
             _ => Ok(()),
         }
+    }
+
+    /// Notes the label whose frame is not met.
+    fn add_missed_name(&mut self, label: Place) -> Result<(), AllocError> {
+        let name = Shown(self.lines.name_at(label));
+        self.report.add_note(format_args!(
+            "what holds after it is not what the frame of {name} says"
+        ))
     }
 
     /// Names the lines of a frame that tell something else, each with what differs.
     pub(super) fn add_differences(
         &mut self,
         frame: FramePlace,
-        found: &[Difference<'_>],
+        differences: &Differences,
     ) -> Result<(), AllocError> {
         let mut last = None;
-        for difference in found.iter().take(MOST_TOLD) {
-            let place = frame.line_of(difference);
-            if last != Some(place) {
-                self.add_frame_line(frame, place)?;
-                last = Some(place);
+        for difference in differences.found.iter().take(MOST_TOLD) {
+            if last != Some(difference.part) {
+                self.add_frame_line(frame, difference.part)?;
+                last = Some(difference.part);
             }
-            self.note(difference)?;
+            self.report.add_note(&difference.note)?;
         }
-        let left = found.len().saturating_sub(MOST_TOLD);
-        if left == 0 {
+        self.add_untold(differences.found.len().saturating_sub(MOST_TOLD))
+    }
+
+    /// Says how many differences are not told, where there are any.
+    fn add_untold(&mut self, count: usize) -> Result<(), AllocError> {
+        if count == 0 {
             return Ok(());
         }
         self.report
-            .add_text(format_args!("and {left} more of this frame"))
+            .add_text(format_args!("and {count} more of this frame"))
     }
 
-    /// Names a line of a frame.
-    fn add_frame_line(&mut self, frame: FramePlace, place: Place) -> Result<(), AllocError> {
-        match (frame, place) {
-            (FramePlace::Label(procedure, label), Place::Frame(_, _, part)) => {
-                self.add_part(procedure, label, part)
-            }
-            _ => self.add_place(place),
+    /// Names the line of a part of a frame.
+    pub(super) fn add_frame_line(
+        &mut self,
+        frame: FramePlace,
+        part: Part,
+    ) -> Result<(), AllocError> {
+        match frame {
+            FramePlace::Label(procedure, label) => self.add_part(procedure, label, part),
+            FramePlace::Exit(procedure) => self.add_place(Place::Exit(procedure, part)),
         }
     }
-}
-
-/// Whether too little of the cost is left.
-fn is_of_cost(difference: &Difference<'_>) -> bool {
-    matches!(difference, Difference::Cost { .. })
 }

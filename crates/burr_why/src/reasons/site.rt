@@ -1,93 +1,94 @@
 //! The place at which a rule is broken, with all that is around it.
 
 use super::Reasons;
-use crate::part::Place;
+use crate::part::{Part, Place};
 use crate::plan_text::PlanText;
 use crate::report::Shown;
 use crate::standing::{Origin, Standing, Symbol};
+use arrayvec::ArrayVec;
 use burr_code::limits::MOST_CODE;
-use burr_code::{Instr, fetch};
 use burr_verify::Refusal;
 use std::alloc::AllocError;
 use std::fmt;
 
 /// Where a rule is broken.
 #[derive(Drop)]
-pub struct Site<'r, 'c> {
+pub struct Site {
     pub procedure: usize,
     pub pc: usize,
+    /// Where the instruction ends; where none stands here, where it would begin.
+    pub end: usize,
     /// The last label at the instruction or before it.
     pub label: Option<usize>,
-    /// The instruction and how many bytes it has; none where none stands here.
-    pub instruction: Option<(Instr<'c>, usize)>,
-    /// What holds before the instruction, at the point; none where nothing says so.
-    pub standing: Option<Standing>,
     /// The point that is named; nothing where none is.
-    pub point: &'r [i32],
+    pub point: ArrayVec<i32, 8>,
 }
 
-impl<'r, 'c> Site<'r, 'c> {
+impl Site {
     /// The place of a refusal.
-    pub fn of(plan: &PlanText<'_, 'c>, refusal: &'r Refusal) -> Site<'r, 'c> {
+    pub fn of(plan: &PlanText<'_, '_>, refusal: &Refusal) -> Site {
         let procedure = usize::from(refusal.proc);
         let pc = usize::from(refusal.pc);
-        let point: &[i32] = match &refusal.point {
-            Some(point) => point.as_slice(),
-            None => &[],
-        };
         Site {
             procedure,
             pc,
+            end: plan.end_of_instruction(procedure, pc),
             label: plan.label_before(procedure, pc),
-            instruction: instruction_at(plan, procedure, pc),
-            standing: standing_before(plan, procedure, pc, point),
-            point,
+            point: point_of(refusal),
+        }
+    }
+
+    /// What holds before the instruction, at the point.
+    pub fn before(&self, plan: &PlanText<'_, '_>) -> Standing {
+        self.standing(plan, self.pc)
+    }
+
+    /// What holds after the instruction, at the point, where it falls through.
+    pub fn after(&self, plan: &PlanText<'_, '_>) -> Standing {
+        self.standing(plan, self.end)
+    }
+
+    /// What holds at a place after the last label, at the point: what its frame says, and what the
+    /// instructions since then do. Without a label there are no pieces.
+    fn standing(&self, plan: &PlanText<'_, '_>, pc: usize) -> Standing {
+        let Some(label) = self.label else {
+            return Standing::at_home(0);
+        };
+        let Some(frame) = plan.frame(self.procedure, label) else {
+            return Standing::at_home(0);
+        };
+        let mut standing = Standing::of(&frame, &self.point);
+        let mut at = plan.position(self.procedure, label).unwrap_or(pc);
+        for _ in 0..MOST_CODE {
+            if pc <= at {
+                break;
+            }
+            at = self.go_on(plan, at, &mut standing);
+        }
+        standing
+    }
+
+    /// Goes on after the instruction at a place of the code, and gives where it ends.
+    fn go_on(&self, plan: &PlanText<'_, '_>, at: usize, standing: &mut Standing) -> usize {
+        match plan.instruction_at(self.procedure, at) {
+            Some((instruction, size)) => {
+                standing.carry_out(&instruction, at, plan.container, &self.point);
+                at.saturating_add(size)
+            }
+            None => at,
         }
     }
 }
 
-impl<'c> Site<'_, 'c> {
-    /// The instruction and what holds before it; none where one of them is not known.
-    pub fn judged(&self) -> Option<(&Instr<'c>, &Standing)> {
-        match (&self.instruction, &self.standing) {
-            (Some((instruction, _)), Some(standing)) => Some((instruction, standing)),
-            _ => None,
+/// The point that a refusal names; nothing where it names none.
+fn point_of(refusal: &Refusal) -> ArrayVec<i32, 8> {
+    let mut numbers = ArrayVec::new();
+    if let Some(point) = &refusal.point {
+        for number in point {
+            let _ = numbers.try_push(*number);
         }
     }
-}
-
-/// The instruction at a place of a procedure's code, and how many bytes it has.
-fn instruction_at<'c>(
-    plan: &PlanText<'_, 'c>,
-    procedure: usize,
-    pc: usize,
-) -> Option<(Instr<'c>, usize)> {
-    if plan.container.proc_count() <= procedure {
-        return None;
-    }
-    fetch(plan.container.code(procedure), pc)
-}
-
-/// What holds before a place of a procedure's code, at a point: what the last frame before it says,
-/// and what the instructions since then do.
-fn standing_before(
-    plan: &PlanText<'_, '_>,
-    procedure: usize,
-    pc: usize,
-    point: &[i32],
-) -> Option<Standing> {
-    let label = plan.label_before(procedure, pc)?;
-    let mut at = plan.position(procedure, label)?;
-    let mut standing = Standing::of(&plan.frame(procedure, label)?, point);
-    for _ in 0..MOST_CODE {
-        if pc <= at {
-            break;
-        }
-        let (instruction, size) = instruction_at(plan, procedure, at)?;
-        standing.carry_out(&instruction, at, plan.container, point);
-        at = at.saturating_add(size);
-    }
-    Some(standing)
+    numbers
 }
 
 /// Where an open number comes from, for people.
@@ -112,48 +113,64 @@ impl fmt::Display for Named {
 }
 
 impl Reasons<'_, '_> {
-    /// Notes in which procedure and after which label a place is, and the point.
-    pub(super) fn add_surroundings(&mut self, site: &Site<'_, '_>) -> Result<(), AllocError> {
+    /// Notes in which procedure and after which label a place is.
+    pub(super) fn add_surroundings(&mut self, site: &Site) -> Result<(), AllocError> {
+        let Some(label) = site.label else {
+            return Ok(());
+        };
         let procedure = Shown(self.lines.name_at(Place::Procedure(site.procedure)));
-        if let Some(label) = site.label {
-            let name = Shown(self.lines.name_at(Place::Label(site.procedure, label)));
-            self.note(format_args!("in {procedure}, after label {name}"))?;
+        let name = Shown(self.lines.name_at(Place::Label(site.procedure, label)));
+        self.report
+            .add_note(format_args!("in {procedure}, after label {name}"))
+    }
+
+    /// Names the line of a part of the last label's frame, where there is a label.
+    pub(super) fn add_last_part(&mut self, site: &Site, part: Part) -> Result<(), AllocError> {
+        match site.label {
+            Some(label) => self.add_part(site.procedure, label, part),
+            None => Ok(()),
         }
-        Ok(())
     }
 
     /// Notes the point, where one is named, with what its numbers belong to.
-    pub(super) fn add_point(
-        &mut self,
-        site: &Site<'_, '_>,
-        standing: &Standing,
-    ) -> Result<(), AllocError> {
+    pub(super) fn add_point(&mut self, site: &Site, standing: &Standing) -> Result<(), AllocError> {
         if site.point.is_empty() {
             return Ok(());
         }
         let mut text = String::new(self.alloc);
         for symbol in &standing.symbols {
-            if !text.is_empty() {
-                text.push_str(", ")?;
-            }
-            let named = self.named(site, symbol);
-            write!(text, "{named}")?;
+            self.write_symbol(site, symbol, &mut text)?;
         }
-        self.note(format_args!("where {text}"))
+        self.report.add_note(format_args!("where {text}"))
     }
 
-    /// An open number with what it belongs to.
-    fn named(&self, site: &Site<'_, '_>, symbol: &Symbol) -> Named {
-        let line = match symbol.origin {
-            Origin::Slot(_) => None,
-            Origin::Answer(pc) | Origin::Result(pc, _) => {
-                self.lines.line_of(Place::Code(site.procedure, pc))
-            }
-        };
-        Named {
+    /// Writes an open number with what it belongs to, after those that are written.
+    fn write_symbol(
+        &self,
+        site: &Site,
+        symbol: &Symbol,
+        text: &mut String,
+    ) -> Result<(), AllocError> {
+        if !text.is_empty() {
+            text.push_str(", ")?;
+        }
+        let named = Named {
             origin: symbol.origin,
-            line: line.map_or(0, |line| line.number),
+            line: self.line_number(site, symbol.origin),
             value: symbol.value,
+        };
+        write!(text, "{named}")
+    }
+
+    /// The number of the line of the instruction that an open number comes from; 0 of a slot.
+    fn line_number(&self, site: &Site, origin: Origin) -> usize {
+        let pc = match origin {
+            Origin::Slot(_) => return 0,
+            Origin::Answer(pc) | Origin::Result(pc, _) => pc,
+        };
+        match self.lines.line_of(Place::Code(site.procedure, pc)) {
+            Some(line) => line.number,
+            None => 0,
         }
     }
 }

@@ -1,13 +1,13 @@
 //! Pieces: which are gripped, where they lie, and which are in each other's way.
 
 use super::{Reasons, Site};
-use crate::group::{Group, Whereabouts};
-use crate::meeting::{Displaced, common_cell, first_meeting};
+use crate::group::{Group, Whereabouts, piece_name};
+use crate::meeting::{Displaced, Meeting, common_cell, first_meeting};
 use crate::offset::Offset;
 use crate::part::{Part, Place};
 use crate::report::Shown;
 use crate::standing::Standing;
-use burr_code::{Instr, Placement, is_in_set};
+use burr_code::{Instr, is_in_set};
 use burr_frames::Rule;
 use burr_voxels::Direction;
 use std::alloc::AllocError;
@@ -17,19 +17,16 @@ impl Reasons<'_, '_> {
     pub(super) fn add_bad_grip(
         &mut self,
         rule: Rule,
-        site: &Site<'_, '_>,
+        instruction: &Instr<'_>,
+        site: &Site,
     ) -> Result<(), AllocError> {
-        let Some((instruction, standing)) = site.judged() else {
-            return Ok(());
-        };
+        let standing = site.before(&self.plan);
         match (rule, instruction) {
-            (Rule::V13, Instr::Grip(set)) => self.add_pieces_elsewhere(*set, site, standing),
-            (Rule::V14, _) => self.add_wrong_grip(site, standing),
-            (Rule::V17, Instr::Aside(_, tray)) => self.add_full_tray(*tray, site, standing),
-            (Rule::V18, Instr::Step(direction)) => {
-                self.add_far_piece(site, &standing.stepped(*direction)?)
-            }
-            (Rule::V18, _) => self.add_far_piece(site, standing),
+            (Rule::V13, Instr::Grip(set)) => self.add_pieces_elsewhere(*set, site, &standing),
+            (Rule::V14, _) => self.add_wrong_grip(site, &standing),
+            (Rule::V17, Instr::Aside(_, tray)) => self.add_full_tray(*tray, site, &standing),
+            (Rule::V18, Instr::Step(_)) => self.add_far_pieces_after(site),
+            (Rule::V18, _) => self.add_far_pieces(site, &standing),
             _ => Ok(()),
         }
     }
@@ -38,13 +35,14 @@ impl Reasons<'_, '_> {
     fn add_pieces_elsewhere(
         &mut self,
         set: u32,
-        site: &Site<'_, '_>,
+        site: &Site,
         standing: &Standing,
     ) -> Result<(), AllocError> {
         let tray = standing.tray;
-        self.note(format_args!("the current tray is {tray}"))?;
+        self.report
+            .add_note(format_args!("the current tray is {tray}"))?;
         for piece in 0..32 {
-            if is_in_set(set, piece) && !lies_in(standing, piece, tray) {
+            if is_in_set(set, piece) && !standing.place(piece).is_in(tray) {
                 self.add_piece_elsewhere(piece, site, standing)?;
             }
         }
@@ -55,16 +53,23 @@ impl Reasons<'_, '_> {
     fn add_piece_elsewhere(
         &mut self,
         piece: u8,
-        site: &Site<'_, '_>,
+        site: &Site,
         standing: &Standing,
     ) -> Result<(), AllocError> {
-        let Some(place) = standing.places.get(usize::from(piece)) else {
-            return self.note(format_args!("there is no piece {piece}"));
-        };
-        let name = self.plan.piece_name(piece);
-        let place = Whereabouts(place.tray());
-        self.note(format_args!("{name} is {place}"))?;
+        if standing.places.len() <= usize::from(piece) {
+            return self
+                .report
+                .add_note(format_args!("there is no piece {piece}"));
+        }
+        self.add_whereabouts(piece, standing)?;
         self.add_piece_line(piece, site, standing)
+    }
+
+    /// Notes where a piece is.
+    fn add_whereabouts(&mut self, piece: u8, standing: &Standing) -> Result<(), AllocError> {
+        let name = piece_name(self.plan.assembly, piece);
+        let place = Whereabouts(standing.place(piece).tray());
+        self.report.add_note(format_args!("{name} is {place}"))
     }
 
     /// Names the line of a piece in the frame that tells of it: that of the last label, or the exit
@@ -72,124 +77,140 @@ impl Reasons<'_, '_> {
     fn add_piece_line(
         &mut self,
         piece: u8,
-        site: &Site<'_, '_>,
+        site: &Site,
         standing: &Standing,
     ) -> Result<(), AllocError> {
-        let part = Part::Piece(piece);
-        match (standing.returned_from, site.label) {
-            (Some(callee), _) => self.add_place(Place::Exit(callee, part)),
-            (None, Some(label)) => self.add_part(site.procedure, label, part),
-            (None, None) => Ok(()),
+        self.add_last_told(Part::Piece(piece), site, standing)
+    }
+
+    /// Names the line of a part of the frame that tells where the pieces lie.
+    fn add_last_told(
+        &mut self,
+        part: Part,
+        site: &Site,
+        standing: &Standing,
+    ) -> Result<(), AllocError> {
+        match standing.returned_from {
+            Some(callee) => self.add_place(Place::Exit(callee, part)),
+            None => self.add_last_part(site, part),
         }
     }
 
     /// Nothing is gripped, or the whole tray.
-    fn add_wrong_grip(
-        &mut self,
-        site: &Site<'_, '_>,
-        standing: &Standing,
-    ) -> Result<(), AllocError> {
-        let tray = standing.tray;
+    fn add_wrong_grip(&mut self, site: &Site, standing: &Standing) -> Result<(), AllocError> {
         if standing.grip == 0 {
-            self.note("nothing is gripped")?;
+            self.report.add_note("nothing is gripped")?;
         } else {
-            self.note(format_args!("all pieces of tray {tray} are gripped"))?;
+            let tray = standing.tray;
+            self.report
+                .add_note(format_args!("all pieces of tray {tray} are gripped"))?;
         }
         self.add_grip_line(site, standing)
     }
 
     /// Names the line that tells which pieces are gripped.
-    fn add_grip_line(
-        &mut self,
-        site: &Site<'_, '_>,
-        standing: &Standing,
-    ) -> Result<(), AllocError> {
-        match (standing.gripped_at, standing.returned_from, site.label) {
-            (Some(pc), _, _) => self.add_place(Place::Code(site.procedure, pc)),
-            (None, Some(callee), _) => self.add_place(Place::Exit(callee, Part::Head)),
-            (None, None, Some(label)) => self.add_part(site.procedure, label, Part::Head),
-            (None, None, None) => Ok(()),
+    fn add_grip_line(&mut self, site: &Site, standing: &Standing) -> Result<(), AllocError> {
+        match standing.gripped_at {
+            Some(pc) => self.add_place(Place::Code(site.procedure, pc)),
+            None => self.add_last_told(Part::Head, site, standing),
         }
     }
 
-    /// The pieces of a tray that should be empty.
+    /// A piece of a tray that should be empty.
     fn add_full_tray(
         &mut self,
         tray: u8,
-        site: &Site<'_, '_>,
+        site: &Site,
         standing: &Standing,
     ) -> Result<(), AllocError> {
         for piece in 0..32 {
-            if lies_in(standing, piece, tray) {
-                let name = self.plan.piece_name(piece);
-                self.note(format_args!("tray {tray} has {name}"))?;
+            if standing.place(piece).is_in(tray) {
+                self.add_piece_of_tray(tray, piece)?;
                 return self.add_piece_line(piece, site, standing);
             }
         }
         Ok(())
     }
 
-    /// The piece that is too far from home.
-    fn add_far_piece(
-        &mut self,
-        site: &Site<'_, '_>,
-        standing: &Standing,
-    ) -> Result<(), AllocError> {
-        for (piece, place) in standing.places.iter().enumerate() {
-            if let Placement::On { tray, position } = *place {
-                if tray == standing.tray && is_far(&position) {
-                    let name = self.plan.piece_name(piece as u8);
-                    let Offset { x, y, z } = position;
-                    self.note(format_args!(
-                        "{name} is {x} {y} {z} from home, and 256 is as far as it may be"
-                    ))?;
+    /// Notes that a tray has a piece.
+    fn add_piece_of_tray(&mut self, tray: u8, piece: u8) -> Result<(), AllocError> {
+        let name = piece_name(self.plan.assembly, piece);
+        self.report.add_note(format_args!("tray {tray} has {name}"))
+    }
+
+    /// The pieces that are too far from home after a step.
+    fn add_far_pieces_after(&mut self, site: &Site) -> Result<(), AllocError> {
+        let after = site.after(&self.plan);
+        self.add_far_pieces(site, &after)
+    }
+
+    /// The pieces of the current tray that are too far from home.
+    fn add_far_pieces(&mut self, site: &Site, standing: &Standing) -> Result<(), AllocError> {
+        for piece in 0..32 {
+            if let Some(offset) = standing.place(piece).position_in(standing.tray) {
+                if is_far(offset) {
+                    self.add_far_piece(piece, offset)?;
                 }
             }
         }
         self.add_point(site, standing)
     }
 
+    /// Notes how far from home a piece is.
+    fn add_far_piece(&mut self, piece: u8, offset: Offset) -> Result<(), AllocError> {
+        let name = piece_name(self.plan.assembly, piece);
+        self.report.add_note(format_args!(
+            "{name} is {offset} from home, and 256 is as far as it may be"
+        ))
+    }
+
     /// Says where two pieces meet, and names their lines in the last frame.
     pub(super) fn add_meeting(
         &mut self,
         pieces: Option<(u8, u8)>,
-        site: &Site<'_, '_>,
+        site: &Site,
     ) -> Result<(), AllocError> {
-        let (Some((piece, other)), Some((instruction, standing))) = (pieces, site.judged()) else {
+        let Some((piece, other)) = pieces else {
             return Ok(());
         };
-        match instruction {
-            Instr::Step(direction) => {
-                self.add_overlap(piece, other, &standing.stepped(*direction)?)?
-            }
-            Instr::Aside(direction, _) => {
-                self.add_way_out(piece, other, *direction, standing)?;
-            }
-            _ => {}
-        }
-        self.add_point(site, standing)?;
+        let standing = site.before(&self.plan);
+        self.add_meeting_cell(piece, other, site)?;
+        self.add_point(site, &standing)?;
+        self.add_grip(site, &standing)?;
+        self.add_piece_line(piece, site, &standing)?;
+        self.add_piece_line(other, site, &standing)
+    }
+
+    /// Names the line of the grip, and notes its pieces.
+    fn add_grip(&mut self, site: &Site, standing: &Standing) -> Result<(), AllocError> {
         self.add_grip_line(site, standing)?;
         let grip = Group {
             assembly: self.plan.assembly,
             set: standing.grip,
         };
-        self.note(format_args!("gripped: {grip}"))?;
-        self.add_piece_line(piece, site, standing)?;
-        self.add_piece_line(other, site, standing)
+        self.report.add_note(format_args!("gripped: {grip}"))
+    }
+
+    /// Notes the cell at which two pieces meet.
+    fn add_meeting_cell(&mut self, piece: u8, other: u8, site: &Site) -> Result<(), AllocError> {
+        match self.plan.instruction_at(site.procedure, site.pc) {
+            Some((Instr::Step(_), _)) => self.add_overlap(piece, other, site),
+            Some((Instr::Aside(direction, _), _)) => {
+                self.add_way_out(piece, other, direction, site)
+            }
+            _ => Ok(()),
+        }
     }
 
     /// The cell that two pieces share after a step.
-    fn add_overlap(&mut self, piece: u8, other: u8, standing: &Standing) -> Result<(), AllocError> {
-        let Some((one, two)) = self.displaced_pair(piece, other, standing) else {
+    fn add_overlap(&mut self, piece: u8, other: u8, site: &Site) -> Result<(), AllocError> {
+        let after = site.after(&self.plan);
+        let Some(cell) = self.common_cell(piece, other, &after) else {
             return Ok(());
         };
-        if let Some(cell) = common_cell(&one, &two) {
-            let Offset { x, y, z } = cell;
-            let name = one.name;
-            let other = two.name;
-            self.note(format_args!("after it {name} and {other} overlap at cell {x} {y} {z}"))?;
-        }
-        Ok(())
+        let name = piece_name(self.plan.assembly, piece);
+        let other = piece_name(self.plan.assembly, other);
+        self.report.add_note(format_args!("after it {name} and {other} overlap at cell {cell}"))
     }
 
     /// The cell at which a piece that is taken out meets another one.
@@ -198,62 +219,59 @@ impl Reasons<'_, '_> {
         piece: u8,
         other: u8,
         direction: Direction,
-        standing: &Standing,
+        site: &Site,
     ) -> Result<(), AllocError> {
-        let Some((one, two)) = self.displaced_pair(piece, other, standing) else {
+        let before = site.before(&self.plan);
+        let Some(meeting) = self.first_meeting(piece, other, direction, &before) else {
             return Ok(());
         };
-        if let Some(meeting) = first_meeting(&one, &two, direction) {
-            let name = one.name;
-            let other = two.name;
-            let Offset { x, y, z } = meeting.cell;
-            let units = meeting.units;
-            let way = direction.name();
-            let way = Shown(&way);
-            self.note(format_args!(
-                "{name} and {other} overlap at cell {x} {y} {z}, {units} along {way}"
-            ))?;
-        }
-        Ok(())
+        let name = piece_name(self.plan.assembly, piece);
+        let other = piece_name(self.plan.assembly, other);
+        let Meeting { cell, units } = meeting;
+        let way = direction.name();
+        let way = Shown(&way);
+        self.report.add_note(format_args!(
+            "{name} and {other} overlap at cell {cell}, {units} along {way}"
+        ))
+    }
+
+    /// The first cell of a piece that another piece of the current tray has too.
+    fn common_cell(&self, piece: u8, other: u8, standing: &Standing) -> Option<Offset> {
+        let piece = self.displaced(piece, standing)?;
+        let other = self.displaced(other, standing)?;
+        common_cell(&piece, &other)
+    }
+
+    /// Where a piece that goes along a direction first meets another one of the current tray.
+    fn first_meeting(
+        &self,
+        piece: u8,
+        other: u8,
+        direction: Direction,
+        standing: &Standing,
+    ) -> Option<Meeting> {
+        let piece = self.displaced(piece, standing)?;
+        let other = self.displaced(other, standing)?;
+        first_meeting(&piece, &other, direction)
     }
 }
 
 impl<'a> Reasons<'a, '_> {
-    /// Two pieces of the current tray; none where one of them isn't there.
-    fn displaced_pair(
-        &self,
-        piece: u8,
-        other: u8,
-        standing: &Standing,
-    ) -> Option<(Displaced<'a>, Displaced<'a>)> {
-        let one = self.displaced(piece, standing)?;
-        let two = self.displaced(other, standing)?;
-        Some((one, two))
-    }
-
     /// A piece of the current tray; none where it isn't there.
     fn displaced(&self, piece: u8, standing: &Standing) -> Option<Displaced<'a>> {
-        let place = standing.places.get(usize::from(piece))?;
         Some(Displaced {
-            name: self.plan.piece_name(piece),
             cells: self.plan.cells(piece),
-            offset: place.position_in(standing.tray)?,
+            offset: standing.place(piece).position_in(standing.tray)?,
         })
     }
 }
 
-/// Whether a piece lies in a tray.
-fn lies_in(standing: &Standing, piece: u8, tray: u8) -> bool {
-    match standing.places.get(usize::from(piece)) {
-        Some(place) => place.is_in(tray),
-        None => false,
-    }
+/// Whether a piece is too far from home.
+fn is_far(offset: Offset) -> bool {
+    is_far_along(offset.x) || is_far_along(offset.y) || is_far_along(offset.z)
 }
 
-/// Whether a piece is too far from home.
-fn is_far(offset: &Offset) -> bool {
-    offset
-        .coordinates()
-        .iter()
-        .any(|(_, coordinate)| coordinate.saturating_abs() > 256)
+/// Whether a coordinate is too far from 0.
+fn is_far_along(coordinate: i64) -> bool {
+    coordinate.saturating_abs() > 256
 }

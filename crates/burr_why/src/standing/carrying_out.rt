@@ -6,7 +6,6 @@ use arrayvec::ArrayVec;
 use burr_code::{Instr, Placement, is_in_set, take_aside};
 use burr_container::{Container, ExitRef};
 use burr_voxels::Direction;
-use std::alloc::AllocError;
 
 impl Standing {
     /// Goes on after an instruction, which stands at this place of the code and falls through.
@@ -73,13 +72,6 @@ impl Standing {
         if let (Some(upper), Some(lower)) = (self.operands.pop(), self.operands.pop()) {
             self.push(lower.saturating_sub(upper));
         }
-    }
-
-    /// The pieces where the grip is one unit further along a direction.
-    pub fn stepped(&self, direction: Direction) -> Result<Standing, AllocError> {
-        let mut there = self.clone()?;
-        there.step(direction);
-        Ok(there)
     }
 
     /// Moves the grip one unit along a direction.
