@@ -16,11 +16,11 @@ use Rattle.burr_soundness.specs.Machine.{StartIsSafe}
 use Rattle.burr_bench.specs.Recorded.{TakesBack, MadeStep, gone_back}
 use Rattle.burr_step.specs.Rules.Stepper.{Leads, History, history, IsStateOf, IsAsking, IsKept, Back, Taken}
 use Rattle.burr_step.specs.Views.UndoRing.{AreRecordsOf, answers_more, StepsTo}
-use Rattle.burr_step.specs.Views.Stepping.{Stepping, stepping, IsUnderWay, IsStepping, IsDone, commanding, HasRun, IsUndone, IsAgain, IsLeft, IsNextAnswer, taken_more}
+use Rattle.burr_step.specs.Views.Stepping.{Stepping, stepping, IsUnderWay, IsStepping, IsDone, commanding, HasRun, IsUndone, IsAgain, IsLeft, IsNextAnswer, IsStepOn, IsStill, taken_more}
 use Rattle.burr_step.proofs.Commands.{Begins, begins, same_front, split_at, nothing_more}
 use Rattle.burr_step.proofs.Lists.{all_but_last}
 use Rattle.burr_step.proofs.UndoRing.{kept_before, kept_of_kept}
-use Rattle.burr_step.proofs.UnderWay.{same_setup, is_counted, goes_further, begins_bare, MadeOne}
+use Rattle.burr_step.proofs.UnderWay.{same_setup, is_counted, further_of, begins_bare, MadeOne}
 use Rattle.burr_step.proofs.Going.{goes_unhalted, same_twice}
 use Rattle.burr_step.proofs.Answering.{asked_for}
 
@@ -272,26 +272,26 @@ again_call old b answers answer undos steps i taken at run less again is =
     beyond : {i steps made : ℕ} → i < steps → steps ≤ made → i < made
     beyond less within = omega (arith, less, within)
 
-pub again_made : (old b c : Benched) (answers : List ℤ) (answer : Option ℤ) (undos : List Undo) (told : Progress) (steps i taken : ℕ)
+-- it makes a step
+pub again_steps : (old b c : Benched) (answers : List ℤ) (answer : Option ℤ) (undos left : List Undo) (steps i taken : ℕ)
     → IsAtStart old → HasRun old answers steps → i < steps → IsAgain answers i taken old b undos
-    → IsNextAnswer (setup_of b) b.state answers taken answer → Called (setup_of b) b.state answer (Ok told) c.state → MadeStep told
-again_made old b c answers answer undos told steps i taken at run less again is called =
+    → IsNextAnswer (setup_of b) b.state answers taken answer → IsStill b answer undos c left → ⊥
+again_steps old b c answers answer undos left steps i taken at run less again is still =
     let next = again_call old b answers answer undos steps i taken at run less again is in
-    made_one (setup_of b) b.state next.new c.state answer told next.step called
+    still.still (made_one (setup_of b) b.state next.new c.state answer still.told next.step still.called)
 
-pub again_more : FittingIsFromContainer → (old b c : Benched) (answers : List ℤ) (answer : Option ℤ) (undos : List Undo) (u : Undo) (told : Progress) (steps i taken n : ℕ)
+pub again_more : FittingIsFromContainer → (old b c : Benched) (answers : List ℤ) (answer : Option ℤ) (undos left : List Undo) (steps i taken : ℕ)
     → IsAtStart old → HasRun old answers steps → i < steps → IsAgain answers i taken old b undos
-    → IsNextAnswer (setup_of b) b.state answers taken answer → IsSameRun b c → Called (setup_of b) b.state answer (Ok told) c.state
-    → TakesBack c u → gone_back u c ≡ b → IsAgain answers (i + 1) (taken_more answer taken) old c (take n (u ∷ undos))
-again_more given old b c answers answer undos u told steps i taken n at run less again is same called takes_back back =
+    → IsNextAnswer (setup_of b) b.state answers taken answer → IsStepOn b answer undos c left
+    → IsAgain answers (i + 1) (taken_more answer taken) old c left
+again_more given old b c answers answer undos left steps i taken at run less again is on =
     let next = again_call old b answers answer undos steps i taken at run less again is in
-    let made = again_made old b c answers answer undos told steps i taken at run less again is called in
-    let further = goes_further given b c (take taken answers) answer undos u told n again.under_way same called made takes_back back in
+    let further = further_of given b c (take taken answers) answer undos left again.under_way on in
     record {
-      same = same_twice old b c again.same same;
+      same = same_twice old b c again.same on.same;
       steps = further.steps ∙ ap (λ (m : ℕ). m + 1) again.steps;
       within = next.within;
-      under_way = subst (λ (l : List ℤ). IsUnderWay (stepping c l) (take n (u ∷ undos))) (sym next.more) further.under_way;
+      under_way = subst (λ (l : List ℤ). IsUnderWay (stepping c l) left) (sym next.more) further.under_way;
     }
 
 -- The start again

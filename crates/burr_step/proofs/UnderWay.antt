@@ -20,7 +20,7 @@ use Rattle.burr_soundness.specs.Machine.{IsSafeBench, StartIsSafe}
 use Rattle.burr_bench.specs.Recorded.{TakesBack, GoesBack, MadeStep, gone_back}
 use Rattle.burr_step.specs.Rules.Stepper.{Leads, stays, goes, takes, History, history, IsStateOf}
 use Rattle.burr_step.specs.Views.UndoRing.{AreRecordsOf, answers_more, one_more, StepsTo}
-use Rattle.burr_step.specs.Views.Stepping.{Stepping, stepping, IsUnderWay, IsStepping}
+use Rattle.burr_step.specs.Views.Stepping.{Stepping, stepping, IsUnderWay, IsStepping, IsStepOn, IsStill}
 use Rattle.burr_step.proofs.Commands.{leads_on, goes_there}
 use Rattle.burr_step.proofs.SomeCommand.{leads_safely, steps_are_counted}
 use Rattle.burr_step.proofs.UndoRing.{record_is_kept, last_are_kept}
@@ -117,26 +117,44 @@ module _ (given : FittingIsFromContainer) where
       (further_in b c.state answers answer undos u n under_way (steps_to (setup_of b) b.state c.state answer told called made)
       (subst (λ (x : Benched). TakesBack x u) (sym is) takes_back) (ap (λ (x : Benched). x.state) back))
 
--- What a call of the machine with a record leaves: a step made, whose record is kept,
-pub step_kept : FittingIsFromContainer → (b c : Benched) (answers : List ℤ) (answer : Option ℤ) (undos : List Undo) (told : Progress) (undo : Option Undo) (u : Undo) (n : ℕ)
-    → IsUnderWay (stepping b answers) undos → IsSameRun b c → Called (setup_of b) b.state answer (Ok told) c.state
-    → IsSome undo ↔ MadeStep told → GoesBack b c undo → undo ≡ Some u → IsFurther b c answers answer (take n (u ∷ undos))
-step_kept given b c answers answer undos told undo u n under_way same called made back_or is =
-    let back = subst (λ (o : Option Undo). GoesBack b c o) is back_or in
-    goes_further given b c answers answer undos u told n under_way same called (made.0 (subst (λ (o : Option Undo). IsSome o) (sym is) refl)) back.0 back.1
+-- A call of the machine that gives a record made a step,
+pub step_on_of : (b c : Benched) (answer : Option ℤ) (undos left : List Undo) (told : Progress) (undo : Option Undo) (u : Undo)
+    → IsSameRun b c → Called (setup_of b) b.state answer (Ok told) c.state → IsSome undo ↔ MadeStep told → GoesBack b c undo
+    → undo ≡ Some u → left ≡ take 256 (u ∷ undos) → IsStepOn b answer undos c left
+step_on_of b c answer undos left told undo u same called made goes_back is kept =
+    let back : TakesBack c u × (gone_back u c ≡ b) = subst (λ (o : Option Undo). GoesBack b c o) is goes_back in
+    record {
+      told = told;
+      undo = u;
+      made = made.0 (subst (λ (o : Option Undo). IsSome o) (sym is) refl);
+      same = same;
+      called = called;
+      takes_back = back.0;
+      back = back.1;
+      kept = kept;
+    }
 
--- or none
-pub step_still : (b c : Benched) (told : Progress) (undo : Option Undo) → IsSome undo ↔ MadeStep told → GoesBack b c undo
-    → ((u : Undo) → undo ≡ Some u → ⊥) → (¬ MadeStep told) × (c ≡ b)
-step_still b c told None made same none = ((λ step. never (made.1 step)), same)
+-- and one that gives none made none.
+pub still_of : (b c : Benched) (answer : Option ℤ) (undos : List Undo) (told : Progress) (undo : Option Undo)
+    → Called (setup_of b) b.state answer (Ok told) c.state → IsSome undo ↔ MadeStep told → GoesBack b c undo → undo ≡ None
+    → IsStill b answer undos c undos
+still_of b c answer undos told undo called made goes_back is = record {
+  told = told;
+  still = λ step. never (subst (λ (o : Option Undo). IsSome o) is (made.1 step));
+  called = called;
+  machine = subst (λ (o : Option Undo). GoesBack b c o) is goes_back;
+  records = refl;
+}
   where
     never : false ≡ true → ⊥
     never e = cc
-step_still b c told (Some u) made back none = absurd (none u refl)
 
--- the record of a step that was made takes it back
-pub step_back : (b c : Benched) (undo : Option Undo) (u : Undo) → GoesBack b c undo → undo ≡ Some u → TakesBack c u × (gone_back u c ≡ b)
-step_back b c undo u back is = subst (λ (o : Option Undo). GoesBack b c o) is back
+-- a run after a step whose record is kept
+pub further_of : FittingIsFromContainer → (b c : Benched) (answers : List ℤ) (answer : Option ℤ) (undos left : List Undo)
+    → IsUnderWay (stepping b answers) undos → IsStepOn b answer undos c left → IsFurther b c answers answer left
+further_of given b c answers answer undos left under_way on =
+    subst (λ (l : List Undo). IsFurther b c answers answer l) (sym on.kept)
+    (goes_further given b c answers answer undos on.undo on.told 256 under_way on.same on.called on.made on.takes_back on.back)
 
 -- a stepper of the same run stays one
 pub stays_stepping : (j : Judged) (b c : Benched) (old new : List ℤ) (undos more : List Undo) → IsStepping j (stepping b old) undos
@@ -147,6 +165,19 @@ stays_stepping j b c old new undos more is same under_way = record {
   assembly = same.assembly ∙ is.assembly;
   program = λ p of_plan. same.program ∙ is.program p of_plan;
 }
+
+-- where no step was made, and the answers are the same, nothing changed
+pub same_stepping : (b c : Benched) (answer : Option ℤ) (old new : List ℤ) (undos left : List Undo) → IsStill b answer undos c left
+    → new ≡ old → stepping c new ≡ stepping b old
+same_stepping b c answer old new undos left still same =
+    ap (λ (x : Benched). stepping x new) still.machine ∙ ap (λ (l : List ℤ). stepping b l) same
+
+-- so does one that made no step
+pub still_stepping : (j : Judged) (b c : Benched) (answer : Option ℤ) (old new : List ℤ) (undos left : List Undo)
+    → IsStepping j (stepping b old) undos → IsStill b answer undos c left → new ≡ old → IsStepping j (stepping c new) left
+still_stepping j b c answer old new undos left is still same =
+    subst (λ (l : List Undo). IsStepping j (stepping c new) l) (sym still.records)
+    (subst (λ (s : Stepping). IsStepping j s undos) (sym (same_stepping b c answer old new undos left still same)) is)
 
 -- The start
 

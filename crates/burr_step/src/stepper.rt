@@ -1,6 +1,7 @@
 mod answering;
 mod going;
 mod readers;
+mod recording;
 mod returning;
 mod showing;
 mod starting;

@@ -1,10 +1,12 @@
 ghost use Rattle.std.specs.Prelude.{◌≡◌, ◌+◌, ◌≤◌, Ok, length, OnOk};
 ghost use Rattle.burr_code.specs.Instruction.{Step, Aside, spelled};
+ghost use Rattle.burr_code.specs.Meaning.{meaning};
 ghost use Rattle.burr_code.specs.declared.limits.TheConstants.{MOST_CODE};
 ghost use Rattle.burr_state.specs.declared.mode.Mode.TheVariants.{Running};
 ghost use Rattle.burr_state.specs.Rules.Step.{NextIs, CallIn, Called};
 ghost use Rattle.burr_state.specs.Views.Effects.{next_of, KeepsUnlessGoes, motion_made};
 ghost use Rattle.burr_state.specs.Views.Benches.{setup_of, motion_in, GoesOn, IsSameRun};
+ghost use Rattle.burr_state.specs.Views.Work.{IsNext, work};
 ghost use Rattle.burr_bench.specs.BenchViews.{Follows};
 
 use crate::checked::Checked;
@@ -59,10 +61,21 @@ impl<B: Blocking> Checked<'_, B> {
         let Some((instruction, size)) = self.bench.next() else {
             return Err(Trap::BadCode);
         };
+        self.perform(&instruction, size)
+    }
+
+    /// Carries out the instruction that stands next, of this many bytes.
+    fn perform(&mut self, instruction: &Instr<'_>, size: usize) -> Result<Effect, Trap>
+        requires { IsNext (work self.old.program self.old.state) (meaning instruction.now) size }
+        ensures next { NextIs (setup_of self.old) self.old.state (next_of result self.new.state) }
+        ensures kept { KeepsUnlessGoes result self.old self.new }
+        ensures same { IsSameRun self.old self.new }
+        ensures goes_on { OnOk result (GoesOn self.old self.new (motion_made result)) }
+    {
         match instruction {
-            Instr::Step(direction) => self.move_grip(direction, size),
-            Instr::Aside(direction, tray) => self.aside(direction, tray, size),
-            other => self.bench.execute(&other, size),
+            Instr::Step(direction) => self.move_grip(*direction, size),
+            Instr::Aside(direction, tray) => self.aside(*direction, *tray, size),
+            other => self.bench.execute(other, size),
         }
     }
 

@@ -1,10 +1,12 @@
 -- What the code's state of the bench stands for, and what holds of each.
-use Rattle.std.specs.Prelude.{Option, MatchOption, ℕ, ◌+◌, ◌^◌, ◌<◌, ◌≤◌, List, [], ◌∷◌, None, length, replicate, pos}
+use Rattle.std.specs.Prelude.{Option, MatchOption, ℕ, ◌+◌, ◌^◌, ◌<◌, ◌≤◌, ℤ, List, [], ◌∷◌, None, drop, length, replicate, pos}
+use Rattle.burr_text.specs.Checks.{needs}
 use Rattle.burr_voxels.specs.declared.cell.Cell.{Cell}
 use Rattle.burr_voxels.specs.declared.direction.Direction.{Direction}
 use Rattle.burr_voxels.specs.Grid.{origin, plus, along}
 use Rattle.burr_voxels.specs.Near.{IsWithin}
 use Rattle.burr_code.specs.declared.limits.TheConstants.{MOST_OFFSET}
+use Rattle.burr_code.specs.Instruction.{IsInNumberRange}
 use Rattle.burr_code.specs.PieceSets.{IsInSet}
 use Rattle.burr_code.specs.declared.placement.Placement.{Placement}
 use Rattle.burr_code.specs.declared.placement.Placement.TheVariants.{On}
@@ -12,7 +14,9 @@ use Rattle.burr_code.specs.Places.{LiesAt, LiesIn, AllLieIn, aside_places}
 use Rattle.burr_state.specs.declared.mode.Mode.{Mode}
 use Rattle.burr_state.specs.declared.mode.Mode.TheVariants.{Running}
 use Rattle.burr_state.specs.Rules.Bench.{Activation, activation, BenchState}
-use Rattle.burr_state.specs.Rules.Next.{stepped}
+use Rattle.burr_state.specs.declared.trap.Trap.TheVariants as traps
+use Rattle.burr_state.specs.Rules.Next.{Next, Traps, goes, stepped}
+use Rattle.burr_state.specs.Rules.Numbers.{with_operands}
 use Rattle.burr_state.specs.Views.Offsets.{AreNear}
 use Rattle.burr_state.specs.Rules.Space.{AllOnBench, moved_places}
 
@@ -53,6 +57,15 @@ pub record IsOrderly (s : BenchState) : Type 0 where
 -- the step is made, and the run goes on so many bytes further
 abbrev pub after : ℕ → BenchState → BenchState
 after size s = stepped (record s { running = record s.running { pc = s.running.pc + size } })
+
+-- The number takes the place of the two topmost operands, where operands may hold it; then the run
+-- goes on so many bytes further.
+abbrev pub replacing_two : BenchState → ℤ → ℕ → Next → Type 0
+replacing_two s n size =
+    needs (IsInNumberRange n) (Traps traps.NumberRange)
+    (goes (after size (record s {
+      running = with_operands (n ∷ drop 2 s.running.operands) s.running;
+    })) None)
 
 -- how far from home piece p lies in the current tray, if it lies there
 abbrev pub IsOffsetHere : BenchState → ℕ → Option Cell → Type 0

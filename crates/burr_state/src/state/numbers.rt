@@ -6,6 +6,7 @@ ghost use Rattle.burr_code.specs.Instruction.{Push, Load, Store, Add, Sub, Drop,
 ghost use Rattle.burr_state.specs.Rules.Bench.{BenchProcedure};
 ghost use Rattle.burr_state.specs.Rules.Numbers.{pushing, loading, storing, adding, subtracting, dropping};
 ghost use Rattle.burr_state.specs.Views.Effects.{next_of, KeepsUnlessGoes, NeverMoves, StaysPut};
+ghost use Rattle.burr_state.specs.Views.StateViews.{replacing_two};
 
 use crate::effect::Effect;
 use crate::state::BenchState;
@@ -85,12 +86,7 @@ impl BenchState {
         let Some((top, below)) = self.running.top_two() else {
             return Err(Trap::MissingOperand);
         };
-        let Some(sum) = in_number_range(i64::from(below) + i64::from(top)) else {
-            return Err(Trap::NumberRange);
-        };
-        self.running.replace_two(sum);
-        self.go_after(size);
-        Ok(Effect::Goes(None))
+        self.replace_two(i64::from(below) + i64::from(top), size)
     }
 
     /// `sub`: the two topmost operands are replaced by their difference, the top taken from the one
@@ -106,10 +102,23 @@ impl BenchState {
         let Some((top, below)) = self.running.top_two() else {
             return Err(Trap::MissingOperand);
         };
-        let Some(difference) = in_number_range(i64::from(below) - i64::from(top)) else {
+        self.replace_two(i64::from(below) - i64::from(top), size)
+    }
+
+    /// A step of so many bytes that puts a number in place of the two topmost operands, where it is
+    /// one that operands may hold.
+    fn replace_two(&mut self, number: i64, size: usize) -> Result<Effect, Trap>
+        requires two { 2 ≤ length self.old.running.operands }
+        requires within { self.old.running.pc + size ≤ MOST_CODE }
+        ensures next { replacing_two self.old number size (next_of result self.new) }
+        ensures kept { KeepsUnlessGoes result self.old self.new }
+        ensures no_motion { NeverMoves result }
+        ensures stays { StaysPut self.old self.new }
+    {
+        let Some(number) = in_number_range(number) else {
             return Err(Trap::NumberRange);
         };
-        self.running.replace_two(difference);
+        self.running.replace_two(number);
         self.go_after(size);
         Ok(Effect::Goes(None))
     }

@@ -1,5 +1,5 @@
 -- A run under way, step by step, and what the calls of a stepper come to.
-use Rattle.std.specs.Prelude.{◌≡◌, ◌<◌, ◌≤◌, ◌⊎◌, ◌+◌, ◌-◌, ◌^◌, ℕ, ℤ, List, length, take, slice_get, Option, Some, None, Result, Ok, Err}
+use Rattle.std.specs.Prelude.{◌≡◌, ◌<◌, ◌≤◌, ◌⊎◌, ◌+◌, ◌-◌, ◌^◌, ◌∷◌, ℕ, ℤ, List, length, take, slice_get, Option, Some, None, Result, Ok, Err}
 use Rattle.burr_container.specs.Rules.Plans.{Plan}
 use Rattle.burr_container.specs.Views.Containers.{IsContainer}
 use Rattle.burr_verify.specs.Rules.Accepting.{Judged, IsAccepted}
@@ -7,7 +7,11 @@ use Rattle.burr_state.specs.Rules.Bench.{BenchState, Setup, HasLabelOf, start}
 use Rattle.burr_state.specs.Rules.Undo.{Undo}
 use Rattle.burr_state.specs.Views.Benches.{Benched, setup_of, in_state, IsSameRun}
 use Rattle.burr_state.specs.Views.Programs.{plan_program}
+use Rattle.burr_state.specs.declared.progress.Progress.{Progress}
+use Rattle.burr_state.specs.Rules.Step.{Called}
 use Rattle.burr_soundness.specs.Machine.{IsSafeBench}
+use Rattle.burr_bench.specs.Recorded.{TakesBack, MadeStep, gone_back}
+use Rattle.burr_step.specs.declared.records.TheConstants.{MOST_RECORDS}
 use Rattle.burr_step.specs.declared.refusal.StepRefusal.{StepRefusal as CodeRefusal}
 use Rattle.burr_step.specs.declared.refusal.StepRefusal.TheVariants as code
 use Rattle.burr_step.specs.declared.stepper.going.Stop.{Stop}
@@ -108,6 +112,27 @@ pub record IsUpTo (IsSo : BenchState → Type 0) (old now : Stepping) : Type 0 w
   pub later : (¬ IsSo now.bench.state) → (more : ℕ) (last : BenchState)
       → GoesUntil (setup_of old.bench) IsSo now.bench.state more last
       → GoesUntil (setup_of old.bench) IsSo old.bench.state (steps + more) last
+
+-- one step more was made, with this answer or none, and its record is kept
+pub record IsStepOn (old : Benched) (answer : Option ℤ) (undos : List Undo) (new : Benched)
+    (left : List Undo) : Type 0 where
+  pub told : Progress
+  pub undo : Undo
+  pub made : MadeStep told
+  pub same : IsSameRun old new
+  pub called : Called (setup_of old) old.state answer (Ok told) new.state
+  pub takes_back : TakesBack new undo
+  pub back : gone_back undo new ≡ old
+  pub kept : left ≡ take MOST_RECORDS (undo ∷ undos)
+
+-- none was made, and nothing changed
+pub record IsStill (old : Benched) (answer : Option ℤ) (undos : List Undo) (new : Benched)
+    (left : List Undo) : Type 0 where
+  pub told : Progress
+  pub still : ¬ MadeStep told
+  pub called : Called (setup_of old) old.state answer (Ok told) new.state
+  pub machine : new ≡ old
+  pub records : left ≡ undos
 
 -- so many steps were undone, by as many of the records
 pub record IsUndone (many : ℕ) (old now : Stepping) (undos left : List Undo) : Type 0 where

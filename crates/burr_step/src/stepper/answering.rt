@@ -3,6 +3,7 @@ ghost use Rattle.burr_step.specs.Views.Stepping.{CameTo, commanding};
 
 use crate::refusal::StepRefusal;
 use crate::stepper::Stepper;
+use crate::stepper::recording::step_on;
 use burr_blocking::Blocking;
 use burr_verify::a_fitting_plan_is_from_a_container;
 
@@ -18,12 +19,10 @@ impl<'s, 'a: 's, 'c: 'a, B: Blocking> Stepper<'s, 'a, 'c, B> {
             return Err(StepRefusal::S1);
         }
         self.answers.push(answer)?;
-        let (_progress, undo) = self.machine.step_recorded(Some(answer));
-        let Some(undo) = undo else {
+        if !step_on(&mut self.machine, Some(answer), &mut self.records) {
             let _ = self.answers.pop();
             return Err(StepRefusal::S3);
-        };
-        self.records.push(undo);
+        }
         Ok(())
     }
 }

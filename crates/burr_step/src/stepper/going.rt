@@ -8,6 +8,7 @@ ghost use Rattle.burr_step.specs.Views.Stepping.{CameTo, NeedsNoMemory, commandi
 
 use crate::refusal::StepRefusal;
 use crate::stepper::Stepper;
+use crate::stepper::recording::step_on;
 use burr_bench::Machine;
 use burr_blocking::Blocking;
 use burr_verify::a_fitting_plan_is_from_a_container;
@@ -46,11 +47,9 @@ impl<'s, 'a: 's, 'c: 'a, B: Blocking> Stepper<'s, 'a, 'c, B> {
         if self.machine.ended() {
             return Err(StepRefusal::S1);
         }
-        let (_progress, undo) = self.machine.step_recorded(None);
-        let Some(undo) = undo else {
+        if !step_on(&mut self.machine, None, &mut self.records) {
             return Err(StepRefusal::S2);
-        };
-        self.records.push(undo);
+        }
         Ok(())
     }
 

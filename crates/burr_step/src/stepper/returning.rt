@@ -8,6 +8,7 @@ ghost use Rattle.burr_step.specs.Views.Stepping.{CameTo, NeedsNoMemory, commandi
 use crate::records::Records;
 use crate::refusal::StepRefusal;
 use crate::stepper::Stepper;
+use crate::stepper::recording::step_on;
 use burr_bench::Machine;
 use burr_blocking::Blocking;
 use burr_soundness::an_accepted_bench_never_traps;
@@ -20,10 +21,7 @@ impl<'s, 'a: 's, 'c: 'a, B: Blocking> Stepper<'s, 'a, 'c, B> {
         ensures comes { CameTo self.old (commanding self.old (Back steps)) result self.new }
         ensures no_memory { NeedsNoMemory result }
     {
-        an_accepted_bench_never_traps();
-        let made = self.machine.steps();
-        let steps_back = u64::from(steps);
-        if made < steps_back {
+        if self.machine.steps() < u64::from(steps) {
             return Err(StepRefusal::S4);
         }
         if steps as usize <= self.records.len() {
@@ -34,17 +32,22 @@ impl<'s, 'a: 's, 'c: 'a, B: Blocking> Stepper<'s, 'a, 'c, B> {
                 &mut self.records,
             );
         } else {
-            self.machine = Machine::start(self.accepted);
-            self.records.clear();
-            let taken = run_again(
-                made - steps_back,
-                &mut self.machine,
-                &self.answers,
-                &mut self.records,
-            );
-            self.answers.truncate(taken);
+            self.start_again(steps);
         }
         Ok(())
+    }
+
+    /// Goes so many steps back by running again from the start, without them.
+    fn start_again(&mut self, steps: u32)
+        requires { steps ≤ self.old.history.steps }
+        ensures { IsDone self.old (commanding self.old (Back steps)) self.new }
+    {
+        an_accepted_bench_never_traps();
+        let left = self.machine.steps() - u64::from(steps);
+        self.machine = Machine::start(self.accepted);
+        self.records.clear();
+        let taken = run_again(left, &mut self.machine, &self.answers, &mut self.records);
+        self.answers.truncate(taken);
     }
 }
 
@@ -79,11 +82,9 @@ fn run_again(steps: u64, machine: &mut Machine<'_>, answers: &[i32], records: &m
     let mut taken = 0;
     for _step in 0..steps {
         let (answer, taken_then) = next_answer(machine, answers, taken);
-        let (_progress, undo) = machine.step_recorded(answer);
-        let Some(undo) = undo else {
+        if !step_on(machine, answer, records) {
             unreachable!();
-        };
-        records.push(undo);
+        }
         taken = taken_then;
     }
     taken

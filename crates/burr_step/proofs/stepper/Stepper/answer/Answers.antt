@@ -1,59 +1,61 @@
-use Rattle.std.proofs.Common.{subst, sym, ap, ◌≡◌, ◌∙◌, Some, Ok, FitsSigned, to_z, of_z, w32, ℤ, rules}
+use Rattle.std.proofs.Common.{subst, sym, ap, ◌≡◌, ◌∙◌, Some, w32, ℤ, rules}
 use Rattle.std.proofs.lemmas.Int.{to_z-of_z}
 use Rattle.std.specs.Prelude.{List, ◌++◌, ◌∷◌, [], take, length, ◌-◌}
 use Rattle.burr_text.proofs.Common.Tests.{no_of}
-use Rattle.burr_state.specs.declared.progress.Progress.{Progress}
-use Rattle.burr_state.specs.Rules.Bench.{BenchState, Setup}
-use Rattle.burr_state.specs.Rules.Undo.{Undo}
-use Rattle.burr_state.specs.Rules.Step.{Called}
-use Rattle.burr_state.specs.Views.Benches.{setup_of}
 use Rattle.burr_step.specs.Rules.Stepper.{S3, Answer}
-use Rattle.burr_step.specs.Views.Stepping.{Stepping, stepping, IsStepping, IsDone, IsRefused, commanding}
+use Rattle.burr_step.specs.Views.Stepping.{Stepping, stepping, IsStepping, IsDone, IsRefused, IsStepOn, IsStill, commanding}
 use Rattle.burr_step.proofs.Lists.{all_but_last}
-use Rattle.burr_step.proofs.UnderWay.{IsFurther, step_kept, step_still, stays_stepping}
+use Rattle.burr_step.proofs.UnderWay.{IsFurther, further_of, same_stepping, still_stepping, stays_stepping}
 use Rattle.burr_step.proofs.Answering.{answer_unfit, answer_done}
 use Rattle.burr_step.proofs.stepper.Stepper.answer.Goals as goal
 
 -- the answer that is handed on is the one that was given
-called_so : (setup : Setup) (s new : BenchState) (answer : ℤ) (told : Progress) → FitsSigned w32 answer
-    → Called setup s (Some (to_z w32 (of_z w32 answer))) (Ok told) new → Called setup s (Some answer) (Ok told) new
-called_so setup s new answer told fits called = subst (λ (n : ℤ). Called setup s (Some n) (Ok told) new) (to_z-of_z w32 answer fits) called
+made : (g : _) (c : goal.Else-not-step_on g) → IsStepOn c.self.inside.machine (Some c.args.answer) c.self.inside.records c.step_on.new.machine c.step_on.new.records
+made g c =
+    subst (λ (n : ℤ). IsStepOn c.self.inside.machine (Some n) c.self.inside.records c.step_on.new.machine c.step_on.new.records)
+    (to_z-of_z w32 c.args.answer c.ranges.answer) (c.step_on.ensures.made c.if-not-step_on.false)
 
-pub returns-in_default : goal.returns-in_default
-returns-in_default g c =
-    let b = c.self.inside.machine in
-    let new = c.step_recorded-progress.new.self in
-    let answers = c.self.inside.answers.items in
-    let call = c.step_recorded-progress.ensures in
-    let still = step_still b new c.step_recorded-progress.result.0 c.step_recorded-progress.result.1 call.made call.goes_back c.in_default.not-Some in
+still : (g : _) (c : goal.After-pop g) → IsStill c.self.inside.machine (Some c.args.answer) c.self.inside.records c.step_on.new.machine c.step_on.new.records
+still g c =
+    subst (λ (n : ℤ). IsStill c.self.inside.machine (Some n) c.self.inside.records c.step_on.new.machine c.step_on.new.records)
+    (to_z-of_z w32 c.args.answer c.ranges.answer) (c.step_on.ensures.still c.if-not-step_on.true)
+
+-- it is taken off again
+left : (g : _) (c : goal.After-pop g) → c.pop.new.self.items ≡ c.self.inside.answers.items
+left g c =
     let rest : c.pop.new.self.items ≡ take (length c.push.new.self.items - 1) c.push.new.self.items = search rules in
-    let left : c.pop.new.self.items ≡ answers =
-    rest ∙ ap (λ (l : List ℤ). take (length l - 1) l) c.in_ok-push.ensures.items ∙ all_but_last answers _ in
-    let same : stepping new c.pop.new.self.items ≡ stepping b answers = ap (λ x. stepping x c.pop.new.self.items) still.1 ∙ ap (λ (l : List ℤ). stepping b l) left in
+    rest ∙ ap (λ (l : List ℤ). take (length l - 1) l) c.in_ok-push.ensures.items ∙ all_but_last c.self.inside.answers.items _
+
+pub invariant_of-self-then-not-step_on : goal.invariant_of-self-then-not-step_on
+invariant_of-self-then-not-step_on g c =
+    still_stepping _ c.self.inside.machine c.step_on.new.machine _ c.self.inside.answers.items c.pop.new.self.items c.self.inside.records c.step_on.new.records
+    c.self.invariant (still g c) (left g c)
+
+pub returns-then-not-step_on : goal.returns-then-not-step_on
+returns-then-not-step_on g c =
+    let b = c.self.inside.machine in
+    let new = c.step_on.new.machine in
+    let answers = c.self.inside.answers.items in
+    let same = same_stepping b new (Some c.args.answer) answers c.pop.new.self.items c.self.inside.records c.step_on.new.records (still g c) (left g c) in
     subst (λ (s : Stepping). IsRefused s (commanding s (Answer c.args.answer)) S3 (stepping new c.pop.new.self.items)) c.self.view_is
-    (answer_unfit (stepping b answers) (stepping new c.pop.new.self.items) c.args.answer new.state c.step_recorded-progress.result.0 (no_of c.if-ended.ensures)
-    (called_so (setup_of b) b.state new.state c.args.answer c.step_recorded-progress.result.0 c.ranges.answer call.called) still.0 same)
+    (answer_unfit (stepping b answers) (stepping new c.pop.new.self.items) c.args.answer new.state (still g c).told (no_of c.if-ended.ensures)
+    (still g c).called (still g c).still same)
 
-further : (g : _) (c : goal.After-push-2 g) → IsFurther c.self.inside.machine c.step_recorded-progress.new.self c.self.inside.answers.items (Some c.args.answer) c.push-2.new.self
+further : (g : _) (c : goal.Else-not-step_on g) → IsFurther c.self.inside.machine c.step_on.new.machine c.self.inside.answers.items (Some c.args.answer) c.step_on.new.records
 further g c =
-    let call = c.step_recorded-progress.ensures in
-    subst (λ (l : List Undo). IsFurther c.self.inside.machine c.step_recorded-progress.new.self c.self.inside.answers.items (Some c.args.answer) l) (sym c.push-2.ensures)
-    (step_kept c.a_fitting_plan_is_from_a_container.ensures c.self.inside.machine c.step_recorded-progress.new.self c.self.inside.answers.items (Some c.args.answer)
-    c.self.inside.records c.step_recorded-progress.result.0 c.step_recorded-progress.result.1 c.in-Some.undo 256 c.self.invariant.under_way call.same
-    (called_so (setup_of c.self.inside.machine) c.self.inside.machine.state c.step_recorded-progress.new.self.state c.args.answer
-    c.step_recorded-progress.result.0 c.ranges.answer call.called) call.made call.goes_back c.in-Some.is)
+    further_of c.a_fitting_plan_is_from_a_container.ensures c.self.inside.machine c.step_on.new.machine c.self.inside.answers.items (Some c.args.answer)
+    c.self.inside.records c.step_on.new.records c.self.invariant.under_way (made g c)
 
-pushed_is : (g : _) (c : goal.After-push-2 g) → c.push.new.self.items ≡ c.self.inside.answers.items ++ c.args.answer ∷ []
+pushed_is : (g : _) (c : goal.Else-not-step_on g) → c.push.new.self.items ≡ c.self.inside.answers.items ++ c.args.answer ∷ []
 pushed_is g c = c.in_ok-push.ensures.items ∙ ap (λ (n : ℤ). c.self.inside.answers.items ++ n ∷ []) (to_z-of_z w32 c.args.answer c.ranges.answer)
 
-pub invariant_of-self-2 : goal.invariant_of-self-2
-invariant_of-self-2 g c =
-    subst (λ (l : List ℤ). IsStepping c.self.inside.accepted.now (stepping c.step_recorded-progress.new.self l) c.push-2.new.self) (sym (pushed_is g c))
-    (stays_stepping _ c.self.inside.machine c.step_recorded-progress.new.self c.self.inside.answers.items _ _ _ c.self.invariant
-    c.step_recorded-progress.ensures.same (further g c).under_way)
+pub invariant_of-self-else-not-step_on : goal.invariant_of-self-else-not-step_on
+invariant_of-self-else-not-step_on g c =
+    subst (λ (l : List ℤ). IsStepping c.self.inside.accepted.now (stepping c.step_on.new.machine l) c.step_on.new.records) (sym (pushed_is g c))
+    (stays_stepping _ c.self.inside.machine c.step_on.new.machine c.self.inside.answers.items _ _ _ c.self.invariant (made g c).same (further g c).under_way)
 
 pub returns : goal.returns
 returns g c =
-    subst (λ (l : List ℤ). IsDone c.args.self.now (commanding c.args.self.now (Answer c.args.answer)) (stepping c.step_recorded-progress.new.self l)) (sym (pushed_is g c))
-    (subst (λ (s : Stepping). IsDone s (commanding s (Answer c.args.answer)) (stepping c.step_recorded-progress.new.self (c.self.inside.answers.items ++ c.args.answer ∷ []))) c.self.view_is
-    (answer_done c.self.inside.machine c.step_recorded-progress.new.self c.self.inside.answers.items c.args.answer _ c.step_recorded-progress.ensures.same (further g c)))
+    subst (λ (l : List ℤ). IsDone c.args.self.now (commanding c.args.self.now (Answer c.args.answer)) (stepping c.step_on.new.machine l)) (sym (pushed_is g c))
+    (subst (λ (s : Stepping). IsDone s (commanding s (Answer c.args.answer)) (stepping c.step_on.new.machine (c.self.inside.answers.items ++ c.args.answer ∷ []))) c.self.view_is
+    (answer_done c.self.inside.machine c.step_on.new.machine c.self.inside.answers.items c.args.answer _ (made g c).same (further g c)))

@@ -4,13 +4,10 @@ use Rattle.burr_state.specs.Rules.Undo.{Undo}
 use Rattle.burr_step.specs.Rules.Stepper.{Back}
 use Rattle.burr_step.specs.Views.Stepping.{Stepping, stepping, IsUnderWay, HasRun, IsDone, commanding}
 use Rattle.burr_step.proofs.Returning.{restarted, has_run, again_done}
-use Rattle.burr_step.proofs.stepper.Stepper.back.Goals as goal
+use Rattle.burr_step.proofs.stepper.Stepper.start_again.Goals as goal
 
 at_most : (made steps : ℕ) → made - steps ≤ made
 at_most made steps = omega arith
-
-not_below : {made steps back : ℕ} → back ≡ steps → back ≤ made → steps ≤ made
-not_below e within = omega (arith, e, within)
 
 pub run_again-taken-requires-clause-under_way : goal.run_again-taken-requires-clause-under_way
 run_again-taken-requires-clause-under_way g c =
@@ -25,13 +22,13 @@ run_again-taken-requires-clause-run g c =
     let old = stepping c.self.inside.machine c.self.inside.answers.items in
     let again = restarted c.an_accepted_bench_never_traps.ensures.start c.self.inside.accepted.now old c.self.inside.records c.self.invariant
     c.start-self-inside.result start.assembly start.program start.start in
-    let within : c.steps-made.result - c.from-steps_back.result ≤ old.history.steps =
-    subst (λ (n : ℕ). c.steps-made.result - c.from-steps_back.result ≤ n) c.steps-made.ensures (at_most c.steps-made.result c.from-steps_back.result) in
-    subst (λ (l : List ℤ). HasRun c.start-self-inside.result l (c.steps-made.result - c.from-steps_back.result)) (sym c.deref.ensures.value)
+    let within : c.steps.result - c.from.result ≤ old.history.steps =
+    subst (λ (n : ℕ). c.steps.result - c.from.result ≤ n) c.steps.ensures (at_most c.steps.result c.from.result) in
+    subst (λ (l : List ℤ). HasRun c.start-self-inside.result l (c.steps.result - c.from.result)) (sym c.deref.ensures.value)
     (has_run old c.self.inside.records c.self.invariant.under_way c.start-self-inside.result again.0 start.start _ within)
 
-pub returns-else-steps-len-clause-comes : goal.returns-else-steps-len-clause-comes
-returns-else-steps-len-clause-comes g c =
+pub returns : goal.returns
+returns g c =
     let start = c.start-self-inside.ensures in
     let old = stepping c.self.inside.machine c.self.inside.answers.items in
     let now = c.run_again-taken.new.machine in
@@ -39,11 +36,10 @@ returns-else-steps-len-clause-comes g c =
     let again = restarted c.an_accepted_bench_never_traps.ensures.start c.self.inside.accepted.now old c.self.inside.records c.self.invariant
     c.start-self-inside.result start.assembly start.program start.start in
     let under_way = subst (λ (l : List ℤ). IsUnderWay (stepping now (take taken l)) c.run_again-taken.new.records) c.deref.ensures.value c.run_again-taken.ensures.under_way in
-    let within : c.args.steps ≤ old.history.steps =
-    subst (λ (n : ℕ). c.args.steps ≤ n) c.steps-made.ensures (not_below c.from-steps_back.ensures c.if-made-steps_back.false) in
+    let within : c.args.steps ≤ old.history.steps = subst (λ (s : Stepping). c.args.steps ≤ s.history.steps) (sym c.self.view_is) c.requires in
     let count : now.state.steps ≡ old.history.steps - c.args.steps =
-    c.run_again-taken.ensures.steps ∙ ap (λ (n : ℕ). n - c.from-steps_back.result) c.steps-made.ensures
-    ∙ ap (λ (n : ℕ). old.history.steps - n) c.from-steps_back.ensures in
+    c.run_again-taken.ensures.steps ∙ ap (λ (n : ℕ). n - c.from.result) c.steps.ensures
+    ∙ ap (λ (n : ℕ). old.history.steps - n) c.from.ensures in
     subst (λ (s : Stepping). IsDone s (commanding s (Back c.args.steps)) (stepping now c.truncate.new.self.items)) c.self.view_is
     (subst (λ (l : List ℤ). IsDone old (commanding old (Back c.args.steps)) (stepping now l)) (sym c.truncate.ensures.items)
     (again_done old c.start-self-inside.result now c.args.steps taken c.run_again-taken.new.records again.0 c.run_again-taken.ensures.same under_way within count))
