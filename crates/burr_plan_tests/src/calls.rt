@@ -9,18 +9,13 @@ use std::process::Abort;
 
 /// The assembly of a text, in which `/` may stand for a line end.
 pub fn assembly_of(rt: &impl Abort, alloc: Global, text: &str) -> Assembly {
-    match Assembly::read(alloc, lines_of(rt, alloc, text).as_bytes()) {
-        Ok(assembly) => assembly,
-        Err(_) => panic!(rt; "no assembly"),
-    }
+    let text = lines_of(rt, alloc, text);
+    Assembly::read(alloc, text.as_bytes()).expect(rt, "an assembly")
 }
 
 /// The container with these bytes.
 pub fn container_of<'a>(rt: &impl Abort, bytes: &'a [u8]) -> Container<'a> {
-    match Container::parse(bytes) {
-        Ok(container) => container,
-        Err(_) => panic!(rt; "no container"),
-    }
+    Container::parse(bytes).expect(rt, "a container")
 }
 
 /// What answers for an assembly by its cells.

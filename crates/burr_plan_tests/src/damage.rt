@@ -24,7 +24,7 @@ fn tells_where_a_container_is_cut_short(rt: HostRuntime) {
     assert!(rt; bytes.len() == 258);
     for size in 0..bytes.len() {
         let front = bytes.get(..size).expect(&rt, "a front");
-        assert!(rt; is_cut_short(front), "{size}");
+        assert!(rt; is_cut_short(front));
     }
 }
 
@@ -61,6 +61,6 @@ fn runs_what_is_accepted_to_an_end(rt: HostRuntime) {
             "Waiting" | "refused" => changed != bytes,
             _ => false,
         };
-        assert!(rt; is_right, "{place} {byte}");
+        assert!(rt; is_right, "{number}");
     }
 }

@@ -3,8 +3,6 @@
 #![tactic(auto)]
 
 #[cfg(test)]
-mod arrivals;
-#[cfg(test)]
 mod assemblies;
 #[cfg(test)]
 mod bench;
@@ -13,13 +11,7 @@ mod calls;
 #[cfg(test)]
 mod cases;
 #[cfg(test)]
-mod commands;
-#[cfg(test)]
 mod damage;
-#[cfg(test)]
-mod expansions;
-#[cfg(test)]
-mod looks;
 #[cfg(test)]
 mod machine;
 #[cfg(test)]
@@ -27,11 +19,7 @@ mod plans;
 #[cfg(test)]
 mod puts;
 #[cfg(test)]
-mod rods;
-#[cfg(test)]
 mod sheet;
-#[cfg(test)]
-mod sinks;
 #[cfg(test)]
 mod sources;
 #[cfg(test)]
@@ -40,8 +28,6 @@ mod stepper;
 mod tables;
 #[cfg(test)]
 mod texts;
-#[cfg(test)]
-mod upgrades;
 #[cfg(test)]
 mod verdicts;
 #[cfg(test)]

@@ -1,5 +1,23 @@
 //! Plans that these tests alone are about, as hexadecimal digits: the header, then each procedure
 //! with its labels, their frames, and its code.
+use burr_testing::plans::{DUO_PLAN, RESULT_PLAN, RING_PLAN};
+
+/// The digits of the plan with this name; of any other words, themselves.
+pub fn plan_named(name: &'static str) -> &'static str {
+    match name {
+        "choice" => CHOICE_PLAN,
+        "cup" => CUP_PLAN,
+        "duo" => DUO_PLAN,
+        "duo code" => DUO_CODE,
+        "frame" => FRAME_PLAN,
+        "labelled code" => LABELLED_CODE,
+        "lift" => LIFT_PLAN,
+        "result" => RESULT_PLAN,
+        "ring" => RING_PLAN,
+        "square code" => SQUARE_CODE,
+        _ => name,
+    }
+}
 
 /// Code for the duo, whose only label is its first: its cost and, after its length, the code.
 pub const DUO_CODE: &str = "\

@@ -4,37 +4,47 @@ use crate::sources::input_of;
 use crate::tables::{Kind, Table};
 use crate::texts::{bytes_of, edited, lines_of};
 use crate::want::memory_taken;
-use burr_blocking::Blocking;
+use burr_blocking::{Blocking, CellTables};
 use burr_container::Container;
 use burr_io::{Reading, Writing};
 use burr_runs::{BenchFault, Outcome, bench_text, check, read_answers, run_plan};
-use burr_verify::accept;
+use burr_testing::Narrow;
+use burr_verify::{Accepted, accept};
 use std::alloc::Global;
-use std::io::{Cursor, Read, Write};
+use std::io::{Cursor, ErrorKind, Read, Write};
 use std::process::Abort;
 
 /// How a run ended, in a word.
-fn word_of(end: Result<Outcome, BenchFault>) -> &'static str {
-    match end {
-        Ok(Outcome::Apart) => "Apart",
-        Ok(Outcome::Waiting) => "Waiting",
-        Ok(Outcome::Trapped) => "Trapped",
-        Ok(Outcome::Stopped) => "Stopped",
-        Ok(Outcome::Refused) => "Refused",
-        Err(BenchFault::Read) => "Read",
-        Err(BenchFault::TooLong) => "TooLong",
-        Err(BenchFault::Write) => "Write",
-        Err(BenchFault::Memory) => "Memory",
+fn word_of(outcome: Outcome) -> &'static str {
+    match outcome {
+        Outcome::Apart => "Apart",
+        Outcome::Waiting => "Waiting",
+        Outcome::Trapped => "Trapped",
+        Outcome::Stopped => "Stopped",
+        Outcome::Refused => "Refused",
+    }
+}
+
+/// Why a run of bare code could not end, in a word.
+fn word_of_fault(fault: BenchFault) -> &'static str {
+    match fault {
+        BenchFault::Read => "Read",
+        BenchFault::TooLong => "TooLong",
+        BenchFault::Write => "Write",
+        BenchFault::Memory => "Memory",
     }
 }
 
 /// Runs an input's bare code and puts its sheet.
 pub fn put_bare<R: Read, W: Write>(alloc: Global, reader: &mut R, writer: &mut W) -> &'static str {
-    word_of(bench_text(alloc, &mut Reading::new(reader), &mut Writing::new(writer)))
+    match bench_text(alloc, &mut Reading::new(reader), &mut Writing::new(writer)) {
+        Ok(outcome) => word_of(outcome),
+        Err(fault) => word_of_fault(fault),
+    }
 }
 
 /// Checks a plan and puts the line of it.
-pub fn put_check<B: Blocking, W: Write>(
+fn put_check<B: Blocking, W: Write>(
     container: &Container<'_>,
     blocking: &B,
     writer: &mut W,
@@ -53,11 +63,20 @@ pub fn put_run<B: Blocking, W: Write>(
     answers: &[i32],
     writer: &mut W,
 ) -> &'static str {
-    let Ok(accepted) = accept(container, blocking) else {
-        return "refused";
-    };
-    match run_plan(&accepted, answers, &mut Writing::new(writer)) {
-        Ok(outcome) => word_of(Ok(outcome)),
+    match accept(container, blocking) {
+        Ok(accepted) => put_accepted(&accepted, answers, writer),
+        Err(_) => "refused",
+    }
+}
+
+/// Runs an accepted plan and puts its sheet.
+fn put_accepted<B: Blocking, W: Write>(
+    accepted: &Accepted<'_, '_, B>,
+    answers: &[i32],
+    writer: &mut W,
+) -> &'static str {
+    match run_plan(accepted, answers, &mut Writing::new(writer)) {
+        Ok(outcome) => word_of(outcome),
         Err(_) => "Write",
     }
 }
@@ -88,47 +107,36 @@ fn answers_of(rt: &impl Abort, alloc: Global, kind: Kind, given: &str) -> Vec<i3
 }
 
 /// The bytes of a case's plan.
-fn plan_of(rt: &impl Abort, alloc: Global, table: &Table, given: &str) -> Vec<u8> {
+pub fn plan_of(rt: &impl Abort, alloc: Global, table: &Table, given: &str) -> Vec<u8> {
     match table.kind {
         Kind::Run => bytes_of(rt, alloc, table.plan),
         _ => bytes_of(rt, alloc, &edited(rt, alloc, table.plan, given)),
     }
 }
 
-/// Checks or runs a case's plan: by cells or, while no memory can be had, by tables that were made
-/// before.
+/// Checks or runs a case's plan.
 fn put_plan<W: Write>(
     rt: &impl Abort,
     alloc: Global,
     table: &Table,
     given: &str,
-    is_poor: bool,
     writer: &mut W,
 ) -> &'static str {
     let bytes = plan_of(rt, alloc, table, given);
     let answers = answers_of(rt, alloc, table.kind, given);
-    let container = container_of(rt, &bytes);
     let assembly = assembly_of(rt, alloc, table.assembly);
-    if !is_poor {
-        let cells = cells_of(&assembly);
-        return put_judged(table.kind, &container, &cells, &answers, writer);
-    }
-    let tables = tables_of(rt, alloc, &assembly);
-    // with ample memory first: then the stack has grown as far as the calls need, which it can't do
-    // while all memory is taken
+    let container = container_of(rt, &bytes);
     put_judged(
         table.kind,
         &container,
-        &tables,
+        &cells_of(&assembly),
         &answers,
-        &mut Vec::new(alloc),
-    );
-    let _taken = memory_taken(rt, alloc);
-    put_judged(table.kind, &container, &tables, &answers, writer)
+        writer,
+    )
 }
 
 /// Puts what comes of a case.
-pub fn put<W: Write>(
+fn put<W: Write>(
     rt: &impl Abort,
     alloc: Global,
     table: &Table,
@@ -140,26 +148,89 @@ pub fn put<W: Write>(
             let input = input_of(rt, alloc, table, given);
             put_bare(alloc, &mut input.as_bytes(), writer)
         }
-        _ => put_plan(rt, alloc, table, given, false, writer),
+        _ => put_plan(rt, alloc, table, given, writer),
     }
 }
 
-/// What is put of a case, after the word for its end.
-pub fn said_of_put(rt: &impl Abort, alloc: Global, table: &Table, given: &str) -> String {
+/// Whether a case puts this, after the word for its end.
+pub fn puts(rt: &impl Abort, alloc: Global, table: &Table, given: &str, wanted: &str) -> bool {
+    let (end, text) = wanted.split_once(" | ").expect(rt, "a text");
     let mut written = Vec::new(alloc);
     let word = put(rt, alloc, table, given, &mut written);
-    let text = str::from_utf8(&written).expect(rt, "a text");
-    format!(in alloc; "{word} | {text}").expect(rt, "memory")
+    word == end && written.as_slice() == text.as_bytes()
 }
 
-/// Asserts what a case puts while no memory can be had, where all that it works on was made before.
-pub fn assert_poor(rt: &impl Abort, alloc: Global, table: &Table, given: &str, wanted: &str) {
-    let (wanted_word, text) = wanted.split_once(" | ").expect(rt, "a text");
+/// Whether of what a case puts a sink has the front that it has room for, whether it then fails or
+/// takes no more.
+pub fn puts_fronts(
+    rt: &impl Abort,
+    alloc: Global,
+    table: &Table,
+    given: &str,
+    wanted: &str,
+) -> bool {
+    let (end, text) = wanted.split_once(" | ").expect(rt, "a text");
+    for room in 0..=text.len() {
+        let end = if room < text.len() { "Write" } else { end };
+        let front = text.as_bytes().get(..room).expect(rt, "a front");
+        let other = Some(ErrorKind::Other);
+        if !puts_front(rt, alloc, table, given, (end, front), None) {
+            return false;
+        }
+        if !puts_front(rt, alloc, table, given, (end, front), other) {
+            return false;
+        }
+    }
+    true
+}
+
+/// Whether a case ends so whose text meets a writer with room for a front of it.
+fn puts_front(
+    rt: &impl Abort,
+    alloc: Global,
+    table: &Table,
+    given: &str,
+    (end, front): (&str, &[u8]),
+    fault: Option<ErrorKind>,
+) -> bool {
+    let mut writer = Narrow::new(alloc, front.len(), fault);
+    put(rt, alloc, table, given, &mut writer) == end && writer.taken.as_slice() == front
+}
+
+/// Whether a case puts this while no memory can be had, where all that it works on was made before.
+pub fn puts_poorly(
+    rt: &impl Abort,
+    alloc: Global,
+    table: &Table,
+    given: &str,
+    wanted: &str,
+) -> bool {
+    let bytes = plan_of(rt, alloc, table, given);
+    let answers = answers_of(rt, alloc, table.kind, given);
+    let assembly = assembly_of(rt, alloc, table.assembly);
+    let tables = tables_of(rt, alloc, &assembly);
+    let container = container_of(rt, &bytes);
+    let mut sink = Vec::new(alloc);
+    // with ample memory first: then the stack has grown as far as the calls need, which it can't do
+    // while all memory is taken
+    put_judged(table.kind, &container, &tables, &answers, &mut sink);
+    let _taken = memory_taken(rt, alloc);
+    puts_in_place(rt, table.kind, &container, &tables, &answers, wanted)
+}
+
+/// Whether a plan puts this, after the word for its end, in a place of 128 bytes.
+fn puts_in_place(
+    rt: &impl Abort,
+    kind: Kind,
+    container: &Container<'_>,
+    tables: &CellTables<'_>,
+    answers: &[i32],
+    wanted: &str,
+) -> bool {
+    let (end, text) = wanted.split_once(" | ").expect(rt, "a text");
     let mut room = [0; 128];
     let mut written = Cursor::new(room.as_mut_slice());
-    let word = put_plan(rt, alloc, table, given, true, &mut written);
-    let count = written.position();
-    assert!(rt; word == wanted_word, "{given}");
-    assert!(rt; count == text.len() as u64, "{given}");
-    assert!(rt; room.get(..text.len()) == Some(text.as_bytes()), "{given}");
+    let word = put_judged(kind, container, tables, answers, &mut written);
+    let count = written.position() as usize;
+    word == end && room.get(..count) == Some(text.as_bytes())
 }

@@ -16,17 +16,11 @@ pub fn input_of(rt: &impl Abort, alloc: Global, table: &Table, edits: &str) -> S
     lines_of(rt, alloc, &input)
 }
 
-/// Asserts how bare code ends that comes from a source, and what is put.
-fn assert_end(
-    rt: &impl Abort,
-    alloc: Global,
-    mut source: Portions<'_>,
-    (wanted, text): (&str, &str),
-) {
+/// Whether bare code that comes from a source ends so, and puts this.
+fn ends_so(alloc: Global, mut source: Portions<'_>, (end, text): (&str, &str)) -> bool {
     let mut written = Vec::new(alloc);
     let word = put_bare(alloc, &mut source, &mut written);
-    assert!(rt; word == wanted, "{wanted}");
-    assert!(rt; written.as_slice() == text.as_bytes(), "{wanted}");
+    word == end && written.as_slice() == text.as_bytes()
 }
 
 /// Whether a source's bytes are read to its end, which gives so many a call.
@@ -35,18 +29,25 @@ fn is_read_whole(alloc: Global, bytes: &[u8], each: usize) -> Result<bool, Bench
     Ok(read.as_slice() == bytes)
 }
 
-/// Asserts what comes of a case's input from a source that gives a byte a call: a call that fails,
-/// from the first to the one that would tell the end, leaves nothing written.
-pub fn assert_portions(rt: &impl Abort, alloc: Global, table: &Table, given: &str, wanted: &str) {
+/// Whether this comes of a case's input from a source that gives a byte a call, and a call that
+/// fails, from the first to the one that would tell the end, leaves nothing written.
+pub fn reads_portions(
+    rt: &impl Abort,
+    alloc: Global,
+    table: &Table,
+    given: &str,
+    wanted: &str,
+) -> bool {
     let input = input_of(rt, alloc, table, given);
     let bytes = input.as_bytes();
     for made in 0..=bytes.len() {
         let source = Portions::failing(bytes, 1, made, ErrorKind::Other);
-        assert_end(rt, alloc, source, ("Read", ""));
+        if !ends_so(alloc, source, ("Read", "")) {
+            return false;
+        }
     }
     let wanted = wanted.split_once(" | ").expect(rt, "a text");
-    assert_end(rt, alloc, Portions::new(bytes, 1), wanted);
-    assert!(rt; is_read_whole(alloc, bytes, 1) == Ok(true), "{given}");
+    ends_so(alloc, Portions::new(bytes, 1), wanted) && is_read_whole(alloc, bytes, 1) == Ok(true)
 }
 
 /// So many line ends, how many of them are given a call, whether they fail then, how that ends, and
@@ -72,10 +73,6 @@ fn tells_that_a_source_fails_or_is_too_long(rt: HostRuntime) {
         } else {
             Portions::new(blanks, *each)
         };
-        assert_end(&rt, rt.alloc(), source, *wanted);
+        assert!(rt; ends_so(rt.alloc(), source, *wanted));
     }
-    let most = many.as_bytes().get(..16_777_216).expect(&rt, "so many");
-    let more = many.as_bytes().get(..16_777_217).expect(&rt, "so many");
-    assert!(rt; is_read_whole(rt.alloc(), most, 8192) == Ok(true));
-    assert!(rt; is_read_whole(rt.alloc(), more, 8192) == Err(BenchFault::TooLong));
 }

@@ -1,306 +1,140 @@
-//! The stepper: what commands come to, one after another, on plans that ask, call and loop.
+//! The stepper by lines of commands: what is put for each, also where sinks fail or memory is
+//! wanting.
 use crate::calls::{assembly_of, cells_of, container_of};
-use crate::plans::{CUP_PLAN, LIFT_PLAN};
-use crate::texts::{bytes_of, edited};
+use crate::cases::{DIALOGUES, WANTING};
+use crate::puts::plan_of;
+use crate::tables::{Kind, table_of};
+use crate::texts::{bytes_of, lines_of};
+use crate::want::memory_taken;
+use burr_assembly::Assembly;
 use burr_blocking::PlainCells;
 use burr_io::Writing;
-use burr_step::{StepRefusal, Stepper};
-use burr_testing::Narrow;
-use burr_testing::assemblies::{CUP, RING};
-use burr_testing::plans::{RESULT_PLAN, RING_PLAN};
+use burr_runs::{StepFault, command};
+use burr_step::Stepper;
+use burr_testing::{MemoryHog, Narrow};
 use burr_verify::accept;
-use std::alloc::{AllocError, Global};
+use std::alloc::Global;
+use std::io::{Cursor, Write};
 use std::process::Abort;
 
 /// The stepper of a plan whose pieces' cells are compared.
 type Steps<'s, 'a, 'c, 'b> = Stepper<'s, 'a, 'c, PlainCells<'b>>;
 
-/// A number of a command, of a type.
-macro_rules! number {
-    ($rt:expr, $digits:expr, $kind:ty) => {
-        match $digits.parse::<$kind>() {
-            Ok(number) => number,
-            Err(_) => panic!($rt; "no number"),
-        }
-    };
-}
-
-/// Gives a command to a stepper: its word, and its numbers after blanks.
-fn obey(
-    rt: &impl Abort,
-    stepper: &mut Steps<'_, '_, '_, '_>,
-    command: &str,
-) -> Result<(), StepRefusal> {
-    let (word, numbers) = command.split_once(' ').unwrap_or((command, ""));
-    match word {
-        "forward" => stepper.forward(),
-        "over" => stepper.over(),
-        "answer" => stepper.answer(number!(rt, numbers, i32)),
-        "back" => stepper.back(number!(rt, numbers, u32)),
-        _ => {
-            let (procedure, label) = numbers.split_once(' ').unwrap_or((numbers, ""));
-            let (procedure, label) = (number!(rt, procedure, u8), number!(rt, label, u16));
-            assert!(rt; stepper.has_label(procedure, label), "{command}");
-            stepper.until(procedure, label)
-        }
+#[test]
+fn puts_what_each_command_comes_to(rt: HostRuntime) {
+    for dialogue in DIALOGUES.split("\n\n") {
+        assert_dialogue(&rt, rt.alloc(), dialogue);
     }
 }
 
-/// What a command came to, and where the stepper then stands.
-fn told(
-    alloc: Global,
-    stepper: &Steps<'_, '_, '_, '_>,
-    outcome: Result<(), StepRefusal>,
-) -> Result<String, AllocError> {
-    let mut words = format!(in alloc; "{}", stepper.steps())?;
-    if let Err(refusal) = outcome {
-        write!(words, " {refusal:?}")?;
-    }
-    if let Some((low, high)) = stepper.asks() {
-        write!(words, " asks {low} {high}")?;
-    }
-    if stepper.ended() {
-        words.push_str(" ended")?;
-    }
-    Ok(words)
+/// Asserts a dialogue: an assembly and a plan, edits, and lines of commands.
+fn assert_dialogue(rt: &impl Abort, alloc: Global, dialogue: &'static str) {
+    let (head, rest) = dialogue.split_once('\n').expect(rt, "edits");
+    let (edits, lines) = rest.split_once('\n').expect(rt, "lines");
+    let table = table_of(rt, Kind::Check, head);
+    let bytes = plan_of(rt, alloc, &table, edits);
+    assert_steps(
+        rt,
+        alloc,
+        &assembly_of(rt, alloc, table.assembly),
+        &bytes,
+        lines,
+    );
 }
 
-/// What a stepper shows, with `/` for each line end.
-fn shown(
-    rt: &impl Abort,
-    alloc: Global,
-    stepper: &Steps<'_, '_, '_, '_>,
-) -> Result<String, AllocError> {
-    let mut writer = Narrow::new(alloc, 1000, None);
-    assert!(rt; stepper.show(&mut Writing::new(&mut writer)).is_ok());
-    let text = str::from_utf8(writer.taken.as_slice()).unwrap_or("");
-    text.replace(alloc, "\n", "/")
-}
-
-/// Asserts what comes of commands: on each line one of them, and after `: ` the steps, the refusal, and
-/// what is asked or that the run has ended; of `show`, the text.
-fn assert_dialogue(rt: &impl Abort, alloc: Global, plan: &(&str, &str, &str), dialogue: &str) {
-    let assembly = assembly_of(rt, alloc, plan.0);
-    let cells = cells_of(&assembly);
-    let bytes = bytes_of(rt, alloc, &edited(rt, alloc, plan.1, plan.2));
-    let container = container_of(rt, &bytes);
+/// Asserts what lines of commands put for a container's plan.
+fn assert_steps(rt: &impl Abort, alloc: Global, assembly: &Assembly, bytes: &[u8], lines: &str) {
+    let cells = cells_of(assembly);
+    let container = container_of(rt, bytes);
     let Ok(accepted) = accept(&container, &cells) else {
         panic!(rt; "refused");
     };
     let mut stepper = Stepper::new(alloc, &accepted).expect(rt, "memory");
-    for line in dialogue.lines() {
-        let (command, wanted) = line.split_once(": ").unwrap_or((line, ""));
-        let told = if command == "show" {
-            shown(rt, alloc, &stepper)
-        } else {
-            let outcome = obey(rt, &mut stepper, command);
-            told(alloc, &stepper, outcome)
-        };
-        let told = told.expect(rt, "memory");
-        assert!(rt; told.as_str() == wanted, "{line}: {told}");
+    for line in lines.lines() {
+        if !line.starts_with('#') {
+            assert_line(rt, alloc, &mut stepper, line);
+        }
     }
 }
 
-/// A dot in a cup, lifted as far as the operator says.
-const CUP_RUN: (&str, &str, &str) = (CUP, CUP_PLAN, "none");
-
-/// The same by a procedure that asks, and gives the answer back.
-const RESULT_RUN: (&str, &str, &str) = (CUP, RESULT_PLAN, "none");
-
-/// A rod in a ring, with 256 turns of the loop.
-const RING_RUN: (&str, &str, &str) = (
-    RING,
-    RING_PLAN,
-    "0001 0000000b > 0001 00000205, 00 00 00 0000000b > 00 00 00 00000205, \
-0000 0002 00 > 0000 00ff 00, 00000002 ffff > 000000ff ffff, 01 0002 03 > 01 00ff 03",
-);
-
-#[test]
-fn steps_answers_and_goes_back(rt: HostRuntime) {
-    let alloc = rt.alloc();
-    assert_dialogue(
-        &rt,
-        alloc,
-        &CUP_RUN,
-        "\
-back 0: 0
-answer 1: 0 S3
-forward: 1 asks 0 2
-forward: 1 S2 asks 0 2
-over: 1 S2 asks 0 2
-until 0 0: 1 S2 asks 0 2
-answer 5: 1 S3 asks 0 2
-answer -1: 1 S3 asks 0 2
-answer 1: 2
-answer 1: 2 S3
-back 0: 2
-show: after 2 steps proc 0 pc 10/tray 0 grip A/slots - - - - - - - -/stack 1/A tray 0 at 0 0 0/B tray 0 at 0 0 0/
-back 2: 0
-show: after 0 steps proc 0 pc 0/tray 0 grip -/slots - - - - - - - -/stack -/A tray 0 at 0 0 0/B tray 0 at 0 0 0/
-back 1: 0 S4
-back 4294967295: 0 S4
-forward: 1 asks 0 2
-answer 2: 2
-back 3: 2 S4
-back 1: 1 asks 0 2
-answer 0: 2",
-    );
-}
-
-#[test]
-fn goes_until_labels(rt: HostRuntime) {
-    let alloc = rt.alloc();
-    assert_dialogue(
-        &rt,
-        alloc,
-        &CUP_RUN,
-        "\
-until 0 2: 1 asks 0 2
-answer 1: 2
-until 0 2: 6
-until 0 1: 8
-back 3: 5
-until 0 1: 8
-until 0 0: 11 ended
-forward: 11 S1 ended
-over: 11 S1 ended
-until 0 0: 11 S1 ended
-answer 0: 11 S1 ended
-back 11: 0",
-    );
-}
-
-#[test]
-fn goes_over_calls(rt: HostRuntime) {
-    let alloc = rt.alloc();
-    assert_dialogue(
-        &rt,
-        alloc,
-        &RESULT_RUN,
-        "\
-forward: 1
-over: 2 asks 0 2
-over: 2 S2 asks 0 2
-answer 1: 3
-over: 4
-until 1 1: 6
-until 1 1: 9
-show: after 9 steps proc 1 pc 11/tray 0 grip A/slots 1 0 - - - - - -/stack -/A tray 0 at 0 0 1/B tray 0 at 0 0 0/
-forward: 10
-over: 11
-over: 12
-over: 13
-back 12: 1
-over: 2 asks 0 2
-answer 2: 3
-until 0 0: 18 ended
-back 16: 2 asks 0 2
-answer 0: 3
-until 0 0: 12 ended
-over: 12 S1 ended
-show: after 12 steps proc 0 pc 11 ended/tray 0 grip -/slots - - - - - - - -/stack -/A apart/B apart/",
-    );
-}
-
-#[test]
-fn goes_over_calls_of_a_lift(rt: HostRuntime) {
-    assert_dialogue(
-        &rt,
-        rt.alloc(),
-        &(CUP, LIFT_PLAN, "none"),
-        "\
-forward: 1
-forward: 2
-over: 5
-forward: 6
-forward: 7
-over: 8
-over: 9
-over: 10
-over: 11 ended
-back 9: 2
-forward: 3
-over: 4
-over: 5",
-    );
-}
-
-/// The ring's run has 517 steps, of which the last 256 have records.
-#[test]
-fn goes_back_further_than_its_records(rt: HostRuntime) {
-    let alloc = rt.alloc();
-    assert_dialogue(
-        &rt,
-        alloc,
-        &RING_RUN,
-        "\
-until 0 0: 517 ended
-back 256: 261
-show: after 261 steps proc 0 pc 10/tray 0 grip A/slots 126 - - - - - - -/stack -/A tray 0 at 0 0 129/B tray 0 at 0 0 0/
-back 1: 260
-back 260: 0
-until 0 0: 517 ended
-back 257: 260
-back 256: 4
-back 4: 0
-until 0 1: 3
-until 0 1: 5
-back 6: 5 S4",
-    );
-}
-
-#[test]
-fn has_the_labels_of_its_plan(rt: HostRuntime) {
-    let alloc = rt.alloc();
-    let assembly = assembly_of(&rt, alloc, CUP);
-    let cells = cells_of(&assembly);
-    let bytes = bytes_of(&rt, alloc, RESULT_PLAN);
-    let container = container_of(&rt, &bytes);
-    let Ok(accepted) = accept(&container, &cells) else {
-        panic!(rt; "refused");
+/// Asserts a line of a dialogue: how a command is given, the command, and what is put.
+fn assert_line(rt: &impl Abort, alloc: Global, stepper: &mut Steps<'_, '_, '_, '_>, line: &str) {
+    let (given, wanted) = line.split_once('=').expect(rt, "what is put");
+    let (how, words) = given.split_once(": ").unwrap_or(("", given));
+    let wanted = lines_of(rt, alloc, wanted);
+    let is_right = match how {
+        "bytes" => puts(alloc, stepper, &bytes_of(rt, alloc, words), &wanted),
+        "fronts" => puts_fronts(alloc, stepper, words.as_bytes(), &wanted),
+        "wants" => wants_memory(stepper, words.as_bytes(), memory_taken(rt, alloc)),
+        _ => puts(alloc, stepper, words.as_bytes(), &wanted),
     };
-    let stepper = Stepper::new(alloc, &accepted).expect(&rt, "memory");
-    let found = [
-        stepper.has_label(0, 0),
-        stepper.has_label(0, 1),
-        stepper.has_label(1, 0),
-        stepper.has_label(1, 2),
-        stepper.has_label(1, 3),
-        stepper.has_label(2, 0),
-        stepper.has_label(255, 65535),
-    ];
-    assert!(rt; found == [true, false, true, true, false, false, false]);
+    assert!(rt; is_right, "{line}");
 }
 
-/// What the cup's stepper shows after its answer.
-const SHOWN: &str = "\
-after 2 steps proc 0 pc 10
-tray 0 grip A
-slots - - - - - - - -
-stack 1
-A tray 0 at 0 0 0
-B tray 0 at 0 0 0
-";
+/// Takes a command and puts what it comes to.
+fn put<W: Write>(
+    stepper: &mut Steps<'_, '_, '_, '_>,
+    line: &[u8],
+    writer: &mut W,
+) -> Result<bool, StepFault> {
+    command(stepper, line, &mut Writing::new(writer))
+}
 
-#[test]
-fn shows_a_front_where_the_sink_fails(rt: HostRuntime) {
-    let alloc = rt.alloc();
-    let assembly = assembly_of(&rt, alloc, CUP);
-    let cells = cells_of(&assembly);
-    let bytes = bytes_of(&rt, alloc, CUP_PLAN);
-    let container = container_of(&rt, &bytes);
-    let Ok(accepted) = accept(&container, &cells) else {
-        panic!(rt; "refused");
-    };
-    let mut stepper = Stepper::new(alloc, &accepted).expect(&rt, "memory");
-    assert!(rt; stepper.forward().is_ok() && stepper.answer(1).is_ok());
-    for room in 0..=SHOWN.len() {
-        let mut writer = Narrow::new(alloc, room, None);
-        let put = stepper.show(&mut Writing::new(&mut writer));
-        assert!(rt; put.is_ok() == (room == SHOWN.len()), "{room}");
-        assert!(rt;
-            Some(writer.taken.as_slice()) == SHOWN.as_bytes().get(..room),
-            "{room}"
-        );
+/// Whether a command puts this: nothing where no more lines are taken.
+fn puts(alloc: Global, stepper: &mut Steps<'_, '_, '_, '_>, line: &[u8], wanted: &str) -> bool {
+    let mut written = Vec::new(alloc);
+    let told = put(stepper, line, &mut written);
+    told == Ok(!wanted.is_empty()) && written.as_slice() == wanted.as_bytes()
+}
+
+/// Whether a command of one step or none puts this, and a sink that fails has the front of it that
+/// it has room for; the command counts as taken all the same.
+fn puts_fronts(
+    alloc: Global,
+    stepper: &mut Steps<'_, '_, '_, '_>,
+    line: &[u8],
+    wanted: &str,
+) -> bool {
+    let before = stepper.steps();
+    let is_right = puts(alloc, stepper, line, wanted);
+    let after = stepper.steps();
+    let steps = if after == before { 0 } else { 1 };
+    for room in 0..wanted.len() {
+        let front = wanted.as_bytes().get(..room).unwrap_or(b"");
+        if stepper.back(steps).is_err() || !puts_front(alloc, stepper, line, front) {
+            return false;
+        }
+        if stepper.steps() != after {
+            return false;
+        }
     }
+    is_right
+}
+
+/// Whether of what a command puts a sink has this front, and then fails.
+fn puts_front(
+    alloc: Global,
+    stepper: &mut Steps<'_, '_, '_, '_>,
+    line: &[u8],
+    front: &[u8],
+) -> bool {
+    let mut writer = Narrow::new(alloc, front.len(), None);
+    let told = put(stepper, line, &mut writer);
+    told == Err(StepFault::Write) && writer.taken.as_slice() == front
+}
+
+/// Whether a command wants memory while all of it is held, and then puts nothing and makes no step.
+fn wants_memory(stepper: &mut Steps<'_, '_, '_, '_>, line: &[u8], hog: MemoryHog) -> bool {
+    let steps = stepper.steps();
+    let mut room = [0u8; 40];
+    let mut written = Cursor::new(room.as_mut_slice());
+    let told = put(stepper, line, &mut written);
+    drop(hog);
+    told == Err(StepFault::Memory) && written.position() == 0 && stepper.steps() == steps
+}
+
+/// The list of the answers that are kept grows at the first answer, and later too.
+#[test]
+fn tells_a_want_of_memory_for_an_answer(rt: HostRuntime) {
+    assert_dialogue(&rt, rt.alloc(), WANTING);
 }

@@ -1,21 +1,27 @@
-//! Tables of cases, a case a line: what is given, and after ` | ` what comes of it. A line with
-//! `#` is a heading, and `/` after the bar stands for a line end.
-use crate::looks::said_of_looks;
-use crate::puts::{assert_poor, said_of_put};
-use crate::sinks::assert_fronts;
-use crate::sources::{assert_portions, input_of};
+//! Tables of cases: a line with an assembly and, after ` | `, a plan, each by its name or as a text,
+//! and then a case a line: what is given, and after ` | ` what comes of it. A line with `#` is a
+//! heading, `/` after the bar stands for a line end, and a blank line stands between tables.
+use crate::assemblies::assembly_named;
+use crate::calls::{assembly_of, upgraded};
+use crate::machine::said_of_both;
+use crate::plans::plan_named;
+use crate::puts::{plan_of, puts, puts_fronts, puts_poorly};
+use crate::sources::reads_portions;
 use crate::texts::lines_of;
 use crate::verdicts::said_of_judge;
-use crate::want::assert_wanting;
+use crate::want::wants_memory;
 use burr_runs::read_answers;
+use burr_sheet::expand;
 use std::alloc::Global;
 use std::process::Abort;
 
 /// What is done with what the cases of a table give.
 #[derive(Clone, Copy)]
 pub enum Kind {
-    /// Edits of a text: its answers are read.
+    /// A text: its answers are read.
     Answers,
+    /// A text: the motions whose lines it is are read.
+    Motions,
     /// Edits of what stands after an assembly's text: bare code is run.
     Bare,
     /// Edits of a plan: it is asked whether the plan is for the assembly.
@@ -24,13 +30,17 @@ pub enum Kind {
     Verdict,
     /// Edits of a plan: it is judged, and its looks are counted.
     Looks,
+    /// Edits of a plan: the machine and the bench that tests each move run it.
+    Both,
+    /// Edits of a plan: it is made a plan of version 2, which other edits give, too.
+    Upgrade,
     /// Edits of a plan: it is checked.
     Check,
     /// Answers: the plan is run with them, where it is accepted.
     Run,
 }
 
-/// Cases of one kind.
+/// What the cases of a table are about.
 #[derive(Clone, Copy)]
 pub struct Table {
     pub kind: Kind,
@@ -39,8 +49,6 @@ pub struct Table {
     /// The plan's digits, or what stands after the assembly's text; with a `?` where a case fills
     /// it.
     pub plan: &'static str,
-    /// The cases.
-    pub cases: &'static str,
 }
 
 /// How the cases of tables are tried.
@@ -59,15 +67,31 @@ pub enum How {
 }
 
 /// Asserts what comes of each case of these tables.
-pub fn assert_tables(rt: &impl Abort, alloc: Global, how: How, tables: &[Table]) {
-    for table in tables {
-        assert_table(rt, alloc, how, table);
+pub fn assert_tables(rt: &impl Abort, alloc: Global, how: How, kind: Kind, tables: &'static str) {
+    for text in tables.split("\n\n") {
+        assert_table(rt, alloc, how, kind, text);
     }
 }
 
 /// Asserts what comes of each case of a table.
-fn assert_table(rt: &impl Abort, alloc: Global, how: How, table: &Table) {
-    for line in table.cases.lines() {
+fn assert_table(rt: &impl Abort, alloc: Global, how: How, kind: Kind, text: &'static str) {
+    let (head, cases) = text.split_once('\n').expect(rt, "cases");
+    assert_cases(rt, alloc, how, &table_of(rt, kind, head), cases);
+}
+
+/// The table with this first line.
+pub fn table_of(rt: &impl Abort, kind: Kind, head: &'static str) -> Table {
+    let (assembly, plan) = head.split_once(" | ").expect(rt, "a plan");
+    Table {
+        kind,
+        assembly: assembly_named(assembly),
+        plan: plan_named(plan),
+    }
+}
+
+/// Asserts what comes of these cases of a table.
+fn assert_cases(rt: &impl Abort, alloc: Global, how: How, table: &Table, cases: &str) {
+    for line in cases.lines() {
         if !line.starts_with('#') {
             assert_case(rt, alloc, how, table, line);
         }
@@ -78,31 +102,55 @@ fn assert_table(rt: &impl Abort, alloc: Global, how: How, table: &Table) {
 fn assert_case(rt: &impl Abort, alloc: Global, how: How, table: &Table, line: &str) {
     let (given, wanted) = line.split_once(" | ").expect(rt, "what comes of it");
     let wanted = lines_of(rt, alloc, wanted);
-    match how {
-        How::Plainly => {
-            let said = said_of(rt, alloc, table, given);
-            assert!(rt; said == wanted, "{line}: {said}");
-        }
-        How::InFronts => assert_fronts(rt, alloc, table, given, &wanted),
-        How::InPortions => assert_portions(rt, alloc, table, given, &wanted),
-        How::Poorly => assert_poor(rt, alloc, table, given, &wanted),
-        How::Wanting => assert_wanting(rt, alloc, table, given, &wanted),
+    let is_right = match how {
+        How::Plainly => comes_to(rt, alloc, table, given, &wanted),
+        How::InFronts => puts_fronts(rt, alloc, table, given, &wanted),
+        How::InPortions => reads_portions(rt, alloc, table, given, &wanted),
+        How::Poorly => puts_poorly(rt, alloc, table, given, &wanted),
+        How::Wanting => wants_memory(rt, alloc, table, given, &wanted),
+    };
+    assert!(rt; is_right, "{line}");
+}
+
+/// Whether this is put or said of a case.
+fn comes_to(rt: &impl Abort, alloc: Global, table: &Table, given: &str, wanted: &str) -> bool {
+    match table.kind {
+        Kind::Bare | Kind::Check | Kind::Run => puts(rt, alloc, table, given, wanted),
+        Kind::Upgrade => is_upgraded(rt, alloc, table, given, wanted),
+        _ => said_of(rt, alloc, table, given).as_str() == wanted,
     }
 }
 
-/// What comes of a case.
+/// Whether a plan after edits is upgraded to that after other edits.
+fn is_upgraded(rt: &impl Abort, alloc: Global, table: &Table, old: &str, new: &str) -> bool {
+    let made = upgraded(rt, alloc, &plan_of(rt, alloc, table, old));
+    made == plan_of(rt, alloc, table, new)
+}
+
+/// What is said of a case.
 fn said_of(rt: &impl Abort, alloc: Global, table: &Table, given: &str) -> String {
     match table.kind {
-        Kind::Answers => said_of_answers(rt, alloc, table, given),
-        Kind::Fit | Kind::Verdict => said_of_judge(rt, alloc, table, given),
-        Kind::Looks => said_of_looks(rt, alloc, table, given),
-        Kind::Bare | Kind::Check | Kind::Run => said_of_put(rt, alloc, table, given),
+        Kind::Answers => answers_of(rt, alloc, given),
+        Kind::Motions => motions_of(rt, alloc, table.assembly, given),
+        Kind::Both => said_of_both(rt, alloc, table, given),
+        _ => said_of_judge(rt, alloc, table, given),
     }
 }
 
 /// What is read of a text's answers.
-fn said_of_answers(rt: &impl Abort, alloc: Global, table: &Table, given: &str) -> String {
-    let text = input_of(rt, alloc, table, given);
+fn answers_of(rt: &impl Abort, alloc: Global, text: &str) -> String {
+    let text = lines_of(rt, alloc, text);
     let answers = read_answers(alloc, text.as_bytes());
     format!(in alloc; "{answers:?}").expect(rt, "memory")
+}
+
+/// The motions whose lines a text is, or how many where they are more than a few.
+fn motions_of(rt: &impl Abort, alloc: Global, assembly: &str, text: &str) -> String {
+    let text = lines_of(rt, alloc, text);
+    let found = expand(alloc, &assembly_of(rt, alloc, assembly), text.as_bytes());
+    match found.expect(rt, "memory") {
+        Some(motions) if motions.len() > 4 => format!(in alloc; "{}", motions.len()),
+        motions => format!(in alloc; "{motions:?}"),
+    }
+    .expect(rt, "memory")
 }

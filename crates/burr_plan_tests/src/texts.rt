@@ -42,16 +42,17 @@ pub fn bytes_of(rt: &impl Abort, alloc: Global, digits: &str) -> Vec<u8> {
 pub fn edited(rt: &impl Abort, alloc: Global, text: &str, edits: &str) -> String {
     let mut changed = text.replace(alloc, "\n", " ").expect(rt, "memory");
     for edit in edits.split(", ") {
-        if edit != "none" {
-            changed = edited_once(rt, alloc, &changed, edit);
-        }
+        edit_once(rt, alloc, &mut changed, edit);
     }
     expanded(rt, alloc, &changed)
 }
 
-/// A text after one edit.
-fn edited_once(rt: &impl Abort, alloc: Global, text: &str, edit: &str) -> String {
+/// Edits a text once.
+fn edit_once(rt: &impl Abort, alloc: Global, text: &mut String, edit: &str) {
+    if edit == "none" {
+        return;
+    }
     let (old, new) = edit.split_once(" > ").unwrap_or(("?", edit));
-    assert!(rt; text.contains(old), "{edit}");
-    text.replacen(alloc, old, new, 1).expect(rt, "memory")
+    assert!(rt; text.contains(old));
+    *text = text.replacen(alloc, old, new, 1).expect(rt, "memory");
 }

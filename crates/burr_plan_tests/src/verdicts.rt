@@ -1,28 +1,54 @@
 //! What is said of plans.
-use crate::calls::{assembly_of, container_of, tables_of};
+use crate::calls::{assembly_of, cells_of, container_of, tables_of};
+use crate::puts::plan_of;
 use crate::tables::{Kind, Table};
-use crate::texts::{bytes_of, edited};
+use burr_assembly::Assembly;
+use burr_blocking::Looks;
+use burr_container::Container;
 use burr_forms::Point;
-use burr_verify::{Refusal, fits_assembly, verify};
+use burr_verify::{Refusal, fits_assembly, verify, verify_counted};
 use std::alloc::{AllocError, Global};
 use std::process::Abort;
 
 /// What is said of a plan after edits: `accepted`, or the refusal, whose pieces are named by their
-/// numbers.
+/// numbers; with how many looks that took, if the kind asks.
 pub fn said_of_judge(rt: &impl Abort, alloc: Global, table: &Table, edits: &str) -> String {
-    let bytes = bytes_of(rt, alloc, &edited(rt, alloc, table.plan, edits));
-    let container = container_of(rt, &bytes);
+    let bytes = plan_of(rt, alloc, table, edits);
     let assembly = assembly_of(rt, alloc, table.assembly);
-    let tables = tables_of(rt, alloc, &assembly);
-    let verdict = match table.kind {
-        Kind::Fit => fits_assembly(&container, &assembly),
-        _ => verify(&container, &tables),
+    words_of_kind(rt, alloc, table.kind, &container_of(rt, &bytes), &assembly)
+}
+
+/// What is said of a container's plan.
+fn words_of_kind(
+    rt: &impl Abort,
+    alloc: Global,
+    kind: Kind,
+    container: &Container<'_>,
+    assembly: &Assembly,
+) -> String {
+    let words = match kind {
+        Kind::Fit => words_of(alloc, fits_assembly(container, assembly)),
+        Kind::Looks => words_with_looks(alloc, container, assembly),
+        _ => words_of(alloc, verify(container, &tables_of(rt, alloc, assembly))),
     };
-    words_of(alloc, verdict).expect(rt, "memory")
+    words.expect(rt, "memory")
+}
+
+/// What is said of a container's plan, and after that how many looks it took.
+fn words_with_looks(
+    alloc: Global,
+    container: &Container<'_>,
+    assembly: &Assembly,
+) -> Result<String, AllocError> {
+    let cells = cells_of(assembly);
+    let mut looks = Looks::new(&cells);
+    let mut words = words_of(alloc, verify_counted(container, &mut looks))?;
+    write!(words, " looks {}", looks.count())?;
+    Ok(words)
 }
 
 /// A verdict in words.
-pub fn words_of(alloc: Global, verdict: Result<(), Refusal>) -> Result<String, AllocError> {
+fn words_of(alloc: Global, verdict: Result<(), Refusal>) -> Result<String, AllocError> {
     match verdict {
         Ok(()) => String::from_str(alloc, "accepted"),
         Err(refusal) => words_of_refusal(alloc, &refusal),

@@ -2,7 +2,7 @@
 ghost use Rattle.std.specs.Prelude.{IfSome};
 ghost use Rattle.burr_voxels.specs.Near.{IsWithin};
 
-use crate::assemblies::{COMBS, STAIRS, TWINS};
+use crate::assemblies::{COMBS, RODS, ROWS, STAIRS, TWINS};
 use crate::calls::{assembly_of, cells_of, rows_of, tables_of};
 use burr_assembly::Assembly;
 use burr_blocking::{Blocking, CellTables, PlainCells, RowTables};
@@ -13,7 +13,7 @@ use std::process::Abort;
 
 /// Two pieces, and a displacement of the first: with a direction, whether the first is free from
 /// there, and else whether it overlaps the other there.
-#[derive(Clone, Copy, Debug)]
+#[derive(Clone, Copy)]
 pub struct Question {
     pub pieces: (u8, u8),
     pub at: (i32, i32, i32),
@@ -59,34 +59,14 @@ pub fn answer<B: Blocking>(blocking: &B, question: &Question) -> Option<bool> {
 
 /// What answers for an assembly, in each way.
 #[derive(Drop)]
-pub struct Ways<'a> {
+struct Ways<'a> {
     plain: PlainCells<'a>,
     tables: CellTables<'a>,
     rows: RowTables<'a>,
 }
 
-impl Ways<'_> {
-    /// What all ways answer; None also where they differ.
-    pub fn answer(&self, question: &Question) -> Option<bool> {
-        let answered = answer(&self.plain, question)?;
-        let by_tables = answer(&self.tables, question);
-        if by_tables == Some(answered) && answer(&self.rows, question) == by_tables {
-            by_tables
-        } else {
-            None
-        }
-    }
-
-    /// Whether an assembly of this name is asked of.
-    fn has_name(&self, name: &str) -> bool {
-        self.plain.assembly().name() == name
-            && self.tables.assembly().name() == name
-            && self.rows.assembly().name() == name
-    }
-}
-
 /// All ways for an assembly.
-pub fn ways_of<'a>(rt: &impl Abort, alloc: Global, assembly: &'a Assembly) -> Ways<'a> {
+fn ways_of<'a>(rt: &impl Abort, alloc: Global, assembly: &'a Assembly) -> Ways<'a> {
     Ways {
         plain: cells_of(assembly),
         tables: tables_of(rt, alloc, assembly),
@@ -94,34 +74,38 @@ pub fn ways_of<'a>(rt: &impl Abort, alloc: Global, assembly: &'a Assembly) -> Wa
     }
 }
 
-/// Questions of two cubes side by side, and what is answered.
-const DUO_ANSWERS: [((u8, u8), (i32, i32, i32), Option<Direction>, bool); 12] = [
-    ((0, 1), (1, 0, 0), None, true),
-    ((0, 1), (0, 0, 0), None, false),
-    ((0, 1), (512, 0, 0), None, false),
-    ((1, 0), (-1, 0, 0), None, true),
-    ((1, 0), (1, 0, 0), None, false),
-    ((0, 1), (0, 0, 0), Some(Direction::PlusX), false),
-    ((0, 1), (0, 0, 0), Some(Direction::MinusX), true),
-    ((0, 1), (1, 0, 0), Some(Direction::PlusX), true),
-    ((0, 1), (-512, 0, 0), Some(Direction::PlusX), false),
-    ((0, 1), (-512, 512, 0), Some(Direction::PlusX), true),
-    ((1, 0), (0, 0, 0), Some(Direction::PlusX), true),
-    ((1, 0), (0, 0, 0), Some(Direction::MinusX), false),
+/// What all ways answer.
+fn answer_alike(rt: &impl Abort, ways: &Ways<'_>, question: &Question) -> Option<bool> {
+    let answered = answer(&ways.plain, question);
+    assert!(rt; answer(&ways.tables, question) == answered);
+    assert!(rt; answer(&ways.rows, question) == answered);
+    answered
+}
+
+/// Where the first of two cubes side by side is along x, a direction, and what is answered.
+const DUO_ANSWERS: [(i32, Option<Direction>, bool); 5] = [
+    (1, None, true),
+    (0, None, false),
+    (0, Some(Direction::PlusX), false),
+    (0, Some(Direction::MinusX), true),
+    (-512, Some(Direction::PlusX), false),
 ];
 
 #[test]
 fn all_ways_answer_for_two_cubes(rt: HostRuntime) {
     let duo = assembly_of(&rt, rt.alloc(), DUO);
-    let ways = ways_of(&rt, rt.alloc(), &duo);
-    assert!(rt; ways.has_name("duo"));
-    for (pieces, at, direction, wanted) in &DUO_ANSWERS {
+    assert_answers(&rt, &ways_of(&rt, rt.alloc(), &duo));
+}
+
+/// Asserts what all ways answer for the two cubes.
+fn assert_answers(rt: &impl Abort, ways: &Ways<'_>) {
+    for (x, direction, wanted) in &DUO_ANSWERS {
         let question = Question {
-            pieces: *pieces,
-            at: *at,
+            pieces: (0, 1),
+            at: (*x, 0, 0),
             direction: *direction,
         };
-        assert!(rt; ways.answer(&question) == Some(*wanted), "{question:?}");
+        assert!(rt; answer_alike(rt, ways, &question) == Some(*wanted));
     }
 }
 
@@ -160,42 +144,55 @@ fn question_of(pieces: (u8, u8), number: u32) -> Question {
 /// Asserts that all ways answer alike of two pieces.
 fn assert_alike(rt: &impl Abort, ways: &Ways<'_>, pieces: (u8, u8)) {
     for number in 0..QUESTIONS {
-        let question = question_of(pieces, number);
-        assert!(rt; ways.answer(&question).is_some(), "{question:?}");
+        assert!(rt; answer_alike(rt, ways, &question_of(pieces, number)).is_some());
     }
 }
 
-/// Asserts that all ways answer alike of any two pieces of an assembly, in both orders.
-pub fn assert_all_alike(rt: &impl Abort, alloc: Global, text: &str) {
-    let assembly = assembly_of(rt, alloc, text);
-    let ways = ways_of(rt, alloc, &assembly);
-    let count = u16::from(assembly.piece_count());
+/// Asserts that all ways answer alike of any two pieces, in both orders.
+fn assert_all_alike(rt: &impl Abort, ways: &Ways<'_>) {
+    let count = u16::from(ways.plain.assembly().piece_count());
     for pair in 0..count * count {
         let pieces = ((pair / count) as u8, (pair % count) as u8);
         if pieces.0 != pieces.1 {
-            assert_alike(rt, &ways, pieces);
+            assert_alike(rt, ways, pieces);
         }
     }
 }
 
+/// Asserts the same of a text of an assembly.
+fn assert_all_alike_of(rt: &impl Abort, alloc: Global, text: &str) {
+    let assembly = assembly_of(rt, alloc, text);
+    assert_all_alike(rt, &ways_of(rt, alloc, &assembly));
+}
+
 #[test]
 fn all_ways_answer_alike_for_two_pieces(rt: HostRuntime) {
-    assert_all_alike(&rt, rt.alloc(), DUO);
-    assert_all_alike(&rt, rt.alloc(), RING);
-    assert_all_alike(&rt, rt.alloc(), CUP);
+    for text in &[DUO, RING, CUP, RODS] {
+        assert_all_alike_of(&rt, rt.alloc(), text);
+    }
 }
 
 #[test]
 fn all_ways_answer_alike_for_combs_and_a_hook(rt: HostRuntime) {
-    assert_all_alike(&rt, rt.alloc(), COMBS);
+    assert_all_alike_of(&rt, rt.alloc(), COMBS);
 }
 
 #[test]
 fn all_ways_answer_alike_for_turned_stairs(rt: HostRuntime) {
-    assert_all_alike(&rt, rt.alloc(), STAIRS);
+    assert_all_alike_of(&rt, rt.alloc(), STAIRS);
 }
 
 #[test]
 fn all_ways_answer_alike_for_pieces_of_one_form(rt: HostRuntime) {
-    assert_all_alike(&rt, rt.alloc(), TWINS);
+    assert_all_alike_of(&rt, rt.alloc(), TWINS);
+}
+
+/// Rows are joined eight at a time.
+#[test]
+fn all_ways_answer_alike_for_shapes_of_many_rows(rt: HostRuntime) {
+    for count in &[1, 7, 8, 9, 16] {
+        let rows = "#.#/".repeat(rt.alloc(), *count).expect(&rt, "memory");
+        let text = ROWS.replace(rt.alloc(), "?", &rows).expect(&rt, "memory");
+        assert_all_alike_of(&rt, rt.alloc(), &text);
+    }
 }

@@ -1,8 +1,9 @@
 //! Code for plans with one frame or two, and what is said of these: its cost or the place
 //! of its second label, and the code after its length.
 
-/// For two cubes side by side.
-pub const DUO_CODES: &str = "\
+/// Code that is judged.
+pub const CODES: &str = "\
+duo | duo code
 # out to the left; to the right, where B is; once more, when it is apart
 00000003, 0009 10 00000001 12 01 01 00 | accepted
 00000003, 0009 10 00000001 12 00 01 00 | V16 proc 0 pc 5 pieces 0 1 point
@@ -72,10 +73,9 @@ pub const DUO_CODES: &str = "\
 00000009, 0008 10 00000003 12 01 00 | V14 proc 0 pc 5
 # a cost below zero, and one above the budget
 ffffffff, 0001 00 | V23 proc 0 pc 0
-000f4241, 0001 00 | V28 proc 0 pc 0";
+000f4241, 0001 00 | V28 proc 0 pc 0
 
-/// For four cubes in a square.
-pub const SQUARE_CODES: &str = "\
+square | square code
 # two trays, each with two pieces; the same with a tray that is in use
 00000008, 001b 10 0000000c 12 02 01 10 00000001 12 01 02 13 01 10 00000004 12 01 02 00 | accepted
 00000008, 0010 10 0000000c 12 02 01 10 00000001 12 01 01 | V17 proc 0 pc 13
@@ -85,11 +85,11 @@ pub const SQUARE_CODES: &str = "\
 00000008, 0007 10 00000009 11 01 | V15 proc 0 pc 5 pieces 3 2 point
 00000008, 0008 10 0000000a 12 01 01 | V16 proc 0 pc 5 pieces 1 0 point
 00000008, 0008 10 00000004 12 03 01 | V16 proc 0 pc 5 pieces 2 0 point
-00000008, 0009 10 0000000c 12 02 01 00 | V23 proc 0 pc 8";
+00000008, 0009 10 0000000c 12 02 01 00 | V23 proc 0 pc 8
 
-/// For two cubes: `doubled40` doubles slot 0 forty times, which then holds `0+2^40v0`, and
-/// `far` goes 256 units.
-pub const GROWING: &str = "\
+duo | duo code
+# For two cubes: `doubled40` doubles slot 0 forty times, which then holds `0+2^40v0`, and `far`
+# goes 256 units.
 # numbers of forms are at most 2 to the 40
 000f4240, 0120 22 0000 0000 03 00 doubled40 00 | V23 proc 0 pc 287
 000f4240, 0126 22 0000 0000 03 00 doubled41 | V26 proc 0 pc 291
@@ -100,10 +100,9 @@ pub const GROWING: &str = "\
 | V12 proc 0 pc 296 point 0
 # both cubes are 256 units from home, one steps on into the other: too far is named first
 000f4240, 040c 10 00000002 far 10 00000001 far 11 00 | V18 proc 0 pc 1034 point
-000f4240, 040c 10 00000002 far 11 01 10 00000001 far | V15 proc 0 pc 1034 pieces 0 1 point";
+000f4240, 040c 10 00000002 far 11 01 10 00000001 far | V15 proc 0 pc 1034 pieces 0 1 point
 
-/// For two cubes.
-pub const LABELS: &str = "\
+duo | labelled code
 # each instruction, and a `halt` after it: labels inside it, and the label of the `halt`
 0001, 0004 01 0000 00 | V3 proc 0 pc 0
 0002, 0004 01 0000 00 | V3 proc 0 pc 0

@@ -37,92 +37,88 @@ call | Err(BadGroup)
 10 00000003 11 04
 call | Ok(Went(None))
 call | Ok(Went(Some(Motion { group: 3, tray: 0, dir: PlusZ, out: false })))
-places | Some(Some((0, Cell { x: 0, y: 0, z: 1 })));Some(Some((0, Cell { x: 0, y: 0, \
-z: 1 })));None;
+places | [Some(Some((0, Cell { x: 0, y: 0, z: 1 }))), \
+Some(Some((0, Cell { x: 0, y: 0, z: 1 }))), None]
 
 # the state: at the start, with a grip, and after the motion out
 10 00000002 12 00 07
-grip | tray 0 grip 0
-run | depth 1 proc 0 budget 1000000
-operands | []
-slots | None;None;None;None;None;None;None;None;
-name | duo
-places | Some(Some((0, Cell { x: 0, y: 0, z: 0 })));Some(Some((0, Cell { x: 0, y: 0, \
-z: 0 })));None;
+held | (0, 0, [])
+run | (1, 0, 1000000)
+slots | (None, None, None)
+places | [Some(Some((0, Cell { x: 0, y: 0, z: 0 }))), \
+Some(Some((0, Cell { x: 0, y: 0, z: 0 }))), None]
 call | Ok(Went(None))
-grip | tray 0 grip 2
+held | (0, 2, [])
 call | Ok(Went(Some(Motion { group: 2, tray: 0, dir: PlusX, out: true })))
-grip | tray 0 grip 0
-places | Some(None);Some(None);None;
+held | (0, 0, [])
+places | [Some(None), Some(None), None]
 
 # where it stands: a `grip`, and no instruction
 10 00000001 14 01
-counters | steps 0 pc 0 ended false
+at | (0, 0, false)
 call | Ok(Went(None))
-counters | steps 1 pc 5 ended false
+at | (1, 5, false)
 call | Err(BadCode)
-counters | steps 1 pc 5 ended false
+at | (1, 5, false)
 
 # a fitting answer: ask 0 2, store 3, load 3, push 5, sub
 22 0000 0002 03 03 02 03 01 0005 05
 call | Ok(Asks(0, 2))
 3 | Ok(Again)
 -1 | Ok(Again)
-counters | steps 0 pc 0 ended false
+at | (0, 0, false)
 2 | Ok(Went(None))
-operands | [2]
+held | (0, 0, [2])
 call | Ok(Went(None))
 call | Ok(Went(None))
 call | Ok(Went(None))
 call | Ok(Went(None))
-slots | None;None;None;Some(2);None;None;None;None;
-operands | [-3]
-counters | steps 5 pc 13 ended false
+slots | (None, Some(2), None)
+held | (0, 0, [-3])
+at | (5, 13, false)
 
 # the bench ends 256 units from home
 10 00000001 units
 call | Ok(Went(None))
 moves
 call | Err(OffBench)
-places | Some(Some((0, Cell { x: -256, y: 0, z: 0 })));Some(Some((0, Cell { x: 0, y: 0, \
-z: 0 })));None;";
+places | [Some(Some((0, Cell { x: -256, y: 0, z: 0 }))), \
+Some(Some((0, Cell { x: 0, y: 0, z: 0 }))), None]
 
-/// Code that stops at a trap, and where that stands.
-pub const TRAPS: &str = "\
 # numbers: NumberRange
 01 7fff 01 0001 04
 call | Ok(Went(None))
 call | Ok(Went(None))
 call | Err(NumberRange)
-counters | steps 2 pc 6 ended false
+at | (2, 6, false)
 
 # numbers: NumberRange
 01 8001 01 0001 05
 call | Ok(Went(None))
 call | Ok(Went(None))
 call | Err(NumberRange)
-counters | steps 2 pc 6 ended false
+at | (2, 6, false)
 
 # numbers: MissingOperand
 01 0001 04
 call | Ok(Went(None))
 call | Err(MissingOperand)
-counters | steps 1 pc 3 ended false
+at | (1, 3, false)
 
 # numbers: MissingOperand
 06
 call | Err(MissingOperand)
-counters | steps 0 pc 0 ended false
+at | (0, 0, false)
 
 # numbers: MissingOperand
 03 07
 call | Err(MissingOperand)
-counters | steps 0 pc 0 ended false
+at | (0, 0, false)
 
 # numbers: EmptySlot
 02 07
 call | Err(EmptySlot)
-counters | steps 0 pc 0 ended false
+at | (0, 0, false)
 
 # numbers: StackFull
 01 0001 01 0001 01 0001 01 0001 01 0001 01 0001 01 0001 01 0001 01 0001
@@ -135,41 +131,41 @@ call | Ok(Went(None))
 call | Ok(Went(None))
 call | Ok(Went(None))
 call | Err(StackFull)
-counters | steps 8 pc 24 ended false
+at | (8, 24, false)
 
 # the flow of control: Misplaced
 25
 call | Err(Misplaced)
-counters | steps 0 pc 0 ended false
+at | (0, 0, false)
 
 # the flow of control: BadCall
 24 01
 call | Err(BadCall)
-counters | steps 0 pc 0 ended false
+at | (0, 0, false)
 
 # the flow of control: BadJump
 20 0000
 call | Err(BadJump)
-counters | steps 0 pc 0 ended false
+at | (0, 0, false)
 
 # the flow of control: BadJump
 21 00 0000
 call | Err(BadJump)
-counters | steps 0 pc 0 ended false
+at | (0, 0, false)
 
 # the flow of control: BadJump
 23 02 0000 0001
 call | Err(BadJump)
-counters | steps 0 pc 0 ended false
+at | (0, 0, false)
 
 # the flow of control: NotApart
 00
 call | Err(NotApart)
-counters | steps 0 pc 0 ended false
+at | (0, 0, false)
 
 # the flow of control: BadGroup
 10 00000001 13 00 11 00
 call | Ok(Went(None))
 call | Ok(Went(None))
 call | Err(BadGroup)
-counters | steps 2 pc 7 ended false";
+at | (2, 7, false)";
