@@ -1,12 +1,11 @@
 //! The program whole: words and streams in, status, output and complaints out.
-use burr_io::{Reading, Source, WholeLines, Writing};
+use burr_io::{Reading, WholeLines, Writing};
 use burr_program::run_words;
 use std::alloc::{AllocError, Global};
 use std::fs;
 use std::io::{self, Read, Write};
 use std::process::Abort;
 use std::rt::Files;
-use std::test::Fail;
 
 mod bench;
 mod examples;
@@ -27,53 +26,30 @@ mod words;
 /// The most bytes of a file, and of standard input.
 const LIMIT: usize = 16_777_216;
 
-/// The words of a command line, the program's name first; a blank stands between two of them. No text
-/// is no words.
-fn words_of(alloc: Global, line: &str) -> Result<Vec<String>, AllocError> {
-    let mut words = Vec::new(alloc);
-    if !line.is_empty() {
-        for word in line.split(' ') {
-            words.push(String::from_str(alloc, word)?)?;
-        }
+/// Asserts what a test is about, of one of its cases.
+fn assert_case<T: Abort>(rt: &T, case: &str, is_so: bool) {
+    assert!(rt; is_so, "{case}");
+}
+
+/// The words of a command line, the program's name first.
+fn words_of<T: Abort + AllocGlobal>(rt: &T, line: &str) -> Vec<String> {
+    let mut words = Vec::new(rt.alloc());
+    let added = add_words(&mut words, rt.alloc(), line);
+    assert!(rt; added.is_ok());
+    words
+}
+
+/// Adds the words of a line; a blank stands between two of them. No text is no words.
+fn add_words(words: &mut Vec<String>, alloc: Global, line: &str) -> Result<(), AllocError> {
+    for word in line.split_whitespace() {
+        words.push(String::from_str(alloc, word)?)?;
     }
-    Ok(words)
+    Ok(())
 }
 
-/// Calls the program over a source and two writers, and gives its status. Few bytes of lines are held
-/// back, so that what is long is handed on in parts.
-fn status_of<T: Files + AllocGlobal, R: Source, W: Write, E: Write>(
-    rt: &T,
-    words: &[String],
-    source: &mut R,
-    output: &mut W,
-    complaint: &mut E,
-) -> u8 {
-    let mut sink: WholeLines<_, 64> = WholeLines::new(Writing::new(output));
-    let mut complaints: WholeLines<_, 64> = WholeLines::new(Writing::new(complaint));
-    run_words(rt, words, source, &mut sink, &mut complaints)
-}
-
-/// How a call of the program ended.
-#[derive(Drop)]
-struct End {
-    status: u8,
-    output: Vec<u8>,
-    complaint: Vec<u8>,
-}
-
-/// Calls the program with the words of a line and an input.
-fn end_of<T: Files + AllocGlobal>(rt: &T, line: &str, input: &str) -> Result<End, AllocError> {
-    let alloc = rt.alloc();
-    let mut output = Vec::new(alloc);
-    let mut complaint = Vec::new(alloc);
-    let words = words_of(alloc, line)?;
-    let mut source = Reading::new(input.as_bytes());
-    let status = status_of(rt, &words, &mut source, &mut output, &mut complaint);
-    Ok(End {
-        status,
-        output,
-        complaint,
-    })
+/// A text with others in place of each of these.
+fn replaced<T: Abort + AllocGlobal>(rt: &T, text: &str, old: &str, new: &str) -> String {
+    text.replace(rt.alloc(), old, new).expect(rt, "memory")
 }
 
 /// A reader that gives a byte a call, and fails where so many calls have been made.
@@ -83,39 +59,69 @@ struct Drips<'a> {
     calls: usize,
 }
 
+impl<'a> Drips<'a> {
+    /// A reader that gives all of a text.
+    fn of(text: &'a str) -> Drips<'a> {
+        Drips {
+            left: text.as_bytes(),
+            calls: usize::MAX,
+        }
+    }
+}
+
 impl Read for Drips<'_> {
     fn read(&mut self, buffer: &mut [u8]) -> io::Result<usize> {
         if self.calls == 0 {
             return Err(io::Error::from(io::ErrorKind::Other));
         }
         self.calls -= 1;
-        match (self.left.split_first(), buffer.first_mut()) {
-            (Some((first, rest)), Some(place)) => {
-                *place = *first;
-                self.left = rest;
-                Ok(1)
-            }
-            _ => Ok(0),
-        }
+        let count = buffer.len().min(1);
+        self.left.read(&mut buffer[..count])
     }
 }
 
-/// A writer that takes a byte a call, so many of them, and then takes none or fails.
+/// The most bytes that the program prints here.
+const MOST: usize = 4096;
+
+/// A writer that takes a byte a call, as long as it has room, and then takes none or fails. It needs no
+/// memory.
 #[derive(Drop)]
-struct Narrow {
-    taken: Vec<u8>,
+struct Room {
+    bytes: [u8; MOST],
+    count: usize,
     room: usize,
     fails: bool,
 }
 
-impl Write for Narrow {
+impl Room {
+    /// All the room that there is.
+    fn new() -> Room {
+        Room {
+            bytes: [0; MOST],
+            count: 0,
+            room: MOST,
+            fails: true,
+        }
+    }
+
+    /// The text that it took.
+    fn text(&self) -> &str {
+        let bytes = self.bytes.get(..self.count).unwrap_or(&[]);
+        str::from_utf8(bytes).unwrap_or("no UTF-8")
+    }
+}
+
+impl Write for Room {
     fn write(&mut self, bytes: &[u8]) -> io::Result<usize> {
         let Some(first) = bytes.first() else {
             return Ok(0);
         };
-        if self.taken.len() < self.room {
-            self.taken.push(*first)?;
-            return Ok(1);
+        if self.count < self.room {
+            if let Some(place) = self.bytes.get_mut(self.count) {
+                *place = *first;
+                self.count += 1;
+                return Ok(1);
+            }
         }
         if self.fails {
             return Err(io::Error::from(io::ErrorKind::Other));
@@ -126,4 +132,66 @@ impl Write for Narrow {
     fn flush(&mut self) -> io::Result<()> {
         Ok(())
     }
+}
+
+/// How a call of the program ended.
+#[derive(Drop)]
+struct End {
+    status: u8,
+    output: Room,
+    complaint: Room,
+}
+
+impl End {
+    /// Before the call: with ample room for what it prints.
+    fn new() -> End {
+        End {
+            status: 0,
+            output: Room::new(),
+            complaint: Room::new(),
+        }
+    }
+
+    /// Calls the program over a reader. Few bytes of lines are held back, so that what is long is handed
+    /// on in parts.
+    fn call<T: Files + AllocGlobal, R: Read + Drop>(&mut self, rt: &T, words: &[String], input: R) {
+        let mut source = Reading::new(input);
+        let mut sink: WholeLines<_, 64> = WholeLines::new(Writing::new(&mut self.output));
+        let mut complaints: WholeLines<_, 64> = WholeLines::new(Writing::new(&mut self.complaint));
+        self.status = run_words(rt, words, &mut source, &mut sink, &mut complaints);
+    }
+
+    /// Whether it ended with this status, and these texts on standard output and standard error.
+    fn is(&self, status: u8, output: &str, complaint: &str) -> bool {
+        self.status == status && self.output.text() == output && self.complaint.text() == complaint
+    }
+
+    /// Whether the other call ended so too.
+    fn is_like(&self, other: &End) -> bool {
+        self.is(other.status, other.output.text(), other.complaint.text())
+    }
+}
+
+/// How a call of the program over a reader ends.
+fn end_over<T: Files + AllocGlobal, R: Read + Drop>(rt: &T, words: &[String], input: R) -> End {
+    let mut end = End::new();
+    end.call(rt, words, input);
+    end
+}
+
+/// How a command line over a reader ends.
+fn end_with<T: Abort + Files + AllocGlobal, R: Read + Drop>(rt: &T, line: &str, input: R) -> End {
+    end_over(rt, &words_of(rt, line), input)
+}
+
+/// How a command line with an input ends.
+fn end_of<T: Abort + Files + AllocGlobal>(rt: &T, line: &str, input: &str) -> End {
+    end_with(rt, line, Drips::of(input))
+}
+
+/// Whether two files are alike, byte for byte.
+fn are_alike<T: Files + AllocGlobal>(rt: &T, name: &str, other: &str) -> bool {
+    let one = fs::read(rt, name).ok();
+    let two = fs::read(rt, other).ok();
+    one.as_deref() == two.as_deref()
 }

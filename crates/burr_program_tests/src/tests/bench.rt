@@ -1,6 +1,5 @@
 //! Bare code after an assembly text, without words.
 use super::transcript::assert_transcript;
-use super::*;
 
 /// Two cubes, which come apart by one code and not by another; an assembly with a mirror; and inputs that
 /// are no assembly with code after it.
@@ -49,6 +48,6 @@ $burr
 ";
 
 #[test]
-fn ends_runs_by_their_outcome(rt: HostRuntime) -> Result<(), Fail> {
-    assert_transcript(&rt, INPUTS)
+fn ends_runs_by_their_outcome(rt: HostRuntime) {
+    assert_transcript(&rt, INPUTS);
 }

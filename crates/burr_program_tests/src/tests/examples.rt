@@ -4,9 +4,6 @@
 pub const DUO: &str =
     "assembly duo\nshape cube\nlayer\n#\nend\npiece A cube +x+y+z 0 0 0\npiece B cube +x+y+z 1 0 0\ncode 100000000112010100\n";
 
-/// What is printed for them.
-pub const SHEET: &str = "1 t0 A -x 0 out\nlevels 1\napart in 3 steps\n";
-
 /// Makes the assemblies of examples/ as `duo`, `ring` and `cup`, and the containers of their plans as
 /// `duo.bpln`, `ring.bpln` and `cup.bpln`, as a transcript.
 pub const EXAMPLES: &str = "\

@@ -1,11 +1,10 @@
 //! Calls on files that fail, one at a time.
-use super::examples::EXAMPLES;
-use super::transcript::assert_transcript;
+use super::transcript::{assert_examples, assert_transcript};
 use super::*;
 use std::alloc::{Alloc, Allocator};
 use std::cell::Cell;
 use std::fs::{Metadata, OpenFile, OpenOptions, Permissions};
-use std::io::{Seek, SeekFrom};
+use std::io::{Empty, Seek, SeekFrom};
 use std::path::PathBuf;
 
 /// Counts the calls on files, and lets one of them fail.
@@ -16,14 +15,6 @@ struct Calls {
 }
 
 impl Calls {
-    /// The call after this many fails.
-    fn failing_after(before: usize) -> Calls {
-        Calls {
-            before: Cell::new(before),
-            has_failed: Cell::new(false),
-        }
-    }
-
     /// Counts a call.
     fn count(&self) -> io::Result<()> {
         let before = self.before.get();
@@ -33,6 +24,67 @@ impl Calls {
         }
         self.before.set(before.saturating_sub(1));
         Ok(())
+    }
+}
+
+/// What the program never does with files.
+fn unused<T>() -> io::Result<T> {
+    Err(io::Error::from(io::ErrorKind::Unsupported))
+}
+
+/// An open file of a runtime whose files fail.
+#[derive(Drop)]
+struct FaultyFile<'a, F> {
+    file: F,
+    calls: &'a Calls,
+}
+
+impl<F: Read> Read for FaultyFile<'_, F> {
+    fn read(&mut self, buffer: &mut [u8]) -> io::Result<usize> {
+        self.calls.count()?;
+        let count = buffer.len().min(1);
+        self.file.read(&mut buffer[..count])
+    }
+}
+
+impl<F: Write> Write for FaultyFile<'_, F> {
+    fn write(&mut self, bytes: &[u8]) -> io::Result<usize> {
+        self.calls.count()?;
+        self.file.write(&bytes[..bytes.len().min(1)])
+    }
+
+    fn flush(&mut self) -> io::Result<()> {
+        unused()
+    }
+}
+
+impl<F> Seek for FaultyFile<'_, F> {
+    fn seek(&mut self, _to: SeekFrom) -> io::Result<u64> {
+        unused()
+    }
+}
+
+impl<F: OpenFile> OpenFile for FaultyFile<'_, F> {
+    fn metadata(&self) -> io::Result<Metadata> {
+        unused()
+    }
+
+    fn set_len(&self, _size: u64) -> io::Result<()> {
+        unused()
+    }
+
+    fn sync_all(&self) -> io::Result<()> {
+        self.calls.count()?;
+        self.file.sync_all()
+    }
+
+    fn sync_data(&self) -> io::Result<()> {
+        unused()
+    }
+
+    fn set_permissions(&self, permissions: Permissions) -> io::Result<()> {
+        self.calls.count()?;
+        self.file.set_permissions(permissions)
     }
 }
 
@@ -51,96 +103,22 @@ impl<T: AllocGlobal> Alloc for Faulty<'_, T> {
     }
 }
 
-/// An open file of such a runtime.
-#[derive(Drop)]
-struct FaultyFile<'a, F> {
-    file: F,
-    calls: &'a Calls,
-}
-
-impl<F: Read> Read for FaultyFile<'_, F> {
-    fn read(&mut self, buffer: &mut [u8]) -> io::Result<usize> {
-        self.calls.count()?;
-        let Some(place) = buffer.first_mut() else {
-            return Ok(0);
-        };
-        let mut one = [0u8];
-        match self.file.read(&mut one)? {
-            0 => Ok(0),
-            _ => {
-                *place = one[0];
-                Ok(1)
-            }
-        }
-    }
-}
-
-impl<F: Write> Write for FaultyFile<'_, F> {
-    fn write(&mut self, bytes: &[u8]) -> io::Result<usize> {
-        self.calls.count()?;
-        let Some(first) = bytes.first() else {
-            return Ok(0);
-        };
-        match self.file.write(&[*first])? {
-            0 => Ok(0),
-            _ => Ok(1),
-        }
-    }
-
-    fn flush(&mut self) -> io::Result<()> {
-        self.file.flush()
-    }
-}
-
-impl<F: Seek> Seek for FaultyFile<'_, F> {
-    fn seek(&mut self, to: SeekFrom) -> io::Result<u64> {
-        self.file.seek(to)
-    }
-}
-
-impl<F: OpenFile> OpenFile for FaultyFile<'_, F> {
-    fn metadata(&self) -> io::Result<Metadata> {
-        self.calls.count()?;
-        self.file.metadata()
-    }
-
-    fn set_len(&self, size: u64) -> io::Result<()> {
-        self.calls.count()?;
-        self.file.set_len(size)
-    }
-
-    fn sync_all(&self) -> io::Result<()> {
-        self.calls.count()?;
-        self.file.sync_all()
-    }
-
-    fn sync_data(&self) -> io::Result<()> {
-        self.calls.count()?;
-        self.file.sync_data()
-    }
-
-    fn set_permissions(&self, permissions: Permissions) -> io::Result<()> {
-        self.calls.count()?;
-        self.file.set_permissions(permissions)
-    }
-}
-
 impl<'a, T: Files> Files for Faulty<'a, T> {
     type File = FaultyFile<'a, T::File>;
 
-    type Dir = T::Dir;
+    type Dir = Empty;
 
     fn open_file(&self, how: &OpenOptions, path: &str) -> io::Result<FaultyFile<'a, T::File>> {
         self.calls.count()?;
+        let file = self.rt.open_file(how, path)?;
         Ok(FaultyFile {
-            file: self.rt.open_file(how, path)?,
+            file,
             calls: self.calls,
         })
     }
 
-    fn open_dir(&self, path: &str) -> io::Result<T::Dir> {
-        self.calls.count()?;
-        self.rt.open_dir(path)
+    fn open_dir(&self, _path: &str) -> io::Result<Empty> {
+        unused()
     }
 
     fn metadata(&self, path: &str) -> io::Result<Metadata> {
@@ -148,14 +126,12 @@ impl<'a, T: Files> Files for Faulty<'a, T> {
         self.rt.metadata(path)
     }
 
-    fn symlink_metadata(&self, path: &str) -> io::Result<Metadata> {
-        self.calls.count()?;
-        self.rt.symlink_metadata(path)
+    fn symlink_metadata(&self, _path: &str) -> io::Result<Metadata> {
+        unused()
     }
 
-    fn copy(&self, from: &str, to: &str) -> io::Result<u64> {
-        self.calls.count()?;
-        self.rt.copy(from, to)
+    fn copy(&self, _from: &str, _to: &str) -> io::Result<u64> {
+        unused()
     }
 
     fn rename(&self, from: &str, to: &str) -> io::Result<()> {
@@ -168,19 +144,16 @@ impl<'a, T: Files> Files for Faulty<'a, T> {
         self.rt.remove_file(path)
     }
 
-    fn create_dir(&self, path: &str) -> io::Result<()> {
-        self.calls.count()?;
-        self.rt.create_dir(path)
+    fn create_dir(&self, _path: &str) -> io::Result<()> {
+        unused()
     }
 
-    fn remove_dir(&self, path: &str) -> io::Result<()> {
-        self.calls.count()?;
-        self.rt.remove_dir(path)
+    fn remove_dir(&self, _path: &str) -> io::Result<()> {
+        unused()
     }
 
-    fn remove_dir_all<B: Allocator>(&self, alloc: B, path: &str) -> io::Result<()> {
-        self.calls.count()?;
-        self.rt.remove_dir_all(alloc, path)
+    fn remove_dir_all<B: Allocator>(&self, _alloc: B, _path: &str) -> io::Result<()> {
+        unused()
     }
 
     fn canonicalize<B: Allocator>(&self, alloc: B, path: &str) -> io::Result<PathBuf<B>> {
@@ -192,88 +165,102 @@ impl<'a, T: Files> Files for Faulty<'a, T> {
 /// More calls on files than a small container takes.
 const MANY: usize = 1000;
 
+/// A command that makes `made` of a file.
+#[derive(Clone, Copy)]
+struct Making<'a> {
+    words: &'a [String],
+    /// The line where the file can't be read.
+    unread: &'a str,
+    /// The file that stands as `made` before, or none.
+    old: &'a str,
+}
+
+/// How often a file could not be read or written.
+#[derive(Drop)]
+struct Faults {
+    unread: u64,
+    unwritten: u64,
+}
+
 /// How a command ends where the call on files after so many fails; None where it makes fewer.
-fn end_after<T: Files + AllocGlobal>(
-    rt: &T,
-    line: &str,
-    before: usize,
-) -> Result<Option<End>, AllocError> {
-    let calls = Calls::failing_after(before);
-    let faulty = Faulty { rt, calls: &calls };
-    let end = end_of(&faulty, line, "")?;
-    Ok(calls.has_failed.get().then_some(end))
-}
-
-/// Puts the old file `made`, or none.
-fn put_old<T: Files>(rt: &T, old: Option<&str>) -> io::Result<()> {
-    match old {
-        Some(text) => fs::write(rt, "made", text),
-        None if fs::exists(rt, "made")? => fs::remove_file(rt, "made"),
-        None => Ok(()),
-    }
-}
-
-/// Asserts that the new file `made` stands after a command that is done, and else the old one, or none,
-/// and that none is left beside it.
-fn assert_standing<T: Abort + Files + AllocGlobal>(
-    rt: &T,
-    end: &End,
-    old: Option<&str>,
-    new: &[u8],
-) -> Result<(), Fail> {
-    let made = fs::read(rt, "made").ok();
-    let wanted = match end.status {
-        0 => Some(new),
-        _ => old.map(str::as_bytes),
+fn end_after<T: Files + AllocGlobal>(rt: &T, making: Making<'_>, before: usize) -> Option<End> {
+    let _ = fs::remove_file(rt, "made");
+    let _ = fs::copy(rt, making.old, "made");
+    let calls = Calls {
+        before: Cell::new(before),
+        has_failed: Cell::new(false),
     };
-    assert!(rt; made.as_deref() == wanted);
-    assert!(rt; end.output.is_empty() && !fs::exists(rt, "made.new0")?);
-    Ok(())
+    let faulty = Faulty { rt, calls: &calls };
+    let end = end_over(&faulty, making.words, Drips::of(""));
+    calls.has_failed.get().then_some(end)
 }
 
-/// Makes `made` of a file, a call on files failing, as often as there are calls: at least one for each
-/// byte that is read and for each that is written.
-fn assert_faults<T: Abort + Files + AllocGlobal>(
-    rt: &T,
-    command: &str,
-    from: &str,
-    old: Option<&str>,
-) -> Result<(), Fail> {
-    let alloc = rt.alloc();
-    let line = format!(in alloc; "burr {command} {from} made")?;
-    let unread = format!(in alloc; "cannot read {from}\n")?;
-    let new = fs::read(rt, "right")?;
-    let (mut unreadable, mut unwritable) = (0usize, 0usize);
+/// The file that has to stand as `made` after a command; none where it should not have ended so. Its
+/// fault is counted.
+fn standing_after<'a>(making: Making<'a>, end: &End, faults: &mut Faults) -> Option<&'a str> {
+    if end.is(0, "", "") {
+        return Some("right");
+    }
+    if end.is(3, "", making.unread) {
+        faults.unread = faults.unread.saturating_add(1);
+        return Some(making.old);
+    }
+    if end.is(3, "", "cannot write made\n") {
+        faults.unwritten = faults.unwritten.saturating_add(1);
+        return Some(making.old);
+    }
+    None
+}
+
+/// Lets each call on files of a command fail, and asserts that the old file stands where the new one is
+/// not whole, and none beside it.
+fn faults_of<T: Abort + Files + AllocGlobal>(rt: &T, making: Making<'_>) -> Faults {
+    let mut faults = Faults {
+        unread: 0,
+        unwritten: 0,
+    };
     for before in 0..MANY {
-        put_old(rt, old)?;
-        let Some(end) = end_after(rt, &line, before)? else {
+        let Some(end) = end_after(rt, making, before) else {
             break;
         };
-        assert_standing(rt, &end, old, &new)?;
-        match end.complaint.as_slice() {
-            b"" => assert!(rt; end.status == 0, "{line} {before}"),
-            b"cannot write made\n" => unwritable = unwritable.saturating_add(1),
-            told => {
-                assert!(rt; told == unread.as_bytes(), "{line} {before}");
-                unreadable = unreadable.saturating_add(1);
-            }
-        }
+        let standing = standing_after(making, &end, &mut faults).expect(rt, "a fault is told");
+        assert_case(rt, standing, are_alike(rt, "made", standing));
+        assert_case(rt, "made.new0", are_alike(rt, "made.new0", "none"));
     }
-    assert!(rt; unreadable > fs::read(rt, from)?.len(), "{line}");
-    assert!(rt; unwritable > new.len(), "{line}");
-    Ok(())
+    faults
+}
+
+/// How many bytes a file has.
+fn length_of<T: Files>(rt: &T, name: &str) -> u64 {
+    match fs::metadata(rt, name) {
+        Ok(file) => file.len(),
+        Err(_) => u64::MAX,
+    }
+}
+
+/// Asserts that of a command, a file and what stands before: at least one call for each byte that is read
+/// and for each that is written can fail.
+fn assert_faults<T: Abort + Files + AllocGlobal>(rt: &T, command: &str, from: &str, old: &str) {
+    let line = replaced(rt, command, "*", from);
+    let unread = replaced(rt, "cannot read *\n", "*", from);
+    let words = words_of(rt, &line);
+    let making = Making {
+        words: &words,
+        unread: &unread,
+        old,
+    };
+    let faults = faults_of(rt, making);
+    assert_case(rt, &unread, faults.unread > length_of(rt, from));
+    assert_case(rt, &line, faults.unwritten > length_of(rt, "right"));
 }
 
 /// The old container stands until the new one is whole, whichever call on files fails.
 #[test]
-fn leaves_the_old_container_where_a_call_fails(rt: HostRuntime) -> Result<(), Fail> {
-    assert_transcript(&rt, EXAMPLES)?;
-    for (command, from) in [("asm", "duo.plan"), ("upgrade", "duo.bpln")] {
-        let line = format!(in rt.alloc(); "burr {command} {from} right")?;
-        assert!(rt; end_of(&rt, &line, "")?.status == 0);
-        for old in [None, Some("as before")] {
-            assert_faults(&rt, command, from, old)?;
-        }
-    }
-    Ok(())
+fn leaves_the_old_container_where_a_call_fails(rt: HostRuntime) {
+    assert_examples(&rt, "<as before\n=old\n$burr asm duo.plan right\n?0\n");
+    assert_faults(&rt, "burr asm * made", "duo.plan", "none");
+    assert_faults(&rt, "burr asm * made", "duo.plan", "old");
+    assert_transcript(&rt, "$burr upgrade duo.bpln right\n?0\n");
+    assert_faults(&rt, "burr upgrade * made", "duo.bpln", "none");
+    assert_faults(&rt, "burr upgrade * made", "duo.bpln", "old");
 }

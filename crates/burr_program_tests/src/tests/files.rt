@@ -1,8 +1,8 @@
 //! Files that can't be read, and containers that are made in place of files. The tests share one
 //! folder: each makes files of its own names.
-use super::examples::EXAMPLES;
-use super::transcript::assert_transcript;
+use super::transcript::{assert_examples, assert_transcript};
 use super::*;
+use std::fs::{File, OpenFile};
 use std::os::unix::fs::symlink;
 
 /// The commands that read files, each with `*` in place of one of them.
@@ -35,33 +35,44 @@ burr asm duo.plan *
 burr upgrade duo.bpln *
 ";
 
-/// Asserts that each of the commands ends with this line on standard error where a name stands for `*`,
-/// and that standard input is not read.
-fn assert_told<T: Abort + Files + AllocGlobal>(
-    rt: &T,
-    commands: &str,
-    name: &str,
-    told: &str,
-) -> Result<(), AllocError> {
-    let alloc = rt.alloc();
-    for command in commands.lines() {
-        let line = command.replace(alloc, "*", name)?;
-        let mut source = Reading::new(Drips {
+/// Asserts that each of the commands ends with this line on standard error, and reads no standard input,
+/// where a name stands for `*`.
+fn assert_told<T: Abort + Files + AllocGlobal>(rt: &T, commands: &str, told: &str, name: &str) {
+    let commands = replaced(rt, commands, "*", name);
+    let told = replaced(rt, told, "*", name);
+    for line in commands.lines() {
+        let unread = Drips {
             left: b"",
             calls: 0,
-        });
-        let mut output = Vec::new(alloc);
-        let mut complaint = Vec::new(alloc);
-        let words = words_of(alloc, &line)?;
-        let status = status_of(rt, &words, &mut source, &mut output, &mut complaint);
-        let wanted = format!(in alloc; "{told} {name}\n")?;
-        assert!(rt; (status, output.is_empty()) == (3, true), "{line}");
-        assert!(rt; complaint.as_slice() == wanted.as_bytes(), "{line}");
+        };
+        let end = end_with(rt, line, unread);
+        assert_case(rt, line, end.is(3, "", &told));
     }
-    Ok(())
 }
 
-/// A file of as many bytes as may be, and one of more in the second place.
+/// Makes a file of so many bytes.
+fn put_long<T: Files>(rt: &T, name: &str, length: usize) -> io::Result<()> {
+    File::create(rt, name)?.set_len(length as u64)
+}
+
+/// Makes a file that may not be written.
+fn put_sealed<T: Files>(rt: &T, name: &str) -> io::Result<()> {
+    fs::write(rt, name, "as before\n")?;
+    let mut permissions = fs::metadata(rt, name)?.permissions();
+    permissions.set_readonly(true);
+    fs::set_permissions(rt, name, permissions)
+}
+
+/// What is not there, a folder, what a file has below it, and a file that is too long.
+const UNREADABLE: &str = "\
+none
+folder
+duo/none
+long
+";
+
+/// A file of as many bytes as may be, and one of more in the second place; the files that no command has
+/// made.
 const FULL: &str = "\
 $burr list full
 >refused C2 at 0
@@ -69,46 +80,50 @@ $burr list full
 $burr check full long
 !cannot read long
 ?3
+<as before
+=as.before
+~made as.before
 ";
 
-/// What is not there, a folder, what a file has below it, and a file that is too long.
 #[test]
-fn tells_what_cannot_be_read(rt: HostRuntime) -> Result<(), Fail> {
-    assert_transcript(&rt, EXAMPLES)?;
-    let mut bytes = vec![in rt.alloc(); b'x'; LIMIT]?;
-    fs::write(&rt, "full", &bytes)?;
-    bytes.push(b'x')?;
-    fs::write(&rt, "long", &bytes)?;
-    fs::create_dir(&rt, "folder")?;
-    fs::write(&rt, "made", "as before")?;
-    for name in ["none", "folder", "duo/none", "long"] {
-        assert_told(&rt, READING, name, "cannot read")?;
+fn tells_what_cannot_be_read(rt: HostRuntime) {
+    assert_examples(&rt, "<as before\n=made\n");
+    assert_case(&rt, "full", put_long(&rt, "full", LIMIT).is_ok());
+    assert_case(&rt, "long", put_long(&rt, "long", LIMIT + 1).is_ok());
+    assert_case(&rt, "folder", fs::create_dir(&rt, "folder").is_ok());
+    for name in UNREADABLE.lines() {
+        assert_told(&rt, READING, "cannot read *\n", name);
     }
-    assert_transcript(&rt, FULL)?;
-    assert!(rt; fs::read_to_string(&rt, "made")?.as_str() == "as before");
-    Ok(())
+    assert_transcript(&rt, FULL);
 }
 
 /// A folder that is not there, a folder, a file in place of a folder, a device that is full, and a file
 /// that may not be written.
+const UNWRITABLE: &str = "\
+none/made
+shelf
+duo/made
+/dev/full
+sealed
+";
+
+/// No file is left beside it.
+const BESIDE: &str = "\
+$burr list *.new0
+!cannot read *.new0
+?3
+";
+
 #[test]
-fn tells_what_cannot_be_written(rt: HostRuntime) -> Result<(), Fail> {
-    assert_transcript(&rt, EXAMPLES)?;
-    fs::create_dir(&rt, "shelf")?;
-    fs::write(&rt, "sealed", "as before")?;
-    let mut permissions = fs::metadata(&rt, "sealed")?.permissions();
-    permissions.set_readonly(true);
-    fs::set_permissions(&rt, "sealed", permissions)?;
-    for name in ["none/made", "shelf", "duo/made", "/dev/full", "sealed"] {
-        assert_told(&rt, WRITING, name, "cannot write")?;
-        let beside = format!(in rt.alloc(); "{name}.new0")?;
-        assert!(rt;
-            !fs::exists(&rt, beside.as_str()).unwrap_or(false),
-            "{name}"
-        );
+fn tells_what_cannot_be_written(rt: HostRuntime) {
+    assert_examples(&rt, "<as before\n=as.before\n");
+    assert_case(&rt, "shelf", fs::create_dir(&rt, "shelf").is_ok());
+    assert_case(&rt, "sealed", put_sealed(&rt, "sealed").is_ok());
+    for name in UNWRITABLE.lines() {
+        assert_told(&rt, WRITING, "cannot write *\n", name);
+        assert_transcript(&rt, &replaced(&rt, BESIDE, "*", name));
     }
-    assert!(rt; fs::read_to_string(&rt, "sealed")?.as_str() == "as before");
-    Ok(())
+    assert_transcript(&rt, "~sealed as.before\n");
 }
 
 /// The container of one plan in place of another's, then a plan text that is refused, and a plan text
@@ -134,6 +149,10 @@ $burr asm ring.plan ring.plan
 $burr asm ring.plan ./ring.plan
 !error: OUT is TEXT itself: ./ring.plan
 ?2
+$burr asm ring.plan other.plan
+!error: OUT is TEXT itself: other.plan
+?2
+~ring.plan ring.text
 $burr asm none none
 !error: OUT is TEXT itself: none
 ?2
@@ -148,40 +167,40 @@ $burr check ring ring.bpln
 ";
 
 #[test]
-fn never_writes_over_a_plan_text(rt: HostRuntime) -> Result<(), Fail> {
-    assert_transcript(&rt, EXAMPLES)?;
-    let text = fs::read_to_string(&rt, "ring.plan")?;
-    fs::hard_link(&rt, "ring.plan", "other.plan")?;
-    assert_transcript(&rt, OVER)?;
-    let end = end_of(&rt, "burr asm ring.plan other.plan", "")?;
-    assert!(rt; end.status == 2);
-    assert!(rt; fs::read_to_string(&rt, "ring.plan")?.as_str() == text.as_str());
-    Ok(())
+fn never_writes_over_a_plan_text(rt: HostRuntime) {
+    assert_examples(&rt, "@ring.plan\n=ring.text\n");
+    assert!(rt; fs::hard_link(&rt, "ring.plan", "other.plan").is_ok());
+    assert_transcript(&rt, OVER);
 }
 
-/// A file that is there keeps its permissions and the links that lead to it, one that may not be written
-/// stays, and no other file is left beside it.
+/// A file that may not be written stays, and one that is replaced keeps the links that lead to it; files
+/// beside it stay, and no other one is left there.
+const REPLACED: &str = "\
+<as before
+=as.before
+@as.before
+=old.bpln.new0
+$burr asm duo.plan closed.bpln
+!cannot write closed.bpln
+?3
+~closed.bpln as.before
+$burr asm duo.plan old.bpln
+?0
+~old.bpln duo.bpln
+$burr asm cup.plan link
+?0
+~old.bpln cup.bpln
+~old.bpln.new0 as.before
+$burr list old.bpln.new1
+!cannot read old.bpln.new1
+?3
+";
+
 #[test]
-fn replaces_a_container_whole(rt: HostRuntime) -> Result<(), Fail> {
-    assert_transcript(&rt, EXAMPLES)?;
-    fs::write(&rt, "old.bpln.new0", "kept")?;
-    fs::write(&rt, "old.bpln", "old")?;
-    let mut permissions = fs::metadata(&rt, "old.bpln")?.permissions();
-    permissions.set_readonly(true);
-    fs::set_permissions(&rt, "old.bpln", permissions)?;
-    assert_transcript(
-        &rt,
-        "$burr asm duo.plan old.bpln\n!cannot write old.bpln\n?3\n",
-    )?;
-    assert!(rt; fs::read_to_string(&rt, "old.bpln")?.as_str() == "old");
-    fs::remove_file(&rt, "old.bpln")?;
-    assert_transcript(&rt, "$burr asm duo.plan old.bpln\n?0\n")?;
-    assert!(rt; fs::read(&rt, "old.bpln")?.as_slice() == fs::read(&rt, "duo.bpln")?.as_slice());
-    assert!(rt; fs::read_to_string(&rt, "old.bpln.new0")?.as_str() == "kept");
-    assert!(rt; !fs::exists(&rt, "old.bpln.new1")?);
-    symlink(&rt, "old.bpln", "link")?;
-    assert_transcript(&rt, "$burr asm cup.plan link\n?0\n")?;
-    assert!(rt; fs::symlink_metadata(&rt, "link")?.is_symlink());
-    assert!(rt; fs::read(&rt, "old.bpln")?.as_slice() == fs::read(&rt, "cup.bpln")?.as_slice());
-    Ok(())
+fn replaces_a_container_whole(rt: HostRuntime) {
+    assert_case(&rt, "closed.bpln", put_sealed(&rt, "closed.bpln").is_ok());
+    assert_case(&rt, "link", symlink(&rt, "old.bpln", "link").is_ok());
+    assert_examples(&rt, REPLACED);
+    let link = fs::symlink_metadata(&rt, "link");
+    assert!(rt; link.is_ok_and(|link| link.is_symlink()));
 }

@@ -1,7 +1,5 @@
 //! Plan texts that are made of sheets, and frames that are filled in.
-use super::examples::EXAMPLES;
-use super::transcript::assert_transcript;
-use super::*;
+use super::transcript::assert_examples;
 
 /// Sheets with a plan and without, and an OUT that is read.
 const SHEETS: &str = "\
@@ -234,15 +232,11 @@ $burr why duo h.plan
 ";
 
 #[test]
-fn makes_plans_of_sheets(rt: HostRuntime) -> Result<(), Fail> {
-    assert_transcript(&rt, EXAMPLES)?;
-    assert_transcript(&rt, SHEETS)?;
-    Ok(())
+fn makes_plans_of_sheets(rt: HostRuntime) {
+    assert_examples(&rt, SHEETS);
 }
 
 #[test]
-fn fills_in_frames(rt: HostRuntime) -> Result<(), Fail> {
-    assert_transcript(&rt, EXAMPLES)?;
-    assert_transcript(&rt, FRAMES)?;
-    Ok(())
+fn fills_in_frames(rt: HostRuntime) {
+    assert_examples(&rt, FRAMES);
 }

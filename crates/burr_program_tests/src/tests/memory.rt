@@ -26,161 +26,114 @@ fn take_all_memory(alloc: Global, blocks: &mut Vec<Vec<u8>>) {
     }
 }
 
-/// A writer that takes what it has room for, and needs no memory.
-#[derive(Drop)]
-struct Room {
-    bytes: [u8; 4096],
-    count: usize,
-}
-
-impl Room {
-    fn new() -> Room {
-        Room {
-            bytes: [0; 4096],
-            count: 0,
-        }
-    }
-
-    /// What it took.
-    fn taken(&self) -> Option<&[u8]> {
-        self.bytes.get(..self.count)
-    }
-}
-
-impl Write for Room {
-    fn write(&mut self, bytes: &[u8]) -> io::Result<usize> {
-        let Some((first, place)) = bytes.first().zip(self.bytes.get_mut(self.count)) else {
-            return Ok(0);
-        };
-        *place = *first;
-        self.count += 1;
-        Ok(1)
-    }
-
-    fn flush(&mut self) -> io::Result<()> {
-        Ok(())
-    }
-}
-
-/// The file that commands make here.
-const MADE: &str = "made";
-
-/// The number that the system has for a file; a new file in its place has another one.
-fn number_of<T: Files>(rt: &T, name: &str) -> Option<u64> {
-    match fs::metadata(rt, name) {
+/// The number that the system has for the file that commands make here; a new file in its place has
+/// another one.
+fn number_of_made<T: Files>(rt: &T) -> Option<u64> {
+    match fs::metadata(rt, "made") {
         Ok(file) => Some(file.ino()),
         Err(_) => None,
     }
 }
 
-/// How a call of the program ended, told without memory, and which file then stood as `made`.
-#[derive(Drop)]
-struct SmallEnd {
-    status: u8,
-    output: Room,
-    complaint: Room,
-    made: Option<u64>,
+/// Whether a call wants memory: its status and its line, nothing printed, and the file stands that
+/// stood before.
+fn is_want<T: Files>(rt: &T, end: &End, made: Option<u64>) -> bool {
+    end.is(4, "", "no memory\n") && number_of_made(rt) == made
 }
 
-impl SmallEnd {
-    /// Calls the program.
-    fn of<T: Files + AllocGlobal, R: Read + Drop>(rt: &T, words: &[String], input: R) -> SmallEnd {
-        let mut output = Room::new();
-        let mut complaint = Room::new();
-        let mut source = Reading::new(input);
-        let status = status_of(rt, words, &mut source, &mut output, &mut complaint);
-        SmallEnd {
-            status,
-            output,
-            complaint,
-            made: number_of(rt, MADE),
-        }
-    }
-
-    /// Whether the other call ended so too.
-    fn is_like(&self, other: &SmallEnd) -> bool {
-        self.status == other.status
-            && self.output.taken() == other.output.taken()
-            && self.complaint.taken() == other.complaint.taken()
-    }
-
-    /// Whether this is want of memory: its status and its line, nothing printed, and the file stands
-    /// that stood after the other call.
-    fn is_want(&self, other: &SmallEnd) -> bool {
-        self.status == 4
-            && self.output.count == 0
-            && self.complaint.taken() == Some(b"no memory\n".as_slice())
-            && self.made == other.made
-    }
-}
-
-/// Asserts that a call that ends with this status tells want of memory while none can be had, and with
-/// each block that is given back, up to its right end.
-fn assert_wants<T: Abort + Files + AllocGlobal>(
+/// Whether a call tells want of memory while none can be had, and with each block that is given back, up
+/// to the end that it has with ample memory.
+fn is_want_told<T: Files + AllocGlobal>(
     rt: &T,
-    line: &str,
+    words: &[String],
     input: &str,
-    status: u8,
-) -> Result<(), AllocError> {
-    let words = words_of(rt.alloc(), line)?;
+    blocks: &mut Vec<Vec<u8>>,
+) -> bool {
     // with ample memory first: then the stack has grown as far as the calls need, which it can't do
     // while all memory is taken
-    let right = SmallEnd::of(rt, &words, input.as_bytes());
-    assert!(rt; right.status == status, "{line}");
-    let mut blocks: Vec<Vec<u8>> = Vec::with_capacity(rt.alloc(), MOST_BLOCKS)?;
-    take_all_memory(rt.alloc(), &mut blocks);
+    let right = end_over(rt, words, Drips::of(input));
+    let made = number_of_made(rt);
+    take_all_memory(rt.alloc(), blocks);
     let mut has_wanted = false;
-    let mut end = SmallEnd::of(rt, &words, input.as_bytes());
     for _ in 0..MOST_BLOCKS {
-        if !end.is_want(&right) || blocks.pop().is_none() {
-            break;
+        let end = end_over(rt, words, Drips::of(input));
+        if !is_want(rt, &end, made) {
+            return has_wanted && end.is_like(&right);
         }
         has_wanted = true;
-        end = SmallEnd::of(rt, &words, input.as_bytes());
+        blocks.pop();
     }
-    drop(blocks);
-    assert!(rt; has_wanted && end.is_like(&right), "{line}");
-    Ok(())
+    false
 }
 
-#[test]
-fn tells_a_want_of_memory(rt: HostRuntime) -> Result<(), Fail> {
-    assert_wants(&rt, "burr", DUO, 0)?;
-    assert_wants(&rt, "burr --help", "", 0)?;
-    assert_wants(&rt, "burr --version", "", 0)?;
-    assert_wants(&rt, "burr explain V15", "", 0)?;
-    assert_wants(&rt, "burr solve", "", 2)?;
-    assert_wants(&rt, "burr --", "", 2)?;
-    Ok(())
+/// Whether a command line tells want of memory so.
+fn tells_want<T: Abort + Files + AllocGlobal>(rt: &T, line: &str, input: &str) -> bool {
+    let words = words_of(rt, line);
+    match Vec::with_capacity(rt.alloc(), MOST_BLOCKS) {
+        Ok(mut blocks) => is_want_told(rt, &words, input, &mut blocks),
+        Err(_) => false,
+    }
 }
+
+/// Asserts that of command lines that have an input.
+fn assert_wants<T: Abort + Files + AllocGlobal>(rt: &T, lines: &str, input: &str) {
+    for line in lines.lines() {
+        assert_case(rt, line, tells_want(rt, line, input));
+    }
+}
+
+/// Command lines without a file.
+const WITHOUT_FILES: &str = "\
+burr --help
+burr --version
+burr explain V15
+burr solve
+burr --
+";
+
+#[test]
+fn tells_a_want_of_memory(rt: HostRuntime) {
+    assert_wants(&rt, "burr", DUO);
+    assert_wants(&rt, WITHOUT_FILES, "");
+}
+
+/// Command lines that read standard input.
+const WITH_INPUT: &str = "\
+burr run cup cup.bpln
+burr try cup cup.bpln
+burr trace cup cup.plan
+burr frames cup cup.plan made
+";
+
+/// Command lines that read none, or none that is there.
+const WITH_FILES: &str = "\
+burr check cup cup.bpln
+burr run cup duo.bpln
+burr step cup cup.bpln
+burr why cup cup.plan
+burr why cup duo.plan
+burr plan duo cup made
+burr upgrade cup.bpln made
+burr asm cup.plan made
+burr list cup.bpln
+burr list --places cup.bpln
+";
+
+/// A container that was made before stays in its place, and no file is left beside it.
+const BESIDE: &str = "\
+~made cup.bpln
+$burr list made.new0
+!cannot read made.new0
+?3
+";
 
 /// Where the plan's run has all memory that the program asks for, it goes on without more.
 #[test]
-fn tells_a_want_of_memory_for_a_plan(rt: HostRuntime) -> Result<(), Fail> {
-    assert_transcript(&rt, EXAMPLES)?;
-    assert_wants(&rt, "burr check cup cup.bpln", "", 0)?;
-    assert_wants(&rt, "burr run cup cup.bpln", "2\n", 0)?;
-    assert_wants(&rt, "burr run cup duo.bpln", "", 1)?;
-    assert_wants(&rt, "burr try cup cup.bpln", "2\n", 0)?;
-    assert_wants(&rt, "burr step cup cup.bpln", "", 0)?;
-    assert_wants(&rt, "burr why cup cup.plan", "", 0)?;
-    assert_wants(&rt, "burr why cup duo.plan", "", 1)?;
-    assert_wants(&rt, "burr trace cup cup.plan", "2\n", 0)?;
-    assert_wants(&rt, "burr frames cup cup.plan made", "2\n", 0)?;
-    assert_wants(&rt, "burr plan duo cup made", "", 1)?;
-    Ok(())
-}
-
-/// A container that was made before stays in its place.
-#[test]
-fn tells_a_want_of_memory_for_a_file(rt: HostRuntime) -> Result<(), Fail> {
-    assert_transcript(&rt, EXAMPLES)?;
-    assert_wants(&rt, "burr asm cup.plan made", "", 0)?;
-    assert_wants(&rt, "burr upgrade cup.bpln made", "", 0)?;
-    assert_wants(&rt, "burr list cup.bpln", "", 0)?;
-    assert_wants(&rt, "burr list --places cup.bpln", "", 0)?;
-    assert!(rt; fs::exists(&rt, MADE)? && !fs::exists(&rt, "made.new0")?);
-    Ok(())
+fn tells_a_want_of_memory_for_files(rt: HostRuntime) {
+    assert_transcript(&rt, EXAMPLES);
+    assert_wants(&rt, WITH_INPUT, "2\n");
+    assert_wants(&rt, WITH_FILES, "");
+    assert_transcript(&rt, BESIDE);
 }
 
 /// A reader that gives a byte a call, and takes all memory where so many are left.
@@ -201,32 +154,33 @@ impl Read for Greedy<'_> {
     }
 }
 
+/// Commands that are answered without more memory, and the same with more of them.
+const ANSWERED: &str = "forward\nshow\nback 1\nuntil 0 2\n";
+
+const COMMANDS: &str = "forward\nshow\nback 1\nuntil 0 2\nanswer 1\nshow\n";
+
 /// Once a dialogue has begun answers alone ask for memory, and what was answered before one of them
 /// holds.
 #[test]
-fn tells_a_want_of_memory_between_commands(rt: HostRuntime) -> Result<(), Fail> {
+fn tells_a_want_of_memory_between_commands(rt: HostRuntime) {
+    assert_transcript(&rt, EXAMPLES);
+    let words = words_of(&rt, "burr step cup cup.bpln");
     let alloc = rt.alloc();
-    assert_transcript(&rt, EXAMPLES)?;
-    let words = words_of(alloc, "burr step cup cup.bpln")?;
-    let front = "forward\nshow\nback 1\nuntil 0 2\n";
-    let whole = format!(in alloc; "{front}answer 1\nshow\n")?;
-    // with ample memory first, as above
-    let ample = SmallEnd::of(&rt, &words, whole.as_bytes());
-    let answered = SmallEnd::of(&rt, &words, front.as_bytes());
-    assert!(rt; (ample.status, answered.status) == (0, 0));
     let greedy = Greedy {
-        drips: Drips {
-            left: whole.as_bytes(),
-            calls: 1000,
-        },
+        drips: Drips::of(COMMANDS),
         // all but the first command
         greed: 36,
         alloc,
-        blocks: Vec::with_capacity(alloc, MOST_BLOCKS)?,
+        blocks: Vec::with_capacity(alloc, MOST_BLOCKS).expect(&rt, "memory"),
     };
-    let end = SmallEnd::of(&rt, &words, greedy);
-    assert!(rt; end.status == 4);
-    assert!(rt; end.output.taken() == answered.output.taken());
-    assert!(rt; end.complaint.taken() == Some(b"no memory\n".as_slice()));
-    Ok(())
+    // with ample memory first, as above
+    let ample = end_over(&rt, &words, Drips::of(COMMANDS));
+    let answered = end_over(&rt, &words, Drips::of(ANSWERED));
+    let end = end_over(&rt, &words, greedy);
+    assert_case(&rt, "ample", ample.status == 0 && answered.status == 0);
+    assert_case(
+        &rt,
+        "want",
+        end.is(4, answered.output.text(), "no memory\n"),
+    );
 }

@@ -1,7 +1,6 @@
 //! The commands on assemblies and plans, which are files.
-use super::examples::EXAMPLES;
-use super::transcript::assert_transcript;
-use super::*;
+use super::transcript::{assert_examples, assert_transcript};
+use std::fs;
 
 /// Containers, also under names that could be options, and what is listed of them. A plan for one of
 /// two pieces has code after each of three labels, whose places are told.
@@ -59,16 +58,15 @@ const DUO_BYTES: &[u8] = b"BPLN\x00\x01\x00\x00\x00\x03\x02\x03duo\x01\
 \x00\x09\x10\x00\x00\x00\x01\x12\x01\x01\x00";
 
 #[test]
-fn assembles_and_lists(rt: HostRuntime) -> Result<(), Fail> {
-    assert_transcript(&rt, EXAMPLES)?;
-    assert_transcript(&rt, CONTAINERS)?;
-    let bytes = fs::read(&rt, "--duo")?;
-    assert!(rt; bytes.as_slice() == DUO_BYTES);
-    Ok(())
+fn assembles_and_lists(rt: HostRuntime) {
+    assert_examples(&rt, CONTAINERS);
+    let made = fs::read(&rt, "--duo");
+    assert!(rt; made.is_ok_and(|bytes| bytes.as_slice() == DUO_BYTES));
 }
 
 /// Files that can't be read or written, or are refused. Files are read in their order and then standard
-/// input, before anything is judged: the text, the container, the plan, and the answers.
+/// input, before anything is judged: the text, the container, the plan, and the answers. A refusal, and
+/// an input that can't be read, leave the output file alone.
 const REFUSALS: &str = "\
 <plan duo 2 3
 =wrong
@@ -82,6 +80,8 @@ const REFUSALS: &str = "\
 <piece B cube +x+y+z 0 0 0
 =crowd
 <as before
+=as.before
+@as.before
 =kept
 $burr asm wrong kept
 >refused P1 line 2
@@ -89,6 +89,7 @@ $burr asm wrong kept
 $burr asm none kept
 !cannot read none
 ?3
+~kept as.before
 $burr asm none none/kept
 !cannot read none
 ?3
@@ -169,13 +170,8 @@ $burr explain -x
 ";
 
 #[test]
-fn ends_commands_by_what_they_met(rt: HostRuntime) -> Result<(), Fail> {
-    assert_transcript(&rt, EXAMPLES)?;
-    assert_transcript(&rt, REFUSALS)?;
-    // A refusal, and an input that can't be read, leave the output file alone.
-    let kept = fs::read(&rt, "kept")?;
-    assert!(rt; kept.as_slice() == b"as before\n".as_slice());
-    Ok(())
+fn ends_commands_by_what_they_met(rt: HostRuntime) {
+    assert_examples(&rt, REFUSALS);
 }
 
 /// Plans that are accepted, and how they run; `check` leaves standard input alone. An answer that does
@@ -236,9 +232,8 @@ $burr run cup cup.bpln
 ";
 
 #[test]
-fn checks_and_runs_plans(rt: HostRuntime) -> Result<(), Fail> {
-    assert_transcript(&rt, EXAMPLES)?;
-    assert_transcript(&rt, ACCEPTED)
+fn checks_and_runs_plans(rt: HostRuntime) {
+    assert_examples(&rt, ACCEPTED);
 }
 
 /// Plans that are refused, each made of an accepted one by changes, and how they are tried all the same.
@@ -454,10 +449,9 @@ $burr try duo bpln
 ";
 
 #[test]
-fn refuses_plans(rt: HostRuntime) -> Result<(), Fail> {
-    assert_transcript(&rt, EXAMPLES)?;
-    assert_transcript(&rt, REFUSED)?;
-    assert_transcript(&rt, CODES)
+fn refuses_plans(rt: HostRuntime) {
+    assert_examples(&rt, REFUSED);
+    assert_transcript(&rt, CODES);
 }
 
 /// A loop as far as the bench goes, and one unit farther.
@@ -500,9 +494,8 @@ $burr try ring bpln
 ";
 
 #[test]
-fn runs_as_far_as_the_bench_goes(rt: HostRuntime) -> Result<(), Fail> {
-    assert_transcript(&rt, EXAMPLES)?;
-    assert_transcript(&rt, FAR)
+fn runs_as_far_as_the_bench_goes(rt: HostRuntime) {
+    assert_examples(&rt, FAR);
 }
 
 /// A dot that goes up by two calls.
@@ -693,10 +686,8 @@ $burr try cubes bpln
 ";
 
 #[test]
-fn runs_calls_choices_and_trays(rt: HostRuntime) -> Result<(), Fail> {
-    assert_transcript(&rt, EXAMPLES)?;
-    for transcript in [CALLS, CHOICES, TRAYS] {
-        assert_transcript(&rt, transcript)?;
-    }
-    Ok(())
+fn runs_calls_choices_and_trays(rt: HostRuntime) {
+    assert_examples(&rt, CALLS);
+    assert_transcript(&rt, CHOICES);
+    assert_transcript(&rt, TRAYS);
 }

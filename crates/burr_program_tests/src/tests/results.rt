@@ -1,7 +1,5 @@
 //! Plans of procedures with results, and plans of version 1 in version 2.
-use super::examples::EXAMPLES;
-use super::transcript::assert_transcript;
-use super::*;
+use super::transcript::assert_examples;
 
 /// A dot in a cup is lifted by a procedure that asks how far and gives that back: its listing, its
 /// runs, and what is said where the range of the result or the exit place is too small.
@@ -108,9 +106,8 @@ $burr asm plan bpln
 ";
 
 #[test]
-fn checks_and_runs_plans_with_results(rt: HostRuntime) -> Result<(), Fail> {
-    assert_transcript(&rt, EXAMPLES)?;
-    assert_transcript(&rt, LIFT)
+fn checks_and_runs_plans_with_results(rt: HostRuntime) {
+    assert_examples(&rt, LIFT);
 }
 
 /// Plans that give back a number that they have not, or one for which there is no room.
@@ -183,12 +180,12 @@ $burr check duo bpln
 ";
 
 #[test]
-fn tells_traps_of_results(rt: HostRuntime) -> Result<(), Fail> {
-    assert_transcript(&rt, EXAMPLES)?;
-    assert_transcript(&rt, TRAPS)
+fn tells_traps_of_results(rt: HostRuntime) {
+    assert_examples(&rt, TRAPS);
 }
 
-/// Plans of version 1 in version 2, and what is no plan.
+/// Plans of version 1 in version 2, which are those that texts of version 2 stand for, and what is no
+/// plan.
 const UPGRADES: &str = "\
 $burr upgrade duo.bpln two.bpln
 ?0
@@ -204,6 +201,13 @@ $burr list two.bpln
 >aside -x 1
 >halt
 ?0
+@duo.plan
+/plan duo/plan2 duo
+/proc p0 0/proc p0 0 0
+=two.plan
+$burr asm two.plan again.bpln
+?0
+~two.bpln again.bpln
 $burr run duo two.bpln
 >1 t0 A -x 0 out
 >levels 1
@@ -211,12 +215,22 @@ $burr run duo two.bpln
 ?0
 $burr upgrade two.bpln same.bpln
 ?0
+~same.bpln two.bpln
 $burr upgrade ring.bpln two.ring
 ?0
+@ring.plan
+/plan ring/plan2 ring
+/proc main 0/proc main 0 0
+=two.plan
+$burr asm two.plan again.ring
+?0
+~two.ring again.ring
 $burr check ring two.ring
 >accepted cost 11 budget 11 looks 4
 ?0
 <kept
+=as.before
+@as.before
 =kept
 $burr upgrade duo.plan kept
 >refused C2 at 0
@@ -224,6 +238,7 @@ $burr upgrade duo.plan kept
 $burr upgrade none kept
 !cannot read none
 ?3
+~kept as.before
 $burr upgrade duo.bpln duo.bpln
 !error: OUT is PLAN itself: duo.bpln
 ?2
@@ -233,12 +248,6 @@ $burr upgrade duo.bpln none/two
 ";
 
 #[test]
-fn upgrades_containers(rt: HostRuntime) -> Result<(), Fail> {
-    assert_transcript(&rt, EXAMPLES)?;
-    assert_transcript(&rt, UPGRADES)?;
-    assert!(rt; fs::read(&rt, "two.bpln")?.len() == 71);
-    assert!(rt; fs::read(&rt, "two.ring")?.len() == 141);
-    assert!(rt; fs::read(&rt, "same.bpln")?.as_slice() == fs::read(&rt, "two.bpln")?.as_slice());
-    assert!(rt; fs::read_to_string(&rt, "kept")?.as_str() == "kept\n");
-    Ok(())
+fn upgrades_containers(rt: HostRuntime) {
+    assert_examples(&rt, UPGRADES);
 }

@@ -1,10 +1,9 @@
 //! Accepted plans, step by step, by commands on standard input.
-use super::examples::EXAMPLES;
-use super::transcript::assert_transcript;
+use super::transcript::assert_examples;
 use super::*;
 
 /// Commands for the cup: forwards, an answer, until labels, back, what is shown; what is no command;
-/// a last line without its end is that of `assert_unended`.
+/// and a dialogue without any.
 const CUP: &str = "\
 <until 0 2
 <answer 1
@@ -88,84 +87,97 @@ $burr step duo duo
 ";
 
 #[test]
-fn steps_through_the_cup(rt: HostRuntime) -> Result<(), Fail> {
-    assert_transcript(&rt, EXAMPLES)?;
-    assert_transcript(&rt, CUP)
+fn steps_through_the_cup(rt: HostRuntime) {
+    assert_examples(&rt, CUP);
 }
 
 #[test]
-fn refuses_before_a_command_is_read(rt: HostRuntime) -> Result<(), Fail> {
-    assert_transcript(&rt, EXAMPLES)?;
-    assert_transcript(&rt, REFUSED)
+fn refuses_before_a_command_is_read(rt: HostRuntime) {
+    assert_examples(&rt, REFUSED);
 }
 
 /// A last line may lack its end, and nothing after `quit` is read.
 #[test]
-fn reads_up_to_the_end_or_quit(rt: HostRuntime) -> Result<(), Fail> {
-    let alloc = rt.alloc();
-    assert_transcript(&rt, EXAMPLES)?;
+fn reads_up_to_the_end_or_quit(rt: HostRuntime) {
+    assert_examples(&rt, "");
     let line = "burr step cup cup.bpln";
-    let last = end_of(&rt, line, "forward\nanswer 1")?;
-    let wanted = b"after 1 steps asks 0 2\nafter 2 steps\n";
-    assert!(rt; last.output.as_slice() == wanted.as_slice());
-    let words = words_of(alloc, line)?;
-    let mut rest = Drips {
-        left: b"forward\nquit\nforward\n",
-        calls: 100,
-    };
-    let mut output = Vec::new(alloc);
-    let mut complaint = Vec::new(alloc);
-    let mut source = Reading::new(&mut rest);
-    let status = status_of(&rt, &words, &mut source, &mut output, &mut complaint);
-    assert!(rt; (status, output.as_slice()) == (0, b"after 1 steps asks 0 2\n".as_slice()));
-    assert!(rt; rest.left == b"forward\n".as_slice());
-    Ok(())
+    let end = end_of(&rt, line, "forward\nanswer 1");
+    let both = "after 1 steps asks 0 2\nafter 2 steps\n";
+    assert_case(&rt, "end", end.is(0, both, ""));
+    let mut rest = Drips::of("forward\nquit\nforward\n");
+    let quit = end_with(&rt, line, &mut rest);
+    assert_case(&rt, "quit", quit.is(0, "after 1 steps asks 0 2\n", ""));
+    assert_case(&rt, "rest", rest.left == b"forward\n".as_slice());
 }
 
-/// A line of 64 bytes and longer ones are no commands, whatever they begin with.
+/// A line of 64 bytes and longer ones, of up to 5005 bytes, are no commands, whatever they begin with.
+const LONG: &str = "\
+<back 00000000000000000000000000000000000000000000000000000000000
+<forward
+$burr step cup cup.bpln
+>refused command
+>after 1 steps asks 0 2
+?0
+<back 000000000000000000000000000000000000000000000000000000000000
+<forward
+$burr step cup cup.bpln
+>refused command
+>after 1 steps asks 0 2
+?0
+<back 0000000000000000000000000000000000000000000000000000000000000
+<forward
+$burr step cup cup.bpln
+>refused command
+>after 1 steps asks 0 2
+?0
+<back 0
+/0/00000
+/0/0000000000
+/0/0000000000
+/0/0000000000
+<forward
+$burr step cup cup.bpln
+>refused command
+>after 1 steps asks 0 2
+?0
+";
+
 #[test]
-fn answers_long_lines(rt: HostRuntime) -> Result<(), Fail> {
-    let alloc = rt.alloc();
-    assert_transcript(&rt, EXAMPLES)?;
-    for length in [64, 65, 66, 5000] {
-        let command = "back 0";
-        let mut input = String::from_str(alloc, command)?;
-        for _ in command.len()..length {
-            input.push('0')?;
-        }
-        input.push_str("\nforward\n")?;
-        let end = end_of(&rt, "burr step cup cup.bpln", &input)?;
-        let wanted = b"refused command\nafter 1 steps asks 0 2\n";
-        assert!(rt;
-            (end.status, end.output.as_slice()) == (0, wanted.as_slice()),
-            "{length}"
-        );
-    }
-    Ok(())
+fn answers_long_lines(rt: HostRuntime) {
+    assert_examples(&rt, LONG);
 }
 
-/// Where the source fails, the commands before are answered.
+/// Where standard input fails, the commands before are answered.
+const FAILING: &str = "\
+&
+$burr step cup cup.bpln
+!cannot read -
+?3
+&forward
+$burr step cup cup.bpln
+!cannot read -
+?3
+<forward
+&
+$burr step cup cup.bpln
+>after 1 steps asks 0 2
+!cannot read -
+?3
+<forward
+&a
+$burr step cup cup.bpln
+>after 1 steps asks 0 2
+!cannot read -
+?3
+<forward
+&answer 1
+$burr step cup cup.bpln
+>after 1 steps asks 0 2
+!cannot read -
+?3
+";
+
 #[test]
-fn tells_a_source_that_fails_between_commands(rt: HostRuntime) -> Result<(), Fail> {
-    let alloc = rt.alloc();
-    assert_transcript(&rt, EXAMPLES)?;
-    let words = words_of(alloc, "burr step cup cup.bpln")?;
-    for calls in [0, 7, 8, 9, 16] {
-        let left = b"forward\nanswer 1\n";
-        let mut source = Reading::new(Drips { left, calls });
-        let mut output = Vec::new(alloc);
-        let mut complaint = Vec::new(alloc);
-        let status = status_of(&rt, &words, &mut source, &mut output, &mut complaint);
-        let answered: &[u8] = if calls < 8 {
-            b""
-        } else {
-            b"after 1 steps asks 0 2\n"
-        };
-        assert!(rt; (status, output.as_slice()) == (3, answered), "{calls}");
-        assert!(rt;
-            complaint.as_slice() == b"cannot read -\n".as_slice(),
-            "{calls}"
-        );
-    }
-    Ok(())
+fn tells_a_source_that_fails_between_commands(rt: HostRuntime) {
+    assert_examples(&rt, FAILING);
 }

@@ -3,216 +3,189 @@ use super::examples::{DUO, EXAMPLES};
 use super::transcript::assert_transcript;
 use super::*;
 
-/// A source that fails leaves the sink alone.
-#[test]
-fn tells_a_source_that_fails(rt: HostRuntime) -> Result<(), Fail> {
-    let alloc = rt.alloc();
-    assert_transcript(&rt, EXAMPLES)?;
-    // a call for each byte, and one that tells the end
-    assert_reads(&rt, "burr", DUO, DUO.len() + 1)?;
-    assert_reads(&rt, "burr run cup cup.bpln", "2\n", 3)?;
-    assert_reads(&rt, "burr try cup cup.bpln", "2\n", 3)?;
-    // these read nothing
-    assert_reads(&rt, "burr asm duo.plan made", "2\n", 0)?;
-    assert_reads(&rt, "burr list duo.bpln", "2\n", 0)?;
-    assert_reads(&rt, "burr upgrade duo.bpln made", "2\n", 0)?;
-    assert_reads(&rt, "burr trace cup cup.plan", "2\n", 3)?;
-    assert_reads(&rt, "burr frames cup cup.plan made", "2\n", 3)?;
-    assert_reads(&rt, "burr plan duo cup made", "2\n", 0)?;
-    assert_reads(&rt, "burr why cup cup.plan", "2\n", 0)?;
-    assert_reads(&rt, "burr explain V15", "2\n", 0)?;
-    assert_reads(&rt, "burr check cup cup.bpln", "2\n", 0)?;
-    assert_reads(&rt, "burr step cup duo.bpln", "quit\n", 0)?;
-    assert_reads(&rt, "burr --help", "2\n", 0)?;
-    assert_reads(&rt, "burr solve", "2\n", 0)?;
-    Ok(())
-}
-
-/// Asserts that the words call the source so often, and what is told where a call before fails.
-fn assert_reads<T: Abort + Files + AllocGlobal>(
-    rt: &T,
-    line: &str,
-    input: &str,
-    needed: usize,
-) -> Result<(), AllocError> {
-    let right = end_of(rt, line, input)?;
-    for calls in 0..=needed {
-        let left = input.as_bytes();
-        let mut source = Reading::new(Drips { left, calls });
-        let mut output = Vec::new(rt.alloc());
-        let mut complaint = Vec::new(rt.alloc());
-        let words = words_of(rt.alloc(), line)?;
-        let status = status_of(rt, &words, &mut source, &mut output, &mut complaint);
-        if calls < needed {
-            assert!(rt; (status, output.is_empty()) == (3, true), "{line} {calls}");
-            assert!(rt;
-                complaint.as_slice() == b"cannot read -\n".as_slice(),
-                "{line} {calls}"
-            );
-        } else {
-            assert!(rt;
-                (status, source.failed()) == (right.status, false),
-                "{line}"
-            );
-            assert!(rt; output.as_slice() == right.output.as_slice(), "{line}");
+/// Whether standard input is read whole, and a call of it that fails is told: one for each byte, and one
+/// that tells the end.
+fn is_read<T: Abort + Files + AllocGlobal>(rt: &T, line: &str, input: &str) -> bool {
+    let words = words_of(rt, line);
+    let left = input.as_bytes();
+    for calls in 0..=input.len() {
+        let end = end_over(rt, &words, Drips { left, calls });
+        if !end.is(3, "", "cannot read -\n") {
+            return false;
         }
     }
-    Ok(())
+    let calls = left.len() + 1;
+    end_over(rt, &words, Drips { left, calls }).is_like(&end_of(rt, line, input))
 }
 
-/// Makes the call with a sink that has room for so many bytes, and asserts that it took a front of
-/// what is printed where nothing fails, and what is told.
-fn assert_front<T: Abort + Files + AllocGlobal>(
-    rt: &T,
-    line: &str,
-    input: &str,
-    right: &End,
-    writer: &mut Narrow,
-) -> Result<(), AllocError> {
-    let room = writer.room;
-    let mut complaint = Vec::new(rt.alloc());
-    let words = words_of(rt.alloc(), line)?;
-    let mut source = Reading::new(input.as_bytes());
-    let status = status_of(rt, &words, &mut source, writer, &mut complaint);
-    let (wanted, told) = if room < right.output.len() {
-        (3, "cannot write -\n")
-    } else {
-        (right.status, "")
-    };
-    assert!(rt; status == wanted, "{line} {room}");
-    assert!(rt; complaint.as_slice() == told.as_bytes(), "{line} {room}");
-    assert!(rt;
-        Some(writer.taken.as_slice()) == right.output.get(..room),
-        "{line} {room}"
+/// Whether nothing of standard input is read.
+fn is_unread<T: Abort + Files + AllocGlobal>(rt: &T, line: &str) -> bool {
+    let mut input = Drips::of("2\n");
+    let end = end_with(rt, line, &mut input);
+    end.status < 3 && input.calls == usize::MAX
+}
+
+/// The command lines that read answers.
+const READING: &str = "\
+burr run cup cup.bpln
+burr try cup cup.bpln
+burr trace cup cup.plan
+burr frames cup cup.plan made
+";
+
+/// Command lines that read no standard input.
+const NOT_READING: &str = "\
+burr asm duo.plan made
+burr list duo.bpln
+burr upgrade duo.bpln made
+burr plan duo cup made
+burr why cup cup.plan
+burr explain V15
+burr check cup cup.bpln
+burr step cup duo.bpln
+burr --help
+burr solve
+";
+
+#[test]
+fn tells_a_source_that_fails(rt: HostRuntime) {
+    assert_transcript(&rt, EXAMPLES);
+    assert_case(&rt, "burr", is_read(&rt, "burr", DUO));
+    for line in READING.lines() {
+        assert_case(&rt, line, is_read(&rt, line, "2\n"));
+    }
+    for line in NOT_READING.lines() {
+        assert_case(&rt, line, is_unread(&rt, line));
+    }
+}
+
+/// Whether a call that has room for so many bytes of what it prints takes these, and tells that it can't
+/// write the others.
+fn is_front(end: &End, right: &End, room: usize) -> bool {
+    match right.output.text().get(..room) {
+        Some(front) if room < right.output.count => end.is(3, front, "cannot write -\n"),
+        _ => end.is_like(right),
+    }
+}
+
+/// Whether a front of what is printed is taken with each room that is too small, and all of it with the
+/// room that it needs, by a sink that fails or by one that takes nothing more.
+fn is_put<T: Abort + Files + AllocGlobal>(rt: &T, line: &str, input: &str, fails: bool) -> bool {
+    let words = words_of(rt, line);
+    let right = end_of(rt, line, input);
+    for room in 0..=right.output.count {
+        let mut end = End::new();
+        end.output.room = room;
+        end.output.fails = fails;
+        end.call(rt, &words, Drips::of(input));
+        if !is_front(&end, &right, room) {
+            return false;
+        }
+    }
+    true
+}
+
+/// Asserts that of a command line, its input after a `<`, in which `;` stands for the end of a line.
+fn assert_put<T: Abort + Files + AllocGlobal>(rt: &T, case: &str) {
+    let (line, input) = case.split_once('<').unwrap_or((case, ""));
+    let input = replaced(rt, input, ";", "\n");
+    assert_case(rt, case, is_put(rt, line, &input, true));
+    assert_case(rt, case, is_put(rt, line, &input, false));
+}
+
+/// Command lines with their input. The first two print nothing, and never meet the fault.
+const PRINTING: &str = "\
+burr asm duo.plan made
+burr upgrade duo.bpln made
+burr --version
+burr asm duo made
+burr list duo.bpln
+burr list --places duo.bpln
+burr list duo
+burr upgrade duo made
+burr why cup cup.plan
+burr why cup duo.plan
+burr trace duo duo.plan
+burr frames cup cup.plan made
+burr plan duo cup made
+burr explain V15
+burr check cup cup.bpln
+burr check cup duo.bpln
+burr run cup cup.bpln<2;
+burr run cup cup.bpln
+burr run cup duo.bpln
+burr try cup cup.bpln<2;
+burr step cup cup.bpln<forward;answer 1;show;
+burr step cup duo.bpln<forward;
+";
+
+#[test]
+fn tells_a_sink_that_fails(rt: HostRuntime) {
+    assert_transcript(&rt, EXAMPLES);
+    assert_case(&rt, "burr", is_put(&rt, "burr", DUO, true));
+    assert_case(&rt, "burr", is_put(&rt, "burr", DUO, false));
+    for case in PRINTING.lines() {
+        assert_put(&rt, case);
+    }
+}
+
+/// Whether a line that can't be told, but a front of it, changes no status, and nothing is printed.
+fn keeps_its_status<T: Abort + Files + AllocGlobal>(rt: &T, line: &str) -> bool {
+    let words = words_of(rt, line);
+    let right = end_over(
+        rt,
+        &words,
+        Drips {
+            left: b"",
+            calls: 0,
+        },
     );
-    Ok(())
-}
-
-/// Makes the call with each room that is too small, and with the room that it needs, of a sink that
-/// fails and of one that takes nothing more.
-fn assert_fronts<T: Abort + Files + AllocGlobal>(
-    rt: &T,
-    line: &str,
-    input: &str,
-) -> Result<(), AllocError> {
-    let right = end_of(rt, line, input)?;
-    assert!(rt; !right.output.is_empty(), "{line}");
-    for room in 0..=right.output.len() {
-        for fails in [true, false] {
-            let taken = Vec::new(rt.alloc());
-            let mut writer = Narrow { taken, room, fails };
-            assert_front(rt, line, input, &right, &mut writer)?;
+    let told = right.complaint.text();
+    for room in 0..told.len() {
+        let mut end = End::new();
+        end.complaint.room = room;
+        end.call(
+            rt,
+            &words,
+            Drips {
+                left: b"",
+                calls: 0,
+            },
+        );
+        if !end.is(right.status, "", told.get(..room).unwrap_or(told)) {
+            return false;
         }
     }
-    Ok(())
+    !told.is_empty()
 }
 
 #[test]
-fn tells_a_sink_that_fails(rt: HostRuntime) -> Result<(), Fail> {
-    assert_transcript(&rt, EXAMPLES)?;
-    assert_fronts(&rt, "burr", DUO)?;
-    assert_fronts(&rt, "burr --version", "")?;
-    assert_fronts(&rt, "burr asm duo made", "")?;
-    assert_fronts(&rt, "burr list duo.bpln", "")?;
-    assert_fronts(&rt, "burr list --places duo.bpln", "")?;
-    assert_fronts(&rt, "burr list duo", "")?;
-    assert_fronts(&rt, "burr upgrade duo made", "")?;
-    assert_fronts(&rt, "burr why cup cup.plan", "")?;
-    assert_fronts(&rt, "burr why cup duo.plan", "")?;
-    assert_fronts(&rt, "burr trace duo duo.plan", "")?;
-    assert_fronts(&rt, "burr frames cup cup.plan made", "")?;
-    assert_fronts(&rt, "burr plan duo cup made", "")?;
-    assert_fronts(&rt, "burr explain V15", "")?;
-    assert_fronts(&rt, "burr check cup cup.bpln", "")?;
-    assert_fronts(&rt, "burr check cup duo.bpln", "")?;
-    assert_fronts(&rt, "burr run cup cup.bpln", "2\n")?;
-    assert_fronts(&rt, "burr run cup cup.bpln", "")?;
-    assert_fronts(&rt, "burr run cup duo.bpln", "")?;
-    assert_fronts(&rt, "burr try cup cup.bpln", "2\n")?;
-    assert_fronts(&rt, "burr step cup cup.bpln", "forward\nanswer 1\nshow\n")?;
-    assert_fronts(&rt, "burr step cup duo.bpln", "forward\n")?;
-    // these put nothing, and never meet the fault
-    for line in ["burr asm duo.plan made", "burr upgrade duo.bpln made"] {
-        let right = end_of(&rt, line, "")?;
-        let taken = Vec::new(rt.alloc());
-        let mut writer = Narrow {
-            taken,
-            room: 0,
-            fails: true,
-        };
-        assert_front(&rt, line, "", &right, &mut writer)?;
-    }
-    Ok(())
+fn keeps_the_status_where_standard_error_fails(rt: HostRuntime) {
+    assert_case(&rt, "burr", keeps_its_status(&rt, "burr"));
+    let line = "burr explain A9";
+    assert_case(&rt, line, keeps_its_status(&rt, line));
 }
 
-/// Calls the program with a source that fails and room for so many bytes on standard error, and
-/// asserts that nothing is written, and a front of the line told.
-fn assert_told_fronts<T: Abort + Files + AllocGlobal>(
-    rt: &T,
-    line: &str,
-    status: u8,
-    told: &str,
-) -> Result<(), AllocError> {
-    for room in 0..=told.len() {
-        let left = DUO.as_bytes();
-        let taken = Vec::new(rt.alloc());
-        let mut writer = Narrow {
-            taken,
-            room,
-            fails: true,
-        };
-        let mut output = Vec::new(rt.alloc());
-        let words = words_of(rt.alloc(), line)?;
-        let mut source = Reading::new(Drips { left, calls: 7 });
-        let got = status_of(rt, &words, &mut source, &mut output, &mut writer);
-        assert!(rt; (got, output.is_empty()) == (status, true), "{line} {room}");
-        assert!(rt;
-            Some(writer.taken.as_slice()) == told.as_bytes().get(..room),
-            "{line} {room}"
-        );
-    }
-    Ok(())
+/// How a command line ends over a source of so many equal bytes.
+fn end_of_length<T: Abort + Files + AllocGlobal>(rt: &T, line: &str, length: usize) -> End {
+    end_with(rt, line, io::repeat(b'x').take(length as u64))
 }
 
-#[test]
-fn keeps_the_status_where_standard_error_fails(rt: HostRuntime) -> Result<(), Fail> {
-    assert_told_fronts(&rt, "burr", 3, "cannot read -\n")?;
-    assert_told_fronts(
-        &rt,
-        "burr explain A9",
-        2,
-        "error: nothing is explained under A9\n",
-    )?;
-    Ok(())
-}
-
-/// Calls the program over a source of so many equal bytes, and asserts its status and what it puts on
-/// standard output and on standard error.
-fn assert_length<T: Abort + Files + AllocGlobal>(
-    rt: &T,
-    line: &str,
-    length: usize,
-    wanted: (u8, &str, &str),
-) -> Result<(), AllocError> {
-    let (status, output, complaint) = wanted;
-    let mut source = Reading::new(io::repeat(b'x').take(length as u64));
-    let mut put = Vec::new(rt.alloc());
-    let mut told = Vec::new(rt.alloc());
-    let words = words_of(rt.alloc(), line)?;
-    let got = status_of(rt, &words, &mut source, &mut put, &mut told);
-    assert!(rt; got == status, "{line} {length}");
-    assert!(rt; put.as_slice() == output.as_bytes(), "{line} {length}");
-    assert!(rt; told.as_slice() == complaint.as_bytes(), "{line} {length}");
-    Ok(())
-}
+/// The command lines that read standard input.
+const LONG: &str = "\
+burr
+burr run cup cup.bpln
+burr try cup cup.bpln
+";
 
 /// Standard input of as many bytes as may be, and of one more.
 #[test]
-fn tells_an_input_that_is_too_long(rt: HostRuntime) -> Result<(), Fail> {
-    assert_transcript(&rt, EXAMPLES)?;
-    assert_length(&rt, "burr", LIMIT, (1, "refused input\n", ""))?;
-    for line in ["burr", "burr run cup cup.bpln", "burr try cup cup.bpln"] {
-        assert_length(&rt, line, LIMIT + 1, (3, "", "cannot read -\n"))?;
+fn tells_an_input_that_is_too_long(rt: HostRuntime) {
+    assert_transcript(&rt, EXAMPLES);
+    let full = end_of_length(&rt, "burr", LIMIT);
+    assert!(rt; full.is(1, "refused input\n", ""));
+    for line in LONG.lines() {
+        let end = end_of_length(&rt, line, LIMIT + 1);
+        assert_case(&rt, line, end.is(3, "", "cannot read -\n"));
     }
-    Ok(())
 }

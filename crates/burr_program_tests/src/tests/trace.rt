@@ -1,8 +1,6 @@
 //! What holds at each label of a plan text's run.
-use super::examples::EXAMPLES;
 use super::results::LIFT;
-use super::transcript::assert_transcript;
-use super::*;
+use super::transcript::{assert_examples, assert_transcript};
 
 /// A loop that is counted down, the same without an answer, and what is no run.
 const LOOPS: &str = "\
@@ -244,16 +242,12 @@ $burr trace duo t.plan
 ";
 
 #[test]
-fn tells_what_holds_at_labels(rt: HostRuntime) -> Result<(), Fail> {
-    assert_transcript(&rt, EXAMPLES)?;
-    assert_transcript(&rt, LOOPS)?;
-    Ok(())
+fn tells_what_holds_at_labels(rt: HostRuntime) {
+    assert_examples(&rt, LOOPS);
 }
 
 #[test]
-fn tells_where_a_run_stops_short(rt: HostRuntime) -> Result<(), Fail> {
-    assert_transcript(&rt, EXAMPLES)?;
-    assert_transcript(&rt, LIFT)?;
-    assert_transcript(&rt, ENDS)?;
-    Ok(())
+fn tells_where_a_run_stops_short(rt: HostRuntime) {
+    assert_examples(&rt, LIFT);
+    assert_transcript(&rt, ENDS);
 }

@@ -1,8 +1,6 @@
 //! Why plan texts are refused: the lines that are named, and what is said of them.
-use super::examples::EXAMPLES;
 use super::results::LIFT;
-use super::transcript::assert_transcript;
-use super::*;
+use super::transcript::{assert_examples, assert_transcript};
 
 /// A plan that is accepted, and faults of plan texts.
 const TEXTS: &str = "\
@@ -438,37 +436,27 @@ $burr why cup x.plan
 ";
 
 #[test]
-fn says_which_line_of_a_text_is_faulty(rt: HostRuntime) -> Result<(), Fail> {
-    assert_transcript(&rt, EXAMPLES)?;
-    assert_transcript(&rt, TEXTS)?;
-    Ok(())
+fn says_which_line_of_a_text_is_faulty(rt: HostRuntime) {
+    assert_examples(&rt, TEXTS);
 }
 
 #[test]
-fn says_what_is_wrong_with_code(rt: HostRuntime) -> Result<(), Fail> {
-    assert_transcript(&rt, EXAMPLES)?;
-    assert_transcript(&rt, CODE)?;
-    Ok(())
+fn says_what_is_wrong_with_code(rt: HostRuntime) {
+    assert_examples(&rt, CODE);
 }
 
 #[test]
-fn says_which_pieces_are_in_the_way(rt: HostRuntime) -> Result<(), Fail> {
-    assert_transcript(&rt, EXAMPLES)?;
-    assert_transcript(&rt, SPACE)?;
-    Ok(())
+fn says_which_pieces_are_in_the_way(rt: HostRuntime) {
+    assert_examples(&rt, SPACE);
 }
 
 #[test]
-fn says_what_differs_from_a_frame(rt: HostRuntime) -> Result<(), Fail> {
-    assert_transcript(&rt, EXAMPLES)?;
-    assert_transcript(&rt, FRAMES)?;
-    Ok(())
+fn says_what_differs_from_a_frame(rt: HostRuntime) {
+    assert_examples(&rt, FRAMES);
 }
 
 #[test]
-fn says_what_is_wrong_with_procedures(rt: HostRuntime) -> Result<(), Fail> {
-    assert_transcript(&rt, EXAMPLES)?;
-    assert_transcript(&rt, LIFT)?;
-    assert_transcript(&rt, CALLS)?;
-    Ok(())
+fn says_what_is_wrong_with_procedures(rt: HostRuntime) {
+    assert_examples(&rt, LIFT);
+    assert_transcript(&rt, CALLS);
 }

@@ -25,8 +25,8 @@ $burr explain refused V29 proc 0 pc 0
 ";
 
 #[test]
-fn replies_to_words(rt: HostRuntime) -> Result<(), Fail> {
-    assert_transcript(&rt, REPLIES)
+fn replies_to_words(rt: HostRuntime) {
+    assert_transcript(&rt, REPLIES);
 }
 
 /// Pairs of command lines that are answered alike.
@@ -37,41 +37,34 @@ burr explain a4=burr explain REFUSED A4 line 7
 burr explain 3=burr explain trap 3 NotFree proc 0 pc 5 after 1 steps
 ";
 
+/// Whether a pair of command lines prints something, and both the same.
+fn answers_alike<T: Abort + Files + AllocGlobal>(rt: &T, pair: &str) -> bool {
+    let (first, second) = pair.split_once('=').unwrap_or((pair, ""));
+    let end = end_of(rt, first, "");
+    let printed = end.output.text();
+    !printed.is_empty() && end.is(0, printed, "") && end.is_like(&end_of(rt, second, ""))
+}
+
 #[test]
-fn replies_to_other_words_alike(rt: HostRuntime) -> Result<(), Fail> {
-    for line in ALIKE.lines() {
-        let (first, second) = line.split_once('=').expect(&rt, "a pair is two lines");
-        let end = end_of(&rt, first, "")?;
-        let other = end_of(&rt, second, "")?;
-        assert!(rt; (end.status, other.status) == (0, 0), "{line}");
-        assert!(rt; !end.output.is_empty(), "{line}");
-        assert!(rt; end.output.as_slice() == other.output.as_slice(), "{line}");
+fn replies_to_other_words_alike(rt: HostRuntime) {
+    for pair in ALIKE.lines() {
+        assert_case(&rt, pair, answers_alike(&rt, pair));
     }
-    Ok(())
 }
 
-/// The status where words can't be had, and what is told.
-fn end_without(kind: io::ErrorKind, told: &mut Vec<u8>) -> u8 {
-    let mut complaints: WholeLines<_, 64> = WholeLines::new(Writing::new(told));
-    end_without_words(kind, &mut complaints)
-}
-
-/// Asserts the status, and the line that is told, where words can't be had.
-fn assert_without_words<T: Abort + AllocGlobal>(
-    rt: &T,
-    kind: io::ErrorKind,
-    status: u8,
-    line: &str,
-) {
-    let mut told = Vec::new(rt.alloc());
-    let got = end_without(kind, &mut told);
-    assert!(rt; got == status);
-    assert!(rt; told.as_slice() == line.as_bytes());
+/// How the program ends where words can't be had.
+fn end_without(kind: io::ErrorKind) -> End {
+    let mut end = End::new();
+    let mut complaints: WholeLines<_, 64> = WholeLines::new(Writing::new(&mut end.complaint));
+    end.status = end_without_words(kind, &mut complaints);
+    end
 }
 
 #[test]
 fn tells_that_words_cannot_be_had(rt: HostRuntime) {
-    assert_without_words(&rt, io::ErrorKind::OutOfMemory, 4, "no memory\n");
     let line = "error: a word of the command line is not UTF-8\n";
-    assert_without_words(&rt, io::ErrorKind::InvalidData, 2, line);
+    let want = end_without(io::ErrorKind::OutOfMemory);
+    assert_case(&rt, "no memory", want.is(4, "", "no memory\n"));
+    let fault = end_without(io::ErrorKind::InvalidData);
+    assert_case(&rt, line, fault.is(2, "", line));
 }
