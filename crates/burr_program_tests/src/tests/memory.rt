@@ -41,6 +41,19 @@ fn is_want<T: Files>(rt: &T, end: &End, made: Option<u64>) -> bool {
     end.is(4, "", "no memory\n") && number_of_made(rt) == made
 }
 
+/// How a call ends with ample memory. It is made a second time farther down the stack, beside the first
+/// end: calls that tell a fault need somewhat more of the stack than those that end well.
+#[inline(never)]
+fn ample_end<T: Files + AllocGlobal>(rt: &T, words: &[String], input: &str) -> End {
+    let first = end_over(rt, words, Drips::of(input));
+    let second = end_over(rt, words, Drips::of(input));
+    if second.is_like(&first) {
+        second
+    } else {
+        first
+    }
+}
+
 /// Whether a call tells want of memory while none can be had, and with each block that is given back, up
 /// to the end that it has with ample memory.
 fn is_want_told<T: Files + AllocGlobal>(
@@ -49,9 +62,9 @@ fn is_want_told<T: Files + AllocGlobal>(
     input: &str,
     blocks: &mut Vec<Vec<u8>>,
 ) -> bool {
-    // with ample memory first: then the stack has grown as far as the calls need, which it can't do
+    // with ample memory first: then the stack has grown farther than the calls need, which it can't do
     // while all memory is taken
-    let right = end_over(rt, words, Drips::of(input));
+    let right = ample_end(rt, words, input);
     let made = number_of_made(rt);
     take_all_memory(rt.alloc(), blocks);
     let mut has_wanted = false;
