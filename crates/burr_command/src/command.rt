@@ -4,11 +4,150 @@ use crate::help;
 use clap::{Arg, ArgAction, Command};
 use std::alloc::{AllocError, Global};
 
-/// The command line: the commands, help and the version.
+/// A command, with what may stand after its name.
+struct Form {
+    name: &'static str,
+    about: &'static str,
+    /// What its help says last.
+    after_help: &'static str,
+    arguments: &'static [Argument],
+}
+
+/// What may stand after a command's name: its own name, and what help says of it.
+#[derive(Clone, Copy)]
+enum Argument {
+    /// One word as it stands: one that begins with a hyphen too. It has to be given.
+    Word(&'static str, &'static str),
+    /// Such words, one or more.
+    Words(&'static str, &'static str),
+    /// The name after two hyphens, or nothing.
+    Flag(&'static str, &'static str),
+}
+
+const ASSEMBLY: Argument = Argument::Word("ASSEMBLY", "The assembly text");
+
+const TEXT: Argument = Argument::Word("TEXT", "The plan text");
+
+const PLAN: Argument = Argument::Word("PLAN", "The container");
+
+/// The command line: the commands, help and the version. Help lists the commands in this order.
 pub fn command<'a>(alloc: Global) -> Result<Command<'a>, AllocError> {
-    let with_files = with_files(alloc, without_commands(alloc))?;
-    let with_plans = with_plans(alloc, with_files)?;
-    with_texts(alloc, with_plans)?.subcommand(explain(alloc)?)
+    let command = with_commands(alloc, without_commands(alloc), file_forms())?;
+    let command = with_commands(alloc, command, plan_forms())?;
+    with_commands(alloc, command, text_forms())
+}
+
+/// The commands on one file.
+fn file_forms() -> &'static [Form] {
+    &[
+        Form {
+            name: "asm",
+            about: "Assembles a plan text into a container",
+            after_help: help::ASM,
+            arguments: &[TEXT, Argument::Word("OUT", "The container that is made")],
+        },
+        Form {
+            name: "list",
+            about: "Prints the plan text of a container",
+            after_help: help::LIST,
+            arguments: &[
+                PLAN,
+                Argument::Flag("places", "Says before each line of code where it stands"),
+            ],
+        },
+        Form {
+            name: "upgrade",
+            about: "Makes the container of version 2 of a plan",
+            after_help: help::UPGRADE,
+            arguments: &[PLAN, Argument::Word("OUT", "The container that is made")],
+        },
+    ]
+}
+
+/// The commands on an assembly and a container.
+fn plan_forms() -> &'static [Form] {
+    &[
+        Form {
+            name: "check",
+            about: "Says whether a plan is accepted",
+            after_help: help::CHECK,
+            arguments: &[ASSEMBLY, PLAN],
+        },
+        Form {
+            name: "run",
+            about: "Runs a plan that is accepted",
+            after_help: help::RUN,
+            arguments: &[ASSEMBLY, PLAN],
+        },
+        Form {
+            name: "try",
+            about: "Runs a plan on the bench, without accepting it",
+            after_help: help::TRY,
+            arguments: &[ASSEMBLY, PLAN],
+        },
+        Form {
+            name: "step",
+            about: "Goes through a plan that is accepted, step by step",
+            after_help: help::STEP,
+            arguments: &[ASSEMBLY, PLAN],
+        },
+    ]
+}
+
+/// The commands for who writes plan texts or reads what is printed.
+fn text_forms() -> &'static [Form] {
+    &[
+        Form {
+            name: "why",
+            about: "Says why a plan text is refused, and which lines are at fault",
+            after_help: help::WHY,
+            arguments: &[ASSEMBLY, TEXT],
+        },
+        Form {
+            name: "trace",
+            about: "Runs a plan text, and prints what holds at each label",
+            after_help: help::TRACE,
+            arguments: &[ASSEMBLY, TEXT],
+        },
+        Form {
+            name: "frames",
+            about: "Fills in frames that a plan text leaves out",
+            after_help: help::FRAMES,
+            arguments: &[
+                ASSEMBLY,
+                Argument::Word("TEXT", "The plan text, with lines `auto`"),
+                Argument::Word("OUT", "The plan text that is made"),
+            ],
+        },
+        Form {
+            name: "plan",
+            about: "Makes a plan text from a sheet of moves",
+            after_help: help::PLAN,
+            arguments: &[
+                ASSEMBLY,
+                Argument::Word("SHEET", "The sheet"),
+                Argument::Word("OUT", "The plan text that is made"),
+            ],
+        },
+        Form {
+            name: "explain",
+            about: "Says what a refusal, a trap or another line means",
+            after_help: help::EXPLAIN,
+            arguments: &[Argument::Words("LINE", "A word or a line that was printed")],
+        },
+    ]
+}
+
+/// A command line with commands of these forms after its own.
+fn with_commands<'a>(
+    alloc: Global,
+    mut command: Command<'a>,
+    forms: &'static [Form],
+) -> Result<Command<'a>, AllocError> {
+    for form in forms {
+        command = command.subcommand(form.command(alloc)?)?;
+    }
+    Ok(command)
 }
 
 /// The command line without its commands.
@@ -20,164 +159,34 @@ fn without_commands<'a>(alloc: Global) -> Command<'a> {
         .after_help(help::OVERVIEW)
 }
 
-/// A command line with the commands on a file after its own.
-fn with_files<'a>(alloc: Global, command: Command<'a>) -> Result<Command<'a>, AllocError> {
-    command
-        .subcommand(asm(alloc)?)?
-        .subcommand(list(alloc)?)?
-        .subcommand(upgrade(alloc)?)
+impl Form {
+    /// The command of this form.
+    fn command<'a>(&self, alloc: Global) -> Result<Command<'a>, AllocError> {
+        let mut command = Command::new(alloc, self.name)
+            .about(self.about)
+            .after_help(self.after_help);
+        for argument in self.arguments {
+            command = command.arg(argument.arg(alloc))?;
+        }
+        Ok(command)
+    }
 }
 
-/// A command line with the commands on an assembly and a plan after its own.
-fn with_plans<'a>(alloc: Global, command: Command<'a>) -> Result<Command<'a>, AllocError> {
-    command
-        .subcommand(check(alloc)?)?
-        .subcommand(run(alloc)?)?
-        .subcommand(attempt(alloc)?)?
-        .subcommand(step(alloc)?)
+impl Argument {
+    /// The argument as clap takes it.
+    fn arg<'a>(self, alloc: Global) -> Arg<'a> {
+        match self {
+            Argument::Word(name, help) => word(alloc, name, help),
+            Argument::Words(name, help) => word(alloc, name, help).num_args(1..),
+            Argument::Flag(name, help) => Arg::new(alloc, name)
+                .action(ArgAction::SetTrue)
+                .long(name)
+                .help(help),
+        }
+    }
 }
 
-/// A command line with the commands for who writes plan texts after its own.
-fn with_texts<'a>(alloc: Global, command: Command<'a>) -> Result<Command<'a>, AllocError> {
-    command
-        .subcommand(why(alloc)?)?
-        .subcommand(trace(alloc)?)?
-        .subcommand(frames(alloc)?)?
-        .subcommand(plan(alloc)?)
-}
-
-/// The command `asm`.
-fn asm<'a>(alloc: Global) -> Result<Command<'a>, AllocError> {
-    Command::new(alloc, "asm")
-        .about("Assembles a plan text into a container")
-        .after_help(help::ASM)
-        .arg(word(alloc, "TEXT", "The plan text"))?
-        .arg(word(alloc, "OUT", "The container that is made"))
-}
-
-/// The command `list`.
-fn list<'a>(alloc: Global) -> Result<Command<'a>, AllocError> {
-    Command::new(alloc, "list")
-        .about("Prints the plan text of a container")
-        .after_help(help::LIST)
-        .arg(word(alloc, "PLAN", "The container"))?
-        .arg(places(alloc))
-}
-
-/// The command `upgrade`.
-fn upgrade<'a>(alloc: Global) -> Result<Command<'a>, AllocError> {
-    Command::new(alloc, "upgrade")
-        .about("Makes the container of version 2 of a plan")
-        .after_help(help::UPGRADE)
-        .arg(word(alloc, "PLAN", "The container"))?
-        .arg(word(alloc, "OUT", "The container that is made"))
-}
-
-/// The flag `--places`.
-fn places<'a>(alloc: Global) -> Arg<'a> {
-    Arg::new(alloc, "places")
-        .action(ArgAction::SetTrue)
-        .long("places")
-        .help("Says before each line of code where it stands")
-}
-
-/// The command `check`.
-fn check<'a>(alloc: Global) -> Result<Command<'a>, AllocError> {
-    on_plan(
-        alloc,
-        "check",
-        "Says whether a plan is accepted",
-        help::CHECK,
-    )
-}
-
-/// The command `run`.
-fn run<'a>(alloc: Global) -> Result<Command<'a>, AllocError> {
-    on_plan(alloc, "run", "Runs a plan that is accepted", help::RUN)
-}
-
-/// The command `try`.
-fn attempt<'a>(alloc: Global) -> Result<Command<'a>, AllocError> {
-    let about = "Runs a plan on the bench, without accepting it";
-    on_plan(alloc, "try", about, help::TRY)
-}
-
-/// The command `step`.
-fn step<'a>(alloc: Global) -> Result<Command<'a>, AllocError> {
-    let about = "Goes through a plan that is accepted, step by step";
-    on_plan(alloc, "step", about, help::STEP)
-}
-
-/// A command on an assembly and a plan.
-fn on_plan<'a>(
-    alloc: Global,
-    name: &'a str,
-    about: &'a str,
-    example: &'a str,
-) -> Result<Command<'a>, AllocError> {
-    Command::new(alloc, name)
-        .about(about)
-        .after_help(example)
-        .arg(word(alloc, "ASSEMBLY", "The assembly text"))?
-        .arg(word(alloc, "PLAN", "The container"))
-}
-
-/// The command `why`.
-fn why<'a>(alloc: Global) -> Result<Command<'a>, AllocError> {
-    let about = "Says why a plan text is refused, and which lines are at fault";
-    on_text(alloc, "why", about, help::WHY)
-}
-
-/// The command `trace`.
-fn trace<'a>(alloc: Global) -> Result<Command<'a>, AllocError> {
-    let about = "Runs a plan text, and prints what holds at each label";
-    on_text(alloc, "trace", about, help::TRACE)
-}
-
-/// A command on an assembly and a plan text.
-fn on_text<'a>(
-    alloc: Global,
-    name: &'a str,
-    about: &'a str,
-    example: &'a str,
-) -> Result<Command<'a>, AllocError> {
-    Command::new(alloc, name)
-        .about(about)
-        .after_help(example)
-        .arg(word(alloc, "ASSEMBLY", "The assembly text"))?
-        .arg(word(alloc, "TEXT", "The plan text"))
-}
-
-/// The command `frames`.
-fn frames<'a>(alloc: Global) -> Result<Command<'a>, AllocError> {
-    Command::new(alloc, "frames")
-        .about("Fills in frames that a plan text leaves out")
-        .after_help(help::FRAMES)
-        .arg(word(alloc, "ASSEMBLY", "The assembly text"))?
-        .arg(word(alloc, "TEXT", "The plan text, with lines `auto`"))?
-        .arg(word(alloc, "OUT", "The plan text that is made"))
-}
-
-/// The command `plan`.
-fn plan<'a>(alloc: Global) -> Result<Command<'a>, AllocError> {
-    Command::new(alloc, "plan")
-        .about("Makes a plan text from a sheet of moves")
-        .after_help(help::PLAN)
-        .arg(word(alloc, "ASSEMBLY", "The assembly text"))?
-        .arg(word(alloc, "SHEET", "The sheet"))?
-        .arg(word(alloc, "OUT", "The plan text that is made"))
-}
-
-/// The command `explain`.
-fn explain<'a>(alloc: Global) -> Result<Command<'a>, AllocError> {
-    let line = word(alloc, "LINE", "A word or a line that was printed").num_args(1..);
-    Command::new(alloc, "explain")
-        .about("Says what a refusal, a trap or another line means")
-        .after_help(help::EXPLAIN)
-        .arg(line)
-}
-
-/// A word that has to be given, as it stands: one that begins with a hyphen too.
+/// A word that has to be given, as it stands.
 fn word<'a>(alloc: Global, name: &'a str, help: &'a str) -> Arg<'a> {
     Arg::new(alloc, name)
         .required(true)

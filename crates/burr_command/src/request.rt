@@ -3,7 +3,7 @@
 use crate::command::command;
 use crate::job::{Job, PlanTask, TextTask};
 use clap::error::ErrorKind;
-use clap::{ArgMatches, Error};
+use clap::{ArgMatches, Command, Error};
 use std::alloc::{AllocError, Global};
 
 /// A text that is the reply to words.
@@ -26,25 +26,33 @@ pub enum Request<'a> {
 /// with them. An error is a want of memory.
 pub fn request_of<'a>(alloc: Global, words: &'a [String]) -> Result<Request<'a>, AllocError> {
     let mut command = command(alloc)?;
-    let error = match command.try_get_matches_from_mut(words) {
+    match command.try_get_matches_from_mut(words) {
         Ok(matches) => match job_of(alloc, &matches)? {
-            Some(job) => return Ok(Request::Job(job)),
-            None => command.error(ErrorKind::UnknownArgument, "unexpected argument '--' found")?,
+            Some(job) => Ok(Request::Job(job)),
+            None => refusal_of_hyphens(alloc, command),
         },
-        Err(error) => error,
-    };
-    Ok(Request::Reply(reply_of(alloc, &error)?))
+        Err(error) => reply_of(alloc, &error),
+    }
+}
+
+/// The reply to words that have no command, but two hyphens that end the options.
+fn refusal_of_hyphens<'a>(
+    alloc: Global,
+    mut command: Command<'_>,
+) -> Result<Request<'a>, AllocError> {
+    let error = command.error(ErrorKind::UnknownArgument, "unexpected argument '--' found")?;
+    reply_of(alloc, &error)
 }
 
 /// The text of what clap answers to words that it does not take.
-fn reply_of(alloc: Global, error: &Error) -> Result<Reply, AllocError> {
+fn reply_of<'a>(alloc: Global, error: &Error) -> Result<Request<'a>, AllocError> {
     if error.kind() == ErrorKind::OutOfMemory {
         return Err(AllocError);
     }
-    Ok(Reply {
+    Ok(Request::Reply(Reply {
         text: format!(in alloc; "{error}")?,
         is_fault: error.use_stderr(),
-    })
+    }))
 }
 
 /// The job of words that clap takes; None where no command is among them.
@@ -86,43 +94,57 @@ fn file_job<'a>(name: &str, words: &ArgMatches<'a>) -> Option<Job<'a>> {
             plan: words.get_str("PLAN")?,
             out: words.get_str("OUT")?,
         }),
-        "check" => plan_job(PlanTask::Check, words),
-        "run" => plan_job(PlanTask::Run, words),
-        "try" => plan_job(PlanTask::Try, words),
-        "why" => text_job(TextTask::Why, words),
-        "trace" => text_job(TextTask::Trace, words),
-        "plan" => Some(Job::PlanSheet {
-            assembly: words.get_str("ASSEMBLY")?,
-            sheet: words.get_str("SHEET")?,
-            out: words.get_str("OUT")?,
+        _ => assembly_job(name, words.get_str("ASSEMBLY")?, words),
+    }
+}
+
+/// The job of a command on an assembly and another file.
+fn assembly_job<'a>(name: &str, assembly: &'a str, words: &ArgMatches<'a>) -> Option<Job<'a>> {
+    match name {
+        "check" => plan_job(PlanTask::Check, assembly, words),
+        "run" => plan_job(PlanTask::Run, assembly, words),
+        "try" => plan_job(PlanTask::Try, assembly, words),
+        "step" => Some(Job::Step {
+            assembly,
+            plan: words.get_str("PLAN")?,
         }),
+        _ => making_job(name, assembly, words),
+    }
+}
+
+/// The job of a command for who writes plan texts.
+fn making_job<'a>(name: &str, assembly: &'a str, words: &ArgMatches<'a>) -> Option<Job<'a>> {
+    match name {
+        "why" => text_job(TextTask::Why, assembly, words),
+        "trace" => text_job(TextTask::Trace, assembly, words),
         "frames" => Some(Job::Frames {
-            assembly: words.get_str("ASSEMBLY")?,
+            assembly,
             text: words.get_str("TEXT")?,
             out: words.get_str("OUT")?,
         }),
-        "step" => Some(Job::Step {
-            assembly: words.get_str("ASSEMBLY")?,
-            plan: words.get_str("PLAN")?,
+        "plan" => Some(Job::PlanSheet {
+            assembly,
+            sheet: words.get_str("SHEET")?,
+            out: words.get_str("OUT")?,
         }),
         _ => None,
     }
 }
 
 /// The job of a command on a plan and an assembly.
-fn plan_job<'a>(task: PlanTask, words: &ArgMatches<'a>) -> Option<Job<'a>> {
+fn plan_job<'a>(task: PlanTask, assembly: &'a str, words: &ArgMatches<'a>) -> Option<Job<'a>> {
     Some(Job::Plan {
         task,
-        assembly: words.get_str("ASSEMBLY")?,
+        assembly,
         plan: words.get_str("PLAN")?,
     })
 }
 
 /// The job of a command on a plan text and an assembly.
-fn text_job<'a>(task: TextTask, words: &ArgMatches<'a>) -> Option<Job<'a>> {
+fn text_job<'a>(task: TextTask, assembly: &'a str, words: &ArgMatches<'a>) -> Option<Job<'a>> {
     Some(Job::Text {
         task,
-        assembly: words.get_str("ASSEMBLY")?,
+        assembly,
         text: words.get_str("TEXT")?,
     })
 }
