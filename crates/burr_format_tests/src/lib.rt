@@ -21,6 +21,4 @@ mod inputs;
 #[cfg(test)]
 mod memory;
 #[cfg(test)]
-mod random;
-#[cfg(test)]
 mod tables;

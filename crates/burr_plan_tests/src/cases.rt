@@ -77,12 +77,6 @@ fn reads_from_sources_that_fail(rt: HostRuntime) {
 }
 
 #[test]
-fn checks_and_runs_without_memory(rt: HostRuntime) {
-    assert_tables(&rt, rt.alloc(), How::Poorly, Kind::Check, LIFT_CHECKS);
-    assert_tables(&rt, rt.alloc(), How::Poorly, Kind::Run, LIFT_RUNS);
-}
-
-#[test]
 fn tells_a_want_of_memory(rt: HostRuntime) {
     assert_tables(&rt, rt.alloc(), How::Wanting, Kind::Bare, APART);
     assert_tables(&rt, rt.alloc(), How::Wanting, Kind::Bare, FULL);

@@ -1,17 +1,16 @@
 //! What is put by the bench and by checks and runs of plans, and how that ends, in a word.
-use crate::calls::{assembly_of, cells_of, container_of, tables_of};
+use crate::calls::{assembly_of, cells_of, container_of};
 use crate::sources::input_of;
 use crate::tables::{Kind, Table};
 use crate::texts::{bytes_of, edited, lines_of};
-use crate::want::memory_taken;
-use burr_blocking::{Blocking, CellTables};
+use burr_blocking::Blocking;
 use burr_container::Container;
 use burr_io::{Reading, Writing};
 use burr_runs::{BenchFault, Outcome, bench_text, check, read_answers, run_plan};
 use burr_testing::Narrow;
 use burr_verify::{Accepted, accept};
 use std::alloc::Global;
-use std::io::{Cursor, ErrorKind, Read, Write};
+use std::io::{ErrorKind, Read, Write};
 use std::process::Abort;
 
 /// How a run ended, in a word.
@@ -195,42 +194,4 @@ fn puts_front(
 ) -> bool {
     let mut writer = Narrow::new(alloc, front.len(), fault);
     put(rt, alloc, table, given, &mut writer) == end && writer.taken.as_slice() == front
-}
-
-/// Whether a case puts this while no memory can be had, where all that it works on was made before.
-pub fn puts_poorly(
-    rt: &impl Abort,
-    alloc: Global,
-    table: &Table,
-    given: &str,
-    wanted: &str,
-) -> bool {
-    let bytes = plan_of(rt, alloc, table, given);
-    let answers = answers_of(rt, alloc, table.kind, given);
-    let assembly = assembly_of(rt, alloc, table.assembly);
-    let tables = tables_of(rt, alloc, &assembly);
-    let container = container_of(rt, &bytes);
-    let mut sink = Vec::new(alloc);
-    // with ample memory first: then the stack has grown as far as the calls need, which it can't do
-    // while all memory is taken
-    put_judged(table.kind, &container, &tables, &answers, &mut sink);
-    let _taken = memory_taken(rt, alloc);
-    puts_in_place(rt, table.kind, &container, &tables, &answers, wanted)
-}
-
-/// Whether a plan puts this, after the word for its end, in a place of 128 bytes.
-fn puts_in_place(
-    rt: &impl Abort,
-    kind: Kind,
-    container: &Container<'_>,
-    tables: &CellTables<'_>,
-    answers: &[i32],
-    wanted: &str,
-) -> bool {
-    let (end, text) = wanted.split_once(" | ").expect(rt, "a text");
-    let mut room = [0; 128];
-    let mut written = Cursor::new(room.as_mut_slice());
-    let word = put_judged(kind, container, tables, answers, &mut written);
-    let count = written.position() as usize;
-    word == end && room.get(..count) == Some(text.as_bytes())
 }

@@ -5,7 +5,7 @@ use crate::assemblies::assembly_named;
 use crate::calls::{assembly_of, upgraded};
 use crate::machine::said_of_both;
 use crate::plans::plan_named;
-use crate::puts::{plan_of, puts, puts_fronts, puts_poorly};
+use crate::puts::{plan_of, puts, puts_fronts};
 use crate::sources::reads_portions;
 use crate::texts::lines_of;
 use crate::verdicts::said_of_judge;
@@ -60,8 +60,6 @@ pub enum How {
     InFronts,
     /// With sources that give a byte a call, and fail.
     InPortions,
-    /// While no memory can be had, where what is put needs none.
-    Poorly,
     /// While memory is wanting here and there.
     Wanting,
 }
@@ -106,7 +104,6 @@ fn assert_case(rt: &impl Abort, alloc: Global, how: How, table: &Table, line: &s
         How::Plainly => comes_to(rt, alloc, table, given, &wanted),
         How::InFronts => puts_fronts(rt, alloc, table, given, &wanted),
         How::InPortions => reads_portions(rt, alloc, table, given, &wanted),
-        How::Poorly => puts_poorly(rt, alloc, table, given, &wanted),
         How::Wanting => wants_memory(rt, alloc, table, given, &wanted),
     };
     assert!(rt; is_right, "{line}");

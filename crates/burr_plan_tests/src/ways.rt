@@ -2,11 +2,10 @@
 ghost use Rattle.std.specs.Prelude.{IfSome};
 ghost use Rattle.burr_voxels.specs.Near.{IsWithin};
 
-use crate::assemblies::{COMBS, RODS, ROWS, STAIRS, TWINS};
 use crate::calls::{assembly_of, cells_of, rows_of, tables_of};
 use burr_assembly::Assembly;
 use burr_blocking::{Blocking, CellTables, PlainCells, RowTables};
-use burr_testing::assemblies::{CUP, DUO, RING};
+use burr_testing::assemblies::DUO;
 use burr_voxels::{Cell, Direction};
 use std::alloc::Global;
 use std::process::Abort;
@@ -106,93 +105,5 @@ fn assert_answers(rt: &impl Abort, ways: &Ways<'_>) {
             direction: *direction,
         };
         assert!(rt; answer_alike(rt, ways, &question) == Some(*wanted));
-    }
-}
-
-const DIRECTIONS: [Direction; 6] = [
-    Direction::PlusX,
-    Direction::MinusX,
-    Direction::PlusY,
-    Direction::MinusY,
-    Direction::PlusZ,
-    Direction::MinusZ,
-];
-
-/// A coordinate of -17 to 17.
-fn coordinate(number: u32) -> i32 {
-    (number % 35) as i32 - 17
-}
-
-/// The questions of two pieces are numbered: one without a direction and one for each, at all
-/// displacements of -17 to 17 a coordinate.
-const QUESTIONS: u32 = 7 * 35 * 35 * 35;
-
-/// The question with a number.
-fn question_of(pieces: (u8, u8), number: u32) -> Question {
-    let place = number / 7;
-    Question {
-        pieces,
-        at: (
-            coordinate(place / 1225),
-            coordinate(place / 35),
-            coordinate(place),
-        ),
-        direction: DIRECTIONS.get((number % 7) as usize).copied(),
-    }
-}
-
-/// Asserts that all ways answer alike of two pieces.
-fn assert_alike(rt: &impl Abort, ways: &Ways<'_>, pieces: (u8, u8)) {
-    for number in 0..QUESTIONS {
-        assert!(rt; answer_alike(rt, ways, &question_of(pieces, number)).is_some());
-    }
-}
-
-/// Asserts that all ways answer alike of any two pieces, in both orders.
-fn assert_all_alike(rt: &impl Abort, ways: &Ways<'_>) {
-    let count = u16::from(ways.plain.assembly().piece_count());
-    for pair in 0..count * count {
-        let pieces = ((pair / count) as u8, (pair % count) as u8);
-        if pieces.0 != pieces.1 {
-            assert_alike(rt, ways, pieces);
-        }
-    }
-}
-
-/// Asserts the same of a text of an assembly.
-fn assert_all_alike_of(rt: &impl Abort, alloc: Global, text: &str) {
-    let assembly = assembly_of(rt, alloc, text);
-    assert_all_alike(rt, &ways_of(rt, alloc, &assembly));
-}
-
-#[test]
-fn all_ways_answer_alike_for_two_pieces(rt: HostRuntime) {
-    for text in &[DUO, RING, CUP, RODS] {
-        assert_all_alike_of(&rt, rt.alloc(), text);
-    }
-}
-
-#[test]
-fn all_ways_answer_alike_for_combs_and_a_hook(rt: HostRuntime) {
-    assert_all_alike_of(&rt, rt.alloc(), COMBS);
-}
-
-#[test]
-fn all_ways_answer_alike_for_turned_stairs(rt: HostRuntime) {
-    assert_all_alike_of(&rt, rt.alloc(), STAIRS);
-}
-
-#[test]
-fn all_ways_answer_alike_for_pieces_of_one_form(rt: HostRuntime) {
-    assert_all_alike_of(&rt, rt.alloc(), TWINS);
-}
-
-/// Rows are joined eight at a time.
-#[test]
-fn all_ways_answer_alike_for_shapes_of_many_rows(rt: HostRuntime) {
-    for count in &[1, 7, 8, 9, 16] {
-        let rows = "#.#/".repeat(rt.alloc(), *count).expect(&rt, "memory");
-        let text = ROWS.replace(rt.alloc(), "?", &rows).expect(&rt, "memory");
-        assert_all_alike_of(&rt, rt.alloc(), &text);
     }
 }
