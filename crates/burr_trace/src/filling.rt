@@ -6,8 +6,8 @@ use crate::summary::Summary;
 use crate::walk::Walk;
 use burr_bench::Closing;
 use burr_blocking::Blocking;
+use burr_lines::PlanText;
 use burr_text::cut_at;
-use burr_why::PlanText;
 use std::alloc::{AllocError, Global};
 
 /// How many lines a blank frame has beside those of pieces.

@@ -9,7 +9,7 @@ use crate::walk::Walk;
 use burr_bench::Closing;
 use burr_blocking::Blocking;
 use burr_container::Container;
-use burr_why::{Place, PlanText, Shown};
+use burr_lines::{Place, PlanText, Shown};
 use std::alloc::{AllocError, Global};
 
 /// What holds whenever the run of a plan, with these answers, comes to a label: where the text names
