@@ -1,13 +1,11 @@
 //! Frames that are read off a run, in place of lines `auto`.
 
-use crate::following::{Prepared, follow};
+use crate::following::Prepared;
 use crate::seen::Seen;
 use crate::summary::Summary;
-use crate::walk::Walk;
-use burr_bench::Closing;
 use burr_blocking::Blocking;
+use burr_lines::PlanText;
 use burr_text::cut_at;
-use burr_why::PlanText;
 use std::alloc::{AllocError, Global};
 
 /// How many lines a blank frame has beside those of pieces.
@@ -37,11 +35,12 @@ pub enum Filled {
 impl Unframed<'_> {
     /// The text, with a frame that says nothing in place of each line `auto`.
     pub fn with_blank_frames(&self, alloc: Global) -> Result<Vec<u8>, AllocError> {
+        let frame = self.blank_frame(alloc)?;
         let mut made = Vec::new(alloc);
         let mut rest = self.text;
         while let Some((line, more)) = cut_at(rest, b'\n') {
             if is_auto(line) {
-                self.add_blank_frame(alloc, &mut made)?;
+                made.extend_from_slice(frame.as_bytes())?;
             } else {
                 add_line(line, &mut made)?;
             }
@@ -51,14 +50,14 @@ impl Unframed<'_> {
         Ok(made)
     }
 
-    /// Adds a frame that says nothing.
-    fn add_blank_frame(&self, alloc: Global, made: &mut Vec<u8>) -> Result<(), AllocError> {
-        made.extend_from_slice(b"frame 0 -\ncost 0\n")?;
+    /// The lines of a frame that says nothing.
+    fn blank_frame(&self, alloc: Global) -> Result<String, AllocError> {
+        let mut frame = String::new(alloc);
+        frame.push_str("frame 0 -\ncost 0\n")?;
         for piece in 0..self.pieces {
-            let line = format!(in alloc; "at {piece} apart\n")?;
-            made.extend_from_slice(line.as_bytes())?;
+            writeln!(frame, "at {piece} apart")?;
         }
-        Ok(())
+        Ok(frame)
     }
 
     /// The number of a line of the text with blank frames, in the text itself.
@@ -94,13 +93,10 @@ impl Unframed<'_> {
     ) -> Result<Filled, AllocError> {
         let prepared = Prepared::of(alloc, plan, blocking, answers)?;
         let mut summary = Summary::new(alloc, &prepared)?;
-        let Some(mut walk) = Walk::start(plan.container, blocking, answers) else {
-            return Ok(Filled::Unended);
-        };
-        if follow(&mut walk, &prepared.labels, &mut summary)? != Closing::Apart {
-            return Ok(Filled::Unended);
+        if summary.see_run(plan.container, &prepared.labels, blocking, answers)? {
+            return self.with_frames(alloc, summary.seen());
         }
-        self.with_frames(alloc, summary.seen())
+        Ok(Filled::Unended)
     }
 
     /// The text, with the frames of what was seen at each label in place of lines `auto`.

@@ -62,23 +62,28 @@ impl Slopes {
     fn see(&mut self, grown: i64, slots: &Slots, first: &Slots) {
         let mut left = grown;
         let mut changed = None;
-        for ((slope, now), then) in self.slopes.iter_mut().zip(slots).zip(first) {
-            let moved = now.unwrap_or(0).saturating_sub(then.unwrap_or(0));
+        for v in 0..SLOTS {
+            let moved = slots[v].unwrap_or(0).saturating_sub(first[v].unwrap_or(0));
             if moved != 0 {
-                match *slope {
+                match self.slopes[v] {
                     Some(known) => left = left.saturating_sub(known.saturating_mul(moved)),
-                    None if changed.is_none() => changed = Some((slope, moved)),
+                    None if changed.is_none() => changed = Some((v, moved)),
                     None => self.broken = true,
                 }
             }
         }
         match changed {
-            Some((slope, moved)) => match exact_quotient(left, moved) {
-                Some(found) => *slope = Some(found),
-                None => self.broken = true,
-            },
+            Some((v, moved)) => self.settle(v, exact_quotient(left, moved)),
             None if left != 0 => self.broken = true,
             None => {}
+        }
+    }
+
+    /// Takes a slot's slope that was found; none where there is none.
+    fn settle(&mut self, slot: usize, found: Option<i64>) {
+        match (self.slopes.get_mut(slot), found) {
+            (Some(slope), Some(_)) => *slope = found,
+            _ => self.broken = true,
         }
     }
 }
@@ -111,9 +116,9 @@ impl Fit {
         self.least = self.least.min(number);
         self.greatest = self.greatest.max(number);
         let grown = number.saturating_sub(self.first);
-        for ((slope, now), then) in self.alone.iter_mut().zip(slots).zip(first) {
-            *slope = match (now, then) {
-                (Some(now), Some(then)) => slope.with(now.saturating_sub(*then), grown),
+        for v in 0..SLOTS {
+            self.alone[v] = match (slots[v], first[v]) {
+                (Some(now), Some(then)) => self.alone[v].with(now.saturating_sub(then), grown),
                 _ => Slope::Broken,
             };
         }
@@ -135,9 +140,9 @@ impl Fit {
     /// The factors where one slot alone gives the number.
     fn lone_slope(&self) -> Option<[i64; SLOTS]> {
         let mut factors = [0; SLOTS];
-        for (factor, slope) in factors.iter_mut().zip(&self.alone) {
-            if let Slope::Known(known) = slope {
-                *factor = *known;
+        for v in 0..SLOTS {
+            if let Slope::Known(known) = self.alone[v] {
+                factors[v] = known;
                 return Some(factors);
             }
         }
@@ -150,9 +155,9 @@ impl Fit {
             return None;
         }
         let mut factors = [0; SLOTS];
-        for ((factor, slope), live) in factors.iter_mut().zip(&self.together.slopes).zip(live) {
-            *factor = slope.unwrap_or(0);
-            if *factor != 0 && !*live {
+        for v in 0..SLOTS {
+            factors[v] = self.together.slopes[v].unwrap_or(0);
+            if factors[v] != 0 && !live[v] {
                 return None;
             }
         }
@@ -187,8 +192,8 @@ impl Form {
     /// The form with these factors that gives this number where the slots hold these.
     fn through(number: i64, factors: [i64; SLOTS], slots: &Slots) -> Form {
         let mut constant = number;
-        for (factor, slot) in factors.iter().zip(slots) {
-            constant = constant.saturating_sub(factor.saturating_mul(slot.unwrap_or(0)));
+        for v in 0..SLOTS {
+            constant = constant.saturating_sub(factors[v].saturating_mul(slots[v].unwrap_or(0)));
         }
         Form { constant, factors }
     }
@@ -200,11 +205,9 @@ impl fmt::Display for Form {
         write!(f, "{constant}")?;
         for (slot, factor) in self.factors.iter().enumerate() {
             let factor = *factor;
-            if factor < 0 {
-                write!(f, "{factor}v{slot}")?;
-            }
-            if 0 < factor {
-                write!(f, "+{factor}v{slot}")?;
+            let sign = if 0 < factor { "+" } else { "" };
+            if factor != 0 {
+                write!(f, "{sign}{factor}v{slot}")?;
             }
         }
         Ok(())

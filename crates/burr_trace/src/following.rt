@@ -6,7 +6,7 @@ use crate::walk::{Turn, Walk};
 use burr_bench::Closing;
 use burr_blocking::Blocking;
 use burr_container::Container;
-use burr_why::{PlanLines, PlanText};
+use burr_lines::{PlanLines, PlanText};
 use std::alloc::{AllocError, Global};
 
 /// Who follows a run.

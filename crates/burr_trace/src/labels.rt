@@ -1,7 +1,7 @@
 //! The labels of a plan text.
 
 use burr_container::Container;
-use burr_why::{Line, Place, PlanLines};
+use burr_lines::{Line, Place, PlanLines};
 use std::alloc::{AllocError, Global};
 
 /// A label of a plan text.

@@ -1,7 +1,7 @@
 //! What was seen at a label, and the frame that all of it agrees with.
 
 use crate::fit::{Fit, Form, Live, Slots};
-use crate::frame_lines::Pieces;
+use crate::pieces::Pieces;
 use crate::snapshot::Snapshot;
 use burr_code::Placement;
 use burr_code::limits::SLOTS;
@@ -23,10 +23,13 @@ impl SeenPlace {
     fn new(place: &Placement<Cell>) -> SeenPlace {
         match place {
             Placement::Apart => SeenPlace::Apart,
-            Placement::On { tray, position } => SeenPlace::In {
-                tray: *tray,
-                offset: coordinates(*position).map(Fit::new),
-            },
+            Placement::On { tray, position } => {
+                let [x, y, z] = coordinates(*position);
+                SeenPlace::In {
+                    tray: *tray,
+                    offset: [Fit::new(x), Fit::new(y), Fit::new(z)],
+                }
+            }
         }
     }
 
@@ -37,7 +40,7 @@ impl SeenPlace {
             return;
         }
         if let (SeenPlace::In { offset, .. }, Placement::On { position, .. }) = (self, place) {
-            see_offset(offset, *position, slots, first);
+            see_each(offset, &coordinates(*position), slots, first);
         }
     }
 
@@ -51,10 +54,10 @@ impl SeenPlace {
     }
 }
 
-/// Sees how far a piece is from home.
-fn see_offset(offset: &mut [Fit; 3], position: Cell, slots: &Slots, first: &Slots) {
-    for (fit, number) in offset.iter_mut().zip(coordinates(position)) {
-        fit.see(number, slots, first);
+/// Sees some numbers, where the slots hold these, and held those when the first ones were seen.
+fn see_each(fits: &mut [Fit], numbers: &[i64], slots: &Slots, first: &Slots) {
+    for (fit, number) in fits.iter_mut().zip(numbers) {
+        fit.see(*number, slots, first);
     }
 }
 
@@ -83,23 +86,15 @@ pub struct Seen {
 impl Seen {
     /// A label that was come to once.
     pub fn new(alloc: Global, now: &Snapshot) -> Result<Seen, AllocError> {
-        let mut operands = Vec::new(alloc);
-        for operand in now.operands.iter() {
-            operands.push(Fit::new(*operand))?;
-        }
-        let mut places = Vec::new(alloc);
-        for place in now.places.iter() {
-            places.push(SeenPlace::new(place))?;
-        }
         Ok(Seen {
             times: 1,
             head: Some((now.tray, now.grip)),
             first: now.slots,
-            ranges: now.slots.map(|held| held.map(|number| (number, number))),
+            ranges: ranges_of(&now.slots),
             as_many: true,
-            operands,
+            operands: fits_of(alloc, now.operands.as_slice())?,
             cost: Fit::new(cost_of(now)),
-            places,
+            places: places_of(alloc, now.places.as_slice())?,
         })
     }
 
@@ -117,10 +112,10 @@ impl Seen {
 
     /// Sees what the slots hold.
     fn see_slots(&mut self, now: &Snapshot) {
-        for (range, held) in self.ranges.iter_mut().zip(&now.slots) {
-            *range = match (*range, held) {
+        for v in 0..SLOTS {
+            self.ranges[v] = match (self.ranges[v], now.slots[v]) {
                 (Some((least, greatest)), Some(number)) => {
-                    Some((least.min(*number), greatest.max(*number)))
+                    Some((least.min(number), greatest.max(number)))
                 }
                 _ => None,
             };
@@ -132,9 +127,13 @@ impl Seen {
         if self.operands.len() != now.operands.len() {
             self.as_many = false;
         }
-        for (fit, operand) in self.operands.iter_mut().zip(now.operands.iter()) {
-            fit.see(*operand, &now.slots, &self.first);
-        }
+        let numbers = now.operands.as_slice();
+        see_each(
+            self.operands.as_mut_slice(),
+            numbers,
+            &now.slots,
+            &self.first,
+        );
     }
 
     /// Sees the pieces.
@@ -215,8 +214,28 @@ impl Seen {
     pub fn is_one_frame(&self) -> bool {
         self.head.is_some()
             && self.as_many
-            && self.operands.iter().all(|fit| self.extent(fit).is_form())
-            && self.places.iter().all(|seen| self.is_one_place(seen))
+            && self.are_forms(self.operands.as_slice())
+            && self.are_places()
+    }
+
+    /// Whether there is a form of each of some numbers.
+    fn are_forms(&self, fits: &[Fit]) -> bool {
+        for fit in fits {
+            if !self.extent(fit).is_form() {
+                return false;
+            }
+        }
+        true
+    }
+
+    /// Whether the line of each piece is one of a frame.
+    fn are_places(&self) -> bool {
+        for seen in &self.places {
+            if !self.is_one_place(seen) {
+                return false;
+            }
+        }
+        true
     }
 
     /// Whether the line of a piece is one of a frame.
@@ -224,7 +243,7 @@ impl Seen {
         match seen {
             SeenPlace::Apart => true,
             SeenPlace::Various => false,
-            SeenPlace::In { offset, .. } => offset.iter().all(|fit| self.extent(fit).is_form()),
+            SeenPlace::In { offset, .. } => self.are_forms(offset),
         }
     }
 
@@ -255,7 +274,11 @@ impl Seen {
 
     /// Which slots always held a number.
     fn live(&self) -> Live {
-        self.ranges.map(|range| range.is_some())
+        let mut live = [false; SLOTS];
+        for v in 0..SLOTS {
+            live[v] = self.ranges[v].is_some();
+        }
+        live
     }
 
     /// A number that was seen at the label, as a form where there is one.
@@ -268,6 +291,35 @@ impl Seen {
             }
         }
     }
+}
+
+/// The ranges of slots that were seen once.
+fn ranges_of(slots: &Slots) -> [Option<(i64, i64)>; SLOTS] {
+    let mut ranges = [None; SLOTS];
+    for v in 0..SLOTS {
+        if let Some(number) = slots[v] {
+            ranges[v] = Some((number, number));
+        }
+    }
+    ranges
+}
+
+/// Numbers that were seen once.
+fn fits_of(alloc: Global, numbers: &[i64]) -> Result<Vec<Fit>, AllocError> {
+    let mut fits = Vec::new(alloc);
+    for number in numbers {
+        fits.push(Fit::new(*number))?;
+    }
+    Ok(fits)
+}
+
+/// Pieces that were seen once.
+fn places_of(alloc: Global, places: &[Placement<Cell>]) -> Result<Vec<SeenPlace>, AllocError> {
+    let mut seen = Vec::new(alloc);
+    for place in places {
+        seen.push(SeenPlace::new(place))?;
+    }
+    Ok(seen)
 }
 
 /// The cost of a snapshot.

@@ -45,7 +45,9 @@ impl Snapshot {
 fn slots_of<B: Blocking>(bench: &Checked<'_, B>) -> [Option<i64>; SLOTS] {
     let mut slots = [None; SLOTS];
     for slot in 0..8 {
-        slots[usize::from(slot)] = bench.slot(slot).map(i64::from);
+        if let Some(number) = bench.slot(slot) {
+            slots[usize::from(slot)] = Some(i64::from(number));
+        }
     }
     slots
 }

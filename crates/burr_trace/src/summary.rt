@@ -1,11 +1,14 @@
 //! What was seen at each label.
 
 use crate::costs::Costs;
-use crate::following::{Observer, Prepared};
+use crate::following::{Observer, Prepared, follow};
+use crate::labels::Labels;
 use crate::seen::Seen;
 use crate::snapshot::Snapshot;
 use crate::walk::Walk;
+use burr_bench::Closing;
 use burr_blocking::Blocking;
+use burr_container::Container;
 use std::alloc::{AllocError, Global};
 
 /// What was seen at each label of a run so far.
@@ -32,6 +35,20 @@ impl<'x> Summary<'x> {
             arrivals: 0,
             seen,
         })
+    }
+
+    /// Sees the run with these answers, and gives whether it comes to its end, with all pieces apart.
+    pub fn see_run<B: Blocking>(
+        &mut self,
+        container: &Container<'_>,
+        labels: &Labels<'_>,
+        blocking: &B,
+        answers: &[i32],
+    ) -> Result<bool, AllocError> {
+        match Walk::start(container, blocking, answers) {
+            Some(mut walk) => Ok(follow(&mut walk, labels, self)? == Closing::Apart),
+            None => Ok(false),
+        }
     }
 
     /// What was seen at each label, in their order; none where the run did not come to it.

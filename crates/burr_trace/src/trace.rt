@@ -1,7 +1,6 @@
 //! A trace: what holds whenever a run comes to a label, and what was seen at each.
 
 use crate::following::{Observer, Prepared, follow};
-use crate::frame_lines::add_frame;
 use crate::labels::Label;
 use crate::seen::Seen;
 use crate::summary::Summary;
@@ -9,7 +8,7 @@ use crate::walk::Walk;
 use burr_bench::Closing;
 use burr_blocking::Blocking;
 use burr_container::Container;
-use burr_why::{Place, PlanText, Shown};
+use burr_lines::{Place, PlanText, Shown};
 use std::alloc::{AllocError, Global};
 
 /// What holds whenever the run of a plan, with these answers, comes to a label: where the text names
@@ -32,6 +31,7 @@ pub fn trace_of<B: Blocking>(
 /// A trace under way.
 #[derive(Drop)]
 struct Trace<'a, 'x> {
+    alloc: Global,
     file: &'x str,
     prepared: &'x Prepared<'a>,
     summary: Summary<'x>,
@@ -46,6 +46,7 @@ impl<'a, 'x> Trace<'a, 'x> {
         prepared: &'x Prepared<'a>,
     ) -> Result<Trace<'a, 'x>, AllocError> {
         Ok(Trace {
+            alloc,
             file,
             prepared,
             summary: Summary::new(alloc, prepared)?,
@@ -105,7 +106,7 @@ impl Observer for Trace<'_, '_> {
             add_label(&mut self.text, self.file, place)?;
         }
         add_arrival(&mut self.text, walk)?;
-        add_frame(&mut self.text, &now)
+        Seen::new(self.alloc, &now)?.add_frame(&mut self.text)
     }
 
     fn note_turn<B: Blocking>(&mut self, _walk: &Walk<'_, '_, B>) {}

@@ -1,13 +1,13 @@
 //! What holds at a point beside what a frame says.
 
 use crate::difference::Differences;
-use crate::group::{Group, Whereabouts, piece_name};
+use crate::group::{Group, Whereabouts};
 use crate::offset::Offset;
-use crate::part::Part;
 use crate::standing::{Standing, value};
 use burr_assembly::Assembly;
 use burr_code::Placement;
 use burr_container::{ExitRef, FrameRef};
+use burr_lines::{Part, piece_name};
 use std::alloc::AllocError;
 use std::fmt;
 

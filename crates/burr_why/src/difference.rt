@@ -1,6 +1,6 @@
 //! What a frame says, and what holds where something else does.
 
-use crate::part::Part;
+use burr_lines::Part;
 use std::alloc::{AllocError, Global};
 use std::fmt;
 

@@ -4,14 +4,6 @@ use burr_assembly::Assembly;
 use burr_code::is_in_set;
 use std::fmt;
 
-/// The name of a piece; nothing where there is no such piece.
-pub fn piece_name(assembly: &Assembly, piece: u8) -> &str {
-    if assembly.piece_count() <= piece {
-        return "";
-    }
-    assembly.piece_name(piece)
-}
-
 /// Some of an assembly's pieces: bit p is piece p.
 #[derive(Clone, Copy, Drop)]
 pub struct Group<'a> {

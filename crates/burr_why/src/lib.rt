@@ -5,18 +5,12 @@
 mod comparing;
 mod difference;
 mod group;
-mod lines;
 mod meeting;
 mod offset;
-mod part;
-mod plan_text;
 mod reasons;
 mod report;
 mod standing;
 mod why;
 
-pub use lines::{Line, PlanLines};
-pub use part::{Part, Place};
-pub use plan_text::PlanText;
-pub use report::Shown;
+pub use burr_lines::PlanText;
 pub use why::{reason_of_line, reason_of_refusal};

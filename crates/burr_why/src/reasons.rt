@@ -9,11 +9,9 @@ mod numbers;
 mod site;
 mod space;
 
-use crate::lines::PlanLines;
-use crate::part::{Part, Place};
-use crate::plan_text::PlanText;
 use crate::report::Report;
 use burr_frames::Rule;
+use burr_lines::{Part, Place, PlanLines, PlanText};
 use burr_verify::Refusal;
 use site::Site;
 use std::alloc::{AllocError, Global};

@@ -1,9 +1,8 @@
 //! Why a plan is refused, as a text.
 
-use crate::lines::numbered_line;
-use crate::plan_text::PlanText;
 use crate::reasons::Reasons;
 use crate::report::Report;
+use burr_lines::{PlanText, numbered_line};
 use burr_verify::Refusal;
 use std::alloc::{AllocError, Global};
 

@@ -1,8 +1,8 @@
 //! Code without instructions, or without an end.
 
 use super::{Reasons, Site};
-use crate::part::Place;
 use burr_frames::Rule;
+use burr_lines::Place;
 use std::alloc::AllocError;
 
 impl Reasons<'_, '_> {

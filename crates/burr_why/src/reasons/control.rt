@@ -1,11 +1,9 @@
 //! Labels, procedures, and the end of a run.
 
 use super::{Reasons, Site};
-use crate::group::piece_name;
-use crate::part::Place;
-use crate::report::Shown;
 use burr_code::Instr;
 use burr_frames::Rule;
+use burr_lines::{Place, Shown, piece_name};
 use std::alloc::AllocError;
 
 impl Reasons<'_, '_> {

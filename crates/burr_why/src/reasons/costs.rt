@@ -1,10 +1,10 @@
 //! Costs, and what is too much to be judged.
 
 use super::{Reasons, Site};
-use crate::part::{Part, Place};
 use burr_code::Instr;
 use burr_container::FrameRef;
 use burr_frames::Rule;
+use burr_lines::{Part, Place};
 use burr_verify::Refusal;
 use std::alloc::AllocError;
 

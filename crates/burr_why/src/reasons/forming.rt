@@ -2,12 +2,12 @@
 
 use super::Reasons;
 use super::frames::FramePlace;
-use crate::group::{Whereabouts, piece_name};
+use crate::group::Whereabouts;
 use crate::offset::Offset;
-use crate::part::{Part, Place};
 use crate::standing::Standing;
 use burr_code::{Placement, count_in_tray, is_in_set};
 use burr_container::FrameRef;
+use burr_lines::{Part, Place, piece_name};
 use burr_verify::Refusal;
 use std::alloc::AllocError;
 

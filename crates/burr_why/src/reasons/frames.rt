@@ -2,11 +2,10 @@
 
 use super::{Reasons, Site};
 use crate::difference::Differences;
-use crate::part::{Part, Place};
-use crate::report::Shown;
 use crate::standing::Standing;
 use burr_code::{Instr, Labels};
 use burr_frames::Rule;
+use burr_lines::{Part, Place, Shown};
 use std::alloc::AllocError;
 
 /// How many differences are told.

@@ -1,10 +1,9 @@
 //! Operands, slots and numbers.
 
 use super::{Reasons, Site};
-use crate::part::{Part, Place};
-use crate::report::Shown;
 use burr_code::Instr;
 use burr_frames::Rule;
+use burr_lines::{Part, Place, Shown};
 use std::alloc::AllocError;
 
 impl Reasons<'_, '_> {

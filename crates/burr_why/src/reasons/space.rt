@@ -1,14 +1,13 @@
 //! Pieces: which are gripped, where they lie, and which are in each other's way.
 
 use super::{Reasons, Site};
-use crate::group::{Group, Whereabouts, piece_name};
+use crate::group::{Group, Whereabouts};
 use crate::meeting::{Displaced, Meeting, common_cell, first_meeting};
 use crate::offset::Offset;
-use crate::part::{Part, Place};
-use crate::report::Shown;
 use crate::standing::Standing;
 use burr_code::{Instr, is_in_set};
 use burr_frames::Rule;
+use burr_lines::{Part, Place, Shown, piece_name};
 use burr_voxels::Direction;
 use std::alloc::AllocError;
 

@@ -146,10 +146,15 @@ impl<'a, 'c> Places<'a, 'c> {
             b"plan" | b"plan2" => Place::Plan,
             b"proc" => self.begin_procedure(),
             b"label" => self.begin_label(),
-            word => match self.part_of(word, line.operand()) {
-                Some(part) => self.frame_place(part),
-                None => self.code_place(word),
-            },
+            word => self.place_in_procedure(word, line.operand()),
+        }
+    }
+
+    /// What a line of a frame or of code says, by its first two words.
+    fn place_in_procedure(&mut self, word: &[u8], operand: &[u8]) -> Place {
+        match self.part_of(word, operand) {
+            Some(part) => self.frame_place(part),
+            None => self.code_place(word),
         }
     }
 
@@ -177,13 +182,24 @@ impl<'a, 'c> Places<'a, 'c> {
     /// What a line of a frame tells, by its first two words; none of a line of code.
     fn part_of(&mut self, word: &[u8], operand: &[u8]) -> Option<Part> {
         match word {
-            b"exit" | b"frame" => {
-                self.counts = Counts::default();
-                Some(Part::Head)
-            }
+            b"exit" | b"frame" => Some(self.begin_frame()),
             b"slot" => Some(Part::Slot(number_of(operand))),
             b"at" => Some(Part::Piece(number_of(operand))),
             b"cost" => Some(Part::Cost),
+            _ => self.counted_part(word),
+        }
+    }
+
+    /// The first line of a frame.
+    fn begin_frame(&mut self) -> Part {
+        self.counts = Counts::default();
+        Part::Head
+    }
+
+    /// What a line of a frame tells that is told by how many lines of its word stand before; none of
+    /// another line.
+    fn counted_part(&mut self, word: &[u8]) -> Option<Part> {
+        match word {
             b"result" => Some(Part::Result(counted(&mut self.counts.results))),
             b"guard" => Some(Part::Guard(counted(&mut self.counts.guards))),
             b"stack" => Some(Part::Operand(counted(&mut self.counts.operands))),

@@ -1,6 +1,5 @@
 //! A plan text beside the container that it is assembled to.
 
-use crate::group::piece_name;
 use burr_assembly::Assembly;
 use burr_code::limits::MOST_LABELS;
 use burr_code::{Instr, fetch};
@@ -90,7 +89,7 @@ impl<'a, 'c> PlanText<'a, 'c> {
 
     /// The instruction at a place of a procedure's code, and how many bytes it has; none where none
     /// stands there.
-    pub(crate) fn instruction_at(&self, procedure: usize, pc: usize) -> Option<(Instr<'c>, usize)> {
+    pub fn instruction_at(&self, procedure: usize, pc: usize) -> Option<(Instr<'c>, usize)> {
         if self.container.proc_count() <= procedure {
             return None;
         }
@@ -99,10 +98,18 @@ impl<'a, 'c> PlanText<'a, 'c> {
 
     /// Where the instruction at a place of a procedure's code ends; that place where none stands
     /// there.
-    pub(crate) fn end_of_instruction(&self, procedure: usize, pc: usize) -> usize {
+    pub fn end_of_instruction(&self, procedure: usize, pc: usize) -> usize {
         match self.instruction_at(procedure, pc) {
             Some((_, size)) => pc.saturating_add(size),
             None => pc,
         }
     }
+}
+
+/// The name of a piece; nothing where there is no such piece.
+pub fn piece_name(assembly: &Assembly, piece: u8) -> &str {
+    if assembly.piece_count() <= piece {
+        return "";
+    }
+    assembly.piece_name(piece)
 }
