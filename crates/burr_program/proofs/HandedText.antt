@@ -1,85 +1,17 @@
--- What was put on a sink of whole lines, once it is handed on.
-use Rattle.std.proofs.Common.{◌≡◌, ◌≢◌, ℕ, List, [], sym, ap, subst, ◌∙◌, inl, inr}
-use Rattle.std.specs.Prelude.{Option, None, Some, Result, Ok, Err, IfOk, IfErr, OnOk, OnErr, IsTrue, IsErr, ◌++◌}
+-- A text, or a run's output, that was put on a sink of whole lines, once it is handed on.
+use Rattle.std.proofs.Common.{◌≡◌, ◌≢◌, ℕ, List, [], sym, ap, ◌∙◌, inl, inr}
+use Rattle.std.specs.Prelude.{Option, None, Some, Result, Ok, Err, OnErr, IsTrue, IsErr, ◌++◌}
 use Rattle.std.proofs.lemmas.List.{append_assoc}
-use Rattle.std.specs.Io.KnownBytes.{Appends, append_known}
 use Rattle.burr_io.specs.Sink.{SinkView, Takes, FailsWithin, HoldsFront, Puts}
-use Rattle.burr_io.specs.WholeLines.{Lines, lines_view}
-use Rattle.burr_io.proofs.Common.Lines.{nothing_held, went, failed_late, failed_early, held_front, front_front, failed_front, put_since}
-use Rattle.burr_program.specs.declared.fault.Fault.{Fault}
-use Rattle.burr_program.specs.Faults.{line_of}
-use Rattle.burr_program.specs.declared.status.Status.{Status}
-use Rattle.burr_program.specs.Statuses.{code_of}
-use Rattle.burr_program.specs.Ends.{Taken, took, TakesText, TakesSome, FailsInText, FailsInOutput, HasNoOutcome, WritesLess, WritesOrFails, EndsEarly, IsDone}
-use Rattle.burr_program.specs.HandedOn.{HandsOnDone}
 use Rattle.burr_io.specs.Source.{SourceView}
+use Rattle.burr_io.specs.WholeLines.{Lines, lines_view}
+use Rattle.burr_io.proofs.Common.Lines.{went, failed_late, failed_early}
 use Rattle.burr_runs.specs.declared.outcome.Outcome.{Outcome}
 use Rattle.burr_runs.specs.declared.fault.BenchFault.{BenchFault}
 use Rattle.burr_runs.specs.declared.fault.BenchFault.TheVariants.{Read, TooLong, Write, Memory}
 use Rattle.burr_runs.specs.Views.BenchText.{streams, Succeeds, Fails}
-use Rattle.burr_program.specs.PlanEnds.{Ends, PutsEnd, FailsToEnd, StopsBeforeEnd}
-
--- what is printed with a status was handed on
-pub ends_handed : {S : Type 0} (sink : SinkView S) (old mid new : Lines S) (AreEnds : Ends) (done result : Result Status Fault) → old.held ≡ []
-    → HandsOnDone sink mid new done result → IfOk done (PutsEnd (lines_view sink) old mid AreEnds) → IfOk result (PutsEnd sink old.sink new.sink AreEnds)
-ends_handed sink old mid new AreEnds (Ok done) (Ok status) none (same, handed) (output, is, put) =
-    (output, subst (λ s. AreEnds output s) (sym same) is, went sink old mid new output none put handed)
-ends_handed sink old mid new AreEnds (Ok done) (Err fault) none hands put = tt
-ends_handed sink old mid new AreEnds (Err done) (Ok status) none hands put = absurd hands
-ends_handed sink old mid new AreEnds (Err done) (Err fault) none hands put = tt
-
--- or why it was not
-pub stops_handed : {S : Type 0} (sink : SinkView S) (old mid new : Lines S) (AreEnds : Ends) (done result : Result Status Fault) → old.held ≡ []
-    → HandsOnDone sink mid new done result → IfOk done (PutsEnd (lines_view sink) old mid AreEnds)
-    → IfErr done (λ fault. FailsToEnd (lines_view sink) old mid AreEnds (line_of fault))
-    → IfErr result (λ fault. StopsBeforeEnd sink old.sink new.sink AreEnds (line_of fault))
-stops_handed sink old mid new AreEnds (Ok done) (Ok status) none hands put fails = tt
-stops_handed sink old mid new AreEnds (Ok done) (Err fault) none (line, within) (output, is, put) fails =
-    let late = failed_late sink old mid new output none put within in
-    inl (line, (output, done, is, late.0, late.1))
-stops_handed sink old mid new AreEnds (Err done) (Ok status) none hands put fails = absurd hands
-stops_handed {S} sink old mid new AreEnds (Err done) (Err fault) none (same, left) put (inl (line, (output, status, is, within))) =
-    let early = failed_early sink old mid output none within in
-    let moved = subst (λ (l : Lines S). FailsInText (took (sink.taken old.sink) (sink.taken l.sink) (sink.has_failed l.sink)) output) (sym left) early in
-    inl (ap line_of same ∙ line, (output, status, is, moved.0, moved.1))
-stops_handed sink old mid new AreEnds (Err done) (Err fault) none (same, left) put (inr (line, kept)) =
-    inr (ap line_of same ∙ line, ap (λ l. l.sink) (left ∙ kept))
-
--- some text was handed on
-pub some_handed : {S : Type 0} (sink : SinkView S) (old mid new : Lines S) (done result : Result Status Fault) → old.held ≡ []
-    → HandsOnDone sink mid new done result → OnOk done (TakesSome (took ((lines_view sink).taken old) ((lines_view sink).taken mid) ((lines_view sink).has_failed mid)))
-    → OnOk result (TakesSome (took (sink.taken old.sink) (sink.taken new.sink) (sink.has_failed new.sink)))
-some_handed sink old mid new (Ok done) (Ok status) none (same, handed) (text, put) = (text, went sink old mid new text none put handed)
-some_handed sink old mid new (Ok done) (Err fault) none hands some = tt
-some_handed sink old mid new (Err done) (Ok status) none hands some = absurd hands
-some_handed sink old mid new (Err done) (Err fault) none hands some = tt
-
--- nothing was, or the sink below failed
-pub less_handed : {S : Type 0} (sink : SinkView S) (old mid new : Lines S) (done result : Result Status Fault) → old.held ≡ []
-    → HandsOnDone sink mid new done result → OnOk done (TakesSome (took ((lines_view sink).taken old) ((lines_view sink).taken mid) ((lines_view sink).has_failed mid)))
-    → OnErr done (WritesOrFails (lines_view sink) old mid)
-    → OnErr result (WritesLess (took (sink.taken old.sink) (sink.taken new.sink) (sink.has_failed new.sink)))
-less_handed sink old mid new (Ok done) (Ok status) none hands some less = tt
-less_handed sink old mid new (Ok done) (Err fault) none (line, within) (text, put) less = inr (text, failed_late sink old mid new text none put within)
-less_handed sink old mid new (Err done) (Ok status) none hands some less = absurd hands
-less_handed sink old mid new (Err done) (Err fault) none (same, left) some (inl kept) = inl (ap (λ l. sink.taken l.sink) (left ∙ kept))
-less_handed {S} sink old mid new (Err done) (Err fault) none (same, left) some (inr ((text, put), fails)) =
-    let early : FailsInText (took (sink.taken old.sink) (sink.taken mid.sink) (sink.has_failed mid.sink)) text =
-    (held_front (sink.taken old.sink) (sink.taken mid.sink) mid.held text (put_since sink old mid text none put), fails) in
-    inr (text, subst (λ (l : Lines S). FailsInText (took (sink.taken old.sink) (sink.taken l.sink) (sink.has_failed l.sink)) text) (sym left) early)
-
--- what the sink took where a fault is told
-pub early : (t : Taken) (r : Result Status Fault) → OnErr r (WritesLess t) → IfErr r (λ fault. EndsEarly t (line_of fault))
-early t (Ok status) less = tt
-early t (Err fault) less = inl less
-
--- and the status is what it was
-pub done_handed : {S : Type 0} (sink : SinkView S) (mid new : Lines S) (done result : Result Status Fault)
-    → HandsOnDone sink mid new done result → IfOk done (λ status. IsDone (code_of status)) → IfOk result (λ status. IsDone (code_of status))
-done_handed sink mid new (Ok done) (Ok status) (same, handed) is = subst (λ (s : Status). IsDone (code_of s)) (sym same) is
-done_handed sink mid new (Ok done) (Err fault) hands is = tt
-done_handed sink mid new (Err done) (Ok status) hands is = absurd hands
-done_handed sink mid new (Err done) (Err fault) hands is = tt
+use Rattle.burr_jobs.specs.JobEnds.{took}
+use Rattle.burr_program.specs.Ends.{TakesText, FailsInOutput, HasNoOutcome}
 
 -- a front of a front is one of the whole
 front_more : (old new : Option (List ℕ)) (front rest text : List ℕ) → text ≡ front ++ rest → HoldsFront old new front → HoldsFront old new text

@@ -1,6 +1,3 @@
-mod Ending
-mod Refusing
-mod FileEnding
 pub mod HandedText
 mod Notes
-mod Stepping
+mod Refusing

@@ -3,23 +3,24 @@ use Rattle.std.proofs.Common.{◌≡◌, ℕ, List, [], ap, refl, subst, sym, �
 use Rattle.std.proofs.lemmas.List.{append-nil}
 use Rattle.std.specs.Prelude.{Result, Ok, Err, IfOk, IfErr, ◌++◌}
 use Rattle.std.proofs.KnownBytes.{Appends-trans}
-use Rattle.burr_io.specs.Sink.{SinkView, Takes, FailsWithin}
+use Rattle.burr_io.specs.Sink.{SinkView, FailsWithin}
 use Rattle.burr_io.proofs.Common.Puts.{FailsWithin-more}
-use Rattle.burr_program.specs.declared.fault.Fault.{Fault}
-use Rattle.burr_program.specs.declared.status.Status.{Status}
-use Rattle.burr_program.specs.declared.status.Status.TheVariants.{Done, Refused}
+use Rattle.burr_jobs.specs.declared.fault.Fault.{Fault}
+use Rattle.burr_jobs.specs.declared.status.Status.{Status}
+use Rattle.burr_jobs.specs.declared.status.Status.TheVariants.{Done, Refused}
 use Rattle.burr_assembly.specs.Rules.Text.{Assembly}
 use Rattle.burr_command.specs.declared.job.TextTask.{TextTask}
 use Rattle.burr_command.specs.declared.job.TextTask.TheVariants.{Why, Trace}
 use Rattle.burr_runs.specs.declared.outcome.Outcome.{Outcome}
 use Rattle.burr_runs.specs.declared.outcome.Outcome.TheVariants as outcomes
 use Rattle.burr_runs.specs.declared.answers.AnswersFault.TheVariants.{Line, Memory}
-use Rattle.burr_program.specs.Faults.{line_of}
-use Rattle.burr_program.specs.PlanEnds.{Ends, PutsEnd, FailsToEnd, AssemblyEnds}
-use Rattle.burr_program.specs.Statuses.{code_of, status_of}
-use Rattle.burr_program.specs.Ends.{IsDone}
-use Rattle.burr_program.specs.NotedEnds.{plan_task_of, Begins, AddsNotes, NotedEnds}
-use Rattle.burr_program.proofs.Ending.{AreAmong}
+use Rattle.burr_jobs.specs.Faults.{line_of}
+use Rattle.burr_jobs.specs.PlanEnds.{Ends, PutsEnd, FailsToEnd, AssemblyEnds}
+use Rattle.burr_jobs.specs.Statuses.{code_of, status_of}
+use Rattle.burr_jobs.specs.JobEnds.{IsDone}
+use Rattle.burr_jobs.specs.AddedNotes.{AddsNotes}
+use Rattle.burr_program.specs.NotedEnds.{plan_task_of, Begins, NotedEnds}
+use Rattle.burr_jobs.proofs.Common.Stages.{AreAmong}
 
 -- what may be printed first at one stage may be at the other
 pub begins_among : (These Those : Ends) → AreAmong These Those → AreAmong (Begins These) (Begins Those)

@@ -1,17 +1,17 @@
 -- How what is done where no plan text is made ends: with a status of what is done, or with a fault.
-use Rattle.std.proofs.Common.{◌≡◌, ℕ, List, [], inl, inr, sym, subst}
-use Rattle.std.proofs.KnownBytes.{Appends-nil}
-use Rattle.std.specs.Prelude.{Result, Ok, Err, IfOk, IfErr, OnOk, OnErr}
+use Rattle.std.proofs.Common.{ℕ, List}
+use Rattle.std.specs.Prelude.{Result, Ok, Err, IfOk, IfErr}
 use Rattle.burr_io.specs.Sink.{SinkView}
-use Rattle.burr_program.specs.declared.fault.Fault.{Fault}
-use Rattle.burr_program.specs.declared.status.Status.{Status}
-use Rattle.burr_program.specs.Ends.{IsDone}
-use Rattle.burr_program.specs.Faults.{line_of}
+use Rattle.burr_jobs.specs.declared.fault.Fault.{Fault}
+use Rattle.burr_jobs.specs.declared.status.Status.{Status}
+use Rattle.burr_jobs.specs.JobEnds.{IsDone}
+use Rattle.burr_jobs.specs.Faults.{line_of}
 use Rattle.burr_program.specs.MakingEnds.{EndsSomehow}
-use Rattle.burr_program.specs.NotedEnds.{Begins, AddsNotes}
-use Rattle.burr_program.specs.PlanEnds.{Ends, IsRefusal, PutsEnd, FailsToEnd}
-use Rattle.burr_program.specs.Statuses.{code_of}
-use Rattle.burr_program.proofs.FileEnding.{ends_take_some, stops_write}
+use Rattle.burr_jobs.specs.AddedNotes.{AddsNotes}
+use Rattle.burr_program.specs.NotedEnds.{Begins}
+use Rattle.burr_jobs.specs.PlanEnds.{Ends, IsRefusal, PutsEnd, FailsToEnd}
+use Rattle.burr_jobs.specs.Statuses.{code_of}
+use Rattle.burr_jobs.proofs.Common.Sinks.{ends_take_some, stops_write}
 use Rattle.burr_program.proofs.Notes.{notes_put, notes_fail, refused_is_done}
 
 -- where each end has a status of what is done

@@ -1,10 +1,3 @@
 pub mod Ends
-pub mod Faults
-pub mod FileEnds
-pub mod HandedOn
 pub mod MakingEnds
 pub mod NotedEnds
-pub mod PlanEnds
-pub mod Refusals
-pub mod Statuses
-pub mod StepEnds

@@ -4,12 +4,12 @@ use Rattle.std.specs.Prelude.{◌≡◌, ⊤, ℕ, List, Result, IfOk, OnOk, OnE
 use Rattle.burr_io.specs.Sink.{SinkView}
 use Rattle.burr_assembly.specs.Rules.Text.{Assembly, IsText}
 use Rattle.burr_from_sheet.specs.SheetPlans.{IsPlanOfSheet}
-use Rattle.burr_program.specs.declared.fault.Fault.{Fault}
+use Rattle.burr_jobs.specs.declared.fault.Fault.{Fault}
 use Rattle.burr_program.specs.declared.making.Made.{Made}
 use Rattle.burr_program.specs.declared.making.Made.TheVariants as made
-use Rattle.burr_program.specs.declared.status.Status.{Status}
-use Rattle.burr_program.specs.Ends.{took, TakesSome, WritesOrFails, IsDone}
-use Rattle.burr_program.specs.Statuses.{code_of}
+use Rattle.burr_jobs.specs.declared.status.Status.{Status}
+use Rattle.burr_jobs.specs.JobEnds.{took, TakesSome, WritesOrFails, IsDone}
+use Rattle.burr_jobs.specs.Statuses.{code_of}
 
 -- it ended with a status of what is done, and some text was put; or with a fault, and nothing was put
 -- or the sink failed

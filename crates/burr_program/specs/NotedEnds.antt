@@ -1,7 +1,6 @@
 -- How `why` and `trace` end: what they print begins with the line that `asm` prints of the plan text,
 -- or with what `check` or `try` prints of the container.
-use Rattle.std.specs.Prelude.{◌≡◌, ◌⊎◌, ◌++◌, ℕ, List, [], Result, Ok, Err}
-use Rattle.burr_io.specs.Sink.{SinkView, Takes, FailsWithin}
+use Rattle.std.specs.Prelude.{◌≡◌, ◌⊎◌, ◌++◌, ℕ, List}
 use Rattle.burr_assembly.specs.Rules.Text.{Assembly}
 use Rattle.burr_asm.specs.declared.fault.AsmFault.{AsmFault}
 use Rattle.burr_asm.specs.Rules.Faults.{IsFirstFault}
@@ -10,11 +9,8 @@ use Rattle.burr_command.specs.declared.job.PlanTask.{PlanTask}
 use Rattle.burr_command.specs.declared.job.PlanTask.TheVariants.{Check, Try}
 use Rattle.burr_command.specs.declared.job.TextTask.{TextTask}
 use Rattle.burr_command.specs.declared.job.TextTask.TheVariants.{Why, Trace}
-use Rattle.burr_program.specs.declared.fault.Fault.{Fault}
-use Rattle.burr_program.specs.Faults.{line_of, output_failed}
-use Rattle.burr_program.specs.PlanEnds.{Ends, IsRefusal, AssemblyEnds, TextEnds}
-use Rattle.burr_program.specs.Refusals.{plan_text_refusal}
-use Rattle.burr_program.specs.declared.status.Status.{Status}
+use Rattle.burr_jobs.specs.PlanEnds.{Ends, IsRefusal, AssemblyEnds, TextEnds}
+use Rattle.burr_jobs.specs.Refusals.{plan_text_refusal}
 
 -- what is done with the container that the plan text is assembled to
 abbrev pub plan_task_of : TextTask → PlanTask
@@ -39,14 +35,3 @@ PlanTextEnds task plan answers a output status =
 -- for it; and more is said below
 abbrev pub NotedEnds : TextTask → List ℕ → List ℕ → List ℕ → Ends
 NotedEnds task text plan answers = Begins (TextEnds text (PlanTextEnds task plan answers))
-
--- what was done, and after it notes were put, or a front of them where the sink failed; after a fault
--- nothing was put
-abbrev pub AddsNotes : {S : Type 0} → SinkView S → S → S → List ℕ → Result Status Fault
-    → Result Status Fault → Type 0
-AddsNotes sink old new notes (Ok given) (Ok status) =
-    (status ≡ given) × Takes sink old new notes
-AddsNotes sink old new notes (Ok given) (Err fault) =
-    (line_of fault ≡ output_failed) × FailsWithin sink old new notes
-AddsNotes sink old new notes (Err given) (Ok status) = ⊥
-AddsNotes sink old new notes (Err given) (Err fault) = (fault ≡ given) × (new ≡ old)

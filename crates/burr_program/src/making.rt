@@ -5,18 +5,14 @@ mod from_sheet;
 
 ghost use Rattle.std.specs.Prelude.{codes, IfErr, IfOk};
 ghost use Rattle.burr_runs.specs.Rules.Refusals.{place_line};
-ghost use Rattle.burr_program.specs.Faults.{line_of};
+ghost use Rattle.burr_jobs.specs.Faults.{line_of};
 ghost use Rattle.burr_program.specs.MakingEnds.{EndsSomehow};
-ghost use Rattle.burr_program.specs.PlanEnds.{FailsToEnd, IsRefusal, PutsEnd};
+ghost use Rattle.burr_jobs.specs.PlanEnds.{FailsToEnd, IsRefusal, PutsEnd};
 
-use crate::fault::Fault;
-use crate::files::are_one_file;
-use crate::plan_commands::refuse_text;
 use crate::reasons::{reason_of_assembly_fault, with_meaning};
-use crate::status::Status;
-use crate::text_commands::add_notes;
 use burr_assembly::AssemblyFault;
 use burr_io::Sink;
+use burr_jobs::{Fault, Status, add_notes, are_one_file, refuse_text};
 use burr_runs::put_place_line;
 use burr_why::reason_of_line;
 pub use frames::frames_file;
@@ -82,6 +78,18 @@ fn refuse_line<'a, W: Sink>(
 {
     let mut reason = reason_of_line(alloc, named.file, named.text, line)?;
     writeln!(reason, "    {note}")?;
+    refuse_for(subject, line, reason, sink)
+}
+
+/// Refuses a line of a text, and says the reason and what the refusal means.
+fn refuse_for<'a, W: Sink>(
+    subject: &str,
+    line: usize,
+    reason: String,
+    sink: &mut W,
+) -> Result<Status, Fault<'a>>
+    ensures { EndsSomehow W.Sink sink.old sink.new result }
+{
     let notes = with_meaning(reason, subject)?;
     let done = put_line_refusal(subject, line, sink);
     add_notes(done, &notes, sink)

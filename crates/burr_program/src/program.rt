@@ -4,23 +4,19 @@ ghost use Rattle.std.specs.Prelude.{◌≡◌, ◌≢◌, ◌≤◌, ◌<◌, []
 ghost use Rattle.burr_runs.specs.declared.fault.BenchFault.TheVariants.{Memory};
 ghost use Rattle.burr_io.specs.Sink.{Takes};
 ghost use Rattle.burr_runs.specs.Views.BenchText.{streams};
-ghost use Rattle.burr_program.specs.Ends.{took, TakesText, FailsInText, TakesSome, EndsEarly};
-ghost use Rattle.burr_program.specs.Ends.{IsDone, IsRun, IsEnd};
-ghost use Rattle.burr_program.specs.Ends.{Means};
-ghost use Rattle.burr_program.specs.Faults.{complaint_of, line_of, status_of_fault};
-ghost use Rattle.burr_program.specs.Statuses.{code_of};
+ghost use Rattle.burr_jobs.specs.JobEnds.{took, FailsInText, TakesSome, EndsEarly, IsDone, Means};
+ghost use Rattle.burr_program.specs.Ends.{TakesText, IsRun, IsEnd};
+ghost use Rattle.burr_jobs.specs.Faults.{complaint_of, line_of, status_of_fault};
+ghost use Rattle.burr_jobs.specs.Statuses.{code_of};
 
-use crate::explain_command::explain_line;
-use crate::fault::{Fault, put_fault};
-use crate::file_commands::{assemble_file, list_file, upgrade_file};
-use crate::handing::hand_on;
 use crate::making::{frames_file, plan_sheet_file};
-use crate::plan_commands::use_files;
-use crate::status::Status;
-use crate::step_command::step_files;
 use crate::text_commands::text_files;
 use burr_command::{Job, Reply, Request, request_of};
 use burr_io::{Sink, Source, WholeLines, WriteFault, put_all};
+use burr_jobs::{
+    Fault, Status, assemble_file, explain_line, hand_on, list_file, put_fault, step_files,
+    upgrade_file, use_files,
+};
 use burr_runs::{BenchFault, bench_text};
 use std::alloc::{AllocError, Global};
 use std::io::ErrorKind;

@@ -37,16 +37,21 @@ pub fn reason_of_text_fault(
     text: &[u8],
     fault: AsmFault,
 ) -> Result<String, AllocError> {
-    let (key, line) = match fault {
-        AsmFault::P1 { line } => ("P1", line),
-        AsmFault::P2 { line } => ("P2", line),
-        AsmFault::P3 { line } => ("P3", line),
-        AsmFault::P4 { line } => ("P4", line),
-        AsmFault::P5 { line } => ("P5", line),
-        AsmFault::Memory => return Err(AllocError),
-    };
+    let (name, line) = name_and_line(fault)?;
     let reason = reason_of_line(alloc, file, text, line)?;
-    with_meaning(reason, key)
+    with_meaning(reason, name)
+}
+
+/// The name of a plan text's fault, and its line.
+pub fn name_and_line(fault: AsmFault) -> Result<(&'static str, usize), AllocError> {
+    match fault {
+        AsmFault::P1 { line } => Ok(("P1", line)),
+        AsmFault::P2 { line } => Ok(("P2", line)),
+        AsmFault::P3 { line } => Ok(("P3", line)),
+        AsmFault::P4 { line } => Ok(("P4", line)),
+        AsmFault::P5 { line } => Ok(("P5", line)),
+        AsmFault::Memory => Err(AllocError),
+    }
 }
 
 /// Why a plan is refused, and what the refusal means.

@@ -2,25 +2,20 @@
 //! What is said stands below what `asm`, `check` or `try` prints.
 
 ghost use Rattle.std.specs.Prelude.{◌≡◌, IfErr, IfOk, OnErr, OnOk};
-ghost use Rattle.burr_program.specs.Ends.{took, TakesSome, WritesOrFails, IsDone};
-ghost use Rattle.burr_program.specs.Faults.{line_of};
-ghost use Rattle.burr_program.specs.NotedEnds.{plan_task_of, AddsNotes, Begins, NotedEnds, PlanTextEnds};
-ghost use Rattle.burr_program.specs.PlanEnds.{FailsToEnd, IsRefusal, PutsEnd};
-ghost use Rattle.burr_program.specs.Refusals.{plan_text_refusal};
-ghost use Rattle.burr_program.specs.Statuses.{code_of};
+ghost use Rattle.burr_jobs.specs.JobEnds.{took, TakesSome, WritesOrFails, IsDone};
+ghost use Rattle.burr_jobs.specs.Faults.{line_of};
+ghost use Rattle.burr_program.specs.NotedEnds.{plan_task_of, Begins, NotedEnds, PlanTextEnds};
+ghost use Rattle.burr_jobs.specs.PlanEnds.{FailsToEnd, PutsEnd};
+ghost use Rattle.burr_jobs.specs.Statuses.{code_of};
 
-use crate::fault::Fault;
-use crate::files::read_file;
-use crate::plan_commands::{refuse_text, use_assembly};
-use crate::plan_text_refusal::put_plan_text_refusal;
 use crate::reasons::{reason_of_assembly_fault, reason_of_text_fault, reason_with_meaning};
-use crate::status::Status;
 use burr_asm::{AsmFault, assemble};
 use burr_assembly::{Assembly, AssemblyFault};
 use burr_blocking::RowTables;
 use burr_command::{PlanTask, TextTask};
 use burr_container::Container;
-use burr_io::{Sink, Source, put_all};
+use burr_io::{Sink, Source};
+use burr_jobs::{Fault, Status, add_notes, read_file, refuse_plan_text, refuse_text, use_assembly};
 use burr_runs::{AnswersFault, read_answers, read_whole};
 use burr_trace::trace_of;
 use burr_verify::{Refusal, accept, fits_assembly};
@@ -134,34 +129,6 @@ fn plan_task(task: TextTask) -> PlanTask
     match task {
         TextTask::Why => PlanTask::Check,
         TextTask::Trace => PlanTask::Try,
-    }
-}
-
-/// Refuses a plan text.
-pub fn refuse_plan_text<'a, W: Sink>(fault: AsmFault, sink: &mut W) -> Result<Status, Fault<'a>>
-    ensures ok { IfOk result (PutsEnd W.Sink sink.old sink.new
-        (IsRefusal (plan_text_refusal fault))) }
-    ensures err { IfErr result (λ problem. FailsToEnd W.Sink sink.old sink.new
-        (IsRefusal (plan_text_refusal fault)) (line_of problem)) }
-{
-    put_plan_text_refusal(fault, sink)?;
-    Ok(Status::Refused)
-}
-
-/// What was done, once notes are put after what was put for it; after a fault nothing is put.
-pub fn add_notes<'a, W: Sink>(
-    done: Result<Status, Fault<'a>>,
-    notes: &str,
-    sink: &mut W,
-) -> Result<Status, Fault<'a>>
-    ensures { AddsNotes W.Sink sink.old sink.new notes.now done.entry result }
-{
-    match done {
-        Ok(status) => {
-            put_all(notes.as_bytes(), sink)?;
-            Ok(status)
-        }
-        Err(fault) => Err(fault),
     }
 }
 

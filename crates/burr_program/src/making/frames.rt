@@ -1,27 +1,23 @@
 //! Frames that a plan text leaves out, read off a run.
 
 ghost use Rattle.std.specs.Prelude.{IfOk, OnErr, OnOk};
-ghost use Rattle.burr_program.specs.Ends.{took, TakesSome, WritesOrFails, IsDone};
+ghost use Rattle.burr_jobs.specs.JobEnds.{took, TakesSome, WritesOrFails, IsDone};
 ghost use Rattle.burr_program.specs.MakingEnds.{EndsSomehow, IsAnyText, MakesOrPuts};
-ghost use Rattle.burr_program.specs.Statuses.{code_of};
+ghost use Rattle.burr_jobs.specs.Statuses.{code_of};
 
-use crate::fault::Fault;
-use crate::files::{read_file, write_file};
-use crate::making::{Made, Named, keep_sources, refuse_assembly, refuse_line};
-use crate::plan_commands::use_assembly;
-use crate::reasons::reason_of_text_fault;
-use crate::status::Status;
-use crate::text_commands::{add_notes, refuse_plan_text};
+use crate::making::{Made, Named, keep_sources, refuse_assembly, refuse_for, refuse_line};
+use crate::reasons::name_and_line;
 use burr_asm::{AsmFault, assemble};
 use burr_assembly::{Assembly, AssemblyFault};
 use burr_blocking::RowTables;
 use burr_command::PlanTask;
 use burr_container::Container;
 use burr_io::{Sink, Source};
+use burr_jobs::{Fault, Status, read_file, use_assembly, write_file};
 use burr_runs::{AnswersFault, read_answers, read_whole};
 use burr_trace::{Filled, Unframed};
 use burr_verify::fits_assembly;
-use burr_why::PlanText;
+use burr_why::{PlanText, reason_of_line};
 use std::alloc::{AllocError, Global};
 use std::rt::Files;
 
@@ -107,11 +103,7 @@ fn framed_for_assembly<'a, W: Sink>(
             };
             fill_frames(alloc, unframed, text, run, sink)
         }
-        Err(AsmFault::Memory) => Err(Fault::Memory),
-        Err(fault) => {
-            let fault = at_own_line(unframed, fault);
-            Ok(Made::Ends(refuse_named_text(alloc, text, fault, sink)?))
-        }
+        Err(fault) => Ok(Made::Ends(refuse_blank(alloc, unframed, text, fault, sink)?)),
     }
 }
 
@@ -124,40 +116,20 @@ struct Run<'x> {
     answers: &'x [u8],
 }
 
-/// The fault of a text with blank frames, at the line of the text itself.
-fn at_own_line(unframed: Unframed<'_>, fault: AsmFault) -> AsmFault {
-    match fault {
-        AsmFault::P1 { line } => AsmFault::P1 {
-            line: unframed.own_line(line),
-        },
-        AsmFault::P2 { line } => AsmFault::P2 {
-            line: unframed.own_line(line),
-        },
-        AsmFault::P3 { line } => AsmFault::P3 {
-            line: unframed.own_line(line),
-        },
-        AsmFault::P4 { line } => AsmFault::P4 {
-            line: unframed.own_line(line),
-        },
-        AsmFault::P5 { line } => AsmFault::P5 {
-            line: unframed.own_line(line),
-        },
-        AsmFault::Memory => AsmFault::Memory,
-    }
-}
-
-/// Refuses a plan text, and says why.
-fn refuse_named_text<'a, W: Sink>(
+/// Refuses a text with blank frames, at the line of the text that has none, and says why.
+fn refuse_blank<'a, W: Sink>(
     alloc: Global,
+    unframed: Unframed<'_>,
     text: Named<'_>,
     fault: AsmFault,
     sink: &mut W,
 ) -> Result<Status, Fault<'a>>
     ensures { EndsSomehow W.Sink sink.old sink.new result }
 {
-    let notes = reason_of_text_fault(alloc, text.file, text.text, fault)?;
-    let done = refuse_plan_text(fault, sink);
-    add_notes(done, &notes, sink)
+    let (name, line) = name_and_line(fault)?;
+    let line = unframed.own_line(line);
+    let reason = reason_of_line(alloc, text.file, text.text, line)?;
+    refuse_for(name, line, reason, sink)
 }
 
 /// Fills in frames, or says why there are none; where the run does not come to its end, as `try`

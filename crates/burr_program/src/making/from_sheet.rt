@@ -2,22 +2,18 @@
 
 ghost use Rattle.std.specs.Prelude.{IfOk, OnErr, OnOk};
 ghost use Rattle.burr_from_sheet.specs.SheetPlans.{IsPlanOfSheet};
-ghost use Rattle.burr_program.specs.Ends.{took, TakesSome, WritesOrFails, IsDone};
+ghost use Rattle.burr_jobs.specs.JobEnds.{took, TakesSome, WritesOrFails, IsDone};
 ghost use Rattle.burr_program.specs.MakingEnds.{EndsSomehow, MakesOrPuts, MakesPlanOf};
-ghost use Rattle.burr_program.specs.Statuses.{code_of};
+ghost use Rattle.burr_jobs.specs.Statuses.{code_of};
 
-use crate::fault::Fault;
-use crate::files::{read_file, write_file};
 use crate::making::{Made, Named, keep_sources, refuse_assembly, refuse_line};
-use crate::plan_commands::refuse_plan;
 use crate::reasons::reason_with_meaning;
-use crate::status::Status;
-use crate::text_commands::add_notes;
 use burr_assembly::{Assembly, AssemblyFault};
 use burr_blocking::RowTables;
 use burr_container::Container;
 use burr_from_sheet::{RefusedDraft, SheetFault, plan_of_sheet};
 use burr_io::Sink;
+use burr_jobs::{Fault, Status, add_notes, read_file, refuse_plan, write_file};
 use burr_why::{PlanText, reason_of_line};
 use std::alloc::Global;
 use std::rt::Files;

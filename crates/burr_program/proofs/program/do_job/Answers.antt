@@ -1,5 +1,5 @@
-use Rattle.burr_program.specs.Ends.{took}
-use Rattle.burr_program.proofs.HandedText.{some_handed, less_handed, early}
+use Rattle.burr_jobs.specs.JobEnds.{took}
+use Rattle.burr_jobs.proofs.Common.HandedOn.{some_handed, less_handed, early}
 use Rattle.burr_program.proofs.program.do_job.Goals as goal
 
 pub returns-in-Assemble-clause-err : goal.returns-in-Assemble-clause-err

@@ -2,10 +2,10 @@ use Rattle.std.proofs.Common.{ℕ, List, inl, inr, rules, subst, sym}
 use Rattle.burr_asm.specs.Rules.Assembling.{IsAssembled}
 use Rattle.burr_asm.specs.Rules.Faults.{IsFirstFault}
 use Rattle.burr_command.specs.declared.job.PlanTask.{PlanTask}
-use Rattle.burr_program.specs.PlanEnds.{IsRefusal, AssemblyEnds}
-use Rattle.burr_program.specs.Refusals.{plan_text_refusal}
+use Rattle.burr_jobs.specs.PlanEnds.{IsRefusal, AssemblyEnds}
+use Rattle.burr_jobs.specs.Refusals.{plan_text_refusal}
 use Rattle.burr_program.specs.NotedEnds.{Begins, PlanTextEnds}
-use Rattle.burr_program.proofs.Ending.{puts_among, fails_among}
+use Rattle.burr_jobs.proofs.Common.Stages.{puts_among, fails_among}
 use Rattle.burr_program.proofs.Notes.{begins_among, notes_put, notes_fail}
 use Rattle.burr_program.proofs.text_commands.note_text.Goals as goal
 

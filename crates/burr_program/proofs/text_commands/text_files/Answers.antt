@@ -1,5 +1,5 @@
 use Rattle.burr_program.specs.NotedEnds.{NotedEnds}
-use Rattle.burr_program.proofs.FileEnding.{ends_take_some, stops_write}
+use Rattle.burr_jobs.proofs.Common.Sinks.{ends_take_some, stops_write}
 use Rattle.burr_program.proofs.Notes.{notes_are_done}
 use Rattle.burr_program.proofs.text_commands.text_files.Goals as goal
 

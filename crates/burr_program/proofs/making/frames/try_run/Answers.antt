@@ -1,6 +1,6 @@
 use Rattle.burr_command.specs.declared.job.TextTask.TheVariants.{Trace}
 use Rattle.burr_command.specs.declared.job.PlanTask.TheVariants.{Try}
-use Rattle.burr_program.specs.PlanEnds.{AssemblyEnds}
+use Rattle.burr_jobs.specs.PlanEnds.{AssemblyEnds}
 use Rattle.burr_program.proofs.Notes.{container_is_done}
 use Rattle.burr_program.proofs.Refusing.{ends_somehow}
 use Rattle.burr_program.proofs.making.frames.try_run.Goals as goal

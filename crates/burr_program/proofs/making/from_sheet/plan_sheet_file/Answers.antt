@@ -1,4 +1,4 @@
-use Rattle.burr_program.proofs.FileEnding.{kept_takes_some}
+use Rattle.burr_jobs.proofs.Common.Sinks.{kept_takes_some}
 use Rattle.burr_program.proofs.making.from_sheet.plan_sheet_file.Goals as goal
 
 pub returns-in-Text-clause-ok : goal.returns-in-Text-clause-ok

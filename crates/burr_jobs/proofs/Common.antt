@@ -1,0 +1,3 @@
+pub mod HandedOn
+pub mod Sinks
+pub mod Stages

@@ -1,0 +1,4 @@
+pub mod Common
+mod Ending
+mod FileEnding
+mod Stepping

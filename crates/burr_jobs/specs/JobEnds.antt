@@ -1,0 +1,62 @@
+-- How a command's job ends: what the sink took, the status, and what a fault's line tells.
+use Rattle.std.specs.Prelude.{◌≡◌, ◌⊎◌, ◌≤◌, ℕ, List, Bool, true, Option, codes}
+use Rattle.std.specs.Io.KnownBytes.{Appends}
+use Rattle.burr_io.specs.Sink.{SinkView, HoldsFront}
+use Rattle.burr_jobs.specs.Faults.{cannot_read, cannot_write}
+
+-- What a sink had taken before and after, and whether it has failed.
+pub record Taken : Type 0 where
+  pub old : Option (List ℕ)
+  pub new : Option (List ℕ)
+  pub failed : Bool
+
+-- such a sink, with what it took
+abbrev pub took : Option (List ℕ) → Option (List ℕ) → Bool → Taken
+took old new failed = record { old = old; new = new; failed = failed }
+
+-- it took nothing
+abbrev pub TakesNothing : Taken → Type 0
+TakesNothing t = t.new ≡ t.old
+
+-- it failed, and holds a front of what it held before and a text
+abbrev pub FailsInText : Taken → List ℕ → Type 0
+FailsInText t text = HoldsFront t.old t.new text × (t.failed ≡ true)
+
+-- it took some text, perhaps none
+abbrev pub TakesSome : Taken → Type 0
+TakesSome t = (text : List ℕ) × Appends t.old t.new text
+
+-- done, refused, trapped or stopped; or the run waits
+abbrev pub IsDone : ℕ → Type 0
+IsDone status = (status ≤ 1) ⊎ (status ≡ 5)
+
+-- nothing was written, or the sink failed in some text
+abbrev pub WritesLess : Taken → Type 0
+WritesLess sink = TakesNothing sink ⊎ ((text : List ℕ) × FailsInText sink text)
+
+-- a sink was left as it was, or it took some text and then failed
+abbrev pub WritesOrFails : {S : Type 0} → SinkView S → S → S → Type 0
+WritesOrFails sink old new =
+    (new ≡ old)
+    ⊎ (TakesSome (took (sink.taken old) (sink.taken new) (sink.has_failed new))
+    × (sink.has_failed new ≡ true))
+
+-- the line that tells that a file or a stream failed
+abbrev pub IsFileLine : List ℕ → Type 0
+IsFileLine line =
+    (name : List ℕ) × ((line ≡ cannot_read name) ⊎ (line ≡ cannot_write name))
+
+-- the status that goes with what is told: 2 for a fault of the words, 3 for a file or a stream that
+-- failed, 4 for want of memory
+abbrev pub Means : ℕ → List ℕ → Type 0
+Means status line =
+    (status ≡ 2) ⊎ ((status ≡ 3) × IsFileLine line) ⊎ ((status ≡ 4) × (line ≡ codes "no memory\n"))
+
+-- commands were answered, and then standard input failed or memory was refused
+abbrev pub LeavesOff : Taken → List ℕ → Type 0
+LeavesOff sink line =
+    TakesSome sink × ((line ≡ cannot_read (codes "-")) ⊎ (line ≡ codes "no memory\n"))
+
+-- what the sink took where this line is told
+abbrev pub EndsEarly : Taken → List ℕ → Type 0
+EndsEarly sink line = WritesLess sink ⊎ LeavesOff sink line

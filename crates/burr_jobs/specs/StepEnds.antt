@@ -1,0 +1,77 @@
+-- How `step` ends: what is printed for the commands of standard input, and with which status.
+use Rattle.std.specs.Prelude.{◌≡◌, ◌⊎◌, ℕ, List, [], Option}
+use Rattle.burr_io.specs.Sink.{SinkView}
+use Rattle.burr_assembly.specs.Rules.Text.{Assembly, IsText}
+use Rattle.burr_container.specs.Rules.Plans.{Plan}
+use Rattle.burr_container.specs.Views.Containers.{ContainerView, IsContainer}
+use Rattle.burr_verify.specs.Rules.Accepting.{Judged, judged, IsAccepted}
+use Rattle.burr_state.specs.Views.Benches.{IsAtStart}
+use Rattle.burr_state.specs.Views.Programs.{plan_program}
+use Rattle.burr_step.specs.Rules.Stepper.{history}
+use Rattle.burr_step.specs.Views.Stepping.{Stepping}
+use Rattle.burr_runs.specs.declared.fault.BenchFault.{BenchFault}
+use Rattle.burr_runs.specs.Views.BenchText.{Streams}
+use Rattle.burr_runs.specs.Views.Dialogues.{IsDialogue, BreaksDialogue}
+use Rattle.burr_jobs.specs.declared.status.Status.TheVariants.{Done}
+use Rattle.burr_jobs.specs.Faults.{complaint_of}
+use Rattle.burr_jobs.specs.PlanEnds.{Ends, RefusedEnds, IsRead, ContainerEnds, TextEnds, StopsBeforeEnd}
+
+-- what the source had left before and after
+pub record Left : Type 0 where
+  pub old : Option (List ℕ)
+  pub new : Option (List ℕ)
+
+-- a run of the plan, step by step, before its first step
+pub record IsFresh (j : Judged) (s : Stepping) : Type 0 where
+  pub assembly : s.bench.assembly ≡ j.assembly
+  pub program : (p : Plan) → IsContainer j.container p → s.bench.program ≡ plan_program p
+  pub start : IsAtStart s.bench
+  pub history : s.history ≡ history 0 []
+
+-- the commands that the source gave are answered on such a run
+abbrev pub DialogueEnds : Left → Judged → Ends
+DialogueEnds left j output status =
+    (status ≡ Done)
+    × ((old new : Stepping) × IsFresh j old × IsDialogue old left.old left.new output new)
+
+-- the plan is refused; or it is accepted, and the commands are answered
+abbrev pub StepEnds : Left → ContainerView → Assembly → Ends
+StepEnds left kept a output status =
+    RefusedEnds kept a output status
+    ⊎ (IsAccepted (judged kept a) × DialogueEnds left (judged kept a) output status)
+
+-- the same of a container, and of an assembly's text
+abbrev pub StepBytesEnds : Left → List ℕ → Assembly → Ends
+StepBytesEnds left bytes a = ContainerEnds bytes (λ kept. StepEnds left kept a)
+
+abbrev pub StepTextEnds : Left → List ℕ → List ℕ → Ends
+StepTextEnds left text bytes = TextEnds text (StepBytesEnds left bytes)
+
+-- what the source of two streams had left
+abbrev pub left_of : Streams → Left
+left_of s = record { old = s.left_old; new = s.left_new }
+
+-- the dialogue on such a run breaks off, as this line tells
+abbrev pub DialogueBreaks : Streams → Judged → List ℕ → Type 0
+DialogueBreaks s j line =
+    (fault : BenchFault) × (line ≡ complaint_of fault)
+    × ((old new : Stepping) × IsFresh j old × BreaksDialogue old s fault new)
+
+-- the plan is accepted, and the dialogue breaks off
+abbrev pub StepBreaks : Streams → ContainerView → Assembly → List ℕ → Type 0
+StepBreaks s kept a line = IsAccepted (judged kept a) × DialogueBreaks s (judged kept a) line
+
+-- the same of a container, and of an assembly's text
+abbrev pub StepBytesBreak : Streams → List ℕ → Assembly → List ℕ → Type 0
+StepBytesBreak s bytes a line =
+    (kept : ContainerView) × IsRead bytes kept × StepBreaks s kept a line
+
+abbrev pub StepTextBreaks : Streams → List ℕ → List ℕ → List ℕ → Type 0
+StepTextBreaks s text bytes line =
+    (a : Assembly) × IsText text a × StepBytesBreak s bytes a line
+
+-- why what is to be printed did not come to this sink whole: it stops before the end of what there
+-- is to print, or the dialogue breaks off
+abbrev pub StopsStepping : {S : Type 0} → SinkView S → S → S → Ends → Type 0 → List ℕ → Type 0
+StopsStepping sink before after AreEnds Breaks line =
+    StopsBeforeEnd sink before after AreEnds line ⊎ Breaks

@@ -1,0 +1,23 @@
+//! What was put on standard output is held back, and handed on at the end.
+
+ghost use Rattle.burr_jobs.specs.HandedOn.{HandsOnDone};
+
+use crate::fault::Fault;
+use crate::status::Status;
+use burr_io::{Sink, WholeLines};
+
+/// What was done, once all that was put for it is handed on; after a fault nothing is.
+pub fn hand_on<'a, W: Sink, const N: usize>(
+    done: Result<Status, Fault<'a>>,
+    sink: &mut WholeLines<W, N>,
+) -> Result<Status, Fault<'a>>
+    ensures { HandsOnDone W.Sink sink.old sink.new done.entry result }
+{
+    match done {
+        Ok(status) => {
+            sink.flush()?;
+            Ok(status)
+        }
+        Err(fault) => Err(fault),
+    }
+}
