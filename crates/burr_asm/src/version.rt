@@ -2,7 +2,7 @@ ghost use Rattle.std.specs.Prelude.{◌≡◌};
 ghost use Rattle.burr_asm.specs.Views.Versions.{number_of_version};
 
 /// The version of a plan. In version 2 procedures may have results, and exit frames guards.
-#[derive(Clone, Copy, PartialEq, Eq)]
+#[derive(Clone, Copy)]
 pub enum Version {
     One,
     Two,
