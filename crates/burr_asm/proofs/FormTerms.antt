@@ -1,18 +1,18 @@
 -- What a form's terms stand for, term by term.
-use Rattle.std.proofs.Common.{◌≡◌, ℕ, zero, suc, ◌+◌, ◌<◌, ◌≤◌, ◌==◌, List, [], ◌∷◌, length, map, set, get_or, drop, Bool, true, false, not, IsTrue, ℤ, pos, negsuc, neg_ℤ, ◌≤ℤ◌, FitsSigned, w16, w32, refl, sym, ap, subst, ◌∙◌, arith, leb-true, le-leb, eqb-true, eq-eqb, to_z, of_z, to_z-of_z}
+use Rattle.std.proofs.Common.{◌≡◌, ℕ, zero, suc, ◌+◌, ◌<◌, ◌≤◌, ◌==◌, List, [], ◌∷◌, length, map, set, get_or, take, drop, ◌-◌, Bool, true, false, not, IsTrue, ℤ, pos, negsuc, neg_ℤ, ◌≤ℤ◌, FitsSigned, w16, w32, refl, sym, ap, subst, ◌∙◌, arith, leb-true, le-leb, eqb-true, eq-eqb, to_z, of_z, to_z-of_z}
 use Rattle.std.specs.Prelude.{◌&&◌, nat_le, int_le, slice_index_or, if◌then◌else◌}
 use Rattle.std.specs.List.{list_all}
 use Rattle.std.specs.Str.Parse.{starts_with_minus}
 use Rattle.std.proofs.lemmas.Bool.{and_parts, and_from, true≢false}
 use Rattle.std.proofs.lemmas.Int.{ints}
-use Rattle.std.proofs.lemmas.List.{get_or-set_same, get_or-set_other, get_or_past, length-set}
+use Rattle.std.proofs.lemmas.List.{get_or-set_same, get_or-set_other, get_or_past, length-set, take_rest}
 use Rattle.burr_container.specs.Rules.Fitting.{is_between}
 use Rattle.burr_forms.specs.Rules.Forms.{Form}
-use Rattle.burr_plantext.specs.Rules.Written.{pieces, is_count, natural_in, number_in, constant_word, term_words, coefficient_word, slot_word, is_natural, is_term, is_form_over, are_terms, coefficient_of, slot_numbers, form_in}
+use Rattle.burr_plantext.specs.Rules.Written.{pieces, is_count, natural_in, number_in, constant_word, term_words, coefficient_word, slot_word, is_natural, is_number, is_term, is_form, is_form_over, are_terms, coefficient_of, slot_numbers, form_in}
 use Rattle.burr_plantext.specs.Rules.Checks.{is_empty}
 use Rattle.burr_plantext.proofs.Common.Forms.{le_of_test}
 use Rattle.burr_asm.proofs.FormWords.{natural_no_minus}
-use Rattle.burr_asm.specs.Views.Forms.{begins_term, terms_of, IsConstantCut, IsTermCut, is_live_slot}
+use Rattle.burr_asm.specs.Views.Forms.{begins_term, terms_of, IsConstantCut, IsConstantEnd, IsTermCut, is_live_slot}
 
 -- Numbers of a width
 
@@ -195,6 +195,13 @@ pub record IsFormWalk (live : List Bool) (word : List ℕ) (coefs : List ℤ) (l
 and-false : (t : Bool) → (t && false) ≡ false
 and-false true = refl
 and-false false = refl
+
+-- Bytes that begin with a constant are a form if the rest, as the code takes it, are terms.
+pub form_tested : (word : List ℕ) (end : ℕ) (test : Bool) → is_number (constant_word word) ≡ true → IsConstantEnd word end
+    → test ≡ list_all is_term (terms_of (take (length word - end) (drop end word))) → is_form word ≡ test
+form_tested word end test constant cut e =
+    (λ i. constant i && list_all is_term (sym cut.1.others i))
+    ∙ ap (λ (terms : List ℕ). list_all is_term (terms_of terms)) (sym (take_rest word end)) ∙ sym e
 
 -- the word of a form begins with its constant
 pub form_begins : (live : List Bool) (word constant terms : List ℕ) → IsTrue (list_all is_term (term_words word)) → IsConstantCut word constant terms → IsFormWalk live word zeros 0 terms

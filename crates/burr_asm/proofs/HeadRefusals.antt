@@ -1,12 +1,13 @@
 -- Why the first line of a plan or of a procedure is refused.
-use Rattle.std.proofs.Common.{◌≡◌, ℕ, ◌≤◌, List, length, Bool, true, false, inr, refl, sym, ap, ◌∙◌, subst}
+use Rattle.std.proofs.Common.{◌≡◌, ℕ, ◌≤◌, List, [], ◌∷◌, length, ◌==◌, Bool, true, false, inr, refl, sym, ap, ◌∙◌, subst}
 use Rattle.std.specs.Prelude.{Option, Some, None, not, nat_lt, ◌&&◌, if◌then◌else◌}
 use Rattle.std.specs.Option.{is_some}
-use Rattle.std.proofs.lemmas.Bool.{le-ltb}
-use Rattle.burr_code.specs.declared.limits.TheConstants.{MOST_BUDGET, MOST_PROCEDURES}
+use Rattle.std.proofs.Math.Dec.{eqb-suc-zero}
+use Rattle.std.proofs.lemmas.Bool.{and_left, and_right, le-ltb}
+use Rattle.burr_code.specs.declared.limits.TheConstants.{MOST_BUDGET, MOST_PARAMETERS, MOST_PROCEDURES}
 use Rattle.burr_plantext.specs.Rules.Written.{is_within}
 use Rattle.burr_plantext.specs.Rules.Lines.{PlanWords, ProcedureWords}
-use Rattle.burr_plantext.specs.Rules.Checks.{FaultKind, P2, P3, P4, unless, is_known, title_check}
+use Rattle.burr_plantext.specs.Rules.Checks.{FaultKind, P2, P3, P4, unless, is_empty, is_known, is_result_count, title_check}
 use Rattle.burr_plantext.specs.Rules.Meaning.{number_of}
 use Rattle.burr_asm.specs.declared.fault.AsmFault.TheVariants as fault
 use Rattle.burr_asm.specs.Views.Faults.{IsRefusal}
@@ -28,6 +29,33 @@ budget_refused t line e = title_refused t line (by (is_within 2 32 t.pieces))
     by : (test : Bool) → (test && is_within 1 MOST_BUDGET t.budget) ≡ false
     by true = e
     by false = refl
+
+-- the counts of a procedure, by what was asked first: whether it is main
+module _ (o : OutlineParts) (h : ProcedureWords) (main : Bool) (none_ended : main ≡ (length o.ended == 0)) where
+  abbrev parameters : Bool → Bool
+  parameters main = is_within 0 (if main then 0 else MOST_PARAMETERS) h.parameters
+
+  abbrev results : Bool → Bool
+  results main = is_result_count (if main then 0 else 2) h.results
+
+  is_main : main ≡ is_empty o.ended
+  is_main = none_ended ∙ by o.ended
+    where
+      by : {A : Type 0} (xs : List A) → (length xs == 0) ≡ is_empty xs
+      by [] = refl
+      by (x ∷ xs) = eqb-suc-zero (length xs)
+
+  -- the number of parameters is out of its range
+  pub parameters_refused : parameters main ≡ false → are_counts o h ≡ false
+  parameters_refused e = and_left (parameters (is_empty o.ended)) (results (is_empty o.ended)) (ap parameters (sym is_main) ∙ e)
+
+  -- it is that of results
+  pub results_refused : results main ≡ false → are_counts o h ≡ false
+  results_refused e = and_right (parameters (is_empty o.ended)) (results (is_empty o.ended)) (ap results (sym is_main) ∙ e)
+
+  -- both are right
+  pub counts_passed : parameters main ≡ true → results main ≡ true → are_counts o h ≡ true
+  counts_passed e f = λ i. (ap parameters (sym is_main) ∙ e) i && (ap results (sym is_main) ∙ f) i
 
 -- a name that has no number is none of the names
 pub no_number : (known : Bool) (number : ℕ) → false ≡ is_some (if known then Some number else None) → known ≡ false

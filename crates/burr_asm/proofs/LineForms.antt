@@ -311,6 +311,22 @@ numbers_line name (parameters ∷ []) = given (is_number parameters) (head_line 
 numbers_line name (parameters ∷ results ∷ []) = given (is_number parameters && is_number results) (head_line name parameters (Some results))
 numbers_line name words = None
 
+-- no name with a word after it
+pub procedure_none : (words : List (List ℕ)) → cut_word is_name_text words ≡ None → procedure_line words ≡ None
+procedure_none [] e = refl
+procedure_none (name ∷ []) e = refl
+procedure_none (name ∷ parameters ∷ []) e = by (is_name_text name) e
+  where
+    by : (t : Bool) → first_if t name (parameters ∷ []) ≡ None → given (t && is_number parameters) (head_line name parameters None) ≡ None
+    by true e = no_cut (name, parameters ∷ []) (sym e)
+    by false e = refl
+procedure_none (name ∷ parameters ∷ results ∷ []) e = by (is_name_text name) e
+  where
+    by : (t : Bool) → first_if t name (parameters ∷ results ∷ []) ≡ None → given (t && is_number parameters && is_number results) (head_line name parameters (Some results)) ≡ None
+    by true e = no_cut (name, parameters ∷ results ∷ []) (sym e)
+    by false e = refl
+procedure_none (name ∷ parameters ∷ results ∷ other ∷ words) e = refl
+
 pub procedure_named : (words : List (List ℕ)) (name : List ℕ) (rest : List (List ℕ)) → cut_word is_name_text words ≡ Some (name, rest) → procedure_line words ≡ numbers_line name rest
 procedure_named words name rest e =
     let cut = cut_parts is_name_text words name rest e in
@@ -435,6 +451,24 @@ place_none bytes differs e =
     by (tray ∷ x ∷ y ∷ []) none e = refl
     by (tray ∷ x ∷ y ∷ z ∷ []) none e = no_tray tray x y z (is_number tray) e
     by (tray ∷ x ∷ y ∷ z ∷ other ∷ more) none e = refl
+
+-- no number with a word after it
+pub piece_none : (words : List (List ℕ)) → cut_word is_number words ≡ None → piece_line words ≡ None
+piece_none [] e = refl
+piece_none (piece ∷ []) e = refl
+piece_none (piece ∷ word ∷ []) e = by (is_number piece) e
+  where
+    by : (t : Bool) → first_if t piece (word ∷ []) ≡ None → given (t && bytes_eq word (codes "apart")) (at_line piece Apart) ≡ None
+    by true e = no_cut (piece, word ∷ []) (sym e)
+    by false e = refl
+piece_none (piece ∷ tray ∷ x ∷ []) e = refl
+piece_none (piece ∷ tray ∷ x ∷ y ∷ []) e = refl
+piece_none (piece ∷ tray ∷ x ∷ y ∷ z ∷ []) e = by (is_number piece) e
+  where
+    by : (t : Bool) → first_if t piece (tray ∷ x ∷ y ∷ z ∷ []) ≡ None → given (t && is_number tray && is_form x && is_form y && is_form z) (at_line piece (On tray x y z)) ≡ None
+    by true e = no_cut (piece, tray ∷ x ∷ y ∷ z ∷ []) (sym e)
+    by false e = refl
+piece_none (piece ∷ tray ∷ x ∷ y ∷ z ∷ other ∷ words) e = refl
 
 -- a piece's number, and its place
 pub piece_cut : (words : List (List ℕ)) (piece : List ℕ) (rest : List (List ℕ)) → cut_word is_number words ≡ Some (piece, rest) → piece_line words ≡ mapped (at_line piece) (place_line rest)

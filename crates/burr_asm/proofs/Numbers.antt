@@ -1,12 +1,15 @@
 -- What the code reads of the text of a number is what the number writes.
-use Rattle.std.proofs.Common.{◌≡◌, ℕ, ◌^◌, List, IsTrue, ℤ, refl, subst}
-use Rattle.std.specs.Prelude.{Result, Ok, Err, IsOk, MatchResult}
+use Rattle.std.proofs.Common.{◌≡◌, ℕ, ◌^◌, ◌<◌, ◌≤◌, List, Bool, true, false, IsTrue, ℤ, refl, sym, subst, ◌∙◌, arith}
+use Rattle.std.specs.Prelude.{Result, Ok, Err, IsOk, MatchResult, not, nat_le, nat_lt, ◌&&◌}
+use Rattle.std.specs.Bool.{then_some}
 use Rattle.std.specs.Result.{result_ok}
 use Rattle.std.specs.Int.{Width}
-use Rattle.std.specs.Str.Parse.{ParsesUnsigned, ParsesSigned}
-use Rattle.burr_plantext.specs.Rules.Written.{is_number}
+use Rattle.std.specs.Str.Parse.{starts_with_minus, ParsesUnsigned, ParsesSigned}
+use Rattle.std.proofs.lemmas.Bool.{and_left, and_parts, and_right, le-ltb, lt-leb, ltb-false}
+use Rattle.burr_plantext.specs.Rules.Written.{is_number, is_below, is_within, natural_in}
 use Rattle.burr_plantext.proofs.Common.ParsedNumbers.{parsed_below, parsed_number}
-use Rattle.burr_asm.specs.Views.Numbers.{IsBelow, IsOfWidth}
+use Rattle.burr_asm.specs.Views.Numbers.{IsBelow, IsOfWidth, IsWithin}
+use Rattle.burr_asm.specs.Views.Sets.{is_member, IsMember}
 
 pub below_read : {E : Type 0} (k : ℕ) (w text : List ℕ) (r : Result ℕ E) → text ≡ w → IsTrue (is_number w) → ParsesUnsigned k 10 text r → IsBelow (2 ^ k) w (result_ok r)
 below_read {E} k w text r e h p = parsed_below k w r h (subst (λ (t : List ℕ). ParsesUnsigned {E = E} k 10 t r) e p)
@@ -18,3 +21,50 @@ signed_read {E} v w text r e h p = parsed_number v w r h (subst (λ (t : List �
 pub read_as_text : {T E : Type 0} (r : Result T E) (P : T → Type 0) (U : Type 0) (Q : E → Type 0) → MatchResult r P (λ e. (¬ U) × Q e) → U → IsOk r
 read_as_text (Ok x) P U Q cases holds = refl
 read_as_text (Err e) P U Q cases holds = absurd (cases.0 holds)
+
+-- A word of no number below a bound writes none below a lower one, none of a range that ends below it,
+-- and no member of a set below it.
+pub none_below : (less bound : ℕ) (word : List ℕ) → less ≤ bound → is_below bound word ≡ false → is_below less word ≡ false
+none_below less bound word few e = by (not (starts_with_minus word)) e
+  where
+    by : (t : Bool) → (t && nat_lt (natural_in word) bound) ≡ false → (t && nat_lt (natural_in word) less) ≡ false
+    by false e = refl
+    by true e = let many = ltb-false (natural_in word) bound e in le-ltb (natural_in word) less (omega (arith, few, many))
+
+pub none_within : (low high bound : ℕ) (word : List ℕ) → high < bound → is_below bound word ≡ false → is_within low high word ≡ false
+none_within low high bound word few e = by (not (starts_with_minus word)) e
+  where
+    by : (t : Bool) → (t && nat_lt (natural_in word) bound) ≡ false → (t && nat_le low (natural_in word) && nat_le (natural_in word) high) ≡ false
+    by false e = refl
+    by true e =
+        let many = ltb-false (natural_in word) bound e in
+        and_right (nat_le low (natural_in word)) (nat_le (natural_in word) high) (lt-leb (natural_in word) high (omega (arith, few, many)))
+
+pub no_member : (least less bound : ℕ) (word : List ℕ) → less ≤ bound → is_below bound word ≡ false → is_member least less word ≡ false
+no_member least less bound word few e = and_left (is_below less word) (nat_le least (natural_in word)) (none_below less bound word few e)
+
+-- A word that has been read as a number below a bound is tested by that number.
+module _ (bound n : ℕ) (word : List ℕ) (below : is_below bound word ≡ true) (is : n ≡ natural_in word) where
+  natural : not (starts_with_minus word) ≡ true
+  natural = (and_parts (not (starts_with_minus word)) (nat_lt (natural_in word) bound) below).0
+
+  pub found_below : (less : ℕ) → IsBelow less word (then_some (nat_lt n less) n)
+  found_below less = by (nat_lt n less) (λ i. natural i && nat_lt (sym is i) less)
+    where
+      by : (t : Bool) → is_below less word ≡ t → IsBelow less word (then_some t n)
+      by true e = (e, is)
+      by false e = e
+
+  pub found_within : (low high : ℕ) (test : Bool) → test ≡ (nat_le low n && nat_le n high) → IsWithin low high word (then_some test n)
+  found_within low high test e = by test ((λ i. natural i && nat_le low (sym is i) && nat_le (sym is i) high) ∙ sym e)
+    where
+      by : (t : Bool) → is_within low high word ≡ t → IsWithin low high word (then_some t n)
+      by true e = (e, is)
+      by false e = e
+
+  pub found_member : (least less : ℕ) (test : Bool) → test ≡ (nat_lt n less && nat_le least n) → IsMember least less word (then_some test n)
+  found_member least less test e = by test ((λ i. natural i && nat_lt (sym is i) less && nat_le least (sym is i)) ∙ sym e)
+    where
+      by : (t : Bool) → is_member least less word ≡ t → IsMember least less word (then_some t n)
+      by true e = (e, is)
+      by false e = e

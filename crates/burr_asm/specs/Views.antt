@@ -1,5 +1,4 @@
 pub mod Beginnings
-pub mod CodeKeywords
 pub mod CodeParts
 pub mod Coded
 pub mod ExitFrames

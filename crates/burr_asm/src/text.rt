@@ -4,6 +4,7 @@ mod exit;
 mod form;
 mod frame;
 mod front;
+mod keyword;
 mod line;
 mod names;
 mod numbers;

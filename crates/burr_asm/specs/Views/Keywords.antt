@@ -1,63 +1,120 @@
--- Which lines words are, in the order in which the code asks for their first word.
-use Rattle.std.specs.Prelude.{ℕ, List, [], ◌∷◌, codes, Option}
+-- The words with which lines begin that have others after them, and the lines that the others make.
+use Rattle.std.specs.Prelude.{ℕ, List, codes, Option}
 use Rattle.burr_container.specs.Rules.Fitting.{is_name_text}
 use Rattle.burr_plantext.specs.Rules.Written.{is_number, is_set, is_form}
-use Rattle.burr_plantext.specs.Rules.Operands.{one, two, by_word, directed}
-use Rattle.burr_plantext.specs.Rules.Statements.{Statement, Push, Load, Store, Grip, Step, Aside, Tray, Ask, code_of}
-use Rattle.burr_plantext.specs.Rules.Operands.{alone}
-use Rattle.burr_plantext.specs.Rules.Lines.{Line, ExitLine, LabelLine, FrameLine, GuardLine, StackLine, CostLine, procedure_line, grip_line, result_line, slot_line, piece_line, code_line, or_else}
+use Rattle.burr_plantext.specs.Rules.Operands.{alone, one, two, directed}
+use Rattle.burr_plantext.specs.Rules.Statements.{Statement, Push, Load, Store, Grip, Step, Aside, Tray, Ask, Jump, Down, Call, offer, bytes_line}
+use Rattle.burr_plantext.specs.Rules.Lines.{Line, ExitLine, LabelLine, FrameLine, GuardLine, StackLine, CostLine, title_line, procedure_line, grip_line, result_line, slot_line, piece_line, code_line}
+use Rattle.burr_asm.specs.declared.text.keyword.Keyword.{Keyword}
+use Rattle.burr_asm.specs.declared.text.keyword.Keyword.TheVariants as key
+use Rattle.burr_asm.specs.declared.text.keyword.PartKeyword.{PartKeyword}
+use Rattle.burr_asm.specs.declared.text.keyword.PartKeyword.TheVariants as part
+use Rattle.burr_asm.specs.declared.text.keyword.FrameKeyword.{FrameKeyword}
+use Rattle.burr_asm.specs.declared.text.keyword.FrameKeyword.TheVariants as frame
+use Rattle.burr_asm.specs.declared.text.keyword.FormKeyword.{FormKeyword}
+use Rattle.burr_asm.specs.declared.text.keyword.FormKeyword.TheVariants as form
+use Rattle.burr_asm.specs.declared.text.keyword.CodeKeyword.{CodeKeyword}
+use Rattle.burr_asm.specs.declared.text.keyword.CodeKeyword.TheVariants as code
+use Rattle.burr_asm.specs.declared.text.keyword.PlainKeyword.{PlainKeyword}
+use Rattle.burr_asm.specs.declared.text.keyword.PlainKeyword.TheVariants as plain
+use Rattle.burr_asm.specs.declared.text.keyword.NumberKeyword.{NumberKeyword}
+use Rattle.burr_asm.specs.declared.text.keyword.NumberKeyword.TheVariants as number
+use Rattle.burr_asm.specs.Views.Versions.{first_word_of, number_of_version}
+
+-- Words
+
+abbrev pub part_word : PartKeyword → List ℕ
+part_word part.Procedure = codes "proc"
+part_word part.Exit = codes "exit"
+part_word part.Label = codes "label"
+part_word part.Frame = codes "frame"
+
+abbrev pub frame_word : FrameKeyword → List ℕ
+frame_word frame.Slot = codes "slot"
+frame_word frame.Result = codes "result"
+frame_word frame.At = codes "at"
+
+abbrev pub form_word : FormKeyword → List ℕ
+form_word form.Guard = codes "guard"
+form_word form.Stack = codes "stack"
+form_word form.Cost = codes "cost"
+
+abbrev pub code_word : CodeKeyword → List ℕ
+code_word code.Jump = codes "jump"
+code_word code.Down = codes "down"
+code_word code.Pick = codes "pick"
+code_word code.Call = codes "call"
+code_word code.Byte = codes "byte"
+
+abbrev pub number_word : NumberKeyword → List ℕ
+number_word number.Push = codes "push"
+number_word number.Load = codes "load"
+number_word number.Store = codes "store"
+number_word number.Tray = codes "tray"
+
+abbrev pub plain_word : PlainKeyword → List ℕ
+plain_word (plain.Number keyword) = number_word keyword
+plain_word plain.Ask = codes "ask"
+plain_word plain.Grip = codes "grip"
+plain_word plain.Step = codes "step"
+plain_word plain.Aside = codes "aside"
+
+-- how a keyword is written
+abbrev pub word_of : Keyword → List ℕ
+word_of (key.Plan version) = first_word_of version
+word_of (key.Part keyword) = part_word keyword
+word_of (key.Frame keyword) = frame_word keyword
+word_of (key.Form keyword) = form_word keyword
+word_of (key.Code keyword) = code_word keyword
+word_of (key.Plain keyword) = plain_word keyword
 
 -- Code
 
--- instructions that move pieces
-abbrev pub space_words : List (List ℕ × (List (List ℕ) → Option Statement))
-space_words =
-    (codes "grip", one is_set Grip) ∷ (codes "step", directed (λ d. alone (Step d)))
-    ∷ (codes "aside", directed (λ d. one is_number (Aside d)))
-    ∷ (codes "tray", one is_number Tray) ∷ []
+abbrev pub number_line : NumberKeyword → List (List ℕ) → Option Statement
+number_line number.Push = one is_number Push
+number_line number.Load = one is_number Load
+number_line number.Store = one is_number Store
+number_line number.Tray = one is_number Tray
 
-abbrev pub space_line : List ℕ → List (List ℕ) → Option Statement
-space_line word operands = by_word word space_words operands
+-- an instruction that names nothing
+abbrev pub plain_line : PlainKeyword → List (List ℕ) → Option Statement
+plain_line (plain.Number keyword) = number_line keyword
+plain_line plain.Ask = two is_number is_number Ask
+plain_line plain.Grip = one is_set Grip
+plain_line plain.Step = directed (λ d. alone (Step d))
+plain_line plain.Aside = directed (λ d. one is_number (Aside d))
 
--- all that name nothing and have operands
-abbrev pub plain_table : List (List ℕ × (List (List ℕ) → Option Statement))
-plain_table =
-    (codes "push", one is_number Push) ∷ (codes "load", one is_number Load)
-    ∷ (codes "store", one is_number Store) ∷ (codes "ask", two is_number is_number Ask)
-    ∷ space_words
+-- an instruction that names something, or a raw byte
+abbrev pub operands_line : CodeKeyword → List (List ℕ) → Option Statement
+operands_line code.Jump = one is_name_text Jump
+operands_line code.Down = two is_number is_name_text Down
+operands_line code.Pick = offer
+operands_line code.Call = one is_name_text Call
+operands_line code.Byte = bytes_line
 
-abbrev pub plain_line : List ℕ → List (List ℕ) → Option Statement
-plain_line word operands = by_word word plain_table operands
+-- Lines
 
--- Other lines
+abbrev pub part_line : PartKeyword → List (List ℕ) → Option Line
+part_line part.Procedure = procedure_line
+part_line part.Exit = grip_line ExitLine
+part_line part.Label = one is_name_text LabelLine
+part_line part.Frame = grip_line FrameLine
 
--- forms, and else code
-abbrev pub form_words : List (List ℕ × (List (List ℕ) → Option Line))
-form_words =
-    (codes "guard", one is_form GuardLine) ∷ (codes "stack", one is_form StackLine)
-    ∷ (codes "cost", one is_form CostLine) ∷ []
+abbrev pub frame_line : FrameKeyword → List (List ℕ) → Option Line
+frame_line frame.Slot = slot_line
+frame_line frame.Result = result_line
+frame_line frame.At = piece_line
 
-abbrev pub form_or_code : List ℕ → List (List ℕ) → Option Line
-form_or_code word operands =
-    or_else (by_word word form_words operands) (code_line (code_of word operands))
+abbrev pub form_line : FormKeyword → List (List ℕ) → Option Line
+form_line form.Guard = one is_form GuardLine
+form_line form.Stack = one is_form StackLine
+form_line form.Cost = one is_form CostLine
 
--- lines of a frame, and else code
-abbrev pub frame_words : List (List ℕ × (List (List ℕ) → Option Line))
-frame_words =
-    (codes "slot", slot_line) ∷ (codes "result", result_line) ∷ (codes "at", piece_line)
-    ∷ form_words
-
-abbrev pub frame_or_code : List ℕ → List (List ℕ) → Option Line
-frame_or_code word operands =
-    or_else (by_word word frame_words operands) (code_line (code_of word operands))
-
--- lines with which a part of the text begins, and else a frame's
-abbrev pub part_words : List (List ℕ × (List (List ℕ) → Option Line))
-part_words =
-    (codes "proc", procedure_line) ∷ (codes "exit", grip_line ExitLine)
-    ∷ (codes "label", one is_name_text LabelLine) ∷ (codes "frame", grip_line FrameLine)
-    ∷ frame_words
-
-abbrev pub part_or_code : List ℕ → List (List ℕ) → Option Line
-part_or_code word operands =
-    or_else (by_word word part_words operands) (code_line (code_of word operands))
+-- the line that begins with a keyword and has these operands, if there is one
+abbrev pub keyword_line : Keyword → List (List ℕ) → Option Line
+keyword_line (key.Plan version) operands = title_line (number_of_version version) operands
+keyword_line (key.Part keyword) operands = part_line keyword operands
+keyword_line (key.Frame keyword) operands = frame_line keyword operands
+keyword_line (key.Form keyword) operands = form_line keyword operands
+keyword_line (key.Code keyword) operands = code_line (operands_line keyword operands)
+keyword_line (key.Plain keyword) operands = code_line (plain_line keyword operands)

@@ -2,9 +2,10 @@ ghost use Rattle.std.specs.Prelude.{◌≡◌, ◌<◌, [], false, true, IfSome,
 ghost use Rattle.burr_plantext.specs.Rules.Statements.{code_of, hex_value, is_hex_digit};
 ghost use Rattle.burr_plantext.specs.Rules.Statements.{raw_byte, Byte};
 ghost use Rattle.burr_plantext.specs.Rules.Texts.{words_of};
-ghost use Rattle.burr_asm.specs.Views.CodeKeywords.{IsNoKeyword, IsNoOther, keyword_line, word_of};
+ghost use Rattle.burr_asm.specs.Views.Keywords.{operands_line};
 ghost use Rattle.burr_asm.specs.Views.LineWords.{code_words};
 
+use crate::text::keyword::CodeKeyword;
 use crate::text::offer::OfferWords;
 use crate::text::plain_line::PlainLine;
 use crate::text::words::{NumberWord, name};
@@ -26,16 +27,6 @@ pub enum CodeLine<'a> {
     Byte(u8),
 }
 
-/// The word of a line that names something, or of a raw byte.
-#[derive(Clone, Copy)]
-enum Keyword {
-    Jump,
-    Down,
-    Pick,
-    Call,
-    Byte,
-}
-
 impl CodeLine<'_> {
     /// The line that is this one word; None where it is of no form.
     pub fn of_word(word: &[u8]) -> Option<CodeLine<'_>>
@@ -45,58 +36,21 @@ impl CodeLine<'_> {
         Some(CodeLine::Plain(PlainLine::of_word(word)?))
     }
 
-    /// The line that begins with this word, and what stands after the blank; None where it is of no
+    /// The line that begins with a keyword, and what stands after the blank; None where it is of no
     /// form.
-    pub fn with_operands<'a>(word: &[u8], words: &'a [u8]) -> Option<CodeLine<'a>>
-        ensures { MatchOption result (code_of word.now (words_of words.now) ≡ None) (λ line.
-            code_of word.now (words_of words.now) ≡ Some (code_words line)) }
-    {
-        match Keyword::of(word) {
-            Some(keyword) => CodeLine::with_keyword(keyword, words),
-            None => Some(CodeLine::Plain(PlainLine::with_operands(word, words)?)),
-        }
-    }
-
-    /// The line that begins with a keyword, and what stands after the blank.
-    fn with_keyword(keyword: Keyword, words: &[u8]) -> Option<CodeLine<'_>>
-        ensures { MatchOption result (keyword_line keyword (words_of words.now) ≡ None) (λ line.
-            keyword_line keyword (words_of words.now) ≡ Some (code_words line)) }
+    pub fn with_operands(keyword: CodeKeyword, words: &[u8]) -> Option<CodeLine<'_>>
+        ensures { MatchOption result (operands_line keyword (words_of words.now) ≡ None) (λ line.
+            operands_line keyword (words_of words.now) ≡ Some (code_words line)) }
     {
         match keyword {
-            Keyword::Jump => Some(CodeLine::Jump(name(words)?)),
-            Keyword::Down => {
+            CodeKeyword::Jump => Some(CodeLine::Jump(name(words)?)),
+            CodeKeyword::Down => {
                 let (slot, label) = NumberWord::cut(words)?;
                 Some(CodeLine::Down(slot, name(label)?))
             }
-            Keyword::Pick => Some(CodeLine::Pick(OfferWords::parse(words)?)),
-            Keyword::Call => Some(CodeLine::Call(name(words)?)),
-            Keyword::Byte => Some(CodeLine::Byte(hex_byte(words)?)),
-        }
-    }
-}
-
-impl Keyword {
-    /// The keyword that a word is.
-    fn of(word: &[u8]) -> Option<Keyword>
-        ensures { MatchOption result (IsNoKeyword word.now) (λ keyword.
-            word.now ≡ word_of keyword) }
-    {
-        match word {
-            b"jump" => Some(Keyword::Jump),
-            b"pick" => Some(Keyword::Pick),
-            _ => Keyword::other(word),
-        }
-    }
-
-    /// The keyword that a word is, if it is one of the rest.
-    fn other(word: &[u8]) -> Option<Keyword>
-        ensures { MatchOption result (IsNoOther word.now) (λ keyword. word.now ≡ word_of keyword) }
-    {
-        match word {
-            b"down" => Some(Keyword::Down),
-            b"call" => Some(Keyword::Call),
-            b"byte" => Some(Keyword::Byte),
-            _ => None,
+            CodeKeyword::Pick => Some(CodeLine::Pick(OfferWords::parse(words)?)),
+            CodeKeyword::Call => Some(CodeLine::Call(name(words)?)),
+            CodeKeyword::Byte => Some(CodeLine::Byte(hex_byte(words)?)),
         }
     }
 }

@@ -1,13 +1,12 @@
-ghost use Rattle.std.specs.Prelude.{◌≡◌, ◌∷◌, None, Some, IsTrue, MatchOption};
+ghost use Rattle.std.specs.Prelude.{◌≡◌, None, Some, MatchOption};
 ghost use Rattle.burr_plantext.specs.Rules.Checks.{is_of_version};
-ghost use Rattle.burr_plantext.specs.Rules.Lines.{PlanLine, ProcLine, AtLine, code_line};
+ghost use Rattle.burr_plantext.specs.Rules.Lines.{PlanLine, ProcLine, AtLine};
 ghost use Rattle.burr_plantext.specs.Rules.Lines.{grip_line, line_of, piece_line, procedure_line};
 ghost use Rattle.burr_plantext.specs.Rules.Lines.{title_line};
 ghost use Rattle.burr_plantext.specs.Rules.Operands.{three, two};
-ghost use Rattle.burr_plantext.specs.Rules.Statements.{code_of};
 ghost use Rattle.burr_plantext.specs.Rules.Texts.{words_of};
 ghost use Rattle.burr_plantext.specs.Rules.Written.{is_form, is_number};
-ghost use Rattle.burr_asm.specs.Views.Keywords.{form_or_code, frame_or_code, part_or_code};
+ghost use Rattle.burr_asm.specs.Views.Keywords.{form_line, frame_line, keyword_line, part_line};
 ghost use Rattle.burr_asm.specs.Views.LineWords.{grip_words, line_words};
 ghost use Rattle.burr_asm.specs.Views.LineWords.{piece_words, place_words, plan_words};
 ghost use Rattle.burr_asm.specs.Views.LineWords.{procedure_words, range_between, range_words};
@@ -18,6 +17,8 @@ ghost use Rattle.burr_asm.specs.Views.Words.{cut_word};
 
 use crate::text::code_line::CodeLine;
 use crate::text::form::FormWord;
+use crate::text::keyword::{FormKeyword, FrameKeyword, Keyword, PartKeyword};
+use crate::text::plain_line::PlainLine;
 use crate::text::set::SetWord;
 use crate::text::words::{NumberWord, cut_name, name};
 use crate::version::Version;
@@ -113,69 +114,66 @@ impl LineForm<'_> {
             line_of (words_of bytes.now) ≡ Some (line_words form)) }
     {
         match cut_at(bytes, b' ') {
-            Some((word, words)) => LineForm::with_words(word, words),
+            Some((word, words)) => LineForm::with_words(Keyword::of(word)?, words),
             None => Some(LineForm::Code(CodeLine::of_word(bytes)?)),
         }
     }
 
-    /// The line that begins with this word, and what stands after the blank.
-    fn with_words<'a>(word: &[u8], words: &'a [u8]) -> Option<LineForm<'a>>
-        ensures { MatchOption result (line_of (word.now ∷ words_of words.now) ≡ None) (λ form.
-            line_of (word.now ∷ words_of words.now) ≡ Some (line_words form)) }
+    /// The line that begins with a keyword, and what stands after the blank.
+    fn with_words(keyword: Keyword, words: &[u8]) -> Option<LineForm<'_>>
+        ensures { MatchOption result (keyword_line keyword (words_of words.now) ≡ None) (λ form.
+            keyword_line keyword (words_of words.now) ≡ Some (line_words form)) }
     {
-        match Version::begun_by(word) {
-            Some(version) => Some(LineForm::Plan(PlanWords::parse(version, words)?)),
-            None => LineForm::of_part(word, words),
+        match keyword {
+            Keyword::Plan(version) => Some(LineForm::Plan(PlanWords::parse(version, words)?)),
+            Keyword::Part(keyword) => LineForm::of_part(keyword, words),
+            Keyword::Frame(keyword) => LineForm::of_frame(keyword, words),
+            Keyword::Form(keyword) => LineForm::of_form(keyword, words),
+            Keyword::Code(keyword) => Some(LineForm::Code(CodeLine::with_operands(
+                keyword, words,
+            )?)),
+            Keyword::Plain(keyword) => Some(LineForm::Code(CodeLine::Plain(PlainLine::with_operands(
+                keyword, words,
+            )?))),
         }
     }
 
-    /// The line with which a part of the text begins, or another one.
-    fn of_part<'a>(word: &[u8], words: &'a [u8]) -> Option<LineForm<'a>>
-        ensures { MatchOption result (part_or_code word.now (words_of words.now) ≡ None) (λ form.
-            part_or_code word.now (words_of words.now) ≡ Some (line_words form)) }
+    /// The line with which a part of the text begins.
+    fn of_part(keyword: PartKeyword, words: &[u8]) -> Option<LineForm<'_>>
+        ensures { MatchOption result (part_line keyword (words_of words.now) ≡ None) (λ form.
+            part_line keyword (words_of words.now) ≡ Some (line_words form)) }
     {
-        match word {
-            b"proc" => Some(LineForm::Procedure(ProcedureWords::parse(words)?)),
-            b"exit" => Some(LineForm::Exit(GripWords::parse(words)?)),
-            b"label" => Some(LineForm::Label(name(words)?)),
-            b"frame" => Some(LineForm::Frame(GripWords::parse(words)?)),
-            _ => LineForm::of_frame(word, words),
+        match keyword {
+            PartKeyword::Procedure => Some(LineForm::Procedure(ProcedureWords::parse(words)?)),
+            PartKeyword::Exit => Some(LineForm::Exit(GripWords::parse(words)?)),
+            PartKeyword::Label => Some(LineForm::Label(name(words)?)),
+            PartKeyword::Frame => Some(LineForm::Frame(GripWords::parse(words)?)),
         }
     }
 
-    /// The line within a frame, or after it.
-    fn of_frame<'a>(word: &[u8], words: &'a [u8]) -> Option<LineForm<'a>>
-        ensures { MatchOption result (frame_or_code word.now (words_of words.now) ≡ None) (λ form.
-            frame_or_code word.now (words_of words.now) ≡ Some (line_words form)) }
+    /// The line within a frame.
+    fn of_frame(keyword: FrameKeyword, words: &[u8]) -> Option<LineForm<'_>>
+        ensures { MatchOption result (frame_line keyword (words_of words.now) ≡ None) (λ form.
+            frame_line keyword (words_of words.now) ≡ Some (line_words form)) }
     {
-        match word {
-            b"slot" => Some(LineForm::Slot(SlotWords::parse(words)?)),
-            b"result" => Some(LineForm::Result(RangeWords::parse(words)?)),
-            b"at" => Some(LineForm::At(PieceWords::parse(words)?)),
-            _ => LineForm::of_form(word, words),
+        match keyword {
+            FrameKeyword::Slot => Some(LineForm::Slot(SlotWords::parse(words)?)),
+            FrameKeyword::Result => Some(LineForm::Result(RangeWords::parse(words)?)),
+            FrameKeyword::At => Some(LineForm::At(PieceWords::parse(words)?)),
         }
     }
 
-    /// The line of a form, or of code.
-    fn of_form<'a>(word: &[u8], words: &'a [u8]) -> Option<LineForm<'a>>
-        ensures { MatchOption result (form_or_code word.now (words_of words.now) ≡ None) (λ form.
-            form_or_code word.now (words_of words.now) ≡ Some (line_words form)) }
+    /// The line of a form.
+    fn of_form(keyword: FormKeyword, words: &[u8]) -> Option<LineForm<'_>>
+        ensures { MatchOption result (form_line keyword (words_of words.now) ≡ None) (λ form.
+            form_line keyword (words_of words.now) ≡ Some (line_words form)) }
     {
-        match word {
-            b"guard" => Some(LineForm::Guard(FormWord::parse(words)?)),
-            b"stack" => Some(LineForm::Stack(FormWord::parse(words)?)),
-            b"cost" => Some(LineForm::Cost(FormWord::parse(words)?)),
-            _ => LineForm::of_code(word, words),
+        let form = FormWord::parse(words)?;
+        match keyword {
+            FormKeyword::Guard => Some(LineForm::Guard(form)),
+            FormKeyword::Stack => Some(LineForm::Stack(form)),
+            FormKeyword::Cost => Some(LineForm::Cost(form)),
         }
-    }
-
-    /// The line of code.
-    fn of_code<'a>(word: &[u8], words: &'a [u8]) -> Option<LineForm<'a>>
-        ensures { MatchOption result
-            (code_line (code_of word.now (words_of words.now)) ≡ None)
-            (λ form. code_line (code_of word.now (words_of words.now)) ≡ Some (line_words form)) }
-    {
-        Some(LineForm::Code(CodeLine::with_operands(word, words)?))
     }
 }
 

@@ -1,9 +1,10 @@
 ghost use Rattle.std.specs.Prelude.{◌≡◌, [], MatchOption, None, Some};
 ghost use Rattle.burr_plantext.specs.Rules.Statements.{code_of};
 ghost use Rattle.burr_plantext.specs.Rules.Texts.{words_of};
-ghost use Rattle.burr_asm.specs.Views.Keywords.{plain_line, space_line};
+ghost use Rattle.burr_asm.specs.Views.Keywords.{number_line, plain_line};
 ghost use Rattle.burr_asm.specs.Views.LineWords.{plain_words};
 
+use crate::text::keyword::{NumberKeyword, PlainKeyword};
 use crate::text::set::SetWord;
 use crate::text::words::NumberWord;
 use burr_text::cut_at;
@@ -40,54 +41,61 @@ pub enum PlainLine<'a> {
     Ret,
 }
 
+/// All instructions without operands, as they are written.
+const ALONE: [(&[u8], PlainLine<'static>); 5] = [
+    (b"halt", PlainLine::Halt),
+    (b"add", PlainLine::Add),
+    (b"sub", PlainLine::Sub),
+    (b"drop", PlainLine::Drop),
+    (b"ret", PlainLine::Ret),
+];
+
 impl PlainLine<'_> {
     /// The line that is this one word; None where it is of no form.
     pub fn of_word(word: &[u8]) -> Option<PlainLine<'_>>
         ensures { MatchOption result (code_of word.now [] ≡ None) (λ line.
             code_of word.now [] ≡ Some (plain_words line)) }
     {
-        match word {
-            b"halt" => Some(PlainLine::Halt),
-            b"add" => Some(PlainLine::Add),
-            b"sub" => Some(PlainLine::Sub),
-            b"drop" => Some(PlainLine::Drop),
-            b"ret" => Some(PlainLine::Ret),
-            _ => None,
+        for (text, line) in &ALONE {
+            if word == *text {
+                return Some(*line);
+            }
         }
+        None
     }
 
-    /// The line that begins with this word, and what stands after the blank; None where it is of no
+    /// The line that begins with a keyword, and what stands after the blank; None where it is of no
     /// form.
-    pub fn with_operands<'a>(word: &[u8], words: &'a [u8]) -> Option<PlainLine<'a>>
-        ensures { MatchOption result (plain_line word.now (words_of words.now) ≡ None) (λ line.
-            plain_line word.now (words_of words.now) ≡ Some (plain_words line)) }
+    pub fn with_operands(keyword: PlainKeyword, words: &[u8]) -> Option<PlainLine<'_>>
+        ensures { MatchOption result (plain_line keyword (words_of words.now) ≡ None) (λ line.
+            plain_line keyword (words_of words.now) ≡ Some (plain_words line)) }
     {
-        match word {
-            b"push" => Some(PlainLine::Push(NumberWord::parse(words)?)),
-            b"load" => Some(PlainLine::Load(NumberWord::parse(words)?)),
-            b"store" => Some(PlainLine::Store(NumberWord::parse(words)?)),
-            b"ask" => {
+        match keyword {
+            PlainKeyword::Number(keyword) => PlainLine::with_number(keyword, words),
+            PlainKeyword::Ask => {
                 let (low, high) = NumberWord::cut(words)?;
                 Some(PlainLine::Ask(low, NumberWord::parse(high)?))
             }
-            _ => PlainLine::in_space(word, words),
-        }
-    }
-
-    /// The line of an instruction that moves pieces.
-    fn in_space<'a>(word: &[u8], words: &'a [u8]) -> Option<PlainLine<'a>>
-        ensures { MatchOption result (space_line word.now (words_of words.now) ≡ None) (λ line.
-            space_line word.now (words_of words.now) ≡ Some (plain_words line)) }
-    {
-        match word {
-            b"grip" => Some(PlainLine::Grip(SetWord::parse(words)?)),
-            b"step" => Some(PlainLine::Step(Direction::named(words)?)),
-            b"aside" => {
+            PlainKeyword::Grip => Some(PlainLine::Grip(SetWord::parse(words)?)),
+            PlainKeyword::Step => Some(PlainLine::Step(Direction::named(words)?)),
+            PlainKeyword::Aside => {
                 let (direction, tray) = cut_at(words, b' ')?;
                 Some(PlainLine::Aside(Direction::named(direction)?, NumberWord::parse(tray)?))
             }
-            b"tray" => Some(PlainLine::Tray(NumberWord::parse(words)?)),
-            _ => None,
+        }
+    }
+
+    /// The line of an instruction whose only operand is a number.
+    fn with_number(keyword: NumberKeyword, words: &[u8]) -> Option<PlainLine<'_>>
+        ensures { MatchOption result (number_line keyword (words_of words.now) ≡ None) (λ line.
+            number_line keyword (words_of words.now) ≡ Some (plain_words line)) }
+    {
+        let number = NumberWord::parse(words)?;
+        match keyword {
+            NumberKeyword::Push => Some(PlainLine::Push(number)),
+            NumberKeyword::Load => Some(PlainLine::Load(number)),
+            NumberKeyword::Store => Some(PlainLine::Store(number)),
+            NumberKeyword::Tray => Some(PlainLine::Tray(number)),
         }
     }
 }
