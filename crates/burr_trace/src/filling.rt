@@ -4,7 +4,7 @@ use crate::following::Prepared;
 use crate::seen::Seen;
 use crate::summary::Summary;
 use burr_blocking::Blocking;
-use burr_lines::PlanText;
+use burr_lines::{PlanText, Report};
 use burr_text::cut_at;
 use std::alloc::{AllocError, Global};
 
@@ -52,12 +52,12 @@ impl Unframed<'_> {
 
     /// The lines of a frame that says nothing.
     fn blank_frame(&self, alloc: Global) -> Result<String, AllocError> {
-        let mut frame = String::new(alloc);
-        frame.push_str("frame 0 -\ncost 0\n")?;
+        let mut frame = Report::new(alloc);
+        frame.add_words("frame 0 -\ncost 0\n");
         for piece in 0..self.pieces {
-            writeln!(frame, "at {piece} apart")?;
+            frame.add_words(format_args!("at {piece} apart\n"));
         }
-        Ok(frame)
+        frame.into_text()
     }
 
     /// The number of a line of the text with blank frames, in the text itself.
@@ -139,7 +139,8 @@ fn add_line(line: &[u8], made: &mut Vec<u8>) -> Result<(), AllocError> {
 
 /// Adds the lines of the frame that all agrees with that was seen.
 fn add_frame(alloc: Global, seen: &Seen, made: &mut Vec<u8>) -> Result<(), AllocError> {
-    let mut frame = String::new(alloc);
-    seen.add_frame(&mut frame)?;
+    let mut report = Report::new(alloc);
+    seen.add_frame(&mut report);
+    let frame = report.into_text()?;
     made.extend_from_slice(frame.as_bytes())
 }

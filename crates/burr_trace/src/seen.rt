@@ -5,6 +5,7 @@ use crate::pieces::Pieces;
 use crate::snapshot::Snapshot;
 use burr_code::Placement;
 use burr_code::limits::SLOTS;
+use burr_lines::Report;
 use burr_voxels::Cell;
 use std::alloc::{AllocError, Global};
 use std::fmt;
@@ -149,57 +150,51 @@ impl Seen {
     }
 
     /// Adds the lines of the frame that all of it agrees with; what no such line says is a comment.
-    pub fn add_frame(&self, text: &mut String) -> Result<(), AllocError> {
+    pub fn add_frame(&self, report: &mut Report) {
         match self.head {
             Some((tray, grip)) => {
                 let grip = Pieces(grip);
-                writeln!(text, "frame {tray} {grip}")?;
+                report.add_words(format_args!("frame {tray} {grip}\n"));
             }
-            None => text.push_str("; frame: not always one tray and grip\n")?,
+            None => report.add_words("; frame: not always one tray and grip\n"),
         }
-        self.add_slots(text)?;
-        self.add_operands(text)?;
+        self.add_slots(report);
+        self.add_operands(report);
         let cost = self.most_cost();
-        writeln!(text, "cost {cost}")?;
-        self.add_places(text)
+        report.add_words(format_args!("cost {cost}\n"));
+        self.add_places(report);
     }
 
     /// Adds the lines of the slots that always held a number.
-    fn add_slots(&self, text: &mut String) -> Result<(), AllocError> {
+    fn add_slots(&self, report: &mut Report) {
         for (slot, range) in self.ranges.iter().enumerate() {
             if let Some((least, greatest)) = range {
-                writeln!(text, "slot {slot} {least} {greatest}")?;
+                report.add_words(format_args!("slot {slot} {least} {greatest}\n"));
             }
         }
-        Ok(())
     }
 
     /// Adds the lines of the operands.
-    fn add_operands(&self, text: &mut String) -> Result<(), AllocError> {
+    fn add_operands(&self, report: &mut Report) {
         if !self.as_many {
-            return text.push_str("; stack: not always as many operands\n");
+            return report.add_words("; stack: not always as many operands\n");
         }
         for fit in &self.operands {
-            self.add_number(text, "stack", fit)?;
+            self.add_operand(report, fit);
         }
-        Ok(())
     }
 
     /// Adds the lines of the pieces.
-    fn add_places(&self, text: &mut String) -> Result<(), AllocError> {
+    fn add_places(&self, report: &mut Report) {
         for (piece, seen) in self.places.iter().enumerate() {
             match seen {
-                SeenPlace::Apart => writeln!(text, "at {piece} apart")?,
-                SeenPlace::Various => {
-                    writeln!(
-                        text,
-                        "; at {piece}: not always in one tray, or not always apart"
-                    )?;
-                }
-                SeenPlace::In { tray, offset } => self.add_place(text, piece, *tray, offset)?,
+                SeenPlace::Apart => report.add_words(format_args!("at {piece} apart\n")),
+                SeenPlace::Various => report.add_words(format_args!(
+                    "; at {piece}: not always in one tray, or not always apart\n"
+                )),
+                SeenPlace::In { tray, offset } => self.add_place(report, piece, *tray, offset),
             }
         }
-        Ok(())
     }
 
     /// The cost as a form; where there is none, the greatest.
@@ -247,29 +242,23 @@ impl Seen {
         }
     }
 
-    /// Adds the line of a number with this word.
-    fn add_number(&self, text: &mut String, word: &str, fit: &Fit) -> Result<(), AllocError> {
+    /// Adds the line of an operand.
+    fn add_operand(&self, report: &mut Report, fit: &Fit) {
         let number = self.extent(fit);
         let mark = if number.is_form() { "" } else { "; " };
-        writeln!(text, "{mark}{word} {number}")
+        report.add_words(format_args!("{mark}stack {number}\n"));
     }
 
     /// Adds the line of a piece that was always in one tray.
-    fn add_place(
-        &self,
-        text: &mut String,
-        piece: usize,
-        tray: u8,
-        offset: &[Fit; 3],
-    ) -> Result<(), AllocError> {
+    fn add_place(&self, report: &mut Report, piece: usize, tray: u8, offset: &[Fit; 3]) {
         let [x, y, z] = offset;
         let x = self.extent(x);
         let y = self.extent(y);
         let z = self.extent(z);
         if x.is_form() && y.is_form() && z.is_form() {
-            return writeln!(text, "at {piece} {tray} {x} {y} {z}");
+            return report.add_words(format_args!("at {piece} {tray} {x} {y} {z}\n"));
         }
-        writeln!(text, "; at {piece} {tray}: x {x}, y {y}, z {z}")
+        report.add_words(format_args!("; at {piece} {tray}: x {x}, y {y}, z {z}\n"));
     }
 
     /// Which slots always held a number.

@@ -8,7 +8,7 @@ use crate::walk::Walk;
 use burr_bench::Closing;
 use burr_blocking::Blocking;
 use burr_container::Container;
-use burr_lines::{Place, PlanText, Shown};
+use burr_lines::{Place, PlanText, Report, Shown};
 use std::alloc::{AllocError, Global};
 
 /// What holds whenever the run of a plan, with these answers, comes to a label: where the text names
@@ -25,7 +25,7 @@ pub fn trace_of<B: Blocking>(
     let prepared = Prepared::of(alloc, plan, blocking, answers)?;
     let mut trace = Trace::new(alloc, plan.file, &prepared)?;
     trace.follow(plan.container, blocking, answers)?;
-    Ok(trace.text)
+    trace.report.into_text()
 }
 
 /// A trace under way.
@@ -35,7 +35,7 @@ struct Trace<'a, 'x> {
     file: &'x str,
     prepared: &'x Prepared<'a>,
     summary: Summary<'x>,
-    text: String,
+    report: Report,
 }
 
 impl<'a, 'x> Trace<'a, 'x> {
@@ -50,7 +50,7 @@ impl<'a, 'x> Trace<'a, 'x> {
             file,
             prepared,
             summary: Summary::new(alloc, prepared)?,
-            text: String::new(alloc),
+            report: Report::new(alloc),
         })
     }
 
@@ -66,32 +66,29 @@ impl<'a, 'x> Trace<'a, 'x> {
         };
         let labels = &self.prepared.labels;
         if follow(&mut walk, labels, self)? != Closing::Apart {
-            self.add_end(&walk)?;
+            self.add_end(&walk);
         }
-        self.add_labels()
+        self.add_labels();
+        Ok(())
     }
 
     /// Adds the line where a run stands that did not come to its end.
-    fn add_end<B: Blocking>(&mut self, walk: &Walk<'_, '_, B>) -> Result<(), AllocError> {
+    fn add_end<B: Blocking>(&mut self, walk: &Walk<'_, '_, B>) {
         let bench = walk.bench();
         let place = Place::Code(usize::from(bench.proc()), usize::from(bench.pc()));
-        let Some(line) = self.prepared.lines.line_of(place) else {
-            return Ok(());
-        };
-        let file = self.file;
-        let number = line.number;
-        let shown = Shown(line.bytes);
-        writeln!(self.text, "\n; the run stands at {file}:{number}: {shown}")
+        if let Some(line) = self.prepared.lines.line_of(place) {
+            self.report.add_words("\n; the run stands at ");
+            self.report.add_line(self.file, &line);
+        }
     }
 
     /// Adds what was seen at each label.
-    fn add_labels(&mut self) -> Result<(), AllocError> {
+    fn add_labels(&mut self) {
         let labels = self.prepared.labels.as_slice();
         for (label, seen) in labels.iter().zip(self.summary.seen()) {
-            add_label(&mut self.text, self.file, label)?;
-            add_seen(&mut self.text, seen)?;
+            add_label(&mut self.report, self.file, label);
+            add_seen(&mut self.report, seen);
         }
-        Ok(())
     }
 }
 
@@ -103,38 +100,40 @@ impl Observer for Trace<'_, '_> {
     ) -> Result<(), AllocError> {
         let now = self.summary.see(label, walk)?;
         if let Some(place) = self.prepared.labels.as_slice().get(label) {
-            add_label(&mut self.text, self.file, place)?;
+            add_label(&mut self.report, self.file, place);
         }
-        add_arrival(&mut self.text, walk)?;
-        Seen::new(self.alloc, &now)?.add_frame(&mut self.text)
+        add_arrival(&mut self.report, walk);
+        Seen::new(self.alloc, &now)?.add_frame(&mut self.report);
+        Ok(())
     }
 
     fn note_turn<B: Blocking>(&mut self, _walk: &Walk<'_, '_, B>) {}
 }
 
 /// Adds an empty line, and begins a comment with the line that names a label.
-fn add_label(text: &mut String, file: &str, label: &Label<'_>) -> Result<(), AllocError> {
+fn add_label(report: &mut Report, file: &str, label: &Label<'_>) {
     let number = label.line.number;
     let name = Shown(label.line.operand());
     let procedure = Shown(label.procedure_line.operand());
-    write!(text, "\n; {file}:{number}: label {name} of {procedure}")
+    report.add_words(format_args!("\n; {file}:{number}: label {name} of {procedure}"));
 }
 
 /// Ends the comment with how often the run came to a label, and adds the frame that it agrees with.
-fn add_seen(text: &mut String, seen: &Option<Seen>) -> Result<(), AllocError> {
+fn add_seen(report: &mut Report, seen: &Option<Seen>) {
     let Some(seen) = seen else {
-        return text.push_str(": times 0\n");
+        return report.add_words(": times 0\n");
     };
     let times = seen.times();
-    writeln!(text, ": times {times}")?;
-    seen.add_frame(text)
+    report.add_words(format_args!(": times {times}\n"));
+    seen.add_frame(report);
 }
 
 /// Ends the comment with the steps that were made and the answer last taken.
-fn add_arrival<B: Blocking>(text: &mut String, walk: &Walk<'_, '_, B>) -> Result<(), AllocError> {
+fn add_arrival<B: Blocking>(report: &mut Report, walk: &Walk<'_, '_, B>) {
     let steps = walk.bench().steps();
-    match walk.answered() {
-        Some(answer) => writeln!(text, ": steps {steps}, answer {answer}"),
-        None => writeln!(text, ": steps {steps}"),
+    report.add_words(format_args!(": steps {steps}"));
+    if let Some(answer) = walk.answered() {
+        report.add_words(format_args!(", answer {answer}"));
     }
+    report.add_words("\n");
 }

@@ -8,7 +8,6 @@ use burr_assembly::Assembly;
 use burr_code::Placement;
 use burr_container::{ExitRef, FrameRef};
 use burr_lines::{Part, piece_name};
-use std::alloc::AllocError;
 use std::fmt;
 
 impl Differences {
@@ -20,17 +19,16 @@ impl Differences {
         standing: &Standing,
         frame: &FrameRef<'_>,
         left: Option<i64>,
-    ) -> Result<(), AllocError> {
+    ) {
         let symbols = standing.live_values(frame);
         let wanted = Standing::framed(frame, &symbols);
-        self.compare_structure(assembly, standing, &wanted, frame)?;
+        self.compare_structure(assembly, standing, &wanted, frame);
         if !self.found.is_empty() {
-            return Ok(());
+            return;
         }
-        self.compare_numbers(assembly, standing, &wanted, frame)?;
-        match left {
-            Some(left) => self.compare_cost(left, wanted.cost),
-            None => Ok(()),
+        self.compare_numbers(assembly, standing, &wanted, frame);
+        if let Some(left) = left {
+            self.compare_cost(left, wanted.cost);
         }
     }
 
@@ -41,11 +39,11 @@ impl Differences {
         standing: &Standing,
         wanted: &Standing,
         frame: &FrameRef<'_>,
-    ) -> Result<(), AllocError> {
-        self.compare_head(assembly, standing, wanted)?;
-        self.compare_operand_count(standing.operands.len(), wanted.operands.len())?;
-        self.compare_trays(assembly, standing, wanted)?;
-        self.add_unknown_slots(standing, frame)
+    ) {
+        self.compare_head(assembly, standing, wanted);
+        self.compare_operand_count(standing.operands.len(), wanted.operands.len());
+        self.compare_trays(assembly, standing, wanted);
+        self.add_unknown_slots(standing, frame);
     }
 
     /// All of a frame that is compared at points, but the cost.
@@ -55,23 +53,18 @@ impl Differences {
         standing: &Standing,
         wanted: &Standing,
         frame: &FrameRef<'_>,
-    ) -> Result<(), AllocError> {
-        self.compare_slots(standing, frame)?;
-        self.compare_guards(standing, frame)?;
-        self.compare_operands(standing, wanted)?;
-        self.compare_offsets(assembly, standing, wanted)
+    ) {
+        self.compare_slots(standing, frame);
+        self.compare_guards(standing, frame);
+        self.compare_operands(standing, wanted);
+        self.compare_offsets(assembly, standing, wanted);
     }
 
     /// Adds what differs between what holds where a procedure ends and its exit frame.
-    pub fn add_of_exit(
-        &mut self,
-        assembly: &Assembly,
-        standing: &Standing,
-        exit: &ExitRef<'_>,
-    ) -> Result<(), AllocError> {
+    pub fn add_of_exit(&mut self, assembly: &Assembly, standing: &Standing, exit: &ExitRef<'_>) {
         let symbols = standing.exit_values(exit);
         let wanted = Standing::at_exit(exit, &symbols);
-        self.compare_exit(assembly, standing, &wanted, exit, &symbols)
+        self.compare_exit(assembly, standing, &wanted, exit, &symbols);
     }
 
     /// All of an exit frame, for these values of its symbols.
@@ -82,31 +75,26 @@ impl Differences {
         wanted: &Standing,
         exit: &ExitRef<'_>,
         symbols: &[i64],
-    ) -> Result<(), AllocError> {
-        self.compare_head(assembly, standing, wanted)?;
-        self.compare_trays(assembly, standing, wanted)?;
+    ) {
+        self.compare_head(assembly, standing, wanted);
+        self.compare_trays(assembly, standing, wanted);
         if !self.found.is_empty() {
-            return Ok(());
+            return;
         }
-        self.compare_results(exit, symbols)?;
-        self.compare_exit_guards(exit, symbols)?;
-        self.compare_offsets(assembly, standing, wanted)
+        self.compare_results(exit, symbols);
+        self.compare_exit_guards(exit, symbols);
+        self.compare_offsets(assembly, standing, wanted);
     }
 
     /// The current tray and the grip.
-    fn compare_head(
-        &mut self,
-        assembly: &Assembly,
-        standing: &Standing,
-        wanted: &Standing,
-    ) -> Result<(), AllocError> {
+    fn compare_head(&mut self, assembly: &Assembly, standing: &Standing, wanted: &Standing) {
         self.compare_number(
             Part::Head,
             "the current tray",
             i64::from(standing.tray),
             i64::from(wanted.tray),
-        )?;
-        self.compare_grip(assembly, standing.grip, wanted.grip)
+        );
+        self.compare_grip(assembly, standing.grip, wanted.grip);
     }
 
     /// A number that a frame says.
@@ -116,25 +104,20 @@ impl Differences {
         subject: D,
         is: i64,
         wanted: i64,
-    ) -> Result<(), AllocError> {
+    ) {
         if is == wanted {
-            return Ok(());
+            return;
         }
         self.add(
             part,
             format_args!("{subject} is {is}, the frame says {wanted}"),
-        )
+        );
     }
 
     /// The grip.
-    fn compare_grip(
-        &mut self,
-        assembly: &Assembly,
-        is: u32,
-        wanted: u32,
-    ) -> Result<(), AllocError> {
+    fn compare_grip(&mut self, assembly: &Assembly, is: u32, wanted: u32) {
         if is == wanted {
-            return Ok(());
+            return;
         }
         let is = Group { assembly, set: is };
         let wanted = Group {
@@ -144,27 +127,22 @@ impl Differences {
         self.add(
             Part::Head,
             format_args!("gripped: {is}, the frame says {wanted}"),
-        )
+        );
     }
 
     /// How many operands there are.
-    fn compare_operand_count(&mut self, is: usize, wanted: usize) -> Result<(), AllocError> {
+    fn compare_operand_count(&mut self, is: usize, wanted: usize) {
         if is == wanted {
-            return Ok(());
+            return;
         }
         self.add(
             Part::Head,
             format_args!("operands: {is} are there, the frame says {wanted}"),
-        )
+        );
     }
 
     /// Of each piece whether it is apart, or else its tray.
-    fn compare_trays(
-        &mut self,
-        assembly: &Assembly,
-        standing: &Standing,
-        wanted: &Standing,
-    ) -> Result<(), AllocError> {
+    fn compare_trays(&mut self, assembly: &Assembly, standing: &Standing, wanted: &Standing) {
         for piece in 0..32 {
             let is = Whereabouts(standing.place(piece).tray());
             let wanted = Whereabouts(wanted.place(piece).tray());
@@ -173,131 +151,92 @@ impl Differences {
                 self.add(
                     Part::Piece(piece),
                     format_args!("{name} is {is}, the frame says {wanted}"),
-                )?;
+                );
             }
         }
-        Ok(())
     }
 
     /// The slots that are live in a frame, and of which nothing is known.
-    fn add_unknown_slots(
-        &mut self,
-        standing: &Standing,
-        frame: &FrameRef<'_>,
-    ) -> Result<(), AllocError> {
+    fn add_unknown_slots(&mut self, standing: &Standing, frame: &FrameRef<'_>) {
         for v in 0..8 {
             if frame.slot(v).is_some() && standing.slots[usize::from(v)].is_none() {
-                self.add(Part::Slot(v), format_args!("slot {v} is not known"))?;
+                self.add(Part::Slot(v), format_args!("slot {v} is not known"));
             }
         }
-        Ok(())
     }
 
     /// The ranges of slots.
-    fn compare_slots(
-        &mut self,
-        standing: &Standing,
-        frame: &FrameRef<'_>,
-    ) -> Result<(), AllocError> {
+    fn compare_slots(&mut self, standing: &Standing, frame: &FrameRef<'_>) {
         for v in 0..8 {
             if let (Some(range), Some(is)) = (frame.slot(v), standing.slots[usize::from(v)]) {
-                self.compare_range(Part::Slot(v), "slot", v, is, range)?;
+                self.compare_range(Part::Slot(v), "slot", v, is, range);
             }
         }
-        Ok(())
     }
 
     /// The ranges of results, which stand behind the parameters.
-    fn compare_results(&mut self, exit: &ExitRef<'_>, symbols: &[i64]) -> Result<(), AllocError> {
+    fn compare_results(&mut self, exit: &ExitRef<'_>, symbols: &[i64]) {
         let parameters = usize::from(exit.parameters());
         for n in 0..exit.result_count() {
             if let Some(is) = symbols.get(parameters + usize::from(n)) {
-                self.compare_range(Part::Result(n), "result", n, *is, exit.result(n))?;
+                self.compare_range(Part::Result(n), "result", n, *is, exit.result(n));
             }
         }
-        Ok(())
     }
 
     /// A range of a slot or of a result.
-    fn compare_range(
-        &mut self,
-        part: Part,
-        kind: &str,
-        number: u8,
-        is: i64,
-        range: (i16, i16),
-    ) -> Result<(), AllocError> {
+    fn compare_range(&mut self, part: Part, kind: &str, number: u8, is: i64, range: (i16, i16)) {
         let (low, high) = range;
         if i64::from(low) <= is && is <= i64::from(high) {
-            return Ok(());
+            return;
         }
         self.add(
             part,
             format_args!("{kind} {number} is {is}, the frame wants {low} to {high}"),
-        )
+        );
     }
 
     /// The guards of a frame.
-    fn compare_guards(
-        &mut self,
-        standing: &Standing,
-        frame: &FrameRef<'_>,
-    ) -> Result<(), AllocError> {
+    fn compare_guards(&mut self, standing: &Standing, frame: &FrameRef<'_>) {
         let symbols = standing.live_values(frame);
         for n in 0..frame.guard_count() {
-            self.compare_guard(n as u8, value(&frame.guard(n), &symbols))?;
+            self.compare_guard(n as u8, value(&frame.guard(n), &symbols));
         }
-        Ok(())
     }
 
     /// The guards of an exit frame.
-    fn compare_exit_guards(
-        &mut self,
-        exit: &ExitRef<'_>,
-        symbols: &[i64],
-    ) -> Result<(), AllocError> {
+    fn compare_exit_guards(&mut self, exit: &ExitRef<'_>, symbols: &[i64]) {
         for n in 0..exit.guard_count() {
-            self.compare_guard(n, value(&exit.guard(n), symbols))?;
+            self.compare_guard(n, value(&exit.guard(n), symbols));
         }
-        Ok(())
     }
 
     /// A guard, which comes to this.
-    fn compare_guard(&mut self, number: u8, is: i64) -> Result<(), AllocError> {
+    fn compare_guard(&mut self, number: u8, is: i64) {
         if is >= 0 {
-            return Ok(());
+            return;
         }
         self.add(
             Part::Guard(number),
             format_args!("this guard is {is}, so below 0"),
-        )
+        );
     }
 
     /// The operands.
-    fn compare_operands(
-        &mut self,
-        standing: &Standing,
-        wanted: &Standing,
-    ) -> Result<(), AllocError> {
+    fn compare_operands(&mut self, standing: &Standing, wanted: &Standing) {
         for n in 0..8 {
             let operand = usize::from(n);
             if let (Some(is), Some(wanted)) = (
                 standing.operands.get(operand),
                 wanted.operands.get(operand),
             ) {
-                self.compare_number(Part::Operand(n), format_args!("operand {n}"), *is, *wanted)?;
+                self.compare_number(Part::Operand(n), format_args!("operand {n}"), *is, *wanted);
             }
         }
-        Ok(())
     }
 
     /// The offsets of the pieces.
-    fn compare_offsets(
-        &mut self,
-        assembly: &Assembly,
-        standing: &Standing,
-        wanted: &Standing,
-    ) -> Result<(), AllocError> {
+    fn compare_offsets(&mut self, assembly: &Assembly, standing: &Standing, wanted: &Standing) {
         for piece in 0..32 {
             if let (
                 Placement::On { position: is, .. },
@@ -307,50 +246,36 @@ impl Differences {
                 },
             ) = (standing.place(piece), wanted.place(piece))
             {
-                self.compare_offset(piece, piece_name(assembly, piece), is, wanted)?;
+                self.compare_offset(piece, piece_name(assembly, piece), is, wanted);
             }
         }
-        Ok(())
     }
 
     /// The offset of a piece, coordinate by coordinate.
-    fn compare_offset(
-        &mut self,
-        piece: u8,
-        name: &str,
-        is: Offset,
-        wanted: Offset,
-    ) -> Result<(), AllocError> {
-        self.compare_coordinate(piece, name, 'x', is.x, wanted.x)?;
-        self.compare_coordinate(piece, name, 'y', is.y, wanted.y)?;
-        self.compare_coordinate(piece, name, 'z', is.z, wanted.z)
+    fn compare_offset(&mut self, piece: u8, name: &str, is: Offset, wanted: Offset) {
+        self.compare_coordinate(piece, name, 'x', is.x, wanted.x);
+        self.compare_coordinate(piece, name, 'y', is.y, wanted.y);
+        self.compare_coordinate(piece, name, 'z', is.z, wanted.z);
     }
 
     /// A coordinate of a piece's offset.
-    fn compare_coordinate(
-        &mut self,
-        piece: u8,
-        name: &str,
-        axis: char,
-        is: i64,
-        wanted: i64,
-    ) -> Result<(), AllocError> {
+    fn compare_coordinate(&mut self, piece: u8, name: &str, axis: char, is: i64, wanted: i64) {
         self.compare_number(
             Part::Piece(piece),
             format_args!("{axis} of {name}"),
             is,
             wanted,
-        )
+        );
     }
 
     /// The cost.
-    fn compare_cost(&mut self, is: i64, wanted: i64) -> Result<(), AllocError> {
+    fn compare_cost(&mut self, is: i64, wanted: i64) {
         if is >= wanted {
-            return Ok(());
+            return;
         }
         self.add(
             Part::Cost,
             format_args!("cost {is} is left, the frame wants {wanted}"),
-        )
+        );
     }
 }

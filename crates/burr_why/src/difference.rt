@@ -18,6 +18,8 @@ pub struct Difference {
 pub struct Differences {
     alloc: Global,
     pub found: Vec<Difference>,
+    /// Whether none was left out for want of memory.
+    pub is_whole: bool,
 }
 
 impl Differences {
@@ -26,6 +28,7 @@ impl Differences {
         Differences {
             alloc,
             found: Vec::new(alloc),
+            is_whole: true,
         }
     }
 
@@ -38,10 +41,16 @@ impl Differences {
     }
 
     /// Adds that a part of a frame tells something else.
-    pub fn add<D: fmt::Display + Drop>(&mut self, part: Part, note: D) -> Result<(), AllocError> {
-        let mut text = String::new(self.alloc);
-        write!(text, "{note}")?;
-        self.found.push(Difference { part, note: text })?;
+    pub fn add<D: fmt::Display + Drop>(&mut self, part: Part, note: D) {
+        if self.try_add(part, note).is_err() {
+            self.is_whole = false;
+        }
+    }
+
+    /// Adds it, where there is memory.
+    fn try_add<D: fmt::Display + Drop>(&mut self, part: Part, note: D) -> Result<(), AllocError> {
+        let note = format!(in self.alloc; "{note}")?;
+        self.found.push(Difference { part, note })?;
         Ok(())
     }
 }

@@ -8,7 +8,6 @@ mod group;
 mod meeting;
 mod offset;
 mod reasons;
-mod report;
 mod standing;
 mod why;
 

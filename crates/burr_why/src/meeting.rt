@@ -22,9 +22,12 @@ pub struct Displaced<'a> {
 impl Displaced<'_> {
     /// Whether a cell of it lies there.
     fn has(&self, there: Offset) -> bool {
-        self.cells
-            .iter()
-            .any(|cell| lies_at(cell, self.offset) == there)
+        for cell in self.cells {
+            if lies_at(cell, self.offset) == there {
+                return true;
+            }
+        }
+        false
     }
 }
 
@@ -58,8 +61,9 @@ fn meeting_from(from: Offset, piece: &Displaced<'_>, direction: Direction) -> Op
     let mut first = None;
     for cell in piece.cells {
         let cell = lies_at(cell, piece.offset);
-        let units = units_between(from, cell, direction);
-        first = sooner(first, units.map(|units| Meeting { cell, units }));
+        if let Some(units) = units_between(from, cell, direction) {
+            first = sooner(first, Some(Meeting { cell, units }));
+        }
     }
     first
 }

@@ -9,9 +9,8 @@ mod numbers;
 mod site;
 mod space;
 
-use crate::report::Report;
 use burr_frames::Rule;
-use burr_lines::{Part, Place, PlanLines, PlanText};
+use burr_lines::{Part, Place, PlanLines, PlanText, Report};
 use burr_verify::Refusal;
 use site::Site;
 use std::alloc::{AllocError, Global};
@@ -36,27 +35,27 @@ impl<'a, 'c> Reasons<'a, 'c> {
         })
     }
 
-    /// What was said.
-    pub fn into_report(self) -> Report {
-        self.report
+    /// What was said, if memory was never wanting.
+    pub fn into_text(self) -> Result<String, AllocError> {
+        self.report.into_text()
     }
 
     /// Says why this refusal was made.
-    pub fn add(&mut self, refusal: &Refusal) -> Result<(), AllocError> {
+    pub fn add(&mut self, refusal: &Refusal) {
         match refusal.rule {
             Rule::V1 => self.add_other_assembly(),
             Rule::V27 => self.add_malformed_frame(refusal),
             Rule::V28 => self.add_small_budget(),
-            Rule::V25 if self.is_wide_frame(refusal) => self.add_wide_frame(refusal),
+            Rule::V25 => self.add_wide_frame(refusal),
             rule => self.add_at_site(rule, refusal),
         }
     }
 
     /// Says why a place of the code breaks a rule.
-    fn add_at_site(&mut self, rule: Rule, refusal: &Refusal) -> Result<(), AllocError> {
+    fn add_at_site(&mut self, rule: Rule, refusal: &Refusal) {
         let site = Site::of(&self.plan, refusal);
-        self.add_place(Place::Code(site.procedure, site.pc))?;
-        self.add_surroundings(&site)?;
+        self.add_place(Place::Code(site.procedure, site.pc));
+        self.add_surroundings(&site);
         match rule {
             Rule::V2 | Rule::V3 | Rule::V4 | Rule::V5 => self.add_bad_code(rule, &site),
             Rule::V15 | Rule::V16 => self.add_meeting(refusal.pieces, &site),
@@ -65,9 +64,9 @@ impl<'a, 'c> Reasons<'a, 'c> {
     }
 
     /// Says why an instruction breaks a rule.
-    fn add_bad_instruction(&mut self, rule: Rule, site: &Site) -> Result<(), AllocError> {
+    fn add_bad_instruction(&mut self, rule: Rule, site: &Site) {
         let Some((instruction, _)) = self.plan.instruction_at(site.procedure, site.pc) else {
-            return Ok(());
+            return;
         };
         match rule {
             Rule::V6 | Rule::V7 | Rule::V8 | Rule::V9 | Rule::V11 | Rule::V12 => {
@@ -79,33 +78,32 @@ impl<'a, 'c> Reasons<'a, 'c> {
             Rule::V10 | Rule::V19 | Rule::V23 => self.add_bad_control(rule, &instruction, site),
             Rule::V20 | Rule::V21 | Rule::V22 => self.add_missed_frame(rule, &instruction, site),
             Rule::V24 | Rule::V25 | Rule::V26 => self.add_bad_cost(rule, &instruction, site),
-            Rule::V1 | Rule::V2 | Rule::V3 | Rule::V4 | Rule::V5 => Ok(()),
-            Rule::V15 | Rule::V16 | Rule::V27 | Rule::V28 => Ok(()),
+            Rule::V1 | Rule::V2 | Rule::V3 | Rule::V4 | Rule::V5 => {}
+            Rule::V15 | Rule::V16 | Rule::V27 | Rule::V28 => {}
         }
     }
 
     /// Says that the plan is for another assembly.
-    fn add_other_assembly(&mut self) -> Result<(), AllocError> {
-        self.add_place(Place::Plan)?;
+    fn add_other_assembly(&mut self) {
+        self.add_place(Place::Plan);
         let name = self.plan.assembly.name();
         let pieces = self.plan.assembly.piece_count();
-        self.report.add_note(format_args!("the assembly is {name} and has {pieces} pieces"))
+        self.report.add_note(format_args!("the assembly is {name} and has {pieces} pieces"));
     }
 
     /// Names the line that says this, where there is one.
-    fn add_place(&mut self, place: Place) -> Result<(), AllocError> {
-        match self.lines.line_of(place) {
-            Some(line) => self.report.add_line(self.plan.file, &line),
-            None => Ok(()),
+    fn add_place(&mut self, place: Place) {
+        if let Some(line) = self.lines.line_of(place) {
+            self.report.add_line(self.plan.file, &line);
         }
     }
 
     /// Names the line of a part of a label's frame; where the frame has none, that it begins with.
-    fn add_part(&mut self, procedure: usize, label: usize, part: Part) -> Result<(), AllocError> {
+    fn add_part(&mut self, procedure: usize, label: usize, part: Part) {
         let place = Place::Frame(procedure, label, part);
         if self.lines.line_of(place).is_some() {
             return self.add_place(place);
         }
-        self.add_place(Place::Frame(procedure, label, Part::Head))
+        self.add_place(Place::Frame(procedure, label, Part::Head));
     }
 }

@@ -111,8 +111,8 @@ impl Standing {
 
     /// Counts a slot down once.
     pub fn count_down(&mut self, slot: u8) {
-        if let Some(place) = self.slots.get_mut(usize::from(slot)) {
-            *place = place.map(|number| number.saturating_sub(1));
+        if let Some(Some(number)) = self.slots.get_mut(usize::from(slot)) {
+            *number = number.saturating_sub(1);
         }
     }
 

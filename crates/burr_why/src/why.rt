@@ -1,8 +1,7 @@
 //! Why a plan is refused, as a text.
 
 use crate::reasons::Reasons;
-use crate::report::Report;
-use burr_lines::{PlanText, numbered_line};
+use burr_lines::{PlanText, Report, numbered_line};
 use burr_verify::Refusal;
 use std::alloc::{AllocError, Global};
 
@@ -14,8 +13,8 @@ pub fn reason_of_refusal(
     refusal: &Refusal,
 ) -> Result<String, AllocError> {
     let mut reasons = Reasons::new(alloc, plan)?;
-    reasons.add(refusal)?;
-    Ok(reasons.into_report().into_text())
+    reasons.add(refusal);
+    reasons.into_text()
 }
 
 /// Names a faulty line of a text, as `cup.plan:38: jump`; or says that the text ends before it.
@@ -27,8 +26,10 @@ pub fn reason_of_line(
 ) -> Result<String, AllocError> {
     let mut report = Report::new(alloc);
     match numbered_line(text, number) {
-        Some(line) => report.add_line(file, &line)?,
-        None => report.add_text(format_args!("{file}:{number}: the text ends before this line"))?,
+        Some(line) => report.add_line(file, &line),
+        None => {
+            report.add_words(format_args!("{file}:{number}: the text ends before this line\n"));
+        }
     }
-    Ok(report.into_text())
+    report.into_text()
 }

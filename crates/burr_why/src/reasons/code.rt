@@ -3,11 +3,10 @@
 use super::{Reasons, Site};
 use burr_frames::Rule;
 use burr_lines::Place;
-use std::alloc::AllocError;
 
 impl Reasons<'_, '_> {
     /// Says what is wrong with the code itself.
-    pub(super) fn add_bad_code(&mut self, rule: Rule, site: &Site) -> Result<(), AllocError> {
+    pub(super) fn add_bad_code(&mut self, rule: Rule, site: &Site) {
         let fault = match rule {
             Rule::V2 => "no instruction begins with these bytes",
             Rule::V3 => return self.add_label_inside(site),
@@ -16,16 +15,15 @@ impl Reasons<'_, '_> {
             }
             _ => "the code ends here, and this instruction goes on after it",
         };
-        self.report.add_note(fault)
+        self.report.add_note(fault);
     }
 
     /// Names the label that stands inside an instruction.
-    fn add_label_inside(&mut self, site: &Site) -> Result<(), AllocError> {
-        self.report.add_note("this instruction has a label inside, after its first byte")?;
+    fn add_label_inside(&mut self, site: &Site) {
+        self.report.add_note("this instruction has a label inside, after its first byte");
         let last = site.end.saturating_sub(1);
-        match self.plan.label_before(site.procedure, last) {
-            Some(label) => self.add_place(Place::Label(site.procedure, label)),
-            None => Ok(()),
+        if let Some(label) = self.plan.label_before(site.procedure, last) {
+            self.add_place(Place::Label(site.procedure, label));
         }
     }
 }

@@ -6,19 +6,13 @@ use burr_container::FrameRef;
 use burr_frames::Rule;
 use burr_lines::{Part, Place};
 use burr_verify::Refusal;
-use std::alloc::AllocError;
 
 /// The most points that a frame's ranges may have together.
 const MOST_POINTS: u64 = 4096;
 
 impl Reasons<'_, '_> {
     /// Says what is left and needed, or what is too much.
-    pub(super) fn add_bad_cost(
-        &mut self,
-        rule: Rule,
-        instruction: &Instr<'_>,
-        site: &Site,
-    ) -> Result<(), AllocError> {
+    pub(super) fn add_bad_cost(&mut self, rule: Rule, instruction: &Instr<'_>, site: &Site) {
         match rule {
             Rule::V24 => self.add_want_of_cost(instruction, site),
             Rule::V26 => self
@@ -29,88 +23,81 @@ impl Reasons<'_, '_> {
     }
 
     /// How many steps are left, and how many are needed.
-    fn add_want_of_cost(&mut self, instruction: &Instr<'_>, site: &Site) -> Result<(), AllocError> {
-        let standing = site.before(&self.plan);
-        let after = site.after(&self.plan);
-        self.add_left_and_needed(standing.cost, after.cost)?;
-        self.add_point(site, &standing)?;
+    fn add_want_of_cost(&mut self, instruction: &Instr<'_>, site: &Site) {
+        self.add_left_and_needed(site.before.cost, site.after.cost);
+        self.add_point(site, &site.before);
         if let Instr::Call(callee) = instruction {
-            self.add_place(Place::Frame(usize::from(*callee), 0, Part::Cost))?;
-            self.report.add_note("a call takes 1 more than this")?;
+            self.add_place(Place::Frame(usize::from(*callee), 0, Part::Cost));
+            self.report.add_note("a call takes 1 more than this");
         }
-        self.add_last_part(site, Part::Cost)
+        self.add_last_part(site, Part::Cost);
     }
 
     /// Notes how many steps are left, and how many an instruction takes that leaves so many.
-    fn add_left_and_needed(&mut self, left: i64, after: i64) -> Result<(), AllocError> {
+    fn add_left_and_needed(&mut self, left: i64, after: i64) {
         let needed = left.saturating_sub(after);
         self.report
-            .add_note(format_args!("cost {left} is left, {needed} is needed"))
+            .add_note(format_args!("cost {left} is left, {needed} is needed"));
     }
 
     /// What would be one too many.
-    fn add_too_many(&mut self, instruction: &Instr<'_>, site: &Site) -> Result<(), AllocError> {
+    fn add_too_many(&mut self, instruction: &Instr<'_>, site: &Site) {
         let fault = match instruction {
-            Instr::Ask(low, high) if site.before(&self.plan).symbols.len() < 8 => {
+            Instr::Ask(low, high) if site.before.symbols.len() < 8 => {
                 return self.add_wide_answer(*low, *high);
             }
             Instr::Ask(..) => "8 numbers are open, and the answer is one more",
             Instr::Down(..) => "8 guards are there, and this makes one more",
             _ => "its results make too many open numbers, guards or points",
         };
-        self.report.add_note(fault)
+        self.report.add_note(fault);
     }
 
     /// Notes that an answer of this range makes too many points.
-    fn add_wide_answer(&mut self, low: i16, high: i16) -> Result<(), AllocError> {
+    fn add_wide_answer(&mut self, low: i16, high: i16) {
         self.report.add_note(format_args!(
             "with {low} to {high} the open numbers have more than {MOST_POINTS} points"
-        ))
+        ));
     }
 
-    /// Whether a refusal is of a frame whose ranges have too many points.
-    pub(super) fn is_wide_frame(&self, refusal: &Refusal) -> bool {
-        match self.points_of_frame(refusal) {
-            Some((_, points)) => MOST_POINTS < points,
-            None => false,
-        }
-    }
-
-    /// The label at the place that a refusal names, and how many points the ranges of its frame
-    /// have; none where no label is there.
-    fn points_of_frame(&self, refusal: &Refusal) -> Option<(usize, u64)> {
+    /// Says how many points the ranges of a frame have, where a label is at the place that a refusal
+    /// names and they are too many; else what is too much at the place.
+    pub(super) fn add_wide_frame(&mut self, refusal: &Refusal) {
         let procedure = usize::from(refusal.proc);
-        let label = self.plan.label_at(procedure, usize::from(refusal.pc))?;
-        Some((label, points(&self.plan.frame(procedure, label)?)))
-    }
-
-    /// Says how many points the ranges of a frame have.
-    pub(super) fn add_wide_frame(&mut self, refusal: &Refusal) -> Result<(), AllocError> {
-        let procedure = usize::from(refusal.proc);
-        let Some((label, points)) = self.points_of_frame(refusal) else {
-            return Ok(());
+        let Some((label, points)) = self.wide_label(procedure, usize::from(refusal.pc)) else {
+            return self.add_at_site(refusal.rule, refusal);
         };
-        self.add_place(Place::Label(procedure, label))?;
-        self.add_points(points)?;
+        self.add_place(Place::Label(procedure, label));
+        self.add_points(points);
         for v in 0..8 {
-            self.add_place(Place::Frame(procedure, label, Part::Slot(v)))?;
+            self.add_place(Place::Frame(procedure, label, Part::Slot(v)));
         }
-        Ok(())
+    }
+
+    /// The label at a place of the code, and how many points the ranges of its frame have; none where
+    /// no label is there, or they are not too many.
+    fn wide_label(&self, procedure: usize, pc: usize) -> Option<(usize, u64)> {
+        let label = self.plan.label_at(procedure, pc)?;
+        let points = points(&self.plan.frame(procedure, label)?);
+        if points <= MOST_POINTS {
+            return None;
+        }
+        Some((label, points))
     }
 
     /// Notes how many points the ranges of a frame have.
-    fn add_points(&mut self, points: u64) -> Result<(), AllocError> {
+    fn add_points(&mut self, points: u64) {
         self.report.add_note(format_args!(
             "its slots have {points} points together, and {MOST_POINTS} are the most"
-        ))
+        ));
     }
 
     /// Says that the budget is below what main costs.
-    pub(super) fn add_small_budget(&mut self) -> Result<(), AllocError> {
-        self.add_place(Place::Plan)?;
+    pub(super) fn add_small_budget(&mut self) {
+        self.add_place(Place::Plan);
         let budget = self.plan.container.header().budget;
-        self.report.add_note(format_args!("the budget is {budget}, so below what main costs"))?;
-        self.add_place(Place::Frame(0, 0, Part::Cost))
+        self.report.add_note(format_args!("the budget is {budget}, so below what main costs"));
+        self.add_place(Place::Frame(0, 0, Part::Cost));
     }
 }
 

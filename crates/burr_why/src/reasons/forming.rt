@@ -9,135 +9,108 @@ use burr_code::{Placement, count_in_tray, is_in_set};
 use burr_container::FrameRef;
 use burr_lines::{Part, Place, piece_name};
 use burr_verify::Refusal;
-use std::alloc::AllocError;
 
 impl Reasons<'_, '_> {
     /// Says what is wrong with a frame by itself, or with main's first frame at the start.
-    pub(super) fn add_malformed_frame(&mut self, refusal: &Refusal) -> Result<(), AllocError> {
+    pub(super) fn add_malformed_frame(&mut self, refusal: &Refusal) {
         let procedure = usize::from(refusal.proc);
         let pc = usize::from(refusal.pc);
-        if pc == 0 && self.add_malformed_exit(procedure)? {
-            return Ok(());
+        if pc == 0 {
+            self.add_malformed_exit(procedure);
         }
-        if let Some(label) = self.plan.label_at(procedure, pc) {
-            if self.add_malformed_label(procedure, label)? {
-                return Ok(());
-            }
+        if self.report.is_empty() {
+            self.add_malformed_label(procedure, pc);
         }
-        self.add_missed_start()
-    }
-
-    /// Says what is wrong with an exit frame; whether anything is.
-    fn add_malformed_exit(&mut self, procedure: usize) -> Result<bool, AllocError> {
-        match self.plan.exit(procedure) {
-            None => Ok(false),
-            Some(exit) => {
-                let standing = Standing::at_exit(&exit, &[]);
-                self.add_malformed_places(FramePlace::Exit(procedure), &standing)
-            }
+        if self.report.is_empty() {
+            self.add_missed_start();
         }
     }
 
-    /// Says what is wrong with the frame of a label; whether anything is.
-    fn add_malformed_label(&mut self, procedure: usize, label: usize) -> Result<bool, AllocError> {
-        let Some(frame) = self.plan.frame(procedure, label) else {
-            return Ok(false);
+    /// Says what is wrong with an exit frame.
+    fn add_malformed_exit(&mut self, procedure: usize) {
+        if let Some(exit) = self.plan.exit(procedure) {
+            let standing = Standing::at_exit(&exit, &[]);
+            self.add_malformed_places(FramePlace::Exit(procedure), &standing);
+        }
+    }
+
+    /// Says what is wrong with the frame of the label at a place of the code.
+    fn add_malformed_label(&mut self, procedure: usize, pc: usize) {
+        let Some(label) = self.plan.label_at(procedure, pc) else {
+            return;
         };
-        let parameters = self.plan.parameters(procedure);
-        let place = FramePlace::Label(procedure, label);
-        let slots = self.add_malformed_slots(place, &frame, parameters, label)?;
-        let places = self.add_malformed_places(place, &Standing::of(&frame, &[]))?;
-        Ok(slots || places)
+        if let Some(frame) = self.plan.frame(procedure, label) {
+            self.add_malformed_slots(procedure, label, &frame);
+            let standing = Standing::of(&frame, &[]);
+            self.add_malformed_places(FramePlace::Label(procedure, label), &standing);
+        }
     }
 
-    /// Says which slots and operands may not be there, or are missing; whether any.
-    fn add_malformed_slots(
-        &mut self,
-        place: FramePlace,
-        frame: &FrameRef<'_>,
-        parameters: u8,
-        label: usize,
-    ) -> Result<bool, AllocError> {
-        let mut any = false;
+    /// Says which slots and operands of a label's frame may not be there, or are missing.
+    fn add_malformed_slots(&mut self, procedure: usize, label: usize, frame: &FrameRef<'_>) {
+        let place = FramePlace::Label(procedure, label);
+        let parameters = self.plan.parameters(procedure);
         for v in 0..8 {
             if let Some(fault) = fault_of_slot(v < parameters, frame.slot(v).is_some(), label) {
-                self.add_fault(place, Part::Slot(v), fault)?;
-                any = true;
+                self.add_fault(place, Part::Slot(v), fault);
             }
         }
         if label == 0 && frame.stack_count() != 0 {
-            let fault = "a procedure begins without operands";
-            self.add_fault(place, Part::Operand(0), fault)?;
-            any = true;
+            self.add_fault(
+                place,
+                Part::Operand(0),
+                "a procedure begins without operands",
+            );
         }
-        Ok(any)
     }
 
-    /// Says which pieces are gripped in another tray, or alone in theirs; whether any.
-    fn add_malformed_places(
-        &mut self,
-        frame: FramePlace,
-        standing: &Standing,
-    ) -> Result<bool, AllocError> {
-        let mut any = false;
+    /// Says which pieces are gripped in another tray, or alone in theirs.
+    fn add_malformed_places(&mut self, frame: FramePlace, standing: &Standing) {
         for piece in 0..32 {
             let place = standing.place(piece);
             if is_in_set(standing.grip, piece) && !place.is_in(standing.tray) {
-                self.add_far_grip(frame, piece, standing)?;
-                any = true;
+                self.add_far_grip(frame, piece, standing);
             }
             if is_alone(standing, place) {
-                self.add_alone(frame, piece)?;
-                any = true;
+                self.add_alone(frame, piece);
             }
         }
-        Ok(any)
     }
 
     /// Names the line of a grip, of which a piece is not in the current tray.
-    fn add_far_grip(
-        &mut self,
-        frame: FramePlace,
-        piece: u8,
-        standing: &Standing,
-    ) -> Result<(), AllocError> {
+    fn add_far_grip(&mut self, frame: FramePlace, piece: u8, standing: &Standing) {
         let name = piece_name(self.plan.assembly, piece);
         let place = Whereabouts(standing.place(piece).tray());
         let tray = standing.tray;
         let fault = format_args!("{name} is {place}, and is gripped in tray {tray}");
-        self.add_fault(frame, Part::Head, fault)
+        self.add_fault(frame, Part::Head, fault);
     }
 
     /// Names the line of a piece that is alone in its tray.
-    fn add_alone(&mut self, frame: FramePlace, piece: u8) -> Result<(), AllocError> {
+    fn add_alone(&mut self, frame: FramePlace, piece: u8) {
         let name = piece_name(self.plan.assembly, piece);
         let fault = format_args!("{name} is alone in its tray, so it is apart");
-        self.add_fault(frame, Part::Piece(piece), fault)
+        self.add_fault(frame, Part::Piece(piece), fault);
     }
 
     /// Names a line of a frame, and notes what is wrong there.
-    fn add_fault<D: std::fmt::Display + Drop>(
-        &mut self,
-        frame: FramePlace,
-        part: Part,
-        fault: D,
-    ) -> Result<(), AllocError> {
-        self.add_frame_line(frame, part)?;
-        self.report.add_note(fault)
+    fn add_fault<D: std::fmt::Display + Drop>(&mut self, frame: FramePlace, part: Part, fault: D) {
+        self.add_frame_line(frame, part);
+        self.report.add_note(fault);
     }
 
     /// Says how the start of a run differs from main's first frame.
-    fn add_missed_start(&mut self) -> Result<(), AllocError> {
+    fn add_missed_start(&mut self) {
         if self.plan.position(0, 0).is_none() {
-            return Ok(());
+            return;
         }
-        self.add_place(Place::Label(0, 0))?;
+        self.add_place(Place::Label(0, 0));
         self.report.add_note(
             "a run begins here, with all pieces at home in tray 0 and nothing gripped",
-        )?;
+        );
         let start = Standing::at_home(self.plan.assembly.piece_count());
-        let differences = self.differences(0, 0, &start, None)?;
-        self.add_differences(FramePlace::Label(0, 0), &differences)
+        let differences = self.differences(0, 0, &start, None);
+        self.add_differences(FramePlace::Label(0, 0), &differences);
     }
 }
 

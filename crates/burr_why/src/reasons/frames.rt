@@ -6,7 +6,6 @@ use crate::standing::Standing;
 use burr_code::{Instr, Labels};
 use burr_frames::Rule;
 use burr_lines::{Part, Place, Shown};
-use std::alloc::AllocError;
 
 /// How many differences are told.
 const MOST_TOLD: usize = 12;
@@ -20,12 +19,7 @@ pub enum FramePlace {
 
 impl Reasons<'_, '_> {
     /// Says what differs from the frame that is not met.
-    pub(super) fn add_missed_frame(
-        &mut self,
-        rule: Rule,
-        instruction: &Instr<'_>,
-        site: &Site,
-    ) -> Result<(), AllocError> {
+    pub(super) fn add_missed_frame(&mut self, rule: Rule, instruction: &Instr<'_>, site: &Site) {
         match (rule, instruction) {
             (Rule::V20, Instr::Call(callee)) => self.add_missed_entry(usize::from(*callee), site),
             (Rule::V22, Instr::Ret) => self.add_missed_exit(site),
@@ -35,28 +29,27 @@ impl Reasons<'_, '_> {
     }
 
     /// What differs from the first frame of a procedure that is called.
-    fn add_missed_entry(&mut self, callee: usize, site: &Site) -> Result<(), AllocError> {
-        let mut standing = site.before(&self.plan);
-        self.add_point(site, &standing)?;
+    fn add_missed_entry(&mut self, callee: usize, site: &Site) {
+        self.add_point(site, &site.before);
+        let mut standing = site.standing(&self.plan, site.pc);
         standing.enter(self.plan.parameters(callee));
-        let differences = self.differences(callee, 0, &standing, None)?;
-        self.add_differences(FramePlace::Label(callee, 0), &differences)
+        let differences = self.differences(callee, 0, &standing, None);
+        self.add_differences(FramePlace::Label(callee, 0), &differences);
     }
 
     /// What differs from the exit frame at a `ret`.
-    fn add_missed_exit(&mut self, site: &Site) -> Result<(), AllocError> {
+    fn add_missed_exit(&mut self, site: &Site) {
         let Some(exit) = self.plan.exit(site.procedure) else {
             return self.add_wrong_end(site);
         };
-        let standing = site.before(&self.plan);
-        self.add_point(site, &standing)?;
+        self.add_point(site, &site.before);
         let mut differences = Differences::new(self.alloc);
-        differences.add_of_exit(self.plan.assembly, &standing, &exit)?;
-        self.add_differences(FramePlace::Exit(site.procedure), &differences)
+        differences.add_of_exit(self.plan.assembly, &site.before, &exit);
+        self.add_differences(FramePlace::Exit(site.procedure), &differences);
     }
 
     /// That a `halt` or a `ret` may not stand here.
-    fn add_wrong_end(&mut self, site: &Site) -> Result<(), AllocError> {
+    fn add_wrong_end(&mut self, site: &Site) {
         match self.plan.exit(site.procedure) {
             Some(_) => self
                 .report
@@ -66,64 +59,49 @@ impl Reasons<'_, '_> {
     }
 
     /// What differs from the frame of the label that control comes to.
-    fn add_missed_label(&mut self, instruction: &Instr<'_>, site: &Site) -> Result<(), AllocError> {
-        let after = site.after(&self.plan);
-        self.add_point(site, &after)?;
+    fn add_missed_label(&mut self, instruction: &Instr<'_>, site: &Site) {
+        self.add_point(site, &site.after);
         match instruction {
-            Instr::Jump(label) => self.add_arrival(site, usize::from(*label), &after),
-            Instr::Pick(labels) => self.add_first_arrival(site, labels, &after),
-            Instr::Down(slot, label) => {
-                self.add_count_down(site, *slot, usize::from(*label), &after)
-            }
-            _ => self.add_next_arrival(site, &after),
+            Instr::Jump(label) => self.add_arrival(site, usize::from(*label), &site.after),
+            Instr::Pick(labels) => self.add_first_arrival(site, labels),
+            Instr::Down(slot, label) => self.add_count_down(site, *slot, usize::from(*label)),
+            _ => self.add_next_arrival(site),
         }
     }
 
     /// The same of the label of a `down`, or where nothing differs there of the next one.
-    fn add_count_down(
-        &mut self,
-        site: &Site,
-        slot: u8,
-        label: usize,
-        after: &Standing,
-    ) -> Result<(), AllocError> {
-        let mut branch = site.after(&self.plan);
+    fn add_count_down(&mut self, site: &Site, slot: u8, label: usize) {
+        let mut branch = site.standing(&self.plan, site.end);
         branch.count_down(slot);
-        if self.differs(site, label, &branch)? {
+        if self.differs(site, label, &branch) {
             return self.add_arrival(site, label, &branch);
         }
-        self.add_next_arrival(site, after)
+        self.add_next_arrival(site);
     }
 
     /// The same of the label after an instruction.
-    fn add_next_arrival(&mut self, site: &Site, after: &Standing) -> Result<(), AllocError> {
-        match self.plan.label_at(site.procedure, site.end) {
-            Some(label) => self.add_arrival(site, label, after),
-            None => Ok(()),
+    fn add_next_arrival(&mut self, site: &Site) {
+        if let Some(label) = self.plan.label_at(site.procedure, site.end) {
+            self.add_arrival(site, label, &site.after);
         }
     }
 
     /// The same of the first label offered at which something differs.
-    fn add_first_arrival(
-        &mut self,
-        site: &Site,
-        labels: &Labels<'_>,
-        after: &Standing,
-    ) -> Result<(), AllocError> {
+    fn add_first_arrival(&mut self, site: &Site, labels: &Labels<'_>) {
         for n in 0..labels.len() {
             if let Some(label) = labels.get(n) {
-                if self.differs(site, usize::from(label), after)? {
-                    return self.add_arrival(site, usize::from(label), after);
+                if self.differs(site, usize::from(label), &site.after) {
+                    return self.add_arrival(site, usize::from(label), &site.after);
                 }
             }
         }
-        Ok(())
     }
 
     /// Whether something differs from the frame of a label that control comes to.
-    fn differs(&self, site: &Site, label: usize, after: &Standing) -> Result<bool, AllocError> {
-        let differences = self.differences(site.procedure, label, after, Some(after.cost))?;
-        Ok(!differences.found.is_empty())
+    fn differs(&mut self, site: &Site, label: usize, after: &Standing) -> bool {
+        let differences = self.differences(site.procedure, label, after, Some(after.cost));
+        self.report.lose_unless(differences.is_whole);
+        !differences.found.is_empty()
     }
 
     /// What differs between what holds and the frame of a label, and of the cost that is left where
@@ -134,74 +112,61 @@ impl Reasons<'_, '_> {
         label: usize,
         standing: &Standing,
         left: Option<i64>,
-    ) -> Result<Differences, AllocError> {
+    ) -> Differences {
         let mut differences = Differences::new(self.alloc);
         if let Some(frame) = self.plan.frame(procedure, label) {
-            differences.add_of_frame(self.plan.assembly, standing, &frame, left)?;
+            differences.add_of_frame(self.plan.assembly, standing, &frame, left);
         }
-        Ok(differences)
+        differences
     }
 
     /// Says what differs from the frame of a label that control comes to.
-    fn add_arrival(
-        &mut self,
-        site: &Site,
-        label: usize,
-        after: &Standing,
-    ) -> Result<(), AllocError> {
-        self.add_missed_name(Place::Label(site.procedure, label))?;
-        let differences = self.differences(site.procedure, label, after, Some(after.cost))?;
-        self.add_differences(FramePlace::Label(site.procedure, label), &differences)?;
+    fn add_arrival(&mut self, site: &Site, label: usize, after: &Standing) {
+        self.add_missed_name(Place::Label(site.procedure, label));
+        let differences = self.differences(site.procedure, label, after, Some(after.cost));
+        self.add_differences(FramePlace::Label(site.procedure, label), &differences);
         match site.label {
             Some(last) if last != label && differences.has_cost() => {
-                self.add_part(site.procedure, last, Part::Cost)?;
+                self.add_part(site.procedure, last, Part::Cost);
                 self.report
-                    .add_note("what is left is counted down from here")
+                    .add_note("what is left is counted down from here");
             }
-            _ => Ok(()),
+            _ => {}
         }
     }
 
     /// Notes the label whose frame is not met.
-    fn add_missed_name(&mut self, label: Place) -> Result<(), AllocError> {
+    fn add_missed_name(&mut self, label: Place) {
         let name = Shown(self.lines.name_at(label));
         self.report.add_note(format_args!(
             "what holds after it is not what the frame of {name} says"
-        ))
+        ));
     }
 
     /// Names the lines of a frame that tell something else, each with what differs.
-    pub(super) fn add_differences(
-        &mut self,
-        frame: FramePlace,
-        differences: &Differences,
-    ) -> Result<(), AllocError> {
+    pub(super) fn add_differences(&mut self, frame: FramePlace, differences: &Differences) {
+        self.report.lose_unless(differences.is_whole);
         let mut last = None;
         for difference in differences.found.iter().take(MOST_TOLD) {
             if last != Some(difference.part) {
-                self.add_frame_line(frame, difference.part)?;
+                self.add_frame_line(frame, difference.part);
                 last = Some(difference.part);
             }
-            self.report.add_note(&difference.note)?;
+            self.report.add_note(&difference.note);
         }
-        self.add_untold(differences.found.len().saturating_sub(MOST_TOLD))
+        self.add_untold(differences.found.len().saturating_sub(MOST_TOLD));
     }
 
     /// Says how many differences are not told, where there are any.
-    fn add_untold(&mut self, count: usize) -> Result<(), AllocError> {
-        if count == 0 {
-            return Ok(());
+    fn add_untold(&mut self, count: usize) {
+        if count != 0 {
+            self.report
+                .add_words(format_args!("and {count} more of this frame\n"));
         }
-        self.report
-            .add_text(format_args!("and {count} more of this frame"))
     }
 
     /// Names the line of a part of a frame.
-    pub(super) fn add_frame_line(
-        &mut self,
-        frame: FramePlace,
-        part: Part,
-    ) -> Result<(), AllocError> {
+    pub(super) fn add_frame_line(&mut self, frame: FramePlace, part: Part) {
         match frame {
             FramePlace::Label(procedure, label) => self.add_part(procedure, label, part),
             FramePlace::Exit(procedure) => self.add_place(Place::Exit(procedure, part)),

@@ -4,31 +4,26 @@ use super::{Reasons, Site};
 use burr_code::Instr;
 use burr_frames::Rule;
 use burr_lines::{Part, Place, Shown};
-use std::alloc::AllocError;
 
 impl Reasons<'_, '_> {
     /// Says which number is missing, too many, not known or too large.
-    pub(super) fn add_bad_number(
-        &mut self,
-        rule: Rule,
-        instruction: &Instr<'_>,
-        site: &Site,
-    ) -> Result<(), AllocError> {
+    pub(super) fn add_bad_number(&mut self, rule: Rule, instruction: &Instr<'_>, site: &Site) {
         match rule {
             Rule::V6 => self.add_missing_operand(self.operands_needed(instruction), site),
             Rule::V7 => self.add_full_stack(site),
             Rule::V12 => self.add_large_number(site),
-            _ => match slot_of(instruction) {
-                Some(slot) => self.add_bad_slot(rule, slot, site),
-                None => Ok(()),
-            },
+            _ => {
+                if let Some(slot) = slot_of(instruction) {
+                    self.add_bad_slot(rule, slot, site);
+                }
+            }
         }
     }
 
     /// How many operands are there, and how many are needed.
-    fn add_missing_operand(&mut self, needed: u8, site: &Site) -> Result<(), AllocError> {
-        let count = site.before(&self.plan).operands.len();
-        self.report.add_note(format_args!("operands: {count} are there, {needed} are needed"))
+    fn add_missing_operand(&mut self, needed: u8, site: &Site) {
+        let count = site.before.operands.len();
+        self.report.add_note(format_args!("operands: {count} are there, {needed} are needed"));
     }
 
     /// How many operands an instruction takes.
@@ -41,13 +36,13 @@ impl Reasons<'_, '_> {
     }
 
     /// How many operands are there.
-    fn add_full_stack(&mut self, site: &Site) -> Result<(), AllocError> {
-        let count = site.before(&self.plan).operands.len();
-        self.report.add_note(format_args!("operands: {count} are there, with room for 8"))
+    fn add_full_stack(&mut self, site: &Site) {
+        let count = site.before.operands.len();
+        self.report.add_note(format_args!("operands: {count} are there, with room for 8"));
     }
 
     /// Says what is wrong with a slot.
-    fn add_bad_slot(&mut self, rule: Rule, slot: u8, site: &Site) -> Result<(), AllocError> {
+    fn add_bad_slot(&mut self, rule: Rule, slot: u8, site: &Site) {
         match rule {
             Rule::V8 => self.add_unknown_slot(slot, site),
             Rule::V9 => self.add_parameter(slot, site),
@@ -56,45 +51,43 @@ impl Reasons<'_, '_> {
     }
 
     /// The slot that is not known, and the frame that does not tell of it.
-    fn add_unknown_slot(&mut self, slot: u8, site: &Site) -> Result<(), AllocError> {
+    fn add_unknown_slot(&mut self, slot: u8, site: &Site) {
         self.report
-            .add_note(format_args!("slot {slot} is not known"))?;
+            .add_note(format_args!("slot {slot} is not known"));
         let Some(label) = site.label else {
-            return Ok(());
+            return;
         };
-        self.add_place(Place::Frame(site.procedure, label, Part::Head))?;
+        self.add_place(Place::Frame(site.procedure, label, Part::Head));
         self.report
-            .add_note(format_args!("this frame has no line of slot {slot}"))
+            .add_note(format_args!("this frame has no line of slot {slot}"));
     }
 
     /// The slot that is a parameter.
-    fn add_parameter(&mut self, slot: u8, site: &Site) -> Result<(), AllocError> {
+    fn add_parameter(&mut self, slot: u8, site: &Site) {
         let name = Shown(self.lines.name_at(Place::Procedure(site.procedure)));
         self.report
-            .add_note(format_args!("slot {slot} is a parameter of {name}"))
+            .add_note(format_args!("slot {slot} is a parameter of {name}"));
     }
 
     /// What the counter is, and its range.
-    fn add_negative_counter(&mut self, slot: u8, site: &Site) -> Result<(), AllocError> {
-        let standing = site.before(&self.plan);
-        if let Some(Some(number)) = standing.slots.get(usize::from(slot)) {
+    fn add_negative_counter(&mut self, slot: u8, site: &Site) {
+        if let Some(Some(number)) = site.before.slots.get(usize::from(slot)) {
             let number = *number;
             self.report.add_note(format_args!(
                 "slot {slot} is {number}, and counts down from 0 or more"
-            ))?;
+            ));
         }
-        self.add_point(site, &standing)?;
-        self.add_last_part(site, Part::Slot(slot))
+        self.add_point(site, &site.before);
+        self.add_last_part(site, Part::Slot(slot));
     }
 
     /// What the result is.
-    fn add_large_number(&mut self, site: &Site) -> Result<(), AllocError> {
-        let after = site.after(&self.plan);
-        if let Some(number) = after.operands.last() {
+    fn add_large_number(&mut self, site: &Site) {
+        if let Some(number) = site.after.operands.last() {
             let number = *number;
-            self.report.add_note(format_args!("the result is {number}, beyond 32767 either way"))?;
+            self.report.add_note(format_args!("the result is {number}, beyond 32767 either way"));
         }
-        self.add_point(site, &after)
+        self.add_point(site, &site.after);
     }
 }
 

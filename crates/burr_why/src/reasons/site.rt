@@ -6,7 +6,6 @@ use arrayvec::ArrayVec;
 use burr_code::limits::MOST_CODE;
 use burr_lines::{Part, Place, PlanText, Shown};
 use burr_verify::Refusal;
-use std::alloc::AllocError;
 use std::fmt;
 
 /// Where a rule is broken.
@@ -20,6 +19,10 @@ pub struct Site {
     pub label: Option<usize>,
     /// The point that is named; nothing where none is.
     pub point: ArrayVec<i32, 8>,
+    /// What holds before the instruction, at the point.
+    pub before: Standing,
+    /// What holds after the instruction, at the point, where it falls through.
+    pub after: Standing,
 }
 
 impl Site {
@@ -27,28 +30,23 @@ impl Site {
     pub fn of(plan: &PlanText<'_, '_>, refusal: &Refusal) -> Site {
         let procedure = usize::from(refusal.proc);
         let pc = usize::from(refusal.pc);
-        Site {
+        let mut site = Site {
             procedure,
             pc,
             end: plan.end_of_instruction(procedure, pc),
             label: plan.label_before(procedure, pc),
             point: point_of(refusal),
-        }
-    }
-
-    /// What holds before the instruction, at the point.
-    pub fn before(&self, plan: &PlanText<'_, '_>) -> Standing {
-        self.standing(plan, self.pc)
-    }
-
-    /// What holds after the instruction, at the point, where it falls through.
-    pub fn after(&self, plan: &PlanText<'_, '_>) -> Standing {
-        self.standing(plan, self.end)
+            before: Standing::at_home(0),
+            after: Standing::at_home(0),
+        };
+        site.before = site.standing(plan, pc);
+        site.after = site.standing(plan, site.end);
+        site
     }
 
     /// What holds at a place after the last label, at the point: what its frame says, and what the
     /// instructions since then do. Without a label there are no pieces.
-    fn standing(&self, plan: &PlanText<'_, '_>, pc: usize) -> Standing {
+    pub fn standing(&self, plan: &PlanText<'_, '_>, pc: usize) -> Standing {
         let Some(label) = self.label else {
             return Standing::at_home(0);
         };
@@ -95,69 +93,60 @@ struct Named {
     origin: Origin,
     /// The number of the instruction's line.
     line: usize,
-    value: i64,
 }
 
 impl fmt::Display for Named {
     fn fmt<W: fmt::Write>(&self, f: &mut fmt::Formatter<W>) -> fmt::Result {
         let line = self.line;
-        let value = self.value;
         match self.origin {
-            Origin::Slot(slot) => write!(f, "slot {slot} is {value}"),
-            Origin::Answer(_) => write!(f, "the answer of line {line} is {value}"),
-            Origin::Result(_, number) => { write!(f, "result {number} of line {line} is {value}") }
+            Origin::Slot(slot) => write!(f, "slot {slot}"),
+            Origin::Answer(_) => write!(f, "the answer of line {line}"),
+            Origin::Result(_, number) => write!(f, "result {number} of line {line}"),
         }
     }
 }
 
 impl Reasons<'_, '_> {
     /// Notes in which procedure and after which label a place is.
-    pub(super) fn add_surroundings(&mut self, site: &Site) -> Result<(), AllocError> {
+    pub(super) fn add_surroundings(&mut self, site: &Site) {
         let Some(label) = site.label else {
-            return Ok(());
+            return;
         };
         let procedure = Shown(self.lines.name_at(Place::Procedure(site.procedure)));
         let name = Shown(self.lines.name_at(Place::Label(site.procedure, label)));
         self.report
-            .add_note(format_args!("in {procedure}, after label {name}"))
+            .add_note(format_args!("in {procedure}, after label {name}"));
     }
 
     /// Names the line of a part of the last label's frame, where there is a label.
-    pub(super) fn add_last_part(&mut self, site: &Site, part: Part) -> Result<(), AllocError> {
-        match site.label {
-            Some(label) => self.add_part(site.procedure, label, part),
-            None => Ok(()),
+    pub(super) fn add_last_part(&mut self, site: &Site, part: Part) {
+        if let Some(label) = site.label {
+            self.add_part(site.procedure, label, part);
         }
     }
 
     /// Notes the point, where one is named, with what its numbers belong to.
-    pub(super) fn add_point(&mut self, site: &Site, standing: &Standing) -> Result<(), AllocError> {
+    pub(super) fn add_point(&mut self, site: &Site, standing: &Standing) {
         if site.point.is_empty() {
-            return Ok(());
+            return;
         }
-        let mut text = String::new(self.alloc);
-        for symbol in &standing.symbols {
-            self.write_symbol(site, symbol, &mut text)?;
+        self.report.add_words("    where ");
+        for (n, symbol) in standing.symbols.iter().enumerate() {
+            self.add_symbol(n, site, symbol);
         }
-        self.report.add_note(format_args!("where {text}"))
+        self.report.add_words("\n");
     }
 
-    /// Writes an open number with what it belongs to, after those that are written.
-    fn write_symbol(
-        &self,
-        site: &Site,
-        symbol: &Symbol,
-        text: &mut String,
-    ) -> Result<(), AllocError> {
-        if !text.is_empty() {
-            text.push_str(", ")?;
-        }
-        let named = Named {
+    /// Adds the open number of this place in their order, with what it belongs to.
+    fn add_symbol(&mut self, n: usize, site: &Site, symbol: &Symbol) {
+        let separator = if n == 0 { "" } else { ", " };
+        let origin = Named {
             origin: symbol.origin,
             line: self.line_number(site, symbol.origin),
-            value: symbol.value,
         };
-        write!(text, "{named}")
+        let value = symbol.value;
+        self.report
+            .add_words(format_args!("{separator}{origin} is {value}"));
     }
 
     /// The number of the line of the instruction that an open number comes from; 0 of a slot.

@@ -9,220 +9,162 @@ use burr_code::{Instr, is_in_set};
 use burr_frames::Rule;
 use burr_lines::{Part, Place, Shown, piece_name};
 use burr_voxels::Direction;
-use std::alloc::AllocError;
 
 impl Reasons<'_, '_> {
     /// Says which pieces can't be gripped or moved so.
-    pub(super) fn add_bad_grip(
-        &mut self,
-        rule: Rule,
-        instruction: &Instr<'_>,
-        site: &Site,
-    ) -> Result<(), AllocError> {
-        let standing = site.before(&self.plan);
+    pub(super) fn add_bad_grip(&mut self, rule: Rule, instruction: &Instr<'_>, site: &Site) {
         match (rule, instruction) {
-            (Rule::V13, Instr::Grip(set)) => self.add_pieces_elsewhere(*set, site, &standing),
-            (Rule::V14, _) => self.add_wrong_grip(site, &standing),
-            (Rule::V17, Instr::Aside(_, tray)) => self.add_full_tray(*tray, site, &standing),
-            (Rule::V18, Instr::Step(_)) => self.add_far_pieces_after(site),
-            (Rule::V18, _) => self.add_far_pieces(site, &standing),
-            _ => Ok(()),
+            (Rule::V13, Instr::Grip(set)) => self.add_pieces_elsewhere(*set, site),
+            (Rule::V14, _) => self.add_wrong_grip(site),
+            (Rule::V17, Instr::Aside(_, tray)) => self.add_full_tray(*tray, site),
+            (Rule::V18, Instr::Step(_)) => self.add_far_pieces(site, &site.after),
+            (Rule::V18, _) => self.add_far_pieces(site, &site.before),
+            _ => {}
         }
     }
 
     /// The pieces of a set that are not in the current tray.
-    fn add_pieces_elsewhere(
-        &mut self,
-        set: u32,
-        site: &Site,
-        standing: &Standing,
-    ) -> Result<(), AllocError> {
-        let tray = standing.tray;
+    fn add_pieces_elsewhere(&mut self, set: u32, site: &Site) {
+        let tray = site.before.tray;
         self.report
-            .add_note(format_args!("the current tray is {tray}"))?;
+            .add_note(format_args!("the current tray is {tray}"));
         for piece in 0..32 {
-            if is_in_set(set, piece) && !standing.place(piece).is_in(tray) {
-                self.add_piece_elsewhere(piece, site, standing)?;
+            if is_in_set(set, piece) && !site.before.place(piece).is_in(tray) {
+                self.add_piece_elsewhere(piece, site);
             }
         }
-        Ok(())
     }
 
     /// A piece that is not in the current tray, with its line of the last frame.
-    fn add_piece_elsewhere(
-        &mut self,
-        piece: u8,
-        site: &Site,
-        standing: &Standing,
-    ) -> Result<(), AllocError> {
-        if standing.places.len() <= usize::from(piece) {
+    fn add_piece_elsewhere(&mut self, piece: u8, site: &Site) {
+        if site.before.places.len() <= usize::from(piece) {
             return self
                 .report
                 .add_note(format_args!("there is no piece {piece}"));
         }
-        self.add_whereabouts(piece, standing)?;
-        self.add_piece_line(piece, site, standing)
+        self.add_whereabouts(piece, site);
+        self.add_last_told(Part::Piece(piece), site);
     }
 
     /// Notes where a piece is.
-    fn add_whereabouts(&mut self, piece: u8, standing: &Standing) -> Result<(), AllocError> {
+    fn add_whereabouts(&mut self, piece: u8, site: &Site) {
         let name = piece_name(self.plan.assembly, piece);
-        let place = Whereabouts(standing.place(piece).tray());
-        self.report.add_note(format_args!("{name} is {place}"))
+        let place = Whereabouts(site.before.place(piece).tray());
+        self.report.add_note(format_args!("{name} is {place}"));
     }
 
-    /// Names the line of a piece in the frame that tells of it: that of the last label, or the exit
-    /// frame of a procedure that was called since.
-    fn add_piece_line(
-        &mut self,
-        piece: u8,
-        site: &Site,
-        standing: &Standing,
-    ) -> Result<(), AllocError> {
-        self.add_last_told(Part::Piece(piece), site, standing)
-    }
-
-    /// Names the line of a part of the frame that tells where the pieces lie.
-    fn add_last_told(
-        &mut self,
-        part: Part,
-        site: &Site,
-        standing: &Standing,
-    ) -> Result<(), AllocError> {
-        match standing.returned_from {
+    /// Names the line of a part of the frame that tells where the pieces lie: that of the last label, or
+    /// the exit frame of a procedure that was called since.
+    fn add_last_told(&mut self, part: Part, site: &Site) {
+        match site.before.returned_from {
             Some(callee) => self.add_place(Place::Exit(callee, part)),
             None => self.add_last_part(site, part),
         }
     }
 
     /// Nothing is gripped, or the whole tray.
-    fn add_wrong_grip(&mut self, site: &Site, standing: &Standing) -> Result<(), AllocError> {
-        if standing.grip == 0 {
-            self.report.add_note("nothing is gripped")?;
+    fn add_wrong_grip(&mut self, site: &Site) {
+        if site.before.grip == 0 {
+            self.report.add_note("nothing is gripped");
         } else {
-            let tray = standing.tray;
+            let tray = site.before.tray;
             self.report
-                .add_note(format_args!("all pieces of tray {tray} are gripped"))?;
+                .add_note(format_args!("all pieces of tray {tray} are gripped"));
         }
-        self.add_grip_line(site, standing)
+        self.add_grip_line(site);
     }
 
     /// Names the line that tells which pieces are gripped.
-    fn add_grip_line(&mut self, site: &Site, standing: &Standing) -> Result<(), AllocError> {
-        match standing.gripped_at {
+    fn add_grip_line(&mut self, site: &Site) {
+        match site.before.gripped_at {
             Some(pc) => self.add_place(Place::Code(site.procedure, pc)),
-            None => self.add_last_told(Part::Head, site, standing),
+            None => self.add_last_told(Part::Head, site),
         }
     }
 
     /// A piece of a tray that should be empty.
-    fn add_full_tray(
-        &mut self,
-        tray: u8,
-        site: &Site,
-        standing: &Standing,
-    ) -> Result<(), AllocError> {
+    fn add_full_tray(&mut self, tray: u8, site: &Site) {
         for piece in 0..32 {
-            if standing.place(piece).is_in(tray) {
-                self.add_piece_of_tray(tray, piece)?;
-                return self.add_piece_line(piece, site, standing);
+            if site.before.place(piece).is_in(tray) {
+                self.add_piece_of_tray(tray, piece);
+                return self.add_last_told(Part::Piece(piece), site);
             }
         }
-        Ok(())
     }
 
     /// Notes that a tray has a piece.
-    fn add_piece_of_tray(&mut self, tray: u8, piece: u8) -> Result<(), AllocError> {
+    fn add_piece_of_tray(&mut self, tray: u8, piece: u8) {
         let name = piece_name(self.plan.assembly, piece);
-        self.report.add_note(format_args!("tray {tray} has {name}"))
-    }
-
-    /// The pieces that are too far from home after a step.
-    fn add_far_pieces_after(&mut self, site: &Site) -> Result<(), AllocError> {
-        let after = site.after(&self.plan);
-        self.add_far_pieces(site, &after)
+        self.report.add_note(format_args!("tray {tray} has {name}"));
     }
 
     /// The pieces of the current tray that are too far from home.
-    fn add_far_pieces(&mut self, site: &Site, standing: &Standing) -> Result<(), AllocError> {
+    fn add_far_pieces(&mut self, site: &Site, standing: &Standing) {
         for piece in 0..32 {
             if let Some(offset) = standing.place(piece).position_in(standing.tray) {
                 if is_far(offset) {
-                    self.add_far_piece(piece, offset)?;
+                    self.add_far_piece(piece, offset);
                 }
             }
         }
-        self.add_point(site, standing)
+        self.add_point(site, standing);
     }
 
     /// Notes how far from home a piece is.
-    fn add_far_piece(&mut self, piece: u8, offset: Offset) -> Result<(), AllocError> {
+    fn add_far_piece(&mut self, piece: u8, offset: Offset) {
         let name = piece_name(self.plan.assembly, piece);
         self.report.add_note(format_args!(
             "{name} is {offset} from home, and 256 is as far as it may be"
-        ))
+        ));
     }
 
     /// Says where two pieces meet, and names their lines in the last frame.
-    pub(super) fn add_meeting(
-        &mut self,
-        pieces: Option<(u8, u8)>,
-        site: &Site,
-    ) -> Result<(), AllocError> {
+    pub(super) fn add_meeting(&mut self, pieces: Option<(u8, u8)>, site: &Site) {
         let Some((piece, other)) = pieces else {
-            return Ok(());
+            return;
         };
-        let standing = site.before(&self.plan);
-        self.add_meeting_cell(piece, other, site)?;
-        self.add_point(site, &standing)?;
-        self.add_grip(site, &standing)?;
-        self.add_piece_line(piece, site, &standing)?;
-        self.add_piece_line(other, site, &standing)
+        self.add_meeting_cell(piece, other, site);
+        self.add_point(site, &site.before);
+        self.add_grip(site);
+        self.add_last_told(Part::Piece(piece), site);
+        self.add_last_told(Part::Piece(other), site);
     }
 
     /// Names the line of the grip, and notes its pieces.
-    fn add_grip(&mut self, site: &Site, standing: &Standing) -> Result<(), AllocError> {
-        self.add_grip_line(site, standing)?;
+    fn add_grip(&mut self, site: &Site) {
+        self.add_grip_line(site);
         let grip = Group {
             assembly: self.plan.assembly,
-            set: standing.grip,
+            set: site.before.grip,
         };
-        self.report.add_note(format_args!("gripped: {grip}"))
+        self.report.add_note(format_args!("gripped: {grip}"));
     }
 
     /// Notes the cell at which two pieces meet.
-    fn add_meeting_cell(&mut self, piece: u8, other: u8, site: &Site) -> Result<(), AllocError> {
+    fn add_meeting_cell(&mut self, piece: u8, other: u8, site: &Site) {
         match self.plan.instruction_at(site.procedure, site.pc) {
             Some((Instr::Step(_), _)) => self.add_overlap(piece, other, site),
             Some((Instr::Aside(direction, _), _)) => {
                 self.add_way_out(piece, other, direction, site)
             }
-            _ => Ok(()),
+            _ => {}
         }
     }
 
     /// The cell that two pieces share after a step.
-    fn add_overlap(&mut self, piece: u8, other: u8, site: &Site) -> Result<(), AllocError> {
-        let after = site.after(&self.plan);
-        let Some(cell) = self.common_cell(piece, other, &after) else {
-            return Ok(());
+    fn add_overlap(&mut self, piece: u8, other: u8, site: &Site) {
+        let Some(cell) = self.common_cell(piece, other, &site.after) else {
+            return;
         };
         let name = piece_name(self.plan.assembly, piece);
         let other = piece_name(self.plan.assembly, other);
-        self.report.add_note(format_args!("after it {name} and {other} overlap at cell {cell}"))
+        self.report.add_note(format_args!("after it {name} and {other} overlap at cell {cell}"));
     }
 
     /// The cell at which a piece that is taken out meets another one.
-    fn add_way_out(
-        &mut self,
-        piece: u8,
-        other: u8,
-        direction: Direction,
-        site: &Site,
-    ) -> Result<(), AllocError> {
-        let before = site.before(&self.plan);
-        let Some(meeting) = self.first_meeting(piece, other, direction, &before) else {
-            return Ok(());
+    fn add_way_out(&mut self, piece: u8, other: u8, direction: Direction, site: &Site) {
+        let Some(meeting) = self.first_meeting(piece, other, direction, &site.before) else {
+            return;
         };
         let name = piece_name(self.plan.assembly, piece);
         let other = piece_name(self.plan.assembly, other);
@@ -231,7 +173,7 @@ impl Reasons<'_, '_> {
         let way = Shown(&way);
         self.report.add_note(format_args!(
             "{name} and {other} overlap at cell {cell}, {units} along {way}"
-        ))
+        ));
     }
 
     /// The first cell of a piece that another piece of the current tray has too.
@@ -267,10 +209,6 @@ impl<'a> Reasons<'a, '_> {
 
 /// Whether a piece is too far from home.
 fn is_far(offset: Offset) -> bool {
-    is_far_along(offset.x) || is_far_along(offset.y) || is_far_along(offset.z)
-}
-
-/// Whether a coordinate is too far from 0.
-fn is_far_along(coordinate: i64) -> bool {
-    coordinate.saturating_abs() > 256
+    let farthest = offset.x.saturating_abs().max(offset.y.saturating_abs());
+    farthest.max(offset.z.saturating_abs()) > 256
 }
