@@ -1,9 +1,12 @@
 -- What a line says that begins with a keyword, and that no other line has operands.
-use Rattle.std.proofs.Common.{◌≡◌, ◌≢◌, ℕ, List, [], ◌∷◌, Bool, true, false, IsTrue, refl, sym, ap, subst, ◌∙◌}
+use Rattle.std.proofs.Common.{◌≡◌, ◌≢◌, ℕ, List, [], ◌∷◌, Bool, true, false, IsTrue, refl, sym, ap, subst, ◌∙◌, ◌≤◌, length, take, map, not}
 use Rattle.std.specs.Prelude.{codes, Option, Some, None, ◌||◌, if◌then◌else◌}
 use Rattle.std.specs.List.{list_all, list_any}
 use Rattle.std.specs.Str.{bytes_eq}
+use Rattle.std.specs.Borrow.{Bor}
 use Rattle.std.proofs.lemmas.Bool.{and_parts, false≢true}
+use Rattle.std.proofs.lemmas.List.{take_all}
+use Rattle.std.proofs.lemmas.List.Folds.{list_all-map}
 use Rattle.std.proofs.lemmas.Slice.Eq.{bytes_eq-Decides}
 use Rattle.burr_plantext.specs.Rules.Operands.{by_word}
 use Rattle.burr_plantext.specs.Rules.Statements.{code_words, code_of}
@@ -148,6 +151,52 @@ line_of_no_keyword word bytes none =
 
     is_none : IsNoneOf word keywords
     is_none = (no (key.Plan One), (no (key.Plan Two), (no (key.Part part.Procedure), (no (key.Part part.Exit), (no (key.Part part.Label), (no (key.Part part.Frame), (no (key.Frame frame.Slot), (no (key.Frame frame.Result), (no (key.Frame frame.At), (no (key.Form form.Guard), (no (key.Form form.Stack), (no (key.Form form.Cost), (no (key.Code code.Jump), (no (key.Code code.Down), (no (key.Code code.Pick), (no (key.Code code.Call), (no (key.Code code.Byte), (no (key.Plain (plain.Number number.Push)), (no (key.Plain (plain.Number number.Load)), (no (key.Plain (plain.Number number.Store)), (no (key.Plain (plain.Number number.Tray)), (no (key.Plain plain.Ask), (no (key.Plain plain.Grip), (no (key.Plain plain.Step), (no (key.Plain plain.Aside), tt)))))))))))))))))))))))))
+
+-- The table of the code
+
+abbrev Entry : Type 0
+Entry = Bor (List ℕ) × Keyword
+
+abbrev text_of : Entry → List ℕ
+text_of entry = entry.0.now
+
+-- a word that is that of no entry is no keyword
+pub no_keyword : (word : List ℕ) (items : List Entry) (n : ℕ) → map text_of items ≡ keywords → length items ≤ n
+    → list_all (λ (entry : Entry). not (bytes_eq word (text_of entry))) (take n items) ≡ true → (keyword : Keyword) → word_of keyword ≢ word
+no_keyword word items n same all none keyword e =
+    false≢true (sym (among keyword) ∙ subst (λ (w : List ℕ). list_all (λ (text : List ℕ). not (bytes_eq w text)) keywords ≡ true) (sym e) each)
+  where
+    each : list_all (λ (text : List ℕ). not (bytes_eq word text)) keywords ≡ true
+    each =
+        ap (list_all (λ (text : List ℕ). not (bytes_eq word text))) (sym same) ∙ list_all-map (λ (text : List ℕ). not (bytes_eq word text)) text_of items
+        ∙ ap (list_all (λ (entry : Entry). not (bytes_eq word (text_of entry)))) (sym (take_all n items all)) ∙ none
+
+    among : (keyword : Keyword) → list_all (λ (text : List ℕ). not (bytes_eq (word_of keyword) text)) keywords ≡ false
+    among (key.Plan One) = refl
+    among (key.Plan Two) = refl
+    among (key.Part part.Procedure) = refl
+    among (key.Part part.Exit) = refl
+    among (key.Part part.Label) = refl
+    among (key.Part part.Frame) = refl
+    among (key.Frame frame.Slot) = refl
+    among (key.Frame frame.Result) = refl
+    among (key.Frame frame.At) = refl
+    among (key.Form form.Guard) = refl
+    among (key.Form form.Stack) = refl
+    among (key.Form form.Cost) = refl
+    among (key.Code code.Jump) = refl
+    among (key.Code code.Down) = refl
+    among (key.Code code.Pick) = refl
+    among (key.Code code.Call) = refl
+    among (key.Code code.Byte) = refl
+    among (key.Plain (plain.Number number.Push)) = refl
+    among (key.Plain (plain.Number number.Load)) = refl
+    among (key.Plain (plain.Number number.Store)) = refl
+    among (key.Plain (plain.Number number.Tray)) = refl
+    among (key.Plain plain.Ask) = refl
+    among (key.Plain plain.Grip) = refl
+    among (key.Plain plain.Step) = refl
+    among (key.Plain plain.Aside) = refl
 
 -- A line of one word is a line of code.
 pub line_alone : (word : List ℕ) → line_of (word ∷ []) ≡ code_line (code_of word [])

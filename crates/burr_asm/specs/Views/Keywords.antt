@@ -3,7 +3,7 @@ use Rattle.std.specs.Prelude.{ℕ, List, codes, Option}
 use Rattle.burr_container.specs.Rules.Fitting.{is_name_text}
 use Rattle.burr_plantext.specs.Rules.Written.{is_number, is_set, is_form}
 use Rattle.burr_plantext.specs.Rules.Operands.{alone, one, two, directed}
-use Rattle.burr_plantext.specs.Rules.Statements.{Statement, Push, Load, Store, Grip, Step, Aside, Tray, Ask, Jump, Down, Call, offer, bytes_line}
+use Rattle.burr_plantext.specs.Rules.Statements.{Statement, Grip, Step, Aside, Ask, Jump, Down, Call, offer, bytes_line}
 use Rattle.burr_plantext.specs.Rules.Lines.{Line, ExitLine, LabelLine, FrameLine, GuardLine, StackLine, CostLine, title_line, procedure_line, grip_line, result_line, slot_line, piece_line, code_line}
 use Rattle.burr_asm.specs.declared.text.keyword.Keyword.{Keyword}
 use Rattle.burr_asm.specs.declared.text.keyword.Keyword.TheVariants as key
@@ -19,6 +19,7 @@ use Rattle.burr_asm.specs.declared.text.keyword.PlainKeyword.{PlainKeyword}
 use Rattle.burr_asm.specs.declared.text.keyword.PlainKeyword.TheVariants as plain
 use Rattle.burr_asm.specs.declared.text.keyword.NumberKeyword.{NumberKeyword}
 use Rattle.burr_asm.specs.declared.text.keyword.NumberKeyword.TheVariants as number
+use Rattle.burr_asm.specs.Views.LineWords.{number_words}
 use Rattle.burr_asm.specs.Views.Versions.{first_word_of, number_of_version}
 
 -- Words
@@ -70,15 +71,9 @@ word_of (key.Plain keyword) = plain_word keyword
 
 -- Code
 
-abbrev pub number_line : NumberKeyword → List (List ℕ) → Option Statement
-number_line number.Push = one is_number Push
-number_line number.Load = one is_number Load
-number_line number.Store = one is_number Store
-number_line number.Tray = one is_number Tray
-
 -- an instruction that names nothing
 abbrev pub plain_line : PlainKeyword → List (List ℕ) → Option Statement
-plain_line (plain.Number keyword) = number_line keyword
+plain_line (plain.Number keyword) = one is_number (number_words keyword)
 plain_line plain.Ask = two is_number is_number Ask
 plain_line plain.Grip = one is_set Grip
 plain_line plain.Step = directed (λ d. alone (Step d))

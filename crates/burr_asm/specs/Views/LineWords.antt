@@ -5,6 +5,8 @@ use Rattle.burr_plantext.specs.Rules.Statements.{Statement, Halt, Push, Load, St
 use Rattle.burr_plantext.specs.Rules.Lines.{Line, PlanLine, ProcLine, ExitLine, ResultLine, LabelLine, FrameLine, SlotLine, GuardLine, StackLine, CostLine, AtLine, CodeLine, PlanWords, ProcedureWords, GripWords, RangeWords, SlotWords, PlaceWords, Apart, On, PieceWords}
 use Rattle.burr_asm.specs.Views.Versions.{number_of_version}
 use Rattle.burr_asm.specs.declared.text.words.NumberWord.{NumberWord}
+use Rattle.burr_asm.specs.declared.text.keyword.NumberKeyword.{NumberKeyword}
+use Rattle.burr_asm.specs.declared.text.keyword.NumberKeyword.TheVariants as number
 use Rattle.burr_asm.specs.declared.text.plain_line.PlainLine.{PlainLine}
 use Rattle.burr_asm.specs.declared.text.plain_line.PlainLine.TheVariants as plain
 use Rattle.burr_asm.specs.declared.text.code_line.CodeLine.{CodeLine as CodeParts}
@@ -22,19 +24,23 @@ use Rattle.burr_asm.specs.declared.text.line.LineForm.TheVariants as form
 
 -- Code
 
+-- the line of an instruction whose only operand is a number
+abbrev pub number_words : NumberKeyword → List ℕ → Statement
+number_words number.Push = Push
+number_words number.Load = Load
+number_words number.Store = Store
+number_words number.Tray = Tray
+
 -- the line of an instruction that names nothing
 abbrev pub plain_words : PlainLine → Statement
 plain_words plain.Halt = Halt
-plain_words (plain.Push number) = Push number.bytes.now
-plain_words (plain.Load slot) = Load slot.bytes.now
-plain_words (plain.Store slot) = Store slot.bytes.now
+plain_words (plain.Number keyword number) = number_words keyword number.bytes.now
 plain_words plain.Add = Add
 plain_words plain.Sub = Sub
 plain_words plain.Drop = Drop
 plain_words (plain.Grip set) = Grip set.bytes.now
 plain_words (plain.Step direction) = Step direction
 plain_words (plain.Aside direction tray) = Aside direction tray.bytes.now
-plain_words (plain.Tray tray) = Tray tray.bytes.now
 plain_words (plain.Ask low high) = Ask low.bytes.now high.bytes.now
 plain_words plain.Ret = Ret
 

@@ -1,7 +1,7 @@
 ghost use Rattle.std.specs.Prelude.{◌≡◌, [], MatchOption, None, Some};
 ghost use Rattle.burr_plantext.specs.Rules.Statements.{code_of};
 ghost use Rattle.burr_plantext.specs.Rules.Texts.{words_of};
-ghost use Rattle.burr_asm.specs.Views.Keywords.{number_line, plain_line};
+ghost use Rattle.burr_asm.specs.Views.Keywords.{plain_line};
 ghost use Rattle.burr_asm.specs.Views.LineWords.{plain_words};
 
 use crate::text::keyword::{NumberKeyword, PlainKeyword};
@@ -15,12 +15,8 @@ use burr_voxels::Direction;
 pub enum PlainLine<'a> {
     /// `halt`
     Halt,
-    /// `push NUMBER`
-    Push(NumberWord<'a>),
-    /// `load SLOT`
-    Load(NumberWord<'a>),
-    /// `store SLOT`
-    Store(NumberWord<'a>),
+    /// `push NUMBER`, `load SLOT`, `store SLOT` or `tray TRAY`
+    Number(NumberKeyword, NumberWord<'a>),
     /// `add`
     Add,
     /// `sub`
@@ -33,8 +29,6 @@ pub enum PlainLine<'a> {
     Step(Direction),
     /// `aside DIRECTION TRAY`
     Aside(Direction, NumberWord<'a>),
-    /// `tray TRAY`
-    Tray(NumberWord<'a>),
     /// `ask LOW HIGH`
     Ask(NumberWord<'a>, NumberWord<'a>),
     /// `ret`
@@ -71,7 +65,10 @@ impl PlainLine<'_> {
             plain_line keyword (words_of words.now) ≡ Some (plain_words line)) }
     {
         match keyword {
-            PlainKeyword::Number(keyword) => PlainLine::with_number(keyword, words),
+            PlainKeyword::Number(keyword) => Some(PlainLine::Number(
+                keyword,
+                NumberWord::parse(words)?,
+            )),
             PlainKeyword::Ask => {
                 let (low, high) = NumberWord::cut(words)?;
                 Some(PlainLine::Ask(low, NumberWord::parse(high)?))
@@ -82,20 +79,6 @@ impl PlainLine<'_> {
                 let (direction, tray) = cut_at(words, b' ')?;
                 Some(PlainLine::Aside(Direction::named(direction)?, NumberWord::parse(tray)?))
             }
-        }
-    }
-
-    /// The line of an instruction whose only operand is a number.
-    fn with_number(keyword: NumberKeyword, words: &[u8]) -> Option<PlainLine<'_>>
-        ensures { MatchOption result (number_line keyword (words_of words.now) ≡ None) (λ line.
-            number_line keyword (words_of words.now) ≡ Some (plain_words line)) }
-    {
-        let number = NumberWord::parse(words)?;
-        match keyword {
-            NumberKeyword::Push => Some(PlainLine::Push(number)),
-            NumberKeyword::Load => Some(PlainLine::Load(number)),
-            NumberKeyword::Store => Some(PlainLine::Store(number)),
-            NumberKeyword::Tray => Some(PlainLine::Tray(number)),
         }
     }
 }

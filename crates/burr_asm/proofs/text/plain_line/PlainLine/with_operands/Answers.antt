@@ -6,9 +6,20 @@ use Rattle.burr_plantext.specs.Rules.Written.{is_number, is_set}
 use Rattle.burr_plantext.specs.Rules.Statements.{Ask, Grip, Step, Aside}
 use Rattle.burr_asm.specs.declared.text.keyword.PlainKeyword.{PlainKeyword}
 use Rattle.burr_asm.specs.Views.Keywords.{plain_line}
+use Rattle.burr_asm.specs.Views.LineWords.{number_words}
 use Rattle.burr_asm.proofs.LineForms.{step_failed, step_passed, directed_uncut, directed_failed, directed_passed}
 use Rattle.burr_asm.proofs.Operands.{two_some, last_failed, last_passed}
 use Rattle.burr_asm.proofs.text.plain_line.PlainLine.with_operands.Goals as goal
+
+pub returns-in_err-parse-in-Number : goal.returns-in_err-parse-in-Number
+returns-in_err-parse-in-Number c =
+    rw c.from_residual.ensures
+    (ap (λ (k : PlainKeyword). plain_line k (words_of c.args.words.now)) c.in-Number.is ∙ last_failed is_number number_lacks (number_words c.in-Number.keyword) c.args.words.now c.in_err-parse-in-Number.ensures)
+
+pub returns-in_ok-parse-in-Number : goal.returns-in_ok-parse-in-Number
+returns-in_ok-parse-in-Number c =
+    ap (λ (k : PlainKeyword). plain_line k (words_of c.args.words.now)) c.in-Number.is
+    ∙ last_passed is_number number_lacks (number_words c.in-Number.keyword) c.args.words.now c.in_ok-parse-in-Number.field-0.bytes.now c.in_ok-parse-in-Number.ensures.0 c.in_ok-parse-in-Number.ensures.1
 
 pub returns-in_err-parse-in-Ask : goal.returns-in_err-parse-in-Ask
 returns-in_err-parse-in-Ask c =
