@@ -2,13 +2,7 @@
 //! compared there. Nothing here is trusted: what is accepted is accepted by the verifier alone.
 #![tactic(auto)]
 
-mod comparing;
-mod difference;
-mod group;
-mod meeting;
-mod offset;
 mod reasons;
-mod standing;
 mod why;
 
 pub use burr_lines::PlanText;

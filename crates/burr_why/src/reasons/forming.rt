@@ -2,12 +2,10 @@
 
 use super::Reasons;
 use super::frames::FramePlace;
-use crate::group::Whereabouts;
-use crate::offset::Offset;
-use crate::standing::Standing;
 use burr_code::{Placement, count_in_tray, is_in_set};
 use burr_container::FrameRef;
 use burr_lines::{Part, Place, piece_name};
+use burr_standing::{Offset, Standing, Whereabouts};
 use burr_verify::Refusal;
 
 impl Reasons<'_, '_> {

@@ -1,11 +1,10 @@
 //! Frames that are not met.
 
 use super::{Reasons, Site};
-use crate::difference::Differences;
-use crate::standing::Standing;
 use burr_code::{Instr, Labels};
 use burr_frames::Rule;
 use burr_lines::{Part, Place, Shown};
+use burr_standing::{Differences, Standing};
 
 /// How many differences are told.
 const MOST_TOLD: usize = 12;

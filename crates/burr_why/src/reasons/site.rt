@@ -1,10 +1,10 @@
 //! The place at which a rule is broken, with all that is around it.
 
 use super::Reasons;
-use crate::standing::{Origin, Standing, Symbol};
 use arrayvec::ArrayVec;
 use burr_code::limits::MOST_CODE;
 use burr_lines::{Part, Place, PlanText, Shown};
+use burr_standing::{Origin, Standing, Symbol};
 use burr_verify::Refusal;
 use std::fmt;
 

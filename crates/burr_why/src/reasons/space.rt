@@ -1,13 +1,12 @@
 //! Pieces: which are gripped, where they lie, and which are in each other's way.
 
 use super::{Reasons, Site};
-use crate::group::{Group, Whereabouts};
-use crate::meeting::{Displaced, Meeting, common_cell, first_meeting};
-use crate::offset::Offset;
-use crate::standing::Standing;
 use burr_code::{Instr, is_in_set};
 use burr_frames::Rule;
 use burr_lines::{Part, Place, Shown, piece_name};
+use burr_standing::{
+    Displaced, Group, Meeting, Offset, Standing, Whereabouts, common_cell, first_meeting,
+};
 use burr_voxels::Direction;
 
 impl Reasons<'_, '_> {

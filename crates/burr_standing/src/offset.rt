@@ -1,3 +1,5 @@
+//! How far from home pieces lie.
+
 use crate::standing::value;
 use arrayvec::ArrayVec;
 use burr_code::Placement;
