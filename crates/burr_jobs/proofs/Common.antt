@@ -1,3 +1,5 @@
+pub mod Done
 pub mod HandedOn
 pub mod Sinks
+pub mod Somehow
 pub mod Stages

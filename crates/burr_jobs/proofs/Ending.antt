@@ -28,7 +28,7 @@ use Rattle.burr_command.specs.declared.job.PlanTask.TheVariants.{Check, Run, Try
 use Rattle.burr_jobs.specs.Statuses.{status_of}
 use Rattle.burr_jobs.specs.declared.status.Status.{Status}
 use Rattle.burr_jobs.specs.declared.status.Status.TheVariants.{Done, Refused}
-use Rattle.burr_jobs.specs.PlanEnds.{Ends, PutsEnd, PutsFrontOfEnd, FailsToEnd, IsRefusal, IsRead, IsFor, IsMisfit, CheckEnds, RunEnds, TryEnds, AnswersEnd, SafeEnds, BenchEnds, TaskEnds, AssemblyEnds}
+use Rattle.burr_jobs.specs.PlanEnds.{Ends, PutsFrontOfEnd, FailsToEnd, IsRefusal, IsRead, IsFor, IsMisfit, CheckEnds, RunEnds, TryEnds, AnswersEnd, SafeEnds, BenchEnds, TaskEnds, AssemblyEnds}
 use Rattle.burr_jobs.proofs.Common.Stages.{AreAmong}
 
 -- a failed write, with what was to be printed

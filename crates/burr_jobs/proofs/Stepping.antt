@@ -1,16 +1,16 @@
 -- How a dialogue with a stepper ends, or breaks off: steps from one stage to the next, and ways out.
-use Rattle.std.proofs.Common.{◌≡◌, ◌≤◌, List, ℕ, [], refl, sym, ap, ◌∙◌, subst, inl, inr, arith}
+use Rattle.std.proofs.Common.{◌≡◌, List, ℕ, [], refl, sym, ap, ◌∙◌, subst, inl, inr, arith}
 use Rattle.std.specs.Prelude.{Result, Ok, Err, IfOk, IfErr, OnOk}
 use Rattle.std.specs.Result.{IsErrAnd}
 use Rattle.std.proofs.lemmas.Result.{err_from_is_err_and}
 use Rattle.burr_io.specs.Sink.{SinkView}
 use Rattle.burr_io.specs.Source.{SourceView}
 use Rattle.burr_io.specs.WholeLines.{Lines, lines_view}
-use Rattle.burr_assembly.specs.Rules.Text.{Assembly, IsText}
+use Rattle.burr_assembly.specs.Rules.Text.{Assembly}
 use Rattle.burr_container.specs.Views.Containers.{ContainerView}
 use Rattle.burr_verify.specs.declared.refusal.Refusal.{Refusal}
 use Rattle.burr_verify.specs.Views.Refusals.{another_assembly}
-use Rattle.burr_verify.specs.Rules.Accepting.{Judged, judged, IsAccepted}
+use Rattle.burr_verify.specs.Rules.Accepting.{Judged}
 use Rattle.burr_step.specs.Views.Stepping.{Stepping}
 use Rattle.burr_runs.specs.Rules.Verdicts.{IsRefusedBy, plan_refusal}
 use Rattle.burr_runs.specs.declared.fault.BenchFault.{BenchFault}
@@ -19,7 +19,7 @@ use Rattle.burr_runs.specs.Views.BenchText.{Streams, streams}
 use Rattle.burr_runs.specs.Views.Dialogues.{EndsDialogue, BreaksDialogue}
 use Rattle.burr_jobs.specs.declared.fault.Fault.{Fault}
 use Rattle.burr_jobs.specs.declared.status.Status.{Status}
-use Rattle.burr_jobs.specs.declared.status.Status.TheVariants.{Done, Refused}
+use Rattle.burr_jobs.specs.declared.status.Status.TheVariants.{Done}
 use Rattle.burr_jobs.specs.Faults.{line_of, complaint_of}
 use Rattle.burr_jobs.specs.Statuses.{code_of}
 use Rattle.burr_jobs.specs.JobEnds.{took, EndsEarly, TakesSome, IsDone}

@@ -1,8 +1,11 @@
 -- How a command's job ends: what the sink took, the status, and what a fault's line tells.
-use Rattle.std.specs.Prelude.{◌≡◌, ◌⊎◌, ◌≤◌, ℕ, List, Bool, true, Option, codes}
+use Rattle.std.specs.Prelude.{◌≡◌, ◌⊎◌, ◌≤◌, ℕ, List, Bool, true, Option, Result, IfOk, OnOk, OnErr, codes}
 use Rattle.std.specs.Io.KnownBytes.{Appends}
 use Rattle.burr_io.specs.Sink.{SinkView, HoldsFront}
+use Rattle.burr_jobs.specs.declared.fault.Fault.{Fault}
+use Rattle.burr_jobs.specs.declared.status.Status.{Status}
 use Rattle.burr_jobs.specs.Faults.{cannot_read, cannot_write}
+use Rattle.burr_jobs.specs.Statuses.{code_of}
 
 -- What a sink had taken before and after, and whether it has failed.
 pub record Taken : Type 0 where
@@ -40,6 +43,25 @@ WritesOrFails sink old new =
     (new ≡ old)
     ⊎ (TakesSome (took (sink.taken old) (sink.taken new) (sink.has_failed new))
     × (sink.has_failed new ≡ true))
+
+-- a command ended with a status of what is done, and some text was put; or with a fault, and nothing
+-- was put or the sink failed
+pub record EndsSomehow {S : Type 0} (sink : SinkView S) (before after : S)
+    (result : Result Status Fault) : Type 0 where
+  pub status : IfOk result (λ status. IsDone (code_of status))
+  pub ok : OnOk result
+      (TakesSome (took (sink.taken before) (sink.taken after) (sink.has_failed after)))
+  pub err : OnErr result (WritesOrFails sink before after)
+
+-- the same of the sink to which all that was put is handed on: it took some text; or nothing, or it
+-- failed in some text
+pub record HandsOnSomehow {S : Type 0} (sink : SinkView S) (before after : S)
+    (result : Result Status Fault) : Type 0 where
+  pub status : IfOk result (λ status. IsDone (code_of status))
+  pub ok : OnOk result
+      (TakesSome (took (sink.taken before) (sink.taken after) (sink.has_failed after)))
+  pub err : OnErr result
+      (WritesLess (took (sink.taken before) (sink.taken after) (sink.has_failed after)))
 
 -- the line that tells that a file or a stream failed
 abbrev pub IsFileLine : List ℕ → Type 0

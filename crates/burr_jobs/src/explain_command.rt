@@ -1,25 +1,26 @@
 //! What the program's lines mean.
 
-ghost use Rattle.std.specs.Prelude.{OnErr, OnOk, IfOk};
-ghost use Rattle.burr_jobs.specs.JobEnds.{took, TakesSome, WritesOrFails, IsDone};
-ghost use Rattle.burr_jobs.specs.Statuses.{code_of};
+ghost use Rattle.std.specs.Prelude.{◌≡◌, []};
+ghost use Rattle.burr_jobs.specs.JobEnds.{HandsOnSomehow};
 
 use crate::fault::Fault;
+use crate::handing::hand_on;
 use crate::status::Status;
 use burr_explain::{explanation_of, put_explanation};
-use burr_io::Sink;
+use burr_io::{Sink, WholeLines};
 
 /// Puts what a word or a line means that was printed.
-pub fn explain_line<'a, W: Sink>(line: &'a str, sink: &mut W) -> Result<Status, Fault<'a>>
-    ensures status { IfOk result (λ status. IsDone (code_of status)) }
-    ensures ok { OnOk result (TakesSome
-        (took (W.taken sink.old) (W.taken sink.new) (W.has_failed sink.new))) }
-    ensures err { OnErr result (WritesOrFails W.Sink sink.old sink.new) }
+pub fn explain_line<'a, W: Sink, const N: usize>(
+    line: &'a str,
+    sink: &mut WholeLines<W, N>,
+) -> Result<Status, Fault<'a>>
+    requires fresh { sink.old.held ≡ [] }
+    ensures { HandsOnSomehow W.Sink sink.old.sink sink.new.sink result }
 {
     match explanation_of(line.as_bytes()) {
         Some(known) => {
             put_explanation(known, sink)?;
-            Ok(Status::Done)
+            hand_on(Ok(Status::Done), sink)
         }
         None => Err(Fault::Unknown(line)),
     }

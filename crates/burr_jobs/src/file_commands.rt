@@ -1,39 +1,37 @@
 //! What is done with one file: a plan text is assembled, a container is listed or upgraded.
 
-ghost use Rattle.std.specs.Prelude.{◌≡◌, IfErr, IfOk, MatchOption, OnErr, OnOk};
+ghost use Rattle.std.specs.Prelude.{◌≡◌, [], IfErr, IfOk, MatchOption};
 ghost use Rattle.burr_asm.specs.Rules.Assembling.{IsAssembled};
-ghost use Rattle.burr_jobs.specs.JobEnds.{took, TakesSome, WritesOrFails, IsDone};
+ghost use Rattle.burr_jobs.specs.JobEnds.{HandsOnSomehow};
 ghost use Rattle.burr_jobs.specs.Faults.{line_of};
 ghost use Rattle.burr_jobs.specs.FileEnds.{FailsToAssemble, RefusesText};
 ghost use Rattle.burr_jobs.specs.FileEnds.{IsContainerListing, ListEnds, ListingEnds};
 ghost use Rattle.burr_jobs.specs.PlanEnds.{FailsToEnd, PutsEnd};
-ghost use Rattle.burr_jobs.specs.Statuses.{code_of};
 
 use crate::fault::Fault;
 use crate::files::{are_one_file, read_file, write_file};
+use crate::handing::hand_on;
 use crate::plan_commands::refuse_container;
 use crate::plan_text_refusal::put_plan_text_refusal;
 use crate::status::Status;
 use burr_asm::{AsmFault, assemble, list, list_with_places};
 use burr_container::Container;
-use burr_io::{Sink, put_all};
-use burr_runs::{put_container_refusal, upgrade};
+use burr_io::{Sink, WholeLines, put_all};
+use burr_runs::upgrade;
 use std::alloc::{AllocError, Global};
 use std::rt::Files;
 
 /// Assembles a plan text and makes a file of its container; a refusal is put on the sink, and the
 /// file is then left alone. That file may not be the plan text itself.
 #[inline(never)]
-pub fn assemble_file<'a, F: Files + AllocGlobal, W: Sink>(
+pub fn assemble_file<'a, F: Files + AllocGlobal, W: Sink, const N: usize>(
     files: &F,
     text: &'a str,
     out: &'a str,
-    sink: &mut W,
+    sink: &mut WholeLines<W, N>,
 ) -> Result<Status, Fault<'a>>
-    ensures status { IfOk result (λ status. IsDone (code_of status)) }
-    ensures ok { OnOk result (TakesSome
-        (took (W.taken sink.old) (W.taken sink.new) (W.has_failed sink.new))) }
-    ensures err { OnErr result (WritesOrFails W.Sink sink.old sink.new) }
+    requires fresh { sink.old.held ≡ [] }
+    ensures { HandsOnSomehow W.Sink sink.old.sink sink.new.sink result }
 {
     if are_one_file(files, text, out) {
         return Err(Fault::Same("TEXT", out));
@@ -44,7 +42,7 @@ pub fn assemble_file<'a, F: Files + AllocGlobal, W: Sink>(
             write_file(files, out, &container)?;
             Ok(Status::Done)
         }
-        None => Ok(Status::Refused),
+        None => hand_on(Ok(Status::Refused), sink),
     }
 }
 
@@ -74,19 +72,18 @@ fn container_of<'a, W: Sink>(
 /// Puts the plan text of a container that a file holds, with the places of code or without, or the
 /// container's refusal.
 #[inline(never)]
-pub fn list_file<'a, F: Files + AllocGlobal, W: Sink>(
+pub fn list_file<'a, F: Files + AllocGlobal, W: Sink, const N: usize>(
     files: &F,
     plan: &'a str,
     places: bool,
-    sink: &mut W,
+    sink: &mut WholeLines<W, N>,
 ) -> Result<Status, Fault<'a>>
-    ensures status { IfOk result (λ status. IsDone (code_of status)) }
-    ensures ok { OnOk result (TakesSome
-        (took (W.taken sink.old) (W.taken sink.new) (W.has_failed sink.new))) }
-    ensures err { OnErr result (WritesOrFails W.Sink sink.old sink.new) }
+    requires fresh { sink.old.held ≡ [] }
+    ensures { HandsOnSomehow W.Sink sink.old.sink sink.new.sink result }
 {
     let bytes = read_file(files, plan)?;
-    list_bytes(files.alloc(), &bytes, places, sink)
+    let done = list_bytes(files.alloc(), &bytes, places, sink);
+    hand_on(done, sink)
 }
 
 /// Puts the plan text of the container of these bytes, with the places of code or without, or the
@@ -139,16 +136,14 @@ fn listing(alloc: Global, container: &Container<'_>, places: bool) -> Result<Vec
 /// refusal is put on the sink, and the file is then left alone. That file may not be the one that is
 /// read.
 #[inline(never)]
-pub fn upgrade_file<'a, F: Files + AllocGlobal, W: Sink>(
+pub fn upgrade_file<'a, F: Files + AllocGlobal, W: Sink, const N: usize>(
     files: &F,
     plan: &'a str,
     out: &'a str,
-    sink: &mut W,
+    sink: &mut WholeLines<W, N>,
 ) -> Result<Status, Fault<'a>>
-    ensures status { IfOk result (λ status. IsDone (code_of status)) }
-    ensures ok { OnOk result (TakesSome
-        (took (W.taken sink.old) (W.taken sink.new) (W.has_failed sink.new))) }
-    ensures err { OnErr result (WritesOrFails W.Sink sink.old sink.new) }
+    requires fresh { sink.old.held ≡ [] }
+    ensures { HandsOnSomehow W.Sink sink.old.sink sink.new.sink result }
 {
     if are_one_file(files, plan, out) {
         return Err(Fault::Same("PLAN", out));
@@ -160,8 +155,8 @@ pub fn upgrade_file<'a, F: Files + AllocGlobal, W: Sink>(
             Ok(Status::Done)
         }
         Err(fault) => {
-            put_container_refusal(fault, sink)?;
-            Ok(Status::Refused)
+            let done = refuse_container(fault, sink);
+            hand_on(done, sink)
         }
     }
 }

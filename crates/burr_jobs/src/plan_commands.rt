@@ -1,14 +1,13 @@
 //! What is done with a plan and an assembly: it is judged, or run with the answers of standard
 //! input.
 
-ghost use Rattle.std.specs.Prelude.{◌≡◌, [], IfErr, IfOk, OnErr, OnOk};
+ghost use Rattle.std.specs.Prelude.{◌≡◌, [], IfErr, IfOk};
 ghost use Rattle.burr_state.specs.Views.Benches.{IsAtStart};
 ghost use Rattle.burr_container.specs.Views.Containers.{HasPlan};
 ghost use Rattle.burr_runs.specs.Rules.Refusals.{assembly_refusal, container_refusal};
 ghost use Rattle.burr_runs.specs.Rules.Verdicts.{plan_refusal};
-ghost use Rattle.burr_jobs.specs.JobEnds.{took, TakesSome, WritesLess, IsDone};
+ghost use Rattle.burr_jobs.specs.JobEnds.{HandsOnSomehow};
 ghost use Rattle.burr_jobs.specs.Faults.{line_of};
-ghost use Rattle.burr_jobs.specs.Statuses.{code_of};
 ghost use Rattle.burr_jobs.specs.PlanEnds.{PutsEnd, FailsToEnd, StopsBeforeEnd};
 ghost use Rattle.burr_jobs.specs.PlanEnds.{IsRefusal, PlanEnds, AssemblyEnds};
 ghost use Rattle.burr_jobs.specs.PlanEnds.{CheckEnds, RunEnds, TryEnds};
@@ -46,11 +45,7 @@ pub fn use_files<'a, F: Files + AllocGlobal, R: Source, W: Sink, const N: usize>
     sink: &mut WholeLines<W, N>,
 ) -> Result<Status, Fault<'a>>
     requires fresh { sink.old.held ≡ [] }
-    ensures status { IfOk result (λ status. IsDone (code_of status)) }
-    ensures ok { OnOk result (TakesSome
-        (took (W.taken sink.old.sink) (W.taken sink.new.sink) (W.has_failed sink.new.sink))) }
-    ensures err { OnErr result (WritesLess
-        (took (W.taken sink.old.sink) (W.taken sink.new.sink) (W.has_failed sink.new.sink))) }
+    ensures { HandsOnSomehow W.Sink sink.old.sink sink.new.sink result }
 {
     let text = read_file(files, assembly)?;
     let container = read_file(files, plan)?;

@@ -1,26 +1,19 @@
 -- How what is done with a plan text ends: more is put after what was printed.
-use Rattle.std.proofs.Common.{◌≡◌, ℕ, List, [], ap, refl, subst, sym, ◌∙◌, inl, inr, arith}
+use Rattle.std.proofs.Common.{ℕ, List, [], ap, refl, subst, sym, ◌∙◌, inl, inr}
 use Rattle.std.proofs.lemmas.List.{append-nil}
 use Rattle.std.specs.Prelude.{Result, Ok, Err, IfOk, IfErr, ◌++◌}
 use Rattle.std.proofs.KnownBytes.{Appends-trans}
 use Rattle.burr_io.specs.Sink.{SinkView, FailsWithin}
 use Rattle.burr_io.proofs.Common.Puts.{FailsWithin-more}
+use Rattle.burr_command.specs.declared.job.TextTask.{TextTask}
 use Rattle.burr_jobs.specs.declared.fault.Fault.{Fault}
 use Rattle.burr_jobs.specs.declared.status.Status.{Status}
-use Rattle.burr_jobs.specs.declared.status.Status.TheVariants.{Done, Refused}
-use Rattle.burr_assembly.specs.Rules.Text.{Assembly}
-use Rattle.burr_command.specs.declared.job.TextTask.{TextTask}
-use Rattle.burr_command.specs.declared.job.TextTask.TheVariants.{Why, Trace}
-use Rattle.burr_runs.specs.declared.outcome.Outcome.{Outcome}
-use Rattle.burr_runs.specs.declared.outcome.Outcome.TheVariants as outcomes
-use Rattle.burr_runs.specs.declared.answers.AnswersFault.TheVariants.{Line, Memory}
-use Rattle.burr_jobs.specs.Faults.{line_of}
-use Rattle.burr_jobs.specs.PlanEnds.{Ends, PutsEnd, FailsToEnd, AssemblyEnds}
-use Rattle.burr_jobs.specs.Statuses.{code_of, status_of}
-use Rattle.burr_jobs.specs.JobEnds.{IsDone}
 use Rattle.burr_jobs.specs.AddedNotes.{AddsNotes}
-use Rattle.burr_program.specs.NotedEnds.{plan_task_of, Begins, NotedEnds}
+use Rattle.burr_jobs.specs.Faults.{line_of}
+use Rattle.burr_jobs.specs.PlanEnds.{Ends, PutsEnd, FailsToEnd}
+use Rattle.burr_jobs.proofs.Common.Done.{AreDone, container_is_done, refused_is_done}
 use Rattle.burr_jobs.proofs.Common.Stages.{AreAmong}
+use Rattle.burr_program.specs.NotedEnds.{plan_task_of, Begins, NotedEnds}
 
 -- what may be printed first at one stage may be at the other
 pub begins_among : (These Those : Ends) → AreAmong These Those → AreAmong (Begins These) (Begins Those)
@@ -50,40 +43,9 @@ notes_fail {S} sink old mid new AreEnds notes (Err given) (Err fault) (same, lef
 notes_fail sink old mid new AreEnds notes (Err given) (Err fault) (same, left) puts (inr (line, kept)) =
     inr (ap line_of same ∙ line, left ∙ kept)
 
--- the status of an outcome is one of what is done
-outcome_is_done : (outcome : Outcome) → IsDone (code_of (status_of outcome))
-outcome_is_done outcomes.Apart = inl (omega arith)
-outcome_is_done outcomes.Waiting = inr refl
-outcome_is_done outcomes.Trapped = inl (omega arith)
-outcome_is_done outcomes.Stopped = inl (omega arith)
-outcome_is_done outcomes.Refused = inl (omega arith)
-
--- what a status is done by that is another's
-same_is_done : (one two : Status) → one ≡ two → IsDone (code_of two) → IsDone (code_of one)
-same_is_done one two same is = subst (λ (s : Status). IsDone (code_of s)) (sym same) is
-
--- so is that of a refusal
-pub refused_is_done : (status : Status) → status ≡ Refused → IsDone (code_of status)
-refused_is_done status is = same_is_done status Refused is (inl (omega arith))
-
--- what is done for a container ends with a status of what is done
-pub container_is_done : (task : TextTask) (bytes answers : List ℕ) (a : Assembly) (output : List ℕ) (status : Status)
-    → AssemblyEnds (plan_task_of task) bytes answers a output status → IsDone (code_of status)
-container_is_done task bytes answers a output status (inl (fault, fails, (same, is))) = refused_is_done status is
-container_is_done Why bytes answers a output status (inr (kept, of, inl (verdict, is))) = same_is_done status Done is (inl (omega arith))
-container_is_done Why bytes answers a output status (inr (kept, of, inr (verdict, is))) = refused_is_done status is
-container_is_done Trace bytes answers a output status (inr (kept, of, inl (misfit, (same, is)))) = refused_is_done status is
-container_is_done Trace bytes answers a output status (inr (kept, of, inr (fits, inl (Line line, at, (same, is))))) = refused_is_done status is
-container_is_done Trace bytes answers a output status (inr (kept, of, inr (fits, inl (Memory, at, never)))) = absurd never
-container_is_done Trace bytes answers a output status (inr (kept, of, inr (fits, inr (numbers, text, (outcome, sheet, is))))) = same_is_done status (status_of outcome) is (outcome_is_done outcome)
-
 -- what is done for a plan text ends with a status of what is done
-note_is_done : (task : TextTask) (text plan answers output : List ℕ) (status : Status) → NotedEnds task text plan answers output status → IsDone (code_of status)
+pub note_is_done : (task : TextTask) (text plan answers : List ℕ) → AreDone (NotedEnds task text plan answers)
 note_is_done task text plan answers output status (first, more, parts, inl (fault, at, (same, is))) = refused_is_done status is
 note_is_done task text plan answers output status (first, more, parts, inr (a, read, inl (fault, at, (same, is)))) = refused_is_done status is
-note_is_done task text plan answers output status (first, more, parts, inr (a, read, inr (bytes, assembled, is))) = container_is_done task bytes answers a first status is
-
-pub notes_are_done : {S : Type 0} (sink : SinkView S) (before after : S) (task : TextTask) (text plan answers : List ℕ) (r : Result Status Fault)
-    → IfOk r (PutsEnd sink before after (NotedEnds task text plan answers)) → IfOk r (λ status. IsDone (code_of status))
-notes_are_done sink before after task text plan answers (Ok status) (output, is, takes) = note_is_done task text plan answers output status is
-notes_are_done sink before after task text plan answers (Err fault) puts = tt
+note_is_done task text plan answers output status (first, more, parts, inr (a, read, inr (bytes, assembled, is))) =
+    container_is_done (plan_task_of task) bytes answers a first status is

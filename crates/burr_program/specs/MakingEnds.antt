@@ -1,24 +1,13 @@
 -- How `plan` and `frames` end: a plan text is made, and nothing is printed; or why there is none is
 -- printed.
-use Rattle.std.specs.Prelude.{◌≡◌, ⊤, ℕ, List, Result, IfOk, OnOk, OnErr}
+use Rattle.std.specs.Prelude.{◌≡◌, ⊤, ℕ, List}
 use Rattle.burr_io.specs.Sink.{SinkView}
 use Rattle.burr_assembly.specs.Rules.Text.{Assembly, IsText}
 use Rattle.burr_from_sheet.specs.SheetPlans.{IsPlanOfSheet}
-use Rattle.burr_jobs.specs.declared.fault.Fault.{Fault}
 use Rattle.burr_program.specs.declared.making.Made.{Made}
 use Rattle.burr_program.specs.declared.making.Made.TheVariants as made
-use Rattle.burr_jobs.specs.declared.status.Status.{Status}
-use Rattle.burr_jobs.specs.JobEnds.{took, TakesSome, WritesOrFails, IsDone}
+use Rattle.burr_jobs.specs.JobEnds.{took, TakesSome, IsDone}
 use Rattle.burr_jobs.specs.Statuses.{code_of}
-
--- it ended with a status of what is done, and some text was put; or with a fault, and nothing was put
--- or the sink failed
-pub record EndsSomehow {S : Type 0} (sink : SinkView S) (before after : S)
-    (result : Result Status Fault) : Type 0 where
-  pub status : IfOk result (λ status. IsDone (code_of status))
-  pub ok : OnOk result
-      (TakesSome (took (sink.taken before) (sink.taken after) (sink.has_failed after)))
-  pub err : OnErr result (WritesOrFails sink before after)
 
 -- a text was made that is such a one, and the sink was left alone; or some text was put
 abbrev pub MakesOrPuts : {S : Type 0} → SinkView S → S → S → (List ℕ → Type 0) → Made → Type 0

@@ -6,7 +6,7 @@ mod from_sheet;
 ghost use Rattle.std.specs.Prelude.{codes, IfErr, IfOk};
 ghost use Rattle.burr_runs.specs.Rules.Refusals.{place_line};
 ghost use Rattle.burr_jobs.specs.Faults.{line_of};
-ghost use Rattle.burr_program.specs.MakingEnds.{EndsSomehow};
+ghost use Rattle.burr_jobs.specs.JobEnds.{EndsSomehow};
 ghost use Rattle.burr_jobs.specs.PlanEnds.{FailsToEnd, IsRefusal, PutsEnd};
 
 use crate::reasons::{reason_of_assembly_fault, with_meaning};

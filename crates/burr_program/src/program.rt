@@ -14,8 +14,8 @@ use crate::text_commands::text_files;
 use burr_command::{Job, Reply, Request, request_of};
 use burr_io::{Sink, Source, WholeLines, WriteFault, put_all};
 use burr_jobs::{
-    Fault, Status, assemble_file, explain_line, hand_on, list_file, put_fault, step_files,
-    upgrade_file, use_files,
+    Fault, Status, assemble_file, explain_line, list_file, put_fault, step_files, upgrade_file,
+    use_files,
 };
 use burr_runs::{BenchFault, bench_text};
 use std::alloc::{AllocError, Global};
@@ -108,18 +108,9 @@ fn do_job<'a, F: Files + AllocGlobal, R: Source, W: Sink, const N: usize>(
         (line_of fault)) }
 {
     match job {
-        Job::Assemble { text, out } => {
-            let done = assemble_file(files, text, out, sink);
-            hand_on(done, sink)
-        }
-        Job::List { plan, places } => {
-            let done = list_file(files, plan, *places, sink);
-            hand_on(done, sink)
-        }
-        Job::Upgrade { plan, out } => {
-            let done = upgrade_file(files, plan, out, sink);
-            hand_on(done, sink)
-        }
+        Job::Assemble { text, out } => assemble_file(files, text, out, sink),
+        Job::List { plan, places } => list_file(files, plan, *places, sink),
+        Job::Upgrade { plan, out } => upgrade_file(files, plan, out, sink),
         Job::Plan {
             task,
             assembly,
@@ -130,30 +121,18 @@ fn do_job<'a, F: Files + AllocGlobal, R: Source, W: Sink, const N: usize>(
             task,
             assembly,
             text,
-        } => {
-            let done = text_files(files, *task, assembly, text, source, sink);
-            hand_on(done, sink)
-        }
+        } => text_files(files, *task, assembly, text, source, sink),
         Job::PlanSheet {
             assembly,
             sheet,
             out,
-        } => {
-            let done = plan_sheet_file(files, assembly, sheet, out, sink);
-            hand_on(done, sink)
-        }
+        } => plan_sheet_file(files, assembly, sheet, out, sink),
         Job::Frames {
             assembly,
             text,
             out,
-        } => {
-            let done = frames_file(files, assembly, text, out, source, sink);
-            hand_on(done, sink)
-        }
-        Job::Explain { line } => {
-            let done = explain_line(line, sink);
-            hand_on(done, sink)
-        }
+        } => frames_file(files, assembly, text, out, source, sink),
+        Job::Explain { line } => explain_line(line, sink),
     }
 }
 

@@ -1,12 +1,11 @@
 //! What is done with a plan text itself: why it is refused, and what its run comes to at each label.
 //! What is said stands below what `asm`, `check` or `try` prints.
 
-ghost use Rattle.std.specs.Prelude.{◌≡◌, IfErr, IfOk, OnErr, OnOk};
-ghost use Rattle.burr_jobs.specs.JobEnds.{took, TakesSome, WritesOrFails, IsDone};
+ghost use Rattle.std.specs.Prelude.{◌≡◌, [], IfErr, IfOk};
+ghost use Rattle.burr_jobs.specs.JobEnds.{HandsOnSomehow};
 ghost use Rattle.burr_jobs.specs.Faults.{line_of};
 ghost use Rattle.burr_program.specs.NotedEnds.{plan_task_of, Begins, NotedEnds, PlanTextEnds};
 ghost use Rattle.burr_jobs.specs.PlanEnds.{FailsToEnd, PutsEnd};
-ghost use Rattle.burr_jobs.specs.Statuses.{code_of};
 
 use crate::reasons::{reason_of_assembly_fault, reason_of_text_fault, reason_with_meaning};
 use burr_asm::{AsmFault, assemble};
@@ -14,8 +13,10 @@ use burr_assembly::{Assembly, AssemblyFault};
 use burr_blocking::RowTables;
 use burr_command::{PlanTask, TextTask};
 use burr_container::Container;
-use burr_io::{Sink, Source};
-use burr_jobs::{Fault, Status, add_notes, read_file, refuse_plan_text, refuse_text, use_assembly};
+use burr_io::{Sink, Source, WholeLines};
+use burr_jobs::{
+    Fault, Status, add_notes, hand_on, read_file, refuse_plan_text, refuse_text, use_assembly,
+};
 use burr_runs::{AnswersFault, read_answers, read_whole};
 use burr_trace::trace_of;
 use burr_verify::{Refusal, accept, fits_assembly};
@@ -38,18 +39,16 @@ struct Texts<'x> {
 /// not, why; or its run, as `asm` and `try` do, and what it came to at each label. The files are
 /// read in order, and then, where there is a run, the source whole, before anything is judged.
 #[inline(never)]
-pub fn text_files<'a, F: Files + AllocGlobal, R: Source, W: Sink>(
+pub fn text_files<'a, F: Files + AllocGlobal, R: Source, W: Sink, const N: usize>(
     files: &F,
     task: TextTask,
     assembly: &'a str,
     plan: &'a str,
     source: &mut R,
-    sink: &mut W,
+    sink: &mut WholeLines<W, N>,
 ) -> Result<Status, Fault<'a>>
-    ensures status { IfOk result (λ status. IsDone (code_of status)) }
-    ensures ok { OnOk result (TakesSome
-        (took (W.taken sink.old) (W.taken sink.new) (W.has_failed sink.new))) }
-    ensures err { OnErr result (WritesOrFails W.Sink sink.old sink.new) }
+    requires fresh { sink.old.held ≡ [] }
+    ensures { HandsOnSomehow W.Sink sink.old.sink sink.new.sink result }
 {
     let drawing = read_file(files, assembly)?;
     let text = read_file(files, plan)?;
@@ -65,7 +64,8 @@ pub fn text_files<'a, F: Files + AllocGlobal, R: Source, W: Sink>(
         text: &text,
         answers: &answers,
     };
-    note_texts(files.alloc(), texts, sink)
+    let done = note_texts(files.alloc(), texts, sink);
+    hand_on(done, sink)
 }
 
 /// The same of the texts.

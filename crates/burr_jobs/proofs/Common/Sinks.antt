@@ -16,7 +16,7 @@ ends_take_some sink before after AreEnds (Ok status) (output, is, takes) = (outp
 ends_take_some sink before after AreEnds (Err fault) puts = tt
 
 -- a sink that failed in a text took some
-fails_or_writes : {S : Type 0} (sink : SinkView S) (before after : S) (text : List ℕ) → FailsWithin sink before after text → WritesOrFails sink before after
+pub fails_or_writes : {S : Type 0} (sink : SinkView S) (before after : S) (text : List ℕ) → FailsWithin sink before after text → WritesOrFails sink before after
 fails_or_writes sink before after text fails =
     let (front, rest, parts, took) = fails.takes in
     inr ((front, took), fails.fails)

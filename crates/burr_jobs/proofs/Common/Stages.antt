@@ -1,5 +1,5 @@
 -- Steps from one stage of a command to the next: what may be printed at the one may be at the other.
-use Rattle.std.proofs.Common.{◌≡◌, List, ℕ, inl, inr}
+use Rattle.std.proofs.Common.{List, ℕ, inl, inr}
 use Rattle.std.specs.Prelude.{Result, Ok, Err, IfOk, IfErr}
 use Rattle.burr_io.specs.Sink.{SinkView}
 use Rattle.burr_assembly.specs.Rules.Text.{Assembly, IsText}

@@ -1,9 +1,8 @@
 //! Frames that a plan text leaves out, read off a run.
 
-ghost use Rattle.std.specs.Prelude.{IfOk, OnErr, OnOk};
-ghost use Rattle.burr_jobs.specs.JobEnds.{took, TakesSome, WritesOrFails, IsDone};
-ghost use Rattle.burr_program.specs.MakingEnds.{EndsSomehow, IsAnyText, MakesOrPuts};
-ghost use Rattle.burr_jobs.specs.Statuses.{code_of};
+ghost use Rattle.std.specs.Prelude.{◌≡◌, [], IfOk, OnErr};
+ghost use Rattle.burr_jobs.specs.JobEnds.{EndsSomehow, HandsOnSomehow, WritesOrFails};
+ghost use Rattle.burr_program.specs.MakingEnds.{IsAnyText, MakesOrPuts};
 
 use crate::making::{Made, Named, keep_sources, refuse_assembly, refuse_for, refuse_line};
 use crate::reasons::name_and_line;
@@ -12,8 +11,8 @@ use burr_assembly::{Assembly, AssemblyFault};
 use burr_blocking::RowTables;
 use burr_command::PlanTask;
 use burr_container::Container;
-use burr_io::{Sink, Source};
-use burr_jobs::{Fault, Status, read_file, use_assembly, write_file};
+use burr_io::{Sink, Source, WholeLines};
+use burr_jobs::{Fault, Status, hand_on, read_file, use_assembly, write_file};
 use burr_runs::{AnswersFault, read_answers, read_whole};
 use burr_trace::{Filled, Unframed};
 use burr_verify::fits_assembly;
@@ -25,18 +24,16 @@ use std::rt::Files;
 /// answers of standard input; where there is none, why is put, and the file is then left alone. That
 /// file may not be one that is read.
 #[inline(never)]
-pub fn frames_file<'a, F: Files + AllocGlobal, R: Source, W: Sink>(
+pub fn frames_file<'a, F: Files + AllocGlobal, R: Source, W: Sink, const N: usize>(
     files: &F,
     assembly: &'a str,
     text: &'a str,
     out: &'a str,
     source: &mut R,
-    sink: &mut W,
+    sink: &mut WholeLines<W, N>,
 ) -> Result<Status, Fault<'a>>
-    ensures status { IfOk result (λ status. IsDone (code_of status)) }
-    ensures ok { OnOk result (TakesSome
-        (took (W.taken sink.old) (W.taken sink.new) (W.has_failed sink.new))) }
-    ensures err { OnErr result (WritesOrFails W.Sink sink.old sink.new) }
+    requires fresh { sink.old.held ≡ [] }
+    ensures { HandsOnSomehow W.Sink sink.old.sink sink.new.sink result }
 {
     keep_sources(files, assembly, ("TEXT", text), out)?;
     let drawing = read_file(files, assembly)?;
@@ -55,7 +52,7 @@ pub fn frames_file<'a, F: Files + AllocGlobal, R: Source, W: Sink>(
             write_file(files, out, &text)?;
             Ok(Status::Done)
         }
-        Made::Ends(status) => Ok(status),
+        Made::Ends(status) => hand_on(Ok(status), sink),
     }
 }
 

@@ -1,10 +1,9 @@
 //! The plan text of the move lines of a sheet.
 
-ghost use Rattle.std.specs.Prelude.{IfOk, OnErr, OnOk};
+ghost use Rattle.std.specs.Prelude.{◌≡◌, [], IfOk, OnErr};
 ghost use Rattle.burr_from_sheet.specs.SheetPlans.{IsPlanOfSheet};
-ghost use Rattle.burr_jobs.specs.JobEnds.{took, TakesSome, WritesOrFails, IsDone};
-ghost use Rattle.burr_program.specs.MakingEnds.{EndsSomehow, MakesOrPuts, MakesPlanOf};
-ghost use Rattle.burr_jobs.specs.Statuses.{code_of};
+ghost use Rattle.burr_jobs.specs.JobEnds.{EndsSomehow, HandsOnSomehow, WritesOrFails};
+ghost use Rattle.burr_program.specs.MakingEnds.{MakesOrPuts, MakesPlanOf};
 
 use crate::making::{Made, Named, keep_sources, refuse_assembly, refuse_line};
 use crate::reasons::reason_with_meaning;
@@ -12,8 +11,8 @@ use burr_assembly::{Assembly, AssemblyFault};
 use burr_blocking::RowTables;
 use burr_container::Container;
 use burr_from_sheet::{RefusedDraft, SheetFault, plan_of_sheet};
-use burr_io::Sink;
-use burr_jobs::{Fault, Status, add_notes, read_file, refuse_plan, write_file};
+use burr_io::{Sink, WholeLines};
+use burr_jobs::{Fault, Status, add_notes, hand_on, read_file, refuse_plan, write_file};
 use burr_why::{PlanText, reason_of_line};
 use std::alloc::Global;
 use std::rt::Files;
@@ -21,17 +20,15 @@ use std::rt::Files;
 /// Makes a file of the plan text of a sheet's move lines; where there is none, why is put, and the
 /// file is then left alone. That file may not be one that is read.
 #[inline(never)]
-pub fn plan_sheet_file<'a, F: Files + AllocGlobal, W: Sink>(
+pub fn plan_sheet_file<'a, F: Files + AllocGlobal, W: Sink, const N: usize>(
     files: &F,
     assembly: &'a str,
     sheet: &'a str,
     out: &'a str,
-    sink: &mut W,
+    sink: &mut WholeLines<W, N>,
 ) -> Result<Status, Fault<'a>>
-    ensures status { IfOk result (λ status. IsDone (code_of status)) }
-    ensures ok { OnOk result (TakesSome
-        (took (W.taken sink.old) (W.taken sink.new) (W.has_failed sink.new))) }
-    ensures err { OnErr result (WritesOrFails W.Sink sink.old sink.new) }
+    requires fresh { sink.old.held ≡ [] }
+    ensures { HandsOnSomehow W.Sink sink.old.sink sink.new.sink result }
 {
     keep_sources(files, assembly, ("SHEET", sheet), out)?;
     let drawing = read_file(files, assembly)?;
@@ -49,7 +46,7 @@ pub fn plan_sheet_file<'a, F: Files + AllocGlobal, W: Sink>(
             write_file(files, out, &text)?;
             Ok(Status::Done)
         }
-        Made::Ends(status) => Ok(status),
+        Made::Ends(status) => hand_on(Ok(status), sink),
     }
 }
 
