@@ -1,18 +1,20 @@
 -- What a form's terms stand for, term by term.
 use Rattle.std.proofs.Common.{◌≡◌, ℕ, zero, suc, ◌+◌, ◌<◌, ◌≤◌, ◌==◌, List, [], ◌∷◌, length, map, set, get_or, take, drop, ◌-◌, Bool, true, false, not, IsTrue, ℤ, pos, negsuc, neg_ℤ, ◌≤ℤ◌, FitsSigned, w16, w32, refl, sym, ap, subst, ◌∙◌, arith, leb-true, le-leb, eqb-true, eq-eqb, to_z, of_z, to_z-of_z}
-use Rattle.std.specs.Prelude.{◌&&◌, nat_le, int_le, slice_index_or, if◌then◌else◌}
+use Rattle.std.specs.Prelude.{◌&&◌, nat_le, int_le, slice_index_or, if◌then◌else◌, nat_lt}
+use Rattle.std.specs.Bool.{then_some}
 use Rattle.std.specs.List.{list_all}
 use Rattle.std.specs.Str.Parse.{starts_with_minus}
-use Rattle.std.proofs.lemmas.Bool.{and_parts, and_from, true≢false}
+use Rattle.std.proofs.lemmas.Bool.{and_parts, and_from, true≢false, and_right, ltb-false}
 use Rattle.std.proofs.lemmas.Int.{ints}
 use Rattle.std.proofs.lemmas.List.{get_or-set_same, get_or-set_other, get_or_past, length-set, take_rest}
+use Rattle.burr_code.specs.declared.limits.TheConstants.{SLOTS}
 use Rattle.burr_container.specs.Rules.Fitting.{is_between}
 use Rattle.burr_forms.specs.Rules.Forms.{Form}
-use Rattle.burr_plantext.specs.Rules.Written.{pieces, is_count, natural_in, number_in, constant_word, term_words, coefficient_word, slot_word, is_natural, is_number, is_term, is_form, is_form_over, are_terms, coefficient_of, slot_numbers, form_in}
+use Rattle.burr_plantext.specs.Rules.Written.{pieces, is_count, natural_in, number_in, constant_word, term_words, coefficient_word, slot_word, is_natural, is_number, is_term, is_form, is_form_over, are_terms, coefficient_of, slot_numbers, form_in, is_below}
 use Rattle.burr_plantext.specs.Rules.Checks.{is_empty}
 use Rattle.burr_plantext.proofs.Common.Forms.{le_of_test}
 use Rattle.burr_asm.proofs.FormWords.{natural_no_minus}
-use Rattle.burr_asm.specs.Views.Forms.{begins_term, terms_of, IsConstantCut, IsConstantEnd, IsTermCut, is_live_slot}
+use Rattle.burr_asm.specs.Views.Forms.{begins_term, terms_of, IsConstantCut, IsConstantEnd, IsTermCut, is_live_slot, IsLiveSlot}
 
 -- Numbers of a width
 
@@ -292,3 +294,24 @@ module _ (live : List Bool) (word : List ℕ) (coefs : List ℤ) (least : ℕ) (
             (ap (λ (w : List ℕ). is_between (neg_ℤ (pos 2147483648)) (pos 2147483647) (number_in w)) (sym same) ∙ of_32_bits (number_in constant) fits) terms_pass,
         λ i. form_of (written i) (all i),
       )
+
+-- a word of no slot's number writes that of no live one
+pub no_live_slot : (live : List Bool) (least : ℕ) (word : List ℕ) → length live ≡ 8 → is_below SLOTS word ≡ false → is_live_slot live least word ≡ false
+no_live_slot live least word long e = by (not (starts_with_minus word)) e
+  where
+    by : (t : Bool) → (t && nat_lt (natural_in word) SLOTS) ≡ false → (t && nat_le least (natural_in word) && slice_index_or live (natural_in word) false) ≡ false
+    by false e = refl
+    by true e =
+        let many = ltb-false (natural_in word) SLOTS e in
+        and_right (nat_le least (natural_in word)) (slice_index_or live (natural_in word) false) (get_or_past live (natural_in word) false (omega (arith, many, long)))
+
+-- a slot's number that was read is tested
+pub found_live_slot : (live : List Bool) (least n : ℕ) (word : List ℕ) (test : Bool) → is_below SLOTS word ≡ true → n ≡ natural_in word → test ≡ (nat_le least n && slice_index_or live n false) → IsLiveSlot live least word (then_some test n)
+found_live_slot live least n word test below is e = by test ((λ i. natural i && nat_le least (sym is i) && slice_index_or live (sym is i) false) ∙ sym e)
+  where
+    natural : not (starts_with_minus word) ≡ true
+    natural = (and_parts (not (starts_with_minus word)) (nat_lt (natural_in word) SLOTS) below).0
+
+    by : (t : Bool) → is_live_slot live least word ≡ t → IsLiveSlot live least word (then_some t n)
+    by true e = (e, is)
+    by false e = e

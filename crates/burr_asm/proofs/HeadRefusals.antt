@@ -1,9 +1,9 @@
 -- Why the first line of a plan or of a procedure is refused.
-use Rattle.std.proofs.Common.{◌≡◌, ℕ, ◌≤◌, List, [], ◌∷◌, length, ◌==◌, Bool, true, false, inr, refl, sym, ap, ◌∙◌, subst}
+use Rattle.std.proofs.Common.{◌≡◌, ℕ, ◌≤◌, List, [], ◌∷◌, length, ◌==◌, Bool, true, false, inr, refl, sym, ap, ◌∙◌, subst, ◌<◌}
 use Rattle.std.specs.Prelude.{Option, Some, None, not, nat_lt, ◌&&◌, if◌then◌else◌}
 use Rattle.std.specs.Option.{is_some}
 use Rattle.std.proofs.Math.Dec.{eqb-suc-zero}
-use Rattle.std.proofs.lemmas.Bool.{and_left, and_right, le-ltb}
+use Rattle.std.proofs.lemmas.Bool.{and_left, and_right, le-ltb, lt-ltb}
 use Rattle.burr_code.specs.declared.limits.TheConstants.{MOST_BUDGET, MOST_PARAMETERS, MOST_PROCEDURES}
 use Rattle.burr_plantext.specs.Rules.Written.{is_within}
 use Rattle.burr_plantext.specs.Rules.Lines.{PlanWords, ProcedureWords}
@@ -100,3 +100,12 @@ head_full o h line count names same new counted many full =
           ∙ ap (refusal false true) none_left,
       refl,
     )
+
+-- a procedure's line, with a new name and right numbers, where there is room for one more
+pub head_passed : (o : OutlineParts) (h : ProcedureWords) (count : ℕ) (names : List (List ℕ)) → names ≡ o.names → false ≡ is_some (number_if_known names h.name) → are_counts o h ≡ true → count ≡ length names → count < MOST_PROCEDURES → head_refusal o h ≡ None
+head_passed o h count names same new counted many few =
+    let unknown : is_known o.names h.name ≡ false = ap (λ (ns : List (List ℕ)). is_known ns h.name) (sym same) ∙ no_number (is_known names h.name) (number_of names h.name) new in
+    let some_left : nat_lt (length o.names) MOST_PROCEDURES ≡ true = lt-ltb (length o.names) MOST_PROCEDURES (subst (λ (n : ℕ). n < MOST_PROCEDURES) (many ∙ ap length same) few) in
+    ap (λ (known : Bool). refusal known (are_counts o h) (nat_lt (length o.names) MOST_PROCEDURES)) unknown
+    ∙ ap (λ (test : Bool). refusal false test (nat_lt (length o.names) MOST_PROCEDURES)) counted
+    ∙ ap (refusal false true) some_left

@@ -1,14 +1,14 @@
 -- What the code reads of the text of a number is what the number writes.
 use Rattle.std.proofs.Common.{◌≡◌, ℕ, ◌^◌, ◌<◌, ◌≤◌, List, Bool, true, false, IsTrue, ℤ, refl, sym, subst, ◌∙◌, arith}
-use Rattle.std.specs.Prelude.{Result, Ok, Err, IsOk, MatchResult, not, nat_le, nat_lt, ◌&&◌}
+use Rattle.std.specs.Prelude.{Result, Ok, Err, IsOk, MatchResult, not, nat_le, nat_lt, int_le, ◌&&◌}
 use Rattle.std.specs.Bool.{then_some}
 use Rattle.std.specs.Result.{result_ok}
 use Rattle.std.specs.Int.{Width}
 use Rattle.std.specs.Str.Parse.{starts_with_minus, ParsesUnsigned, ParsesSigned}
 use Rattle.std.proofs.lemmas.Bool.{and_left, and_parts, and_right, le-ltb, lt-leb, ltb-false}
-use Rattle.burr_plantext.specs.Rules.Written.{is_number, is_below, is_within, natural_in}
+use Rattle.burr_plantext.specs.Rules.Written.{is_number, is_below, is_within, is_operand, are_ends, natural_in, number_in}
 use Rattle.burr_plantext.proofs.Common.ParsedNumbers.{parsed_below, parsed_number}
-use Rattle.burr_asm.specs.Views.Numbers.{IsBelow, IsOfWidth, IsWithin}
+use Rattle.burr_asm.specs.Views.Numbers.{AreEnds, IsBelow, IsOfWidth, IsWithin}
 use Rattle.burr_asm.specs.Views.Sets.{is_member, IsMember}
 
 pub below_read : {E : Type 0} (k : ℕ) (w text : List ℕ) (r : Result ℕ E) → text ≡ w → IsTrue (is_number w) → ParsesUnsigned k 10 text r → IsBelow (2 ^ k) w (result_ok r)
@@ -48,8 +48,8 @@ module _ (bound n : ℕ) (word : List ℕ) (below : is_below bound word ≡ true
   natural : not (starts_with_minus word) ≡ true
   natural = (and_parts (not (starts_with_minus word)) (nat_lt (natural_in word) bound) below).0
 
-  pub found_below : (less : ℕ) → IsBelow less word (then_some (nat_lt n less) n)
-  found_below less = by (nat_lt n less) (λ i. natural i && nat_lt (sym is i) less)
+  pub found_below : (less : ℕ) (test : Bool) → test ≡ nat_lt n less → IsBelow less word (then_some test n)
+  found_below less test e = by test ((λ i. natural i && nat_lt (sym is i) less) ∙ sym e)
     where
       by : (t : Bool) → is_below less word ≡ t → IsBelow less word (then_some t n)
       by true e = (e, is)
@@ -68,3 +68,11 @@ module _ (bound n : ℕ) (word : List ℕ) (below : is_below bound word ≡ true
       by : (t : Bool) → is_member least less word ≡ t → IsMember least less word (then_some t n)
       by true e = (e, is)
       by false e = e
+
+-- Two words that have been read as operands are tested as the ends of a range.
+pub found_ends : (low high : List ℕ) (m n : ℤ) (test : Bool) → is_operand low ≡ true → m ≡ number_in low → is_operand high ≡ true → n ≡ number_in high → test ≡ int_le m n → AreEnds low high (then_some test (m, n))
+found_ends low high m n test low_is m_is high_is n_is e = by test ((λ i. low_is i && high_is i && int_le (sym m_is i) (sym n_is i)) ∙ sym e)
+  where
+    by : (t : Bool) → are_ends low high ≡ t → AreEnds low high (then_some t (m, n))
+    by true e = (e, λ i. (m_is i, n_is i))
+    by false e = e

@@ -2,12 +2,12 @@
 use Rattle.std.proofs.Common.{◌≡◌, ℕ, zero, suc, ◌<◌, ◌==◌, List, [], ◌∷◌, ◌++◌, ◌-◌, length, map, take, drop, get_or, Bool, true, false, not, Option, Some, None, refl, sym, ap, ◌∙◌, arith, eqb-true, ltb-true}
 use Rattle.std.specs.Prelude.{◌&&◌, ◌||◌, is_none, is_some, nat_lt, if◌then◌else◌, slice_set}
 use Rattle.std.specs.Bool.{then_some}
-use Rattle.std.specs.List.{list_all}
+use Rattle.std.specs.List.{list_all, list_any}
 use Rattle.std.specs.Str.Parse.{starts_with_minus}
 use Rattle.std.proofs.lemmas.Bool.{and_parts, agree_below_at}
-use Rattle.std.proofs.lemmas.List.{drop-map, take_rest}
+use Rattle.std.proofs.lemmas.List.{drop-map, length-map, take_rest}
 use Rattle.burr_code.specs.declared.limits.TheConstants.{SLOTS}
-use Rattle.burr_container.specs.Rules.Plans.{Range}
+use Rattle.burr_container.specs.Rules.Plans.{Range, live_slots}
 use Rattle.burr_plantext.specs.Rules.Written.{natural_in, is_below, are_ends, slot_numbers}
 use Rattle.burr_plantext.specs.Rules.Lines.{SlotWords}
 use Rattle.burr_plantext.specs.Rules.Meaning.{range_in, slot_in, slots_in}
@@ -144,8 +144,18 @@ found_above slots s test n r slot n_is ends r_is test_is = by test unused
     by true e = (e, λ i. (n_is i, r_is i))
     by false e = e
 
--- The slots from a number on, as the code takes them.
-pub rest_unused : (slots : List (Option Range)) (first n : ℕ) (test : Bool) → length slots ≡ 8 → first ≡ n → test ≡ list_all is_none (take (8 - first) (drop first slots)) → test ≡ list_all is_none (drop n slots)
-rest_unused slots first n test long first_is e =
-    e ∙ ap (λ (k : ℕ). list_all is_none (take (8 - k) (drop k slots))) first_is
-    ∙ ap (λ (k : ℕ). list_all is_none (take (k - n) (drop n slots))) (sym long) ∙ ap (list_all is_none) (take_rest slots n)
+-- no slot is live where a test of liveness finds none
+none_live : (is : Bool → Bool) → is true ≡ true → is false ≡ false → (xs : List (Option Range)) → not (list_any is (map is_some xs)) ≡ list_all is_none xs
+none_live is live_so unused_so [] = refl
+none_live is live_so unused_so (Some r ∷ xs) = ap (λ (t : Bool). not (t || list_any is (map is_some xs))) live_so
+none_live is live_so unused_so (None ∷ xs) = ap (λ (t : Bool). not (t || list_any is (map is_some xs))) unused_so ∙ none_live is live_so unused_so xs
+
+-- The slots from a number on, as the code asks for a live one.
+pub rest_unused : (is : Bool → Bool) → is true ≡ true → is false ≡ false → (slots : List (Option Range)) (live : List Bool) (first n : ℕ) (found : Bool)
+    → length slots ≡ 8 → live ≡ live_slots slots → first ≡ n → found ≡ list_any is (take (8 - first) (drop first live)) → not found ≡ list_all is_none (drop n slots)
+rest_unused is live_so unused_so slots live first n found long live_is first_is e =
+    ap not
+    (e ∙ (λ i. list_any is (take (8 - first_is i) (drop (first_is i) (live_is i))))
+    ∙ ap (λ (k : ℕ). list_any is (take (k - n) (drop n (live_slots slots)))) (sym (length-map slots is_some ∙ long))
+    ∙ ap (list_any is) (take_rest (live_slots slots) n ∙ drop-map is_some n slots))
+    ∙ none_live is live_so unused_so (drop n slots)

@@ -1,5 +1,5 @@
 -- Words that the code cuts off are the words of the line.
-use Rattle.std.proofs.Common.{◌≡◌, ℕ, List, [], ◌∷◌, Bool, true, false, Contains, refl, sym, ap, ◌∙◌}
+use Rattle.std.proofs.Common.{◌≡◌, ℕ, List, [], ◌∷◌, Bool, true, false, Contains, refl, sym, ap, ◌∙◌, ◌<◌, length, arith, length-append}
 use Rattle.std.specs.Prelude.{Option, Some, None, MatchOption, if◌then◌else◌, slice_index_or}
 use Rattle.std.specs.Bool.{then_some}
 use Rattle.std.specs.Borrow.{Bor}
@@ -7,6 +7,13 @@ use Rattle.burr_text.specs.Words.{IsCutAt}
 use Rattle.burr_plantext.specs.Rules.Texts.{first_word, words_of}
 use Rattle.burr_plantext.proofs.Common.Cuts.{some_pieces, pieces_cut, pieces_uncut}
 use Rattle.burr_asm.specs.Views.Words.{cut_word}
+
+-- what stands after a cut is shorter than the whole
+pub cut_shorter : {separator : ℕ} (bytes front rest : List ℕ) → IsCutAt separator bytes front rest → length rest < length bytes
+cut_shorter {separator} bytes front rest h =
+    let whole = ap length h.parts in
+    let parts = length-append front (separator ∷ rest) in
+    omega (arith, whole, parts)
 
 pub first_cut : (bytes front rest : List ℕ) → IsCutAt 32 bytes front rest → front ≡ first_word bytes
 first_cut bytes front rest h = ap (λ (ps : List (List ℕ)). slice_index_or ps 0 []) (sym (pieces_cut 32 bytes front rest h))

@@ -1,6 +1,5 @@
 ghost use Rattle.std.specs.Prelude.{◌≡◌, ◌<◌, ◌≤◌, ◌++◌, ◌∷◌, [], false, true, IfSome, MatchOption};
-ghost use Rattle.std.specs.Prelude.{MatchResult, None, is_none, ◌&&◌};
-ghost use Rattle.std.specs.List.{list_all};
+ghost use Rattle.std.specs.Prelude.{MatchResult, None, ◌&&◌};
 ghost use Rattle.burr_code.specs.declared.limits.TheConstants.{SLOTS};
 ghost use Rattle.burr_container.specs.Rules.Plans.{live_slots};
 ghost use Rattle.burr_plantext.specs.Rules.Checks.{cost_check, grip_check, is_empty, live_in};
@@ -196,14 +195,8 @@ fn slot_above(slots: &[Option<(i16, i16)>; 8], words: SlotWords<'_>) -> Option<(
 {
     let slot = slot(words.slot)?;
     let range = range(words.range.low, words.range.high)?;
-    are_unused(&slots[usize::from(slot)..]).then_some((slot, range))
-}
-
-/// Whether none of the slots is live.
-fn are_unused(slots: &[Option<(i16, i16)>]) -> bool
-    ensures { result ≡ list_all is_none slots.now }
-{
-    slots.iter().all(|slot| slot.is_none())
+    let live = live_slots(slots);
+    (!live[usize::from(slot)..].contains(&true)).then_some((slot, range))
 }
 
 /// Adds the form of a line to others, of which there may be so many, over these live slots.

@@ -1,4 +1,5 @@
-use Rattle.std.proofs.Common.{arith}
+use Rattle.std.proofs.Common.{arith, refl}
+use Rattle.std.specs.Prelude.{nat_lt}
 use Rattle.burr_code.specs.declared.limits.TheConstants.{TRAYS}
 use Rattle.burr_asm.proofs.Numbers.{found_below, none_below}
 use Rattle.burr_asm.proofs.text.numbers.tray.Goals as goal
@@ -9,4 +10,4 @@ returns-in_err-tray-clause-value c =
 
 pub returns-clause-value : goal.returns-clause-value
 returns-clause-value c =
-    rw c.then_some.ensures (found_below 256 c.in_ok-tray.tray c.args.number.bytes.now c.in_ok-tray.ensures.0 c.in_ok-tray.ensures.1 TRAYS)
+    rw c.then_some.ensures (found_below 256 c.in_ok-tray.tray c.args.number.bytes.now c.in_ok-tray.ensures.0 c.in_ok-tray.ensures.1 TRAYS (nat_lt c.in_ok-tray.tray TRAYS) refl)

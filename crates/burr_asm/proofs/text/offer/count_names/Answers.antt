@@ -4,6 +4,7 @@ use Rattle.burr_plantext.specs.Rules.Texts.{words_of}
 use Rattle.burr_plantext.proofs.Common.Cuts.{all_uncut}
 use Rattle.burr_plantext.proofs.Common.WordTests.{name_result}
 use Rattle.burr_asm.proofs.Offers.{count_cut, count_uncut, some_words, too_many, no_name_next, name_next, name_last}
+use Rattle.burr_asm.proofs.Words.{cut_shorter}
 use Rattle.burr_asm.proofs.text.offer.count_names.Goals.{then-count-eq8-via-then-count-eq8, then-count-eq8-via-else-count-eq8+then-not-is_name}
 use Rattle.burr_asm.proofs.text.offer.count_names.Goals as goal
 
@@ -31,3 +32,6 @@ returns c =
     (name_last (words_of c.args.bytes.now) c.is_name-2.result c.loop-word.count
     (name_result _ _ c.is_name-2.ensures ∙ sym (all_uncut is_name_text 32 c.loop-word.rest.now c.in_default.ensures) ∙ sym c.loop-word.invariant.named)
     (omega (arith, count_uncut _ c.in_default.ensures)) c.loop-word.invariant.few)
+
+pub loop-word-smaller : goal.loop-word-smaller
+loop-word-smaller c = cut_shorter _ _ _ c.in-Some.ensures

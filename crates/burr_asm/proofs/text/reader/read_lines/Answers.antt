@@ -1,6 +1,7 @@
 use Rattle.std.proofs.Common.{◌≡◌, ◌<◌, length, rules, arith}
 use Rattle.std.proofs.lemmas.Result.{err_from_is_err_and}
 use Rattle.burr_asm.proofs.ReadLines.{line_ends, nothing_read, read_on, next_fails, last_fails, text_ends}
+use Rattle.burr_asm.proofs.Words.{cut_shorter}
 use Rattle.burr_asm.proofs.text.reader.read_lines.Goals as goal
 
 pub loop-rest-init : goal.loop-rest-init
@@ -26,3 +27,6 @@ pub returns : goal.returns
 returns c =
     let none : length c.loop-rest.rest.now ≡ 0 = search rules in
     text_ends _ _ _ _ c.loop-rest.invariant.1 _ none c.finish.ensures
+
+pub loop-rest-smaller : goal.loop-rest-smaller
+loop-rest-smaller c = cut_shorter _ _ _ c.in-Some.ensures

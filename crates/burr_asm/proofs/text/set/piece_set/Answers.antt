@@ -2,6 +2,7 @@ use Rattle.std.proofs.Common.{◌<◌, refl, arith}
 use Rattle.burr_plantext.proofs.Common.Cuts.{pieces_cut, pieces_uncut}
 use Rattle.burr_plantext.proofs.Common.Pieces.{not_both}
 use Rattle.burr_asm.proofs.PieceSets.{set_begins, number_first, no_member, no_pieces, member_few, set_goes_on, set_ends}
+use Rattle.burr_asm.proofs.Words.{cut_shorter}
 use Rattle.burr_asm.proofs.text.set.piece_set.Goals as goal
 
 pub loop-number-init : goal.loop-number-init
@@ -50,3 +51,6 @@ pub overflow_shl-result : goal.overflow_shl-result
 overflow_shl-result c =
     let few : c.in_ok-piece-2.piece < 32 = member_few c.loop-number.least _ _ _ _ c.in_ok-parse-2.ensures.1 c.in_ok-piece-2.ensures.0 c.in_ok-piece-2.ensures.1 c.requires in
     omega (arith, few)
+
+pub loop-number-smaller : goal.loop-number-smaller
+loop-number-smaller c = cut_shorter _ _ _ c.in-Some.ensures

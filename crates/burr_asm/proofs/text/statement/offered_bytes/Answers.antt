@@ -1,6 +1,7 @@
 use Rattle.std.proofs.Common.{◌≡◌, ◌∙◌, true}
 use Rattle.burr_plantext.specs.Rules.Checks.{is_known}
 use Rattle.burr_asm.proofs.StatementBytes.{all_known, front_unknown, last_bytes, last_fits, last_known, one_more, refused}
+use Rattle.burr_asm.proofs.Words.{cut_shorter}
 use Rattle.burr_asm.proofs.text.statement.offered_bytes.Goals as goal
 
 pub returns-in_err-put_label : goal.returns-in_err-put_label
@@ -24,3 +25,6 @@ returns c =
       last_fits c.args.labels.now c.args.names.now c.loop-name.bytes.items c.loop-name.rest.now c.in_default.ensures c.loop-name.invariant ∙ c.in_ok-put_label-2.ensures.1,
       c.in_ok-put_label-2.ensures.2 ∙ last_bytes c.args.labels.now c.args.names.now c.loop-name.bytes.items c.loop-name.rest.now c.in_default.ensures c.loop-name.invariant,
     )
+
+pub loop-name-smaller : goal.loop-name-smaller
+loop-name-smaller c = cut_shorter _ _ _ c.in-Some.ensures

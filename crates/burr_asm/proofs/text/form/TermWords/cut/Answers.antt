@@ -1,5 +1,8 @@
-use Rattle.burr_asm.proofs.FormWords.{sign_cut_by, term_without_v, term_without_number, term_without_slot, term_is_cut}
+use Rattle.burr_asm.proofs.FormWords.{sign_cut_by, term_unsigned, term_without_v, term_without_number, term_without_slot, term_is_cut}
 use Rattle.burr_asm.proofs.text.form.TermWords.cut.Goals as goal
+
+pub returns-in_err-number_of : goal.returns-in_err-number_of
+returns-in_err-number_of c = rw c.from_residual.ensures (term_unsigned _ c.requires c.in_err-number_of.ensures)
 
 pub returns-in_err-coefficient : goal.returns-in_err-coefficient
 returns-in_err-coefficient c = rw c.from_residual-in_err-coefficient.ensures (term_without_v _ c.requires _ c.in_ok-number_of.ensures.1 c.in_err-coefficient.ensures)
