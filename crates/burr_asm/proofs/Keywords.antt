@@ -135,9 +135,9 @@ line_of_keyword keyword operands = by keyword
 -- all keywords, in the order in which the code asks for them
 abbrev pub keywords : List (List ℕ)
 keywords =
-    codes "plan" ∷ codes "plan2" ∷ codes "proc" ∷ codes "exit" ∷ codes "label" ∷ codes "frame" ∷ codes "slot" ∷ codes "result" ∷ codes "at"
-    ∷ codes "guard" ∷ codes "stack" ∷ codes "cost" ∷ codes "jump" ∷ codes "down" ∷ codes "pick" ∷ codes "call" ∷ codes "byte" ∷ codes "push"
-    ∷ codes "load" ∷ codes "store" ∷ codes "tray" ∷ codes "ask" ∷ codes "grip" ∷ codes "step" ∷ codes "aside" ∷ []
+    codes "at" ∷ codes "slot" ∷ codes "guard" ∷ codes "stack" ∷ codes "cost" ∷ codes "frame" ∷ codes "label" ∷ codes "push" ∷ codes "load"
+    ∷ codes "store" ∷ codes "step" ∷ codes "down" ∷ codes "aside" ∷ codes "jump" ∷ codes "grip" ∷ codes "tray" ∷ codes "ask" ∷ codes "call"
+    ∷ codes "byte" ∷ codes "pick" ∷ codes "proc" ∷ codes "exit" ∷ codes "result" ∷ codes "plan" ∷ codes "plan2" ∷ []
 
 -- A line that begins with another word has no operands.
 pub line_of_no_keyword : (word bytes : List ℕ) → ((keyword : Keyword) → word_of keyword ≢ word) → line_of (word ∷ words_of bytes) ≡ None
@@ -150,7 +150,7 @@ line_of_no_keyword word bytes none =
     no keyword e = none keyword (sym e)
 
     is_none : IsNoneOf word keywords
-    is_none = (no (key.Plan One), (no (key.Plan Two), (no (key.Part part.Procedure), (no (key.Part part.Exit), (no (key.Part part.Label), (no (key.Part part.Frame), (no (key.Frame frame.Slot), (no (key.Frame frame.Result), (no (key.Frame frame.At), (no (key.Form form.Guard), (no (key.Form form.Stack), (no (key.Form form.Cost), (no (key.Code code.Jump), (no (key.Code code.Down), (no (key.Code code.Pick), (no (key.Code code.Call), (no (key.Code code.Byte), (no (key.Plain (plain.Number number.Push)), (no (key.Plain (plain.Number number.Load)), (no (key.Plain (plain.Number number.Store)), (no (key.Plain (plain.Number number.Tray)), (no (key.Plain plain.Ask), (no (key.Plain plain.Grip), (no (key.Plain plain.Step), (no (key.Plain plain.Aside), tt)))))))))))))))))))))))))
+    is_none = (no (key.Frame frame.At), (no (key.Frame frame.Slot), (no (key.Form form.Guard), (no (key.Form form.Stack), (no (key.Form form.Cost), (no (key.Part part.Frame), (no (key.Part part.Label), (no (key.Plain (plain.Number number.Push)), (no (key.Plain (plain.Number number.Load)), (no (key.Plain (plain.Number number.Store)), (no (key.Plain plain.Step), (no (key.Code code.Down), (no (key.Plain plain.Aside), (no (key.Code code.Jump), (no (key.Plain plain.Grip), (no (key.Plain (plain.Number number.Tray)), (no (key.Plain plain.Ask), (no (key.Code code.Call), (no (key.Code code.Byte), (no (key.Code code.Pick), (no (key.Part part.Procedure), (no (key.Part part.Exit), (no (key.Frame frame.Result), (no (key.Plan One), (no (key.Plan Two), tt)))))))))))))))))))))))))
 
 -- The table of the code
 

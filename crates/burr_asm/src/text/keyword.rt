@@ -75,25 +75,16 @@ pub enum NumberKeyword {
     Tray,
 }
 
-/// All keywords, as they are written.
+/// All keywords, as they are written: those first that texts have most of, since a word is looked for from
+/// the first on.
 const KEYWORDS: [(&[u8], Keyword); 25] = [
-    (b"plan", Keyword::Plan(Version::One)),
-    (b"plan2", Keyword::Plan(Version::Two)),
-    (b"proc", Keyword::Part(PartKeyword::Procedure)),
-    (b"exit", Keyword::Part(PartKeyword::Exit)),
-    (b"label", Keyword::Part(PartKeyword::Label)),
-    (b"frame", Keyword::Part(PartKeyword::Frame)),
-    (b"slot", Keyword::Frame(FrameKeyword::Slot)),
-    (b"result", Keyword::Frame(FrameKeyword::Result)),
     (b"at", Keyword::Frame(FrameKeyword::At)),
+    (b"slot", Keyword::Frame(FrameKeyword::Slot)),
     (b"guard", Keyword::Form(FormKeyword::Guard)),
     (b"stack", Keyword::Form(FormKeyword::Stack)),
     (b"cost", Keyword::Form(FormKeyword::Cost)),
-    (b"jump", Keyword::Code(CodeKeyword::Jump)),
-    (b"down", Keyword::Code(CodeKeyword::Down)),
-    (b"pick", Keyword::Code(CodeKeyword::Pick)),
-    (b"call", Keyword::Code(CodeKeyword::Call)),
-    (b"byte", Keyword::Code(CodeKeyword::Byte)),
+    (b"frame", Keyword::Part(PartKeyword::Frame)),
+    (b"label", Keyword::Part(PartKeyword::Label)),
     (
         b"push",
         Keyword::Plain(PlainKeyword::Number(NumberKeyword::Push)),
@@ -106,14 +97,24 @@ const KEYWORDS: [(&[u8], Keyword); 25] = [
         b"store",
         Keyword::Plain(PlainKeyword::Number(NumberKeyword::Store)),
     ),
+    (b"step", Keyword::Plain(PlainKeyword::Step)),
+    (b"down", Keyword::Code(CodeKeyword::Down)),
+    (b"aside", Keyword::Plain(PlainKeyword::Aside)),
+    (b"jump", Keyword::Code(CodeKeyword::Jump)),
+    (b"grip", Keyword::Plain(PlainKeyword::Grip)),
     (
         b"tray",
         Keyword::Plain(PlainKeyword::Number(NumberKeyword::Tray)),
     ),
     (b"ask", Keyword::Plain(PlainKeyword::Ask)),
-    (b"grip", Keyword::Plain(PlainKeyword::Grip)),
-    (b"step", Keyword::Plain(PlainKeyword::Step)),
-    (b"aside", Keyword::Plain(PlainKeyword::Aside)),
+    (b"call", Keyword::Code(CodeKeyword::Call)),
+    (b"byte", Keyword::Code(CodeKeyword::Byte)),
+    (b"pick", Keyword::Code(CodeKeyword::Pick)),
+    (b"proc", Keyword::Part(PartKeyword::Procedure)),
+    (b"exit", Keyword::Part(PartKeyword::Exit)),
+    (b"result", Keyword::Frame(FrameKeyword::Result)),
+    (b"plan", Keyword::Plan(Version::One)),
+    (b"plan2", Keyword::Plan(Version::Two)),
 ];
 
 impl Keyword {
