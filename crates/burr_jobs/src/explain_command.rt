@@ -9,7 +9,7 @@ use crate::status::Status;
 use burr_explain::{explanation_of, put_explanation};
 use burr_io::{Sink, WholeLines};
 
-/// Puts what a word or a line means that was printed.
+/// Hands on what a word or a line means that was printed.
 pub fn explain_line<'a, W: Sink, const N: usize>(
     line: &'a str,
     sink: &mut WholeLines<W, N>,

@@ -21,8 +21,8 @@ use burr_runs::upgrade;
 use std::alloc::{AllocError, Global};
 use std::rt::Files;
 
-/// Assembles a plan text and makes a file of its container; a refusal is put on the sink, and the
-/// file is then left alone. That file may not be the plan text itself.
+/// Assembles a plan text and makes a file of its container; a refusal is handed on, and the file is
+/// then left alone. That file may not be the plan text itself.
 #[inline(never)]
 pub fn assemble_file<'a, F: Files + AllocGlobal, W: Sink, const N: usize>(
     files: &F,
@@ -69,8 +69,8 @@ fn container_of<'a, W: Sink>(
     }
 }
 
-/// Puts the plan text of a container that a file holds, with the places of code or without, or the
-/// container's refusal.
+/// Hands on the plan text of a container that a file holds, with the places of code or without, or
+/// the container's refusal.
 #[inline(never)]
 pub fn list_file<'a, F: Files + AllocGlobal, W: Sink, const N: usize>(
     files: &F,
@@ -133,8 +133,7 @@ fn listing(alloc: Global, container: &Container<'_>, places: bool) -> Result<Vec
 }
 
 /// Makes a file of the container of version 2 of the plan of a container that a file holds; a
-/// refusal is put on the sink, and the file is then left alone. That file may not be the one that is
-/// read.
+/// refusal is handed on, and the file is then left alone. That file may not be the one that is read.
 #[inline(never)]
 pub fn upgrade_file<'a, F: Files + AllocGlobal, W: Sink, const N: usize>(
     files: &F,

@@ -8,7 +8,7 @@ use Rattle.burr_jobs.specs.declared.fault.Fault.{Fault}
 use Rattle.burr_jobs.specs.Faults.{line_of}
 use Rattle.burr_jobs.specs.declared.status.Status.{Status}
 use Rattle.burr_jobs.specs.Statuses.{code_of}
-use Rattle.burr_jobs.specs.JobEnds.{Taken, took, TakesSome, FailsInText, WritesLess, WritesOrFails, EndsEarly, IsDone}
+use Rattle.burr_jobs.specs.JobEnds.{took, TakesSome, FailsInText, WritesLess, WritesOrFails, IsDone}
 use Rattle.burr_jobs.specs.HandedOn.{HandsOnDone}
 use Rattle.burr_jobs.specs.PlanEnds.{Ends, PutsEnd, FailsToEnd, StopsBeforeEnd}
 
@@ -65,12 +65,7 @@ less_handed sink old mid new (Err ended) (Ok status) none hands some less = absu
 less_handed {S} sink old mid new (Err ended) (Err fault) none (same, left) some less =
     subst (λ (l : Lines S). WritesLess (took (sink.taken old.sink) (sink.taken l.sink) (sink.has_failed l.sink))) (sym left) (less_put sink old mid none less)
 
--- what the sink took where a fault is told
-pub early : (t : Taken) (r : Result Status Fault) → OnErr r (WritesLess t) → IfErr r (λ fault. EndsEarly t (line_of fault))
-early t (Ok status) less = tt
-early t (Err fault) less = inl less
-
--- and the status is what it was
+-- and the status is what it was before
 pub done_handed : {S : Type 0} (sink : SinkView S) (mid new : Lines S) (done result : Result Status Fault)
     → HandsOnDone sink mid new done result → IfOk done (λ status. IsDone (code_of status)) → IfOk result (λ status. IsDone (code_of status))
 done_handed sink mid new (Ok ended) (Ok status) (same, handed) is = subst (λ (s : Status). IsDone (code_of s)) (sym same) is
