@@ -13,6 +13,3 @@ mod sheet_plans;
 
 pub use fault::{RefusedDraft, SheetFault};
 pub use sheet_plans::plan_of_sheet;
-
-#[cfg(test)]
-mod tests;
