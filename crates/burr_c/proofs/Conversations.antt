@@ -11,9 +11,9 @@ use Rattle.burr_state.specs.Views.Benches.{Benched, setup_of, IsSameRun}
 use Rattle.burr_step.specs.Rules.Stepper.{History}
 use Rattle.burr_step.specs.Rules.StepTexts.{LineAnswer, Lined, answered}
 use Rattle.burr_step.specs.Views.Stepping.{Stepping}
-use Rattle.burr_runs.specs.Rules.Dialogue.{opened, continued, lines_bytes}
-use Rattle.burr_runs.specs.Views.Commanding.{IsAnswered, PutsAnswer}
-use Rattle.burr_runs.specs.Views.Dialogues.{HasAnswered}
+use Rattle.burr_dialogue.specs.Rules.Dialogue.{opened, continued, lines_bytes}
+use Rattle.burr_dialogue.specs.Views.Commanding.{IsAnswered, PutsAnswer}
+use Rattle.burr_dialogue.specs.Views.Dialogues.{HasAnswered}
 use Rattle.burr_c.specs.StepEnds.{PutsConversation}
 
 -- lines before the rest of the commands are answered, the sink took the answers, and more are taken

@@ -10,8 +10,8 @@ use Rattle.burr_state.specs.Views.Programs.{plan_program}
 use Rattle.burr_step.specs.Rules.Stepper.{history}
 use Rattle.burr_step.specs.Rules.StepTexts.{LineAnswer}
 use Rattle.burr_step.specs.Views.Stepping.{Stepping}
-use Rattle.burr_runs.specs.Rules.Dialogue.{IsReadOf}
-use Rattle.burr_runs.specs.Views.Dialogues.{HasAnswered}
+use Rattle.burr_dialogue.specs.Rules.Dialogue.{IsReadOf}
+use Rattle.burr_dialogue.specs.Views.Dialogues.{HasAnswered}
 use Rattle.burr_c.specs.declared.status.Status.TheVariants.{Done}
 use Rattle.burr_c.specs.PlanEnds.{Ends, RefusedEnds, ContainerEnds, TextEnds}
 

@@ -1,5 +1,5 @@
+use burr_dialogue::StepFault;
 use burr_io::WriteFault;
-use burr_runs::StepFault;
 use std::alloc::AllocError;
 use thiserror::Error;
 

@@ -16,7 +16,7 @@ use Rattle.burr_runs.specs.Rules.Verdicts.{IsRefusedBy, plan_refusal}
 use Rattle.burr_runs.specs.declared.fault.BenchFault.{BenchFault}
 use Rattle.burr_runs.specs.declared.fault.BenchFault.TheVariants.{Read, TooLong, Write, Memory}
 use Rattle.burr_runs.specs.Views.BenchText.{Streams, streams}
-use Rattle.burr_runs.specs.Views.Dialogues.{EndsDialogue, BreaksDialogue}
+use Rattle.burr_dialogue.specs.Views.Dialogues.{EndsDialogue, BreaksDialogue}
 use Rattle.burr_jobs.specs.declared.fault.Fault.{Fault}
 use Rattle.burr_jobs.specs.declared.status.Status.{Status}
 use Rattle.burr_jobs.specs.declared.status.Status.TheVariants.{Done}

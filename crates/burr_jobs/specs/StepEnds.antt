@@ -11,7 +11,7 @@ use Rattle.burr_step.specs.Rules.Stepper.{history}
 use Rattle.burr_step.specs.Views.Stepping.{Stepping}
 use Rattle.burr_runs.specs.declared.fault.BenchFault.{BenchFault}
 use Rattle.burr_runs.specs.Views.BenchText.{Streams}
-use Rattle.burr_runs.specs.Views.Dialogues.{IsDialogue, BreaksDialogue}
+use Rattle.burr_dialogue.specs.Views.Dialogues.{IsDialogue, BreaksDialogue}
 use Rattle.burr_jobs.specs.declared.status.Status.TheVariants.{Done}
 use Rattle.burr_jobs.specs.Faults.{complaint_of}
 use Rattle.burr_jobs.specs.PlanEnds.{Ends, RefusedEnds, IsRead, ContainerEnds, TextEnds, StopsBeforeEnd}

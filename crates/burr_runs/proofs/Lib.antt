@@ -1,7 +1,4 @@
 pub mod AnswerTexts
-pub mod CommandAnswers
-pub mod CommandLines
-mod Dialogues
 pub mod Headline
 pub mod Inputs
 pub mod OneOutput

@@ -1,5 +1,4 @@
 pub mod Answers
-pub mod Dialogue
 pub mod Headline
 pub mod Input
 pub mod Output

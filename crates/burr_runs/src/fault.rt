@@ -1,4 +1,3 @@
-use crate::commanding::StepFault;
 use burr_io::{IoFailed, WriteFault};
 use std::alloc::{AllocError, AllocFailed};
 use thiserror::Error;
@@ -35,21 +34,6 @@ impl From<WriteFault> for BenchFault {
 
     fn from(_e: WriteFault) -> BenchFault {
         BenchFault::Write
-    }
-}
-
-/// A fault of a line of commands.
-impl From<StepFault> for BenchFault {
-    ghost use Rattle.std.specs.Prelude.{◌≡◌};
-    ghost use Rattle.burr_runs.specs.Views.Dialogues.{dialogue_fault};
-
-    ghost from_gives = { λ fault e. e ≡ dialogue_fault fault };
-
-    fn from(fault: StepFault) -> BenchFault {
-        match fault {
-            StepFault::Write => BenchFault::Write,
-            StepFault::Memory => BenchFault::Memory,
-        }
     }
 }
 

@@ -4,8 +4,6 @@
 mod accepted_runs;
 mod answers;
 mod checking;
-mod commanding;
-mod dialogue;
 mod fault;
 mod input;
 mod laws;
@@ -19,8 +17,6 @@ pub use accepted_runs::run_plan;
 pub use answers::{AnswersFault, read_answers};
 pub use burr_upgrade::upgrade;
 pub use checking::check;
-pub use commanding::{StepFault, command};
-pub use dialogue::answer_commands;
 pub use fault::BenchFault;
 pub use laws::{
     an_input_has_one_output, an_upgraded_plan_is_judged_as_before, an_upgraded_plan_runs_as_before,

@@ -1,6 +1,6 @@
 use Rattle.std.proofs.Common.{rules, ◌≢◌, [], Bool, subst}
 use Rattle.burr_text.specs.Lines.{IsUnended}
-use Rattle.burr_runs.specs.Views.Commanding.{PutsAnswer}
+use Rattle.burr_dialogue.specs.Views.Commanding.{PutsAnswer}
 use Rattle.burr_c.proofs.Conversations.{nothing_said, says_more, says_no_more, says_last}
 use Rattle.burr_c.proofs.stepping.answer_lines.Goals as goal
 

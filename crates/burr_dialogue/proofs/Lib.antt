@@ -1,0 +1,3 @@
+pub mod CommandAnswers
+pub mod CommandLines
+mod Dialogues

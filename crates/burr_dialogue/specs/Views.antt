@@ -1,0 +1,3 @@
+pub mod CommandLines
+pub mod Commanding
+pub mod Dialogues
