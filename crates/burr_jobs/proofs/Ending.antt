@@ -1,14 +1,11 @@
 -- How what is done with a plan ends: steps from one stage to the next, and ways out.
-use Rattle.std.proofs.Common.{◌≡◌, List, ℕ, ℤ, length, refl, ap, ◌∙◌, subst, inl, inr}
-use Rattle.std.proofs.lemmas.List.{length-map}
-use Rattle.std.specs.Prelude.{Result, Ok, Err, IfOk, IfErr, true, false}
+use Rattle.std.proofs.Common.{◌≡◌, List, ℕ, ℤ, refl, ap, ◌∙◌, subst, inl, inr}
+use Rattle.std.specs.Prelude.{Result, IfOk, IfErr, true, false}
 use Rattle.std.specs.Result.{IsErrAnd}
 use Rattle.std.proofs.lemmas.Result.{err_from_is_err_and}
 use Rattle.burr_io.specs.Sink.{SinkView}
 use Rattle.burr_assembly.specs.Rules.Text.{Assembly}
-use Rattle.burr_assembly.specs.Rules.Homes.{home_of, homes_of}
-use Rattle.burr_container.specs.Views.Containers.{ContainerView, IsContainer, HasPlan, ReadsContainer}
-use Rattle.burr_container.specs.declared.fault.ContainerFault.{ContainerFault}
+use Rattle.burr_container.specs.Views.Containers.{ContainerView, IsContainer, HasPlan}
 use Rattle.burr_container.specs.Rules.Plans.{Plan}
 use Rattle.burr_state.specs.Rules.Bench.{Program}
 use Rattle.burr_state.specs.Views.Benches.{Benched}
@@ -29,6 +26,7 @@ use Rattle.burr_jobs.specs.Statuses.{status_of}
 use Rattle.burr_jobs.specs.declared.status.Status.{Status}
 use Rattle.burr_jobs.specs.declared.status.Status.TheVariants.{Done, Refused}
 use Rattle.burr_jobs.specs.PlanEnds.{Ends, PutsFrontOfEnd, FailsToEnd, IsRefusal, IsRead, IsFor, IsMisfit, CheckEnds, RunEnds, TryEnds, AnswersEnd, SafeEnds, BenchEnds, TaskEnds, AssemblyEnds}
+use Rattle.burr_jobs.proofs.Common.Refused.{misfit_refused}
 use Rattle.burr_jobs.proofs.Common.Stages.{AreAmong}
 
 -- a failed write, with what was to be printed
@@ -63,15 +61,7 @@ pub try_misfit : (kept : ContainerView) (a : Assembly) (text : List ℕ) (r : Re
     → AreAmong (IsRefusal (plan_refusal a r)) (TryEnds kept a text)
 try_misfit kept a text r another misfit output status (same, is) = inl (misfit, (same ∙ ap (plan_refusal a) another, is))
 
--- there are as many homes as pieces
-as_many_homes : (a : Assembly) → length (homes_of a) ≡ length a.pieces
-as_many_homes a = length-map a.pieces (home_of a.shapes)
-
--- a plan for another assembly is refused as such
-pub misfit_refused : (kept : ContainerView) (a : Assembly) → HasPlan kept → IsMisfit kept a → IsRefusedBy kept a another_assembly
-misfit_refused kept a has misfit = (has, λ p of. inl ((λ fits. misfit p of (fits.0, fits.1 ∙ as_many_homes a)), refl))
-
--- and its refusal is a way that each of the three ends
+-- the refusal of a plan for another assembly is a way that each of the three ends
 pub misfit_among : (task : PlanTask) (kept : ContainerView) (a : Assembly) (text : List ℕ) (r : Refusal) → r ≡ another_assembly → HasPlan kept → IsMisfit kept a
     → AreAmong (IsRefusal (plan_refusal a r)) (TaskEnds task kept a text)
 misfit_among Check kept a text r another has misfit output status (same, is) =
@@ -98,15 +88,6 @@ pub bench_among : (kept : ContainerView) (a : Assembly) (text : List ℕ) (b : B
 bench_among kept a text b same programs for output status (inl fault) = inr (for, inl fault)
 bench_among kept a text b same programs for output status (inr (answers, read, (outcome, is, ends))) =
     inr (for, inr (answers, read, (outcome, (λ p of. subst (λ (q : Program). IsSheetOf a q answers output outcome) (programs p of) (subst (λ (x : Assembly). IsSheetOf x b.program answers output outcome) same is)), ends)))
-
--- what is told of bytes that were read, where the result is lent
-pub read_of : (bytes : List ℕ) (parsed : Result ContainerView ContainerFault) (kept : ContainerView) → parsed ≡ Ok kept
-    → ReadsContainer bytes parsed → ReadsContainer bytes (Ok kept)
-read_of bytes parsed kept is told = subst (ReadsContainer bytes) is told
-
-pub fault_of : (bytes : List ℕ) (parsed : Result ContainerView ContainerFault) (fault : ContainerFault) → parsed ≡ Err fault
-    → ReadsContainer bytes parsed → ReadsContainer bytes (Err fault)
-fault_of bytes parsed fault is told = subst (ReadsContainer bytes) is told
 
 -- so it is with a container that was read, for what was built of an assembly
 pub container_among : (task : PlanTask) (bytes answers : List ℕ) (a b : Assembly) (kept : ContainerView) → b ≡ a → IsRead bytes kept

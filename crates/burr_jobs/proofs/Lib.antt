@@ -1,4 +1,3 @@
 pub mod Common
 mod Ending
 mod FileEnding
-mod Stepping

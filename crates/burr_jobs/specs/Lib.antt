@@ -6,4 +6,3 @@ pub mod JobEnds
 pub mod PlanEnds
 pub mod Refusals
 pub mod Statuses
-pub mod StepEnds

@@ -11,7 +11,6 @@ mod notes;
 mod plan_commands;
 mod plan_text_refusal;
 mod status;
-mod step_command;
 
 pub use explain_command::explain_line;
 pub use fault::{Fault, put_fault};
@@ -19,7 +18,6 @@ pub use file_commands::{assemble_file, list_file, upgrade_file};
 pub use files::{are_one_file, read_file, write_file};
 pub use handing::hand_on;
 pub use notes::add_notes;
-pub use plan_commands::{refuse_plan, refuse_text, use_assembly, use_files};
+pub use plan_commands::{refuse_container, refuse_plan, refuse_text, use_assembly, use_files};
 pub use plan_text_refusal::refuse_plan_text;
 pub use status::Status;
-pub use step_command::step_files;

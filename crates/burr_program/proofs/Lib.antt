@@ -1,3 +1,4 @@
 pub mod HandedText
 mod Notes
 mod Refusing
+mod Stepping

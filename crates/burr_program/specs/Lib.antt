@@ -1,3 +1,4 @@
 pub mod Ends
 pub mod MakingEnds
 pub mod NotedEnds
+pub mod StepEnds

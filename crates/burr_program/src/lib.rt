@@ -5,6 +5,7 @@
 mod making;
 mod program;
 mod reasons;
+mod step_command;
 mod text_commands;
 
 pub use program::{end_without_words, run_words};

@@ -10,12 +10,12 @@ ghost use Rattle.burr_jobs.specs.Faults.{complaint_of, line_of, status_of_fault}
 ghost use Rattle.burr_jobs.specs.Statuses.{code_of};
 
 use crate::making::{frames_file, plan_sheet_file};
+use crate::step_command::step_files;
 use crate::text_commands::text_files;
 use burr_command::{Job, Reply, Request, request_of};
 use burr_io::{Sink, Source, WholeLines, WriteFault, put_all};
 use burr_jobs::{
-    Fault, Status, assemble_file, explain_line, list_file, put_fault, step_files, upgrade_file,
-    use_files,
+    Fault, Status, assemble_file, explain_line, list_file, put_fault, upgrade_file, use_files,
 };
 use burr_runs::{BenchFault, bench_text};
 use std::alloc::{AllocError, Global};

@@ -1,5 +1,5 @@
 //! Plan texts that are made of sheets, and frames that are filled in.
-use super::transcript::assert_examples;
+use super::transcript::{assert_examples, assert_transcript};
 
 /// Sheets with a plan and without, and an OUT that is read.
 const SHEETS: &str = "\
@@ -232,11 +232,7 @@ $burr why duo h.plan
 ";
 
 #[test]
-fn makes_plans_of_sheets(rt: HostRuntime) {
+fn makes_plans_of_sheets_and_fills_in_frames(rt: HostRuntime) {
     assert_examples(&rt, SHEETS);
-}
-
-#[test]
-fn fills_in_frames(rt: HostRuntime) {
-    assert_examples(&rt, FRAMES);
+    assert_transcript(&rt, FRAMES);
 }

@@ -169,11 +169,6 @@ $burr explain -x
 ?2
 ";
 
-#[test]
-fn ends_commands_by_what_they_met(rt: HostRuntime) {
-    assert_examples(&rt, REFUSALS);
-}
-
 /// Plans that are accepted, and how they run; `check` leaves standard input alone. An answer that does
 /// not fit is passed over.
 const ACCEPTED: &str = "\
@@ -230,11 +225,6 @@ $burr run cup cup.bpln
 >waiting 0 2 after 1 steps
 ?5
 ";
-
-#[test]
-fn checks_and_runs_plans(rt: HostRuntime) {
-    assert_examples(&rt, ACCEPTED);
-}
 
 /// Plans that are refused, each made of an accepted one by changes, and how they are tried all the same.
 /// Where there is a refusal, answers are not judged.
@@ -448,12 +438,6 @@ $burr try duo bpln
 ?0
 ";
 
-#[test]
-fn refuses_plans(rt: HostRuntime) {
-    assert_examples(&rt, REFUSED);
-    assert_transcript(&rt, CODES);
-}
-
 /// A loop as far as the bench goes, and one unit farther.
 const FAR: &str = "\
 @ring.plan
@@ -492,11 +476,6 @@ $burr try ring bpln
 >trap 14 OffBench proc 0 pc 10 after 515 steps
 ?1
 ";
-
-#[test]
-fn runs_as_far_as_the_bench_goes(rt: HostRuntime) {
-    assert_examples(&rt, FAR);
-}
 
 /// A dot that goes up by two calls.
 const CALLS: &str = "\
@@ -686,8 +665,17 @@ $burr try cubes bpln
 ";
 
 #[test]
-fn runs_calls_choices_and_trays(rt: HostRuntime) {
-    assert_examples(&rt, CALLS);
+fn ends_commands_by_what_they_met(rt: HostRuntime) {
+    assert_examples(&rt, REFUSALS);
+}
+
+#[test]
+fn checks_and_runs_plans(rt: HostRuntime) {
+    assert_examples(&rt, ACCEPTED);
+    assert_transcript(&rt, REFUSED);
+    assert_transcript(&rt, CODES);
+    assert_transcript(&rt, FAR);
+    assert_transcript(&rt, CALLS);
     assert_transcript(&rt, CHOICES);
     assert_transcript(&rt, TRAYS);
 }

@@ -1,5 +1,5 @@
 //! Plans of procedures with results, and plans of version 1 in version 2.
-use super::transcript::assert_examples;
+use super::transcript::{assert_examples, assert_transcript};
 
 /// A dot in a cup is lifted by a procedure that asks how far and gives that back: its listing, its
 /// runs, and what is said where the range of the result or the exit place is too small.
@@ -105,11 +105,6 @@ $burr asm plan bpln
 ?1
 ";
 
-#[test]
-fn checks_and_runs_plans_with_results(rt: HostRuntime) {
-    assert_examples(&rt, LIFT);
-}
-
 /// Plans that give back a number that they have not, or one for which there is no room.
 const TRAPS: &str = "\
 <plan2 duo 2 9
@@ -179,11 +174,6 @@ $burr check duo bpln
 ?1
 ";
 
-#[test]
-fn tells_traps_of_results(rt: HostRuntime) {
-    assert_examples(&rt, TRAPS);
-}
-
 /// Plans of version 1 in version 2, which are those that texts of version 2 stand for, and what is no
 /// plan.
 const UPGRADES: &str = "\
@@ -248,6 +238,8 @@ $burr upgrade duo.bpln none/two
 ";
 
 #[test]
-fn upgrades_containers(rt: HostRuntime) {
-    assert_examples(&rt, UPGRADES);
+fn checks_runs_and_upgrades_plans_with_results(rt: HostRuntime) {
+    assert_examples(&rt, LIFT);
+    assert_transcript(&rt, TRAPS);
+    assert_transcript(&rt, UPGRADES);
 }

@@ -1,5 +1,5 @@
 //! Accepted plans, step by step, by commands on standard input.
-use super::transcript::assert_examples;
+use super::transcript::{assert_examples, assert_transcript};
 use super::*;
 
 /// Commands for the cup: forwards, an answer, until labels, back, what is shown; what is no command;
@@ -86,16 +86,6 @@ $burr step duo duo
 ?1
 ";
 
-#[test]
-fn steps_through_the_cup(rt: HostRuntime) {
-    assert_examples(&rt, CUP);
-}
-
-#[test]
-fn refuses_before_a_command_is_read(rt: HostRuntime) {
-    assert_examples(&rt, REFUSED);
-}
-
 /// A last line may lack its end, and nothing after `quit` is read.
 #[test]
 fn reads_up_to_the_end_or_quit(rt: HostRuntime) {
@@ -142,11 +132,6 @@ $burr step cup cup.bpln
 ?0
 ";
 
-#[test]
-fn answers_long_lines(rt: HostRuntime) {
-    assert_examples(&rt, LONG);
-}
-
 /// Where standard input fails, the commands before are answered.
 const FAILING: &str = "\
 &
@@ -178,6 +163,9 @@ $burr step cup cup.bpln
 ";
 
 #[test]
-fn tells_a_source_that_fails_between_commands(rt: HostRuntime) {
-    assert_examples(&rt, FAILING);
+fn answers_commands(rt: HostRuntime) {
+    assert_examples(&rt, CUP);
+    assert_transcript(&rt, REFUSED);
+    assert_transcript(&rt, LONG);
+    assert_transcript(&rt, FAILING);
 }

@@ -242,12 +242,8 @@ $burr trace duo t.plan
 ";
 
 #[test]
-fn tells_what_holds_at_labels(rt: HostRuntime) {
+fn tells_what_holds_and_where_a_run_stops_short(rt: HostRuntime) {
     assert_examples(&rt, LOOPS);
-}
-
-#[test]
-fn tells_where_a_run_stops_short(rt: HostRuntime) {
-    assert_examples(&rt, LIFT);
+    assert_transcript(&rt, LIFT);
     assert_transcript(&rt, ENDS);
 }

@@ -436,27 +436,11 @@ $burr why cup x.plan
 ";
 
 #[test]
-fn says_which_line_of_a_text_is_faulty(rt: HostRuntime) {
+fn says_what_is_wrong(rt: HostRuntime) {
     assert_examples(&rt, TEXTS);
-}
-
-#[test]
-fn says_what_is_wrong_with_code(rt: HostRuntime) {
-    assert_examples(&rt, CODE);
-}
-
-#[test]
-fn says_which_pieces_are_in_the_way(rt: HostRuntime) {
-    assert_examples(&rt, SPACE);
-}
-
-#[test]
-fn says_what_differs_from_a_frame(rt: HostRuntime) {
-    assert_examples(&rt, FRAMES);
-}
-
-#[test]
-fn says_what_is_wrong_with_procedures(rt: HostRuntime) {
-    assert_examples(&rt, LIFT);
+    assert_transcript(&rt, CODE);
+    assert_transcript(&rt, SPACE);
+    assert_transcript(&rt, FRAMES);
+    assert_transcript(&rt, LIFT);
     assert_transcript(&rt, CALLS);
 }

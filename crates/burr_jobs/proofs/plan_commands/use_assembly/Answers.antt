@@ -5,7 +5,8 @@ use Rattle.burr_runs.specs.Rules.Verdicts.{plan_refusal}
 use Rattle.burr_command.specs.declared.job.PlanTask.TheVariants.{Check, Run, Try}
 use Rattle.burr_jobs.specs.PlanEnds.{IsRefusal, CheckEnds, RunEnds, TryEnds, AssemblyEnds}
 use Rattle.burr_runs.specs.Rules.Refusals.{container_refusal}
-use Rattle.burr_jobs.proofs.Ending.{read_of, fault_of, container_among, misfit_ends}
+use Rattle.burr_jobs.proofs.Common.Refused.{read_of, fault_of}
+use Rattle.burr_jobs.proofs.Ending.{container_among, misfit_ends}
 use Rattle.burr_jobs.proofs.Common.Stages.{puts_among, fails_among}
 use Rattle.burr_jobs.proofs.plan_commands.use_assembly.Goals as goal
 

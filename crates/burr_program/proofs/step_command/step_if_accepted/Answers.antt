@@ -3,10 +3,10 @@ use Rattle.burr_assembly.specs.Rules.Text.{Assembly}
 use Rattle.burr_runs.specs.Rules.Verdicts.{plan_refusal}
 use Rattle.burr_runs.specs.Views.BenchText.{streams}
 use Rattle.burr_jobs.specs.PlanEnds.{IsRefusal}
-use Rattle.burr_jobs.specs.StepEnds.{left_of, StepEnds, StepBreaks}
+use Rattle.burr_program.specs.StepEnds.{left_of, StepEnds, StepBreaks}
 use Rattle.burr_jobs.proofs.Common.Stages.{AreAmong}
-use Rattle.burr_jobs.proofs.Stepping.{refused_ends, refused_stops, step_refused}
-use Rattle.burr_jobs.proofs.step_command.step_if_accepted.Goals as goal
+use Rattle.burr_program.proofs.Stepping.{refused_ends, refused_stops, step_refused}
+use Rattle.burr_program.proofs.step_command.step_if_accepted.Goals as goal
 
 pub returns-in-Err-clause-ok : goal.returns-in-Err-clause-ok
 returns-in-Err-clause-ok g c =

@@ -5,11 +5,11 @@ use Rattle.burr_runs.specs.Rules.Refusals.{container_refusal}
 use Rattle.burr_runs.specs.Rules.Verdicts.{plan_refusal}
 use Rattle.burr_runs.specs.Views.BenchText.{streams}
 use Rattle.burr_jobs.specs.PlanEnds.{IsRefusal}
-use Rattle.burr_jobs.specs.StepEnds.{left_of, StepEnds, StepBytesEnds, StepBreaks, StepBytesBreak}
-use Rattle.burr_jobs.proofs.Ending.{read_of, fault_of}
+use Rattle.burr_program.specs.StepEnds.{left_of, StepEnds, StepBytesEnds, StepBreaks, StepBytesBreak}
+use Rattle.burr_jobs.proofs.Common.Refused.{read_of, fault_of}
 use Rattle.burr_jobs.proofs.Common.Stages.{puts_among}
-use Rattle.burr_jobs.proofs.Stepping.{refused_ends, refused_stops, step_misfit, stops_among, bytes_among, bytes_break}
-use Rattle.burr_jobs.proofs.step_command.step_assembly.Goals as goal
+use Rattle.burr_program.proofs.Stepping.{refused_ends, refused_stops, step_misfit, stops_among, bytes_among, bytes_break}
+use Rattle.burr_program.proofs.step_command.step_assembly.Goals as goal
 
 pub returns-in-Err-clause-ok : goal.returns-in-Err-clause-ok
 returns-in-Err-clause-ok g c =

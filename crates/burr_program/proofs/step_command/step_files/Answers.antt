@@ -1,7 +1,7 @@
 use Rattle.burr_runs.specs.Views.BenchText.{streams}
-use Rattle.burr_jobs.specs.StepEnds.{left_of, StepTextEnds}
-use Rattle.burr_jobs.proofs.Stepping.{steps_end_early}
-use Rattle.burr_jobs.proofs.step_command.step_files.Goals as goal
+use Rattle.burr_program.specs.StepEnds.{left_of, StepTextEnds}
+use Rattle.burr_program.proofs.Stepping.{steps_end_early}
+use Rattle.burr_program.proofs.step_command.step_files.Goals as goal
 
 pub returns-clause-err : goal.returns-clause-err
 returns-clause-err g c =

@@ -25,9 +25,9 @@ use Rattle.burr_jobs.specs.Statuses.{code_of}
 use Rattle.burr_jobs.specs.JobEnds.{took, EndsEarly, TakesSome, IsDone}
 use Rattle.burr_jobs.specs.HandedOn.{HandsOnDone}
 use Rattle.burr_jobs.specs.PlanEnds.{Ends, PutsEnd, FailsToEnd, StopsBeforeEnd, IsRefusal, IsRead, IsMisfit}
-use Rattle.burr_jobs.specs.StepEnds.{Left, left_of, IsFresh, DialogueEnds, StepEnds, StepBytesEnds, StepTextEnds, DialogueBreaks, StepBreaks, StepBytesBreak, StepTextBreaks, StopsStepping}
+use Rattle.burr_program.specs.StepEnds.{Left, left_of, IsFresh, DialogueEnds, StepEnds, StepBytesEnds, StepTextEnds, DialogueBreaks, StepBreaks, StepBytesBreak, StepTextBreaks, StopsStepping}
 use Rattle.burr_jobs.proofs.Common.Stages.{AreAmong, puts_among}
-use Rattle.burr_jobs.proofs.Ending.{misfit_refused}
+use Rattle.burr_jobs.proofs.Common.Refused.{misfit_refused}
 use Rattle.burr_jobs.proofs.Common.HandedOn.{ends_handed, stops_handed}
 
 -- what stops at one stage stops at the other
