@@ -85,12 +85,17 @@ $burr check full long
 ~made as.before
 ";
 
+/// Makes a folder, a file of as many bytes as may be, and one of more.
+fn put_unreadable<T: Files>(rt: &T) -> io::Result<()> {
+    put_long(rt, "full", LIMIT)?;
+    put_long(rt, "long", LIMIT + 1)?;
+    fs::create_dir(rt, "folder")
+}
+
 #[test]
 fn tells_what_cannot_be_read(rt: HostRuntime) {
     assert_examples(&rt, "<as before\n=made\n");
-    assert_case(&rt, "full", put_long(&rt, "full", LIMIT).is_ok());
-    assert_case(&rt, "long", put_long(&rt, "long", LIMIT + 1).is_ok());
-    assert_case(&rt, "folder", fs::create_dir(&rt, "folder").is_ok());
+    assert_case(&rt, "files", put_unreadable(&rt).is_ok());
     for name in UNREADABLE.lines() {
         assert_told(&rt, READING, "cannot read *\n", name);
     }
@@ -114,14 +119,24 @@ $burr list *.new0
 ?3
 ";
 
+/// Makes a folder, and a file that may not be written.
+fn put_unwritable<T: Files>(rt: &T) -> io::Result<()> {
+    fs::create_dir(rt, "shelf")?;
+    put_sealed(rt, "sealed")
+}
+
+/// Asserts that no file of this name is written, and none beside it.
+fn assert_unwritten<T: Abort + Files + AllocGlobal>(rt: &T, name: &str) {
+    assert_told(rt, WRITING, "cannot write *\n", name);
+    assert_transcript(rt, &replaced(rt, BESIDE, "*", name));
+}
+
 #[test]
 fn tells_what_cannot_be_written(rt: HostRuntime) {
     assert_examples(&rt, "<as before\n=as.before\n");
-    assert_case(&rt, "shelf", fs::create_dir(&rt, "shelf").is_ok());
-    assert_case(&rt, "sealed", put_sealed(&rt, "sealed").is_ok());
+    assert_case(&rt, "files", put_unwritable(&rt).is_ok());
     for name in UNWRITABLE.lines() {
-        assert_told(&rt, WRITING, "cannot write *\n", name);
-        assert_transcript(&rt, &replaced(&rt, BESIDE, "*", name));
+        assert_unwritten(&rt, name);
     }
     assert_transcript(&rt, "~sealed as.before\n");
 }

@@ -158,6 +158,19 @@ struct Greedy<'a> {
     blocks: Vec<Vec<u8>>,
 }
 
+impl Greedy<'_> {
+    /// A reader of commands that takes all memory after the first of them.
+    fn commands<T: Abort + AllocGlobal>(rt: &T) -> Greedy<'_> {
+        let alloc = rt.alloc();
+        Greedy {
+            drips: Drips::of(COMMANDS),
+            greed: COMMANDS.len() - "forward\n".len(),
+            alloc,
+            blocks: Vec::with_capacity(alloc, MOST_BLOCKS).expect(rt, "memory"),
+        }
+    }
+}
+
 impl Read for Greedy<'_> {
     fn read(&mut self, buffer: &mut [u8]) -> io::Result<usize> {
         if self.drips.left.len() == self.greed {
@@ -178,14 +191,7 @@ const COMMANDS: &str = "forward\nshow\nback 1\nuntil 0 2\nanswer 1\nshow\n";
 fn tells_a_want_of_memory_between_commands(rt: HostRuntime) {
     assert_transcript(&rt, EXAMPLES);
     let words = words_of(&rt, "burr step cup cup.bpln");
-    let alloc = rt.alloc();
-    let greedy = Greedy {
-        drips: Drips::of(COMMANDS),
-        // all but the first command
-        greed: 36,
-        alloc,
-        blocks: Vec::with_capacity(alloc, MOST_BLOCKS).expect(&rt, "memory"),
-    };
+    let greedy = Greedy::commands(&rt);
     // with ample memory first, as above
     let ample = end_over(&rt, &words, Drips::of(COMMANDS));
     let answered = end_over(&rt, &words, Drips::of(ANSWERED));
