@@ -1,6 +1,7 @@
 ghost use Rattle.burr_frames.specs.Laws.LookLaws.{OneRuleLooks, SomeRuleLooks, FewRuleLooks, AllAreMade};
-ghost use Rattle.burr_forms.specs.Laws.PointLaws.{ThePointsAreGiven};
 ghost use Rattle.burr_frames.specs.Laws.TransferLaws.{OneVerdict};
+
+use burr_forms::the_points_are_given;
 
 /// An instruction has exactly one verdict in a state: so whoever finds a rule broken, and where,
 /// finds the only one that is, and whoever finds none knows the state after.
@@ -13,5 +14,7 @@ pub fn a_rule_has_so_many_looks()
     ensures some { SomeRuleLooks }
     ensures one { OneRuleLooks }
     ensures few { FewRuleLooks }
-    ensures made { ThePointsAreGiven → AllAreMade }
-{}
+    ensures made { AllAreMade }
+{
+    the_points_are_given();
+}

@@ -1,6 +1,7 @@
 -- Plan texts that are made of the move lines of a sheet.
-use Rattle.std.specs.Prelude.{◌≡◌, ◌++◌, ◌∷◌, List, ℕ, zero, suc, ◌+◌, [], Bool, true, ◌==◌, ◌&&◌, if◌then◌else◌, nat_eq, codes, IsTrue}
+use Rattle.std.specs.Prelude.{◌≡◌, ◌⊎◌, ◌++◌, ◌∷◌, List, ℕ, zero, suc, ◌+◌, [], Bool, true, ◌==◌, ◌&&◌, if◌then◌else◌, nat_eq, codes, IsTrue}
 use Rattle.std.specs.List.{starts_with}
+use Rattle.burr_text.specs.Lines.{IsLines}
 use Rattle.burr_assembly.specs.Rules.Text.{Assembly}
 use Rattle.burr_assembly.specs.Rules.Homes.{homes_of, names_of}
 use Rattle.burr_container.specs.Rules.Plans.{Plan}
@@ -23,9 +24,26 @@ before_levels begins (b ∷ bytes) =
     if begins && starts_with nat_eq (b ∷ bytes) (codes "levels ") then []
     else (b ∷ before_levels (b == 10) bytes)
 
+-- a text begins `levels `
+abbrev pub BeginsLevels : List ℕ → Type 0
+BeginsLevels text = (rest : List ℕ) × (text ≡ codes "levels " ++ rest)
+
 -- the move lines of a sheet
 abbrev pub move_lines_of : List ℕ → List ℕ
 move_lines_of sheet = before_levels true sheet
+
+-- The text begins with these lines, none of which begins `levels `; the line after them does, or
+-- there is none.
+pub record AreBeforeLevels (text lines : List ℕ) : Type 0 where
+  pub rest : List ℕ
+  pub parts : text ≡ lines ++ rest
+  pub none : (front more : List ℕ) → lines ≡ front ++ more → IsLines front
+      → ¬ BeginsLevels more
+  pub follows : (rest ≡ []) ⊎ (IsLines lines × BeginsLevels rest)
+
+-- the move lines are those
+abbrev pub MoveLinesAreBeforeLevels : Type 0
+MoveLinesAreBeforeLevels = (text : List ℕ) → AreBeforeLevels text (move_lines_of text)
 
 -- The text is the listing of a plan that is well framed for the assembly. Without answers its run
 -- takes all pieces apart, and the sheet of that run is these lines, and then its levels.

@@ -7,9 +7,11 @@ mod code;
 mod drafting;
 mod fault;
 mod kept;
+mod laws;
 mod lines;
 mod planning;
 mod sheet_plans;
 
 pub use fault::{RefusedDraft, SheetFault};
+pub use laws::move_lines_stand_before_levels;
 pub use sheet_plans::plan_of_sheet;

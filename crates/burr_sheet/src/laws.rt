@@ -1,5 +1,5 @@
 ghost use Rattle.burr_assembly.specs.Rules.Text.{IsAssembly};
-ghost use Rattle.burr_sheet.specs.Laws.SheetLaws.{EndsInClosing, ClosesInOneLine, ClosesOnce, OneListOfMotions};
+ghost use Rattle.burr_sheet.specs.Laws.SheetLaws.{EndsInClosing, ClosesInOneLine, ClosesOnce, LinesAreLongest, OneListOfMotions};
 
 use burr_assembly::Assembly;
 
@@ -8,6 +8,11 @@ pub fn a_sheet_closes_once()
     ensures ends { EndsInClosing }
     ensures line { ClosesInOneLine }
     ensures once { ClosesOnce }
+{}
+
+/// The lines of motions give these back in their order, and none could be one with the line after it.
+pub fn lines_are_longest()
+    ensures { LinesAreLongest }
 {}
 
 /// A text is the lines of one list of motions of an assembly's pieces at most.

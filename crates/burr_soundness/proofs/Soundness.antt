@@ -16,6 +16,7 @@ pub mod Overs
 pub mod Returns
 pub mod Runs
 pub mod Sound
+pub mod Spending
 pub mod Start
 pub mod StepOutcomes
 pub mod Substitutions

@@ -1,13 +1,17 @@
 -- What holds before each step of a run of a well framed plan: the bench stands for the state of a
 -- cut at a point, its callers wait, and the costs that are left come to no more than the budget.
-use Rattle.std.specs.Prelude.{◌≡◌, ℕ, ◌<◌, ℤ, pos, ◌+ℤ◌, ◌≤ℤ◌, List, [], ◌∷◌, ◌++◌, length, reverse, get_or, slice_get, Option, Some, None}
+use Rattle.std.specs.Prelude.{◌≡◌, ℕ, suc, ◌<◌, ℤ, pos, ◌+ℤ◌, ◌≤ℤ◌, List, [], ◌∷◌, ◌++◌, length, reverse, get_or, slice_get, Option, Some, None}
 use Rattle.burr_voxels.specs.declared.cell.Cell.{Cell}
 use Rattle.burr_code.specs.declared.placement.Placement.{Placement}
+use Rattle.burr_code.specs.Instruction.{Call}
 use Rattle.burr_code.specs.Places.{AllLieIn}
-use Rattle.burr_forms.specs.Rules.Forms.{Point, value}
+use Rattle.burr_code.specs.Stacks.{top_many}
+use Rattle.burr_forms.specs.Rules.Forms.{Form, Point, value, values}
 use Rattle.burr_forms.specs.Rules.Points.{InBox, GuardsHold}
 use Rattle.burr_frames.specs.Rules.FramedPlans.{FramedExit, FramedProcedure, FramedPlan}
-use Rattle.burr_frames.specs.Rules.States.{AbstractState, places_at}
+use Rattle.burr_frames.specs.Rules.States.{AbstractState, IsPoint, places_at}
+use Rattle.burr_frames.specs.Rules.Transfer.{Transfer}
+use Rattle.burr_frames.specs.Rules.Verdicts.{FallsThrough}
 use Rattle.burr_verify.specs.Rules.WellFramed.{Annotated, Enters, IsCut}
 use Rattle.burr_state.specs.declared.mode.Mode.TheVariants.{Running}
 use Rattle.burr_state.specs.Laws.AsideLaws.{NoneLone}
@@ -44,20 +48,39 @@ pub record ReturnsAs (state : AbstractState) (point : Point) (exit : FramedExit)
       ≡ places_at (point ++ results) state.places
   pub cost_is : value (point ++ results) state.cost ≡ cost
 
--- A caller waits for a callee with these parameters, at the state that falls out of its call.
+-- At a point the callee's parameters are what the forms of the call's arguments give there, the
+-- first argument the deepest of the operands.
+pub record IsGiven (s : AbstractState) (point : Point) (callee : FramedProcedure)
+    (parameters : List ℤ) : Type 0 where
+  pub is_point : IsPoint s point
+  pub arguments : List Form
+  pub below : List Form
+  pub taken : top_many callee.parameters s.operands ≡ Some (arguments, below)
+  pub values_are : parameters ≡ values point (reverse arguments)
+
+-- A caller waits for a callee with these parameters: it made a call of it, and waits at the state
+-- that falls out of the call.
 pub record Waits (homes : List (List Cell)) (plan : FramedPlan) (callee : FramedProcedure)
     (parameters : List ℤ) (a : Activation) : Type 0 where
   pub here : FramedProcedure
   pub here_is : slice_get plan.procedures a.procedure ≡ Some here
   pub rows : List Annotated
   pub cut : IsCut homes plan a.procedure here rows
-  -- the instruction after the call
+  -- the call, and the instruction after it
   pub k : ℕ
+  pub call : Annotated
+  pub call_is : slice_get rows k ≡ Some call
   pub next : Annotated
-  pub next_is : slice_get rows k ≡ Some next
+  pub next_is : slice_get rows (suc k) ≡ Some next
   pub pc : a.pc ≡ next.pc
-  -- the state that falls in there
+  -- whose call it is
+  pub number : ℕ
+  pub calls : call.instruction ≡ Call number
+  pub callee_is : slice_get plan.procedures number ≡ Some callee
+  -- the state that falls out of the call, and in after it
   pub state : AbstractState
+  pub falls_out : Transfer homes plan a.procedure here call.state call.instruction
+      (FallsThrough state)
   pub enters : Enters here a.pc (Some state) next.state
   pub slots_eight : length state.slots ≡ 8
   pub exit : FramedExit
@@ -66,6 +89,7 @@ pub record Waits (homes : List (List Cell)) (plan : FramedPlan) (callee : Framed
   pub grip : exit.grip ≡ state.grip
   -- where the caller stood, and what it has left to spend
   pub point : Point
+  pub given : IsGiven call.state point callee parameters
   pub cost : ℤ
   pub enough : pos 0 ≤ℤ cost
   pub returns : (results : List ℤ) → IsAdmitted exit parameters results

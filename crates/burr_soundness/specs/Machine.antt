@@ -1,5 +1,5 @@
 -- What the machine that asks nothing of pieces keeps of itself, so that it meets no trap.
-use Rattle.std.specs.Prelude.{◌≡◌, ◌≢◌, ◌⊎◌, ℕ, ℤ, Option, Result, Ok, IsTrue}
+use Rattle.std.specs.Prelude.{◌≡◌, ◌≢◌, ◌⊎◌, ◌≤◌, ℕ, ℤ, Option, Result, Ok, IsTrue}
 use Rattle.burr_voxels.specs.declared.direction.Direction.{Direction}
 use Rattle.burr_assembly.specs.Rules.Text.{IsAssembly}
 use Rattle.burr_assembly.specs.Rules.Homes.{homes_of}
@@ -8,7 +8,7 @@ use Rattle.burr_code.specs.Places.{IsPartOfTray, IsEmptyTray}
 use Rattle.burr_container.specs.Rules.Fitting.{is_fitting}
 use Rattle.burr_container.specs.Rules.Plans.{Plan}
 use Rattle.burr_frames.specs.Rules.FramedPlans.{framed_plan}
-use Rattle.burr_verify.specs.Rules.Accepting.{Judged, IsAccepted}
+use Rattle.burr_verify.specs.Rules.Accepting.{Judged, IsAccepted, MainCosts}
 use Rattle.burr_verify.specs.Rules.WellFramed.{IsWellFramed}
 use Rattle.burr_state.specs.declared.mode.Mode.TheVariants.{Running}
 use Rattle.burr_state.specs.declared.progress.Progress.{Progress}
@@ -56,6 +56,13 @@ EachStateIsSafe =
     (j : Judged) (a : IsAccepted j) (s : BenchState)
     → IsReached (running (homes_of j.assembly) (plan_program a.plan)) s
     → IsSafeBench (benched j.assembly (plan_program a.plan) s)
+
+-- and no state has made more steps than the cost at main's entry frame
+abbrev pub CostBoundsSteps : Type 0
+CostBoundsSteps =
+    (j : Judged) (a : IsAccepted j) (cost : ℕ) (s : BenchState) → MainCosts j cost
+    → IsReached (running (homes_of j.assembly) (plan_program a.plan)) s
+    → s.steps ≤ cost
 
 -- there is what a call tells and leaves
 abbrev pub SomeSafeCall : Type 0

@@ -1,5 +1,5 @@
 ghost use Rattle.burr_soundness.specs.Machine.{CallIsSafe, EachStateIsSafe, SomeSafeCall, NoTrapIsNext};
-ghost use Rattle.burr_soundness.specs.Machine.{StepIsSafe, AsideIsSafe, StartIsSafe};
+ghost use Rattle.burr_soundness.specs.Machine.{StepIsSafe, AsideIsSafe, StartIsSafe, CostBoundsSteps};
 ghost use Rattle.burr_soundness.specs.Records.{StepIsRecorded, EachRecordUndoes};
 ghost use Rattle.burr_soundness.specs.Soundness.{VerifierIsSound, AcceptedHasRuns};
 
@@ -25,6 +25,15 @@ pub fn an_accepted_bench_never_traps()
     ensures next { NoTrapIsNext }
     ensures step { StepIsSafe }
     ensures aside { AsideIsSafe }
+{
+    a_fitting_plan_is_from_a_container();
+    pieces_never_overlap();
+}
+
+/// A run of an accepted plan makes no more steps than the cost at main's entry frame, whatever is
+/// answered.
+pub fn a_run_makes_no_more_steps_than_it_costs()
+    ensures { CostBoundsSteps }
 {
     a_fitting_plan_is_from_a_container();
     pieces_never_overlap();

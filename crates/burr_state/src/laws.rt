@@ -1,5 +1,6 @@
 ghost use Rattle.burr_state.specs.Rules.Undo.{RecordsGoBack, RecordsTell};
 ghost use Rattle.burr_state.specs.Laws.AsideLaws.{GroupGoesAside};
+ghost use Rattle.burr_state.specs.Laws.PartLaws.{PartsAreCounted};
 ghost use Rattle.burr_state.specs.Laws.SpaceLaws.{GripStays, NoOverlapStays, NoneLoneStays};
 ghost use Rattle.burr_state.specs.Laws.SpaceLaws.{HomesAreDisjoint, GripIsHere, PiecesNeverOverlap, NoPieceIsLone};
 ghost use Rattle.burr_state.specs.Laws.StepLaws.{SomeExecution, OneExecution, CallIsOneStep};
@@ -42,6 +43,12 @@ pub fn a_run_is_a_chain_of_calls()
 /// alone in a tray then is apart, and each other piece is where it was, or in the other tray.
 pub fn going_aside_parts_lone_pieces<Position>()
     ensures { GroupGoesAside Position }
+{}
+
+/// The pieces are in as many parts as there are trays in play and pieces apart, whatever a position
+/// is.
+pub fn parts_are_trays_and_pieces_apart<Position>()
+    ensures { PartsAreCounted Position }
 {}
 
 /// Where the grip lies in the current tray, a step keeps it there, lets no two pieces of a tray

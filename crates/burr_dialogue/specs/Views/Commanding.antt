@@ -1,9 +1,10 @@
 -- What comes of a line of commands for a stepper.
-use Rattle.std.specs.Prelude.{◌≡◌, ℕ, List, Bool}
+use Rattle.std.specs.Prelude.{◌≡◌, ℕ, ℤ, List, Bool}
 use Rattle.burr_io.specs.Sink.{SinkView, Takes, FailsWithin}
 use Rattle.burr_assembly.specs.Rules.Homes.{names_of}
 use Rattle.burr_state.specs.Views.Benches.{setup_of, IsSameRun}
-use Rattle.burr_step.specs.Rules.StepTexts.{LineAnswer, Lined}
+use Rattle.burr_step.specs.Rules.Stepper.{Answer}
+use Rattle.burr_step.specs.Rules.StepTexts.{IsLineOf, LineAnswer, Lined, Steps}
 use Rattle.burr_step.specs.Views.Stepping.{Stepping}
 use Rattle.burr_dialogue.specs.declared.commanding.StepFault.{StepFault}
 use Rattle.burr_dialogue.specs.declared.commanding.StepFault.TheVariants as faults
@@ -24,11 +25,16 @@ PutsAnswer sink before after old line goes_on new =
     (answer : LineAnswer) × IsAnswered old line answer new
     × Takes sink before after answer.text × (goes_on ≡ answer.goes_on)
 
+-- the line is that of an answer, the one command that takes memory
+abbrev pub IsAnswerLine : Stepping → List ℕ → Type 0
+IsAnswerLine s line = (answer : ℤ) × IsLineOf (setup_of s.bench) line (Steps (Answer answer))
+
 -- Where the sink fails it took a front of what the line comes to, which leaves the stepper as it
--- would without the fault; where a request for memory was refused nothing changed.
+-- would without the fault; where a request for memory was refused, for an answer, nothing changed.
 abbrev pub FailsInAnswer : {S : Type 0} → SinkView S → S → S → Stepping → List ℕ → StepFault
     → Stepping → Type 0
 FailsInAnswer sink before after old line faults.Write new =
     (answer : LineAnswer) × IsAnswered old line answer new
     × FailsWithin sink before after answer.text
-FailsInAnswer sink before after old line faults.Memory new = (new ≡ old) × (after ≡ before)
+FailsInAnswer sink before after old line faults.Memory new =
+    IsAnswerLine old line × (new ≡ old) × (after ≡ before)

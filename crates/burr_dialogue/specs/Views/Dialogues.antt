@@ -14,7 +14,7 @@ use Rattle.burr_dialogue.specs.declared.commanding.StepFault.{StepFault}
 use Rattle.burr_dialogue.specs.declared.commanding.StepFault.TheVariants as steps
 use Rattle.burr_dialogue.specs.Rules.Dialogue.{Dialogue, lines_bytes, IsInputOf, IsReadOf}
 use Rattle.burr_runs.specs.Views.BenchText.{Streams}
-use Rattle.burr_dialogue.specs.Views.Commanding.{IsAnswered, PutsAnswer}
+use Rattle.burr_dialogue.specs.Views.Commanding.{IsAnswered, IsAnswerLine, PutsAnswer}
 
 -- these lines are answered so, which leaves the stepper so, on the same run
 pub record HasAnswered (old : Stepping) (lines : List (List ℕ)) (answer : LineAnswer)
@@ -67,14 +67,22 @@ FailsInDialogue old s new =
     × HasAnswered old lines answer new
     × HoldsFront s.taken_old s.taken_new answer.text × (s.write_failed ≡ true)
 
+-- these bytes are a line that was read, with its end, or without it where no byte is left
+abbrev pub IsLineRead : List ℕ → List ℕ → Option (List ℕ) → Type 0
+IsLineRead line bytes left =
+    (bytes ≡ line ++ 10 ∷ []) ⊎ ((bytes ≡ line) × (line ≢ []) × IsAtEnd left)
+
 -- Why a dialogue breaks off: the source failed within a line, or gave more bytes than are counted;
--- memory was refused for a line; or the sink failed. The lines before are answered.
+-- memory was refused for an answer, the last line that was read; or the sink failed. The lines
+-- before are answered.
 abbrev pub BreaksDialogue : Stepping → Streams → BenchFault → Stepping → Type 0
 BreaksDialogue old s faults.Read new =
     (rest : List ℕ) × IsUnended rest × HasAnsweredUpTo old s rest new × (s.read_failed ≡ true)
 BreaksDialogue old s faults.TooLong new =
     (line : List ℕ) × (most : ℕ) × IsConversing most (2 ^ 64 - 1) old s line new
-BreaksDialogue old s faults.Memory new = (rest : List ℕ) × HasAnsweredUpTo old s rest new
+BreaksDialogue old s faults.Memory new =
+    (line : List ℕ) × (rest : List ℕ) × IsAnswerLine new line × IsLineRead line rest s.left_new
+    × HasAnsweredUpTo old s rest new
 BreaksDialogue old s faults.Write new = FailsInDialogue old s new
 
 -- One line
@@ -91,14 +99,15 @@ HandsAnswer sink before after old line goes_on new =
     PutsAnswer sink before.sink after.sink old line goes_on new × (after.held ≡ [])
 
 -- the sink below failed, and holds a front of what it held before and of what the line comes to;
--- where a request for memory was refused nothing changed
+-- where a request for memory was refused, for an answer, nothing changed
 abbrev pub FailsToHandAnswer : {S : Type 0} → SinkView S → Lines S → Lines S → Stepping → List ℕ
     → BenchFault → Stepping → Type 0
 FailsToHandAnswer sink before after old line faults.Write new =
     (answer : LineAnswer) × IsAnswered old line answer new
     × HoldsFront (sink.taken before.sink) (sink.taken after.sink) answer.text
     × (sink.has_failed after.sink ≡ true)
-FailsToHandAnswer sink before after old line faults.Memory new = (new ≡ old) × (after ≡ before)
+FailsToHandAnswer sink before after old line faults.Memory new =
+    IsAnswerLine old line × (new ≡ old) × (after ≡ before)
 FailsToHandAnswer sink before after old line faults.Read new = ⊥
 FailsToHandAnswer sink before after old line faults.TooLong new = ⊥
 

@@ -1,5 +1,5 @@
 -- A sheet under way: its motions come one at a time, and what they close is written at once.
-use Rattle.std.specs.Prelude.{◌≡◌, ℕ, ◌+◌, ◌≤◌, ◌==◌, ◌&&◌, List, [], ◌∷◌, ◌++◌, Bool, true, false, Option, Some, None, MatchOption, if◌then◌else◌}
+use Rattle.std.specs.Prelude.{◌≡◌, ◌≢◌, ℕ, ◌+◌, ◌≤◌, ◌==◌, ◌&&◌, List, [], ◌∷◌, ◌++◌, Bool, true, false, Option, Some, None, MatchOption, if◌then◌else◌}
 use Rattle.burr_io.specs.Sink.{SinkView, Takes, FailsWithin}
 use Rattle.burr_voxels.specs.Grid.{number_of}
 use Rattle.burr_code.specs.declared.limits.TheConstants.{MOST_BUDGET}
@@ -77,11 +77,11 @@ abbrev pub PutsMotion : {S : Type 0} → SinkView S → S → S → UnderWay →
 PutsMotion sink before after old motion new =
     (bytes : List ℕ) × Takes sink before after bytes × Closes old motion new bytes
 
--- a sink failed, and had taken a front of what is then still to be written, whatever follows
+-- the motion closes something, and a sink failed in that, and had taken a front of it
 abbrev pub FailsInMotion : {S : Type 0} → SinkView S → S → S → UnderWay → Motion → Type 0
 FailsInMotion sink before after old motion =
-    (motions : List Motion) (steps : ℕ) (closing : Closing)
-    → FailsWithin sink before after (still old (motion ∷ motions) steps closing)
+    (new : UnderWay) × (bytes : List ℕ) × Closes old motion new bytes × (bytes ≢ [])
+    × FailsWithin sink before after bytes
 
 -- the sheet had not failed, and has not failed now
 abbrev pub StaysUnfailed : UnderWay → UnderWay → Type 0

@@ -78,7 +78,7 @@ module _ (setup : Setup) (budget : ℕ) (Fact : BenchState → Type 0) (carry : 
       ((progress.Asks low high, tells), inl (subst (λ (t : BenchState). Fact t) (sym no_successor) fact))
   by_next s new result (Traps trap) fact is tells no_successor = absurd (carry.no_trap s trap fact is)
 
-  in_mode : (s new : BenchState) (answer : Option ℤ) (result : Result Progress Trap) (mode : Mode)
+  pub in_mode : (s new : BenchState) (answer : Option ℤ) (result : Result Progress Trap) (mode : Mode)
       → Fact s ⊎ HasEnded budget s → s.mode ≡ mode → CallIn mode setup s answer result new
       → TellsSome result × (Fact new ⊎ HasEnded budget new)
   in_mode s new None result Running fact is call =

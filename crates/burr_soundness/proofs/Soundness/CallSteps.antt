@@ -29,7 +29,7 @@ use Rattle.burr_state.specs.Rules.Step.{Executes}
 use Rattle.burr_state.specs.Rules.Control.{called}
 use Rattle.burr_soundness.specs.Framing.{bench_part, framed_setup}
 use Rattle.burr_soundness.specs.Standing.{Stands}
-use Rattle.burr_soundness.specs.Invariant.{IsGood, HasParameters, IsAdmitted, ReturnsAs}
+use Rattle.burr_soundness.specs.Invariant.{IsGood, HasParameters, IsAdmitted, IsGiven, ReturnsAs}
 use Rattle.burr_verify.proofs.Common.CallRule.{call_holds}
 use Rattle.burr_verify.proofs.Common.Costs.{cost_after}
 use Rattle.burr_verify.proofs.Common.FineVerdicts.{IsFine}
@@ -252,6 +252,7 @@ pub record CallsOn (homes : List (List Cell)) (plan : FramedPlan) (n q : ℕ) (s
   pub stands : Stands (state_of entry) at new
   pub state : AbstractState
   pub verdict_is : verdict ≡ FallsThrough state
+  pub given : IsGiven s point there parameters
   pub below : List ℤ
   pub returns : (results : List ℤ) → IsAdmitted exit parameters results
       → ReturnsAs state point exit parameters results (caller_of b q below) (value point state.cost)
@@ -377,6 +378,13 @@ sound_call homes plan n here q s point b v next limits tidy same good fine t st 
           point (called q vs below (Call q) b) c.meets (limit.1 ∙ sym slots_eight) standing;
       state = _;
       verdict_is = c.falls_through;
+      given = record {
+        is_point = is;
+        arguments = c.arguments;
+        below = c.below;
+        taken = c.taken;
+        values_are = refl;
+      };
       below = below;
       returns =
           λ results admitted. returns_as s point b c.exit (reverse c.arguments) c.below after_cost

@@ -139,7 +139,7 @@ carries homes plan ok tidy = record {
     | ends f ↦ goes-traps f.new None trap (sym f.next_is)
     | asks low high e ↦ asks-other low high (Traps trap) (sym e)
     | returns a rest w f ↦ goes-traps f.new None trap (sym f.next_is)
-    | calls q f e ↦ goes-traps f.new None trap (sym f.next_is)
+    | calls q f is e ↦ goes-traps f.new None trap (sym f.next_is)
   ];
   goes = λ b new motion safe n. elim (comes_next homes plan ok tidy b safe (Goes new motion) n) [
     | falls_through f ↦
@@ -158,10 +158,10 @@ carries homes plan ok tidy = record {
         inl (subst (λ (x : BenchState). IsSafeState homes plan x)
         (same_goes _ _ _ _ (sym f.next_is)) (land_in_caller homes plan ok b safe
         (judged_at homes plan b safe) (Goes new motion) a rest w f))
-    | calls q f e ↦
+    | calls q f is e ↦
         inl (subst (λ (x : BenchState). IsSafeState homes plan x)
         (same_goes _ _ _ _ (sym f.next_is)) (land_in_callee homes plan ok tidy b safe
-        (judged_at homes plan b safe) q (Goes new motion) f e))
+        (judged_at homes plan b safe) q (Goes new motion) f is e))
   ];
   answers = λ b new x safe a.
       let j = judged_at homes plan b safe in

@@ -40,7 +40,7 @@ pub data Comes (homes : List (List Cell)) (plan : FramedPlan) (n : ℕ) (here : 
   returns : (a : Activation) (rest : List Activation) (w : AllWait homes plan n here parameters
       (a ∷ rest) cost) (f : ReturnsTo homes plan here parameters a rest w.1 b next)
       → Comes homes plan n here parameters cost i s point b v next
-  calls : (q : ℕ) (f : CallsOn homes plan n q s point b v next)
+  calls : (q : ℕ) (f : CallsOn homes plan n q s point b v next) (is : i ≡ Call q)
       (e : caller_of b q f.below ≡ record b.running {
         pc = b.running.pc + length (spelled i);
         operands = f.below;
@@ -131,7 +131,7 @@ comes homes plan ok n here ps cost (Call q) s point b v next is w own tidy range
     (λ there entry at first. let e = ok.entry q there entry at first in (
       e.1,
       ok.eight q there at 0 entry e.0,
-    )) tidy same good fine t st rule) refl
+    )) tidy same good fine t st rule) refl refl
 comes homes plan ok n here ps cost Ret s point b v next is w own tidy range same good fine t st
     rule =
     let exit = found fine t in

@@ -2,10 +2,12 @@
 use Rattle.std.proofs.Common.{◌≡◌, ℕ, suc, ◌+◌, List, ◌∷◌, length, Some, refl, sym, subst, ap, ◌∙◌, arith}
 use Rattle.std.specs.Prelude.{pos, ◌+ℤ◌, ◌≤ℤ◌, slice_get}
 use Rattle.burr_voxels.specs.declared.cell.Cell.{Cell}
-use Rattle.burr_code.specs.Instruction.{spelled}
+use Rattle.burr_code.specs.Instruction.{Call, spelled}
 use Rattle.burr_forms.specs.Rules.Forms.{value}
 use Rattle.burr_frames.specs.Rules.FramedPlans.{FramedPlan}
 use Rattle.burr_frames.specs.Rules.States.{AbstractState}
+use Rattle.burr_frames.specs.Rules.Transfer.{Transfer}
+use Rattle.burr_frames.specs.Rules.Verdicts.{Verdict}
 use Rattle.burr_verify.specs.Rules.WellFramed.{after, Enters, IsCut}
 use Rattle.burr_state.specs.Rules.Bench.{BenchState, Activation}
 use Rattle.burr_state.specs.Rules.Next.{Next}
@@ -116,11 +118,11 @@ pub land_in_callee : (homes : List (List Cell)) (plan : FramedPlan) → HasFrami
     (j : Judged homes plan b.running.procedure safe.here safe.rows safe.k safe.row) (q : ℕ)
     (next : Next)
     (f : CallsOn homes plan b.running.procedure q safe.row.state safe.point b j.verdict next)
-    → caller_of b q f.below ≡ record b.running {
+    → safe.row.instruction ≡ Call q → caller_of b q f.below ≡ record b.running {
       pc = b.running.pc + length (spelled safe.row.instruction);
       operands = f.below;
     } → IsSafeState homes plan f.new
-land_in_callee homes plan ok tidy b safe j q next f caller_is =
+land_in_callee homes plan ok tidy b safe j q next f calls caller_is =
     let n = j.next f.state (falls_out j.verdict j.out f.state j.falls_through f.verdict_is) in
     let t =
     tidy b.running.procedure safe.here safe.rows safe.here_is safe.cut safe.k safe.row
@@ -135,11 +137,19 @@ land_in_callee homes plan ok tidy b safe j q next f caller_is =
       here_is = safe.here_is;
       rows = safe.rows;
       cut = safe.cut;
-      k = suc safe.k;
+      k = safe.k;
+      call = safe.row;
+      call_is = safe.row_is;
       next = n.0;
       next_is = n.1;
       pc = pc_is ∙ sym n.2;
+      number = q;
+      calls = calls;
+      callee_is = f.there_is;
       state = f.state;
+      falls_out =
+          subst (λ (v : Verdict). Transfer homes plan b.running.procedure safe.here safe.row.state
+          safe.row.instruction v) f.verdict_is j.transfer;
       enters = subst (λ m. Enters safe.here m (Some f.state) n.0.state) (sym pc_is) n.3;
       slots_eight = f.slots_kept ∙ t.eight;
       exit = f.exit;
@@ -147,6 +157,7 @@ land_in_callee homes plan ok tidy b safe j q next f caller_is =
       tray = f.tray;
       grip = f.grip;
       point = safe.point;
+      given = f.given;
       cost = value safe.point f.state.cost;
       enough = f.enough;
       returns = f.returns;
@@ -203,7 +214,7 @@ land_in_caller homes plan ok b safe j next a rest w f =
       here_is = ap (λ k. slice_get plan.procedures k) f.procedure ∙ w.1.here_is;
       rows = w.1.rows;
       cut = subst (λ k. IsCut homes plan k w.1.here w.1.rows) (sym f.procedure) w.1.cut;
-      k = w.1.k;
+      k = suc w.1.k;
       row = w.1.next;
       row_is = w.1.next_is;
       pc = f.pc ∙ w.1.pc;

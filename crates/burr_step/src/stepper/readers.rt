@@ -1,4 +1,4 @@
-ghost use Rattle.std.specs.Prelude.{◌≡◌, ◌↔◌, IsTrue};
+ghost use Rattle.std.specs.Prelude.{◌≡◌, ◌≤◌, ◌↔◌, IsTrue};
 ghost use Rattle.burr_state.specs.declared.mode.Mode.TheVariants.{Ended};
 ghost use Rattle.burr_state.specs.Rules.Bench.{HasLabelOf};
 ghost use Rattle.burr_state.specs.Rules.Step.{IsQuestionOf};
@@ -25,11 +25,13 @@ impl<'s, 'a: 's, 'c: 'a, B: Blocking> Stepper<'s, 'a, 'c, B> {
         self.machine.ended()
     }
 
-    /// How many steps the run has made.
+    /// How many steps the run has made: whatever the commands were, no more than the plan's budget.
     pub fn steps(&self) -> u64
         ensures state { result ≡ self.now.bench.state.steps }
         ensures history { result ≡ self.now.history.steps }
+        ensures within { result ≤ self.now.bench.program.budget }
     {
+        a_fitting_plan_is_from_a_container();
         self.machine.steps()
     }
 
