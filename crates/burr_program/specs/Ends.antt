@@ -46,7 +46,7 @@ IsRun streams complaints status =
     ((outcome : Outcome) × HasOutcome streams complaints status outcome)
     ⊎ ((fault : BenchFault) × HasFault streams complaints status fault)
 
--- all that was to be written was written, and nothing told
+-- some text was put whole, and nothing told
 abbrev pub WritesAll : Taken → Taken → ℕ → Type 0
 WritesAll sink complaints status = TakesSome sink × TakesNothing complaints × IsDone status
 
@@ -55,7 +55,7 @@ abbrev pub Complains : Taken → Taken → ℕ → Type 0
 Complains sink complaints status =
     (line : List ℕ) × Means status line × EndsEarly sink line × TakesText complaints line
 
--- The words were answered: all was written, or a complaint was told.
+-- The words were answered: what was put was put whole, or a complaint was told.
 abbrev pub IsEnd : Taken → Taken → ℕ → Type 0
 IsEnd sink complaints status =
     WritesAll sink complaints status ⊎ Complains sink complaints status
