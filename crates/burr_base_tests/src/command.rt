@@ -181,7 +181,7 @@ burr --help;burr -h;burr -h run;burr -hV;burr help
 >holds there. You write both, or a program of yours does: burr does not search
 >for a way to take a puzzle apart, it checks and runs the one that it is given.
 >
->Example, to be pasted at the top of the repository:
+>Example, to be pasted in the folder of burr:
 >
 >./burr asm examples/six-bars.plan /tmp/six-bars.bpln
 >./burr check examples/six-bars.assembly /tmp/six-bars.bpln

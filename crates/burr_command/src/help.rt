@@ -14,7 +14,7 @@ plan is a text too: code that takes the puzzle apart, and at each label what
 holds there. You write both, or a program of yours does: burr does not search
 for a way to take a puzzle apart, it checks and runs the one that it is given.
 
-Example, to be pasted at the top of the repository:
+Example, to be pasted in the folder of burr:
 
 ./burr asm examples/six-bars.plan /tmp/six-bars.bpln
 ./burr check examples/six-bars.assembly /tmp/six-bars.bpln

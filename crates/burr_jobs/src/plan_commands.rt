@@ -127,7 +127,7 @@ pub fn use_assembly<'a, 'x, W: Sink>(
     ensures err { IfErr result (λ fault. FailsToEnd W.Sink sink.old sink.new
         (AssemblyEnds task container.entry.now answers.now assembly.entry.now) (line_of fault)) }
 {
-    // a container takes 18 KiB of the stack, so it is lent where it was read
+    // a container takes 19 KiB of the stack, so it is lent where it was read
     let parsed = Container::parse(container);
     let container = match &parsed {
         Ok(container) => container,

@@ -66,12 +66,14 @@ impl Name {
         })
     }
 
+    /// The name as a text.
     pub fn as_str(&self) -> &str
         ensures { result.now ≡ self.now }
     {
         self.text.as_str()
     }
 
+    /// The name as bytes, of ASCII each.
     pub fn as_bytes(&self) -> &[u8]
         ensures bytes { result.now ≡ self.now }
         ensures name { IsName result.now }
