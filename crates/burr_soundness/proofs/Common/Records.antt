@@ -1,5 +1,5 @@
 -- A safe bench that makes a step has a record of it, and any record of it takes it back.
-use Rattle.std.proofs.Common.{◌≡◌, Ok, Option, refl, sym, subst}
+use Rattle.std.proofs.Common.{Ok, refl, sym, subst}
 use Rattle.burr_verify.specs.Laws.VerifyLaws.{FittingIsFromContainer}
 use Rattle.burr_state.specs.declared.progress.Progress.TheVariants as progress
 use Rattle.burr_state.specs.Rules.Bench.{BenchState}

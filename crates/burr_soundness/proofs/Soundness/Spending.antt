@@ -1,6 +1,6 @@
 -- A run spends no more than the cost at main's entry frame: a plan whose budget is that cost is framed
 -- as well.
-use Rattle.std.proofs.Common.{◌≡◌, ◌⊎◌, ℕ, ◌≤◌, ◌<◌, ◌-◌, ◌^◌, List, [], ◌∷◌, Option, Some, None, refl, sym, ap, subst, ◌∙◌, inl, inr, arith}
+use Rattle.std.proofs.Common.{◌≡◌, ◌⊎◌, ℕ, ◌≤◌, ◌<◌, ◌-◌, ◌^◌, List, [], ◌∷◌, Option, Some, None, refl, sym, subst, inl, inr, arith}
 use Rattle.std.specs.Prelude.{ℤ, pos, ◌≤ℤ◌}
 use Rattle.std.proofs.lemmas.Int.{ints}
 use Rattle.std.proofs.lemmas.List.{length-map}
@@ -13,10 +13,9 @@ use Rattle.burr_frames.specs.Rules.States.{AbstractState}
 use Rattle.burr_frames.specs.Rules.Transfer.{Transfer}
 use Rattle.burr_frames.specs.Rules.Verdicts.{Verdict}
 use Rattle.burr_verify.specs.Laws.VerifyLaws.{FittingIsFromContainer}
-use Rattle.burr_verify.specs.Rules.Accepting.{Judged, IsAccepted}
-use Rattle.burr_verify.specs.Rules.WellFramed.{Annotated, IsCut, IsCutFrom, IsFramedProcedure, IsWellFramed}
+use Rattle.burr_verify.specs.Rules.WellFramed.{Annotated, after, IsCutFrom, IsFramedProcedure, IsWellFramed}
 use Rattle.burr_verify.specs.Views.FromContainers.{IsFromContainer}
-use Rattle.burr_state.specs.Laws.SpaceLaws.{HomesAreDisjoint, IsReached}
+use Rattle.burr_state.specs.Laws.SpaceLaws.{HomesAreDisjoint}
 use Rattle.burr_state.specs.declared.motion.Motion.{Motion}
 use Rattle.burr_state.specs.Rules.Bench.{BenchState, Setup, start, running}
 use Rattle.burr_state.specs.Rules.Calls.{answered, went, begun, Calls}
@@ -59,15 +58,19 @@ same_rule homes plan budget n here s (Call q) v t = t
 same_rule homes plan budget n here s Ret v t = t
 
 same_cut : (homes : List (List Cell)) (plan : FramedPlan) (budget n : ℕ) (here : FramedProcedure)
-    (pc : ℕ) (falling : Option AbstractState) (rows : List Annotated)
+    (rows : List Annotated) (pc : ℕ) (falling : Option AbstractState)
     → IsCutFrom homes plan n here pc falling rows
     → IsCutFrom homes (with_budget plan budget) n here pc falling rows
-same_cut homes plan budget n here pc falling [] h = h
-same_cut homes plan budget n here pc falling (row ∷ rows) h = (
-  h.0, h.1, h.2, h.3, h.4,
+same_cut homes plan budget n here [] pc falling h = h
+same_cut homes plan budget n here (row ∷ rows) pc falling h = (
+  h.0,
+  h.1,
+  h.2,
+  h.3,
+  h.4,
   same_rule homes plan budget n here row.state row.instruction h.3 h.5,
   h.6,
-  same_cut homes plan budget n here _ h.4 rows h.7,
+  same_cut homes plan budget n here rows (after row) h.4 h.7,
 )
 
 same_procedure : (homes : List (List Cell)) (plan : FramedPlan) (budget n : ℕ) (here : FramedProcedure)
@@ -77,10 +80,13 @@ same_procedure homes plan budget n here p = record {
   exit = p.exit;
   entry = p.entry;
   frames = p.frames;
-  cut = (p.cut.0, record {
-    passes = same_cut homes plan budget n here 0 None p.cut.0 p.cut.1.passes;
-    labels = p.cut.1.labels;
-  });
+  cut = (
+    p.cut.0,
+    record {
+      passes = same_cut homes plan budget n here p.cut.0 0 None p.cut.1.passes;
+      labels = p.cut.1.labels;
+    },
+  );
 }
 
 framed_for : (name : List ℕ) (homes : List (List Cell)) (plan : FramedPlan) (budget : ℕ)
