@@ -1,3 +1,4 @@
+mod BeforeLevels
 mod FaultyLines
 mod FirstLines
 mod PlanTexts
