@@ -1,6 +1,5 @@
 -- Commands that go on.
-use Rattle.std.proofs.Common.{◌≡◌, ◌≢◌, ℕ, suc, ◌+◌, ◌≤◌, ◌<◌, ℤ, List, Bool, true, false, IsTrue, is_some, ◌↔◌, Option, Some, None, MatchOption, Result, Ok, Err, refl, sym, ap, subst, ◌∙◌, arith, inl, inr}
-use Rattle.burr_verify.specs.Laws.VerifyLaws.{FittingIsFromContainer}
+use Rattle.std.proofs.Common.{◌≡◌, ◌≢◌, ℕ, suc, ◌+◌, ℤ, List, Bool, true, false, IsTrue, is_some, ◌↔◌, Option, Some, None, MatchOption, Result, Ok, Err, refl, sym, ap, subst, ◌∙◌, arith, inl, inr}
 use Rattle.burr_state.specs.declared.mode.Mode.{Mode}
 use Rattle.burr_state.specs.declared.mode.Mode.TheVariants.{Running, Ended, Trapped}
 use Rattle.burr_state.specs.declared.progress.Progress.{Progress}
@@ -14,14 +13,13 @@ use Rattle.burr_state.specs.Views.Benches.{Benched, setup_of, IsSameRun}
 use Rattle.burr_state.proofs.Common.Calls.{tells}
 use Rattle.burr_state.proofs.Common.StepCalls.{runs_where_went, next_where_went, next_is_one, goes-asks}
 use Rattle.burr_bench.specs.Recorded.{MadeStep}
-use Rattle.burr_soundness.proofs.Common.Machine.{budgeted}
 use Rattle.burr_step.specs.declared.refusal.StepRefusal.{StepRefusal as CodeRefusal}
 use Rattle.burr_step.specs.declared.refusal.StepRefusal.TheVariants as code
 use Rattle.burr_step.specs.Rules.Stepper.{History, history, IsAsking, IsHalted, Goes, GoesUntil, there, farther, Forward, StepRefusal, S1, S2, StepOutcome, Taken, Refused, Follows, farther_by, going, going_until, Commanding}
-use Rattle.burr_step.specs.Views.Stepping.{Stepping, stepping, IsUnderWay, IsDone, IsRefused, CameTo, NeedsNoMemory, commanding, IsUpTo, IsThere, StopsFor}
+use Rattle.burr_step.specs.Views.Stepping.{Stepping, stepping, IsDone, IsRefused, CameTo, NeedsNoMemory, commanding, IsUpTo, IsThere, StopsFor}
 use Rattle.burr_step.specs.declared.stepper.going.Stop.{Stop}
 use Rattle.burr_step.proofs.Commands.{decide_ended, decide_asking, decided_so, past, same_history, same_state}
-use Rattle.burr_step.proofs.UnderWay.{IsFurther, is_safe, same_setup}
+use Rattle.burr_step.proofs.UnderWay.{IsFurther, same_setup}
 
 running-ended : Running ≡ Ended → ⊥
 running-ended e = cc
@@ -86,16 +84,6 @@ forward_done b c answers undos same further =
       comes = inr (on.0, inr (on.1, (c.state, further.step, ap (λ (n : ℕ). Taken (history n answers) c.state) further.steps)));
       same = same;
     }
-
--- no step is made beyond the budget
-pub forward_within : FittingIsFromContainer → (b c : Benched) (answers : List ℤ) (undos more : List Undo)
-    → IsUnderWay (stepping b answers) undos → IsFurther b c answers None more → c.state.steps ≤ b.program.budget
-forward_within given b c answers undos more under_way further =
-    at_most (budgeted given b (is_safe given (stepping b answers) undos under_way)
-    (runs_where_went (setup_of b) b.state c.state further.step.0 b.state.mode refl further.step.1)) further.steps
-  where
-    at_most : {n m most : ℕ} → n < most → m ≡ n + 1 → m ≤ most
-    at_most less e = omega (arith, less, e)
 
 -- Steps up to a place
 

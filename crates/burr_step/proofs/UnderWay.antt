@@ -1,5 +1,5 @@
 -- A run under way, and one step more of it.
-use Rattle.std.proofs.Common.{◌≡◌, ℕ, ◌+◌, ℤ, List, [], ◌∷◌, take, true, false, IsSome, ◌↔◌, Option, Some, None, Result, Ok, Err, refl, sym, ap, subst, ◌∙◌, inl, inr}
+use Rattle.std.proofs.Common.{◌≡◌, ℕ, ◌+◌, ◌≤◌, ◌<◌, ℤ, List, [], ◌∷◌, take, true, false, IsSome, ◌↔◌, Option, Some, None, Result, Ok, Err, refl, sym, ap, subst, ◌∙◌, arith, inl, inr}
 use Rattle.burr_verify.specs.Laws.VerifyLaws.{FittingIsFromContainer}
 use Rattle.burr_assembly.specs.Rules.Text.{Assembly}
 use Rattle.burr_state.specs.declared.mode.Mode.{Mode}
@@ -17,6 +17,7 @@ use Rattle.burr_container.specs.Views.Containers.{IsContainer}
 use Rattle.burr_verify.specs.Rules.Accepting.{Judged, IsAccepted}
 use Rattle.burr_state.specs.Views.Programs.{plan_program}
 use Rattle.burr_soundness.specs.Machine.{IsSafeBench, StartIsSafe}
+use Rattle.burr_soundness.proofs.Common.Machine.{budgeted}
 use Rattle.burr_bench.specs.Recorded.{TakesBack, GoesBack, MadeStep, gone_back}
 use Rattle.burr_step.specs.Rules.Stepper.{Leads, stays, goes, takes, History, history, IsStateOf}
 use Rattle.burr_step.specs.Views.UndoRing.{AreRecordsOf, answers_more, one_more, StepsTo}
@@ -39,6 +40,20 @@ pub is_safe : FittingIsFromContainer → (s : Stepping) (undos : List Undo) → 
 is_safe given s undos under_way =
     leads_safely given (in_state (start (setup_of s.bench)) s.bench) s.bench.state s.history.steps s.history.answers
     under_way.start under_way.state
+
+-- and has made no more steps than its budget
+pub is_within : FittingIsFromContainer → (s : Stepping) (undos : List Undo) → IsUnderWay s undos
+    → s.bench.state.steps ≤ s.bench.program.budget
+is_within given s undos under_way =
+    let safe = is_safe given s undos under_way in
+    elim safe.state_is [
+      | inl fact ↦ at_most (budgeted given s.bench safe fact.mode)
+      | inr ended ↦
+          subst (λ (p : Program). s.bench.state.steps ≤ p.budget) (sym safe.program_is) ended.within
+    ]
+  where
+    at_most : {n most : ℕ} → n < most → n ≤ most
+    at_most less = omega (arith, less)
 
 -- one step more leads to where one more is fixed
 one_more_there : (setup : Setup) (h : History) (s new : BenchState) (answer : Option ℤ) → IsStateOf setup h s

@@ -1,9 +1,9 @@
-use Rattle.std.proofs.Common.{subst, None, refl}
+use Rattle.std.proofs.Common.{sym, subst, None, refl}
 use Rattle.burr_text.proofs.Common.Tests.{no_of}
 use Rattle.burr_step.specs.Rules.Stepper.{S2, Forward}
 use Rattle.burr_step.specs.Views.Stepping.{Stepping, stepping, IsDone, IsRefused, commanding}
-use Rattle.burr_step.proofs.UnderWay.{IsFurther, further_of, same_stepping, stays_stepping}
-use Rattle.burr_step.proofs.Going.{still_asks, forward_asks, forward_done, forward_within}
+use Rattle.burr_step.proofs.UnderWay.{is_within, IsFurther, further_of, same_stepping, stays_stepping}
+use Rattle.burr_step.proofs.Going.{still_asks, forward_asks, forward_done}
 use Rattle.burr_step.proofs.stepper.Stepper.forward.Goals as goal
 
 pub returns-then-not-step_on-clause-comes : goal.returns-then-not-step_on-clause-comes
@@ -34,5 +34,6 @@ returns-clause-comes g c =
 
 pub returns-clause-within : goal.returns-clause-within
 returns-clause-within g c =
-    rw (← c.self.view_is) (forward_within c.a_fitting_plan_is_from_a_container.ensures c.self.inside.machine c.step_on.new.machine
-    c.self.inside.answers.items c.self.inside.records _ c.self.invariant.under_way (further g c))
+    let same = (c.step_on.ensures.made c.if-not-step_on.false).same in
+    rw (← c.self.view_is, sym same.program) (is_within c.a_fitting_plan_is_from_a_container.ensures
+    (stepping c.step_on.new.machine c.self.inside.answers.items) c.step_on.new.records (further g c).under_way)
