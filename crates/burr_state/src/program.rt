@@ -85,7 +85,7 @@ impl<'a> Procedure<'a> {
     {
         for number in 0..offer.len() {
             let Some(label) = offer.get(number) else {
-                return true;
+                unreachable!();
             };
             if self.labels.len() <= usize::from(label) {
                 return false;

@@ -20,7 +20,7 @@ last_or_more : (n : ℕ) → (if n == 0 then 1 else 0) + min n 1 ≡ 1
 last_or_more n = grind (arith, nat_tests)
 
 -- a piece makes a part in its tray where no other piece is there
-parts-on : {Position : Type 0} (tray : ℕ) (position : Position) (places : List (Placement Position))
+pub parts-on : {Position : Type 0} (tray : ℕ) (position : Position) (places : List (Placement Position))
     → parts (On tray position ∷ places) + min (count_in tray places) 1 ≡ parts places + 1
 parts-on tray position places = omega (arith, last_or_more (count_in tray places))
 

@@ -1,4 +1,4 @@
-use Rattle.std.proofs.Common.{rules, subst, refl}
+use Rattle.std.proofs.Common.{rules, subst}
 use Rattle.std.specs.Prelude.{ℤ}
 use Rattle.std.specs.Int.{w32}
 use Rattle.std.proofs.lemmas.Int.{to_z-of_z}
@@ -9,7 +9,7 @@ use Rattle.burr_state.specs.Rules.Bench.{running}
 use Rattle.burr_state.specs.Views.Effects.{TakesNumber, TakesLabel}
 use Rattle.burr_state.proofs.Common.Stepping.Calls.{fits_within}
 use Rattle.burr_state.proofs.Common.Stepping.Steps.{is_at}
-use Rattle.burr_state.proofs.Common.Stepping.Questions.{AsksNothing, unfit_at, number_answered, label_answered}
+use Rattle.burr_state.proofs.Common.Stepping.Questions.{number_answered, label_answered}
 use Rattle.burr_state.proofs.bench.Bench.take.Goals as goal
 
 pub invariant_of-self : goal.invariant_of-self
