@@ -1,3 +1,4 @@
+mod BoxSizes
 mod Boxes
 mod Carrying
 mod Containing
