@@ -22,7 +22,7 @@ line_of (faults.Write name) = cannot_write name.now
 line_of (faults.Unknown word) =
     text_line (codes "error:" ∷ codes "nothing" ∷ codes "is" ∷ codes "explained" ∷ codes "under"
     ∷ word.now ∷ [])
-line_of (faults.Same word name) =
+line_of (faults.OutIsInput word name) =
     text_line (codes "error:" ∷ codes "OUT" ∷ codes "is" ∷ word.now ∷ codes "itself:"
     ∷ name.now ∷ [])
 line_of faults.Memory = codes "no memory\n"
@@ -32,7 +32,7 @@ abbrev pub status_of_fault : Fault → Status
 status_of_fault (faults.Read name) = statuses.Failed
 status_of_fault (faults.Write name) = statuses.Failed
 status_of_fault (faults.Unknown word) = statuses.CommandLine
-status_of_fault (faults.Same word name) = statuses.CommandLine
+status_of_fault (faults.OutIsInput word name) = statuses.CommandLine
 status_of_fault faults.Memory = statuses.Memory
 
 -- the line that tells that standard output failed

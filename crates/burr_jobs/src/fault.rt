@@ -18,9 +18,9 @@ pub enum Fault<'a> {
     Write(&'a str),
     /// Nothing is explained under this line.
     Unknown(&'a str),
-    /// A container was to be written over the file that it is made of: the word of the usage for
-    /// that file, and its name.
-    Same(&'a str, &'a str),
+    /// OUT is one of the files that are read: the word of the usage for that file, and its name.
+    OutIsInput(&'a str, &'a str),
+    /// A request for memory was refused.
     Memory,
 }
 
@@ -70,7 +70,7 @@ impl Fault<'_> {
         ensures means { Means (code_of result) (line_of self.now) }
     {
         match self {
-            Fault::Unknown(_) | Fault::Same(..) => Status::CommandLine,
+            Fault::Unknown(_) | Fault::OutIsInput(..) => Status::CommandLine,
             Fault::Read(_) | Fault::Write(_) => Status::Failed,
             Fault::Memory => Status::Memory,
         }
@@ -78,8 +78,7 @@ impl Fault<'_> {
 }
 
 /// Puts the line of standard error for a fault: `cannot read NAME`, `cannot write NAME` or
-/// `no memory`, that nothing is explained under a line, or that a container was to be written over
-/// the file that it is made of.
+/// `no memory`, that nothing is explained under a line, or that OUT is one of the files that are read.
 pub fn put_fault<W: Sink>(fault: &Fault<'_>, sink: &mut W) -> Result<(), WriteFault>
     ensures { Puts W.Sink sink.old sink.new (line_of fault.now) result }
 {
@@ -97,7 +96,7 @@ pub fn put_fault<W: Sink>(fault: &Fault<'_>, sink: &mut W) -> Result<(), WriteFa
             ],
             sink,
         ),
-        Fault::Same(word, name) => put_words(
+        Fault::OutIsInput(word, name) => put_words(
             &[
                 b"error:",
                 b"OUT",

@@ -34,7 +34,7 @@ pub fn assemble_file<'a, F: Files + AllocGlobal, W: Sink, const N: usize>(
     ensures { HandsOnSomehow W.Sink sink.old.sink sink.new.sink result }
 {
     if are_one_file(files, text, out) {
-        return Err(Fault::Same("TEXT", out));
+        return Err(Fault::OutIsInput("TEXT", out));
     }
     let bytes = read_file(files, text)?;
     match container_of(files.alloc(), &bytes, sink)? {
@@ -145,7 +145,7 @@ pub fn upgrade_file<'a, F: Files + AllocGlobal, W: Sink, const N: usize>(
     ensures { HandsOnSomehow W.Sink sink.old.sink sink.new.sink result }
 {
     if are_one_file(files, plan, out) {
-        return Err(Fault::Same("PLAN", out));
+        return Err(Fault::OutIsInput("PLAN", out));
     }
     let bytes = read_file(files, plan)?;
     match Container::parse(&bytes) {

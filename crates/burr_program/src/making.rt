@@ -43,10 +43,10 @@ fn keep_sources<'a, F: Files>(
     out: &'a str,
 ) -> Result<(), Fault<'a>> {
     if are_one_file(files, assembly, out) {
-        return Err(Fault::Same("ASSEMBLY", out));
+        return Err(Fault::OutIsInput("ASSEMBLY", out));
     }
     if are_one_file(files, source, out) {
-        return Err(Fault::Same(word, out));
+        return Err(Fault::OutIsInput(word, out));
     }
     Ok(())
 }
