@@ -29,6 +29,7 @@ use Rattle.burr_state.proofs.Common.CallLaws.{call_leaves}
 use Rattle.burr_state.specs.Views.Benches.{Benched, GoesOn, motion_in, setup_of, IsSameRun, IsAtStart}
 use Rattle.burr_state.proofs.Common.SomeRun.{counted_step, under_way_on, some_result}
 use Rattle.burr_sheet.specs.Views.SheetUnderWay.{UnderWay, blank, still, outs_of, Closes, FailsInMotion}
+use Rattle.burr_sheet.proofs.Common.FailedMotions.{fails_within_still}
 use Rattle.burr_runs.specs.Rules.Output.{outcome_of}
 use Rattle.burr_runs.specs.Views.Running.{RunState, run_state, RunsOn, Leads, PutsPart, FailsInRun, ClosesPart, IsInStep, left_to_take, TurnIs, AnswerIs, PutsSheet, FailsInSheet}
 use Rattle.burr_runs.proofs.WholeInput.{sheet_of_run}
@@ -101,7 +102,7 @@ module _ {S : Type 0} (sink : SinkView S) where
         rest.steps,
         rest.closing,
         goes b.state new.state (Some motion) answers rest.motions rest.steps rest.closing going next (runs_same b new new.state answers rest.motions rest.steps rest.closing same rest.run),
-        fails rest.motions rest.steps rest.closing,
+        fails_within_still sink before after u motion fails rest.motions rest.steps rest.closing,
       )
 
   -- Many steps

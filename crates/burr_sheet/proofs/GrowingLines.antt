@@ -1,5 +1,5 @@
 -- How a growing line and a motion come together.
-use Rattle.std.proofs.Common.{◌≡◌, ◌+◌, ◌==◌, ◌&&◌, not, List, [], ◌∷◌, Bool, true, false, Some, refl, sym, ap, ◌∙◌, zero-add, add-zero, add_comm, add_assoc, arith}
+use Rattle.std.proofs.Common.{◌≡◌, ℕ, ◌+◌, ◌==◌, ◌&&◌, not, List, [], ◌∷◌, Bool, true, false, Some, refl, sym, ap, ◌∙◌, zero-add, add-zero, add_comm, add_assoc, arith}
 use Rattle.std.proofs.lemmas.Bool.{and_parts, eqb-true}
 use Rattle.burr_voxels.specs.declared.direction.Direction.{Direction}
 use Rattle.burr_voxels.specs.Grid.{number_of}
@@ -27,6 +27,13 @@ Alike-from_one g h is =
       direction = same_direction _ _ (eqb-true _ _ direction.1);
     }
 
+pub same_number : (n : ℕ) → (n == n) ≡ true
+same_number n = grind arith
+
+-- a line is one with itself, however long
+pub is_one-own : (l : MoveLine) (units : ℕ) (out : Bool) → is_one (record l { units = units; out = out }) l ≡ true
+is_one-own l units out = rw (same_number l.group, same_number l.tray, same_number (number_of l.direction)) refl
+
 -- lines that are alike are one with the same lines
 is_one-alike : (g h l : MoveLine) → Alike g h → is_one g l ≡ is_one h l
 is_one-alike g h l alike = rw (alike.group, alike.tray, alike.direction)
@@ -34,7 +41,7 @@ is_one-alike g h l alike = rw (alike.group, alike.tray, alike.direction)
 is_one-alike_after : (g h l : MoveLine) → Alike h l → is_one g l ≡ is_one g h
 is_one-alike_after g h l alike = rw (alike.group, alike.tray, alike.direction)
 
-goes_onto-step : (m : Motion) (l : MoveLine) → m.out ≡ false → goes_onto m l ≡ is_one (alone m) l
+pub goes_onto-step : (m : Motion) (l : MoveLine) → m.out ≡ false → goes_onto m l ≡ is_one (alone m) l
 goes_onto-step m l step = rw step
 
 goes_onto-out : (m : Motion) (l : MoveLine) → m.out ≡ true → goes_onto m l ≡ false

@@ -1,4 +1,5 @@
 pub mod ClosingLines
+pub mod Common
 pub mod End
 pub mod GroupNames
 pub mod GrowingLines
@@ -6,6 +7,7 @@ pub mod LineByLine
 pub mod LineMotions
 pub mod LineTexts
 pub mod LineWords
+pub mod LongestLines
 pub mod Motions
 pub mod OneClosing
 pub mod WorkedRows

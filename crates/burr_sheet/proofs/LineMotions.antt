@@ -10,7 +10,7 @@ use Rattle.burr_state.specs.declared.motion.Motion.{Motion}
 use Rattle.burr_sheet.specs.Rules.Expanding.{IsMotionOf}
 use Rattle.burr_sheet.specs.Rules.SheetText.{MoveLine, alone, goes_onto, with_motion, longest_lines}
 use Rattle.burr_sheet.specs.Views.MotionLines.{IsLineOf, aside_of, joins, motion_count, motion_on, motions_of}
-use Rattle.burr_sheet.proofs.GrowingLines.{goes_onto-alike, with_motion-joined, with_motion-apart, with_motion-out}
+use Rattle.burr_sheet.proofs.GrowingLines.{same_number, goes_onto-alike, with_motion-joined, with_motion-apart, with_motion-out}
 
 -- the line with so many units, which an aside ends or not
 abbrev of_units : MoveLine → ℕ → Bool → MoveLine
@@ -25,9 +25,6 @@ of_units l units out = record {
 -- The lines of a line's motions
 
 -- a step goes onto a line of its own group, tray and direction
-same_number : (n : ℕ) → (n == n) ≡ true
-same_number n = grind arith
-
 goes_onto-own : (l : MoveLine) (units : ℕ) (out : Bool) → goes_onto (motion_on l false) (of_units l units out) ≡ true
 goes_onto-own l units out = rw (same_number l.group, same_number l.tray, same_number (number_of l.direction)) refl
 
@@ -66,7 +63,8 @@ pub record BeginsWith (l : MoveLine) (ls : List MoveLine) (motions : List Motion
   pub apart : joins l ls ≡ false
   pub some : 0 < motion_count l
 
-alone_motions : (group tray : ℕ) (dir : Direction) (out : Bool)
+-- the motion of a line of one
+pub alone_motions : (group tray : ℕ) (dir : Direction) (out : Bool)
     → motions_of (alone (record { group = group; tray = tray; dir = dir; out = out })) ≡ record { group = group; tray = tray; dir = dir; out = out } ∷ []
 alone_motions group tray dir true = refl
 alone_motions group tray dir false = refl
@@ -96,11 +94,18 @@ step_of_onto m l onto =
     not_true true e = sym e
     not_true false e = refl
 
+-- a motion that goes onto a line, and the line's motions
+pub longer_motions : (m : Motion) (k : MoveLine) → goes_onto m k ≡ true
+    → m ∷ motions_of k ≡ motions_of (record k { units = k.units + 1 })
+longer_motions m k onto =
+    ap (λ (n : Motion). n ∷ motions_of k) (step_of_onto m k onto)
+    ∙ (let next : suc k.units ≡ k.units + 1 = omega arith in ap (λ n. motions_of (of_units k n k.out)) next)
+
 -- a motion that goes onto the first of the lines after it
 begins_longer : (m : Motion) (ms : List Motion) (k : MoveLine) (ks : List MoveLine) → goes_onto m k ≡ true → BeginsWith k ks ms → BeginsWith (record k { units = k.units + 1 }) ks (m ∷ ms)
 begins_longer m ms k ks onto b = record {
   more = b.more;
-  parts = (λ i. step_of_onto m k onto i ∷ b.parts i) ∙ (let next : suc k.units ≡ k.units + 1 = omega arith in ap (λ n. motions_of (of_units k n k.out) ++ b.more) next);
+  parts = ap (λ (rest : List Motion). m ∷ rest) b.parts ∙ ap (λ (own : List Motion). own ++ b.more) (longer_motions m k onto);
   lines = b.lines;
   apart = joins_longer ks b.apart;
   some = omega arith;

@@ -26,7 +26,7 @@ first_line (b ∷ f) = elim (ℕ_discrete b 10) [
 ]
 
 -- a list with an end of a line in it is not empty
-not_empty : (a b rest : List ℕ) → [] ≢ a ++ (b ++ 10 ∷ rest)
+pub not_empty : (a b rest : List ℕ) → [] ≢ a ++ (b ++ 10 ∷ rest)
 not_empty a b rest e = some (empty_after b (10 ∷ rest) (sym (empty_after a (b ++ 10 ∷ rest) e)))
   where
     some : 10 ∷ rest ≢ []

@@ -10,7 +10,8 @@ pub fn a_sheet_closes_once()
     ensures once { ClosesOnce }
 {}
 
-/// The lines of motions give these back in their order, and none could be one with the line after it.
+/// The lines of motions give these back in their order, and none could be one with the line after
+/// it.
 pub fn lines_are_longest()
     ensures { LinesAreLongest }
 {}

@@ -3,7 +3,7 @@ use Rattle.burr_sheet.specs.Rules.SheetText.{alone}
 use Rattle.burr_sheet.specs.Views.SheetUnderWay.{move_line_of, is_one}
 use Rattle.burr_sheet.specs.Views.SheetView.{growing_of, under_way}
 use Rattle.burr_text.proofs.Common.Tests.{on_err}
-use Rattle.burr_sheet.proofs.Motions.{PutsBefore-fresh, PutsBefore-other, FailsInMotion-other}
+use Rattle.burr_sheet.proofs.Motions.{PutsBefore-fresh, ClosesBefore-other, FailsInMotion-other}
 use Rattle.burr_sheet.proofs.sheet.Sheet.line_for.Goals as goal
 
 pub returns-in_default-clause-ok : goal.returns-in_default-clause-ok
@@ -23,5 +23,9 @@ returns-clause-ok g c =
     let other = sym c.is_of.ensures ∙ c.if-is_of.false in
     let one : is_one (move_line_of c.before-2.result false) (alone c.args.motion) ≡ true = search rules in
     let none : c.before-2.result.units ≡ 0 = search rules in
-    rw (← c.self.view_is)
-    (PutsBefore-other g.W.Sink _ _ (under_way c.self.inside) c.args.motion (move_line_of c.in-Some.line false) (ap growing_of c.in-Some.is) refl other (move_line_of c.before-2.result false) c.in_ok-put_line.ensures.ok one none)
+    rw (← c.self.view_is) (
+      _,
+      c.in_ok-put_line.ensures.ok,
+      ClosesBefore-other (under_way c.self.inside) c.args.motion (move_line_of c.in-Some.line false)
+          (move_line_of c.before-2.result false) (ap growing_of c.in-Some.is) refl other one none,
+    )
