@@ -1,5 +1,5 @@
 -- What holds of all sheets.
-use Rattle.std.specs.Prelude.{◌≡◌, ℕ, List, [], ◌∷◌, ◌++◌, Bool, true, false, flat_map, replicate, if◌then◌else◌}
+use Rattle.std.specs.Prelude.{◌≡◌, ◌<◌, ℕ, List, [], ◌∷◌, ◌++◌, false, flat_map}
 use Rattle.std.specs.List.{All}
 use Rattle.burr_text.specs.Lines.{IsUnended, IsLines}
 use Rattle.burr_assembly.specs.Rules.Text.{Assembly, IsAssembly}
@@ -8,6 +8,7 @@ use Rattle.burr_state.specs.declared.motion.Motion.{Motion}
 use Rattle.burr_state.specs.declared.closing.Closing.{Closing}
 use Rattle.burr_sheet.specs.Rules.Expanding.{AreLinesOf}
 use Rattle.burr_sheet.specs.Rules.SheetText.{MoveLine, sheet, closing_line, longest_lines}
+use Rattle.burr_sheet.specs.Views.MotionLines.{motion_count, motions_of}
 use Rattle.burr_sheet.specs.Views.SheetUnderWay.{is_one}
 
 -- a closing line is one line
@@ -31,27 +32,19 @@ ClosesOnce =
     → sheet names motions steps closing ≡ front ++ closing_line other count ++ rest
     → (rest ≡ []) × (closing_line other count ≡ closing_line closing steps)
 
--- the unit step of a line's group, or its way out
-abbrev pub motion_along : MoveLine → Bool → Motion
-motion_along l out = record { group = l.group; tray = l.tray; dir = l.direction; out = out }
-
--- the motions of a line: its unit steps, and the aside that ends it, if one does
-abbrev pub motions_of_line : MoveLine → List Motion
-motions_of_line l =
-    replicate l.units (motion_along l false) ++ (if l.out then (motion_along l true ∷ []) else [])
-
--- no line could be one with the line after it: an aside ends it, or what moves, where or along
--- which direction is another
+-- each line has a motion, and none could be one with the line after it: an aside ends it, or what
+-- moves, where or along which direction is another
 abbrev pub AreLongest : List MoveLine → Type 0
 AreLongest [] = Unit {0}
-AreLongest (l ∷ []) = Unit {0}
-AreLongest (l ∷ m ∷ ls) = ((l.out ≡ false) → is_one l m ≡ false) × AreLongest (m ∷ ls)
+AreLongest (l ∷ []) = 0 < motion_count l
+AreLongest (l ∷ m ∷ ls) =
+    (0 < motion_count l) × ((l.out ≡ false) → is_one l m ≡ false) × AreLongest (m ∷ ls)
 
 -- the lines of motions give these back in their order, and are as long as may be
 abbrev pub LinesAreLongest : Type 0
 LinesAreLongest =
     (motions : List Motion)
-    → (flat_map motions_of_line (longest_lines motions) ≡ motions)
+    → (flat_map motions_of (longest_lines motions) ≡ motions)
     × AreLongest (longest_lines motions)
 
 -- a text is the lines of one list of motions of an assembly's pieces at most, as a list of motions
