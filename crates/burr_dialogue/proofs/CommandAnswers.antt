@@ -1,6 +1,6 @@
 -- What a line of commands comes to, of what a call came to and what was put for it.
 use Rattle.std.proofs.Common.{◌≡◌, ℕ, Bool, true, false, List, [], Result, Ok, Err, ℤ, FitsSigned, w32, to_z, of_z, refl, sym, ap, subst, ◌∙◌, inl, inr}
-use Rattle.std.specs.Prelude.{codes, IfOk, IfErr}
+use Rattle.std.specs.Prelude.{◌⊎◌, codes, IfOk, IfErr}
 use Rattle.std.proofs.lemmas.Int.{to_z-of_z}
 use Rattle.burr_state.specs.Rules.Step.{AsksNow}
 use Rattle.burr_io.specs.Sink.{SinkView, Takes, FailsWithin, Puts}
@@ -12,10 +12,10 @@ use Rattle.burr_step.specs.declared.refusal.StepRefusal.{StepRefusal as CodeRefu
 use Rattle.burr_step.specs.declared.refusal.StepRefusal.TheVariants as code
 use Rattle.burr_step.specs.Rules.Stepper.{StepCommand, StepRefusal, S1, S2, S3, S4, Taken, Refused}
 use Rattle.burr_step.specs.Rules.StepTexts.{LineAnswer, LineCommand, Steps, Shows, Quits, IsLineOf, IsStandingWords, IsAfterLine, answered, refused_line, refusal_word, show_text}
-use Rattle.burr_step.specs.Views.Stepping.{Stepping, CameTo, IsDone, IsRefused, commanding}
+use Rattle.burr_step.specs.Views.Stepping.{Stepping, CameTo, NeedsNoMemory, IsDone, IsRefused, commanding}
 use Rattle.burr_dialogue.specs.declared.commanding.StepFault.{StepFault}
 use Rattle.burr_dialogue.specs.declared.commanding.StepFault.TheVariants as faults
-use Rattle.burr_dialogue.specs.Views.Commanding.{IsAnswered, PutsAnswer, FailsInAnswer}
+use Rattle.burr_dialogue.specs.Views.Commanding.{IsAnswered, IsAnswerLine, PutsAnswer, FailsInAnswer}
 use Rattle.burr_dialogue.specs.Views.CommandLines.{IsCameLine, PutsAfter, PutsCame, PutsLine, after_line, question_words}
 
 -- where a stepper stands
@@ -116,16 +116,20 @@ put_front : {S : Type 0} (sink : SinkView S) (before after : S) (old new : Stepp
 put_front sink before after old new line text t fails =
     (t.answer, t.is, subst (λ (bytes : List ℕ). FailsWithin sink before after bytes) (sym t.same) fails)
 
--- the line of a command that a call carried out or refused
+-- the line of a command that a call carried out or refused, which took no memory or was an answer
 pub came_tells : {S Done : Type 0} (sink : SinkView S) (before after : S) (old new : Stepping) (line : List ℕ) (command : StepCommand)
     (came : Result Done CodeRefusal) (result : Result Bool StepFault) → IsLineOf (setup_of old.bench) line (Steps command)
-    → CameTo old (commanding old command) came new → PutsCame sink before after new came result → Tells sink before after old line new result
-came_tells sink before after old new line command came (Ok goes_on) is comes puts =
+    → NeedsNoMemory came ⊎ IsAnswerLine old line → CameTo old (commanding old command) came new
+    → PutsCame sink before after new came result → Tells sink before after old line new result
+came_tells sink before after old new line command came (Ok goes_on) is memory comes puts =
     (put_whole sink before after old new line puts.0 goes_on (came_text old new line puts.0 command came is comes puts.1) puts.2 puts.3, tt)
-came_tells sink before after old new line command came (Err faults.Write) is comes puts =
+came_tells sink before after old new line command came (Err faults.Write) is memory comes puts =
     (tt, put_front sink before after old new line puts.0 (came_text old new line puts.0 command came is comes puts.1) puts.2)
-came_tells {Done} sink before after old new line command came (Err faults.Memory) is comes puts =
-    (tt, (subst (λ (r : Result Done CodeRefusal). CameTo old (commanding old command) r new) puts.0 comes, puts.1))
+came_tells {Done} sink before after old new line command came (Err faults.Memory) is (inl none) comes puts =
+    absurd (subst (λ (r : Result Done CodeRefusal). NeedsNoMemory r) puts.0 none)
+came_tells {Done} sink before after old new line command came (Err faults.Memory) is (inr of_answer) comes puts =
+    let same = subst (λ (r : Result Done CodeRefusal). CameTo old (commanding old command) r new) puts.0 comes in
+    (tt, (of_answer, same, puts.1))
 
 same_run : (b : Benched) → IsSameRun b b
 same_run b = record { assembly = refl; program = refl }

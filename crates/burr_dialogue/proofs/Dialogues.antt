@@ -1,5 +1,5 @@
 -- A dialogue by lines of commands, byte by byte.
-use Rattle.std.proofs.Common.{◌≡◌, ◌≢◌, ℕ, zero, suc, ◌+◌, ◌-◌, ◌^◌, ◌<◌, ◌≤◌, Bool, true, false, List, [], ◌∷◌, ◌++◌, length, take, refl, sym, ap, subst, ◌∙◌, inl, inr, arith, append_assoc, append-nil, length-append}
+use Rattle.std.proofs.Common.{◌≡◌, ◌≢◌, ℕ, zero, suc, ◌+◌, ◌<◌, ◌≤◌, Bool, true, false, List, [], ◌∷◌, ◌++◌, length, take, refl, sym, ap, subst, ◌∙◌, inl, inr, arith, append_assoc, append-nil, length-append}
 use Rattle.std.specs.Prelude.{◌⊎◌, ◌==◌, Option, None, Some, Contains, Result, Ok, Err, OnOk, IfErr}
 use Rattle.std.proofs.lemmas.List.{take_all, length-take-le, take-append-le, flat_map_more}
 use Rattle.std.proofs.lemmas.Bool.Decides.{nat_tests}
@@ -10,13 +10,13 @@ use Rattle.std.specs.Io.KnownBytes.{Appends, Consumes, Keeps, IsAtEnd}
 use Rattle.std.proofs.KnownBytes.{Appends-trans, Consumes-trans, Consumes-kept, Consumes-nil, Appends-nil}
 use Rattle.burr_text.specs.Lines.{IsUnended}
 use Rattle.burr_text.proofs.Common.Decisions.{decide_at_most}
-use Rattle.burr_io.specs.Sink.{SinkView, FailsWithin, HoldsFront}
+use Rattle.burr_io.specs.Sink.{SinkView, FailsWithin}
 use Rattle.burr_io.specs.Source.{SourceView}
 use Rattle.burr_io.specs.WholeLines.{Lines, lines_view}
 use Rattle.burr_assembly.specs.Rules.Homes.{homes_of, names_of}
 use Rattle.burr_state.specs.Rules.Bench.{BenchState, Setup, running}
 use Rattle.burr_state.specs.Views.Benches.{Benched, setup_of, IsSameRun}
-use Rattle.burr_step.specs.Rules.Stepper.{History, StepCommand, Forward, Over, Until, Answer, Back}
+use Rattle.burr_step.specs.Rules.Stepper.{History, Forward, Over, Until, Answer, Back}
 use Rattle.burr_step.specs.Rules.StepTexts.{LineAnswer, LineCommand, Steps, Shows, Quits, Lined, IsTakeable, IsLineOf, HasFewDigits, LinesAreShort, answered}
 use Rattle.burr_step.specs.Views.Stepping.{Stepping, LabelsAreFew}
 use Rattle.burr_io.proofs.Common.Lines.{failed_early, failed_late, holds_more}
@@ -24,10 +24,10 @@ use Rattle.burr_dialogue.specs.declared.commanding.StepFault.{StepFault}
 use Rattle.burr_dialogue.specs.declared.commanding.StepFault.TheVariants as steps
 use Rattle.burr_runs.specs.declared.fault.BenchFault.{BenchFault}
 use Rattle.burr_runs.specs.declared.fault.BenchFault.TheVariants as faults
-use Rattle.burr_dialogue.specs.Rules.Dialogue.{Dialogue, opened, continued, lines_bytes, IsInputOf, IsReadOf}
+use Rattle.burr_dialogue.specs.Rules.Dialogue.{opened, continued, lines_bytes, IsInputOf}
 use Rattle.burr_runs.specs.Views.BenchText.{Streams, streams}
-use Rattle.burr_dialogue.specs.Views.Commanding.{IsAnswered, PutsAnswer, FailsInAnswer}
-use Rattle.burr_dialogue.specs.Views.Dialogues.{HasAnswered, HasAnsweredUpTo, IsConversing, EndsDialogue, FailsInDialogue, BreaksDialogue, TakesByte, HandsAnswer, HandsLast, FailsToHandAnswer, GivesByte, dialogue_fault}
+use Rattle.burr_dialogue.specs.Views.Commanding.{IsAnswered, IsAnswerLine, PutsAnswer, FailsInAnswer}
+use Rattle.burr_dialogue.specs.Views.Dialogues.{HasAnswered, IsConversing, EndsDialogue, BreaksDialogue, TakesByte, HandsLast, FailsToHandAnswer, GivesByte, IsLineRead, dialogue_fault}
 
 -- Lines that are cut
 
@@ -45,24 +45,39 @@ few_digits setup (Steps (Back steps)) few has = tt
 few_digits setup Shows few has = tt
 few_digits setup Quits few has = tt
 
--- what the first bytes of a line come to, one more than a command has, comes of the line
-pub of_cut : (setup : Setup) (names : List (List ℕ)) (h : History) (s : BenchState) (line : List ℕ) (answer : LineAnswer)
-    → LinesAreShort → LabelsAreFew setup → Lined setup names h s (take 65 line) answer → Lined setup names h s line answer
-of_cut setup names h s line answer short few lined = whether (decide_at_most (length line) 65)
+-- where the first bytes of a line, one more than a command has, are a command's, they are all of it
+whole : (setup : Setup) (line : List ℕ) (x : LineCommand) → LinesAreShort → HasFewDigits x
+    → IsLineOf setup (take 65 line) x → take 65 line ≡ line
+whole setup line x short few is = whether (decide_at_most (length line) 65)
   where
-    is_short : (cut : List ℕ) (x : LineCommand) → IsLineOf setup cut x → length cut ≤ 64
-    is_short cut x is = short setup cut x (few_digits setup x few is.0) is
-
-    long : 65 < length line → Lined setup names h s (take 65 line) answer → Lined setup names h s line answer
-    long above (inl (none, is)) = inl (λ x line_of. let within = is_short line x line_of in absurd (omega (arith, within)), is)
-    long above (inr (x, is, comes)) =
-        let within = is_short (take 65 line) x is in
+    whether : (length line ≤ 65) ⊎ (¬ (length line ≤ 65)) → take 65 line ≡ line
+    whether (inl within) = take_all 65 line within
+    whether (inr above) =
+        let within = short setup (take 65 line) x few is in
         let size = length-take-le 65 line (omega arith) in
         absurd (omega (arith, within, size))
 
-    whether : (length line ≤ 65) ⊎ (¬ (length line ≤ 65)) → Lined setup names h s line answer
-    whether (inl within) = subst (λ (cut : List ℕ). Lined setup names h s cut answer) (take_all 65 line within) lined
-    whether (inr above) = long (omega arith) lined
+-- so an answer is kept whole
+answer_kept : (s : Stepping) (line rest : List ℕ) → LinesAreShort → line ≡ take 65 rest → IsAnswerLine s line
+    → IsAnswerLine s rest
+answer_kept s line rest short kept (answer, is) =
+    let x = Steps (Answer answer) in
+    let cut = subst (λ (l : List ℕ). IsLineOf (setup_of s.bench) l x) kept is in
+    let same = kept ∙ whole (setup_of s.bench) rest x short tt cut in
+    (answer, subst (λ (l : List ℕ). IsLineOf (setup_of s.bench) l x) same is)
+
+-- what the first bytes of a line come to, comes of the line
+pub of_cut : (setup : Setup) (names : List (List ℕ)) (h : History) (s : BenchState) (line : List ℕ) (answer : LineAnswer)
+    → LinesAreShort → LabelsAreFew setup → Lined setup names h s (take 65 line) answer → Lined setup names h s line answer
+of_cut setup names h s line answer short few (inl (none, is)) = inl (uncut, is)
+  where
+    uncut : (x : LineCommand) → ¬ IsLineOf setup line x
+    uncut x of_line =
+        let within = short setup line x (few_digits setup x few of_line.0) of_line in
+        none x (subst (λ (l : List ℕ). IsLineOf setup l x) (sym (take_all 65 line (omega (arith, within)))) of_line)
+of_cut setup names h s line answer short few (inr (x, is, comes)) =
+    let same = whole setup line x short (few_digits setup x few is.0) is in
+    subst (λ (l : List ℕ). Lined setup names h s l answer) same (inr (x, is, comes))
 
 -- of the first bytes and one more the same first bytes are kept
 cut_more : (rest : List ℕ) (byte : ℕ) → take 65 (take 65 rest ++ byte ∷ []) ≡ take 65 (rest ++ byte ∷ [])
@@ -285,8 +300,9 @@ module _ {R S : Type 0} (source : SourceView R) (sink : SinkView S) (first : R) 
   breaks_by_answer : (read : ℕ) (line ending : List ℕ) (now later : R) (l m : Lines S) (mid new : Stepping) (fault : BenchFault)
       → (so_far : IsConversing 65 read old (since now l) line mid) → Consumes (source.left now) (source.left later) ending
       → IsInputOf ((lines_bytes so_far.up_to.lines ++ so_far.rest) ++ ending) (so_far.up_to.lines ++ so_far.rest ∷ [])
+      → IsLineRead so_far.rest (so_far.rest ++ ending) (source.left later)
       → FailsToHandAnswer sink l m mid line fault new → BreaksDialogue old (since later m) fault new
-  breaks_by_answer read line ending now later l m mid new faults.Write so_far gave is_input (answer, is, holds, failed) =
+  breaks_by_answer read line ending now later l m mid new faults.Write so_far gave is_input is_line (answer, is, holds, failed) =
       let up = so_far.up_to in
       let grown = Consumes-trans (source.left first) (source.left now) (source.left later) (lines_bytes up.lines ++ so_far.rest) ending up.read gave in (
         (lines_bytes up.lines ++ so_far.rest) ++ ending,
@@ -298,10 +314,14 @@ module _ {R S : Type 0} (source : SourceView R) (sink : SinkView S) (first : R) 
         holds_more (sink.taken start.sink) (sink.taken l.sink) (sink.taken m.sink) up.answer.text answer.text up.took holds,
         failed,
       )
-  breaks_by_answer read line ending now later l m mid new faults.Memory so_far gave is_input (same, untouched) =
+  breaks_by_answer read line ending now later l m mid new faults.Memory so_far gave is_input is_line (is_answer, same, untouched) =
       let up = so_far.up_to in
       let grown = Consumes-trans (source.left first) (source.left now) (source.left later) (lines_bytes up.lines ++ so_far.rest) ending up.read gave in (
+        so_far.rest,
         so_far.rest ++ ending,
+        subst (λ (s : Stepping). IsAnswerLine s so_far.rest) (sym same)
+            (answer_kept mid line so_far.rest short so_far.kept is_answer),
+        is_line,
         record {
           lines = up.lines;
           answer = up.answer;
@@ -311,23 +331,25 @@ module _ {R S : Type 0} (source : SourceView R) (sink : SinkView S) (first : R) 
           took = subst (λ (k : Lines S). Appends (sink.taken start.sink) (sink.taken k.sink) up.answer.text) (sym untouched) up.took;
         },
       )
-  breaks_by_answer read line ending now later l m mid new faults.Read so_far gave is_input never = absurd never
-  breaks_by_answer read line ending now later l m mid new faults.TooLong so_far gave is_input never = absurd never
+  breaks_by_answer read line ending now later l m mid new faults.Read so_far gave is_input is_line never = absurd never
+  breaks_by_answer read line ending now later l m mid new faults.TooLong so_far gave is_input is_line never = absurd never
 
   pub breaks_at_end_of_line : (read byte : ℕ) (line : List ℕ) (now later : R) (l m : Lines S) (mid new : Stepping) (fault : BenchFault)
       → IsConversing 65 read old (since now l) line mid → Consumes (source.left now) (source.left later) (byte ∷ []) → byte ≡ 10
       → FailsToHandAnswer sink l m mid line fault new → BreaksDialogue old (since later m) fault new
   breaks_at_end_of_line read byte line now later l m mid new fault so_far gave end fails =
       breaks_by_answer read line (10 ∷ []) now later l m mid new fault so_far (subst (λ b. Consumes (source.left now) (source.left later) (b ∷ [])) end gave)
-      (inl (ended_bytes so_far.up_to.lines so_far.rest)) fails
+      (inl (ended_bytes so_far.up_to.lines so_far.rest)) (inl refl) fails
 
   pub breaks_at_end_of_input : (read : ℕ) (line : List ℕ) (now later : R) (l m : Lines S) (mid new : Stepping) (fault : BenchFault)
-      → IsConversing 65 read old (since now l) line mid → Consumes (source.left now) (source.left later) [] → line ≢ []
-      → FailsToHandAnswer sink l m mid line fault new → BreaksDialogue old (since later m) fault new
-  breaks_at_end_of_input read line now later l m mid new fault so_far gave some fails =
+      → IsConversing 65 read old (since now l) line mid → Consumes (source.left now) (source.left later) []
+      → IsAtEnd (source.left later) → line ≢ [] → FailsToHandAnswer sink l m mid line fault new → BreaksDialogue old (since later m) fault new
+  breaks_at_end_of_input read line now later l m mid new fault so_far gave end some fails =
       let up = so_far.up_to in
+      let not_empty : so_far.rest ≢ [] = λ none. some (so_far.kept ∙ ap (take 65) none) in
       breaks_by_answer read line [] now later l m mid new fault so_far gave
-      (inr (up.lines, so_far.rest, (λ none. some (so_far.kept ∙ ap (take 65) none)), refl, append-nil (lines_bytes up.lines ++ so_far.rest))) fails
+      (inr (up.lines, so_far.rest, not_empty, refl, append-nil (lines_bytes up.lines ++ so_far.rest)))
+      (inr (append-nil so_far.rest, not_empty, end)) fails
 
 -- One line
 
@@ -338,7 +360,8 @@ pub answer_fails : {S : Type 0} (sink : SinkView S) (old mid : Lines S) (s new :
 answer_fails sink old mid s new line steps.Write r none (answer, is, within) err =
     let p = err_from_is_err_and r err in
     let early = failed_early sink old mid answer.text none within in rw (p.1, p.2) (answer, is, early.0, early.1)
-answer_fails sink old mid s new line steps.Memory r none (same, untouched) err = let p = err_from_is_err_and r err in rw (p.1, p.2) (same, untouched)
+answer_fails sink old mid s new line steps.Memory r none wants err =
+    let p = err_from_is_err_and r err in rw (p.1, p.2) wants
 
 -- it could not be handed on
 pub handing_fails : {S : Type 0} (sink : SinkView S) (old mid last : Lines S) (s new : Stepping) (line : List ℕ) (goes_on : Bool) (r : Result Bool BenchFault) → old.held ≡ []

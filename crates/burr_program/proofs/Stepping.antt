@@ -97,7 +97,8 @@ early_dialogue : (s : Streams) (line : List ℕ) (fault : BenchFault) (old new :
     → EndsEarly (took s.taken_old s.taken_new s.write_failed) line
 early_dialogue s line Read old new told (rest, unended, up_to, failed) = inr ((up_to.answer.text, up_to.took), inl told)
 early_dialogue s line TooLong old new told (kept, most, conversing) = inr ((conversing.up_to.answer.text, conversing.up_to.took), inl told)
-early_dialogue s line Memory old new told (rest, up_to) = inr ((up_to.answer.text, up_to.took), inr told)
+early_dialogue s line Memory old new told (last, rest, is_answer, is_line, up_to) =
+    inr ((up_to.answer.text, up_to.took), inr told)
 early_dialogue s line Write old new told (read, lines, answer, gave, input, answered, holds, failed) = inl (inr (answer.text, (holds, failed)))
 
 -- where a fault is told

@@ -1,5 +1,5 @@
 -- A dialogue under way: what was read, which lines of it are answered, and where the stepper stands.
-use Rattle.std.specs.Prelude.{◌≡◌, ◌≢◌, ◌⊎◌, ◌≤◌, ◌^◌, ◌-◌, ◌+◌, ℕ, List, [], ◌∷◌, ◌++◌, length, take, Bool, true, Option, MatchOption}
+use Rattle.std.specs.Prelude.{◌≡◌, ◌≢◌, ◌⊎◌, ◌^◌, ◌-◌, ℕ, List, [], ◌∷◌, ◌++◌, length, take, Bool, true, Option, MatchOption}
 use Rattle.std.specs.Io.KnownBytes.{Appends, Consumes, IsAtEnd}
 use Rattle.burr_text.specs.Lines.{IsUnended}
 use Rattle.burr_io.specs.Sink.{SinkView, HoldsFront}

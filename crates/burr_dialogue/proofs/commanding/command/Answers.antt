@@ -1,5 +1,5 @@
 -- Each command's line tells what its call came to.
-use Rattle.std.proofs.Common.{subst, ℤ, w32}
+use Rattle.std.proofs.Common.{subst, ℤ, w32, inl, inr}
 use Rattle.std.proofs.lemmas.Int.{to_z-of_z}
 use Rattle.burr_text.proofs.Common.Tests.{yes_of, no_of}
 use Rattle.burr_state.specs.Views.Benches.{setup_of}
@@ -32,14 +32,16 @@ pub returns-in-Forward : goal.returns-in-Forward
 returns-in-Forward g c =
     let is = read_is c.args.line.now c.in-Some.command read.Forward c.in-Some.ensures c.in-Forward.is in
     let told = came_tells g.W.Sink c.args.sink.now c.put_outcome.new.sink c.args.stepper.now c.forward.new.self c.args.line.now Forward
-    c.forward.result c.put_outcome.result is c.forward.ensures.comes c.put_outcome.ensures in
+    c.forward.result c.put_outcome.result is (inl c.forward.ensures.no_memory) c.forward.ensures.comes
+    c.put_outcome.ensures in
     record { ok = told.0; err = told.1 }
 
 pub returns-in-Over : goal.returns-in-Over
 returns-in-Over g c =
     let is = read_is c.args.line.now c.in-Some.command read.Over c.in-Some.ensures c.in-Over.is in
     let told = came_tells g.W.Sink c.args.sink.now c.put_outcome-in-Over.new.sink c.args.stepper.now c.over.new.self c.args.line.now Over
-    c.over.result c.put_outcome-in-Over.result is c.over.ensures.comes c.put_outcome-in-Over.ensures in
+    c.over.result c.put_outcome-in-Over.result is (inl c.over.ensures.no_memory) c.over.ensures.comes
+    c.put_outcome-in-Over.ensures in
     record { ok = told.0; err = told.1 }
 
 pub returns-else-not-has_label : goal.returns-else-not-has_label
@@ -48,8 +50,8 @@ returns-else-not-has_label g c =
     let label = c.in-Until.label in
     let is = read_is c.args.line.now c.in-Some.command (read.Until procedure label) c.in-Some.ensures c.in-Until.is in
     let told = came_tells g.W.Sink c.args.sink.now c.put_outcome-in-Until.new.sink c.args.stepper.now c.until.new.self c.args.line.now
-    (Until procedure label) c.until.result c.put_outcome-in-Until.result (yes_of c.if-not-has_label.ensures, is.1) c.until.ensures.comes
-    c.put_outcome-in-Until.ensures in
+    (Until procedure label) c.until.result c.put_outcome-in-Until.result (yes_of c.if-not-has_label.ensures, is.1)
+    (inl c.until.ensures.no_memory) c.until.ensures.comes c.put_outcome-in-Until.ensures in
     record { ok = told.0; err = told.1 }
 
 pub returns-in-Answer : goal.returns-in-Answer
@@ -59,7 +61,7 @@ returns-in-Answer g c =
     let is = read_is c.args.line.now c.in-Some.command (read.Answer answer) c.in-Some.ensures c.in-Answer.is in
     let came = subst (λ (n : ℤ). CameTo s (commanding s (Answer n)) c.answer.result c.answer.new.self) (to_z-of_z w32 answer is.0) c.answer.ensures in
     let told = came_tells g.W.Sink c.args.sink.now c.put_outcome-in-Answer.new.sink s c.answer.new.self c.args.line.now (Answer answer)
-    c.answer.result c.put_outcome-in-Answer.result is came c.put_outcome-in-Answer.ensures in
+    c.answer.result c.put_outcome-in-Answer.result is (inr (answer, is)) came c.put_outcome-in-Answer.ensures in
     record { ok = told.0; err = told.1 }
 
 pub returns-in-Back : goal.returns-in-Back
@@ -67,7 +69,8 @@ returns-in-Back g c =
     let steps = c.in-Back.steps in
     let is = read_is c.args.line.now c.in-Some.command (read.Back steps) c.in-Some.ensures c.in-Back.is in
     let told = came_tells g.W.Sink c.args.sink.now c.put_outcome-in-Back.new.sink c.args.stepper.now c.back.new.self c.args.line.now (Back steps)
-    c.back.result c.put_outcome-in-Back.result is c.back.ensures.comes c.put_outcome-in-Back.ensures in
+    c.back.result c.put_outcome-in-Back.result is (inl c.back.ensures.no_memory) c.back.ensures.comes
+    c.put_outcome-in-Back.ensures in
     record { ok = told.0; err = told.1 }
 
 pub returns-in-Show : goal.returns-in-Show

@@ -1,4 +1,4 @@
-use Rattle.std.proofs.Common.{◌≡◌, ℕ, List, Bool, sym, subst}
+use Rattle.std.proofs.Common.{ℕ, List, Bool, sym, subst}
 use Rattle.burr_runs.specs.declared.fault.BenchFault.TheVariants as faults
 use Rattle.burr_runs.specs.Views.BenchText.{streams}
 use Rattle.burr_dialogue.specs.Views.Dialogues.{IsConversing, TakesByte}
@@ -43,7 +43,8 @@ returns-in_default-clause-err g c =
     let so_far = subst (λ (line : List ℕ). IsConversing 65 c.loop.counter old s line c.loop.stepper) (sym c.as_slice.ensures.value) c.loop.invariant.1 in
     if_err_more c.answer_last.result (λ fault fails.
     breaks_at_end_of_input g.R.Source g.W.Sink c.args.source.now c.args.sink.now old c.lines_of_commands_are_short.ensures.short c.labels_are_few.ensures
-    c.loop.counter c.as_slice.result.now c.loop.source c.next_byte.new.source c.loop.sink c.answer_last.new.sink c.loop.stepper c.answer_last.new.stepper fault so_far end.0 fails.0 fails.1)
+    c.loop.counter c.as_slice.result.now c.loop.source c.next_byte.new.source c.loop.sink c.answer_last.new.sink c.loop.stepper c.answer_last.new.stepper
+    fault so_far end.0 end.1 fails.0 fails.1)
     c.answer_last.ensures.err
 
 pub returns-in_err-take_byte-clause-err : goal.returns-in_err-take_byte-clause-err
