@@ -5,7 +5,7 @@ use Rattle.std.proofs.lemmas.List.{get_or_default, get_or-drop, length-drop, len
 use Rattle.std.proofs.KnownBytes.{Appends-trans, Appends-kept}
 use Rattle.std.specs.Io.KnownBytes.{Appends, Keeps}
 use Rattle.burr_io.specs.Sink.{SinkView, TakesFront, Puts}
-use Rattle.burr_io.specs.WholeLines.{HandsOn, HandsOnLess, HandsOnWhole, IsCutAtLines, GoesOf}
+use Rattle.burr_io.specs.WholeLines.{HandsOn, HandsOnFront, HandsOnLess, HandsOnWhole, IsCutAtLines, GoesOf}
 
 -- the first of some bytes, of a front that has them
 take-take : (n m : ℕ) (xs : List ℕ) → n ≤ length xs → n ≤ m → take n (take m xs) ≡ take n xs
@@ -92,6 +92,26 @@ Puts-whole {sink = sink} {old = old} {new = new} count held new_held a whole han
 pub nothing_held : {S : Type 0} {sink : SinkView S} {old new : S} (count : ℕ) (held new_held : List ℕ)
     → count ≡ length held → HandsOn sink old new count held new_held → new_held ≡ []
 nothing_held count held new_held whole hands = hands.keeps ∙ ap (λ n. drop n held) whole ∙ drop-length held
+
+-- a front went, and the rest is held back
+pub front_of : {S : Type 0} {sink : SinkView S} {old new : S} {count : ℕ} {held new_held : List ℕ}
+    → HandsOn sink old new count held new_held
+    → HandsOnFront sink (record { sink = old; held = held }) (record { sink = new; held = new_held })
+front_of {count = count} {held = held} hands = (
+  take count held,
+  sym (ap (λ l. take count held ++ l) hands.keeps ∙ take-append-drop count held),
+  hands.takes,
+)
+
+-- where the sink failed, too
+pub front_of_less : {S : Type 0} {sink : SinkView S} {old new : S} {count : ℕ} {held new_held : List ℕ}
+    → HandsOnLess sink old new count held new_held
+    → HandsOnFront sink (record { sink = old; held = held }) (record { sink = new; held = new_held })
+front_of_less {held = held} less = (
+  take less.fewer held,
+  sym (ap (λ l. take less.fewer held ++ l) less.keeps ∙ take-append-drop less.fewer held),
+  less.takes,
+)
 
 -- the sink failed
 pub Puts-less : {S A E : Type 0} {sink : SinkView S} {old new : S} (count : ℕ) (held new_held : List ℕ) (e : E)

@@ -32,9 +32,11 @@ pub record HandsOnLess {S : Type 0} (sink : SinkView S) (old new : S) (count : �
   pub keeps : new_held ≡ drop fewer old_held
   pub fails : sink.has_failed new ≡ true
 
--- what was put is as before: of that, what the sink below took now is held back no more
-abbrev pub KeepsPut : {S : Type 0} → SinkView S → Lines S → Lines S → Type 0
-KeepsPut sink old new = (lines_view sink).taken new ≡ (lines_view sink).taken old
+-- a front of what was held back was handed on, and the rest still is held back
+abbrev pub HandsOnFront : {S : Type 0} → SinkView S → Lines S → Lines S → Type 0
+HandsOnFront sink old new =
+    (front : List ℕ) × (old.held ≡ front ++ new.held)
+    × Appends (sink.taken old.sink) (sink.taken new.sink) front
 
 -- bytes are cut after their last line that is whole
 pub record IsCutAtLines (bytes lines rest : List ℕ) : Type 0 where

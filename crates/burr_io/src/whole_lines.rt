@@ -1,6 +1,6 @@
 ghost use Rattle.std.specs.Prelude.{◌≡◌, ◌≢◌, ◌≤◌, ◌<◌, ℕ, length, take, drop, OnOk, OnErr};
 ghost use Rattle.std.specs.Prelude.{Contains, MatchOption, slice_index};
-ghost use Rattle.burr_io.specs.WholeLines.{GoesOf, HandsOn, HandsOnWhole, HandsOnLess, KeepsPut};
+ghost use Rattle.burr_io.specs.WholeLines.{GoesOf, HandsOn, HandsOnFront, HandsOnWhole, HandsOnLess};
 
 use crate::fault::{IoFailed, WriteFault};
 use crate::sink::Sink;
@@ -50,7 +50,7 @@ impl<W: Sink, const N: usize> WholeLines<W, N> {
     pub fn flush(&mut self) -> Result<(), WriteFault>
         ensures puts { Puts W.Sink self.old.sink self.new.sink self.old.held result }
         ensures nothing { OnOk result (self.new.held ≡ []) }
-        ensures kept { KeepsPut W.Sink self.old self.new }
+        ensures kept { HandsOnFront W.Sink self.old self.new }
         ensures untouched { IsTrue (W.has_failed self.old.sink) → self.new ≡ self.old }
         ensures for_good { IsTrue (W.has_failed self.old.sink) → IsErr result }
     {

@@ -1,5 +1,5 @@
 use Rattle.std.proofs.Common.{rules}
-use Rattle.burr_io.proofs.HandingOn.{Puts-whole, Puts-less}
+use Rattle.burr_io.proofs.HandingOn.{Puts-whole, Puts-less, front_of, front_of_less}
 use Rattle.burr_io.proofs.whole_lines.WholeLines.flush.Goals as goal
 use Rattle.burr_io.proofs.whole_lines.WholeLines.flush.Goals.{in-Ok, in-Err}
 
@@ -7,4 +7,10 @@ pub returns-clause-puts : goal.returns-clause-puts
 returns-clause-puts g c = elim c.match-hand_on.branch [
   | in-Ok w ↦ rw (w.result-is, ← c.self.view_is) (Puts-whole c.len-count.result c.self.inside.held.items c.hand_on.new.held.items _ (search rules) w.in-Ok.ensures.ok)
   | in-Err w ↦ rw (w.result-is, ← c.self.view_is) (Puts-less c.len-count.result c.self.inside.held.items c.hand_on.new.held.items _ w.in-Err.ensures.err)
+]
+
+pub returns-clause-kept : goal.returns-clause-kept
+returns-clause-kept g c = elim c.match-hand_on.branch [
+  | in-Ok w ↦ rw (← c.self.view_is) (front_of w.in-Ok.ensures.ok)
+  | in-Err w ↦ rw (← c.self.view_is) (front_of_less w.in-Err.ensures.err)
 ]
