@@ -37,7 +37,7 @@ pub two_roles : (pieces : List Role) (p q : ℕ) → IsRole pieces p Gripped →
 two_roles pieces p q gripped left e =
     gripped-left (same_Some Gripped Resting (sym gripped ∙ ap (slice_get pieces) e ∙ left))
 
--- Sides
+-- Roles
 
 same_tray_number : (t u : ℕ) → (t == u) ≡ true → t ≡ u
 same_tray_number t u e = grind (arith, nat_tests)
@@ -45,7 +45,7 @@ same_tray_number t u e = grind (arith, nat_tests)
 own_tray : (t : ℕ) → (t == t) ≡ true
 own_tray t = grind (arith, nat_tests)
 
--- how a piece on a side lies
+-- how a piece in a role lies
 abbrev StandsSo : ℕ → ℕ → List (Placement FormCell) → ℕ → Role → Type 0
 StandsSo tray grip places p Elsewhere = Unit {0}
 StandsSo tray grip places p Gripped = (c : FormCell) × LiesAt places p tray c × IsInSet grip p
@@ -61,7 +61,7 @@ by_place tray grip places p (On t c) at =
     cond_both (is_left_out grip p) Resting Gripped (StandsSo tray grip places p) (λ out. (c, lies, not_in_set grip p out)) (λ bit. (c, lies, in_set grip p bit)))
     (λ other. tt)
 
--- a piece lies as its side tells
+-- a piece lies as its role tells
 stands_so : (tray grip n : ℕ) (places : List (Placement FormCell)) (found : List Role) → AreRoles tray grip n places found
     → (p : ℕ) (role : Role) → IsRole found p role → StandsSo tray grip places p role
 stands_so tray grip n places found are p role is =
@@ -74,7 +74,7 @@ stands_so tray grip n places found are p role is =
     same_Some (role_of grip tray p place) role (sym (are.each p place (omega (arith, within, few)) at) ∙ is) in
     subst (StandsSo tray grip places p) own (by_place tray grip places p place at)
 
--- a gripped piece of the tray is on its side, and so is one that is left
+-- a gripped piece of the tray has its role, and so has one that is left
 gripped_role : (tray grip n : ℕ) (places : List (Placement FormCell)) (found : List Role) → AreRoles tray grip n places found
     → (p : ℕ) (c : FormCell) → p < n → LiesAt places p tray c → IsInSet grip p → IsRole found p Gripped
 gripped_role tray grip n places found are p c below lies bit =
@@ -103,7 +103,7 @@ apart_where_clear (queries.Exit direction) a b ps qs clear = free_of_difference 
 
 -- A pair at a point
 
--- what the condition says of a pair of pieces on these sides
+-- what the condition says of a pair of pieces in these roles
 abbrev pub IsPairOfSidesClear : Query → List (List Cell) → List Role → List ℤ → ℕ → ℕ → Type 0
 IsPairOfSidesClear query homes found numbers p q =
     IsRole found p Gripped → IsRole found q Resting → IsPairClear query homes numbers p q

@@ -1,4 +1,4 @@
--- A loop over pairs of sides, a gripped piece and one that is left: what is still to be asked of.
+-- A loop over pairs of roles, a gripped piece and one that is left: what is still to be asked of.
 use Rattle.std.proofs.Common.{◌≡◌, ◌≢◌, ℕ, zero, suc, ◌+◌, ◌<◌, ◌≤◌, List, [], ◌∷◌, ◌++◌, length, Some, refl, sym, ap, ◌∙◌, arith, add-one}
 use Rattle.std.specs.Prelude.{slice_get, map, drop}
 use Rattle.std.proofs.lemmas.Option.{none-some, same_Some}
@@ -36,7 +36,7 @@ skip_left q Resting pieces other = absurd (other refl)
 one_after : {A : Type 0} (f : ℕ → List A) (xs : List A) (n : ℕ) → xs ≡ f (suc n) → xs ≡ f (n + 1)
 one_after f xs n e = e ∙ ap f (sym (add-one n))
 
--- the side of a piece is another one than this
+-- the role of a piece is another one than this
 other_role : (pieces : List Role) (p : ℕ) (role : Role) → p < length pieces → (¬ IsRole pieces p role)
     → (found : Role) × IsRole pieces p found × (found ≢ role)
 other_role pieces p role inside other =

@@ -79,7 +79,7 @@ impl<'a, 'b, B: Blocking> Asking for Clearing<'a, 'b, B> {
 }
 
 /// The first pair that is not clear where the offsets have these values: the first gripped piece
-/// that is in the way of another one, and the first such. There are at most 32 sides, of pieces of
+/// that is in the way of another one, and the first such. There are at most 32 roles, of pieces of
 /// the assembly, three values for each, all within ±256, and at most 2^61 looks so far: the
 /// caller's conditions.
 fn first_pair<B: Blocking>(
@@ -99,7 +99,7 @@ fn first_pair<B: Blocking>(
         × (looks.new ≡ with_more n looks.old) }
 {
     for piece in 0..roles.len() {
-        if !is_on(roles, piece, Role::Gripped) {
+        if !has_role(roles, piece, Role::Gripped) {
             continue;
         }
         if let Some(other) = first_against(looks, query, roles, values, piece as u8) {
@@ -131,7 +131,7 @@ fn first_against<B: Blocking>(
         × (looks.new ≡ with_more n looks.old) }
 {
     for other in 0..roles.len() {
-        if !is_on(roles, other, Role::Resting) {
+        if !has_role(roles, other, Role::Resting) {
             continue;
         }
         if !is_clear(looks, query, values, piece, other as u8) {
@@ -164,8 +164,8 @@ fn is_clear<B: Blocking>(
     looks.clears(query, piece, other, displacement)
 }
 
-/// Whether a piece stands on this side.
-fn is_on(roles: &[Role], piece: usize, role: Role) -> bool
+/// Whether a piece has this role.
+fn has_role(roles: &[Role], piece: usize, role: Role) -> bool
     requires { piece < length roles.now }
     ensures { IsTrue result ↔ IsRole roles.now piece role }
 {

@@ -40,7 +40,7 @@ IsPairClear query homes values p q =
     IsClearAt query (home_at homes p) (home_at homes q)
     (minus (cell_of values p) (cell_of values q))
 
--- piece p stands on this side
+-- piece p has this role
 abbrev pub IsRole : List Role → ℕ → Role → Type 0
 IsRole pieces p role = slice_get pieces p ≡ Some role
 
@@ -56,7 +56,7 @@ role_of grip tray p place =
     if is_in tray place then (if is_left_out grip p then roles.Resting else roles.Gripped)
     else roles.Elsewhere
 
--- these are the sides of the first pieces, as many as given
+-- these are the roles of the first pieces, as many as given
 pub record AreRoles (tray grip pieces : ℕ) (places : List (Placement FormCell))
     (found : List Role) : Type 0 where
   pub few : length found ≤ pieces

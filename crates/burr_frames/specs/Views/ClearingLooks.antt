@@ -9,7 +9,7 @@ use Rattle.burr_frames.specs.declared.clearing.Role.TheVariants as roles
 use Rattle.burr_frames.specs.Views.Clearing.{IsPairClear}
 use Rattle.burr_frames.specs.Rules.Looks.{until_one_fails, pairs_of}
 
--- what is asked: of an assembly's pieces, by the forms of their offsets, on these sides; and which
+-- what is asked: of an assembly's pieces, by the forms of their offsets, in these roles; and which
 -- reference counts, by its ghost name
 pub record Asked : Type 0 where
   pub counter : ℕ
@@ -27,7 +27,7 @@ asked_of counter assembly forms pieces query = record {
   query = query;
 }
 
--- the pieces that are gripped, rising; the first side is that of piece p
+-- the pieces that are gripped, rising; the first role is that of piece p
 abbrev pub gripped_pieces : ℕ → List Role → List ℕ
 gripped_pieces p [] = []
 gripped_pieces p (roles.Gripped ∷ pieces) = p ∷ gripped_pieces (suc p) pieces

@@ -19,10 +19,10 @@ asked_first : (query : Query) (homes others : List (List Cell)) (values : List �
 asked_first query homes others values p q test same told =
     subst (λ (hs : List (List Cell)). IsTrue test ↔ IsPairClear query hs values p q) same told
 
-pub loop-other-preserved-then-not-is_on : goal.loop-other-preserved-then-not-is_on
-loop-other-preserved-then-not-is_on g c =
+pub loop-other-preserved-then-not-has_role : goal.loop-other-preserved-then-not-has_role
+loop-other-preserved-then-not-has_role g c =
     let homes = homes_of c.args.looks.now.assembly in
-    let other = no_of c.if-not-is_on.ensures in
+    let other = no_of c.if-not-has_role.ensures in
     let inside = c.loop-other-test.true in (
       one_more_number (λ t. IsRole c.args.roles.now t Resting → IsPairClear c.args.query homes c.args.values.now c.args.piece t)
           c.loop-other.other c.loop-other.invariant.0 (λ is. absurd (other is)),
@@ -33,14 +33,14 @@ loop-other-preserved-then-not-is_on g c =
     )
 
 pub is_clear-requires-clause-two : goal.is_clear-requires-clause-two
-is_clear-requires-clause-two g c = two_roles c.args.roles.now c.args.piece c.loop-other.other c.requires.gripped (yes_of c.if-not-is_on.ensures)
+is_clear-requires-clause-two g c = two_roles c.args.roles.now c.args.piece c.loop-other.other c.requires.gripped (yes_of c.if-not-has_role.ensures)
 
 pub returns-then-not-is_clear-clause-found : goal.returns-then-not-is_clear-clause-found
 returns-then-not-is_clear-clause-found g c =
     let homes = homes_of c.args.looks.now.assembly in
     let asked = asked_first c.args.query homes (homes_of c.loop-other.looks.assembly) c.args.values.now c.args.piece c.loop-other.other
     false (same_homes c.args.looks.now c.loop-other.looks c.loop-other.invariant.1.0 c.loop-other.invariant.1.3) c.if-not-is_clear.ensures.answer in
-    (yes_of c.if-not-is_on.ensures, no_of asked, c.loop-other.invariant.0)
+    (yes_of c.if-not-has_role.ensures, no_of asked, c.loop-other.invariant.0)
 
 pub returns-then-not-is_clear-clause-counted : goal.returns-then-not-is_clear-clause-counted
 returns-then-not-is_clear-clause-counted g c =
@@ -53,7 +53,7 @@ returns-then-not-is_clear-clause-counted g c =
     c.args.looks.now c.is_clear.new.looks (omega (arith, few, inside))
     (one_is_not (λ pair. IsPairClear c.args.query homes c.args.values.now pair.0 pair.1) _ _ _ _ c.loop-other.other
     c.args.looks.now c.loop-other.looks c.is_clear.new.looks
-    (one_left c.args.roles.now c.args.piece c.loop-other.other (yes_of c.if-not-is_on.ensures)) (no_of asked)
+    (one_left c.args.roles.now c.args.piece c.loop-other.other (yes_of c.if-not-has_role.ensures)) (no_of asked)
     c.if-not-is_clear.ensures.counted c.loop-other.invariant.1)
 
 pub loop-other-preserved : goal.loop-other-preserved
@@ -66,7 +66,7 @@ loop-other-preserved g c =
           c.loop-other.other c.loop-other.invariant.0 (λ is. yes_of asked),
       one_is_so (λ pair. IsPairClear c.args.query homes c.args.values.now pair.0 pair.1) _ _ _ _ c.loop-other.other
           c.args.looks.now c.loop-other.looks c.is_clear.new.looks
-          (one_left c.args.roles.now c.args.piece c.loop-other.other (yes_of c.if-not-is_on.ensures)) (yes_of asked)
+          (one_left c.args.roles.now c.args.piece c.loop-other.other (yes_of c.if-not-has_role.ensures)) (yes_of asked)
           c.if-not-is_clear.ensures.counted c.loop-other.invariant.1,
       omega (arith, inside),
     )

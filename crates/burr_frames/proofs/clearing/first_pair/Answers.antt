@@ -32,10 +32,10 @@ clear_first : (query : Query) (homes others : List (List Cell)) (pieces : List R
 clear_first query homes others pieces values p same clear t left =
     subst (λ (hs : List (List Cell)). IsPairClear query hs values p t) same (clear t left)
 
-pub loop-piece-preserved-then-not-is_on : goal.loop-piece-preserved-then-not-is_on
-loop-piece-preserved-then-not-is_on g c =
+pub loop-piece-preserved-then-not-has_role : goal.loop-piece-preserved-then-not-has_role
+loop-piece-preserved-then-not-has_role g c =
     let homes = homes_of c.args.looks.now.assembly in
-    let other = no_of c.if-not-is_on.ensures in
+    let other = no_of c.if-not-has_role.ensures in
     let inside = c.loop-piece-test.true in (
       (λ r t below gripped left. one_more_number
           (λ k. IsRole c.args.roles.now k Gripped → IsRole c.args.roles.now t Resting → IsPairClear c.args.query homes c.args.values.now k t)
@@ -60,7 +60,7 @@ returns-in-Some-clause-counted g c =
     (stretch_stops (λ pair. IsPairClear c.args.query homes c.args.values.now pair.0 pair.1) _
     (pairs_after c.args.roles.now piece 0) (32 * piece) 32 c.args.looks.now c.loop-piece.looks c.first_against.new.looks
     (passed_over (λ pair. IsPairClear c.args.query homes c.args.values.now pair.0 pair.1) _ _ _ (32 * piece) (32 * piece)
-    c.args.looks.now c.loop-piece.looks (into_row c.args.roles.now piece (yes_of c.if-not-is_on.ensures)) (omega arith)
+    c.args.looks.now c.loop-piece.looks (into_row c.args.roles.now piece (yes_of c.if-not-has_role.ensures)) (omega arith)
     c.loop-piece.invariant.1) row)
 
 pub loop-piece-preserved : goal.loop-piece-preserved
@@ -82,7 +82,7 @@ loop-piece-preserved g c =
           (pairs_after c.args.roles.now piece 0) (pairs_from c.args.roles.now (suc piece)) (32 * piece) 32 c.args.looks.now
           c.loop-piece.looks c.first_against.new.looks
           (passed_over (λ pair. IsPairClear c.args.query homes c.args.values.now pair.0 pair.1) _ _ _ (32 * piece) (32 * piece)
-          c.args.looks.now c.loop-piece.looks (into_row c.args.roles.now piece (yes_of c.if-not-is_on.ensures)) (omega arith)
+          c.args.looks.now c.loop-piece.looks (into_row c.args.roles.now piece (yes_of c.if-not-has_role.ensures)) (omega arith)
           c.loop-piece.invariant.1) row),
       omega (arith, inside),
     )
