@@ -1,6 +1,6 @@
 //! The lines of a plan text, each with what it says.
 
-use crate::part::{Part, Place};
+use crate::plan_item::{FramePart, PlanItem};
 use burr_code::fetch;
 use burr_container::Container;
 use burr_text::{cut_at, integer};
@@ -66,7 +66,7 @@ struct Counts {
 /// are skipped are left out.
 #[derive(Drop)]
 pub struct PlanLines<'a> {
-    lines: Vec<(Place, Line<'a>)>,
+    lines: Vec<(PlanItem, Line<'a>)>,
 }
 
 impl<'a> PlanLines<'a> {
@@ -77,13 +77,13 @@ impl<'a> PlanLines<'a> {
         container: &Container<'_>,
     ) -> Result<PlanLines<'a>, AllocError> {
         let mut lines = Vec::new(alloc);
-        let mut places = Places::new(container);
+        let mut cursor = ItemCursor::new(container);
         let mut rest = text;
         let mut number: usize = 1;
         while let Some((bytes, more)) = cut_at(rest, b'\n') {
             let line = Line { number, bytes };
-            if !line.is_skipped() {
-                lines.push((places.place_of(&line), line))?;
+            if let Some(item) = cursor.item_of(&line) {
+                lines.push((item, line))?;
             }
             rest = more;
             number = number.saturating_add(1);
@@ -92,32 +92,32 @@ impl<'a> PlanLines<'a> {
     }
 
     /// The lines, in their order.
-    pub fn lines(&self) -> &[(Place, Line<'a>)] {
+    pub fn lines(&self) -> &[(PlanItem, Line<'a>)] {
         &self.lines
     }
 
     /// The line that says this; none where there is none.
-    pub fn line_of(&self, place: Place) -> Option<Line<'a>> {
+    pub fn line_of(&self, item: PlanItem) -> Option<Line<'a>> {
         for (found, line) in &self.lines {
-            if *found == place {
+            if *found == item {
                 return Some(*line);
             }
         }
         None
     }
 
-    /// The name that stands in a line; nothing where there is no such line.
-    pub fn name_at(&self, place: Place) -> &'a [u8] {
-        match self.line_of(place) {
+    /// The name that stands in the line that says this; nothing where there is no such line.
+    pub fn name_of(&self, item: PlanItem) -> &'a [u8] {
+        match self.line_of(item) {
             Some(line) => line.operand(),
             None => b"",
         }
     }
 }
 
-/// Where a plan text is that is gone over line by line.
+/// How far a plan text was gone over, line by line, which decides what the next line says.
 #[derive(Drop)]
-struct Places<'a, 'c> {
+struct ItemCursor<'a, 'c> {
     container: &'a Container<'c>,
     /// How many procedures have begun.
     procedures: usize,
@@ -128,10 +128,10 @@ struct Places<'a, 'c> {
     pc: usize,
 }
 
-impl<'a, 'c> Places<'a, 'c> {
+impl<'a, 'c> ItemCursor<'a, 'c> {
     /// Before the first line.
-    fn new(container: &'a Container<'c>) -> Places<'a, 'c> {
-        Places {
+    fn new(container: &'a Container<'c>) -> ItemCursor<'a, 'c> {
+        ItemCursor {
             container,
             procedures: 0,
             labels: 0,
@@ -140,38 +140,58 @@ impl<'a, 'c> Places<'a, 'c> {
         }
     }
 
-    /// What a line says.
-    fn place_of(&mut self, line: &Line<'_>) -> Place {
+    /// What a line says; none of one that is skipped, or that names no slot or piece by a number.
+    fn item_of(&mut self, line: &Line<'_>) -> Option<PlanItem> {
+        if line.is_skipped() {
+            return None;
+        }
         match line.word() {
-            b"plan" | b"plan2" => Place::Plan,
-            b"proc" => self.begin_procedure(),
-            b"label" => self.begin_label(),
-            word => self.place_in_procedure(word, line.operand()),
+            b"plan" | b"plan2" => Some(PlanItem::Plan),
+            b"proc" => Some(self.begin_procedure()),
+            b"label" => Some(self.begin_label()),
+            b"slot" => self.slot_item(line.operand()),
+            b"at" => self.piece_item(line.operand()),
+            word => Some(self.item_in_procedure(word)),
         }
     }
 
-    /// What a line of a frame or of code says, by its first two words.
-    fn place_in_procedure(&mut self, word: &[u8], operand: &[u8]) -> Place {
-        match self.part_of(word, operand) {
-            Some(part) => self.frame_place(part),
-            None => self.code_place(word),
+    /// The line of a slot, by its second word.
+    fn slot_item(&self, operand: &[u8]) -> Option<PlanItem> {
+        let slot = number_of(operand)?;
+        Some(self.frame_item(FramePart::Slot(slot)))
+    }
+
+    /// The line of a piece, by its second word.
+    fn piece_item(&self, operand: &[u8]) -> Option<PlanItem> {
+        let piece = number_of(operand)?;
+        Some(self.frame_item(FramePart::Piece(piece)))
+    }
+
+    /// What another line of a frame, or one of code, says, by its first word.
+    fn item_in_procedure(&mut self, word: &[u8]) -> PlanItem {
+        match self.part_of(word) {
+            Some(part) => self.frame_item(part),
+            None => self.code_item(word),
         }
     }
 
     /// The line of a procedure.
-    fn begin_procedure(&mut self) -> Place {
+    fn begin_procedure(&mut self) -> PlanItem {
         let procedure = self.procedures;
         self.procedures = procedure.saturating_add(1);
         self.labels = 0;
         self.pc = 0;
-        Place::Procedure(procedure)
+        PlanItem::Procedure(procedure)
     }
 
     /// The line of a label.
-    fn begin_label(&mut self) -> Place {
+    fn begin_label(&mut self) -> PlanItem {
         let label = self.labels;
         self.labels = label.saturating_add(1);
-        Place::Label(self.procedure(), label)
+        PlanItem::Label {
+            procedure: self.procedure(),
+            label,
+        }
     }
 
     /// The number of the procedure that has begun last.
@@ -179,48 +199,46 @@ impl<'a, 'c> Places<'a, 'c> {
         self.procedures.saturating_sub(1)
     }
 
-    /// What a line of a frame tells, by its first two words; none of a line of code.
-    fn part_of(&mut self, word: &[u8], operand: &[u8]) -> Option<Part> {
+    /// What a line of a frame tells, by its first word; none of a line of code.
+    fn part_of(&mut self, word: &[u8]) -> Option<FramePart> {
         match word {
             b"exit" | b"frame" => Some(self.begin_frame()),
-            b"slot" => Some(Part::Slot(number_of(operand))),
-            b"at" => Some(Part::Piece(number_of(operand))),
-            b"cost" => Some(Part::Cost),
-            _ => self.counted_part(word),
-        }
-    }
-
-    /// The first line of a frame.
-    fn begin_frame(&mut self) -> Part {
-        self.counts = Counts::default();
-        Part::Head
-    }
-
-    /// What a line of a frame tells that is told by how many lines of its word stand before; none of
-    /// another line.
-    fn counted_part(&mut self, word: &[u8]) -> Option<Part> {
-        match word {
-            b"result" => Some(Part::Result(counted(&mut self.counts.results))),
-            b"guard" => Some(Part::Guard(counted(&mut self.counts.guards))),
-            b"stack" => Some(Part::Operand(counted(&mut self.counts.operands))),
+            b"cost" => Some(FramePart::Cost),
+            b"result" => Some(FramePart::Result(counted(&mut self.counts.results))),
+            b"guard" => Some(FramePart::Guard(counted(&mut self.counts.guards))),
+            b"stack" => Some(FramePart::Operand(counted(&mut self.counts.operands))),
             _ => None,
         }
     }
 
+    /// The first line of a frame.
+    fn begin_frame(&mut self) -> FramePart {
+        self.counts = Counts::default();
+        FramePart::Head
+    }
+
     /// A line of the frame of the label that has begun last, or of the exit frame before the first
     /// label.
-    fn frame_place(&self, part: Part) -> Place {
+    fn frame_item(&self, part: FramePart) -> PlanItem {
+        let procedure = self.procedure();
         if self.labels == 0 {
-            return Place::Exit(self.procedure(), part);
+            return PlanItem::Exit { procedure, part };
         }
-        Place::Frame(self.procedure(), self.labels.saturating_sub(1), part)
+        PlanItem::Frame {
+            procedure,
+            label: self.labels.saturating_sub(1),
+            part,
+        }
     }
 
     /// A line of code; the next one stands after its bytes.
-    fn code_place(&mut self, word: &[u8]) -> Place {
+    fn code_item(&mut self, word: &[u8]) -> PlanItem {
         let pc = self.pc;
         self.pc = pc.saturating_add(self.size_of(word));
-        Place::Code(self.procedure(), pc)
+        PlanItem::Code {
+            procedure: self.procedure(),
+            pc,
+        }
     }
 
     /// How many bytes of code a line stands for.
@@ -243,10 +261,7 @@ fn counted(count: &mut u8) -> u8 {
     number
 }
 
-/// The number that a word tells; 255 where it tells none of 0 to 255.
-fn number_of(word: &[u8]) -> u8 {
-    match integer(word) {
-        Some(number) => u8::try_from(number).unwrap_or(255),
-        None => 255,
-    }
+/// The number that a word tells; none where it tells none of 0 to 255.
+fn number_of(word: &[u8]) -> Option<u8> {
+    u8::try_from(integer(word)?).ok()
 }

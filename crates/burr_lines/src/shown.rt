@@ -18,7 +18,7 @@ impl fmt::Display for Shown<'_> {
 
 /// How a byte is shown.
 fn printed(byte: u8) -> char {
-    if 32 <= byte && byte <= 126 {
+    if b' ' <= byte && byte <= b'~' {
         return char::from(byte);
     }
     '?'

@@ -6,8 +6,9 @@ use crate::offset::Offset;
 use crate::standing::{Standing, value};
 use burr_assembly::Assembly;
 use burr_code::Placement;
+use burr_code::limits::{MOST_OPERANDS, MOST_PIECES, SLOTS};
 use burr_container::{ExitRef, FrameRef};
-use burr_lines::{Part, piece_name};
+use burr_lines::{FramePart, piece_name};
 use std::fmt;
 
 impl Differences {
@@ -89,7 +90,7 @@ impl Differences {
     /// The current tray and the grip.
     fn compare_head(&mut self, assembly: &Assembly, standing: &Standing, wanted: &Standing) {
         self.compare_number(
-            Part::Head,
+            FramePart::Head,
             "the current tray",
             i64::from(standing.tray),
             i64::from(wanted.tray),
@@ -100,7 +101,7 @@ impl Differences {
     /// A number that a frame says.
     fn compare_number<D: fmt::Display + Drop>(
         &mut self,
-        part: Part,
+        part: FramePart,
         subject: D,
         is: i64,
         wanted: i64,
@@ -125,7 +126,7 @@ impl Differences {
             set: wanted,
         };
         self.add(
-            Part::Head,
+            FramePart::Head,
             format_args!("gripped: {is}, the frame says {wanted}"),
         );
     }
@@ -136,20 +137,20 @@ impl Differences {
             return;
         }
         self.add(
-            Part::Head,
+            FramePart::Head,
             format_args!("operands: {is} are there, the frame says {wanted}"),
         );
     }
 
     /// Of each piece whether it is apart, or else its tray.
     fn compare_trays(&mut self, assembly: &Assembly, standing: &Standing, wanted: &Standing) {
-        for piece in 0..32 {
+        for piece in 0..MOST_PIECES as u8 {
             let is = Whereabouts(standing.place(piece).tray());
             let wanted = Whereabouts(wanted.place(piece).tray());
             if is.0 != wanted.0 {
                 let name = piece_name(assembly, piece);
                 self.add(
-                    Part::Piece(piece),
+                    FramePart::Piece(piece),
                     format_args!("{name} is {is}, the frame says {wanted}"),
                 );
             }
@@ -158,18 +159,18 @@ impl Differences {
 
     /// The slots that are live in a frame, and of which nothing is known.
     fn add_unknown_slots(&mut self, standing: &Standing, frame: &FrameRef<'_>) {
-        for v in 0..8 {
+        for v in 0..SLOTS as u8 {
             if frame.slot(v).is_some() && standing.slots[usize::from(v)].is_none() {
-                self.add(Part::Slot(v), format_args!("slot {v} is not known"));
+                self.add(FramePart::Slot(v), format_args!("slot {v} is not known"));
             }
         }
     }
 
     /// The ranges of slots.
     fn compare_slots(&mut self, standing: &Standing, frame: &FrameRef<'_>) {
-        for v in 0..8 {
+        for v in 0..SLOTS as u8 {
             if let (Some(range), Some(is)) = (frame.slot(v), standing.slots[usize::from(v)]) {
-                self.compare_range(Part::Slot(v), "slot", v, is, range);
+                self.compare_range(FramePart::Slot(v), "slot", v, is, range);
             }
         }
     }
@@ -179,13 +180,20 @@ impl Differences {
         let parameters = usize::from(exit.parameters());
         for n in 0..exit.result_count() {
             if let Some(is) = symbols.get(parameters + usize::from(n)) {
-                self.compare_range(Part::Result(n), "result", n, *is, exit.result(n));
+                self.compare_range(FramePart::Result(n), "result", n, *is, exit.result(n));
             }
         }
     }
 
     /// A range of a slot or of a result.
-    fn compare_range(&mut self, part: Part, kind: &str, number: u8, is: i64, range: (i16, i16)) {
+    fn compare_range(
+        &mut self,
+        part: FramePart,
+        kind: &str,
+        number: u8,
+        is: i64,
+        range: (i16, i16),
+    ) {
         let (low, high) = range;
         if i64::from(low) <= is && is <= i64::from(high) {
             return;
@@ -217,27 +225,32 @@ impl Differences {
             return;
         }
         self.add(
-            Part::Guard(number),
+            FramePart::Guard(number),
             format_args!("this guard is {is}, so below 0"),
         );
     }
 
     /// The operands.
     fn compare_operands(&mut self, standing: &Standing, wanted: &Standing) {
-        for n in 0..8 {
+        for n in 0..MOST_OPERANDS as u8 {
             let operand = usize::from(n);
             if let (Some(is), Some(wanted)) = (
                 standing.operands.get(operand),
                 wanted.operands.get(operand),
             ) {
-                self.compare_number(Part::Operand(n), format_args!("operand {n}"), *is, *wanted);
+                self.compare_number(
+                    FramePart::Operand(n),
+                    format_args!("operand {n}"),
+                    *is,
+                    *wanted,
+                );
             }
         }
     }
 
     /// The offsets of the pieces.
     fn compare_offsets(&mut self, assembly: &Assembly, standing: &Standing, wanted: &Standing) {
-        for piece in 0..32 {
+        for piece in 0..MOST_PIECES as u8 {
             if let (
                 Placement::On { position: is, .. },
                 Placement::On {
@@ -261,7 +274,7 @@ impl Differences {
     /// A coordinate of a piece's offset.
     fn compare_coordinate(&mut self, piece: u8, name: &str, axis: char, is: i64, wanted: i64) {
         self.compare_number(
-            Part::Piece(piece),
+            FramePart::Piece(piece),
             format_args!("{axis} of {name}"),
             is,
             wanted,
@@ -274,7 +287,7 @@ impl Differences {
             return;
         }
         self.add(
-            Part::Cost,
+            FramePart::Cost,
             format_args!("cost {is} is left, the frame wants {wanted}"),
         );
     }

@@ -1,6 +1,6 @@
 //! What a frame says, and what holds where something else does.
 
-use burr_lines::Part;
+use burr_lines::FramePart;
 use std::alloc::{AllocError, Global};
 use std::fmt;
 
@@ -8,7 +8,7 @@ use std::fmt;
 #[derive(Drop)]
 pub struct Difference {
     /// The part of the frame that tells something else.
-    pub part: Part,
+    pub part: FramePart,
     /// What holds, and what the frame says.
     pub note: String,
 }
@@ -35,20 +35,24 @@ impl Differences {
     /// Whether too little of the cost is left, which is found last.
     pub fn has_cost(&self) -> bool {
         match self.found.last() {
-            Some(difference) => difference.part == Part::Cost,
+            Some(difference) => difference.part == FramePart::Cost,
             None => false,
         }
     }
 
     /// Adds that a part of a frame tells something else.
-    pub fn add<D: fmt::Display + Drop>(&mut self, part: Part, note: D) {
+    pub fn add<D: fmt::Display + Drop>(&mut self, part: FramePart, note: D) {
         if self.try_add(part, note).is_err() {
             self.is_whole = false;
         }
     }
 
     /// Adds it, where there is memory.
-    fn try_add<D: fmt::Display + Drop>(&mut self, part: Part, note: D) -> Result<(), AllocError> {
+    fn try_add<D: fmt::Display + Drop>(
+        &mut self,
+        part: FramePart,
+        note: D,
+    ) -> Result<(), AllocError> {
         let note = format!(in self.alloc; "{note}")?;
         self.found.push(Difference { part, note })?;
         Ok(())

@@ -14,4 +14,4 @@ pub use difference::{Difference, Differences};
 pub use group::{Group, Whereabouts};
 pub use meeting::{Displaced, Meeting, common_cell, first_meeting};
 pub use offset::Offset;
-pub use standing::{Origin, Standing, Symbol};
+pub use standing::{MOST_SYMBOLS, Origin, Standing, Symbol};

@@ -9,6 +9,9 @@ use burr_code::limits::{MOST_OPERANDS, MOST_PIECES, SLOTS};
 use burr_container::{ExitRef, FrameRef};
 use burr_forms::Form;
 
+/// At most this many numbers are open: a form is over no more symbols.
+pub const MOST_SYMBOLS: usize = 8;
+
 /// Where an open number comes from: a live slot of the frame, the answer of an instruction, or a
 /// result that it brought; instructions are told by their places.
 #[derive(Clone, Copy)]
@@ -38,7 +41,7 @@ impl Default for Symbol {
 #[derive(Drop)]
 pub struct Standing {
     /// The numbers that were open, in the order of the point.
-    pub symbols: ArrayVec<Symbol, 8>,
+    pub symbols: ArrayVec<Symbol, MOST_SYMBOLS>,
     pub slots: [Option<i64>; SLOTS],
     /// The top last.
     pub operands: ArrayVec<i64, MOST_OPERANDS>,
@@ -125,9 +128,9 @@ impl Standing {
     }
 
     /// What is in the slots that are live in a frame; 0 where it is not known.
-    pub fn live_values(&self, frame: &FrameRef<'_>) -> ArrayVec<i64, 8> {
+    pub fn live_values(&self, frame: &FrameRef<'_>) -> ArrayVec<i64, MOST_SYMBOLS> {
         let mut values = ArrayVec::new();
-        for v in 0..8 {
+        for v in 0..SLOTS as u8 {
             if frame.slot(v).is_some() {
                 let _ = values.try_push(self.slots[usize::from(v)].unwrap_or(0));
             }
@@ -136,14 +139,20 @@ impl Standing {
     }
 
     /// The values of an exit frame's symbols: the parameters, and the topmost operands as results.
-    pub fn exit_values(&self, exit: &ExitRef<'_>) -> ArrayVec<i64, 8> {
-        let mut values = ArrayVec::new();
-        for v in 0..usize::from(exit.parameters()) {
-            let parameter = self.slots.get(v).copied().flatten();
-            let _ = values.try_push(parameter.unwrap_or(0));
-        }
+    pub fn exit_values(&self, exit: &ExitRef<'_>) -> ArrayVec<i64, MOST_SYMBOLS> {
+        let mut values = self.parameter_values(exit.parameters());
         for result in &self.arguments(exit.result_count()) {
             let _ = values.try_push(*result);
+        }
+        values
+    }
+
+    /// What is in the slots of so many parameters; 0 where it is not known.
+    fn parameter_values(&self, parameters: u8) -> ArrayVec<i64, MOST_SYMBOLS> {
+        let mut values = ArrayVec::new();
+        for v in 0..usize::from(parameters) {
+            let parameter = self.slots.get(v).copied().flatten();
+            let _ = values.try_push(parameter.unwrap_or(0));
         }
         values
     }
@@ -161,7 +170,7 @@ impl Standing {
 
     /// Opens the live slots of a frame.
     fn open_slots(&mut self, frame: &FrameRef<'_>, point: &[i32]) {
-        for v in 0..8 {
+        for v in 0..SLOTS as u8 {
             if let Some((low, _)) = frame.slot(v) {
                 let value = self.open(Origin::Slot(v), low, point);
                 self.slots[usize::from(v)] = Some(value);

@@ -127,12 +127,12 @@ impl Fit {
 
     /// A form of the slots that always held a number, which gives each number that was seen: a
     /// constant, else a form of one slot, else of several; none where none is found.
-    pub fn form(&self, first: &Slots, live: &Live) -> Option<Form> {
+    pub fn form(&self, first: &Slots, live: &Live) -> Option<FittedForm> {
         if self.least == self.greatest {
-            return Some(Form::of_constant(self.least));
+            return Some(FittedForm::of_constant(self.least));
         }
         match self.lone_slope() {
-            Some(factors) => Some(Form::through(self.first, factors, first)),
+            Some(factors) => Some(FittedForm::through(self.first, factors, first)),
             None => self.form_of_several(first, live),
         }
     }
@@ -150,7 +150,7 @@ impl Fit {
     }
 
     /// The form of several slots.
-    fn form_of_several(&self, first: &Slots, live: &Live) -> Option<Form> {
+    fn form_of_several(&self, first: &Slots, live: &Live) -> Option<FittedForm> {
         if self.together.broken {
             return None;
         }
@@ -161,7 +161,7 @@ impl Fit {
                 return None;
             }
         }
-        Some(Form::through(self.first, factors, first))
+        Some(FittedForm::through(self.first, factors, first))
     }
 
     /// The least and the greatest number that was seen.
@@ -175,31 +175,31 @@ pub type Live = [bool; SLOTS];
 
 /// A form over slots.
 #[derive(Clone, Copy, Drop)]
-pub struct Form {
+pub struct FittedForm {
     constant: i64,
     factors: [i64; SLOTS],
 }
 
-impl Form {
+impl FittedForm {
     /// A number.
-    pub fn of_constant(constant: i64) -> Form {
-        Form {
+    pub fn of_constant(constant: i64) -> FittedForm {
+        FittedForm {
             constant,
             factors: [0; SLOTS],
         }
     }
 
     /// The form with these factors that gives this number where the slots hold these.
-    fn through(number: i64, factors: [i64; SLOTS], slots: &Slots) -> Form {
+    fn through(number: i64, factors: [i64; SLOTS], slots: &Slots) -> FittedForm {
         let mut constant = number;
         for v in 0..SLOTS {
             constant = constant.saturating_sub(factors[v].saturating_mul(slots[v].unwrap_or(0)));
         }
-        Form { constant, factors }
+        FittedForm { constant, factors }
     }
 }
 
-impl fmt::Display for Form {
+impl fmt::Display for FittedForm {
     fn fmt<W: fmt::Write>(&self, f: &mut fmt::Formatter<W>) -> fmt::Result {
         let constant = self.constant;
         write!(f, "{constant}")?;

@@ -2,7 +2,7 @@
 
 use crate::costs::Costs;
 use crate::labels::Labels;
-use crate::walk::{Turn, Walk};
+use crate::traced_run::{Advance, TracedRun};
 use burr_bench::Closing;
 use burr_blocking::Blocking;
 use burr_container::Container;
@@ -15,37 +15,37 @@ pub trait Observer {
     fn arrive<B: Blocking>(
         &mut self,
         label: usize,
-        walk: &Walk<'_, '_, B>,
+        run: &TracedRun<'_, '_, B>,
     ) -> Result<(), AllocError>;
 
-    /// A turn was made.
-    fn note_turn<B: Blocking>(&mut self, walk: &Walk<'_, '_, B>);
+    /// The run has advanced.
+    fn note_advance<B: Blocking>(&mut self, run: &TracedRun<'_, '_, B>);
 }
 
 /// Follows a run from its start to where it closes.
 pub fn follow<B: Blocking, O: Observer>(
-    walk: &mut Walk<'_, '_, B>,
+    run: &mut TracedRun<'_, '_, B>,
     labels: &Labels<'_>,
     observer: &mut O,
 ) -> Result<Closing, AllocError> {
     let mut came = true;
-    for _ in 0..walk.most_turns() {
-        if came && let Some(label) = label_of(walk, labels) {
-            observer.arrive(label, walk)?;
+    for _ in 0..run.most_advances() {
+        if came && let Some(label) = label_of(run, labels) {
+            observer.arrive(label, run)?;
         }
-        match walk.turn() {
-            Turn::Goes => came = true,
-            Turn::Passes => came = false,
-            Turn::Closes(closing) => return Ok(closing),
+        match run.advance() {
+            Advance::Goes => came = true,
+            Advance::Passes => came = false,
+            Advance::Closes(closing) => return Ok(closing),
         }
-        observer.note_turn(walk);
+        observer.note_advance(run);
     }
     Ok(Closing::Stopped)
 }
 
 /// The number of the label at which a run stands that has not ended.
-fn label_of<B: Blocking>(walk: &Walk<'_, '_, B>, labels: &Labels<'_>) -> Option<usize> {
-    let bench = walk.bench();
+fn label_of<B: Blocking>(run: &TracedRun<'_, '_, B>, labels: &Labels<'_>) -> Option<usize> {
+    let bench = run.bench();
     if bench.ended() {
         return None;
     }
@@ -90,9 +90,9 @@ impl Costs {
         blocking: &B,
         answers: &[i32],
     ) -> Result<(), AllocError> {
-        if let Some(mut walk) = Walk::start(container, blocking, answers) {
-            follow(&mut walk, labels, self)?;
-            self.close_above(0, walk.bench().steps());
+        if let Some(mut run) = TracedRun::start(container, blocking, answers) {
+            follow(&mut run, labels, self)?;
+            self.close_above(0, run.bench().steps());
         }
         Ok(())
     }
@@ -102,12 +102,12 @@ impl Observer for Costs {
     fn arrive<B: Blocking>(
         &mut self,
         _label: usize,
-        walk: &Walk<'_, '_, B>,
+        run: &TracedRun<'_, '_, B>,
     ) -> Result<(), AllocError> {
-        Costs::arrive(self, walk.bench().depth(), walk.bench().steps())
+        Costs::arrive(self, run.bench().depth(), run.bench().steps())
     }
 
-    fn note_turn<B: Blocking>(&mut self, walk: &Walk<'_, '_, B>) {
-        self.close_above(walk.bench().depth(), walk.bench().steps());
+    fn note_advance<B: Blocking>(&mut self, run: &TracedRun<'_, '_, B>) {
+        self.close_above(run.bench().depth(), run.bench().steps());
     }
 }

@@ -1,7 +1,7 @@
 //! The labels of a plan text.
 
 use burr_container::Container;
-use burr_lines::{Line, Place, PlanLines};
+use burr_lines::{Line, PlanItem, PlanLines};
 use std::alloc::{AllocError, Global};
 
 /// A label of a plan text.
@@ -35,10 +35,10 @@ impl<'a> Labels<'a> {
             number: 0,
             bytes: b"",
         };
-        for (place, line) in lines.lines() {
-            match *place {
-                Place::Procedure(_) => head = *line,
-                Place::Label(procedure, label) => {
+        for (item, line) in lines.lines() {
+            match *item {
+                PlanItem::Procedure(_) => head = *line,
+                PlanItem::Label { procedure, label } => {
                     labels.push(Label {
                         procedure,
                         procedure_line: head,
@@ -60,21 +60,16 @@ impl<'a> Labels<'a> {
     /// The number, from 0, of the label at a place of a procedure's code; none where none stands
     /// there.
     pub fn at(&self, procedure: usize, pc: usize) -> Option<usize> {
-        let wanted = order(procedure, pc);
+        let wanted = (procedure, pc);
         let number = self
             .labels
-            .partition_point(|label| order(label.procedure, label.pc) < wanted);
+            .partition_point(|label| (label.procedure, label.pc) < wanted);
         let label = self.labels.get(number)?;
         if label.procedure == procedure && label.pc == pc {
             return Some(number);
         }
         None
     }
-}
-
-/// A number that rises with the order of places.
-fn order(procedure: usize, pc: usize) -> usize {
-    procedure.saturating_mul(65_536).saturating_add(pc)
 }
 
 /// Where a label stands; 0 where there is no such label.

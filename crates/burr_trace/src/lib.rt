@@ -13,7 +13,7 @@ mod seen;
 mod snapshot;
 mod summary;
 mod trace;
-mod walk;
+mod traced_run;
 
 pub use filling::{Filled, Unframed};
 pub use trace::trace_of;

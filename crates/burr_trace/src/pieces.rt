@@ -1,6 +1,7 @@
 //! Sets of pieces, as frames have them.
 
 use burr_code::is_in_set;
+use burr_code::limits::MOST_PIECES;
 use std::fmt;
 
 /// A set of pieces, as frames have it: bit p is piece p.
@@ -13,7 +14,7 @@ impl fmt::Display for Pieces {
             return write!(f, "-");
         }
         let mut separator = "";
-        for piece in 0..32 {
+        for piece in 0..MOST_PIECES as u8 {
             if is_in_set(self.0, piece) {
                 write!(f, "{separator}{piece}")?;
                 separator = ",";

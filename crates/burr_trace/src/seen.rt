@@ -1,6 +1,6 @@
 //! What was seen at a label, and the frame that all of it agrees with.
 
-use crate::fit::{Fit, Form, Live, Slots};
+use crate::fit::{Fit, FittedForm, Live, Slots};
 use crate::pieces::Pieces;
 use crate::snapshot::Snapshot;
 use burr_code::Placement;
@@ -198,10 +198,10 @@ impl Seen {
     }
 
     /// The cost as a form; where there is none, the greatest.
-    fn most_cost(&self) -> Form {
-        match self.extent(&self.cost) {
-            Extent::Form(form) => form,
-            Extent::Range(_, greatest) => Form::of_constant(greatest),
+    fn most_cost(&self) -> FittedForm {
+        match self.form_or_range(&self.cost) {
+            FormOrRange::Form(form) => form,
+            FormOrRange::Range(_, greatest) => FittedForm::of_constant(greatest),
         }
     }
 
@@ -216,7 +216,7 @@ impl Seen {
     /// Whether there is a form of each of some numbers.
     fn are_forms(&self, fits: &[Fit]) -> bool {
         for fit in fits {
-            if !self.extent(fit).is_form() {
+            if !self.form_or_range(fit).is_form() {
                 return false;
             }
         }
@@ -244,7 +244,7 @@ impl Seen {
 
     /// Adds the line of an operand.
     fn add_operand(&self, report: &mut Report, fit: &Fit) {
-        let number = self.extent(fit);
+        let number = self.form_or_range(fit);
         let mark = if number.is_form() { "" } else { "; " };
         report.add_words(format_args!("{mark}stack {number}\n"));
     }
@@ -252,9 +252,9 @@ impl Seen {
     /// Adds the line of a piece that was always in one tray.
     fn add_place(&self, report: &mut Report, piece: usize, tray: u8, offset: &[Fit; 3]) {
         let [x, y, z] = offset;
-        let x = self.extent(x);
-        let y = self.extent(y);
-        let z = self.extent(z);
+        let x = self.form_or_range(x);
+        let y = self.form_or_range(y);
+        let z = self.form_or_range(z);
         if x.is_form() && y.is_form() && z.is_form() {
             return report.add_words(format_args!("at {piece} {tray} {x} {y} {z}\n"));
         }
@@ -271,12 +271,12 @@ impl Seen {
     }
 
     /// A number that was seen at the label, as a form where there is one.
-    fn extent(&self, fit: &Fit) -> Extent {
+    fn form_or_range(&self, fit: &Fit) -> FormOrRange {
         match fit.form(&self.first, &self.live()) {
-            Some(form) => Extent::Form(form),
+            Some(form) => FormOrRange::Form(form),
             None => {
                 let (least, greatest) = fit.range();
-                Extent::Range(least, greatest)
+                FormOrRange::Range(least, greatest)
             }
         }
     }
@@ -318,23 +318,23 @@ fn cost_of(now: &Snapshot) -> i64 {
 
 /// A form, or how far the numbers go for which there is none.
 #[derive(Clone, Copy, Drop)]
-enum Extent {
-    Form(Form),
+enum FormOrRange {
+    Form(FittedForm),
     Range(i64, i64),
 }
 
-impl Extent {
+impl FormOrRange {
     /// Whether it is a form.
     fn is_form(&self) -> bool {
-        matches!(self, Extent::Form(_))
+        matches!(self, FormOrRange::Form(_))
     }
 }
 
-impl fmt::Display for Extent {
+impl fmt::Display for FormOrRange {
     fn fmt<W: fmt::Write>(&self, f: &mut fmt::Formatter<W>) -> fmt::Result {
         match self {
-            Extent::Form(form) => write!(f, "{form}"),
-            Extent::Range(least, greatest) => write!(f, "{least} to {greatest}"),
+            FormOrRange::Form(form) => write!(f, "{form}"),
+            FormOrRange::Range(least, greatest) => write!(f, "{least} to {greatest}"),
         }
     }
 }

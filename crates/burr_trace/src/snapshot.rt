@@ -44,7 +44,7 @@ impl Snapshot {
 /// The numbers in the slots.
 fn slots_of<B: Blocking>(bench: &Checked<'_, B>) -> [Option<i64>; SLOTS] {
     let mut slots = [None; SLOTS];
-    for slot in 0..8 {
+    for slot in 0..SLOTS as u8 {
         if let Some(number) = bench.slot(slot) {
             slots[usize::from(slot)] = Some(i64::from(number));
         }

@@ -5,7 +5,7 @@ use crate::following::{Observer, Prepared, follow};
 use crate::labels::Labels;
 use crate::seen::Seen;
 use crate::snapshot::Snapshot;
-use crate::walk::Walk;
+use crate::traced_run::TracedRun;
 use burr_bench::Closing;
 use burr_blocking::Blocking;
 use burr_container::Container;
@@ -45,8 +45,8 @@ impl<'x> Summary<'x> {
         blocking: &B,
         answers: &[i32],
     ) -> Result<bool, AllocError> {
-        match Walk::start(container, blocking, answers) {
-            Some(mut walk) => Ok(follow(&mut walk, labels, self)? == Closing::Apart),
+        match TracedRun::start(container, blocking, answers) {
+            Some(mut run) => Ok(follow(&mut run, labels, self)? == Closing::Apart),
             None => Ok(false),
         }
     }
@@ -60,13 +60,13 @@ impl<'x> Summary<'x> {
     pub fn see<B: Blocking>(
         &mut self,
         label: usize,
-        walk: &Walk<'_, '_, B>,
+        run: &TracedRun<'_, '_, B>,
     ) -> Result<Snapshot, AllocError> {
-        let now = Snapshot::of(walk.bench(), self.costs.of(self.arrivals));
+        let now = Snapshot::of(run.bench(), self.costs.of(self.arrivals));
         self.arrivals = self.arrivals.saturating_add(1);
         match self.seen.get_mut(label) {
             Some(Some(seen)) => seen.see(&now),
-            Some(place) => *place = Some(Seen::new(self.alloc, &now)?),
+            Some(unseen) => *unseen = Some(Seen::new(self.alloc, &now)?),
             None => {}
         }
         Ok(now)
@@ -77,11 +77,11 @@ impl Observer for Summary<'_> {
     fn arrive<B: Blocking>(
         &mut self,
         label: usize,
-        walk: &Walk<'_, '_, B>,
+        run: &TracedRun<'_, '_, B>,
     ) -> Result<(), AllocError> {
-        let _now = self.see(label, walk)?;
+        let _now = self.see(label, run)?;
         Ok(())
     }
 
-    fn note_turn<B: Blocking>(&mut self, _walk: &Walk<'_, '_, B>) {}
+    fn note_advance<B: Blocking>(&mut self, _run: &TracedRun<'_, '_, B>) {}
 }

@@ -4,11 +4,11 @@ use crate::following::{Observer, Prepared, follow};
 use crate::labels::Label;
 use crate::seen::Seen;
 use crate::summary::Summary;
-use crate::walk::Walk;
+use crate::traced_run::TracedRun;
 use burr_bench::Closing;
 use burr_blocking::Blocking;
 use burr_container::Container;
-use burr_lines::{Place, PlanText, Report, Shown};
+use burr_lines::{PlanItem, PlanText, Report, Shown};
 use std::alloc::{AllocError, Global};
 
 /// What holds whenever the run of a plan, with these answers, comes to a label: where the text names
@@ -61,22 +61,25 @@ impl<'a, 'x> Trace<'a, 'x> {
         blocking: &B,
         answers: &[i32],
     ) -> Result<(), AllocError> {
-        let Some(mut walk) = Walk::start(container, blocking, answers) else {
+        let Some(mut run) = TracedRun::start(container, blocking, answers) else {
             return Ok(());
         };
         let labels = &self.prepared.labels;
-        if follow(&mut walk, labels, self)? != Closing::Apart {
-            self.add_end(&walk);
+        if follow(&mut run, labels, self)? != Closing::Apart {
+            self.add_end(&run);
         }
         self.add_labels();
         Ok(())
     }
 
     /// Adds the line where a run stands that did not come to its end.
-    fn add_end<B: Blocking>(&mut self, walk: &Walk<'_, '_, B>) {
-        let bench = walk.bench();
-        let place = Place::Code(usize::from(bench.proc()), usize::from(bench.pc()));
-        if let Some(line) = self.prepared.lines.line_of(place) {
+    fn add_end<B: Blocking>(&mut self, run: &TracedRun<'_, '_, B>) {
+        let bench = run.bench();
+        let item = PlanItem::Code {
+            procedure: usize::from(bench.proc()),
+            pc: usize::from(bench.pc()),
+        };
+        if let Some(line) = self.prepared.lines.line_of(item) {
             self.report.add_words("\n; the run stands at ");
             self.report.add_line(self.file, &line);
         }
@@ -96,18 +99,18 @@ impl Observer for Trace<'_, '_> {
     fn arrive<B: Blocking>(
         &mut self,
         label: usize,
-        walk: &Walk<'_, '_, B>,
+        run: &TracedRun<'_, '_, B>,
     ) -> Result<(), AllocError> {
-        let now = self.summary.see(label, walk)?;
-        if let Some(place) = self.prepared.labels.as_slice().get(label) {
-            add_label(&mut self.report, self.file, place);
+        let now = self.summary.see(label, run)?;
+        if let Some(label) = self.prepared.labels.as_slice().get(label) {
+            add_label(&mut self.report, self.file, label);
         }
-        add_arrival(&mut self.report, walk);
+        add_arrival(&mut self.report, run);
         Seen::new(self.alloc, &now)?.add_frame(&mut self.report);
         Ok(())
     }
 
-    fn note_turn<B: Blocking>(&mut self, _walk: &Walk<'_, '_, B>) {}
+    fn note_advance<B: Blocking>(&mut self, _run: &TracedRun<'_, '_, B>) {}
 }
 
 /// Adds an empty line, and begins a comment with the line that names a label.
@@ -129,10 +132,10 @@ fn add_seen(report: &mut Report, seen: &Option<Seen>) {
 }
 
 /// Ends the comment with the steps that were made and the answer last taken.
-fn add_arrival<B: Blocking>(report: &mut Report, walk: &Walk<'_, '_, B>) {
-    let steps = walk.bench().steps();
+fn add_arrival<B: Blocking>(report: &mut Report, run: &TracedRun<'_, '_, B>) {
+    let steps = run.bench().steps();
     report.add_words(format_args!(": steps {steps}"));
-    if let Some(answer) = walk.answered() {
+    if let Some(answer) = run.answered() {
         report.add_words(format_args!(", answer {answer}"));
     }
     report.add_words("\n");

@@ -10,7 +10,7 @@ mod site;
 mod space;
 
 use burr_frames::Rule;
-use burr_lines::{Part, Place, PlanLines, PlanText, Report};
+use burr_lines::{FramePart, PlanItem, PlanLines, PlanText, Report};
 use burr_verify::Refusal;
 use site::Site;
 use std::alloc::{AllocError, Global};
@@ -54,7 +54,7 @@ impl<'a, 'c> Reasons<'a, 'c> {
     /// Says why a place of the code breaks a rule.
     fn add_at_site(&mut self, rule: Rule, refusal: &Refusal) {
         let site = Site::of(&self.plan, refusal);
-        self.add_place(Place::Code(site.procedure, site.pc));
+        self.add_item(site.code_item(site.pc));
         self.add_surroundings(&site);
         match rule {
             Rule::V2 | Rule::V3 | Rule::V4 | Rule::V5 => self.add_bad_code(rule, &site),
@@ -85,25 +85,33 @@ impl<'a, 'c> Reasons<'a, 'c> {
 
     /// Says that the plan is for another assembly.
     fn add_other_assembly(&mut self) {
-        self.add_place(Place::Plan);
+        self.add_item(PlanItem::Plan);
         let name = self.plan.assembly.name();
         let pieces = self.plan.assembly.piece_count();
         self.report.add_note(format_args!("the assembly is {name} and has {pieces} pieces"));
     }
 
     /// Names the line that says this, where there is one.
-    fn add_place(&mut self, place: Place) {
-        if let Some(line) = self.lines.line_of(place) {
+    fn add_item(&mut self, item: PlanItem) {
+        if let Some(line) = self.lines.line_of(item) {
             self.report.add_line(self.plan.file, &line);
         }
     }
 
     /// Names the line of a part of a label's frame; where the frame has none, that it begins with.
-    fn add_part(&mut self, procedure: usize, label: usize, part: Part) {
-        let place = Place::Frame(procedure, label, part);
-        if self.lines.line_of(place).is_some() {
-            return self.add_place(place);
+    fn add_part(&mut self, procedure: usize, label: usize, part: FramePart) {
+        let item = PlanItem::Frame {
+            procedure,
+            label,
+            part,
+        };
+        if self.lines.line_of(item).is_some() {
+            return self.add_item(item);
         }
-        self.add_place(Place::Frame(procedure, label, Part::Head));
+        self.add_item(PlanItem::Frame {
+            procedure,
+            label,
+            part: FramePart::Head,
+        });
     }
 }

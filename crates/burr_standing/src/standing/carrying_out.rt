@@ -1,6 +1,6 @@
 //! What instructions do, where they keep their rules.
 
-use super::{Origin, Standing, value};
+use super::{MOST_SYMBOLS, Origin, Standing, value};
 use crate::offset::{Offset, exit_places};
 use arrayvec::ArrayVec;
 use burr_code::{Instr, Placement, is_in_set, take_aside};
@@ -55,8 +55,8 @@ impl Standing {
     /// Pops a number into a slot.
     fn store(&mut self, slot: u8) {
         let number = self.operands.pop();
-        if let Some(place) = self.slots.get_mut(usize::from(slot)) {
-            *place = number;
+        if let Some(held) = self.slots.get_mut(usize::from(slot)) {
+            *held = number;
         }
     }
 
@@ -109,7 +109,7 @@ impl Standing {
     }
 
     /// The arguments of a procedure with so many parameters: the topmost operands.
-    pub fn arguments(&self, parameters: u8) -> ArrayVec<i64, 8> {
+    pub fn arguments(&self, parameters: u8) -> ArrayVec<i64, MOST_SYMBOLS> {
         let count = self.operands.len();
         let below = count.saturating_sub(usize::from(parameters));
         let mut arguments = ArrayVec::new();
@@ -146,7 +146,7 @@ impl Standing {
         &mut self,
         exit: &ExitRef<'_>,
         pc: usize,
-        symbols: &mut ArrayVec<i64, 8>,
+        symbols: &mut ArrayVec<i64, MOST_SYMBOLS>,
         point: &[i32],
     ) {
         for n in 0..exit.result_count() {

@@ -2,7 +2,6 @@
 
 use super::{Reasons, Site};
 use burr_frames::Rule;
-use burr_lines::Place;
 
 impl Reasons<'_, '_> {
     /// Says what is wrong with the code itself.
@@ -23,7 +22,7 @@ impl Reasons<'_, '_> {
         self.report.add_note("this instruction has a label inside, after its first byte");
         let last = site.end.saturating_sub(1);
         if let Some(label) = self.plan.label_before(site.procedure, last) {
-            self.add_place(Place::Label(site.procedure, label));
+            self.add_item(site.label_item(label));
         }
     }
 }

@@ -2,8 +2,9 @@
 
 use super::{Reasons, Site};
 use burr_code::Instr;
+use burr_code::limits::MOST_PIECES;
 use burr_frames::Rule;
-use burr_lines::{Place, Shown, piece_name};
+use burr_lines::{PlanItem, Shown, piece_name};
 
 impl Reasons<'_, '_> {
     /// Says where control can't go.
@@ -25,18 +26,18 @@ impl Reasons<'_, '_> {
                 .add_note(format_args!("there is no procedure {callee}"));
         }
         self.add_late_caller(site);
-        self.add_place(Place::Procedure(callee));
+        self.add_item(PlanItem::Procedure(callee));
     }
 
     /// Notes that a procedure calls one that does not stand after it.
     fn add_late_caller(&mut self, site: &Site) {
-        let caller = Shown(self.lines.name_at(Place::Procedure(site.procedure)));
+        let caller = Shown(self.lines.name_of(PlanItem::Procedure(site.procedure)));
         self.report.add_note(format_args!("{caller} calls only procedures that stand after it"));
     }
 
     /// The pieces that are not apart.
     fn add_pieces_together(&mut self, site: &Site) {
-        for piece in 0..32 {
+        for piece in 0..MOST_PIECES as u8 {
             if let Some(tray) = site.before.place(piece).tray() {
                 let name = piece_name(self.plan.assembly, piece);
                 self.report

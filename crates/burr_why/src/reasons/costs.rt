@@ -2,22 +2,26 @@
 
 use super::{Reasons, Site};
 use burr_code::Instr;
+use burr_code::limits::{MOST_STATE_GUARDS, SLOTS};
 use burr_container::FrameRef;
+use burr_forms::limits::{MOST_FORM_NUMBER, MOST_POINTS};
 use burr_frames::Rule;
-use burr_lines::{Part, Place};
+use burr_lines::{FramePart, PlanItem};
+use burr_standing::MOST_SYMBOLS;
 use burr_verify::Refusal;
 
-/// The most points that a frame's ranges may have together.
-const MOST_POINTS: u64 = 4096;
+/// What is said of a number of a form beyond the most, which stands here with commas.
+const LARGE_FORM_NUMBER: &str = "a form here has a number beyond 1,099,511,627,776";
+
+/// A change of the limit is to be followed by one of these words.
+const _: () = prove!(MOST_FORM_NUMBER == 1_099_511_627_776);
 
 impl Reasons<'_, '_> {
     /// Says what is left and needed, or what is too much.
     pub(super) fn add_bad_cost(&mut self, rule: Rule, instruction: &Instr<'_>, site: &Site) {
         match rule {
             Rule::V24 => self.add_want_of_cost(instruction, site),
-            Rule::V26 => self
-                .report
-                .add_note("a form here has a number beyond 1,099,511,627,776"),
+            Rule::V26 => self.report.add_note(LARGE_FORM_NUMBER),
             _ => self.add_too_many(instruction, site),
         }
     }
@@ -27,10 +31,10 @@ impl Reasons<'_, '_> {
         self.add_left_and_needed(site.before.cost, site.after.cost);
         self.add_point(site, &site.before);
         if let Instr::Call(callee) = instruction {
-            self.add_place(Place::Frame(usize::from(*callee), 0, Part::Cost));
+            self.add_first_cost(usize::from(*callee));
             self.report.add_note("a call takes 1 more than this");
         }
-        self.add_last_part(site, Part::Cost);
+        self.add_last_part(site, FramePart::Cost);
     }
 
     /// Notes how many steps are left, and how many an instruction takes that leaves so many.
@@ -42,15 +46,20 @@ impl Reasons<'_, '_> {
 
     /// What would be one too many.
     fn add_too_many(&mut self, instruction: &Instr<'_>, site: &Site) {
-        let fault = match instruction {
-            Instr::Ask(low, high) if site.before.symbols.len() < 8 => {
-                return self.add_wide_answer(*low, *high);
+        match instruction {
+            Instr::Ask(low, high) if site.before.symbols.len() < MOST_SYMBOLS => {
+                self.add_wide_answer(*low, *high)
             }
-            Instr::Ask(..) => "8 numbers are open, and the answer is one more",
-            Instr::Down(..) => "8 guards are there, and this makes one more",
-            _ => "its results make too many open numbers, guards or points",
-        };
-        self.report.add_note(fault);
+            Instr::Ask(..) => self.report.add_note(format_args!(
+                "{MOST_SYMBOLS} numbers are open, and the answer is one more"
+            )),
+            Instr::Down(..) => self.report.add_note(format_args!(
+                "{MOST_STATE_GUARDS} guards are there, and this makes one more"
+            )),
+            _ => self
+                .report
+                .add_note("its results make too many open numbers, guards or points"),
+        }
     }
 
     /// Notes that an answer of this range makes too many points.
@@ -67,10 +76,14 @@ impl Reasons<'_, '_> {
         let Some((label, points)) = self.wide_label(procedure, usize::from(refusal.pc)) else {
             return self.add_at_site(refusal.rule, refusal);
         };
-        self.add_place(Place::Label(procedure, label));
+        self.add_item(PlanItem::Label { procedure, label });
         self.add_points(points);
-        for v in 0..8 {
-            self.add_place(Place::Frame(procedure, label, Part::Slot(v)));
+        for v in 0..SLOTS as u8 {
+            self.add_item(PlanItem::Frame {
+                procedure,
+                label,
+                part: FramePart::Slot(v),
+            });
         }
     }
 
@@ -79,7 +92,7 @@ impl Reasons<'_, '_> {
     fn wide_label(&self, procedure: usize, pc: usize) -> Option<(usize, u64)> {
         let label = self.plan.label_at(procedure, pc)?;
         let points = points(&self.plan.frame(procedure, label)?);
-        if points <= MOST_POINTS {
+        if points <= u64::from(MOST_POINTS) {
             return None;
         }
         Some((label, points))
@@ -94,17 +107,26 @@ impl Reasons<'_, '_> {
 
     /// Says that the budget is below what main costs.
     pub(super) fn add_small_budget(&mut self) {
-        self.add_place(Place::Plan);
+        self.add_item(PlanItem::Plan);
         let budget = self.plan.container.header().budget;
         self.report.add_note(format_args!("the budget is {budget}, so below what main costs"));
-        self.add_place(Place::Frame(0, 0, Part::Cost));
+        self.add_first_cost(0);
+    }
+
+    /// Names the line of the cost in the first frame of a procedure.
+    fn add_first_cost(&mut self, procedure: usize) {
+        self.add_item(PlanItem::Frame {
+            procedure,
+            label: 0,
+            part: FramePart::Cost,
+        });
     }
 }
 
 /// How many points the ranges of a frame have together, guards not counted.
 fn points(frame: &FrameRef<'_>) -> u64 {
     let mut points: u64 = 1;
-    for v in 0..8 {
+    for v in 0..SLOTS as u8 {
         if let Some((low, high)) = frame.slot(v) {
             points = points.saturating_mul(span(low, high));
         }

@@ -1,10 +1,11 @@
 //! Frames that are malformed by themselves, and the start of a run.
 
 use super::Reasons;
-use super::frames::FramePlace;
+use super::frames::PlanFrame;
+use burr_code::limits::{MOST_PIECES, SLOTS};
 use burr_code::{Placement, count_in_tray, is_in_set};
 use burr_container::FrameRef;
-use burr_lines::{Part, Place, piece_name};
+use burr_lines::{FramePart, PlanItem, piece_name};
 use burr_standing::{Offset, Standing, Whereabouts};
 use burr_verify::Refusal;
 
@@ -28,7 +29,7 @@ impl Reasons<'_, '_> {
     fn add_malformed_exit(&mut self, procedure: usize) {
         if let Some(exit) = self.plan.exit(procedure) {
             let standing = Standing::at_exit(&exit, &[]);
-            self.add_malformed_places(FramePlace::Exit(procedure), &standing);
+            self.add_malformed_places(PlanFrame::Exit { procedure }, &standing);
         }
     }
 
@@ -40,31 +41,31 @@ impl Reasons<'_, '_> {
         if let Some(frame) = self.plan.frame(procedure, label) {
             self.add_malformed_slots(procedure, label, &frame);
             let standing = Standing::of(&frame, &[]);
-            self.add_malformed_places(FramePlace::Label(procedure, label), &standing);
+            self.add_malformed_places(PlanFrame::Label { procedure, label }, &standing);
         }
     }
 
     /// Says which slots and operands of a label's frame may not be there, or are missing.
     fn add_malformed_slots(&mut self, procedure: usize, label: usize, frame: &FrameRef<'_>) {
-        let place = FramePlace::Label(procedure, label);
+        let plan_frame = PlanFrame::Label { procedure, label };
         let parameters = self.plan.parameters(procedure);
-        for v in 0..8 {
+        for v in 0..SLOTS as u8 {
             if let Some(fault) = fault_of_slot(v < parameters, frame.slot(v).is_some(), label) {
-                self.add_fault(place, Part::Slot(v), fault);
+                self.add_fault(plan_frame, FramePart::Slot(v), fault);
             }
         }
         if label == 0 && frame.stack_count() != 0 {
             self.add_fault(
-                place,
-                Part::Operand(0),
+                plan_frame,
+                FramePart::Operand(0),
                 "a procedure begins without operands",
             );
         }
     }
 
     /// Says which pieces are gripped in another tray, or alone in theirs.
-    fn add_malformed_places(&mut self, frame: FramePlace, standing: &Standing) {
-        for piece in 0..32 {
+    fn add_malformed_places(&mut self, frame: PlanFrame, standing: &Standing) {
+        for piece in 0..MOST_PIECES as u8 {
             let place = standing.place(piece);
             if is_in_set(standing.grip, piece) && !place.is_in(standing.tray) {
                 self.add_far_grip(frame, piece, standing);
@@ -76,23 +77,28 @@ impl Reasons<'_, '_> {
     }
 
     /// Names the line of a grip, of which a piece is not in the current tray.
-    fn add_far_grip(&mut self, frame: FramePlace, piece: u8, standing: &Standing) {
+    fn add_far_grip(&mut self, frame: PlanFrame, piece: u8, standing: &Standing) {
         let name = piece_name(self.plan.assembly, piece);
         let place = Whereabouts(standing.place(piece).tray());
         let tray = standing.tray;
         let fault = format_args!("{name} is {place}, and is gripped in tray {tray}");
-        self.add_fault(frame, Part::Head, fault);
+        self.add_fault(frame, FramePart::Head, fault);
     }
 
     /// Names the line of a piece that is alone in its tray.
-    fn add_alone(&mut self, frame: FramePlace, piece: u8) {
+    fn add_alone(&mut self, frame: PlanFrame, piece: u8) {
         let name = piece_name(self.plan.assembly, piece);
         let fault = format_args!("{name} is alone in its tray, so it is apart");
-        self.add_fault(frame, Part::Piece(piece), fault);
+        self.add_fault(frame, FramePart::Piece(piece), fault);
     }
 
     /// Names a line of a frame, and notes what is wrong there.
-    fn add_fault<D: std::fmt::Display + Drop>(&mut self, frame: FramePlace, part: Part, fault: D) {
+    fn add_fault<D: std::fmt::Display + Drop>(
+        &mut self,
+        frame: PlanFrame,
+        part: FramePart,
+        fault: D,
+    ) {
         self.add_frame_line(frame, part);
         self.report.add_note(fault);
     }
@@ -102,13 +108,22 @@ impl Reasons<'_, '_> {
         if self.plan.position(0, 0).is_none() {
             return;
         }
-        self.add_place(Place::Label(0, 0));
+        self.add_item(PlanItem::Label {
+            procedure: 0,
+            label: 0,
+        });
         self.report.add_note(
             "a run begins here, with all pieces at home in tray 0 and nothing gripped",
         );
         let start = Standing::at_home(self.plan.assembly.piece_count());
         let differences = self.differences(0, 0, &start, None);
-        self.add_differences(FramePlace::Label(0, 0), &differences);
+        self.add_differences(
+            PlanFrame::Label {
+                procedure: 0,
+                label: 0,
+            },
+            &differences,
+        );
     }
 }
 

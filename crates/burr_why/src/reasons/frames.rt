@@ -3,7 +3,7 @@
 use super::{Reasons, Site};
 use burr_code::{Instr, Labels};
 use burr_frames::Rule;
-use burr_lines::{Part, Place, Shown};
+use burr_lines::{FramePart, PlanItem, Shown};
 use burr_standing::{Differences, Standing};
 
 /// How many differences are told.
@@ -11,9 +11,9 @@ const MOST_TOLD: usize = 12;
 
 /// A frame of a plan: that of a label, or an exit frame.
 #[derive(Clone, Copy)]
-pub enum FramePlace {
-    Label(usize, usize),
-    Exit(usize),
+pub enum PlanFrame {
+    Label { procedure: usize, label: usize },
+    Exit { procedure: usize },
 }
 
 impl Reasons<'_, '_> {
@@ -33,7 +33,13 @@ impl Reasons<'_, '_> {
         let mut standing = site.standing(&self.plan, site.pc);
         standing.enter(self.plan.parameters(callee));
         let differences = self.differences(callee, 0, &standing, None);
-        self.add_differences(FramePlace::Label(callee, 0), &differences);
+        self.add_differences(
+            PlanFrame::Label {
+                procedure: callee,
+                label: 0,
+            },
+            &differences,
+        );
     }
 
     /// What differs from the exit frame at a `ret`.
@@ -44,7 +50,12 @@ impl Reasons<'_, '_> {
         self.add_point(site, &site.before);
         let mut differences = Differences::new(self.alloc);
         differences.add_of_exit(self.plan.assembly, &site.before, &exit);
-        self.add_differences(FramePlace::Exit(site.procedure), &differences);
+        self.add_differences(
+            PlanFrame::Exit {
+                procedure: site.procedure,
+            },
+            &differences,
+        );
     }
 
     /// That a `halt` or a `ret` may not stand here.
@@ -121,12 +132,18 @@ impl Reasons<'_, '_> {
 
     /// Says what differs from the frame of a label that control comes to.
     fn add_arrival(&mut self, site: &Site, label: usize, after: &Standing) {
-        self.add_missed_name(Place::Label(site.procedure, label));
+        self.add_missed_name(site.label_item(label));
         let differences = self.differences(site.procedure, label, after, Some(after.cost));
-        self.add_differences(FramePlace::Label(site.procedure, label), &differences);
+        self.add_differences(
+            PlanFrame::Label {
+                procedure: site.procedure,
+                label,
+            },
+            &differences,
+        );
         match site.label {
             Some(last) if last != label && differences.has_cost() => {
-                self.add_part(site.procedure, last, Part::Cost);
+                self.add_part(site.procedure, last, FramePart::Cost);
                 self.report
                     .add_note("what is left is counted down from here");
             }
@@ -135,15 +152,15 @@ impl Reasons<'_, '_> {
     }
 
     /// Notes the label whose frame is not met.
-    fn add_missed_name(&mut self, label: Place) {
-        let name = Shown(self.lines.name_at(label));
+    fn add_missed_name(&mut self, label: PlanItem) {
+        let name = Shown(self.lines.name_of(label));
         self.report.add_note(format_args!(
             "what holds after it is not what the frame of {name} says"
         ));
     }
 
     /// Names the lines of a frame that tell something else, each with what differs.
-    pub(super) fn add_differences(&mut self, frame: FramePlace, differences: &Differences) {
+    pub(super) fn add_differences(&mut self, frame: PlanFrame, differences: &Differences) {
         self.report.lose_unless(differences.is_whole);
         let mut last = None;
         for difference in differences.found.iter().take(MOST_TOLD) {
@@ -165,10 +182,10 @@ impl Reasons<'_, '_> {
     }
 
     /// Names the line of a part of a frame.
-    pub(super) fn add_frame_line(&mut self, frame: FramePlace, part: Part) {
+    pub(super) fn add_frame_line(&mut self, frame: PlanFrame, part: FramePart) {
         match frame {
-            FramePlace::Label(procedure, label) => self.add_part(procedure, label, part),
-            FramePlace::Exit(procedure) => self.add_place(Place::Exit(procedure, part)),
+            PlanFrame::Label { procedure, label } => self.add_part(procedure, label, part),
+            PlanFrame::Exit { procedure } => self.add_item(PlanItem::Exit { procedure, part }),
         }
     }
 }

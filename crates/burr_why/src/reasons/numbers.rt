@@ -2,8 +2,9 @@
 
 use super::{Reasons, Site};
 use burr_code::Instr;
+use burr_code::limits::{MOST_NUMBER, MOST_OPERANDS};
 use burr_frames::Rule;
-use burr_lines::{Part, Place, Shown};
+use burr_lines::{FramePart, PlanItem, Shown};
 
 impl Reasons<'_, '_> {
     /// Says which number is missing, too many, not known or too large.
@@ -38,7 +39,9 @@ impl Reasons<'_, '_> {
     /// How many operands are there.
     fn add_full_stack(&mut self, site: &Site) {
         let count = site.before.operands.len();
-        self.report.add_note(format_args!("operands: {count} are there, with room for 8"));
+        self.report.add_note(format_args!(
+            "operands: {count} are there, with room for {MOST_OPERANDS}"
+        ));
     }
 
     /// Says what is wrong with a slot.
@@ -57,14 +60,18 @@ impl Reasons<'_, '_> {
         let Some(label) = site.label else {
             return;
         };
-        self.add_place(Place::Frame(site.procedure, label, Part::Head));
+        self.add_item(PlanItem::Frame {
+            procedure: site.procedure,
+            label,
+            part: FramePart::Head,
+        });
         self.report
             .add_note(format_args!("this frame has no line of slot {slot}"));
     }
 
     /// The slot that is a parameter.
     fn add_parameter(&mut self, slot: u8, site: &Site) {
-        let name = Shown(self.lines.name_at(Place::Procedure(site.procedure)));
+        let name = Shown(self.lines.name_of(PlanItem::Procedure(site.procedure)));
         self.report
             .add_note(format_args!("slot {slot} is a parameter of {name}"));
     }
@@ -78,14 +85,16 @@ impl Reasons<'_, '_> {
             ));
         }
         self.add_point(site, &site.before);
-        self.add_last_part(site, Part::Slot(slot));
+        self.add_last_part(site, FramePart::Slot(slot));
     }
 
     /// What the result is.
     fn add_large_number(&mut self, site: &Site) {
         if let Some(number) = site.after.operands.last() {
             let number = *number;
-            self.report.add_note(format_args!("the result is {number}, beyond 32767 either way"));
+            self.report.add_note(format_args!(
+                "the result is {number}, beyond {MOST_NUMBER} either way"
+            ));
         }
         self.add_point(site, &site.after);
     }

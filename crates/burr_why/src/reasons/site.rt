@@ -3,7 +3,8 @@
 use super::Reasons;
 use arrayvec::ArrayVec;
 use burr_code::limits::MOST_CODE;
-use burr_lines::{Part, Place, PlanText, Shown};
+use burr_forms::Point;
+use burr_lines::{FramePart, PlanItem, PlanText, Shown};
 use burr_standing::{Origin, Standing, Symbol};
 use burr_verify::Refusal;
 use std::fmt;
@@ -18,7 +19,7 @@ pub struct Site {
     /// The last label at the instruction or before it.
     pub label: Option<usize>,
     /// The point that is named; nothing where none is.
-    pub point: ArrayVec<i32, 8>,
+    pub point: Point,
     /// What holds before the instruction, at the point.
     pub before: Standing,
     /// What holds after the instruction, at the point, where it falls through.
@@ -64,6 +65,22 @@ impl Site {
         standing
     }
 
+    /// What the line of a label of the procedure says.
+    pub fn label_item(&self, label: usize) -> PlanItem {
+        PlanItem::Label {
+            procedure: self.procedure,
+            label,
+        }
+    }
+
+    /// What the line at a place of the procedure's code says.
+    pub fn code_item(&self, pc: usize) -> PlanItem {
+        PlanItem::Code {
+            procedure: self.procedure,
+            pc,
+        }
+    }
+
     /// Goes on after the instruction at a place of the code, and gives where it ends.
     fn go_on(&self, plan: &PlanText<'_, '_>, at: usize, standing: &mut Standing) -> usize {
         match plan.instruction_at(self.procedure, at) {
@@ -77,7 +94,7 @@ impl Site {
 }
 
 /// The point that a refusal names; nothing where it names none.
-fn point_of(refusal: &Refusal) -> ArrayVec<i32, 8> {
+fn point_of(refusal: &Refusal) -> Point {
     let mut numbers = ArrayVec::new();
     if let Some(point) = &refusal.point {
         for number in point {
@@ -89,13 +106,13 @@ fn point_of(refusal: &Refusal) -> ArrayVec<i32, 8> {
 
 /// Where an open number comes from, for people.
 #[derive(Drop)]
-struct Named {
+struct SymbolOrigin {
     origin: Origin,
     /// The number of the instruction's line.
     line: usize,
 }
 
-impl fmt::Display for Named {
+impl fmt::Display for SymbolOrigin {
     fn fmt<W: fmt::Write>(&self, f: &mut fmt::Formatter<W>) -> fmt::Result {
         let line = self.line;
         match self.origin {
@@ -112,14 +129,14 @@ impl Reasons<'_, '_> {
         let Some(label) = site.label else {
             return;
         };
-        let procedure = Shown(self.lines.name_at(Place::Procedure(site.procedure)));
-        let name = Shown(self.lines.name_at(Place::Label(site.procedure, label)));
+        let procedure = Shown(self.lines.name_of(PlanItem::Procedure(site.procedure)));
+        let name = Shown(self.lines.name_of(site.label_item(label)));
         self.report
             .add_note(format_args!("in {procedure}, after label {name}"));
     }
 
     /// Names the line of a part of the last label's frame, where there is a label.
-    pub(super) fn add_last_part(&mut self, site: &Site, part: Part) {
+    pub(super) fn add_last_part(&mut self, site: &Site, part: FramePart) {
         if let Some(label) = site.label {
             self.add_part(site.procedure, label, part);
         }
@@ -137,10 +154,10 @@ impl Reasons<'_, '_> {
         self.report.add_words("\n");
     }
 
-    /// Adds the open number of this place in their order, with what it belongs to.
+    /// Adds the open number at this index of their order, with what it belongs to.
     fn add_symbol(&mut self, n: usize, site: &Site, symbol: &Symbol) {
         let separator = if n == 0 { "" } else { ", " };
-        let origin = Named {
+        let origin = SymbolOrigin {
             origin: symbol.origin,
             line: self.line_number(site, symbol.origin),
         };
@@ -155,7 +172,7 @@ impl Reasons<'_, '_> {
             Origin::Slot(_) => return 0,
             Origin::Answer(pc) | Origin::Result(pc, _) => pc,
         };
-        match self.lines.line_of(Place::Code(site.procedure, pc)) {
+        match self.lines.line_of(site.code_item(pc)) {
             Some(line) => line.number,
             None => 0,
         }

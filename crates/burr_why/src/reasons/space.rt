@@ -1,9 +1,10 @@
 //! Pieces: which are gripped, where they lie, and which are in each other's way.
 
 use super::{Reasons, Site};
+use burr_code::limits::{MOST_OFFSET, MOST_PIECES};
 use burr_code::{Instr, is_in_set};
 use burr_frames::Rule;
-use burr_lines::{Part, Place, Shown, piece_name};
+use burr_lines::{FramePart, PlanItem, Shown, piece_name};
 use burr_standing::{
     Displaced, Group, Meeting, Offset, Standing, Whereabouts, common_cell, first_meeting,
 };
@@ -27,7 +28,7 @@ impl Reasons<'_, '_> {
         let tray = site.before.tray;
         self.report
             .add_note(format_args!("the current tray is {tray}"));
-        for piece in 0..32 {
+        for piece in 0..MOST_PIECES as u8 {
             if is_in_set(set, piece) && !site.before.place(piece).is_in(tray) {
                 self.add_piece_elsewhere(piece, site);
             }
@@ -42,7 +43,7 @@ impl Reasons<'_, '_> {
                 .add_note(format_args!("there is no piece {piece}"));
         }
         self.add_whereabouts(piece, site);
-        self.add_last_told(Part::Piece(piece), site);
+        self.add_last_told(FramePart::Piece(piece), site);
     }
 
     /// Notes where a piece is.
@@ -54,9 +55,12 @@ impl Reasons<'_, '_> {
 
     /// Names the line of a part of the frame that tells where the pieces lie: that of the last label, or
     /// the exit frame of a procedure that was called since.
-    fn add_last_told(&mut self, part: Part, site: &Site) {
+    fn add_last_told(&mut self, part: FramePart, site: &Site) {
         match site.before.returned_from {
-            Some(callee) => self.add_place(Place::Exit(callee, part)),
+            Some(callee) => self.add_item(PlanItem::Exit {
+                procedure: callee,
+                part,
+            }),
             None => self.add_last_part(site, part),
         }
     }
@@ -76,17 +80,17 @@ impl Reasons<'_, '_> {
     /// Names the line that tells which pieces are gripped.
     fn add_grip_line(&mut self, site: &Site) {
         match site.before.gripped_at {
-            Some(pc) => self.add_place(Place::Code(site.procedure, pc)),
-            None => self.add_last_told(Part::Head, site),
+            Some(pc) => self.add_item(site.code_item(pc)),
+            None => self.add_last_told(FramePart::Head, site),
         }
     }
 
     /// A piece of a tray that should be empty.
     fn add_full_tray(&mut self, tray: u8, site: &Site) {
-        for piece in 0..32 {
+        for piece in 0..MOST_PIECES as u8 {
             if site.before.place(piece).is_in(tray) {
                 self.add_piece_of_tray(tray, piece);
-                return self.add_last_told(Part::Piece(piece), site);
+                return self.add_last_told(FramePart::Piece(piece), site);
             }
         }
     }
@@ -99,7 +103,7 @@ impl Reasons<'_, '_> {
 
     /// The pieces of the current tray that are too far from home.
     fn add_far_pieces(&mut self, site: &Site, standing: &Standing) {
-        for piece in 0..32 {
+        for piece in 0..MOST_PIECES as u8 {
             if let Some(offset) = standing.place(piece).position_in(standing.tray) {
                 if is_far(offset) {
                     self.add_far_piece(piece, offset);
@@ -113,7 +117,7 @@ impl Reasons<'_, '_> {
     fn add_far_piece(&mut self, piece: u8, offset: Offset) {
         let name = piece_name(self.plan.assembly, piece);
         self.report.add_note(format_args!(
-            "{name} is {offset} from home, and 256 is as far as it may be"
+            "{name} is {offset} from home, and {MOST_OFFSET} is as far as it may be"
         ));
     }
 
@@ -125,8 +129,8 @@ impl Reasons<'_, '_> {
         self.add_meeting_cell(piece, other, site);
         self.add_point(site, &site.before);
         self.add_grip(site);
-        self.add_last_told(Part::Piece(piece), site);
-        self.add_last_told(Part::Piece(other), site);
+        self.add_last_told(FramePart::Piece(piece), site);
+        self.add_last_told(FramePart::Piece(other), site);
     }
 
     /// Names the line of the grip, and notes its pieces.
@@ -209,5 +213,5 @@ impl<'a> Reasons<'a, '_> {
 /// Whether a piece is too far from home.
 fn is_far(offset: Offset) -> bool {
     let farthest = offset.x.saturating_abs().max(offset.y.saturating_abs());
-    farthest.max(offset.z.saturating_abs()) > 256
+    farthest.max(offset.z.saturating_abs()) > i64::from(MOST_OFFSET)
 }

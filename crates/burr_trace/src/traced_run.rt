@@ -1,11 +1,11 @@
-//! A run with answers, turn by turn.
+//! A run with answers, one advance after the other.
 
 use burr_bench::{Checked, Closing, Progress};
 use burr_blocking::Blocking;
 use burr_container::Container;
 
-/// What a turn of a run came to.
-pub enum Turn {
+/// What an advance of a run came to.
+pub enum Advance {
     /// A step was made.
     Goes,
     /// An answer was passed over.
@@ -15,22 +15,22 @@ pub enum Turn {
 
 /// A run on the bench, with the answers that are left.
 #[derive(Drop)]
-pub struct Walk<'a, 'b, B: Blocking> {
+pub struct TracedRun<'a, 'b, B: Blocking> {
     bench: Checked<'a, B>,
     answers: &'b [i32],
     /// The answer that was last taken.
     answered: Option<i32>,
 }
 
-impl<'a, 'b, B: Blocking> Walk<'a, 'b, B> {
+impl<'a, 'b, B: Blocking> TracedRun<'a, 'b, B> {
     /// A run before its first step; none where the plan is for another assembly.
     pub fn start<'c: 'a>(
         container: &Container<'c>,
         blocking: &'a B,
         answers: &'b [i32],
-    ) -> Option<Walk<'a, 'b, B>> {
+    ) -> Option<TracedRun<'a, 'b, B>> {
         match Checked::start(container, blocking) {
-            Ok(bench) => Some(Walk {
+            Ok(bench) => Some(TracedRun {
                 bench,
                 answers,
                 answered: None,
@@ -49,43 +49,43 @@ impl<'a, 'b, B: Blocking> Walk<'a, 'b, B> {
         self.answered
     }
 
-    /// How many turns the run takes at most: a step, an answer, or the end.
-    pub fn most_turns(&self) -> usize {
+    /// How many advances the run makes at most: each a step, an answer, or the end.
+    pub fn most_advances(&self) -> usize {
         (self.bench.budget() as usize)
             .saturating_add(self.answers.len())
             .saturating_add(1)
     }
 
     /// Makes a step, gives an answer, or tells how the run closes.
-    pub fn turn(&mut self) -> Turn {
+    pub fn advance(&mut self) -> Advance {
         if self.bench.ended() {
-            return Turn::Closes(Closing::Apart);
+            return Advance::Closes(Closing::Apart);
         }
         if self.bench.steps() >= u64::from(self.bench.budget()) {
-            return Turn::Closes(Closing::Stopped);
+            return Advance::Closes(Closing::Stopped);
         }
         match self.bench.step(None) {
             Ok(Progress::Asks(low, high)) => self.answer(low, high),
-            Ok(_) => Turn::Goes,
+            Ok(_) => Advance::Goes,
             Err(trap) => {
                 let closing = Closing::Trapped(trap, self.bench.proc(), self.bench.pc());
-                Turn::Closes(closing)
+                Advance::Closes(closing)
             }
         }
     }
 
     /// Gives the next answer to a question for a number of this range.
-    fn answer(&mut self, low: i32, high: i32) -> Turn {
+    fn answer(&mut self, low: i32, high: i32) -> Advance {
         let Some((answer, left)) = self.answers.split_first() else {
-            return Turn::Closes(Closing::Waiting(low, high));
+            return Advance::Closes(Closing::Waiting(low, high));
         };
         self.answers = left;
         match self.bench.step(Some(*answer)) {
             Ok(Progress::Went(_)) => {
                 self.answered = Some(*answer);
-                Turn::Goes
+                Advance::Goes
             }
-            _ => Turn::Passes,
+            _ => Advance::Passes,
         }
     }
 }
