@@ -104,14 +104,14 @@ apart_where_clear (queries.Exit direction) a b ps qs clear = free_of_difference 
 -- A pair at a point
 
 -- what the condition says of a pair of pieces in these roles
-abbrev pub IsPairOfSidesClear : Query → List (List Cell) → List Role → List ℤ → ℕ → ℕ → Type 0
-IsPairOfSidesClear query homes found numbers p q =
+abbrev pub IsPairOfRolesClear : Query → List (List Cell) → List Role → List ℤ → ℕ → ℕ → Type 0
+IsPairOfRolesClear query homes found numbers p q =
     IsRole found p Gripped → IsRole found q Resting → IsPairClear query homes numbers p q
 
 -- where each piece is on the bench, it holds of a pair that is apart so
 pub clear_of_apart : (query : Query) (homes : List (List Cell)) (places : List (Placement FormCell)) (tray grip n : ℕ) (found : List Role) (point : Point)
     → AreRoles tray grip n places found → n ≤ length homes → OnBenchAt places tray point → (p q : ℕ)
-    → PairAt (IsApartBy query) homes places tray grip point p q → IsPairOfSidesClear query homes found (values point (offsets_in tray places)) p q
+    → PairAt (IsApartBy query) homes places tray grip point p q → IsPairOfRolesClear query homes found (values point (offsets_in tray places)) p q
 clear_of_apart query homes places tray grip n found point are homed on p q apart gripped left =
     let numbers = values point (offsets_in tray places) in
     let (c, lies, bit) = stands_so tray grip n places found are p Gripped gripped in
@@ -133,7 +133,7 @@ clear_of_apart query homes places tray grip n found point are homed on p q apart
 -- and a pair is apart so where it holds of it
 pub apart_of_clear : (query : Query) (homes : List (List Cell)) (places : List (Placement FormCell)) (tray grip n : ℕ) (found : List Role) (point : Point)
     → AreRoles tray grip n places found → length homes ≤ n → (p q : ℕ)
-    → IsPairOfSidesClear query homes found (values point (offsets_in tray places)) p q → PairAt (IsApartBy query) homes places tray grip point p q
+    → IsPairOfRolesClear query homes found (values point (offsets_in tray places)) p q → PairAt (IsApartBy query) homes places tray grip point p q
 apart_of_clear query homes places tray grip n found point are homed p q clear p_home q_home c d bit out home home_q lies lies_q =
     let numbers = values point (offsets_in tray places) in
     let inside = slice_get_within homes p p_home home in

@@ -33,7 +33,7 @@ each_point s P [] all are = tt
 each_point s P (x ∷ points) all are =
     (all x (All-head (IsPointOf s.ranges s.guards) x points are), each_point s P points all (All-tail (IsPointOf s.ranges s.guards) x points are))
 
--- the looks of a search, of the forms and sides that it is handed
+-- the looks of a search, of the forms and roles that it is handed
 abbrev pub SearchLooks : Query → List (List Cell) → Searched → ℕ → Type 0
 SearchLooks query homes h looks =
     searched (at_values (AllClear query homes h.found) h.forms)
