@@ -1,3 +1,3 @@
 mod Conversations
-mod Ending
 mod Printing
+mod StepEnding

@@ -1,10 +1,10 @@
 -- What a call leaves with its caller.
 use Rattle.std.specs.Prelude.{◌≡◌, ◌⊎◌, ◌<◌, ℕ, List, [], ◌++◌, length, take, drop}
 use Rattle.burr_runs.specs.declared.reading.TheConstants.{LIMIT}
-use Rattle.burr_c.specs.declared.status.Status.{Status}
-use Rattle.burr_c.specs.declared.status.Status.TheVariants.{TooLong, Memory}
-use Rattle.burr_c.specs.Statuses.{code_of}
-use Rattle.burr_c.specs.PlanEnds.{Ends}
+use Rattle.burr_tasks.specs.declared.status.Status.{Status}
+use Rattle.burr_tasks.specs.declared.status.Status.TheVariants.{Failed, Memory}
+use Rattle.burr_tasks.specs.Statuses.{code_of}
+use Rattle.burr_tasks.specs.PlanEnds.{Ends}
 
 -- more bytes than the program reads
 abbrev pub IsTooLong : List ℕ → Type 0
@@ -37,7 +37,7 @@ pub record Gives (bytes : List ℕ) (status : Status) (c : Call) : Type 0 where
 -- Where no input is too long and there is memory, what there is to print is given.
 abbrev pub Returns : Type 0 → Ends → Call → Type 0
 Returns TooMuch AreEnds c =
-    (TooMuch × Gives [] TooLong c)
+    (TooMuch × Gives [] Failed c)
     ⊎ ((¬ TooMuch)
     × (Gives [] Memory c
     ⊎ ((bytes : List ℕ) × (status : Status) × AreEnds bytes status × Gives bytes status c)))

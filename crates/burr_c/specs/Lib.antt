@@ -1,5 +1,4 @@
 pub mod AssemblingEnds
 pub mod Calls
-pub mod PlanEnds
 pub mod Statuses
 pub mod StepEnds

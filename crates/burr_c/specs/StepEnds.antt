@@ -2,25 +2,14 @@
 use Rattle.std.specs.Prelude.{◌≡◌, ◌⊎◌, ℕ, List, [], ◌++◌}
 use Rattle.burr_io.specs.Sink.{SinkView, Takes}
 use Rattle.burr_assembly.specs.Rules.Text.{Assembly}
-use Rattle.burr_container.specs.Rules.Plans.{Plan}
-use Rattle.burr_container.specs.Views.Containers.{ContainerView, IsContainer}
+use Rattle.burr_container.specs.Views.Containers.{ContainerView}
 use Rattle.burr_verify.specs.Rules.Accepting.{Judged, judged, IsAccepted}
-use Rattle.burr_state.specs.Views.Benches.{IsAtStart}
-use Rattle.burr_state.specs.Views.Programs.{plan_program}
-use Rattle.burr_step.specs.Rules.Stepper.{history}
 use Rattle.burr_step.specs.Rules.StepTexts.{LineAnswer}
-use Rattle.burr_step.specs.Views.Stepping.{Stepping}
+use Rattle.burr_step.specs.Views.Stepping.{Stepping, IsFresh}
 use Rattle.burr_dialogue.specs.Rules.Dialogue.{IsReadOf}
 use Rattle.burr_dialogue.specs.Views.Dialogues.{HasAnswered}
-use Rattle.burr_c.specs.declared.status.Status.TheVariants.{Done}
-use Rattle.burr_c.specs.PlanEnds.{Ends, RefusedEnds, ContainerEnds, TextEnds}
-
--- a run of the plan, step by step, before its first step
-pub record IsFresh (j : Judged) (s : Stepping) : Type 0 where
-  pub assembly : s.bench.assembly ≡ j.assembly
-  pub program : (p : Plan) → IsContainer j.container p → s.bench.program ≡ plan_program p
-  pub start : IsAtStart s.bench
-  pub history : s.history ≡ history 0 []
+use Rattle.burr_tasks.specs.declared.status.Status.TheVariants.{Done}
+use Rattle.burr_tasks.specs.PlanEnds.{Ends, RefusedEnds, ContainerEnds, TextEnds}
 
 -- the lines of these commands, up to `quit` or to their end, are answered by this text
 abbrev pub IsConversation : List ℕ → Stepping → List ℕ → Stepping → Type 0

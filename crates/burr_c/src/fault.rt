@@ -1,5 +1,5 @@
 use crate::no_memory::NoMemory;
-use crate::status::Status;
+use burr_tasks::Status;
 use thiserror::Error;
 
 /// Why there is nothing to print.
@@ -20,7 +20,7 @@ impl Fault {
         ensures { result ≡ status_of_fault self }
     {
         match self {
-            Fault::TooLong => Status::TooLong,
+            Fault::TooLong => Status::Failed,
             Fault::Memory => Status::Memory,
         }
     }
@@ -33,6 +33,18 @@ impl From<NoMemory> for Fault {
     ghost from_gives = { λ _ e. e ≡ Memory };
 
     fn from(_e: NoMemory) -> Fault {
+        Fault::Memory
+    }
+}
+
+/// What is printed is kept in memory, so that nothing but memory is wanting.
+impl From<burr_tasks::Fault<'_>> for Fault {
+    ghost use Rattle.std.specs.Prelude.{◌≡◌};
+    ghost use Rattle.burr_c.specs.declared.fault.Fault.TheVariants.{Memory};
+
+    ghost from_gives = { λ _ e. e ≡ Memory };
+
+    fn from(_e: burr_tasks::Fault<'_>) -> Fault {
         Fault::Memory
     }
 }

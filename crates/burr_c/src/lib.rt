@@ -1,10 +1,10 @@
 //! What a program in C, or in Rust, calls of burr; `library/burr.h` declares it.
 //!
 //! A call takes the bytes of its inputs, and a room for what the program `burr` would print on
-//! standard output. It gives the number that the program would end with: 0, 1, 3, 4 or 5, as
-//! `Status` has them. `size` is how many bytes are printed. The room takes as many of them as it has
-//! bytes, and is left alone beyond them. So a caller whose room was too small sees a `size` above
-//! its length, and calls again with a larger one.
+//! standard output. It gives the status that the program would end with: 0, 1, 3, 4 or 5. `size` is
+//! how many bytes are printed. The room takes as many of them as it has bytes, and is left alone
+//! beyond them. So a caller whose room was too small sees a `size` above its length, and calls again
+//! with a larger one.
 //!
 //! Each call answers for its arguments alone: it reads no file, keeps nothing, and gives back all
 //! memory that it asks for. Where an input has more than 16,777,216 bytes the status is 3, where a
@@ -13,25 +13,21 @@
 
 mod fault;
 mod giving;
-mod judging;
 mod kept;
 mod no_memory;
 mod printed;
-mod refusing;
-mod status;
 mod stepping;
-mod task;
 
 ghost use Rattle.std.specs.Prelude.{[]};
-ghost use Rattle.burr_c.specs.declared.task.Task.TheVariants.{Check, Run, Try};
+ghost use Rattle.burr_tasks.specs.declared.task.Task.TheVariants.{Check, Run, Try};
 ghost use Rattle.burr_c.specs.AssemblingEnds.{AssemblingEnds};
 ghost use Rattle.burr_c.specs.Calls.{call, IsTooLong, IsEitherTooLong, IsAnyTooLong, Returns};
-ghost use Rattle.burr_c.specs.PlanEnds.{PlanEnds};
+ghost use Rattle.burr_tasks.specs.PlanEnds.{PlanEnds};
 ghost use Rattle.burr_c.specs.StepEnds.{StepTextEnds};
 
 use crate::giving::give;
 use crate::printed::{print_assembled, print_judgement, print_steps};
-use crate::task::Task;
+use burr_tasks::Task;
 use std::alloc::Global;
 
 /// Judges the container `plan` for the text of an assembly, as `burr check` does.

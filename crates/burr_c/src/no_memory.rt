@@ -1,22 +1,15 @@
 use burr_dialogue::StepFault;
-use burr_io::WriteFault;
-use std::alloc::AllocError;
+use burr_tasks::Fault;
 use thiserror::Error;
 
-/// A request for memory was refused.
+/// A request for memory was refused. What is printed is kept in memory, so that no other fault is met:
+/// a sink fails only where memory is refused.
 #[derive(Clone, Copy, Debug, PartialEq, Eq, Error)]
 #[error("no memory")]
 pub struct NoMemory;
 
-impl From<AllocError> for NoMemory {
-    fn from(_e: AllocError) -> NoMemory {
-        NoMemory
-    }
-}
-
-/// What is printed is kept in memory, so that a sink fails only where memory is refused.
-impl From<WriteFault> for NoMemory {
-    fn from(_e: WriteFault) -> NoMemory {
+impl From<Fault<'_>> for NoMemory {
+    fn from(_e: Fault<'_>) -> NoMemory {
         NoMemory
     }
 }
@@ -24,5 +17,11 @@ impl From<WriteFault> for NoMemory {
 impl From<StepFault> for NoMemory {
     fn from(_e: StepFault) -> NoMemory {
         NoMemory
+    }
+}
+
+impl From<NoMemory> for Fault<'_> {
+    fn from(_e: NoMemory) -> Self {
+        Fault::Memory
     }
 }

@@ -2,21 +2,19 @@
 
 ghost use Rattle.std.specs.Prelude.{◌≡◌, ◌↔◌, IfOk, IfErr, IsTrue};
 ghost use Rattle.burr_c.specs.declared.fault.Fault.TheVariants.{TooLong};
-ghost use Rattle.burr_c.specs.AssemblingEnds.{AssemblingEnds, PlanTextFaultEnds};
+ghost use Rattle.burr_c.specs.AssemblingEnds.{AssemblingEnds};
 ghost use Rattle.burr_c.specs.Calls.{IsTooLong, IsEitherTooLong, IsAnyTooLong};
-ghost use Rattle.burr_c.specs.PlanEnds.{PlanEnds};
 ghost use Rattle.burr_c.specs.StepEnds.{StepTextEnds};
+ghost use Rattle.burr_tasks.specs.PlanEnds.{IsRefusal, PlanEnds};
+ghost use Rattle.burr_tasks.specs.Refusals.{plan_text_refusal};
 
 use crate::fault::Fault;
-use crate::judging::judge_text;
 use crate::kept::Kept;
 use crate::no_memory::NoMemory;
-use crate::refusing::refuse_plan_text;
-use crate::status::Status;
 use crate::stepping::step_text;
-use crate::task::Task;
 use burr_asm::{AsmFault, assemble};
 use burr_runs::LIMIT;
+use burr_tasks::{Status, Task, judge_text, refuse_plan_text};
 use std::alloc::Global;
 
 /// What is printed, and the status that goes with it.
@@ -103,7 +101,7 @@ pub fn print_assembled(alloc: Global, text: &[u8]) -> Result<Printed, Fault>
 /// The line that refuses a plan text.
 fn print_text_refusal(alloc: Global, fault: AsmFault) -> Result<Printed, NoMemory>
     ensures { IfOk result (λ printed.
-        PlanTextFaultEnds fault printed.bytes.items printed.status) }
+        IsRefusal (plan_text_refusal fault) printed.bytes.items printed.status) }
 {
     let mut kept = Kept::new(alloc);
     let status = refuse_plan_text(fault, &mut kept)?;

@@ -1,51 +1,50 @@
 //! An accepted plan is gone through by lines of commands.
 
-ghost use Rattle.std.specs.Prelude.{◌≡◌, IfOk, OnOk};
+ghost use Rattle.std.specs.Prelude.{IfOk, OnOk};
 ghost use Rattle.burr_container.specs.Views.Containers.{HasPlan};
-ghost use Rattle.burr_c.specs.PlanEnds.{PutsEnd};
+ghost use Rattle.burr_tasks.specs.PlanEnds.{PutsEnd};
 ghost use Rattle.burr_c.specs.StepEnds.{StepTextEnds, StepBytesEnds, StepEnds};
 ghost use Rattle.burr_c.specs.StepEnds.{ConversationEnds, PutsConversation};
 
 use crate::no_memory::NoMemory;
-use crate::refusing::{refuse_container, refuse_plan, refuse_text};
-use crate::status::Status;
 use burr_assembly::{Assembly, AssemblyFault};
 use burr_blocking::{Blocking, RowTables};
 use burr_container::Container;
 use burr_dialogue::command;
 use burr_io::Sink;
 use burr_step::Stepper;
+use burr_tasks::{Fault, Status, refuse_container, refuse_plan, refuse_text};
 use burr_text::cut_at;
 use burr_verify::{Accepted, accept, fits_assembly};
 use std::alloc::Global;
 
 /// Goes through the plan of a container, step by step, by lines of commands, and puts the answer to
 /// each; or puts a refusal.
-pub fn step_text<W: Sink>(
+pub fn step_text<'a, W: Sink>(
     alloc: Global,
     text: &[u8],
     container: &[u8],
     commands: &[u8],
     sink: &mut W,
-) -> Result<Status, NoMemory>
+) -> Result<Status, Fault<'a>>
     ensures { IfOk result (PutsEnd W.Sink sink.old sink.new
         (StepTextEnds commands.now text.now container.now)) }
 {
     match Assembly::read(alloc, text) {
         Ok(assembly) => step_assembly(alloc, &assembly, container, commands, sink),
-        Err(AssemblyFault::Memory) => Err(NoMemory),
+        Err(AssemblyFault::Memory) => Err(Fault::Memory),
         Err(fault) => refuse_text(text, fault, sink),
     }
 }
 
 /// The same with an assembly that was read.
-fn step_assembly<'x, W: Sink>(
+fn step_assembly<'a, 'x, W: Sink>(
     alloc: Global,
     assembly: &'x Assembly,
     container: &'x [u8],
     commands: &[u8],
     sink: &mut W,
-) -> Result<Status, NoMemory>
+) -> Result<Status, Fault<'a>>
     ensures { IfOk result (PutsEnd W.Sink sink.old sink.new
         (StepBytesEnds commands.now container.entry.now assembly.entry.now)) }
 {
@@ -61,13 +60,13 @@ fn step_assembly<'x, W: Sink>(
 }
 
 /// Goes through the plan where it is accepted; else puts the refusal, as a check does.
-fn step_if_accepted<'x, B: Blocking, W: Sink>(
+fn step_if_accepted<'a, 'x, B: Blocking, W: Sink>(
     alloc: Global,
     container: &'x Container<'_>,
     blocking: &'x B,
     commands: &[u8],
     sink: &mut W,
-) -> Result<Status, NoMemory>
+) -> Result<Status, Fault<'a>>
     requires { HasPlan container.now }
     ensures { IfOk result (PutsEnd W.Sink sink.old sink.new
         (StepEnds commands.now container.entry.now (B.subject blocking.entry.now))) }
@@ -79,14 +78,14 @@ fn step_if_accepted<'x, B: Blocking, W: Sink>(
 }
 
 /// Goes through an accepted plan.
-fn step_accepted<B: Blocking, W: Sink>(
+fn step_accepted<'a, B: Blocking, W: Sink>(
     alloc: Global,
     accepted: &Accepted<'_, '_, B>,
     commands: &[u8],
     sink: &mut W,
-) -> Result<Status, NoMemory>
+) -> Result<Status, Fault<'a>>
     ensures { IfOk result (PutsEnd W.Sink sink.old sink.new
-        (ConversationEnds commands.now accepted.now)) }
+        (ConversationEnds commands.now accepted.now.judged)) }
 {
     let mut stepper = Stepper::new(alloc, accepted)?;
     answer_lines(&mut stepper, commands, sink)?;

@@ -4,7 +4,7 @@ mod operands;
 mod questions;
 mod space;
 
-ghost use Rattle.std.specs.Prelude.{◌≡◌, ◌≤◌, ◌+◌, length, IfSome, MatchOption};
+ghost use Rattle.std.specs.Prelude.{◌≤◌, ◌+◌, length, IfSome, MatchOption};
 ghost use Rattle.burr_code.specs.Meaning.{IsDecoded, IsFoundAt, NoneStandsAt};
 
 use crate::fetching::control::{call, down, jump};

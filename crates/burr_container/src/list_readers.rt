@@ -1,10 +1,10 @@
 //! Readers of forms and places.
 
-ghost use Rattle.std.specs.Prelude.{◌≡◌, ◌+◌, ◌*◌, ◌≤◌, ◌<◌, length, drop, Some, slice_get, slice_index, map, IsTrue, IfSome};
+ghost use Rattle.std.specs.Prelude.{◌≡◌, ◌+◌, ◌*◌, ◌≤◌, ◌<◌, length, drop, Some, slice_get, slice_index, map};
 ghost use Rattle.burr_forms.specs.Rules.Forms.{IsSmall, IsSmallForm};
 ghost use Rattle.burr_container.specs.Rules.Plans.{over_symbols, place_over_symbols};
-ghost use Rattle.burr_container.specs.Rules.Spelling.{form_size as size_of_form, places_bytes};
-ghost use Rattle.burr_container.specs.Views.Decoding.{live_count as count_of_live, signed_in, form_in, forms_in, place_rest, place_in, places_in};
+ghost use Rattle.burr_container.specs.Rules.Spelling.{form_size as size_of_form};
+ghost use Rattle.burr_container.specs.Views.Decoding.{signed_in, form_in, place_rest, place_in};
 ghost use Rattle.burr_container.specs.Views.Refs.{forms_of, places_of, placement_view, IsSmallPlace};
 
 use crate::lists::{FormList, PlaceList, form_size, live_count};

@@ -1,7 +1,6 @@
 //! Forms and places that stand one after the other in a container, read in place.
 
-ghost use Rattle.std.specs.Prelude.{◌≡◌, ◌+◌, ◌*◌, ◌≤◌, ◌<◌, length, drop, Some, slice_get, slice_index, map, count_by, IsTrue};
-ghost use Rattle.burr_container.specs.Rules.Plans.{over_symbols, place_over_symbols};
+ghost use Rattle.std.specs.Prelude.{◌≡◌, ◌+◌, ◌*◌, ◌≤◌, ◌<◌, length, IsTrue};
 ghost use Rattle.burr_container.specs.Rules.Spelling.{form_size as size_of_form};
 ghost use Rattle.burr_container.specs.Views.Decoding.{live_count as count_of_live, places_stand};
 

@@ -1,4 +1,4 @@
-ghost use Rattle.std.specs.Prelude.{◌≡◌, ◌≤◌, length, MatchOption};
+ghost use Rattle.std.specs.Prelude.{◌≡◌, MatchOption};
 ghost use Rattle.burr_forms.specs.Rules.Forms.{AllSmallForms, AllNear};
 ghost use Rattle.burr_forms.specs.Rules.Points.{guards_hold, AreGuards};
 

@@ -1,4 +1,4 @@
-ghost use Rattle.std.specs.Prelude.{◌≡◌, ◌≤◌, ◌↔◌, IsTrue, length, All};
+ghost use Rattle.std.specs.Prelude.{◌≤◌, ◌↔◌, IsTrue, length, All};
 ghost use Rattle.burr_forms.specs.Rules.Forms.{IsSmallForm, AllSmallForms};
 ghost use Rattle.burr_forms.specs.Rules.Points.{AreRanges};
 ghost use Rattle.burr_frames.specs.Views.Ranges.{IsInReach, AllInReach, LiesWithin};

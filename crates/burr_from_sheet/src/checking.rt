@@ -70,7 +70,7 @@ fn compare_run<B: Blocking>(
     accepted: &Accepted<'_, '_, B>,
     lines: &[u8],
 ) -> Result<(), SheetFault>
-    ensures ok { OnOk result (RunsAs accepted.now lines.now) }
+    ensures ok { OnOk result (RunsAs accepted.now.judged lines.now) }
     ensures err { IfErr result IsOfDraft }
 {
     let mut sheet = KeptBytes::new(alloc);

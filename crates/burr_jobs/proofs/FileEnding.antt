@@ -5,11 +5,11 @@ use Rattle.burr_io.specs.Sink.{SinkView}
 use Rattle.burr_container.specs.Views.Containers.{ContainerView}
 use Rattle.burr_jobs.specs.FileEnds.{FailsToAssemble, ListEnds, ListingEnds}
 use Rattle.burr_jobs.specs.JobEnds.{WritesOrFails}
-use Rattle.burr_jobs.specs.PlanEnds.{IsRead}
-use Rattle.burr_jobs.specs.Refusals.{plan_text_refusal}
+use Rattle.burr_tasks.specs.PlanEnds.{IsRead}
+use Rattle.burr_tasks.specs.Refusals.{plan_text_refusal}
 use Rattle.burr_jobs.proofs.Common.Done.{AreDone, done_is_done, refused_is_done}
 use Rattle.burr_jobs.proofs.Common.Sinks.{fails_or_writes}
-use Rattle.burr_jobs.proofs.Common.Stages.{AreAmong}
+use Rattle.burr_tasks.proofs.Common.Stages.{AreAmong}
 
 -- the listing of a container that was read
 pub listed_among : (places : Bool) (bytes : List ℕ) (kept : ContainerView) → IsRead bytes kept → AreAmong (ListingEnds places kept) (ListEnds places bytes)

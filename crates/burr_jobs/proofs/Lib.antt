@@ -1,3 +1,3 @@
 pub mod Common
-mod Ending
+mod Explaining
 mod FileEnding

@@ -1,9 +1,9 @@
 -- How notes are put after what was put for a command.
 use Rattle.std.specs.Prelude.{◌≡◌, ℕ, List, Result, Ok, Err}
 use Rattle.burr_io.specs.Sink.{SinkView, Takes, FailsWithin}
-use Rattle.burr_jobs.specs.declared.fault.Fault.{Fault}
-use Rattle.burr_jobs.specs.Faults.{line_of, output_failed}
-use Rattle.burr_jobs.specs.declared.status.Status.{Status}
+use Rattle.burr_tasks.specs.declared.fault.Fault.{Fault}
+use Rattle.burr_tasks.specs.Faults.{line_of, output_failed}
+use Rattle.burr_tasks.specs.declared.status.Status.{Status}
 
 -- what was done, and after it notes were put, or a front of them where the sink failed; after a fault
 -- nothing was put

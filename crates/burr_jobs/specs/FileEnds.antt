@@ -7,10 +7,10 @@ use Rattle.burr_plantext.specs.Rules.Listing.{IsListing}
 use Rattle.burr_listing.specs.Listings.{IsListingWithPlaces}
 use Rattle.burr_asm.specs.declared.fault.AsmFault.{AsmFault}
 use Rattle.burr_asm.specs.Rules.Faults.{IsFirstFault}
-use Rattle.burr_jobs.specs.Faults.{output_failed}
-use Rattle.burr_jobs.specs.PlanEnds.{Ends, ContainerEnds}
-use Rattle.burr_jobs.specs.Refusals.{plan_text_refusal}
-use Rattle.burr_jobs.specs.declared.status.Status.TheVariants.{Done}
+use Rattle.burr_tasks.specs.Faults.{output_failed}
+use Rattle.burr_tasks.specs.PlanEnds.{Ends, ContainerEnds}
+use Rattle.burr_tasks.specs.Refusals.{plan_text_refusal}
+use Rattle.burr_tasks.specs.declared.status.Status.TheVariants.{Done}
 
 -- the text is the listing of the plan, with the places of code or without
 abbrev pub IsListingOf : Bool → Plan → List ℕ → Type 0

@@ -2,9 +2,9 @@
 use Rattle.std.specs.Prelude.{◌≡◌, Result, Ok, Err}
 use Rattle.burr_io.specs.Sink.{SinkView, Takes, FailsWithin}
 use Rattle.burr_io.specs.WholeLines.{Lines}
-use Rattle.burr_jobs.specs.declared.fault.Fault.{Fault}
-use Rattle.burr_jobs.specs.Faults.{line_of, output_failed}
-use Rattle.burr_jobs.specs.declared.status.Status.{Status}
+use Rattle.burr_tasks.specs.declared.fault.Fault.{Fault}
+use Rattle.burr_tasks.specs.Faults.{line_of, output_failed}
+use Rattle.burr_tasks.specs.declared.status.Status.{Status}
 
 -- Of what was done with a status all was handed on, or the sink below failed in it; after a fault
 -- the sink is left alone.

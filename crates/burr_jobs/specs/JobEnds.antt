@@ -2,10 +2,10 @@
 use Rattle.std.specs.Prelude.{◌≡◌, ◌⊎◌, ◌≤◌, ℕ, List, Bool, true, Option, Result, IfOk, OnOk, OnErr, codes}
 use Rattle.std.specs.Io.KnownBytes.{Appends}
 use Rattle.burr_io.specs.Sink.{SinkView, HoldsFront}
-use Rattle.burr_jobs.specs.declared.fault.Fault.{Fault}
-use Rattle.burr_jobs.specs.declared.status.Status.{Status}
-use Rattle.burr_jobs.specs.Faults.{cannot_read, cannot_write}
-use Rattle.burr_jobs.specs.Statuses.{code_of}
+use Rattle.burr_tasks.specs.declared.fault.Fault.{Fault}
+use Rattle.burr_tasks.specs.declared.status.Status.{Status}
+use Rattle.burr_tasks.specs.Faults.{cannot_read}
+use Rattle.burr_tasks.specs.Statuses.{code_of}
 
 -- What a sink had taken before and after, and whether it has failed.
 pub record Taken : Type 0 where
@@ -62,17 +62,6 @@ pub record HandsOnSomehow {S : Type 0} (sink : SinkView S) (before after : S)
       (TakesSome (took (sink.taken before) (sink.taken after) (sink.has_failed after)))
   pub err : OnErr result
       (WritesLess (took (sink.taken before) (sink.taken after) (sink.has_failed after)))
-
--- the line that tells that a file or a stream failed
-abbrev pub IsFileLine : List ℕ → Type 0
-IsFileLine line =
-    (name : List ℕ) × ((line ≡ cannot_read name) ⊎ (line ≡ cannot_write name))
-
--- the status that goes with what is told: 2 for a fault of the words, 3 for a file or a stream that
--- failed, 4 for want of memory
-abbrev pub Means : ℕ → List ℕ → Type 0
-Means status line =
-    (status ≡ 2) ⊎ ((status ≡ 3) × IsFileLine line) ⊎ ((status ≡ 4) × (line ≡ codes "no memory\n"))
 
 -- commands were answered, and then standard input failed or memory was refused
 abbrev pub LeavesOff : Taken → List ℕ → Type 0

@@ -1,8 +1,5 @@
 pub mod AddedNotes
-pub mod Faults
+pub mod ExplainEnds
 pub mod FileEnds
 pub mod HandedOn
 pub mod JobEnds
-pub mod PlanEnds
-pub mod Refusals
-pub mod Statuses

@@ -3,21 +3,18 @@
 ghost use Rattle.std.specs.Prelude.{◌≡◌, [], IfErr, IfOk, MatchOption};
 ghost use Rattle.burr_asm.specs.Rules.Assembling.{IsAssembled};
 ghost use Rattle.burr_jobs.specs.JobEnds.{HandsOnSomehow};
-ghost use Rattle.burr_jobs.specs.Faults.{line_of};
+ghost use Rattle.burr_tasks.specs.Faults.{line_of};
 ghost use Rattle.burr_jobs.specs.FileEnds.{FailsToAssemble, RefusesText};
 ghost use Rattle.burr_jobs.specs.FileEnds.{IsContainerListing, ListEnds, ListingEnds};
-ghost use Rattle.burr_jobs.specs.PlanEnds.{FailsToEnd, PutsEnd};
+ghost use Rattle.burr_tasks.specs.PlanEnds.{FailsToEnd, PutsEnd};
 
-use crate::fault::Fault;
 use crate::files::{are_one_file, read_file, write_file};
 use crate::handing::hand_on;
-use crate::plan_commands::refuse_container;
-use crate::plan_text_refusal::put_plan_text_refusal;
-use crate::status::Status;
 use burr_asm::{AsmFault, assemble, list, list_with_places};
 use burr_container::Container;
 use burr_io::{Sink, WholeLines, put_all};
 use burr_runs::upgrade;
+use burr_tasks::{Fault, Status, put_plan_text_refusal, refuse_container};
 use std::alloc::{AllocError, Global};
 use std::rt::Files;
 

@@ -1,8 +1,8 @@
 //! Files that are read and written whole.
 
-use crate::fault::Fault;
 use burr_io::Reading;
 use burr_runs::{BenchFault, read_whole};
+use burr_tasks::Fault;
 use std::fs::{File, OpenFile, Permissions};
 use std::io::{ErrorKind, Write};
 use std::os::unix::fs::MetadataExt;

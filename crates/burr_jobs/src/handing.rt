@@ -2,9 +2,8 @@
 
 ghost use Rattle.burr_jobs.specs.HandedOn.{HandsOnDone};
 
-use crate::fault::Fault;
-use crate::status::Status;
 use burr_io::{Sink, WholeLines};
+use burr_tasks::{Fault, Status};
 
 /// What was done, once all that was put for it is handed on; after a fault nothing is.
 pub fn hand_on<'a, W: Sink, const N: usize>(

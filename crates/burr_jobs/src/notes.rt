@@ -2,9 +2,8 @@
 
 ghost use Rattle.burr_jobs.specs.AddedNotes.{AddsNotes};
 
-use crate::fault::Fault;
-use crate::status::Status;
 use burr_io::{Sink, put_all};
+use burr_tasks::{Fault, Status};
 
 /// What was done, once notes are put after what was put for it; after a fault nothing is put.
 pub fn add_notes<'a, W: Sink>(

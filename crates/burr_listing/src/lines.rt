@@ -1,6 +1,6 @@
 //! Parts that lines of both kinds of frames share, added to a text.
 
-ghost use Rattle.std.specs.Prelude.{◌≡◌, ◌++◌, ◌∷◌, OnOk};
+ghost use Rattle.std.specs.Prelude.{◌≡◌, ◌++◌, OnOk};
 ghost use Rattle.burr_container.specs.Views.Refs.{placement_view};
 ghost use Rattle.burr_listing.specs.Parts.{grip_text, range_text};
 ghost use Rattle.burr_listing.specs.Symbols.{symbol_spot, symbol_piece};

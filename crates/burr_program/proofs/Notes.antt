@@ -6,13 +6,13 @@ use Rattle.std.proofs.KnownBytes.{Appends-trans}
 use Rattle.burr_io.specs.Sink.{SinkView, FailsWithin}
 use Rattle.burr_io.proofs.Common.Puts.{FailsWithin-more}
 use Rattle.burr_command.specs.declared.job.TextTask.{TextTask}
-use Rattle.burr_jobs.specs.declared.fault.Fault.{Fault}
-use Rattle.burr_jobs.specs.declared.status.Status.{Status}
+use Rattle.burr_tasks.specs.declared.fault.Fault.{Fault}
+use Rattle.burr_tasks.specs.declared.status.Status.{Status}
 use Rattle.burr_jobs.specs.AddedNotes.{AddsNotes}
-use Rattle.burr_jobs.specs.Faults.{line_of}
-use Rattle.burr_jobs.specs.PlanEnds.{Ends, PutsEnd, FailsToEnd}
+use Rattle.burr_tasks.specs.Faults.{line_of}
+use Rattle.burr_tasks.specs.PlanEnds.{Ends, PutsEnd, FailsToEnd}
 use Rattle.burr_jobs.proofs.Common.Done.{AreDone, container_is_done, refused_is_done}
-use Rattle.burr_jobs.proofs.Common.Stages.{AreAmong}
+use Rattle.burr_tasks.proofs.Common.Stages.{AreAmong}
 use Rattle.burr_program.specs.NotedEnds.{plan_task_of, Begins, NotedEnds}
 
 -- what may be printed first at one stage may be at the other

@@ -2,12 +2,12 @@
 use Rattle.std.proofs.Common.{ℕ, List}
 use Rattle.std.specs.Prelude.{Result, IfOk, IfErr}
 use Rattle.burr_io.specs.Sink.{SinkView}
-use Rattle.burr_jobs.specs.declared.fault.Fault.{Fault}
-use Rattle.burr_jobs.specs.declared.status.Status.{Status}
+use Rattle.burr_tasks.specs.declared.fault.Fault.{Fault}
+use Rattle.burr_tasks.specs.declared.status.Status.{Status}
 use Rattle.burr_jobs.specs.AddedNotes.{AddsNotes}
-use Rattle.burr_jobs.specs.Faults.{line_of}
+use Rattle.burr_tasks.specs.Faults.{line_of}
 use Rattle.burr_jobs.specs.JobEnds.{EndsSomehow}
-use Rattle.burr_jobs.specs.PlanEnds.{IsRefusal, PutsEnd, FailsToEnd}
+use Rattle.burr_tasks.specs.PlanEnds.{IsRefusal, PutsEnd, FailsToEnd}
 use Rattle.burr_jobs.proofs.Common.Done.{AreDone, refused_is_done}
 use Rattle.burr_jobs.proofs.Common.Somehow.{ends_somehow}
 use Rattle.burr_program.specs.NotedEnds.{Begins}

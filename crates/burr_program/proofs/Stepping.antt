@@ -11,23 +11,23 @@ use Rattle.burr_container.specs.Views.Containers.{ContainerView}
 use Rattle.burr_verify.specs.declared.refusal.Refusal.{Refusal}
 use Rattle.burr_verify.specs.Views.Refusals.{another_assembly}
 use Rattle.burr_verify.specs.Rules.Accepting.{Judged}
-use Rattle.burr_step.specs.Views.Stepping.{Stepping}
+use Rattle.burr_step.specs.Views.Stepping.{Stepping, IsFresh}
 use Rattle.burr_runs.specs.Rules.Verdicts.{IsRefusedBy, plan_refusal}
 use Rattle.burr_runs.specs.declared.fault.BenchFault.{BenchFault}
 use Rattle.burr_runs.specs.declared.fault.BenchFault.TheVariants.{Read, TooLong, Write, Memory}
 use Rattle.burr_runs.specs.Views.BenchText.{Streams, streams}
 use Rattle.burr_dialogue.specs.Views.Dialogues.{EndsDialogue, BreaksDialogue}
-use Rattle.burr_jobs.specs.declared.fault.Fault.{Fault}
-use Rattle.burr_jobs.specs.declared.status.Status.{Status}
-use Rattle.burr_jobs.specs.declared.status.Status.TheVariants.{Done}
-use Rattle.burr_jobs.specs.Faults.{line_of, complaint_of}
-use Rattle.burr_jobs.specs.Statuses.{code_of}
+use Rattle.burr_tasks.specs.declared.fault.Fault.{Fault}
+use Rattle.burr_tasks.specs.declared.status.Status.{Status}
+use Rattle.burr_tasks.specs.declared.status.Status.TheVariants.{Done}
+use Rattle.burr_tasks.specs.Faults.{line_of, complaint_of}
+use Rattle.burr_tasks.specs.Statuses.{code_of}
 use Rattle.burr_jobs.specs.JobEnds.{took, EndsEarly, TakesSome, IsDone}
 use Rattle.burr_jobs.specs.HandedOn.{HandsOnDone}
-use Rattle.burr_jobs.specs.PlanEnds.{Ends, PutsEnd, FailsToEnd, StopsBeforeEnd, IsRefusal, IsRead, IsMisfit}
-use Rattle.burr_program.specs.StepEnds.{Left, left_of, IsFresh, DialogueEnds, StepEnds, StepBytesEnds, StepTextEnds, DialogueBreaks, StepBreaks, StepBytesBreak, StepTextBreaks, StopsStepping}
-use Rattle.burr_jobs.proofs.Common.Stages.{AreAmong, puts_among}
-use Rattle.burr_jobs.proofs.Common.Refused.{misfit_refused}
+use Rattle.burr_tasks.specs.PlanEnds.{Ends, PutsEnd, FailsToEnd, StopsBeforeEnd, IsRefusal, IsRead, IsMisfit}
+use Rattle.burr_program.specs.StepEnds.{Left, left_of, DialogueEnds, StepEnds, StepBytesEnds, StepTextEnds, DialogueBreaks, StepBreaks, StepBytesBreak, StepTextBreaks, StopsStepping}
+use Rattle.burr_tasks.proofs.Common.Stages.{AreAmong, puts_among}
+use Rattle.burr_tasks.proofs.Common.Refused.{misfit_refused}
 use Rattle.burr_jobs.proofs.Common.HandedOn.{ends_handed, stops_handed}
 
 -- what stops at one stage stops at the other

@@ -7,9 +7,9 @@ use Rattle.burr_runs.specs.declared.fault.BenchFault.TheVariants.{Read, TooLong,
 use Rattle.burr_runs.specs.Views.ReadWhole.{IsWholeInput}
 use Rattle.burr_runs.specs.Rules.Output.{IsOutput}
 use Rattle.burr_runs.specs.Views.BenchText.{Streams, Succeeds, Fails}
-use Rattle.burr_jobs.specs.Faults.{complaint_of, status_of_complaint}
-use Rattle.burr_jobs.specs.JobEnds.{Taken, took, TakesNothing, FailsInText, TakesSome, IsDone, Means, EndsEarly}
-use Rattle.burr_jobs.specs.Statuses.{code_of, status_of}
+use Rattle.burr_tasks.specs.Faults.{complaint_of, status_of_complaint, Means}
+use Rattle.burr_jobs.specs.JobEnds.{Taken, took, TakesNothing, FailsInText, TakesSome, IsDone, EndsEarly}
+use Rattle.burr_tasks.specs.Statuses.{code_of, status_of}
 
 -- a sink took a text, or it failed in it
 abbrev pub TakesText : Taken → List ℕ → Type 0

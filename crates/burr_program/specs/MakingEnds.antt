@@ -7,7 +7,7 @@ use Rattle.burr_from_sheet.specs.SheetPlans.{IsPlanOfSheet}
 use Rattle.burr_program.specs.declared.making.Made.{Made}
 use Rattle.burr_program.specs.declared.making.Made.TheVariants as made
 use Rattle.burr_jobs.specs.JobEnds.{took, TakesSome, IsDone}
-use Rattle.burr_jobs.specs.Statuses.{code_of}
+use Rattle.burr_tasks.specs.Statuses.{code_of}
 
 -- a text was made that is such a one, and the sink was left alone; or some text was put
 abbrev pub MakesOrPuts : {S : Type 0} → SinkView S → S → S → (List ℕ → Type 0) → Made → Type 0

@@ -5,15 +5,15 @@ use Rattle.burr_assembly.specs.Rules.Text.{Assembly}
 use Rattle.burr_asm.specs.declared.fault.AsmFault.{AsmFault}
 use Rattle.burr_asm.specs.Rules.Faults.{IsFirstFault}
 use Rattle.burr_asm.specs.Rules.Assembling.{IsAssembled}
-use Rattle.burr_command.specs.declared.job.PlanTask.{PlanTask}
-use Rattle.burr_command.specs.declared.job.PlanTask.TheVariants.{Check, Try}
+use Rattle.burr_tasks.specs.declared.task.Task.{Task}
+use Rattle.burr_tasks.specs.declared.task.Task.TheVariants.{Check, Try}
 use Rattle.burr_command.specs.declared.job.TextTask.{TextTask}
 use Rattle.burr_command.specs.declared.job.TextTask.TheVariants.{Why, Trace}
-use Rattle.burr_jobs.specs.PlanEnds.{Ends, IsRefusal, AssemblyEnds, TextEnds}
-use Rattle.burr_jobs.specs.Refusals.{plan_text_refusal}
+use Rattle.burr_tasks.specs.PlanEnds.{Ends, IsRefusal, AssemblyEnds, TextEnds}
+use Rattle.burr_tasks.specs.Refusals.{plan_text_refusal}
 
 -- what is done with the container that the plan text is assembled to
-abbrev pub plan_task_of : TextTask → PlanTask
+abbrev pub plan_task_of : TextTask → Task
 plan_task_of Why = Check
 plan_task_of Trace = Try
 

@@ -1,32 +1,21 @@
 -- How `step` ends: what is printed for the commands of standard input, and with which status.
-use Rattle.std.specs.Prelude.{◌≡◌, ◌⊎◌, ℕ, List, [], Option}
+use Rattle.std.specs.Prelude.{◌≡◌, ◌⊎◌, ℕ, List, Option}
 use Rattle.burr_io.specs.Sink.{SinkView}
 use Rattle.burr_assembly.specs.Rules.Text.{Assembly, IsText}
-use Rattle.burr_container.specs.Rules.Plans.{Plan}
-use Rattle.burr_container.specs.Views.Containers.{ContainerView, IsContainer}
+use Rattle.burr_container.specs.Views.Containers.{ContainerView}
 use Rattle.burr_verify.specs.Rules.Accepting.{Judged, judged, IsAccepted}
-use Rattle.burr_state.specs.Views.Benches.{IsAtStart}
-use Rattle.burr_state.specs.Views.Programs.{plan_program}
-use Rattle.burr_step.specs.Rules.Stepper.{history}
-use Rattle.burr_step.specs.Views.Stepping.{Stepping}
+use Rattle.burr_step.specs.Views.Stepping.{Stepping, IsFresh}
 use Rattle.burr_runs.specs.declared.fault.BenchFault.{BenchFault}
 use Rattle.burr_runs.specs.Views.BenchText.{Streams}
 use Rattle.burr_dialogue.specs.Views.Dialogues.{IsDialogue, BreaksDialogue}
-use Rattle.burr_jobs.specs.declared.status.Status.TheVariants.{Done}
-use Rattle.burr_jobs.specs.Faults.{complaint_of}
-use Rattle.burr_jobs.specs.PlanEnds.{Ends, RefusedEnds, IsRead, ContainerEnds, TextEnds, StopsBeforeEnd}
+use Rattle.burr_tasks.specs.declared.status.Status.TheVariants.{Done}
+use Rattle.burr_tasks.specs.Faults.{complaint_of}
+use Rattle.burr_tasks.specs.PlanEnds.{Ends, RefusedEnds, IsRead, ContainerEnds, TextEnds, StopsBeforeEnd}
 
 -- what the source had left before and after
 pub record Left : Type 0 where
   pub old : Option (List ℕ)
   pub new : Option (List ℕ)
-
--- a run of the plan, step by step, before its first step
-pub record IsFresh (j : Judged) (s : Stepping) : Type 0 where
-  pub assembly : s.bench.assembly ≡ j.assembly
-  pub program : (p : Plan) → IsContainer j.container p → s.bench.program ≡ plan_program p
-  pub start : IsAtStart s.bench
-  pub history : s.history ≡ history 0 []
 
 -- the commands that the source gave are answered on such a run
 abbrev pub DialogueEnds : Left → Judged → Ends

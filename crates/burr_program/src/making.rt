@@ -5,15 +5,16 @@ mod from_sheet;
 
 ghost use Rattle.std.specs.Prelude.{codes, IfErr, IfOk};
 ghost use Rattle.burr_runs.specs.Rules.Refusals.{place_line};
-ghost use Rattle.burr_jobs.specs.Faults.{line_of};
+ghost use Rattle.burr_tasks.specs.Faults.{line_of};
 ghost use Rattle.burr_jobs.specs.JobEnds.{EndsSomehow};
-ghost use Rattle.burr_jobs.specs.PlanEnds.{FailsToEnd, IsRefusal, PutsEnd};
+ghost use Rattle.burr_tasks.specs.PlanEnds.{FailsToEnd, IsRefusal, PutsEnd};
 
 use crate::reasons::{reason_of_assembly_fault, with_meaning};
 use burr_assembly::AssemblyFault;
 use burr_io::Sink;
-use burr_jobs::{Fault, Status, add_notes, are_one_file, refuse_text};
+use burr_jobs::{add_notes, are_one_file};
 use burr_runs::put_place_line;
+use burr_tasks::{Fault, Status, refuse_text};
 use burr_why::reason_of_line;
 pub use frames::frames_file;
 pub use from_sheet::plan_sheet_file;

@@ -4,20 +4,19 @@ ghost use Rattle.std.specs.Prelude.{◌≡◌, ◌≢◌, ◌≤◌, ◌<◌, []
 ghost use Rattle.burr_runs.specs.declared.fault.BenchFault.TheVariants.{Memory};
 ghost use Rattle.burr_io.specs.Sink.{Takes};
 ghost use Rattle.burr_runs.specs.Views.BenchText.{streams};
-ghost use Rattle.burr_jobs.specs.JobEnds.{took, FailsInText, TakesSome, EndsEarly, IsDone, Means};
+ghost use Rattle.burr_jobs.specs.JobEnds.{took, FailsInText, TakesSome, EndsEarly, IsDone};
 ghost use Rattle.burr_program.specs.Ends.{TakesText, IsRun, IsEnd};
-ghost use Rattle.burr_jobs.specs.Faults.{complaint_of, line_of, status_of_fault};
-ghost use Rattle.burr_jobs.specs.Statuses.{code_of};
+ghost use Rattle.burr_tasks.specs.Faults.{complaint_of, line_of, status_of_fault, Means};
+ghost use Rattle.burr_tasks.specs.Statuses.{code_of};
 
 use crate::making::{frames_file, plan_sheet_file};
 use crate::step_command::step_files;
 use crate::text_commands::text_files;
 use burr_command::{Job, Reply, Request, request_of};
 use burr_io::{Sink, Source, WholeLines, WriteFault, put_all};
-use burr_jobs::{
-    Fault, Status, assemble_file, explain_line, list_file, put_fault, upgrade_file, use_files,
-};
+use burr_jobs::{assemble_file, explain_line, list_file, upgrade_file, use_files};
 use burr_runs::{BenchFault, bench_text};
+use burr_tasks::{Fault, Status, put_fault};
 use std::alloc::{AllocError, Global};
 use std::io::ErrorKind;
 use std::rt::Files;

@@ -4,9 +4,9 @@ ghost use Rattle.std.specs.Prelude.{◌≡◌, [], IfErr, IfOk, OnOk};
 ghost use Rattle.burr_container.specs.Views.Containers.{HasPlan};
 ghost use Rattle.burr_runs.specs.Views.BenchText.{streams};
 ghost use Rattle.burr_jobs.specs.JobEnds.{took, TakesSome, EndsEarly, IsDone};
-ghost use Rattle.burr_jobs.specs.Faults.{line_of};
-ghost use Rattle.burr_jobs.specs.Statuses.{code_of};
-ghost use Rattle.burr_jobs.specs.PlanEnds.{PutsEnd};
+ghost use Rattle.burr_tasks.specs.Faults.{line_of};
+ghost use Rattle.burr_tasks.specs.Statuses.{code_of};
+ghost use Rattle.burr_tasks.specs.PlanEnds.{PutsEnd};
 ghost use Rattle.burr_program.specs.StepEnds.{left_of, StopsStepping};
 ghost use Rattle.burr_program.specs.StepEnds.{DialogueEnds, StepEnds, StepBytesEnds, StepTextEnds};
 ghost use Rattle.burr_program.specs.StepEnds.{DialogueBreaks, StepBreaks};
@@ -17,8 +17,9 @@ use burr_blocking::{Blocking, RowTables};
 use burr_container::Container;
 use burr_dialogue::answer_commands;
 use burr_io::{Sink, Source, WholeLines};
-use burr_jobs::{Fault, Status, hand_on, read_file, refuse_container, refuse_plan, refuse_text};
+use burr_jobs::{hand_on, read_file};
 use burr_step::Stepper;
+use burr_tasks::{Fault, Status, refuse_container, refuse_plan, refuse_text};
 use burr_verify::{Accepted, accept, fits_assembly};
 use std::alloc::Global;
 use std::rt::Files;
@@ -155,12 +156,12 @@ fn step_accepted<'a, B: Blocking, R: Source, W: Sink, const N: usize>(
     ensures ok { let s = streams R.Source source.old source.new
         W.Sink sink.old.sink sink.new.sink in
         IfOk result (PutsEnd W.Sink sink.old.sink sink.new.sink
-        (DialogueEnds (left_of s) accepted.now)) }
+        (DialogueEnds (left_of s) accepted.now.judged)) }
     ensures err { let s = streams R.Source source.old source.new
         W.Sink sink.old.sink sink.new.sink in
         IfErr result (λ fault. StopsStepping W.Sink sink.old.sink sink.new.sink
-        (DialogueEnds (left_of s) accepted.now)
-        (DialogueBreaks s accepted.now (line_of fault)) (line_of fault)) }
+        (DialogueEnds (left_of s) accepted.now.judged)
+        (DialogueBreaks s accepted.now.judged (line_of fault)) (line_of fault)) }
 {
     let mut stepper = Stepper::new(alloc, accepted)?;
     answer_commands(&mut stepper, source, sink)?;

@@ -3,21 +3,20 @@
 
 ghost use Rattle.std.specs.Prelude.{◌≡◌, [], IfErr, IfOk};
 ghost use Rattle.burr_jobs.specs.JobEnds.{HandsOnSomehow};
-ghost use Rattle.burr_jobs.specs.Faults.{line_of};
+ghost use Rattle.burr_tasks.specs.Faults.{line_of};
 ghost use Rattle.burr_program.specs.NotedEnds.{plan_task_of, Begins, NotedEnds, PlanTextEnds};
-ghost use Rattle.burr_jobs.specs.PlanEnds.{FailsToEnd, PutsEnd};
+ghost use Rattle.burr_tasks.specs.PlanEnds.{FailsToEnd, PutsEnd};
 
 use crate::reasons::{reason_of_assembly_fault, reason_of_text_fault, reason_with_meaning};
 use burr_asm::{AsmFault, assemble};
 use burr_assembly::{Assembly, AssemblyFault};
 use burr_blocking::RowTables;
-use burr_command::{PlanTask, TextTask};
+use burr_command::TextTask;
 use burr_container::Container;
 use burr_io::{Sink, Source, WholeLines};
-use burr_jobs::{
-    Fault, Status, add_notes, hand_on, read_file, refuse_plan_text, refuse_text, use_assembly,
-};
+use burr_jobs::{add_notes, hand_on, read_file};
 use burr_runs::{AnswersFault, read_answers, read_whole};
+use burr_tasks::{Fault, Status, Task, refuse_plan_text, refuse_text, use_assembly};
 use burr_trace::trace_of;
 use burr_verify::{Refusal, accept, fits_assembly};
 use burr_why::PlanText;
@@ -123,12 +122,12 @@ fn note_text<'a, W: Sink>(
 }
 
 /// What is done with the container that the plan text is assembled to.
-fn plan_task(task: TextTask) -> PlanTask
+fn plan_task(task: TextTask) -> Task
     ensures { result ≡ plan_task_of task }
 {
     match task {
-        TextTask::Why => PlanTask::Check,
-        TextTask::Trace => PlanTask::Try,
+        TextTask::Why => Task::Check,
+        TextTask::Trace => Task::Try,
     }
 }
 

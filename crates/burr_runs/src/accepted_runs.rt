@@ -20,9 +20,11 @@ pub fn run_plan<'a, 'c: 'a, B: Blocking, W: Sink>(
     answers: &[i32],
     sink: &mut W,
 ) -> Result<Outcome, WriteFault>
-    ensures ok { IfOk result (PutsSafely W.Sink sink.old sink.new accepted.now answers.now) }
+    ensures ok { IfOk result (PutsSafely W.Sink sink.old sink.new accepted.now.judged
+        answers.now) }
     ensures ends { IfOk result EndsWell }
-    ensures err { OnErr result (FailsSafely W.Sink sink.old sink.new accepted.now answers.now) }
+    ensures err { OnErr result (FailsSafely W.Sink sink.old sink.new accepted.now.judged
+        answers.now) }
 {
     a_well_framed_plan_runs_safely();
     a_fitting_plan_is_from_a_container();

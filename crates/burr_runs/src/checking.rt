@@ -1,6 +1,6 @@
 //! What is said of a plan that is checked.
 
-ghost use Rattle.std.specs.Prelude.{◌≡◌, IfOk, OnErr};
+ghost use Rattle.std.specs.Prelude.{IfOk, OnErr};
 ghost use Rattle.burr_runs.specs.Rules.Verdicts.{PutsVerdict, FailsInVerdict};
 
 use crate::lines::{put_accepted, put_plan_refusal};

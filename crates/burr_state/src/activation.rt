@@ -1,4 +1,4 @@
-ghost use Rattle.std.specs.Prelude.{◌≡◌, ◌<◌, ◌≤◌, ◌↔◌, ℤ, List, None, Some, [], ◌∷◌, ◌++◌, drop, length, replicate, reverse, get_or, IsTrue, MatchOption};
+ghost use Rattle.std.specs.Prelude.{◌≡◌, ◌<◌, ◌≤◌, ◌↔◌, None, Some, [], ◌∷◌, ◌++◌, drop, length, replicate, reverse, get_or, IsTrue, MatchOption};
 ghost use Rattle.burr_code.specs.declared.limits.TheConstants.{SLOTS, MOST_OPERANDS};
 ghost use Rattle.burr_code.specs.Stacks.{top, top_two, top_many};
 ghost use Rattle.burr_state.specs.Rules.Bench.{activation};

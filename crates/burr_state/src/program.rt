@@ -2,9 +2,8 @@
 
 mod reading;
 
-ghost use Rattle.std.specs.Prelude.{◌≡◌, ◌<◌, ◌≤◌, ◌↔◌, ◌∷◌, [], length, slice_get, IsTrue, MatchOption, None, Some};
+ghost use Rattle.std.specs.Prelude.{◌≡◌, ◌<◌, ◌≤◌, ◌↔◌, [], length, slice_get, IsTrue, MatchOption, None, Some};
 ghost use Rattle.burr_code.specs.declared.limits.TheConstants.{MOST_CODE, MOST_BUDGET};
-ghost use Rattle.burr_code.specs.Labels.{callee_of};
 ghost use Rattle.burr_state.specs.Rules.Bench.{bare_procedure, bare_program};
 ghost use Rattle.burr_state.specs.Views.Programs.{HasLabels};
 

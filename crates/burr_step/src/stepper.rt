@@ -32,5 +32,5 @@ impl<'s, 'a: 's, 'c: 'a, B: Blocking> Model for Stepper<'s, 'a, 'c, B> {
     ghost view = { λ s. stepping s.machine s.answers.items };
 
     ghost invariant = { λ s.
-        IsStepping s.accepted.now (stepping s.machine s.answers.items) s.records };
+        IsStepping s.accepted.now.judged (stepping s.machine s.answers.items) s.records };
 }

@@ -26,11 +26,14 @@ pub struct Accepted<'a, 'c: 'a, B: Blocking> {
 }
 
 impl<'a, 'c: 'a, B: Blocking> Model for Accepted<'a, 'c, B> {
-    ghost use Rattle.burr_verify.specs.Rules.Accepting.{Judged, judged, IsAccepted};
+    ghost use Rattle.burr_verify.specs.Rules.Accepting.{AcceptedWith, judged, IsAccepted};
 
-    ghost Value = { Judged };
+    ghost Value = { AcceptedWith B };
 
-    ghost view = { λ a. judged a.container.now (B.subject a.blocking.now) };
+    ghost view = { λ a. record {
+      judged = judged a.container.now (B.subject a.blocking.now);
+      blocking = a.blocking.now;
+    } };
 
     ghost invariant = { λ a. IsAccepted (judged a.container.now (B.subject a.blocking.now)) };
 }
@@ -42,8 +45,9 @@ pub fn accept<'a, 'c: 'a, B: Blocking>(
     blocking: &'a B,
 ) -> Result<Accepted<'a, 'c, B>, Refusal>
     ensures ok { IfOk result (λ accepted.
-        accepted ≡ judged container.entry.now (B.subject blocking.entry.now)) }
-    ensures accepted { IfOk result IsAccepted }
+        accepted.judged ≡ judged container.entry.now (B.subject blocking.entry.now)) }
+    ensures given { IfOk result (λ accepted. accepted.blocking ≡ blocking.entry.now) }
+    ensures accepted { IfOk result (λ accepted. IsAccepted accepted.judged) }
     ensures err { IfErr result (λ refusal. (p : Plan) → IsContainer container.entry.now p
         → Judging (B.subject blocking.entry.now).name (homes_of (B.subject blocking.entry.now))
         (framed_plan p) (Refuses (failed_check refusal))) }
@@ -59,8 +63,9 @@ pub fn accept_counted<'a, 'c: 'a, B: Blocking>(
     blocking: &'a B,
 ) -> Result<(Accepted<'a, 'c, B>, u64), Refusal>
     ensures ok { IfOk result (λ counted.
-        counted.0 ≡ judged container.entry.now (B.subject blocking.entry.now)) }
-    ensures accepted { IfOk result (λ counted. IsAccepted counted.0) }
+        counted.0.judged ≡ judged container.entry.now (B.subject blocking.entry.now)) }
+    ensures given { IfOk result (λ counted. counted.0.blocking ≡ blocking.entry.now) }
+    ensures accepted { IfOk result (λ counted. IsAccepted counted.0.judged) }
     ensures looked { IfOk result (λ counted. (p : Plan) → IsContainer container.entry.now p
         → Looking (B.subject blocking.entry.now).name (homes_of (B.subject blocking.entry.now))
         (framed_plan p) Passed counted.1) }
@@ -80,7 +85,7 @@ pub fn accept_counted<'a, 'c: 'a, B: Blocking>(
 impl<'a, 'c: 'a, B: Blocking> Accepted<'a, 'c, B> {
     /// The cost of main: no run of the plan makes more steps. It is within the plan's budget.
     pub fn cost(&self) -> u32
-        ensures { MainCosts self.now result }
+        ensures { MainCosts self.now.judged result }
     {
         let entry = self.container.frame(0, 0);
         entry.cost().constant as u32
@@ -88,22 +93,23 @@ impl<'a, 'c: 'a, B: Blocking> Accepted<'a, 'c, B> {
 
     /// The assembly that the plan is for.
     pub fn assembly(&self) -> &'a Assembly
-        ensures { result.now ≡ self.now.assembly }
+        ensures { result.now ≡ self.now.judged.assembly }
     {
         self.blocking.assembly()
     }
 
     /// The container of the plan.
     pub fn plan(&self) -> &'a Container<'c>
-        ensures plan { result.now ≡ self.now.container }
-        ensures accepted { IsAccepted self.now }
+        ensures plan { result.now ≡ self.now.judged.container }
+        ensures accepted { IsAccepted self.now.judged }
     {
         self.container
     }
 
     /// What answers for the assembly's pieces.
     pub fn blocking(&self) -> &'a B
-        ensures { B.subject result.now ≡ self.now.assembly }
+        ensures given { result.now ≡ self.now.blocking }
+        ensures subject { B.subject result.now ≡ self.now.judged.assembly }
     {
         self.blocking
     }

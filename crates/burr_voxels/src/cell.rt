@@ -1,4 +1,4 @@
-ghost use Rattle.std.specs.Prelude.{◌≡◌, ◌↔◌, ◌+ℤ◌, IsTrue};
+ghost use Rattle.std.specs.Prelude.{◌≡◌, ◌↔◌, IsTrue};
 
 use crate::direction::Direction;
 use std::ops::{Add, Sub};
@@ -14,7 +14,6 @@ pub struct Cell {
 
 impl Cell {
     ghost use Rattle.burr_voxels.specs.Grid.{at, IsAhead};
-    ghost use Rattle.std.specs.Prelude.{pos};
 
     /// The cell whose coordinates are all 0.
     pub const ORIGIN: Cell = Cell { x: 0, y: 0, z: 0 };

@@ -1,4 +1,4 @@
-ghost use Rattle.std.specs.Prelude.{◌≡◌, ◌≢◌, ◌≤ℤ◌, ◌<◌, ℕ, ℤ, pos, neg_ℤ, MatchOption};
+ghost use Rattle.std.specs.Prelude.{◌≡◌, ◌≢◌, ◌≤ℤ◌, ◌<◌, ℤ, pos, neg_ℤ, MatchOption};
 ghost use Rattle.burr_voxels.specs.declared.direction.Direction.{Direction as DirectionOf};
 ghost use Rattle.burr_voxels.specs.Grid.{along, minus, name_of, number_of, origin};
 

@@ -1,4 +1,4 @@
-ghost use Rattle.std.specs.Prelude.{◌≡◌, ◌↔◌, ◌∷◌, [], Contains, IsTrue};
+ghost use Rattle.std.specs.Prelude.{◌↔◌, ◌∷◌, [], Contains, IsTrue};
 ghost use Rattle.std.specs.List.{All};
 ghost use Rattle.burr_voxels.specs.Grid.{shifted};
 ghost use Rattle.burr_voxels.specs.Near.{IsWithin};

@@ -1,4 +1,4 @@
-ghost use Rattle.std.specs.Prelude.{◌≡◌, Ok, Err, IfOk, IfErr};
+ghost use Rattle.std.specs.Prelude.{Ok, Err, IfOk, IfErr};
 ghost use Rattle.burr_assembly.specs.Rules.Lines.{IsLineForm, IsPieceWords};
 ghost use Rattle.burr_assembly.specs.Views.LineViews.{form_of, words_of};
 ghost use Rattle.burr_assembly.specs.Rules.Faults.{FormGives, PieceRule, LineGives, EndGives, Blank, Shapes};

@@ -1,4 +1,4 @@
-ghost use Rattle.std.specs.Prelude.{◌≡◌, ◌↔◌, ◌∷◌, [], IsTrue, MatchOption};
+ghost use Rattle.std.specs.Prelude.{◌≡◌, ◌↔◌, IsTrue, MatchOption};
 ghost use Rattle.burr_assembly.specs.Rules.Lines.{LineForm, IsLine, IsMarks, IsPieceWords, PieceWords, piece_words_text};
 ghost use Rattle.burr_assembly.specs.Views.LineViews.{HasWords, form_of, words_of};
 

@@ -1,4 +1,4 @@
-ghost use Rattle.std.specs.Prelude.{◌≡◌, Ok, Err, IfOk, IfErr};
+ghost use Rattle.std.specs.Prelude.{Ok, Err, IfOk, IfErr};
 ghost use Rattle.burr_assembly.specs.Rules.Text.{IsText};
 ghost use Rattle.burr_assembly.specs.Rules.Faults.{FirstFault};
 ghost use Rattle.burr_assembly.specs.Views.ReaderViews.{IsDue};

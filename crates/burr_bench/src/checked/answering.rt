@@ -1,6 +1,6 @@
 //! Answers of the operator.
 
-ghost use Rattle.std.specs.Prelude.{◌≡◌, None, Some, Ok};
+ghost use Rattle.std.specs.Prelude.{None, Some, Ok};
 ghost use Rattle.burr_state.specs.declared.mode.Mode.TheVariants.{Running};
 ghost use Rattle.burr_state.specs.Rules.Step.{CallIn};
 ghost use Rattle.burr_state.specs.Views.Benches.{setup_of, GoesOn, IsSameRun};

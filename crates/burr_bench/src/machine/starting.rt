@@ -15,11 +15,11 @@ impl<'a> Machine<'a> {
     /// The machine at the start of an accepted plan: all pieces in tray 0 at home, nothing gripped.
     /// Each `Accepted` is of a plan that is accepted.
     pub fn start<'c: 'a, B: Blocking>(accepted: &Accepted<'a, 'c, B>) -> Machine<'a>
-        ensures assembly { result.assembly ≡ accepted.now.assembly }
-        ensures program { (p : Plan) → IsContainer accepted.now.container p
+        ensures assembly { result.assembly ≡ accepted.now.judged.assembly }
+        ensures program { (p : Plan) → IsContainer accepted.now.judged.container p
             → result.program ≡ plan_program p }
         ensures start { IsAtStart result }
-        ensures accepted { IsAccepted accepted.now }
+        ensures accepted { IsAccepted accepted.now.judged }
     {
         an_accepted_bench_never_traps();
         let assembly = accepted.assembly();

@@ -1,11 +1,10 @@
-ghost use Rattle.std.specs.Prelude.{◌≡◌, ◌↔◌, ◌+◌, ◌<◌, ◌≤◌, ℕ, ℤ, pos, length, vec_len, IfOk, IsTrue, Contains};
+ghost use Rattle.std.specs.Prelude.{◌≡◌, ◌↔◌, ◌+◌, ◌<◌, ◌≤◌, ℕ, ℤ, pos, length, vec_len, IfOk, IsTrue};
 ghost use Rattle.burr_voxels.specs.declared.direction.Direction.TheVariants.{PlusX, MinusX};
 ghost use Rattle.std.specs.List.{All};
 ghost use Rattle.burr_voxels.specs.Grid.{along, minus, plus};
 ghost use Rattle.burr_voxels.specs.Near.{IsWithin};
-ghost use Rattle.burr_voxels.specs.declared.cell.Cell.{Cell as CellOf};
 ghost use Rattle.burr_blocking.specs.Views.Boxes.{IsInBox, row_of, column_of, row_count_of};
-ghost use Rattle.burr_blocking.specs.Views.Bits.{AreNext, HasBit, HasBitAt};
+ghost use Rattle.burr_blocking.specs.Views.Bits.{AreNext, HasBit};
 ghost use Rattle.burr_blocking.specs.Views.Overlaps.{HasNoneAhead};
 ghost use Rattle.burr_blocking.specs.Views.PairBits.{AreBitsFrom, AreShort, HasBitIn, IsInRowOf, IsSet};
 

@@ -1,7 +1,7 @@
 //! Operands, each read from the front of the bytes, with the bytes after it. None exactly where
 //! the bytes begin with no operand in its range.
 
-ghost use Rattle.std.specs.Prelude.{◌≡◌, ◌≢◌, ◌<◌, ◌^◌, ◌∷◌, []};
+ghost use Rattle.std.specs.Prelude.{◌≢◌, ◌<◌, ◌^◌, ◌∷◌, []};
 ghost use Rattle.byteorder.specs.Endian.{big_bytes};
 ghost use Rattle.burr_voxels.specs.Grid.{number_of};
 ghost use Rattle.burr_code.specs.declared.limits.TheConstants.{SLOTS, TRAYS};

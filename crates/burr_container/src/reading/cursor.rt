@@ -1,4 +1,4 @@
-ghost use Rattle.std.specs.Prelude.{◌≡◌, ◌+◌, ◌≤◌, ◌<◌, ◌^◌, ◌++◌, ◌∷◌, [], length, IfOk, MatchResult};
+ghost use Rattle.std.specs.Prelude.{◌≡◌, ◌+◌, ◌<◌, ◌^◌, ◌∷◌, [], length, IfOk, MatchResult};
 ghost use Rattle.byteorder.specs.Endian.{big_bytes};
 ghost use Rattle.burr_code.specs.Instruction.{signed_word};
 ghost use Rattle.burr_container.specs.Views.Cuts.{AreBytes, IsCut, IsShort};

@@ -1,4 +1,4 @@
-ghost use Rattle.std.specs.Prelude.{◌≤◌, ◌&&◌, ◌<◌, nat_le};
+ghost use Rattle.std.specs.Prelude.{◌&&◌, ◌<◌, nat_le};
 ghost use Rattle.burr_container.specs.declared.fault.ContainerFault.TheVariants.{C4 as C4_at};
 ghost use Rattle.burr_container.specs.Rules.Fitting.{is_tray, is_set_of};
 ghost use Rattle.burr_container.specs.Rules.Faults.{number, range as range_part};

@@ -1,4 +1,4 @@
-ghost use Rattle.std.specs.Prelude.{◌≡◌, ◌≤◌, ◌+◌, IfOk, OnOk, IsTrue, take};
+ghost use Rattle.std.specs.Prelude.{◌≡◌, ◌≤◌, IfOk, OnOk, IsTrue, take};
 ghost use Rattle.burr_container.specs.Rules.Plans.{exit_symbols as first_ones};
 ghost use Rattle.burr_container.specs.Rules.Faults.{forms as forms_part, ranges as ranges_part, exit_guards as exit_guards_part, form as form_part, slots as slots_part, place as place_part, places as places_part, frame as frame_part, exit_frame as exit_frame_part};
 ghost use Rattle.burr_code.specs.declared.limits.TheConstants.{MOST_GUARDS};

@@ -1,7 +1,6 @@
 //! Frames, added to bytes.
 
 ghost use Rattle.std.specs.Prelude.{◌≡◌, ◌<◌, ◌≤◌, ◌++◌, length, OnOk, if◌then◌else◌};
-ghost use Rattle.std.specs.List.{flat_map};
 ghost use Rattle.burr_container.specs.Rules.Plans.{live_slots as live_ones};
 ghost use Rattle.burr_container.specs.Rules.Spelling.{mask_of as mask_of_live, range_bytes, ranges_bytes, slots_bytes, frame_bytes, exit_guards_bytes, exit_rest, exit_frame_bytes};
 

@@ -1,6 +1,6 @@
 //! The state after a call.
 
-ghost use Rattle.std.specs.Prelude.{◌≡◌, ◌+◌, ◌-◌, ◌≤◌, ◌++◌, MatchResult, length, map, take, drop, reverse, replicate, pos};
+ghost use Rattle.std.specs.Prelude.{◌≡◌, ◌+◌, ◌-◌, ◌≤◌, ◌++◌, MatchResult, length, drop, reverse, replicate, pos};
 ghost use Rattle.burr_code.specs.declared.limits.TheConstants.{MOST_GUARDS};
 ghost use Rattle.burr_forms.specs.Rules.Forms.{number, AllSmallForms};
 ghost use Rattle.burr_frames.specs.Rules.ControlRules.{after_call, symbols_from, substituted_places};

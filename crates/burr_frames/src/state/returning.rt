@@ -1,6 +1,6 @@
 //! The rule of `ret`.
 
-ghost use Rattle.std.specs.Prelude.{◌≡◌, ◌<◌, IfSome, None, get_or, length};
+ghost use Rattle.std.specs.Prelude.{◌≡◌, ◌<◌, IfSome, None, get_or};
 ghost use Rattle.burr_forms.specs.Rules.Forms.{IsSmallForm};
 ghost use Rattle.burr_frames.specs.Rules.ControlRules.{ret_rule};
 ghost use Rattle.burr_frames.specs.Views.Breaks.{last_verdict};

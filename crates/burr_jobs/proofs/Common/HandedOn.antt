@@ -4,13 +4,13 @@ use Rattle.std.specs.Prelude.{Result, Ok, Err, IfOk, IfErr, OnOk, OnErr}
 use Rattle.burr_io.specs.Sink.{SinkView}
 use Rattle.burr_io.specs.WholeLines.{Lines, lines_view}
 use Rattle.burr_io.proofs.Common.Lines.{went, failed_late, failed_early, held_front, put_since}
-use Rattle.burr_jobs.specs.declared.fault.Fault.{Fault}
-use Rattle.burr_jobs.specs.Faults.{line_of}
-use Rattle.burr_jobs.specs.declared.status.Status.{Status}
-use Rattle.burr_jobs.specs.Statuses.{code_of}
+use Rattle.burr_tasks.specs.declared.fault.Fault.{Fault}
+use Rattle.burr_tasks.specs.Faults.{line_of}
+use Rattle.burr_tasks.specs.declared.status.Status.{Status}
+use Rattle.burr_tasks.specs.Statuses.{code_of}
 use Rattle.burr_jobs.specs.JobEnds.{took, TakesSome, FailsInText, WritesLess, WritesOrFails, IsDone}
 use Rattle.burr_jobs.specs.HandedOn.{HandsOnDone}
-use Rattle.burr_jobs.specs.PlanEnds.{Ends, PutsEnd, FailsToEnd, StopsBeforeEnd}
+use Rattle.burr_tasks.specs.PlanEnds.{Ends, PutsEnd, FailsToEnd, StopsBeforeEnd}
 
 -- what is printed with a status was handed on
 pub ends_handed : {S : Type 0} (sink : SinkView S) (old mid new : Lines S) (AreEnds : Ends) (done result : Result Status Fault) → old.held ≡ []

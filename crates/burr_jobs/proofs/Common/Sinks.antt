@@ -3,11 +3,11 @@ use Rattle.std.proofs.Common.{◌≡◌, ℕ, List, [], sym, subst, inl, inr}
 use Rattle.std.proofs.KnownBytes.{Appends-nil}
 use Rattle.std.specs.Prelude.{Result, Ok, Err, IfOk, IfErr, OnOk, OnErr}
 use Rattle.burr_io.specs.Sink.{SinkView, FailsWithin}
-use Rattle.burr_jobs.specs.declared.fault.Fault.{Fault}
-use Rattle.burr_jobs.specs.declared.status.Status.{Status}
+use Rattle.burr_tasks.specs.declared.fault.Fault.{Fault}
+use Rattle.burr_tasks.specs.declared.status.Status.{Status}
 use Rattle.burr_jobs.specs.JobEnds.{took, TakesSome, WritesOrFails}
-use Rattle.burr_jobs.specs.Faults.{line_of}
-use Rattle.burr_jobs.specs.PlanEnds.{Ends, PutsEnd, FailsToEnd}
+use Rattle.burr_tasks.specs.Faults.{line_of}
+use Rattle.burr_tasks.specs.PlanEnds.{Ends, PutsEnd, FailsToEnd}
 
 -- what a sink took where there is an end
 pub ends_take_some : {S : Type 0} (sink : SinkView S) (before after : S) (AreEnds : Ends) (r : Result Status Fault) → IfOk r (PutsEnd sink before after AreEnds)

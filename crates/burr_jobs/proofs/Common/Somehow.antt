@@ -4,14 +4,14 @@ use Rattle.std.proofs.KnownBytes.{Appends-nil}
 use Rattle.std.specs.Prelude.{Result, Ok, Err, IfOk, IfErr, OnErr, IsErr}
 use Rattle.burr_io.specs.Sink.{SinkView, Takes}
 use Rattle.burr_io.specs.WholeLines.{Lines, lines_view}
-use Rattle.burr_jobs.specs.declared.fault.Fault.{Fault}
-use Rattle.burr_jobs.specs.declared.status.Status.{Status}
-use Rattle.burr_jobs.specs.declared.status.Status.TheVariants.{Done}
-use Rattle.burr_jobs.specs.Faults.{line_of}
+use Rattle.burr_tasks.specs.declared.fault.Fault.{Fault}
+use Rattle.burr_tasks.specs.declared.status.Status.{Status}
+use Rattle.burr_tasks.specs.declared.status.Status.TheVariants.{Done}
+use Rattle.burr_tasks.specs.Faults.{line_of}
 use Rattle.burr_jobs.specs.HandedOn.{HandsOnDone}
 use Rattle.burr_jobs.specs.JobEnds.{took, IsDone, WritesLess, WritesOrFails, EndsSomehow, HandsOnSomehow}
-use Rattle.burr_jobs.specs.PlanEnds.{Ends, PutsEnd, FailsToEnd, StopsBeforeEnd}
-use Rattle.burr_jobs.specs.Statuses.{code_of}
+use Rattle.burr_tasks.specs.PlanEnds.{Ends, PutsEnd, FailsToEnd, StopsBeforeEnd}
+use Rattle.burr_tasks.specs.Statuses.{code_of}
 use Rattle.burr_jobs.proofs.Common.Done.{AreDone}
 use Rattle.burr_jobs.proofs.Common.HandedOn.{some_handed, less_handed, done_handed, less_put}
 use Rattle.burr_jobs.proofs.Common.Sinks.{ends_take_some, stops_write}

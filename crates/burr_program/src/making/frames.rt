@@ -9,11 +9,11 @@ use crate::reasons::name_and_line;
 use burr_asm::{AsmFault, assemble};
 use burr_assembly::{Assembly, AssemblyFault};
 use burr_blocking::RowTables;
-use burr_command::PlanTask;
 use burr_container::Container;
 use burr_io::{Sink, Source, WholeLines};
-use burr_jobs::{Fault, Status, hand_on, read_file, use_assembly, write_file};
+use burr_jobs::{hand_on, read_file, write_file};
 use burr_runs::{AnswersFault, read_answers, read_whole};
+use burr_tasks::{Fault, Status, Task, use_assembly};
 use burr_trace::{Filled, Unframed};
 use burr_verify::fits_assembly;
 use burr_why::{PlanText, reason_of_line};
@@ -157,7 +157,7 @@ fn fill_frames<'a, W: Sink>(
 fn try_run<'a, W: Sink>(alloc: Global, run: Run<'_>, sink: &mut W) -> Result<Status, Fault<'a>>
     ensures { EndsSomehow W.Sink sink.old sink.new result }
 {
-    let task = PlanTask::Try;
+    let task = Task::Try;
     use_assembly(alloc, task, run.assembly, run.container, run.answers, sink)
 }
 

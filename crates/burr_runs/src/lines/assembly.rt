@@ -1,8 +1,5 @@
-ghost use Rattle.std.specs.Prelude.{◌≡◌, ◌<◌, ◌==◌, [], ◌∷◌, false, codes, decimal, length, take, IsTrue, MatchOption, slice_get, slice_index, slice_index_or};
-ghost use Rattle.std.specs.List.{All, slice_split};
-ghost use Rattle.std.specs.Option.{option_map};
+ghost use Rattle.std.specs.Prelude.{◌<◌};
 ghost use Rattle.burr_io.specs.Sink.{Puts};
-ghost use Rattle.burr_assembly.specs.Rules.PieceNames.{name_at};
 ghost use Rattle.burr_runs.specs.Rules.Refusals.{assembly_refusal, clash_line};
 
 use crate::lines::put_place_line;

@@ -1,4 +1,3 @@
-ghost use Rattle.std.specs.Prelude.{◌≡◌};
 ghost use Rattle.burr_io.specs.Sink.{Puts};
 ghost use Rattle.burr_runs.specs.Rules.Verdicts.{accepted_line, plan_refusal, place_part, pieces_part, name_or_none, point_part, numbers_part};
 

@@ -1,4 +1,3 @@
-ghost use Rattle.std.specs.Prelude.{◌∷◌, [], map};
 ghost use Rattle.burr_io.specs.Sink.{Puts};
 ghost use Rattle.burr_state.specs.declared.closing.Closing.TheVariants as closings;
 ghost use Rattle.burr_sheet.specs.Rules.SheetText.{closing_line, levels_line};

@@ -2,7 +2,6 @@
 
 ghost use Rattle.std.specs.Prelude.{◌≡◌, ◌<◌, ◌≤◌, ◌+◌, List, length, slice_get, OnOk};
 ghost use Rattle.burr_voxels.specs.declared.cell.Cell.{Cell};
-ghost use Rattle.burr_code.specs.Places.{AllApart};
 ghost use Rattle.burr_code.specs.declared.limits.TheConstants.{MOST_CODE, SLOTS};
 ghost use Rattle.burr_code.specs.Instruction.{Down, Call, spelled};
 ghost use Rattle.burr_state.specs.Rules.Bench.{BenchProcedure, running};

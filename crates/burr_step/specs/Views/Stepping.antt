@@ -1,11 +1,11 @@
 -- A run under way, step by step, and what the calls of a stepper come to.
-use Rattle.std.specs.Prelude.{◌≡◌, ◌<◌, ◌≤◌, ◌⊎◌, ◌+◌, ◌-◌, ◌^◌, ◌∷◌, ℕ, ℤ, List, length, take, slice_get, Option, Some, None, Result, Ok, Err}
+use Rattle.std.specs.Prelude.{◌≡◌, ◌<◌, ◌≤◌, ◌⊎◌, ◌+◌, ◌-◌, ◌^◌, [], ◌∷◌, ℕ, ℤ, List, length, take, slice_get, Option, Some, None, Result, Ok, Err}
 use Rattle.burr_container.specs.Rules.Plans.{Plan}
 use Rattle.burr_container.specs.Views.Containers.{IsContainer}
 use Rattle.burr_verify.specs.Rules.Accepting.{Judged, IsAccepted}
 use Rattle.burr_state.specs.Rules.Bench.{BenchState, Setup, HasLabelOf, start}
 use Rattle.burr_state.specs.Rules.Undo.{Undo}
-use Rattle.burr_state.specs.Views.Benches.{Benched, setup_of, in_state, IsSameRun}
+use Rattle.burr_state.specs.Views.Benches.{Benched, setup_of, in_state, IsAtStart, IsSameRun}
 use Rattle.burr_state.specs.Views.Programs.{plan_program}
 use Rattle.burr_state.specs.declared.progress.Progress.{Progress}
 use Rattle.burr_state.specs.Rules.Step.{Called}
@@ -42,6 +42,14 @@ pub record IsStepping (accepted : Judged) (s : Stepping) (undos : List Undo) : T
   pub assembly : s.bench.assembly ≡ accepted.assembly
   pub program : (p : Plan) → IsContainer accepted.container p
       → s.bench.program ≡ plan_program p
+
+-- before its first step, on the plan and the assembly that were accepted
+pub record IsFresh (accepted : Judged) (s : Stepping) : Type 0 where
+  pub assembly : s.bench.assembly ≡ accepted.assembly
+  pub program : (p : Plan) → IsContainer accepted.container p
+      → s.bench.program ≡ plan_program p
+  pub start : IsAtStart s.bench
+  pub history : s.history ≡ history 0 []
 
 -- as many steps, and perhaps more, follow with answers of which the first are these
 abbrev pub HasRun : Benched → List ℤ → ℕ → Type 0

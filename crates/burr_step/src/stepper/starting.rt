@@ -1,9 +1,5 @@
-ghost use Rattle.std.specs.Prelude.{◌≡◌, [], IfOk};
-ghost use Rattle.burr_container.specs.Rules.Plans.{Plan};
-ghost use Rattle.burr_container.specs.Views.Containers.{IsContainer};
-ghost use Rattle.burr_state.specs.Views.Programs.{plan_program};
-ghost use Rattle.burr_state.specs.Views.Benches.{IsAtStart};
-ghost use Rattle.burr_step.specs.Rules.Stepper.{history};
+ghost use Rattle.std.specs.Prelude.{IfOk};
+ghost use Rattle.burr_step.specs.Views.Stepping.{IsFresh};
 
 use crate::records::Records;
 use crate::stepper::Stepper;
@@ -20,11 +16,7 @@ impl<'s, 'a: 's, 'c: 'a, B: Blocking> Stepper<'s, 'a, 'c, B> {
         alloc: Global,
         accepted: &'s Accepted<'a, 'c, B>,
     ) -> Result<Stepper<'s, 'a, 'c, B>, AllocError>
-        ensures assembly { IfOk result (λ s. s.bench.assembly ≡ accepted.now.assembly) }
-        ensures program { IfOk result (λ s. (p : Plan) → IsContainer accepted.now.container p
-            → s.bench.program ≡ plan_program p) }
-        ensures start { IfOk result (λ s. IsAtStart s.bench) }
-        ensures history { IfOk result (λ s. s.history ≡ history 0 []) }
+        ensures { IfOk result (IsFresh accepted.now.judged) }
     {
         an_accepted_bench_never_traps();
         let records = Records::new(alloc)?;

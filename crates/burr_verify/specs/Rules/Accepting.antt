@@ -18,6 +18,11 @@ pub record Judged : Type 0 where
 abbrev pub judged : ContainerView → Assembly → Judged
 judged container assembly = record { container = container; assembly = assembly }
 
+-- what was accepted, and what answered for the assembly's pieces
+pub record AcceptedWith (B : Type 0) : Type 0 where
+  pub judged : Judged
+  pub blocking : B
+
 -- the container is that of a plan within the format, which is well framed for the assembly
 pub record IsAccepted (j : Judged) : Type 0 where
   pub plan : Plan

@@ -1,8 +1,8 @@
 use Rattle.std.proofs.Common.{ap, refl}
 use Rattle.std.specs.Prelude.{Ok}
 use Rattle.burr_io.specs.WholeLines.{lines_view}
-use Rattle.burr_jobs.specs.declared.status.Status.TheVariants.{Refused}
-use Rattle.burr_jobs.specs.Refusals.{plan_text_refusal}
+use Rattle.burr_tasks.specs.declared.status.Status.TheVariants.{Refused}
+use Rattle.burr_tasks.specs.Refusals.{plan_text_refusal}
 use Rattle.burr_jobs.proofs.Common.Done.{refused_is_done}
 use Rattle.burr_jobs.proofs.Common.Somehow.{fails_somehow, handed_somehow, kept_somehow, put_somehow}
 use Rattle.burr_jobs.proofs.FileEnding.{assembles_less}

@@ -1,8 +1,8 @@
 use Rattle.std.proofs.Common.{inl}
 use Rattle.burr_runs.specs.Rules.Refusals.{container_refusal}
 use Rattle.burr_jobs.specs.FileEnds.{ListEnds, ListingEnds}
-use Rattle.burr_jobs.specs.PlanEnds.{IsRefusal}
-use Rattle.burr_jobs.proofs.Common.Stages.{puts_among, fails_among}
+use Rattle.burr_tasks.specs.PlanEnds.{IsRefusal}
+use Rattle.burr_tasks.proofs.Common.Stages.{puts_among, fails_among}
 use Rattle.burr_jobs.proofs.FileEnding.{listed_among}
 use Rattle.burr_jobs.proofs.file_commands.list_bytes.Goals as goal
 

@@ -1,6 +1,6 @@
 use Rattle.burr_io.specs.WholeLines.{lines_view}
 use Rattle.burr_runs.specs.Rules.Refusals.{container_refusal}
-use Rattle.burr_jobs.specs.PlanEnds.{IsRefusal}
+use Rattle.burr_tasks.specs.PlanEnds.{IsRefusal}
 use Rattle.burr_jobs.proofs.Common.Done.{refusals_are_done}
 use Rattle.burr_jobs.proofs.Common.Somehow.{ends_somehow, handed_somehow}
 use Rattle.burr_jobs.proofs.file_commands.upgrade_file.Goals as goal

@@ -1,4 +1,4 @@
-use Rattle.burr_jobs.specs.PlanEnds.{PlanEnds}
+use Rattle.burr_tasks.specs.PlanEnds.{PlanEnds}
 use Rattle.burr_jobs.proofs.Common.HandedOn.{ends_handed, stops_handed}
 use Rattle.burr_jobs.proofs.plan_commands.use_text.Goals as goal
 

@@ -4,10 +4,10 @@ use Rattle.std.specs.Prelude.{IsOk}
 use Rattle.burr_runs.specs.Rules.Refusals.{container_refusal}
 use Rattle.burr_runs.specs.Rules.Verdicts.{plan_refusal}
 use Rattle.burr_runs.specs.Views.BenchText.{streams}
-use Rattle.burr_jobs.specs.PlanEnds.{IsRefusal}
+use Rattle.burr_tasks.specs.PlanEnds.{IsRefusal}
 use Rattle.burr_program.specs.StepEnds.{left_of, StepEnds, StepBytesEnds, StepBreaks, StepBytesBreak}
-use Rattle.burr_jobs.proofs.Common.Refused.{read_of, fault_of}
-use Rattle.burr_jobs.proofs.Common.Stages.{puts_among}
+use Rattle.burr_tasks.proofs.Common.Refused.{read_of, fault_of}
+use Rattle.burr_tasks.proofs.Common.Stages.{puts_among}
 use Rattle.burr_program.proofs.Stepping.{refused_ends, refused_stops, step_misfit, stops_among, bytes_among, bytes_break}
 use Rattle.burr_program.proofs.step_command.step_assembly.Goals as goal
 

@@ -2,9 +2,9 @@ use Rattle.std.proofs.Common.{subst, sym}
 use Rattle.burr_assembly.specs.Rules.Text.{Assembly}
 use Rattle.burr_runs.specs.Rules.Verdicts.{plan_refusal}
 use Rattle.burr_runs.specs.Views.BenchText.{streams}
-use Rattle.burr_jobs.specs.PlanEnds.{IsRefusal}
+use Rattle.burr_tasks.specs.PlanEnds.{IsRefusal}
 use Rattle.burr_program.specs.StepEnds.{left_of, StepEnds, StepBreaks}
-use Rattle.burr_jobs.proofs.Common.Stages.{AreAmong}
+use Rattle.burr_tasks.proofs.Common.Stages.{AreAmong}
 use Rattle.burr_program.proofs.Stepping.{refused_ends, refused_stops, step_refused}
 use Rattle.burr_program.proofs.step_command.step_if_accepted.Goals as goal
 

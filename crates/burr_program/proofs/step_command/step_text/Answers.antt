@@ -2,9 +2,9 @@ use Rattle.std.proofs.Common.{inl, rules}
 use Rattle.burr_assembly.specs.Rules.Faults.{FirstFault}
 use Rattle.burr_runs.specs.Rules.Refusals.{assembly_refusal}
 use Rattle.burr_runs.specs.Views.BenchText.{streams}
-use Rattle.burr_jobs.specs.PlanEnds.{IsRefusal}
+use Rattle.burr_tasks.specs.PlanEnds.{IsRefusal}
 use Rattle.burr_program.specs.StepEnds.{left_of, StepBytesEnds, StepTextEnds, StepBytesBreak, StepTextBreaks}
-use Rattle.burr_jobs.proofs.Common.Stages.{AreAmong, puts_among, text_among}
+use Rattle.burr_tasks.proofs.Common.Stages.{AreAmong, puts_among, text_among}
 use Rattle.burr_program.proofs.Stepping.{refused_ends, refused_stops, stops_among}
 use Rattle.burr_program.proofs.step_command.step_text.Goals as goal
 

@@ -1,11 +1,11 @@
 use Rattle.std.proofs.Common.{ℕ, List, inl, inr, rules, subst, sym}
 use Rattle.burr_asm.specs.Rules.Assembling.{IsAssembled}
 use Rattle.burr_asm.specs.Rules.Faults.{IsFirstFault}
-use Rattle.burr_command.specs.declared.job.PlanTask.{PlanTask}
-use Rattle.burr_jobs.specs.PlanEnds.{IsRefusal, AssemblyEnds}
-use Rattle.burr_jobs.specs.Refusals.{plan_text_refusal}
+use Rattle.burr_tasks.specs.declared.task.Task.{Task}
+use Rattle.burr_tasks.specs.PlanEnds.{IsRefusal, AssemblyEnds}
+use Rattle.burr_tasks.specs.Refusals.{plan_text_refusal}
 use Rattle.burr_program.specs.NotedEnds.{Begins, PlanTextEnds}
-use Rattle.burr_jobs.proofs.Common.Stages.{puts_among, fails_among}
+use Rattle.burr_tasks.proofs.Common.Stages.{puts_among, fails_among}
 use Rattle.burr_program.proofs.Notes.{begins_among, notes_put, notes_fail}
 use Rattle.burr_program.proofs.text_commands.note_text.Goals as goal
 
@@ -18,7 +18,7 @@ returns-in_ok-notes-in-Ok-clause-ok g c =
     let done = AssemblyEnds c.plan_task-task.result bytes answers a in
     let ends = PlanTextEnds c.args.texts.task c.args.texts.text.now answers a in
     puts_among g.W.Sink c.args.sink.now c.add_notes.new.sink (Begins done) (Begins ends) c.add_notes.result
-    (begins_among done ends (λ output status is. inr (bytes, assembled, subst (λ (task : PlanTask). AssemblyEnds task bytes answers a output status) c.plan_task-task.ensures is)))
+    (begins_among done ends (λ output status is. inr (bytes, assembled, subst (λ (task : Task). AssemblyEnds task bytes answers a output status) c.plan_task-task.ensures is)))
     (notes_put g.W.Sink c.args.sink.now c.use_assembly-done.new.sink c.add_notes.new.sink done _ c.use_assembly-done.result c.add_notes.result c.add_notes.ensures c.use_assembly-done.ensures.ok)
 
 pub returns-in_ok-notes-in-Ok-clause-err : goal.returns-in_ok-notes-in-Ok-clause-err
@@ -30,7 +30,7 @@ returns-in_ok-notes-in-Ok-clause-err g c =
     let done = AssemblyEnds c.plan_task-task.result bytes answers a in
     let ends = PlanTextEnds c.args.texts.task c.args.texts.text.now answers a in
     fails_among g.W.Sink c.args.sink.now c.add_notes.new.sink (Begins done) (Begins ends) c.add_notes.result
-    (begins_among done ends (λ output status is. inr (bytes, assembled, subst (λ (task : PlanTask). AssemblyEnds task bytes answers a output status) c.plan_task-task.ensures is)))
+    (begins_among done ends (λ output status is. inr (bytes, assembled, subst (λ (task : Task). AssemblyEnds task bytes answers a output status) c.plan_task-task.ensures is)))
     (notes_fail g.W.Sink c.args.sink.now c.use_assembly-done.new.sink c.add_notes.new.sink done _ c.use_assembly-done.result c.add_notes.result c.add_notes.ensures c.use_assembly-done.ensures.ok c.use_assembly-done.ensures.err)
 
 pub returns-in_ok-notes-in-Err-clause-ok : goal.returns-in_ok-notes-in-Err-clause-ok

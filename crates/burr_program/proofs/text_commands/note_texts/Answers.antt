@@ -1,9 +1,9 @@
 use Rattle.std.proofs.Common.{inl, rules}
 use Rattle.burr_assembly.specs.Rules.Faults.{FirstFault}
 use Rattle.burr_runs.specs.Rules.Refusals.{assembly_refusal}
-use Rattle.burr_jobs.specs.PlanEnds.{IsRefusal, TextEnds}
+use Rattle.burr_tasks.specs.PlanEnds.{IsRefusal, TextEnds}
 use Rattle.burr_program.specs.NotedEnds.{Begins, PlanTextEnds, NotedEnds}
-use Rattle.burr_jobs.proofs.Common.Stages.{puts_among, fails_among, text_among}
+use Rattle.burr_tasks.proofs.Common.Stages.{puts_among, fails_among, text_among}
 use Rattle.burr_program.proofs.Notes.{begins_among, notes_put, notes_fail}
 use Rattle.burr_program.proofs.text_commands.note_texts.Goals as goal
 

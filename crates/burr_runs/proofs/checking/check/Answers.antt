@@ -22,10 +22,10 @@ accepted_verdict kept a j cost looks header same accepted costs passed same_head
 
 pub returns-in_err-put_accepted-in-Ok-clause-err : goal.returns-in_err-put_accepted-in-Ok-clause-err
 returns-in_err-put_accepted-in-Ok-clause-err g c =
-    let verdict = accepted_verdict c.args.container.now (g.B.Blocking.subject c.args.blocking.now) c.in-Ok.accepted c.cost.result c.in-Ok.looks c.header-budget.result c.in-Ok.ensures.ok c.in-Ok.ensures.accepted c.cost.ensures c.in-Ok.ensures.looked c.header-budget.ensures.header in
+    let verdict = accepted_verdict c.args.container.now (g.B.Blocking.subject c.args.blocking.now) c.in-Ok.accepted.judged c.cost.result c.in-Ok.looks c.header-budget.result c.in-Ok.ensures.ok c.in-Ok.ensures.accepted c.cost.ensures c.in-Ok.ensures.looked c.header-budget.ensures.header in
     on_err c.from_residual.result (true, _, verdict, c.in_err-put_accepted-in-Ok.ensures.err)
 
 pub returns-in_ok-put_accepted-in-Ok-clause-ok : goal.returns-in_ok-put_accepted-in-Ok-clause-ok
 returns-in_ok-put_accepted-in-Ok-clause-ok g c =
-    let verdict = accepted_verdict c.args.container.now (g.B.Blocking.subject c.args.blocking.now) c.in-Ok.accepted c.cost.result c.in-Ok.looks c.header-budget.result c.in-Ok.ensures.ok c.in-Ok.ensures.accepted c.cost.ensures c.in-Ok.ensures.looked c.header-budget.ensures.header in
+    let verdict = accepted_verdict c.args.container.now (g.B.Blocking.subject c.args.blocking.now) c.in-Ok.accepted.judged c.cost.result c.in-Ok.looks c.header-budget.result c.in-Ok.ensures.ok c.in-Ok.ensures.accepted c.cost.ensures c.in-Ok.ensures.looked c.header-budget.ensures.header in
     (accepted_line c.cost.result c.header-budget.result.budget c.in-Ok.looks, verdict, c.in_ok-put_accepted-in-Ok.ensures.ok)

@@ -11,7 +11,7 @@ pub invariant_of-result : goal.invariant_of-result
 invariant_of-result g c =
     let accepted = c.plan.ensures.accepted in
     let is_container = subst (λ (kept : ContainerView). IsContainer kept accepted.plan) (sym c.plan.ensures.plan) accepted.is_container in
-    safe_start c.an_accepted_bench_never_traps.ensures.start c.args.accepted.now accepted _ _ _ c.piece_count.result c.assembly-assembly.ensures
+    safe_start c.an_accepted_bench_never_traps.ensures.start c.args.accepted.now.judged accepted _ _ _ c.piece_count.result c.assembly-assembly.ensures
     (c.of-bench.ensures.program accepted.plan is_container) c.piece_count.ensures.count c.of-bench.ensures.start
 
 pub returns-clause-start : goal.returns-clause-start

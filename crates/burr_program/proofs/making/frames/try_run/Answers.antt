@@ -1,5 +1,5 @@
-use Rattle.burr_command.specs.declared.job.PlanTask.TheVariants.{Try}
-use Rattle.burr_jobs.specs.PlanEnds.{AssemblyEnds}
+use Rattle.burr_tasks.specs.declared.task.Task.TheVariants.{Try}
+use Rattle.burr_tasks.specs.PlanEnds.{AssemblyEnds}
 use Rattle.burr_jobs.proofs.Common.Done.{container_is_done}
 use Rattle.burr_jobs.proofs.Common.Somehow.{ends_somehow}
 use Rattle.burr_program.proofs.making.frames.try_run.Goals as goal

@@ -51,7 +51,7 @@ pushed_is g c = c.in_ok-push.ensures.items ∙ ap (λ (n : ℤ). c.self.inside.a
 
 pub invariant_of-self-else-not-step_on : goal.invariant_of-self-else-not-step_on
 invariant_of-self-else-not-step_on g c =
-    subst (λ (l : List ℤ). IsStepping c.self.inside.accepted.now (stepping c.step_on.new.machine l) c.step_on.new.records) (sym (pushed_is g c))
+    subst (λ (l : List ℤ). IsStepping c.self.inside.accepted.now.judged (stepping c.step_on.new.machine l) c.step_on.new.records) (sym (pushed_is g c))
     (stays_stepping _ c.self.inside.machine c.step_on.new.machine c.self.inside.answers.items _ _ _ c.self.invariant (made g c).same (further g c).under_way)
 
 pub returns : goal.returns

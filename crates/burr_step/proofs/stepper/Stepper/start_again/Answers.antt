@@ -13,14 +13,14 @@ pub run_again-taken-requires-clause-under_way : goal.run_again-taken-requires-cl
 run_again-taken-requires-clause-under_way g c =
     let start = c.start-self-inside.ensures in
     subst (λ (l : List Undo). IsUnderWay (stepping c.start-self-inside.result []) l) (sym c.clear.ensures)
-    (restarted c.an_accepted_bench_never_traps.ensures.start c.self.inside.accepted.now (stepping c.self.inside.machine c.self.inside.answers.items)
+    (restarted c.an_accepted_bench_never_traps.ensures.start c.self.inside.accepted.now.judged (stepping c.self.inside.machine c.self.inside.answers.items)
     c.self.inside.records c.self.invariant c.start-self-inside.result start.assembly start.program start.start).1
 
 pub run_again-taken-requires-clause-run : goal.run_again-taken-requires-clause-run
 run_again-taken-requires-clause-run g c =
     let start = c.start-self-inside.ensures in
     let old = stepping c.self.inside.machine c.self.inside.answers.items in
-    let again = restarted c.an_accepted_bench_never_traps.ensures.start c.self.inside.accepted.now old c.self.inside.records c.self.invariant
+    let again = restarted c.an_accepted_bench_never_traps.ensures.start c.self.inside.accepted.now.judged old c.self.inside.records c.self.invariant
     c.start-self-inside.result start.assembly start.program start.start in
     let within : c.steps.result - c.from.result ≤ old.history.steps =
     subst (λ (n : ℕ). c.steps.result - c.from.result ≤ n) c.steps.ensures (at_most c.steps.result c.from.result) in
@@ -33,7 +33,7 @@ returns g c =
     let old = stepping c.self.inside.machine c.self.inside.answers.items in
     let now = c.run_again-taken.new.machine in
     let taken = c.run_again-taken.result in
-    let again = restarted c.an_accepted_bench_never_traps.ensures.start c.self.inside.accepted.now old c.self.inside.records c.self.invariant
+    let again = restarted c.an_accepted_bench_never_traps.ensures.start c.self.inside.accepted.now.judged old c.self.inside.records c.self.invariant
     c.start-self-inside.result start.assembly start.program start.start in
     let under_way = subst (λ (l : List ℤ). IsUnderWay (stepping now (take taken l)) c.run_again-taken.new.records) c.deref.ensures.value c.run_again-taken.ensures.under_way in
     let within : c.args.steps ≤ old.history.steps = subst (λ (s : Stepping). c.args.steps ≤ s.history.steps) (sym c.self.view_is) c.requires in

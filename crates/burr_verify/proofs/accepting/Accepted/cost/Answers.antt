@@ -35,5 +35,5 @@ returns g c =
     (entry_cost j (frame_of c.frame-entry.result) c.self.invariant c.frame-entry.ensures.plan) in
     let fits : FitsSigned w64 c.result.inside.constant = search rules in
     simp to_z-of_z
-    (subst (λ (k : Judged). MainCosts k (nat_abs c.result.inside.constant)) c.self.view_is
+    (subst (λ (k : Judged). MainCosts k (nat_abs c.result.inside.constant)) (ap (λ a. a.judged) c.self.view_is)
     (cost.costs (nat_abs c.result.inside.constant) (number_of c.result.inside.constant cost.least)))

@@ -1,0 +1,31 @@
+-- How `explain` ends: what is printed of a word or a line, and when nothing is explained.
+use Rattle.std.specs.Prelude.{◌≡◌, ◌⊎◌, ℕ, List, Contains}
+use Rattle.burr_io.specs.Sink.{SinkView}
+use Rattle.burr_explain.specs.declared.explanation.Explanation.{Explanation}
+use Rattle.burr_explain.specs.Asked.{IsKeyOf, IsAskedBy, known_keys}
+use Rattle.burr_explain.specs.Layout.{explanation_text}
+use Rattle.burr_tasks.specs.Faults.{not_explained, output_failed}
+use Rattle.burr_tasks.specs.PlanEnds.{Ends, HoldsFrontOfEnd}
+use Rattle.burr_tasks.specs.declared.status.Status.TheVariants.{Done}
+
+-- the line's key is one of those that are explained, and it is this explanation's
+abbrev pub IsExplainedBy : List ℕ → Explanation → Type 0
+IsExplainedBy line e =
+    (key : List ℕ) → IsKeyOf line key → Contains known_keys key × IsAskedBy key e
+
+-- the line's key is none of those that are explained
+abbrev pub IsUnexplained : List ℕ → Type 0
+IsUnexplained line = (key : List ℕ) → IsKeyOf line key → ¬ Contains known_keys key
+
+-- an explanation that the line asks for is printed
+abbrev pub ExplainEnds : List ℕ → Ends
+ExplainEnds line output status =
+    (status ≡ Done)
+    × ((e : Explanation) × IsExplainedBy line e × (output ≡ explanation_text e))
+
+-- why there is none, by what is told on standard error: nothing is explained under the line, and the
+-- sink was left alone; or the sink failed
+abbrev pub FailsToExplain : {S : Type 0} → SinkView S → S → S → List ℕ → List ℕ → Type 0
+FailsToExplain sink before after line told =
+    (IsUnexplained line × (told ≡ not_explained line) × (after ≡ before))
+    ⊎ ((told ≡ output_failed) × HoldsFrontOfEnd sink before after (ExplainEnds line))

@@ -1,0 +1,4 @@
+pub mod Faults
+pub mod PlanEnds
+pub mod Refusals
+pub mod Statuses
