@@ -1,3 +1,4 @@
 pub mod Common
+mod ExplainLaws
 mod Explaining
 mod FileEnding

@@ -6,6 +6,7 @@ mod explain_command;
 mod file_commands;
 mod files;
 mod handing;
+mod laws;
 mod notes;
 mod plan_commands;
 
@@ -13,5 +14,6 @@ pub use explain_command::explain_line;
 pub use file_commands::{assemble_file, list_file, upgrade_file};
 pub use files::{are_one_file, read_file, write_file};
 pub use handing::hand_on;
+pub use laws::each_rule_and_trap_is_explained;
 pub use notes::add_notes;
 pub use plan_commands::use_files;
