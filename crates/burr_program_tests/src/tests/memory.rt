@@ -7,6 +7,9 @@ use std::os::unix::fs::MetadataExt;
 /// The most blocks of memory that are taken.
 const MOST_BLOCKS: usize = 60_000;
 
+/// How many bytes farther down the stack a call with ample memory is made.
+const DEEPER: usize = 16_384;
+
 /// Takes all memory that can be had, in blocks of halving sizes.
 fn take_all_memory(alloc: Global, blocks: &mut Vec<Vec<u8>>) {
     let mut size = 1usize << 46;
@@ -41,16 +44,19 @@ fn is_want<T: Files>(rt: &T, end: &End, made: Option<u64>) -> bool {
     end.is(4, "", "no memory\n") && number_of_made(rt) == made
 }
 
-/// How a call ends with ample memory. It is made a second time farther down the stack, beside the first
-/// end: calls that tell a fault need somewhat more of the stack than those that end well.
+/// How a call ends with ample memory. It is made farther down the stack than calls without memory: those
+/// that tell a fault need somewhat more of the stack than those that end well.
 #[inline(never)]
 fn ample_end<T: Files + AllocGlobal>(rt: &T, words: &[String], input: &str) -> End {
-    let first = end_over(rt, words, Drips::of(input));
-    let second = end_over(rt, words, Drips::of(input));
-    if second.is_like(&first) {
-        second
+    // what is looked at after the call stands above it on the stack
+    let mut above = [0u8; DEEPER];
+    let count = input.len().min(DEEPER);
+    above[..count].copy_from_slice(&input.as_bytes()[..count]);
+    let end = end_over(rt, words, Drips::of(input));
+    if above.starts_with(&input.as_bytes()[..count]) {
+        end
     } else {
-        first
+        End::new()
     }
 }
 
@@ -193,7 +199,7 @@ fn tells_a_want_of_memory_between_commands(rt: HostRuntime) {
     let words = words_of(&rt, "burr step cup cup.bpln");
     let greedy = Greedy::commands(&rt);
     // with ample memory first, as above
-    let ample = end_over(&rt, &words, Drips::of(COMMANDS));
+    let ample = ample_end(&rt, &words, COMMANDS);
     let answered = end_over(&rt, &words, Drips::of(ANSWERED));
     let end = end_over(&rt, &words, greedy);
     assert_case(&rt, "ample", ample.status == 0 && answered.status == 0);
