@@ -7,7 +7,7 @@ use std::os::unix::fs::MetadataExt;
 /// The most blocks of memory that are taken.
 const MOST_BLOCKS: usize = 60_000;
 
-/// How many bytes farther down the stack a call with ample memory is made.
+/// How many bytes farther down the stack calls are made for it to grow.
 const DEEPER: usize = 16_384;
 
 /// Takes all memory that can be had, in blocks of halving sizes.
@@ -44,10 +44,10 @@ fn is_want<T: Files>(rt: &T, end: &End, made: Option<u64>) -> bool {
     end.is(4, "", "no memory\n") && number_of_made(rt) == made
 }
 
-/// How a call ends with ample memory. It is made farther down the stack than calls without memory: those
-/// that tell a fault need somewhat more of the stack than those that end well.
+/// How a call ends that is made farther down the stack than others: those that tell a fault need
+/// somewhat more of the stack than those that end well.
 #[inline(never)]
-fn ample_end<T: Files + AllocGlobal>(rt: &T, words: &[String], input: &str) -> End {
+fn end_farther_down<T: Files + AllocGlobal>(rt: &T, words: &[String], input: &str) -> End {
     // what is looked at after the call stands above it on the stack
     let mut above = [0u8; DEEPER];
     let count = input.len().min(DEEPER);
@@ -68,9 +68,7 @@ fn is_want_told<T: Files + AllocGlobal>(
     input: &str,
     blocks: &mut Vec<Vec<u8>>,
 ) -> bool {
-    // with ample memory first: then the stack has grown farther than the calls need, which it can't do
-    // while all memory is taken
-    let right = ample_end(rt, words, input);
+    let right = end_over(rt, words, Drips::of(input));
     let made = number_of_made(rt);
     take_all_memory(rt.alloc(), blocks);
     let mut has_wanted = false;
@@ -94,6 +92,15 @@ fn tells_want<T: Abort + Files + AllocGlobal>(rt: &T, line: &str, input: &str) -
     }
 }
 
+/// Lets the stack grow farther than these command lines need. It can't do so once all memory was taken:
+/// blocks lie beside it then, and some of their room is kept when they are given back.
+fn grow_stack<T: Abort + Files + AllocGlobal>(rt: &T, lines: &str, input: &str) {
+    for line in lines.lines() {
+        let end = end_farther_down(rt, &words_of(rt, line), input);
+        assert_case(rt, line, end.status != 4);
+    }
+}
+
 /// Asserts that of command lines that have an input.
 fn assert_wants<T: Abort + Files + AllocGlobal>(rt: &T, lines: &str, input: &str) {
     for line in lines.lines() {
@@ -112,6 +119,8 @@ burr --
 
 #[test]
 fn tells_a_want_of_memory(rt: HostRuntime) {
+    grow_stack(&rt, "burr", DUO);
+    grow_stack(&rt, WITHOUT_FILES, "");
     assert_wants(&rt, "burr", DUO);
     assert_wants(&rt, WITHOUT_FILES, "");
 }
@@ -150,6 +159,8 @@ $burr list made.new0
 #[test]
 fn tells_a_want_of_memory_for_files(rt: HostRuntime) {
     assert_transcript(&rt, EXAMPLES);
+    grow_stack(&rt, WITH_INPUT, "2\n");
+    grow_stack(&rt, WITH_FILES, "");
     assert_wants(&rt, WITH_INPUT, "2\n");
     assert_wants(&rt, WITH_FILES, "");
     assert_transcript(&rt, BESIDE);
@@ -198,8 +209,8 @@ fn tells_a_want_of_memory_between_commands(rt: HostRuntime) {
     assert_transcript(&rt, EXAMPLES);
     let words = words_of(&rt, "burr step cup cup.bpln");
     let greedy = Greedy::commands(&rt);
-    // with ample memory first, as above
-    let ample = ample_end(&rt, &words, COMMANDS);
+    // farther down the stack first, as above
+    let ample = end_farther_down(&rt, &words, COMMANDS);
     let answered = end_over(&rt, &words, Drips::of(ANSWERED));
     let end = end_over(&rt, &words, greedy);
     assert_case(&rt, "ample", ample.status == 0 && answered.status == 0);
