@@ -6,6 +6,7 @@ ghost use Rattle.burr_forms.specs.Views.Results.{IsFormOf};
 use crate::limits::MOST_FORM_NUMBER;
 use crate::wide::Wide;
 use std::marker::Model;
+use thiserror::Error;
 
 /// A linear form over at most eight symbols. Its value is the constant plus each coefficient times
 /// the value of its symbol; the coefficient of a symbol that isn't there is 0.
@@ -26,7 +27,8 @@ impl Model for Form {
 }
 
 /// A number of a form would lie outside ±2^40.
-#[derive(Clone, Copy, Debug, PartialEq, Eq)]
+#[derive(Clone, Copy, Debug, PartialEq, Eq, Error)]
+#[error("a number of the form lies below -2^40 or above 2^40")]
 pub struct FormTooLarge;
 
 impl Form {
