@@ -5,6 +5,7 @@ ghost use Rattle.burr_code.specs.Meaning.{meaning};
 
 use crate::instr::Instr;
 use crate::labels::Labels;
+use byteorder::{BigEndian, ByteOrder};
 use std::alloc::{AllocError, Global};
 
 /// The bytes of an instruction whose operands are in their ranges. An error is want of memory.
@@ -39,34 +40,37 @@ pub fn encode(alloc: Global, instr: &Instr<'_>) -> Result<Vec<u8>, AllocError>
 fn word(alloc: Global, first: u8, word: u16) -> Result<Vec<u8>, AllocError>
     ensures { IfOk result (λ bytes. bytes.items ≡ first ∷ big_bytes 2 word) }
 {
-    let [high, low] = word.to_be_bytes();
-    Vec::from_slice(alloc, &[first, high, low])
+    let mut bytes = [first, 0, 0];
+    BigEndian::write_u16(&mut bytes[1..], word);
+    Vec::from_slice(alloc, &bytes)
 }
 
 /// The bytes of a `grip`.
 fn grip(alloc: Global, set: u32) -> Result<Vec<u8>, AllocError>
     ensures { IfOk result (λ bytes. bytes.items ≡ 0x10 ∷ big_bytes 4 set) }
 {
-    let mut bytes = Vec::from_slice(alloc, &[0x10])?;
-    bytes.extend_from_slice(&set.to_be_bytes())?;
-    Ok(bytes)
+    let mut bytes = [0x10, 0, 0, 0, 0];
+    BigEndian::write_u32(&mut bytes[1..], set);
+    Vec::from_slice(alloc, &bytes)
 }
 
 /// The bytes of a `down`.
 fn down(alloc: Global, slot: u8, label: u16) -> Result<Vec<u8>, AllocError>
     ensures { IfOk result (λ bytes. bytes.items ≡ 0x21 ∷ slot ∷ big_bytes 2 label) }
 {
-    let [high, low] = label.to_be_bytes();
-    Vec::from_slice(alloc, &[0x21, slot, high, low])
+    let mut bytes = [0x21, slot, 0, 0];
+    BigEndian::write_u16(&mut bytes[2..], label);
+    Vec::from_slice(alloc, &bytes)
 }
 
 /// The bytes of an `ask`.
 fn ask(alloc: Global, low: i16, high: i16) -> Result<Vec<u8>, AllocError>
     ensures { IfOk result (λ bytes. bytes.items ≡ 0x22 ∷ signed_word low ++ signed_word high) }
 {
-    let mut bytes = word(alloc, 0x22, low.cast_unsigned())?;
-    bytes.extend_from_slice(&high.to_be_bytes())?;
-    Ok(bytes)
+    let mut bytes = [0x22, 0, 0, 0, 0];
+    BigEndian::write_i16(&mut bytes[1..], low);
+    BigEndian::write_i16(&mut bytes[3..], high);
+    Vec::from_slice(alloc, &bytes)
 }
 
 /// The bytes of a `pick`.
