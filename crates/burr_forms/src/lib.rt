@@ -21,7 +21,7 @@ pub use condition::{Asking, Condition, NotNegative};
 pub use form::{Form, FormTooLarge};
 pub use form_values::{FormValues, Point};
 pub use guards::Guards;
-pub use laws::the_points_are_given;
+pub use laws::{the_limits_are_these, the_points_are_given};
 pub use points::Points;
 pub use ranges::Box8;
 pub use relevant::first_failing;
