@@ -1,42 +1,44 @@
 ghost use Rattle.std.specs.Prelude.{◌≡◌};
 ghost use Rattle.burr_state.specs.Rules.TrapNames.{trap_number, trap_name};
 
+use thiserror::Error;
+
 /// Why an instruction could not be carried out. It changed nothing then.
-#[derive(Clone, Copy, Debug, PartialEq, Eq)]
+#[derive(Clone, Copy, Debug, PartialEq, Eq, Error)]
 pub enum Trap {
-    /// After the unit step two pieces of the tray would overlap.
+    #[error("after the unit step two pieces of the tray would overlap")]
     Collision,
-    /// A piece of the group is not in the current tray, is apart, or isn't there.
+    #[error("a piece of the group is not in the current tray, is apart, or isn't there")]
     GripOff,
-    /// The grip isn't free along the direction of the way out.
+    #[error("the grip isn't free along the direction of the way out")]
     NotFree,
-    /// The grip is empty, or for a way out the whole tray.
+    #[error("the grip is empty, or for a way out the whole tray")]
     BadGroup,
-    /// The tray that the group would go to has pieces.
+    #[error("the tray that the group would go to has pieces")]
     TrayInUse,
-    /// There are fewer operands than the instruction takes.
+    #[error("there are fewer operands than the instruction takes")]
     MissingOperand,
-    /// The operands would be more than eight.
+    #[error("the operands would be more than eight")]
     StackFull,
-    /// The slot is empty.
+    #[error("the slot is empty")]
     EmptySlot,
-    /// There is no such label.
+    #[error("there is no such label")]
     BadJump,
-    /// No instruction stands there.
+    #[error("no instruction stands there")]
     BadCode,
-    /// There is no such procedure, or its number is not above that of the running one.
+    #[error("there is no such procedure, or its number is not above that of the running one")]
     BadCall,
-    /// The count of a loop is below 0.
+    #[error("the count of a loop is below 0")]
     BadCount,
-    /// The result lies outside -32,767 to 32,767.
+    #[error("the result lies outside -32,767 to 32,767")]
     NumberRange,
-    /// After the unit step a piece would lie outside -256 to 256 a coordinate.
+    #[error("after the unit step a piece would lie outside -256 to 256 a coordinate")]
     OffBench,
-    /// The run would end while a piece is not apart.
+    #[error("the run would end while a piece is not apart")]
     NotApart,
-    /// `halt` stands outside main, or `ret` in it.
+    #[error("`halt` stands outside main, or `ret` in it")]
     Misplaced,
-    /// The slot is a parameter of the procedure.
+    #[error("the slot is a parameter of the procedure")]
     ParamWritten,
 }
 
