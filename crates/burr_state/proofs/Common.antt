@@ -2,6 +2,7 @@ pub mod CallLaws
 pub mod Calls
 pub mod Existence
 pub mod Leading
+pub mod Motions
 pub mod OneRun
 pub mod Outcomes
 pub mod Pieces

@@ -1,4 +1,5 @@
 pub mod AsideLaws
+pub mod MotionLaws
 pub mod PartLaws
 pub mod RunLaws
 pub mod SpaceLaws

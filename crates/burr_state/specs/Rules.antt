@@ -1,6 +1,7 @@
 pub mod Bench
 pub mod Calls
 pub mod Control
+pub mod Motions
 pub mod Next
 pub mod Numbers
 pub mod Questions

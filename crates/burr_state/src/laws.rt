@@ -1,5 +1,6 @@
 ghost use Rattle.burr_state.specs.Rules.Undo.{RecordsGoBack, RecordsTell};
 ghost use Rattle.burr_state.specs.Laws.AsideLaws.{GroupGoesAside};
+ghost use Rattle.burr_state.specs.Laws.MotionLaws.{TraysAreFew, MotionsAreOfPieces, MotionsAreWithinBudget};
 ghost use Rattle.burr_state.specs.Laws.PartLaws.{PartsAreCounted};
 ghost use Rattle.burr_state.specs.Laws.SpaceLaws.{GripStays, NoOverlapStays, NoneLoneStays};
 ghost use Rattle.burr_state.specs.Laws.SpaceLaws.{HomesAreDisjoint, GripIsHere, PiecesNeverOverlap, NoPieceIsLone};
@@ -66,6 +67,18 @@ pub fn pieces_never_overlap()
     ensures grip { GripIsHere }
     ensures no_overlap { PiecesNeverOverlap }
     ensures none_lone { NoPieceIsLone }
+{}
+
+/// Wherever a run comes to, the current tray and that of each piece that is not apart are below 32,
+/// and a motion that a call then tells of is of some of the pieces, one at least, in such a tray.
+pub fn motions_are_of_pieces_in_trays()
+    ensures trays { TraysAreFew }
+    ensures motions { MotionsAreOfPieces }
+{}
+
+/// A run makes a motion a step at most, and no more steps than its budget.
+pub fn motions_are_within_the_budget()
+    ensures { MotionsAreWithinBudget }
 {}
 
 /// A step's record gives back the state before it, and two states with one record that come to one

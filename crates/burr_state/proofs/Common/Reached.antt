@@ -55,10 +55,11 @@ kept_by_calls setup budget Fact _ _ _ _ _ keeps (answered s new last low high an
 -- The start
 
 -- where the pieces lie at the start
-abbrev home_places : List (List Cell) → List (Placement Cell)
+abbrev pub home_places : List (List Cell) → List (Placement Cell)
 home_places homes = map (λ _. On 0 origin) homes
 
-lies_at_start : (homes : List (List Cell)) (p tray : ℕ) (offset : Cell) → LiesAt (home_places homes) p tray offset → (0 ≡ tray) × (origin ≡ offset)
+-- a piece lies at home in tray 0 at the start
+pub lies_at_start : (homes : List (List Cell)) (p tray : ℕ) (offset : Cell) → LiesAt (home_places homes) p tray offset → (0 ≡ tray) × (origin ≡ offset)
 lies_at_start [] p tray offset lies = absurd (none-some _ lies)
 lies_at_start (home ∷ homes) zero tray offset lies = let same = same_Some _ _ lies in (same_tray 0 tray origin offset same, same_position 0 tray origin offset same)
 lies_at_start (home ∷ homes) (suc p) tray offset lies = lies_at_start homes p tray offset lies
