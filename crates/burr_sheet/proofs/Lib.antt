@@ -7,6 +7,7 @@ pub mod LineByLine
 pub mod LineMotions
 pub mod LineTexts
 pub mod LineWords
+pub mod LinesOfRuns
 pub mod LongestLines
 pub mod Motions
 pub mod OneClosing

@@ -6,7 +6,8 @@ use Rattle.burr_code.specs.declared.limits.TheConstants.{MOST_BUDGET}
 use Rattle.burr_assembly.specs.Rules.Homes.{names_of}
 use Rattle.burr_state.specs.declared.motion.Motion.{Motion}
 use Rattle.burr_sheet.specs.declared.expanding.line.MotionLine.{MotionLine}
-use Rattle.burr_sheet.specs.Rules.Expanding.{AreLinesOf, IsMotionOf}
+use Rattle.burr_state.specs.Rules.Motions.{IsMotionOf}
+use Rattle.burr_sheet.specs.Rules.Expanding.{AreLinesOf}
 use Rattle.burr_sheet.specs.Rules.SheetText.{MoveLine, longest_lines, move_line, move_lines, motion_lines}
 use Rattle.burr_sheet.specs.Laws.SheetLaws.{OneListOfMotions}
 use Rattle.burr_sheet.specs.Views.MotionLines.{BeginsWithLine, IsLineOf, joins, joins_last, line_of, motion_count, motions_of}

@@ -1,5 +1,5 @@
 ghost use Rattle.burr_assembly.specs.Rules.Text.{IsAssembly};
-ghost use Rattle.burr_sheet.specs.Laws.SheetLaws.{EndsInClosing, ClosesInOneLine, ClosesOnce, LinesAreLongest, OneListOfMotions};
+ghost use Rattle.burr_sheet.specs.Laws.SheetLaws.{EndsInClosing, ClosesInOneLine, ClosesOnce, LinesAreLongest, LinesOfRunsAreOfMotions, OneListOfMotions};
 
 use burr_assembly::Assembly;
 
@@ -19,6 +19,12 @@ pub fn lines_are_longest()
 /// A text is the lines of one list of motions of an assembly's pieces at most.
 pub fn lines_are_of_one_list_of_motions()
     ensures { OneListOfMotions }
+{}
+
+/// The move lines of each run of an assembly's pieces, whatever is answered, are lines that `expand`
+/// reads, and give back its motions, where the budget is at most 1,000,000.
+pub fn move_lines_of_runs_are_expanded()
+    ensures { LinesOfRunsAreOfMotions }
 {}
 
 /// What a reference to an assembly holds is one.

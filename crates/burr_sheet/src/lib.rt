@@ -8,5 +8,8 @@ mod sheet;
 
 pub use burr_state::Closing;
 pub use expanding::expand;
-pub use laws::{a_sheet_closes_once, lines_are_longest, lines_are_of_one_list_of_motions};
+pub use laws::{
+    a_sheet_closes_once, lines_are_longest, lines_are_of_one_list_of_motions,
+    move_lines_of_runs_are_expanded,
+};
 pub use sheet::{Sheet, put_names};

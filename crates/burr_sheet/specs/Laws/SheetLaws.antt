@@ -1,13 +1,15 @@
 -- What holds of all sheets.
-use Rattle.std.specs.Prelude.{◌≡◌, ◌<◌, ℕ, List, [], ◌∷◌, ◌++◌, false, flat_map}
+use Rattle.std.specs.Prelude.{◌≡◌, ◌<◌, ◌≤◌, ℕ, ℤ, List, [], ◌∷◌, ◌++◌, false, flat_map}
 use Rattle.std.specs.List.{All}
 use Rattle.burr_text.specs.Lines.{IsUnended, IsLines}
 use Rattle.burr_assembly.specs.Rules.Text.{Assembly, IsAssembly}
-use Rattle.burr_assembly.specs.Rules.Homes.{names_of}
+use Rattle.burr_assembly.specs.Rules.Homes.{homes_of, names_of}
 use Rattle.burr_state.specs.declared.motion.Motion.{Motion}
 use Rattle.burr_state.specs.declared.closing.Closing.{Closing}
+use Rattle.burr_state.specs.Rules.Bench.{Program, running, start}
+use Rattle.burr_state.specs.Rules.Run.{Run}
 use Rattle.burr_sheet.specs.Rules.Expanding.{AreLinesOf}
-use Rattle.burr_sheet.specs.Rules.SheetText.{MoveLine, sheet, closing_line, longest_lines}
+use Rattle.burr_sheet.specs.Rules.SheetText.{MoveLine, sheet, closing_line, longest_lines, motion_lines}
 use Rattle.burr_sheet.specs.Views.MotionLines.{motion_count, motions_of}
 use Rattle.burr_sheet.specs.Views.SheetUnderWay.{is_one}
 
@@ -53,3 +55,14 @@ abbrev pub OneListOfMotions : Type 0
 OneListOfMotions =
     (a : Assembly) (text : List ℕ) (motions others : List Motion) → IsAssembly a
     → AreLinesOf (names_of a) text motions → AreLinesOf (names_of a) text others → motions ≡ others
+
+-- the move lines of a run of a program on an assembly are the lines of its motions, whatever is
+-- answered: no more motions than fit, each of some of the pieces, in a tray
+abbrev pub LinesOfRunsAreOfMotions : Type 0
+LinesOfRunsAreOfMotions =
+    (a : Assembly) (program : Program) (answers : List ℤ) (motions : List Motion) (steps : ℕ)
+    (closing : Closing)
+    → program.budget ≤ 1000000
+    → Run (running (homes_of a) program) program.budget (start (running (homes_of a) program))
+    answers motions steps closing
+    → AreLinesOf (names_of a) (motion_lines (names_of a) motions) motions

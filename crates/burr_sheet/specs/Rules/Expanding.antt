@@ -1,14 +1,9 @@
 -- Texts that are the lines of motions, and those motions.
-use Rattle.std.specs.Prelude.{◌≡◌, ◌≢◌, ◌<◌, ◌≤◌, ◌^◌, ℕ, List, length, All}
-use Rattle.burr_code.specs.declared.limits.TheConstants.{MOST_BUDGET, TRAYS}
+use Rattle.std.specs.Prelude.{◌≡◌, ◌≤◌, ℕ, List, length, All}
+use Rattle.burr_code.specs.declared.limits.TheConstants.{MOST_BUDGET}
 use Rattle.burr_state.specs.declared.motion.Motion.{Motion}
+use Rattle.burr_state.specs.Rules.Motions.{IsMotionOf}
 use Rattle.burr_sheet.specs.Rules.SheetText.{motion_lines}
-
--- a motion of some of so many pieces, one at least, in a tray
-pub record IsMotionOf (pieces : ℕ) (m : Motion) : Type 0 where
-  pub some : m.group ≢ 0
-  pub group : m.group < 2 ^ pieces
-  pub tray : m.tray < TRAYS
 
 -- The text is the lines of these motions, of pieces with these names; they are no more than a run
 -- makes.
