@@ -1,10 +1,9 @@
 -- For crates above: in which trays pieces lie along each run, and which motions they make.
-use Rattle.std.proofs.Common.{◌≡◌, ◌≢◌, ◌⊎◌, ℕ, zero, suc, ◌+◌, ◌/◌, ◌^◌, ◌<◌, ◌≤◌, List, [], ◌∷◌, ◌++◌, length, map, All, Option, Some, None, Result, Ok, Err, inl, inr, refl, sym, ap, subst, ◌∙◌, arith, Bool, true, false}
+use Rattle.std.proofs.Common.{◌≡◌, ◌≢◌, ℕ, zero, suc, ◌+◌, ◌/◌, ◌^◌, ◌<◌, ◌≤◌, List, ◌++◌, length, All, Option, Some, None, Ok, inl, inr, refl, sym, ap, subst, ◌∙◌, arith, Bool, true, false}
 use Rattle.std.specs.Prelude.{ℤ, pos}
 use Rattle.std.specs.Option.{option_to_list}
-use Rattle.std.specs.Int.{bit_at}
 use Rattle.std.proofs.lemmas.List.{length-map}
-use Rattle.std.proofs.lemmas.List.Elements.{All-nil, All-cons, All-append}
+use Rattle.std.proofs.lemmas.List.Elements.{All-nil, All-cons}
 use Rattle.std.proofs.lemmas.Nat.{bit_set_by_shift}
 use Rattle.std.proofs.lemmas.Nat.Bits.{bit_at-suc, shr_and_one}
 use native.Mathlib.Decide.{ℕ_discrete}
@@ -22,16 +21,14 @@ use Rattle.burr_state.specs.declared.mode.Mode.{Mode}
 use Rattle.burr_state.specs.declared.mode.Mode.TheVariants.{Running, Ended, Trapped}
 use Rattle.burr_state.specs.declared.motion.Motion.{Motion}
 use Rattle.burr_state.specs.declared.closing.Closing.{Closing}
-use Rattle.burr_state.specs.declared.progress.Progress.{Progress}
 use Rattle.burr_state.specs.declared.progress.Progress.TheVariants as progress
-use Rattle.burr_state.specs.declared.trap.Trap.{Trap}
 use Rattle.burr_state.specs.Rules.Bench.{BenchState, BenchProcedure, Setup, start}
 use Rattle.burr_state.specs.Rules.Motions.{IsMotionOf}
 use Rattle.burr_state.specs.Rules.Next.{Next, Goes, Asks, Traps}
 use Rattle.burr_state.specs.Rules.Questions.{Takes}
 use Rattle.burr_state.specs.Rules.Space.{motion_of, moved_places}
-use Rattle.burr_state.specs.Rules.Step.{Executes, NextIs, TakesAnswer, CallIn, Called, IsStepFrom}
-use Rattle.burr_state.specs.Rules.Run.{Run, ends, stops, traps, waits, passes, takes, goes, IsGoing}
+use Rattle.burr_state.specs.Rules.Step.{Executes, NextIs, CallIn}
+use Rattle.burr_state.specs.Rules.Run.{Run, ends, stops, traps, waits, passes, takes, goes}
 use Rattle.burr_state.specs.Laws.RunLaws.{IsUnderWay}
 use Rattle.burr_state.specs.Laws.SpaceLaws.{IsGripHere, StepsTo}
 use Rattle.burr_state.specs.Laws.MotionLaws.{IsInTrays, TraysAreFew, MotionsAreOfPieces, MotionsAreWithinBudget}
