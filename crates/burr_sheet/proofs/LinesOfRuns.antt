@@ -1,8 +1,8 @@
 -- The move lines of each run are those of its motions.
-use Rattle.std.proofs.Common.{◌≡◌, ◌≤◌, ◌+◌, ℕ, ◌∷◌, [], List, length, All, refl, sym, subst, ◌∙◌, arith, inl}
+use Rattle.std.proofs.Common.{ℕ, All, refl, sym, subst, ◌∙◌, arith, inl}
 use Rattle.std.proofs.lemmas.List.{length-map}
 use Rattle.burr_assembly.specs.Rules.Text.{Piece}
-use Rattle.burr_assembly.specs.Rules.Homes.{home_of, homes_of, names_of}
+use Rattle.burr_assembly.specs.Rules.Homes.{home_of, homes_of}
 use Rattle.burr_state.specs.Rules.Bench.{Setup, running, start}
 use Rattle.burr_state.specs.Rules.Motions.{IsMotionOf}
 use Rattle.burr_state.proofs.Common.Motions.{motions_of_run, motions_are_within_budget}
