@@ -40,15 +40,32 @@ counted_down v f s = record (guarded (one_less f) s) { slots = set s.slots v (So
 abbrev pub counted_out : Form → AbstractState → AbstractState
 counted_out f s = guarded (times (neg_ℤ (pos 1)) f) s
 
-abbrev pub down_rule : FramedProcedure → AbstractState → ℕ → ℕ → Rest
-down_rule here s v label =
+-- A counter's form can be lowered, is negative at no point, and leaves room for a guard; and then
+-- what follows, of the state that has paid.
+abbrev pub lowering : AbstractState → Form → (AbstractState → Rest) → Rest
+lowering s f rest =
+    needs (IsSmallForm (one_less f)) (plainly rules.V26)
+    (everywhere s (λ point. pos 0 ≤ℤ value point f) rules.V11
+    (needs (length s.guards < 8) (plainly rules.V25) (paying s rest)))
+
+-- The checks of `down` in their order, up to its cost, and then what follows: of the counter's form,
+-- the state that has paid, and the label's frame.
+abbrev pub counting_down : FramedProcedure → AbstractState → ℕ → ℕ
+    → (Form → AbstractState → Frame → Rest) → Rest
+counting_down here s v label rest =
     finds (slice_get here.labels label) (plainly rules.V10) λ to.
     needs (here.parameters ≤ v) (plainly rules.V9)
     (finds (get_or s.slots v None) (plainly rules.V8) λ f.
-    needs (IsSmallForm (one_less f)) (plainly rules.V26)
-    (everywhere s (λ point. pos 0 ≤ℤ value point f) rules.V11
-    (needs (length s.guards < 8) (plainly rules.V25)
-    (paying s λ paid. arriving (counted_down v f paid) to.1 (falls_through (counted_out f paid))))))
+    lowering s f λ paid. rest f paid to.1)
+
+-- where `down` goes on at its label, a second state
+abbrev pub branch_rule : FramedProcedure → AbstractState → ℕ → ℕ → Rest
+branch_rule here s v label =
+    counting_down here s v label λ f paid to. falls_through (counted_down v f paid)
+
+abbrev pub down_rule : FramedProcedure → AbstractState → ℕ → ℕ → Rest
+down_rule here s v label = counting_down here s v label λ f paid to.
+    arriving (counted_down v f paid) to (falls_through (counted_out f paid))
 
 -- Calls
 

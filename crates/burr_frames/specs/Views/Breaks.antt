@@ -1,9 +1,9 @@
 -- What a broken rule of the code stands for, and what a call of a rule says of the verdict.
-use Rattle.std.specs.Prelude.{◌≡◌, ◌⊎◌, ⊤, pos, ◌≤ℤ◌, Option, Some, None, Result, Ok, Err, MatchResult, option_map}
+use Rattle.std.specs.Prelude.{◌≡◌, ◌⊎◌, ⊤, ℕ, ◌≤◌, pos, ◌≤ℤ◌, get_or, Option, Some, None, Result, Ok, Err, MatchResult, option_map}
 use Rattle.burr_forms.specs.Rules.Forms.{Form, Point, value, one_less, IsSmallForm}
 use Rattle.burr_container.specs.declared.frame_ref.FrameRef.{FrameRef}
 use Rattle.burr_container.specs.Views.Refs.{frame_of}
-use Rattle.burr_frames.specs.Rules.FramedPlans.{framed}
+use Rattle.burr_frames.specs.Rules.FramedPlans.{FramedProcedure, framed}
 use Rattle.burr_frames.specs.declared.rule.Rule.{Rule}
 use Rattle.burr_frames.specs.declared.rule.Rule.TheVariants as rules
 use Rattle.burr_frames.specs.declared.breaking.Break.{Break}
@@ -33,6 +33,11 @@ abbrev pub next_verdict : AbstractState → Result ⊤ Break → Verdict
 next_verdict s (Ok _) = FallsThrough s
 next_verdict s (Err b) = Breaks (broken_of b)
 
+-- control goes on with the state that is given, or a rule is broken
+abbrev pub branch_verdict : Result AbstractState Break → Verdict
+branch_verdict (Ok s) = FallsThrough s
+branch_verdict (Err b) = Breaks (broken_of b)
+
 -- no state is left after, or a rule is broken
 abbrev pub last_verdict : Result ⊤ Break → Verdict
 last_verdict (Ok _) = NoSuccessor
@@ -61,6 +66,14 @@ pub record IsPaid (s : AbstractState) (cost : Form) : Type 0 where
 
 abbrev pub Pays : AbstractState → Result Form Break → Type 0
 Pays s result = MatchResult result (IsPaid s) (CannotPay s)
+
+-- the form in slot v, which is no parameter; or which rule is broken where there is none
+abbrev pub FindsCounter : FramedProcedure → AbstractState → ℕ → Result Form Break → Type 0
+FindsCounter here s v result =
+    MatchResult result
+    (λ f. (here.parameters ≤ v) × (get_or s.slots v None ≡ Some f))
+    (λ b. ((¬ (here.parameters ≤ v)) × (broken_of b ≡ plain_break rules.V9))
+    ⊎ ((here.parameters ≤ v) × (get_or s.slots v None ≡ None) × (broken_of b ≡ plain_break rules.V8)))
 
 -- The state arrives at a frame, or does not; nothing is said of what follows.
 abbrev pub ArrivesOrBreaks : AbstractState → FrameRef → Result ⊤ Break → Type 0

@@ -1,11 +1,11 @@
 //! The rules of the instructions of the flow of control.
 
-ghost use Rattle.std.specs.Prelude.{◌≡◌, ◌<◌, ◌↔◌, IsTrue, IfErr, length, pos, neg_ℤ};
+ghost use Rattle.std.specs.Prelude.{◌≡◌, ◌<◌, ◌↔◌, IsTrue, IfOk, IfErr, pos, neg_ℤ};
 ghost use Rattle.burr_code.specs.Places.{AllApart};
-ghost use Rattle.burr_forms.specs.Rules.Forms.{Form as FormOf, IsSmallForm, one_less, times};
-ghost use Rattle.burr_frames.specs.Rules.ControlRules.{halt_rule, jump_rule, down_rule, counted_down};
-ghost use Rattle.burr_frames.specs.Views.Breaks.{next_verdict, last_verdict, ArrivesOrBreaks};
-ghost use Rattle.burr_frames.specs.Views.Changes.{at_cost};
+ghost use Rattle.burr_forms.specs.Rules.Forms.{IsSmallForm, times};
+ghost use Rattle.burr_frames.specs.Rules.ControlRules.{halt_rule, jump_rule, down_rule, branch_rule, lowering, counted_down};
+ghost use Rattle.burr_frames.specs.Rules.Verdicts.{falls_through};
+ghost use Rattle.burr_frames.specs.Views.Breaks.{next_verdict, last_verdict, branch_verdict, FindsCounter, ArrivesOrBreaks};
 ghost use Rattle.burr_frames.specs.Views.Here.{OfFramedProcedure};
 
 use super::State;
@@ -60,41 +60,67 @@ impl State {
         let Some(frame) = frame_at(procedure, label) else {
             return Err(Break::plain(Rule::V10));
         };
+        let count = self.counter(procedure, v)?;
+        let branch = self.lowered(v, &count)?;
+        branch.arrives_or_breaks(&frame)?;
+        self.set_cost(branch.cost);
+        self.add_guard(negated(&count));
+        Ok(())
+    }
+
+    /// The second state of `down`, which goes on at its label: the counter in slot v, above 0, is
+    /// one less. All of the rule's checks are made but the arrival.
+    #[inline(never)]
+    pub fn branch(&self, procedure: ProcedureRef<'_, '_>, v: u8, label: u16) -> Result<State, Break>
+        requires { v < 8 }
+        ensures { OfFramedProcedure procedure.entry (λ plan here.
+            branch_rule here self.now v label (branch_verdict result)) }
+    {
+        let Some(_frame) = frame_at(procedure, label) else {
+            return Err(Break::plain(Rule::V10));
+        };
+        let count = self.counter(procedure, v)?;
+        self.lowered(v, &count)
+    }
+
+    /// The form of a counter: slot v is no parameter of the procedure, and is known.
+    fn counter(&self, procedure: ProcedureRef<'_, '_>, v: u8) -> Result<Form, Break>
+        requires { v < 8 }
+        ensures counter { OfFramedProcedure procedure.entry (λ plan here.
+            FindsCounter here self.now v result) }
+        ensures small { IfOk result IsSmallForm }
+    {
         if v < procedure.params() {
             return Err(Break::plain(Rule::V9));
         }
         let Some(count) = self.form_in(v) else {
             return Err(Break::plain(Rule::V8));
         };
-        let Ok(less) = raised_by(&count, -1) else {
+        Ok(count)
+    }
+
+    /// The state with the counter in slot v, above 0, one less than this form, and the step paid
+    /// for.
+    #[inline(never)]
+    fn lowered(&self, v: u8, count: &Form) -> Result<State, Break>
+        requires slot { v < 8 }
+        requires small { IsSmallForm count.now }
+        ensures { lowering self.now count.now
+            (λ paid. falls_through (counted_down v count.now paid)) (branch_verdict result) }
+    {
+        let Ok(less) = raised_by(count, -1) else {
             return Err(Break::plain(Rule::V26));
         };
-        self.never_negative(&count, Rule::V11)?;
+        self.never_negative(count, Rule::V11)?;
         if self.guards_are_full() {
             return Err(Break::plain(Rule::V25));
         }
         let cost = self.paid()?;
-        self.branch(v, less, cost).arrives_or_breaks(&frame)?;
-        self.set_cost(cost);
-        self.add_guard(negated(&count));
-        Ok(())
-    }
-
-    /// Where `down` goes on at its label: the counter in slot v, above 0, is this form, one less,
-    /// and the step is paid for.
-    fn branch(&self, v: u8, less: Form, cost: Form) -> State
-        requires slot { v < 8 }
-        requires room { length self.now.guards < 8 }
-        requires small { IsSmallForm less }
-        requires cost_small { IsSmallForm cost }
-        ensures { (count : FormOf) → less ≡ one_less count
-            → result ≡ counted_down v count (at_cost cost self.now) }
-    {
         let mut branch = self.copied();
         branch.set_cost(cost);
         branch.add_guard(less);
         branch.set_slot(v, less);
-        branch
+        Ok(branch)
     }
 
     /// That the state arrives at a label's frame, its cost included.
