@@ -4,9 +4,11 @@ ghost use Rattle.burr_frames.specs.Views.Breaks.{broken_of, plain_break, break_a
 use crate::rule::Rule;
 use crate::state::Miss;
 use burr_forms::Point;
+use thiserror::Error;
 
 /// A rule that does not hold at an instruction, and where.
-#[derive(Drop)]
+#[derive(Debug, PartialEq, Eq, Drop, Error)]
+#[error("{rule} is broken")]
 pub struct Break {
     /// The first of the instruction's checks that fails.
     pub rule: Rule,

@@ -7,9 +7,11 @@ ghost use Rattle.burr_verify.specs.Views.Judgements.{failed_check};
 
 use arrayvec::ArrayVec;
 use burr_frames::{Break, Miss, Rule};
+use thiserror::Error;
 
 /// Why a plan is refused: a rule that is broken, and where.
-#[derive(Debug, PartialEq, Eq, Drop)]
+#[derive(Debug, PartialEq, Eq, Drop, Error)]
+#[error("{rule} is broken in procedure {proc} at {pc}")]
 pub struct Refusal {
     /// The procedure; main is 0.
     pub proc: u8,

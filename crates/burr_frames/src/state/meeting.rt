@@ -21,9 +21,11 @@ use arrayvec::ArrayVec;
 use burr_container::FrameRef;
 use burr_forms::{Form, Point, first_failing};
 pub use exit::meets_exit;
+use thiserror::Error;
 
 /// Why a state does not agree with what a frame says.
-#[derive(Drop)]
+#[derive(Debug, PartialEq, Eq, Drop, Error)]
+#[error("the frame is not met")]
 pub struct Miss {
     /// The first of the state's points at which it does not agree with the frame; None where they
     /// differ without regard to points.
