@@ -1,8 +1,10 @@
 -- What is written for a whole input.
-use Rattle.std.proofs.Common.{◌≡◌, ◌≢◌, List, ℕ, ℤ, refl, inl, inr, true}
+use Rattle.std.proofs.Common.{◌≡◌, ◌≢◌, ◌≤◌, List, ◌++◌, length, ℕ, ℤ, refl, inl, inr, true, false, arith, length-append}
 use Rattle.std.specs.Prelude.{Option, Result, Ok, Err, Bool, IfOk, IfErr, codes}
 use Rattle.std.specs.Result.{IsErrAnd}
 use Rattle.std.proofs.lemmas.Result.{err_from_is_err_and}
+use Rattle.std.specs.Io.KnownBytes.{Consumes, Keeps}
+use Rattle.std.proofs.KnownBytes.{Consumes-kept, Consumes-trans}
 use Rattle.burr_io.specs.Sink.{TakesFront}
 use Rattle.burr_assembly.specs.declared.fault.AssemblyFault.{AssemblyFault}
 use Rattle.burr_assembly.specs.Rules.Text.{Assembly, IsAssembly}
@@ -21,7 +23,7 @@ use Rattle.burr_runs.specs.Rules.Output.{IsSheetOf, outcome_of, IsOutput, IsText
 use Rattle.burr_runs.specs.Rules.Refusals.{assembly_refusal}
 use Rattle.burr_assembly.specs.Rules.Homes.{names_of}
 use Rattle.burr_state.specs.Rules.Run.{Run}
-use Rattle.burr_runs.specs.Views.ReadWhole.{IsWholeInput}
+use Rattle.burr_runs.specs.Views.ReadWhole.{IsWholeInput, ReadFails}
 use Rattle.burr_runs.specs.Views.BenchText.{Outputs, PutsOutput, PutsFrontOfOutput, OutputFails, Streams, Succeeds, Fails}
 use Rattle.burr_assembly.proofs.Common.HomeCells.{have_homes}
 
@@ -73,6 +75,23 @@ sheet_of_run a program answers output motions steps closing whole run text =
 pub no_outcome : {A E : Type 0} (P : A → Type 0) (Q : E → Type 0) (r : Result A E) → IsErrAnd r Q → IfOk r P
 no_outcome P Q r err = let p = err_from_is_err_and r err in rw p.1 tt
 
+-- The source was not read to its end
+
+-- a call of it failed
+pub pull_fails : {A : Type 0} (old mid new : Option (List ℕ)) (failed : Bool) (bytes : List ℕ) (r : Result A BenchFault) → IsErrAnd r (λ e. e ≡ Read)
+    → Consumes old mid bytes → length bytes ≤ 16777216 → Keeps mid new → failed ≡ true → IfErr r (λ fault. ReadFails old new failed fault)
+pull_fails old mid new failed bytes r err gave short kept broke =
+    let p = err_from_is_err_and r err in rw (p.1, p.2) (broke, (bytes, short, Consumes-kept old mid new bytes gave kept))
+
+-- memory was refused for what it gave last
+pub keeping_fails : {A : Type 0} (old mid new : Option (List ℕ)) (failed : Bool) (bytes more : List ℕ) (r : Result A BenchFault) → IsErrAnd r (λ e. e ≡ Memory)
+    → Consumes old mid bytes → length bytes ≤ 16777216 → Consumes mid new more → length more ≤ 8192 → failed ≡ false
+    → IfErr r (λ fault. ReadFails old new failed fault)
+keeping_fails old mid new failed bytes more r err gave short gave_more short_more went =
+    let p = err_from_is_err_and r err in
+    let size = length-append bytes more in
+    rw (p.1, p.2) (went, (bytes ++ more, omega (arith, size, short, short_more), Consumes-trans old mid new bytes more gave gave_more))
+
 -- The whole input was read
 
 pub whole_succeeds : (s : Streams) (input : List ℕ) (r : Result Outcome BenchFault)
@@ -86,4 +105,5 @@ whole_fails s input (Ok outcome) whole fails = tt
 whole_fails s input (Err Read) whole fails = absurd fails
 whole_fails s input (Err TooLong) whole fails = absurd fails
 whole_fails s input (Err Write) whole fails = (input, whole, fails)
-whole_fails s input (Err Memory) whole fails = (whole.went, fails)
+whole_fails s input (Err Memory) whole fails =
+    let short = whole.short in ((whole.went, (input, omega (arith, short), whole.gave)), fails)

@@ -1,12 +1,12 @@
 -- What the run of an input leaves in its source and its sink.
-use Rattle.std.specs.Prelude.{◌≡◌, ℕ, List, Bool, true, false, Option}
+use Rattle.std.specs.Prelude.{◌≡◌, ℕ, List, Bool, true, Option}
 use Rattle.std.specs.Io.KnownBytes.{Appends}
 use Rattle.burr_io.specs.Sink.{SinkView, TakesFront}
 use Rattle.burr_io.specs.Source.{SourceView}
 use Rattle.burr_runs.specs.declared.outcome.Outcome.{Outcome}
 use Rattle.burr_runs.specs.declared.fault.BenchFault.{BenchFault}
 use Rattle.burr_runs.specs.declared.fault.BenchFault.TheVariants.{Read, TooLong, Write, Memory}
-use Rattle.burr_runs.specs.Views.ReadWhole.{IsWholeInput, IsTooLong}
+use Rattle.burr_runs.specs.Views.ReadWhole.{IsWholeInput, ReadFails}
 use Rattle.burr_runs.specs.Rules.Output.{IsOutput}
 
 -- which outputs are right for an input, and how each of them ends
@@ -63,13 +63,17 @@ Succeeds s outcome =
 abbrev pub NothingWritten : Streams → Type 0
 NothingWritten s = s.taken_new ≡ s.taken_old
 
+-- the source was not read to its end, or was and memory was refused then
+abbrev pub FailsToRead : Streams → BenchFault → Type 0
+FailsToRead s fault = ReadFails s.left_old s.left_new s.read_failed fault
+
 -- Why there is no outcome: a call of the source failed, or the source gave too many bytes, or
 -- memory was refused, and nothing was written; or a call of the sink failed, and a front of the
 -- output was written.
 abbrev pub Fails : Streams → BenchFault → Type 0
-Fails s Read = (s.read_failed ≡ true) × NothingWritten s
-Fails s TooLong = IsTooLong s.left_old s.left_new s.read_failed × NothingWritten s
-Fails s Memory = (s.read_failed ≡ false) × NothingWritten s
+Fails s Read = FailsToRead s Read × NothingWritten s
+Fails s TooLong = FailsToRead s TooLong × NothingWritten s
+Fails s Memory = FailsToRead s Memory × NothingWritten s
 Fails s Write =
     (input : List ℕ) × IsWholeInput s.left_old s.left_new s.read_failed input
     × PutsFrontOfOutput (IsOutput input) s.taken_old s.taken_new s.write_failed

@@ -16,9 +16,14 @@ abbrev pub IsTooLong : Option (List ℕ) → Option (List ℕ) → Bool → Type
 IsTooLong old new failed =
     (bytes : List ℕ) × (16777216 < length bytes) × Consumes old new bytes × (failed ≡ false)
 
--- why a source was not read to its end
+-- the source gave some bytes, so many at most, and has what is left after them
+abbrev pub HasGiven : ℕ → Option (List ℕ) → Option (List ℕ) → Type 0
+HasGiven most old new = (bytes : List ℕ) × (length bytes ≤ most) × Consumes old new bytes
+
+-- why a source was not read to its end: a call failed; or it gave too many bytes; or memory was
+-- refused, for at most 8,192 bytes more than an input may have
 abbrev pub ReadFails : Option (List ℕ) → Option (List ℕ) → Bool → BenchFault → Type 0
-ReadFails old new failed Read = failed ≡ true
+ReadFails old new failed Read = (failed ≡ true) × HasGiven 16777216 old new
 ReadFails old new failed TooLong = IsTooLong old new failed
-ReadFails old new failed Memory = failed ≡ false
+ReadFails old new failed Memory = (failed ≡ false) × HasGiven 16785408 old new
 ReadFails old new failed Write = ⊥
