@@ -1,17 +1,20 @@
 -- What a line of commands comes to, of what a call came to and what was put for it.
-use Rattle.std.proofs.Common.{◌≡◌, ℕ, Bool, true, false, List, [], Result, Ok, Err, ℤ, FitsSigned, w32, to_z, of_z, refl, sym, ap, subst, ◌∙◌, inl, inr}
-use Rattle.std.specs.Prelude.{◌⊎◌, codes, IfOk, IfErr}
+use Rattle.std.proofs.Common.{◌≡◌, ◌≢◌, ℕ, Bool, true, false, List, [], ◌∷◌, ◌++◌, Result, Ok, Err, ℤ, FitsSigned, w32, to_z, of_z, refl, sym, ap, subst, ◌∙◌, inl, inr, append-nil}
+use Rattle.std.specs.Prelude.{◌⊎◌, codes, decimal, IfOk, IfErr}
+use Rattle.std.specs.List.{join_with_byte}
 use Rattle.std.proofs.lemmas.Int.{to_z-of_z}
+use Rattle.std.proofs.lemmas.Bool.{true≢false}
 use Rattle.burr_state.specs.Rules.Step.{AsksNow}
 use Rattle.burr_io.specs.Sink.{SinkView, Takes, FailsWithin, Puts}
 use Rattle.std.proofs.KnownBytes.{Appends-nil}
 use Rattle.burr_assembly.specs.Rules.Homes.{homes_of, names_of}
-use Rattle.burr_state.specs.Rules.Bench.{Setup, running}
+use Rattle.burr_text.specs.Words.{text_line}
+use Rattle.burr_state.specs.Rules.Bench.{BenchState, Setup, running}
 use Rattle.burr_state.specs.Views.Benches.{Benched, setup_of, IsSameRun}
 use Rattle.burr_step.specs.declared.refusal.StepRefusal.{StepRefusal as CodeRefusal}
 use Rattle.burr_step.specs.declared.refusal.StepRefusal.TheVariants as code
-use Rattle.burr_step.specs.Rules.Stepper.{StepCommand, StepRefusal, S1, S2, S3, S4, Taken, Refused}
-use Rattle.burr_step.specs.Rules.StepTexts.{LineAnswer, LineCommand, Steps, Shows, Quits, IsLineOf, IsStandingWords, IsAfterLine, answered, refused_line, refusal_word, show_text}
+use Rattle.burr_step.specs.Rules.Stepper.{History, StepCommand, StepRefusal, S1, S2, S3, S4, Taken, Refused}
+use Rattle.burr_step.specs.Rules.StepTexts.{LineAnswer, LineCommand, Steps, Shows, Quits, IsLineOf, Lined, IsStandingWords, IsAfterLine, answered, ended_word, refused_line, refusal_word, show_text}
 use Rattle.burr_step.specs.Views.Stepping.{Stepping, CameTo, NeedsNoMemory, IsDone, IsRefused, commanding}
 use Rattle.burr_dialogue.specs.declared.commanding.StepFault.{StepFault}
 use Rattle.burr_dialogue.specs.declared.commanding.StepFault.TheVariants as faults
@@ -42,6 +45,7 @@ abbrev pub Tells : {S : Type 0} → SinkView S → S → S → Stepping → List
 Tells sink before after old line new result =
     IfOk result (λ goes_on. PutsAnswer sink before after old line goes_on new)
     × IfErr result (λ fault. FailsInAnswer sink before after old line fault new)
+    × IfOk result (λ goes_on. goes_on ≡ false → after ≡ before)
 
 same_setup : (b c : Benched) → IsSameRun b c → setup_of c ≡ setup_of b
 same_setup b c same = λ i. running (homes_of (same.assembly i)) (same.program i)
@@ -104,6 +108,39 @@ came_text old new line text command (Err code.S3) is comes told = refused_text o
 came_text old new line text command (Err code.S4) is comes told = refused_text old new line text command S4 is comes told
 came_text old new line text command (Err code.Memory) is comes told = absurd told
 
+abbrev has_some : List ℕ → Bool
+has_some [] = false
+has_some (b ∷ rest) = true
+
+-- a line with its end is not empty
+ended_some : (line rest : List ℕ) → (line ++ 10 ∷ []) ++ rest ≢ []
+ended_some [] rest none = true≢false (ap has_some none)
+ended_some (b ∷ line) rest none = true≢false (ap has_some none)
+
+line_some : (words : List (List ℕ)) (rest : List ℕ) → text_line words ++ rest ≢ []
+line_some words rest = ended_some (join_with_byte 32 words) rest
+
+text_some : (words : List (List ℕ)) → text_line words ≢ []
+text_some words none = line_some words [] (append-nil (text_line words) ∙ none)
+
+-- what comes of a line is some text where more lines are taken
+pub lined_some : (setup : Setup) (names : List (List ℕ)) (h : History) (s : BenchState) (line : List ℕ) (answer : LineAnswer)
+    → Lined setup names h s line answer → answer.goes_on ≡ true → answer.text ≢ []
+lined_some setup names h s line answer (inl (none, is)) goes =
+    subst (λ (a : LineAnswer). a.text ≢ []) (sym is) (text_some (codes "refused" ∷ codes "command" ∷ []))
+lined_some setup names h s line answer (inr (Steps command, of_line, (Taken after now, text, comes, (words, standing, same), is))) goes =
+    subst (λ (a : LineAnswer). a.text ≢ []) (sym is) (subst (λ (t : List ℕ). t ≢ []) (sym same) (text_some (codes "after" ∷ decimal now.steps ∷ codes "steps" ∷ words)))
+lined_some setup names h s line answer (inr (Steps command, of_line, (Refused refusal, text, comes, same, is))) goes =
+    subst (λ (a : LineAnswer). a.text ≢ []) (sym is) (subst (λ (t : List ℕ). t ≢ []) (sym same) (text_some (codes "refused" ∷ refusal_word refusal ∷ [])))
+lined_some setup names h s line answer (inr (Shows, of_line, is)) goes =
+    subst (λ (a : LineAnswer). a.text ≢ []) (sym is) (line_some (codes "after" ∷ decimal s.steps ∷ codes "steps" ∷ codes "proc" ∷ decimal s.running.procedure ∷ codes "pc" ∷ decimal s.running.pc ∷ ended_word s.mode) _)
+lined_some setup names h s line answer (inr (Quits, of_line, is)) goes =
+    absurd (true≢false (sym goes ∙ ap (λ (a : LineAnswer). a.goes_on) is))
+
+pub answered_some : (old new : Stepping) (line : List ℕ) (answer : LineAnswer) → IsAnswered old line answer new → answer.goes_on ≡ true → answer.text ≢ []
+answered_some old new line answer is goes =
+    lined_some (setup_of old.bench) (names_of old.bench.assembly) old.history old.bench.state line answer is.lined goes
+
 -- a text that was put
 put_whole : {S : Type 0} (sink : SinkView S) (before after : S) (old new : Stepping) (line text : List ℕ) (goes_on : Bool) → IsTextOf old line text new
     → Takes sink before after text → goes_on ≡ true → PutsAnswer sink before after old line goes_on new
@@ -114,7 +151,7 @@ put_whole sink before after old new line text goes_on t takes on =
 put_front : {S : Type 0} (sink : SinkView S) (before after : S) (old new : Stepping) (line text : List ℕ) → IsTextOf old line text new
     → FailsWithin sink before after text → FailsInAnswer sink before after old line faults.Write new
 put_front sink before after old new line text t fails =
-    (t.answer, t.is, subst (λ (bytes : List ℕ). FailsWithin sink before after bytes) (sym t.same) fails)
+    (t.answer, t.is, answered_some old new line t.answer t.is t.goes_on, subst (λ (bytes : List ℕ). FailsWithin sink before after bytes) (sym t.same) fails)
 
 -- the line of a command that a call carried out or refused, which took no memory or was an answer
 pub came_tells : {S Done : Type 0} (sink : SinkView S) (before after : S) (old new : Stepping) (line : List ℕ) (command : StepCommand)
@@ -122,14 +159,14 @@ pub came_tells : {S Done : Type 0} (sink : SinkView S) (before after : S) (old n
     → NeedsNoMemory came ⊎ IsAnswerLine old line → CameTo old (commanding old command) came new
     → PutsCame sink before after new came result → Tells sink before after old line new result
 came_tells sink before after old new line command came (Ok goes_on) is memory comes puts =
-    (put_whole sink before after old new line puts.0 goes_on (came_text old new line puts.0 command came is comes puts.1) puts.2 puts.3, tt)
+    (put_whole sink before after old new line puts.0 goes_on (came_text old new line puts.0 command came is comes puts.1) puts.2 puts.3, tt, λ stops. absurd (true≢false (sym puts.3 ∙ stops)))
 came_tells sink before after old new line command came (Err faults.Write) is memory comes puts =
-    (tt, put_front sink before after old new line puts.0 (came_text old new line puts.0 command came is comes puts.1) puts.2)
+    (tt, put_front sink before after old new line puts.0 (came_text old new line puts.0 command came is comes puts.1) puts.2, tt)
 came_tells {Done} sink before after old new line command came (Err faults.Memory) is (inl none) comes puts =
     absurd (subst (λ (r : Result Done CodeRefusal). NeedsNoMemory r) puts.0 none)
 came_tells {Done} sink before after old new line command came (Err faults.Memory) is (inr of_answer) comes puts =
     let same = subst (λ (r : Result Done CodeRefusal). CameTo old (commanding old command) r new) puts.0 comes in
-    (tt, (of_answer, same, puts.1))
+    (tt, (of_answer, same, puts.1), tt)
 
 same_run : (b : Benched) → IsSameRun b b
 same_run b = record { assembly = refl; program = refl }
@@ -137,9 +174,9 @@ same_run b = record { assembly = refl; program = refl }
 -- what leaves all as it was
 line_tells : {S : Type 0} (sink : SinkView S) (before after : S) (s : Stepping) (line text : List ℕ) (result : Result Bool StepFault)
     → IsTextOf s line text s → PutsLine sink before after text result → Tells sink before after s line s result
-line_tells sink before after s line text (Ok goes_on) t puts = (put_whole sink before after s s line text goes_on t puts.0 puts.1, tt)
+line_tells sink before after s line text (Ok goes_on) t puts = (put_whole sink before after s s line text goes_on t puts.0 puts.1, tt, λ stops. absurd (true≢false (sym puts.1 ∙ stops)))
 line_tells sink before after s line text (Err fault) t puts =
-    (tt, subst (λ (f : StepFault). FailsInAnswer sink before after s line f s) (sym puts.1) (put_front sink before after s s line text t puts.0))
+    (tt, subst (λ (f : StepFault). FailsInAnswer sink before after s line f s) (sym puts.1) (put_front sink before after s s line text t puts.0), tt)
 
 -- a line that is no command's
 pub none_tells : {S : Type 0} (sink : SinkView S) (before after : S) (s : Stepping) (line : List ℕ) (result : Result Bool StepFault)

@@ -10,7 +10,7 @@ use Rattle.std.specs.Io.KnownBytes.{Appends, Consumes, Keeps, IsAtEnd}
 use Rattle.std.proofs.KnownBytes.{Appends-trans, Consumes-trans, Consumes-kept, Consumes-nil, Appends-nil}
 use Rattle.burr_text.specs.Lines.{IsUnended}
 use Rattle.burr_text.proofs.Common.Decisions.{decide_at_most}
-use Rattle.burr_io.specs.Sink.{SinkView, FailsWithin}
+use Rattle.burr_io.specs.Sink.{SinkView, Takes, FailsWithin}
 use Rattle.burr_io.specs.Source.{SourceView}
 use Rattle.burr_io.specs.WholeLines.{Lines, lines_view}
 use Rattle.burr_assembly.specs.Rules.Homes.{homes_of, names_of}
@@ -19,7 +19,7 @@ use Rattle.burr_state.specs.Views.Benches.{Benched, setup_of, IsSameRun}
 use Rattle.burr_step.specs.Rules.Stepper.{History, Forward, Over, Until, Answer, Back}
 use Rattle.burr_step.specs.Rules.StepTexts.{LineAnswer, LineCommand, Steps, Shows, Quits, Lined, IsTakeable, IsLineOf, HasFewDigits, LinesAreShort, answered}
 use Rattle.burr_step.specs.Views.Stepping.{Stepping, LabelsAreFew}
-use Rattle.burr_io.proofs.Common.Lines.{failed_early, failed_late, holds_more}
+use Rattle.burr_io.proofs.Common.Lines.{went, failed_early, failed_late, holds_more}
 use Rattle.burr_dialogue.specs.declared.commanding.StepFault.{StepFault}
 use Rattle.burr_dialogue.specs.declared.commanding.StepFault.TheVariants as steps
 use Rattle.burr_runs.specs.declared.fault.BenchFault.{BenchFault}
@@ -27,7 +27,8 @@ use Rattle.burr_runs.specs.declared.fault.BenchFault.TheVariants as faults
 use Rattle.burr_dialogue.specs.Rules.Dialogue.{opened, continued, lines_bytes, IsInputOf}
 use Rattle.burr_runs.specs.Views.BenchText.{Streams, streams}
 use Rattle.burr_dialogue.specs.Views.Commanding.{IsAnswered, IsAnswerLine, PutsAnswer, FailsInAnswer}
-use Rattle.burr_dialogue.specs.Views.Dialogues.{HasAnswered, IsConversing, EndsDialogue, BreaksDialogue, TakesByte, HandsLast, FailsToHandAnswer, GivesByte, IsLineRead, dialogue_fault}
+use Rattle.burr_dialogue.specs.Views.Dialogues.{HasAnswered, HasAnsweredLast, IsConversing, EndsDialogue, BreaksDialogue, TakesByte, HandsAnswer, HandsLast, FailsToHandAnswer, GivesByte, IsLineRead, dialogue_fault}
+use Rattle.burr_dialogue.proofs.CommandAnswers.{answered_some}
 
 -- Lines that are cut
 
@@ -133,16 +134,22 @@ lined_there old mid lines before answer line so_far lined =
 abbrev with_answer : LineAnswer → LineAnswer → LineAnswer
 with_answer before answer = answered (before.text ++ answer.text) answer.history answer.state answer.goes_on
 
+-- what comes of the first bytes of a line where a dialogue stands, comes of the line, told of where it began
+lined_whole : (old mid new : Stepping) (lines : List (List ℕ)) (before answer : LineAnswer) (rest line : List ℕ) → LinesAreShort → LabelsAreFew (setup_of old.bench)
+    → HasAnswered old lines before mid → line ≡ take 65 rest → IsAnswered mid line answer new
+    → Lined (setup_of old.bench) (names_of old.bench.assembly) before.history before.state rest answer
+lined_whole old mid new lines before answer rest line short few so_far kept is =
+    let cut = subst (λ (l : List ℕ). Lined (setup_of old.bench) (names_of old.bench.assembly) before.history before.state l answer) kept
+    (lined_there old mid lines before answer line so_far is.lined) in
+    of_cut (setup_of old.bench) (names_of old.bench.assembly) before.history before.state rest answer short few cut
+
 -- one line more is answered
 answers_more : (old mid new : Stepping) (lines : List (List ℕ)) (before answer : LineAnswer) (rest line : List ℕ) → LinesAreShort → LabelsAreFew (setup_of old.bench)
     → HasAnswered old lines before mid → before.goes_on ≡ true → IsUnended rest → line ≡ take 65 rest → IsAnswered mid line answer new
     → HasAnswered old (lines ++ rest ∷ []) (with_answer before answer) new
 answers_more old mid new lines before answer rest line short few so_far goes unended kept is =
-    let cut = subst (λ (l : List ℕ). Lined (setup_of old.bench) (names_of old.bench.assembly) before.history before.state l answer) kept
-    (lined_there old mid lines before answer line so_far is.lined) in
     record {
-      dialogue = continued lines rest before answer so_far.dialogue goes unended
-          (of_cut (setup_of old.bench) (names_of old.bench.assembly) before.history before.state rest answer short few cut);
+      dialogue = continued lines rest before answer so_far.dialogue goes unended (lined_whole old mid new lines before answer rest line short few so_far kept is);
       history = is.history;
       state = is.state;
       same = record { assembly = is.same.assembly ∙ so_far.same.assembly; program = is.same.program ∙ so_far.same.program };
@@ -302,7 +309,7 @@ module _ {R S : Type 0} (source : SourceView R) (sink : SinkView S) (first : R) 
       → IsInputOf ((lines_bytes so_far.up_to.lines ++ so_far.rest) ++ ending) (so_far.up_to.lines ++ so_far.rest ∷ [])
       → IsLineRead so_far.rest (so_far.rest ++ ending) (source.left later)
       → FailsToHandAnswer sink l m mid line fault new → BreaksDialogue old (since later m) fault new
-  breaks_by_answer read line ending now later l m mid new faults.Write so_far gave is_input is_line (answer, is, holds, failed) =
+  breaks_by_answer read line ending now later l m mid new faults.Write so_far gave is_input is_line (answer, is, some, holds, failed) =
       let up = so_far.up_to in
       let grown = Consumes-trans (source.left first) (source.left now) (source.left later) (lines_bytes up.lines ++ so_far.rest) ending up.read gave in (
         (lines_bytes up.lines ++ so_far.rest) ++ ending,
@@ -310,7 +317,19 @@ module _ {R S : Type 0} (source : SourceView R) (sink : SinkView S) (first : R) 
         with_answer up.answer answer,
         grown,
         is_input,
-        answers_more old mid new up.lines up.answer answer so_far.rest line short few up.answered up.goes_on so_far.unended so_far.kept is,
+        record {
+          answered = answers_more old mid new up.lines up.answer answer so_far.rest line short few up.answered up.goes_on so_far.unended so_far.kept is;
+          front = up.lines;
+          line = so_far.rest;
+          cut = refl;
+          before = up.answer;
+          dialogue = up.answered.dialogue;
+          goes_on = up.goes_on;
+          last = answer;
+          lined = lined_whole old mid new up.lines up.answer answer so_far.rest line short few up.answered so_far.kept is;
+          some = some;
+          text = refl;
+        },
         holds_more (sink.taken start.sink) (sink.taken l.sink) (sink.taken m.sink) up.answer.text answer.text up.took holds,
         failed,
       )
@@ -357,19 +376,34 @@ module _ {R S : Type 0} (source : SourceView R) (sink : SinkView S) (first : R) 
 pub answer_fails : {S : Type 0} (sink : SinkView S) (old mid : Lines S) (s new : Stepping) (line : List ℕ) (fault : StepFault) (r : Result Bool BenchFault) → old.held ≡ []
     → FailsInAnswer (lines_view sink) old mid s line fault new → IsErrAnd r (λ told. told ≡ dialogue_fault fault)
     → IfErr r (λ told. FailsToHandAnswer sink old mid s line told new)
-answer_fails sink old mid s new line steps.Write r none (answer, is, within) err =
+answer_fails sink old mid s new line steps.Write r none (answer, is, some, within) err =
     let p = err_from_is_err_and r err in
-    let early = failed_early sink old mid answer.text none within in rw (p.1, p.2) (answer, is, early.0, early.1)
+    let early = failed_early sink old mid answer.text none within in rw (p.1, p.2) (answer, is, some, early.0, early.1)
 answer_fails sink old mid s new line steps.Memory r none wants err =
     let p = err_from_is_err_and r err in rw (p.1, p.2) wants
 
--- it could not be handed on
+-- it could not be handed on, where there is one
 pub handing_fails : {S : Type 0} (sink : SinkView S) (old mid last : Lines S) (s new : Stepping) (line : List ℕ) (goes_on : Bool) (r : Result Bool BenchFault) → old.held ≡ []
-    → PutsAnswer (lines_view sink) old mid s line goes_on new → FailsWithin sink mid.sink last.sink mid.held → IsErrAnd r (λ told. told ≡ faults.Write)
+    → PutsAnswer (lines_view sink) old mid s line goes_on new → goes_on ≡ true → FailsWithin sink mid.sink last.sink mid.held → IsErrAnd r (λ told. told ≡ faults.Write)
     → IfErr r (λ told. FailsToHandAnswer sink old last s line told new)
-handing_fails sink old mid last s new line goes_on r none (answer, is, took, goes) within err =
+handing_fails sink old mid last s new line goes_on r none (answer, is, took, goes) more within err =
     let p = err_from_is_err_and r err in
-    let late = failed_late sink old mid last answer.text none took within in rw (p.1, p.2) (answer, is, late.0, late.1)
+    let some = answered_some s new line answer is (sym goes ∙ more) in
+    let late = failed_late sink old mid last answer.text none took within in rw (p.1, p.2) (answer, is, some, late.0, late.1)
+
+-- it was handed on
+pub handed : {S : Type 0} (sink : SinkView S) (old mid last : Lines S) (s new : Stepping) (line : List ℕ) (goes_on : Bool) → old.held ≡ []
+    → PutsAnswer (lines_view sink) old mid s line goes_on new → Takes sink mid.sink last.sink mid.held → last.held ≡ []
+    → HandsAnswer sink old last s line goes_on new
+handed sink old mid last s new line goes_on none (answer, is, took, goes) gave empty =
+    ((answer, is, went sink old mid last answer.text none took gave, goes), empty)
+
+-- there is none to hand on
+pub none_handed : {S : Type 0} (sink : SinkView S) (old mid : Lines S) (s new : Stepping) (line : List ℕ) (goes_on : Bool) → old.held ≡ []
+    → PutsAnswer (lines_view sink) old mid s line goes_on new → mid ≡ old → HandsAnswer sink old mid s line goes_on new
+none_handed {S} sink old mid s new line goes_on none put same =
+    let empty : mid.held ≡ [] = ap (λ (l : Lines S). l.held) same ∙ none in
+    handed sink old mid mid s new line goes_on none put (subst (λ (held : List ℕ). Takes sink mid.sink mid.sink held) (sym empty) (Appends-nil (sink.taken mid.sink))) empty
 
 -- of a line that is not full one more byte is kept
 pub kept_more : (line next : List ℕ) (byte : ℕ) → length line < 65 → next ≡ line ++ byte ∷ [] → next ≡ take 65 (line ++ byte ∷ [])
@@ -404,12 +438,6 @@ pub breaks_as : {A : Type 0} (r : Result A BenchFault) (old : Stepping) (s : Str
     → BreaksDialogue old s fault new → IfErr r (λ told. BreaksDialogue old s told new)
 breaks_as r old s new fault err breaks =
     let p = err_from_is_err_and r err in rw p.1 (subst (λ (told : BenchFault). BreaksDialogue old s told new) (sym p.2) breaks)
-
--- after a byte nothing is held back
-pub nothing_held_after : {S : Type 0} (sink : SinkView S) (before after : Lines S) (byte : ℕ) (line next : List ℕ) (old new : Stepping) (goes_on : Bool)
-    → before.held ≡ [] → TakesByte 65 byte line next sink before after old goes_on new → after.held ≡ []
-nothing_held_after {S} sink before after byte line next old new goes_on none (inl (other, cut, goes, untouched, same)) = ap (λ (l : Lines S). l.held) untouched ∙ none
-nothing_held_after sink before after byte line next old new goes_on none (inr (end, empty, hands)) = hands.1
 
 -- the byte that a source gave, or its end
 pub gave_byte : (old new : Option (List ℕ)) (given : Option ℕ) (byte : ℕ) → given ≡ Some byte → GivesByte old new given → Consumes old new (byte ∷ [])

@@ -1,6 +1,6 @@
 //! Lines of commands for a stepper.
 
-ghost use Rattle.std.specs.Prelude.{IfOk, IfErr};
+ghost use Rattle.std.specs.Prelude.{◌≡◌, false, IfOk, IfErr};
 ghost use Rattle.burr_dialogue.specs.Views.Commanding.{PutsAnswer, FailsInAnswer};
 
 mod putting;
@@ -36,7 +36,7 @@ impl From<WriteFault> for StepFault {
 /// Takes a line of commands, without its end, and puts what it comes to, as
 /// `after 3 steps asks 0 2`, `refused S2` or `refused command`. False for `quit`, after which no
 /// line is to come. After `Write` the command counts as taken or refused as it would without the
-/// fault; after `Memory` nothing has changed.
+/// fault; after `Memory` nothing has changed. For `quit` the sink is left alone.
 pub fn command<B: Blocking, W: Sink>(
     stepper: &mut Stepper<'_, '_, '_, B>,
     line: &[u8],
@@ -46,6 +46,7 @@ pub fn command<B: Blocking, W: Sink>(
         PutsAnswer W.Sink sink.old sink.new stepper.old line.now goes_on stepper.new) }
     ensures err { IfErr result (λ fault.
         FailsInAnswer W.Sink sink.old sink.new stepper.old line.now fault stepper.new) }
+    ensures quit { IfOk result (λ goes_on. goes_on ≡ false → sink.new ≡ sink.old) }
 {
     stepper.labels_are_few();
     let Some(command) = read_command(line) else {

@@ -16,7 +16,7 @@ use burr_step::{Stepper, lines_of_commands_are_short};
 
 /// So many bytes of a line are kept: one more than any command's line may have, so that a longer line
 /// is seen to be none.
-const KEPT: usize = 65;
+pub const KEPT: usize = 65;
 
 /// A fault of a line is one of the dialogue.
 impl From<StepFault> for BenchFault {
@@ -37,9 +37,9 @@ impl From<StepFault> for BenchFault {
 /// is handed on before a byte of the next line is read. A last line that lacks its end is taken too.
 /// Of a long line no more than a command's length is held, and no byte after `quit` is read.
 ///
-/// Where the source fails, or memory is refused, the lines before are answered; after a fault of the
-/// sink the last command counts as taken or refused as it would without the fault. `TooLong` comes
-/// after 2^64 - 1 bytes.
+/// Where the source fails, or memory is refused, the lines before are answered. A fault of the sink
+/// comes only of a line that was read and has an answer, and then the last command counts as taken or
+/// refused as it would without the fault. `TooLong` comes after 2^64 - 1 bytes.
 pub fn answer_commands<B: Blocking, R: Source, W: Sink, const N: usize>(
     stepper: &mut Stepper<'_, '_, '_, B>,
     source: &mut R,
@@ -60,7 +60,7 @@ pub fn answer_commands<B: Blocking, R: Source, W: Sink, const N: usize>(
         let Some(byte) = next_byte(source)? else {
             return answer_last(line.as_slice(), stepper, sink);
         };
-        if !take_byte(byte, &mut line, stepper, sink)? {
+        if !take_command_byte(byte, &mut line, stepper, sink)? {
             return Ok(());
         }
     }
@@ -81,9 +81,15 @@ fn next_byte<R: Source>(source: &mut R) -> Result<Option<u8>, IoFailed>
     Ok(Some(buffer[0]))
 }
 
-/// Takes one more byte of the commands: of a line that goes on, or its end, and then the line is
-/// answered. False after `quit`.
-fn take_byte<B: Blocking, W: Sink, const N: usize>(
+/// Takes one more byte of commands: one of a line that goes on, which is kept in `line`, or the line
+/// feed that ends that line. Then the line is answered, and when this returns the sink below has taken
+/// the whole answer. False for `quit`, after which no byte is to come. `answer_commands` reads a byte
+/// and gives it to this call, in turn, so that each answer is handed on before a byte of the next line
+/// is read.
+///
+/// `line` is empty where a line begins. `Write` comes only where a line ends that has an answer, and
+/// `Memory` only where a line `answer ..` ends.
+pub fn take_command_byte<B: Blocking, W: Sink, const N: usize>(
     byte: u8,
     line: &mut ArrayVec<u8, KEPT>,
     stepper: &mut Stepper<'_, '_, '_, B>,
@@ -92,8 +98,10 @@ fn take_byte<B: Blocking, W: Sink, const N: usize>(
     requires fresh { sink.old.held ≡ [] }
     ensures ok { IfOk result (λ goes_on. TakesByte KEPT byte line.old.items line.new.items W.Sink
         sink.old sink.new stepper.old goes_on stepper.new) }
+    ensures held { OnOk result (sink.new.held ≡ []) }
     ensures err { IfErr result (λ fault. (byte ≡ 10) × FailsToHandAnswer W.Sink sink.old sink.new
         stepper.old line.old.items fault stepper.new) }
+    ensures kept { OnErr result (line.new.items ≡ line.old.items) }
 {
     if byte != b'\n' {
         if !line.is_full() {
@@ -125,7 +133,7 @@ fn answer_last<B: Blocking, W: Sink, const N: usize>(
     Ok(())
 }
 
-/// Answers a line, and hands the answer on. False for `quit`.
+/// Answers a line, and hands the answer on. False for `quit`, for which there is nothing to hand on.
 fn answer_line<B: Blocking, W: Sink, const N: usize>(
     line: &[u8],
     stepper: &mut Stepper<'_, '_, '_, B>,
@@ -137,7 +145,9 @@ fn answer_line<B: Blocking, W: Sink, const N: usize>(
     ensures err { IfErr result (λ fault. FailsToHandAnswer W.Sink sink.old sink.new stepper.old
         line.now fault stepper.new) }
 {
-    let goes_on = command(stepper, line, sink)?;
+    if !command(stepper, line, sink)? {
+        return Ok(false);
+    }
     sink.flush()?;
-    Ok(goes_on)
+    Ok(true)
 }

@@ -5,4 +5,4 @@ mod commanding;
 mod dialogue;
 
 pub use commanding::{StepFault, command};
-pub use dialogue::answer_commands;
+pub use dialogue::{KEPT, answer_commands, take_command_byte};

@@ -1,5 +1,5 @@
 -- What comes of a line of commands for a stepper.
-use Rattle.std.specs.Prelude.{◌≡◌, ℕ, ℤ, List, Bool}
+use Rattle.std.specs.Prelude.{◌≡◌, ◌≢◌, ℕ, ℤ, List, [], Bool}
 use Rattle.burr_io.specs.Sink.{SinkView, Takes, FailsWithin}
 use Rattle.burr_assembly.specs.Rules.Homes.{names_of}
 use Rattle.burr_state.specs.Views.Benches.{setup_of, IsSameRun}
@@ -29,12 +29,13 @@ PutsAnswer sink before after old line goes_on new =
 abbrev pub IsAnswerLine : Stepping → List ℕ → Type 0
 IsAnswerLine s line = (answer : ℤ) × IsLineOf (setup_of s.bench) line (Steps (Answer answer))
 
--- Where the sink fails it took a front of what the line comes to, which leaves the stepper as it
--- would without the fault; where a request for memory was refused, for an answer, nothing changed.
+-- Where the line comes to some text, the sink may fail in that, and then took a front of it, and the
+-- stepper is left as it would be without the fault; where a request for memory was refused, for an
+-- answer, nothing changed.
 abbrev pub FailsInAnswer : {S : Type 0} → SinkView S → S → S → Stepping → List ℕ → StepFault
     → Stepping → Type 0
 FailsInAnswer sink before after old line faults.Write new =
-    (answer : LineAnswer) × IsAnswered old line answer new
+    (answer : LineAnswer) × IsAnswered old line answer new × (answer.text ≢ [])
     × FailsWithin sink before after answer.text
 FailsInAnswer sink before after old line faults.Memory new =
     IsAnswerLine old line × (new ≡ old) × (after ≡ before)

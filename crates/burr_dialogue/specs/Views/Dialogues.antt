@@ -6,7 +6,7 @@ use Rattle.burr_io.specs.Sink.{SinkView, HoldsFront}
 use Rattle.burr_io.specs.WholeLines.{Lines}
 use Rattle.burr_assembly.specs.Rules.Homes.{names_of}
 use Rattle.burr_state.specs.Views.Benches.{setup_of, IsSameRun}
-use Rattle.burr_step.specs.Rules.StepTexts.{LineAnswer}
+use Rattle.burr_step.specs.Rules.StepTexts.{LineAnswer, Lined}
 use Rattle.burr_step.specs.Views.Stepping.{Stepping}
 use Rattle.burr_runs.specs.declared.fault.BenchFault.{BenchFault}
 use Rattle.burr_runs.specs.declared.fault.BenchFault.TheVariants as faults
@@ -24,6 +24,23 @@ pub record HasAnswered (old : Stepping) (lines : List (List ℕ)) (answer : Line
   pub history : new.history ≡ answer.history
   pub state : new.bench.state ≡ answer.state
   pub same : IsSameRun old.bench new.bench
+
+-- these lines are answered so, the last of them by some text, which is the end of the answers
+pub record HasAnsweredLast (old : Stepping) (lines : List (List ℕ)) (answer : LineAnswer)
+    (new : Stepping) : Type 0 where
+  pub answered : HasAnswered old lines answer new
+  pub front : List (List ℕ)
+  pub line : List ℕ
+  pub cut : lines ≡ front ++ line ∷ []
+  pub before : LineAnswer
+  pub dialogue : Dialogue (setup_of old.bench) (names_of old.bench.assembly) old.history
+      old.bench.state front before
+  pub goes_on : before.goes_on ≡ true
+  pub last : LineAnswer
+  pub lined : Lined (setup_of old.bench) (names_of old.bench.assembly) before.history before.state
+      line last
+  pub some : last.text ≢ []
+  pub text : answer.text ≡ before.text ++ last.text
 
 -- lines that were read are answered, the sink took the answers, and more lines are taken; after them
 -- bytes were read of a line that is not answered
@@ -59,12 +76,13 @@ EndsDialogue old s new =
     (text : List ℕ) × IsDialogue old s.left_old s.left_new text new
     × Appends s.taken_old s.taken_new text
 
--- The sink failed in the answer to the last line that was read, and holds a front of the answers.
+-- The sink failed in the answer to the last line that was read, which has some text, and holds a
+-- front of the answers.
 abbrev pub FailsInDialogue : Stepping → Streams → Stepping → Type 0
 FailsInDialogue old s new =
     (read : List ℕ) × (lines : List (List ℕ)) × (answer : LineAnswer)
     × Consumes s.left_old s.left_new read × IsInputOf read lines
-    × HasAnswered old lines answer new
+    × HasAnsweredLast old lines answer new
     × HoldsFront s.taken_old s.taken_new answer.text × (s.write_failed ≡ true)
 
 -- these bytes are a line that was read, with its end, or without it where no byte is left
@@ -98,12 +116,12 @@ abbrev pub HandsAnswer : {S : Type 0} → SinkView S → Lines S → Lines S →
 HandsAnswer sink before after old line goes_on new =
     PutsAnswer sink before.sink after.sink old line goes_on new × (after.held ≡ [])
 
--- the sink below failed, and holds a front of what it held before and of what the line comes to;
--- where a request for memory was refused, for an answer, nothing changed
+-- the sink below failed, and holds a front of what it held before and of what the line comes to,
+-- which is some text; where a request for memory was refused, for an answer, nothing changed
 abbrev pub FailsToHandAnswer : {S : Type 0} → SinkView S → Lines S → Lines S → Stepping → List ℕ
     → BenchFault → Stepping → Type 0
 FailsToHandAnswer sink before after old line faults.Write new =
-    (answer : LineAnswer) × IsAnswered old line answer new
+    (answer : LineAnswer) × IsAnswered old line answer new × (answer.text ≢ [])
     × HoldsFront (sink.taken before.sink) (sink.taken after.sink) answer.text
     × (sink.has_failed after.sink ≡ true)
 FailsToHandAnswer sink before after old line faults.Memory new =

@@ -2,7 +2,7 @@ use Rattle.std.proofs.Common.{ℕ, List, Bool, sym, subst}
 use Rattle.burr_runs.specs.declared.fault.BenchFault.TheVariants as faults
 use Rattle.burr_runs.specs.Views.BenchText.{streams}
 use Rattle.burr_dialogue.specs.Views.Dialogues.{IsConversing, TakesByte}
-use Rattle.burr_dialogue.proofs.Dialogues.{nothing_read, goes_on_by, quits_by, ends_by, breaks_by_source, breaks_at_end_of_line, breaks_at_end_of_input, on_ok_more, if_err_more, breaks_as, nothing_held_after, gave_byte, gave_none, all_counted}
+use Rattle.burr_dialogue.proofs.Dialogues.{nothing_read, goes_on_by, quits_by, ends_by, breaks_by_source, breaks_at_end_of_line, breaks_at_end_of_input, on_ok_more, if_err_more, breaks_as, gave_byte, gave_none, all_counted}
 use Rattle.burr_dialogue.proofs.dialogue.answer_commands.Goals as goal
 
 pub loop-init : goal.loop-init
@@ -47,15 +47,15 @@ returns-in_default-clause-err g c =
     fault so_far end.0 end.1 fails.0 fails.1)
     c.answer_last.ensures.err
 
-pub returns-in_err-take_byte-clause-err : goal.returns-in_err-take_byte-clause-err
-returns-in_err-take_byte-clause-err g c =
+pub returns-in_err-take_command_byte-clause-err : goal.returns-in_err-take_command_byte-clause-err
+returns-in_err-take_command_byte-clause-err g c =
     let old = c.args.stepper.now in
-    let s = streams g.R.Source c.args.source.now c.next_byte.new.source g.W.Sink c.args.sink.now.sink c.take_byte.new.sink.sink in
+    let s = streams g.R.Source c.args.source.now c.next_byte.new.source g.W.Sink c.args.sink.now.sink c.take_command_byte.new.sink.sink in
     let gave = gave_byte (g.R.Source.left c.loop.source) (g.R.Source.left c.next_byte.new.source) c.in_ok-byte.field-0 c.in-Some.byte c.in-Some.is c.in_ok-byte.ensures.ok in
-    let fails = c.in_err-take_byte.ensures.err in
-    breaks_as c.from_residual-in_err-take_byte.result old s c.take_byte.new.stepper c.in_err-take_byte.field-0.0 c.from_residual-in_err-take_byte.ensures.1
+    let fails = c.in_err-take_command_byte.ensures.err in
+    breaks_as c.from_residual-in_err-take_command_byte.result old s c.take_command_byte.new.stepper c.in_err-take_command_byte.field-0.0 c.from_residual-in_err-take_command_byte.ensures.1
     (breaks_at_end_of_line g.R.Source g.W.Sink c.args.source.now c.args.sink.now old c.lines_of_commands_are_short.ensures.short c.labels_are_few.ensures
-    c.loop.counter c.in-Some.byte c.loop.line.items c.loop.source c.next_byte.new.source c.loop.sink c.take_byte.new.sink c.loop.stepper c.take_byte.new.stepper c.in_err-take_byte.field-0.0
+    c.loop.counter c.in-Some.byte c.loop.line.items c.loop.source c.next_byte.new.source c.loop.sink c.take_command_byte.new.sink c.loop.stepper c.take_command_byte.new.stepper c.in_err-take_command_byte.field-0.0
     c.loop.invariant.1 gave fails.0 fails.1)
 
 pub returns-then-not-branch-clause-ok : goal.returns-then-not-branch-clause-ok
@@ -63,10 +63,10 @@ returns-then-not-branch-clause-ok g c =
     let old = c.args.stepper.now in
     let byte = c.in-Some.byte in
     let gave = gave_byte (g.R.Source.left c.loop.source) (g.R.Source.left c.next_byte.new.source) c.in_ok-byte.field-0 byte c.in-Some.is c.in_ok-byte.ensures.ok in
-    let takes = subst (λ (goes_on : Bool). TakesByte 65 byte c.loop.line.items c.take_byte.new.line.items g.W.Sink c.loop.sink c.take_byte.new.sink c.loop.stepper goes_on c.take_byte.new.stepper)
-    c.if-not-branch.true c.in_ok-take_byte.ensures.ok in
+    let takes = subst (λ (goes_on : Bool). TakesByte 65 byte c.loop.line.items c.take_command_byte.new.line.items g.W.Sink c.loop.sink c.take_command_byte.new.sink c.loop.stepper goes_on c.take_command_byte.new.stepper)
+    c.if-not-branch.true c.in_ok-take_command_byte.ensures.ok in
     quits_by g.R.Source g.W.Sink c.args.source.now c.args.sink.now old c.lines_of_commands_are_short.ensures.short c.labels_are_few.ensures
-    c.loop.counter byte c.loop.line.items c.take_byte.new.line.items c.loop.source c.next_byte.new.source c.loop.sink c.take_byte.new.sink c.loop.stepper c.take_byte.new.stepper
+    c.loop.counter byte c.loop.line.items c.take_command_byte.new.line.items c.loop.source c.next_byte.new.source c.loop.sink c.take_command_byte.new.sink c.loop.stepper c.take_command_byte.new.stepper
     c.loop.invariant.1 gave takes
 
 pub loop-preserved : goal.loop-preserved
@@ -74,11 +74,11 @@ loop-preserved g c =
     let old = c.args.stepper.now in
     let byte = c.in-Some.byte in
     let gave = gave_byte (g.R.Source.left c.loop.source) (g.R.Source.left c.next_byte.new.source) c.in_ok-byte.field-0 byte c.in-Some.is c.in_ok-byte.ensures.ok in
-    let takes = subst (λ (goes_on : Bool). TakesByte 65 byte c.loop.line.items c.take_byte.new.line.items g.W.Sink c.loop.sink c.take_byte.new.sink c.loop.stepper goes_on c.take_byte.new.stepper)
-    c.if-not-branch.false c.in_ok-take_byte.ensures.ok in (
-      nothing_held_after g.W.Sink c.loop.sink c.take_byte.new.sink byte c.loop.line.items c.take_byte.new.line.items c.loop.stepper c.take_byte.new.stepper _ c.loop.invariant.0 takes,
+    let takes = subst (λ (goes_on : Bool). TakesByte 65 byte c.loop.line.items c.take_command_byte.new.line.items g.W.Sink c.loop.sink c.take_command_byte.new.sink c.loop.stepper goes_on c.take_command_byte.new.stepper)
+    c.if-not-branch.false c.in_ok-take_command_byte.ensures.ok in (
+      c.in_ok-take_command_byte.ensures.held,
       goes_on_by g.R.Source g.W.Sink c.args.source.now c.args.sink.now old c.lines_of_commands_are_short.ensures.short c.labels_are_few.ensures
-          c.loop.counter byte c.loop.line.items c.take_byte.new.line.items c.loop.source c.next_byte.new.source c.loop.sink c.take_byte.new.sink c.loop.stepper c.take_byte.new.stepper
+          c.loop.counter byte c.loop.line.items c.take_command_byte.new.line.items c.loop.source c.next_byte.new.source c.loop.sink c.take_command_byte.new.sink c.loop.stepper c.take_command_byte.new.stepper
           c.loop.invariant.1 gave takes,
     )
 

@@ -1,6 +1,6 @@
 use Rattle.std.proofs.Common.{length, inl, refl}
 use Rattle.burr_dialogue.proofs.Dialogues.{kept_more, kept_full, has_room, has_none}
-use Rattle.burr_dialogue.proofs.dialogue.take_byte.Goals as goal
+use Rattle.burr_dialogue.proofs.dialogue.take_command_byte.Goals as goal
 
 pub returns-then-not-is_full-clause-ok : goal.returns-then-not-is_full-clause-ok
 returns-then-not-is_full-clause-ok g c =
