@@ -1,10 +1,9 @@
 //! What calls of the bench tell, and its state after them.
-use crate::calls::{assembly_of, cells_of};
+use crate::calls::{assembly_of, rows_of};
 use crate::cases::SCRIPTS;
 use crate::texts::{bytes_of, expanded};
-use burr_assembly::Assembly;
 use burr_bench::Checked;
-use burr_blocking::PlainCells;
+use burr_blocking::RowTables;
 use burr_code::Placement;
 use burr_testing::assemblies::DUO;
 use burr_voxels::Cell;
@@ -12,29 +11,30 @@ use std::alloc::{AllocError, Global};
 use std::fmt::Debug;
 use std::process::Abort;
 
-/// The bench of an assembly whose cells are compared.
-type Bench<'a, 'c> = Checked<'a, PlainCells<'c>>;
+/// The bench of an assembly that has rows of bits.
+type Bench<'a, 'c> = Checked<'a, RowTables<'c>>;
 
 #[test]
 fn tells_what_comes_of_calls(rt: HostRuntime) {
-    assert_scripts(&rt, rt.alloc(), &assembly_of(&rt, rt.alloc(), DUO));
+    let duo = assembly_of(&rt, rt.alloc(), DUO);
+    assert_scripts(&rt, rt.alloc(), &rows_of(&rt, rt.alloc(), &duo));
 }
 
 /// Asserts each script.
-fn assert_scripts(rt: &impl Abort, alloc: Global, duo: &Assembly) {
+fn assert_scripts(rt: &impl Abort, alloc: Global, duo: &RowTables<'_>) {
     for script in SCRIPTS.split("\n\n") {
         assert_script(rt, alloc, duo, script);
     }
 }
 
 /// Asserts a script: its heading, its code, and its lines.
-fn assert_script(rt: &impl Abort, alloc: Global, duo: &Assembly, script: &str) {
+fn assert_script(rt: &impl Abort, alloc: Global, duo: &RowTables<'_>, script: &str) {
     let script = expanded(rt, alloc, script);
     let (_heading, rest) = script.split_once('\n').expect(rt, "a heading");
     let (code, lines) = rest.split_once('\n').expect(rt, "code");
     let code = bytes_of(rt, alloc, code);
     assert!(rt; code.len() <= 4096);
-    assert_told(rt, alloc, &mut Checked::bare(&code, &cells_of(duo)), lines);
+    assert_told(rt, alloc, &mut Checked::bare(&code, duo), lines);
 }
 
 /// Asserts what the bench tells at each line.

@@ -7,13 +7,17 @@ mod looks;
 mod motions;
 mod runs;
 mod scripts;
+mod states;
 
 use crate::cases::bare::{APART, FULL, LEVELS, MORE};
 use crate::cases::codes::CODES;
 use crate::cases::edits::EDITS;
 use crate::cases::looks::LOOKS;
 use crate::cases::motions::MOTIONS;
-use crate::cases::runs::{ANSWERS, BOTH, CHECKS, FITS, LIFT_CHECKS, LIFT_RUNS, RUNS, UPGRADES};
+use crate::cases::runs::{
+    ANSWERS, BOTH, CHECKS, FITS, LIFT_CHECKS, LIFT_RUNS, REFUSED, RUNS, SIZES, TRIED, UPGRADES,
+};
+use crate::cases::states::STATES;
 use crate::tables::{How, Kind, assert_tables};
 pub use dialogues::{DIALOGUES, WANTING};
 pub use scripts::SCRIPTS;
@@ -34,6 +38,17 @@ fn upgrades_plans(rt: HostRuntime) {
 }
 
 #[test]
+fn upgraded_plans_have_these_sizes(rt: HostRuntime) {
+    assert_tables(&rt, rt.alloc(), How::Plainly, Kind::Sizes, SIZES);
+}
+
+#[test]
+fn upgraded_plans_are_refused_alike(rt: HostRuntime) {
+    assert_tables(&rt, rt.alloc(), How::Plainly, Kind::Check, REFUSED);
+    assert_tables(&rt, rt.alloc(), How::Upgraded, Kind::Check, REFUSED);
+}
+
+#[test]
 fn machine_and_bench_go_alike(rt: HostRuntime) {
     assert_tables(&rt, rt.alloc(), How::Plainly, Kind::Both, BOTH);
 }
@@ -51,7 +66,16 @@ fn judges_plans(rt: HostRuntime) {
     assert_tables(&rt, rt.alloc(), How::Plainly, Kind::Fit, FITS);
     assert_tables(&rt, rt.alloc(), How::Plainly, Kind::Verdict, CODES);
     assert_tables(&rt, rt.alloc(), How::Plainly, Kind::Verdict, EDITS);
+}
+
+#[test]
+fn tables_are_asked_once_for_each_look(rt: HostRuntime) {
     assert_tables(&rt, rt.alloc(), How::Plainly, Kind::Looks, LOOKS);
+}
+
+#[test]
+fn states_arrive_and_miss(rt: HostRuntime) {
+    assert_tables(&rt, rt.alloc(), How::Plainly, Kind::State, STATES);
 }
 
 #[test]
@@ -60,6 +84,21 @@ fn checks_and_runs_plans(rt: HostRuntime) {
     assert_tables(&rt, rt.alloc(), How::Plainly, Kind::Check, CHECKS);
     assert_tables(&rt, rt.alloc(), How::Plainly, Kind::Run, LIFT_RUNS);
     assert_tables(&rt, rt.alloc(), How::Plainly, Kind::Run, RUNS);
+}
+
+#[test]
+fn tries_plans(rt: HostRuntime) {
+    assert_tables(&rt, rt.alloc(), How::Tried, Kind::Check, TRIED);
+    assert_tables(&rt, rt.alloc(), How::Tried, Kind::Run, LIFT_RUNS);
+    assert_tables(&rt, rt.alloc(), How::Tried, Kind::Run, RUNS);
+}
+
+#[test]
+fn judges_and_runs_without_memory(rt: HostRuntime) {
+    assert_tables(&rt, rt.alloc(), How::Poorly, Kind::Check, LIFT_CHECKS);
+    assert_tables(&rt, rt.alloc(), How::Poorly, Kind::Check, CHECKS);
+    assert_tables(&rt, rt.alloc(), How::Poorly, Kind::Run, LIFT_RUNS);
+    assert_tables(&rt, rt.alloc(), How::Poorly, Kind::Run, RUNS);
 }
 
 #[test]

@@ -1,9 +1,9 @@
 //! Containers that are damaged at each of their places in turn.
-use crate::calls::{assembly_of, cells_of};
+use crate::calls::{assembly_of, rows_of};
 use crate::plans::CUP_PLAN;
 use crate::puts::put_run;
 use crate::texts::bytes_of;
-use burr_blocking::PlainCells;
+use burr_blocking::RowTables;
 use burr_container::{Container, ContainerFault};
 use burr_testing::assemblies::DUO;
 use burr_testing::plans::DUO_PLAN;
@@ -38,9 +38,9 @@ fn with_byte(rt: &impl Abort, alloc: Global, bytes: &[u8], place: usize, byte: u
 }
 
 /// How the run of bytes without answers ends, where they are a container, and are accepted.
-fn end_of(alloc: Global, bytes: &[u8], cells: &PlainCells<'_>) -> &'static str {
+fn end_of(alloc: Global, bytes: &[u8], rows: &RowTables<'_>) -> &'static str {
     match Container::parse(bytes) {
-        Ok(container) => put_run(&container, cells, &[], &mut Vec::new(alloc)),
+        Ok(container) => put_run(&container, rows, &[], &mut Vec::new(alloc)),
         Err(_fault) => "refused",
     }
 }
@@ -50,13 +50,13 @@ fn end_of(alloc: Global, bytes: &[u8], cells: &PlainCells<'_>) -> &'static str {
 fn runs_what_is_accepted_to_an_end(rt: HostRuntime) {
     let alloc = rt.alloc();
     let assembly = assembly_of(&rt, alloc, DUO);
-    let cells = cells_of(&assembly);
+    let rows = rows_of(&rt, alloc, &assembly);
     let bytes = bytes_of(&rt, alloc, DUO_PLAN);
     assert!(rt; bytes.len() == 70);
     for number in 0..70 * 256usize {
         let (place, byte) = (number / 256, (number % 256) as u8);
         let changed = with_byte(&rt, alloc, &bytes, place, byte);
-        let is_right = match end_of(alloc, &changed, &cells) {
+        let is_right = match end_of(alloc, &changed, &rows) {
             "Apart" => true,
             "Waiting" | "refused" => changed != bytes,
             _ => false,

@@ -3,6 +3,8 @@
 #![tactic(auto)]
 
 #[cfg(test)]
+mod arrivals;
+#[cfg(test)]
 mod assemblies;
 #[cfg(test)]
 mod bench;
@@ -13,7 +15,11 @@ mod cases;
 #[cfg(test)]
 mod damage;
 #[cfg(test)]
+mod looks;
+#[cfg(test)]
 mod machine;
+#[cfg(test)]
+mod messages;
 #[cfg(test)]
 mod plans;
 #[cfg(test)]
@@ -28,6 +34,8 @@ mod stepper;
 mod tables;
 #[cfg(test)]
 mod texts;
+#[cfg(test)]
+mod upgrades;
 #[cfg(test)]
 mod verdicts;
 #[cfg(test)]

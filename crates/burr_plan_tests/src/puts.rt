@@ -1,16 +1,18 @@
 //! What is put by the bench and by checks and runs of plans, and how that ends, in a word.
-use crate::calls::{assembly_of, cells_of, container_of};
+use crate::calls::{assembly_of, container_of, rows_of, upgraded};
 use crate::sources::input_of;
-use crate::tables::{Kind, Table};
+use crate::tables::{How, Kind, Table};
 use crate::texts::{bytes_of, edited, lines_of};
-use burr_blocking::Blocking;
+use crate::want::memory_taken;
+use burr_bench::Checked;
+use burr_blocking::{Blocking, RowTables};
 use burr_container::Container;
 use burr_io::{Reading, Writing};
-use burr_runs::{BenchFault, Outcome, bench_text, check, read_answers, run_plan};
+use burr_runs::{BenchFault, Outcome, bench_text, check, read_answers, run_plan, try_plan};
 use burr_testing::Narrow;
-use burr_verify::{Accepted, accept};
+use burr_verify::{Accepted, accept, verify};
 use std::alloc::Global;
-use std::io::{ErrorKind, Read, Write};
+use std::io::{Cursor, ErrorKind, Read, Write};
 use std::process::Abort;
 
 /// How a run ended, in a word.
@@ -80,16 +82,33 @@ fn put_accepted<B: Blocking, W: Write>(
     }
 }
 
-/// Checks or runs a plan.
-fn put_judged<B: Blocking, W: Write>(
-    kind: Kind,
+/// Runs a plan on the bench that tests each move, and puts its sheet.
+fn put_tried<B: Blocking, W: Write>(
     container: &Container<'_>,
     blocking: &B,
     answers: &[i32],
     writer: &mut W,
 ) -> &'static str {
-    match kind {
-        Kind::Run => put_run(container, blocking, answers, writer),
+    let Ok(mut bench) = Checked::start(container, blocking) else {
+        return "refused";
+    };
+    match try_plan(&mut bench, answers, &mut Writing::new(writer)) {
+        Ok(outcome) => word_of(outcome),
+        Err(_) => "Write",
+    }
+}
+
+/// Checks, runs or tries a plan.
+fn put_judged<B: Blocking, W: Write>(
+    table: &Table,
+    container: &Container<'_>,
+    blocking: &B,
+    answers: &[i32],
+    writer: &mut W,
+) -> &'static str {
+    match (table.how, table.kind) {
+        (How::Tried, _) => put_tried(container, blocking, answers, writer),
+        (_, Kind::Run) => put_run(container, blocking, answers, writer),
         _ => put_check(container, blocking, writer),
     }
 }
@@ -107,9 +126,13 @@ fn answers_of(rt: &impl Abort, alloc: Global, kind: Kind, given: &str) -> Vec<i3
 
 /// The bytes of a case's plan.
 pub fn plan_of(rt: &impl Abort, alloc: Global, table: &Table, given: &str) -> Vec<u8> {
-    match table.kind {
+    let bytes = match table.kind {
         Kind::Run => bytes_of(rt, alloc, table.plan),
         _ => bytes_of(rt, alloc, &edited(rt, alloc, table.plan, given)),
+    };
+    match table.how {
+        How::Upgraded => upgraded(rt, alloc, &bytes),
+        _ => bytes,
     }
 }
 
@@ -126,16 +149,16 @@ fn put_plan<W: Write>(
     let assembly = assembly_of(rt, alloc, table.assembly);
     let container = container_of(rt, &bytes);
     put_judged(
-        table.kind,
+        table,
         &container,
-        &cells_of(&assembly),
+        &rows_of(rt, alloc, &assembly),
         &answers,
         writer,
     )
 }
 
 /// Puts what comes of a case.
-fn put<W: Write>(
+pub fn put<W: Write>(
     rt: &impl Abort,
     alloc: Global,
     table: &Table,
@@ -194,4 +217,42 @@ fn puts_front(
 ) -> bool {
     let mut writer = Narrow::new(alloc, front.len(), fault);
     put(rt, alloc, table, given, &mut writer) == end && writer.taken.as_slice() == front
+}
+
+/// Whether a case puts this while no memory can be had, where all that it works on was made before.
+pub fn puts_poorly(
+    rt: &impl Abort,
+    alloc: Global,
+    table: &Table,
+    given: &str,
+    wanted: &str,
+) -> bool {
+    let bytes = plan_of(rt, alloc, table, given);
+    let answers = answers_of(rt, alloc, table.kind, given);
+    let assembly = assembly_of(rt, alloc, table.assembly);
+    let rows = rows_of(rt, alloc, &assembly);
+    let container = container_of(rt, &bytes);
+    let wanted = wanted.split_once(" | ").expect(rt, "a text");
+    // with ample memory first: then the stack has grown as far as the calls need, which it can't do
+    // while all memory is taken
+    puts_in_place(table, &container, &rows, &answers, wanted);
+    let _taken = memory_taken(rt, alloc);
+    puts_in_place(table, &container, &rows, &answers, wanted)
+}
+
+/// Whether a plan puts this, and ends so, in a place of 128 bytes; and is refused where that says so.
+fn puts_in_place(
+    table: &Table,
+    container: &Container<'_>,
+    rows: &RowTables<'_>,
+    answers: &[i32],
+    (end, text): (&str, &str),
+) -> bool {
+    let mut room = [0; 128];
+    let mut written = Cursor::new(room.as_mut_slice());
+    let word = put_judged(table, container, rows, answers, &mut written);
+    let count = written.position() as usize;
+    verify(container, rows).is_err() == (end == "refused")
+        && word == end
+        && room.get(..count) == Some(text.as_bytes())
 }

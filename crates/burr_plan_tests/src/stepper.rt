@@ -1,24 +1,23 @@
 //! The stepper by lines of commands: what is put for each, also where sinks fail or memory is
 //! wanting.
-use crate::calls::{assembly_of, cells_of, container_of};
+use crate::calls::{assembly_of, container_of, rows_of};
 use crate::cases::{DIALOGUES, WANTING};
 use crate::puts::plan_of;
-use crate::tables::{Kind, table_of};
+use crate::tables::{How, Kind, table_of};
 use crate::texts::{bytes_of, lines_of};
 use crate::want::memory_taken;
-use burr_assembly::Assembly;
-use burr_blocking::PlainCells;
+use burr_blocking::RowTables;
 use burr_dialogue::{StepFault, command};
 use burr_io::Writing;
-use burr_step::Stepper;
+use burr_step::{StepRefusal, Stepper};
 use burr_testing::{MemoryHog, Narrow};
 use burr_verify::accept;
-use std::alloc::Global;
+use std::alloc::{AllocError, Global};
 use std::io::{Cursor, Write};
 use std::process::Abort;
 
-/// The stepper of a plan whose pieces' cells are compared.
-type Steps<'s, 'a, 'c, 'b> = Stepper<'s, 'a, 'c, PlainCells<'b>>;
+/// The stepper of a plan for an assembly that has rows of bits.
+type Steps<'s, 'a, 'c, 'b> = Stepper<'s, 'a, 'c, RowTables<'b>>;
 
 #[test]
 fn puts_what_each_command_comes_to(rt: HostRuntime) {
@@ -31,22 +30,16 @@ fn puts_what_each_command_comes_to(rt: HostRuntime) {
 fn assert_dialogue(rt: &impl Abort, alloc: Global, dialogue: &'static str) {
     let (head, rest) = dialogue.split_once('\n').expect(rt, "edits");
     let (edits, lines) = rest.split_once('\n').expect(rt, "lines");
-    let table = table_of(rt, Kind::Check, head);
+    let table = table_of(rt, Kind::Check, How::Plainly, head);
     let bytes = plan_of(rt, alloc, &table, edits);
-    assert_steps(
-        rt,
-        alloc,
-        &assembly_of(rt, alloc, table.assembly),
-        &bytes,
-        lines,
-    );
+    let assembly = assembly_of(rt, alloc, table.assembly);
+    assert_steps(rt, alloc, &rows_of(rt, alloc, &assembly), &bytes, lines);
 }
 
 /// Asserts what lines of commands put for a container's plan.
-fn assert_steps(rt: &impl Abort, alloc: Global, assembly: &Assembly, bytes: &[u8], lines: &str) {
-    let cells = cells_of(assembly);
+fn assert_steps(rt: &impl Abort, alloc: Global, rows: &RowTables<'_>, bytes: &[u8], lines: &str) {
     let container = container_of(rt, bytes);
-    let Ok(accepted) = accept(&container, &cells) else {
+    let Ok(accepted) = accept(&container, rows) else {
         panic!(rt; "refused");
     };
     let mut stepper = Stepper::new(alloc, &accepted).expect(rt, "memory");
@@ -66,6 +59,8 @@ fn assert_line(rt: &impl Abort, alloc: Global, stepper: &mut Steps<'_, '_, '_, '
         "bytes" => puts(alloc, stepper, &bytes_of(rt, alloc, words), &wanted),
         "fronts" => puts_fronts(alloc, stepper, words.as_bytes(), &wanted),
         "wants" => wants_memory(stepper, words.as_bytes(), memory_taken(rt, alloc)),
+        "poorly" => puts_poorly(stepper, words.as_bytes(), &wanted, memory_taken(rt, alloc)),
+        "call" => told(alloc, stepper, words).expect(rt, "memory") == wanted,
         _ => puts(alloc, stepper, words.as_bytes(), &wanted),
     };
     assert!(rt; is_right, "{line}");
@@ -123,14 +118,51 @@ fn puts_front(
     told == Err(StepFault::Write) && writer.taken.as_slice() == front
 }
 
-/// Whether a command wants memory while all of it is held, and then puts nothing and makes no step.
+/// Whether a command to answer wants memory while all of it is held, and then puts nothing, and makes
+/// no step; and the stepper's own call does, too.
 fn wants_memory(stepper: &mut Steps<'_, '_, '_, '_>, line: &[u8], hog: MemoryHog) -> bool {
-    let steps = stepper.steps();
+    let (steps, asks) = (stepper.steps(), stepper.asks());
     let mut room = [0u8; 40];
     let mut written = Cursor::new(room.as_mut_slice());
     let told = put(stepper, line, &mut written);
+    let refused = stepper.answer(0);
     drop(hog);
-    told == Err(StepFault::Memory) && written.position() == 0 && stepper.steps() == steps
+    let is_still = stepper.steps() == steps && stepper.asks() == asks;
+    let wants = told == Err(StepFault::Memory) && refused == Err(StepRefusal::Memory);
+    wants && is_still && written.position() == 0
+}
+
+/// Whether a command puts this while all memory is held.
+fn puts_poorly(
+    stepper: &mut Steps<'_, '_, '_, '_>,
+    line: &[u8],
+    wanted: &str,
+    hog: MemoryHog,
+) -> bool {
+    let mut room = [0u8; 128];
+    let mut written = Cursor::new(room.as_mut_slice());
+    let told = put(stepper, line, &mut written);
+    drop(hog);
+    let count = written.position() as usize;
+    told == Ok(true) && room.get(..count) == Some(wanted.as_bytes())
+}
+
+/// What a call of the stepper's own tells, how many steps it has made then, and what it asks.
+fn told(
+    alloc: Global,
+    stepper: &mut Steps<'_, '_, '_, '_>,
+    call: &str,
+) -> Result<String, AllocError> {
+    let told = match call {
+        "forward" => stepper.forward(),
+        "answer 1" => stepper.answer(1),
+        "answer 2" => stepper.answer(2),
+        "answer 5" => stepper.answer(5),
+        "back 1" => stepper.back(1),
+        _ => stepper.back(2),
+    };
+    let (steps, asks) = (stepper.steps(), stepper.asks());
+    format!(in alloc; "{told:?} after {steps} asks {asks:?}")
 }
 
 /// The list of the answers that are kept grows at the first answer, and later too.

@@ -1,13 +1,15 @@
 //! Tables of cases: a line with an assembly and, after ` | `, a plan, each by its name or as a text,
 //! and then a case a line: what is given, and after ` | ` what comes of it. A line with `#` is a
 //! heading, `/` after the bar stands for a line end, and a blank line stands between tables.
+use crate::arrivals::said_of_state;
 use crate::assemblies::assembly_named;
-use crate::calls::{assembly_of, upgraded};
+use crate::calls::assembly_of;
 use crate::machine::said_of_both;
 use crate::plans::plan_named;
-use crate::puts::{plan_of, puts, puts_fronts};
+use crate::puts::{puts, puts_fronts, puts_poorly};
 use crate::sources::reads_portions;
 use crate::texts::lines_of;
+use crate::upgrades::{is_upgraded, sizes_of};
 use crate::verdicts::said_of_judge;
 use crate::want::wants_memory;
 use burr_runs::read_answers;
@@ -34,6 +36,10 @@ pub enum Kind {
     Both,
     /// Edits of a plan: it is made a plan of version 2, which other edits give, too.
     Upgrade,
+    /// Edits of a plan: it is asked how long it is, and how long in version 2.
+    Sizes,
+    /// Edits of a plan, and of the plan to whose frames the states of that come.
+    State,
     /// Edits of a plan: it is checked.
     Check,
     /// Answers: the plan is run with them, where it is accepted.
@@ -44,6 +50,7 @@ pub enum Kind {
 #[derive(Clone, Copy)]
 pub struct Table {
     pub kind: Kind,
+    pub how: How,
     /// The assembly's text.
     pub assembly: &'static str,
     /// The plan's digits, or what stands after the assembly's text; with a `?` where a case fills
@@ -62,6 +69,12 @@ pub enum How {
     InPortions,
     /// While memory is wanting here and there.
     Wanting,
+    /// While no memory can be had, once all is made that the cases work on.
+    Poorly,
+    /// With plans of version 2 that are made of the cases'.
+    Upgraded,
+    /// On the bench that tests each move, whether the plan is accepted or not.
+    Tried,
 }
 
 /// Asserts what comes of each case of these tables.
@@ -74,37 +87,39 @@ pub fn assert_tables(rt: &impl Abort, alloc: Global, how: How, kind: Kind, table
 /// Asserts what comes of each case of a table.
 fn assert_table(rt: &impl Abort, alloc: Global, how: How, kind: Kind, text: &'static str) {
     let (head, cases) = text.split_once('\n').expect(rt, "cases");
-    assert_cases(rt, alloc, how, &table_of(rt, kind, head), cases);
+    assert_cases(rt, alloc, &table_of(rt, kind, how, head), cases);
 }
 
 /// The table with this first line.
-pub fn table_of(rt: &impl Abort, kind: Kind, head: &'static str) -> Table {
+pub fn table_of(rt: &impl Abort, kind: Kind, how: How, head: &'static str) -> Table {
     let (assembly, plan) = head.split_once(" | ").expect(rt, "a plan");
     Table {
         kind,
+        how,
         assembly: assembly_named(assembly),
         plan: plan_named(plan),
     }
 }
 
 /// Asserts what comes of these cases of a table.
-fn assert_cases(rt: &impl Abort, alloc: Global, how: How, table: &Table, cases: &str) {
+fn assert_cases(rt: &impl Abort, alloc: Global, table: &Table, cases: &str) {
     for line in cases.lines() {
         if !line.starts_with('#') {
-            assert_case(rt, alloc, how, table, line);
+            assert_case(rt, alloc, table, line);
         }
     }
 }
 
 /// Asserts what comes of a case.
-fn assert_case(rt: &impl Abort, alloc: Global, how: How, table: &Table, line: &str) {
+fn assert_case(rt: &impl Abort, alloc: Global, table: &Table, line: &str) {
     let (given, wanted) = line.split_once(" | ").expect(rt, "what comes of it");
     let wanted = lines_of(rt, alloc, wanted);
-    let is_right = match how {
-        How::Plainly => comes_to(rt, alloc, table, given, &wanted),
+    let is_right = match table.how {
         How::InFronts => puts_fronts(rt, alloc, table, given, &wanted),
         How::InPortions => reads_portions(rt, alloc, table, given, &wanted),
         How::Wanting => wants_memory(rt, alloc, table, given, &wanted),
+        How::Poorly => puts_poorly(rt, alloc, table, given, &wanted),
+        _ => comes_to(rt, alloc, table, given, &wanted),
     };
     assert!(rt; is_right, "{line}");
 }
@@ -118,18 +133,14 @@ fn comes_to(rt: &impl Abort, alloc: Global, table: &Table, given: &str, wanted: 
     }
 }
 
-/// Whether a plan after edits is upgraded to that after other edits.
-fn is_upgraded(rt: &impl Abort, alloc: Global, table: &Table, old: &str, new: &str) -> bool {
-    let made = upgraded(rt, alloc, &plan_of(rt, alloc, table, old));
-    made == plan_of(rt, alloc, table, new)
-}
-
 /// What is said of a case.
 fn said_of(rt: &impl Abort, alloc: Global, table: &Table, given: &str) -> String {
     match table.kind {
         Kind::Answers => answers_of(rt, alloc, given),
         Kind::Motions => motions_of(rt, alloc, table.assembly, given),
         Kind::Both => said_of_both(rt, alloc, table, given),
+        Kind::Sizes => sizes_of(rt, alloc, table, given),
+        Kind::State => said_of_state(rt, alloc, table, given),
         _ => said_of_judge(rt, alloc, table, given),
     }
 }

@@ -1,12 +1,12 @@
 //! What is said of plans.
-use crate::calls::{assembly_of, cells_of, container_of, tables_of};
+use crate::calls::{assembly_of, container_of, rows_of, tables_of};
+use crate::looks::words_with_looks;
 use crate::puts::plan_of;
 use crate::tables::{Kind, Table};
 use burr_assembly::Assembly;
-use burr_blocking::Looks;
 use burr_container::Container;
 use burr_forms::Point;
-use burr_verify::{Refusal, fits_assembly, verify, verify_counted};
+use burr_verify::{Refusal, fits_assembly, verify};
 use std::alloc::{AllocError, Global};
 use std::process::Abort;
 
@@ -28,27 +28,27 @@ fn words_of_kind(
 ) -> String {
     let words = match kind {
         Kind::Fit => words_of(alloc, fits_assembly(container, assembly)),
-        Kind::Looks => words_with_looks(alloc, container, assembly),
-        _ => words_of(alloc, verify(container, &tables_of(rt, alloc, assembly))),
+        Kind::Looks => return words_of_both(rt, alloc, container, assembly),
+        _ => words_of(alloc, verify(container, &rows_of(rt, alloc, assembly))),
     };
     words.expect(rt, "memory")
 }
 
-/// What is said of a container's plan, and after that how many looks it took.
-fn words_with_looks(
+/// What is said of a container's plan with its looks, over both kinds of tables.
+fn words_of_both(
+    rt: &impl Abort,
     alloc: Global,
     container: &Container<'_>,
     assembly: &Assembly,
-) -> Result<String, AllocError> {
-    let cells = cells_of(assembly);
-    let mut looks = Looks::new(&cells);
-    let mut words = words_of(alloc, verify_counted(container, &mut looks))?;
-    write!(words, " looks {}", looks.count())?;
-    Ok(words)
+) -> String {
+    let words = words_with_looks(rt, alloc, container, &rows_of(rt, alloc, assembly));
+    let others = words_with_looks(rt, alloc, container, &tables_of(rt, alloc, assembly));
+    assert!(rt; others == words);
+    words
 }
 
 /// A verdict in words.
-fn words_of(alloc: Global, verdict: Result<(), Refusal>) -> Result<String, AllocError> {
+pub fn words_of(alloc: Global, verdict: Result<(), Refusal>) -> Result<String, AllocError> {
     match verdict {
         Ok(()) => String::from_str(alloc, "accepted"),
         Err(refusal) => words_of_refusal(alloc, &refusal),

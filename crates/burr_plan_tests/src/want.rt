@@ -1,5 +1,5 @@
 //! What comes of calls while memory is wanting.
-use crate::calls::assembly_of;
+use crate::calls::{assembly_of, rows_of};
 use crate::plans::CUP_PLAN;
 use crate::puts::put_bare;
 use crate::sources::input_of;
@@ -7,7 +7,7 @@ use crate::tables::Table;
 use crate::texts::bytes_of;
 use crate::ways::{Question, answer};
 use burr_assembly::Assembly;
-use burr_blocking::{Blocking, CellTables, PlainCells, RowTables};
+use burr_blocking::{Blocking, CellTables, RowTables};
 use burr_container::Container;
 use burr_runs::{AnswersFault, read_answers, upgrade};
 use burr_sheet::expand;
@@ -190,17 +190,16 @@ fn tells_a_want_of_memory_for_upgrades(rt: HostRuntime) {
     assert_wants(&rt, rt.alloc(), &mut Upgrade(&bytes));
 }
 
-/// An assembly and a container of a plan for it, whose stepper is made.
+/// An assembly's rows of bits and a container of a plan for it, whose stepper is made.
 #[derive(Drop)]
-struct Steps<'a>(&'a Assembly, &'a [u8]);
+struct Steps<'a, 'b>(&'a RowTables<'b>, &'a [u8]);
 
-impl Trial for Steps<'_> {
+impl Trial for Steps<'_, '_> {
     fn outcome(&mut self, alloc: Global) -> Outcome {
-        let cells = PlainCells::new(self.0);
         let Ok(container) = Container::parse(self.1) else {
             return Outcome::Wrong;
         };
-        let Ok(accepted) = accept(&container, &cells) else {
+        let Ok(accepted) = accept(&container, self.0) else {
             return Outcome::Wrong;
         };
         match Stepper::new(alloc, &accepted) {
@@ -214,5 +213,6 @@ impl Trial for Steps<'_> {
 fn tells_a_want_of_memory_for_steps(rt: HostRuntime) {
     let assembly = assembly_of(&rt, rt.alloc(), CUP);
     let bytes = bytes_of(&rt, rt.alloc(), CUP_PLAN);
-    assert_wants(&rt, rt.alloc(), &mut Steps(&assembly, &bytes));
+    let rows = rows_of(&rt, rt.alloc(), &assembly);
+    assert_wants(&rt, rt.alloc(), &mut Steps(&rows, &bytes));
 }

@@ -3,7 +3,8 @@
 /// Each dialogue begins with an assembly and a plan, and with edits of this on the next line. Then
 /// comes a command a line, and after `=` what is put for it, with `/` for each line end; nothing
 /// where no more lines are taken. Before `: ` stands how it is given: `bytes` by digits of its bytes,
-/// `fronts` where sinks fail, too, and `wants` where memory is wanting.
+/// `fronts` where sinks fail, too, `wants` and `poorly` where no memory can be had, which it wants or
+/// not, and `call` by the stepper's own call, whose words follow.
 pub const DIALOGUES: &str = "\
 cup | cup
 none
@@ -29,6 +30,19 @@ answer 2=after 2 steps/
 back 3=refused S4/
 back 1=after 1 steps asks 0 2/
 answer 0=after 2 steps/
+
+cup | cup
+none
+# the stepper's own calls
+call: forward=Ok(()) after 1 asks Some((0, 2))
+call: forward=Err(S2) after 1 asks Some((0, 2))
+call: answer 5=Err(S3) after 1 asks Some((0, 2))
+call: answer 1=Ok(()) after 2 asks None
+call: back 2=Ok(()) after 0 asks None
+call: back 1=Err(S4) after 0 asks None
+call: forward=Ok(()) after 1 asks Some((0, 2))
+call: answer 2=Ok(()) after 2 asks None
+show=after 2 steps proc 0 pc 10/tray 0 grip A/slots - - - - - - - -/stack 2/A tray 0 at 0 0 0/B tray 0 at 0 0 0/
 
 cup | cup
 none
@@ -159,9 +173,11 @@ until 0 0=after 517 steps ended/
 back 256=after 261 steps/
 show=after 261 steps proc 0 pc 10/tray 0 grip A/slots 126 - - - - - - -/stack -/A tray 0 at 0 0 129/B tray 0 at 0 0 0/
 back 1=after 260 steps/
+show=after 260 steps proc 0 pc 12/tray 0 grip A/slots 127 - - - - - - -/stack -/A tray 0 at 0 0 129/B tray 0 at 0 0 0/
 back 260=after 0 steps/
 until 0 0=after 517 steps ended/
 back 257=after 260 steps/
+show=after 260 steps proc 0 pc 12/tray 0 grip A/slots 127 - - - - - - -/stack -/A tray 0 at 0 0 129/B tray 0 at 0 0 0/
 back 256=after 4 steps/
 back 4=after 0 steps/
 until 0 1=after 3 steps/
@@ -191,4 +207,19 @@ forward=after 12 steps asks 0 0/
 answer 0=after 13 steps/
 forward=after 14 steps asks 0 0/
 answer 0=after 15 steps/
-forward=after 16 steps/";
+forward=after 16 steps/
+# other commands take none, once the stack has grown as far as they need
+forward=after 17 steps/
+over=after 18 steps/
+back 2=after 16 steps/
+until 0 0=after 19 steps ended/
+forward=refused S1/
+back 3=after 16 steps/
+show=after 16 steps proc 0 pc 48/tray 0 grip -/slots - - - - - - - -/stack -/A tray 0 at 0 0 0/B tray 0 at 0 0 0/
+poorly: forward=after 17 steps/
+poorly: over=after 18 steps/
+poorly: back 2=after 16 steps/
+poorly: until 0 0=after 19 steps ended/
+poorly: forward=refused S1/
+poorly: back 3=after 16 steps/
+poorly: show=after 16 steps proc 0 pc 48/tray 0 grip -/slots - - - - - - - -/stack -/A tray 0 at 0 0 0/B tray 0 at 0 0 0/";

@@ -13,6 +13,10 @@ duo | duo code
 # another tray
 00000004, 000b 10 00000001 12 01 01 13 02 00 | accepted looks 1
 
+duo | duo
+# one of them goes out
+none | accepted looks 1
+
 duo | choice
 # For the choice between two cubes: a pair after each label.
 none | accepted looks 2

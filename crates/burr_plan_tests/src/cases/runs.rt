@@ -144,3 +144,66 @@ none | 42504c4e 0001 > 42504c4e 0002, 637570 02 00 0001 > 637570 02 00 00 0001, 
 
 cup | result
 none | none";
+
+/// How many bytes plans have, how many in version 2, and of these the ones at 5 and at 17.
+pub const SIZES: &str = "\
+duo | duo
+none | 70 71 Some(2) Some(0)
+
+ring | ring
+none | 140 141 Some(2) Some(0)
+
+cup | cup
+none | 258 259 Some(2) Some(0)
+
+cup | lift
+# one byte for main, and two for another procedure
+none | 189 192 Some(2) Some(0)
+
+cup | result
+# a plan of version 2
+none | 359 359 Some(2) Some(0)";
+
+/// Plans that are refused alike in version 2.
+pub const REFUSED: &str = "\
+ring | ring
+00000004 0002 > 00000004 0001 | refused | refused V21 proc 0 pc 12 point 1/
+
+cup | lift
+01 0000 24 > 01 0001 24 | refused | refused V20 proc 0 pc 8/";
+
+/// Plans that are tried, as they are or after edits.
+pub const TRIED: &str = "\
+ring | ring
+# with a budget of one step less; 256 turns of the loop, and 257
+0001 0000000b > 0001 0000000a | Stopped | 1 t0 A +z 3 out/levels 1/stopped after 10 steps/
+0001 0000000b > 0001 00000205, 00 00 00 0000000b > 00 00 00 00000205, \
+0000 0002 00 > 0000 00ff 00, 00000002 ffff > 000000ff ffff, 01 0002 03 > 01 00ff 03 \
+| Apart | 1 t0 A +z 256 out/levels 1/apart in 517 steps/
+0001 0000000b > 0001 00000207, 00 00 00 0000000b > 00 00 00 00000207, \
+0000 0002 00 > 0000 0100 00, 00000002 ffff > 00000100 ffff, 01 0002 03 > 01 0100 03 \
+| Trapped | 1 t0 A +z 256/levels -/trap 14 OffBench proc 0 pc 10 after 515 steps/
+
+duo | duo code
+# a grip of a piece that is apart
+00000004, 000e 10 00000001 12 01 01 10 00000001 00 | Trapped \
+| 1 t0 A -x 0 out/levels 1/trap 2 GripOff proc 0 pc 8 after 2 steps/
+# an operand and none to add it to; nine operands
+00000003, 0005 01 0001 04 00 | Trapped | levels -/trap 6 MissingOperand proc 0 pc 3 after 1 steps/
+00000009, 001b 01 0001 01 0001 01 0001 01 0001 01 0001 01 0001 01 0001 01 0001 01 0001 | Trapped \
+| levels -/trap 7 StackFull proc 0 pc 24 after 8 steps/
+
+square | square code
+# a tour of three trays, and one that comes to a tray in use
+00000008, 001b 10 0000000c 12 02 01 10 00000001 12 01 02 13 01 10 00000004 12 01 02 00 | Apart \
+| 1 t0 C,D +y 0 out/2 t0 A -x 0 out/3 t1 C -x 0 out/levels 1.1.1/apart in 8 steps/
+00000008, 001b 10 0000000c 12 02 01 10 00000001 12 01 01 13 01 10 00000004 12 01 02 00 | Trapped \
+| 1 t0 C,D +y 0 out/levels 1/trap 5 TrayInUse proc 0 pc 13 after 3 steps/
+
+cup | lift
+# a procedure that is called twice
+none | Apart | 1 t0 A +z 2 out/levels 1/apart in 11 steps/
+
+cup | duo
+# a plan for another assembly
+none | refused | ";
