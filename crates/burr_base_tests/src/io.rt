@@ -1,6 +1,6 @@
 //! Sources and sinks: what readers give and writers take, and what follows a failure.
 use crate::asserts::{assert_at, assert_text};
-use burr_io::{IoFailed, Reading, Sink, Source, WriteFault, Writing, put_all};
+use burr_io::{IoFailed, Reading, Sink, Source, Writing, put_all};
 use burr_testing::{Narrow, Portions};
 use std::alloc::{AllocError, Global};
 use std::io::{Cursor, ErrorKind};
@@ -166,10 +166,4 @@ fn puts_into_a_cursor(rt: HostRuntime) {
         "Err(WriteFault) failed;",
     );
     assert!(rt; room == *b"bur");
-}
-
-#[test]
-fn tells_what_failed(rt: HostRuntime) {
-    let words = format!(in rt.alloc(); "{IoFailed}; {WriteFault}").expect(&rt, "memory");
-    assert!(rt; words.as_str() == "the stream has failed; the text was not written whole");
 }

@@ -13,6 +13,8 @@ mod forms;
 #[cfg(test)]
 mod io;
 #[cfg(test)]
+mod messages;
+#[cfg(test)]
 mod text;
 #[cfg(test)]
 mod voxels;

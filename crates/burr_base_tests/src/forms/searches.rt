@@ -1,5 +1,5 @@
 //! Searches for the first point at which a form is negative.
-use super::form;
+use super::{form, number};
 use burr_forms::{Box8, Form, Guards, NotNegative, Point, first_failing};
 use std::process::Abort;
 
@@ -36,4 +36,7 @@ fn finds_the_first_point(rt: HostRuntime) {
     assert_found(&rt, &ranges, &[], form(1, -1, -1), Some(&[0, 2]));
     assert_found(&rt, &ranges, &guards, form(1, -1, -1), Some(&[1, 1]));
     assert_found(&rt, &ranges, &guards, form(0, 1, -1), None);
+    // Without symbols there is one point, and none where a guard is negative.
+    assert_found(&rt, &[], &[], number(-1), Some(&[]));
+    assert_found(&rt, &[], &[number(-1)], number(-1), None);
 }

@@ -48,10 +48,24 @@ fn arguments(first: Form, second: Form) -> [Form; 8] {
     [first, second, zero, zero, zero, zero, zero, zero]
 }
 
+/// Where the first symbol is 3 less the second one, 1 and twice the first is 7 less twice the second.
 #[test]
 fn puts_forms_in_place_of_symbols(rt: HostRuntime) {
     let one = arguments(form(3, 0, -1), number(0));
     assert_substituted(&rt, form(1, 2, 0), &one, Ok(form(7, 0, -2)));
+    let other = arguments(number(0), form(1, 1, 0));
+    assert_substituted(&rt, form(5, 0, 3), &other, Ok(form(8, 3, 0)));
+}
+
+#[test]
+fn a_coefficient_of_2_to_the_40_is_the_largest(rt: HostRuntime) {
+    let once = arguments(number(1), form(0, -1, 0));
+    let twice = arguments(number(2), form(0, -2, 0));
+    let (first, second) = (form(0, MOST, 0), form(0, 0, MOST));
+    assert_substituted(&rt, first, &once, Ok(number(MOST)));
+    assert_substituted(&rt, first, &twice, Err(FormTooLarge));
+    assert_substituted(&rt, second, &once, Ok(form(0, -MOST, 0)));
+    assert_substituted(&rt, second, &twice, Err(FormTooLarge));
     // What lies between may be far larger.
     let far = arguments(number(MOST), number(-MOST));
     assert_substituted(&rt, form(1, MOST, MOST), &far, Ok(number(1)));
@@ -78,4 +92,7 @@ fn adds_and_subtracts(rt: HostRuntime) {
     assert_added(&rt, one, other, Ok(form(11, 0, 33)), Ok(form(-9, 4, -27)));
     let (most, least) = (number(MOST), number(-MOST));
     assert_added(&rt, most, least, Ok(number(0)), Err(FormTooLarge));
+    let (less, more) = (number(MOST - 1), number(1 - MOST));
+    assert_added(&rt, most, number(1), Err(FormTooLarge), Ok(less));
+    assert_added(&rt, least, number(1), Ok(more), Err(FormTooLarge));
 }
