@@ -12,7 +12,7 @@ mod results;
 use faults::*;
 use limits::*;
 use listing::*;
-pub use listing::{DUO_PLACES, RING_PLACES, SECOND_LABEL_PLACES};
+pub use listing::{DUO_PLACES, LISTED_DUO, RING_PLACES, SECOND_LABEL_PLACES};
 use procedures::PROCEDURES;
 use results::*;
 pub use results::{ANSWERED_LIFT, ANSWERED_LIFT_PLACES, DUO_2_PLACES};
@@ -140,7 +140,8 @@ const WITH_PLACES: [[&str; 4]; 3] = [
     ["places", CUP, CUP_PLACES, "|"],
 ];
 
-const LISTED: [[&str; 4]; 5] = [
+const LISTED: [[&str; 4]; 6] = [
+    ["listing", DUO, LISTED_DUO, "|"],
     ["listing", LIFT, LISTED_LIFT, "|"],
     ["listing", LIFT, LISTED_UPS, UPS],
     ["listing", ALL, ALL, "|"],

@@ -130,7 +130,9 @@ const OF_DUO: &str = "\
 4 21|C4 { at: 10 }
 5 00|C4 { at: 11 }
 5 21|C4 { at: 11 }
+6 31 75 6f|C4 { at: 12 }
 6 31 61 62|C4 { at: 12 }
+6 64 75 20|C4 { at: 12 }
 7 00|C4 { at: 15 }
 7 11|C4 { at: 15 }
 8 01|C4 { at: 16 }
@@ -169,6 +171,8 @@ const OF_ANSWERED_LIFT: &str = "\
 ; counts of results, of main and of the other
 9 01|C4 { at: 17 }
 25 03|C4 { at: 75 }
+; parameters
+24 05|C4 { at: 74 }
 ; the range of the result, and the count of guards
 28 80 00|C4 { at: 81 }
 29 ff ff|C4 { at: 83 }
@@ -178,6 +182,15 @@ const OF_ANSWERED_LIFT: &str = "\
 /// Bytes that end too early, or have a fault before.
 const FRONTS: &str = "\
 58 58|C1 { at: 2 }
+; each field once all its bytes are there: the magic, the version, and the length before the name
+58 58 58 58|C2 { at: 0 }
+42 50 4c 4e/00|C1 { at: 5 }
+42 50 4c 4e/00 00|C3 { at: 4 }
+42 50 4c 4e/00 01/00 00 00 0b/02/00|C4 { at: 11 }
+42 50 4c 4e/00 01/00 00 00 0b/02/21|C4 { at: 11 }
+42 50 4c 4e/00 01/00 00 00 0b/02/04/31 32 33|C1 { at: 15 }
+42 50 4c 4e/00 01/00 00 00 0b/02/04/31 32 33 34|C4 { at: 12 }
+; the lowest number of a range before the highest
 42 50 4c 4e/00 01/00 00 00 0b/02/04/72 69 6e 67/01/00/00 02/00 00/00/00 00 00 00/00/00/00/\
 00 00 00 0b/00/00 00 00 00 00 00 00 00 00 00 00 00/00/00 00 00 00 00 00 00 00 00 00 00 00/00 0a/\
 00/00 00 00 01/01/80 00|C4 { at: 68 }

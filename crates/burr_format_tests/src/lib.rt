@@ -21,4 +21,6 @@ mod inputs;
 #[cfg(test)]
 mod memory;
 #[cfg(test)]
+mod messages;
+#[cfg(test)]
 mod tables;

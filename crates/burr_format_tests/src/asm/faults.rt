@@ -272,6 +272,9 @@ pub const CODE: &str = "\
 8 grip 0,|P1 { line: 8 }
 8 grip 0 1|P1 { line: 8 }
 8 grip ,|P1 { line: 8 }
+8 grip 00|P1 { line: 8 }
+8 grip -,1|P1 { line: 8 }
+8 grip 0,-|P1 { line: 8 }
 8 push|P1 { line: 8 }
 8 push 1 2|P1 { line: 8 }
 8 push x|P1 { line: 8 }
@@ -344,6 +347,7 @@ pub const CODE: &str = "\
 8 grip 31,0|P3 { line: 8 }
 8 grip 0,0|P3 { line: 8 }
 8 grip -1|P3 { line: 8 }
+8 grip 0,-1|P3 { line: 8 }
 8 grip 0,99999999999|P3 { line: 8 }
 8 push 32768|P3 { line: 8 }
 8 push -32768|P3 { line: 8 }
@@ -467,6 +471,13 @@ plan ring 2 11/proc main 0/label start/frame 0 -/cost 1/at 0 apart/at 1 apart/|P
 plan ring 2 11/proc main 0/label start/frame 0 -/cost 1/at 0 apart/at 1 apart/halt|P1 { line: 8 }
 plan ring 2 11/proc main 0/label start/frame 0 -/cost 1/at 0 apart/at 1 apart/halt/; x|\
 P1 { line: 9 }
+; a label at the end of the code, and the line of a procedure: with its end, and without
+plan ring 2 11/proc main 0/label start/frame 0 -/cost 1/at 0 apart/at 1 apart/halt/\
+label end/frame 0 -/cost 1/at 0 apart/at 1 apart/proc x 0/|P4 { line: 9 }
+plan ring 2 11/proc main 0/label start/frame 0 -/cost 1/at 0 apart/at 1 apart/halt/\
+label end/frame 0 -/cost 1/at 0 apart/at 1 apart/proc x 0|P1 { line: 14 }
+plan ring 2 11/proc main 0/label start/frame 0 -/cost 1/at 0 apart/at 1 apart/halt/\
+label end/frame 0 -/cost 1/at 0 apart/at 1 apart/|P4 { line: 9 }
 ";
 
 /// Worked damages.

@@ -16,6 +16,18 @@ pub const DUO_PLACES: &str = "version 1, 70 bytes\n\
      ; proc 0 pc 8\n\
      halt\n";
 
+/// Two cubes, listed.
+pub const LISTED_DUO: &str = "plan duo 2 3\n\
+     proc p0 0\n\
+     label L0\n\
+     frame 0 -\n\
+     cost 3\n\
+     at 0 0 0 0 0\n\
+     at 1 0 0 0 0\n\
+     grip 0\n\
+     aside -x 1\n\
+     halt\n";
+
 /// The counted loop, listed with places.
 pub const RING_PLACES: &str = "version 1, 140 bytes\n\
      plan ring 2 11\n\

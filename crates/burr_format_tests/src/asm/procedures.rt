@@ -21,6 +21,9 @@ pub const PROCEDURES: &str = "\
 15 proc lift 0|P3 { line: 17 }
 15 proc start 1|P2 { line: 10 }
 15 proc start 9|P3 { line: 15 }
+; main needn't be called so, and another procedure may be
+2 proc lid 0|10 call main|12 call main|15 proc main 1|right
+2 proc lid 0|10 call lid|12 call lid|right
 ; its exit frame
 16 exit 0|P1 { line: 16 }
 16 exit 0 0,|P1 { line: 16 }
@@ -36,6 +39,11 @@ pub const PROCEDURES: &str = "\
 16 exit 0 2|P3 { line: 16 }
 16 exit 0 1,0|P3 { line: 16 }
 16 exit -1 0|P3 { line: 16 }
+16 exit 0 -1|P3 { line: 16 }
+16 exit 0 0,-1|P3 { line: 16 }
+16 exit 0 00|P1 { line: 16 }
+16 exit 0 ,|P1 { line: 16 }
+16 exit 0 -,1|P1 { line: 16 }
 16 exit 0 -|right
 16 exit 31 0,1|right
 16 ; an exit/exit 0 0|right
@@ -48,6 +56,10 @@ pub const PROCEDURES: &str = "\
 17 at 0 0 0 0|P1 { line: 17 }
 17 at 0 0 0 0 1+1v1|P3 { line: 17 }
 17 at 0 0 0 0 1+1v0+1v1|P3 { line: 17 }
+17 at 0 0 0 0 1+1v123456|P3 { line: 17 }
+17 at 0 0 0 0 1+1v01|P1 { line: 17 }
+17 at 0 0 0 0 1+1v|P1 { line: 17 }
+17 at 0 0 0 0 1+1v-1|P1 { line: 17 }
 17 at 0 32 0 0 0|P3 { line: 17 }
 17 at 0 apart|right
 17 at 0 0 0-32768v0 0 0|right
