@@ -1,6 +1,6 @@
 //! Texts and containers that are damaged at each of their places in turn.
 use crate::answers::answer_to;
-use crate::asm::{CUP as CUP_TEXT, DUO as DUO_TEXT, RING as RING_TEXT};
+use crate::asm::{ANSWERED_LIFT, CUP as CUP_TEXT, DUO as DUO_TEXT, LIFT, RING as RING_TEXT};
 use crate::inputs::{input_of, number_of, text_of};
 use burr_testing::assemblies::{CUP, DUO, RING};
 use burr_testing::plans::{DUO_PLAN, RESULT_PLAN, RING_PLAN};
@@ -15,17 +15,21 @@ enum Want {
     /// What a front of a container lacks: C1 at its end.
     Bytes,
     /// What a front of a plan's text lacks after each number of whole lines: `right` where it is
-    /// listed as it stands, or the fault and its line. Within a line it is P1, but P5 where that is
+    /// assembled, and listed as it stands, or the fault and its line. Within a line it is P1, but P5 where that is
     /// the fault before the line too and the line's first word is not whole.
     Lines(&'static str),
     /// `right`, or a fault of the container's field of the place or of a later one.
     Field,
+    /// `right`, or a fault of the line of the place or of a later one.
+    After,
+    /// `right`, or a fault of any line.
+    Anywhere,
     /// `right` with one of these bytes, this fault with another byte of a word, and A1 with any
     /// other byte.
     Byte(&'static str, &'static str),
 }
 
-use Want::{Byte, Bytes, Field, Front, Lines};
+use Want::{After, Anywhere, Byte, Bytes, Field, Front, Lines};
 
 /// The kind of an answer and what the input is made of; how many bytes are taken out from each
 /// place on, the bytes of which one is put in there, if there are any; and what is wanted then.
@@ -36,6 +40,9 @@ const REST: usize = usize::MAX;
 
 /// Bytes that no line may have.
 const OF_NO_LINE: &[u8] = b" \t\r\0\x7f\x80\xa0\xff";
+
+/// Bytes that have a meaning in plans.
+const OF_PLANS: &[u8] = b"\n ;01-,v";
 
 /// The answers to the fronts of the plan of two cubes, the first to that of no line.
 const DUO_FRONTS: &str = "P1 1,P1 2,P5 3,P5 4,P1 5,P1 6,P1 7,P4 3,right,right";
@@ -65,6 +72,21 @@ fn of_lines() -> [u8; 255] {
     bytes
 }
 
+/// Asserts what is wanted at each place: where a byte is taken out, and where any one is put in its
+/// place.
+fn assert_bytes(
+    rt: &impl Abort,
+    alloc: Global,
+    kind: &'static str,
+    base: &'static str,
+    want: Want,
+) {
+    let others = of_lines();
+    assert_damage(rt, alloc, (kind, base, 1, b"", want));
+    assert_damage(rt, alloc, (kind, base, 1, b"\n", want));
+    assert_damage(rt, alloc, (kind, base, 1, &others, want));
+}
+
 #[test]
 fn judges_fronts_of_assemblies(rt: HostRuntime) {
     let alloc = rt.alloc();
@@ -85,24 +107,18 @@ fn judges_fronts_of_containers(rt: HostRuntime) {
     assert_damage(&rt, alloc, ("container", RESULT_PLAN, REST, b"", Bytes));
 }
 
+/// The texts as they stand, and what their plans are listed as.
 #[test]
 fn judges_fronts_of_plans(rt: HostRuntime) {
-    let alloc = rt.alloc();
-    assert_damage(
-        &rt,
-        alloc,
-        ("listing", DUO_TEXT, REST, b"", Lines(DUO_FRONTS)),
-    );
-    assert_damage(
-        &rt,
-        alloc,
-        ("listing", RING_TEXT, REST, b"", Lines(RING_FRONTS)),
-    );
-    assert_damage(
-        &rt,
-        alloc,
-        ("listing", CUP_TEXT, REST, b"", Lines(CUP_FRONTS)),
-    );
+    assert_fronts(&rt, rt.alloc(), DUO_TEXT, DUO_FRONTS);
+    assert_fronts(&rt, rt.alloc(), RING_TEXT, RING_FRONTS);
+    assert_fronts(&rt, rt.alloc(), CUP_TEXT, CUP_FRONTS);
+}
+
+/// Asserts the answers to the fronts of a plan's text, and to those of its listing.
+fn assert_fronts(rt: &impl Abort, alloc: Global, text: &'static str, answers: &'static str) {
+    assert_damage(rt, alloc, ("asm", text, REST, b"", Lines(answers)));
+    assert_damage(rt, alloc, ("listing", text, REST, b"", Lines(answers)));
 }
 
 #[test]
@@ -113,14 +129,27 @@ fn judges_bytes_that_no_line_may_have(rt: HostRuntime) {
     assert_damage(&rt, alloc, ("assembly", CUP, 0, OF_NO_LINE, Byte("", "")));
 }
 
-/// At each place a byte is taken out, and any one is put in its place.
+#[test]
+fn judges_bytes_of_plans(rt: HostRuntime) {
+    let alloc = rt.alloc();
+    assert_damage(&rt, alloc, ("asm", RING_TEXT, 1, OF_PLANS, Anywhere));
+    assert_damage(&rt, alloc, ("asm", LIFT, 1, OF_PLANS, Anywhere));
+    assert_damage(&rt, alloc, ("asm", ANSWERED_LIFT, 1, OF_PLANS, Anywhere));
+}
+
+#[test]
+fn reads_no_second_text_of_two_cubes(rt: HostRuntime) {
+    assert_bytes(&rt, rt.alloc(), "assembly", DUO, After);
+}
+
+#[test]
+fn reads_no_second_text_of_a_rod_in_a_ring(rt: HostRuntime) {
+    assert_bytes(&rt, rt.alloc(), "assembly", RING, After);
+}
+
 #[test]
 fn writes_each_container_again(rt: HostRuntime) {
-    let alloc = rt.alloc();
-    let others = of_lines();
-    assert_damage(&rt, alloc, ("written", DUO_PLAN, 1, b"", Field));
-    assert_damage(&rt, alloc, ("written", DUO_PLAN, 1, b"\n", Field));
-    assert_damage(&rt, alloc, ("written", DUO_PLAN, 1, &others, Field));
+    assert_bytes(&rt, rt.alloc(), "written", DUO_PLAN, Field);
 }
 
 /// Asserts what is wanted at each place. What is put in can stand at the end too.
@@ -189,6 +218,8 @@ fn is_wanted(want: Want, byte: &[u8], damaged: &[u8], place: usize, found: &str)
         Bytes => is_fault(found, "C1 ", place),
         Lines(answers) => is_of_lines(answers, front, ends, found),
         Field => is_of_field(found, place, damaged.len()),
+        After => is_sound(found, line, line_ends(damaged)),
+        Anywhere => is_sound(found, 1, line_ends(damaged)),
         Byte(right, other) => match byte.first() {
             Some(byte) if right.as_bytes().contains(byte) => found == "right",
             Some(byte) if byte.is_ascii_graphic() => found == other,
@@ -225,7 +256,7 @@ fn fault_within(answer: &str, begun: &str) -> &'static str {
 fn is_of_front(answer: &str, text: &str, found: &str) -> bool {
     match answer.split_once(' ') {
         Some((name, line)) => found.starts_with(name) && place_of(found) == number_of(line),
-        None => answer == "right" && found == text,
+        None => answer == "right" && (found == "right" || found == text),
     }
 }
 
@@ -252,6 +283,14 @@ fn line_ends(text: &[u8]) -> usize {
 /// Whether this is a fault of a name, with a number.
 fn is_fault(found: &str, name: &str, number: usize) -> bool {
     found.starts_with(name) && place_of(found) == Some(number)
+}
+
+/// Whether a text of so many lines was right, or has a fault of this line or a later one.
+fn is_sound(found: &str, first: usize, ends: usize) -> bool {
+    match place_of(found) {
+        Some(line) => first <= line && line <= ends.wrapping_add(1),
+        None => found == "right",
+    }
 }
 
 /// The line, or the position, that a fault names.
