@@ -273,7 +273,7 @@ fn is_rewritten(
 }
 
 /// Whether a plan is within the format, and written as these bytes.
-fn is_written(alloc: Global, plan: &Plan, bytes: &[u8]) -> Result<bool, AllocError> {
+pub fn is_written(alloc: Global, plan: &Plan, bytes: &[u8]) -> Result<bool, AllocError> {
     if !plan.fits() {
         return Ok(false);
     }

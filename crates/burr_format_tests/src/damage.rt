@@ -14,9 +14,10 @@ enum Want {
     Front([usize; 3]),
     /// What a front of a container lacks: C1 at its end.
     Bytes,
-    /// What a front of a plan's text lacks after each number of whole lines: `right` where it is
-    /// assembled, and listed as it stands, or the fault and its line. Within a line it is P1, but P5 where that is
-    /// the fault before the line too and the line's first word is not whole.
+    /// What a front of a plan's text lacks after each number of whole lines: `right` where it lacks
+    /// nothing, and a listing is then listed as it stands, or the fault and its line. Within a line
+    /// it is P1, but P5 where that is the fault before the line too and the line's first word is not
+    /// whole.
     Lines(&'static str),
     /// `right`, or a fault of the container's field of the place or of a later one.
     Field,

@@ -1,9 +1,14 @@
 //! What a want of memory gives.
-use crate::answers::{answer, answer_to};
-use crate::asm::{ANSWERED_LIFT, LIFT, RING, RING_PLACES};
+use crate::answers::{answer, answer_to, is_written};
+use crate::asm::{ANSWERED_LIFT, LIFT, LISTED_DUO, RING, RING_PLACES};
+use crate::container::two_cubes;
 use crate::inputs::input_of;
+use burr_asm::{AsmFault, assemble, list};
+use burr_assembly::{Assembly, AssemblyFault};
+use burr_code::{encode, fetch};
+use burr_container::{Container, Plan};
 use burr_testing::assemblies::DUO;
-use burr_testing::plans::DUO_PLAN;
+use burr_testing::plans::{DUO_PLAN, RING_PLAN};
 use burr_testing::{Outcome, Trial, outcomes_in_want};
 use std::alloc::{AllocError, Global};
 use std::process::Abort;
@@ -28,6 +33,19 @@ const OF_PLANS: [[&str; 4]; 5] = [
     ["places", RING, "", RING_PLACES],
     ["plan", "@", DUO_PLAN, "right"],
 ];
+
+/// A call, the kind of its input and the input, and the same of what it gives.
+const CALLS: [[&str; 5]; 6] = [
+    ["encode", "code", "22 00 00 00 02", "code", "22 00 00 00 02"],
+    ["read", "assembly", DUO, "assembly", DUO],
+    ["write an assembly", "assembly", DUO, "assembly", DUO],
+    ["write a plan", "container", DUO_PLAN, "container", DUO_PLAN],
+    ["assemble", "asm", RING, "container", RING_PLAN],
+    ["list", "container", DUO_PLAN, "asm", LISTED_DUO],
+];
+
+/// How many bytes farther down the stack a trial with ample memory is made.
+const DEEPER: usize = 16_384;
 
 /// An input that is answered, and the answer that is right.
 #[derive(Drop)]
@@ -70,6 +88,100 @@ fn outcome_of(found: &str, want: &str) -> Outcome {
     }
 }
 
+/// A call alone that wants memory: which, what it is given, and what it gives. It is made again and
+/// again of the same values, so that a change of these by a call that was refused memory would show.
+#[derive(Drop)]
+struct Call<'a> {
+    name: &'a str,
+    input: Vec<u8>,
+    assembly: Assembly,
+    plan: Plan,
+    want: Vec<u8>,
+}
+
+impl<'a> Call<'a> {
+    fn new(alloc: Global, call: &[&'a str; 5]) -> Result<Call<'a>, AssemblyFault> {
+        let [name, kind, input, kind_of_want, want] = *call;
+        Ok(Call {
+            name,
+            input: input_of(alloc, kind, "@", input)?,
+            assembly: Assembly::read(alloc, DUO.as_bytes())?,
+            plan: two_cubes(alloc)?,
+            want: input_of(alloc, kind_of_want, "@", want)?,
+        })
+    }
+
+    /// Whether it gives what it should, for which no memory is needed.
+    fn is_right(&self, alloc: Global) -> Result<bool, AllocError> {
+        match self.name {
+            "encode" => is_spelled(alloc, &self.input, &self.want),
+            "read" => is_read(alloc, &self.input, &self.assembly),
+            "write an assembly" => Ok(self.assembly.write(alloc)? == self.want),
+            "write a plan" => is_written(alloc, &self.plan, &self.want),
+            "assemble" => is_assembled(alloc, &self.input, &self.want),
+            _ => is_listed(alloc, &self.input, &self.want),
+        }
+    }
+}
+
+impl Trial for Call<'_> {
+    fn outcome(&mut self, alloc: Global) -> Outcome {
+        match self.is_right(alloc) {
+            Ok(true) => Outcome::Right,
+            Ok(false) => Outcome::Wrong,
+            Err(AllocError) => Outcome::Want,
+        }
+    }
+}
+
+/// Whether the first instruction of code is spelled so.
+fn is_spelled(alloc: Global, code: &[u8], spelled: &[u8]) -> Result<bool, AllocError> {
+    match fetch(code, 0) {
+        Some((instr, _size)) => Ok(encode(alloc, &instr)?.as_slice() == spelled),
+        None => Ok(false),
+    }
+}
+
+/// Whether a text is read as an assembly with the names and cells of this one.
+fn is_read(alloc: Global, text: &[u8], assembly: &Assembly) -> Result<bool, AllocError> {
+    match Assembly::read(alloc, text) {
+        Ok(read) => Ok(are_alike(&read, assembly)),
+        Err(AssemblyFault::Memory) => Err(AllocError),
+        Err(_fault) => Ok(false),
+    }
+}
+
+fn are_alike(one: &Assembly, other: &Assembly) -> bool {
+    if one.name() != other.name() || one.piece_count() != other.piece_count() {
+        return false;
+    }
+    for piece in 0..one.piece_count() {
+        if one.piece_name(piece) != other.piece_name(piece)
+            || one.cells(piece) != other.cells(piece)
+        {
+            return false;
+        }
+    }
+    true
+}
+
+/// Whether a text is assembled to these bytes.
+fn is_assembled(alloc: Global, text: &[u8], bytes: &[u8]) -> Result<bool, AllocError> {
+    match assemble(alloc, text) {
+        Ok(assembled) => Ok(assembled.as_slice() == bytes),
+        Err(AsmFault::Memory) => Err(AllocError),
+        Err(_fault) => Ok(false),
+    }
+}
+
+/// Whether a container is listed so.
+fn is_listed(alloc: Global, bytes: &[u8], listing: &[u8]) -> Result<bool, AllocError> {
+    match Container::parse(bytes) {
+        Ok(container) => Ok(list(alloc, &container)?.as_slice() == listing),
+        Err(_fault) => Ok(false),
+    }
+}
+
 #[test]
 fn tells_a_want_of_memory(rt: HostRuntime) {
     assert_told(&rt, rt.alloc(), &OF_ASSEMBLIES);
@@ -80,10 +192,20 @@ fn tells_a_want_of_memory_for_plans(rt: HostRuntime) {
     assert_told(&rt, rt.alloc(), &OF_PLANS);
 }
 
+#[test]
+fn each_call_tells_a_want_of_memory(rt: HostRuntime) {
+    for call in &CALLS {
+        assert_call(&rt, rt.alloc(), call, false).expect(&rt, "memory");
+    }
+    for call in &CALLS {
+        assert_call(&rt, rt.alloc(), call, true).expect(&rt, "memory");
+    }
+}
+
 /// Asserts what comes of each answer, with ample memory and without.
 fn assert_told(rt: &impl Abort, alloc: Global, all: &[[&str; 4]]) {
-    // All with ample memory first: then the stack has grown as far as the calls need. It can't do so
-    // once all memory was taken, since blocks lie beside it then.
+    // All with ample memory first: then the stack has grown farther than the calls need. It can't do
+    // so once all memory was taken, since blocks lie beside it then.
     for asked in all {
         assert_right(rt, alloc, asked).expect(rt, "memory");
     }
@@ -95,15 +217,60 @@ fn assert_told(rt: &impl Abort, alloc: Global, all: &[[&str; 4]]) {
 /// Asserts that the right answer comes, after a wrong input whose fault is written.
 fn assert_right(rt: &impl Abort, alloc: Global, asked: &[&str; 4]) -> Result<(), AllocError> {
     answer_to(alloc, asked[0], b"")?;
-    let outcome = Asked::new(alloc, asked)?.outcome(alloc);
-    assert!(rt; matches!(outcome, Outcome::Right), "{}", asked[3]);
+    assert_with_memory(rt, alloc, asked[3], &mut Asked::new(alloc, asked)?);
     Ok(())
 }
 
 /// Asserts that a want of memory is told, or the right answer.
 fn assert_wants(rt: &impl Abort, alloc: Global, asked: &[&str; 4]) -> Result<(), AllocError> {
-    let outcomes = outcomes_in_want(alloc, &mut Asked::new(alloc, asked)?)?;
-    let is_told = outcomes.want && outcomes.right && !outcomes.wrong;
-    assert!(rt; is_told, "{}", asked[3]);
+    assert_in_want(rt, alloc, asked[3], &mut Asked::new(alloc, asked)?)
+}
+
+/// Asserts what comes of a call, with ample memory or while that is wanting.
+fn assert_call(
+    rt: &impl Abort,
+    alloc: Global,
+    call: &[&str; 5],
+    is_wanting: bool,
+) -> Result<(), AssemblyFault> {
+    let mut trial = Call::new(alloc, call)?;
+    if is_wanting {
+        assert_in_want(rt, alloc, call[0], &mut trial)?;
+    }
+    assert_with_memory(rt, alloc, call[0], &mut trial);
     Ok(())
+}
+
+/// Asserts that what is right comes of a trial with ample memory.
+fn assert_with_memory<T: Trial>(rt: &impl Abort, alloc: Global, words: &str, trial: &mut T) {
+    let outcome = outcome_farther_down(alloc, words, trial);
+    assert!(rt; matches!(outcome, Outcome::Right), "{words}");
+}
+
+/// Asserts that a want of memory comes of a trial while that is wanting, or what is right.
+fn assert_in_want<T: Trial>(
+    rt: &impl Abort,
+    alloc: Global,
+    words: &str,
+    trial: &mut T,
+) -> Result<(), AllocError> {
+    let outcomes = outcomes_in_want(alloc, trial)?;
+    let is_told = outcomes.want && outcomes.right && !outcomes.wrong;
+    assert!(rt; is_told, "{words}");
+    Ok(())
+}
+
+/// What comes of a trial that is made farther down the stack than those without memory.
+#[inline(never)]
+fn outcome_farther_down<T: Trial>(alloc: Global, words: &str, trial: &mut T) -> Outcome {
+    // what is looked at after the trial stands above it on the stack
+    let mut above = [0u8; DEEPER];
+    let count = words.len().min(DEEPER);
+    above[..count].copy_from_slice(&words.as_bytes()[..count]);
+    let outcome = trial.outcome(alloc);
+    if above.starts_with(&words.as_bytes()[..count]) {
+        outcome
+    } else {
+        Outcome::Wrong
+    }
 }
