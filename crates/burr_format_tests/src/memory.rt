@@ -110,27 +110,33 @@ impl<'a> Call<'a> {
             want: input_of(alloc, kind_of_want, "@", want)?,
         })
     }
-
-    /// Whether it gives what it should, for which no memory is needed.
-    fn is_right(&self, alloc: Global) -> Result<bool, AllocError> {
-        match self.name {
-            "encode" => is_spelled(alloc, &self.input, &self.want),
-            "read" => is_read(alloc, &self.input, &self.assembly),
-            "write an assembly" => Ok(self.assembly.write(alloc)? == self.want),
-            "write a plan" => is_written(alloc, &self.plan, &self.want),
-            "assemble" => is_assembled(alloc, &self.input, &self.want),
-            _ => is_listed(alloc, &self.input, &self.want),
-        }
-    }
 }
 
 impl Trial for Call<'_> {
     fn outcome(&mut self, alloc: Global) -> Outcome {
-        match self.is_right(alloc) {
+        let given = (self.input.as_slice(), &self.assembly, &self.plan);
+        match is_given(alloc, self.name, given, &self.want) {
             Ok(true) => Outcome::Right,
             Ok(false) => Outcome::Wrong,
             Err(AllocError) => Outcome::Want,
         }
+    }
+}
+
+/// Whether a call gives what is wanted, for which no memory is needed.
+fn is_given(
+    alloc: Global,
+    name: &str,
+    (input, assembly, plan): (&[u8], &Assembly, &Plan),
+    want: &[u8],
+) -> Result<bool, AllocError> {
+    match name {
+        "encode" => is_spelled(alloc, input, want),
+        "read" => is_read(alloc, input, assembly),
+        "write an assembly" => Ok(assembly.write(alloc)?.as_slice() == want),
+        "write a plan" => is_written(alloc, plan, want),
+        "assemble" => is_assembled(alloc, input, want),
+        _ => is_listed(alloc, input, want),
     }
 }
 
@@ -142,23 +148,22 @@ fn is_spelled(alloc: Global, code: &[u8], spelled: &[u8]) -> Result<bool, AllocE
     }
 }
 
-/// Whether a text is read as an assembly with the names and cells of this one.
+/// Whether a text is read as an assembly with the name and the cells of this one.
 fn is_read(alloc: Global, text: &[u8], assembly: &Assembly) -> Result<bool, AllocError> {
     match Assembly::read(alloc, text) {
-        Ok(read) => Ok(are_alike(&read, assembly)),
+        Ok(read) => Ok(read.name() == assembly.name() && has_cells(&read, assembly)),
         Err(AssemblyFault::Memory) => Err(AllocError),
         Err(_fault) => Ok(false),
     }
 }
 
-fn are_alike(one: &Assembly, other: &Assembly) -> bool {
-    if one.name() != other.name() || one.piece_count() != other.piece_count() {
-        return false;
-    }
-    for piece in 0..one.piece_count() {
-        if one.piece_name(piece) != other.piece_name(piece)
-            || one.cells(piece) != other.cells(piece)
-        {
+/// Whether the pieces of an assembly have the cells that those of another one have.
+fn has_cells(read: &Assembly, assembly: &Assembly) -> bool {
+    for piece in 0..assembly.piece_count() {
+        if read.piece_count() <= piece {
+            return false;
+        }
+        if read.cells(piece) != assembly.cells(piece) {
             return false;
         }
     }
