@@ -1,0 +1,72 @@
+//! The calls that take memory.
+use crate::kit::Kit;
+use crate::{assemblies, inputs, plans, stepping};
+use std::alloc::AllocError;
+
+/// A call that takes memory.
+#[derive(Clone, Copy)]
+pub enum Call {
+    ReadAssembly,
+    WriteAssembly,
+    BuildCellTables,
+    BuildRowTables,
+    Encode,
+    RestorePlan,
+    WritePlan,
+    Assemble,
+    List,
+    Upgrade,
+    ReadAnswers,
+    Expand,
+    ReadWhole,
+    RunBench,
+    MakeStepper,
+    Answer,
+    Command,
+}
+
+/// All of them, by their names.
+pub const CALLS: [(&str, Call); 17] = [
+    ("Assembly::read", Call::ReadAssembly),
+    ("Assembly::write", Call::WriteAssembly),
+    ("CellTables::build", Call::BuildCellTables),
+    ("RowTables::build", Call::BuildRowTables),
+    ("encode", Call::Encode),
+    ("Plan::of", Call::RestorePlan),
+    ("write", Call::WritePlan),
+    ("assemble", Call::Assemble),
+    ("list", Call::List),
+    ("upgrade", Call::Upgrade),
+    ("read_answers", Call::ReadAnswers),
+    ("expand", Call::Expand),
+    ("read_whole", Call::ReadWhole),
+    ("bench_text", Call::RunBench),
+    ("Stepper::new", Call::MakeStepper),
+    ("Stepper::answer", Call::Answer),
+    ("command", Call::Command),
+];
+
+impl Call {
+    /// Makes the call: whether it gives what it should. An error is want of memory.
+    pub fn is_right(self, kit: &Kit<'_>) -> Result<bool, AllocError> {
+        match self {
+            Call::ReadAssembly => assemblies::assembly_is_read(kit),
+            Call::WriteAssembly => assemblies::assembly_is_written(kit),
+            Call::BuildCellTables => assemblies::cell_tables_are_built(kit),
+            Call::BuildRowTables => assemblies::row_tables_are_built(kit),
+            Call::Encode => plans::instruction_is_encoded(kit),
+            Call::RestorePlan => plans::plan_is_restored(kit),
+            Call::WritePlan => plans::plan_is_written(kit),
+            Call::Assemble => plans::text_is_assembled(kit),
+            Call::List => plans::plan_is_listed(kit),
+            Call::Upgrade => plans::plan_is_upgraded(kit),
+            Call::ReadAnswers => inputs::answers_are_read(kit),
+            Call::Expand => inputs::lines_are_expanded(kit),
+            Call::ReadWhole => inputs::source_is_read(kit),
+            Call::RunBench => inputs::code_is_run(kit),
+            Call::MakeStepper => stepping::stepper_is_made(kit),
+            Call::Answer => stepping::answer_is_taken(kit),
+            Call::Command => stepping::command_is_taken(kit),
+        }
+    }
+}

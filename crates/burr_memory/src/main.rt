@@ -1,0 +1,48 @@
+//! Makes each call that takes memory, and once more where it wants some, and prints whether it gave
+//! what it should. So whichever one request for memory is refused, what is printed is the same:
+//! `scripts/refuse-memory` refuses each of them in turn.
+#![tactic(auto)]
+
+mod assemblies;
+mod call;
+mod inputs;
+mod kit;
+mod plans;
+mod stepping;
+
+use crate::call::CALLS;
+use crate::kit::Kit;
+use burr_testing::bytes_of;
+use burr_testing::plans::RESULT_PLAN;
+use std::alloc::AllocError;
+use std::io;
+
+fn main(rt: HostRuntime) -> io::Result<()> {
+    let bytes = match bytes_of(rt.alloc(), RESULT_PLAN) {
+        None => bytes_of(rt.alloc(), RESULT_PLAN),
+        given => given,
+    };
+    let bytes = bytes.ok_or(AllocError)?;
+    let kit = match Kit::new(rt.alloc(), &bytes) {
+        Err(AllocError) => Kit::new(rt.alloc(), &bytes)?,
+        Ok(kit) => kit,
+    };
+    tell_all(&rt, &kit)
+}
+
+/// Tells of each call whether it gave what it should.
+fn tell_all(rt: &HostRuntime, kit: &Kit<'_>) -> io::Result<()> {
+    for (name, call) in &CALLS {
+        let given = match call.is_right(kit) {
+            Err(AllocError) => call.is_right(kit),
+            given => given,
+        };
+        let word = if matches!(given, Ok(true)) {
+            "right"
+        } else {
+            "wrong"
+        };
+        println!(rt; "{name}: {word}")?;
+    }
+    Ok(())
+}
