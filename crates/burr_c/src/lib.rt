@@ -17,6 +17,8 @@ mod kept;
 mod no_memory;
 mod printed;
 mod stepping;
+#[cfg(test)]
+mod tests;
 
 ghost use Rattle.std.specs.Prelude.{[]};
 ghost use Rattle.burr_tasks.specs.declared.task.Task.TheVariants.{Check, Run, Try};

@@ -1,0 +1,153 @@
+//! What each export gives, where that is long.
+use crate::{burr_assemble, burr_check, burr_run, burr_step_through, burr_try};
+use std::alloc::{AllocError, Global};
+use std::process::Abort;
+
+/// Two cubes side by side along x.
+const DUO: &[u8] = b"\
+assembly duo
+shape cube
+layer
+#
+end
+piece A cube +x+y+z 0 0 0
+piece B cube +x+y+z 1 0 0
+";
+
+/// The left cube goes out and back 3,000 times before it is taken aside.
+const TURNS: &[u8] = b"\
+plan duo 2 9005
+proc main 0
+label start
+frame 0 -
+cost 9005
+at 0 0 0 0 0
+at 1 0 0 0 0
+grip 0
+push 2999
+store 0
+label turn
+frame 0 0
+slot 0 0 2999
+cost 5+3v0
+at 0 0 0 0 0
+at 1 0 0 0 0
+step -x
+step +x
+down 0 turn
+aside -x 1
+halt
+";
+
+/// What a check of it prints: it looks once at each move of the turn, and at the way out.
+const CHECKED: &[u8] = b"accepted cost 9005 budget 9005 looks 3\n";
+
+/// The sheet of its run.
+fn sheet(alloc: Global) -> Result<String, AllocError> {
+    let mut text = String::new(alloc);
+    for turn in 0..3000 {
+        let number = 2 * turn + 1;
+        write!(text, "{number} t0 A -x 1\n{} t0 A +x 1\n", number + 1)?;
+    }
+    text.push_str("6001 t0 A -x 0 out\nlevels 6001\napart in 9005 steps\n")?;
+    Ok(text)
+}
+
+/// What `show` prints before its first step.
+const SHOWN: &str = "\
+after 0 steps proc 0 pc 0
+tray 0 grip -
+slots - - - - - - - -
+stack -
+A tray 0 at 0 0 0
+B tray 0 at 0 0 0
+";
+
+/// How many procedures follow main in a plan of 65,536 bytes of code.
+const OTHERS: usize = 15;
+
+/// Of the text of that plan, main up to its code.
+const MAIN_TEXT: &str = "\
+plan duo 2 3
+proc main 0
+label start
+frame 0 -
+cost 1
+at 0 apart
+at 1 apart
+";
+
+/// The same of each other procedure, after its name.
+const OTHER_TEXT: &str = "\
+exit 0 -
+at 0 apart
+at 1 apart
+label start
+frame 0 -
+cost 1
+at 0 apart
+at 1 apart
+";
+
+/// The text of that plan.
+fn long_text(alloc: Global) -> Result<String, AllocError> {
+    let code = "add\n".repeat(alloc, 4096)?;
+    let mut text = format!(in alloc; "{MAIN_TEXT}{code}")?;
+    for number in 0..OTHERS {
+        write!(text, "proc q{number} 0\n{OTHER_TEXT}{code}")?;
+    }
+    Ok(text)
+}
+
+/// Of its container, main up to its code.
+const MAIN_BYTES: &[u8] = b"BPLN\x00\x01\x00\x00\x00\x03\x02\x03duo\x10\x00\x00\x01\
+    \x00\x00\x00\x00\x00\x00\x00\x00\x00\x00\x00\x00\x00\x01\xff\xff\x10\x00";
+
+/// The same of each other procedure.
+const OTHER_BYTES: &[u8] = b"\x00\x00\x00\x00\x00\x00\xff\xff\x00\x01\
+    \x00\x00\x00\x00\x00\x00\x00\x00\x00\x00\x00\x00\x00\x01\xff\xff\x10\x00";
+
+/// Its container.
+fn long_container(alloc: Global) -> Result<Vec<u8>, AllocError> {
+    let mut bytes = Vec::new(alloc);
+    bytes.extend_from_slice(MAIN_BYTES)?;
+    bytes.extend_from_slice(&[4; 4096])?;
+    for _ in 0..OTHERS {
+        bytes.extend_from_slice(OTHER_BYTES)?;
+        bytes.extend_from_slice(&[4; 4096])?;
+    }
+    Ok(bytes)
+}
+
+/// Asserts that a call gave the status 0 and these bytes, and no more.
+fn assert_given(rt: &impl Abort, name: &str, status: u8, bytes: Option<&[u8]>, wanted: &[u8]) {
+    assert!(rt; status == 0 && bytes == Some(wanted), "{name}");
+}
+
+/// Each one that can: a check prints one line.
+#[test]
+fn each_export_gives_more_than_64_kib(rt: HostRuntime) {
+    let alloc = rt.alloc();
+    let mut room = vec![in alloc; 0u8; 200_000].expect(&rt, "memory");
+    let room = room.as_mut_slice();
+    let mut size = 0;
+    let text = long_text(alloc).expect(&rt, "memory");
+    let long = long_container(alloc).expect(&rt, "memory");
+    let status = burr_assemble(alloc, text.as_bytes(), room, &mut size);
+    assert_given(&rt, "assemble", status, room.get(..size), &long);
+    let status = burr_assemble(alloc, TURNS, room, &mut size);
+    assert!(rt; status == 0 && size <= room.len());
+    let plan = Vec::from_slice(alloc, &room[..size]).expect(&rt, "memory");
+    let status = burr_check(alloc, DUO, &plan, room, &mut size);
+    assert_given(&rt, "check", status, room.get(..size), CHECKED);
+    let sheet = sheet(alloc).expect(&rt, "memory");
+    let status = burr_run(alloc, DUO, &plan, b"", room, &mut size);
+    assert_given(&rt, "run", status, room.get(..size), sheet.as_bytes());
+    let status = burr_try(alloc, DUO, &plan, b"", room, &mut size);
+    assert_given(&rt, "try", status, room.get(..size), sheet.as_bytes());
+    let commands = "show\n".repeat(alloc, 1000).expect(&rt, "memory");
+    let shown = SHOWN.repeat(alloc, 1000).expect(&rt, "memory");
+    let status = burr_step_through(alloc, DUO, &plan, commands.as_bytes(), room, &mut size);
+    assert_given(&rt, "step", status, room.get(..size), shown.as_bytes());
+    assert!(rt; long.len() > 65_536 && sheet.len() > 65_536 && shown.len() > 65_536);
+}
