@@ -15,7 +15,7 @@ use burr_io::Sink;
 use burr_step::Stepper;
 use burr_tasks::{Fault, Status, refuse_container, refuse_plan, refuse_text};
 use burr_text::cut_at;
-use burr_verify::{Accepted, accept, fits_assembly};
+use burr_verify::{Accepted, accept};
 use std::alloc::Global;
 
 /// Goes through the plan of a container, step by step, by lines of commands, and puts the answer to
@@ -52,9 +52,6 @@ fn step_assembly<'a, 'x, W: Sink>(
         Ok(container) => container,
         Err(fault) => return refuse_container(fault, sink),
     };
-    if let Err(refusal) = fits_assembly(&container, assembly) {
-        return refuse_plan(&refusal, assembly, sink);
-    }
     let tables = RowTables::build(alloc, assembly)?;
     step_if_accepted(alloc, &container, &tables, commands, sink)
 }

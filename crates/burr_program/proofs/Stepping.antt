@@ -1,5 +1,5 @@
 -- How a dialogue with a stepper ends, or breaks off: steps from one stage to the next, and ways out.
-use Rattle.std.proofs.Common.{◌≡◌, List, ℕ, [], refl, sym, ap, ◌∙◌, subst, inl, inr, arith}
+use Rattle.std.proofs.Common.{◌≡◌, List, ℕ, [], refl, sym, ap, subst, inl, inr, arith}
 use Rattle.std.specs.Prelude.{Result, Ok, Err, IfOk, IfErr, OnOk}
 use Rattle.std.specs.Result.{IsErrAnd}
 use Rattle.std.proofs.lemmas.Result.{err_from_is_err_and}
@@ -9,7 +9,6 @@ use Rattle.burr_io.specs.WholeLines.{Lines, lines_view}
 use Rattle.burr_assembly.specs.Rules.Text.{Assembly}
 use Rattle.burr_container.specs.Views.Containers.{ContainerView}
 use Rattle.burr_verify.specs.declared.refusal.Refusal.{Refusal}
-use Rattle.burr_verify.specs.Views.Refusals.{another_assembly}
 use Rattle.burr_verify.specs.Rules.Accepting.{Judged}
 use Rattle.burr_step.specs.Views.Stepping.{Stepping, IsFresh}
 use Rattle.burr_runs.specs.Rules.Verdicts.{IsRefusedBy, plan_refusal}
@@ -24,10 +23,9 @@ use Rattle.burr_tasks.specs.Faults.{line_of, complaint_of}
 use Rattle.burr_tasks.specs.Statuses.{code_of}
 use Rattle.burr_jobs.specs.JobEnds.{took, EndsEarly, TakesSome, IsDone}
 use Rattle.burr_jobs.specs.HandedOn.{HandsOnDone}
-use Rattle.burr_tasks.specs.PlanEnds.{Ends, PutsEnd, FailsToEnd, StopsBeforeEnd, IsRefusal, IsRead, IsMisfit}
+use Rattle.burr_tasks.specs.PlanEnds.{Ends, PutsEnd, FailsToEnd, StopsBeforeEnd, IsRefusal, IsRead}
 use Rattle.burr_program.specs.StepEnds.{Left, left_of, DialogueEnds, StepEnds, StepBytesEnds, StepTextEnds, DialogueBreaks, StepBreaks, StepBytesBreak, StepTextBreaks, StopsStepping}
 use Rattle.burr_tasks.proofs.Common.Stages.{AreAmong, puts_among}
-use Rattle.burr_tasks.proofs.Common.Refused.{misfit_refused}
 use Rattle.burr_jobs.proofs.Common.HandedOn.{ends_handed, stops_handed}
 
 -- what stops at one stage stops at the other
@@ -117,13 +115,7 @@ steps_end_early source first last sink before after AreEnds text bytes (Err faul
 pub step_refused : (left : Left) (kept : ContainerView) (a : Assembly) (r : Refusal) → IsRefusedBy kept a r → AreAmong (IsRefusal (plan_refusal a r)) (StepEnds left kept a)
 step_refused left kept a r refused output status (same, is) = inl ((r, refused, same), is)
 
--- so it is with a plan for another assembly, in a container that was read
-pub step_misfit : (left : Left) (bytes : List ℕ) (kept : ContainerView) (a : Assembly) (r : Refusal) → IsRead bytes kept → r ≡ another_assembly → IsMisfit kept a
-    → AreAmong (IsRefusal (plan_refusal a r)) (StepBytesEnds left bytes a)
-step_misfit left bytes kept a r read another misfit output status (same, is) =
-    inr (kept, read, inl ((another_assembly, misfit_refused kept a (read.0, read.1, read.3) misfit, same ∙ ap (plan_refusal a) another), is))
-
--- and with a container that was read, for what was built of an assembly
+-- so it is with a container that was read, for what was built of an assembly
 pub bytes_among : (left : Left) (bytes : List ℕ) (kept : ContainerView) (a b : Assembly) → b ≡ a → IsRead bytes kept → AreAmong (StepEnds left kept b) (StepBytesEnds left bytes a)
 bytes_among left bytes kept a b same read output status is = subst (λ (x : Assembly). StepBytesEnds left bytes x output status) same (inr (kept, read, is))
 

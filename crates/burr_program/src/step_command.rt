@@ -20,7 +20,7 @@ use burr_io::{Sink, Source, WholeLines};
 use burr_jobs::{hand_on, read_file};
 use burr_step::Stepper;
 use burr_tasks::{Fault, Status, refuse_container, refuse_plan, refuse_text};
-use burr_verify::{Accepted, accept, fits_assembly};
+use burr_verify::{Accepted, accept};
 use std::alloc::Global;
 use std::rt::Files;
 
@@ -105,10 +105,6 @@ fn step_assembly<'a, 'x, R: Source, W: Sink, const N: usize>(
             return hand_on(done, sink);
         }
     };
-    if let Err(refusal) = fits_assembly(container, assembly) {
-        let done = refuse_plan(&refusal, assembly, sink);
-        return hand_on(done, sink);
-    }
     let tables = RowTables::build(alloc, assembly)?;
     step_if_accepted(alloc, container, &tables, source, sink)
 }

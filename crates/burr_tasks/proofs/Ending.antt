@@ -5,7 +5,7 @@ use Rattle.std.specs.Result.{IsErrAnd}
 use Rattle.std.proofs.lemmas.Result.{err_from_is_err_and}
 use Rattle.burr_io.specs.Sink.{SinkView}
 use Rattle.burr_assembly.specs.Rules.Text.{Assembly}
-use Rattle.burr_container.specs.Views.Containers.{ContainerView, IsContainer, HasPlan}
+use Rattle.burr_container.specs.Views.Containers.{ContainerView, IsContainer}
 use Rattle.burr_container.specs.Rules.Plans.{Plan}
 use Rattle.burr_state.specs.Rules.Bench.{Program}
 use Rattle.burr_state.specs.Views.Benches.{Benched}
@@ -21,12 +21,10 @@ use Rattle.burr_runs.specs.Rules.Verdicts.{IsRefusedBy, FailsInVerdict, plan_ref
 use Rattle.burr_tasks.specs.declared.fault.Fault.{Fault}
 use Rattle.burr_tasks.specs.Faults.{line_of, output_failed}
 use Rattle.burr_tasks.specs.declared.task.Task.{Task}
-use Rattle.burr_tasks.specs.declared.task.Task.TheVariants.{Check, Run, Try}
 use Rattle.burr_tasks.specs.Statuses.{status_of}
 use Rattle.burr_tasks.specs.declared.status.Status.{Status}
 use Rattle.burr_tasks.specs.declared.status.Status.TheVariants.{Done, Refused}
 use Rattle.burr_tasks.specs.PlanEnds.{Ends, PutsFrontOfEnd, FailsToEnd, IsRefusal, IsRead, IsFor, IsMisfit, CheckEnds, RunEnds, TryEnds, AnswersEnd, SafeEnds, BenchEnds, TaskEnds, AssemblyEnds}
-use Rattle.burr_tasks.proofs.Common.Refused.{misfit_refused}
 use Rattle.burr_tasks.proofs.Common.Stages.{AreAmong}
 
 -- a failed write, with what was to be printed
@@ -61,15 +59,6 @@ pub try_misfit : (kept : ContainerView) (a : Assembly) (text : List ℕ) (r : Re
     → AreAmong (IsRefusal (plan_refusal a r)) (TryEnds kept a text)
 try_misfit kept a text r another misfit output status (same, is) = inl (misfit, (same ∙ ap (plan_refusal a) another, is))
 
--- the refusal of a plan for another assembly is a way that each of the three ends
-pub misfit_among : (task : Task) (kept : ContainerView) (a : Assembly) (text : List ℕ) (r : Refusal) → r ≡ another_assembly → HasPlan kept → IsMisfit kept a
-    → AreAmong (IsRefusal (plan_refusal a r)) (TaskEnds task kept a text)
-misfit_among Check kept a text r another has misfit output status (same, is) =
-    inr ((another_assembly, misfit_refused kept a has misfit, same ∙ ap (plan_refusal a) another), is)
-misfit_among Run kept a text r another has misfit output status (same, is) =
-    inl ((another_assembly, misfit_refused kept a has misfit, same ∙ ap (plan_refusal a) another), is)
-misfit_among Try kept a text r another has misfit output status is = try_misfit kept a text r another misfit output status is
-
 -- the run of an accepted plan is a way that `run` ends
 pub accepted_among : (kept : ContainerView) (a : Assembly) (text : List ℕ) (j : Judged) → j ≡ judged kept a → IsAccepted j → AreAmong (AnswersEnd text (SafeEnds j)) (RunEnds kept a text)
 accepted_among kept a text j same accepted output status is =
@@ -94,9 +83,3 @@ pub container_among : (task : Task) (bytes answers : List ℕ) (a b : Assembly) 
     → AreAmong (TaskEnds task kept b answers) (AssemblyEnds task bytes answers a)
 container_among task bytes answers a b kept same read output status is =
     subst (λ (x : Assembly). AssemblyEnds task bytes answers x output status) same (inr (kept, read, is))
-
--- a plan for another assembly, in a container that was read
-pub misfit_ends : (task : Task) (bytes answers : List ℕ) (a : Assembly) (kept : ContainerView) (r : Refusal) → IsRead bytes kept → r ≡ another_assembly → IsMisfit kept a
-    → AreAmong (IsRefusal (plan_refusal a r)) (AssemblyEnds task bytes answers a)
-misfit_ends task bytes answers a kept r read another misfit output status is =
-    inr (kept, read, misfit_among task kept a answers r another (read.0, read.1, read.3) misfit output status is)

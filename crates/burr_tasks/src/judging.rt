@@ -19,7 +19,7 @@ use burr_blocking::{Blocking, RowTables};
 use burr_container::Container;
 use burr_io::Sink;
 use burr_runs::{check, read_answers, run_plan, try_plan};
-use burr_verify::{Accepted, accept, fits_assembly};
+use burr_verify::{Accepted, accept};
 use std::alloc::Global;
 
 /// Puts what there is to print of these bytes.
@@ -64,9 +64,6 @@ pub fn use_assembly<'a, 'x, W: Sink>(
         Ok(container) => container,
         Err(fault) => return refuse_container(*fault, sink),
     };
-    if let Err(refusal) = fits_assembly(container, assembly) {
-        return refuse_plan(&refusal, assembly, sink);
-    }
     let tables = RowTables::build(alloc, assembly)?;
     match task {
         Task::Check => check_plan(container, &tables, sink),

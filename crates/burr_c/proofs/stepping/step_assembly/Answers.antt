@@ -1,12 +1,9 @@
-use Rattle.std.proofs.Common.{inl, subst}
-use Rattle.std.proofs.lemmas.Bool.{false≢true}
-use Rattle.std.specs.Prelude.{IsOk}
+use Rattle.std.proofs.Common.{inl}
 use Rattle.burr_runs.specs.Rules.Refusals.{container_refusal}
-use Rattle.burr_runs.specs.Rules.Verdicts.{plan_refusal}
 use Rattle.burr_tasks.specs.PlanEnds.{IsRefusal}
 use Rattle.burr_c.specs.StepEnds.{StepEnds, StepBytesEnds}
 use Rattle.burr_tasks.proofs.Common.Stages.{puts_among}
-use Rattle.burr_c.proofs.StepEnding.{step_misfit, bytes_among}
+use Rattle.burr_c.proofs.StepEnding.{bytes_among}
 use Rattle.burr_c.proofs.stepping.step_assembly.Goals as goal
 
 pub returns-in-Err : goal.returns-in-Err
@@ -14,15 +11,6 @@ returns-in-Err g c =
     puts_among g.W.Sink c.args.sink.now c.refuse_container.new.sink (IsRefusal (container_refusal c.in-Err.fault))
     (StepBytesEnds c.args.commands.now c.args.container.now c.args.assembly.now) c.refuse_container.result
     (λ output status is. inl (c.in-Err.fault, c.in-Err.ensures, is)) c.refuse_container.ensures.ok
-
-pub returns-in-Err-fits_assembly : goal.returns-in-Err-fits_assembly
-returns-in-Err-fits_assembly g c =
-    let a = c.args.assembly.now in
-    let r = c.in-Err-fits_assembly.refusal in
-    puts_among g.W.Sink c.args.sink.now c.refuse_plan.new.sink (IsRefusal (plan_refusal a r))
-    (StepBytesEnds c.args.commands.now c.args.container.now a) c.refuse_plan.result
-    (step_misfit c.args.commands.now c.args.container.now c.in-Ok.container a r c.in-Ok.ensures c.in-Err-fits_assembly.ensures.refusal
-    (λ p of fits. false≢true (subst IsOk c.in-Err-fits_assembly.is ((c.fits_assembly.ensures.fits p of).1 fits)))) c.refuse_plan.ensures.ok
 
 pub returns : goal.returns
 returns g c =

@@ -1,14 +1,11 @@
-use Rattle.std.proofs.Common.{inl, subst}
-use Rattle.std.proofs.lemmas.Bool.{false≢true}
-use Rattle.std.specs.Prelude.{IsOk}
+use Rattle.std.proofs.Common.{inl}
 use Rattle.burr_runs.specs.Rules.Refusals.{container_refusal}
-use Rattle.burr_runs.specs.Rules.Verdicts.{plan_refusal}
 use Rattle.burr_runs.specs.Views.BenchText.{streams}
 use Rattle.burr_tasks.specs.PlanEnds.{IsRefusal}
 use Rattle.burr_program.specs.StepEnds.{left_of, StepEnds, StepBytesEnds, StepBreaks, StepBytesBreak}
 use Rattle.burr_tasks.proofs.Common.Refused.{read_of, fault_of}
 use Rattle.burr_tasks.proofs.Common.Stages.{puts_among}
-use Rattle.burr_program.proofs.Stepping.{refused_ends, refused_stops, step_misfit, stops_among, bytes_among, bytes_break}
+use Rattle.burr_program.proofs.Stepping.{refused_ends, refused_stops, stops_among, bytes_among, bytes_break}
 use Rattle.burr_program.proofs.step_command.step_assembly.Goals as goal
 
 pub returns-in-Err-clause-ok : goal.returns-in-Err-clause-ok
@@ -25,30 +22,6 @@ returns-in-Err-clause-err g c =
     (StepBytesEnds (left_of s) c.args.container.now c.args.assembly.now) (StepBytesBreak s c.args.container.now c.args.assembly.now)
     c.refuse_container-done.result c.hand_on.result c.requires.fresh
     (λ output status is. inl (c.in-Err.fault, (fault_of _ _ _ c.in-Err.is c.parse-parsed.ensures), is)) c.hand_on.ensures c.refuse_container-done.ensures.ok c.refuse_container-done.ensures.err
-
-pub returns-in-Err-fits_assembly-clause-ok : goal.returns-in-Err-fits_assembly-clause-ok
-returns-in-Err-fits_assembly-clause-ok g c =
-    let a = c.args.assembly.now in
-    let r = c.in-Err-fits_assembly.refusal in
-    let last = c.hand_on-in-Err-fits_assembly.new.sink in
-    let left = left_of (streams g.R.Source c.args.source.now c.args.source.now g.W.Sink c.args.sink.now.sink last.sink) in
-    refused_ends g.W.Sink c.args.sink.now c.refuse_plan-done.new.sink last (IsRefusal (plan_refusal a r)) (StepBytesEnds left c.args.container.now a)
-    c.refuse_plan-done.result c.hand_on-in-Err-fits_assembly.result c.requires.fresh
-    (step_misfit left c.args.container.now c.in-Ok.container a r (read_of _ _ _ c.in-Ok.is c.parse-parsed.ensures) c.in-Err-fits_assembly.ensures.refusal
-    (λ p of fits. false≢true (subst IsOk c.in-Err-fits_assembly.is ((c.fits_assembly.ensures.fits p of).1 fits))))
-    c.hand_on-in-Err-fits_assembly.ensures c.refuse_plan-done.ensures.ok
-
-pub returns-in-Err-fits_assembly-clause-err : goal.returns-in-Err-fits_assembly-clause-err
-returns-in-Err-fits_assembly-clause-err g c =
-    let a = c.args.assembly.now in
-    let r = c.in-Err-fits_assembly.refusal in
-    let last = c.hand_on-in-Err-fits_assembly.new.sink in
-    let s = streams g.R.Source c.args.source.now c.args.source.now g.W.Sink c.args.sink.now.sink last.sink in
-    refused_stops g.W.Sink c.args.sink.now c.refuse_plan-done.new.sink last (IsRefusal (plan_refusal a r)) (StepBytesEnds (left_of s) c.args.container.now a)
-    (StepBytesBreak s c.args.container.now a) c.refuse_plan-done.result c.hand_on-in-Err-fits_assembly.result c.requires.fresh
-    (step_misfit (left_of s) c.args.container.now c.in-Ok.container a r (read_of _ _ _ c.in-Ok.is c.parse-parsed.ensures) c.in-Err-fits_assembly.ensures.refusal
-    (λ p of fits. false≢true (subst IsOk c.in-Err-fits_assembly.is ((c.fits_assembly.ensures.fits p of).1 fits))))
-    c.hand_on-in-Err-fits_assembly.ensures c.refuse_plan-done.ensures.ok c.refuse_plan-done.ensures.err
 
 pub returns-clause-ok : goal.returns-clause-ok
 returns-clause-ok g c =

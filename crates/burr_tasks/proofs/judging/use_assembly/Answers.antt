@@ -1,12 +1,9 @@
-use Rattle.std.proofs.Common.{inl, subst}
-use Rattle.std.proofs.lemmas.Bool.{false≢true}
-use Rattle.std.specs.Prelude.{IsOk}
-use Rattle.burr_runs.specs.Rules.Verdicts.{plan_refusal}
+use Rattle.std.proofs.Common.{inl}
 use Rattle.burr_tasks.specs.declared.task.Task.TheVariants.{Check, Run, Try}
 use Rattle.burr_tasks.specs.PlanEnds.{IsRefusal, CheckEnds, RunEnds, TryEnds, AssemblyEnds}
 use Rattle.burr_runs.specs.Rules.Refusals.{container_refusal}
 use Rattle.burr_tasks.proofs.Common.Refused.{read_of, fault_of}
-use Rattle.burr_tasks.proofs.Ending.{container_among, misfit_ends}
+use Rattle.burr_tasks.proofs.Ending.{container_among}
 use Rattle.burr_tasks.proofs.Common.Stages.{puts_among, fails_among}
 use Rattle.burr_tasks.proofs.judging.use_assembly.Goals as goal
 
@@ -57,21 +54,3 @@ returns-clause-err g c =
     rw c.in-Try.is (fails_among g.W.Sink c.args.sink.now c.try_on_bench.new.sink (TryEnds c.in-Ok.container c.in_ok-tables.tables c.args.answers.now)
     (AssemblyEnds Try c.args.container.now c.args.answers.now c.args.assembly.now) c.try_on_bench.result
     (container_among Try c.args.container.now c.args.answers.now c.args.assembly.now c.in_ok-tables.tables c.in-Ok.container c.in_ok-tables.ensures (read_of _ _ _ c.in-Ok.is c.parse-parsed.ensures)) c.try_on_bench.ensures.err)
-
-pub returns-in-Err-fits_assembly-clause-ok : goal.returns-in-Err-fits_assembly-clause-ok
-returns-in-Err-fits_assembly-clause-ok g c =
-    let a = c.args.assembly.now in
-    let r = c.in-Err-fits_assembly.refusal in
-    puts_among g.W.Sink c.args.sink.now c.refuse_plan.new.sink (IsRefusal (plan_refusal a r))
-    (AssemblyEnds c.args.task c.args.container.now c.args.answers.now a) c.refuse_plan.result
-    (misfit_ends c.args.task c.args.container.now c.args.answers.now a c.in-Ok.container r (read_of _ _ _ c.in-Ok.is c.parse-parsed.ensures) c.in-Err-fits_assembly.ensures.refusal
-    (λ p of fits. false≢true (subst IsOk c.in-Err-fits_assembly.is ((c.fits_assembly.ensures.fits p of).1 fits)))) c.refuse_plan.ensures.ok
-
-pub returns-in-Err-fits_assembly-clause-err : goal.returns-in-Err-fits_assembly-clause-err
-returns-in-Err-fits_assembly-clause-err g c =
-    let a = c.args.assembly.now in
-    let r = c.in-Err-fits_assembly.refusal in
-    fails_among g.W.Sink c.args.sink.now c.refuse_plan.new.sink (IsRefusal (plan_refusal a r))
-    (AssemblyEnds c.args.task c.args.container.now c.args.answers.now a) c.refuse_plan.result
-    (misfit_ends c.args.task c.args.container.now c.args.answers.now a c.in-Ok.container r (read_of _ _ _ c.in-Ok.is c.parse-parsed.ensures) c.in-Err-fits_assembly.ensures.refusal
-    (λ p of fits. false≢true (subst IsOk c.in-Err-fits_assembly.is ((c.fits_assembly.ensures.fits p of).1 fits)))) c.refuse_plan.ensures.err
