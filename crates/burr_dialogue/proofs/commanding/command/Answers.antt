@@ -82,4 +82,4 @@ returns-in-Show g c =
 pub returns-in-Quit : goal.returns-in-Quit
 returns-in-Quit g c =
     let is = read_is c.args.line.now c.in-Some.command read.Quit c.in-Some.ensures c.in-Quit.is in
-    record { ok = quit_tells g.W.Sink c.args.sink.now c.args.stepper.now c.args.line.now is; err = tt }
+    record { ok = quit_tells g.W.Sink c.args.sink.now c.args.stepper.now c.args.line.now is; err = tt; quit = λ _. refl }
