@@ -45,7 +45,7 @@ const CHECKED: &[u8] = b"accepted cost 9005 budget 9005 looks 3\n";
 /// The sheet of its run.
 fn sheet(alloc: Global) -> Result<String, AllocError> {
     let mut text = String::new(alloc);
-    for turn in 0..3000 {
+    for turn in 0..3000u32 {
         let number = 2 * turn + 1;
         write!(text, "{number} t0 A -x 1\n{} t0 A +x 1\n", number + 1)?;
     }

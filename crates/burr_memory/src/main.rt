@@ -23,11 +23,15 @@ fn main(rt: HostRuntime) -> io::Result<()> {
         given => given,
     };
     let bytes = bytes.ok_or(AllocError)?;
-    let kit = match Kit::new(rt.alloc(), &bytes) {
-        Err(AllocError) => Kit::new(rt.alloc(), &bytes)?,
-        Ok(kit) => kit,
-    };
-    tell_all(&rt, &kit)
+    tell_of(&rt, &bytes)
+}
+
+/// Tells of each call, with a plan of these bytes.
+fn tell_of(rt: &HostRuntime, bytes: &[u8]) -> io::Result<()> {
+    if let Ok(kit) = Kit::new(rt.alloc(), bytes) {
+        return tell_all(rt, &kit);
+    }
+    tell_all(rt, &Kit::new(rt.alloc(), bytes)?)
 }
 
 /// Tells of each call whether it gave what it should.

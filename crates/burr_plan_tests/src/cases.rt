@@ -95,10 +95,12 @@ fn tries_plans(rt: HostRuntime) {
 
 #[test]
 fn judges_and_runs_without_memory(rt: HostRuntime) {
-    assert_tables(&rt, rt.alloc(), How::Poorly, Kind::Check, LIFT_CHECKS);
-    assert_tables(&rt, rt.alloc(), How::Poorly, Kind::Check, CHECKS);
-    assert_tables(&rt, rt.alloc(), How::Poorly, Kind::Run, LIFT_RUNS);
-    assert_tables(&rt, rt.alloc(), How::Poorly, Kind::Run, RUNS);
+    for how in &[How::FartherDown, How::Poorly] {
+        assert_tables(&rt, rt.alloc(), *how, Kind::Check, LIFT_CHECKS);
+        assert_tables(&rt, rt.alloc(), *how, Kind::Check, CHECKS);
+        assert_tables(&rt, rt.alloc(), *how, Kind::Run, LIFT_RUNS);
+        assert_tables(&rt, rt.alloc(), *how, Kind::Run, RUNS);
+    }
 }
 
 #[test]

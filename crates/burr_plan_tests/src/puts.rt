@@ -219,7 +219,8 @@ fn puts_front(
     put(rt, alloc, table, given, &mut writer) == end && writer.taken.as_slice() == front
 }
 
-/// Whether a case puts this while no memory can be had, where all that it works on was made before.
+/// Whether a case puts this while no memory can be had, or first with ample memory, where all that it
+/// works on was made before.
 pub fn puts_poorly(
     rt: &impl Abort,
     alloc: Global,
@@ -233,11 +234,32 @@ pub fn puts_poorly(
     let rows = rows_of(rt, alloc, &assembly);
     let container = container_of(rt, &bytes);
     let wanted = wanted.split_once(" | ").expect(rt, "a text");
-    // with ample memory first: then the stack has grown as far as the calls need, which it can't do
-    // while all memory is taken
-    puts_in_place(table, &container, &rows, &answers, wanted);
+    if matches!(table.how, How::FartherDown) {
+        return puts_farther_down(table, &container, &rows, &answers, wanted);
+    }
     let _taken = memory_taken(rt, alloc);
     puts_in_place(table, &container, &rows, &answers, wanted)
+}
+
+/// How many bytes farther down the stack a plan is judged and run with ample memory.
+const DEEPER: usize = 32_768;
+
+/// The same farther down the stack, so that it has grown as far as is needed: it can't grow once all
+/// memory was taken, nor when it is given back.
+#[inline(never)]
+fn puts_farther_down(
+    table: &Table,
+    container: &Container<'_>,
+    rows: &RowTables<'_>,
+    answers: &[i32],
+    wanted: (&str, &str),
+) -> bool {
+    // what is looked at after the call stands above it on the stack
+    let mut above = [0u8; DEEPER];
+    let count = wanted.1.len().min(DEEPER);
+    above[..count].copy_from_slice(&wanted.1.as_bytes()[..count]);
+    puts_in_place(table, container, rows, answers, wanted)
+        && above.starts_with(&wanted.1.as_bytes()[..count])
 }
 
 /// Whether a plan puts this, and ends so, in a place of 128 bytes; and is refused where that says so.

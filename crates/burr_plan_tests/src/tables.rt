@@ -69,6 +69,8 @@ pub enum How {
     InPortions,
     /// While memory is wanting here and there.
     Wanting,
+    /// With ample memory as without, farther down the stack.
+    FartherDown,
     /// While no memory can be had, once all is made that the cases work on.
     Poorly,
     /// With plans of version 2 that are made of the cases'.
@@ -118,7 +120,7 @@ fn assert_case(rt: &impl Abort, alloc: Global, table: &Table, line: &str) {
         How::InFronts => puts_fronts(rt, alloc, table, given, &wanted),
         How::InPortions => reads_portions(rt, alloc, table, given, &wanted),
         How::Wanting => wants_memory(rt, alloc, table, given, &wanted),
-        How::Poorly => puts_poorly(rt, alloc, table, given, &wanted),
+        How::FartherDown | How::Poorly => puts_poorly(rt, alloc, table, given, &wanted),
         _ => comes_to(rt, alloc, table, given, &wanted),
     };
     assert!(rt; is_right, "{line}");
