@@ -39,8 +39,9 @@ aside -x 1
 halt
 ";
 
-/// What a check of it prints: it looks once at each move of the turn, and at the way out.
-const CHECKED: &[u8] = b"accepted cost 9005 budget 9005 looks 3\n";
+/// What a check of it prints: it looks at 3,000 points of each move of the turn, and once at the way
+/// out.
+const CHECKED: &[u8] = b"accepted cost 9005 budget 9005 looks 6001\n";
 
 /// The sheet of its run.
 fn sheet(alloc: Global) -> Result<String, AllocError> {
