@@ -1,6 +1,6 @@
 //! Words, and what they ask for: help, the version, faults, jobs.
 use crate::asserts::assert_text;
-use burr_command::{Job, PlanTask, Request, TextTask, request_of};
+use burr_command::{Job, Request, request_of};
 use std::alloc::{AllocError, Global};
 use std::process::Abort;
 
@@ -76,59 +76,40 @@ fn job_name(job: &Job<'_>) -> &'static str {
         Job::Assemble { .. } => "asm",
         Job::List { places, .. } => { if *places { "list --places" } else { "list" } }
         Job::Upgrade { .. } => "upgrade",
+        Job::Check { .. } => "check",
+        Job::Run { .. } => "run",
+        Job::Try { .. } => "try",
         Job::Step { .. } => "step",
-        Job::Text { task, .. } => match task {
-            TextTask::Why => "why",
-            TextTask::Trace => "trace",
-        },
-        Job::PlanSheet { .. } => "plan",
+        Job::Why { .. } => "why",
+        Job::Trace { .. } => "trace",
         Job::Frames { .. } => "frames",
+        Job::PlanSheet { .. } => "plan",
         Job::Explain { .. } => "explain",
-        Job::Plan { task, .. } => match task {
-            PlanTask::Check => "check",
-            PlanTask::Run => "run",
-            PlanTask::Try => "try",
-        },
     }
 }
 
 /// The files of a job in the order of its command line, and an empty word for each that it lacks.
 fn job_files<'a>(job: &Job<'a>) -> [&'a str; 3] {
     match job {
-        Job::Explain { .. } => ["", "", ""],
+        Job::Assemble { text, out } => [text, out, ""],
         Job::List { plan, .. } => [plan, "", ""],
-        Job::Assemble {
-            text: first,
-            out: second,
-        }
-        | Job::Upgrade {
-            plan: first,
-            out: second,
-        }
-        | Job::Step {
-            assembly: first,
-            plan: second,
-        }
-        | Job::Text {
-            assembly: first,
-            text: second,
-            ..
-        }
-        | Job::Plan {
-            assembly: first,
-            plan: second,
-            ..
-        } => [first, second, ""],
+        Job::Upgrade { plan, out } => [plan, out, ""],
+        Job::Check { assembly, plan }
+        | Job::Run { assembly, plan }
+        | Job::Try { assembly, plan }
+        | Job::Step { assembly, plan } => [assembly, plan, ""],
+        Job::Why { assembly, text } | Job::Trace { assembly, text } => [assembly, text, ""],
+        Job::Frames {
+            assembly,
+            text,
+            out,
+        } => [assembly, text, out],
         Job::PlanSheet {
             assembly,
-            sheet: second,
+            sheet,
             out,
-        }
-        | Job::Frames {
-            assembly,
-            text: second,
-            out,
-        } => [assembly, second, out],
+        } => [assembly, sheet, out],
+        Job::Explain { .. } => ["", "", ""],
     }
 }
 

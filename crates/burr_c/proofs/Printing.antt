@@ -5,9 +5,9 @@ use Rattle.std.specs.Io.KnownBytes.{Appends}
 use Rattle.burr_c.specs.declared.fault.Fault.{Fault}
 use Rattle.burr_c.specs.declared.fault.Fault.TheVariants.{TooLong, Memory}
 use Rattle.burr_c.specs.declared.printed.Printed.{Printed}
-use Rattle.burr_tasks.specs.declared.status.Status.{Status}
+use Rattle.burr_judge.specs.declared.status.Status.{Status}
 use Rattle.burr_c.specs.Calls.{Call, Gives, Returns}
-use Rattle.burr_tasks.specs.PlanEnds.{Ends}
+use Rattle.burr_judge.specs.PlanEnds.{Ends}
 use Rattle.burr_c.specs.Statuses.{status_of_fault}
 
 -- what was put since there was nothing is all that is kept

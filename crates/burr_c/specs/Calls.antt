@@ -1,10 +1,10 @@
 -- What a call leaves with its caller.
 use Rattle.std.specs.Prelude.{◌≡◌, ◌⊎◌, ◌<◌, ℕ, List, [], ◌++◌, length, take, drop}
 use Rattle.burr_runs.specs.declared.reading.TheConstants.{LIMIT}
-use Rattle.burr_tasks.specs.declared.status.Status.{Status}
-use Rattle.burr_tasks.specs.declared.status.Status.TheVariants.{Failed, Memory}
-use Rattle.burr_tasks.specs.Statuses.{code_of}
-use Rattle.burr_tasks.specs.PlanEnds.{Ends}
+use Rattle.burr_judge.specs.declared.status.Status.{Status}
+use Rattle.burr_judge.specs.declared.status.Status.TheVariants.{Failed, Memory}
+use Rattle.burr_judge.specs.Statuses.{code_of}
+use Rattle.burr_judge.specs.PlanEnds.{Ends}
 
 -- more bytes than the program reads
 abbrev pub IsTooLong : List ℕ → Type 0

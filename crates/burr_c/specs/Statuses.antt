@@ -1,6 +1,6 @@
 -- The status that goes with a fault.
-use Rattle.burr_tasks.specs.declared.status.Status.{Status}
-use Rattle.burr_tasks.specs.declared.status.Status.TheVariants as statuses
+use Rattle.burr_judge.specs.declared.status.Status.{Status}
+use Rattle.burr_judge.specs.declared.status.Status.TheVariants as statuses
 use Rattle.burr_c.specs.declared.fault.Fault.{Fault}
 use Rattle.burr_c.specs.declared.fault.Fault.TheVariants as faults
 

@@ -8,8 +8,8 @@ use Rattle.burr_step.specs.Rules.StepTexts.{LineAnswer}
 use Rattle.burr_step.specs.Views.Stepping.{Stepping, IsFresh}
 use Rattle.burr_dialogue.specs.Rules.Dialogue.{IsReadOf}
 use Rattle.burr_dialogue.specs.Views.Dialogues.{HasAnswered}
-use Rattle.burr_tasks.specs.declared.status.Status.TheVariants.{Done}
-use Rattle.burr_tasks.specs.PlanEnds.{Ends, RefusedEnds, ContainerEnds, TextEnds}
+use Rattle.burr_judge.specs.declared.status.Status.TheVariants.{Done}
+use Rattle.burr_judge.specs.PlanEnds.{Ends, RefusedEnds, ContainerEnds, TextEnds}
 
 -- the lines of these commands, up to `quit` or to their end, are answered by this text
 abbrev pub IsConversation : List ℕ → Stepping → List ℕ → Stepping → Type 0
@@ -36,9 +36,7 @@ StepEnds commands kept a output status =
     RefusedEnds kept a output status
     ⊎ (IsAccepted (judged kept a) × ConversationEnds commands (judged kept a) output status)
 
--- the same of a container, and of an assembly's text
-abbrev pub StepBytesEnds : List ℕ → List ℕ → Assembly → Ends
-StepBytesEnds commands bytes a = ContainerEnds bytes (λ kept. StepEnds commands kept a)
-
+-- the same of an assembly's text and a container
 abbrev pub StepTextEnds : List ℕ → List ℕ → List ℕ → Ends
-StepTextEnds commands text bytes = TextEnds text (StepBytesEnds commands bytes)
+StepTextEnds commands text bytes =
+    TextEnds text (λ a. ContainerEnds bytes (λ kept. StepEnds commands kept a))

@@ -1,5 +1,5 @@
 use crate::no_memory::NoMemory;
-use burr_tasks::Status;
+use burr_judge::Status;
 use thiserror::Error;
 
 /// Why there is nothing to print.
@@ -38,13 +38,13 @@ impl From<NoMemory> for Fault {
 }
 
 /// What is printed is kept in memory, so that nothing but memory is wanting.
-impl From<burr_tasks::Fault<'_>> for Fault {
+impl From<burr_judge::Fault<'_>> for Fault {
     ghost use Rattle.std.specs.Prelude.{◌≡◌};
     ghost use Rattle.burr_c.specs.declared.fault.Fault.TheVariants.{Memory};
 
     ghost from_gives = { λ _ e. e ≡ Memory };
 
-    fn from(_e: burr_tasks::Fault<'_>) -> Fault {
+    fn from(_e: burr_judge::Fault<'_>) -> Fault {
         Fault::Memory
     }
 }

@@ -21,15 +21,15 @@ mod stepping;
 mod tests;
 
 ghost use Rattle.std.specs.Prelude.{[]};
-ghost use Rattle.burr_tasks.specs.declared.task.Task.TheVariants.{Check, Run, Try};
+ghost use Rattle.burr_judge.specs.declared.task.Task.TheVariants.{Check, Run, Try};
 ghost use Rattle.burr_c.specs.AssemblingEnds.{AssemblingEnds};
 ghost use Rattle.burr_c.specs.Calls.{call, IsTooLong, IsEitherTooLong, IsAnyTooLong, Returns};
-ghost use Rattle.burr_tasks.specs.PlanEnds.{PlanEnds};
+ghost use Rattle.burr_judge.specs.PlanEnds.{PlanEnds};
 ghost use Rattle.burr_c.specs.StepEnds.{StepTextEnds};
 
 use crate::giving::give;
 use crate::printed::{print_assembled, print_judgement, print_steps};
-use burr_tasks::Task;
+use burr_judge::Task;
 use std::alloc::Global;
 
 /// Judges the container `plan` for the text of an assembly, as `burr check` does.

@@ -1,5 +1,5 @@
 use burr_dialogue::StepFault;
-use burr_tasks::Fault;
+use burr_judge::Fault;
 use thiserror::Error;
 
 /// A request for memory was refused. What is printed is kept in memory, so that no other fault is met:

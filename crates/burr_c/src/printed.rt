@@ -5,16 +5,16 @@ ghost use Rattle.burr_c.specs.declared.fault.Fault.TheVariants.{TooLong};
 ghost use Rattle.burr_c.specs.AssemblingEnds.{AssemblingEnds};
 ghost use Rattle.burr_c.specs.Calls.{IsTooLong, IsEitherTooLong, IsAnyTooLong};
 ghost use Rattle.burr_c.specs.StepEnds.{StepTextEnds};
-ghost use Rattle.burr_tasks.specs.PlanEnds.{IsRefusal, PlanEnds};
-ghost use Rattle.burr_tasks.specs.Refusals.{plan_text_refusal};
+ghost use Rattle.burr_judge.specs.PlanEnds.{IsRefusal, PlanEnds};
+ghost use Rattle.burr_judge.specs.Refusals.{plan_text_refusal};
 
 use crate::fault::Fault;
 use crate::kept::Kept;
 use crate::no_memory::NoMemory;
 use crate::stepping::step_text;
 use burr_asm::{AsmFault, assemble};
+use burr_judge::{Refused, Status, Task, judge_text, refuse};
 use burr_runs::LIMIT;
-use burr_tasks::{Status, Task, judge_text, refuse_plan_text};
 use std::alloc::Global;
 
 /// What is printed, and the status that goes with it.
@@ -104,7 +104,7 @@ fn print_text_refusal(alloc: Global, fault: AsmFault) -> Result<Printed, NoMemor
         IsRefusal (plan_text_refusal fault) printed.bytes.items printed.status) }
 {
     let mut kept = Kept::new(alloc);
-    let status = refuse_plan_text(fault, &mut kept)?;
+    let status = refuse(&Refused::PlanText(fault), &mut kept)?;
     Ok(Printed {
         bytes: kept.into_bytes(),
         status,

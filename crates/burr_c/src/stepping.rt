@@ -1,21 +1,19 @@
 //! An accepted plan is gone through by lines of commands.
 
 ghost use Rattle.std.specs.Prelude.{IfOk, OnOk};
-ghost use Rattle.burr_container.specs.Views.Containers.{HasPlan};
-ghost use Rattle.burr_tasks.specs.PlanEnds.{PutsEnd};
-ghost use Rattle.burr_c.specs.StepEnds.{StepTextEnds, StepBytesEnds, StepEnds};
-ghost use Rattle.burr_c.specs.StepEnds.{ConversationEnds, PutsConversation};
+ghost use Rattle.burr_judge.specs.PlanEnds.{PutsEnd};
+ghost use Rattle.burr_c.specs.StepEnds.{PutsConversation, StepTextEnds};
 
 use crate::no_memory::NoMemory;
-use burr_assembly::{Assembly, AssemblyFault};
-use burr_blocking::{Blocking, RowTables};
-use burr_container::Container;
+use burr_blocking::Blocking;
 use burr_dialogue::command;
 use burr_io::Sink;
+use burr_judge::{
+    AcceptedUse, Fault, Given, IfAccepted, OfPlan, Refuse, Refused, Status, refuse, use_text,
+};
 use burr_step::Stepper;
-use burr_tasks::{Fault, Status, refuse_container, refuse_plan, refuse_text};
 use burr_text::cut_at;
-use burr_verify::{Accepted, accept};
+use burr_verify::Accepted;
 use std::alloc::Global;
 
 /// Goes through the plan of a container, step by step, by lines of commands, and puts the answer to
@@ -30,63 +28,56 @@ pub fn step_text<'a, W: Sink>(
     ensures { IfOk result (PutsEnd W.Sink sink.old sink.new
         (StepTextEnds commands.now text.now container.now)) }
 {
-    match Assembly::read(alloc, text) {
-        Ok(assembly) => step_assembly(alloc, &assembly, container, commands, sink),
-        Err(AssemblyFault::Memory) => Err(Fault::Memory),
-        Err(fault) => refuse_text(text, fault, sink),
+    let plan = Given::Container(container);
+    let work = IfAccepted(Step { commands });
+    use_text(alloc, &OfPlan { plan, work }, text, &mut (), sink)
+}
+
+/// Goes through an accepted plan by lines of commands.
+#[derive(Clone, Copy)]
+struct Step<'x> {
+    commands: &'x [u8],
+}
+
+impl<'x, W: Sink> Refuse<W> for Step<'x> {
+    ghost use Rattle.std.specs.Prelude.{⊤, IfOk};
+    ghost use Rattle.burr_judge.specs.PlanEnds.{IsRefusal, PutsEnd};
+
+    ghost can = { λ _. ⊤ };
+
+    ghost refuses = { λ _ before line r after.
+        IfOk r (PutsEnd W.Sink before after (IsRefusal line)) };
+
+    fn refuse<'a>(
+        &self,
+        _alloc: Global,
+        refused: &Refused<'_, '_>,
+        sink: &mut W,
+    ) -> Result<Status, Fault<'a>> {
+        refuse(refused, sink)
     }
 }
 
-/// The same with an assembly that was read.
-fn step_assembly<'a, 'x, W: Sink>(
-    alloc: Global,
-    assembly: &'x Assembly,
-    container: &'x [u8],
-    commands: &[u8],
-    sink: &mut W,
-) -> Result<Status, Fault<'a>>
-    ensures { IfOk result (PutsEnd W.Sink sink.old sink.new
-        (StepBytesEnds commands.now container.entry.now assembly.entry.now)) }
-{
-    let container = match Container::parse(container) {
-        Ok(container) => container,
-        Err(fault) => return refuse_container(fault, sink),
-    };
-    let tables = RowTables::build(alloc, assembly)?;
-    step_if_accepted(alloc, &container, &tables, commands, sink)
-}
+impl<'x, W: Sink> AcceptedUse<(), W> for Step<'x> {
+    ghost use Rattle.std.specs.Prelude.{IfOk};
+    ghost use Rattle.burr_judge.specs.PlanEnds.{PutsEnd};
+    ghost use Rattle.burr_c.specs.StepEnds.{ConversationEnds};
 
-/// Goes through the plan where it is accepted; else puts the refusal, as a check does.
-fn step_if_accepted<'a, 'x, B: Blocking, W: Sink>(
-    alloc: Global,
-    container: &'x Container<'_>,
-    blocking: &'x B,
-    commands: &[u8],
-    sink: &mut W,
-) -> Result<Status, Fault<'a>>
-    requires { HasPlan container.now }
-    ensures { IfOk result (PutsEnd W.Sink sink.old sink.new
-        (StepEnds commands.now container.entry.now (B.subject blocking.entry.now))) }
-{
-    match accept(container, blocking) {
-        Ok(accepted) => step_accepted(alloc, &accepted, commands, sink),
-        Err(refusal) => refuse_plan(&refusal, blocking.assembly(), sink),
+    ghost uses = { λ it _ before j _ r _ after.
+        IfOk r (PutsEnd W.Sink before after (ConversationEnds it.commands.now j)) };
+
+    fn use_accepted<'a, B: Blocking>(
+        &self,
+        alloc: Global,
+        accepted: &Accepted<'_, '_, B>,
+        _looks: u64,
+        _input: &mut (),
+        sink: &mut W,
+    ) -> Result<Status, Fault<'a>> {
+        let mut stepper = Stepper::new(alloc, accepted)?;
+        answer_lines(&mut stepper, self.commands, sink)?;
+        Ok(Status::Done)
     }
-}
-
-/// Goes through an accepted plan.
-fn step_accepted<'a, B: Blocking, W: Sink>(
-    alloc: Global,
-    accepted: &Accepted<'_, '_, B>,
-    commands: &[u8],
-    sink: &mut W,
-) -> Result<Status, Fault<'a>>
-    ensures { IfOk result (PutsEnd W.Sink sink.old sink.new
-        (ConversationEnds commands.now accepted.now.judged)) }
-{
-    let mut stepper = Stepper::new(alloc, accepted)?;
-    answer_lines(&mut stepper, commands, sink)?;
-    Ok(Status::Done)
 }
 
 /// Takes lines of commands, up to `quit` or their end, and puts the answer to each. A last line

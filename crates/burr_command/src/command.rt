@@ -4,8 +4,26 @@ use crate::help;
 use clap::{Arg, ArgAction, Command};
 use std::alloc::{AllocError, Global};
 
-/// A command, with what may stand after its name.
+/// The commands, in the order in which help lists them.
+#[derive(Clone, Copy)]
+pub enum Kind {
+    Assemble,
+    List,
+    Upgrade,
+    Check,
+    Run,
+    Try,
+    Step,
+    Why,
+    Trace,
+    Frames,
+    PlanSheet,
+    Explain,
+}
+
+/// A command by its name, with what may stand after it.
 struct Form {
+    kind: Kind,
     name: &'static str,
     about: &'static str,
     /// What its help says last.
@@ -30,124 +48,205 @@ const TEXT: Argument = Argument::Word("TEXT", "The plan text");
 
 const PLAN: Argument = Argument::Word("PLAN", "The container");
 
-/// The command line: the commands, help and the version. Help lists the commands in this order.
+/// The form of each command, in the order in which help lists them.
+const FORMS: &[Form] = &[
+    Form {
+        kind: Kind::Assemble,
+        name: "asm",
+        about: "Assembles a plan text into a container",
+        after_help: "\
+OUT is written last, and left alone where TEXT is refused: `refused P2 line 9`.
+A file OUT is replaced whole: until all of the container is written, the old
+one stands. OUT may not be TEXT itself.
+
+Example: ./burr asm examples/ring.plan /tmp/ring.bpln",
+        arguments: &[TEXT, Argument::Word("OUT", "The container that is made")],
+    },
+    Form {
+        kind: Kind::List,
+        name: "list",
+        about: "Prints the plan text of a container",
+        after_help: "\
+A file that is no container is refused: `refused C1 at 12`. What is printed is
+assembled to the same bytes again.
+
+Example: ./burr list /tmp/ring.bpln",
+        arguments: &[
+            PLAN,
+            Argument::Flag("places", "Says before each line of code where it stands"),
+        ],
+    },
+    Form {
+        kind: Kind::Upgrade,
+        name: "upgrade",
+        about: "Makes the container of version 2 of a plan",
+        after_help: "\
+OUT has the same plan in version 2 of the format, where procedures may have
+results; of a container of version 2 it has the same bytes. OUT is written last,
+and left alone where PLAN is refused: `refused C1 at 12`. A file OUT is replaced
+whole. OUT may not be PLAN itself.
+
+Example: ./burr upgrade /tmp/ring.bpln /tmp/ring2.bpln",
+        arguments: &[PLAN, Argument::Word("OUT", "The container that is made")],
+    },
+    Form {
+        kind: Kind::Check,
+        name: "check",
+        about: "Says whether a plan is accepted",
+        after_help: "\
+The plan is judged, and not run: standard input is not read. `accepted cost 14
+budget 14 looks 6` says that no run of it meets a trap or makes more than 14
+steps, and that the check looked at two pieces 6 times. Else the first rule that
+fails is named, as `refused V28 proc 0 pc 0`, with status 1.
+
+Example: ./burr check examples/cup.assembly /tmp/cup.bpln",
+        arguments: &[ASSEMBLY, PLAN],
+    },
+    Form {
+        kind: Kind::Run,
+        name: "run",
+        about: "Runs a plan that is accepted",
+        after_help: "\
+A plan that `check` refuses is not run: the refusal is printed, with status 1.
+Answers to questions are read from standard input, a number on each line. The
+sheet that is printed ends with all pieces apart, or, where no answer is left,
+with what the run waits for and status 5.
+
+Example: echo 2 | ./burr run examples/cup.assembly /tmp/cup.bpln",
+        arguments: &[ASSEMBLY, PLAN],
+    },
+    Form {
+        kind: Kind::Try,
+        name: "try",
+        about: "Runs a plan on the bench, without accepting it",
+        after_help: "\
+Answers to questions are read from standard input, a number on each line. Each
+move is checked on the bench; the sheet that is printed ends with how the run
+closed. Status 5: it waits for an answer.
+
+Example: echo 2 | ./burr try examples/cup.assembly /tmp/cup.bpln",
+        arguments: &[ASSEMBLY, PLAN],
+    },
+    Form {
+        kind: Kind::Step,
+        name: "step",
+        about: "Goes through a plan that is accepted, step by step",
+        after_help: "\
+A plan that `check` refuses is not run: the refusal is printed, with status 1.
+Else commands are read from standard input, one a line, and each is answered
+before the next one is read:
+
+  forward     one step
+  over        one step, and where it is a call the whole procedure
+  until P L   on to label L of procedure P, both counted from 0
+  answer N    gives the number N that is asked for
+  back N      N steps back
+  show        where the run stands, its slots, operands and pieces
+  quit        the end; so is the end of the input
+
+An answer is `after 3 steps`, with `asks 0 2` or `ended` after it where that
+holds, or a refusal that changes nothing: `refused S2`, `refused command`. The
+status is 0 whatever was refused. docs/STEPPER.md says more.
+
+Example: echo forward | ./burr step examples/cup.assembly /tmp/cup.bpln",
+        arguments: &[ASSEMBLY, PLAN],
+    },
+    Form {
+        kind: Kind::Why,
+        name: "why",
+        about: "Says why a plan text is refused, and which lines are at fault",
+        after_help: "\
+TEXT is assembled and judged, and no file is written. The first line that is
+printed, and the status, are those of `asm` and `check`. Where TEXT is refused,
+the lines at fault are named below, as `cup.plan:35: jump L`, each with what was
+compared there and what was found, and at the end what the refusal means.
+
+Example: ./burr why examples/cup.assembly examples/cup.plan",
+        arguments: &[ASSEMBLY, TEXT],
+    },
+    Form {
+        kind: Kind::Trace,
+        name: "trace",
+        about: "Runs a plan text, and prints what holds at each label",
+        after_help: "\
+TEXT is assembled and run as by `try`, and no file is written. Answers are read
+from standard input, a number on each line. What is printed begins with what
+`try` prints. Below, whenever the run came to a label, stand the lines of a
+frame that holds there, with the steps that were still to come as its cost; and
+at the end, for each label, how often the run came to it, and the lines of one
+frame for all of these times. What no line of a frame can say is a comment.
+
+Example: echo 2 | ./burr trace examples/cup.assembly examples/cup.plan",
+        arguments: &[ASSEMBLY, TEXT],
+    },
+    Form {
+        kind: Kind::Frames,
+        name: "frames",
+        about: "Fills in frames that a plan text leaves out",
+        after_help: "\
+In TEXT a line `auto` may stand after a label, in place of its frame. The plan is
+run as by `try`, with the answers of standard input, and OUT is TEXT with the
+frames that `trace` finds in place of these lines. Where the run does not come
+to its end, what `try` prints is printed; where no frame is found at a label,
+`refused frame line 12`. OUT is left alone then. Whether OUT is accepted, `check`
+says: a frame knows of this run alone.
+
+Example: ./burr frames puzzle.assembly draft.plan whole.plan < /dev/null",
+        arguments: &[
+            ASSEMBLY,
+            Argument::Word("TEXT", "The plan text, with lines `auto`"),
+            Argument::Word("OUT", "The plan text that is made"),
+        ],
+    },
+    Form {
+        kind: Kind::PlanSheet,
+        name: "plan",
+        about: "Makes a plan text from a sheet of moves",
+        after_help: "\
+SHEET has lines of moves, as `run` prints them: `1 t0 rod +z 3 out`. What stands
+from a line `levels` on is left aside. OUT is the text of a plan that makes these
+moves: it is accepted, and `run` prints the same lines of it. Where there is no
+such plan, the line of SHEET that fails is named, and why, and OUT is left alone.
+
+Example: ./burr plan examples/cup.assembly moves.sheet /tmp/moves.plan",
+        arguments: &[
+            ASSEMBLY,
+            Argument::Word("SHEET", "The sheet"),
+            Argument::Word("OUT", "The plan text that is made"),
+        ],
+    },
+    Form {
+        kind: Kind::Explain,
+        name: "explain",
+        about: "Says what a refusal, a trap or another line means",
+        after_help: "\
+LINE is a word or a whole line that burr printed, in any case: A1 to A8, C1 to
+C6, P1 to P5, V1 to V28, S1 to S4, `input`, `answers`, `command`, `sheet`,
+`frame`, a trap by its number or name, or `waiting`, `stopped`, `apart`,
+`levels`, `accepted`, `after` and the lines of moves. docs/FAULTS.md has all of
+them.
+
+Examples: ./burr explain A8
+          ./burr explain refused V15 proc 0 pc 24 pieces A B point 0 1",
+        arguments: &[Argument::Words("LINE", "A word or a line that was printed")],
+    },
+];
+
+/// The command line: the commands, help and the version.
 pub fn command<'a>(alloc: Global) -> Result<Command<'a>, AllocError> {
-    let command = with_commands(alloc, without_commands(alloc), file_forms())?;
-    let command = with_commands(alloc, command, plan_forms())?;
-    with_commands(alloc, command, text_forms())
-}
-
-/// The commands on one file.
-fn file_forms() -> &'static [Form] {
-    &[
-        Form {
-            name: "asm",
-            about: "Assembles a plan text into a container",
-            after_help: help::ASM,
-            arguments: &[TEXT, Argument::Word("OUT", "The container that is made")],
-        },
-        Form {
-            name: "list",
-            about: "Prints the plan text of a container",
-            after_help: help::LIST,
-            arguments: &[
-                PLAN,
-                Argument::Flag("places", "Says before each line of code where it stands"),
-            ],
-        },
-        Form {
-            name: "upgrade",
-            about: "Makes the container of version 2 of a plan",
-            after_help: help::UPGRADE,
-            arguments: &[PLAN, Argument::Word("OUT", "The container that is made")],
-        },
-    ]
-}
-
-/// The commands on an assembly and a container.
-fn plan_forms() -> &'static [Form] {
-    &[
-        Form {
-            name: "check",
-            about: "Says whether a plan is accepted",
-            after_help: help::CHECK,
-            arguments: &[ASSEMBLY, PLAN],
-        },
-        Form {
-            name: "run",
-            about: "Runs a plan that is accepted",
-            after_help: help::RUN,
-            arguments: &[ASSEMBLY, PLAN],
-        },
-        Form {
-            name: "try",
-            about: "Runs a plan on the bench, without accepting it",
-            after_help: help::TRY,
-            arguments: &[ASSEMBLY, PLAN],
-        },
-        Form {
-            name: "step",
-            about: "Goes through a plan that is accepted, step by step",
-            after_help: help::STEP,
-            arguments: &[ASSEMBLY, PLAN],
-        },
-    ]
-}
-
-/// The commands for who writes plan texts or reads what is printed.
-fn text_forms() -> &'static [Form] {
-    &[
-        Form {
-            name: "why",
-            about: "Says why a plan text is refused, and which lines are at fault",
-            after_help: help::WHY,
-            arguments: &[ASSEMBLY, TEXT],
-        },
-        Form {
-            name: "trace",
-            about: "Runs a plan text, and prints what holds at each label",
-            after_help: help::TRACE,
-            arguments: &[ASSEMBLY, TEXT],
-        },
-        Form {
-            name: "frames",
-            about: "Fills in frames that a plan text leaves out",
-            after_help: help::FRAMES,
-            arguments: &[
-                ASSEMBLY,
-                Argument::Word("TEXT", "The plan text, with lines `auto`"),
-                Argument::Word("OUT", "The plan text that is made"),
-            ],
-        },
-        Form {
-            name: "plan",
-            about: "Makes a plan text from a sheet of moves",
-            after_help: help::PLAN,
-            arguments: &[
-                ASSEMBLY,
-                Argument::Word("SHEET", "The sheet"),
-                Argument::Word("OUT", "The plan text that is made"),
-            ],
-        },
-        Form {
-            name: "explain",
-            about: "Says what a refusal, a trap or another line means",
-            after_help: help::EXPLAIN,
-            arguments: &[Argument::Words("LINE", "A word or a line that was printed")],
-        },
-    ]
-}
-
-/// A command line with commands of these forms after its own.
-fn with_commands<'a>(
-    alloc: Global,
-    mut command: Command<'a>,
-    forms: &'static [Form],
-) -> Result<Command<'a>, AllocError> {
-    for form in forms {
+    let mut command = without_commands(alloc);
+    for form in FORMS {
         command = command.subcommand(form.command(alloc)?)?;
     }
     Ok(command)
+}
+
+/// The kind of the command of this name; None where there is no such command.
+pub fn kind_of(name: &str) -> Option<Kind> {
+    FORMS
+        .iter()
+        .find(|form| form.name == name)
+        .map(|form| form.kind)
 }
 
 /// The command line without its commands.

@@ -4,7 +4,5 @@
 mod command;
 mod help;
 mod job;
-mod request;
 
-pub use job::{Job, PlanTask, TextTask};
-pub use request::{Reply, Request, request_of};
+pub use job::{Job, Reply, Request, request_of};

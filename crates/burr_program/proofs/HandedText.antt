@@ -10,8 +10,7 @@ use Rattle.burr_runs.specs.declared.outcome.Outcome.{Outcome}
 use Rattle.burr_runs.specs.declared.fault.BenchFault.{BenchFault}
 use Rattle.burr_runs.specs.declared.fault.BenchFault.TheVariants.{Read, TooLong, Write, Memory}
 use Rattle.burr_runs.specs.Views.BenchText.{streams, Succeeds, Fails}
-use Rattle.burr_jobs.specs.JobEnds.{took}
-use Rattle.burr_program.specs.Ends.{TakesText, FailsInOutput, HasNoOutcome}
+use Rattle.burr_program.specs.Ends.{took, TakesText, FailsInOutput, HasNoOutcome}
 
 -- a front of a front is one of the whole
 front_more : (old new : Option (List ℕ)) (front rest text : List ℕ) → text ≡ front ++ rest → HoldsFront old new front → HoldsFront old new text

@@ -1,4 +1,6 @@
-pub mod HandedText
-mod Notes
-mod Refusing
+mod Ending
+mod ExplainLaws
+mod HandedText
+mod Making
+mod Noted
 mod Stepping

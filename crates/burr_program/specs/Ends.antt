@@ -1,19 +1,46 @@
 -- How the program ends: its status, and what it tells on standard error.
-use Rattle.std.specs.Prelude.{◌≡◌, ◌⊎◌, ℕ, List}
+use Rattle.std.specs.Prelude.{◌≡◌, ◌⊎◌, ℕ, List, Bool, Option, true}
 use Rattle.std.specs.Io.KnownBytes.{Appends}
+use Rattle.burr_io.specs.Sink.{HoldsFront}
+use Rattle.burr_command.specs.declared.job.Job.{Job}
 use Rattle.burr_runs.specs.declared.outcome.Outcome.{Outcome}
 use Rattle.burr_runs.specs.declared.fault.BenchFault.{BenchFault}
 use Rattle.burr_runs.specs.declared.fault.BenchFault.TheVariants.{Read, TooLong, Write, Memory}
 use Rattle.burr_runs.specs.Views.ReadWhole.{IsWholeInput}
 use Rattle.burr_runs.specs.Rules.Output.{IsOutput}
 use Rattle.burr_runs.specs.Views.BenchText.{Streams, Succeeds, Fails}
-use Rattle.burr_tasks.specs.Faults.{complaint_of, status_of_complaint, Means}
-use Rattle.burr_jobs.specs.JobEnds.{Taken, took, TakesNothing, FailsInText, TakesSome, IsDone, EndsEarly}
-use Rattle.burr_tasks.specs.Statuses.{code_of, status_of}
+use Rattle.burr_judge.specs.declared.fault.Fault.{Fault}
+use Rattle.burr_judge.specs.declared.status.Status.{Status}
+use Rattle.burr_judge.specs.declared.status.Status.TheVariants.{Done, CommandLine}
+use Rattle.burr_judge.specs.Faults.{complaint_of, status_of_complaint, line_of, status_of_fault, output_failed}
+use Rattle.burr_judge.specs.Statuses.{code_of, status_of}
+use Rattle.burr_judge.specs.PlanEnds.{Ends}
+use Rattle.burr_program.specs.Commands.{JobEnds, JobBreaks}
+use Rattle.burr_program.specs.StepEnds.{left_of}
 
--- a sink took a text, or it failed in it
+-- What a sink had taken before and after, and whether it has failed.
+pub record Taken : Type 0 where
+  pub old : Option (List ℕ)
+  pub new : Option (List ℕ)
+  pub failed : Bool
+
+-- such a sink, with what it took
+abbrev pub took : Option (List ℕ) → Option (List ℕ) → Bool → Taken
+took old new failed = record { old = old; new = new; failed = failed }
+
+-- it took nothing
+abbrev pub TakesNothing : Taken → Type 0
+TakesNothing t = t.new ≡ t.old
+
+-- it failed, and holds a front of what it held before and a text
+abbrev pub FailsInText : Taken → List ℕ → Type 0
+FailsInText t text = HoldsFront t.old t.new text × (t.failed ≡ true)
+
+-- it took a text, or it failed in it
 abbrev pub TakesText : Taken → List ℕ → Type 0
 TakesText t text = Appends t.old t.new text ⊎ FailsInText t text
+
+-- Without words
 
 -- The run on the streams had an outcome, which the status tells, and standard error took nothing.
 abbrev pub HasOutcome : Streams → Taken → ℕ → Outcome → Type 0
@@ -46,16 +73,55 @@ IsRun streams complaints status =
     ((outcome : Outcome) × HasOutcome streams complaints status outcome)
     ⊎ ((fault : BenchFault) × HasFault streams complaints status fault)
 
--- some text was put whole, and nothing told
-abbrev pub WritesAll : Taken → Taken → ℕ → Type 0
-WritesAll sink complaints status = TakesSome sink × TakesNothing complaints × IsDone status
+-- With words
 
--- a complaint was told, and the status goes with it
-abbrev pub Complains : Taken → Taken → ℕ → Type 0
-Complains sink complaints status =
-    (line : List ℕ) × Means status line × EndsEarly sink line × TakesText complaints line
+-- A fault is told: its line, with the status that goes with it.
+abbrev pub TellsFault : Taken → ℕ → Fault → Type 0
+TellsFault complaints status fault =
+    (status ≡ code_of (status_of_fault fault)) × TakesText complaints (line_of fault)
 
--- The words were answered: what was put was put whole, or a complaint was told.
-abbrev pub IsEnd : Taken → Taken → ℕ → Type 0
-IsEnd sink complaints status =
-    WritesAll sink complaints status ⊎ Complains sink complaints status
+-- standard output took what is printed where it ends so, with this status, and nothing is told
+abbrev pub Prints : Ends → Taken → Taken → ℕ → Type 0
+Prints AreEnds sink complaints status =
+    (output : List ℕ) × (ended : Status) × AreEnds output ended
+    × Appends sink.old sink.new output × (status ≡ code_of ended) × TakesNothing complaints
+
+-- standard output failed in what is printed where it ends so
+abbrev pub FailsToPrint : Ends → Taken → Type 0
+FailsToPrint AreEnds sink =
+    (output : List ℕ) × (ended : Status) × AreEnds output ended × FailsInText sink output
+
+-- the sink of two streams
+abbrev pub sink_of : Streams → Taken
+sink_of s = took s.taken_old s.taken_new s.write_failed
+
+-- what standard output took where a job stops with a fault's line: a front of what it prints, or
+-- nothing, or answers to commands before it broke off
+abbrev pub StopsJob : Job → Streams → List ℕ → Type 0
+StopsJob job s line =
+    ((line ≡ output_failed) × FailsToPrint (JobEnds (left_of s) job) (sink_of s))
+    ⊎ TakesNothing (sink_of s) ⊎ JobBreaks s job line
+
+-- a job was done, or stopped with a fault, which is told
+abbrev pub DoesJob : Streams → Taken → ℕ → Job → Type 0
+DoesJob s complaints status job =
+    Prints (JobEnds (left_of s) job) (sink_of s) complaints status
+    ⊎ ((fault : Fault) × TellsFault complaints status fault × StopsJob job s (line_of fault))
+
+-- some text, for help and the version
+abbrev pub IsHelp : Ends
+IsHelp output status = status ≡ Done
+
+-- help or the version was printed; or what is wrong with the words was told; or a fault
+abbrev pub Replies : Taken → Taken → ℕ → Type 0
+Replies sink complaints status =
+    Prints IsHelp sink complaints status
+    ⊎ ((status ≡ code_of CommandLine) × TakesNothing sink
+    × ((text : List ℕ) × TakesText complaints text))
+    ⊎ ((fault : Fault) × TellsFault complaints status fault
+    × (FailsToPrint IsHelp sink ⊎ TakesNothing sink))
+
+-- The words were answered: by a reply, or by a job that was done.
+abbrev pub IsEnd : Streams → Taken → ℕ → Type 0
+IsEnd s complaints status =
+    Replies (sink_of s) complaints status ⊎ ((job : Job) × DoesJob s complaints status job)

@@ -1,4 +1,9 @@
+pub mod AddedNotes
+pub mod Commands
 pub mod Ends
+pub mod ExplainEnds
+pub mod ExplainLaws
+pub mod HandedOn
 pub mod MakingEnds
 pub mod NotedEnds
 pub mod StepEnds

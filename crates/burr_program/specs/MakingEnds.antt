@@ -1,20 +1,32 @@
--- How `plan` and `frames` end: a plan text is made, and nothing is printed; or why there is none is
--- printed.
-use Rattle.std.specs.Prelude.{◌≡◌, ⊤, ℕ, List}
+-- How what is made for a file ends: a text is made, and nothing is printed; or something is.
+use Rattle.std.specs.Prelude.{◌≡◌, ⊤, ℕ, List, Result, IfOk, IfErr}
 use Rattle.burr_io.specs.Sink.{SinkView}
 use Rattle.burr_assembly.specs.Rules.Text.{Assembly, IsText}
 use Rattle.burr_from_sheet.specs.SheetPlans.{IsPlanOfSheet}
-use Rattle.burr_program.specs.declared.making.Made.{Made}
-use Rattle.burr_program.specs.declared.making.Made.TheVariants as made
-use Rattle.burr_jobs.specs.JobEnds.{took, TakesSome, IsDone}
-use Rattle.burr_tasks.specs.Statuses.{code_of}
+use Rattle.burr_judge.specs.declared.fault.Fault.{Fault}
+use Rattle.burr_judge.specs.declared.status.Status.{Status}
+use Rattle.burr_judge.specs.declared.status.Status.TheVariants.{Done}
+use Rattle.burr_judge.specs.Faults.{line_of}
+use Rattle.burr_judge.specs.PlanEnds.{Ends, PutsEnd, FailsToEnd}
+use Rattle.burr_program.specs.declared.files.Made.{Made}
+use Rattle.burr_program.specs.declared.files.Made.TheVariants as made
 
--- a text was made that is such a one, and the sink was left alone; or some text was put
-abbrev pub MakesOrPuts : {S : Type 0} → SinkView S → S → S → (List ℕ → Type 0) → Made → Type 0
-MakesOrPuts sink before after IsSuch (made.Text text) = IsSuch text.items × (after ≡ before)
-MakesOrPuts sink before after IsSuch (made.Ends status) =
-    TakesSome (took (sink.taken before) (sink.taken after) (sink.has_failed after))
-    × IsDone (code_of status)
+-- a text was made that is such a one, and the sink was left alone; or nothing was, and something was
+-- printed
+abbrev pub MakesOrPuts : {S : Type 0} → SinkView S → S → S → Ends → (List ℕ → Type 0) → Made → Status
+    → Type 0
+MakesOrPuts sink before after AreEnds IsSuch (made.Text text) status =
+    IsSuch text.items × (after ≡ before) × (status ≡ Done)
+MakesOrPuts sink before after AreEnds IsSuch made.Nothing status =
+    PutsEnd sink before after AreEnds status
+
+-- where nothing had been made so far
+abbrev pub Makes : {S : Type 0} → SinkView S → Made → S → Ends → (List ℕ → Type 0) → Made → S
+    → Result Status Fault → Type 0
+Makes sink first before AreEnds IsSuch last after r =
+    first ≡ made.Nothing
+    → IfOk r (MakesOrPuts sink before after AreEnds IsSuch last)
+    × IfErr r (λ fault. FailsToEnd sink before after AreEnds (line_of fault))
 
 -- any text
 abbrev pub IsAnyText : List ℕ → Type 0

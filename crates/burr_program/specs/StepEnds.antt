@@ -1,6 +1,5 @@
 -- How `step` ends: what is printed for the commands of standard input, and with which status.
-use Rattle.std.specs.Prelude.{◌≡◌, ◌⊎◌, ℕ, List, Option}
-use Rattle.burr_io.specs.Sink.{SinkView}
+use Rattle.std.specs.Prelude.{◌≡◌, ◌⊎◌, ℕ, List, Bool, Option}
 use Rattle.burr_assembly.specs.Rules.Text.{Assembly, IsText}
 use Rattle.burr_container.specs.Views.Containers.{ContainerView}
 use Rattle.burr_verify.specs.Rules.Accepting.{Judged, judged, IsAccepted}
@@ -8,14 +7,16 @@ use Rattle.burr_step.specs.Views.Stepping.{Stepping, IsFresh}
 use Rattle.burr_runs.specs.declared.fault.BenchFault.{BenchFault}
 use Rattle.burr_runs.specs.Views.BenchText.{Streams}
 use Rattle.burr_dialogue.specs.Views.Dialogues.{IsDialogue, BreaksDialogue}
-use Rattle.burr_tasks.specs.declared.status.Status.TheVariants.{Done}
-use Rattle.burr_tasks.specs.Faults.{complaint_of}
-use Rattle.burr_tasks.specs.PlanEnds.{Ends, RefusedEnds, IsRead, ContainerEnds, TextEnds, StopsBeforeEnd}
+use Rattle.burr_judge.specs.declared.status.Status.TheVariants.{Done}
+use Rattle.burr_judge.specs.Faults.{complaint_of}
+use Rattle.burr_judge.specs.Ladder.{IsRead}
+use Rattle.burr_judge.specs.PlanEnds.{Ends, RefusedEnds, ContainerEnds, TextEnds}
 
--- what the source had left before and after
+-- what a source had left before and after, and whether it has failed
 pub record Left : Type 0 where
   pub old : Option (List ℕ)
   pub new : Option (List ℕ)
+  pub failed : Bool
 
 -- the commands that the source gave are answered on such a run
 abbrev pub DialogueEnds : Left → Judged → Ends
@@ -29,16 +30,14 @@ StepEnds left kept a output status =
     RefusedEnds kept a output status
     ⊎ (IsAccepted (judged kept a) × DialogueEnds left (judged kept a) output status)
 
--- the same of a container, and of an assembly's text
-abbrev pub StepBytesEnds : Left → List ℕ → Assembly → Ends
-StepBytesEnds left bytes a = ContainerEnds bytes (λ kept. StepEnds left kept a)
-
+-- the same of an assembly's text and a container
 abbrev pub StepTextEnds : Left → List ℕ → List ℕ → Ends
-StepTextEnds left text bytes = TextEnds text (StepBytesEnds left bytes)
+StepTextEnds left text bytes =
+    TextEnds text (λ a. ContainerEnds bytes (λ kept. StepEnds left kept a))
 
 -- what the source of two streams had left
 abbrev pub left_of : Streams → Left
-left_of s = record { old = s.left_old; new = s.left_new }
+left_of s = record { old = s.left_old; new = s.left_new; failed = s.read_failed }
 
 -- the dialogue on such a run breaks off, as this line tells
 abbrev pub DialogueBreaks : Streams → Judged → List ℕ → Type 0
@@ -50,17 +49,8 @@ DialogueBreaks s j line =
 abbrev pub StepBreaks : Streams → ContainerView → Assembly → List ℕ → Type 0
 StepBreaks s kept a line = IsAccepted (judged kept a) × DialogueBreaks s (judged kept a) line
 
--- the same of a container, and of an assembly's text
-abbrev pub StepBytesBreak : Streams → List ℕ → Assembly → List ℕ → Type 0
-StepBytesBreak s bytes a line =
-    (kept : ContainerView) × IsRead bytes kept × StepBreaks s kept a line
-
+-- the same of an assembly's text and a container
 abbrev pub StepTextBreaks : Streams → List ℕ → List ℕ → List ℕ → Type 0
 StepTextBreaks s text bytes line =
-    (a : Assembly) × IsText text a × StepBytesBreak s bytes a line
-
--- why what is to be printed did not come to this sink whole: it stops before the end of what there
--- is to print, or the dialogue breaks off
-abbrev pub StopsStepping : {S : Type 0} → SinkView S → S → S → Ends → Type 0 → List ℕ → Type 0
-StopsStepping sink before after AreEnds Breaks line =
-    StopsBeforeEnd sink before after AreEnds line ⊎ Breaks
+    (a : Assembly) × IsText text a
+    × ((kept : ContainerView) × IsRead bytes kept × StepBreaks s kept a line)

@@ -1,11 +1,14 @@
 //! What the program burr does with its words, its files and its streams: everything but where these
-//! come from.
+//! come from. A command is a file of `commands`.
 #![tactic(auto)]
 
-mod making;
+mod commands;
+mod files;
+mod handing;
+mod laws;
+mod notes;
 mod program;
 mod reasons;
-mod step_command;
-mod text_commands;
 
+pub use laws::each_rule_and_trap_is_explained;
 pub use program::{end_without_words, run_words};

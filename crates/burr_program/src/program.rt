@@ -1,22 +1,21 @@
 //! What the program does with its words and its streams, and the status that it ends with.
 
-ghost use Rattle.std.specs.Prelude.{◌≡◌, ◌≢◌, ◌≤◌, ◌<◌, [], codes, length, IfErr, IfOk, OnOk, OnErr};
+ghost use Rattle.std.specs.Prelude.{◌≡◌, ◌≢◌, ◌≤◌, ◌<◌, [], codes, length, IfOk, OnOk, OnErr};
 ghost use Rattle.burr_runs.specs.declared.fault.BenchFault.TheVariants.{Memory};
 ghost use Rattle.burr_io.specs.Sink.{Takes};
 ghost use Rattle.burr_runs.specs.Views.BenchText.{streams};
-ghost use Rattle.burr_jobs.specs.JobEnds.{took, FailsInText, TakesSome, EndsEarly, IsDone};
-ghost use Rattle.burr_program.specs.Ends.{TakesText, IsRun, IsEnd};
-ghost use Rattle.burr_tasks.specs.Faults.{complaint_of, line_of, status_of_fault, Means};
-ghost use Rattle.burr_tasks.specs.Statuses.{code_of};
+ghost use Rattle.burr_judge.specs.Faults.{complaint_of, line_of, status_of_fault};
+ghost use Rattle.burr_judge.specs.Statuses.{code_of};
+ghost use Rattle.burr_program.specs.Commands.{EndingBelow, JobEnds, JobBreaks, left_by};
+ghost use Rattle.burr_program.specs.Ends.{DoesJob, FailsInText, IsEnd, IsRun, Replies};
+ghost use Rattle.burr_program.specs.Ends.{TakesText, TellsFault, took};
 
-use crate::making::{frames_file, plan_sheet_file};
-use crate::step_command::step_files;
-use crate::text_commands::text_files;
+use crate::commands::put_job;
+use crate::handing::hand_on;
 use burr_command::{Job, Reply, Request, request_of};
 use burr_io::{Sink, Source, WholeLines, WriteFault, put_all};
-use burr_jobs::{assemble_file, explain_line, list_file, upgrade_file, use_files};
+use burr_judge::{Fault, Status, put_fault};
 use burr_runs::{BenchFault, bench_text};
-use burr_tasks::{Fault, Status, put_fault};
 use std::alloc::{AllocError, Global};
 use std::io::ErrorKind;
 use std::rt::Files;
@@ -54,7 +53,7 @@ pub fn run_words<
         (E.has_failed complaints.new.sink))
         result }
     ensures end { 1 < length words.now → IsEnd
-        (took (W.taken sink.old.sink) (W.taken sink.new.sink) (W.has_failed sink.new.sink))
+        (streams R.Source source.old source.new W.Sink sink.old.sink sink.new.sink)
         (took (E.taken complaints.old.sink) (E.taken complaints.new.sink)
         (E.has_failed complaints.new.sink))
         result }
@@ -80,11 +79,11 @@ fn work<F: Files + AllocGlobal, R: Source, W: Sink, E: Sink, const N: usize, con
 ) -> Status
     requires fresh { sink.old.held ≡ [] }
     requires told { complaints.old.held ≡ [] }
-    ensures { IsEnd
-        (took (W.taken sink.old.sink) (W.taken sink.new.sink) (W.has_failed sink.new.sink))
+    ensures { DoesJob
+        (streams R.Source source.old source.new W.Sink sink.old.sink sink.new.sink)
         (took (E.taken complaints.old.sink) (E.taken complaints.new.sink)
         (E.has_failed complaints.new.sink))
-        (code_of result) }
+        (code_of result) job.now }
 {
     match do_job(files, job, source, sink) {
         Ok(status) => status,
@@ -100,40 +99,13 @@ fn do_job<'a, F: Files + AllocGlobal, R: Source, W: Sink, const N: usize>(
     sink: &mut WholeLines<W, N>,
 ) -> Result<Status, Fault<'a>>
     requires fresh { sink.old.held ≡ [] }
-    ensures status { IfOk result (λ status. IsDone (code_of status)) }
-    ensures ok { OnOk result (TakesSome
-        (took (W.taken sink.old.sink) (W.taken sink.new.sink) (W.has_failed sink.new.sink))) }
-    ensures err { IfErr result (λ fault. EndsEarly
-        (took (W.taken sink.old.sink) (W.taken sink.new.sink) (W.has_failed sink.new.sink))
-        (line_of fault)) }
+    ensures { EndingBelow W.Sink sink.old.sink sink.new.sink
+        (JobEnds (left_by R.Source source.old source.new) job.entry.now)
+        (JobBreaks (streams R.Source source.old source.new W.Sink sink.old.sink sink.new.sink)
+        job.entry.now) result }
 {
-    match job {
-        Job::Assemble { text, out } => assemble_file(files, text, out, sink),
-        Job::List { plan, places } => list_file(files, plan, *places, sink),
-        Job::Upgrade { plan, out } => upgrade_file(files, plan, out, sink),
-        Job::Plan {
-            task,
-            assembly,
-            plan,
-        } => use_files(files, *task, assembly, plan, source, sink),
-        Job::Step { assembly, plan } => step_files(files, assembly, plan, source, sink),
-        Job::Text {
-            task,
-            assembly,
-            text,
-        } => text_files(files, *task, assembly, text, source, sink),
-        Job::PlanSheet {
-            assembly,
-            sheet,
-            out,
-        } => plan_sheet_file(files, assembly, sheet, out, sink),
-        Job::Frames {
-            assembly,
-            text,
-            out,
-        } => frames_file(files, assembly, text, out, source, sink),
-        Job::Explain { line } => explain_line(line, sink),
-    }
+    let done = put_job(files, job, source, sink);
+    hand_on(done, sink)
 }
 
 /// Puts the line of standard error for a fault, and hands it on.
@@ -194,7 +166,7 @@ fn give<W: Sink, E: Sink, const N: usize, const M: usize>(
 ) -> Status
     requires fresh { sink.old.held ≡ [] }
     requires told { complaints.old.held ≡ [] }
-    ensures { IsEnd
+    ensures { Replies
         (took (W.taken sink.old.sink) (W.taken sink.new.sink) (W.has_failed sink.new.sink))
         (took (E.taken complaints.old.sink) (E.taken complaints.new.sink)
         (E.has_failed complaints.new.sink))
@@ -255,7 +227,6 @@ fn run<R: Source, W: Sink, E: Sink, const N: usize, const M: usize>(
 fn end_by<E: Sink, const N: usize>(fault: &Fault<'_>, complaints: &mut WholeLines<E, N>) -> Status
     requires told { complaints.old.held ≡ [] }
     ensures status { result ≡ status_of_fault fault.now }
-    ensures means { Means (code_of result) (line_of fault.now) }
     ensures told { TakesText
         (took (E.taken complaints.old.sink) (E.taken complaints.new.sink)
         (E.has_failed complaints.new.sink))

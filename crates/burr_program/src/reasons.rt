@@ -1,6 +1,7 @@
 //! Why texts and plans are refused, for people: the lines at fault, what was compared there, and what
 //! the refusal means.
 
+use crate::notes::Named;
 use burr_asm::AsmFault;
 use burr_assembly::AssemblyFault;
 use burr_explain::explanation_of;
@@ -11,8 +12,7 @@ use std::alloc::{AllocError, Global};
 /// Why an assembly's text is refused.
 pub fn reason_of_assembly_fault(
     alloc: Global,
-    file: &str,
-    text: &[u8],
+    drawing: Named<'_>,
     fault: AssemblyFault,
 ) -> Result<String, AllocError> {
     let (key, line) = match fault {
@@ -26,19 +26,18 @@ pub fn reason_of_assembly_fault(
         AssemblyFault::A8 { line, .. } => ("A8", line),
         AssemblyFault::Memory => return Err(AllocError),
     };
-    let reason = reason_of_line(alloc, file, text, line)?;
+    let reason = reason_of_line(alloc, drawing.file, drawing.text, line)?;
     with_meaning(reason, key)
 }
 
 /// Why a plan text is refused by the assembler.
 pub fn reason_of_text_fault(
     alloc: Global,
-    file: &str,
-    text: &[u8],
+    plan: Named<'_>,
     fault: AsmFault,
 ) -> Result<String, AllocError> {
     let (name, line) = name_and_line(fault)?;
-    let reason = reason_of_line(alloc, file, text, line)?;
+    let reason = reason_of_line(alloc, plan.file, plan.text, line)?;
     with_meaning(reason, name)
 }
 
@@ -55,7 +54,7 @@ pub fn name_and_line(fault: AsmFault) -> Result<(&'static str, usize), AllocErro
 }
 
 /// Why a plan is refused, and what the refusal means.
-pub fn reason_with_meaning(
+pub fn reason_of_refused_plan(
     alloc: Global,
     plan: PlanText<'_, '_>,
     refusal: &Refusal,

@@ -23,7 +23,7 @@ pub use laws::{
     answers_are_read_in_one_way,
 };
 pub use lines::{
-    put_answers_refusal, put_assembly_refusal, put_container_refusal, put_place_line,
+    put_accepted, put_answers_refusal, put_assembly_refusal, put_container_refusal, put_place_line,
     put_plan_refusal,
 };
 pub use outcome::Outcome;

@@ -1,4 +1,4 @@
-use Rattle.burr_tasks.specs.Faults.{line_of}
+use Rattle.burr_judge.specs.Faults.{line_of}
 use Rattle.burr_program.proofs.HandedText.{told}
 use Rattle.burr_program.proofs.program.complain_of.Goals as goal
 

@@ -1,4 +1,0 @@
-pub mod Done
-pub mod HandedOn
-pub mod Sinks
-pub mod Somehow

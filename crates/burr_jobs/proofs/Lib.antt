@@ -1,4 +1,0 @@
-pub mod Common
-mod ExplainLaws
-mod Explaining
-mod FileEnding

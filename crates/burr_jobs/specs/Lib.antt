@@ -1,6 +1,0 @@
-pub mod AddedNotes
-pub mod ExplainEnds
-pub mod ExplainLaws
-pub mod FileEnds
-pub mod HandedOn
-pub mod JobEnds

@@ -1,0 +1,24 @@
+-- Steps from one stage of a command to the next: what may be printed at the one may be at the other.
+use Rattle.std.proofs.Common.{List, ℕ, inl, inr}
+use Rattle.std.specs.Prelude.{Result, Ok, Err, IfOk, IfErr}
+use Rattle.burr_io.specs.Sink.{SinkView}
+use Rattle.burr_judge.specs.declared.fault.Fault.{Fault}
+use Rattle.burr_judge.specs.Faults.{line_of}
+use Rattle.burr_judge.specs.declared.status.Status.{Status}
+use Rattle.burr_judge.specs.PlanEnds.{Ends, PutsEnd, FailsToEnd}
+
+-- all that may be printed at one stage may be printed at the other
+abbrev pub AreAmong : Ends → Ends → Type 0
+AreAmong These Those = (output : List ℕ) (status : Status) → These output status → Those output status
+
+pub puts_among : {S : Type 0} (sink : SinkView S) (before after : S) (These Those : Ends) (r : Result Status Fault)
+    → AreAmong These Those → IfOk r (PutsEnd sink before after These) → IfOk r (PutsEnd sink before after Those)
+puts_among sink before after These Those (Ok status) among (output, is, takes) = (output, among output status is, takes)
+puts_among sink before after These Those (Err fault) among puts = tt
+
+pub fails_among : {S : Type 0} (sink : SinkView S) (before after : S) (These Those : Ends) (r : Result Status Fault)
+    → AreAmong These Those → IfErr r (λ fault. FailsToEnd sink before after These (line_of fault))
+    → IfErr r (λ fault. FailsToEnd sink before after Those (line_of fault))
+fails_among sink before after These Those (Ok status) among fails = tt
+fails_among sink before after These Those (Err fault) among (inl (line, (output, status, is, fails))) = inl (line, (output, status, among output status is, fails))
+fails_among sink before after These Those (Err fault) among (inr want) = inr want

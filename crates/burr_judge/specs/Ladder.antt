@@ -1,0 +1,72 @@
+-- What bytes come to on the way to a plan and an assembly: they are refused, or the plan is used.
+use Rattle.std.specs.Prelude.{◌≡◌, ◌⊎◌, ℕ, List, Result, IsTrue, codes}
+use Rattle.std.specs.Result.{IsErrAnd}
+use Rattle.burr_asm.specs.declared.fault.AsmFault.{AsmFault}
+use Rattle.burr_asm.specs.Rules.Faults.{IsFirstFault}
+use Rattle.burr_asm.specs.Rules.Assembling.{IsAssembled}
+use Rattle.burr_assembly.specs.declared.fault.AssemblyFault.{AssemblyFault}
+use Rattle.burr_assembly.specs.Rules.Text.{Assembly, IsText}
+use Rattle.burr_assembly.specs.Rules.Faults.{FirstFault}
+use Rattle.burr_container.specs.declared.fault.ContainerFault.{ContainerFault}
+use Rattle.burr_container.specs.Rules.Plans.{Plan}
+use Rattle.burr_container.specs.Rules.Fitting.{is_fitting}
+use Rattle.burr_container.specs.Rules.Spelling.{plan_bytes}
+use Rattle.burr_container.specs.Rules.Faults.{ContainerFails}
+use Rattle.burr_container.specs.Views.Containers.{ContainerView, IsContainer}
+use Rattle.burr_verify.specs.declared.refusal.Refusal.{Refusal}
+use Rattle.burr_verify.specs.Rules.Accepting.{judged, IsAccepted}
+use Rattle.burr_runs.specs.Rules.Refusals.{assembly_refusal, container_refusal}
+use Rattle.burr_runs.specs.Rules.Verdicts.{IsPassedBy, IsRefusedBy, plan_refusal}
+use Rattle.burr_judge.specs.declared.fault.Fault.{Fault}
+use Rattle.burr_judge.specs.declared.ladder.Given.{Given}
+use Rattle.burr_judge.specs.declared.ladder.Given.TheVariants as given
+use Rattle.burr_judge.specs.declared.status.Status.{Status}
+use Rattle.burr_judge.specs.Faults.{line_of}
+use Rattle.burr_judge.specs.Refusals.{plan_text_refusal}
+
+-- memory was refused, and the sink left alone
+abbrev pub WantsMemory : {W : Type 0} → W → W → Result Status Fault → Type 0
+WantsMemory before after r =
+    IsErrAnd r (λ fault. line_of fault ≡ codes "no memory\n") × (after ≡ before)
+
+-- the bytes are those of a plan within the format, and the container is that plan's
+abbrev pub IsRead : List ℕ → ContainerView → Type 0
+IsRead bytes kept =
+    (p : Plan) × IsTrue (is_fitting p) × (bytes ≡ plan_bytes p) × IsContainer kept p
+
+-- the first fault of an assembly's text is refused, or its assembly is used
+abbrev pub TextComes : (List ℕ → Type 0) → (Assembly → Type 0) → List ℕ → Type 0
+TextComes Refuses Uses text =
+    ((fault : AssemblyFault) × FirstFault text fault × Refuses (assembly_refusal text fault))
+    ⊎ ((a : Assembly) × IsText text a × Uses a)
+
+-- the first fault of a plan text is refused, or the bytes that it is assembled to are used
+abbrev pub PlanTextComes : (List ℕ → Type 0) → (List ℕ → Type 0) → List ℕ → Type 0
+PlanTextComes Refuses Uses text =
+    ((fault : AsmFault) × IsFirstFault text fault × Refuses (plan_text_refusal fault))
+    ⊎ ((bytes : List ℕ) × IsAssembled text bytes × Uses bytes)
+
+-- the first fault of a container's bytes is refused, or the container is used
+abbrev pub BytesCome : (List ℕ → Type 0) → (ContainerView → Type 0) → List ℕ → Type 0
+BytesCome Refuses Uses bytes =
+    ((fault : ContainerFault) × ContainerFails 0 bytes fault × Refuses (container_refusal fault))
+    ⊎ ((kept : ContainerView) × IsRead bytes kept × Uses kept)
+
+-- so it is with a plan, as it is given
+abbrev pub GivenComes : (List ℕ → Type 0) → (ContainerView → Type 0) → Given → Type 0
+GivenComes Refuses Uses (given.Container bytes) = BytesCome Refuses Uses bytes.now
+GivenComes Refuses Uses (given.Text text) =
+    PlanTextComes Refuses (λ bytes. BytesCome Refuses Uses bytes) text.now
+
+-- a plan is refused, or it is accepted by so many looks and used
+abbrev pub PlanJudged : (List ℕ → Type 0) → (ℕ → Type 0) → ContainerView → Assembly → Type 0
+PlanJudged Refuses Uses kept a =
+    ((r : Refusal) × IsRefusedBy kept a r × Refuses (plan_refusal a r))
+    ⊎ (IsAccepted (judged kept a) × (looks : ℕ) × IsPassedBy kept a looks × Uses looks)
+
+-- what a plan, as it is given, and an assembly's text come to: memory is refused, or one of them, or
+-- the plan is used
+abbrev pub LadderComes : Type 0 → (List ℕ → Type 0) → (ContainerView → Assembly → Type 0) → List ℕ → Given
+    → Type 0
+LadderComes Wants Refuses Uses text plan =
+    Wants ⊎ TextComes Refuses (λ a. Wants ⊎ GivenComes Refuses (λ kept. Uses kept a) plan) text

@@ -1,0 +1,170 @@
+-- How a command on a plan and an assembly ends: what is printed, and with which status.
+use Rattle.std.specs.Prelude.{◌≡◌, ◌⊎◌, ℕ, ℤ, List, Result, true, false, codes, IsTrue, IfOk, IfErr}
+use Rattle.burr_io.specs.Sink.{SinkView, Takes, FailsWithin, HoldsFront}
+use Rattle.burr_assembly.specs.Rules.Text.{Assembly}
+use Rattle.burr_container.specs.Rules.Plans.{Plan}
+use Rattle.burr_container.specs.Views.Containers.{ContainerView, IsContainer}
+use Rattle.burr_verify.specs.Rules.Accepting.{Judged, judged, IsAccepted, MainCosts}
+use Rattle.burr_verify.specs.Rules.Fitting.{FitsAssembly}
+use Rattle.burr_verify.specs.Views.Refusals.{another_assembly}
+use Rattle.burr_state.specs.Views.Benches.{Benched}
+use Rattle.burr_state.specs.Views.Programs.{plan_program}
+use Rattle.burr_runs.specs.declared.outcome.Outcome.{Outcome}
+use Rattle.burr_runs.specs.declared.answers.AnswersFault.{AnswersFault}
+use Rattle.burr_runs.specs.declared.answers.AnswersFault.TheVariants.{Line, Memory}
+use Rattle.burr_runs.specs.Rules.Answers.{answers_text, IsAnswersFault}
+use Rattle.burr_runs.specs.Rules.Headline.{IsSafeSheetOf}
+use Rattle.burr_runs.specs.Rules.Output.{IsSheetOf}
+use Rattle.burr_runs.specs.Rules.Refusals.{answers_refusal}
+use Rattle.burr_runs.specs.Rules.Verdicts.{IsVerdictLine, accepted_line, plan_refusal}
+use Rattle.burr_judge.specs.declared.fault.Fault.{Fault}
+use Rattle.burr_judge.specs.declared.ladder.Given.{Given}
+use Rattle.burr_judge.specs.declared.status.Status.{Status}
+use Rattle.burr_judge.specs.declared.status.Status.TheVariants.{Done, Refused}
+use Rattle.burr_judge.specs.declared.task.Task.{Task}
+use Rattle.burr_judge.specs.declared.task.Task.TheVariants.{Check, Run, Try}
+use Rattle.burr_judge.specs.Faults.{line_of, output_failed}
+use Rattle.burr_judge.specs.Ladder.{TextComes, PlanTextComes, BytesCome, GivenComes}
+use Rattle.burr_judge.specs.Statuses.{status_of}
+
+-- what may be printed, and with which status
+abbrev pub Ends : Type 1
+Ends = List ℕ → Status → Type 0
+
+-- a refusal by this line
+abbrev pub IsRefusal : List ℕ → Ends
+IsRefusal line output status = (output ≡ line) × (status ≡ Refused)
+
+-- the plan is refused
+abbrev pub RefusedEnds : ContainerView → Assembly → Ends
+RefusedEnds kept a output status = IsVerdictLine kept a false output × (status ≡ Refused)
+
+-- the plan was accepted by so many looks
+abbrev pub VerdictEnds : Judged → ℕ → Ends
+VerdictEnds j looks output status =
+    ((cost : ℕ) × MainCosts j cost × (output ≡ accepted_line cost j.container.header.budget looks))
+    × (status ≡ Done)
+
+-- of `check`: the plan is accepted, or refused
+abbrev pub CheckEnds : ContainerView → Assembly → Ends
+CheckEnds kept a output status =
+    (IsVerdictLine kept a true output × (status ≡ Done)) ⊎ RefusedEnds kept a output status
+
+-- the faulty line of answers is refused; want of memory is no fault of a text
+abbrev pub FaultyEnds : AnswersFault → Ends
+FaultyEnds (Line line) output status = IsRefusal (answers_refusal line) output status
+FaultyEnds Memory output status = ⊥
+
+-- the first faulty line of a text of answers is refused, or it is the text of answers with which it
+-- ends so
+abbrev pub AnswersEnd : List ℕ → (List ℤ → Ends) → Ends
+AnswersEnd text With output status =
+    ((fault : AnswersFault) × IsAnswersFault text fault × FaultyEnds fault output status)
+    ⊎ ((answers : List ℤ) × (text ≡ answers_text answers) × With answers output status)
+
+-- the sheet of the safe run of the container's plan, and the status of how it ends
+abbrev pub SafeEnds : Judged → List ℤ → Ends
+SafeEnds j answers output status =
+    (p : Plan) × IsContainer j.container p × (outcome : Outcome)
+    × IsSafeSheetOf j.assembly p answers output outcome × (status ≡ status_of outcome)
+
+-- of `run`: the plan is refused; or it is accepted, and then answers are judged, and it is run
+abbrev pub RunEnds : ContainerView → Assembly → List ℕ → Ends
+RunEnds kept a text output status =
+    RefusedEnds kept a output status
+    ⊎ (IsAccepted (judged kept a) × AnswersEnd text (SafeEnds (judged kept a)) output status)
+
+-- the sheet of the run of a bench's program, and the status of how it ends
+abbrev pub BenchEnds : Benched → List ℤ → Ends
+BenchEnds b answers output status =
+    (outcome : Outcome) × IsSheetOf b.assembly b.program answers output outcome
+    × (status ≡ status_of outcome)
+
+-- the sheet of the run of the container's plan, and the status of how it ends
+abbrev pub SheetEnds : ContainerView → Assembly → List ℤ → Ends
+SheetEnds kept a answers output status =
+    (outcome : Outcome) × ((p : Plan) → IsContainer kept p
+    → IsSheetOf a (plan_program p) answers output outcome) × (status ≡ status_of outcome)
+
+-- the plan is for the assembly
+abbrev pub IsFor : ContainerView → Assembly → Type 0
+IsFor kept a = (p : Plan) → IsContainer kept p → FitsAssembly p a
+
+-- the plan is for another assembly
+abbrev pub IsMisfit : ContainerView → Assembly → Type 0
+IsMisfit kept a = (p : Plan) → IsContainer kept p → ¬ FitsAssembly p a
+
+-- of `try`: the plan is for another assembly; or answers are judged, and it is run
+abbrev pub TryEnds : ContainerView → Assembly → List ℕ → Ends
+TryEnds kept a text output status =
+    (IsMisfit kept a × IsRefusal (plan_refusal a another_assembly) output status)
+    ⊎ (IsFor kept a × AnswersEnd text (SheetEnds kept a) output status)
+
+-- of each of the three, with a text of answers
+abbrev pub TaskEnds : Task → ContainerView → Assembly → List ℕ → Ends
+TaskEnds Check kept a text = CheckEnds kept a
+TaskEnds Run kept a text = RunEnds kept a text
+TaskEnds Try kept a text = TryEnds kept a text
+
+-- an assembly's text is refused, or it is that of one with which it ends so
+abbrev pub TextEnds : List ℕ → (Assembly → Ends) → Ends
+TextEnds text With output status =
+    TextComes (λ line. IsRefusal line output status) (λ a. With a output status) text
+
+-- a plan text is refused, or the bytes that it is assembled to end so
+abbrev pub PlanTextEnds : List ℕ → (List ℕ → Ends) → Ends
+PlanTextEnds text With output status =
+    PlanTextComes (λ line. IsRefusal line output status) (λ bytes. With bytes output status) text
+
+-- a container's bytes are refused, or they are those of one with which it ends so
+abbrev pub ContainerEnds : List ℕ → (ContainerView → Ends) → Ends
+ContainerEnds bytes With output status =
+    BytesCome (λ line. IsRefusal line output status) (λ kept. With kept output status) bytes
+
+-- so it is with a plan, as it is given
+abbrev pub GivenEnds : Given → (ContainerView → Ends) → Ends
+GivenEnds plan With output status =
+    GivenComes (λ line. IsRefusal line output status) (λ kept. With kept output status) plan
+
+-- an assembly's text, a container, and a text of answers
+abbrev pub PlanEnds : Task → List ℕ → List ℕ → List ℕ → Ends
+PlanEnds task text bytes answers =
+    TextEnds text (λ a. ContainerEnds bytes (λ kept. TaskEnds task kept a answers))
+
+-- a sink took what is printed with this status
+abbrev pub PutsEnd : {S : Type 0} → SinkView S → S → S → Ends → Status → Type 0
+PutsEnd sink before after AreEnds status =
+    (output : List ℕ) × AreEnds output status × Takes sink before after output
+
+-- a sink failed, and had taken a front of what is to be printed
+abbrev pub PutsFrontOfEnd : {S : Type 0} → SinkView S → S → S → Ends → Type 0
+PutsFrontOfEnd sink before after AreEnds =
+    (output : List ℕ) × (status : Status) × AreEnds output status
+    × FailsWithin sink before after output
+
+-- why there is no end, by what is told on standard error: the sink failed; or memory was refused, and
+-- nothing was printed
+abbrev pub FailsToEnd : {S : Type 0} → SinkView S → S → S → Ends → List ℕ → Type 0
+FailsToEnd sink before after AreEnds line =
+    ((line ≡ output_failed) × PutsFrontOfEnd sink before after AreEnds)
+    ⊎ ((line ≡ codes "no memory\n") × (after ≡ before))
+
+-- a sink took what is printed with this status, or why there is no end
+abbrev pub EndsOn : {S : Type 0} → SinkView S → S → S → Ends → Result Status Fault → Type 0
+EndsOn sink before after AreEnds r =
+    IfOk r (PutsEnd sink before after AreEnds)
+    × IfErr r (λ fault. FailsToEnd sink before after AreEnds (line_of fault))
+
+-- a sink failed, and holds a front of what it held before and of what is to be printed
+abbrev pub HoldsFrontOfEnd : {S : Type 0} → SinkView S → S → S → Ends → Type 0
+HoldsFrontOfEnd sink before after AreEnds =
+    (output : List ℕ) × (status : Status) × AreEnds output status
+    × HoldsFront (sink.taken before) (sink.taken after) output
+    × IsTrue (sink.has_failed after)
+
+-- why what is to be printed did not come to this sink whole, by what is told on standard error: it
+-- failed; or memory was refused, and it was left alone
+abbrev pub StopsBeforeEnd : {S : Type 0} → SinkView S → S → S → Ends → List ℕ → Type 0
+StopsBeforeEnd sink before after AreEnds line =
+    ((line ≡ output_failed) × HoldsFrontOfEnd sink before after AreEnds)
+    ⊎ ((line ≡ codes "no memory\n") × (after ≡ before))

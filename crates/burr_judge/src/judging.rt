@@ -1,0 +1,209 @@
+//! A plan and an assembly are judged, or the plan is run with answers.
+
+ghost use Rattle.burr_state.specs.Views.Benches.{IsAtStart};
+ghost use Rattle.burr_judge.specs.PlanEnds.{AnswersEnd, BenchEnds, EndsOn, PlanEnds};
+
+use crate::accepting::{AcceptedUse, IfAccepted};
+use crate::fault::Fault;
+use crate::ladder::{Given, OfPlan, PlanUse, Refuse, use_text};
+use crate::refused::{Refused, refuse};
+use crate::status::Status;
+use crate::task::Task;
+use burr_bench::Checked;
+use burr_blocking::Blocking;
+use burr_container::Container;
+use burr_io::Sink;
+use burr_runs::{AnswersFault, put_accepted, read_answers, run_plan, try_plan};
+use burr_verify::Accepted;
+use std::alloc::Global;
+
+/// Does what is asked with an assembly's text, the bytes of a container and a text of answers, and
+/// puts what there is to print: the text is judged, then the container, the plan for the assembly, and
+/// the answers, and the first of them that is faulty is refused. Of `Check` no answers are read.
+pub fn judge_text<'a, W: Sink>(
+    alloc: Global,
+    task: Task,
+    text: &[u8],
+    container: &[u8],
+    answers: &[u8],
+    sink: &mut W,
+) -> Result<Status, Fault<'a>>
+    ensures { EndsOn W.Sink sink.old sink.new
+        (PlanEnds task text.now container.now answers.now) result }
+{
+    let plan = Given::Container(container);
+    match task {
+        Task::Check => {
+            let work = IfAccepted(Check);
+            use_text(alloc, &OfPlan { plan, work }, text, &mut (), sink)
+        }
+        Task::Run => {
+            let work = IfAccepted(Run { answers });
+            use_text(alloc, &OfPlan { plan, work }, text, &mut (), sink)
+        }
+        Task::Try => {
+            let work = Try { answers };
+            use_text(alloc, &OfPlan { plan, work }, text, &mut (), sink)
+        }
+    }
+}
+
+/// Puts that the plan is accepted.
+#[derive(Clone, Copy)]
+pub struct Check;
+
+impl<W: Sink> Refuse<W> for Check {
+    ghost use Rattle.std.specs.Prelude.{⊤};
+    ghost use Rattle.burr_judge.specs.PlanEnds.{EndsOn, IsRefusal};
+
+    ghost can = { λ _. ⊤ };
+
+    ghost refuses = { λ _ before line r after. EndsOn W.Sink before after (IsRefusal line) r };
+
+    fn refuse<'a>(
+        &self,
+        _alloc: Global,
+        refused: &Refused<'_, '_>,
+        sink: &mut W,
+    ) -> Result<Status, Fault<'a>> {
+        refuse(refused, sink)
+    }
+}
+
+impl<W: Sink> AcceptedUse<(), W> for Check {
+    ghost use Rattle.burr_judge.specs.PlanEnds.{EndsOn, VerdictEnds};
+
+    ghost uses = { λ _ _ before j looks r _ after.
+        EndsOn W.Sink before after (VerdictEnds j looks) r };
+
+    fn use_accepted<'a, B: Blocking>(
+        &self,
+        _alloc: Global,
+        accepted: &Accepted<'_, '_, B>,
+        looks: u64,
+        _input: &mut (),
+        sink: &mut W,
+    ) -> Result<Status, Fault<'a>> {
+        let budget = accepted.plan().header().budget;
+        put_accepted(accepted.cost(), budget, looks, sink)?;
+        Ok(Status::Done)
+    }
+}
+
+/// Runs an accepted plan with the answers of a text.
+#[derive(Clone, Copy)]
+pub struct Run<'x> {
+    pub answers: &'x [u8],
+}
+
+impl<'x, W: Sink> Refuse<W> for Run<'x> {
+    ghost use Rattle.std.specs.Prelude.{⊤};
+    ghost use Rattle.burr_judge.specs.PlanEnds.{EndsOn, IsRefusal};
+
+    ghost can = { λ _. ⊤ };
+
+    ghost refuses = { λ _ before line r after. EndsOn W.Sink before after (IsRefusal line) r };
+
+    fn refuse<'a>(
+        &self,
+        _alloc: Global,
+        refused: &Refused<'_, '_>,
+        sink: &mut W,
+    ) -> Result<Status, Fault<'a>> {
+        refuse(refused, sink)
+    }
+}
+
+impl<'x, W: Sink> AcceptedUse<(), W> for Run<'x> {
+    ghost use Rattle.burr_judge.specs.PlanEnds.{AnswersEnd, EndsOn, SafeEnds};
+
+    ghost uses = { λ run _ before j _ r _ after.
+        EndsOn W.Sink before after (AnswersEnd run.answers.now (SafeEnds j)) r };
+
+    #[inline(never)]
+    fn use_accepted<'a, B: Blocking>(
+        &self,
+        alloc: Global,
+        accepted: &Accepted<'_, '_, B>,
+        _looks: u64,
+        _input: &mut (),
+        sink: &mut W,
+    ) -> Result<Status, Fault<'a>> {
+        match read_answers(alloc, self.answers) {
+            Ok(answers) => Ok(Status::from(run_plan(accepted, &answers, sink)?)),
+            Err(AnswersFault::Memory) => Err(Fault::Memory),
+            Err(AnswersFault::Line(line)) => refuse(&Refused::Answers(line), sink),
+        }
+    }
+}
+
+/// Runs a plan on the bench, where it is for the assembly, with the answers of a text.
+#[derive(Clone, Copy)]
+pub struct Try<'x> {
+    pub answers: &'x [u8],
+}
+
+impl<'x, W: Sink> Refuse<W> for Try<'x> {
+    ghost use Rattle.std.specs.Prelude.{⊤};
+    ghost use Rattle.burr_judge.specs.PlanEnds.{EndsOn, IsRefusal};
+
+    ghost can = { λ _. ⊤ };
+
+    ghost refuses = { λ _ before line r after. EndsOn W.Sink before after (IsRefusal line) r };
+
+    fn refuse<'a>(
+        &self,
+        _alloc: Global,
+        refused: &Refused<'_, '_>,
+        sink: &mut W,
+    ) -> Result<Status, Fault<'a>> {
+        refuse(refused, sink)
+    }
+}
+
+impl<'x, W: Sink> PlanUse<(), W> for Try<'x> {
+    ghost use Rattle.burr_judge.specs.PlanEnds.{EndsOn, TryEnds};
+
+    ghost uses = { λ it _ before kept a r _ after.
+        EndsOn W.Sink before after (TryEnds kept a it.answers.now) r };
+
+    #[inline(never)]
+    fn use_plan<'a, 'b, B: Blocking>(
+        &self,
+        alloc: Global,
+        container: &'b Container<'_>,
+        blocking: &'b B,
+        _input: &mut (),
+        sink: &mut W,
+    ) -> Result<Status, Fault<'a>> {
+        match Checked::start(container, blocking) {
+            Ok(bench) => run_bench(alloc, bench, self.answers, sink),
+            Err(refusal) => {
+                let refused = Refused::Plan {
+                    container,
+                    assembly: blocking.assembly(),
+                    refusal: &refusal,
+                };
+                refuse(&refused, sink)
+            }
+        }
+    }
+}
+
+/// Runs the program of a bench at its start with the answers of a text.
+fn run_bench<'a, B: Blocking, W: Sink>(
+    alloc: Global,
+    mut bench: Checked<'_, B>,
+    answers: &[u8],
+    sink: &mut W,
+) -> Result<Status, Fault<'a>>
+    requires { IsAtStart bench }
+    ensures { EndsOn W.Sink sink.old sink.new
+        (AnswersEnd answers.now (BenchEnds bench.entry)) result }
+{
+    match read_answers(alloc, answers) {
+        Ok(answers) => Ok(Status::from(try_plan(&mut bench, &answers, sink)?)),
+        Err(AnswersFault::Memory) => Err(Fault::Memory),
+        Err(AnswersFault::Line(line)) => refuse(&Refused::Answers(line), sink),
+    }
+}

@@ -1,0 +1,205 @@
+//! From bytes to an assembly, to a plan with the tables of its assembly, and to what is done with them.
+
+ghost use Rattle.std.specs.Prelude.{◌≡◌, ◌⊎◌};
+ghost use Rattle.burr_judge.specs.Ladder.{BytesCome, GivenComes, TextComes, WantsMemory};
+
+use crate::fault::Fault;
+use crate::refused::Refused;
+use crate::status::Status;
+use burr_asm::{AsmFault, assemble};
+use burr_assembly::{Assembly, AssemblyFault};
+use burr_blocking::{Blocking, RowTables};
+use burr_container::Container;
+use std::alloc::Global;
+
+/// What is done where something is refused.
+pub trait Refuse<W> {
+    ghost use Rattle.std.specs.Prelude.{ℕ, List, Result};
+    ghost use Rattle.burr_judge.specs.Refusals.{refusal_line};
+    ghost use Rattle.burr_judge.specs.declared.fault.Fault.{Fault};
+    ghost use Rattle.burr_judge.specs.declared.status.Status.{Status};
+
+    /// The sinks on which it may be done.
+    ghost can: { W → Type 0 };
+
+    /// What a refusal by this line comes to.
+    ghost refuses: { Self → W → List ℕ → Result Status Fault → W → Type 0 };
+
+    /// Tells of a refusal.
+    fn refuse<'a>(
+        &self,
+        alloc: Global,
+        refused: &Refused<'_, '_>,
+        sink: &mut W,
+    ) -> Result<Status, Fault<'a>>
+        requires { can sink.old }
+        ensures { refuses self.now sink.old (refusal_line refused.now) result sink.new };
+}
+
+/// What is done with an assembly, on a sink and an input that is used for nothing else.
+pub trait AssemblyUse<I, W>: Refuse<W> {
+    ghost use Rattle.std.specs.Prelude.{Result};
+    ghost use Rattle.burr_assembly.specs.Rules.Text.{Assembly};
+    ghost use Rattle.burr_judge.specs.declared.fault.Fault.{Fault};
+    ghost use Rattle.burr_judge.specs.declared.status.Status.{Status};
+
+    /// What the use of an assembly comes to.
+    ghost uses: { Self → I → W → Assembly → Result Status Fault → I → W → Type 0 };
+
+    /// Uses an assembly.
+    fn use_assembly<'a, 'x>(
+        &self,
+        alloc: Global,
+        assembly: &'x Assembly,
+        input: &mut I,
+        sink: &mut W,
+    ) -> Result<Status, Fault<'a>>
+        requires { Self.can sink.old }
+        ensures { uses self.now input.old sink.old assembly.entry.now result input.new sink.new };
+}
+
+/// What is done with a plan and the tables of an assembly.
+pub trait PlanUse<I, W>: Refuse<W> {
+    ghost use Rattle.std.specs.Prelude.{Result};
+    ghost use Rattle.burr_assembly.specs.Rules.Text.{Assembly};
+    ghost use Rattle.burr_container.specs.Views.Containers.{ContainerView, HasPlan};
+    ghost use Rattle.burr_judge.specs.declared.fault.Fault.{Fault};
+    ghost use Rattle.burr_judge.specs.declared.status.Status.{Status};
+
+    /// What the use of a plan comes to.
+    ghost uses: { Self → I → W → ContainerView → Assembly → Result Status Fault → I → W → Type 0 };
+
+    /// Uses a plan.
+    fn use_plan<'a, 'x, B: Blocking>(
+        &self,
+        alloc: Global,
+        container: &'x Container<'_>,
+        blocking: &'x B,
+        input: &mut I,
+        sink: &mut W,
+    ) -> Result<Status, Fault<'a>>
+        requires plan { HasPlan container.now }
+        requires can { Self.can sink.old }
+        ensures { uses self.now input.old sink.old container.entry.now (B.subject blocking.entry.now)
+            result input.new sink.new };
+}
+
+/// A plan, as it is given: the bytes of its container, or a text that is assembled to one.
+#[derive(Clone, Copy)]
+pub enum Given<'x> {
+    Container(&'x [u8]),
+    Text(&'x [u8]),
+}
+
+/// Uses the assembly of a text.
+#[inline(never)]
+pub fn use_text<'a, I, W, U: AssemblyUse<I, W>>(
+    alloc: Global,
+    work: &U,
+    text: &[u8],
+    input: &mut I,
+    sink: &mut W,
+) -> Result<Status, Fault<'a>>
+    requires { U.can sink.old }
+    ensures { (WantsMemory sink.old sink.new result × (input.new ≡ input.old)) ⊎ TextComes
+        (λ line. U.refuses work.now sink.old line result sink.new × (input.new ≡ input.old))
+        (λ a. U.uses work.now input.old sink.old a result input.new sink.new) text.now }
+{
+    match Assembly::read(alloc, text) {
+        Ok(assembly) => work.use_assembly(alloc, &assembly, input, sink),
+        Err(AssemblyFault::Memory) => Err(Fault::Memory),
+        Err(fault) => work.refuse(alloc, &Refused::Assembly(text, fault), sink),
+    }
+}
+
+/// Uses a plan for an assembly.
+#[derive(Drop)]
+pub struct OfPlan<'x, U> {
+    pub plan: Given<'x>,
+    pub work: U,
+}
+
+impl<'x, W, U: Refuse<W>> Refuse<W> for OfPlan<'x, U> {
+    ghost can = { U.can };
+
+    ghost refuses = { λ it before line r after. U.refuses it.work before line r after };
+
+    fn refuse<'a>(
+        &self,
+        alloc: Global,
+        refused: &Refused<'_, '_>,
+        sink: &mut W,
+    ) -> Result<Status, Fault<'a>> {
+        self.work.refuse(alloc, refused, sink)
+    }
+}
+
+impl<'x, I, W, U: PlanUse<I, W>> AssemblyUse<I, W> for OfPlan<'x, U> {
+    ghost use Rattle.std.specs.Prelude.{◌≡◌, ◌⊎◌};
+    ghost use Rattle.burr_judge.specs.Ladder.{GivenComes, WantsMemory};
+
+    ghost uses = { λ it first before a r last after. (WantsMemory before after r × (last ≡ first)) ⊎ GivenComes
+        (λ line. U.refuses it.work before line r after × (last ≡ first))
+        (λ kept. U.uses it.work first before kept a r last after) it.plan };
+
+    fn use_assembly<'a, 'b>(
+        &self,
+        alloc: Global,
+        assembly: &'b Assembly,
+        input: &mut I,
+        sink: &mut W,
+    ) -> Result<Status, Fault<'a>> {
+        use_given(alloc, &self.work, assembly, self.plan, input, sink)
+    }
+}
+
+/// Uses a plan for an assembly, as it is given.
+pub fn use_given<'a, 'x, I, W, U: PlanUse<I, W>>(
+    alloc: Global,
+    work: &U,
+    assembly: &'x Assembly,
+    plan: Given<'_>,
+    input: &mut I,
+    sink: &mut W,
+) -> Result<Status, Fault<'a>>
+    requires { U.can sink.old }
+    ensures { (WantsMemory sink.old sink.new result × (input.new ≡ input.old)) ⊎ GivenComes
+        (λ line. U.refuses work.now sink.old line result sink.new × (input.new ≡ input.old))
+        (λ kept. U.uses work.now input.old sink.old kept assembly.entry.now result input.new sink.new)
+        plan.entry }
+{
+    match plan {
+        Given::Container(bytes) => use_container(alloc, work, assembly, bytes, input, sink),
+        Given::Text(text) => match assemble(alloc, text) {
+            Ok(bytes) => use_container(alloc, work, assembly, &bytes, input, sink),
+            Err(AsmFault::Memory) => Err(Fault::Memory),
+            Err(fault) => work.refuse(alloc, &Refused::PlanText(fault), sink),
+        },
+    }
+}
+
+/// Uses the plan of a container's bytes for an assembly.
+#[inline(never)]
+fn use_container<'a, 'x, I, W, U: PlanUse<I, W>>(
+    alloc: Global,
+    work: &U,
+    assembly: &'x Assembly,
+    bytes: &'x [u8],
+    input: &mut I,
+    sink: &mut W,
+) -> Result<Status, Fault<'a>>
+    requires { U.can sink.old }
+    ensures { (WantsMemory sink.old sink.new result × (input.new ≡ input.old)) ⊎ BytesCome
+        (λ line. U.refuses work.now sink.old line result sink.new × (input.new ≡ input.old))
+        (λ kept. U.uses work.now input.old sink.old kept assembly.entry.now result input.new sink.new)
+        bytes.entry.now }
+{
+    // a container takes 19 KiB of the stack, so it is lent where it was read
+    let parsed = Container::parse(bytes);
+    let container = match &parsed {
+        Ok(container) => container,
+        Err(fault) => return work.refuse(alloc, &Refused::Container(*fault), sink),
+    };
+    let tables = RowTables::build(alloc, assembly)?;
+    work.use_plan(alloc, container, &tables, input, sink)
+}

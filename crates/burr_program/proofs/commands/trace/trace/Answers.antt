@@ -1,0 +1,8 @@
+use Rattle.burr_judge.specs.declared.task.Task.TheVariants.{Try}
+use Rattle.burr_program.proofs.Noted.{text_noted}
+use Rattle.burr_program.proofs.commands.trace.trace.Goals as goal
+
+pub returns : goal.returns
+returns g c =
+    text_noted tt c.use_text.new.input g.W.Sink c.args.sink.now c.use_text.new.sink Try c.args.noting.drawing.text.now c.args.noting.plan.text c.args.noting.answers.now c.use_text.result _
+    (λ kept a uses. uses) c.use_text.ensures

@@ -1,0 +1,17 @@
+-- How notes are put after what was put for a command.
+use Rattle.std.specs.Prelude.{◌≡◌, ℕ, List, Result, Ok, Err}
+use Rattle.burr_io.specs.Sink.{SinkView, Takes, FailsWithin}
+use Rattle.burr_judge.specs.declared.fault.Fault.{Fault}
+use Rattle.burr_judge.specs.Faults.{line_of, output_failed}
+use Rattle.burr_judge.specs.declared.status.Status.{Status}
+
+-- what was done, and after it notes were put, or a front of them where the sink failed; after a fault
+-- nothing was put
+abbrev pub AddsNotes : {S : Type 0} → SinkView S → S → S → List ℕ → Result Status Fault
+    → Result Status Fault → Type 0
+AddsNotes sink old new notes (Ok given) (Ok status) =
+    (status ≡ given) × Takes sink old new notes
+AddsNotes sink old new notes (Ok given) (Err fault) =
+    (line_of fault ≡ output_failed) × FailsWithin sink old new notes
+AddsNotes sink old new notes (Err given) (Ok status) = ⊥
+AddsNotes sink old new notes (Err given) (Err fault) = (fault ≡ given) × (new ≡ old)

@@ -1,0 +1,72 @@
+//! A command a file: each reads its files, does what it is for, and puts what there is to print, which
+//! is handed on by whoever called it.
+
+mod asm;
+mod check;
+mod explain;
+mod frames;
+mod list;
+mod plan_sheet;
+mod run;
+mod step;
+mod trace;
+mod upgrade;
+mod why;
+
+ghost use Rattle.std.specs.Prelude.{◌≡◌, []};
+ghost use Rattle.burr_io.specs.WholeLines.{lines_view};
+ghost use Rattle.burr_runs.specs.Views.BenchText.{streams};
+ghost use Rattle.burr_program.specs.Commands.{Ending, JobEnds, JobBreaks, left_by};
+
+use asm::assemble_file;
+use burr_command::Job;
+use burr_io::{Sink, Source, WholeLines};
+use burr_judge::{Fault, Status, Task};
+use check::check_files;
+use explain::explain_line;
+use frames::frames_file;
+use list::list_file;
+use plan_sheet::plan_sheet_file;
+use run::run_files;
+use std::rt::Files;
+use step::step_files;
+use trace::trace_files;
+use upgrade::upgrade_file;
+use why::why_files;
+
+/// Does a command's job, and puts what there is to print; `step` hands on each answer by itself.
+pub fn put_job<'a, F: Files + AllocGlobal, R: Source, W: Sink, const N: usize>(
+    files: &F,
+    job: &'a Job<'_>,
+    source: &mut R,
+    sink: &mut WholeLines<W, N>,
+) -> Result<Status, Fault<'a>>
+    requires fresh { sink.old.held ≡ [] }
+    ensures { Ending (lines_view W.Sink) sink.old sink.new
+        (JobEnds (left_by R.Source source.old source.new) job.entry.now)
+        (JobBreaks (streams R.Source source.old source.new W.Sink sink.old.sink sink.new.sink)
+        job.entry.now) result }
+{
+    match job {
+        Job::Assemble { text, out } => assemble_file(files, text, out, sink),
+        Job::List { plan, places } => list_file(files, plan, *places, sink),
+        Job::Upgrade { plan, out } => upgrade_file(files, plan, out, sink),
+        Job::Check { assembly, plan } => check_files(files, assembly, plan, sink),
+        Job::Run { assembly, plan } => { run_files(files, Task::Run, assembly, plan, source, sink) }
+        Job::Try { assembly, plan } => { run_files(files, Task::Try, assembly, plan, source, sink) }
+        Job::Step { assembly, plan } => step_files(files, assembly, plan, source, sink),
+        Job::Why { assembly, text } => why_files(files, assembly, text, sink),
+        Job::Trace { assembly, text } => trace_files(files, assembly, text, source, sink),
+        Job::Frames {
+            assembly,
+            text,
+            out,
+        } => frames_file(files, assembly, text, out, source, sink),
+        Job::PlanSheet {
+            assembly,
+            sheet,
+            out,
+        } => plan_sheet_file(files, assembly, sheet, out, sink),
+        Job::Explain { line } => explain_line(line, sink),
+    }
+}

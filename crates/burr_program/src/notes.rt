@@ -1,0 +1,127 @@
+//! Notes for people, below what is printed for a command on two texts.
+
+ghost use Rattle.std.specs.Prelude.{codes};
+ghost use Rattle.burr_runs.specs.Rules.Refusals.{place_line};
+ghost use Rattle.burr_judge.specs.PlanEnds.{EndsOn, IsRefusal};
+ghost use Rattle.burr_judge.specs.Refusals.{refusal_line};
+ghost use Rattle.burr_program.specs.AddedNotes.{AddsNotes};
+ghost use Rattle.burr_program.specs.NotedEnds.{Begins};
+
+use crate::reasons::{
+    reason_of_assembly_fault, reason_of_refused_plan, reason_of_text_fault, with_meaning,
+};
+use burr_io::{Sink, put_all};
+use burr_judge::{Fault, Refuse, Refused, Status, refuse};
+use burr_why::{PlanText, reason_of_line};
+use std::alloc::{AllocError, Global};
+
+/// A text, with the name of its file.
+#[derive(Clone, Copy)]
+pub struct Named<'x> {
+    pub file: &'x str,
+    pub text: &'x [u8],
+}
+
+/// An assembly's text and a plan text, of which refusals are told with notes, and a text of answers.
+#[derive(Clone, Copy)]
+pub struct Noting<'x> {
+    pub drawing: Named<'x>,
+    pub plan: Named<'x>,
+    pub answers: &'x [u8],
+}
+
+impl<'x, W: Sink> Refuse<W> for Noting<'x> {
+    ghost use Rattle.std.specs.Prelude.{⊤};
+    ghost use Rattle.burr_judge.specs.PlanEnds.{EndsOn, IsRefusal};
+    ghost use Rattle.burr_program.specs.NotedEnds.{Begins};
+
+    ghost can = { λ _. ⊤ };
+
+    ghost refuses = { λ _ before line r after.
+        EndsOn W.Sink before after (Begins (IsRefusal line)) r };
+
+    fn refuse<'a>(
+        &self,
+        alloc: Global,
+        refused: &Refused<'_, '_>,
+        sink: &mut W,
+    ) -> Result<Status, Fault<'a>> {
+        let notes = self.notes_of(alloc, refused)?;
+        refuse_with_notes(refused, &notes, sink)
+    }
+}
+
+impl Noting<'_> {
+    /// Why something is refused.
+    #[inline(never)]
+    fn notes_of(&self, alloc: Global, refused: &Refused<'_, '_>) -> Result<String, AllocError> {
+        match refused {
+            Refused::Assembly(_, fault) => reason_of_assembly_fault(alloc, self.drawing, *fault),
+            Refused::PlanText(fault) => reason_of_text_fault(alloc, self.plan, *fault),
+            Refused::Plan {
+                container,
+                assembly,
+                refusal,
+            } => {
+                let plan = PlanText {
+                    file: self.plan.file,
+                    text: self.plan.text,
+                    container,
+                    assembly,
+                };
+                reason_of_refused_plan(alloc, plan, refusal)
+            }
+            Refused::Container(_) | Refused::Answers(_) | Refused::Line(..) => {
+                Ok(String::new(alloc))
+            }
+        }
+    }
+}
+
+/// Refuses, and puts notes below.
+pub fn refuse_with_notes<'a, W: Sink>(
+    refused: &Refused<'_, '_>,
+    notes: &str,
+    sink: &mut W,
+) -> Result<Status, Fault<'a>>
+    ensures { EndsOn W.Sink sink.old sink.new (Begins (IsRefusal (refusal_line refused.now)))
+        result }
+{
+    let done = refuse(refused, sink);
+    add_notes(done, notes, sink)
+}
+
+/// Refuses a line of a text, as `refused sheet line 3`, and says why.
+pub fn refuse_line<'a, W: Sink>(
+    alloc: Global,
+    subject: &str,
+    named: Named<'_>,
+    line: usize,
+    note: &str,
+    sink: &mut W,
+) -> Result<Status, Fault<'a>>
+    ensures { EndsOn W.Sink sink.old sink.new
+        (Begins (IsRefusal (place_line subject.now (codes "line") line))) result }
+{
+    let mut reason = reason_of_line(alloc, named.file, named.text, line)?;
+    writeln!(reason, "    {note}")?;
+    let notes = with_meaning(reason, subject)?;
+    refuse_with_notes(&Refused::Line(subject, line), &notes, sink)
+}
+
+/// What was done, once notes are put after what was put for it; after a fault nothing is put.
+pub fn add_notes<'a, W: Sink>(
+    done: Result<Status, Fault<'a>>,
+    notes: &str,
+    sink: &mut W,
+) -> Result<Status, Fault<'a>>
+    ensures { AddsNotes W.Sink sink.old sink.new notes.now done.entry result }
+{
+    match done {
+        Ok(status) => {
+            put_all(notes.as_bytes(), sink)?;
+            Ok(status)
+        }
+        Err(fault) => Err(fault),
+    }
+}

@@ -1,4 +1,0 @@
-pub mod Faults
-pub mod PlanEnds
-pub mod Refusals
-pub mod Statuses
