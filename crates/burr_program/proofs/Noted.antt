@@ -8,6 +8,8 @@ use Rattle.burr_io.proofs.Common.Puts.{FailsWithin-more}
 use Rattle.burr_assembly.specs.Rules.Text.{Assembly}
 use Rattle.burr_container.specs.Views.Containers.{ContainerView}
 use Rattle.burr_verify.specs.Rules.Accepting.{judged}
+use Rattle.burr_verify.specs.declared.refusal.Refusal.{Refusal}
+use Rattle.burr_verify.specs.Views.Refusals.{another_assembly}
 use Rattle.burr_runs.specs.Rules.Verdicts.{plan_refusal}
 use Rattle.burr_judge.specs.declared.fault.Fault.{Fault}
 use Rattle.burr_judge.specs.declared.ladder.Given.TheVariants.{Text}
@@ -15,7 +17,7 @@ use Rattle.burr_judge.specs.declared.status.Status.{Status}
 use Rattle.burr_judge.specs.declared.task.Task.{Task}
 use Rattle.burr_judge.specs.Faults.{line_of}
 use Rattle.burr_judge.specs.Ladder.{PlanJudged, LadderComes, WantsMemory}
-use Rattle.burr_judge.specs.PlanEnds.{Ends, EndsOn, IsRefusal, CheckEnds, TaskEnds, VerdictEnds}
+use Rattle.burr_judge.specs.PlanEnds.{Ends, EndsOn, IsMisfit, IsRefusal, CheckEnds, TaskEnds, TryEnds, VerdictEnds}
 use Rattle.burr_judge.proofs.Common.Stages.{AreAmong}
 use Rattle.burr_judge.proofs.Common.Comes.{ends_among, memory_ends, text_told, verdict_among}
 use Rattle.burr_program.specs.AddedNotes.{AddsNotes}
@@ -57,3 +59,11 @@ why_noted first last sink before after r kept a (inl (refusal, refused, (ends, s
 why_noted first last sink before after r kept a (inr (accepted, looks, passed, ends)) =
     ends_among sink before after (VerdictEnds (judged kept a) looks) (Begins (CheckEnds kept a)) r
     (λ output status is. (output, [], sym (append-nil output), verdict_among kept a looks accepted passed output status is)) ends
+
+-- a plan for another assembly is refused by `try` too
+pub misfit_noted : {S : Type 0} (sink : SinkView S) (before after : S) (kept : ContainerView) (a b : Assembly) (answers : List ℕ) (refusal : Refusal) (r : Result Status Fault) → b ≡ a → refusal ≡ another_assembly → IsMisfit kept b
+    → EndsOn sink before after (Begins (IsRefusal (plan_refusal b refusal))) r → EndsOn sink before after (Begins (TryEnds kept a answers)) r
+misfit_noted sink before after kept a b answers refusal r same another misfit ends =
+    subst (λ (x : Assembly). EndsOn sink before after (Begins (TryEnds kept x answers)) r) same
+    (ends_among sink before after (Begins (IsRefusal (plan_refusal b refusal))) (Begins (TryEnds kept b answers)) r
+    (begins_among (IsRefusal (plan_refusal b refusal)) (TryEnds kept b answers) (λ output status is. inl (misfit, (is.0 ∙ ap (plan_refusal b) another, is.1)))) ends)

@@ -8,9 +8,10 @@ use crate::notes::{Noting, add_notes};
 use burr_blocking::Blocking;
 use burr_container::Container;
 use burr_io::{Sink, Source};
-use burr_judge::{Fault, Given, OfPlan, PlanUse, Status, Try, use_text};
+use burr_judge::{Fault, Given, OfPlan, PlanUse, Refuse, Refused, Status, Try, use_text};
 use burr_runs::{AnswersFault, read_answers, read_whole};
 use burr_trace::trace_of;
+use burr_verify::fits_assembly;
 use burr_why::PlanText;
 use std::alloc::{AllocError, Global};
 use std::rt::Files;
@@ -51,7 +52,7 @@ fn trace<'a, W: Sink>(alloc: Global, noting: Noting<'_>, sink: &mut W) -> Result
     use_text(alloc, &OfPlan { plan, work }, text, &mut (), sink)
 }
 
-/// Runs the plan, and notes what it came to at each label.
+/// Runs the plan, and notes what it came to at each label; or why it is for another assembly.
 impl<'x, W: Sink> PlanUse<(), W> for Noting<'x> {
     ghost use Rattle.burr_judge.specs.PlanEnds.{EndsOn, TryEnds};
     ghost use Rattle.burr_program.specs.NotedEnds.{Begins};
@@ -67,6 +68,15 @@ impl<'x, W: Sink> PlanUse<(), W> for Noting<'x> {
         input: &mut (),
         sink: &mut W,
     ) -> Result<Status, Fault<'a>> {
+        let assembly = blocking.assembly();
+        if let Err(refusal) = fits_assembly(container, assembly) {
+            let refused = Refused::Plan {
+                container,
+                assembly,
+                refusal: &refusal,
+            };
+            return self.refuse(alloc, &refused, sink);
+        }
         let notes = self.trace_of_plan(alloc, container, blocking)?;
         let answers = self.answers;
         let done = Try { answers }.use_plan(alloc, container, blocking, input, sink);
