@@ -27,7 +27,7 @@ second_is : (v : Version) → is_second v ≡ (number_of_version v == 2)
 second_is One = refl
 second_is Two = refl
 
--- at most so many are just as many where they aren't fewer
+-- a number that is at most `most` equals it just where it isn't below it
 all_there : (n most : ℕ) → n ≤ most → (n == most) ≡ not (nat_lt n most)
 all_there n most few = by (nat_lt n most) refl
   where

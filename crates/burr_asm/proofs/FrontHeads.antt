@@ -33,7 +33,7 @@ ended_empty number start version [] (p ∷ ps) are = absurd are
 ended_empty number start version (r ∷ rs) [] are = absurd are
 ended_empty number start version (r ∷ rs) (p ∷ ps) are = refl
 
--- what is wrong with a procedure's first line, after so many procedures of these names
+-- what is wrong with a procedure's first line, after `many` procedures with these names
 abbrev head_judged : List (List ℕ) → Bool → ℕ → ProcedureWords → Option FaultKind
 head_judged names main many h =
     unless (not (is_known names h.name)) P2

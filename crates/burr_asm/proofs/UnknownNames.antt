@@ -11,7 +11,7 @@ use Rattle.burr_asm.specs.Views.Coded.{first_unknown, has_unknown}
 use Rattle.burr_asm.specs.Views.Routines.{RoutineParts, line_or, unknown_among}
 use Rattle.burr_asm.specs.Views.Beginnings.{code_lines, AreCoded, AreEnded}
 
--- the number of the line so many places after one
+-- the number of the line that is k places after the one at `start`, if there is a k
 abbrev pub placed : (ℕ → ℕ) → ℕ → Option ℕ → Option ℕ
 placed number start None = None
 placed number start (Some k) = Some (number (start + k))

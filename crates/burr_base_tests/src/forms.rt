@@ -20,7 +20,7 @@ const fn number(constant: i64) -> Form {
     }
 }
 
-/// A constant and so many times the first two symbols.
+/// The form with this constant and these coefficients of the first two symbols.
 const fn form(constant: i64, first: i64, second: i64) -> Form {
     Form {
         constant,
@@ -28,7 +28,7 @@ const fn form(constant: i64, first: i64, second: i64) -> Form {
     }
 }
 
-/// What is asked of a form: numbers within ±2^40.
+/// Whether all numbers of a form are within ±2^40, as they have to be.
 fn is_small(form: &Form) -> bool
     ensures { IsTrue result → IsSmallForm form.now }
 {

@@ -105,7 +105,8 @@ const TOLD_OF_A_FRONT: &str = "\
 Err(WriteFault) failed;Err(WriteFault) failed;Err(IoFailed) failed;Err(IoFailed) failed;\
 Ok(()) failed;";
 
-/// Asserts that where the writer takes so many bytes, they went, and a sink that failed stays failed.
+/// Asserts that a writer that refuses after `room` bytes took only these, and that a sink that
+/// failed stays failed.
 fn assert_front(rt: &impl Abort, alloc: Global, room: usize, fault: Option<ErrorKind>) {
     let mut writer = Narrow::new(alloc, room, fault);
     let wanted = if room < 5 { TOLD_OF_A_FRONT } else { TOLD };

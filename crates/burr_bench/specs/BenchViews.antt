@@ -13,7 +13,8 @@ use Rattle.burr_state.specs.Views.StateViews.{StaysOnBench}
 use Rattle.burr_bench.specs.Ways.{GroupPasses}
 use Rattle.burr_state.specs.Rules.Step.{Executes, NextIs, Runs}
 
--- the pieces of the current tray are on the bench where the grip is asked of
+-- where the grip goes one unit, the pieces of the current tray are on the bench after it; where it
+-- goes all the way out, nothing is required
 abbrev pub SetsOut : Benched → Way → Type 0
 SetsOut b (ways.Unit direction) = StaysOnBench b.state direction
 SetsOut b (ways.Out direction) = Unit {0}

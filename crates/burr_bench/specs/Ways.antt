@@ -12,12 +12,12 @@ use Rattle.burr_blocking.specs.Rules.Pairs.{Clears}
 use Rattle.burr_bench.specs.declared.checked.way.Way.{Way}
 use Rattle.burr_bench.specs.declared.checked.way.Way.TheVariants as ways
 
--- what is asked of a gripped piece and another one of the tray
+-- the query that tells whether a gripped piece goes this way past another one of the tray
 abbrev pub query_of : Way → Query
 query_of (ways.Unit direction) = queries.Overlap
 query_of (ways.Out direction) = queries.Exit direction
 
--- where a piece is asked of: after its one unit, or where it sets out
+-- the offset for which the query of a piece is made: after its one unit, or where it sets out
 abbrev pub setting_out : Way → Cell → Cell
 setting_out (ways.Unit direction) offset = plus offset (along direction (pos 1))
 setting_out (ways.Out direction) offset = offset

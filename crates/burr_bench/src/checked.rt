@@ -9,8 +9,8 @@ use burr_blocking::Blocking;
 use burr_state::Bench;
 use std::marker::Model;
 
-/// The bench at work on a program, each move tested first. Whether pieces meet is asked of what
-/// answers for the assembly.
+/// The bench at work on a program, each move tested first; `blocking` tells whether pieces of the
+/// assembly meet.
 #[derive(Drop)]
 pub struct Checked<'a, B: Blocking> {
     bench: Bench<'a>,

@@ -1,4 +1,4 @@
--- What is answered of two pieces by the pair that is kept of their classes.
+-- What the pair that is kept of two classes answers about two pieces of them.
 use Rattle.std.proofs.Common.{◌≡◌, ◌↔◌, ℕ, ◌<◌, ◌≤◌, Bool, List, length, get_or, refl, sym, ap, subst, arith}
 use Rattle.std.specs.Prelude.{ℤ, ◌≢◌, IsTrue}
 use Rattle.std.proofs.lemmas.List.{length-map}
@@ -18,7 +18,7 @@ use Rattle.burr_blocking.specs.Views.Triangles.{IsTriangle, AreClassPairs, IsPai
 use Rattle.burr_blocking.proofs.Classed.{pair_kept}
 use Rattle.burr_blocking.proofs.Triangles.{one_read, tells_blocked, tells_free, tells_blocked_back, tells_free_back, tells_pieces_blocked, tells_pieces_free}
 
--- two pieces that are asked of, by their classes, and the displacement of their representatives
+-- two pieces that a query is about, by their classes, and the displacement of their representatives
 pub record AreAsked (homes : List (List Cell)) (c : Classes) (p q : ℕ) (d : Cell) (s t : Translate) (way : Cell) : Type 0 where
   pub two : p ≢ q
   pub first : p < length homes

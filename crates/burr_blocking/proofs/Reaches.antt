@@ -10,7 +10,7 @@ use Rattle.burr_voxels.specs.Grid.{plus, minus, along, origin, FitsCell}
 use Rattle.burr_voxels.specs.Near.{IsWithin}
 use Rattle.burr_blocking.specs.Views.Corners.{IsBetween, AreCorners, units_of}
 
--- so many units are from the nearer to the farther corner, either way
+-- where k takes f into the range from l to g, it lies between the lesser and the greater of l - f and g - f
 between : (l g f k : ℤ) → l ≤ℤ (f +ℤ k) → (f +ℤ k) ≤ℤ g → (int_min (l -ℤ f) (g -ℤ f) ≤ℤ k) × (k ≤ℤ int_max (l -ℤ f) (g -ℤ f))
 between l g f k low high = (omega (arith, ints, clamps), omega (arith, ints, clamps))
 

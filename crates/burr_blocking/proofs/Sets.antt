@@ -38,7 +38,7 @@ up_from l f next k low least is =
     let value = gap_value l (f +ℤ pos k) low in
     omega (arith, ints)
 
--- so many units ahead is what stands in a later column
+-- what stands in a later column lies some number of units ahead, at least one
 up_to : (l f next : ℤ) (n : ℕ) → next ≡ (f -ℤ l) +ℤ pos 1 → next ≤ℤ pos n → (k : ℕ) × (1 ≤ k) × (f +ℤ pos k ≡ l +ℤ pos n)
 up_to l f next n is le =
     let value = gap_value f (l +ℤ pos n) (omega (arith, ints)) in

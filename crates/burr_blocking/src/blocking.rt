@@ -12,10 +12,10 @@ use burr_voxels::{Cell, Direction};
 /// implementation proves that its answers are those of the pieces' cells. An answer takes no
 /// memory.
 pub trait Blocking {
-    /// The assembly whose pieces are asked of.
+    /// The assembly whose pieces the answers are about.
     ghost subject: { Self → AssemblyOf };
 
-    /// The assembly whose pieces are asked of.
+    /// The assembly whose pieces the answers are about.
     fn assembly(&self) -> &Assembly
         ensures { result.now ≡ subject self.now };
 

@@ -34,7 +34,7 @@ impl<'a, B: Blocking> Looks<'a, B> {
         Looks { blocking, count: 0 }
     }
 
-    /// The assembly whose pieces are asked of.
+    /// The assembly whose pieces the queries are about.
     pub fn assembly(&self) -> &'a Assembly
         ensures { result.now ≡ self.now.assembly }
     {

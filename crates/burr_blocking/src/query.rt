@@ -1,7 +1,8 @@
 use burr_voxels::Direction;
 
-/// What is asked of two pieces of an assembly, one displaced from home against the other at home:
-/// whether the one keeps clear of the other, and how far on.
+/// A question about two pieces of an assembly, one displaced from home against the other at home:
+/// whether the first keeps clear of the second, where it is displaced to or all the way out from
+/// there.
 #[derive(Clone, Copy, Debug, PartialEq, Eq)]
 pub enum Query {
     /// It does not overlap the other where it is displaced to.

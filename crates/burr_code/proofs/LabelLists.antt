@@ -40,7 +40,7 @@ offer bytes small even long short =
     let many : length bytes ≡ length (labels_in bytes) + length (labels_in bytes) = ap (λ (all : List ℕ). length all) spelled ∙ length-label_bytes (labels_in bytes) in
     record { spelled = spelled; in_range = (omega (arith, many), omega (arith, many), labels_small bytes small) }
 
--- there are none in so many bytes
+-- the bytes of labels are even in number, 4 at least and 16 at most
 pub no_offer : (bytes labels : List ℕ) → AreLabels labels → bytes ≡ label_bytes labels → (length bytes % 2 ≡ 0) × (4 ≤ length bytes) × (length bytes ≤ 16)
 no_offer bytes labels are e =
     let many : length bytes ≡ length labels + length labels = ap (λ (all : List ℕ). length all) e ∙ length-label_bytes labels in

@@ -20,7 +20,7 @@ pub no_ask : (a b : ℕ) (operands rest : List ℕ) → operands ≡ a ∷ b ∷
 no_ask a b operands rest parts none = none_begins (0x22 ∷ operands) λ in_range begins.
     none _ begins.0 in_range.1 (same_tail _ _ _ _ (same_tail _ _ _ _ (sym parts ∙ same_tail _ _ _ _ begins.1)))
 
--- no `pick` without so many labels
+-- no `pick` where the bytes of `count` labels do not follow
 no_pick : (count : ℕ) (operands rest : List ℕ) → operands ≡ count ∷ rest
     → ((labels after : List ℕ) → AreLabels labels → count ≡ length labels → rest ≢ label_bytes labels ++ after) → NoneBegins (0x23 ∷ operands)
 no_pick count operands rest parts none = none_begins (0x23 ∷ operands) λ in_range begins.

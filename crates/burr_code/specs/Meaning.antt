@@ -25,7 +25,7 @@ meaning (instr.Pick labels) = Pick labels
 meaning (instr.Call callee) = Call callee
 meaning instr.Ret = Ret
 
--- this instruction stands there, with so many bytes
+-- this instruction stands there, with this many bytes
 abbrev pub IsFoundAt : List ℕ → ℕ → Instr × ℕ → Type 0
 IsFoundAt code pc found =
     StandsAt code pc (meaning found.0) × (found.1 ≡ length (spelled (meaning found.0)))

@@ -16,6 +16,6 @@ top_two (b ∷ a ∷ below) = Some (b, a, below)
 abbrev pub split_at : {A : Type 0} → ℕ → List A → List A × List A
 split_at n xs = (take n xs, drop n xs)
 
--- the n topmost of a stack, and what is below, if there are so many
+-- the n topmost elements of a stack, and what is below, if it has at least n
 abbrev pub top_many : {A : Type 0} → ℕ → List A → Option (List A × List A)
 top_many n stack = if nat_le n (length stack) then Some (split_at n stack) else None

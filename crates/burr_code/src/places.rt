@@ -18,8 +18,8 @@ pub fn is_empty_tray<P>(places: &[Placement<P>], tray: u8) -> bool
     count_in_tray(places, tray) == 0
 }
 
-/// Moves a group from one tray to another that was empty; whoever is alone in one of them then is
-/// apart.
+/// Moves a group from the tray `here` to the tray `there`, which was empty; a piece that is then
+/// alone in one of the two is apart.
 pub fn take_aside<P: Copy>(places: &mut [Placement<P>], group: u32, here: u8, there: u8)
     requires { length places.old ≤ 32 }
     ensures { places.new ≡ aside_places group here there places.old }

@@ -178,7 +178,7 @@ front_form live bytes long small =
       parts.1,
     )
 
--- as many bytes as so many forms have are forms
+-- bytes that are as long as `count` forms are `count` forms
 pub forms_there : (live : List Bool) (count : ℕ) (bytes : List ℕ)
     → length bytes ≡ count * form_size live → AreSmall bytes
     → OfEach count (form live) (forms_in live count bytes) bytes []
@@ -231,7 +231,7 @@ short_by live count at bytes small short others (inl long) =
           same more,
     ))
 
--- too few bytes for so many forms
+-- where there are too few bytes for `count` forms, these are cut short
 pub forms_short : (live : List Bool) (count at : ℕ) (bytes : List ℕ) → AreSmall bytes
     → length bytes < count * form_size live
     → each count (form live) at bytes (C1 (at + length bytes))

@@ -21,7 +21,7 @@ use Rattle.burr_container.proofs.Common.Judging.Frames.{places_back}
 use Rattle.burr_container.proofs.Chains.{IsAfter, small_of, after_part, stands_at, then_fails, then_stands}
 use Rattle.burr_container.proofs.Decoded.{forms_there, forms_short, places_decoded}
 
--- the bytes of so many forms are cut off
+-- bytes that are as long as `count` forms, taken at the cursor, are `count` forms
 pub forms_cut : (live : List Bool) (count : ℕ) (cursor next : Cursor) (bytes : List ℕ)
     → length bytes ≡ count * form_size live → AreBytes bytes
     → IsCut cursor.at cursor.rest.now bytes next.at next.rest.now
@@ -42,7 +42,7 @@ cut_after cursor next bytes cut =
     ap (λ (all : List ℕ). length all) cut.parts ∙ length-append bytes next.rest.now in
     omega (arith, size, cut.moved)
 
--- so many forms are cut short
+-- where too few bytes are left for `count` forms, these are cut short
 pub forms_cut_short : (live : List Bool) (count : ℕ) (cursor : Cursor) (fault : ContainerFault)
     → IsShort (count * form_size live) cursor.at cursor.rest.now fault
     → each count (form live) cursor.at cursor.rest.now fault
@@ -52,7 +52,7 @@ forms_cut_short live count cursor fault short =
     (forms_short live count cursor.at cursor.rest.now
     (small_of cursor.rest.now cursor.bytes) short.fewer)
 
--- one form is cut off
+-- bytes that are as long as a form, taken at the cursor, are a form
 pub form_at : (live : List Bool) (cursor next : Cursor) (bytes : List ℕ)
     → length bytes ≡ form_size live → AreBytes bytes
     → IsCut cursor.at cursor.rest.now bytes next.at next.rest.now

@@ -1,4 +1,4 @@
--- Reading so many of a part, one after the other, and keeping something of each.
+-- Reading a given number of values of a part, one after the other, and keeping something of each.
 use Rattle.std.proofs.Common.{◌≡◌, ℕ, suc, ◌+◌, ◌-◌, ◌<◌, ◌≤◌, List, [], ◌∷◌, ◌++◌, length, refl, sym, ap, ◌∙◌, subst, arith, append_assoc, append-nil, length-append}
 use Rattle.burr_container.specs.declared.reading.cursor.Cursor.{Cursor}
 use Rattle.burr_container.specs.Rules.Faults.{Part}

@@ -132,7 +132,7 @@ module _ (pieces n : ℕ) (begin : Cursor) where
         sym end.3 ∙ sym (last_of_all end.0),
       )
 
--- how far reading has come: over the bytes of so many labels at most
+-- how far reading has come: over no more bytes than `i` labels may take
 pub record HasCome (begin : Cursor) (i : ℕ) (cursor : Cursor) : Type 0 where
   pub front : List ℕ
   pub cut : IsCut begin.at begin.rest.now front cursor.at cursor.rest.now

@@ -35,7 +35,7 @@ four_bytes (a ∷ b ∷ c ∷ d ∷ []) n long small e =
     cc
 four_bytes (a ∷ b ∷ c ∷ d ∷ x ∷ xs) n long small e = absurd (omega arith)
 
--- a number of so many bytes is below their range
+-- a number of two bytes is below 2 ^ 16
 big_number_fits : (xs : List ℕ) → AreBytes xs → big_number 2 xs < 2 ^ 16
 big_number_fits xs small =
     let first = small 0 in

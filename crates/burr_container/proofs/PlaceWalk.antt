@@ -12,7 +12,7 @@ use Rattle.burr_container.specs.Rules.Fitting.{is_tray, is_form, are_forms}
 use Rattle.burr_container.specs.Rules.Spelling.{form_size}
 use Rattle.burr_container.specs.Views.Decoding.{form_in, forms_in, place_in, rest_by, place_rest, places_in, places_stand, stands_by, IsAfterPlace}
 
--- what is after a part of so many bytes
+-- leaving out a + b bytes is leaving out a bytes, and then b more
 pub after : (a b : ℕ) (bytes : List ℕ) → drop (a + b) bytes ≡ drop b (drop a bytes)
 after a b bytes = grind (arith, common_steps)
 
@@ -86,7 +86,7 @@ stands_before live m bytes next over stand =
     let after = subst (λ (b : List ℕ). IsTrue (places_stand live m b)) over.over stand in
     subst (λ (b : List ℕ). IsTrue (places_stand live (suc m) b)) (sym over.parts) (both_tests _ _ over.stands after)
 
--- so many places are told as stand
+-- where n places stand, n places are decoded
 pub count_places : (live : List Bool) (n : ℕ) (bytes : List ℕ) → IsTrue (places_stand live n bytes) → length (places_in live n bytes) ≡ n
 count_places live zero bytes stand = refl
 count_places live (suc n) [] stand = absurd (cc)

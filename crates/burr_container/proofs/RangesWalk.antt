@@ -39,7 +39,7 @@ all_put test (suc n) (a ∷ xs) x all is =
     let both = and_parts (test a) (list_all test xs) all in
     and_from (test a) (list_all test (set xs n x)) both.0 (all_put test n xs x both.1 is)
 
--- the first n of so many ranges stand there, and the others are to be read
+-- the first n of `count` ranges stand there, and the others are to be read
 pub record AreRangesRead (count : ℕ) (begin : Cursor) (n : ℕ) (rs : List Range)
     (cursor : Cursor) : Type 0 where
   pub fails : (fault : ContainerFault) → each (count - n) range cursor.at cursor.rest.now fault

@@ -73,7 +73,7 @@ all_filled live bytes v coefs rest e l n =
 
 -- Lists
 
--- with so many forms of the rest these are all
+-- these forms and the k forms in the rest are together the list `all`
 pub record AreForms (live : List Bool) (all : List Form) (k : ℕ) (forms : List Form) (rest : List ℕ) : Type 0 where
   pub is : forms ++ forms_in live k rest ≡ all
   pub sized : length rest ≡ k * form_size live
@@ -96,13 +96,13 @@ form_added live all k m forms new rest next form e items is to are =
       sized = omega (arith, sized, cut);
     }
 
--- with none of the rest these are all
+-- where no form is left in the rest, these forms are the list `all`
 pub forms_whole : (live : List Bool) (all : List Form) (k : ℕ) (forms : List Form) (rest : List ℕ) → k ≡ 0
     → AreForms live all k forms rest → forms ≡ all
 forms_whole live all k forms rest e are =
     sym (append-nil forms) ∙ ap (λ (j : ℕ). forms ++ forms_in live j rest) (sym e) ∙ are.is
 
--- with so many places of the rest these are all
+-- these places and the first k places in the rest are together the list `all`
 pub record ArePlaces (live : List Bool) (all : List (Placement FormCell)) (k : ℕ) (places : List (Placement FormCell)) (rest : List ℕ) : Type 0
   where
     pub is : places ++ places_in live k rest ≡ all

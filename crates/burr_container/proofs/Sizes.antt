@@ -15,7 +15,7 @@ use Rattle.burr_container.specs.Rules.Fitting.{is_form, are_forms, is_range, are
 use Rattle.burr_container.specs.Rules.Faults.{label}
 use Rattle.burr_container.proofs.Common.Places.{form_length}
 
--- of each at most so many
+-- where each value takes at most `most` bytes, a list takes at most that for each of its values
 each_takes : {A : Type 0} (bytes : A → List ℕ) (fits : A → Bool) (most : ℕ)
     → ((a : A) → IsTrue (fits a) → length (bytes a) ≤ most) → (xs : List A)
     → IsTrue (list_all fits xs) → length (flat_map bytes xs) ≤ length xs * most

@@ -57,7 +57,7 @@ some_procedure kept (p, fits, is) = at_least_one kept.procedures p.procedures is
     at_least_one [] (q ∷ qs) are fits = absurd are
     at_least_one (r ∷ rs) (q ∷ qs) are fits = omega arith
 
--- the labels of a procedure are kept for a plan of so many pieces as the header tells
+-- the labels of a procedure are kept for a plan with the number of pieces that the header tells
 pub labels_of_plan : (kept : ContainerView) (i : ℕ) (r : StoredProcedure) → HasPlan kept → slice_get kept.procedures i ≡ Some r → r.labels.layout.pieces ≡ kept.header.pieces
 labels_of_plan kept i r (p, fits, is) at =
     let q = for_there (IsProcedure p.pieces) kept.procedures p.procedures i r is.procedures at in q.2.of_plan ∙ sym is.header.pieces

@@ -157,7 +157,7 @@ pub few_procedures : (version pieces : ℕ) (ps : List PlanProcedure)
 few_procedures version pieces [] fits = omega arith
 few_procedures version pieces (main ∷ others) fits = le_of _ _ (second_test _ _ fits)
 
--- what is asked of a plan to be written
+-- what the writing of a plan requires: counts that fit into their fields
 pub record HasRoom (plan : Plan) : Type 0 where
   pub name : length plan.name ≤ 32
   pub few : length plan.procedures ≤ 16

@@ -13,7 +13,7 @@ pub struct ExitRef<'a> {
     pub(crate) grip: u32,
     /// How many parameters the procedure has.
     pub(crate) parameters: u8,
-    /// The ranges of the results, the first so many.
+    /// The ranges of the results: the first `result_count` of these.
     pub(crate) results: [(i16, i16); 2],
     pub(crate) result_count: u8,
     pub(crate) guards: FormList<'a>,

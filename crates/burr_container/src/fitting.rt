@@ -101,7 +101,7 @@ fn is_procedure(layout: Layout, main: bool, procedure: &Procedure) -> bool
     is_body(layout, &procedure.labels, &procedure.code)
 }
 
-/// Whether so many parameters may be; main has none.
+/// Whether a procedure may have this many parameters; main has none.
 fn are_parameters(main: bool, parameters: u8) -> bool
     ensures test { result ≡ fit_parameters main parameters }
     ensures few { IsTrue result → parameters ≤ 4 }
@@ -109,7 +109,8 @@ fn are_parameters(main: bool, parameters: u8) -> bool
     parameters <= if main { 0 } else { MOST_PARAMETERS }
 }
 
-/// Whether so many results may be; main has none, and in version 1 no procedure has one.
+/// Whether a procedure may have this many results; main has none, and in version 1 no procedure
+/// has any.
 fn are_results(layout: Layout, main: bool, results: u8) -> bool
     ensures test { result ≡ fit_results layout.version main results }
     ensures few { IsTrue result → results ≤ 2 }
@@ -249,7 +250,7 @@ fn is_frame_rest(layout: Layout, live: &[bool; 8], frame: &Frame) -> bool
     are_places(layout, live, &frame.places)
 }
 
-/// Whether these are some of so many pieces.
+/// Whether all pieces of this set are pieces of the plan; bit p of the set stands for piece p.
 fn is_set_of(layout: Layout, set: u32) -> bool
     ensures { result ≡ fits_set layout.pieces set }
 {

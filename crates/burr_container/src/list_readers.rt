@@ -96,7 +96,7 @@ fn place_of(live: &[bool; 8], bytes: &[u8]) -> Option<(u8, Form, Form, Form)>
     Some((bytes[0], x, y, z))
 }
 
-/// What is after the first bytes, so many.
+/// The bytes after the first `count`.
 pub fn after(bytes: &[u8], count: usize) -> &[u8]
     requires { count ≤ length bytes.now }
     ensures { result.now ≡ drop count bytes.now }

@@ -33,7 +33,7 @@ pub struct FormList<'a> {
     ghost sized: { length bytes.now ≡ count * size_of_form live },
 }
 
-/// Places by forms over these live slots: the first so many that stand in the bytes.
+/// Places, given by forms over these live slots: the first `count` that stand in the bytes.
 #[derive(Clone, Copy)]
 pub struct PlaceList<'a> {
     pub live: [bool; 8],

@@ -20,7 +20,7 @@ pub fn live_slots(slots: &[Option<(i16, i16)>; 8]) -> [bool; 8]
     ]
 }
 
-/// The symbols of an exit frame with so many parameters and results: the first ones.
+/// The symbols of an exit frame: the first ones, as many as the parameters and results together.
 pub fn exit_symbols(parameters: u8, results: u8) -> [bool; 8]
     requires parameters { parameters ≤ 4 }
     requires results { results ≤ 2 }

@@ -14,8 +14,8 @@ use burr_io::{IoFailed, Sink, Source, WholeLines};
 use burr_runs::BenchFault;
 use burr_step::{Stepper, lines_of_commands_are_short};
 
-/// So many bytes of a line are kept: one more than any command's line may have, so that a longer line
-/// is seen to be none.
+/// How many bytes of a line are kept: one more than a command's line may have, so that a longer
+/// line is recognised as no command.
 pub const KEPT: usize = 65;
 
 /// A fault of a line is one of the dialogue.

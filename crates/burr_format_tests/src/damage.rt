@@ -229,7 +229,7 @@ fn is_wanted(want: Want, byte: &[u8], damaged: &[u8], place: usize, found: &str)
     }
 }
 
-/// Whether this is the answer to a front of a plan's text, in which so many lines end.
+/// Whether this is the answer to a front of a plan's text, in which `ends` lines end.
 fn is_of_lines(answers: &str, front: &[u8], ends: usize, found: &str) -> bool {
     let answer = answers.split(',').nth(ends).unwrap_or("");
     let text = str::from_utf8(front).unwrap_or("");
@@ -261,8 +261,9 @@ fn is_of_front(answer: &str, text: &str, found: &str) -> bool {
     }
 }
 
-/// Whether a container of so many bytes is right, or has a fault of the field of a place or of a later
-/// one. The fields of the plans here that may be faulty have at most four bytes.
+/// Whether a container of `size` bytes is right, or has a fault of the field that holds the byte at
+/// `place` or of a later one. The fields of the plans here that may be faulty have at most four
+/// bytes.
 fn is_of_field(found: &str, place: usize, size: usize) -> bool {
     match place_of(found) {
         Some(at) => place < at.wrapping_add(4) && at <= size,
@@ -286,7 +287,7 @@ fn is_fault(found: &str, name: &str, number: usize) -> bool {
     found.starts_with(name) && place_of(found) == Some(number)
 }
 
-/// Whether a text of so many lines was right, or has a fault of this line or a later one.
+/// Whether a text of `ends` lines was right, or has a fault of line `first` or a later one.
 fn is_sound(found: &str, first: usize, ends: usize) -> bool {
     match place_of(found) {
         Some(line) => first <= line && line <= ends.wrapping_add(1),

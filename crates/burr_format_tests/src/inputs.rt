@@ -72,7 +72,7 @@ fn with_repetition(alloc: Global, text: &str) -> Result<Option<String>, AllocErr
     Ok(Some(longer))
 }
 
-/// Adds a part so many times.
+/// Adds a part `count` times, each with its number.
 fn add_repeated(
     alloc: Global,
     count: usize,

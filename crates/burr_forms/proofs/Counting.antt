@@ -12,7 +12,7 @@ abbrev pub IsAscending : List ℤ → Type 0
 IsAscending [] = Unit {0}
 IsAscending (x ∷ xs) = All (λ y. x <ℤ y) xs × IsAscending xs
 
--- one of so many numbers from a number on
+-- x is one of the n numbers from a on
 abbrev IsAmong : ℤ → ℕ → ℤ → Type 0
 IsAmong a n x = (a ≤ℤ x) × (x <ℤ (a +ℤ pos n))
 

@@ -9,11 +9,11 @@ use Rattle.burr_forms.specs.Rules.Forms.{sum_of, IsSmall}
 use Rattle.burr_forms.specs.Views.Wides.{AllWithin}
 use Rattle.burr_forms.proofs.Values.{abs_small}
 
--- the numbers so many times
+-- k times each of the numbers
 abbrev pub multiples : ℤ → List ℤ → List ℤ
 multiples k ys = map (λ c. k *ℤ c) ys
 
--- the first i are added
+-- the first i multiples are added
 abbrev pub added : ℤ → ℕ → List ℤ → List ℤ → List ℤ
 added k i xs ys = sum_of (take i xs) (multiples k (take i ys)) ++ drop i xs
 

@@ -6,7 +6,7 @@ use Rattle.std.proofs.lemmas.List.{take_all}
 use Rattle.std.proofs.lemmas.List.Elements.{All-append, All-replicate}
 use Rattle.burr_forms.specs.Rules.Points.{IsRange, AreRanges, padded}
 
--- the first ranges, and 0 alone after them, so many in all
+-- the first i ranges, and after them ranges of 0 alone, n in all
 abbrev pub padded_to : ℕ → ℕ → List (ℤ × ℤ) → List (ℤ × ℤ)
 padded_to n i ranges = take i ranges ++ replicate (n - i) (pos 0, pos 0)
 

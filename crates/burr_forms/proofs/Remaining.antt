@@ -37,7 +37,7 @@ from_lows (range ∷ ranges) =
 -- From another one on
 
 module _ (range : ℤ × ℤ) (ranges : List (ℤ × ℤ)) (x : ℤ) where
-  -- the points that begin with one of so many numbers above x
+  -- the points that begin with one of the first n numbers above x
   after : ℕ → List Point
   after n = beginning_with (count_from (x +ℤ pos 1) n) (box_points ranges)
 

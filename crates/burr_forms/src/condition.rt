@@ -29,7 +29,7 @@ pub trait Condition {
 
 /// A condition that counts what it is asked: how often it looks at something.
 pub trait Asking {
-    /// All of it that asking leaves as it is.
+    /// The part of it that asking leaves as it is.
     ghost Subject: { Type 0 };
 
     ghost subject: { Self → Subject };
@@ -40,19 +40,19 @@ pub trait Asking {
     /// The forms that it asks for.
     ghost wanted: { Subject → List FormOf };
 
-    /// What is promised of their values where it is asked.
+    /// What is promised of their values when it is asked.
     ghost Promised: { Subject → List ℤ → Type 0 };
 
     /// What it says of their values.
     ghost Says: { Subject → List ℤ → Type 0 };
 
-    /// At most so often it looks where it is asked once.
+    /// The most looks that it makes when it is asked once.
     ghost most: { Subject → ℕ };
 
     /// How often it looks, where the forms have these values.
     ghost Counts: { Subject → List ℤ → ℕ → Type 0 };
 
-    /// What it keeps of values of which it does not say so.
+    /// What it keeps of the values where its answer is no.
     ghost Kept: { Self → Subject → List ℤ → Type 0 };
 
     /// The forms that it asks for.

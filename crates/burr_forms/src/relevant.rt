@@ -15,8 +15,8 @@ use arrayvec::ArrayVec;
 /// The first point of a box, rising, at which no guard is negative and the condition fails; None
 /// where it holds at each. There are at most eight ranges and 120 guards and forms; each range
 /// holds a number, and numbers within ±32,767 alone; the numbers of all forms lie within ±2^40: all
-/// is the caller's condition. What a symbol that no guard and no form has is does not matter: its
-/// lowest value alone is looked at.
+/// is the caller's condition. The value of a symbol that no guard and no form has does not matter,
+/// so only its lowest value is looked at.
 pub fn first_failing<C: Condition>(
     ranges: &[(i32, i32)],
     guards: &[Form],

@@ -44,7 +44,7 @@ impl Wide {
         wide
     }
 
-    /// Adds a form so many times. The sum has room, the caller's condition.
+    /// Adds `factor` times a form. The sum has room, the caller's condition.
     pub fn add_times(&mut self, factor: i64, form: &Form)
         requires wide { IsWideForm self.old }
         requires factor { IsSmall factor }
@@ -65,7 +65,7 @@ impl Wide {
     }
 }
 
-/// Adds to each number another one so many times.
+/// Adds to each number `factor` times the one at its place in `others`.
 fn add_multiples(numbers: &mut [i128; 8], factor: i64, others: &[i64; 8])
     requires wide { AllWithin (2 ^ 100) numbers.old }
     requires factor { IsSmall factor }

@@ -4,7 +4,7 @@ use Rattle.std.specs.Prelude.{reverse}
 use Rattle.std.proofs.lemmas.List.{length-drop, length-reverse, reverse-reverse, length-map, length-take-le, take_all, take_more, append_assoc, set-append_right, get_or-map}
 use Rattle.burr_code.specs.Labels.{argument_slots}
 
--- how many operands are left where so many are gone
+-- how many operands are left where the topmost `count` are gone
 pub left_many : {X : Type 0} (count : ℕ) (items operands : List X) → reverse items ≡ operands
     → length (drop count operands) ≡ length items - count
 left_many count items operands same =

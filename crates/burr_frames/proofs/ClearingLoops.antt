@@ -1,4 +1,4 @@
--- A loop over pairs of roles, a gripped piece and one that is left: what is still to be asked of.
+-- A loop over the pairs of a gripped piece and one left in the tray: those still to be looked at.
 use Rattle.std.proofs.Common.{◌≡◌, ◌≢◌, ℕ, zero, suc, ◌+◌, ◌<◌, ◌≤◌, List, [], ◌∷◌, ◌++◌, length, Some, refl, sym, ap, ◌∙◌, arith, add-one}
 use Rattle.std.specs.Prelude.{slice_get, map, drop}
 use Rattle.std.proofs.lemmas.Option.{none-some, same_Some}
@@ -77,7 +77,7 @@ module _ (pieces : List Role) (p : ℕ) where
       (ap (λ (rest : List Role). resting_pieces q rest) (drop_at pieces q role is)
       ∙ skip_left q role (drop (suc q) pieces) other)
 
-  -- one that is left is the next to be asked of
+  -- one that is left makes the next pair to be looked at
   pub next_pair : (q : ℕ) → IsRole pieces q Resting
       → pairs_after pieces p q ≡ (p, q) ∷ pairs_after pieces p (suc q)
   next_pair q is =

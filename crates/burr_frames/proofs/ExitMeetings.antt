@@ -14,7 +14,8 @@ use Rattle.burr_frames.specs.Views.Comparing.{offset_forms, Target, IsMetAt, IsM
 use Rattle.burr_frames.specs.Rules.ControlRules.{MeetsExitAt}
 use Rattle.burr_frames.proofs.Agreement.{parts_met, drop_front, same_places, same_offsets, FirstFailure, failure_of_same, FailsAsHanded}
 
--- what a state is compared by, and what with an exit frame over so many parameters
+-- the forms by which a state is compared, and the target that it is compared with: that of an exit
+-- frame over this many parameters
 abbrev pub asked_at_exit : AbstractState → List Form → List Form → List Form
 asked_at_exit s parameters results = (parameters ++ results) ++ offset_forms s.places
 

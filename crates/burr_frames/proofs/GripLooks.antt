@@ -59,14 +59,14 @@ looks_of_clearing given s places n h query homes looks is homed ranges on made =
           is.forms made)),
     )
 
--- where a piece is off the bench there is none
+-- where a piece is off the bench there are no looks
 pub no_looks_off_bench : (homes : List (List Cell)) (s : AbstractState) (places : List (Placement FormCell))
     (query : Query) (point : Point) → IsFirstFailing s (OnBenchAt places s.tray) point
     → clearing_looks homes s places query 0
 no_looks_off_bench homes s places query point first =
     inl ((λ all. first.fails (all point first.is_point)), refl)
 
--- of the same assembly, with so many more
+-- the same assembly, with n looks more
 pub counted_more : (old new : Counted) (n : ℕ) → new.assembly ≡ old.assembly → new.count ≡ (with_more n old).count
     → new ≡ with_more n old
 counted_more old new n same more =

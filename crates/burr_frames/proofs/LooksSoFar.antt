@@ -1,5 +1,5 @@
--- A loop that asks of pairs and counts: so many so far, no more than these, and what is still to be
--- asked of.
+-- A loop that looks at pairs and counts its looks: how many there were so far, a bound on them, and
+-- the pairs still to be looked at.
 use Rattle.std.proofs.Common.{◌≡◌, ℕ, ◌+◌, ◌≤◌, List, [], ◌∷◌, sym, ap, subst, arith}
 use Rattle.burr_assembly.specs.Rules.Homes.{homes_of}
 use Rattle.burr_blocking.specs.Rules.Counted.{Counted, with_more}
@@ -9,12 +9,12 @@ use Rattle.burr_frames.specs.Rules.Looks.{until_one_fails}
 use Rattle.burr_frames.proofs.Common.Until.{asks_none, asks_one, asks_last, asks_end, asks_then}
 
 module _ {A : Type 0} (IsSo : A → Type 0) (whole : List A) where
-  -- so many were asked of, and of these still is
+  -- so far at most `most` elements were looked at and counted; those of `left` are still to come
   abbrev pub SoFar : List A → ℕ → Counted → Counted → Type 0
   SoFar left most old new =
       (asked : ℕ) × (asked ≤ most) × AsksOn IsSo whole left asked × (new ≡ with_more asked old)
 
-  -- so many were asked of, and no more are
+  -- in all at most `most` elements were looked at and counted, and none is still to come
   abbrev pub InAll : ℕ → Counted → Counted → Type 0
   InAll most old new =
       (asked : ℕ) × (asked ≤ most) × until_one_fails IsSo whole asked × (new ≡ with_more asked old)
@@ -23,7 +23,7 @@ module _ {A : Type 0} (IsSo : A → Type 0) (whole : List A) where
   from_first left looks e =
       (0, omega arith, subst (λ (xs : List A). AsksOn IsSo whole xs 0) (sym e) (asks_none IsSo whole), none_more looks)
 
-  -- the same is still to be asked of
+  -- the same elements are still to come
   pub passed_over : (left then : List A) (most more : ℕ) (old new : Counted) → left ≡ then → most ≤ more
       → SoFar left most old new → SoFar then more old new
   passed_over left then most more old new e l (asked, few, on, counts) =
@@ -51,7 +51,7 @@ module _ {A : Type 0} (IsSo : A → Type 0) (whole : List A) where
     both_more old mid new asked 1 counts more,
   )
 
-  -- a stretch that is asked of, up to its end
+  -- a stretch that is looked at up to its end
   pub stretch_passes : (left then : List A) (most own : ℕ) (old mid new : Counted)
       → SoFar left most old mid
       → ((n : ℕ) × (n ≤ own) × AsksOn IsSo left then n × (new ≡ with_more n mid))

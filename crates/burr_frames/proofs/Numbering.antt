@@ -15,7 +15,8 @@ pub some_of : {A : Type 0} (o : Option A) → is_some o ≡ true → (x : A) × 
 some_of None e = absurd (grind arith)
 some_of (Some x) e = (x, refl)
 
--- of eight slots the first v have their symbols, so many, and nothing is known of the others
+-- of eight slots the first v have their symbols, and nothing is known of the others, whose symbols
+-- are to be numbered from `count` on
 pub record IsNumbered (whole : List (Option Range)) (v count : ℕ) (slots : List (Option Form)) : Type 0 where
   pub front : List (Option Form)
   pub many : length front ≡ v

@@ -12,10 +12,10 @@ use thiserror::Error;
 pub struct Break {
     /// The first of the instruction's checks that fails.
     pub rule: Rule,
-    /// The first pair of pieces for which it fails, where it is asked of pairs: a gripped piece
-    /// first.
+    /// The first pair of pieces for which it fails, the gripped piece first, where the rule is
+    /// about pairs.
     pub pieces: Option<(u8, u8)>,
-    /// The first of the state's points at which it fails, where it is asked at points.
+    /// The first of the state's points at which it fails, where the rule is judged at points.
     pub point: Option<Point>,
 }
 
@@ -42,7 +42,7 @@ impl Break {
         }
     }
 
-    /// A frame that is not met, where the rule asks for it.
+    /// A rule that is broken because the frame that it asks for is not met.
     pub(crate) fn missed(rule: Rule, miss: Miss) -> Break
         ensures { broken_of result
             ≡ missed_break rule (option_map (λ point. point.items) miss.point) }

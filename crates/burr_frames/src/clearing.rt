@@ -14,8 +14,8 @@ use burr_blocking::{Blocking, Looks, Query};
 use burr_forms::{Asking, Form};
 use burr_voxels::Cell;
 
-/// Where a piece stands as pairs are asked of: it is in another tray or apart, it is gripped, or it
-/// is in the tray and left there.
+/// Where a piece stands when pairs are looked at: in another tray or apart, in the tray and
+/// gripped, or in the tray and left there.
 #[derive(Clone, Copy, Default, PartialEq, Eq)]
 pub enum Role {
     #[default]
@@ -24,17 +24,17 @@ pub enum Role {
     Resting,
 }
 
-/// The condition that no gripped piece is in the way of a piece that is left in the tray, asked of
-/// pair by pair until one is not clear; each pair that is asked of is a look.
+/// The condition that no gripped piece is in the way of a piece that is left in the tray. The pairs
+/// are looked at one by one until one is not clear; each pair that is looked at counts as a look.
 #[derive(Drop)]
 pub struct Clearing<'a, 'b, B: Blocking> {
     /// The offset of each piece, three forms for each; the pieces lie on the bench.
     pub forms: &'a [Form],
-    /// Of the first pieces, each of which the assembly has.
+    /// The roles of the assembly's first pieces.
     pub roles: &'a [Role],
     pub query: Query,
     pub looks: &'a mut Looks<'b, B>,
-    /// The first pair that was not clear where the condition was asked of last.
+    /// The first pair that was not clear when the condition was last judged.
     pub found: Option<(u8, u8)>,
     ghost shape: { 3 * length roles.now ≤ length forms.now },
     ghost pieces: { length roles.now ≤ length looks.now.assembly.pieces },

@@ -59,7 +59,7 @@ pub record IsPlanTextOf (a : Assembly) (lines text : List ℕ) : Type 0 where
 abbrev pub IsPlanOfSheet : Assembly → List ℕ → List ℕ → Type 0
 IsPlanOfSheet a sheet text = IsPlanTextOf a (move_lines_of sheet) text
 
--- the first lines of a text, so many or as many as it has
+-- the first n lines of a text, or the whole text where it has fewer
 abbrev pub first_lines : ℕ → List ℕ → List ℕ
 first_lines n [] = []
 first_lines zero (b ∷ bytes) = []

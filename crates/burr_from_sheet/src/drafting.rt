@@ -61,7 +61,7 @@ fn begins_line(before: &[Motion], motion: &Motion) -> bool {
 }
 
 impl Draft {
-    /// No code, with so many pieces in tray 0.
+    /// A draft without code, with this many pieces, which are all in tray 0.
     fn new(alloc: Global, pieces: u8) -> Draft {
         let mut places = [Placement::Apart; MOST_PIECES];
         for place in places.iter_mut().take(usize::from(pieces)) {

@@ -67,7 +67,7 @@ fn first_faulty_line(alloc: Global, assembly: &Assembly, lines: &[u8]) -> Result
     Ok(faulty)
 }
 
-/// The first lines of a text: so many, or as many as it has.
+/// The first `count` lines of a text, or the whole text where it has fewer.
 fn first_lines(text: &[u8], count: usize) -> &[u8]
     ensures { result.now ≡ first_lines_of count text.now }
 {

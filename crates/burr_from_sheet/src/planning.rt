@@ -51,7 +51,7 @@ fn main_of(alloc: Global, pieces: u8, code: &DraftedCode) -> Result<Procedure, A
     })
 }
 
-/// The frame of a run's start, with so many pieces at home and so many steps to come.
+/// The frame of a run's start, with `pieces` pieces, all at home, and `steps` steps still to come.
 fn start_of(alloc: Global, pieces: u8, steps: u16) -> Result<Frame, AllocError> {
     let mut places = Vec::new(alloc);
     for _ in 0..pieces {

@@ -16,7 +16,7 @@ lines_view sink = record {
   has_failed = λ l. sink.has_failed l.sink;
 }
 
--- of bytes that were held back the first so many were handed on, and the others still are
+-- of bytes that were held back the first `count` were handed on, and the others are still held back
 pub record HandsOn {S : Type 0} (sink : SinkView S) (old new : S) (count : ℕ)
     (old_held new_held : List ℕ) : Type 0 where
   pub takes : Appends (sink.taken old) (sink.taken new) (take count old_held)

@@ -146,7 +146,7 @@ fn last_end(bytes: &[u8]) -> Option<usize>
     bytes.iter().rposition(|byte| *byte == b'\n')
 }
 
-/// Hands on so many bytes of a buffer, its first, by as many calls as it takes.
+/// Hands on the first `count` bytes of a buffer, by as many calls as it takes.
 fn hand_on<W: Sink, const N: usize>(
     held: &mut ArrayVec<u8, N>,
     count: usize,
@@ -167,7 +167,7 @@ fn hand_on<W: Sink, const N: usize>(
     Ok(())
 }
 
-/// Drops so many bytes of a buffer, its first.
+/// Drops the first `count` bytes of a buffer.
 fn drop_front<const N: usize>(held: &mut ArrayVec<u8, N>, count: usize)
     requires { count ≤ length held.old.items }
     ensures { held.new.items ≡ drop count held.old.items }

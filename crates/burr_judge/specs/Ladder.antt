@@ -52,13 +52,13 @@ BytesCome Refuses Uses bytes =
     ((fault : ContainerFault) × ContainerFails 0 bytes fault × Refuses (container_refusal fault))
     ⊎ ((kept : ContainerView) × IsRead bytes kept × Uses kept)
 
--- so it is with a plan, as it is given
+-- the same of a plan that comes as a container or as a text
 abbrev pub GivenComes : (List ℕ → Type 0) → (ContainerView → Type 0) → Given → Type 0
 GivenComes Refuses Uses (given.Container bytes) = BytesCome Refuses Uses bytes.now
 GivenComes Refuses Uses (given.Text text) =
     PlanTextComes Refuses (λ bytes. BytesCome Refuses Uses bytes) text.now
 
--- a plan is refused, or it is accepted by so many looks and used
+-- a plan is refused, or it is accepted by some number of looks and used
 abbrev pub PlanJudged : (List ℕ → Type 0) → (ℕ → Type 0) → ContainerView → Assembly → Type 0
 PlanJudged Refuses Uses kept a =
     ((r : Refusal) × IsRefusedBy kept a r × Refuses (plan_refusal a r))

@@ -39,7 +39,7 @@ IsRefusal line output status = (output ≡ line) × (status ≡ Refused)
 abbrev pub RefusedEnds : ContainerView → Assembly → Ends
 RefusedEnds kept a output status = IsVerdictLine kept a false output × (status ≡ Refused)
 
--- the plan was accepted by so many looks
+-- the plan was accepted by this many looks
 abbrev pub VerdictEnds : Judged → ℕ → Ends
 VerdictEnds j looks output status =
     ((cost : ℕ) × MainCosts j cost × (output ≡ accepted_line cost j.container.header.budget looks))
@@ -55,8 +55,8 @@ abbrev pub FaultyEnds : AnswersFault → Ends
 FaultyEnds (Line line) output status = IsRefusal (answers_refusal line) output status
 FaultyEnds Memory output status = ⊥
 
--- the first faulty line of a text of answers is refused, or it is the text of answers with which it
--- ends so
+-- the first faulty line of a text of answers is refused, or the command ends as given for its
+-- answers
 abbrev pub AnswersEnd : List ℕ → (List ℤ → Ends) → Ends
 AnswersEnd text With output status =
     ((fault : AnswersFault) × IsAnswersFault text fault × FaultyEnds fault output status)
@@ -106,22 +106,22 @@ TaskEnds Check kept a text = CheckEnds kept a
 TaskEnds Run kept a text = RunEnds kept a text
 TaskEnds Try kept a text = TryEnds kept a text
 
--- an assembly's text is refused, or it is that of one with which it ends so
+-- an assembly's text is refused, or the command ends as given for its assembly
 abbrev pub TextEnds : List ℕ → (Assembly → Ends) → Ends
 TextEnds text With output status =
     TextComes (λ line. IsRefusal line output status) (λ a. With a output status) text
 
--- a plan text is refused, or the bytes that it is assembled to end so
+-- a plan text is refused, or the command ends as given for the bytes that it is assembled to
 abbrev pub PlanTextEnds : List ℕ → (List ℕ → Ends) → Ends
 PlanTextEnds text With output status =
     PlanTextComes (λ line. IsRefusal line output status) (λ bytes. With bytes output status) text
 
--- a container's bytes are refused, or they are those of one with which it ends so
+-- a container's bytes are refused, or the command ends as given for the container
 abbrev pub ContainerEnds : List ℕ → (ContainerView → Ends) → Ends
 ContainerEnds bytes With output status =
     BytesCome (λ line. IsRefusal line output status) (λ kept. With kept output status) bytes
 
--- so it is with a plan, as it is given
+-- the same of a plan that comes as a container or as a text
 abbrev pub GivenEnds : Given → (ContainerView → Ends) → Ends
 GivenEnds plan With output status =
     GivenComes (λ line. IsRefusal line output status) (λ kept. With kept output status) plan

@@ -16,7 +16,7 @@ pub trait AcceptedUse<I, W>: Refuse<W> {
     ghost use Rattle.burr_judge.specs.declared.fault.Fault.{Fault};
     ghost use Rattle.burr_judge.specs.declared.status.Status.{Status};
 
-    /// What the use of a plan that was accepted by so many looks comes to.
+    /// What comes of the use of a plan that was accepted by this many looks.
     ghost uses: { Self → I → W → Judged → ℕ → Result Status Fault → I → W → Type 0 };
 
     /// Uses an accepted plan.

@@ -3,7 +3,7 @@ ghost use Rattle.burr_judge.specs.Statuses.{code_of};
 
 use burr_runs::Outcome;
 
-/// How the program ended, as its status tells whoever called it.
+/// How the program ended, as its status tells the caller.
 #[derive(Clone, Copy, Debug, PartialEq, Eq)]
 pub enum Status {
     /// All pieces are apart, a command has done what it is for, or help or the version was written.

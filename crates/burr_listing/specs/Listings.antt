@@ -83,7 +83,7 @@ IsFirst labels procedures code found =
     (λ found. MayBeListed labels procedures (meaning found.0) × Begins code (meaning found.0)
     × (found.1 ≡ length (spelled (meaning found.0))))
 
--- the first line of code is added, and stands for so many bytes
+-- the first line of code is added, and stands for the first `size` bytes
 pub record IsLineAdded (labels procedures : ℕ) (code old new : List ℕ) (size : ℕ) : Type 0 where
   pub statement : Statement
   pub listed :

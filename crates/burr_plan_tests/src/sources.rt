@@ -23,7 +23,7 @@ fn ends_so(alloc: Global, mut source: Portions<'_>, (end, text): (&str, &str)) -
     word == end && written.as_slice() == text.as_bytes()
 }
 
-/// Whether a source's bytes are read to its end, which gives so many a call.
+/// Whether these bytes are read to the end from a source that gives at most `each` of them a call.
 fn is_read_whole(alloc: Global, bytes: &[u8], each: usize) -> Result<bool, BenchFault> {
     let read = read_whole(alloc, &mut Reading::new(Portions::new(bytes, each)))?;
     Ok(read.as_slice() == bytes)
@@ -50,8 +50,8 @@ pub fn reads_portions(
     ends_so(alloc, Portions::new(bytes, 1), wanted) && is_read_whole(alloc, bytes, 1) == Ok(true)
 }
 
-/// So many line ends, how many of them are given a call, whether they fail then, how that ends, and
-/// what is put.
+/// In each row: how many line ends there are, how many of them are given a call, whether the source
+/// fails after them, how that ends, and what is put.
 const BLANKS: [(usize, usize, bool, (&str, &str)); 7] = [
     (0, 1, true, ("Read", "")),
     (1, 1, true, ("Read", "")),

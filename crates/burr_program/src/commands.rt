@@ -1,5 +1,5 @@
-//! A command a file: each reads its files, does what it is for, and puts what there is to print, which
-//! is handed on by whoever called it.
+//! The commands, one in each file. Each reads its files, does what it is for, and puts what there
+//! is to print, which the caller hands on.
 
 mod asm;
 mod check;

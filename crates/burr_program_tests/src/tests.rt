@@ -52,7 +52,7 @@ fn replaced<T: Abort + AllocGlobal>(rt: &T, text: &str, old: &str, new: &str) ->
     text.replace(rt.alloc(), old, new).expect(rt, "memory")
 }
 
-/// A reader that gives a byte a call, and fails where so many calls have been made.
+/// A reader that gives a byte a call, and fails once `calls` more calls have been made.
 #[derive(Drop)]
 struct Drips<'a> {
     left: &'a [u8],

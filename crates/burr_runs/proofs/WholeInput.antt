@@ -36,7 +36,7 @@ write_fails IsRight r old new failed err front = let p = err_from_is_err_and r e
 pub write_touches : {A : Type 0} (r : Result A BenchFault) (Same : Type 0) → IsErrAnd r (λ e. e ≡ Write) → IfErr r (λ fault. fault ≢ Write → Same)
 write_touches r Same err = let p = err_from_is_err_and r err in rw (p.1, p.2) (λ other. absurd (other refl))
 
--- an input that is none
+-- bytes that are not an input
 
 pub front_of_refused : (old new : Option (List ℕ)) (failed : Bool) (input : List ℕ)
     → ((text code : List ℕ) → ¬ IsInput input text code) → TakesFront old new (codes "refused input\n") → failed ≡ true → PutsFrontOfOutput (IsOutput input) old new failed

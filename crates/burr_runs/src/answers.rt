@@ -38,9 +38,9 @@ impl<T: Drop> From<AllocFailed<T>> for AnswersFault {
     }
 }
 
-/// The answers of a text: one number of 32 bits on each line, each line ended by a line feed. No
-/// bytes are no answers. Else the first line that is none, or `Memory` where a request for memory
-/// was refused.
+/// The answers of a text: one number of 32 bits on each line, each line ended by a line feed. An
+/// empty text has no answers. The fault names the first line that is not an answer, or is `Memory`
+/// where a request for memory was refused.
 pub fn read_answers(alloc: Global, text: &[u8]) -> Result<Vec<i32>, AnswersFault>
     ensures ok { IfOk result (λ answers. text.now ≡ answers_text answers.items) }
     ensures err { IfErr result (IsAnswersFault text.now) }

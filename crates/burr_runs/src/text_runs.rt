@@ -92,7 +92,7 @@ fn refuse_text<W: Sink>(
     Ok(Outcome::Refused)
 }
 
-/// Refuses an input whose last line is none with code.
+/// Refuses an input whose last line is not a line with code.
 fn refuse_input<W: Sink>(sink: &mut W) -> Result<Outcome, WriteFault>
     ensures puts { Puts W.Sink sink.old sink.new (codes "refused input\n") result }
     ensures refused { IfOk result (λ outcome. outcome ≡ Refused) }

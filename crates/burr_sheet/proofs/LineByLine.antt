@@ -26,7 +26,7 @@ all_rest : (P : Motion → Type 0) (front rest : List Motion) → All P (front +
 all_rest P [] rest h = h
 all_rest P (m ∷ front) rest h = all_rest P front rest (All-tail P m (front ++ rest) h)
 
--- motions of so many pieces, no more than a run makes
+-- motions of this many pieces, no more of them than a run makes
 record AreMotions (pieces : ℕ) (motions : List Motion) : Type 0 where
   each : All (IsMotionOf pieces) motions
   few : length motions ≤ MOST_BUDGET
@@ -37,7 +37,7 @@ motions_after pieces all front rest are parts = record {
   few = let few = are.few in omega (arith, ap length parts, length-append front rest);
 }
 
--- the first line of such motions is one of so many pieces
+-- the first line of such motions is a line of as many pieces
 first_line : (pieces : ℕ) (motions : List Motion) (l : MoveLine) (ls : List MoveLine) → AreMotions pieces motions → BeginsWith l ls motions → IsLineOf pieces l
 first_line pieces motions l ls are b =
     is_line_of pieces l b.some (let few = are.few in omega (arith, ap length b.parts, length-append (motions_of l) b.more, length-motions_of l))

@@ -12,7 +12,7 @@ use Rattle.burr_sheet.specs.Rules.SheetText.{MoveLine, alone, goes_onto, with_mo
 use Rattle.burr_sheet.specs.Views.MotionLines.{IsLineOf, aside_of, joins, motion_count, motion_on, motions_of}
 use Rattle.burr_sheet.proofs.GrowingLines.{same_number, goes_onto-alike, with_motion-joined, with_motion-apart, with_motion-out}
 
--- the line with so many units, which an aside ends or not
+-- the line with this many units, which an aside ends or not
 abbrev of_units : MoveLine → ℕ → Bool → MoveLine
 of_units l units out = record {
   group = l.group;
@@ -164,7 +164,7 @@ length-motions_of l = length-append (replicate l.units (motion_on l false)) (asi
     asides true = refl
     asides false = refl
 
--- each motion of a line is one of so many pieces
+-- each motion of a line of this many pieces is a motion of as many pieces
 pub each_of : (pieces : ℕ) (l : MoveLine) → IsLineOf pieces l → All (IsMotionOf pieces) (motions_of l)
 each_of pieces l line =
     All-append (IsMotionOf pieces) (replicate l.units (motion_on l false)) (aside_of l)
@@ -174,14 +174,14 @@ each_of pieces l line =
     asides true = All-cons (IsMotionOf pieces) (motion_on l true) [] (record { some = line.some; group = line.group; tray = line.tray }) (All-nil (IsMotionOf pieces))
     asides false = All-nil (IsMotionOf pieces)
 
--- some motion of a line is one of so many pieces
+-- a line has a motion of this many pieces, where it has any motion and all of them are such
 some_of : (pieces : ℕ) (l : MoveLine) (units : ℕ) (out : Bool) → 0 < motion_count (of_units l units out) → All (IsMotionOf pieces) (motions_of (of_units l units out))
     → (any : Bool) × IsMotionOf pieces (motion_on l any)
 some_of pieces l zero true some each = (true, All-head (IsMotionOf pieces) (motion_on l true) [] each)
 some_of pieces l zero false some each = absurd (omega arith)
 some_of pieces l (suc n) out some each = (false, All-head (IsMotionOf pieces) (motion_on l false) (motions_of (of_units l n out)) each)
 
--- so the line is a line of so many pieces
+-- so such a line is a line of this many pieces
 pub is_line_of : (pieces : ℕ) (l : MoveLine) → 0 < motion_count l → motion_count l ≤ MOST_BUDGET → All (IsMotionOf pieces) (motions_of l) → IsLineOf pieces l
 is_line_of pieces l some few each =
     let one = (some_of pieces l l.units l.out some each).1 in

@@ -26,8 +26,8 @@ ClosesWell setup budget last left (closings.Waiting low high) =
 ClosesWell setup budget last left (closings.Trapped trap procedure pc) = ⊥
 ClosesWell setup budget last left closings.Stopped = ⊥
 
--- A run from a state with these answers, which makes these motions and so many steps and closes so,
--- is safe: its calls come to a last state, where it closes well.
+-- A run from a state with these answers, which makes these motions, has made this many steps at its
+-- end and closes in this way, is safe: its calls come to a last state, where it closes well.
 pub record IsSafeRun (setup : Setup) (budget : ℕ) (s : BenchState) (answers : List ℤ)
     (motions : List Motion) (steps : ℕ) (closing : Closing) : Type 0 where
   pub last : BenchState

@@ -175,7 +175,7 @@ impl Differences {
         }
     }
 
-    /// The ranges of results, which stand behind the parameters.
+    /// The ranges of results, whose symbols come after those of the parameters.
     fn compare_results(&mut self, exit: &ExitRef<'_>, symbols: &[i64]) {
         let parameters = usize::from(exit.parameters());
         for n in 0..exit.result_count() {

@@ -57,7 +57,7 @@ pub struct Standing {
 }
 
 impl Standing {
-    /// So many pieces at home in tray 0, with nothing gripped.
+    /// This many pieces, all at home in tray 0, with nothing gripped.
     pub fn at_home(pieces: u8) -> Standing {
         let mut places = ArrayVec::new();
         for _ in 0..pieces {
@@ -103,7 +103,7 @@ impl Standing {
         standing
     }
 
-    /// Goes on where a procedure with so many parameters is called: the arguments are in its slots.
+    /// Enters a called procedure with this many parameters, with the arguments in its slots.
     pub fn enter(&mut self, parameters: u8) {
         let arguments = self.arguments(parameters);
         for v in 0..SLOTS {
@@ -147,7 +147,7 @@ impl Standing {
         values
     }
 
-    /// What is in the slots of so many parameters; 0 where it is not known.
+    /// What is in the slots of this many parameters; 0 where it is not known.
     fn parameter_values(&self, parameters: u8) -> ArrayVec<i64, MOST_SYMBOLS> {
         let mut values = ArrayVec::new();
         for v in 0..usize::from(parameters) {

@@ -9,7 +9,7 @@ use Rattle.burr_state.specs.Views.Programs.{HasLabels}
 rest_are_there : (positions : List ℕ) (label : ℕ) (labels : List ℕ) → HasLabels positions (label ∷ labels) → HasLabels positions labels
 rest_are_there positions label labels all n other less at = all (suc n) other (omega (arith, less)) at
 
--- labels that are all there stand at so many positions
+-- labels that are all there stand at as many positions as there are labels
 pub labelled_all : (positions labels : List ℕ) → HasLabels positions labels → (to : List ℕ) × (labelled positions labels ≡ Some to) × (length to ≡ length labels)
 labelled_all positions [] all = ([], refl, refl)
 labelled_all positions (label ∷ labels) all =
@@ -37,7 +37,7 @@ pub none_or_some : {A : Type 0} (o : Option A) → (o ≡ None) ⊎ ((x : A) × 
 none_or_some None = inl refl
 none_or_some (Some x) = inr (x, refl)
 
--- where one is missing, they do not
+-- where a label is missing, they do not all stand at positions
 pub one_missing : (positions labels : List ℕ) → (¬ HasLabels positions labels) → labelled positions labels ≡ None
 one_missing positions labels missing = by_cases (none_or_some (labelled positions labels)) where
   by_cases : (labelled positions labels ≡ None) ⊎ ((to : List ℕ) × (labelled positions labels ≡ Some to)) → labelled positions labels ≡ None

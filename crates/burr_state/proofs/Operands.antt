@@ -36,7 +36,7 @@ slots_of_arguments k xs some =
     let last = drop (length xs - k) xs in
     ap (λ n. map Some last ++ replicate (8 - n) None) (sym (length-reverse last)) ∙ ap (λ ys. map Some ys ++ replicate (8 - length (reverse last)) None) (sym (reverse-reverse last)) ∙ ap argument_slots (sym (take_reverse k xs))
 
--- the last of the operands, so many, as the topmost
+-- the last `count` operands, in the order of the code, are the topmost `count`
 pub topmost_given : (count : ℕ) (items operands last : List ℤ) (result : Result (ArrayVec ℤ) (CapacityError (Unit {0})))
     (given : Option (ArrayVec ℤ)) → count ≤ length items → length items ≤ 8 → reverse items ≡ operands
     → last ≡ drop (length items - count) items → given ≡ result_ok result

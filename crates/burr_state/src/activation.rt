@@ -127,10 +127,10 @@ impl Activation {
         self.pc
     }
 
-    /// A call of a procedure with so many parameters and results, whose arguments are taken off the
-    /// operands: the top becomes the last one's. Where there are fewer operands it traps with
-    /// `MissingOperand`, where what is left has no room for the results with `StackFull`, and then
-    /// nothing changes.
+    /// Calls a procedure that has this many parameters and results: takes its arguments off the
+    /// operands, the top as the last one, and gives the activation of the procedure. It traps with
+    /// `MissingOperand` where there are fewer operands than parameters, and with `StackFull` where
+    /// the operands that are left have no room for the results; a trap changes nothing.
     pub fn calls(&mut self, procedure: u8, parameters: u8, results: u8) -> Result<Activation, Trap>
         ensures calls { CallsFor self.old procedure parameters results result self.new }
         ensures few { length self.old.operands ≤ MOST_OPERANDS }
@@ -151,7 +151,7 @@ impl Activation {
         })
     }
 
-    /// The so many topmost operands, the top last; None where there are fewer.
+    /// The topmost `count` operands, the top last; None where there are fewer.
     pub fn top_many(&self, count: u8) -> Option<ArrayVec<i32, MOST_OPERANDS>>
         ensures { MatchOption result (top_many count self.now.operands ≡ None)
             (λ numbers. (top_many count self.now.operands
@@ -202,21 +202,21 @@ impl Activation {
         operands
     }
 
-    /// Has other slots.
+    /// Puts these slots in place of its own.
     pub fn set_slots(&mut self, slots: [Option<i32>; SLOTS])
         ensures { self.new ≡ record self.old { slots = slots } }
     {
         self.slots = slots;
     }
 
-    /// Has other operands, the bottom first.
+    /// Puts these operands, the bottom first, in place of its own.
     pub fn set_operands(&mut self, operands: ArrayVec<i32, MOST_OPERANDS>)
         ensures { self.new ≡ with_operands (reverse operands.items) self.old }
     {
         self.operands = operands;
     }
 
-    /// Takes so many numbers off the operands, or all where there are fewer.
+    /// Takes the topmost `count` operands off, or all where there are fewer.
     pub fn drop_many(&mut self, count: u8)
         ensures { self.new ≡ with_operands (drop count self.old.operands) self.old }
     {

@@ -98,7 +98,7 @@ top_is : {A : Type 0} (xs : List A) (x : A × List A) → top xs ≡ Some x → 
 top_is [] x e = absurd (none-some x e)
 top_is {A = A} (y ∷ ys) x e = ap (λ (z : A × List A). z.0 ∷ z.1) (same_Some (y, ys) x e)
 
--- so many are taken
+-- at most n are taken
 many_are : {A : Type 0} (n : ℕ) (xs : List A) (x : List A × List A) → top_many n xs ≡ Some x → length x.0 ≤ n
 many_are {A} n xs x e = by_test (nat_le n (length xs)) e
   where

@@ -207,7 +207,7 @@ module _ (IsSo : BenchState → Type 0) where
       by_refusal code.S4 came free = record { comes = by_comes _ came.comes; same = came.same }
       by_refusal code.Memory came free = absurd free
 
--- What is asked of a stepper, said otherwise
+-- What a command comes to, said in another way
 
 pub going_so : (setup : Setup) (s : BenchState) (Rest Other : Follows) → ((o : StepOutcome) → Rest o → Other o)
     → (o : StepOutcome) → going setup s Rest o → going setup s Other o

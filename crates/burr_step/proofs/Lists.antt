@@ -50,6 +50,6 @@ module _ {X : Type 0} where
       turned [] = refl
       turned (y ∷ ys) = subst IsPopped (sym (first_last y ys)) (with_last (reverse ys) y)
 
-  -- the last so many, turned round, are the first so many of the list turned round
+  -- the last n, turned round, are the first n of the list turned round
   pub pushed : (n : ℕ) (xs : List X) (x : X) → reverse (keep_last n (xs ++ x ∷ [])) ≡ take n (x ∷ reverse xs)
   pushed n xs x = sym (take_reverse n (xs ++ x ∷ [])) ∙ ap (λ (l : List X). take n l) (reverse_snoc x xs)

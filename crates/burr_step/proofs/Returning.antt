@@ -306,7 +306,7 @@ restarted law j old undos is b assembly program at =
       (begins_bare law j a b assembly program at).under_way,
     )
 
--- it has the run that was made
+-- the steps that were made, or fewer of them, can be made again from the start
 pub has_run : (old : Stepping) (undos : List Undo) → IsUnderWay old undos → (b : Benched) → IsSameRun old.bench b → IsAtStart b
     → (steps : ℕ) → steps ≤ old.history.steps → HasRun b old.history.answers steps
 has_run old undos under_way b same at steps within =
@@ -317,7 +317,7 @@ has_run old undos under_way b same at steps within =
       subst (λ (x : BenchState). Leads (setup_of b) x old.history.steps old.history.answers old.bench.state) (sym at.state) whole,
     )
 
--- made again up to so many steps before, it has gone back so many
+-- a run that is made again without its last `steps` steps has gone back by that many
 pub again_done : (old : Stepping) (b now : Benched) (steps taken : ℕ) (undos : List Undo) → IsSameRun old.bench b → IsSameRun b now
     → IsUnderWay (stepping now (take taken old.history.answers)) undos → steps ≤ old.history.steps → now.state.steps ≡ old.history.steps - steps
     → IsDone old (commanding old (Back steps)) (stepping now (take taken old.history.answers))

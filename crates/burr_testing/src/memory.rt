@@ -26,7 +26,7 @@ impl MemoryHog {
         Ok(MemoryHog { alloc, blocks })
     }
 
-    /// Takes blocks of a size, so many or as many as can be had.
+    /// Takes `count` blocks of a size, or as many as can be had.
     fn take(&mut self, size: usize, count: usize) {
         for _ in 0..count {
             if self.blocks.len() >= MOST_BLOCKS {
@@ -41,7 +41,7 @@ impl MemoryHog {
         }
     }
 
-    /// Takes so many blocks of each small size.
+    /// Takes `count` blocks of each small size, or as many as can be had.
     fn take_small(&mut self, count: usize) {
         for size in SMALL.step_by(16).rev() {
             self.take(size, count);

@@ -2,8 +2,9 @@
 use std::alloc::Global;
 use std::io::{self, ErrorKind, Read, Write};
 
-/// A reader that gives so many bytes a call. It may fail at one call alone, where it has given so
-/// many: so whoever calls it again after that is seen.
+/// A reader that gives at most `each` bytes a call. It may fail at one call alone, once it has
+/// given a certain number of bytes; at later calls it gives the others, so that a caller that calls
+/// it again after a failure is noticed.
 #[derive(Drop)]
 pub struct Portions<'a> {
     left: &'a [u8],
@@ -28,7 +29,7 @@ impl<'a> Portions<'a> {
         }
     }
 
-    /// A reader that fails where it has given so many bytes.
+    /// A reader that fails where it has given `at` bytes.
     pub fn failing(bytes: &'a [u8], each: usize, at: usize, kind: ErrorKind) -> Portions<'a> {
         Portions {
             left: bytes,

@@ -31,7 +31,7 @@ impl Costs {
         }
     }
 
-    /// Notes an arrival in the innermost of so many activations, after so many steps.
+    /// Notes an arrival in the innermost of `depth` activations, after `steps` steps.
     pub fn arrive(&mut self, depth: usize, steps: u64) -> Result<(), AllocError> {
         self.open.push(Open {
             arrival: self.costs.len(),
@@ -42,7 +42,7 @@ impl Costs {
         Ok(())
     }
 
-    /// Notes that after so many steps no more than so many activations are left.
+    /// Notes that after `steps` steps no more than `depth` activations are left.
     pub fn close_above(&mut self, depth: usize, steps: u64) {
         for _ in 0..self.open.len() {
             let Some(open) = self.open.last().copied() else {

@@ -11,8 +11,8 @@ use std::alloc::{AllocError, Global};
 /// How many lines a blank frame has beside those of pieces.
 const HEAD_LINES: usize = 2;
 
-/// A plan text in which a line `auto` may stand after a label, in place of its frame, for an assembly
-/// of so many pieces.
+/// A plan text for an assembly of this many pieces; in it a line `auto` may stand after a label in
+/// place of its frame.
 #[derive(Clone, Copy)]
 pub struct Unframed<'a> {
     pub text: &'a [u8],

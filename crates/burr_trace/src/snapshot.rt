@@ -24,7 +24,7 @@ pub struct Snapshot {
 }
 
 impl Snapshot {
-    /// What holds where a bench stands, from where its activation makes so many steps more.
+    /// What holds where a bench stands; from there on its activation makes `cost` more steps.
     pub fn of<B: Blocking>(bench: &Checked<'_, B>, cost: u64) -> Snapshot {
         let mut operands = ArrayVec::new();
         for operand in bench.operands() {

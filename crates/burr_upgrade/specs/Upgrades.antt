@@ -13,7 +13,7 @@ upgraded p = record p { version = 2 }
 abbrev pub HasNoResults : PlanProcedure → Type 0
 HasNoResults q = (q.results ≡ 0) × IfSome q.exit (λ f. (f.results ≡ []) × (f.guards ≡ []))
 
--- so it is with each procedure of a plan of version 1
+-- each procedure of a plan of version 1 has no results
 abbrev pub FirstVersionHasNoResults : Type 0
 FirstVersionHasNoResults =
     (p : Plan) → IsTrue (is_fitting p) → p.version ≡ 1 → All HasNoResults p.procedures

@@ -36,7 +36,7 @@ with_frames n ps rest a holds well = (carry_frames n ps passes rest a (record { 
 
 -- The whole
 
--- the judgement of the plan for the assembly, by so many looks
+-- the judgement of the plan for the assembly, by this many looks
 abbrev pub LookedFor : Plan → Assembly → Judgement → ℕ → Type 0
 LookedFor p a j looks = Looking a.name (homes_of a) (framed_plan p) j looks
 

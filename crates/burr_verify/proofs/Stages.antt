@@ -74,14 +74,14 @@ enters_arrives homes plan n here last pc f t s more labelled arrived same =
     subst (λ (u : AbstractState). LooksOn homes plan n here (BeforeInstruction last pc (Some t)) (AtInstruction pc u) 0) (sym same)
     (looks_arrived homes plan n here last pc t f more labelled (arrives_where_leaves t f arrived))
 
--- a pass that comes to this judgement stops by the refusal of which that is told
+-- a pass that comes to the judgement of this refusal stops by it
 pub stops_by : (homes : List (List Cell)) (plan : FramedPlan) (n : ℕ) (here : FramedProcedure) (stage : Stage) (r : Refusal)
     (j : Judgement) (looks : ℕ) → Refuses (failed_check r) ≡ j → LookedPass homes plan n here stage j looks
     → LooksStop homes plan n here stage r looks
 stops_by homes plan n here stage r j looks same pass =
     subst (λ (k : Judgement). LookedPass homes plan n here stage k looks) (sym same) pass
 
--- so it does where the number of the procedure is told as it is
+-- a refusal that names the procedure `told` names procedure n where the two are the same
 pub told_broken : (r : Refusal) (told n pc : ℕ) (b : Broken) → Refuses (failed_check r) ≡ broken told pc b → told ≡ n
     → Refuses (failed_check r) ≡ broken n pc b
 told_broken r told n pc b same e = same ∙ ap (λ (k : ℕ). broken k pc b) e
@@ -96,7 +96,7 @@ enters_misses homes plan n here last pc f t o r more labelled miss same =
 
 -- At a place
 
--- no label stands strictly inside an instruction of so many bytes
+-- no label stands strictly inside an instruction of `size` bytes
 pub hides_none : (here : FramedProcedure) (pc size : ℕ) (i : Instruction) → size ≡ length (spelled i)
     → IsLabelWithin here (pc + 1) (pc + size) None → ¬ Hides here pc i
 hides_none here pc size i same none (p, f, (k, e), above, below) =

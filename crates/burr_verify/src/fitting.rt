@@ -16,7 +16,7 @@ use burr_frames::Rule;
 pub fn fits_assembly(container: &Container<'_>, assembly: &Assembly) -> Result<(), Refusal>
     ensures fits { (p : Plan) → IsContainer container.now p
         → (IsOk result ↔ FitsAssembly p assembly.now) }
-    // Whoever indexes pieces by what the container holds has no plan at hand.
+    // For callers that index pieces by what the container holds and have no plan at hand.
     ensures pieces { OnOk result (container.now.header.pieces ≡ length assembly.now.pieces) }
     ensures refusal { IfErr result (λ refusal. refusal ≡ another_assembly) }
 {

@@ -99,8 +99,8 @@ fn judge_all_frames(container: &Container<'_>) -> Result<(), Refusal>
     Ok(())
 }
 
-/// Judges the start against main's entry frame: all pieces of so many at home in tray 0, nothing
-/// gripped, and no cost above the budget.
+/// Judges the start, with this many pieces, all at home in tray 0, and nothing gripped, against
+/// main's entry frame, whose cost may not be above the budget.
 #[inline(never)]
 fn judge_start(container: &Container<'_>, pieces: u8) -> Result<(), Refusal>
     requires { pieces ≤ 32 }

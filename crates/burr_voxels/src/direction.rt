@@ -53,7 +53,7 @@ impl Direction {
         self.along(1)
     }
 
-    /// So many units along the direction, from the origin; the other way for a number below 0.
+    /// This many units along the direction, from the origin; the other way for a number below 0.
     pub fn along(self, units: i32) -> Cell
         requires { neg_ℤ (pos 1000000) ≤ℤ units }
         ensures { result ≡ along self units }

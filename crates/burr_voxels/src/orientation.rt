@@ -15,7 +15,7 @@ pub struct Orientation {
     ghost rotation: { IsRotation x y z },
 }
 
-/// Whether the turn that takes the axes there is none of a mirror: the axes change places in a
+/// Whether the axes are taken there by a turn and not by a mirror: the axes change places in a
 /// circle and an even number of them is turned round, or two change places and an odd number is.
 fn is_rotation(x: Direction, y: Direction, z: Direction) -> bool
     ensures { IsTrue result ↔ IsRotation x y z }

@@ -76,13 +76,13 @@ AreEnded number start version (r ∷ rs) (p ∷ ps) =
 -- Lines of a procedure that has not ended: which is the next place, where it begins, its plan's
 -- version, what the code has of it, and its first line.
 module _ (number : ℕ → ℕ) (place start version : ℕ) (r : RoutineParts) (h : ProcedureWords) where
-  -- no label yet, and so many lines
+  -- no label yet, and `lines` lines so far
   pub record BeforeLabels (exit : Option ExitSource) (lines : ℕ) : Type 0 where
     pub routine : IsRoutine number start version r h exit []
     pub names : r.names ≡ []
     pub next : place ≡ start + lines
 
-  -- a label after blocks, and so many lines from the label on
+  -- a label after blocks, and `lines` lines so far from the label on
   pub record UnderLabel (exit : Option ExitSource) (blocks : List Block) (label : List ℕ)
       (lines : ℕ) : Type 0 where
     pub routine : IsRoutine number start version r h exit blocks

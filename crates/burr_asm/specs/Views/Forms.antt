@@ -18,7 +18,7 @@ pub record IsConstantCut (bytes word terms : List ℕ) : Type 0 where
   pub others : terms_of terms ≡ term_words bytes
   pub begins : IsTrue (begins_term terms)
 
--- the constant of a form ends after so many of the bytes
+-- the constant of a form ends after the first `end` bytes
 abbrev pub IsConstantEnd : List ℕ → ℕ → Type 0
 IsConstantEnd bytes end =
     (end ≤ length bytes) × IsConstantCut bytes (take end bytes) (drop end bytes)

@@ -37,7 +37,7 @@ AddsPlace live old piece line new result =
 
 -- Forms
 
--- what is wrong with one form more, of which there may be so many
+-- what is wrong with one more form, where there may be at most `most`
 abbrev pub form_check : ℕ → List Bool → List Form → List ℕ → Option FaultKind
 form_check most live forms word =
     unless (is_form_over live word) P3 (unless (nat_lt (length forms) most) P4 None)

@@ -40,7 +40,7 @@ stage_after now (Ok None) = Ok now
 stage_after now (Ok (Some next)) = Ok next
 stage_after now (Err e) = Err e
 
--- What a line of this number gives in a plan for so many pieces.
+-- What a line with this number gives in a plan for this many pieces.
 abbrev pub GivesStage : Stage → RoutineParts → ℕ → Line → ℕ → RoutineParts
     → Result Stage AsmFault → Type 0
 GivesStage stage old pieces line n new result =

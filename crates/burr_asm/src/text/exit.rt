@@ -60,7 +60,7 @@ impl Exit {
         }
     }
 
-    /// Whether the places of so many pieces have all been read.
+    /// Whether the places of all pieces have been read, where the plan has this many.
     pub fn is_whole(&self, pieces: u8) -> bool
         ensures { result ≡ (length self.now.frame.places == pieces) }
     {

@@ -37,7 +37,7 @@ pub struct Grip {
 }
 
 impl Grip {
-    /// What the words say in a plan with so many pieces.
+    /// What the words say in a plan with this many pieces.
     pub fn of(words: GripWords<'_>, pieces: u8, line: usize) -> Result<Grip, AsmFault>
         requires { pieces ≤ 32 }
         ensures { MatchResult result
@@ -199,7 +199,7 @@ fn slot_above(slots: &[Option<(i16, i16)>; 8], words: SlotWords<'_>) -> Option<(
     (!live[usize::from(slot)..].contains(&true)).then_some((slot, range))
 }
 
-/// Adds the form of a line to others, of which there may be so many, over these live slots.
+/// Adds the form of a line, over these live slots, to those before it; there may be `most` in all.
 pub fn add_form(
     forms: &mut Vec<PlanForm>,
     most: usize,

@@ -89,7 +89,7 @@ pub fn result_count(number: Option<NumberWord<'_>>, main: bool) -> Option<u8>
     }
 }
 
-/// A number of 0 to so many, for main 0.
+/// A number from 0 to `most`; for main only 0.
 fn count_of(number: NumberWord<'_>, main: bool, most: u8) -> Option<u8>
     ensures few { IfSome result (λ count. count ≤ most) }
     ensures value { IsWithin 0 (if main then 0 else most) number.entry.bytes.now result }

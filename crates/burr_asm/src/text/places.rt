@@ -29,7 +29,7 @@ fn place(words: PlaceWords<'_>, live: &[bool; 8]) -> Option<Place>
     }
 }
 
-/// Whether the word is the number of the next piece, where so many have their places.
+/// Whether the word is the number of the next piece, where the first `count` have their places.
 fn is_next(word: NumberWord<'_>, count: usize) -> bool
     ensures { result ≡ is_within count count word.entry.bytes.now }
 {

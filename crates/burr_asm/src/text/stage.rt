@@ -63,8 +63,8 @@ impl Stage {
         }
     }
 
-    /// One more line of this form, which is added to the procedure; the plan has so many pieces.
-    /// After a frame no other procedure may begin.
+    /// Adds one more line, of this form, to the procedure; the plan has this many pieces. A `proc`
+    /// line is refused at every stage: the one that may stand after a frame is for the caller.
     pub fn add<'a>(
         &mut self,
         alloc: Global,

@@ -13,7 +13,7 @@ fn assert_value(rt: &impl Abort, form: Form, point: [i32; 8], value: i64) {
     assert!(rt; form.eval(&point) == value);
 }
 
-/// What is asked of a number of a point: that it lies within ±32,767.
+/// Whether a number of a point is within ±32,767, as it has to be.
 fn is_near(number: i32) -> bool
     ensures { IsTrue result ↔ IsNear number }
 {

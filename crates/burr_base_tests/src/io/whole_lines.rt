@@ -67,8 +67,8 @@ fn hands_on_whole_lines(rt: HostRuntime) {
     }
 }
 
-/// Puts a text and flushes it, over a writer that takes a byte a call, so many of them, and then fails
-/// or takes none; whether all went.
+/// Puts a text and flushes it, over a writer that takes a byte a call, save at one call, where it
+/// fails or takes none; whether all went.
 fn is_put_into(writer: &mut Narrow, text: &[u8]) -> bool {
     let mut sink: WholeLines<_, 4> = WholeLines::new(Writing::new(writer));
     let put = put_all(text, &mut sink);

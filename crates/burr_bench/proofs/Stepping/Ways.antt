@@ -32,7 +32,7 @@ use Rattle.burr_state.proofs.Common.Trays.Shifts.{IsShifted, lay_before_shift, l
 pub passes_absent : (query : Query) (homes : List (List Cell)) (places : List (Placement Cell)) (tray p : ℕ) (from : Cell) (q : ℕ) → (¬ LiesIn places q tray) → PassesPiece query homes places tray p from q
 passes_absent query homes places tray p from q none there lies = absurd (none (there, lies))
 
--- a piece here is asked of by the difference of the offsets
+-- the query of a piece that lies here is made for the difference of the offsets
 pub passes_present : (test : Bool) (query : Query) (homes : List (List Cell)) (places : List (Placement Cell)) (tray p : ℕ) (from : Cell) (q : ℕ) (there : Cell)
     → LiesAt places q tray there → IsTrue test ↔ Clears query (home_at homes p) (home_at homes q) (minus from there) → IsTrue test ↔ PassesPiece query homes places tray p from q
 passes_present test query homes places tray p from q there lies tells = (
@@ -135,7 +135,7 @@ passing_of_no_overlap homes places tray group direction as_many apart p bit offs
     (lies_at_shifted f group p tray offset places bit lies) (lies_at_kept f group q tray there places rest lies_q)
     (overlap_of_blocked (plus offset (along direction (pos 1))) there (home_at homes p) (home_at homes q) blocked)
 
--- a gripped piece is asked of where it is on the bench
+-- the offset for which the query of a gripped piece is made is on the bench
 pub near_start : (b : Benched) (way : Way) (p : ℕ) (offset : Cell) → SetsOut b way → IsInSet b.state.grip p → LiesAt b.state.places p b.state.tray offset → IsWithin 256 offset → IsWithin 256 (setting_out way offset)
 near_start b (ways.Unit direction) p offset sets_out bit lies near = staying_of_on_bench b.state.places b.state.tray b.state.grip direction sets_out p bit offset lies
 near_start b (ways.Out direction) p offset sets_out bit lies near = near

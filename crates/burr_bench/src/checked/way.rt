@@ -15,7 +15,7 @@ pub enum Way {
 }
 
 impl Way {
-    /// What is asked of a gripped piece and another one of the tray.
+    /// The query that tells whether a gripped piece goes this way past another one of the tray.
     pub fn query(self) -> Query
         ensures { result ≡ query_of self }
     {
@@ -25,7 +25,8 @@ impl Way {
         }
     }
 
-    /// Where a piece at an offset is asked of: after its one unit, or where it sets out.
+    /// The offset for which the query of a piece at this offset is made: after its one unit, or
+    /// where it sets out.
     pub fn setting_out(self, offset: Cell) -> Cell
         requires { IsWithin MOST_OFFSET offset }
         ensures { result ≡ setting_out self offset }

@@ -48,8 +48,8 @@ impl<B: Blocking> Checked<'_, B> {
         true
     }
 
-    /// Whether a piece, asked of at an offset in the current tray, keeps clear of another piece, if
-    /// that lies there.
+    /// Whether a piece, taken to be at the offset `from` in the current tray, keeps clear of
+    /// another piece, if that lies in the tray.
     fn passes_piece(&self, piece: u8, from: Cell, other: u8, query: Query) -> bool
         requires piece { piece < length self.now.assembly.pieces }
         requires other { other < length self.now.assembly.pieces }

@@ -9,10 +9,10 @@ pub record Counted : Type 0 where
 abbrev pub counted : Assembly → ℕ → Counted
 counted assembly count = record { assembly = assembly; count = count }
 
--- so many looks more
+-- with this many looks more
 abbrev pub with_more : ℕ → Counted → Counted
 with_more n looks = record looks { count = looks.count + n }
 
--- as many looks as these were made, and nothing else is another
+-- a number of looks of which `AreLooks` holds was made, and nothing else changed
 abbrev pub HasCounted : (ℕ → Type 0) → Counted → Counted → Type 0
 HasCounted AreLooks old new = (n : ℕ) × AreLooks n × (new ≡ with_more n old)

@@ -27,7 +27,7 @@ joined_from join zero (row ∷ rows) (other ∷ others) =
 joined_from join (suc first) [] others = []
 joined_from join (suc first) (row ∷ rows) others = row ∷ joined_from join first rows others
 
--- set are the bits that were, and one more
+-- the bits that were set are set, and the one of this row and column; no others
 abbrev pub SetsBit : List ℕ → List ℕ → ℕ → ℕ → Type 0
 SetsBit old new row column = (n k : ℕ) →
     HasBitAt new n k ↔ (HasBitAt old n k ⊎ ((n ≡ row) × (k ≡ column)))

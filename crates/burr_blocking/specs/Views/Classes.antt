@@ -14,7 +14,7 @@ pub record IsOfClass (homes : List (List Cell)) (representatives : List ℕ) (ce
   pub translate :
       IsTranslate (representative_at homes representatives t.class) t.displacement cells
 
--- the first pieces, so many, each in its class
+-- the first n pieces, each in its class
 pub record AreFirstClasses (homes : List (List Cell)) (n : ℕ) (c : Classes) : Type 0 where
   pub count : length c.translates.items ≡ n
   pub representatives : All (λ p. p < length homes) c.representatives.items
@@ -39,7 +39,8 @@ IsAnother c class p =
 abbrev pub HasSeveral : Classes → ℕ → Type 0
 HasSeveral c class = (p : ℕ) × IsAnother c class p
 
--- so many pairs are kept of a class: with each one before it, and with itself where it has several
+-- how many pairs are kept of a class: one with each class before it, and one with itself where it
+-- has several pieces
 pub record IsPairCount (c : Classes) (class n : ℕ) : Type 0 where
   pub before : class ≤ n
   pub several : HasSeveral c class → n ≡ class + 1

@@ -20,7 +20,7 @@ pub record HasBitIn (e : Extent) (rows : List ℕ) (d : Cell) (k : ℕ) : Type 0
 abbrev pub AreShort : Extent → List ℕ → Type 0
 AreShort e rows = (n k : ℕ) → HasBitAt rows n k → k < wide_of e
 
--- set is a bit for each displacement from a cell to these
+-- a bit is set for each displacement from a cell to one of these, and no other bit
 abbrev pub AreBitsFrom : Extent → List ℕ → Cell → List Cell → Type 0
 AreBitsFrom e rows from tos = (n k : ℕ) → HasBitAt rows n k ↔ ((to : Cell) × Contains tos to
     × (n ≡ row_of e (minus to from)) × (k ≡ column_of e (minus to from)))

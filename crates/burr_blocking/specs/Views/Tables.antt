@@ -8,7 +8,7 @@ use Rattle.burr_blocking.specs.Views.Boxes.{IsInBox, place_of}
 abbrev pub HasMark : List Bool → ℕ → Type 0
 HasMark marks k = IsTrue (slice_index_or marks k false)
 
--- set are the marks that were, and those that stand so many places after the first one
+-- the marks that were set are set, and those at these places, counted from the first; no others
 abbrev pub SetsMarks : List Bool → List Bool → ℕ → List ℕ → Type 0
 SetsMarks old new first places = (k : ℕ) →
     HasMark new k ↔ (HasMark old k ⊎ ((n : ℕ) × Contains places n × (k ≡ first + n)))

@@ -70,7 +70,7 @@ fn places_from(
     Ok(places)
 }
 
-/// Sets the marks that stand so many places after a first one.
+/// Sets the mark at each of these places, counted from a first one.
 fn mark(marks: &mut [bool], first: usize, places: &[usize])
     requires { All (λ place. first + place < length marks.old) places.now }
     ensures { SetsMarks marks.old marks.new first places.now }

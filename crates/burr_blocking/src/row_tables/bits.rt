@@ -62,8 +62,8 @@ pub fn set_bit(rows: &mut [u32], row: usize, column: u32)
     rows[row] |= 1 << column;
 }
 
-/// Joins the rows from a first one on with others, shifted so many columns and shifted so many
-/// others, one row at a time.
+/// Joins the rows from a first one on with others twice, shifted by `columns` columns and shifted
+/// by `further` columns, one row at a time.
 fn join_each(rows: &mut [u32], first: usize, others: &[u32], columns: u32, further: u32)
     requires fits { first + length others.now ≤ length rows.old }
     requires columns { columns < 32 }
@@ -75,7 +75,8 @@ fn join_each(rows: &mut [u32], first: usize, others: &[u32], columns: u32, furth
     }
 }
 
-/// Eight rows joined with others, shifted so many columns and shifted so many others.
+/// Eight rows joined with eight others twice, shifted by `columns` columns and shifted by `further`
+/// columns.
 fn join_eight(rows: u32x8, others: u32x8, columns: u32, further: u32) -> u32x8
     requires columns { columns < 32 }
     requires further { further < 32 }
@@ -100,9 +101,9 @@ fn following(rows: &[u32], next: &[usize], number: usize) -> usize
     next[number]
 }
 
-/// Joins the rows from a first one on with others, shifted so many columns and shifted so many
-/// others: what `join_each` gives, eight rows at a time, and without the empty ones, by where the
-/// next one is that is not empty.
+/// Joins the rows from a first one on with others twice, shifted by `columns` columns and shifted
+/// by `further` columns: what `join_each` gives, but eight rows at a time, each time from the next
+/// row on that is not empty, which `next` tells.
 pub fn join(
     rows: &mut [u32],
     first: usize,

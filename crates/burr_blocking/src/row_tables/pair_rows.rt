@@ -141,7 +141,7 @@ impl PairRows {
     }
 }
 
-/// The first rows of a box, so many, with a bit set for each displacement from a corner to a cell.
+/// The first `count` rows of a box, with a bit set for each displacement from a corner to a cell.
 fn rows_from(
     alloc: Global,
     extent: Extent,

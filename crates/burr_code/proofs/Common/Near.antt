@@ -13,7 +13,7 @@ below_difference n a b least greatest = omega (arith, ints)
 above_difference : (n : ℕ) (a b : ℤ) → a ≤ℤ pos n → neg_ℤ (pos n) ≤ℤ b → (a -ℤ b) ≤ℤ pos (n + n)
 above_difference n a b greatest least = omega (arith, ints)
 
--- so the difference of two offsets is one that may be asked of
+-- the difference of two offsets within 256 is within 512
 pub near_difference : (a b : Cell) → IsWithin 256 a → IsWithin 256 b → IsWithin 512 (minus a b)
 near_difference a b near also = record {
   x_above = below_difference 256 a.x b.x near.x_above also.x_below;

@@ -1,4 +1,5 @@
--- For crates above: so many of a part, one after the other, are lawful where the part is.
+-- For crates above: a given number of values of a part, one after the other, are lawful where the
+-- part is.
 use Rattle.std.proofs.Common.{◌≡◌, ℕ, zero, suc, ◌+◌, IsTrue, List, [], ◌∷◌, ◌++◌, length, flat_map, inl, inr, refl, sym, ◌∙◌, subst, arith, append_assoc, length-append}
 use Rattle.std.specs.List.{list_all}
 use Rattle.std.proofs.lemmas.Bool.{and_parts}
@@ -6,7 +7,7 @@ use Rattle.burr_container.specs.declared.fault.ContainerFault.{ContainerFault}
 use Rattle.burr_container.specs.Rules.Faults.{Part, passes, first, each}
 use Rattle.burr_container.proofs.Common.Lawful.{Front, Lawful, OfFirst, OfNothing, Sound, first_lawful, lawful_as, passes_lawful}
 
--- so many values of the part
+-- `count` values of the part, one after the other, and the rest of the bytes
 abbrev pub OfEach : {A : Type 0} → ℕ → Part A → Front (List A)
 OfEach count part xs bytes r =
     (length xs ≡ count) × IsTrue (list_all part.fits xs) × (bytes ≡ flat_map part.bytes xs ++ r)
@@ -16,8 +17,7 @@ module _ {A : Type 0} (part : Part A) where
       → passes at bytes fault
   none_fail at bytes fault (xs, rest, size, fits, e, fails) = omega (arith, size)
 
-  -- so many and one more fail where the first one fails, or where it stands there and the others
-  -- fail
+  -- `count` + 1 values fail where the first one fails, or where it stands there and the others fail
   one_more_fail : (count at : ℕ) (bytes : List ℕ) (fault : ContainerFault)
       → each (suc count) part at bytes fault → first part (λ _. each count part) at bytes fault
   one_more_fail count at bytes fault ([], rest, size, fits, e, fails) =

@@ -25,11 +25,11 @@ pub record Part (A : Type 0) : Type 1 where
   pub fits : A → Bool
   pub Fails : Failing
 
--- nothing more is asked
+-- nothing can fail here
 abbrev pub passes : Failing
 passes at bytes fault = ⊥
 
--- by a test, one failing or another
+-- one failing where a test is passed, and another where it isn't
 abbrev pub by_test : Bool → Failing → Failing → Failing
 by_test true this that = this
 by_test false this that = that
@@ -41,20 +41,21 @@ first {A = A} part next at bytes fault =
     ⊎ ((a : A) × (rest : List ℕ) × IsTrue (part.fits a) × (bytes ≡ part.bytes a ++ rest)
     × next a (at + length (part.bytes a)) rest fault)
 
--- so many of a part, one after the other: the first ones stand there, and the next one fails
+-- `count` values of a part, one after the other, fail: the first ones stand there, and the next
+-- one fails
 abbrev pub each : {A : Type 0} → ℕ → Part A → Failing
 each {A = A} count part at bytes fault =
     (front : List A) × (rest : List ℕ) × (length front < count)
     × IsTrue (list_all part.fits front) × (bytes ≡ flat_map part.bytes front ++ rest)
     × part.Fails (at + length (flat_map part.bytes front)) rest fault
 
--- a field of so many bytes: it is cut short, or its bytes are not so
+-- a field of `width` bytes fails: it is cut short, or its bytes don't pass the test
 abbrev pub field : ℕ → (ℕ → ContainerFault) → (List ℕ → Bool) → Failing
 field width wrong is_so at bytes fault =
     needs (width ≤ length bytes) (C1 (at + length bytes))
     (needs (IsTrue (is_so (take width bytes))) (wrong at) (λ _. ⊥)) fault
 
--- a number of so many bytes
+-- a number of `width` bytes that passes the test
 abbrev pub number : ℕ → (ℕ → ContainerFault) → (ℕ → Bool) → Part ℕ
 number width wrong is_so = record {
   bytes = big_bytes width;
@@ -62,7 +63,7 @@ number width wrong is_so = record {
   Fails = field width wrong (λ b. is_so (big_number width b));
 }
 
--- a signed number of two bytes
+-- a signed number of two bytes that passes the test
 abbrev pub signed : (ℤ → Bool) → Part ℤ
 signed is_so = record {
   bytes = signed_word;
@@ -70,7 +71,7 @@ signed is_so = record {
   Fails = field 2 C4 (λ b. is_so (twos_complement 2 (big_number 2 b)));
 }
 
--- so many bytes
+-- `width` bytes that pass the test
 abbrev pub raw : ℕ → (ℕ → ContainerFault) → (List ℕ → Bool) → Part (List ℕ)
 raw width wrong is_so = record {
   bytes = λ b. b;
@@ -86,7 +87,7 @@ form live = record {
   Fails = field (form_size live) C4 (λ _. true);
 }
 
--- forms, at most so many, after their count
+-- at most `most` forms, after their count
 abbrev pub forms : ℕ → List Bool → Part (List Form)
 forms most live = record {
   bytes = forms_bytes live;
@@ -104,7 +105,7 @@ range = record {
       (signed (λ high. is_number high && int_le low high)).Fails);
 }
 
--- so many ranges
+-- `count` ranges
 abbrev pub ranges : ℕ → Part (List Range)
 ranges count = record {
   bytes = ranges_bytes;
@@ -139,7 +140,7 @@ place live = record {
       by_test (tray == 255) passes (each 3 (form live)));
 }
 
--- the places of so many pieces
+-- a place for each piece, of which there are `pieces`
 abbrev pub places : ℕ → List Bool → Part (List (Placement FormCell))
 places pieces live = record {
   bytes = places_bytes live;
@@ -184,7 +185,7 @@ exit_frame version pieces parameters results = record {
       ExitRestFails version pieces results (exit_symbols parameters results)));
 }
 
--- a label at such a position
+-- a label at a position that passes the test
 abbrev pub label : (ℕ → Bool) → ℕ → Part (ℕ × Frame)
 label is_so pieces = record {
   bytes = label_bytes;
@@ -209,7 +210,8 @@ are_rising last [] = true
 are_rising last (label ∷ labels) =
     is_next_label last label.0 && nat_lt label.0 (2 ^ 16) && are_rising (Some label.0) labels
 
--- so many labels: the first ones stand there, and the next one's position or frame fails
+-- `count` labels fail: the first ones stand there, and the position or the frame of the next one
+-- fails
 abbrev pub LabelsFail : ℕ → ℕ → Failing
 LabelsFail pieces count at bytes fault =
     (front : List (ℕ × Frame)) × (rest : List ℕ) × (length front < count)
@@ -278,7 +280,7 @@ procedure version pieces main = record {
       ExitFails version pieces main parameters results));
 }
 
--- procedures other than main, so many
+-- `count` procedures other than main
 abbrev pub others : ℕ → ℕ → ℕ → Part (List PlanProcedure)
 others version pieces count = record {
   bytes = flat_map (procedure_bytes version);

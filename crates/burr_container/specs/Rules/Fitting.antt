@@ -37,7 +37,7 @@ abbrev pub is_range : Option Range → Bool
 is_range None = true
 is_range (Some range) = is_number range.0 && is_number range.1 && int_le range.0 range.1
 
--- a range for each of so many
+-- `count` ranges within the format
 abbrev pub are_ranges : ℕ → List Range → Bool
 are_ranges count ranges = (length ranges == count) && list_all (λ r. is_range (Some r)) ranges
 
@@ -47,7 +47,7 @@ are_slots slots = (length slots == SLOTS) && list_all is_range slots
 abbrev pub is_tray : ℕ → Bool
 is_tray tray = nat_lt tray TRAYS
 
--- a set of some of so many pieces
+-- a set of pieces, bit p for piece p, all of which are below `pieces`
 abbrev pub is_set_of : ℕ → ℕ → Bool
 is_set_of pieces set = nat_lt set (2 ^ pieces)
 
@@ -60,7 +60,7 @@ is_place live (On tray at) =
 abbrev pub are_places : ℕ → List Bool → List (Placement FormCell) → Bool
 are_places pieces live places = (length places == pieces) && list_all (is_place live) places
 
--- at most so many forms
+-- at most `most` forms
 abbrev pub are_forms : ℕ → List Bool → List Form → Bool
 are_forms most live forms = nat_le (length forms) most && list_all (is_form live) forms
 

@@ -12,7 +12,7 @@ pub record IsCut (at : ℕ) (bytes taken : List ℕ) (next : ℕ) (rest : List �
   pub parts : bytes ≡ taken ++ rest
   pub moved : next ≡ at + length taken
 
--- there are fewer bytes than so many, which is the fault
+-- there are fewer than `width` bytes, and the fault is C1 at their end
 pub record IsShort (width at : ℕ) (bytes : List ℕ) (fault : ContainerFault) : Type 0 where
   pub fewer : length bytes < width
   pub named : fault ≡ C1 (at + length bytes)

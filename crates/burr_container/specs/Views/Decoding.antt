@@ -13,7 +13,7 @@ use Rattle.burr_container.specs.Rules.Fitting.{is_tray}
 abbrev pub signed_in : List ℕ → ℤ
 signed_in bytes = cast_signed w16 (big_number 2 bytes)
 
--- so many signed numbers of two bytes
+-- a given number of signed numbers, each of two bytes
 abbrev pub words_in : ℕ → List ℕ → List ℤ
 words_in zero bytes = []
 words_in (suc n) bytes = signed_in bytes ∷ words_in n (drop 2 bytes)
@@ -37,7 +37,7 @@ form_in live bytes = record {
   coefs = coefs_in live (drop 4 bytes);
 }
 
--- so many forms
+-- a given number of forms, one after the other
 abbrev pub forms_in : List Bool → ℕ → List ℕ → List Form
 forms_in live zero bytes = []
 forms_in live (suc n) bytes = form_in live bytes ∷ forms_in live n (drop (form_size live) bytes)
@@ -66,20 +66,20 @@ rest_by false live = 3 * form_size live
 abbrev pub place_rest : List Bool → ℕ → ℕ
 place_rest live first = rest_by (first == 255) live
 
--- so many places
+-- a given number of places, one after the other
 abbrev pub places_in : List Bool → ℕ → List ℕ → List (Placement FormCell)
 places_in live zero bytes = []
 places_in live (suc n) [] = []
 places_in live (suc n) (first ∷ bytes) =
     place_in live first bytes ∷ places_in live n (drop (place_rest live first) bytes)
 
--- a place stands in front of the bytes, by whether its first byte is 255: else that is a tray, and
--- three forms follow
+-- a place stands at the front of the bytes, by whether its first byte is 255: if not, that byte is
+-- a tray, and three forms follow
 abbrev pub stands_by : Bool → List Bool → ℕ → List ℕ → Bool
 stands_by true live first bytes = true
 stands_by false live first bytes = is_tray first && nat_le (3 * form_size live) (length bytes)
 
--- so many places stand in front of the bytes
+-- a given number of places stand at the front of the bytes
 abbrev pub places_stand : List Bool → ℕ → List ℕ → Bool
 places_stand live zero bytes = true
 places_stand live (suc n) [] = false
@@ -87,7 +87,7 @@ places_stand live (suc n) (first ∷ bytes) =
     stands_by (first == 255) live first bytes
     && places_stand live n (drop (place_rest live first) bytes)
 
--- after a place that stands in front of the bytes these are next
+-- a place stands at the front of the bytes, and these are the next ones after it
 pub record IsAfterPlace (live : List Bool) (bytes next : List ℕ) : Type 0 where
   pub first : ℕ
   pub body : List ℕ

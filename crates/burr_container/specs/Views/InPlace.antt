@@ -64,7 +64,7 @@ pub record IsBody (pieces : ℕ) (kept : LabelsView × Bor (List ℕ))
   pub labels : AreFor (IsLabel pieces) kept.0.starts body.0
   pub code : kept.1.now ≡ body.1
 
--- the exit frame of a procedure with so many parameters and results
+-- the exit frame of a procedure with this many parameters and results
 pub record IsExitFrame (pieces parameters results : ℕ) (kept : ExitRef) (f : ExitFrame) : Type 0
   where
     pub frame : exit_frame_of kept ≡ f

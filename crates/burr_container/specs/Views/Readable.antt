@@ -8,7 +8,7 @@ use Rattle.burr_container.specs.Rules.Faults.{Part, label}
 abbrev pub NeverFails : {A : Type 0} → Part A → List ℕ → Type 0
 NeverFails part bytes = (at : ℕ) (fault : ContainerFault) → ¬ part.Fails at bytes fault
 
--- a label can be read at the begin of each of these, in a plan of so many pieces
+-- in a plan with this many pieces a label can be read at the begin of each of these
 abbrev pub AllReadable : ℕ → List (List ℕ) → Type 0
 AllReadable pieces starts =
     (n : ℕ) (start : List ℕ) → slice_get starts n ≡ Some start

@@ -25,7 +25,7 @@ impl<'a> Cursor<'a> {
         Cursor { at: 0, rest: bytes }
     }
 
-    /// The next bytes, so many.
+    /// The next `count` bytes.
     pub fn bytes(&mut self, count: usize) -> Result<&'a [u8], ContainerFault>
         ensures small { IfOk result (λ ok. AreBytes ok.now) }
         ensures taken { MatchResult result

@@ -41,7 +41,7 @@ pub fn frame<'a>(layout: Layout, cursor: &mut Cursor<'a>) -> Result<FrameRef<'a>
     })
 }
 
-/// The exit frame of a procedure with so many parameters and results.
+/// The exit frame of a procedure with this many parameters and results.
 pub fn exit_frame<'a>(
     layout: Layout,
     parameters: u8,
@@ -75,7 +75,8 @@ pub fn exit_frame<'a>(
     })
 }
 
-/// So many ranges, two at most; those after them are of no meaning.
+/// The next `count` ranges, two at most. They come first in the array; what stands after them there
+/// has no meaning.
 fn ranges(count: u8, cursor: &mut Cursor<'_>) -> Result<[(i16, i16); 2], ContainerFault>
     requires { count ≤ 2 }
     ensures fit { IfOk result (λ ok. IsTrue (are_ranges 2 ok)) }

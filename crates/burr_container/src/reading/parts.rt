@@ -80,7 +80,7 @@ fn name<'a>(cursor: &mut Cursor<'a>) -> Result<&'a [u8], ContainerFault>
     name_text(length, cursor)
 }
 
-/// A name of so many bytes; else C4 at it.
+/// A name of this length; where these bytes are no name, C4 at the first of them.
 fn name_text<'a>(length: usize, cursor: &mut Cursor<'a>) -> Result<&'a [u8], ContainerFault>
     ensures { ReadsInPlace (λ name. name.now) (raw length C4_at is_name_text)
         cursor.old cursor.new result }

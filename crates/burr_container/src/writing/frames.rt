@@ -12,7 +12,7 @@ use crate::writing::forms::{add_form, add_forms, add_places};
 use crate::writing::numbers::{add_long, add_signed};
 use std::alloc::AllocError;
 
-/// The exit frame of a procedure with so many parameters and results.
+/// The exit frame of a procedure with this many parameters and results.
 pub fn add_exit_frame(
     bytes: &mut Vec<u8>,
     layout: Layout,

@@ -80,7 +80,7 @@ fn add_result_count(bytes: &mut Vec<u8>, layout: Layout, results: u8) -> Result<
     Ok(())
 }
 
-/// The exit frame of a procedure with so many parameters and results, if it has one.
+/// The exit frame of a procedure with this many parameters and results, if it has one.
 fn add_exit(
     bytes: &mut Vec<u8>,
     layout: Layout,

@@ -38,7 +38,7 @@ IsRead line found =
     MatchOption found ((x : LineCommand) → IsOfCode x → line ≢ line_of x)
     (λ c. IsOfCode (command_of c) × (line ≡ line_of (command_of c)))
 
--- the number of so many bits without a sign that is written so, if one is
+-- the unsigned number of `bits` bits that this text writes in decimal, if it writes one
 abbrev pub IsUnsigned : ℕ → List ℕ → Option ℕ → Type 0
 IsUnsigned bits text found =
     MatchOption found ((n : ℕ) → n < 2 ^ bits → text ≢ decimal n)
@@ -75,7 +75,7 @@ IsNumberedRead line found =
     MatchOption found (IsUnnumbered line)
     (λ c. IsOfCode (command_of c) × (line ≡ line_of (command_of c)))
 
--- the line of so many steps, with what stands after them
+-- the line that tells how many steps were made, and goes on with these words
 abbrev pub after_line : ℕ → List (List ℕ) → List ℕ
 after_line steps words = text_line (codes "after" ∷ decimal steps ∷ codes "steps" ∷ words)
 

@@ -53,8 +53,8 @@ pub record HasAnsweredUpTo (old : Stepping) (s : Streams) (rest : List ℕ) (new
   pub goes_on : answer.goes_on ≡ true
   pub took : Appends s.taken_old s.taken_new answer.text
 
--- so it stands between two bytes, of which so many were read: of the line that has not ended as many
--- are kept as show that it is no command
+-- how a dialogue stands after `read` bytes: the lines that have ended are answered, and of the line
+-- that has not ended the first `most` bytes are kept
 pub record IsConversing (most read : ℕ) (old : Stepping) (s : Streams) (line : List ℕ)
     (now : Stepping) : Type 0 where
   pub rest : List ℕ
@@ -136,8 +136,8 @@ HandsLast sink before after old line new =
     ((line ≡ []) × (after ≡ before) × (new ≡ old))
     ⊎ ((line ≢ []) × ((goes_on : Bool) × HandsAnswer sink before after old line goes_on new))
 
--- one more byte: of a line that goes on, of which the first so many are kept, or the end of a line,
--- which is answered
+-- one more byte: it belongs to a line that goes on, of which the first `most` bytes are kept, or it
+-- ends a line, which is answered
 abbrev pub TakesByte : {S : Type 0} → ℕ → ℕ → List ℕ → List ℕ → SinkView S → Lines S → Lines S
     → Stepping → Bool → Stepping → Type 0
 TakesByte most byte line line_after sink before after old goes_on new =

@@ -5,7 +5,8 @@ use Rattle.burr_forms.specs.Rules.Forms.{Form, Point, values}
 use Rattle.burr_forms.specs.Rules.Points.{points_of}
 use Rattle.burr_forms.specs.Views.Rising.{left, count_after}
 
--- At each of these, in order, there are so many looks; where a condition fails, it is the last.
+-- How many looks there are in all at these elements, in order; the first at which the condition
+-- fails is the last that is looked at.
 abbrev pub searched : {A : Type 0} → (A → Type 0) → (A → ℕ → Type 0) → List A → ℕ → Type 0
 searched Holds Looks [] looks = looks ≡ 0
 searched Holds Looks (x ∷ xs) looks =
@@ -22,9 +23,9 @@ abbrev pub LooksUnder : List ℤ → (ℕ → Type 0) → ℕ → Type 0
 LooksUnder signs Looks looks =
     (NoneNegative signs × Looks looks) ⊎ ((¬ NoneNegative signs) × (looks ≡ 0))
 
--- A search that began with one count and stands at a point with another: what it looks at from
--- there on makes, with what it has looked at, the looks of the whole search; and it can count on,
--- at most so many at a point.
+-- A search that began with the count `start` and stands at a point with the count `now`. The looks
+-- so far and the looks from there on are together the looks of the whole search; and there is room
+-- to count at most `most` looks at each point that is left.
 pub record CountsOn (s : Region) (Holds : Point → Type 0) (Looks : Point → ℕ → Type 0) (most : ℕ)
     (point : Point) (start now : ℕ) : Type 0 where
   pub so_far : ℕ

@@ -144,7 +144,7 @@ paying_call s after callee_cost =
     (everywhere s (λ point. pos 0 ≤ℤ value point (left_of s.cost callee_cost)) rules.V24
     (falls_through (record after { cost = left_of s.cost callee_cost })))))
 
--- a call of a procedure with so many parameters and results, its entry frame and its exit frame
+-- a call of a procedure with this many parameters and results, its entry frame and its exit frame
 abbrev pub calling : AbstractState → ℕ → ℕ → Frame → FramedExit → Rest
 calling s parameters results entry exit =
     finds (top_many parameters s.operands) (plainly rules.V6) λ found.

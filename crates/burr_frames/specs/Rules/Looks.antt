@@ -17,7 +17,8 @@ use Rattle.burr_frames.specs.Rules.States.{AbstractState, Everywhere}
 use Rattle.burr_frames.specs.Rules.SpaceRules.{OnBenchAt, PairAt, AllSmallPlaces, moved}
 use Rattle.burr_frames.specs.Rules.SpaceRules.{IsApartBy}
 
--- So many of these are asked of, in order: all, or those up to and with the first that is not so.
+-- How many elements of a list are looked at, in order: all, or those up to and with the first that
+-- is not so.
 abbrev pub until_one_fails : {A : Type 0} → (A → Type 0) → List A → ℕ → Type 0
 until_one_fails IsSo [] zero = Unit {0}
 until_one_fails IsSo [] (suc n) = ⊥
@@ -60,7 +61,7 @@ look_of point pair = record { point = point; piece = pair.0; other = pair.1 }
 abbrev pub looks_of : List (ℕ × ℕ) → List Point → List Look
 looks_of pairs points = flat_map (λ point. map (look_of point) pairs) points
 
--- each pair at each point of the state; of pieces without a home nothing is asked
+-- each pair at each point of the state, of the pieces that have a home
 abbrev pub all_looks : List (List Cell) → AbstractState → List (Placement FormCell) → List Look
 all_looks homes s places =
     looks_of (grip_pairs s.tray s.grip (take (length homes) places)) (points_of s.ranges s.guards)

@@ -50,7 +50,7 @@ HoldsOrBreaks s P rule result =
     MatchResult result (λ _. Everywhere s P)
     (λ b. (point : Point) × IsFirstFailing s P point × (broken_of b ≡ break_at rule point))
 
--- the step can't be paid for, and how
+-- the step can't be paid for, and the break says why
 abbrev pub CannotPay : AbstractState → Break → Type 0
 CannotPay s b =
     ((¬ IsSmallForm (one_less s.cost)) × (broken_of b ≡ plain_break rules.V26))

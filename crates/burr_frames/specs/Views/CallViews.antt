@@ -28,7 +28,7 @@ pub record IsPaidBeside (s : AbstractState) (callee_cost cost : Form) : Type 0 w
   pub small : IsSmallPrice s callee_cost
   pub enough : Everywhere s (λ point. pos 0 ≤ℤ value point (left_of s.cost callee_cost))
 
--- they can't be paid for, and how
+-- they can't be paid for, and the break says why
 abbrev pub CannotPayBeside : AbstractState → Form → Break → Type 0
 CannotPayBeside s callee_cost b =
     ((¬ IsSmallPrice s callee_cost) × (broken_of b ≡ plain_break rules.V26))
@@ -42,14 +42,14 @@ PaysBeside s callee_cost result =
 
 -- Arguments, parameters and results
 
--- the topmost operands, the bottom first, so many and all small; or there are fewer
+-- the topmost `count` operands, the bottom first, all of them small; or there are fewer
 abbrev pub GivesTopmost : ℕ → List Form → Option (ArrayVec Form) → Type 0
 GivesTopmost count operands result =
     MatchOption result (top_many count operands ≡ None)
     (λ forms. (top_many count operands ≡ Some (reverse forms.items, drop count operands))
     × (length forms.items ≡ count) × AllSmallForms forms.items)
 
--- the forms in the first slots, so many and all small; or there is nothing known of one of them
+-- the forms in the first `count` slots, all of them small; or nothing is known of one of the slots
 abbrev pub GivesFirstForms : ℕ → List (Option Form) → Option (ArrayVec Form) → Type 0
 GivesFirstForms count slots result =
     MatchOption result (first_forms count slots ≡ None)
@@ -62,7 +62,7 @@ GivesFirstForms count slots result =
 abbrev pub IsSmallAfter : AbstractState → Type 0
 IsSmallAfter after = AllSmallPlaces after.places × AllSmallForms after.guards
 
--- there is none, and how
+-- there is no state after the call, and the break says why
 abbrev pub CannotGoAfter : AbstractState → Break → Type 0
 CannotGoAfter after b =
     ((¬ HasRoomForSymbols after) × (broken_of b ≡ plain_break rules.V25))

@@ -1,4 +1,4 @@
--- Pieces of a tray that are asked of by pairs, a gripped piece against another one.
+-- Pairs of a gripped piece and another piece of its tray, and whether they are clear.
 use Rattle.std.specs.Prelude.{◌⊎◌, ◌<◌, Option, MatchOption, ℕ, ◌*◌, ◌+◌, ℤ, pos, List, [], ◌∷◌, slice_index_or, ◌≤◌, length, if◌then◌else◌, ◌==◌, ◌≡◌, Some, slice_get}
 use Rattle.burr_voxels.specs.declared.cell.Cell.{Cell}
 use Rattle.burr_voxels.specs.Grid.{at, minus}
@@ -34,7 +34,7 @@ cell_of values p =
 abbrev pub IsClearAt : Query → List Cell → List Cell → Cell → Type 0
 IsClearAt query ps qs d = IsWithin 512 d × Clears query ps qs d
 
--- so piece p does of piece q where they have these offsets
+-- piece p keeps clear of piece q where the pieces have these offsets
 abbrev pub IsPairClear : Query → List (List Cell) → List ℤ → ℕ → ℕ → Type 0
 IsPairClear query homes values p q =
     IsClearAt query (home_at homes p) (home_at homes q)
@@ -44,7 +44,7 @@ IsPairClear query homes values p q =
 abbrev pub IsRole : List Role → ℕ → Role → Type 0
 IsRole pieces p role = slice_get pieces p ≡ Some role
 
--- so it is of each gripped piece and each other piece of the tray
+-- each gripped piece keeps clear of each other piece of the tray
 abbrev pub AllClear : Query → List (List Cell) → List Role → List ℤ → Type 0
 AllClear query homes pieces values =
     (p q : ℕ) → IsRole pieces p roles.Gripped → IsRole pieces q roles.Resting

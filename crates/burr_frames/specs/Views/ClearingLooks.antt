@@ -9,8 +9,8 @@ use Rattle.burr_frames.specs.declared.clearing.Role.TheVariants as roles
 use Rattle.burr_frames.specs.Views.Clearing.{IsPairClear}
 use Rattle.burr_frames.specs.Rules.Looks.{until_one_fails, pairs_of}
 
--- what is asked: of an assembly's pieces, by the forms of their offsets, in these roles; and which
--- reference counts, by its ghost name
+-- what a search is about: an assembly's pieces, the forms of their offsets, their roles and the
+-- query; and the reference that counts, by its ghost name
 pub record Asked : Type 0 where
   pub counter : ℕ
   pub assembly : Assembly
@@ -42,13 +42,13 @@ resting_pieces p (role ∷ pieces) = resting_pieces (suc p) pieces
 abbrev pub role_pairs : List Role → List (ℕ × ℕ)
 role_pairs pieces = pairs_of (gripped_pieces 0 pieces) (resting_pieces 0 pieces)
 
--- so many looks, where the offsets have these values
+-- how many looks there are where the offsets have these values
 abbrev pub ClearLooks : Query → List (List Cell) → List Role → List ℤ → ℕ → Type 0
 ClearLooks query homes pieces values looks =
     until_one_fails (λ pair. IsPairClear query homes values pair.0 pair.1) (role_pairs pieces)
     looks
 
--- For loops: what is still to be asked of
+-- For loops: the pairs still to be looked at
 
 -- the pairs of the gripped pieces from piece p on
 abbrev pub pairs_from : List Role → ℕ → List (ℕ × ℕ)
@@ -59,8 +59,8 @@ abbrev pub pairs_after : List Role → ℕ → ℕ → List (ℕ × ℕ)
 pairs_after pieces p q =
     map (λ other. (p, other)) (resting_pieces q (drop q pieces)) ++ pairs_from pieces (suc p)
 
--- this many have been asked of: what comes of those that are left comes of the whole, with as
--- many more
+-- this many were looked at so far, and those of `left` are still to come: added to the number that
+-- these take, it is the number for the whole list
 abbrev pub AsksOn : {A : Type 0} → (A → Type 0) → List A → List A → ℕ → Type 0
 AsksOn IsSo whole left asked =
     (n : ℕ) → until_one_fails IsSo left n → until_one_fails IsSo whole (asked + n)

@@ -13,9 +13,10 @@ offset_forms [] = []
 offset_forms (Apart ∷ places) = offset_forms places
 offset_forms (On tray c ∷ places) = c.x ∷ c.y ∷ c.z ∷ offset_forms places
 
--- what values are compared with: ranges of symbols, of which so many in front nothing bounds, forms
--- over all of them that are not negative, forms whose values there are at most the next ones, and
--- forms whose values there are the others
+-- What a list of values is compared with. The first values are those of symbols: of `free` symbols
+-- that nothing bounds, and then of one symbol for each of `ranges`, within it. At these symbols the
+-- forms of `guards` are not negative, those of `least` are at most the values that come next in the
+-- list, and those of `same` are the values after these.
 pub record Target : Type 0 where
   pub free : ℕ
   pub ranges : List Range

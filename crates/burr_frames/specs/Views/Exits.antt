@@ -30,7 +30,7 @@ meeting_exit_with s exit parameters results =
     needs (IsAlikeExit s exit) (plainly rules.V22)
     (everywhere s (MeetsExitAt s exit parameters results) rules.V22 no_successor)
 
--- The state meets an exit frame over so many parameters: the topmost operands are the results.
+-- The state meets an exit frame over this many parameters: the topmost operands are the results.
 abbrev pub meeting_exit : ℕ → AbstractState → FramedExit → Rest
 meeting_exit parameters s exit =
     finds (first_forms parameters s.slots) (plainly rules.V22) λ forms.

@@ -13,7 +13,7 @@ OfFramedProcedure r Holds =
     (p : Plan) (here : FramedProcedure) → IsContainer r.container.now p
     → slice_get (framed_plan p).procedures r.number ≡ Some here → Holds (framed_plan p) here
 
--- what is found of a label is its frame, and nothing where there is none
+-- the frame that is found is that of the label; none is found where there is no label
 abbrev pub IsFrameFound : Option (ℕ × Frame) → Option FrameRef → Type 0
 IsFrameFound label None = label ≡ None
 IsFrameFound label (Some f) =

@@ -1,4 +1,4 @@
--- What a call that asks of a move's pairs says of the verdict.
+-- What a call that looks at a move's pairs says of the verdict.
 use Rattle.std.specs.Prelude.{⊤, ℕ, List, Option, Some, Result}
 use Rattle.burr_voxels.specs.declared.cell.Cell.{Cell}
 use Rattle.burr_code.specs.PieceSets.{IsInSet}

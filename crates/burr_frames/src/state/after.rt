@@ -77,7 +77,7 @@ impl State {
         Some(ranges)
     }
 
-    /// The operands, the top last, where so many are gone and these have come.
+    /// The operands, the top last, with these results in place of the topmost `gone`.
     fn operands_after(&self, gone: usize, results: &[Form]) -> ArrayVec<Form, 8>
         requires there { gone ≤ length self.now.operands }
         requires room { length (drop gone self.now.operands) + length results.now ≤ 8 }
@@ -91,7 +91,7 @@ impl State {
     }
 }
 
-/// So many symbols, from this one on.
+/// The forms of `count` symbols, from symbol `first` on.
 fn symbols_from(first: usize, count: usize) -> ArrayVec<Form, 8>
     requires { first + count ≤ 8 }
     ensures symbols { result.items ≡ symbols_from first count }

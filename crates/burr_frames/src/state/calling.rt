@@ -52,7 +52,7 @@ impl State {
         self.calls(called.params(), &entry, &Exit::of(&exit))
     }
 
-    /// A call of a procedure with so many parameters, with its entry frame and its exit frame.
+    /// A call of a procedure with `count` parameters and with this entry frame and this exit frame.
     fn calls(&mut self, count: u8, entry: &FrameRef<'_>, exit: &Exit) -> Result<(), Break>
         requires few { count + length exit.now.results ≤ 8 }
         ensures verdict { calling self.old count (length exit.now.results)
@@ -116,7 +116,7 @@ impl State {
         Ok(())
     }
 
-    /// The so many topmost operands, the top last; None where there are fewer.
+    /// The topmost `count` operands, the top last; None where there are fewer.
     pub(super) fn top_many(&self, count: usize) -> Option<ArrayVec<Form, 8>>
         ensures operands { GivesTopmost count self.now.operands result }
         ensures few { length self.now.operands ≤ 8 }

@@ -13,8 +13,8 @@ use burr_code::Placement;
 use burr_container::FormOffset;
 
 impl State {
-    /// So many pieces, 32 at most, at home in tray 0, with nothing gripped; nothing is known of the
-    /// slots, and the cost is 0.
+    /// The state with this many pieces, 32 at most, all at home in tray 0, with nothing gripped;
+    /// nothing is known of the slots, and the cost is 0.
     pub fn at_home(pieces: u8) -> State
         requires { pieces ≤ 32 }
         ensures { (homes : List (List CellOf)) → length homes ≡ pieces
@@ -33,7 +33,7 @@ impl State {
     }
 }
 
-/// So many pieces at home in tray 0.
+/// The places of this many pieces, all at home in tray 0.
 fn home_places(pieces: u8) -> ArrayVec<Placement<FormOffset>, MOST_PIECES>
     requires { pieces ≤ 32 }
     ensures places { result.items ≡ replicate pieces (On 0 home_position) }

@@ -182,7 +182,8 @@ struct Faults {
     unwritten: u64,
 }
 
-/// How a command ends where the call on files after so many fails; None where it makes fewer.
+/// How a command ends where the call on files after the first `before` fails; None where it makes
+/// no such call.
 fn end_after<T: Files + AllocGlobal>(rt: &T, making: Making<'_>, before: usize) -> Option<End> {
     let _ = fs::remove_file(rt, "made");
     let _ = fs::copy(rt, making.old, "made");

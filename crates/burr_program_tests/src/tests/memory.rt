@@ -166,7 +166,7 @@ fn tells_a_want_of_memory_for_files(rt: HostRuntime) {
     assert_transcript(&rt, BESIDE);
 }
 
-/// A reader that gives a byte a call, and takes all memory where so many are left.
+/// A reader that gives a byte a call, and takes all memory where `greed` bytes are left.
 #[derive(Drop)]
 struct Greedy<'a> {
     drips: Drips<'a>,

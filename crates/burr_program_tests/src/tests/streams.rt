@@ -59,8 +59,8 @@ fn tells_a_source_that_fails(rt: HostRuntime) {
     }
 }
 
-/// Whether a call that has room for so many bytes of what it prints takes these, and tells that it can't
-/// write the others.
+/// Whether a call with room for only `room` bytes of what it prints puts these, and tells that it
+/// can't write the others; where there is room for all, it has to end as it should.
 fn is_front(end: &End, right: &End, room: usize) -> bool {
     match right.output.text().get(..room) {
         Some(front) if room < right.output.count => end.is(3, front, "cannot write -\n"),
@@ -166,7 +166,7 @@ fn keeps_the_status_where_standard_error_fails(rt: HostRuntime) {
     assert_case(&rt, line, keeps_its_status(&rt, line));
 }
 
-/// How a command line ends over a source of so many equal bytes.
+/// How a command line ends over a source of `length` equal bytes.
 fn end_of_length<T: Abort + Files + AllocGlobal>(rt: &T, line: &str, length: usize) -> End {
     end_with(rt, line, io::repeat(b'x').take(length as u64))
 }

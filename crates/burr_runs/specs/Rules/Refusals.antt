@@ -38,6 +38,6 @@ container_refusal (container.C4 at) = place_line (codes "C4") (codes "at") at
 container_refusal (container.C5 at) = place_line (codes "C5") (codes "at") at
 container_refusal (container.C6 at) = place_line (codes "C6") (codes "at") at
 
--- the line for a text of answers whose n-th line is none
+-- the line for a text of answers whose n-th line is not an answer
 abbrev pub answers_refusal : ℕ → List ℕ
 answers_refusal n = place_line (codes "answers") (codes "line") n

@@ -61,7 +61,7 @@ IsRefusedBy kept a r =
     × ((p : Plan) → IsContainer kept p
     → Judging a.name (homes_of a) (framed_plan p) (Refuses (failed_check r)))
 
--- the container's plan is passed, by so many looks at the pieces
+-- the container's plan is passed, by this many looks at the pieces
 abbrev pub IsPassedBy : ContainerView → Assembly → ℕ → Type 0
 IsPassedBy kept a looks =
     (p : Plan) → IsContainer kept p → Looking a.name (homes_of a) (framed_plan p) Passed looks

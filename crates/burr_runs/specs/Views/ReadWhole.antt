@@ -16,7 +16,7 @@ abbrev pub IsTooLong : Option (List ℕ) → Option (List ℕ) → Bool → Type
 IsTooLong old new failed =
     (bytes : List ℕ) × (16777216 < length bytes) × Consumes old new bytes × (failed ≡ false)
 
--- the source gave some bytes, so many at most, and has what is left after them
+-- the source gave at most `most` bytes, and has what is left after them
 abbrev pub HasGiven : ℕ → Option (List ℕ) → Option (List ℕ) → Type 0
 HasGiven most old new = (bytes : List ℕ) × (length bytes ≤ most) × Consumes old new bytes
 

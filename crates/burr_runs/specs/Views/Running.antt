@@ -28,7 +28,8 @@ pub record RunState : Type 0 where
 abbrev pub run_state : Benched → List ℤ → UnderWay → RunState
 run_state bench answers sheet = record { bench = bench; answers = answers; sheet = sheet }
 
--- from there, within the program's budget, a run makes these motions and closes so
+-- from there, within the program's budget, a run makes these motions, has made this many steps at
+-- its end, and closes in this way
 abbrev pub RunsOn : RunState → List Motion → ℕ → Closing → Type 0
 RunsOn p motions steps closing =
     Run (setup_of p.bench) p.bench.program.budget p.bench.state p.answers motions steps closing
@@ -59,7 +60,7 @@ pub record IsInStep (b : Benched) (u : UnderWay) : Type 0 where
   pub within : b.state.steps ≤ b.program.budget
   pub few : b.program.budget ≤ 1000000
   pub motions : u.motions ≤ b.state.steps
-  -- so many parts more as there were outs
+  -- there is one part more than there were outs
   pub outs : length u.levels + 1 ≡ parts b.state.places
   pub unfailed : u.failed ≡ false
 
@@ -70,14 +71,14 @@ pub record GoesWith {S : Type 0} (sink : SinkView S) (before after : S) (p q : R
   pub same : IsSameRun p.bench q.bench
   pub puts : PutsPart sink before after p q
 
--- Where the run closes so, after these bytes comes the end of its sheet.
+-- Where the run closes in this way, the end of its sheet comes after these bytes.
 abbrev pub LeadsToEnd : RunState → List ℕ → RunState → Closing → Type 0
 LeadsToEnd p bytes q closing =
     (all : List Motion) × RunsOn p all q.bench.state.steps closing
     × (still p.sheet all q.bench.state.steps closing
     ≡ bytes ++ still q.sheet [] q.bench.state.steps closing)
 
--- a sink took what the run closes to its end, where it closes so
+-- a sink took what comes before the end of the sheet, where the run closes in this way
 abbrev pub ClosesPart : {S : Type 0} → SinkView S → S → S → RunState → RunState → Closing → Type 0
 ClosesPart sink before after p q closing =
     (bytes : List ℕ) × Takes sink before after bytes × LeadsToEnd p bytes q closing

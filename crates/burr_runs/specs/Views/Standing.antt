@@ -19,7 +19,7 @@ pub record HasComeOn (old : Benched) (answers : List ℤ) (new : Benched) (left 
   pub motions : List Motion
   pub calls : Calls (setup_of old) old.program.budget old.state answers motions new.state left
 
--- the state in which a run is left that closes so at a state: a trap changes the mode alone
+-- the state in which a run is left that closes in this way at a state: a trap changes only the mode
 abbrev pub closed_state : Closing → BenchState → BenchState
 closed_state closings.Apart s = s
 closed_state (closings.Waiting low high) s = s
@@ -46,7 +46,7 @@ IsInRun old answers new =
     ⊎ ((outcome : Outcome) × IsAtRunEnd old answers new outcome)
 
 -- Where a turn leaves the bench: calls have led there, and the run goes on with those answers left;
--- or the run closes so, and the bench stands at its end.
+-- or the run closes in this way, and the bench stands at its end.
 abbrev pub TurnStands : Benched → List ℤ → Benched → Turn → Type 0
 TurnStands old answers new (turns.GoesOn left) = HasComeOn old answers new left.now
 TurnStands old answers new (turns.Closes closing) =

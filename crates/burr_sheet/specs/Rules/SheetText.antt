@@ -100,7 +100,7 @@ trap_words trap procedure pc =
     codes "trap" ∷ decimal (trap_number trap) ∷ trap_name trap
     ∷ codes "proc" ∷ decimal procedure ∷ codes "pc" ∷ decimal pc ∷ []
 
--- the line that tells how a run closed, after so many steps
+-- the line that tells how a run closed, after this many steps
 abbrev pub closing_line : Closing → ℕ → List ℕ
 closing_line closings.Apart steps =
     text_line (codes "apart" ∷ codes "in" ∷ decimal steps ∷ codes "steps" ∷ [])

@@ -49,7 +49,7 @@ abbrev pub joins_last : Option MotionLine → List MoveLine → Bool
 joins_last None ls = false
 joins_last (Some l) ls = joins (line_of l) ls
 
--- a line of some motions of so many pieces, no more than a run makes
+-- a line of at least one motion of this many pieces, with no more units than a run makes steps
 pub record IsLineOf (pieces : ℕ) (l : MoveLine) : Type 0 where
   pub some : l.group ≢ 0
   pub group : l.group < 2 ^ pieces

@@ -50,7 +50,8 @@ with_growing (Some l) [] = l ∷ []
 with_growing (Some l) (m ∷ lines) =
     if is_one l m then (record m { units = l.units + m.units } ∷ lines) else (l ∷ m ∷ lines)
 
--- what is still to be written, if these lines follow the growing one and the run closes so
+-- What is still to be written, if these lines follow the growing one and the run closes in this way
+-- after this many steps.
 abbrev pub to_come : UnderWay → List MoveLine → ℕ → Closing → List ℕ
 to_come u lines steps closing =
     move_lines u.names (u.lines + 1) (with_growing u.growing lines)
@@ -61,7 +62,8 @@ to_come u lines steps closing =
 abbrev pub growing_text : UnderWay → List ℕ
 growing_text u = move_lines u.names (u.lines + 1) (with_growing u.growing [])
 
--- What is still to be written, if these motions follow and the run closes so.
+-- What is still to be written, if these motions follow and the run closes in this way after this
+-- many steps.
 abbrev pub still : UnderWay → List Motion → ℕ → Closing → List ℕ
 still u motions steps closing = to_come u (longest_lines motions) steps closing
 

@@ -108,7 +108,7 @@ impl Standing {
         self.grip = 0;
     }
 
-    /// The arguments of a procedure with so many parameters: the topmost operands.
+    /// The arguments of a procedure with this many parameters: the topmost operands.
     pub fn arguments(&self, parameters: u8) -> ArrayVec<i64, MOST_SYMBOLS> {
         let count = self.operands.len();
         let below = count.saturating_sub(usize::from(parameters));

@@ -62,7 +62,7 @@ small_set (suc n) set first =
 
 -- What a step does
 
--- a motion, if there is one, that so many pieces can make
+-- a motion, if there is one, is a motion of this many pieces
 abbrev MotionFits : ℕ → Option Motion → Type 0
 MotionFits pieces None = Unit {0}
 MotionFits pieces (Some motion) = IsMotionOf pieces motion

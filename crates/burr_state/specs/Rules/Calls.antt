@@ -41,7 +41,8 @@ ClosesAt setup budget last left (closings.Trapped trap procedure pc) =
     × (procedure ≡ last.running.procedure) × (pc ≡ last.running.pc)
 ClosesAt setup budget last left closings.Stopped = (last.mode ≡ Running) × (last.steps ≡ budget)
 
--- calls that make these motions, and come to where so many steps are made and a run closes so
+-- Calls that make these motions, and come to a state with this many steps made, at which a run
+-- closes in this way.
 pub record CallsTo (setup : Setup) (budget : ℕ) (s : BenchState) (answers : List ℤ)
     (motions : List Motion) (steps : ℕ) (closing : Closing) : Type 0 where
   pub last : BenchState

@@ -2,7 +2,7 @@
 use Rattle.std.specs.Prelude.{◌≢◌, ◌<◌, ◌^◌, ℕ}
 use Rattle.burr_state.specs.declared.motion.Motion.{Motion}
 
--- a motion of some of so many pieces, one at least, in one of the 32 trays
+-- a motion of at least one of this many pieces, in one of the 32 trays
 pub record IsMotionOf (pieces : ℕ) (m : Motion) : Type 0 where
   pub some : m.group ≢ 0
   pub group : m.group < 2 ^ pieces

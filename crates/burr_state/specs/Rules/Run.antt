@@ -16,8 +16,8 @@ pub record IsGoing (budget : ℕ) (s : BenchState) : Type 0 where
   pub running : s.mode ≡ Running
   pub within : s.steps ≢ budget
 
--- From a state, with these answers left, a run makes these motions, has then made so many steps,
--- and closes so.
+-- From a state, with these answers left, a run makes these motions and closes in this way, with
+-- this many steps made in all.
 pub data Run (setup : Setup) (budget : ℕ) : BenchState → List ℤ → List Motion → ℕ → Closing
     → Type 0 where
   ends : (s : BenchState) (answers : List ℤ) → s.mode ≡ Ended

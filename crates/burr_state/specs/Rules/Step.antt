@@ -64,7 +64,7 @@ IsQuestionOf setup s question =
     MatchOption question ((low high : ℤ) → ¬ AsksNow setup s low high)
     (λ range. AsksNow setup s range.0 range.1)
 
--- the answer is taken, and the run goes on so
+-- the answer is taken, and the run goes on in the new state
 abbrev pub TakesAnswer : Setup → BenchState → ℤ → BenchState → Type 0
 TakesAnswer setup s answer new =
     (here : BenchProcedure) × (i : Instruction) × (low high : ℤ) × IsAt setup s here i

@@ -33,7 +33,7 @@ pub record IsAtStart (b : Benched) : Type 0 where
   pub state : b.state ≡ start (setup_of b)
   pub parts : parts b.state.places ≡ 1
 
--- so many outs
+-- how many outs this is: one for a motion that goes out, else none
 abbrev pub outs_of : Option Motion → ℕ
 outs_of None = 0
 outs_of (Some motion) = if motion.out then 1 else 0

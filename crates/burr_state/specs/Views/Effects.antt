@@ -83,8 +83,8 @@ pub record StaysFitting (procedures : List BenchProcedure) (old new : BenchState
 abbrev pub slots_with : List ℤ → List (Option ℤ)
 slots_with numbers = map Some numbers ++ replicate (SLOTS - length numbers) None
 
--- a procedure with so many parameters and results is called: an activation of it, and what is left
--- of the caller
+-- a procedure with this many parameters and results is called: its activation, and its caller
+-- without the arguments
 pub record IsCalledFor (old : Activation) (procedure parameters results : ℕ)
     (begun left : Activation) : Type 0 where
   pub enough : top_many parameters old.operands
@@ -93,7 +93,7 @@ pub record IsCalledFor (old : Activation) (procedure parameters results : ℕ)
   pub callee : begun ≡ activation procedure 0 (argument_slots (take parameters old.operands)) []
   pub caller : left ≡ with_operands (drop parameters old.operands) old
 
--- it can't be called, by its first trap
+-- the procedure can't be called, and this trap tells why: the first that applies
 abbrev pub CannotBeCalled : Activation → ℕ → ℕ → Trap → Type 0
 CannotBeCalled old parameters results trap =
     ((top_many parameters old.operands ≡ None) × (trap ≡ traps.MissingOperand))
@@ -101,13 +101,13 @@ CannotBeCalled old parameters results trap =
     ≡ Some (take parameters old.operands, drop parameters old.operands))
     × (¬ (length (drop parameters old.operands) + results ≤ 8)) × (trap ≡ traps.StackFull))
 
--- which of both; nothing changes where it can't be called
+-- the procedure is called, or it can't be called and nothing changes
 abbrev pub CallsFor : Activation → ℕ → ℕ → ℕ → Result Activation Trap → Activation → Type 0
 CallsFor old procedure parameters results called new =
     MatchResult called (λ begun. IsCalledFor old procedure parameters results begun new)
     (λ trap. CannotBeCalled old parameters results trap × (new ≡ old))
 
--- where a caller waits, it has room for so many results
+-- the nearest caller, if one waits, has room for this many results
 abbrev pub CallerHasRoom : ℕ → List Activation → Type 0
 CallerHasRoom results [] = Unit {0}
 CallerHasRoom results (caller ∷ callers) = HasRoomFor results caller

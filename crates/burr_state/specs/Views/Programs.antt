@@ -28,7 +28,7 @@ bench_procedure q = procedure_of q.parameters q.results (positions_of q.labels) 
 abbrev pub plan_program : Plan → Program
 plan_program p = program_of (map bench_procedure p.procedures) p.budget
 
--- the first of these labels are there, so many
+-- the first `many` of these labels are there
 abbrev pub HasFirstLabels : ℕ → List ℕ → List ℕ → Type 0
 HasFirstLabels many positions labels =
     (n label : ℕ) → n < many → slice_get labels n ≡ Some label → label < length positions
@@ -37,12 +37,12 @@ HasFirstLabels many positions labels =
 abbrev pub HasLabels : List ℕ → List ℕ → Type 0
 HasLabels positions labels = HasFirstLabels (length labels) positions labels
 
--- the operands of an activation have room for so many results
+-- the operands of an activation have room for this many results
 abbrev pub HasRoomFor : ℕ → Activation → Type 0
 HasRoomFor results a = length a.operands + results ≤ MOST_OPERANDS
 
--- the operands of each caller have room for the results of the procedure that it waits for, the
--- first for those of this one
+-- the operands of each caller have room for the results of the procedure that it waits for, which
+-- for the first caller is procedure n
 abbrev pub HasRoomAfter : List BenchProcedure → ℕ → List Activation → Type 0
 HasRoomAfter procedures n [] = Unit {0}
 HasRoomAfter procedures n (caller ∷ callers) =

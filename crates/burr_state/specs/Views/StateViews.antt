@@ -33,7 +33,7 @@ standing places tray grip running callers steps mode = record {
   mode = mode;
 }
 
--- so many pieces at home in tray 0, and main at its begin
+-- this many pieces at home in tray 0, and main at its begin
 abbrev pub at_start : ℕ → BenchState
 at_start pieces =
     standing (replicate pieces (On 0 origin)) 0 0 (activation 0 0 (replicate 8 None) []) [] 0
@@ -54,12 +54,12 @@ pub record IsOrderly (s : BenchState) : Type 0 where
   pub within : s.running.pc < 2 ^ 16
   pub chain : IsCallChain s.running.procedure s.callers
 
--- the step is made, and the run goes on so many bytes further
+-- the step is made, and the run goes on `size` bytes further
 abbrev pub after : ℕ → BenchState → BenchState
 after size s = stepped (record s { running = record s.running { pc = s.running.pc + size } })
 
 -- The number takes the place of the two topmost operands, where operands may hold it; then the run
--- goes on so many bytes further.
+-- goes on `size` bytes further.
 abbrev pub replacing_two : BenchState → ℤ → ℕ → Next → Type 0
 replacing_two s n size =
     needs (IsInNumberRange n) (Traps traps.NumberRange)
@@ -76,7 +76,7 @@ IsOffsetHere s p found =
 abbrev pub HasRest : BenchState → Type 0
 HasRest s = (p : ℕ) × LiesIn s.places p s.tray × (¬ IsInSet s.grip p)
 
--- the step of an `aside` of so many bytes to this tray
+-- the step of an `aside` of `size` bytes to this tray
 abbrev pub gone_aside : ℕ → ℕ → BenchState → BenchState
 gone_aside tray size s = record (after size s) {
   places = aside_places s.grip s.tray tray s.places;
@@ -89,11 +89,11 @@ PieceStaysOnBench s direction p =
     (offset : Cell) → LiesAt s.places p s.tray offset
     → IsWithin MOST_OFFSET (plus offset (along direction (pos 1)))
 
--- each piece of the current tray is, after one unit of the grip
+-- each piece of the current tray is on the bench after the grip moved by one unit
 abbrev pub StaysOnBench : BenchState → Direction → Type 0
 StaysOnBench s direction = AllOnBench (moved_places s.grip direction s.places) s.tray
 
--- the step of a `step` of so many bytes along this direction
+-- the step of a `step` of `size` bytes along this direction
 abbrev pub moved_grip : Direction → ℕ → BenchState → BenchState
 moved_grip direction size s =
     record (after size s) { places = moved_places s.grip direction s.places }

@@ -13,11 +13,11 @@ pub record Work : Type 0 where
 abbrev pub work : Program → BenchState → Work
 work program state = record { program = program; state = state }
 
--- the instruction at which it stands, whatever pieces it moves
+-- the instruction at which the run stands, whatever the homes of the pieces are
 abbrev pub StandsBefore : Work → Instruction → Type 0
 StandsBefore w i = (here : BenchProcedure) × IsAt (running [] w.program) w.state here i
 
--- the instruction that is next, of so many bytes
+-- the instruction is the next one, and has `size` bytes
 pub record IsNext (w : Work) (i : Instruction) (size : ℕ) : Type 0 where
   pub stands : StandsBefore w i
   pub in_range : IsInRange i

@@ -49,8 +49,8 @@ impl<'a> Bench<'a> {
             .execute(instruction, procedure, &self.program, size)
     }
 
-    /// The step of a `step` of this many bytes, which is not tested here: the grip goes one unit
-    /// along a direction, and stays on the bench.
+    /// The step of a `step` of `size` bytes; whether it may be made is not tested here. The grip
+    /// goes one unit along a direction, and stays on the bench.
     pub fn move_grip(&mut self, direction: Direction, size: usize) -> Motion
         requires on_bench { StaysOnBench self.old.state direction }
         requires within { self.old.state.running.pc + size ≤ MOST_CODE }
@@ -64,9 +64,9 @@ impl<'a> Bench<'a> {
         motion
     }
 
-    /// The step of an `aside` of so many bytes, which is not tested here: the grip goes out along a
-    /// direction to an empty tray, whoever is alone in one of the two trays then is apart, and
-    /// nothing is gripped.
+    /// The step of an `aside` of `size` bytes; whether it may be made is not tested here. The grip
+    /// goes out along a direction to an empty tray, a piece that is then alone in one of the two
+    /// trays is apart, and nothing is gripped.
     pub fn go_aside(&mut self, direction: Direction, tray: u8, size: usize) -> Motion
         requires within { self.old.state.running.pc + size ≤ MOST_CODE }
         ensures motion { result ≡ motion_of self.old.state.grip self.old.state.tray direction true }

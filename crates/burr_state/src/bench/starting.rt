@@ -23,7 +23,7 @@ impl<'a> Bench<'a> {
         Bench::start(Program::of(container), pieces)
     }
 
-    /// Bare code before its first step, of at most 4,096 bytes, with so many pieces: one procedure
+    /// Bare code of at most 4,096 bytes before its first step, with this many pieces: one procedure
     /// without labels; all pieces in tray 0 at home, nothing gripped.
     pub fn bare(code: &'a [u8], pieces: u8) -> Bench<'a>
         requires short { length code.now ≤ MOST_CODE }

@@ -29,8 +29,8 @@ impl BenchState {
         self.go_after(size);
     }
 
-    /// The step of an `aside` of so many bytes: the grip goes to an empty tray, whoever is alone in
-    /// one of the two trays then is apart, and nothing is gripped.
+    /// The step of an `aside` of `size` bytes: the grip goes to an empty tray, a piece that is then
+    /// alone in one of the two trays is apart, and nothing is gripped.
     pub fn go_aside(&mut self, tray: u8, size: usize)
         requires within { self.old.running.pc + size ≤ MOST_CODE }
         ensures { self.new ≡ gone_aside tray size self.old }
@@ -40,7 +40,7 @@ impl BenchState {
         self.go_after(size);
     }
 
-    /// A step that goes on so many bytes further.
+    /// Makes a step after which the run goes on `size` bytes further.
     pub fn go_after(&mut self, size: usize)
         requires within { self.old.running.pc + size ≤ MOST_CODE }
         ensures { self.new ≡ after size self.old }

@@ -122,8 +122,8 @@ impl BenchState {
         Ok(Effect::Goes(None))
     }
 
-    /// `ret` of a procedure with so many results: the activation ends, and its caller goes on with
-    /// its topmost operands, so many, on its own.
+    /// `ret`, in a procedure with this many results: the activation ends, and its topmost operands,
+    /// one for each result, come on top of those of its caller, which goes on.
     pub fn ret(&mut self, results: u8) -> Result<Effect, Trap>
         requires room { CallerHasRoom results self.old.callers }
         ensures next { (here : BenchProcedure) → here.results ≡ results
@@ -148,7 +148,7 @@ impl BenchState {
         Ok(Effect::Goes(None))
     }
 
-    /// A step that goes on at a position.
+    /// Makes a step after which the run goes on at a position.
     pub fn go_to(&mut self, position: u16)
         ensures { self.new ≡ at_label position self.old.running self.old }
     {

@@ -52,7 +52,7 @@ impl BenchState {
         Ok(Effect::Goes(None))
     }
 
-    /// `store`, in a procedure with so many parameters: the top of the operands goes into a slot.
+    /// `store`, in a procedure with this many parameters: the top of the operands goes into a slot.
     pub fn store(&mut self, slot: u8, parameters: u8, size: usize) -> Result<Effect, Trap>
         requires slot { slot < SLOTS }
         requires within { self.old.running.pc + size ≤ MOST_CODE }
@@ -105,8 +105,8 @@ impl BenchState {
         self.replace_two(i64::from(below) - i64::from(top), size)
     }
 
-    /// A step of so many bytes that puts a number in place of the two topmost operands, where it is
-    /// one that operands may hold.
+    /// The step of an instruction of `size` bytes that puts a number in place of the two topmost
+    /// operands; it traps with `NumberRange` where operands may not hold that number.
     fn replace_two(&mut self, number: i64, size: usize) -> Result<Effect, Trap>
         requires two { 2 ≤ length self.old.running.operands }
         requires within { self.old.running.pc + size ≤ MOST_CODE }

@@ -13,7 +13,7 @@ use burr_code::Placement;
 use burr_voxels::Cell;
 
 impl BenchState {
-    /// The start of a run with so many pieces: all in tray 0 at home, nothing gripped.
+    /// The start of a run with this many pieces: all in tray 0 at home, nothing gripped.
     pub fn start(pieces: u8) -> BenchState
         requires { pieces ≤ 32 }
         ensures { result ≡ at_start pieces }

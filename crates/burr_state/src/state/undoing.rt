@@ -19,7 +19,7 @@ use burr_code::limits::MOST_OPERANDS;
 use std::mem::replace;
 
 impl BenchState {
-    /// The record of the step that an instruction makes, in a procedure with so many results.
+    /// The record of the step that an instruction makes, in a procedure with this many results.
     pub fn record(&self, instruction: &Instr<'_>, results: u8) -> Undo
         ensures record { (here : BenchProcedure) → here.results ≡ results
             → result ≡ record_of here self.now (meaning instruction.now) }
@@ -123,8 +123,8 @@ impl BenchState {
         self.running = caller;
     }
 
-    /// An activation goes on at a position, and the running one, with so many operands less, waits
-    /// for it.
+    /// An activation that had ended goes on at a position; the running one loses its topmost
+    /// operands, one for each result, and waits for it.
     fn enter_again(&mut self, pc: usize, mut ended: Activation, results: u8)
         requires orderly { IsOrderly (changed_back pc (Higher ended results) self.old) }
         requires few { length self.old.callers + 1 < MOST_PROCEDURES }

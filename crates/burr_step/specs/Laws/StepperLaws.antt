@@ -9,7 +9,7 @@ use Rattle.burr_state.specs.Rules.Step.{AsksNow}
 use Rattle.burr_soundness.specs.Machine.{IsSafeBench}
 use Rattle.burr_step.specs.Rules.Stepper.{Leads, History, history, IsStateOf, IsAsking, StepCommand, Forward, Over, Until, Answer, Back, StepOutcome, Taken, Refused, S1, S2, S3, S4, Commanding, Commanded}
 
--- so many steps with these answers lead to one state
+-- from a state, the same number of steps with the same answers leads to one state at most
 abbrev pub OneLead : Type 0
 OneLead =
     (setup : Setup) (s t u : BenchState) (steps : ℕ) (answers : List ℤ)
@@ -22,14 +22,14 @@ OneOutcome =
     (outcome other : StepOutcome)
     → Commanding setup h s command outcome → Commanding setup h s command other → outcome ≡ other
 
--- a command that is taken comes to the state of what is then fixed
+-- a command that is taken comes to the state of the steps and answers that are then fixed
 abbrev pub TakenIsThere : Type 0
 TakenIsThere =
     (setup : Setup) (h new : History) (s last : BenchState) (command : StepCommand)
     → IsStateOf setup h s → Commanding setup h s command (Taken new last)
     → IsStateOf setup new last
 
--- so each list of commands does
+-- each list of commands comes to the state of the steps and answers that are then fixed
 abbrev pub CommandsAreThere : Type 0
 CommandsAreThere =
     (setup : Setup) (commands : List StepCommand) (h : History) (s : BenchState)
@@ -41,7 +41,7 @@ BackNone =
     (setup : Setup) (h : History) (s : BenchState) → IsStateOf setup h s
     → Commanding setup h s (Back 0) (Taken h s)
 
--- going back after so many steps gives what was before them, their answers forgotten
+-- going back by the steps that were made after a state gives that state, their answers forgotten
 abbrev pub BackUndoes : Type 0
 BackUndoes =
     (setup : Setup) (h : History) (s last : BenchState) (steps : ℕ) (answers : List ℤ)
@@ -49,7 +49,7 @@ BackUndoes =
     → Commanding setup (history (h.steps + steps) (h.answers ++ answers)) last (Back steps)
     (Taken h s)
 
--- back past the start is refused, and nothing else of it
+-- going back is refused where it would lead past the start, and only there
 abbrev pub BackIsRefused : Type 0
 BackIsRefused =
     (setup : Setup) (h : History) (s : BenchState) (steps : ℕ)

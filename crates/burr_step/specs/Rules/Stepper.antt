@@ -8,7 +8,7 @@ use Rattle.burr_state.specs.Rules.Bench.{BenchState, IsLabelAt, Setup, start}
 use Rattle.burr_state.specs.Rules.Questions.{Fits}
 use Rattle.burr_state.specs.Rules.Step.{AsksNow, Called}
 
--- So many steps lead from a state to another, and take exactly these answers.
+-- This many steps lead from a state to another, and take exactly these answers.
 pub data Leads (setup : Setup) : BenchState → ℕ → List ℤ → BenchState → Type 0 where
   stays : (s : BenchState) → Leads setup s 0 [] s
   goes : (s new last : BenchState) (motion : Option Motion) (steps : ℕ) (answers : List ℤ)
@@ -26,7 +26,7 @@ pub record History : Type 0 where
 abbrev pub history : ℕ → List ℤ → History
 history steps answers = record { steps = steps; answers = answers }
 
--- the stepper's state: so many steps after the start
+-- the stepper's state: the one to which these steps and answers lead from the start
 abbrev pub IsStateOf : Setup → History → BenchState → Type 0
 IsStateOf setup h s = Leads setup (start setup) h.steps h.answers s
 
@@ -57,7 +57,8 @@ StopsAt setup procedure position s =
 abbrev pub Goes : Setup → BenchState → BenchState → Type 0
 Goes setup s new = (motion : Option Motion) × Called setup s None (Ok (progress.Went motion)) new
 
--- So many such steps, at least one, lead to the first state after one of them that is so.
+-- This many such steps, at least one, lead to the first state after one of them of which `IsSo`
+-- holds.
 pub data GoesUntil (setup : Setup) (IsSo : BenchState → Type 0) : BenchState → ℕ → BenchState
     → Type 0 where
   there : (s new : BenchState) → Goes setup s new → IsSo new → GoesUntil setup IsSo s 1 new
@@ -73,8 +74,8 @@ pub data StepCommand : Type 0 where
   Answer : (answer : ℤ) → StepCommand
   Back : (steps : ℕ) → StepCommand
 
--- the run has ended; it waits for an answer; nothing is asked, or the answer doesn't fit; there are
--- not so many steps
+-- S1: the run has ended; S2: it waits for an answer; S3: nothing is asked, or the answer doesn't
+-- fit; S4: fewer steps were made than are to be undone
 pub data StepRefusal : Type 0 where
   S1 : StepRefusal
   S2 : StepRefusal
@@ -88,7 +89,7 @@ pub data StepOutcome : Type 0 where
 abbrev pub Follows : Type 1
 Follows = StepOutcome → Type 0
 
--- so many steps more, without an answer
+-- this many steps more, without an answer
 abbrev pub farther_by : ℕ → History → History
 farther_by steps h = history (h.steps + steps) h.answers
 
@@ -97,13 +98,13 @@ abbrev pub going : Setup → BenchState → Follows → Follows
 going setup s rest =
     needs (s.mode ≢ Ended) (Refused S1) (needs (¬ IsAsking setup s) (Refused S2) rest)
 
--- steps up to the first state that is so
+-- steps up to the first state of which `IsSo` holds
 abbrev pub going_until : Setup → History → BenchState → (BenchState → Type 0) → Follows
 going_until setup h s IsSo outcome =
     (steps : ℕ) × (new : BenchState) × GoesUntil setup IsSo s steps new
     × (outcome ≡ Taken (farther_by steps h) new)
 
--- the first so many steps are kept, and the answers that these took
+-- the first of the steps are kept, with the answers that these took, and lead to this state
 pub record IsKept (setup : Setup) (h kept : History) (s : BenchState) : Type 0 where
   pub state : IsStateOf setup kept s
   pub later : List ℤ

@@ -51,13 +51,13 @@ pub record IsFresh (accepted : Judged) (s : Stepping) : Type 0 where
   pub start : IsAtStart s.bench
   pub history : s.history ≡ history 0 []
 
--- as many steps, and perhaps more, follow with answers of which the first are these
+-- at least this many steps follow, which take exactly these answers
 abbrev pub HasRun : Benched → List ℤ → ℕ → Type 0
 HasRun b answers steps =
     (made : ℕ) × (last : BenchState) × (steps ≤ made)
     × Leads (setup_of b) b.state made answers last
 
--- what was asked of a stepper was done: it comes to this, on the same run
+-- a command was carried out: the stepper came to this, on the same run
 pub record IsDone (old : Stepping) (Comes : Follows) (new : Stepping) : Type 0 where
   pub comes : Comes (Taken new.history new.bench.state)
   pub same : IsSameRun old.bench new.bench
@@ -68,8 +68,8 @@ pub record IsRefused (old : Stepping) (Comes : Follows) (refusal : StepRefusal) 
   pub comes : Comes (Refused refusal)
   pub same : new ≡ old
 
--- what is asked of a stepper comes to this, by the call's result; where a request for memory was
--- refused nothing changed
+-- what a command came to, by the result of the call: it was carried out or refused; where a request
+-- for memory was refused, nothing changed
 abbrev pub CameTo : {Done : Type 0} → Stepping → Follows → Result Done CodeRefusal → Stepping
     → Type 0
 CameTo old Comes (Ok done) new = IsDone old Comes new
@@ -108,8 +108,8 @@ IsThere (stops.Position procedure position) s =
 abbrev pub StopsFor : Setup → Stop → BenchState → Type 0
 StopsFor setup stop s = IsHalted setup s ⊎ IsThere stop s
 
--- After some steps, one at least, none of which but perhaps the last led to a state that is so:
--- what leads from here to the first that is so leads there from the beginning.
+-- Steps were made from `old` to `now`. Where `IsSo` holds now, they led to the first state of which
+-- it holds; else steps that lead from `now` to the first such state lead there from `old` too.
 pub record IsUpTo (IsSo : BenchState → Type 0) (old now : Stepping) : Type 0 where
   pub same : IsSameRun old.bench now.bench
   pub begins : ¬ IsHalted (setup_of old.bench) old.bench.state
@@ -142,7 +142,7 @@ pub record IsStill (old : Benched) (answer : Option ℤ) (undos : List Undo) (ne
   pub machine : new ≡ old
   pub records : left ≡ undos
 
--- so many steps were undone, by as many of the records
+-- `many` steps were undone, by as many of the records
 pub record IsUndone (many : ℕ) (old now : Stepping) (undos left : List Undo) : Type 0 where
   pub same : IsSameRun old.bench now.bench
   pub kept : IsKept (setup_of old.bench) old.history now.history now.bench.state
@@ -150,7 +150,7 @@ pub record IsUndone (many : ℕ) (old now : Stepping) (undos left : List Undo) :
   pub records : length undos ≡ length left + many
   pub under_way : IsUnderWay now left
 
--- so many steps were made again, and took the first of the answers
+-- `many` steps were made again, and took the first `used` of the answers
 pub record IsAgain (answers : List ℤ) (many used : ℕ) (old now : Benched) (undos : List Undo)
     : Type 0 where
   pub same : IsSameRun old now
@@ -158,7 +158,8 @@ pub record IsAgain (answers : List ℤ) (many used : ℕ) (old now : Benched) (u
   pub within : used ≤ length answers
   pub under_way : IsUnderWay (stepping now (take used answers)) undos
 
--- the answer that a run takes next of these, after so many: none where it waits for none
+-- the answer that a run takes next of these, after the first `used`: none where it waits for none,
+-- or where none is left
 abbrev pub IsNextAnswer : Setup → BenchState → List ℤ → ℕ → Option ℤ → Type 0
 IsNextAnswer setup s answers used answer =
     (IsAsking setup s × (answer ≡ slice_get answers used))

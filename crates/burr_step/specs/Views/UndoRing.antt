@@ -8,7 +8,7 @@ use Rattle.burr_state.specs.Views.Benches.{Benched, setup_of, in_state}
 use Rattle.burr_bench.specs.Recorded.{TakesBack, gone_back}
 use Rattle.burr_step.specs.Rules.Stepper.{History, history, IsStateOf, Goes, Back, Taken, Commanding}
 
--- the answers that a step took more
+-- the answers after a step: those before it, and the one that it took, if any
 abbrev pub answers_more : Option ℤ → List ℤ → List ℤ
 answers_more None answers = answers
 answers_more (Some answer) answers = answers ++ answer ∷ []
@@ -38,13 +38,13 @@ AreRecordsOf b h [] = Unit {0}
 AreRecordsOf b h (u ∷ undos) =
     (last : IsLastRecord b h u) × AreRecordsOf (gone_back u b) last.before undos
 
--- the state where so many of these records are undone
+-- the state where this many of these records are undone, or all where there are fewer
 abbrev pub undone : ℕ → List Undo → BenchState → BenchState
 undone zero undos s = s
 undone (suc k) [] s = s
 undone (suc k) (u ∷ undos) s = undone k undos (laid_over u s)
 
--- undoing records is going back so many steps, and the other records stay
+-- undoing k records is going back k steps, and the other records stay
 abbrev pub UndoingIsBack : Type 0
 UndoingIsBack =
     (b : Benched) (h : History) (undos : List Undo) (k : ℕ)
@@ -53,7 +53,7 @@ UndoingIsBack =
     × Commanding (setup_of b) h b.state (Back k) (Taken kept (undone k undos b.state))
     × AreRecordsOf (in_state (undone k undos b.state) b) kept (drop k undos)
 
--- a step's record is one more
+-- the record of a step that is made comes before the others
 abbrev pub RecordIsKept : Type 0
 RecordIsKept =
     (b : Benched) (h : History) (undos : List Undo) (answer : Option ℤ) (new : BenchState)
@@ -62,7 +62,7 @@ RecordIsKept =
     → TakesBack (in_state new b) u → laid_over u new ≡ b.state
     → AreRecordsOf (in_state new b) (one_more answer h) (u ∷ undos)
 
--- the last so many are records too
+-- the latest n of these records are records of the last steps too
 abbrev pub LastAreKept : Type 0
 LastAreKept =
     (b : Benched) (h : History) (undos : List Undo) (n : ℕ)

@@ -15,8 +15,8 @@ use burr_soundness::an_accepted_bench_never_traps;
 use burr_verify::a_fitting_plan_is_from_a_container;
 
 impl<'s, 'a: 's, 'c: 'a, B: Blocking> Stepper<'s, 'a, 'c, B> {
-    /// Goes so many steps back, and forgets the answers that these took: by records where there are
-    /// as many, else by running again from the start. S4 where so many steps have not been made.
+    /// Goes this many steps back, and forgets the answers that these took: by records where there
+    /// are as many, else by running again from the start. S4 where fewer steps have been made.
     pub fn back(&mut self, steps: u32) -> Result<(), StepRefusal>
         ensures comes { CameTo self.old (commanding self.old (Back steps)) result self.new }
         ensures no_memory { NeedsNoMemory result }
@@ -37,7 +37,7 @@ impl<'s, 'a: 's, 'c: 'a, B: Blocking> Stepper<'s, 'a, 'c, B> {
         Ok(())
     }
 
-    /// Goes so many steps back by running again from the start, without them.
+    /// Goes this many steps back, by running again from the start and leaving out the last ones.
     fn start_again(&mut self, steps: u32)
         requires { steps ≤ self.old.history.steps }
         ensures { IsDone self.old (commanding self.old (Back steps)) self.new }
@@ -51,7 +51,7 @@ impl<'s, 'a: 's, 'c: 'a, B: Blocking> Stepper<'s, 'a, 'c, B> {
     }
 }
 
-/// Goes so many steps back by their records.
+/// Goes this many steps back by their records.
 fn undo_last(steps: u32, machine: &mut Machine<'_>, answers: &mut Vec<i32>, records: &mut Records)
     requires under_way { IsUnderWay (stepping machine.old answers.old.items) records.old }
     requires records { steps ≤ length records.old }
@@ -69,7 +69,8 @@ fn undo_last(steps: u32, machine: &mut Machine<'_>, answers: &mut Vec<i32>, reco
     }
 }
 
-/// Makes so many steps of a machine at its start with these answers; how many of them it took.
+/// Makes this many steps of a machine that is at its start, with these answers; gives how many of
+/// the answers were taken.
 fn run_again(steps: u64, machine: &mut Machine<'_>, answers: &[i32], records: &mut Records) -> usize
     requires start { IsAtStart machine.old }
     requires under_way { IsUnderWay (stepping machine.old []) records.old }
@@ -102,8 +103,8 @@ fn forget_answer(machine: &Machine<'_>, answers: &mut Vec<i32>)
     }
 }
 
-/// The answer that a machine takes next after so many, None where it waits for none; and how many
-/// are then taken.
+/// The answer that a machine takes next after the first `taken` of them, None where it waits for
+/// none or none is left; and how many are then taken.
 fn next_answer(machine: &Machine<'_>, answers: &[i32], taken: usize) -> (Option<i32>, usize)
     ensures answer { IsNextAnswer (setup_of machine.now) machine.now.state answers.now taken
         result.0 }

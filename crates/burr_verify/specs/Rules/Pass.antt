@@ -113,7 +113,7 @@ pub record IsLaidOut (here : FramedProcedure) : Type 0 where
       → slice_get here.labels k ≡ Some b → a.0 < b.0
   pub within : (pc : ℕ) (f : Frame) → IsLabelled here pc f → pc < length here.code
 
--- so it is of each procedure of a plan
+-- the labels of each procedure of a plan stand in this way
 abbrev pub AllLaidOut : FramedPlan → Type 0
 AllLaidOut plan =
     (n : ℕ) (here : FramedProcedure) → slice_get plan.procedures n ≡ Some here → IsLaidOut here

@@ -20,7 +20,7 @@ LooksOf {homes} (stops pc s i j stands bare rule rest) looks =
     (own after : ℕ) × RuleLooks homes s i own × LooksOf rest after × (looks ≡ own + after)
 LooksOf pass looks = looks ≡ 0
 
--- from a stage on a pass comes to this judgement, by so many looks
+-- from this stage on a pass comes to this judgement, by this many looks
 abbrev pub LookedPass : List (List Cell) → FramedPlan → ℕ → FramedProcedure → Stage → Judgement → ℕ
     → Type 0
 LookedPass homes plan n here stage j looks =

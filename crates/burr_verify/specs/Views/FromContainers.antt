@@ -19,12 +19,12 @@ pub record IsFromContainer (plan : FramedPlan) : Type 0 where
   pub main : (here : FramedProcedure) → slice_get plan.procedures 0 ≡ Some here → here.exit ≡ None
   pub budget : plan.budget < 2 ^ 64 - 1
 
--- the frames of a procedure have a place for each of so many pieces
+-- each frame of a procedure has a place for each of this many pieces
 pub record HasPlaces (pieces : ℕ) (here : FramedProcedure) : Type 0 where
   pub labels : (pc : ℕ) (f : Frame) → IsLabelled here pc f → length f.places ≡ pieces
   pub exit : (f : FramedExit) → here.exit ≡ Some f → length f.places ≡ pieces
 
--- so it is of each procedure of a plan, for the plan's pieces
+-- each frame of a plan has a place for each of the plan's pieces
 abbrev pub AllHavePlaces : FramedPlan → Type 0
 AllHavePlaces plan =
     (n : ℕ) (here : FramedProcedure) → slice_get plan.procedures n ≡ Some here

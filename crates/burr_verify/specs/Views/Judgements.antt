@@ -32,8 +32,8 @@ verdict_of s (Ok successors.FallsThrough) = FallsThrough s
 verdict_of s (Ok successors.None) = NoSuccessor
 verdict_of s (Err b) = Breaks (broken_of b)
 
--- A part of the checks: where they hold, nothing is wrong as far as what follows goes, and else
--- they are what refuses, whatever would follow.
+-- The result of a part of the checks: where they hold, the part passes if what follows passes; and
+-- else the part refuses, whatever would follow.
 abbrev pub AnswersPart : (Rest → Rest) → Result ⊤ Refusal → Type 0
 AnswersPart part result =
     MatchResult result (λ _. part passes Passed) (λ r. part nothing (Refuses (failed_check r)))
@@ -44,7 +44,7 @@ PartFrom later part =
     (later passes Passed → part passes Passed)
     × ((r : FailedCheck) → later nothing (Refuses r) → part nothing (Refuses r))
 
--- so many labels stand before a place: those of the numbers below
+-- the labels that stand before this place are those with numbers below n
 abbrev pub AreBefore : FramedProcedure → ℕ → ℕ → Type 0
 AreBefore here place n =
     (k : ℕ) (l : ℕ × Frame) → slice_get here.labels k ≡ Some l → (k < n) ↔ (l.0 < place)

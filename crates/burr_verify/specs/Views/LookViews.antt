@@ -1,4 +1,4 @@
--- What the code's answers say of looks: so many so far, and whatever follows.
+-- What the code's answers say of looks: how many there were so far, whatever follows.
 use Rattle.std.specs.Prelude.{◌≡◌, ◌+◌, ℕ, List, drop, slice_get, Option, Some, IfSome}
 use Rattle.burr_voxels.specs.declared.cell.Cell.{Cell}
 use Rattle.burr_container.specs.declared.procedure_ref.ProcedureRef.{ProcedureRef}
@@ -14,7 +14,7 @@ use Rattle.burr_verify.specs.declared.refusal.Refusal.{Refusal}
 use Rattle.burr_verify.specs.Rules.PassLooks.{LookedPass, looking_code}
 use Rattle.burr_verify.specs.Rules.WellFramed.{IsLabelled}
 
--- from one stage a pass goes on to another by so many looks, whatever it comes to from there
+-- from one stage a pass goes on to another by this many looks, whatever it comes to from there
 abbrev pub LooksOn : List (List Cell) → FramedPlan → ℕ → FramedProcedure → Stage → Stage → ℕ
     → Type 0
 LooksOn homes plan n here from to looks =
@@ -27,26 +27,26 @@ abbrev pub LooksInto : List (List Cell) → FramedPlan → ℕ → FramedProcedu
 LooksInto homes plan n here from pc there =
     (s : AbstractState) × (there ≡ Some s) × LooksOn homes plan n here from (AtInstruction pc s) 0
 
--- the pass ends after so many looks, by this refusal
+-- the pass ends after this many looks, by this refusal
 abbrev pub LooksStop : List (List Cell) → FramedPlan → ℕ → FramedProcedure → Stage → Refusal → ℕ
     → Type 0
 LooksStop homes plan n here from r looks =
     LookedPass homes plan n here from (Refuses (failed_check r)) looks
 
--- after so many looks the procedures from number i on are still to be passed
+-- after this many looks the procedures from number i on are still to be passed
 abbrev pub LooksFrom : List (List Cell) → FramedPlan → ℕ → ℕ → Type 0
 LooksFrom homes plan i looks =
     (j : Judgement) (after : ℕ)
     → looking_code homes plan i (drop i plan.procedures) j after
     → looking_code homes plan 0 plan.procedures j (looks + after)
 
--- Rooms, on which it rests that looks are few
+-- Room for points, on which the bound on the looks rests
 
 -- the state that falls in has room, if there is one
 abbrev pub HasRoomBefore : Option AbstractState → Type 0
 HasRoomBefore falling = IfSome falling HasRoom
 
--- so has each frame
+-- each frame of the procedure has room
 abbrev pub FramesHaveRoom : FramedProcedure → Type 0
 FramesHaveRoom here = (pc : ℕ) (f : Frame) → IsLabelled here pc f → HasRoomForPoints f
 

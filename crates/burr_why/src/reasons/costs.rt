@@ -37,7 +37,7 @@ impl Reasons<'_, '_> {
         self.add_last_part(site, FramePart::Cost);
     }
 
-    /// Notes how many steps are left, and how many an instruction takes that leaves so many.
+    /// Notes that `left` steps are left, and how many an instruction takes that leaves `after`.
     fn add_left_and_needed(&mut self, left: i64, after: i64) {
         let needed = left.saturating_sub(after);
         self.report

@@ -53,7 +53,7 @@ module _ {A : Type 0} (width : ℕ) (wrong : ℕ → ContainerFault) (is_so : Li
 
 -- Numbers
 
--- so many bytes are a number's
+-- any `width` bytes are those of a number
 abbrev pub AreDigits : ℕ → Type 0
 AreDigits width =
     (front : List ℕ) → length front ≡ width → AreSmall front

@@ -1,4 +1,4 @@
--- For crates above: bytes have so many of a part at their front, or fail to.
+-- For crates above: bytes have a given number of values of a part at their front, or fail to.
 use Rattle.std.proofs.Common.{◌≡◌, ℕ, zero, suc, ◌+◌, List, [], ◌∷◌, ◌++◌, length, flat_map, inl, inr, refl, sym, ap, ◌∙◌, subst, arith, append_assoc, length-append}
 use Rattle.std.specs.List.{list_all}
 use Rattle.std.proofs.lemmas.Bool.{and_from}

@@ -4,8 +4,8 @@ use Rattle.burr_forms.specs.Views.Rising.{count_after}
 use Rattle.burr_forms.proofs.Counts.{Searches}
 use Rattle.burr_forms.proofs.searching.first_refused.Given as goal
 
--- the condition holds at each point before this one; the guards have these values there, and the
--- forms this line; and so many looks were made
+-- the condition holds at each point before this one; at this one the guards have these values, and
+-- the forms this line; and the looks so far are counted
 abbrev pub invariant-loop-sign_steps : goal.invariant-loop-sign_steps
 invariant-loop-sign_steps g l =
     (g.C.Asking.subject l.condition ≡ g.C.Asking.subject l.initial.condition)

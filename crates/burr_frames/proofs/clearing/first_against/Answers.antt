@@ -12,7 +12,7 @@ use Rattle.burr_frames.proofs.ClearingLoops.{not_left, one_left, row_ends}
 use Rattle.burr_frames.proofs.LooksSoFar.{passed_over, one_is_so, one_is_not, at_most, same_homes}
 use Rattle.burr_frames.proofs.clearing.first_against.Goals as goal
 
--- what is asked of the pieces of the looks so far is asked of those of the first
+-- the homes stay the same, so an answer about the homes now is one about those at the start
 asked_first : (query : Query) (homes others : List (List Cell)) (values : List ℤ) (p q : ℕ) (test : Bool)
     → others ≡ homes → IsTrue test ↔ IsPairClear query others values p q
     → IsTrue test ↔ IsPairClear query homes values p q

@@ -6,7 +6,7 @@ use Rattle.burr_frames.specs.Views.ClearingLooks.{pairs_after}
 use Rattle.burr_frames.proofs.LooksSoFar.{SoFar}
 use Rattle.burr_frames.proofs.clearing.first_against.Given as goal
 
--- the piece is clear of those left in the tray so far, and those were asked of
+-- so far the piece is clear of each piece left in the tray, and each of these pairs was looked at
 abbrev pub invariant-loop-other : goal.invariant-loop-other
 invariant-loop-other g l =
     ((t : ℕ) → t < l.other → IsRole l.roles t Resting

@@ -25,7 +25,7 @@ row_first : (query : Query) (homes others : List (List Cell)) (pieces : List Rol
 row_first query homes others pieces values p found old new same row =
     subst (λ (hs : List (List Cell)). IsRow query hs pieces values p found old new) same row
 
--- so is what the piece is clear of
+-- the homes stay the same, and so do the pieces that the piece is clear of
 clear_first : (query : Query) (homes others : List (List Cell)) (pieces : List Role) (values : List ℤ) (p : ℕ)
     → others ≡ homes → ((t : ℕ) → IsRole pieces t Resting → IsPairClear query others values p t)
     → (t : ℕ) → IsRole pieces t Resting → IsPairClear query homes values p t

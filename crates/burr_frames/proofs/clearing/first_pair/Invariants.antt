@@ -6,7 +6,7 @@ use Rattle.burr_frames.specs.Views.ClearingLooks.{pairs_from, role_pairs}
 use Rattle.burr_frames.proofs.LooksSoFar.{SoFar}
 use Rattle.burr_frames.proofs.clearing.first_pair.Given as goal
 
--- the gripped pieces so far are clear of all left in the tray, and were asked of
+-- so far each gripped piece is clear of all left in the tray, and each of these pairs was looked at
 abbrev pub invariant-loop-piece : goal.invariant-loop-piece
 invariant-loop-piece g l =
     ((r t : ℕ) → r < l.piece → IsRole l.roles r Gripped → IsRole l.roles t Resting

@@ -1,4 +1,4 @@
--- What is asked of two pieces at their offsets.
+-- Whether two pieces are clear of each other at their offsets.
 use Rattle.std.proofs.Common.{◌≡◌, ◌↔◌, ℕ, ℤ, List, IsTrue, Bool, sym, subst, ap, ◌∙◌, arith}
 use Rattle.std.specs.Prelude.{pos, neg_ℤ, ◌≤ℤ◌, ◌-ℤ◌}
 use Rattle.std.proofs.lemmas.Int.{ints}

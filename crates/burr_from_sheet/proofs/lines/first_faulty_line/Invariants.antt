@@ -2,7 +2,7 @@ use Rattle.std.proofs.Common.{◌<◌, ◌-◌}
 use Rattle.burr_from_sheet.specs.SheetPlans.{AreOfMotions, first_lines}
 use Rattle.burr_from_sheet.proofs.lines.first_faulty_line.Given as goal
 
--- so many first lines are those of motions, and so many others are not
+-- the first `good` lines are those of motions, and the first `faulty` lines are not
 abbrev pub invariant-loop-faulty : goal.invariant-loop-faulty
 invariant-loop-faulty l = record {
   apart : l.good < l.faulty;

@@ -1,4 +1,4 @@
--- The rule of each instruction is that which was asked.
+-- The rule that is judged is that of the instruction that was given.
 use Rattle.std.proofs.Common.{◌≡◌, ℕ, List, refl, sym, subst}
 use Rattle.burr_voxels.specs.declared.cell.Cell.{Cell}
 use Rattle.burr_code.specs.declared.instr.Instr.{Instr}
@@ -22,7 +22,7 @@ by_rule homes plan n here s given told v w is same rule =
     subst (λ (i : Instr). Transfer homes plan n here s (meaning i) w) (sym is)
     (subst (λ (u : Verdict). Transfer homes plan n here s (meaning told) u) (sym same) rule)
 
--- so many looks, where they are those of the instruction that was asked
+-- the looks of the rule that was judged are those of the instruction that was given
 looks_like : (homes : List (List Cell)) (s : AbstractState) (given told : Instr) (old new : Counted) → given ≡ told
     → HasCounted (RuleLooks homes s (meaning told)) old new → HasCounted (RuleLooks homes s (meaning given)) old new
 looks_like homes s given told old new is counted =

@@ -1,4 +1,4 @@
--- There is a `pick` where so many labels are there.
+-- There is a `pick` where as many labels follow as its count says.
 use Rattle.std.proofs.Common.{◌≡◌, ◌<◌, ◌*◌, ◌∙◌, ◌∷◌, length, sym, ap, arith, inl, inr}
 use Rattle.burr_code.proofs.Operands.{no_pick_in, no_pick_of, is_pick}
 use Rattle.burr_code.proofs.fetching.questions.pick.Goals as goal

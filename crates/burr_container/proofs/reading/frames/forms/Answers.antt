@@ -1,4 +1,4 @@
--- So many forms stand after their count.
+-- Forms stand after their count, as many as it says.
 use Rattle.std.proofs.Common.{◌*◌, ap, ◌∙◌, ℕ}
 use Rattle.std.proofs.lemmas.Result.{err_from_is_err_and}
 use Rattle.burr_container.proofs.Chains.{at_most, count_most}

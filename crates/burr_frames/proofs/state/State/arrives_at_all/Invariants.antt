@@ -5,7 +5,7 @@ use Rattle.burr_frames.specs.Views.Here.{OfFramedProcedure}
 use Rattle.burr_frames.specs.Rules.Verdicts.{Verdict, arriving_at_all, no_successor}
 use Rattle.burr_frames.proofs.state.State.arrives_at_all.Given as goal
 
--- however it goes on from here, so it goes for all
+-- a verdict about the labels still to come is one about all of them
 abbrev pub invariant-loop-number : goal.invariant-loop-number
 invariant-loop-number l = OfFramedProcedure l.procedure (λ plan here.
     (to : List (ℕ × Frame)) → labelled here.labels l.labels ≡ Some to → (verdict : Verdict)

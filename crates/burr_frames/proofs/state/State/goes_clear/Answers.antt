@@ -18,7 +18,7 @@ use Rattle.burr_frames.proofs.GripLooks.{no_looks_off_bench, looks_of_clearing, 
 use Rattle.burr_frames.proofs.MoveVerdicts.{on_bench_of_forms, off_bench_of_forms, Searched, search_of, as_many_homes, all_clear, first_in_way}
 use Rattle.burr_frames.proofs.state.State.goes_clear.Goals as goal
 
--- a search at so many points has room to count
+-- a search over at most 4,096 points has room to count
 has_room : (count : ℕ) (ranges : List (ℤ × ℤ)) → count ≤ 2 ^ 40 → box_size ranges ≤ 4096
     → count + 1024 * count_in ranges ≤ 2 ^ 61
 has_room count ranges few small = let points = count-le ranges in omega (arith, few, small, points)

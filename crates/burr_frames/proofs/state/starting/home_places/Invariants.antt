@@ -1,4 +1,4 @@
--- So many pieces lie at home so far.
+-- The places so far are those of pieces at home, one for each turn of the loop.
 use Rattle.std.proofs.Common.{◌≡◌}
 use Rattle.std.specs.Prelude.{replicate}
 use Rattle.burr_code.specs.declared.placement.Placement.TheVariants.{On}
