@@ -17,12 +17,11 @@ LEAST, LINE_BELOW, OWN_LINE, EACH_JOB = 600_000_000, 40_000, 400_000, 0.6
 LONG, PRESSING_JOBS = 0.9, 2
 # the processor seconds that a crate's proof takes, as the gate measured them, and for each line of src where that is not known
 SECONDS = {
-    "burr_asm": 650, "burr_container": 480, "burr_frames": 445, "burr_program": 450, "burr_assembly": 380, "burr_trace": 320,
-    "burr_state": 305, "burr_why": 295, "burr_blocking": 260, "burr_judge": 170, "burr_runs": 235, "burr": 230,
-    "burr_command": 200, "burr_listing": 190, "burr_verify": 185, "burr_forms": 185, "burr_standing": 180, "burr_step": 160,
-    "burr_bench": 160, "burr_dialogue": 155, "burr_sheet": 155, "burr_code": 145, "burr_from_sheet": 145,
-    "burr_explain": 115, "burr_lines": 115, "burr_io": 110, "burr_voxels": 90, "burr_text": 60, "burr_upgrade": 35,
-    "burr_plantext": 30, "burr_soundness": 25,
+    "burr_asm": 650, "burr_container": 500, "burr_frames": 445, "burr_program": 450, "burr_assembly": 380, "burr_trace": 320,
+    "burr_state": 305, "burr_why": 475, "burr_blocking": 260, "burr_judge": 330, "burr_runs": 235, "burr": 230,
+    "burr_command": 200, "burr_verify": 185, "burr_forms": 185, "burr_step": 160,
+    "burr_bench": 185, "burr_sheet": 155, "burr_code": 145, "burr_from_sheet": 145,
+    "burr_explain": 115, "burr_lines": 115, "burr_io": 110, "burr_voxels": 90, "burr_text": 60, "burr_plantext": 220,
 }
 SECONDS_A_LINE = 0.2
 

@@ -1,2 +1,3 @@
 pub mod Assembling
+pub mod FaultNames
 pub mod Faults

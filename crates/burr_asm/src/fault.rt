@@ -22,6 +22,28 @@ pub enum AsmFault {
     Memory,
 }
 
+impl AsmFault {
+    ghost use Rattle.std.specs.Prelude.{◌≢◌, MatchOption};
+    ghost use Rattle.burr_asm.specs.declared.fault.AsmFault.TheVariants.{Memory};
+    ghost use Rattle.burr_asm.specs.Rules.FaultNames.{fault_code, fault_line};
+
+    /// What the fault is called, as `P2`, and its line, counted from 1. Want of memory is no fault of a
+    /// text: of it None.
+    pub fn code_and_line(self) -> Option<(&'static str, usize)>
+        ensures { MatchOption result (self ≡ Memory) (λ found. (self ≢ Memory)
+            × (found.0.now ≡ fault_code self) × (found.1 ≡ fault_line self)) }
+    {
+        match self {
+            AsmFault::P1 { line } => Some(("P1", line)),
+            AsmFault::P2 { line } => Some(("P2", line)),
+            AsmFault::P3 { line } => Some(("P3", line)),
+            AsmFault::P4 { line } => Some(("P4", line)),
+            AsmFault::P5 { line } => Some(("P5", line)),
+            AsmFault::Memory => None,
+        }
+    }
+}
+
 impl From<AllocError> for AsmFault {
     ghost use Rattle.burr_asm.specs.declared.fault.AsmFault.TheVariants.{Memory};
 

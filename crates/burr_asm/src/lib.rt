@@ -8,6 +8,6 @@ mod text;
 mod version;
 
 pub use assembling::assemble;
-pub use burr_listing::{list, list_with_places};
+pub use burr_plantext::{list, list_with_places};
 pub use fault::AsmFault;
 pub use laws::a_listing_assembles_to_its_container;

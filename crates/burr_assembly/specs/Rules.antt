@@ -1,3 +1,4 @@
+pub mod FaultNames
 pub mod Faults
 pub mod Homes
 pub mod Lines

@@ -30,6 +30,31 @@ pub enum AssemblyFault {
     Memory,
 }
 
+impl AssemblyFault {
+    ghost use Rattle.std.specs.Prelude.{◌≢◌, MatchOption};
+    ghost use Rattle.burr_assembly.specs.declared.fault.AssemblyFault.TheVariants.{Memory};
+    ghost use Rattle.burr_assembly.specs.Rules.FaultNames.{fault_code, fault_line};
+
+    /// What the fault is called, as `A4`, and its line, counted from 1. Want of memory is no fault of a
+    /// text: of it None.
+    pub fn code_and_line(self) -> Option<(&'static str, usize)>
+        ensures { MatchOption result (self ≡ Memory) (λ found. (self ≢ Memory)
+            × (found.0.now ≡ fault_code self) × (found.1 ≡ fault_line self)) }
+    {
+        match self {
+            AssemblyFault::A1 { line } => Some(("A1", line)),
+            AssemblyFault::A2 { line } => Some(("A2", line)),
+            AssemblyFault::A3 { line } => Some(("A3", line)),
+            AssemblyFault::A4 { line } => Some(("A4", line)),
+            AssemblyFault::A5 { line } => Some(("A5", line)),
+            AssemblyFault::A6 { line } => Some(("A6", line)),
+            AssemblyFault::A7 { line } => Some(("A7", line)),
+            AssemblyFault::A8 { line, .. } => Some(("A8", line)),
+            AssemblyFault::Memory => None,
+        }
+    }
+}
+
 impl From<AllocError> for AssemblyFault {
     ghost use Rattle.burr_assembly.specs.declared.fault.AssemblyFault.TheVariants.{Memory};
 

@@ -1,1 +1,3 @@
+pub mod Common
+pub mod Soundness
 pub mod Stepping

@@ -2,4 +2,5 @@ pub mod BenchViews
 pub mod Recorded
 pub mod Safe
 pub mod Sound
+pub mod Soundness
 pub mod Ways

@@ -5,7 +5,7 @@ use Rattle.burr_state.specs.declared.progress.Progress.TheVariants as progress
 use Rattle.burr_state.specs.Rules.Undo.{Undo, laid_over}
 use Rattle.burr_state.specs.Views.Benches.{Benched, in_state}
 use Rattle.burr_state.specs.Views.Records.{IsWorkState}
-use Rattle.burr_soundness.specs.Records.{IsUndoOf}
+use Rattle.burr_bench.specs.Soundness.Records.{IsUndoOf}
 use Rattle.burr_bench.specs.Sound.{IsSound}
 
 -- the machine with a record's old values laid over it

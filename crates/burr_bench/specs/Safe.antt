@@ -1,6 +1,6 @@
 -- What holds of each machine, which runs an accepted plan.
 use Rattle.burr_state.specs.Views.Benches.{Benched}
-use Rattle.burr_soundness.specs.Machine.{IsSafeBench}
+use Rattle.burr_bench.specs.Soundness.Machine.{IsSafeBench}
 use Rattle.burr_bench.specs.Sound.{IsSound}
 
 -- it is a bench at work, and before each of its calls what the verifier knows of the next

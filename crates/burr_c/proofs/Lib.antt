@@ -1,3 +1,1 @@
-mod Conversations
 mod Printing
-mod StepEnding

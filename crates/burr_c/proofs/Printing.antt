@@ -1,5 +1,5 @@
 -- What there is to print, and how it is given to the caller.
-use Rattle.std.proofs.Common.{◌≡◌, ◌↔◌, List, ℕ, [], refl, sym, subst, inl, inr, arith}
+use Rattle.std.proofs.Common.{◌≡◌, ◌↔◌, ◌∙◌, List, ℕ, [], ap, refl, sym, subst, inl, inr, arith}
 use Rattle.std.specs.Prelude.{Option, Some, Result, Ok, Err, IfOk, IfErr}
 use Rattle.std.specs.Io.KnownBytes.{Appends}
 use Rattle.burr_c.specs.declared.fault.Fault.{Fault}
@@ -7,7 +7,13 @@ use Rattle.burr_c.specs.declared.fault.Fault.TheVariants.{TooLong, Memory}
 use Rattle.burr_c.specs.declared.printed.Printed.{Printed}
 use Rattle.burr_judge.specs.declared.status.Status.{Status}
 use Rattle.burr_c.specs.Calls.{Call, Gives, Returns}
-use Rattle.burr_judge.specs.PlanEnds.{Ends}
+use Rattle.burr_io.specs.Sink.{SinkView, Takes}
+use Rattle.burr_io.specs.Source.{SourceView}
+use Rattle.burr_io.specs.WholeLines.{Lines, lines_view}
+use Rattle.burr_io.proofs.Common.Lines.{went}
+use Rattle.burr_judge.specs.PlanEnds.{Ends, PutsEnd}
+use Rattle.burr_judge.specs.StepEnds.{StepTextEnds, left_by}
+use Rattle.burr_c.specs.StepEnds.{StepsEnd}
 use Rattle.burr_c.specs.Statuses.{status_of_fault}
 
 -- what was put since there was nothing is all that is kept
@@ -16,6 +22,17 @@ pub all_kept : (AreEnds : Ends) (old new : Option (List ℕ)) (bytes : List ℕ)
 all_kept AreEnds old new bytes status first last (output, is, took) =
     let same : Appends (Some []) (Some bytes) output = subst (λ (o : Option (List ℕ)). Appends o (Some bytes) output) first (subst (λ (n : Option (List ℕ)). Appends old n output) last took) in
     subst (λ (b : List ℕ). AreEnds b status) (sym same) is
+
+-- what `step` puts for these commands on a sink of whole lines over such a one, once all is handed on
+pub steps_end : {R S : Type 0} (from to : R) (source : SourceView R) (first last : S) (sink : SinkView S) (old mid new : Lines S) (commands text container bytes : List ℕ) (status : Status)
+    → source.left from ≡ Some commands → old.held ≡ [] → old.sink ≡ first → sink.taken first ≡ Some [] → last ≡ new.sink → sink.taken last ≡ Some bytes
+    → PutsEnd (lines_view sink) old mid (StepTextEnds (left_by source from to) text container) status → Takes sink mid.sink new.sink mid.held → StepsEnd commands text container bytes status
+steps_end from to source first last sink old mid new commands text container bytes status given none begins nothing ends kept (output, is, put) took = (
+  left_by source from to,
+  given,
+  all_kept (StepTextEnds (left_by source from to) text container) (sink.taken old.sink) (sink.taken new.sink) bytes status (ap sink.taken begins ∙ nothing) (ap sink.taken (sym ends) ∙ kept)
+      (output, is, went sink old mid new output none put took),
+)
 
 -- what is printed, or a fault, is given
 pub returned : (printed : Result Printed Fault) (TooMuch : Type 0) (AreEnds : Ends) (c : Call) → IfOk printed (λ p. AreEnds p.bytes.items p.status)

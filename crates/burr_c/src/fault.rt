@@ -1,4 +1,4 @@
-use crate::no_memory::NoMemory;
+use burr_io::WriteFault;
 use burr_judge::Status;
 use thiserror::Error;
 
@@ -26,17 +26,6 @@ impl Fault {
     }
 }
 
-impl From<NoMemory> for Fault {
-    ghost use Rattle.std.specs.Prelude.{◌≡◌};
-    ghost use Rattle.burr_c.specs.declared.fault.Fault.TheVariants.{Memory};
-
-    ghost from_gives = { λ _ e. e ≡ Memory };
-
-    fn from(_e: NoMemory) -> Fault {
-        Fault::Memory
-    }
-}
-
 /// What is printed is kept in memory, so that nothing but memory is wanting.
 impl From<burr_judge::Fault<'_>> for Fault {
     ghost use Rattle.std.specs.Prelude.{◌≡◌};
@@ -45,6 +34,17 @@ impl From<burr_judge::Fault<'_>> for Fault {
     ghost from_gives = { λ _ e. e ≡ Memory };
 
     fn from(_e: burr_judge::Fault<'_>) -> Fault {
+        Fault::Memory
+    }
+}
+
+impl From<WriteFault> for Fault {
+    ghost use Rattle.std.specs.Prelude.{◌≡◌};
+    ghost use Rattle.burr_c.specs.declared.fault.Fault.TheVariants.{Memory};
+
+    ghost from_gives = { λ _ e. e ≡ Memory };
+
+    fn from(_e: WriteFault) -> Fault {
         Fault::Memory
     }
 }

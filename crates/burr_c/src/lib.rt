@@ -13,10 +13,7 @@
 
 mod fault;
 mod giving;
-mod kept;
-mod no_memory;
 mod printed;
-mod stepping;
 #[cfg(test)]
 mod tests;
 
@@ -25,7 +22,7 @@ ghost use Rattle.burr_judge.specs.declared.task.Task.TheVariants.{Check, Run, Tr
 ghost use Rattle.burr_c.specs.AssemblingEnds.{AssemblingEnds};
 ghost use Rattle.burr_c.specs.Calls.{call, IsTooLong, IsEitherTooLong, IsAnyTooLong, Returns};
 ghost use Rattle.burr_judge.specs.PlanEnds.{PlanEnds};
-ghost use Rattle.burr_c.specs.StepEnds.{StepTextEnds};
+ghost use Rattle.burr_c.specs.StepEnds.{StepsEnd};
 
 use crate::giving::give;
 use crate::printed::{print_assembled, print_judgement, print_steps};
@@ -98,7 +95,7 @@ pub extern "C" fn burr_step_through(
     size: &mut usize,
 ) -> u8
     ensures { Returns (IsEitherTooLong assembly.now plan.now)
-        (StepTextEnds commands.now assembly.now plan.now)
+        (StepsEnd commands.now assembly.now plan.now)
         (call room.old room.new size.new result) }
 {
     let printed = print_steps(alloc, assembly, plan, commands);

@@ -1,21 +1,22 @@
 //! What there is to print for a call, kept in memory.
 
 ghost use Rattle.std.specs.Prelude.{◌≡◌, ◌↔◌, IfOk, IfErr, IsTrue};
-ghost use Rattle.burr_c.specs.declared.fault.Fault.TheVariants.{TooLong};
+ghost use Rattle.burr_c.specs.declared.fault.Fault.TheVariants.{Memory, TooLong};
 ghost use Rattle.burr_c.specs.AssemblingEnds.{AssemblingEnds};
 ghost use Rattle.burr_c.specs.Calls.{IsTooLong, IsEitherTooLong, IsAnyTooLong};
-ghost use Rattle.burr_c.specs.StepEnds.{StepTextEnds};
+ghost use Rattle.burr_c.specs.StepEnds.{StepsEnd};
 ghost use Rattle.burr_judge.specs.PlanEnds.{IsRefusal, PlanEnds};
 ghost use Rattle.burr_judge.specs.Refusals.{plan_text_refusal};
 
 use crate::fault::Fault;
-use crate::kept::Kept;
-use crate::no_memory::NoMemory;
-use crate::stepping::step_text;
 use burr_asm::{AsmFault, assemble};
-use burr_judge::{Refused, Status, Task, judge_text, refuse};
+use burr_io::{Kept, Reading, WholeLines};
+use burr_judge::{Refused, Status, Task, judge_text, refuse, step_text};
 use burr_runs::LIMIT;
 use std::alloc::Global;
+
+/// How many bytes of an answer to a command are held back before they are kept.
+const HELD: usize = 1_024;
 
 /// What is printed, and the status that goes with it.
 #[derive(Drop)]
@@ -60,8 +61,8 @@ pub fn print_steps(
     container: &[u8],
     commands: &[u8],
 ) -> Result<Printed, Fault>
-    ensures ok { IfOk result (λ printed.
-        StepTextEnds commands.now text.now container.now printed.bytes.items printed.status) }
+    ensures ok { IfOk result (λ printed. StepsEnd commands.now text.now container.now
+        printed.bytes.items printed.status) }
     ensures short { IfOk result (λ _. ¬ IsEitherTooLong text.now container.now) }
     ensures long { IfErr result (λ fault.
         fault ≡ TooLong ↔ IsEitherTooLong text.now container.now) }
@@ -69,10 +70,12 @@ pub fn print_steps(
     if is_too_long(text) || is_too_long(container) {
         return Err(Fault::TooLong);
     }
-    let mut kept = Kept::new(alloc);
-    let status = step_text(alloc, text, container, commands, &mut kept)?;
+    let mut source = Reading::new(commands);
+    let mut sink: WholeLines<_, HELD> = WholeLines::new(Kept::new(alloc));
+    let status = step_text(alloc, text, container, &mut source, &mut sink)?;
+    sink.flush()?;
     Ok(Printed {
-        bytes: kept.into_bytes(),
+        bytes: sink.into_sink().into_bytes(),
         status,
     })
 }
@@ -94,14 +97,15 @@ pub fn print_assembled(alloc: Global, text: &[u8]) -> Result<Printed, Fault>
             status: Status::Done,
         }),
         Err(AsmFault::Memory) => Err(Fault::Memory),
-        Err(fault) => Ok(print_text_refusal(alloc, fault)?),
+        Err(fault) => print_text_refusal(alloc, fault),
     }
 }
 
 /// The line that refuses a plan text.
-fn print_text_refusal(alloc: Global, fault: AsmFault) -> Result<Printed, NoMemory>
-    ensures { IfOk result (λ printed.
+fn print_text_refusal(alloc: Global, fault: AsmFault) -> Result<Printed, Fault>
+    ensures ok { IfOk result (λ printed.
         IsRefusal (plan_text_refusal fault) printed.bytes.items printed.status) }
+    ensures memory { IfErr result (λ fault. fault ≡ Memory) }
 {
     let mut kept = Kept::new(alloc);
     let status = refuse(&Refused::PlanText(fault), &mut kept)?;

@@ -22,6 +22,7 @@ pub mod PlacesRead
 pub mod Restored
 pub mod RestoredPlans
 mod WorkedRows
+pub mod SecondVersion
 pub mod Sizes
 pub mod SlotWalk
 pub mod ProceduresRead

@@ -1,1 +1,2 @@
 pub mod PlanBytes
+pub mod Upgrades

@@ -18,3 +18,23 @@ pub enum ContainerFault {
     #[error("at {at}: bytes follow the last procedure")]
     C6 { at: usize },
 }
+
+impl ContainerFault {
+    ghost use Rattle.std.specs.Prelude.{◌≡◌};
+    ghost use Rattle.burr_container.specs.Rules.FaultNames.{fault_code, fault_position};
+
+    /// What the fault is called, as `C4`, and its position.
+    pub fn code_and_position(self) -> (&'static str, usize)
+        ensures code { result.0.now ≡ fault_code self }
+        ensures position { result.1 ≡ fault_position self }
+    {
+        match self {
+            ContainerFault::C1 { at } => ("C1", at),
+            ContainerFault::C2 { at } => ("C2", at),
+            ContainerFault::C3 { at } => ("C3", at),
+            ContainerFault::C4 { at } => ("C4", at),
+            ContainerFault::C5 { at } => ("C5", at),
+            ContainerFault::C6 { at } => ("C6", at),
+        }
+    }
+}

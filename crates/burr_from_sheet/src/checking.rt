@@ -7,10 +7,10 @@ ghost use Rattle.burr_from_sheet.specs.SheetPlans.{IsPlanTextOf};
 
 use crate::code::DraftedCode;
 use crate::fault::{RefusedDraft, SheetFault};
-use crate::kept::KeptBytes;
 use burr_blocking::Blocking;
 use burr_container::{Container, a_container_is_of_one_plan, containers_are_unique};
-use burr_listing::list;
+use burr_io::Kept;
+use burr_plantext::list;
 use burr_runs::{Outcome, run_plan};
 use burr_verify::{Accepted, Refusal, accept};
 use std::alloc::{AllocError, Global};
@@ -73,7 +73,7 @@ fn compare_run<B: Blocking>(
     ensures ok { OnOk result (RunsAs accepted.now.judged lines.now) }
     ensures err { IfErr result IsOfDraft }
 {
-    let mut sheet = KeptBytes::new(alloc);
+    let mut sheet = Kept::new(alloc);
     let Ok(outcome) = run_plan(accepted, &[], &mut sheet) else {
         return Err(SheetFault::Memory);
     };

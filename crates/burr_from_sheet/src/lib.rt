@@ -6,7 +6,6 @@ mod checking;
 mod code;
 mod drafting;
 mod fault;
-mod kept;
 mod laws;
 mod lines;
 mod planning;

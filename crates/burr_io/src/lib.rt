@@ -2,6 +2,7 @@
 #![tactic(auto)]
 
 mod fault;
+mod kept;
 mod puts;
 mod reading;
 mod sink;
@@ -10,9 +11,10 @@ mod whole_lines;
 mod writing;
 
 pub use fault::{IoFailed, WriteFault};
+pub use kept::Kept;
 pub use puts::{put_all, put_number, put_words};
 pub use reading::Reading;
 pub use sink::Sink;
 pub use source::Source;
-pub use whole_lines::WholeLines;
+pub use whole_lines::{WholeLines, last_line_end};
 pub use writing::Writing;

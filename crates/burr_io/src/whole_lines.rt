@@ -44,6 +44,13 @@ impl<W: Sink, const N: usize> WholeLines<W, N> {
         }
     }
 
+    /// The sink below; what is held back is lost.
+    pub fn into_sink(self) -> W
+        ensures { result ≡ self.sink }
+    {
+        self.sink
+    }
+
     /// Hands on all that is held back. A fault comes only where the sink below has failed, and then it
     /// has taken a front of that, and the rest is still held back; where it had failed before, nothing
     /// changes.
@@ -130,14 +137,14 @@ fn whole_lines(full: &[u8]) -> usize
     ensures some { 0 < result }
     ensures all { result ≤ length full.now }
 {
-    match last_end(full) {
+    match last_line_end(full) {
         Some(end) => end + 1,
         None => full.len(),
     }
 }
 
-/// Where the last end of a line stands.
-fn last_end(bytes: &[u8]) -> Option<usize>
+/// Where the last line feed stands; None where there is none.
+pub fn last_line_end(bytes: &[u8]) -> Option<usize>
     ensures { MatchOption result
         (¬ Contains bytes.now 10)
         (λ i. (i < length bytes.now) × (slice_index bytes.now i ≡ 10)

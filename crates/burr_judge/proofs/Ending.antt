@@ -1,5 +1,5 @@
 -- How what is done with a plan ends: steps from one stage to the next, and ways out.
-use Rattle.std.proofs.Common.{Bor, ◌≡◌, List, ℕ, ℤ, ap, ◌∙◌, refl, subst, inl, inr}
+use Rattle.std.proofs.Common.{Bor, ◌≡◌, List, ℕ, ℤ, refl, subst, inl, inr}
 use Rattle.std.specs.Prelude.{Result, IfOk, IfErr}
 use Rattle.std.specs.Result.{IsErrAnd}
 use Rattle.std.proofs.lemmas.Result.{err_from_is_err_and}
@@ -12,7 +12,6 @@ use Rattle.burr_state.specs.Views.Benches.{Benched}
 use Rattle.burr_state.specs.Views.Programs.{plan_program}
 use Rattle.burr_verify.specs.Rules.Accepting.{Judged, judged}
 use Rattle.burr_verify.specs.Views.Refusals.{another_assembly}
-use Rattle.burr_verify.specs.declared.refusal.Refusal.{Refusal}
 use Rattle.burr_runs.specs.Rules.Answers.{answers_text}
 use Rattle.burr_runs.specs.Rules.Headline.{FailsSafely}
 use Rattle.burr_runs.specs.Rules.Output.{IsSheetOf}
@@ -24,8 +23,8 @@ use Rattle.burr_judge.specs.declared.task.Task.{Task}
 use Rattle.burr_judge.specs.Statuses.{status_of}
 use Rattle.burr_judge.specs.declared.status.Status.{Status}
 use Rattle.burr_judge.specs.declared.ladder.Given.TheVariants.{Container}
-use Rattle.burr_judge.specs.Ladder.{PlanJudged, LadderComes, WantsMemory}
-use Rattle.burr_judge.specs.PlanEnds.{Ends, EndsOn, PutsFrontOfEnd, FailsToEnd, IsRefusal, IsFor, IsMisfit, VerdictEnds, CheckEnds, RunEnds, TryEnds, AnswersEnd, SafeEnds, BenchEnds, TaskEnds, PlanEnds}
+use Rattle.burr_judge.specs.Ladder.{PlanJudged, PlanTried, LadderComes, WantsMemory}
+use Rattle.burr_judge.specs.PlanEnds.{Ends, EndsOn, PutsFrontOfEnd, FailsToEnd, IsRefusal, VerdictEnds, CheckEnds, RunEnds, TryEnds, AnswersEnd, SafeEnds, BenchEnds, SheetEnds, TaskEnds, PlanEnds}
 use Rattle.burr_judge.proofs.Common.Comes.{ends_among, memory_ends, text_told, verdict_among}
 use Rattle.burr_judge.proofs.Common.Stages.{AreAmong}
 
@@ -51,17 +50,12 @@ pub bench_front : {S : Type 0} (sink : SinkView S) (before after : S) (b : Bench
 bench_front sink before after b text answers read (output, outcome, is, fails) =
     (output, status_of outcome, inr (answers, read, (outcome, is, refl)), fails)
 
--- what `try` prints of a plan for another assembly is its refusal
-pub try_misfit : (kept : ContainerView) (a : Assembly) (text : List ℕ) (r : Refusal) → r ≡ another_assembly → IsMisfit kept a
-    → AreAmong (IsRefusal (plan_refusal a r)) (TryEnds kept a text)
-try_misfit kept a text r another misfit output status (same, is) = inl (misfit, (same ∙ ap (plan_refusal a) another, is))
-
--- the run of a bench is a way that `try` ends
+-- the run of a bench is that of the container's plan
 pub bench_among : (kept : ContainerView) (a : Assembly) (text : List ℕ) (b : Benched) → b.assembly ≡ a
-    → ((p : Plan) → IsContainer kept p → b.program ≡ plan_program p) → IsFor kept a → AreAmong (AnswersEnd text (BenchEnds b)) (TryEnds kept a text)
-bench_among kept a text b same programs for output status (inl fault) = inr (for, inl fault)
-bench_among kept a text b same programs for output status (inr (answers, read, (outcome, is, ends))) =
-    inr (for, inr (answers, read, (outcome, (λ p of. subst (λ (q : Program). IsSheetOf a q answers output outcome) (programs p of) (subst (λ (x : Assembly). IsSheetOf x b.program answers output outcome) same is)), ends)))
+    → ((p : Plan) → IsContainer kept p → b.program ≡ plan_program p) → AreAmong (AnswersEnd text (BenchEnds b)) (AnswersEnd text (SheetEnds kept a))
+bench_among kept a text b same programs output status (inl fault) = inl fault
+bench_among kept a text b same programs output status (inr (answers, read, (outcome, is, ends))) =
+    inr (answers, read, (outcome, (λ p of. subst (λ (q : Program). IsSheetOf a q answers output outcome) (programs p of) (subst (λ (x : Assembly). IsSheetOf x b.program answers output outcome) same is)), ends))
 
 -- What the ladder comes to, as one of the three tasks ends
 
@@ -88,3 +82,11 @@ run_ends first last sink before after r text kept a (inl (refusal, refused, (end
     ends_among sink before after (IsRefusal (plan_refusal a refusal)) (RunEnds kept a text) r (λ output status is. inl ((refusal, refused, is.0), is.1)) ends
 run_ends first last sink before after r text kept a (inr (accepted, looks, passed, ends)) =
     ends_among sink before after (AnswersEnd text (SafeEnds (judged kept a))) (RunEnds kept a text) r (λ output status is. inr (accepted, is)) ends
+
+pub tried_ends : {S : Type 0} (sink : SinkView S) (before after : S) (r : Result Status Fault) (text : List ℕ) (kept : ContainerView) (a : Assembly)
+    → PlanTried (λ line. EndsOn sink before after (IsRefusal line) r) (EndsOn sink before after (AnswersEnd text (SheetEnds kept a)) r) kept a
+    → EndsOn sink before after (TryEnds kept a text) r
+tried_ends sink before after r text kept a (inl (misfit, ends)) =
+    ends_among sink before after (IsRefusal (plan_refusal a another_assembly)) (TryEnds kept a text) r (λ output status is. inl (misfit, is)) ends
+tried_ends sink before after r text kept a (inr (for, ends)) =
+    ends_among sink before after (AnswersEnd text (SheetEnds kept a)) (TryEnds kept a text) r (λ output status is. inr (for, is)) ends

@@ -1,2 +1,6 @@
+pub mod CommandAnswers
+pub mod CommandLines
 pub mod Common
+mod Dialogues
 pub mod Ending
+mod SteppedPlans

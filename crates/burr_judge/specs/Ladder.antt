@@ -15,6 +15,8 @@ use Rattle.burr_container.specs.Rules.Faults.{ContainerFails}
 use Rattle.burr_container.specs.Views.Containers.{ContainerView, IsContainer}
 use Rattle.burr_verify.specs.declared.refusal.Refusal.{Refusal}
 use Rattle.burr_verify.specs.Rules.Accepting.{judged, IsAccepted}
+use Rattle.burr_verify.specs.Rules.Fitting.{FitsAssembly}
+use Rattle.burr_verify.specs.Views.Refusals.{another_assembly}
 use Rattle.burr_runs.specs.Rules.Refusals.{assembly_refusal, container_refusal}
 use Rattle.burr_runs.specs.Rules.Verdicts.{IsPassedBy, IsRefusedBy, plan_refusal}
 use Rattle.burr_judge.specs.declared.fault.Fault.{Fault}
@@ -63,6 +65,19 @@ abbrev pub PlanJudged : (List ℕ → Type 0) → (ℕ → Type 0) → Container
 PlanJudged Refuses Uses kept a =
     ((r : Refusal) × IsRefusedBy kept a r × Refuses (plan_refusal a r))
     ⊎ (IsAccepted (judged kept a) × (looks : ℕ) × IsPassedBy kept a looks × Uses looks)
+
+-- the plan is for the assembly
+abbrev pub IsFor : ContainerView → Assembly → Type 0
+IsFor kept a = (p : Plan) → IsContainer kept p → FitsAssembly p a
+
+-- the plan is for another assembly
+abbrev pub IsMisfit : ContainerView → Assembly → Type 0
+IsMisfit kept a = (p : Plan) → IsContainer kept p → ¬ FitsAssembly p a
+
+-- a plan for another assembly is refused, or the plan is run
+abbrev pub PlanTried : (List ℕ → Type 0) → Type 0 → ContainerView → Assembly → Type 0
+PlanTried Refuses Runs kept a =
+    (IsMisfit kept a × Refuses (plan_refusal a another_assembly)) ⊎ (IsFor kept a × Runs)
 
 -- what a plan, as it is given, and an assembly's text come to: memory is refused, or one of them, or
 -- the plan is used

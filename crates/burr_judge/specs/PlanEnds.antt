@@ -5,8 +5,6 @@ use Rattle.burr_assembly.specs.Rules.Text.{Assembly}
 use Rattle.burr_container.specs.Rules.Plans.{Plan}
 use Rattle.burr_container.specs.Views.Containers.{ContainerView, IsContainer}
 use Rattle.burr_verify.specs.Rules.Accepting.{Judged, judged, IsAccepted, MainCosts}
-use Rattle.burr_verify.specs.Rules.Fitting.{FitsAssembly}
-use Rattle.burr_verify.specs.Views.Refusals.{another_assembly}
 use Rattle.burr_state.specs.Views.Benches.{Benched}
 use Rattle.burr_state.specs.Views.Programs.{plan_program}
 use Rattle.burr_runs.specs.declared.outcome.Outcome.{Outcome}
@@ -16,7 +14,7 @@ use Rattle.burr_runs.specs.Rules.Answers.{answers_text, IsAnswersFault}
 use Rattle.burr_runs.specs.Rules.Headline.{IsSafeSheetOf}
 use Rattle.burr_runs.specs.Rules.Output.{IsSheetOf}
 use Rattle.burr_runs.specs.Rules.Refusals.{answers_refusal}
-use Rattle.burr_runs.specs.Rules.Verdicts.{IsVerdictLine, accepted_line, plan_refusal}
+use Rattle.burr_runs.specs.Rules.Verdicts.{IsVerdictLine, accepted_line}
 use Rattle.burr_judge.specs.declared.fault.Fault.{Fault}
 use Rattle.burr_judge.specs.declared.ladder.Given.{Given}
 use Rattle.burr_judge.specs.declared.status.Status.{Status}
@@ -24,7 +22,7 @@ use Rattle.burr_judge.specs.declared.status.Status.TheVariants.{Done, Refused}
 use Rattle.burr_judge.specs.declared.task.Task.{Task}
 use Rattle.burr_judge.specs.declared.task.Task.TheVariants.{Check, Run, Try}
 use Rattle.burr_judge.specs.Faults.{line_of, output_failed}
-use Rattle.burr_judge.specs.Ladder.{TextComes, PlanTextComes, BytesCome, GivenComes}
+use Rattle.burr_judge.specs.Ladder.{TextComes, PlanTextComes, BytesCome, GivenComes, PlanTried}
 use Rattle.burr_judge.specs.Statuses.{status_of}
 
 -- what may be printed, and with which status
@@ -86,19 +84,11 @@ SheetEnds kept a answers output status =
     (outcome : Outcome) × ((p : Plan) → IsContainer kept p
     → IsSheetOf a (plan_program p) answers output outcome) × (status ≡ status_of outcome)
 
--- the plan is for the assembly
-abbrev pub IsFor : ContainerView → Assembly → Type 0
-IsFor kept a = (p : Plan) → IsContainer kept p → FitsAssembly p a
-
--- the plan is for another assembly
-abbrev pub IsMisfit : ContainerView → Assembly → Type 0
-IsMisfit kept a = (p : Plan) → IsContainer kept p → ¬ FitsAssembly p a
-
 -- of `try`: the plan is for another assembly; or answers are judged, and it is run
 abbrev pub TryEnds : ContainerView → Assembly → List ℕ → Ends
 TryEnds kept a text output status =
-    (IsMisfit kept a × IsRefusal (plan_refusal a another_assembly) output status)
-    ⊎ (IsFor kept a × AnswersEnd text (SheetEnds kept a) output status)
+    PlanTried (λ line. IsRefusal line output status)
+    (AnswersEnd text (SheetEnds kept a) output status) kept a
 
 -- of each of the three, with a text of answers
 abbrev pub TaskEnds : Task → ContainerView → Assembly → List ℕ → Ends
@@ -168,3 +158,22 @@ abbrev pub StopsBeforeEnd : {S : Type 0} → SinkView S → S → S → Ends →
 StopsBeforeEnd sink before after AreEnds line =
     ((line ≡ output_failed) × HoldsFrontOfEnd sink before after AreEnds)
     ⊎ ((line ≡ codes "no memory\n") × (after ≡ before))
+
+-- How a command ends that may break off
+
+-- what is told where a command breaks off, for one that does not
+abbrev pub never : List ℕ → Type 0
+never line = ⊥
+
+-- the sink failed in what there is to print, or it was left alone, or the command broke off
+abbrev pub Stops : {S : Type 0} → SinkView S → S → S → Ends → (List ℕ → Type 0) → List ℕ → Type 0
+Stops sink before after AreEnds Breaks line =
+    ((line ≡ output_failed) × PutsFrontOfEnd sink before after AreEnds)
+    ⊎ (after ≡ before) ⊎ Breaks line
+
+-- the sink took what is printed with this status, or a fault is told and it stopped so
+abbrev pub Ending : {S : Type 0} → SinkView S → S → S → Ends → (List ℕ → Type 0)
+    → Result Status Fault → Type 0
+Ending sink before after AreEnds Breaks r =
+    IfOk r (PutsEnd sink before after AreEnds)
+    × IfErr r (λ fault. Stops sink before after AreEnds Breaks (line_of fault))

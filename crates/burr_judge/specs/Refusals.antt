@@ -1,7 +1,8 @@
 -- The line that tells why what is given is refused.
 use Rattle.std.specs.Prelude.{ℕ, List, [], codes}
 use Rattle.burr_asm.specs.declared.fault.AsmFault.{AsmFault}
-use Rattle.burr_asm.specs.declared.fault.AsmFault.TheVariants as text
+use Rattle.burr_asm.specs.declared.fault.AsmFault.TheVariants.{Memory}
+use Rattle.burr_asm.specs.Rules.FaultNames.{fault_code, fault_line}
 use Rattle.burr_runs.specs.Rules.Refusals.{place_line, assembly_refusal, container_refusal, answers_refusal}
 use Rattle.burr_runs.specs.Rules.Verdicts.{plan_refusal}
 use Rattle.burr_judge.specs.declared.refused.Refused.{Refused}
@@ -9,12 +10,8 @@ use Rattle.burr_judge.specs.declared.refused.Refused.TheVariants as refused
 
 -- the line for a fault of a plan text; want of memory is no fault of a text
 abbrev pub plan_text_refusal : AsmFault → List ℕ
-plan_text_refusal (text.P1 n) = place_line (codes "P1") (codes "line") n
-plan_text_refusal (text.P2 n) = place_line (codes "P2") (codes "line") n
-plan_text_refusal (text.P3 n) = place_line (codes "P3") (codes "line") n
-plan_text_refusal (text.P4 n) = place_line (codes "P4") (codes "line") n
-plan_text_refusal (text.P5 n) = place_line (codes "P5") (codes "line") n
-plan_text_refusal text.Memory = []
+plan_text_refusal Memory = []
+plan_text_refusal fault = place_line (fault_code fault) (codes "line") (fault_line fault)
 
 -- the line for what refuses
 abbrev pub refusal_line : Refused → List ℕ

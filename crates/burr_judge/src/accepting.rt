@@ -1,8 +1,9 @@
 //! What is done with a plan where it is accepted.
 
 use crate::fault::Fault;
-use crate::ladder::{PlanUse, Refuse};
+use crate::ladder::PlanUse;
 use crate::refused::Refused;
+use crate::refuser::Refuse;
 use crate::status::Status;
 use burr_blocking::Blocking;
 use burr_container::Container;
@@ -10,11 +11,14 @@ use burr_verify::{Accepted, accept_counted};
 use std::alloc::Global;
 
 /// What is done with an accepted plan, on a sink and an input that is used for nothing else.
-pub trait AcceptedUse<I, W>: Refuse<W> {
+pub trait AcceptedUse<I, W> {
     ghost use Rattle.std.specs.Prelude.{ℕ, Result};
     ghost use Rattle.burr_verify.specs.Rules.Accepting.{Judged};
     ghost use Rattle.burr_judge.specs.declared.fault.Fault.{Fault};
     ghost use Rattle.burr_judge.specs.declared.status.Status.{Status};
+
+    /// The sinks on which it may be done.
+    ghost can: { W → Type 0 };
 
     /// What comes of the use of a plan that was accepted by this many looks.
     ghost uses: { Self → I → W → Judged → ℕ → Result Status Fault → I → W → Type 0 };
@@ -28,7 +32,7 @@ pub trait AcceptedUse<I, W>: Refuse<W> {
         input: &mut I,
         sink: &mut W,
     ) -> Result<Status, Fault<'a>>
-        requires { Self.can sink.old }
+        requires { can sink.old }
         ensures { uses self.now input.old sink.old accepted.now.judged looks result input.new
             sink.new };
 }
@@ -37,34 +41,22 @@ pub trait AcceptedUse<I, W>: Refuse<W> {
 #[derive(Drop)]
 pub struct IfAccepted<U>(pub U);
 
-impl<W, U: Refuse<W>> Refuse<W> for IfAccepted<U> {
-    ghost can = { U.can };
-
-    ghost refuses = { λ it before line r after. U.refuses it.0 before line r after };
-
-    fn refuse<'a>(
-        &self,
-        alloc: Global,
-        refused: &Refused<'_, '_>,
-        sink: &mut W,
-    ) -> Result<Status, Fault<'a>> {
-        self.0.refuse(alloc, refused, sink)
-    }
-}
-
-impl<I, W, U: AcceptedUse<I, W>> PlanUse<I, W> for IfAccepted<U> {
+impl<R: Refuse<W>, I, W, U: AcceptedUse<I, W>> PlanUse<R, I, W> for IfAccepted<U> {
     ghost use Rattle.std.specs.Prelude.{◌≡◌};
     ghost use Rattle.burr_verify.specs.Rules.Accepting.{judged};
     ghost use Rattle.burr_judge.specs.Ladder.{PlanJudged};
 
-    ghost uses = { λ it first before kept a r last after. PlanJudged
-        (λ line. U.refuses it.0 before line r after × (last ≡ first))
+    ghost can = { U.can };
+
+    ghost uses = { λ it refuser first before kept a r last after. PlanJudged
+        (λ line. R.refuses refuser before line r after × (last ≡ first))
         (λ looks. U.uses it.0 first before (judged kept a) looks r last after) kept a };
 
     #[inline(never)]
     fn use_plan<'a, 'x, B: Blocking>(
         &self,
         alloc: Global,
+        refuser: &R,
         container: &'x Container<'_>,
         blocking: &'x B,
         input: &mut I,
@@ -78,7 +70,7 @@ impl<I, W, U: AcceptedUse<I, W>> PlanUse<I, W> for IfAccepted<U> {
                     assembly: blocking.assembly(),
                     refusal: &refusal,
                 };
-                self.0.refuse(alloc, &refused, sink)
+                refuser.refuse(alloc, &refused, sink)
             }
         }
     }

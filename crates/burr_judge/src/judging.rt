@@ -5,15 +5,16 @@ ghost use Rattle.burr_judge.specs.PlanEnds.{AnswersEnd, BenchEnds, EndsOn, PlanE
 
 use crate::accepting::{AcceptedUse, IfAccepted};
 use crate::fault::Fault;
-use crate::ladder::{Given, OfPlan, PlanUse, Refuse, use_text};
+use crate::ladder::{Given, OfPlan, PlanUse, use_text};
 use crate::refused::{Refused, refuse};
+use crate::refuser::{Plainly, Refuse};
 use crate::status::Status;
 use crate::task::Task;
 use burr_bench::Checked;
 use burr_blocking::Blocking;
 use burr_container::Container;
 use burr_io::Sink;
-use burr_runs::{AnswersFault, put_accepted, read_answers, run_plan, try_plan};
+use burr_runs::{AnswersFault, Observer, put_accepted, read_answers, run_plan, try_observed};
 use burr_verify::Accepted;
 use std::alloc::Global;
 
@@ -35,15 +36,15 @@ pub fn judge_text<'a, W: Sink>(
     match task {
         Task::Check => {
             let work = IfAccepted(Check);
-            use_text(alloc, &OfPlan { plan, work }, text, &mut (), sink)
+            use_text(alloc, &Plainly, &OfPlan { plan, work }, text, &mut (), sink)
         }
         Task::Run => {
             let work = IfAccepted(Run { answers });
-            use_text(alloc, &OfPlan { plan, work }, text, &mut (), sink)
+            use_text(alloc, &Plainly, &OfPlan { plan, work }, text, &mut (), sink)
         }
         Task::Try => {
             let work = Try { answers };
-            use_text(alloc, &OfPlan { plan, work }, text, &mut (), sink)
+            use_text(alloc, &Plainly, &OfPlan { plan, work }, text, &mut (), sink)
         }
     }
 }
@@ -52,26 +53,11 @@ pub fn judge_text<'a, W: Sink>(
 #[derive(Clone, Copy)]
 pub struct Check;
 
-impl<W: Sink> Refuse<W> for Check {
+impl<W: Sink> AcceptedUse<(), W> for Check {
     ghost use Rattle.std.specs.Prelude.{⊤};
-    ghost use Rattle.burr_judge.specs.PlanEnds.{EndsOn, IsRefusal};
+    ghost use Rattle.burr_judge.specs.PlanEnds.{EndsOn, VerdictEnds};
 
     ghost can = { λ _. ⊤ };
-
-    ghost refuses = { λ _ before line r after. EndsOn W.Sink before after (IsRefusal line) r };
-
-    fn refuse<'a>(
-        &self,
-        _alloc: Global,
-        refused: &Refused<'_, '_>,
-        sink: &mut W,
-    ) -> Result<Status, Fault<'a>> {
-        refuse(refused, sink)
-    }
-}
-
-impl<W: Sink> AcceptedUse<(), W> for Check {
-    ghost use Rattle.burr_judge.specs.PlanEnds.{EndsOn, VerdictEnds};
 
     ghost uses = { λ _ _ before j looks r _ after.
         EndsOn W.Sink before after (VerdictEnds j looks) r };
@@ -96,26 +82,11 @@ pub struct Run<'x> {
     pub answers: &'x [u8],
 }
 
-impl<'x, W: Sink> Refuse<W> for Run<'x> {
+impl<'x, W: Sink> AcceptedUse<(), W> for Run<'x> {
     ghost use Rattle.std.specs.Prelude.{⊤};
-    ghost use Rattle.burr_judge.specs.PlanEnds.{EndsOn, IsRefusal};
+    ghost use Rattle.burr_judge.specs.PlanEnds.{AnswersEnd, EndsOn, SafeEnds};
 
     ghost can = { λ _. ⊤ };
-
-    ghost refuses = { λ _ before line r after. EndsOn W.Sink before after (IsRefusal line) r };
-
-    fn refuse<'a>(
-        &self,
-        _alloc: Global,
-        refused: &Refused<'_, '_>,
-        sink: &mut W,
-    ) -> Result<Status, Fault<'a>> {
-        refuse(refused, sink)
-    }
-}
-
-impl<'x, W: Sink> AcceptedUse<(), W> for Run<'x> {
-    ghost use Rattle.burr_judge.specs.PlanEnds.{AnswersEnd, EndsOn, SafeEnds};
 
     ghost uses = { λ run _ before j _ r _ after.
         EndsOn W.Sink before after (AnswersEnd run.answers.now (SafeEnds j)) r };
@@ -137,64 +108,54 @@ impl<'x, W: Sink> AcceptedUse<(), W> for Run<'x> {
     }
 }
 
-/// Runs a plan on the bench, where it is for the assembly, with the answers of a text.
+/// Runs a plan on the bench, where it is for the assembly, with the answers of a text, while the input
+/// looks on.
 #[derive(Clone, Copy)]
 pub struct Try<'x> {
     pub answers: &'x [u8],
 }
 
-impl<'x, W: Sink> Refuse<W> for Try<'x> {
+impl<'x, R: Refuse<W>, O: Observer, W: Sink> PlanUse<R, O, W> for Try<'x> {
     ghost use Rattle.std.specs.Prelude.{⊤};
-    ghost use Rattle.burr_judge.specs.PlanEnds.{EndsOn, IsRefusal};
+    ghost use Rattle.burr_judge.specs.Ladder.{PlanTried};
+    ghost use Rattle.burr_judge.specs.PlanEnds.{AnswersEnd, EndsOn, SheetEnds};
 
     ghost can = { λ _. ⊤ };
 
-    ghost refuses = { λ _ before line r after. EndsOn W.Sink before after (IsRefusal line) r };
-
-    fn refuse<'a>(
-        &self,
-        _alloc: Global,
-        refused: &Refused<'_, '_>,
-        sink: &mut W,
-    ) -> Result<Status, Fault<'a>> {
-        refuse(refused, sink)
-    }
-}
-
-impl<'x, W: Sink> PlanUse<(), W> for Try<'x> {
-    ghost use Rattle.burr_judge.specs.PlanEnds.{EndsOn, TryEnds};
-
-    ghost uses = { λ it _ before kept a r _ after.
-        EndsOn W.Sink before after (TryEnds kept a it.answers.now) r };
+    ghost uses = { λ it refuser _ before kept a r _ after. PlanTried
+        (λ line. R.refuses refuser before line r after)
+        (EndsOn W.Sink before after (AnswersEnd it.answers.now (SheetEnds kept a)) r) kept a };
 
     #[inline(never)]
     fn use_plan<'a, 'b, B: Blocking>(
         &self,
         alloc: Global,
+        refuser: &R,
         container: &'b Container<'_>,
         blocking: &'b B,
-        _input: &mut (),
+        observer: &mut O,
         sink: &mut W,
     ) -> Result<Status, Fault<'a>> {
         match Checked::start(container, blocking) {
-            Ok(bench) => run_bench(alloc, bench, self.answers, sink),
+            Ok(bench) => run_bench(alloc, bench, self.answers, observer, sink),
             Err(refusal) => {
                 let refused = Refused::Plan {
                     container,
                     assembly: blocking.assembly(),
                     refusal: &refusal,
                 };
-                refuse(&refused, sink)
+                refuser.refuse(alloc, &refused, sink)
             }
         }
     }
 }
 
-/// Runs the program of a bench at its start with the answers of a text.
-fn run_bench<'a, B: Blocking, W: Sink>(
+/// Runs the program of a bench at its start with the answers of a text, while an observer looks on.
+fn run_bench<'a, B: Blocking, O: Observer, W: Sink>(
     alloc: Global,
     mut bench: Checked<'_, B>,
     answers: &[u8],
+    observer: &mut O,
     sink: &mut W,
 ) -> Result<Status, Fault<'a>>
     requires { IsAtStart bench }
@@ -202,7 +163,10 @@ fn run_bench<'a, B: Blocking, W: Sink>(
         (AnswersEnd answers.now (BenchEnds bench.entry)) result }
 {
     match read_answers(alloc, answers) {
-        Ok(answers) => Ok(Status::from(try_plan(&mut bench, &answers, sink)?)),
+        Ok(answers) => {
+            let outcome = try_observed(&mut bench, &answers, observer, sink)?;
+            Ok(Status::from(outcome))
+        }
         Err(AnswersFault::Memory) => Err(Fault::Memory),
         Err(AnswersFault::Line(line)) => refuse(&Refused::Answers(line), sink),
     }

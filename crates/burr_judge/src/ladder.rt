@@ -5,6 +5,7 @@ ghost use Rattle.burr_judge.specs.Ladder.{BytesCome, GivenComes, TextComes, Want
 
 use crate::fault::Fault;
 use crate::refused::Refused;
+use crate::refuser::Refuse;
 use crate::status::Status;
 use burr_asm::{AsmFault, assemble};
 use burr_assembly::{Assembly, AssemblyFault};
@@ -12,76 +13,62 @@ use burr_blocking::{Blocking, RowTables};
 use burr_container::Container;
 use std::alloc::Global;
 
-/// What is done where something is refused.
-pub trait Refuse<W> {
-    ghost use Rattle.std.specs.Prelude.{ℕ, List, Result};
-    ghost use Rattle.burr_judge.specs.Refusals.{refusal_line};
+/// What is done with an assembly, on a sink and an input that is used for nothing else; a refuser tells
+/// what is refused on the way.
+pub trait AssemblyUse<R, I, W> {
+    ghost use Rattle.std.specs.Prelude.{Result};
+    ghost use Rattle.burr_assembly.specs.Rules.Text.{Assembly};
     ghost use Rattle.burr_judge.specs.declared.fault.Fault.{Fault};
     ghost use Rattle.burr_judge.specs.declared.status.Status.{Status};
 
     /// The sinks on which it may be done.
     ghost can: { W → Type 0 };
 
-    /// What a refusal by this line comes to.
-    ghost refuses: { Self → W → List ℕ → Result Status Fault → W → Type 0 };
-
-    /// Tells of a refusal.
-    fn refuse<'a>(
-        &self,
-        alloc: Global,
-        refused: &Refused<'_, '_>,
-        sink: &mut W,
-    ) -> Result<Status, Fault<'a>>
-        requires { can sink.old }
-        ensures { refuses self.now sink.old (refusal_line refused.now) result sink.new };
-}
-
-/// What is done with an assembly, on a sink and an input that is used for nothing else.
-pub trait AssemblyUse<I, W>: Refuse<W> {
-    ghost use Rattle.std.specs.Prelude.{Result};
-    ghost use Rattle.burr_assembly.specs.Rules.Text.{Assembly};
-    ghost use Rattle.burr_judge.specs.declared.fault.Fault.{Fault};
-    ghost use Rattle.burr_judge.specs.declared.status.Status.{Status};
-
     /// What the use of an assembly comes to.
-    ghost uses: { Self → I → W → Assembly → Result Status Fault → I → W → Type 0 };
+    ghost uses: { Self → R → I → W → Assembly → Result Status Fault → I → W → Type 0 };
 
     /// Uses an assembly.
     fn use_assembly<'a, 'x>(
         &self,
         alloc: Global,
+        refuser: &R,
         assembly: &'x Assembly,
         input: &mut I,
         sink: &mut W,
     ) -> Result<Status, Fault<'a>>
-        requires { Self.can sink.old }
-        ensures { uses self.now input.old sink.old assembly.entry.now result input.new sink.new };
+        requires { can sink.old }
+        ensures { uses self.now refuser.now input.old sink.old assembly.entry.now result input.new
+            sink.new };
 }
 
 /// What is done with a plan and the tables of an assembly.
-pub trait PlanUse<I, W>: Refuse<W> {
+pub trait PlanUse<R, I, W> {
     ghost use Rattle.std.specs.Prelude.{Result};
     ghost use Rattle.burr_assembly.specs.Rules.Text.{Assembly};
     ghost use Rattle.burr_container.specs.Views.Containers.{ContainerView, HasPlan};
     ghost use Rattle.burr_judge.specs.declared.fault.Fault.{Fault};
     ghost use Rattle.burr_judge.specs.declared.status.Status.{Status};
 
+    /// The sinks on which it may be done.
+    ghost can: { W → Type 0 };
+
     /// What the use of a plan comes to.
-    ghost uses: { Self → I → W → ContainerView → Assembly → Result Status Fault → I → W → Type 0 };
+    ghost uses: { Self → R → I → W → ContainerView → Assembly → Result Status Fault → I → W → Type 0 };
 
     /// Uses a plan.
     fn use_plan<'a, 'x, B: Blocking>(
         &self,
         alloc: Global,
+        refuser: &R,
         container: &'x Container<'_>,
         blocking: &'x B,
         input: &mut I,
         sink: &mut W,
     ) -> Result<Status, Fault<'a>>
         requires plan { HasPlan container.now }
-        requires can { Self.can sink.old }
-        ensures { uses self.now input.old sink.old container.entry.now (B.subject blocking.entry.now)
-            result input.new sink.new };
+        requires can { can sink.old }
+        ensures { uses self.now refuser.now input.old sink.old container.entry.now
+            (B.subject blocking.entry.now) result input.new sink.new };
 }
 
 /// A plan, as it is given: the bytes of its container, or a text that is assembled to one.
@@ -93,8 +80,9 @@ pub enum Given<'x> {
 
 /// Uses the assembly of a text.
 #[inline(never)]
-pub fn use_text<'a, I, W, U: AssemblyUse<I, W>>(
+pub fn use_text<'a, R: Refuse<W>, I, W, U: AssemblyUse<R, I, W>>(
     alloc: Global,
+    refuser: &R,
     work: &U,
     text: &[u8],
     input: &mut I,
@@ -102,13 +90,13 @@ pub fn use_text<'a, I, W, U: AssemblyUse<I, W>>(
 ) -> Result<Status, Fault<'a>>
     requires { U.can sink.old }
     ensures { (WantsMemory sink.old sink.new result × (input.new ≡ input.old)) ⊎ TextComes
-        (λ line. U.refuses work.now sink.old line result sink.new × (input.new ≡ input.old))
-        (λ a. U.uses work.now input.old sink.old a result input.new sink.new) text.now }
+        (λ line. R.refuses refuser.now sink.old line result sink.new × (input.new ≡ input.old))
+        (λ a. U.uses work.now refuser.now input.old sink.old a result input.new sink.new) text.now }
 {
     match Assembly::read(alloc, text) {
-        Ok(assembly) => work.use_assembly(alloc, &assembly, input, sink),
+        Ok(assembly) => work.use_assembly(alloc, refuser, &assembly, input, sink),
         Err(AssemblyFault::Memory) => Err(Fault::Memory),
-        Err(fault) => work.refuse(alloc, &Refused::Assembly(text, fault), sink),
+        Err(fault) => refuser.refuse(alloc, &Refused::Assembly(text, fault), sink),
     }
 }
 
@@ -119,43 +107,33 @@ pub struct OfPlan<'x, U> {
     pub work: U,
 }
 
-impl<'x, W, U: Refuse<W>> Refuse<W> for OfPlan<'x, U> {
-    ghost can = { U.can };
-
-    ghost refuses = { λ it before line r after. U.refuses it.work before line r after };
-
-    fn refuse<'a>(
-        &self,
-        alloc: Global,
-        refused: &Refused<'_, '_>,
-        sink: &mut W,
-    ) -> Result<Status, Fault<'a>> {
-        self.work.refuse(alloc, refused, sink)
-    }
-}
-
-impl<'x, I, W, U: PlanUse<I, W>> AssemblyUse<I, W> for OfPlan<'x, U> {
+impl<'x, R: Refuse<W>, I, W, U: PlanUse<R, I, W>> AssemblyUse<R, I, W> for OfPlan<'x, U> {
     ghost use Rattle.std.specs.Prelude.{◌≡◌, ◌⊎◌};
     ghost use Rattle.burr_judge.specs.Ladder.{GivenComes, WantsMemory};
 
-    ghost uses = { λ it first before a r last after. (WantsMemory before after r × (last ≡ first)) ⊎ GivenComes
-        (λ line. U.refuses it.work before line r after × (last ≡ first))
-        (λ kept. U.uses it.work first before kept a r last after) it.plan };
+    ghost can = { U.can };
+
+    ghost uses = { λ it refuser first before a r last after.
+        (WantsMemory before after r × (last ≡ first)) ⊎ GivenComes
+        (λ line. R.refuses refuser before line r after × (last ≡ first))
+        (λ kept. U.uses it.work refuser first before kept a r last after) it.plan };
 
     fn use_assembly<'a, 'b>(
         &self,
         alloc: Global,
+        refuser: &R,
         assembly: &'b Assembly,
         input: &mut I,
         sink: &mut W,
     ) -> Result<Status, Fault<'a>> {
-        use_given(alloc, &self.work, assembly, self.plan, input, sink)
+        use_given(alloc, refuser, &self.work, assembly, self.plan, input, sink)
     }
 }
 
 /// Uses a plan for an assembly, as it is given.
-pub fn use_given<'a, 'x, I, W, U: PlanUse<I, W>>(
+pub fn use_given<'a, 'x, R: Refuse<W>, I, W, U: PlanUse<R, I, W>>(
     alloc: Global,
+    refuser: &R,
     work: &U,
     assembly: &'x Assembly,
     plan: Given<'_>,
@@ -164,24 +142,27 @@ pub fn use_given<'a, 'x, I, W, U: PlanUse<I, W>>(
 ) -> Result<Status, Fault<'a>>
     requires { U.can sink.old }
     ensures { (WantsMemory sink.old sink.new result × (input.new ≡ input.old)) ⊎ GivenComes
-        (λ line. U.refuses work.now sink.old line result sink.new × (input.new ≡ input.old))
-        (λ kept. U.uses work.now input.old sink.old kept assembly.entry.now result input.new sink.new)
-        plan.entry }
+        (λ line. R.refuses refuser.now sink.old line result sink.new × (input.new ≡ input.old))
+        (λ kept. U.uses work.now refuser.now input.old sink.old kept assembly.entry.now result
+        input.new sink.new) plan.entry }
 {
     match plan {
-        Given::Container(bytes) => use_container(alloc, work, assembly, bytes, input, sink),
+        Given::Container(bytes) => {
+            use_container(alloc, refuser, work, assembly, bytes, input, sink)
+        }
         Given::Text(text) => match assemble(alloc, text) {
-            Ok(bytes) => use_container(alloc, work, assembly, &bytes, input, sink),
+            Ok(bytes) => use_container(alloc, refuser, work, assembly, &bytes, input, sink),
             Err(AsmFault::Memory) => Err(Fault::Memory),
-            Err(fault) => work.refuse(alloc, &Refused::PlanText(fault), sink),
+            Err(fault) => refuser.refuse(alloc, &Refused::PlanText(fault), sink),
         },
     }
 }
 
 /// Uses the plan of a container's bytes for an assembly.
 #[inline(never)]
-fn use_container<'a, 'x, I, W, U: PlanUse<I, W>>(
+fn use_container<'a, 'x, R: Refuse<W>, I, W, U: PlanUse<R, I, W>>(
     alloc: Global,
+    refuser: &R,
     work: &U,
     assembly: &'x Assembly,
     bytes: &'x [u8],
@@ -190,16 +171,16 @@ fn use_container<'a, 'x, I, W, U: PlanUse<I, W>>(
 ) -> Result<Status, Fault<'a>>
     requires { U.can sink.old }
     ensures { (WantsMemory sink.old sink.new result × (input.new ≡ input.old)) ⊎ BytesCome
-        (λ line. U.refuses work.now sink.old line result sink.new × (input.new ≡ input.old))
-        (λ kept. U.uses work.now input.old sink.old kept assembly.entry.now result input.new sink.new)
-        bytes.entry.now }
+        (λ line. R.refuses refuser.now sink.old line result sink.new × (input.new ≡ input.old))
+        (λ kept. U.uses work.now refuser.now input.old sink.old kept assembly.entry.now result
+        input.new sink.new) bytes.entry.now }
 {
     // a container takes 19 KiB of the stack, so it is lent where it was read
     let parsed = Container::parse(bytes);
     let container = match &parsed {
         Ok(container) => container,
-        Err(fault) => return work.refuse(alloc, &Refused::Container(*fault), sink),
+        Err(fault) => return refuser.refuse(alloc, &Refused::Container(*fault), sink),
     };
     let tables = RowTables::build(alloc, assembly)?;
-    work.use_plan(alloc, container, &tables, input, sink)
+    work.use_plan(alloc, refuser, container, &tables, input, sink)
 }

@@ -65,12 +65,8 @@ pub fn refuse<'a, W: Sink>(refused: &Refused<'_, '_>, sink: &mut W) -> Result<St
 fn put_text_refusal<W: Sink>(fault: AsmFault, sink: &mut W) -> Result<(), WriteFault>
     ensures { Puts W.Sink sink.old sink.new (plan_text_refusal fault) result }
 {
-    match fault {
-        AsmFault::P1 { line } => put_place_line(b"P1", b"line", line, sink),
-        AsmFault::P2 { line } => put_place_line(b"P2", b"line", line, sink),
-        AsmFault::P3 { line } => put_place_line(b"P3", b"line", line, sink),
-        AsmFault::P4 { line } => put_place_line(b"P4", b"line", line, sink),
-        AsmFault::P5 { line } => put_place_line(b"P5", b"line", line, sink),
-        AsmFault::Memory => Ok(()),
+    match fault.code_and_line() {
+        Some((code, line)) => put_place_line(code.as_bytes(), b"line", line, sink),
+        None => Ok(()),
     }
 }

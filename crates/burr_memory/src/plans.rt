@@ -3,7 +3,7 @@ use crate::kit::Kit;
 use burr_asm::{AsmFault, assemble};
 use burr_code::{Instr, encode};
 use burr_container::{Plan, write};
-use burr_listing::list;
+use burr_plantext::list;
 use burr_runs::upgrade;
 use std::alloc::AllocError;
 

@@ -1,8 +1,8 @@
 //! A stepper, and the calls by which it takes an answer.
 use crate::kit::Kit;
 use burr_blocking::PlainCells;
-use burr_dialogue::{StepFault, command};
 use burr_io::Writing;
+use burr_judge::{StepFault, command};
 use burr_step::{StepRefusal, Stepper};
 use burr_verify::accept;
 use std::alloc::AllocError;

@@ -1,7 +1,7 @@
 //! What faults say of themselves.
 use burr_bench::Trap;
-use burr_dialogue::StepFault;
 use burr_frames::{Break, Miss, Rule};
+use burr_judge::StepFault;
 use burr_runs::{AnswersFault, BenchFault};
 use burr_step::StepRefusal;
 use burr_verify::Refusal;

@@ -1,163 +1,361 @@
--- Blocks as they are listed are right, and are read back.
-use Rattle.std.proofs.Common.{◌≡◌, ℕ, suc, ◌+◌, ◌-◌, ◌<◌, ◌≤◌, List, [], ◌∷◌, ◌++◌, length, take, drop, Bool, true, false, not, IsTrue, refl, sym, ap, subst, ◌∙◌, arith, lt-ltb, ltb-true, leb-true, append-nil, length-append, length-drop}
-use Rattle.std.specs.Prelude.{◌&&◌, is_none, nat_le, nat_lt, None}
-use Rattle.std.specs.List.{list_all}
-use Rattle.std.proofs.lemmas.Bool.{and_from, and_parts}
-use Rattle.std.proofs.lemmas.List.{take-append-drop, drop-drop, length-take-le}
-use Rattle.std.proofs.lemmas.Grind.{flat_map-append}
-use Rattle.burr_code.specs.declared.limits.TheConstants.{MOST_LABELS}
-use Rattle.burr_container.specs.Rules.Plans.{Frame}
+-- Labels with their frames and their code, and procedures, one after the other.
+use Rattle.std.proofs.Common.{◌≡◌, ℕ, zero, suc, ◌+◌, ◌-◌, ◌<◌, ◌≤◌, ◌==◌, Bool, true, false, IsTrue, Option, Some, None, List, [], ◌∷◌, ◌++◌, drop, take, length, refl, sym, ap, ◌∙◌, subst, arith, append_assoc, append-nil}
+use Rattle.std.specs.Prelude.{slice_get, codes, IfSome, if◌then◌else◌}
+use Rattle.burr_code.specs.declared.limits.TheConstants.{MOST_CODE}
+use Rattle.burr_container.specs.Rules.Plans.{Frame, PlanProcedure, Plan}
+use Rattle.burr_container.specs.Rules.Fitting.{rise_from, is_frame}
+use Rattle.burr_plantext.specs.Views.Symbols.{IsOverLive}
+use Rattle.burr_plantext.proofs.FrameSteps.{all_at}
 use Rattle.burr_plantext.specs.Rules.Statements.{Statement}
-use Rattle.burr_plantext.specs.Rules.Sources.{Block}
-use Rattle.burr_plantext.specs.Rules.Meaning.{code_bytes, statement_bytes, code_size, block_code, frame_in, labels_in, label_names}
-use Rattle.burr_plantext.specs.Rules.Checks.{P2, P4, unless, is_empty, is_known, names_unknown, label_check, has_code}
-use Rattle.burr_plantext.specs.Rules.Right.{each_after, is_block, is_frame}
-use Rattle.burr_container.specs.Rules.Fitting as fitting
-use Rattle.burr_container.specs.Rules.Fitting.{rise_from}
-use Rattle.burr_plantext.specs.Rules.Listing.{label_name, frame_listed, code_after, AreBlocksListed}
-use Rattle.burr_plantext.proofs.Frames.{passes, frame_right, frame_back}
-use Rattle.burr_plantext.proofs.Names.{names_from, names_last, unknown_after}
-use Rattle.burr_plantext.proofs.CodeListed.{IsCodeOf, code_listed, size_both, statements_right, names, callees}
+use Rattle.burr_plantext.specs.Rules.Lines.{PlanLine, ProcLine, LabelLine}
+use Rattle.burr_plantext.specs.Rules.Sources.{Block, ProcedureSource, PlanSource, frame_lines}
+use Rattle.burr_plantext.specs.Rules.Meaning.{code_size}
+use Rattle.burr_plantext.specs.Rules.Writing.{text_of, line_text}
+use Rattle.burr_plantext.specs.Rules.Listing.{IsCodeListed, AreBlocksListed, AreProceduresListed, IsListed, code_after, procedure_name, label_name, frame_listed, exit_listed, head_of, title_of}
+use Rattle.burr_plantext.specs.Views.Listings.{begin_of, IsCodeAdded, IsBlockAdded, AreBlocksAdded, IsProcedureAdded}
+use Rattle.burr_plantext.specs.Rules.ListedPlaces.{code_text, blocks_text, procedure_text, procedures_text, plan_text, IsListedText}
+use Rattle.burr_plantext.specs.Views.Parts.{frame_text, exit_text, title_text, count_text}
+use Rattle.std.specs.Bool.{then_some}
+use Rattle.std.specs.Fmt.{decimal}
+use Rattle.burr_container.specs.declared.header.Header.{Header}
+use Rattle.burr_container.specs.declared.stored_procedure.StoredProcedure.{StoredProcedure}
+use Rattle.burr_container.specs.Views.InPlace.{IsLabel, IsProcedure}
+use Rattle.burr_container.specs.Views.Containers.{ContainerView, IsHeader, IsContainer, HasPlan, HasLabel, OfProcedure, OfLabel}
+use Rattle.burr_container.proofs.Common.OneContainer.{fits_where_kept}
+use Rattle.burr_plantext.proofs.Steps.{left_at, got_at, got_dropped}
+use Rattle.burr_plantext.proofs.CodeSteps.{rest_taken, listed_size, dropped_length}
+use Rattle.burr_plantext.proofs.LiveSlots.{all_dropped}
+use Rattle.burr_plantext.proofs.PlanSteps.{as_many, for_at, of_plan, procedure_fits, labels_fit, frame_over, FitsLabels, rises_at, rises_next}
 
-list_all_both : {A : Type 0} (is_so : A → Bool) (xs ys : List A) → IsTrue (list_all is_so xs) → IsTrue (list_all is_so ys) → IsTrue (list_all is_so (xs ++ ys))
-list_all_both is_so [] ys p q = q
-list_all_both is_so (x ∷ xs) ys p q = let parts = and_parts (is_so x) (list_all is_so xs) p in and_from (is_so x) (list_all is_so (xs ++ ys)) parts.0 (list_all_both is_so xs ys parts.1 q)
+length_taken : (n : ℕ) (xs : List ℕ) → n ≤ length xs → length (take n xs) ≡ n
+length_taken zero xs h = refl
+length_taken (suc n) [] h = absurd (omega (arith, h))
+length_taken (suc n) (x ∷ xs) h = ap suc (length_taken n xs (omega (arith, h)))
 
-map_last : (xs : List Block) (b : Block) → label_names (xs ++ b ∷ []) ≡ label_names xs ++ b.label ∷ []
-map_last [] b = refl
-map_last (x ∷ xs) b = ap (λ (s : List (List ℕ)). x.label ∷ s) (map_last xs b)
+size_by : (code : List ℕ) (position : ℕ) (labels : List (ℕ × Frame))
+    → position ≤ begin_of (length code) labels → begin_of (length code) labels ≤ length code
+    → position + length (code_after code position labels) ≡ begin_of (length code) labels
+size_by code position [] low high =
+    let long = dropped_length position code in omega (arith, long, low)
+size_by code position (next ∷ labels) low high =
+    let long = dropped_length position code in
+    let taken = length_taken (next.0 - position) (drop position code) (omega (arith, long, low, high)) in
+    omega (arith, taken, low)
 
-some_code : (code : List Statement) → 0 < code_size code → IsTrue (not (is_empty code))
-some_code [] h = absurd (omega arith)
-some_code (s ∷ code) h = refl
+begin_by : (end : ℕ) (labels : List (ℕ × Frame)) (n : ℕ) (l : ℕ × Frame)
+    → IsTrue (rise_from 0 end labels) → slice_get labels n ≡ Some l
+    → (rest : List (ℕ × Frame)) → drop (suc n) labels ≡ rest
+    → (l.0 ≤ begin_of end rest) × (begin_of end rest ≤ end)
+begin_by end labels n l rise here [] e =
+    let both = rises_at 0 end labels n l rise here in (omega (arith, both.1), omega arith)
+begin_by end labels n l rise here (m ∷ rest) e =
+    let there : slice_get labels (suc n) ≡ Some m = got_dropped labels (suc n) m rest e in
+    let next = rises_next 0 end labels n l m rise here there in
+    let both = rises_at 0 end labels (suc n) m rise there in
+    (omega (arith, next), omega (arith, both.1))
 
--- what is after a label, and what is after the next one
-module _ (code : List ℕ) (start next : ℕ) (low : start ≤ next) (high : next ≤ length code) where
-  rest_after : take (next - start) (drop start code) ++ drop next code ≡ drop start code
-  rest_after =
-      let e : drop (next - start) (drop start code) ≡ drop next code = drop-drop (next - start) start code ∙ ap (λ (n : ℕ). drop n code) (omega (arith, low)) in
-      ap (λ (s : List ℕ). take (next - start) (drop start code) ++ s) (sym e) ∙ take-append-drop (next - start) (drop start code)
+-- the code from a label on ends where the next label stands, or the code
+pub block_size : (code : List ℕ) (labels : List (ℕ × Frame)) (n next : ℕ) (l : ℕ × Frame)
+    → IsTrue (rise_from 0 (length code) labels) → next ≡ suc n → slice_get labels n ≡ Some l
+    → l.0 + length (code_after code l.0 (drop next labels))
+    ≡ begin_of (length code) (drop next labels)
+block_size code labels n next l rise e here =
+    let both = begin_by (length code) labels n l rise here (drop next labels)
+    (ap (λ (k : ℕ). drop k labels) (sym e)) in
+    size_by code l.0 (drop next labels) both.0 both.1
 
-  after_size : length (take (next - start) (drop start code)) ≡ next - start
-  after_size = length-take-le (next - start) (drop start code) (omega (arith, length-drop start code, low, high))
+pub block_within : (code : List ℕ) (labels : List (ℕ × Frame)) (n next : ℕ) (l : ℕ × Frame)
+    → IsTrue (rise_from 0 (length code) labels) → next ≡ suc n → slice_get labels n ≡ Some l
+    → l.0 + length (code_after code l.0 (drop next labels)) ≤ length code
+block_within code labels n next l rise e here =
+    let both = begin_by (length code) labels n l rise here (drop next labels)
+    (ap (λ (k : ℕ). drop k labels) (sym e)) in
+    let size = block_size code labels n next l rise e here in omega (arith, size, both.1)
 
--- the next label of those that rise
-abbrev end_of : List ℕ → List (ℕ × Frame) → ℕ
-end_of code [] = length code
-end_of code (next ∷ more) = next.0
+-- The block of a label of a container's plan
 
--- how code goes on from one label to the next
-record Stretch (code : List ℕ) (start : ℕ) (labels : List (ℕ × Frame)) : Type 0 where
-  whole : code_after code start labels ++ drop (end_of code labels) code ≡ drop start code
-  size : start + length (code_after code start labels) ≡ end_of code labels
-  some : start < end_of code labels
-  inside : end_of code labels ≤ length code
+pub begin_some : (end : ℕ) (labels : List (ℕ × Frame)) (n : ℕ) (l : ℕ × Frame)
+    → slice_get labels n ≡ Some l → begin_of end (drop n labels) ≡ l.0
+begin_some end labels n l here = ap (begin_of end) (left_at labels n (suc n) l refl here)
 
-drop_all : (code : List ℕ) → drop (length code) code ≡ []
-drop_all [] = refl
-drop_all (b ∷ code) = drop_all code
+pub begin_none : (end : ℕ) (labels : List (ℕ × Frame)) (n : ℕ) → length labels ≤ n
+    → begin_of end (drop n labels) ≡ end
+begin_none end labels n past = ap (begin_of end) (all_dropped labels n past)
 
-stretch : (code : List ℕ) (start : ℕ) (labels : List (ℕ × Frame)) → start < length code → IsTrue (rise_from (suc start) (length code) labels) → Stretch code start labels
-stretch code start [] below rise = record {
-  whole = ap (λ (s : List ℕ). drop start code ++ s) (drop_all code) ∙ append-nil (drop start code);
-  size = omega (arith, below, length-drop start code);
-  some = below;
-  inside = omega arith;
-}
-stretch code start (next ∷ labels) below rise =
-    let parts = and_parts (nat_le (suc start) next.0 && nat_lt next.0 (length code)) (rise_from (suc next.0) (length code) labels) rise in
-    let two = and_parts (nat_le (suc start) next.0) (nat_lt next.0 (length code)) parts.0 in
-    let low = leb-true (suc start) next.0 two.0 in
-    let high = ltb-true next.0 (length code) two.1 in
-    record {
-      whole = rest_after code start next.0 (omega arith) (omega arith);
-      size = omega (arith, low, after_size code start next.0 (omega arith) (omega arith));
-      some = omega arith;
-      inside = omega arith;
-    }
+-- it is what is between two positions
+part_is : (code : List ℕ) (position : ℕ) (labels : List (ℕ × Frame))
+    → take (begin_of (length code) labels - position) (drop position code)
+    ≡ code_after code position labels
+part_is code position [] = rest_taken position code
+part_is code position (next ∷ labels) = refl
 
-module _ (all procedures pieces : ℕ) (few_labels : all ≤ 256) (few_procedures : procedures ≤ 16) (few_pieces : pieces ≤ 32) (code : List ℕ) (short : length code ≤ 4096) where
-  abbrev known : Statement → Bool
-  known s = not (names_unknown (names all procedures few_labels few_procedures) (callees all procedures few_labels few_procedures) s)
+pub has_label_in : (kept : ContainerView) (p : Plan) (q : PlanProcedure) (i n : ℕ)
+    → IsContainer kept p → slice_get p.procedures i ≡ Some q → HasLabel kept i n
+    → n < length q.labels
+has_label_in kept p q i n is here has =
+    let (stored, there, for) = for_at (IsProcedure p.pieces) kept.procedures p.procedures i q is.procedures here in
+    let many = as_many (IsLabel p.pieces) stored.labels.starts q.labels for.labels in
+    let below : n < length stored.labels.starts =
+    subst (λ (found : Option StoredProcedure). IfSome found (λ p. n < length p.labels.starts)) there has in
+    omega (arith, below, many)
 
-  abbrev bytes_of : List Statement → List ℕ
-  bytes_of s = code_bytes (names all procedures few_labels few_procedures) (callees all procedures few_labels few_procedures) s
+-- labels within the format, of whatever plan the container is of
+pub labels_of : (kept : ContainerView) (p : Plan) (q : PlanProcedure) (i : ℕ) → HasPlan kept
+    → IsContainer kept p → slice_get p.procedures i ≡ Some q
+    → FitsLabels p.pieces (length q.code) q.labels
+labels_of kept p q i has is here =
+    labels_fit p.pieces (length q.code) q.labels
+    (procedure_fits p i q (fits_where_kept kept p has is) here).labels
 
-  -- the blocks before label n, which stands at a position
-  pub record Before (n start : ℕ) (before : List Block) : Type 0 where
-    pub called : label_names before ≡ names_from 76 0 n
-    pub count : length before ≡ n
-    pub coded : IsTrue (list_all has_code before)
-    pub size : code_size (block_code before) ≡ start
+pub block_bounds : (kept : ContainerView) (i n start end : ℕ) (code : List ℕ) → HasPlan kept
+    → i < length kept.procedures → HasLabel kept i n → OfLabel kept i n (λ l. start ≡ l.0)
+    → OfProcedure kept i (λ p q. end ≡ begin_of (length q.code) (drop (n + 1) q.labels))
+    → OfProcedure kept i (λ p q. code ≡ q.code) → (start ≤ end) × (end ≤ length code)
+block_bounds kept i n start end code has inside label starts ends codes =
+    let o = of_plan kept i has inside in
+    let (l, there) = got_at o.procedure.labels n (has_label_in kept o.plan o.procedure i n o.is o.here label) in
+    let fits = labels_of kept o.plan o.procedure i has o.is o.here in
+    let next : suc n ≡ n + 1 = omega arith in
+    let both = begin_by (length o.procedure.code) o.procedure.labels n l fits.rise there (drop (n + 1) o.procedure.labels)
+    (ap (λ (k : ℕ). drop k o.procedure.labels) next) in
+    let begin = starts o.plan o.procedure o.is o.here l there in
+    let stop = ends o.plan o.procedure o.is o.here in
+    let long = ap (λ (bytes : List ℕ). length bytes) (codes o.plan o.procedure o.is o.here) in
+    (omega (arith, both.0, begin, stop), omega (arith, both.1, stop, long))
 
-  -- blocks of labels from the n-th on, after others
-  pub record AreOf (n start : ℕ) (labels : List (ℕ × Frame)) (before blocks : List Block) : Type 0 where
-    pub labelled : labels_in start blocks ≡ labels
-    pub spells : bytes_of (block_code blocks) ≡ drop start code
-    pub right : IsTrue (each_after (is_block pieces) before blocks)
-    pub called : label_names blocks ≡ names_from 76 n (length labels)
-    pub knows : IsTrue (list_all known (block_code blocks))
+pub block_is : (start end : ℕ) (code part : List ℕ) (q : PlanProcedure) (n : ℕ) (l : ℕ × Frame)
+    → (start ≤ end) × (end ≤ length code) → length code ≤ MOST_CODE
+    → part ≡ take (end - start) (drop start code) → start ≡ l.0
+    → end ≡ begin_of (length q.code) (drop (n + 1) q.labels) → code ≡ q.code
+    → (part ≡ code_after q.code l.0 (drop (n + 1) q.labels)) × (l.0 + length part ≤ MOST_CODE)
+block_is start end code part q n l bounds short is begin stop same =
+    let size = length_taken (end - start) (drop start code) (omega (arith, bounds.0, bounds.1, dropped_length start code)) in
+    let long = ap (λ (bytes : List ℕ). length bytes) is in (
+      is ∙ (λ j. take (stop j - begin j) (drop (begin j) (same j)))
+          ∙ part_is q.code l.0 (drop (n + 1) q.labels),
+      omega (arith, size, long, bounds.0, bounds.1, short, begin),
+    )
 
-  block_right : (n start : ℕ) (f : Frame) (labels : List (ℕ × Frame)) (before : List Block) (b : Block) → Before n start before → n < 256
-      → IsTrue (fitting.is_frame pieces f) → Stretch code start labels → b.label ≡ label_name n → b.frame ≡ frame_listed f
-      → IsCodeOf all procedures few_labels few_procedures (code_after code start labels) b.code → IsTrue (is_block pieces before b)
-  block_right n start f labels before b h room fits way label frame c =
-      let size = c.size in
-      let unknown : is_known (label_names before) b.label ≡ false = (λ i. is_known (h.called i) (label i)) ∙ unknown_after 76 n 0 n (omega arith) (omega arith) in
-      let count : IsTrue (nat_lt (length before) MOST_LABELS) = lt-ltb (length before) 256 (omega (arith, h.count)) in
-      let named : IsTrue (is_none (label_check before b.label)) =
-      passes (not (is_known (label_names before) b.label)) P2 (unless (nat_lt (length before) MOST_LABELS && list_all has_code before) P4 None) (ap not unknown)
-      (passes (nat_lt (length before) MOST_LABELS && list_all has_code before) P4 None (and_from (nat_lt (length before) MOST_LABELS) (list_all has_code before) count h.coded) refl) in
-      let framed : IsTrue (is_frame pieces b.frame) = subst (λ (f : _). IsTrue (is_frame pieces f)) (sym frame) (frame_right pieces few_pieces f fits) in
-      and_from _ (has_code b) (and_from _ _ (and_from _ _ named framed)
-      (statements_right before b.code [] c.in_range (omega (arith, h.size, size, way.size, way.inside, short))))
-      (some_code b.code (omega (arith, size, way.size, way.some)))
+pub label_added : (n : ℕ) (l : ℕ × Frame) (f : Frame) (old mid new : List ℕ)
+    → mid ≡ old ++ line_text (LabelLine (label_name n)) → f ≡ l.1 → new ≡ mid ++ frame_text f
+    → new ≡ old ++ text_of (LabelLine (label_name n) ∷ frame_lines (frame_listed l.1))
+label_added n l f old mid new line same says =
+    says ∙ (λ j. line j ++ frame_text (same j))
+    ∙ append_assoc old (line_text (LabelLine (label_name n))) (frame_text l.1)
 
-  before_more : (n start : ℕ) (labels : List (ℕ × Frame)) (before : List Block) (b : Block) → Before n start before → Stretch code start labels → b.label ≡ label_name n
-      → IsCodeOf all procedures few_labels few_procedures (code_after code start labels) b.code → Before (suc n) (end_of code labels) (before ++ b ∷ [])
-  before_more n start labels before b h way label c = record {
-    called = map_last before b ∙ (λ i. h.called i ++ label i ∷ []) ∙ ap (λ (m : ℕ). names_from 76 0 n ++ label_name m ∷ []) (omega arith) ∙ names_last 76 n 0;
-    count = length-append before (b ∷ []) ∙ omega (arith, h.count);
-    coded = list_all_both has_code before (b ∷ []) h.coded (and_from (has_code b) true (some_code b.code (omega (arith, c.size, way.size, way.some))) refl);
-    size =
-        ap code_size (flat_map-append (λ (b : Block). b.code) before (b ∷ []) ∙ ap (λ (s : List Statement). block_code before ++ s) (append-nil b.code))
-        ∙ size_both (block_code before) b.code ∙ omega (arith, h.size, c.size, way.size);
-  }
+-- the frame of a label is over its own live slots
+pub frame_of_label : (kept : ContainerView) (i n : ℕ) (f : Frame) → HasPlan kept
+    → i < length kept.procedures → HasLabel kept i n → OfLabel kept i n (λ l. f ≡ l.1)
+    → IsOverLive f
+frame_of_label kept i n f has inside label is =
+    let o = of_plan kept i has inside in
+    let (l, there) = got_at o.procedure.labels n (has_label_in kept o.plan o.procedure i n o.is o.here label) in
+    let fits = labels_of kept o.plan o.procedure i has o.is o.here in
+    subst (λ (f : Frame). IsOverLive f) (sym (is o.plan o.procedure o.is o.here l there))
+    (frame_over o.plan.pieces l.1
+    (all_at (λ (label : ℕ × Frame). is_frame o.plan.pieces label.1) o.procedure.labels n l fits.frames there))
 
-  bytes_both : (a b : List Statement) → bytes_of (a ++ b) ≡ bytes_of a ++ bytes_of b
-  bytes_both a b = flat_map-append (statement_bytes (names all procedures few_labels few_procedures) (callees all procedures few_labels few_procedures)) a b
+-- the block of a label is short
+pub block_short : (kept : ContainerView) (i n start : ℕ) (part : List ℕ) → HasPlan kept
+    → i < length kept.procedures → HasLabel kept i n → OfLabel kept i n (λ l. start ≡ l.0)
+    → OfProcedure kept i (λ p q. (l : ℕ × Frame) → slice_get q.labels n ≡ Some l
+    → (part ≡ code_after q.code l.0 (drop (n + 1) q.labels)) × (l.0 + length part ≤ MOST_CODE))
+    → start + length part ≤ MOST_CODE
+block_short kept i n start part has inside label starts are =
+    let o = of_plan kept i has inside in
+    let (l, there) = got_at o.procedure.labels n (has_label_in kept o.plan o.procedure i n o.is o.here label) in
+    let begin = starts o.plan o.procedure o.is o.here l there in
+    let both = are o.plan o.procedure o.is o.here l there in
+    omega (arith, begin, both.1)
 
-  pub blocks_of : (n start : ℕ) (f : Frame) (labels : List (ℕ × Frame)) (before blocks : List Block) → Before n start before → n + suc (length labels) ≤ 256
-      → start < length code → IsTrue (rise_from (suc start) (length code) labels) → IsTrue (list_all (λ (l : ℕ × Frame). fitting.is_frame pieces l.1) ((start, f) ∷ labels))
-      → AreBlocksListed all procedures code n ((start, f) ∷ labels) blocks → AreOf n start ((start, f) ∷ labels) before blocks
-  blocks_of n start f labels before [] h room below rise fits listed = absurd listed
-  blocks_of n start f [] before (b ∷ []) h room below rise fits listed =
-      let way = stretch code start [] below rise in
-      let c = code_listed all procedures few_labels few_procedures b.code (code_after code start []) listed.2 in
-      let frame = and_parts (fitting.is_frame pieces f) true fits in
-      record {
-        labelled = λ i. (start, ((ap frame_in listed.1) ∙ frame_back pieces few_pieces f frame.0) i) ∷ [];
-        spells = ap bytes_of (append-nil b.code) ∙ c.spells;
-        right = and_from (is_block pieces before b) true (block_right n start f [] before b h (omega arith) frame.0 way listed.0 listed.1 c) refl;
-        called = ap (λ (s : List ℕ). s ∷ []) listed.0;
-        knows = subst (λ (s : List Statement). IsTrue (list_all known s)) (sym (append-nil b.code)) c.known;
-      }
-  blocks_of n start f [] before (b ∷ b2 ∷ blocks) h room below rise fits listed = absurd listed.3
-  blocks_of n start f (next ∷ labels) before (b ∷ blocks) h room below rise fits listed =
-      let way = stretch code start (next ∷ labels) below rise in
-      let c = code_listed all procedures few_labels few_procedures b.code (code_after code start (next ∷ labels)) listed.2 in
-      let frame = and_parts (fitting.is_frame pieces f) (list_all (λ (l : ℕ × Frame). fitting.is_frame pieces l.1) (next ∷ labels)) fits in
-      let rises = and_parts (nat_le (suc start) next.0 && nat_lt next.0 (length code)) (rise_from (suc next.0) (length code) labels) rise in
-      let high = ltb-true next.0 (length code) (and_parts (nat_le (suc start) next.0) (nat_lt next.0 (length code)) rises.0).1 in
-      let more = blocks_of (suc n) next.0 next.1 labels (before ++ b ∷ []) blocks (before_more n start (next ∷ labels) before b h way listed.0 c) (omega arith) high rises.1 frame.1 listed.3 in
-      let position : start + code_size b.code ≡ next.0 = omega (arith, c.size, way.size) in
-      record {
-        labelled = λ i. (start, ((ap frame_in listed.1) ∙ frame_back pieces few_pieces f frame.0) i) ∷ (ap (λ (p : ℕ). labels_in p blocks) position ∙ more.labelled) i;
-        spells = bytes_both b.code (block_code blocks) ∙ (λ i. c.spells i ++ more.spells i) ∙ way.whole;
-        right = and_from (is_block pieces before b) (each_after (is_block pieces) (before ++ b ∷ []) blocks) (block_right n start f (next ∷ labels) before b h (omega arith) frame.0 way listed.0 listed.1 c) more.right;
-        called = λ i. listed.0 i ∷ more.called i;
-        knows = list_all_both known b.code (block_code blocks) c.known more.knows;
-      }
+pub block_added : (labels procedures : ℕ) (placed : Option ℕ) (q : PlanProcedure) (n : ℕ)
+    (l : ℕ × Frame) (start : ℕ) (part old mid new : List ℕ) → start ≡ l.0
+    → part ≡ code_after q.code l.0 (drop (n + 1) q.labels)
+    → mid ≡ old ++ text_of (LabelLine (label_name n) ∷ frame_lines (frame_listed l.1))
+    → IsCodeAdded labels procedures placed start part mid new
+    → (code : List Statement)
+    × IsCodeListed labels procedures (code_after q.code l.0 (drop (n + 1) q.labels)) code
+    × (new ≡ old ++ (text_of (LabelLine (label_name n) ∷ frame_lines (frame_listed l.1))
+    ++ code_text placed l.0 code))
+block_added labels procedures placed q n l start part old mid new begin is front (code, listed, e) = (
+  code,
+  subst (λ (bytes : List ℕ). IsCodeListed labels procedures bytes code) is listed,
+  e ∙ (λ j. front j ++ code_text placed (begin j) code)
+      ∙ append_assoc old (text_of (LabelLine (label_name n) ∷ frame_lines (frame_listed l.1)))
+      (code_text placed l.0 code),
+)
 
-  pub nothing_before : Before 0 0 []
-  nothing_before = record { called = refl; count = refl; coded = refl; size = refl }
+-- What is written, whatever labels are next, is the whole of the code
+abbrev pub AreBlocksWritten : Plan → PlanProcedure → Option ℕ → List ℕ → ℕ → List ℕ → Type 0
+AreBlocksWritten p q placed old n text =
+    (more : List Block)
+    → AreBlocksListed (length q.labels) (length p.procedures) q.code n (drop n q.labels) more
+    → (blocks : List Block)
+    × AreBlocksListed (length q.labels) (length p.procedures) q.code 0 q.labels blocks
+    × (text ++ blocks_text placed (begin_of (length q.code) (drop n q.labels)) more
+    ≡ old ++ blocks_text placed 0 blocks)
+
+pub blocks_begun : (pieces : ℕ) (p : Plan) (q : PlanProcedure) (placed : Option ℕ)
+    (old : List ℕ) → FitsLabels pieces (length q.code) q.labels
+    → AreBlocksWritten p q placed old 0 old
+blocks_begun pieces p q placed old fits more listed =
+    let (l, here) = got_at q.labels 0 fits.some in
+    let begin : begin_of (length q.code) q.labels ≡ 0 =
+    ap (begin_of (length q.code)) (left_at q.labels 0 1 l refl here) ∙ fits.first l here in
+    (more, listed, ap (λ (k : ℕ). old ++ blocks_text placed k more) begin)
+
+pub block_turn : (pieces : ℕ) (p : Plan) (q : PlanProcedure) (placed : Option ℕ)
+    (old : List ℕ) (n next : ℕ) (text new : List ℕ) (labels procedures : ℕ)
+    → FitsLabels pieces (length q.code) q.labels → next ≡ suc n → n < length q.labels
+    → labels ≡ length q.labels → procedures ≡ length p.procedures
+    → AreBlocksWritten p q placed old n text
+    → IsBlockAdded labels procedures placed q n text new
+    → AreBlocksWritten p q placed old next new
+block_turn pieces p q placed old n next text new labels procedures fits e inside all many written
+    added more listed =
+    let (l, here) = got_at q.labels n inside in
+    let rest = drop next q.labels in
+    let apart = left_at q.labels n next l e here in
+    let moved : drop (n + 1) q.labels ≡ rest = ap (λ (k : ℕ). drop k q.labels) (omega (arith, e)) in
+    let (code, is, says) = added l here in
+    let is_code : IsCodeListed (length q.labels) (length p.procedures) (code_after q.code l.0 rest) code =
+    subst (λ (k : ℕ). IsCodeListed k (length p.procedures) (code_after q.code l.0 rest) code) all
+    (subst (λ (k : ℕ). IsCodeListed labels k (code_after q.code l.0 rest) code) many
+    (subst (λ (ls : List (ℕ × Frame)). IsCodeListed labels procedures (code_after q.code l.0 ls) code) moved is)) in
+    let b : Block = record { label = label_name n; frame = frame_listed l.1; code = code } in
+    let front = text_of (LabelLine (label_name n) ∷ frame_lines (frame_listed l.1))
+    ++ code_text placed l.0 code in
+    let both : AreBlocksListed (length q.labels) (length p.procedures) q.code n (l ∷ rest) (b ∷ more) = (
+      refl,
+      refl,
+      is_code,
+      subst (λ (k : ℕ). AreBlocksListed (length q.labels) (length p.procedures) q.code k rest more) e listed,
+    ) in
+    let (blocks, are, so) = written (b ∷ more)
+    (subst (λ (ls : List (ℕ × Frame)). AreBlocksListed (length q.labels) (length p.procedures) q.code n ls (b ∷ more)) (sym apart) both) in
+    let size : l.0 + code_size code ≡ begin_of (length q.code) rest =
+    ap (λ (k : ℕ). l.0 + k) (listed_size (length q.labels) (length p.procedures) (code_after q.code l.0 rest) code is_code)
+    ∙ block_size q.code q.labels n next l fits.rise e here in (
+      blocks,
+      are,
+      ap (λ (t : List ℕ). t ++ blocks_text placed (begin_of (length q.code) rest) more) says
+          ∙ append_assoc text front (blocks_text placed (begin_of (length q.code) rest) more)
+          ∙ ap (λ (k : ℕ). text ++ (front ++ blocks_text placed k more)) (sym size)
+          ∙ ap (λ (ls : List (ℕ × Frame)). text ++ blocks_text placed (begin_of (length q.code) ls) (b ∷ more)) (sym apart)
+          ∙ so,
+    )
+
+pub blocks_end : (p : Plan) (q : PlanProcedure) (placed : Option ℕ) (old : List ℕ) (n : ℕ)
+    (text : List ℕ) → length q.labels ≤ n → AreBlocksWritten p q placed old n text
+    → AreBlocksAdded p q placed old text
+blocks_end p q placed old n text end written =
+    let none = all_dropped q.labels n end in
+    let (blocks, are, so) = written []
+    (subst (λ (ls : List (ℕ × Frame)). AreBlocksListed (length q.labels) (length p.procedures) q.code n ls []) (sym none) tt) in
+    (blocks, are, sym (append-nil text) ∙ so)
+
+pub placed_is : (places : Bool) (i : ℕ) → then_some places i ≡ (if places then Some i else None)
+placed_is true i = refl
+placed_is false i = refl
+
+-- Procedures
+
+head_by : (two : Bool) (n : ℕ) (parameters results : ℕ)
+    → (codes "proc " ++ (procedure_name n ++ 32 ∷ decimal parameters))
+    ++ ((if two then 32 ∷ decimal results else []) ++ 10 ∷ [])
+    ≡ line_text (ProcLine (record {
+      name = procedure_name n;
+      parameters = decimal parameters;
+      results = if two then Some (decimal results) else None;
+    }))
+head_by true n parameters results =
+    ap (λ (t : List ℕ). codes "proc " ++ t)
+    (append_assoc (procedure_name n) (32 ∷ decimal parameters) (32 ∷ (decimal results ++ 10 ∷ []))
+    ∙ ap (λ (t : List ℕ). procedure_name n ++ t)
+    (sym (append_assoc (32 ∷ decimal parameters) (32 ∷ decimal results) (10 ∷ [])))
+    ∙ sym (append_assoc (procedure_name n) (32 ∷ (decimal parameters ++ 32 ∷ decimal results)) (10 ∷ [])))
+head_by false n parameters results = refl
+
+pub head_added : (version : ℕ) (n : ℕ) (q : PlanProcedure)
+    (told_version parameters results : ℕ) (old named counted new : List ℕ)
+    → named ≡ old ++ (codes "proc " ++ (procedure_name n ++ 32 ∷ decimal parameters))
+    → counted ≡ named ++ count_text told_version results → new ≡ counted ++ 10 ∷ []
+    → told_version ≡ version → parameters ≡ q.parameters → results ≡ q.results
+    → new ≡ old ++ line_text (ProcLine (head_of version n q))
+head_added version n q told parameters results old named counted new name count end of_version of_parameters of_results =
+    let front = codes "proc " ++ (procedure_name n ++ 32 ∷ decimal parameters) in
+    end ∙ ap (λ (t : List ℕ). t ++ 10 ∷ []) (count ∙ ap (λ (t : List ℕ). t ++ count_text told results) name)
+    ∙ append_assoc (old ++ front) (count_text told results) (10 ∷ [])
+    ∙ append_assoc old front (count_text told results ++ 10 ∷ [])
+    ∙ ap (λ (t : List ℕ). old ++ t) (head_by (told == 2) n parameters results)
+    ∙ (λ i. old ++ line_text (ProcLine (record {
+      name = procedure_name n;
+      parameters = decimal (of_parameters i);
+      results = if of_version i == 2 then Some (decimal (of_results i)) else None;
+    })))
+
+pub procedure_added : (places : Bool) (p : Plan) (n : ℕ) (q : PlanProcedure)
+    (old headed exited new : List ℕ)
+    → headed ≡ old ++ line_text (ProcLine (head_of p.version n q))
+    → exited ≡ headed ++ exit_text q.exit
+    → AreBlocksAdded p q (if places then Some n else None) exited new
+    → IsProcedureAdded places p n q old new
+procedure_added places p n q old headed exited new head exit (blocks, are, says) =
+    let placed = if places then Some n else None in
+    let line = line_text (ProcLine (head_of p.version n q)) in (
+      record { head = head_of p.version n q; exit = exit_listed q.exit; blocks = blocks },
+      record { head = refl; exit = refl; blocks = are },
+      says
+          ∙ ap (λ (t : List ℕ). t ++ blocks_text placed 0 blocks)
+          (exit ∙ ap (λ (t : List ℕ). t ++ exit_text q.exit) head
+          ∙ append_assoc old line (exit_text q.exit))
+          ∙ append_assoc old (line ++ exit_text q.exit) (blocks_text placed 0 blocks),
+    )
+
+pub title_is : (h : Header) (p : Plan) → IsHeader h p
+    → title_text h.version h.name.now h.pieces h.budget ≡ line_text (PlanLine (title_of p))
+title_is h p is = λ i. title_text (is.version i) (is.name i) (is.pieces i) (is.budget i)
+
+-- What is written, whatever procedures are next, is the whole of the plan
+abbrev pub AreProceduresWritten : Bool → Plan → ℕ → List ℕ → Type 0
+AreProceduresWritten places p n text =
+    (more : List ProcedureSource)
+    → AreProceduresListed p.version (length p.procedures) n (drop n p.procedures) more
+    → (s : PlanSource) × IsListed p s
+    × (text ++ procedures_text places n more ≡ plan_text places s)
+
+pub procedures_begun : (places : Bool) (p : Plan) (text : List ℕ)
+    → text ≡ line_text (PlanLine (title_of p)) → AreProceduresWritten places p 0 text
+procedures_begun places p text e more listed = (
+  record { title = title_of p; procedures = more },
+  record { title = refl; procedures = listed },
+  ap (λ (t : List ℕ). t ++ procedures_text places 0 more) e,
+)
+
+pub procedure_turn : (places : Bool) (p : Plan) (n next : ℕ) (text new : List ℕ)
+    (q : PlanProcedure) → next ≡ suc n → slice_get p.procedures n ≡ Some q
+    → AreProceduresWritten places p n text → IsProcedureAdded places p n q text new
+    → AreProceduresWritten places p next new
+procedure_turn places p n next text new q e here written (s, is, says) more listed =
+    let rest = drop next p.procedures in
+    let apart = left_at p.procedures n next q e here in
+    let both : AreProceduresListed p.version (length p.procedures) n (q ∷ rest) (s ∷ more) =
+    (is, subst (λ (k : ℕ). AreProceduresListed p.version (length p.procedures) k rest more) e listed) in
+    let (source, are, so) = written (s ∷ more)
+    (subst (λ (qs : List PlanProcedure). AreProceduresListed p.version (length p.procedures) n qs (s ∷ more)) (sym apart) both) in (
+      source,
+      are,
+      ap (λ (t : List ℕ). t ++ procedures_text places next more) says
+          ∙ append_assoc text (procedure_text places n s) (procedures_text places next more)
+          ∙ ap (λ (k : ℕ). text ++ (procedure_text places n s ++ procedures_text places k more)) e
+          ∙ so,
+    )
+
+pub procedures_end : (places : Bool) (p : Plan) (n : ℕ) (text : List ℕ)
+    → length p.procedures ≤ n → AreProceduresWritten places p n text
+    → IsListedText places p text
+procedures_end places p n text end written =
+    let none = all_dropped p.procedures n end in
+    let (s, is, so) = written []
+    (subst (λ (qs : List PlanProcedure). AreProceduresListed p.version (length p.procedures) n qs []) (sym none) tt) in
+    (s, is, sym (append-nil text) ∙ so)

@@ -1,6 +1,7 @@
 pub mod Checks
 pub mod Faults
 pub mod Lines
+pub mod ListedPlaces
 pub mod Listing
 pub mod Meaning
 pub mod Operands

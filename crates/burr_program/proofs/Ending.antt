@@ -14,26 +14,12 @@ use Rattle.burr_command.specs.declared.job.Job.{Job}
 use Rattle.burr_judge.specs.declared.fault.Fault.{Fault}
 use Rattle.burr_judge.specs.declared.status.Status.{Status}
 use Rattle.burr_judge.specs.Faults.{line_of, output_failed}
-use Rattle.burr_judge.specs.PlanEnds.{Ends, EndsOn, PutsEnd, HoldsFrontOfEnd}
+use Rattle.burr_judge.specs.PlanEnds.{Ends, EndsOn, PutsEnd, HoldsFrontOfEnd, Ending, never}
 use Rattle.burr_judge.proofs.Common.Stages.{AreAmong}
-use Rattle.burr_program.specs.Commands.{Ending, EndingBelow, StopsBelow, JobEnds, JobBreaks, left_by, never}
+use Rattle.burr_judge.specs.StepEnds.{left_by}
+use Rattle.burr_program.specs.Commands.{EndingBelow, StopsBelow, JobEnds, JobBreaks}
 use Rattle.burr_program.specs.Ends.{StopsJob}
 use Rattle.burr_program.specs.HandedOn.{HandsOnDone}
-
--- what is told of a call is told of the command
-pub ending_from : {S : Type 0} (sink : SinkView S) (before after : S) (These Those : Ends) (r : Result Status Fault)
-    → AreAmong These Those → EndsOn sink before after These r → Ending sink before after Those never r
-ending_from sink before after These Those (Ok status) among ((output, is, takes), tt) = ((output, among output status is, takes), tt)
-ending_from sink before after These Those (Err fault) among (tt, inl (line, (output, status, is, fails))) = (tt, inl (line, (output, status, among output status is, fails)))
-ending_from sink before after These Those (Err fault) among (tt, inr (line, kept)) = (tt, inr (inl kept))
-
--- so it is of one stage and the next of a command
-pub ending_among : {S : Type 0} (sink : SinkView S) (before after : S) (These Those : Ends) (Breaks Others : List ℕ → Type 0) (r : Result Status Fault)
-    → AreAmong These Those → ((line : List ℕ) → Breaks line → Others line) → Ending sink before after These Breaks r → Ending sink before after Those Others r
-ending_among sink before after These Those Breaks Others (Ok status) among more ((output, is, takes), tt) = ((output, among output status is, takes), tt)
-ending_among sink before after These Those Breaks Others (Err fault) among more (tt, inl (line, (output, status, is, fails))) = (tt, inl (line, (output, status, among output status is, fails)))
-ending_among sink before after These Those Breaks Others (Err fault) among more (tt, inr (inl kept)) = (tt, inr (inl kept))
-ending_among sink before after These Those Breaks Others (Err fault) among more (tt, inr (inr breaks)) = (tt, inr (inr (more (line_of fault) breaks)))
 
 -- the sink failed in what is printed
 pub ending_fails : {S : Type 0} (sink : SinkView S) (before after : S) (AreEnds : Ends) (Breaks : List ℕ → Type 0) (output : List ℕ) (status : Status) (r : Result Status Fault) → AreEnds output status

@@ -3,4 +3,3 @@ mod ExplainLaws
 mod HandedText
 mod Making
 mod Noted
-mod Stepping

@@ -17,12 +17,12 @@ use Rattle.burr_judge.specs.declared.ladder.Given.TheVariants.{Container, Text a
 use Rattle.burr_judge.specs.Faults.{line_of}
 use Rattle.burr_judge.specs.Statuses.{code_of, status_of}
 use Rattle.burr_judge.specs.Ladder.{GivenComes, TextComes, WantsMemory}
-use Rattle.burr_judge.specs.PlanEnds.{Ends, EndsOn, FailsToEnd, IsRefusal, PutsEnd, TryEnds}
+use Rattle.burr_judge.specs.PlanEnds.{Ends, EndsOn, FailsToEnd, IsRefusal, PutsEnd, TryEnds, Ending, Stops, never}
 use Rattle.burr_judge.proofs.Common.Stages.{AreAmong}
 use Rattle.burr_judge.proofs.Common.Comes.{ends_among, memory_ends}
 use Rattle.burr_program.specs.declared.files.Made.{Made}
 use Rattle.burr_program.specs.declared.files.Made.TheVariants.{Nothing, Text}
-use Rattle.burr_program.specs.Commands.{DoneEnds, Ending, IsDone, PlanSheetCommand, SomeRefusal, Stops, never}
+use Rattle.burr_program.specs.Commands.{DoneEnds, IsDone, PlanSheetCommand, SomeRefusal}
 use Rattle.burr_program.specs.MakingEnds.{Makes, MakesOrPuts, MakesPlanOf}
 use Rattle.burr_program.specs.NotedEnds.{Begins}
 use Rattle.burr_program.proofs.Ending.{silent}

@@ -1,14 +1,13 @@
 -- How each command ends, and what it leaves on a sink.
 use Rattle.std.specs.Prelude.{◌≡◌, ◌⊎◌, ◌≤◌, ℕ, List, [], Bool, true, false, Result, IfOk, IfErr, IsTrue, string_bytes}
 use Rattle.burr_io.specs.Sink.{SinkView}
-use Rattle.burr_io.specs.Source.{SourceView}
 use Rattle.burr_container.specs.Rules.Plans.{Plan}
 use Rattle.burr_container.specs.Rules.Fitting.{is_fitting}
 use Rattle.burr_container.specs.Rules.Spelling.{plan_bytes}
 use Rattle.burr_container.specs.Views.Containers.{ContainerView, IsContainer}
-use Rattle.burr_upgrade.specs.Upgrades.{upgraded}
+use Rattle.burr_container.specs.Rules.Plans.{upgraded}
 use Rattle.burr_plantext.specs.Rules.Listing.{IsListing}
-use Rattle.burr_listing.specs.Listings.{IsListingWithPlaces}
+use Rattle.burr_plantext.specs.Rules.ListedPlaces.{IsListingWithPlaces}
 use Rattle.burr_runs.specs.Views.BenchText.{Streams}
 use Rattle.burr_runs.specs.Views.ReadWhole.{IsWholeInput}
 use Rattle.burr_command.specs.declared.job.Job.{Job}
@@ -20,32 +19,16 @@ use Rattle.burr_judge.specs.declared.task.Task.{Task}
 use Rattle.burr_judge.specs.declared.task.Task.TheVariants.{Check, Run, Try}
 use Rattle.burr_judge.specs.Faults.{line_of, output_failed}
 use Rattle.burr_judge.specs.Statuses.{code_of}
-use Rattle.burr_judge.specs.PlanEnds.{Ends, PutsEnd, PutsFrontOfEnd, HoldsFrontOfEnd, PlanTextEnds, ContainerEnds, PlanEnds}
+use Rattle.burr_judge.specs.PlanEnds.{Ends, PutsEnd, HoldsFrontOfEnd, PlanTextEnds, ContainerEnds, PlanEnds, never}
 use Rattle.burr_program.specs.ExplainEnds.{ExplainEnds}
 use Rattle.burr_program.specs.MakingEnds.{MakesPlanOf}
 use Rattle.burr_program.specs.NotedEnds.{NotedEnds}
-use Rattle.burr_program.specs.StepEnds.{Left, StepTextEnds, StepTextBreaks}
+use Rattle.burr_judge.specs.StepEnds.{Left, StepTextEnds, StepTextBreaks}
 
 -- What a command leaves on its sink
 
--- what is told where a command breaks off, for one that does not
-abbrev pub never : List ℕ → Type 0
-never line = ⊥
-
--- the sink failed in what there is to print, or it was left alone, or the command broke off
-abbrev pub Stops : {S : Type 0} → SinkView S → S → S → Ends → (List ℕ → Type 0) → List ℕ → Type 0
-Stops sink before after AreEnds Breaks line =
-    ((line ≡ output_failed) × PutsFrontOfEnd sink before after AreEnds)
-    ⊎ (after ≡ before) ⊎ Breaks line
-
--- the sink took what is printed with this status, or a fault is told and it stopped so
-abbrev pub Ending : {S : Type 0} → SinkView S → S → S → Ends → (List ℕ → Type 0)
-    → Result Status Fault → Type 0
-Ending sink before after AreEnds Breaks r =
-    IfOk r (PutsEnd sink before after AreEnds)
-    × IfErr r (λ fault. Stops sink before after AreEnds Breaks (line_of fault))
-
--- the same of the sink below, to which all is handed on at the end
+-- What a command comes to on the sink below, to which all is handed on at the end: that failed in what
+-- there is to print, or took nothing, or the command broke off.
 abbrev pub StopsBelow : {S : Type 0} → SinkView S → S → S → Ends → (List ℕ → Type 0) → List ℕ
     → Type 0
 StopsBelow sink before after AreEnds Breaks line =
@@ -59,14 +42,6 @@ EndingBelow sink before after AreEnds Breaks r =
     × IfErr r (λ fault. StopsBelow sink before after AreEnds Breaks (line_of fault))
 
 -- How each command ends, for some bytes of the files that it reads
-
--- of a source before and after
-abbrev pub left_by : {R : Type 0} → SourceView R → R → R → Left
-left_by source before after = record {
-  old = source.left before;
-  new = source.left after;
-  failed = source.has_failed after;
-}
 
 -- nothing is printed, and a file was made
 abbrev pub MakesFile : Ends

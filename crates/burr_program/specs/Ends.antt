@@ -16,7 +16,7 @@ use Rattle.burr_judge.specs.Faults.{complaint_of, status_of_complaint, line_of, 
 use Rattle.burr_judge.specs.Statuses.{code_of, status_of}
 use Rattle.burr_judge.specs.PlanEnds.{Ends}
 use Rattle.burr_program.specs.Commands.{JobEnds, JobBreaks}
-use Rattle.burr_program.specs.StepEnds.{left_of}
+use Rattle.burr_judge.specs.StepEnds.{left_of}
 
 -- What a sink had taken before and after, and whether it has failed.
 pub record Taken : Type 0 where

@@ -6,4 +6,3 @@ pub mod ExplainLaws
 pub mod HandedOn
 pub mod MakingEnds
 pub mod NotedEnds
-pub mod StepEnds

@@ -16,7 +16,9 @@ mod why;
 ghost use Rattle.std.specs.Prelude.{◌≡◌, []};
 ghost use Rattle.burr_io.specs.WholeLines.{lines_view};
 ghost use Rattle.burr_runs.specs.Views.BenchText.{streams};
-ghost use Rattle.burr_program.specs.Commands.{Ending, JobEnds, JobBreaks, left_by};
+ghost use Rattle.burr_judge.specs.PlanEnds.{Ending};
+ghost use Rattle.burr_judge.specs.StepEnds.{left_by};
+ghost use Rattle.burr_program.specs.Commands.{JobEnds, JobBreaks};
 
 use asm::assemble_file;
 use burr_command::Job;

@@ -1,15 +1,15 @@
 //! Notes for people, below what is printed for a command on two texts.
 
-ghost use Rattle.std.specs.Prelude.{codes};
+ghost use Rattle.std.specs.Prelude.{◌++◌, codes};
 ghost use Rattle.burr_runs.specs.Rules.Refusals.{place_line};
 ghost use Rattle.burr_judge.specs.PlanEnds.{EndsOn, IsRefusal};
 ghost use Rattle.burr_judge.specs.Refusals.{refusal_line};
-ghost use Rattle.burr_program.specs.AddedNotes.{AddsNotes};
+ghost use Rattle.burr_program.specs.AddedNotes.{AddsNotes, PutsKept};
 ghost use Rattle.burr_program.specs.NotedEnds.{Begins};
 
-use crate::reasons::{
-    reason_of_assembly_fault, reason_of_refused_plan, reason_of_text_fault, with_meaning,
-};
+use crate::reasons::{reason_of_fault, reason_of_refused_plan, with_meaning};
+use burr_assembly::Assembly;
+use burr_container::Container;
 use burr_io::{Sink, put_all};
 use burr_judge::{Fault, Refuse, Refused, Status, refuse};
 use burr_why::{PlanText, reason_of_line};
@@ -22,20 +22,32 @@ pub struct Named<'x> {
     pub text: &'x [u8],
 }
 
-/// An assembly's text and a plan text, of which refusals are told with notes, and a text of answers.
+impl<'x> Named<'x> {
+    /// The text as that of a plan, beside the container that it is assembled to, and an assembly.
+    pub fn beside<'c>(
+        &self,
+        container: &'x Container<'c>,
+        assembly: &'x Assembly,
+    ) -> PlanText<'x, 'c> {
+        PlanText {
+            file: self.file,
+            text: self.text,
+            container,
+            assembly,
+        }
+    }
+}
+
+/// Refuses with notes, of an assembly's text and a plan text.
 #[derive(Clone, Copy)]
 pub struct Noting<'x> {
     pub drawing: Named<'x>,
     pub plan: Named<'x>,
-    pub answers: &'x [u8],
 }
 
 impl<'x, W: Sink> Refuse<W> for Noting<'x> {
-    ghost use Rattle.std.specs.Prelude.{⊤};
     ghost use Rattle.burr_judge.specs.PlanEnds.{EndsOn, IsRefusal};
     ghost use Rattle.burr_program.specs.NotedEnds.{Begins};
-
-    ghost can = { λ _. ⊤ };
 
     ghost refuses = { λ _ before line r after.
         EndsOn W.Sink before after (Begins (IsRefusal line)) r };
@@ -56,21 +68,15 @@ impl Noting<'_> {
     #[inline(never)]
     fn notes_of(&self, alloc: Global, refused: &Refused<'_, '_>) -> Result<String, AllocError> {
         match refused {
-            Refused::Assembly(_, fault) => reason_of_assembly_fault(alloc, self.drawing, *fault),
-            Refused::PlanText(fault) => reason_of_text_fault(alloc, self.plan, *fault),
+            Refused::Assembly(_, fault) => {
+                reason_of_fault(alloc, self.drawing, fault.code_and_line())
+            }
+            Refused::PlanText(fault) => reason_of_fault(alloc, self.plan, fault.code_and_line()),
             Refused::Plan {
                 container,
                 assembly,
                 refusal,
-            } => {
-                let plan = PlanText {
-                    file: self.plan.file,
-                    text: self.plan.text,
-                    container,
-                    assembly,
-                };
-                reason_of_refused_plan(alloc, plan, refusal)
-            }
+            } => reason_of_refused_plan(alloc, self.plan.beside(container, assembly), refusal),
             Refused::Container(_) | Refused::Answers(_) | Refused::Line(..) => {
                 Ok(String::new(alloc))
             }
@@ -123,5 +129,25 @@ pub fn add_notes<'a, W: Sink>(
             Ok(status)
         }
         Err(fault) => Err(fault),
+    }
+}
+
+/// Puts what was kept in memory of what was done, and notes after it. Nothing but memory may have been
+/// wanting there, and then nothing is put.
+pub fn put_kept<'a, W: Sink>(
+    done: Result<Status, Fault<'a>>,
+    kept: &[u8],
+    notes: &str,
+    sink: &mut W,
+) -> Result<Status, Fault<'a>>
+    ensures { PutsKept W.Sink sink.old sink.new (kept.now ++ notes.now) done.entry result }
+{
+    match done {
+        Ok(status) => {
+            put_all(kept, sink)?;
+            put_all(notes.as_bytes(), sink)?;
+            Ok(status)
+        }
+        Err(_) => Err(Fault::Memory),
     }
 }

@@ -6,7 +6,8 @@ ghost use Rattle.burr_io.specs.Sink.{Takes};
 ghost use Rattle.burr_runs.specs.Views.BenchText.{streams};
 ghost use Rattle.burr_judge.specs.Faults.{complaint_of, line_of, status_of_fault};
 ghost use Rattle.burr_judge.specs.Statuses.{code_of};
-ghost use Rattle.burr_program.specs.Commands.{EndingBelow, JobEnds, JobBreaks, left_by};
+ghost use Rattle.burr_judge.specs.StepEnds.{left_by};
+ghost use Rattle.burr_program.specs.Commands.{EndingBelow, JobEnds, JobBreaks};
 ghost use Rattle.burr_program.specs.Ends.{DoesJob, FailsInText, IsEnd, IsRun, Replies};
 ghost use Rattle.burr_program.specs.Ends.{TakesText, TellsFault, took};
 

@@ -2,55 +2,20 @@
 //! the refusal means.
 
 use crate::notes::Named;
-use burr_asm::AsmFault;
-use burr_assembly::AssemblyFault;
 use burr_explain::explanation_of;
 use burr_verify::Refusal;
 use burr_why::{PlanText, reason_of_line, reason_of_refusal};
 use std::alloc::{AllocError, Global};
 
-/// Why an assembly's text is refused.
-pub fn reason_of_assembly_fault(
+/// Why a text is refused, by a fault of this code on this line; want of memory is no fault of a text.
+pub fn reason_of_fault(
     alloc: Global,
-    drawing: Named<'_>,
-    fault: AssemblyFault,
+    named: Named<'_>,
+    fault: Option<(&str, usize)>,
 ) -> Result<String, AllocError> {
-    let (key, line) = match fault {
-        AssemblyFault::A1 { line } => ("A1", line),
-        AssemblyFault::A2 { line } => ("A2", line),
-        AssemblyFault::A3 { line } => ("A3", line),
-        AssemblyFault::A4 { line } => ("A4", line),
-        AssemblyFault::A5 { line } => ("A5", line),
-        AssemblyFault::A6 { line } => ("A6", line),
-        AssemblyFault::A7 { line } => ("A7", line),
-        AssemblyFault::A8 { line, .. } => ("A8", line),
-        AssemblyFault::Memory => return Err(AllocError),
-    };
-    let reason = reason_of_line(alloc, drawing.file, drawing.text, line)?;
-    with_meaning(reason, key)
-}
-
-/// Why a plan text is refused by the assembler.
-pub fn reason_of_text_fault(
-    alloc: Global,
-    plan: Named<'_>,
-    fault: AsmFault,
-) -> Result<String, AllocError> {
-    let (name, line) = name_and_line(fault)?;
-    let reason = reason_of_line(alloc, plan.file, plan.text, line)?;
-    with_meaning(reason, name)
-}
-
-/// The name of a plan text's fault, and its line.
-pub fn name_and_line(fault: AsmFault) -> Result<(&'static str, usize), AllocError> {
-    match fault {
-        AsmFault::P1 { line } => Ok(("P1", line)),
-        AsmFault::P2 { line } => Ok(("P2", line)),
-        AsmFault::P3 { line } => Ok(("P3", line)),
-        AsmFault::P4 { line } => Ok(("P4", line)),
-        AsmFault::P5 { line } => Ok(("P5", line)),
-        AsmFault::Memory => Err(AllocError),
-    }
+    let (code, line) = fault.ok_or(AllocError)?;
+    let reason = reason_of_line(alloc, named.file, named.text, line)?;
+    with_meaning(reason, code)
 }
 
 /// Why a plan is refused, and what the refusal means.

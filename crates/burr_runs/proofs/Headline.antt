@@ -20,13 +20,13 @@ use Rattle.burr_state.specs.declared.closing.Closing.{Closing}
 use Rattle.burr_state.specs.declared.closing.Closing.TheVariants as closings
 use Rattle.burr_state.specs.declared.motion.Motion.{Motion}
 use Rattle.burr_state.specs.Rules.Bench.{Setup, BenchState, Program, running, start}
-use Rattle.burr_soundness.specs.Framing.{framed_setup}
+use Rattle.burr_bench.specs.Soundness.Framing.{framed_setup}
 use Rattle.burr_state.specs.Views.Programs.{plan_program}
 use Rattle.burr_state.specs.Rules.Run.{Run}
-use Rattle.burr_soundness.specs.SafeRuns.{IsSafeRun, ClosesWell}
-use Rattle.burr_soundness.specs.Soundness.{VerifierIsSound}
+use Rattle.burr_bench.specs.Soundness.SafeRuns.{IsSafeRun, ClosesWell}
+use Rattle.burr_bench.specs.Soundness.Laws.{VerifierIsSound}
 use Rattle.burr_state.specs.Laws.SpaceLaws.{HomesAreDisjoint}
-use Rattle.burr_soundness.proofs.Common.FramedSetup.{same_setup}
+use Rattle.burr_bench.proofs.Common.FramedSetup.{same_setup}
 use Rattle.burr_runs.specs.declared.outcome.Outcome.{Outcome}
 use Rattle.burr_runs.specs.Rules.Headline.{setup_for, IsSafeSheetOf, EndsWell, PutsSafely, FailsSafely}
 use Rattle.burr_runs.specs.Views.Running.{PutsSheet, FailsInSheet}

@@ -3,7 +3,7 @@ pub mod Headline
 pub mod Inputs
 pub mod OneOutput
 pub mod SomeOutput
-pub mod Standing
+pub mod AfterRuns
 pub mod StepByStep
 pub mod WholeInput
 pub mod WorkedRows

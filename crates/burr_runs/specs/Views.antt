@@ -1,4 +1,4 @@
 pub mod BenchText
 pub mod ReadWhole
 pub mod Running
-pub mod Standing
+pub mod AfterRuns

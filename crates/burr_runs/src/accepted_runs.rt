@@ -5,10 +5,9 @@ ghost use Rattle.burr_runs.specs.Rules.Headline.{PutsSafely, FailsSafely, EndsWe
 
 use crate::outcome::Outcome;
 use crate::running::run;
-use burr_bench::Machine;
+use burr_bench::{Machine, a_well_framed_plan_runs_safely};
 use burr_blocking::Blocking;
 use burr_io::{Sink, WriteFault};
-use burr_soundness::a_well_framed_plan_runs_safely;
 use burr_state::pieces_never_overlap;
 use burr_verify::{Accepted, a_fitting_plan_is_from_a_container};
 
@@ -29,6 +28,8 @@ pub fn run_plan<'a, 'c: 'a, B: Blocking, W: Sink>(
     a_well_framed_plan_runs_safely();
     a_fitting_plan_is_from_a_container();
     pieces_never_overlap();
+    let mut machine = Machine::start(accepted);
+    let assembly = machine.assembly();
     let budget = accepted.plan().header().budget;
-    run(&mut Machine::start(accepted), budget, answers, sink)
+    run(&mut machine, assembly, budget, answers, &mut (), sink)
 }

@@ -7,6 +7,7 @@ ghost use Rattle.burr_runs.specs.Rules.Input.{IsCodeLine, IsInput};
 ghost use Rattle.burr_runs.specs.Rules.Input.{is_hex_digit};
 
 use burr_code::limits::MOST_CODE;
+use burr_io::last_line_end;
 use hex::FromHexError;
 use std::alloc::{AllocError, Global};
 
@@ -40,20 +41,10 @@ fn split_last_line(input: &[u8]) -> Option<(&[u8], &[u8])>
     if *end != b'\n' {
         return None;
     }
-    match last_end(lines) {
+    match last_line_end(lines) {
         Some(last) => Some(lines.split_at(last + 1)),
         None => Some((b"", lines)),
     }
-}
-
-/// Where the last end of a line stands.
-fn last_end(bytes: &[u8]) -> Option<usize>
-    ensures { MatchOption result
-        (¬ Contains bytes.now 10)
-        (λ i. (i < length bytes.now) × (slice_index bytes.now i ≡ 10)
-        × ((k : ℕ) → i < k → k < length bytes.now → slice_index bytes.now k ≢ 10)) }
-{
-    bytes.iter().rposition(|byte| *byte == b'\n')
 }
 
 /// The code of a line `code` with its hexadecimal digits; None where the line isn't of this form.

@@ -15,7 +15,7 @@ mod text_runs;
 
 pub use accepted_runs::run_plan;
 pub use answers::{AnswersFault, read_answers};
-pub use burr_upgrade::upgrade;
+pub use burr_container::upgrade;
 pub use checking::check;
 pub use fault::BenchFault;
 pub use laws::{
@@ -28,5 +28,6 @@ pub use lines::{
 };
 pub use outcome::Outcome;
 pub use reading::{LIMIT, read_whole};
-pub use running::try_plan;
+pub use running::observer::Observer;
+pub use running::{try_observed, try_plan};
 pub use text_runs::bench_text;

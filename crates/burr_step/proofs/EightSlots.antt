@@ -26,7 +26,7 @@ use Rattle.burr_state.specs.Views.Programs.{bench_procedure}
 use Rattle.burr_state.proofs.Common.Leading.{at_either}
 use Rattle.burr_state.proofs.Common.Outcomes.{TrapsOr, past_check, past_search, comes}
 use Rattle.burr_state.proofs.Common.StepCalls.{next_where_went, taken_where_answered}
-use Rattle.burr_soundness.specs.Machine.{IsSafeBench}
+use Rattle.burr_bench.specs.Soundness.Machine.{IsSafeBench}
 use Rattle.burr_step.specs.Rules.Stepper.{Leads, stays, goes, takes}
 use Rattle.burr_step.specs.Views.Stepping.{Stepping, IsUnderWay}
 

@@ -12,7 +12,7 @@ use Rattle.burr_container.proofs.Common.Containers.{plan_fits}
 use Rattle.burr_state.specs.Rules.Bench.{BenchProcedure, Program}
 use Rattle.burr_state.specs.Views.Benches.{Benched, setup_of}
 use Rattle.burr_state.specs.Views.Programs.{bench_procedure}
-use Rattle.burr_soundness.specs.Machine.{IsSafeBench}
+use Rattle.burr_bench.specs.Soundness.Machine.{IsSafeBench}
 use Rattle.burr_step.specs.Views.Stepping.{LabelsAreFew}
 
 -- an element of a list of which all pass a test

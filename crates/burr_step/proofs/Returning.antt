@@ -12,7 +12,7 @@ use Rattle.burr_container.specs.Rules.Plans.{Plan}
 use Rattle.burr_container.specs.Views.Containers.{IsContainer}
 use Rattle.burr_verify.specs.Rules.Accepting.{Judged}
 use Rattle.burr_state.specs.Views.Programs.{plan_program}
-use Rattle.burr_soundness.specs.Machine.{StartIsSafe}
+use Rattle.burr_bench.specs.Soundness.Machine.{StartIsSafe}
 use Rattle.burr_bench.specs.Recorded.{TakesBack, MadeStep, gone_back}
 use Rattle.burr_step.specs.Rules.Stepper.{Leads, History, history, IsStateOf, IsAsking, IsKept, Back, Taken}
 use Rattle.burr_step.specs.Views.UndoRing.{AreRecordsOf, answers_more, StepsTo}

@@ -16,8 +16,8 @@ use Rattle.burr_container.specs.Rules.Plans.{Plan}
 use Rattle.burr_container.specs.Views.Containers.{IsContainer}
 use Rattle.burr_verify.specs.Rules.Accepting.{Judged, IsAccepted}
 use Rattle.burr_state.specs.Views.Programs.{plan_program}
-use Rattle.burr_soundness.specs.Machine.{IsSafeBench, StartIsSafe}
-use Rattle.burr_soundness.proofs.Common.Machine.{budgeted}
+use Rattle.burr_bench.specs.Soundness.Machine.{IsSafeBench, StartIsSafe}
+use Rattle.burr_bench.proofs.Common.Machine.{budgeted}
 use Rattle.burr_bench.specs.Recorded.{TakesBack, GoesBack, MadeStep, gone_back}
 use Rattle.burr_step.specs.Rules.Stepper.{Leads, stays, goes, takes, History, history, IsStateOf}
 use Rattle.burr_step.specs.Views.UndoRing.{AreRecordsOf, answers_more, one_more, StepsTo}

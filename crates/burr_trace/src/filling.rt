@@ -1,10 +1,8 @@
 //! Frames that are read off a run, in place of lines `auto`.
 
-use crate::following::Prepared;
-use crate::seen::Seen;
-use crate::summary::Summary;
-use burr_blocking::Blocking;
-use burr_lines::{PlanText, Report};
+use crate::arrivals::Arrivals;
+use crate::seen::{Seen, seen_at_each};
+use burr_lines::Report;
 use burr_text::cut_at;
 use std::alloc::{AllocError, Global};
 
@@ -24,8 +22,6 @@ pub struct Unframed<'a> {
 pub enum Filled {
     /// The text, with a frame in place of each line `auto`.
     Whole(Vec<u8>),
-    /// The run does not come to its end, with all pieces apart.
-    Unended,
     /// The run does not come to the label before this line.
     Unseen(usize),
     /// No frame is found that agrees with all that was seen at the label before this line.
@@ -82,21 +78,12 @@ impl Unframed<'_> {
         HEAD_LINES.saturating_add(usize::from(self.pieces))
     }
 
-    /// The text, with the frames in place of lines `auto` that are read off the run of the plan of the
-    /// text with blank frames, with these answers.
-    pub fn fill<B: Blocking>(
-        &self,
-        alloc: Global,
-        plan: PlanText<'_, '_>,
-        blocking: &B,
-        answers: &[i32],
-    ) -> Result<Filled, AllocError> {
-        let prepared = Prepared::of(alloc, plan, blocking, answers)?;
-        let mut summary = Summary::new(alloc, &prepared)?;
-        if summary.see_run(plan.container, &prepared.labels, blocking, answers)? {
-            return self.with_frames(alloc, summary.seen());
-        }
-        Ok(Filled::Unended)
+    /// The text, with the frames in place of lines `auto` that a run of the text with blank frames agrees
+    /// with, of which these are the arrivals.
+    pub fn fill(&self, alloc: Global, mut arrivals: Arrivals<'_>) -> Result<Filled, AllocError> {
+        arrivals.close()?;
+        let seen = seen_at_each(alloc, arrivals.labels.as_slice().len(), arrivals.as_slice())?;
+        self.with_frames(alloc, &seen)
     }
 
     /// The text, with the frames of what was seen at each label in place of lines `auto`.

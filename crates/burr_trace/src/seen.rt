@@ -1,5 +1,6 @@
 //! What was seen at a label, and the frame that all of it agrees with.
 
+use crate::arrivals::Arrival;
 use crate::fit::{Fit, FittedForm, Live, Slots};
 use crate::pieces::Pieces;
 use crate::snapshot::Snapshot;
@@ -86,7 +87,8 @@ pub struct Seen {
 
 impl Seen {
     /// A label that was come to once.
-    pub fn new(alloc: Global, now: &Snapshot) -> Result<Seen, AllocError> {
+    pub fn new(alloc: Global, arrival: &Arrival) -> Result<Seen, AllocError> {
+        let now = &arrival.snapshot;
         Ok(Seen {
             times: 1,
             head: Some((now.tray, now.grip)),
@@ -94,19 +96,20 @@ impl Seen {
             ranges: ranges_of(&now.slots),
             as_many: true,
             operands: fits_of(alloc, now.operands.as_slice())?,
-            cost: Fit::new(cost_of(now)),
+            cost: Fit::new(cost_of(arrival)),
             places: places_of(alloc, now.places.as_slice())?,
         })
     }
 
     /// Comes to the label once more.
-    pub fn see(&mut self, now: &Snapshot) {
+    pub fn see(&mut self, arrival: &Arrival) {
+        let now = &arrival.snapshot;
         self.times = self.times.saturating_add(1);
         if self.head != Some((now.tray, now.grip)) {
             self.head = None;
         }
         self.see_slots(now);
-        self.cost.see(cost_of(now), &now.slots, &self.first);
+        self.cost.see(cost_of(arrival), &now.slots, &self.first);
         self.see_operands(now);
         self.see_places(now);
     }
@@ -282,6 +285,26 @@ impl Seen {
     }
 }
 
+/// What was seen at each of some labels; none where the run did not come to it.
+pub fn seen_at_each(
+    alloc: Global,
+    labels: usize,
+    arrivals: &[Arrival],
+) -> Result<Vec<Option<Seen>>, AllocError> {
+    let mut all = Vec::new(alloc);
+    for _ in 0..labels {
+        all.push(None)?;
+    }
+    for arrival in arrivals {
+        match all.get_mut(arrival.label) {
+            Some(Some(seen)) => Seen::see(seen, arrival),
+            Some(unseen) => *unseen = Some(Seen::new(alloc, arrival)?),
+            None => {}
+        }
+    }
+    Ok(all)
+}
+
 /// The ranges of slots that were seen once.
 fn ranges_of(slots: &Slots) -> [Option<(i64, i64)>; SLOTS] {
     let mut ranges = [None; SLOTS];
@@ -311,9 +334,9 @@ fn places_of(alloc: Global, places: &[Placement<Cell>]) -> Result<Vec<SeenPlace>
     Ok(seen)
 }
 
-/// The cost of a snapshot.
-fn cost_of(now: &Snapshot) -> i64 {
-    i64::try_from(now.cost).unwrap_or(i64::MAX)
+/// The cost of an arrival.
+fn cost_of(arrival: &Arrival) -> i64 {
+    i64::try_from(arrival.cost).unwrap_or(i64::MAX)
 }
 
 /// A form, or how far the numbers go for which there is none.

@@ -1,13 +1,13 @@
 //! What holds where a run stands.
 
 use arrayvec::ArrayVec;
-use burr_bench::Checked;
-use burr_blocking::Blocking;
 use burr_code::Placement;
-use burr_code::limits::{MOST_OPERANDS, MOST_PIECES, SLOTS};
+use burr_code::limits::{MOST_OPERANDS, SLOTS};
+use burr_state::Bench;
 use burr_voxels::Cell;
+use std::alloc::{AllocError, Global};
 
-/// What holds where a run stands, as far as a frame tells of it.
+/// What holds where a run stands, as far as a frame tells of it; its cost is not known yet.
 #[derive(Drop)]
 pub struct Snapshot {
     /// The current tray.
@@ -17,32 +17,29 @@ pub struct Snapshot {
     pub slots: [Option<i64>; SLOTS],
     /// The top last.
     pub operands: ArrayVec<i64, MOST_OPERANDS>,
-    /// The steps that the activation still makes.
-    pub cost: u64,
     /// How far each piece lies from home.
-    pub places: ArrayVec<Placement<Cell>, MOST_PIECES>,
+    pub places: Vec<Placement<Cell>>,
 }
 
 impl Snapshot {
-    /// What holds where a bench stands; from there on its activation makes `cost` more steps.
-    pub fn of<B: Blocking>(bench: &Checked<'_, B>, cost: u64) -> Snapshot {
+    /// What holds where a bench stands.
+    pub fn of(alloc: Global, bench: &Bench<'_>) -> Result<Snapshot, AllocError> {
         let mut operands = ArrayVec::new();
         for operand in bench.operands() {
             let _ = operands.try_push(i64::from(*operand));
         }
-        Snapshot {
+        Ok(Snapshot {
             tray: bench.tray(),
             grip: bench.grip(),
             slots: slots_of(bench),
             operands,
-            cost,
-            places: places_of(bench),
-        }
+            places: places_of(alloc, bench)?,
+        })
     }
 }
 
 /// The numbers in the slots.
-fn slots_of<B: Blocking>(bench: &Checked<'_, B>) -> [Option<i64>; SLOTS] {
+fn slots_of(bench: &Bench<'_>) -> [Option<i64>; SLOTS] {
     let mut slots = [None; SLOTS];
     for slot in 0..SLOTS as u8 {
         if let Some(number) = bench.slot(slot) {
@@ -53,10 +50,10 @@ fn slots_of<B: Blocking>(bench: &Checked<'_, B>) -> [Option<i64>; SLOTS] {
 }
 
 /// Where the pieces are.
-fn places_of<B: Blocking>(bench: &Checked<'_, B>) -> ArrayVec<Placement<Cell>, MOST_PIECES> {
-    let mut places = ArrayVec::new();
-    for piece in 0..bench.assembly().piece_count() {
-        let _ = places.try_push(bench.place(piece));
+fn places_of(alloc: Global, bench: &Bench<'_>) -> Result<Vec<Placement<Cell>>, AllocError> {
+    let mut places = Vec::new(alloc);
+    for piece in 0..bench.piece_count() {
+        places.push(bench.place(piece))?;
     }
-    places
+    Ok(places)
 }

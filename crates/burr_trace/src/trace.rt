@@ -1,116 +1,85 @@
-//! A trace: what holds whenever a run comes to a label, and what was seen at each.
+//! A trace: what held whenever a run came to a label, and what was seen at each.
 
-use crate::following::{Observer, Prepared, follow};
+use crate::arrivals::{Arrival, Arrivals, Stand};
 use crate::labels::Label;
-use crate::seen::Seen;
-use crate::summary::Summary;
-use crate::traced_run::TracedRun;
-use burr_bench::Closing;
-use burr_blocking::Blocking;
-use burr_container::Container;
-use burr_lines::{PlanItem, PlanText, Report, Shown};
+use crate::seen::{Seen, seen_at_each};
+use burr_lines::{PlanItem, Report, Shown};
 use std::alloc::{AllocError, Global};
 
-/// What holds whenever the run of a plan, with these answers, comes to a label: where the text names
-/// the label, the steps that were made, the answer last taken, and the lines of a frame that this
-/// alone agrees with, with the steps that the activation still makes as its cost. And at the end for
-/// each label how often the run came to it, and the lines of a frame that all of it agrees with, in
-/// forms of the slots. Nothing where the plan is for another assembly.
-pub fn trace_of<B: Blocking>(
+/// What held whenever the run came to a label: where the text of this file names the label, the steps
+/// that were made, the answer last taken, and the lines of a frame that this alone agrees with, with the
+/// steps that the activation still made as its cost. And at the end for each label how often the run came
+/// to it, and the lines of a frame that all of it agrees with, in forms of the slots. Nothing where no
+/// run was made.
+pub fn trace_of(
     alloc: Global,
-    plan: PlanText<'_, '_>,
-    blocking: &B,
-    answers: &[i32],
+    file: &str,
+    mut arrivals: Arrivals<'_>,
 ) -> Result<String, AllocError> {
-    let prepared = Prepared::of(alloc, plan, blocking, answers)?;
-    let mut trace = Trace::new(alloc, plan.file, &prepared)?;
-    trace.follow(plan.container, blocking, answers)?;
-    trace.report.into_text()
+    let mut report = Report::new(alloc);
+    let Some(stand) = arrivals.close()? else {
+        return report.into_text();
+    };
+    for arrival in arrivals.as_slice() {
+        add_arrival(alloc, &mut report, file, &arrivals, arrival)?;
+    }
+    if !stand.has_ended {
+        add_end(&mut report, file, &arrivals, &stand);
+    }
+    add_labels(alloc, &mut report, file, &arrivals)?;
+    report.into_text()
 }
 
-/// A trace under way.
-#[derive(Drop)]
-struct Trace<'a, 'x> {
+/// Adds what held at an arrival.
+fn add_arrival(
     alloc: Global,
-    file: &'x str,
-    prepared: &'x Prepared<'a>,
-    summary: Summary<'x>,
-    report: Report,
+    report: &mut Report,
+    file: &str,
+    arrivals: &Arrivals<'_>,
+    arrival: &Arrival,
+) -> Result<(), AllocError> {
+    if let Some(label) = arrivals.labels.as_slice().get(arrival.label) {
+        add_label(report, file, label);
+    }
+    let steps = arrival.steps;
+    report.add_words(format_args!(": steps {steps}"));
+    if let Some(answer) = arrival.answer {
+        report.add_words(format_args!(", answer {answer}"));
+    }
+    report.add_words("\n");
+    Seen::new(alloc, arrival)?.add_frame(report);
+    Ok(())
 }
 
-impl<'a, 'x> Trace<'a, 'x> {
-    /// Before the run.
-    fn new(
-        alloc: Global,
-        file: &'x str,
-        prepared: &'x Prepared<'a>,
-    ) -> Result<Trace<'a, 'x>, AllocError> {
-        Ok(Trace {
-            alloc,
-            file,
-            prepared,
-            summary: Summary::new(alloc, prepared)?,
-            report: Report::new(alloc),
-        })
-    }
-
-    /// Follows the run with these answers; adds nothing where the plan is for another assembly.
-    fn follow<B: Blocking>(
-        &mut self,
-        container: &Container<'_>,
-        blocking: &B,
-        answers: &[i32],
-    ) -> Result<(), AllocError> {
-        let Some(mut run) = TracedRun::start(container, blocking, answers) else {
-            return Ok(());
-        };
-        let labels = &self.prepared.labels;
-        if follow(&mut run, labels, self)? != Closing::Apart {
-            self.add_end(&run);
-        }
-        self.add_labels();
-        Ok(())
-    }
-
-    /// Adds the line where a run stands that did not come to its end.
-    fn add_end<B: Blocking>(&mut self, run: &TracedRun<'_, '_, B>) {
-        let bench = run.bench();
-        let item = PlanItem::Code {
-            procedure: usize::from(bench.proc()),
-            pc: usize::from(bench.pc()),
-        };
-        if let Some(line) = self.prepared.lines.line_of(item) {
-            self.report.add_words("\n; the run stands at ");
-            self.report.add_line(self.file, &line);
-        }
-    }
-
-    /// Adds what was seen at each label.
-    fn add_labels(&mut self) {
-        let labels = self.prepared.labels.as_slice();
-        for (label, seen) in labels.iter().zip(self.summary.seen()) {
-            add_label(&mut self.report, self.file, label);
-            add_seen(&mut self.report, seen);
-        }
+/// Adds the line where a run stands that did not come to its end.
+fn add_end(report: &mut Report, file: &str, arrivals: &Arrivals<'_>, stand: &Stand) {
+    let item = PlanItem::Code {
+        procedure: stand.procedure,
+        pc: stand.pc,
+    };
+    if let Some(line) = arrivals.lines.line_of(item) {
+        report.add_words("\n; the run stands at ");
+        report.add_line(file, &line);
     }
 }
 
-impl Observer for Trace<'_, '_> {
-    fn arrive<B: Blocking>(
-        &mut self,
-        label: usize,
-        run: &TracedRun<'_, '_, B>,
-    ) -> Result<(), AllocError> {
-        let now = self.summary.see(label, run)?;
-        if let Some(label) = self.prepared.labels.as_slice().get(label) {
-            add_label(&mut self.report, self.file, label);
+/// Adds how often the run came to each label, and the frame that all of it agrees with.
+fn add_labels(
+    alloc: Global,
+    report: &mut Report,
+    file: &str,
+    arrivals: &Arrivals<'_>,
+) -> Result<(), AllocError> {
+    let labels = arrivals.labels.as_slice();
+    let seen = seen_at_each(alloc, labels.len(), arrivals.as_slice())?;
+    for (label, seen) in labels.iter().zip(&seen) {
+        add_label(report, file, label);
+        match seen {
+            None => report.add_words(": times 0\n"),
+            Some(seen) => add_seen(report, seen),
         }
-        add_arrival(&mut self.report, run);
-        Seen::new(self.alloc, &now)?.add_frame(&mut self.report);
-        Ok(())
     }
-
-    fn note_advance<B: Blocking>(&mut self, _run: &TracedRun<'_, '_, B>) {}
+    Ok(())
 }
 
 /// Adds an empty line, and begins a comment with the line that names a label.
@@ -122,21 +91,8 @@ fn add_label(report: &mut Report, file: &str, label: &Label<'_>) {
 }
 
 /// Ends the comment with how often the run came to a label, and adds the frame that it agrees with.
-fn add_seen(report: &mut Report, seen: &Option<Seen>) {
-    let Some(seen) = seen else {
-        return report.add_words(": times 0\n");
-    };
+fn add_seen(report: &mut Report, seen: &Seen) {
     let times = seen.times();
     report.add_words(format_args!(": times {times}\n"));
     seen.add_frame(report);
-}
-
-/// Ends the comment with the steps that were made and the answer last taken.
-fn add_arrival<B: Blocking>(report: &mut Report, run: &TracedRun<'_, '_, B>) {
-    let steps = run.bench().steps();
-    report.add_words(format_args!(": steps {steps}"));
-    if let Some(answer) = run.answered() {
-        report.add_words(format_args!(", answer {answer}"));
-    }
-    report.add_words("\n");
 }

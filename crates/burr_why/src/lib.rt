@@ -1,7 +1,14 @@
 //! Why a plan is refused, for who writes its text: the lines that are at fault, and what was
-//! compared there. Nothing here is trusted: what is accepted is accepted by the verifier alone.
+//! compared there, in numbers at one point. Nothing here is trusted: what is accepted is accepted by
+//! the verifier alone.
 #![tactic(auto)]
 
+mod comparing;
+mod difference;
+mod group;
+mod meeting;
+mod offset;
+mod point_state;
 mod reasons;
 mod why;
 

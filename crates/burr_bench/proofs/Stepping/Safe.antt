@@ -26,8 +26,8 @@ use Rattle.burr_state.specs.Views.Records.{IsWorkState}
 use Rattle.burr_state.specs.Views.StateViews.{at_start, moved_grip, gone_aside}
 use Rattle.burr_state.specs.Views.Work.{IsNext, Work, work}
 use Rattle.burr_state.proofs.Common.Stepping.Steps.{step_goes, aside_goes}
-use Rattle.burr_soundness.specs.Machine.{IsSafeBench, CallIsSafe, StartIsSafe, StepIsSafe, AsideIsSafe}
-use Rattle.burr_soundness.specs.Records.{EachRecordUndoes}
+use Rattle.burr_bench.specs.Soundness.Machine.{IsSafeBench, CallIsSafe, StartIsSafe, StepIsSafe, AsideIsSafe}
+use Rattle.burr_bench.specs.Soundness.Records.{EachRecordUndoes}
 use Rattle.burr_bench.specs.BenchViews.{CarriesOut}
 use Rattle.burr_bench.specs.Recorded.{TakesBack, gone_back}
 use Rattle.burr_bench.specs.Safe.{IsSafe}

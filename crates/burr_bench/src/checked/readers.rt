@@ -4,15 +4,23 @@ ghost use Rattle.burr_voxels.specs.Near.{IsWithin};
 ghost use Rattle.burr_code.specs.declared.limits.TheConstants.{MOST_BUDGET, MOST_OFFSET, SLOTS};
 ghost use Rattle.burr_state.specs.declared.mode.Mode.TheVariants.{Ended};
 ghost use Rattle.burr_state.specs.Views.Offsets.{PositionHolds};
+ghost use Rattle.burr_state.specs.Views.Work.{work};
 
 use crate::checked::Checked;
 use burr_assembly::Assembly;
 use burr_blocking::Blocking;
 use burr_code::Placement;
-use burr_state::Mode;
+use burr_state::{Bench, Mode};
 use burr_voxels::Cell;
 
 impl<'a, B: Blocking> Checked<'a, B> {
+    /// The program at work, and where its run stands.
+    pub fn bench(&self) -> &Bench<'a>
+        ensures { result.now ≡ work self.now.program self.now.state }
+    {
+        &self.bench
+    }
+
     /// The steps made so far; the count stays at its greatest value.
     pub fn steps(&self) -> u64
         ensures { result ≡ self.now.state.steps }

@@ -7,14 +7,22 @@ ghost use Rattle.burr_state.specs.Rules.Bench.{HasLabelOf, IsLabelAt};
 ghost use Rattle.burr_state.specs.Rules.Step.{IsQuestionOf};
 ghost use Rattle.burr_state.specs.Views.Benches.{setup_of};
 ghost use Rattle.burr_state.specs.Views.Offsets.{PositionHolds};
+ghost use Rattle.burr_state.specs.Views.Work.{work};
 
 use crate::machine::Machine;
 use burr_assembly::Assembly;
 use burr_code::Placement;
-use burr_state::Mode;
+use burr_state::{Bench, Mode};
 use burr_voxels::Cell;
 
 impl<'a> Machine<'a> {
+    /// The program at work, and where its run stands.
+    pub fn bench(&self) -> &Bench<'a>
+        ensures { result.now ≡ work self.now.program self.now.state }
+    {
+        &self.bench
+    }
+
     /// The steps made so far.
     pub fn steps(&self) -> u64
         ensures { result ≡ self.now.state.steps }

@@ -8,8 +8,8 @@ ghost use Rattle.burr_state.specs.Views.Benches.{setup_of, motion_in, GoesOn, Is
 ghost use Rattle.burr_state.specs.Views.Records.{IsWorkState};
 ghost use Rattle.burr_bench.specs.Recorded.{TakesBack, GoesBack, MadeStep, gone_back};
 
+use crate::laws::{an_accepted_bench_never_traps, an_accepted_step_is_recorded};
 use crate::machine::Machine;
-use burr_soundness::{an_accepted_bench_never_traps, an_accepted_step_is_recorded};
 use burr_state::{Mode, Progress, Undo};
 
 impl Machine<'_> {

@@ -5,9 +5,9 @@ ghost use Rattle.burr_state.specs.Views.Programs.{plan_program};
 ghost use Rattle.burr_verify.specs.Rules.Accepting.{IsAccepted};
 ghost use Rattle.burr_state.specs.Views.Benches.{IsAtStart};
 
+use crate::laws::an_accepted_bench_never_traps;
 use crate::machine::Machine;
 use burr_blocking::Blocking;
-use burr_soundness::an_accepted_bench_never_traps;
 use burr_state::Bench;
 use burr_verify::Accepted;
 

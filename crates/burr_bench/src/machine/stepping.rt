@@ -8,9 +8,9 @@ ghost use Rattle.burr_state.specs.Views.Effects.{MovesNoPiece};
 ghost use Rattle.burr_state.specs.Views.Work.{IsNext, work};
 ghost use Rattle.burr_bench.specs.BenchViews.{CarriesOut};
 
+use crate::laws::an_accepted_bench_never_traps;
 use crate::machine::Machine;
 use burr_code::Instr;
-use burr_soundness::an_accepted_bench_never_traps;
 use burr_state::{Effect, Mode, Progress};
 use burr_voxels::Direction;
 

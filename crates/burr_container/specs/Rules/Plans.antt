@@ -54,6 +54,10 @@ pub record Plan : Type 0 where
   -- main first
   pub procedures : List PlanProcedure
 
+-- the plan in version 2, each other field as it was
+abbrev pub upgraded : Plan → Plan
+upgraded p = record p { version = 2 }
+
 -- which slots are live
 abbrev pub live_slots : List (Option Range) → List Bool
 live_slots slots = map is_some slots

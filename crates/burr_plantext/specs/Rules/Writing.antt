@@ -64,6 +64,10 @@ line_words (CostLine form) = codes "cost" ∷ form ∷ []
 line_words (AtLine p) = codes "at" ∷ p.piece ∷ spot_words p.spot
 line_words (CodeLine statement) = statement_words statement
 
+-- the text of a line
+abbrev pub line_text : Line → List ℕ
+line_text line = text_line (line_words line)
+
 -- The text that lines are.
 abbrev pub text_of : List Line → List ℕ
-text_of lines = flat_map (λ line. text_line (line_words line)) lines
+text_of lines = flat_map line_text lines

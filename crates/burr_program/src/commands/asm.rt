@@ -1,4 +1,5 @@
-ghost use Rattle.burr_program.specs.Commands.{Ending, AsmCommand, never};
+ghost use Rattle.burr_judge.specs.PlanEnds.{Ending, never};
+ghost use Rattle.burr_program.specs.Commands.{AsmCommand};
 
 use crate::files::{Content, are_one_file, read_file, write_file};
 use burr_asm::{AsmFault, assemble};

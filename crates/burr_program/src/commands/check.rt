@@ -1,4 +1,5 @@
-ghost use Rattle.burr_program.specs.Commands.{Ending, CheckCommand, never};
+ghost use Rattle.burr_judge.specs.PlanEnds.{Ending, never};
+ghost use Rattle.burr_program.specs.Commands.{CheckCommand};
 
 use crate::files::read_file;
 use burr_io::Sink;

@@ -1,6 +1,6 @@
 ghost use Rattle.std.specs.Prelude.{IfErr};
 ghost use Rattle.burr_judge.specs.Faults.{line_of};
-ghost use Rattle.burr_program.specs.Commands.{Ending, never};
+ghost use Rattle.burr_judge.specs.PlanEnds.{Ending, never};
 ghost use Rattle.burr_program.specs.ExplainEnds.{ExplainEnds, FailsToExplain};
 
 use burr_explain::{explanation_of, put_explanation};

@@ -1,6 +1,6 @@
 ghost use Rattle.std.specs.Prelude.{IfOk};
-ghost use Rattle.burr_judge.specs.PlanEnds.{EndsOn};
-ghost use Rattle.burr_program.specs.Commands.{Ending, IsContainerListing, ListingEnds, ListCommand, never};
+ghost use Rattle.burr_judge.specs.PlanEnds.{EndsOn, Ending, never};
+ghost use Rattle.burr_program.specs.Commands.{IsContainerListing, ListingEnds, ListCommand};
 
 use crate::files::read_file;
 use burr_asm::{list, list_with_places};

@@ -1,5 +1,5 @@
-ghost use Rattle.burr_judge.specs.PlanEnds.{EndsOn};
-ghost use Rattle.burr_program.specs.Commands.{Ending, PlanSheetCommand, SomeRefusal, never};
+ghost use Rattle.burr_judge.specs.PlanEnds.{EndsOn, Ending, never};
+ghost use Rattle.burr_program.specs.Commands.{PlanSheetCommand, SomeRefusal};
 
 use crate::files::{Content, Made, keep_sources, read_text, write_file};
 use crate::notes::{Named, Noting, refuse_line, refuse_with_notes};
@@ -9,8 +9,8 @@ use burr_blocking::RowTables;
 use burr_container::Container;
 use burr_from_sheet::{RefusedDraft, SheetFault, plan_of_sheet};
 use burr_io::Sink;
-use burr_judge::{AssemblyUse, Fault, Refuse, Refused, Status, use_text};
-use burr_why::{PlanText, reason_of_line};
+use burr_judge::{AssemblyUse, Fault, Refused, Status, use_text};
+use burr_why::reason_of_line;
 use std::alloc::Global;
 use std::rt::Files;
 
@@ -32,10 +32,10 @@ pub fn plan_sheet_file<'a, F: Files + AllocGlobal, W: Sink>(
     let work = OfSheet(Noting {
         drawing: drawing.named(),
         plan: sheet.named(),
-        answers: &[],
     });
     let mut made = Made::Nothing;
-    let status = use_text(files.alloc(), &work, work.0.drawing.text, &mut made, sink)?;
+    let drawn = work.0.drawing.text;
+    let status = use_text(files.alloc(), &work.0, &work, drawn, &mut made, sink)?;
     if let Made::Text(text) = made {
         write_file(files, out, &work, &text)?;
     }
@@ -52,37 +52,21 @@ impl<'x> Content for OfSheet<'x> {
     ghost holds = { λ it bytes. MakesPlanOf it.0.drawing.text.now it.0.plan.text.now bytes };
 }
 
-impl<'x, W: Sink> Refuse<W> for OfSheet<'x> {
+impl<'x, R, W: Sink> AssemblyUse<R, Made, W> for OfSheet<'x> {
     ghost use Rattle.std.specs.Prelude.{⊤};
-    ghost use Rattle.burr_judge.specs.PlanEnds.{EndsOn, IsRefusal};
-    ghost use Rattle.burr_program.specs.NotedEnds.{Begins};
-
-    ghost can = { λ _. ⊤ };
-
-    ghost refuses = { λ _ before line r after.
-        EndsOn W.Sink before after (Begins (IsRefusal line)) r };
-
-    fn refuse<'a>(
-        &self,
-        alloc: Global,
-        refused: &Refused<'_, '_>,
-        sink: &mut W,
-    ) -> Result<Status, Fault<'a>> {
-        self.0.refuse(alloc, refused, sink)
-    }
-}
-
-impl<'x, W: Sink> AssemblyUse<Made, W> for OfSheet<'x> {
     ghost use Rattle.burr_from_sheet.specs.SheetPlans.{IsPlanOfSheet};
     ghost use Rattle.burr_program.specs.Commands.{SomeRefusal};
     ghost use Rattle.burr_program.specs.MakingEnds.{Makes};
 
-    ghost uses = { λ it first before a r last after.
+    ghost can = { λ _. ⊤ };
+
+    ghost uses = { λ it _ first before a r last after.
         Makes W.Sink first before SomeRefusal (IsPlanOfSheet a it.0.plan.text.now) last after r };
 
     fn use_assembly<'a, 'b>(
         &self,
         alloc: Global,
+        _refuser: &R,
         assembly: &'b Assembly,
         made: &mut Made,
         sink: &mut W,
@@ -138,12 +122,11 @@ fn refuse_draft<'a, W: Sink>(
         Ok(container) => container,
         Err(fault) => return refuse_with_notes(&Refused::Container(*fault), &notes, sink),
     };
-    let plan = PlanText {
+    let text = Named {
         file: "draft",
         text: &draft.text,
-        container,
-        assembly,
     };
+    let plan = text.beside(container, assembly);
     notes.push_str(&reason_of_refused_plan(alloc, plan, &draft.refusal)?)?;
     let refused = Refused::Plan {
         container,

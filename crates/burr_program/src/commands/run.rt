@@ -1,4 +1,6 @@
-ghost use Rattle.burr_program.specs.Commands.{Ending, AnsweredCommand, left_by, never};
+ghost use Rattle.burr_judge.specs.PlanEnds.{Ending, never};
+ghost use Rattle.burr_judge.specs.StepEnds.{left_by};
+ghost use Rattle.burr_program.specs.Commands.{AnsweredCommand};
 
 use crate::files::read_file;
 use burr_io::{Sink, Source};

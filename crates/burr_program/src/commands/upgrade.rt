@@ -1,4 +1,5 @@
-ghost use Rattle.burr_program.specs.Commands.{Ending, UpgradeCommand, never};
+ghost use Rattle.burr_judge.specs.PlanEnds.{Ending, never};
+ghost use Rattle.burr_program.specs.Commands.{UpgradeCommand};
 
 use crate::files::{Content, are_one_file, read_file, write_file};
 use burr_container::Container;

@@ -1,15 +1,13 @@
 ghost use Rattle.std.specs.Prelude.{[]};
 ghost use Rattle.burr_judge.specs.declared.task.Task.TheVariants as tasks;
-ghost use Rattle.burr_judge.specs.PlanEnds.{EndsOn};
-ghost use Rattle.burr_program.specs.Commands.{Ending, WhyCommand, never};
+ghost use Rattle.burr_judge.specs.PlanEnds.{EndsOn, Ending, never};
+ghost use Rattle.burr_program.specs.Commands.{WhyCommand};
 ghost use Rattle.burr_program.specs.NotedEnds.{NotedEnds};
 
 use crate::files::read_text;
 use crate::notes::Noting;
-use burr_blocking::Blocking;
 use burr_io::Sink;
-use burr_judge::{AcceptedUse, Check, Fault, Given, IfAccepted, OfPlan, Status, use_text};
-use burr_verify::Accepted;
+use burr_judge::{Check, Fault, Given, IfAccepted, OfPlan, Status, use_text};
 use std::alloc::Global;
 use std::rt::Files;
 
@@ -29,37 +27,23 @@ pub fn why_files<'a, F: Files + AllocGlobal, W: Sink>(
     let noting = Noting {
         drawing: drawing.named(),
         plan: text.named(),
-        answers: &[],
     };
-    why(files.alloc(), noting, sink)
+    why(files.alloc(), &noting, sink)
 }
 
 /// The same of the texts.
-fn why<'a, W: Sink>(alloc: Global, noting: Noting<'_>, sink: &mut W) -> Result<Status, Fault<'a>>
-    ensures { EndsOn W.Sink sink.old sink.new
-        (NotedEnds tasks.Check noting.entry.drawing.text.now noting.entry.plan.text.now []) result }
+fn why<'a, W: Sink>(alloc: Global, noting: &Noting<'_>, sink: &mut W) -> Result<Status, Fault<'a>>
+    ensures { EndsOn W.Sink sink.old sink.new (NotedEnds tasks.Check noting.now.drawing.text.now
+        noting.now.plan.text.now []) result }
 {
     let plan = Given::Text(noting.plan.text);
-    let text = noting.drawing.text;
-    let work = IfAccepted(noting);
-    use_text(alloc, &OfPlan { plan, work }, text, &mut (), sink)
-}
-
-/// Puts that the plan is accepted, of which there is nothing to note.
-impl<'x, W: Sink> AcceptedUse<(), W> for Noting<'x> {
-    ghost use Rattle.burr_judge.specs.PlanEnds.{EndsOn, VerdictEnds};
-
-    ghost uses = { λ _ _ before j looks r _ after.
-        EndsOn W.Sink before after (VerdictEnds j looks) r };
-
-    fn use_accepted<'a, B: Blocking>(
-        &self,
-        alloc: Global,
-        accepted: &Accepted<'_, '_, B>,
-        looks: u64,
-        input: &mut (),
-        sink: &mut W,
-    ) -> Result<Status, Fault<'a>> {
-        Check.use_accepted(alloc, accepted, looks, input, sink)
-    }
+    let work = IfAccepted(Check);
+    use_text(
+        alloc,
+        noting,
+        &OfPlan { plan, work },
+        noting.drawing.text,
+        &mut (),
+        sink,
+    )
 }

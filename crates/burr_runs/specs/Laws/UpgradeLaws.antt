@@ -11,7 +11,7 @@ use Rattle.burr_state.specs.declared.closing.Closing.{Closing}
 use Rattle.burr_state.specs.declared.motion.Motion.{Motion}
 use Rattle.burr_state.specs.Rules.Bench.{start}
 use Rattle.burr_state.specs.Rules.Run.{Run}
-use Rattle.burr_upgrade.specs.Upgrades.{upgraded}
+use Rattle.burr_container.specs.Rules.Plans.{upgraded}
 use Rattle.burr_runs.specs.declared.outcome.Outcome.{Outcome}
 use Rattle.burr_runs.specs.Rules.Headline.{setup_for, IsSafeSheetOf}
 

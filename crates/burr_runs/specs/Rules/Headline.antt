@@ -10,7 +10,7 @@ use Rattle.burr_state.specs.declared.motion.Motion.{Motion}
 use Rattle.burr_state.specs.Rules.Bench.{Setup, running, start}
 use Rattle.burr_state.specs.Views.Programs.{plan_program}
 use Rattle.burr_state.specs.Rules.Run.{Run}
-use Rattle.burr_soundness.specs.SafeRuns.{IsSafeRun}
+use Rattle.burr_bench.specs.Soundness.SafeRuns.{IsSafeRun}
 use Rattle.burr_sheet.specs.Rules.SheetText.{sheet}
 use Rattle.burr_verify.specs.Rules.Accepting.{Judged}
 use Rattle.burr_runs.specs.declared.outcome.Outcome.{Outcome}

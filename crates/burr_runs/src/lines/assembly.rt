@@ -18,13 +18,6 @@ pub fn put_assembly_refusal<W: Sink>(
     ensures { Puts W.Sink sink.old sink.new (assembly_refusal text.now fault) result }
 {
     match fault {
-        AssemblyFault::A1 { line } => put_place_line(b"A1", b"line", line, sink),
-        AssemblyFault::A2 { line } => put_place_line(b"A2", b"line", line, sink),
-        AssemblyFault::A3 { line } => put_place_line(b"A3", b"line", line, sink),
-        AssemblyFault::A4 { line } => put_place_line(b"A4", b"line", line, sink),
-        AssemblyFault::A5 { line } => put_place_line(b"A5", b"line", line, sink),
-        AssemblyFault::A6 { line } => put_place_line(b"A6", b"line", line, sink),
-        AssemblyFault::A7 { line } => put_place_line(b"A7", b"line", line, sink),
         AssemblyFault::A8 {
             line,
             earlier,
@@ -35,7 +28,10 @@ pub fn put_assembly_refusal<W: Sink>(
             piece_name(text, piece),
             sink,
         ),
-        AssemblyFault::Memory => Ok(()),
+        _ => match fault.code_and_line() {
+            Some((code, line)) => put_place_line(code.as_bytes(), b"line", line, sink),
+            None => Ok(()),
+        },
     }
 }
 

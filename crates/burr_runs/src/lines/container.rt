@@ -9,12 +9,6 @@ use burr_io::{Sink, WriteFault};
 pub fn put_container_refusal<W: Sink>(fault: ContainerFault, sink: &mut W) -> Result<(), WriteFault>
     ensures { Puts W.Sink sink.old sink.new (container_refusal fault) result }
 {
-    match fault {
-        ContainerFault::C1 { at } => put_place_line(b"C1", b"at", at, sink),
-        ContainerFault::C2 { at } => put_place_line(b"C2", b"at", at, sink),
-        ContainerFault::C3 { at } => put_place_line(b"C3", b"at", at, sink),
-        ContainerFault::C4 { at } => put_place_line(b"C4", b"at", at, sink),
-        ContainerFault::C5 { at } => put_place_line(b"C5", b"at", at, sink),
-        ContainerFault::C6 { at } => put_place_line(b"C6", b"at", at, sink),
-    }
+    let (code, position) = fault.code_and_position();
+    put_place_line(code.as_bytes(), b"at", position, sink)
 }

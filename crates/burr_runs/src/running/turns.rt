@@ -4,10 +4,10 @@ ghost use Rattle.burr_state.specs.Rules.Next.{Asks};
 ghost use Rattle.burr_state.specs.Rules.Step.{NextIs};
 ghost use Rattle.burr_state.specs.Views.Benches.{setup_of};
 ghost use Rattle.burr_runs.specs.Views.Running.{FailsInRun, IsInStep, TurnIs, AnswerIs, run_state};
-ghost use Rattle.burr_runs.specs.Views.Standing.{IsInRun, TurnStands};
+ghost use Rattle.burr_runs.specs.Views.AfterRuns.{IsInRun, TurnStands};
 
 use crate::running::Turn;
-use crate::running::runner::Runner;
+use crate::running::runner::{Runner, pc, proc};
 use burr_bench::{Closing, Progress};
 use burr_io::{Sink, WriteFault};
 use burr_sheet::Sheet;
@@ -20,18 +20,18 @@ pub fn take_turn<'a, 'r, R: Runner<'r>, W: Sink>(
     sheet: &mut Sheet,
     sink: &mut W,
 ) -> Result<Turn<'a>, WriteFault>
-    requires in_step { IsInStep (R.bench runner.old) sheet.old }
-    requires running { (R.bench runner.old).state.mode ≡ Running }
-    requires within { (R.bench runner.old).state.steps ≢ (R.bench runner.old).program.budget }
+    requires in_step { IsInStep (R.benched runner.old) sheet.old }
+    requires running { (R.benched runner.old).state.mode ≡ Running }
+    requires within { (R.benched runner.old).state.steps ≢ (R.benched runner.old).program.budget }
     ensures ok { IfOk result (TurnIs W.Sink sink.old sink.new
-        (run_state (R.bench runner.old) answers.entry.now sheet.old)
-        (R.bench runner.new) sheet.new) }
+        (run_state (R.benched runner.old) answers.entry.now sheet.old)
+        (R.benched runner.new) sheet.new) }
     ensures err { OnErr result (FailsInRun W.Sink sink.old sink.new
-        (run_state (R.bench runner.old) answers.entry.now sheet.old)) }
+        (run_state (R.benched runner.old) answers.entry.now sheet.old)) }
     ensures stands { IfOk result
-        (TurnStands (R.bench runner.old) answers.entry.now (R.bench runner.new)) }
+        (TurnStands (R.benched runner.old) answers.entry.now (R.benched runner.new)) }
     ensures under_way { OnErr result
-        (IsInRun (R.bench runner.old) answers.entry.now (R.bench runner.new)) }
+        (IsInRun (R.benched runner.old) answers.entry.now (R.benched runner.new)) }
 {
     match runner.step(None) {
         Ok(Progress::Went(Some(motion))) => {
@@ -43,7 +43,7 @@ pub fn take_turn<'a, 'r, R: Runner<'r>, W: Sink>(
         // Neither comes of a running bench without an answer.
         Ok(Progress::Again) | Ok(Progress::Ended) => Ok(Turn::GoesOn(answers)),
         Err(trap) => {
-            let closing = Closing::Trapped(trap, runner.proc(), runner.pc());
+            let closing = Closing::Trapped(trap, proc(runner), pc(runner));
             Ok(Turn::Closes(closing))
         }
     }
@@ -56,13 +56,13 @@ fn give_answer<'a, 'r, R: Runner<'r>>(
     low: i32,
     high: i32,
 ) -> Turn<'a>
-    requires running { (R.bench runner.old).state.mode ≡ Running }
-    requires within { (R.bench runner.old).state.steps ≢ (R.bench runner.old).program.budget }
-    requires asks { NextIs (setup_of (R.bench runner.old)) (R.bench runner.old).state
+    requires running { (R.benched runner.old).state.mode ≡ Running }
+    requires within { (R.benched runner.old).state.steps ≢ (R.benched runner.old).program.budget }
+    requires asks { NextIs (setup_of (R.benched runner.old)) (R.benched runner.old).state
         (Asks low high) }
-    ensures is { AnswerIs (R.bench runner.old) answers.entry.now low high (R.bench runner.new)
+    ensures is { AnswerIs (R.benched runner.old) answers.entry.now low high (R.benched runner.new)
         result }
-    ensures stands { TurnStands (R.bench runner.old) answers.entry.now (R.bench runner.new) result }
+    ensures stands { TurnStands (R.benched runner.old) answers.entry.now (R.benched runner.new) result }
 {
     let Some((answer, left)) = answers.split_first() else {
         return Turn::Closes(Closing::Waiting(low, high));

@@ -6,7 +6,7 @@ use Rattle.burr_state.specs.Rules.Questions.{Fits}
 use Rattle.burr_state.specs.Views.Benches.{Benched, setup_of}
 use Rattle.burr_state.specs.Views.Benches.{in_state}
 use Rattle.burr_state.specs.Rules.Step.{AsksNow}
-use Rattle.burr_soundness.specs.Machine.{IsSafeBench}
+use Rattle.burr_bench.specs.Soundness.Machine.{IsSafeBench}
 use Rattle.burr_step.specs.Rules.Stepper.{Leads, History, history, IsStateOf, IsAsking, StepCommand, Forward, Over, Until, Answer, Back, StepOutcome, Taken, Refused, S1, S2, S3, S4, Commanding, Commanded}
 
 -- from a state, the same number of steps with the same answers leads to one state at most

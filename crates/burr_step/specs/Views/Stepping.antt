@@ -9,7 +9,7 @@ use Rattle.burr_state.specs.Views.Benches.{Benched, setup_of, in_state, IsAtStar
 use Rattle.burr_state.specs.Views.Programs.{plan_program}
 use Rattle.burr_state.specs.declared.progress.Progress.{Progress}
 use Rattle.burr_state.specs.Rules.Step.{Called}
-use Rattle.burr_soundness.specs.Machine.{IsSafeBench}
+use Rattle.burr_bench.specs.Soundness.Machine.{IsSafeBench}
 use Rattle.burr_bench.specs.Recorded.{TakesBack, MadeStep, gone_back}
 use Rattle.burr_step.specs.declared.records.TheConstants.{MOST_RECORDS}
 use Rattle.burr_step.specs.declared.refusal.StepRefusal.{StepRefusal as CodeRefusal}

@@ -9,9 +9,8 @@ use crate::records::Records;
 use crate::refusal::StepRefusal;
 use crate::stepper::Stepper;
 use crate::stepper::recording::step_on;
-use burr_bench::Machine;
+use burr_bench::{Machine, an_accepted_bench_never_traps};
 use burr_blocking::Blocking;
-use burr_soundness::an_accepted_bench_never_traps;
 use burr_verify::a_fitting_plan_is_from_a_container;
 
 impl<'s, 'a: 's, 'c: 'a, B: Blocking> Stepper<'s, 'a, 'c, B> {

@@ -3,9 +3,8 @@ ghost use Rattle.burr_step.specs.Views.Stepping.{IsFresh};
 
 use crate::records::Records;
 use crate::stepper::Stepper;
-use burr_bench::Machine;
+use burr_bench::{Machine, an_accepted_bench_never_traps};
 use burr_blocking::Blocking;
-use burr_soundness::an_accepted_bench_never_traps;
 use burr_verify::Accepted;
 use std::alloc::{AllocError, Global};
 

@@ -1,13 +1,13 @@
 //! Costs, and what is too much to be judged.
 
 use super::{Reasons, Site};
+use crate::point_state::MOST_SYMBOLS;
 use burr_code::Instr;
 use burr_code::limits::{MOST_STATE_GUARDS, SLOTS};
 use burr_container::FrameRef;
 use burr_forms::limits::{MOST_FORM_NUMBER, MOST_POINTS};
 use burr_frames::Rule;
 use burr_lines::{FramePart, PlanItem};
-use burr_standing::MOST_SYMBOLS;
 use burr_verify::Refusal;
 
 /// What is said of a number of a form beyond the most, which stands here with commas.

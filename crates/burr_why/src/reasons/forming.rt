@@ -2,11 +2,13 @@
 
 use super::Reasons;
 use super::frames::PlanFrame;
+use crate::group::Whereabouts;
+use crate::offset::Offset;
+use crate::point_state::PointState;
 use burr_code::limits::{MOST_PIECES, SLOTS};
 use burr_code::{Placement, count_in_tray, is_in_set};
 use burr_container::FrameRef;
 use burr_lines::{FramePart, PlanItem, piece_name};
-use burr_standing::{Offset, Standing, Whereabouts};
 use burr_verify::Refusal;
 
 impl Reasons<'_, '_> {
@@ -28,8 +30,8 @@ impl Reasons<'_, '_> {
     /// Says what is wrong with an exit frame.
     fn add_malformed_exit(&mut self, procedure: usize) {
         if let Some(exit) = self.plan.exit(procedure) {
-            let standing = Standing::at_exit(&exit, &[]);
-            self.add_malformed_places(PlanFrame::Exit { procedure }, &standing);
+            let state = PointState::at_exit(&exit, &[]);
+            self.add_malformed_places(PlanFrame::Exit { procedure }, &state);
         }
     }
 
@@ -40,8 +42,8 @@ impl Reasons<'_, '_> {
         };
         if let Some(frame) = self.plan.frame(procedure, label) {
             self.add_malformed_slots(procedure, label, &frame);
-            let standing = Standing::of(&frame, &[]);
-            self.add_malformed_places(PlanFrame::Label { procedure, label }, &standing);
+            let state = PointState::of(&frame, &[]);
+            self.add_malformed_places(PlanFrame::Label { procedure, label }, &state);
         }
     }
 
@@ -64,23 +66,23 @@ impl Reasons<'_, '_> {
     }
 
     /// Says which pieces are gripped in another tray, or alone in theirs.
-    fn add_malformed_places(&mut self, frame: PlanFrame, standing: &Standing) {
+    fn add_malformed_places(&mut self, frame: PlanFrame, state: &PointState) {
         for piece in 0..MOST_PIECES as u8 {
-            let place = standing.place(piece);
-            if is_in_set(standing.grip, piece) && !place.is_in(standing.tray) {
-                self.add_far_grip(frame, piece, standing);
+            let place = state.place(piece);
+            if is_in_set(state.grip, piece) && !place.is_in(state.tray) {
+                self.add_far_grip(frame, piece, state);
             }
-            if is_alone(standing, place) {
+            if is_alone(state, place) {
                 self.add_alone(frame, piece);
             }
         }
     }
 
     /// Names the line of a grip, of which a piece is not in the current tray.
-    fn add_far_grip(&mut self, frame: PlanFrame, piece: u8, standing: &Standing) {
+    fn add_far_grip(&mut self, frame: PlanFrame, piece: u8, state: &PointState) {
         let name = piece_name(self.plan.assembly, piece);
-        let place = Whereabouts(standing.place(piece).tray());
-        let tray = standing.tray;
+        let place = Whereabouts(state.place(piece).tray());
+        let tray = state.tray;
         let fault = format_args!("{name} is {place}, and is gripped in tray {tray}");
         self.add_fault(frame, FramePart::Head, fault);
     }
@@ -115,7 +117,7 @@ impl Reasons<'_, '_> {
         self.report.add_note(
             "a run begins here, with all pieces at home in tray 0 and nothing gripped",
         );
-        let start = Standing::at_home(self.plan.assembly.piece_count());
+        let start = PointState::at_home(self.plan.assembly.piece_count());
         let differences = self.differences(0, 0, &start, None);
         self.add_differences(
             PlanFrame::Label {
@@ -139,9 +141,9 @@ fn fault_of_slot(is_parameter: bool, is_live: bool, label: usize) -> Option<&'st
 }
 
 /// Whether a piece that is there is alone in its tray.
-fn is_alone(standing: &Standing, place: Placement<Offset>) -> bool {
+fn is_alone(state: &PointState, place: Placement<Offset>) -> bool {
     match place.tray() {
-        Some(tray) => count_in_tray(standing.places.as_slice(), tray) == 1,
+        Some(tray) => count_in_tray(state.places.as_slice(), tray) == 1,
         None => false,
     }
 }

@@ -1,10 +1,11 @@
 //! Frames that are not met.
 
 use super::{Reasons, Site};
+use crate::difference::Differences;
+use crate::point_state::PointState;
 use burr_code::{Instr, Labels};
 use burr_frames::Rule;
 use burr_lines::{FramePart, PlanItem, Shown};
-use burr_standing::{Differences, Standing};
 
 /// How many differences are told.
 const MOST_TOLD: usize = 12;
@@ -30,9 +31,9 @@ impl Reasons<'_, '_> {
     /// What differs from the first frame of a procedure that is called.
     fn add_missed_entry(&mut self, callee: usize, site: &Site) {
         self.add_point(site, &site.before);
-        let mut standing = site.standing(&self.plan, site.pc);
-        standing.enter(self.plan.parameters(callee));
-        let differences = self.differences(callee, 0, &standing, None);
+        let mut state = site.state_at(&self.plan, site.pc);
+        state.enter(self.plan.parameters(callee));
+        let differences = self.differences(callee, 0, &state, None);
         self.add_differences(
             PlanFrame::Label {
                 procedure: callee,
@@ -81,7 +82,7 @@ impl Reasons<'_, '_> {
 
     /// The same of the label of a `down`, or where nothing differs there of the next one.
     fn add_count_down(&mut self, site: &Site, slot: u8, label: usize) {
-        let mut branch = site.standing(&self.plan, site.end);
+        let mut branch = site.state_at(&self.plan, site.end);
         branch.count_down(slot);
         if self.differs(site, label, &branch) {
             return self.add_arrival(site, label, &branch);
@@ -108,7 +109,7 @@ impl Reasons<'_, '_> {
     }
 
     /// Whether something differs from the frame of a label that control comes to.
-    fn differs(&mut self, site: &Site, label: usize, after: &Standing) -> bool {
+    fn differs(&mut self, site: &Site, label: usize, after: &PointState) -> bool {
         let differences = self.differences(site.procedure, label, after, Some(after.cost));
         self.report.lose_unless(differences.is_whole);
         !differences.found.is_empty()
@@ -120,18 +121,18 @@ impl Reasons<'_, '_> {
         &self,
         procedure: usize,
         label: usize,
-        standing: &Standing,
+        state: &PointState,
         left: Option<i64>,
     ) -> Differences {
         let mut differences = Differences::new(self.alloc);
         if let Some(frame) = self.plan.frame(procedure, label) {
-            differences.add_of_frame(self.plan.assembly, standing, &frame, left);
+            differences.add_of_frame(self.plan.assembly, state, &frame, left);
         }
         differences
     }
 
     /// Says what differs from the frame of a label that control comes to.
-    fn add_arrival(&mut self, site: &Site, label: usize, after: &Standing) {
+    fn add_arrival(&mut self, site: &Site, label: usize, after: &PointState) {
         self.add_missed_name(site.label_item(label));
         let differences = self.differences(site.procedure, label, after, Some(after.cost));
         self.add_differences(

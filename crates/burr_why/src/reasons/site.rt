@@ -1,11 +1,11 @@
 //! The place at which a rule is broken, with all that is around it.
 
 use super::Reasons;
+use crate::point_state::{Origin, PointState, Symbol};
 use arrayvec::ArrayVec;
 use burr_code::limits::MOST_CODE;
 use burr_forms::Point;
 use burr_lines::{FramePart, PlanItem, PlanText, Shown};
-use burr_standing::{Origin, Standing, Symbol};
 use burr_verify::Refusal;
 use std::fmt;
 
@@ -21,9 +21,9 @@ pub struct Site {
     /// The point that is named; nothing where none is.
     pub point: Point,
     /// What holds before the instruction, at the point.
-    pub before: Standing,
+    pub before: PointState,
     /// What holds after the instruction, at the point, where it falls through.
-    pub after: Standing,
+    pub after: PointState,
 }
 
 impl Site {
@@ -37,32 +37,32 @@ impl Site {
             end: plan.end_of_instruction(procedure, pc),
             label: plan.label_before(procedure, pc),
             point: point_of(refusal),
-            before: Standing::at_home(0),
-            after: Standing::at_home(0),
+            before: PointState::at_home(0),
+            after: PointState::at_home(0),
         };
-        site.before = site.standing(plan, pc);
-        site.after = site.standing(plan, site.end);
+        site.before = site.state_at(plan, pc);
+        site.after = site.state_at(plan, site.end);
         site
     }
 
     /// What holds at a place after the last label, at the point: what its frame says, and what the
     /// instructions since then do. Without a label there are no pieces.
-    pub fn standing(&self, plan: &PlanText<'_, '_>, pc: usize) -> Standing {
+    pub fn state_at(&self, plan: &PlanText<'_, '_>, pc: usize) -> PointState {
         let Some(label) = self.label else {
-            return Standing::at_home(0);
+            return PointState::at_home(0);
         };
         let Some(frame) = plan.frame(self.procedure, label) else {
-            return Standing::at_home(0);
+            return PointState::at_home(0);
         };
-        let mut standing = Standing::of(&frame, &self.point);
+        let mut state = PointState::of(&frame, &self.point);
         let mut at = plan.position(self.procedure, label).unwrap_or(pc);
         for _ in 0..MOST_CODE {
             if pc <= at {
                 break;
             }
-            at = self.go_on(plan, at, &mut standing);
+            at = self.go_on(plan, at, &mut state);
         }
-        standing
+        state
     }
 
     /// What the line of a label of the procedure says.
@@ -82,10 +82,10 @@ impl Site {
     }
 
     /// Goes on after the instruction at a place of the code, and gives where it ends.
-    fn go_on(&self, plan: &PlanText<'_, '_>, at: usize, standing: &mut Standing) -> usize {
+    fn go_on(&self, plan: &PlanText<'_, '_>, at: usize, state: &mut PointState) -> usize {
         match plan.instruction_at(self.procedure, at) {
             Some((instruction, size)) => {
-                standing.carry_out(&instruction, at, plan.container, &self.point);
+                state.carry_out(&instruction, at, plan.container, &self.point);
                 at.saturating_add(size)
             }
             None => at,
@@ -143,12 +143,12 @@ impl Reasons<'_, '_> {
     }
 
     /// Notes the point, where one is named, with what its numbers belong to.
-    pub(super) fn add_point(&mut self, site: &Site, standing: &Standing) {
+    pub(super) fn add_point(&mut self, site: &Site, state: &PointState) {
         if site.point.is_empty() {
             return;
         }
         self.report.add_words("    where ");
-        for (n, symbol) in standing.symbols.iter().enumerate() {
+        for (n, symbol) in state.symbols.iter().enumerate() {
             self.add_symbol(n, site, symbol);
         }
         self.report.add_words("\n");

@@ -1,13 +1,14 @@
 //! Pieces: which are gripped, where they lie, and which are in each other's way.
 
 use super::{Reasons, Site};
+use crate::group::{Group, Whereabouts};
+use crate::meeting::{Displaced, Meeting, common_cell, first_meeting};
+use crate::offset::Offset;
+use crate::point_state::PointState;
 use burr_code::limits::{MOST_OFFSET, MOST_PIECES};
 use burr_code::{Instr, is_in_set};
 use burr_frames::Rule;
 use burr_lines::{FramePart, PlanItem, Shown, piece_name};
-use burr_standing::{
-    Displaced, Group, Meeting, Offset, Standing, Whereabouts, common_cell, first_meeting,
-};
 use burr_voxels::Direction;
 
 impl Reasons<'_, '_> {
@@ -102,15 +103,15 @@ impl Reasons<'_, '_> {
     }
 
     /// The pieces of the current tray that are too far from home.
-    fn add_far_pieces(&mut self, site: &Site, standing: &Standing) {
+    fn add_far_pieces(&mut self, site: &Site, state: &PointState) {
         for piece in 0..MOST_PIECES as u8 {
-            if let Some(offset) = standing.place(piece).position_in(standing.tray) {
+            if let Some(offset) = state.place(piece).position_in(state.tray) {
                 if is_far(offset) {
                     self.add_far_piece(piece, offset);
                 }
             }
         }
-        self.add_point(site, standing);
+        self.add_point(site, state);
     }
 
     /// Notes how far from home a piece is.
@@ -180,9 +181,9 @@ impl Reasons<'_, '_> {
     }
 
     /// The first cell of a piece that another piece of the current tray has too.
-    fn common_cell(&self, piece: u8, other: u8, standing: &Standing) -> Option<Offset> {
-        let piece = self.displaced(piece, standing)?;
-        let other = self.displaced(other, standing)?;
+    fn common_cell(&self, piece: u8, other: u8, state: &PointState) -> Option<Offset> {
+        let piece = self.displaced(piece, state)?;
+        let other = self.displaced(other, state)?;
         common_cell(&piece, &other)
     }
 
@@ -192,20 +193,20 @@ impl Reasons<'_, '_> {
         piece: u8,
         other: u8,
         direction: Direction,
-        standing: &Standing,
+        state: &PointState,
     ) -> Option<Meeting> {
-        let piece = self.displaced(piece, standing)?;
-        let other = self.displaced(other, standing)?;
+        let piece = self.displaced(piece, state)?;
+        let other = self.displaced(other, state)?;
         first_meeting(&piece, &other, direction)
     }
 }
 
 impl<'a> Reasons<'a, '_> {
     /// A piece of the current tray; none where it isn't there.
-    fn displaced(&self, piece: u8, standing: &Standing) -> Option<Displaced<'a>> {
+    fn displaced(&self, piece: u8, state: &PointState) -> Option<Displaced<'a>> {
         Some(Displaced {
             cells: self.plan.cells(piece),
-            offset: standing.place(piece).position_in(standing.tray)?,
+            offset: state.place(piece).position_in(state.tray)?,
         })
     }
 }

@@ -1,5 +1,5 @@
 use Rattle.burr_judge.specs.declared.task.Task.TheVariants.{Check, Run, Try}
-use Rattle.burr_judge.proofs.Ending.{text_ends, check_ends, run_ends}
+use Rattle.burr_judge.proofs.Ending.{text_ends, check_ends, run_ends, tried_ends}
 use Rattle.burr_judge.proofs.judging.judge_text.Goals as goal
 
 pub returns-in-Check : goal.returns-in-Check
@@ -15,4 +15,4 @@ returns-in-Run g c =
 pub returns-in-Try : goal.returns-in-Try
 returns-in-Try g c =
     rw c.in-Try.is (text_ends tt c.use_text-in-Try.new.input g.W.Sink c.args.sink.now c.use_text-in-Try.new.sink Try c.args.text.now c.args.container c.args.answers.now c.use_text-in-Try.result _
-    (λ kept a uses. uses) c.use_text-in-Try.ensures)
+    (λ kept a uses. tried_ends g.W.Sink c.args.sink.now c.use_text-in-Try.new.sink c.use_text-in-Try.result c.args.answers.now kept a uses) c.use_text-in-Try.ensures)

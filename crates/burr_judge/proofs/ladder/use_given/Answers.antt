@@ -14,6 +14,6 @@ text_comes Refuses Uses given text bytes lent is assembled same (inr come) = rw 
 
 pub returns-in-Ok : goal.returns-in-Ok
 returns-in-Ok g c =
-    text_comes (λ line. g.U.Refuse.refuses c.args.work.now c.args.sink.now line c.use_container-in-Ok.result c.use_container-in-Ok.new.sink × (c.use_container-in-Ok.new.input ≡ c.args.input.now))
-    (λ kept. g.U.PlanUse.uses c.args.work.now c.args.input.now c.args.sink.now kept c.args.assembly.now c.use_container-in-Ok.result c.use_container-in-Ok.new.input c.use_container-in-Ok.new.sink)
+    text_comes (λ line. g.R.Refuse.refuses c.args.refuser.now c.args.sink.now line c.use_container-in-Ok.result c.use_container-in-Ok.new.sink × (c.use_container-in-Ok.new.input ≡ c.args.input.now))
+    (λ kept. g.U.PlanUse.uses c.args.work.now c.args.refuser.now c.args.input.now c.args.sink.now kept c.args.assembly.now c.use_container-in-Ok.result c.use_container-in-Ok.new.input c.use_container-in-Ok.new.sink)
     c.args.plan c.in-Text.text c.in-Ok.bytes.items c.deref.result.now c.in-Text.is c.in-Ok.ensures c.deref.ensures.value c.use_container-in-Ok.ensures

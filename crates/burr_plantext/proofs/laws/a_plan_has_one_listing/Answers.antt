@@ -1,4 +1,4 @@
-use Rattle.burr_plantext.proofs.Listings.{some_listing, one_listing}
+use Rattle.burr_plantext.proofs.Texts.Listings.{some_listing, one_listing}
 use Rattle.burr_plantext.proofs.laws.a_plan_has_one_listing.Goals as goal
 
 pub returns : goal.returns

@@ -1,4 +1,4 @@
-use Rattle.burr_plantext.proofs.TextLaws.{fault_or_plan, no_fault_of_plan, one_fault, fault_is_in_text}
+use Rattle.burr_plantext.proofs.Texts.TextLaws.{fault_or_plan, no_fault_of_plan, one_fault, fault_is_in_text}
 use Rattle.burr_plantext.proofs.laws.a_text_has_a_fault_or_a_plan.Goals as goal
 
 pub returns : goal.returns

@@ -1,6 +1,6 @@
 use Rattle.std.proofs.Common.{ℕ, List, subst}
 use Rattle.burr_io.specs.WholeLines.{lines_view}
-use Rattle.burr_program.specs.Commands.{Ending, never}
+use Rattle.burr_judge.specs.PlanEnds.{Ending, never}
 use Rattle.burr_program.specs.ExplainEnds.{ExplainEnds}
 use Rattle.burr_program.proofs.commands.put_job.Goals as goal
 

@@ -1,5 +1,6 @@
 use Rattle.burr_runs.specs.Views.BenchText.{streams}
-use Rattle.burr_program.specs.Commands.{JobEnds, JobBreaks, left_by}
+use Rattle.burr_judge.specs.StepEnds.{left_by}
+use Rattle.burr_program.specs.Commands.{JobEnds, JobBreaks}
 use Rattle.burr_program.proofs.Ending.{breaks_kept, ending_handed}
 use Rattle.burr_program.proofs.program.do_job.Goals as goal
 

@@ -7,67 +7,67 @@ use Rattle.burr_sheet.specs.Views.SheetUnderWay.{UnderWay}
 use Rattle.burr_runs.specs.declared.running.Turn.{Turn}
 use Rattle.burr_runs.specs.Rules.Output.{outcome_of}
 use Rattle.burr_runs.specs.Views.Running.{TurnIs, run_state}
-use Rattle.burr_runs.specs.Views.Standing.{TurnStands}
+use Rattle.burr_runs.specs.Views.AfterRuns.{TurnStands}
 use Rattle.burr_text.proofs.Common.Tests.{on_err, yes_of, no_of}
 use Rattle.burr_runs.proofs.StepByStep.{still_running, closes_after, fails_after, parts_join}
-use Rattle.burr_runs.proofs.Standing.{still_here, end_there, come_further, end_further, in_run_further}
+use Rattle.burr_runs.proofs.AfterRuns.{still_here, end_there, come_further, end_further, in_run_further}
 use Rattle.burr_runs.proofs.running.run_to_close.Goals as goal
 
 pub loop-answers-init : goal.loop-answers-init
-loop-answers-init g c = (c.requires.in_step, still_here (g.R.Runner.bench c.args.runner.now) c.args.answers.now, ([], Appends-nil _, λ motions steps closing run. (motions, run, refl)))
+loop-answers-init g c = (c.requires.in_step, still_here (g.R.Runner.benched c.args.runner.now) c.args.answers.now, ([], Appends-nil _, λ motions steps closing run. (motions, run, refl)))
 
 pub returns-then-ended-clause-ok : goal.returns-then-ended-clause-ok
 returns-then-ended-clause-ok g c =
-    let now = g.R.Runner.bench c.loop-answers.runner in
-    closes_after g.W.Sink (run_state (g.R.Runner.bench c.args.runner.now) c.args.answers.now c.args.sheet.now) (run_state now c.loop-answers.answers.now c.loop-answers.sheet) now c.loop-answers.sheet _ _ _ closings.Apart c.loop-answers.invariant.2
+    let now = g.R.Runner.benched c.loop-answers.runner in
+    closes_after g.W.Sink (run_state (g.R.Runner.benched c.args.runner.now) c.args.answers.now c.args.sheet.now) (run_state now c.loop-answers.answers.now c.loop-answers.sheet) now c.loop-answers.sheet _ _ _ closings.Apart c.loop-answers.invariant.2
     (ends now.state c.loop-answers.answers.now (yes_of c.if-ended.ensures)) refl refl
 
 pub returns-then-ended-clause-end : goal.returns-then-ended-clause-end
 returns-then-ended-clause-end g c =
-    end_there (g.R.Runner.bench c.args.runner.now) (g.R.Runner.bench c.loop-answers.runner) c.args.answers.now c.loop-answers.answers.now closings.Apart c.loop-answers.invariant.1 (yes_of c.if-ended.ensures) refl
+    end_there (g.R.Runner.benched c.args.runner.now) (g.R.Runner.benched c.loop-answers.runner) c.args.answers.now c.loop-answers.answers.now closings.Apart c.loop-answers.invariant.1 (yes_of c.if-ended.ensures) refl
 
 pub returns-then-steps-budget-clause-ok : goal.returns-then-steps-budget-clause-ok
 returns-then-steps-budget-clause-ok g c =
-    let now = g.R.Runner.bench c.loop-answers.runner in
+    let now = g.R.Runner.benched c.loop-answers.runner in
     let used : now.state.steps ≡ now.program.budget = sym c.steps.ensures ∙ c.if-steps-budget.true ∙ c.requires.budget ∙ ap (λ (p : Program). p.budget) (sym c.loop-answers.invariant.1.same.program) in
-    closes_after g.W.Sink (run_state (g.R.Runner.bench c.args.runner.now) c.args.answers.now c.args.sheet.now) (run_state now c.loop-answers.answers.now c.loop-answers.sheet) now c.loop-answers.sheet _ _ _ closings.Stopped c.loop-answers.invariant.2
+    closes_after g.W.Sink (run_state (g.R.Runner.benched c.args.runner.now) c.args.answers.now c.args.sheet.now) (run_state now c.loop-answers.answers.now c.loop-answers.sheet) now c.loop-answers.sheet _ _ _ closings.Stopped c.loop-answers.invariant.2
     (stops now.state c.loop-answers.answers.now (still_running now.state c.loop-answers.invariant.0.mode (no_of c.if-ended.ensures)) used) refl refl
 
 pub returns-then-steps-budget-clause-end : goal.returns-then-steps-budget-clause-end
 returns-then-steps-budget-clause-end g c =
-    let now = g.R.Runner.bench c.loop-answers.runner in
-    let used : now.state.steps ≡ (g.R.Runner.bench c.args.runner.now).program.budget = sym c.steps.ensures ∙ c.if-steps-budget.true ∙ c.requires.budget in
+    let now = g.R.Runner.benched c.loop-answers.runner in
+    let used : now.state.steps ≡ (g.R.Runner.benched c.args.runner.now).program.budget = sym c.steps.ensures ∙ c.if-steps-budget.true ∙ c.requires.budget in
     let here = used ∙ ap (λ (p : Program). p.budget) (sym c.loop-answers.invariant.1.same.program) in
-    end_there (g.R.Runner.bench c.args.runner.now) now c.args.answers.now c.loop-answers.answers.now closings.Stopped c.loop-answers.invariant.1
+    end_there (g.R.Runner.benched c.args.runner.now) now c.args.answers.now c.loop-answers.answers.now closings.Stopped c.loop-answers.invariant.1
     (still_running now.state c.loop-answers.invariant.0.mode (no_of c.if-ended.ensures), here) refl
 
 pub returns-in-Closes-clause-end : goal.returns-in-Closes-clause-end
 returns-in-Closes-clause-end g c =
-    let now = g.R.Runner.bench c.loop-answers.runner in
-    let new = g.R.Runner.bench c.take_turn.new.runner in
+    let now = g.R.Runner.benched c.loop-answers.runner in
+    let new = g.R.Runner.benched c.take_turn.new.runner in
     let stands = subst (λ (t : Turn). TurnStands now c.loop-answers.answers.now new t) c.in-Closes.is c.in_ok-left.ensures.stands in
-    end_further (g.R.Runner.bench c.args.runner.now) now new c.args.answers.now c.loop-answers.answers.now (outcome_of c.in-Closes.closing) c.loop-answers.invariant.1 stands
+    end_further (g.R.Runner.benched c.args.runner.now) now new c.args.answers.now c.loop-answers.answers.now (outcome_of c.in-Closes.closing) c.loop-answers.invariant.1 stands
 
 pub returns-in_err-left-clause-err : goal.returns-in_err-left-clause-err
 returns-in_err-left-clause-err g c =
     on_err c.from_residual.result
-    (fails_after g.W.Sink (run_state (g.R.Runner.bench c.args.runner.now) c.args.answers.now c.args.sheet.now) (run_state (g.R.Runner.bench c.loop-answers.runner) c.loop-answers.answers.now c.loop-answers.sheet) _ _ _ c.loop-answers.invariant.2 c.in_err-left.ensures.err)
+    (fails_after g.W.Sink (run_state (g.R.Runner.benched c.args.runner.now) c.args.answers.now c.args.sheet.now) (run_state (g.R.Runner.benched c.loop-answers.runner) c.loop-answers.answers.now c.loop-answers.sheet) _ _ _ c.loop-answers.invariant.2 c.in_err-left.ensures.err)
 
 pub returns-in_err-left-clause-under_way : goal.returns-in_err-left-clause-under_way
 returns-in_err-left-clause-under_way g c =
     on_err c.from_residual.result
-    (in_run_further (g.R.Runner.bench c.args.runner.now) (g.R.Runner.bench c.loop-answers.runner) (g.R.Runner.bench c.take_turn.new.runner) c.args.answers.now c.loop-answers.answers.now c.loop-answers.invariant.1 c.in_err-left.ensures.under_way)
+    (in_run_further (g.R.Runner.benched c.args.runner.now) (g.R.Runner.benched c.loop-answers.runner) (g.R.Runner.benched c.take_turn.new.runner) c.args.answers.now c.loop-answers.answers.now c.loop-answers.invariant.1 c.in_err-left.ensures.under_way)
 
 pub loop-answers-preserved : goal.loop-answers-preserved
 loop-answers-preserved g c =
-    let now = g.R.Runner.bench c.loop-answers.runner in
-    let new = g.R.Runner.bench c.take_turn.new.runner in
+    let now = g.R.Runner.benched c.loop-answers.runner in
+    let new = g.R.Runner.benched c.take_turn.new.runner in
     let here = run_state now c.loop-answers.answers.now c.loop-answers.sheet in
     let turn = subst (λ (t : Turn). TurnIs g.W.Sink c.loop-answers.sink c.take_turn.new.sink here new c.take_turn.new.sheet t) c.in-GoesOn.is c.in_ok-left.ensures.ok in
     let stands = subst (λ (t : Turn). TurnStands now c.loop-answers.answers.now new t) c.in-GoesOn.is c.in_ok-left.ensures.stands in (
       turn.0.in_step,
-      come_further (g.R.Runner.bench c.args.runner.now) now new c.args.answers.now c.loop-answers.answers.now c.in-GoesOn.left.now c.loop-answers.invariant.1 stands,
-      parts_join g.W.Sink (run_state (g.R.Runner.bench c.args.runner.now) c.args.answers.now c.args.sheet.now) here (run_state new c.in-GoesOn.left.now c.take_turn.new.sheet) _ _ _ c.loop-answers.invariant.2 turn.0.puts,
+      come_further (g.R.Runner.benched c.args.runner.now) now new c.args.answers.now c.loop-answers.answers.now c.in-GoesOn.left.now c.loop-answers.invariant.1 stands,
+      parts_join g.W.Sink (run_state (g.R.Runner.benched c.args.runner.now) c.args.answers.now c.args.sheet.now) here (run_state new c.in-GoesOn.left.now c.take_turn.new.sheet) _ _ _ c.loop-answers.invariant.2 turn.0.puts,
     )
 
 pub returns-then-ended-clause-unfailed : goal.returns-then-ended-clause-unfailed
@@ -78,8 +78,8 @@ returns-then-steps-budget-clause-unfailed g c = c.loop-answers.invariant.0.unfai
 
 pub returns-in-Closes-clause-unfailed : goal.returns-in-Closes-clause-unfailed
 returns-in-Closes-clause-unfailed g c =
-    let now = g.R.Runner.bench c.loop-answers.runner in
-    let new = g.R.Runner.bench c.take_turn.new.runner in
+    let now = g.R.Runner.benched c.loop-answers.runner in
+    let new = g.R.Runner.benched c.take_turn.new.runner in
     let here = run_state now c.loop-answers.answers.now c.loop-answers.sheet in
     let turn = subst (λ (t : Turn). TurnIs g.W.Sink c.loop-answers.sink c.take_turn.new.sink here new c.take_turn.new.sheet t) c.in-Closes.is c.in_ok-left.ensures.ok in
     ap (λ (u : UnderWay). u.failed) turn.1 ∙ c.loop-answers.invariant.0.unfailed

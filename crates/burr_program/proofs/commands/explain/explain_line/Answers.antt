@@ -1,7 +1,7 @@
 use Rattle.std.proofs.Common.{ℕ, List, refl, subst, inl}
 use Rattle.burr_explain.specs.Layout.{explanation_text}
 use Rattle.burr_judge.specs.declared.status.Status.TheVariants.{Done}
-use Rattle.burr_program.specs.Commands.{never}
+use Rattle.burr_judge.specs.PlanEnds.{never}
 use Rattle.burr_program.specs.ExplainEnds.{ExplainEnds, IsExplainedBy, IsUnexplained}
 use Rattle.burr_program.proofs.Ending.{ending_fails}
 use Rattle.burr_program.proofs.commands.explain.explain_line.Goals as goal

@@ -2,7 +2,7 @@ use Rattle.std.proofs.Common.{inl, inr}
 use Rattle.burr_runs.specs.Rules.Refusals.{container_refusal}
 use Rattle.burr_judge.specs.PlanEnds.{IsRefusal}
 use Rattle.burr_program.specs.Commands.{ListCommand, ListingEnds}
-use Rattle.burr_program.proofs.Ending.{ending_from}
+use Rattle.burr_judge.proofs.Common.Stages.{ending_from}
 use Rattle.burr_program.proofs.commands.list.list_file.Goals as goal
 
 pub returns-in-Ok : goal.returns-in-Ok

@@ -1,8 +1,9 @@
 use Rattle.std.proofs.Common.{ℕ, List, subst, sym}
 use Rattle.burr_runs.specs.Views.ReadWhole.{IsWholeInput}
 use Rattle.burr_judge.specs.PlanEnds.{PlanEnds}
-use Rattle.burr_program.specs.Commands.{AnsweredCommand, left_by}
-use Rattle.burr_program.proofs.Ending.{ending_from}
+use Rattle.burr_judge.specs.StepEnds.{left_by}
+use Rattle.burr_program.specs.Commands.{AnsweredCommand}
+use Rattle.burr_judge.proofs.Common.Stages.{ending_from}
 use Rattle.burr_program.proofs.commands.run.run_files.Goals as goal
 
 pub returns : goal.returns

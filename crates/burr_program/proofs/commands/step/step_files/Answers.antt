@@ -1,8 +1,8 @@
 use Rattle.burr_io.specs.WholeLines.{lines_view}
 use Rattle.burr_runs.specs.Views.BenchText.{streams}
-use Rattle.burr_program.specs.Commands.{StepCommand, StepCommandBreaks, left_by}
-use Rattle.burr_program.specs.StepEnds.{StepTextEnds, StepTextBreaks}
-use Rattle.burr_program.proofs.Ending.{ending_among}
+use Rattle.burr_judge.specs.StepEnds.{left_by, StepTextEnds, StepTextBreaks}
+use Rattle.burr_program.specs.Commands.{StepCommand, StepCommandBreaks}
+use Rattle.burr_judge.proofs.Common.Stages.{ending_among}
 use Rattle.burr_program.proofs.commands.step.step_files.Goals as goal
 
 pub returns : goal.returns

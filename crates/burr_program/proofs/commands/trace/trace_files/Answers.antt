@@ -1,9 +1,10 @@
 use Rattle.std.proofs.Common.{ℕ, List, subst, sym}
 use Rattle.burr_runs.specs.Views.ReadWhole.{IsWholeInput}
 use Rattle.burr_judge.specs.declared.task.Task.TheVariants.{Try}
-use Rattle.burr_program.specs.Commands.{TraceCommand, left_by}
+use Rattle.burr_judge.specs.StepEnds.{left_by}
+use Rattle.burr_program.specs.Commands.{TraceCommand}
 use Rattle.burr_program.specs.NotedEnds.{NotedEnds}
-use Rattle.burr_program.proofs.Ending.{ending_from}
+use Rattle.burr_judge.proofs.Common.Stages.{ending_from}
 use Rattle.burr_program.proofs.commands.trace.trace_files.Goals as goal
 
 pub returns : goal.returns

@@ -3,7 +3,8 @@ use Rattle.burr_runs.specs.Rules.Refusals.{container_refusal}
 use Rattle.burr_judge.specs.declared.status.Status.TheVariants.{Done}
 use Rattle.burr_judge.specs.PlanEnds.{IsRefusal}
 use Rattle.burr_program.specs.Commands.{UpgradeCommand}
-use Rattle.burr_program.proofs.Ending.{ending_from, silent}
+use Rattle.burr_judge.proofs.Common.Stages.{ending_from}
+use Rattle.burr_program.proofs.Ending.{silent}
 use Rattle.burr_program.proofs.commands.upgrade.upgrade_file.Goals as goal
 
 pub write_file-requires : goal.write_file-requires

@@ -2,7 +2,7 @@ use Rattle.std.proofs.Common.{[]}
 use Rattle.burr_judge.specs.declared.task.Task.TheVariants.{Check}
 use Rattle.burr_program.specs.Commands.{WhyCommand}
 use Rattle.burr_program.specs.NotedEnds.{NotedEnds}
-use Rattle.burr_program.proofs.Ending.{ending_from}
+use Rattle.burr_judge.proofs.Common.Stages.{ending_from}
 use Rattle.burr_program.proofs.commands.why.why_files.Goals as goal
 
 pub returns : goal.returns

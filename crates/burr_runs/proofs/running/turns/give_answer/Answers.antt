@@ -2,15 +2,15 @@ use Rattle.std.proofs.Common.{◌≡◌, ◌∷◌, rules, to_z, of_z, w32, subs
 use Rattle.std.proofs.lemmas.List.{nil_from_length}
 use Rattle.burr_state.specs.Rules.Step.{Called}
 use Rattle.burr_state.specs.Views.Benches.{setup_of}
-use Rattle.burr_runs.specs.Views.Standing.{HasComeOn}
+use Rattle.burr_runs.specs.Views.AfterRuns.{HasComeOn}
 use Rattle.burr_runs.proofs.StepByStep.{answer_given}
-use Rattle.burr_runs.proofs.Standing.{answer_on, waits_there}
+use Rattle.burr_runs.proofs.AfterRuns.{answer_on, waits_there}
 use Rattle.burr_runs.proofs.running.turns.give_answer.Goals as goal
 
 pub returns-clause-is : goal.returns-clause-is
 returns-clause-is g c =
-    let b = g.R.Runner.bench c.args.runner.now in
-    let new = g.R.Runner.bench c.step.new.self in
+    let b = g.R.Runner.benched c.args.runner.now in
+    let new = g.R.Runner.benched c.step.new.self in
     let answer = c.in-Some.answer.now in
     let first : c.args.answers.now ≡ answer ∷ c.in-Some.left.now = search rules in
     let same : to_z w32 (of_z w32 answer) ≡ answer = search rules in
@@ -20,8 +20,8 @@ returns-clause-is g c =
 
 pub returns-clause-stands : goal.returns-clause-stands
 returns-clause-stands g c =
-    let b = g.R.Runner.bench c.args.runner.now in
-    let new = g.R.Runner.bench c.step.new.self in
+    let b = g.R.Runner.benched c.args.runner.now in
+    let new = g.R.Runner.benched c.step.new.self in
     let answer = c.in-Some.answer.now in
     let first : c.args.answers.now ≡ answer ∷ c.in-Some.left.now = search rules in
     let same : to_z w32 (of_z w32 answer) ≡ answer = search rules in
@@ -31,4 +31,4 @@ returns-clause-stands g c =
 
 pub returns-in_default-clause-stands : goal.returns-in_default-clause-stands
 returns-in_default-clause-stands g c =
-    waits_there (g.R.Runner.bench c.args.runner.now) c.args.low c.args.high c.args.answers.now (nil_from_length c.args.answers.now c.in_default.ensures.cases) (record { running = c.requires.running; within = c.requires.within }) c.requires.asks
+    waits_there (g.R.Runner.benched c.args.runner.now) c.args.low c.args.high c.args.answers.now (nil_from_length c.args.answers.now c.in_default.ensures.cases) (record { running = c.requires.running; within = c.requires.within }) c.requires.asks

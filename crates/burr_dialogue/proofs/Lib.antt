@@ -1,3 +1,0 @@
-pub mod CommandAnswers
-pub mod CommandLines
-mod Dialogues

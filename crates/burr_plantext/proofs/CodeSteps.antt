@@ -1,0 +1,219 @@
+-- Lines of code, one after the other.
+use Rattle.std.proofs.Common.{◌≡◌, ℕ, zero, suc, ◌+◌, ◌-◌, ◌==◌, ◌<◌, inl, inr, Bool, true, false, Option, List, [], ◌∷◌, ◌++◌, map, take, drop, get_or, length, refl, sym, ap, ◌∙◌, subst, arith, append_assoc, append-nil, length-append, eqb-true}
+use Rattle.std.proofs.Math.Seq.{drop-append_seam}
+use Rattle.std.proofs.lemmas.Bool.{false≢true}
+use Rattle.std.specs.Bool.{then_some}
+use Rattle.burr_code.specs.declared.instr.Instr.{Instr}
+use Rattle.burr_code.specs.Instruction as code
+use Rattle.burr_code.specs.Instruction.{Instruction, StandsAt, Begins, spelled, label_bytes}
+use Rattle.burr_code.specs.Meaning.{meaning}
+use Rattle.burr_code.proofs.Common.Reading.{one_begins}
+use Rattle.burr_plantext.specs.Rules.Statements.{Statement, Byte}
+use Rattle.burr_plantext.specs.Rules.Lines.{CodeLine}
+use Rattle.burr_plantext.specs.Rules.Meaning.{statement_bytes, code_bytes, code_size}
+use Rattle.burr_plantext.specs.Rules.Listing.{MayBeListed, IsCodeListed, instruction_listed, has_names}
+use Rattle.burr_plantext.specs.Rules.Writing.{line_text}
+use Rattle.burr_plantext.specs.Rules.ListedPlaces.{comment_at, code_text}
+use Rattle.burr_plantext.specs.Views.Listings.{IsFirst, IsLineAdded, IsCodeAdded}
+
+-- How many bytes a line of code stands for
+
+label_sizes : (f : ℕ → ℕ) (labels : List ℕ)
+    → length (label_bytes (map f labels)) ≡ length (label_bytes labels)
+label_sizes f [] = refl
+label_sizes f (label ∷ labels) = ap (λ (n : ℕ). suc (suc n)) (label_sizes f labels)
+
+two_maps : (f : List ℕ → ℕ) (g : ℕ → List ℕ) (labels : List ℕ)
+    → map f (map g labels) ≡ map (λ n. f (g n)) labels
+two_maps f g [] = refl
+two_maps f g (label ∷ labels) = ap (λ (ns : List ℕ). f (g label) ∷ ns) (two_maps f g labels)
+
+one_size : (s : Statement) → code_size (s ∷ []) ≡ length (statement_bytes [] [] s)
+one_size s = ap (λ (bytes : List ℕ). length bytes) (append-nil (statement_bytes [] [] s))
+
+bytes_size : (i : Instruction)
+    → length (statement_bytes [] [] (instruction_listed i)) ≡ length (spelled i)
+bytes_size code.Halt = refl
+bytes_size (code.Push n) = refl
+bytes_size (code.Load slot) = refl
+bytes_size (code.Store slot) = refl
+bytes_size code.Add = refl
+bytes_size code.Sub = refl
+bytes_size code.Drop = refl
+bytes_size (code.Grip set) = refl
+bytes_size (code.Step direction) = refl
+bytes_size (code.Aside direction tray) = refl
+bytes_size (code.Tray tray) = refl
+bytes_size (code.Jump label) = refl
+bytes_size (code.Down slot label) = refl
+bytes_size (code.Ask low high) = refl
+bytes_size (code.Pick labels) =
+    ap (λ (ns : List ℕ). suc (suc (length (label_bytes ns)))) (two_maps _ _ labels)
+    ∙ ap (λ (n : ℕ). suc (suc n)) (label_sizes _ labels)
+bytes_size (code.Call callee) = refl
+bytes_size code.Ret = refl
+
+pub instruction_size : (i : Instruction) → code_size (instruction_listed i ∷ []) ≡ length (spelled i)
+instruction_size i = one_size (instruction_listed i) ∙ bytes_size i
+
+pub size_of_more : (s : Statement) (code : List Statement)
+    → code_size (s ∷ code) ≡ code_size (s ∷ []) + code_size code
+size_of_more s code =
+    length-append (statement_bytes [] [] s) (code_bytes [] [] code)
+    ∙ ap (λ (n : ℕ). n + code_size code) (sym (one_size s))
+
+pub listed_size : (labels procedures : ℕ) (bytes : List ℕ) (code : List Statement)
+    → IsCodeListed labels procedures bytes code → code_size code ≡ length bytes
+listed_size labels procedures bytes [] e = ap (λ (all : List ℕ). length all) (sym e)
+listed_size labels procedures bytes (s ∷ code) (rest, inl (i, may, e, is), more) =
+    size_of_more s code
+    ∙ (λ j. code_size (is j ∷ []) + listed_size labels procedures rest code more j)
+    ∙ ap (λ (n : ℕ). n + length rest) (instruction_size i)
+    ∙ sym (length-append (spelled i) rest) ∙ ap (λ (all : List ℕ). length all) (sym e)
+listed_size labels procedures bytes (s ∷ code) (rest, inr (none, b, e, is), more) =
+    let one : 1 + length rest ≡ length (b ∷ rest) = omega arith in
+    size_of_more s code
+    ∙ (λ j. code_size (is j ∷ []) + listed_size labels procedures rest code more j)
+    ∙ one ∙ ap (λ (all : List ℕ). length all) (sym e)
+
+-- The instruction with which code begins
+
+first_by : (labels procedures : ℕ) (bytes : List ℕ) (instr : Instr) (size : ℕ) (passes : Bool)
+    → StandsAt bytes 0 (meaning instr) → size ≡ length (spelled (meaning instr))
+    → passes ≡ has_names labels procedures (meaning instr)
+    → IsFirst labels procedures bytes (then_some passes (instr, size))
+first_by labels procedures bytes instr size true stands long told =
+    (record { in_range = stands.in_range; names = sym told }, stands.begins, long)
+first_by labels procedures bytes instr size false stands long told =
+    λ i may begins. let same : i ≡ meaning instr =
+    one_begins bytes i (meaning instr) may.in_range stands.in_range begins stands.begins in
+    false≢true (told ∙ ap (has_names labels procedures) (sym same) ∙ may.names)
+
+pub found_first : (labels procedures : ℕ) (bytes : List ℕ) (instr : Instr) (size : ℕ)
+    (passes : Bool) (found : Option (Instr × ℕ)) → StandsAt bytes 0 (meaning instr)
+    → size ≡ length (spelled (meaning instr))
+    → passes ≡ has_names labels procedures (meaning instr)
+    → found ≡ then_some passes (instr, size) → IsFirst labels procedures bytes found
+found_first labels procedures bytes instr size passes found stands long told e =
+    subst (λ (found : Option (Instr × ℕ)). IsFirst labels procedures bytes found) (sym e)
+    (first_by labels procedures bytes instr size passes stands long told)
+
+-- The line of an instruction, or of a byte
+
+some_bytes : (i : Instruction) → 0 < length (spelled i)
+some_bytes code.Halt = omega arith
+some_bytes (code.Push n) = omega arith
+some_bytes (code.Load slot) = omega arith
+some_bytes (code.Store slot) = omega arith
+some_bytes code.Add = omega arith
+some_bytes code.Sub = omega arith
+some_bytes code.Drop = omega arith
+some_bytes (code.Grip set) = omega arith
+some_bytes (code.Step direction) = omega arith
+some_bytes (code.Aside direction tray) = omega arith
+some_bytes (code.Tray tray) = omega arith
+some_bytes (code.Jump label) = omega arith
+some_bytes (code.Down slot label) = omega arith
+some_bytes (code.Ask low high) = omega arith
+some_bytes (code.Pick labels) = omega arith
+some_bytes (code.Call callee) = omega arith
+some_bytes code.Ret = omega arith
+
+pub instruction_added : (labels procedures : ℕ) (bytes old new : List ℕ) (size : ℕ)
+    (i : Instruction) → MayBeListed labels procedures i → Begins bytes i
+    → size ≡ length (spelled i) → new ≡ old ++ line_text (CodeLine (instruction_listed i))
+    → IsLineAdded labels procedures bytes old new size
+instruction_added labels procedures bytes old new size i may (rest, e) long text =
+    let after : drop size bytes ≡ rest =
+    (λ j. drop (long j) (e j)) ∙ drop-append_seam (spelled i) rest in
+    record {
+      statement = instruction_listed i;
+      listed = inl (i, may, e ∙ ap (λ (t : List ℕ). spelled i ++ t) (sym after), refl);
+      text = text;
+      whole = long ∙ sym (instruction_size i);
+      some = subst (λ (n : ℕ). 0 < n) (sym long) (some_bytes i);
+      within = omega (arith, long, ap (λ (all : List ℕ). length all) e, length-append (spelled i) rest);
+    }
+
+first_byte : (bytes : List ℕ) → 0 < length bytes → bytes ≡ get_or bytes 0 0 ∷ drop 1 bytes
+first_byte [] h = absurd (omega (arith, h))
+first_byte (b ∷ bytes) h = refl
+
+pub byte_added : (labels procedures : ℕ) (bytes old new : List ℕ) → 0 < length bytes
+    → ((i : Instruction) → MayBeListed labels procedures i → ¬ Begins bytes i)
+    → new ≡ old ++ line_text (CodeLine (Byte (get_or bytes 0 0)))
+    → IsLineAdded labels procedures bytes old new 1
+byte_added labels procedures bytes old new some none text = record {
+  statement = Byte (get_or bytes 0 0);
+  listed = inr (none, get_or bytes 0 0, first_byte bytes some, refl);
+  text = text;
+  whole = refl;
+  some = omega arith;
+  within = some;
+}
+
+-- What is written, whatever lines of code are next, is the whole of the code
+abbrev pub IsCodeWritten : ℕ → ℕ → Option ℕ → ℕ → List ℕ → List ℕ → ℕ → List ℕ → List ℕ → Type 0
+IsCodeWritten labels procedures placed start bytes old at rest text =
+    (more : List Statement) → IsCodeListed labels procedures rest more
+    → (code : List Statement) × IsCodeListed labels procedures bytes code
+    × (text ++ code_text placed at more ≡ old ++ code_text placed start code)
+
+whole_taken : (xs : List ℕ) (n : ℕ) → n ≡ length xs → take n xs ≡ xs
+whole_taken [] n e = ap (λ (k : ℕ). take k []) e
+whole_taken (x ∷ xs) n e =
+    ap (λ (k : ℕ). take k (x ∷ xs)) e
+    ∙ ap (λ (t : List ℕ). x ∷ t) (whole_taken xs (length xs) refl)
+
+pub dropped_length : (n : ℕ) (xs : List ℕ) → length (drop n xs) ≡ length xs - n
+dropped_length zero xs = omega arith
+dropped_length (suc n) [] = omega arith
+dropped_length (suc n) (x ∷ xs) = let more = dropped_length n xs in omega (arith, more)
+
+pub rest_taken : (n : ℕ) (xs : List ℕ) → take (length xs - n) (drop n xs) ≡ drop n xs
+rest_taken n xs = whole_taken (drop n xs) (length xs - n) (sym (dropped_length n xs))
+
+pub line_turn : (labels procedures : ℕ) (placed : Option ℕ) (start : ℕ) (bytes old : List ℕ)
+    (at : ℕ) (rest text marked new next : List ℕ) (size total : ℕ)
+    → IsCodeWritten labels procedures placed start bytes old at rest text
+    × (at + length rest ≡ total)
+    → marked ≡ text ++ comment_at placed at
+    → IsLineAdded labels procedures rest marked new size → next ≡ drop size rest
+    → IsCodeWritten labels procedures placed start bytes old (at + size) next new
+    × (at + size + length next ≡ total)
+line_turn labels procedures placed start bytes old at rest text marked new next size total
+    (written, long) mark line e = (
+      λ more listed.
+          let s = line.statement in
+          let (code, is, so) =
+          written (s ∷ more) (
+            drop size rest,
+            line.listed,
+            subst (λ (t : List ℕ). IsCodeListed labels procedures t more) e listed,
+          ) in
+          let left = code_text placed (at + size) more in
+          let same : new ≡ text ++ (comment_at placed at ++ line_text (CodeLine s)) =
+          line.text ∙ ap (λ (t : List ℕ). t ++ line_text (CodeLine s)) mark
+          ∙ append_assoc text (comment_at placed at) (line_text (CodeLine s)) in (
+            code,
+            is,
+            ap (λ (t : List ℕ). t ++ left) same
+                ∙ append_assoc text (comment_at placed at ++ line_text (CodeLine s)) left
+                ∙ ap (λ (n : ℕ). text ++ ((comment_at placed at ++ line_text (CodeLine s))
+                ++ code_text placed (at + n) more)) line.whole ∙ so,
+          ),
+      omega (arith, long, line.within, ap (λ (t : List ℕ). length t) e, dropped_length size rest),
+    )
+
+no_bytes : (bytes : List ℕ) → true ≡ (length bytes == 0) → bytes ≡ []
+no_bytes [] e = refl
+no_bytes (b ∷ bytes) e = absurd (omega (arith, eqb-true (length (b ∷ bytes)) 0 (sym e)))
+
+pub code_end : (labels procedures : ℕ) (placed : Option ℕ) (start : ℕ) (bytes old : List ℕ)
+    (at : ℕ) (rest text : List ℕ)
+    → IsCodeWritten labels procedures placed start bytes old at rest text
+    → true ≡ (length rest == 0)
+    → IsCodeAdded labels procedures placed start bytes old text
+code_end labels procedures placed start bytes old at rest text written end =
+    let none = no_bytes rest end in
+    let (code, is, e) = written [] none in (code, is, sym (append-nil text) ∙ e)

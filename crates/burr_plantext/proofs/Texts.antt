@@ -1,0 +1,22 @@
+pub mod Blocks
+pub mod CodeListed
+pub mod Complete
+pub mod Exits
+pub mod Fits
+pub mod FitsCode
+pub mod FitsPlan
+pub mod Formed
+pub mod Frames
+pub mod Goes
+pub mod LinesWritten
+pub mod ListingLaws
+pub mod Listings
+pub mod Names
+pub mod PlansListed
+pub mod Said
+pub mod Sets
+pub mod Sound
+pub mod SourceWritten
+pub mod TextLaws
+pub mod WordsWritten
+mod WorkedRows

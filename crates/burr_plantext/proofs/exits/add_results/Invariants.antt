@@ -1,0 +1,10 @@
+-- What is written, and what is still to be written, are all of it.
+use Rattle.std.proofs.Common.{◌≡◌, ◌++◌, drop}
+use Rattle.burr_container.specs.Views.Refs.{exit_frame_of}
+use Rattle.burr_plantext.specs.Views.Parts.{results_text}
+use Rattle.burr_plantext.proofs.exits.add_results.Given as goal
+
+abbrev pub invariant-loop-n : goal.invariant-loop-n
+invariant-loop-n l =
+    l.text.items ++ results_text (drop l.n (exit_frame_of l.exit).results)
+    ≡ l.initial.text.items ++ results_text (exit_frame_of l.exit).results

@@ -1,0 +1,239 @@
+//! The labels and the code of a procedure, added to a text.
+
+ghost use Rattle.std.specs.Prelude.{◌≡◌, ◌<◌, ◌≤◌, ◌+◌, ◌-◌, ◌∷◌, ◌++◌, ℕ, length, take, drop, slice_get, OnOk, IfOk, Some, None, if◌then◌else◌};
+ghost use Rattle.std.specs.List.{list_all};
+ghost use Rattle.std.specs.Prelude.{nat_lt};
+ghost use Rattle.burr_code.specs.Meaning.{meaning};
+ghost use Rattle.burr_code.specs.declared.limits.TheConstants.{MOST_CODE};
+ghost use Rattle.burr_container.specs.Rules.Plans.{Frame};
+ghost use Rattle.burr_container.specs.Views.Containers.{HasLabel, HasPlan, OfProcedure, OfLabel};
+ghost use Rattle.burr_plantext.specs.Rules.Listing.{has_names, label_name, frame_listed, code_after};
+ghost use Rattle.burr_plantext.specs.Rules.Lines.{LabelLine};
+ghost use Rattle.burr_plantext.specs.Rules.Sources.{frame_lines};
+ghost use Rattle.burr_plantext.specs.Rules.Writing.{text_of, line_text};
+ghost use Rattle.burr_plantext.specs.Views.Listings.{begin_of, IsFirst, IsLineAdded, IsCodeAdded, IsBlockAdded, AreBlocksAdded};
+ghost use Rattle.burr_plantext.specs.Rules.ListedPlaces.{comment_at};
+
+use crate::frames::add_frame;
+use crate::instructions::{add_byte, add_instruction};
+use crate::names::add_label_name;
+use crate::numbers::{add_word, end_line};
+use burr_code::{Instr, Labels, fetch};
+use burr_container::Container;
+use std::alloc::AllocError;
+
+/// How many labels a procedure has, and how many procedures its plan: what its code may name. Its
+/// number, where each line of its code has its place in front of it.
+#[derive(Clone, Copy)]
+struct Reach {
+    labels: usize,
+    procedures: usize,
+    placed: Option<usize>,
+}
+
+/// Adds the labels and the code of procedure i, with places or without.
+pub fn add_code(
+    text: &mut Vec<u8>,
+    container: &Container<'_>,
+    i: usize,
+    places: bool,
+) -> Result<(), AllocError>
+    requires procedure { i < length container.now.procedures }
+    requires plan { HasPlan container.now }
+    ensures { OnOk result (OfProcedure container.now i (λ p q.
+        AreBlocksAdded p q (if places then Some i else None) text.old.items text.new.items)) }
+{
+    let reach = Reach {
+        labels: container.label_count(i),
+        procedures: container.proc_count(),
+        placed: places.then_some(i),
+    };
+    for n in 0..container.label_count(i) {
+        add_block(text, container, i, n, reach)?;
+    }
+    Ok(())
+}
+
+/// Adds label n of procedure i, with its frame and its code.
+fn add_block(
+    text: &mut Vec<u8>,
+    container: &Container<'_>,
+    i: usize,
+    n: usize,
+    reach: Reach,
+) -> Result<(), AllocError>
+    requires procedure { i < length container.now.procedures }
+    requires label { HasLabel container.now i n }
+    requires plan { HasPlan container.now }
+    ensures { OnOk result (OfProcedure container.now i (λ p q.
+        IsBlockAdded reach.labels reach.procedures reach.placed q n text.old.items
+        text.new.items)) }
+{
+    add_label(text, container, i, n)?;
+    let start = usize::from(container.label(i, n));
+    add_lines(text, start, block(container, i, n), reach)
+}
+
+/// Adds label n of procedure i, with its frame.
+fn add_label(
+    text: &mut Vec<u8>,
+    container: &Container<'_>,
+    i: usize,
+    n: usize,
+) -> Result<(), AllocError>
+    requires procedure { i < length container.now.procedures }
+    requires label { HasLabel container.now i n }
+    requires plan { HasPlan container.now }
+    ensures { OnOk result (OfLabel container.now i n (λ l.
+        text.new.items ≡ text.old.items
+        ++ text_of (LabelLine (label_name n) ∷ frame_lines (frame_listed l.1)))) }
+{
+    add_label_line(text, n)?;
+    add_frame(text, &container.frame(i, n))
+}
+
+/// Adds the line of label n.
+fn add_label_line(text: &mut Vec<u8>, n: usize) -> Result<(), AllocError>
+    ensures { OnOk result
+        (text.new.items ≡ text.old.items ++ line_text (LabelLine (label_name n))) }
+{
+    text.extend_from_slice(b"label ")?;
+    add_label_name(text, n)?;
+    end_line(text)
+}
+
+/// The code from label n of procedure i to the next one or to the end.
+fn block<'a>(container: &Container<'a>, i: usize, n: usize) -> &'a [u8]
+    requires procedure { i < length container.now.procedures }
+    requires label { HasLabel container.now i n }
+    requires plan { HasPlan container.now }
+    ensures { OfProcedure container.now i (λ p q. (l : ℕ × Frame)
+        → slice_get q.labels n ≡ Some l
+        → (result.now ≡ code_after q.code l.0 (drop (n + 1) q.labels))
+        × (l.0 + length result.now ≤ MOST_CODE)) }
+{
+    let end = block_end(container, i, n);
+    between(container.code(i), usize::from(container.label(i, n)), end)
+}
+
+/// Where the block of label n of procedure i ends: at the next label, or where the code does.
+fn block_end(container: &Container<'_>, i: usize, n: usize) -> usize
+    requires procedure { i < length container.now.procedures }
+    requires label { HasLabel container.now i n }
+    ensures { OfProcedure container.now i (λ p q.
+        result ≡ begin_of (length q.code) (drop (n + 1) q.labels)) }
+{
+    let count = container.label_count(i);
+    if n + 1 < count {
+        usize::from(container.label(i, n + 1))
+    } else {
+        container.code(i).len()
+    }
+}
+
+/// The bytes from one position to another.
+fn between(code: &[u8], start: usize, end: usize) -> &[u8]
+    requires rise { start ≤ end }
+    requires within { end ≤ length code.now }
+    ensures { result.now ≡ take (end - start) (drop start code.now) }
+{
+    &code[start..end]
+}
+
+/// Adds the lines of code that begins at a position, and within which no label stands.
+fn add_lines(text: &mut Vec<u8>, start: usize, block: &[u8], reach: Reach) -> Result<(), AllocError>
+    requires { start + length block.now ≤ MOST_CODE }
+    ensures { OnOk result
+        (IsCodeAdded reach.labels reach.procedures reach.placed start block.now
+        text.old.items text.new.items) }
+{
+    let mut rest = block;
+    let mut at = start;
+    while !rest.is_empty() {
+        reach.add_place(text, at)?;
+        let size = reach.add_line(text, rest)?;
+        rest = &rest[size..];
+        at += size;
+    }
+    Ok(())
+}
+
+impl Reach {
+    /// Adds the place of a line of code, where places are wanted.
+    fn add_place(self, text: &mut Vec<u8>, at: usize) -> Result<(), AllocError>
+        ensures { OnOk result (text.new.items ≡ text.old.items ++ comment_at self.placed at) }
+    {
+        let Some(procedure) = self.placed else {
+            return Ok(());
+        };
+        text.extend_from_slice(b"; proc")?;
+        add_word(text, procedure)?;
+        text.extend_from_slice(b" pc")?;
+        add_word(text, at)?;
+        end_line(text)
+    }
+
+    /// Adds the line with which code begins; gives how many bytes it stands for.
+    fn add_line(self, text: &mut Vec<u8>, code: &[u8]) -> Result<usize, AllocError>
+        requires { 0 < length code.now }
+        ensures { IfOk result (λ size.
+            IsLineAdded self.labels self.procedures code.now text.old.items text.new.items
+            size) }
+    {
+        match self.statement(code) {
+            Some((instr, size)) => {
+                add_instruction(text, &instr)?;
+                Ok(size)
+            }
+            None => {
+                add_byte(text, code[0])?;
+                Ok(1)
+            }
+        }
+    }
+
+    /// The instruction with which code begins, if all that it names is there, and its size.
+    fn statement(self, code: &[u8]) -> Option<(Instr<'_>, usize)>
+        ensures { IsFirst self.labels self.procedures code.now result }
+    {
+        let (instr, size) = fetch(code, 0)?;
+        self.has_names_of(&instr).then_some((instr, size))
+    }
+
+    /// Whether all labels and procedures that an instruction names are there.
+    fn has_names_of(self, instr: &Instr<'_>) -> bool
+        ensures { result ≡ has_names self.labels self.procedures (meaning instr.now) }
+    {
+        match instr {
+            Instr::Jump(label) | Instr::Down(_, label) => self.has_label(*label),
+            Instr::Pick(labels) => self.has_labels(labels),
+            Instr::Call(procedure) => usize::from(*procedure) < self.procedures,
+            _ => true,
+        }
+    }
+
+    fn has_label(self, label: u16) -> bool
+        ensures { result ≡ nat_lt label self.labels }
+    {
+        usize::from(label) < self.labels
+    }
+
+    fn has_labels(self, labels: &Labels<'_>) -> bool
+        ensures { result ≡ list_all (λ label. nat_lt label self.labels) labels.now }
+    {
+        for n in 0..labels.len() {
+            if !self.has_offered(labels, n) {
+                return false;
+            }
+        }
+        true
+    }
+
+    /// Whether the label of this number that is offered is there.
+    fn has_offered(self, labels: &Labels<'_>, n: usize) -> bool
+        ensures { (label : ℕ) → slice_get labels.now n ≡ Some label
+            → result ≡ nat_lt label self.labels }
+    {
+        labels.get(n).is_some_and(|label| self.has_label(label))
+    }
+}

@@ -1,0 +1,103 @@
+//! Frames of labels, added to a text.
+
+ghost use Rattle.std.specs.Prelude.{◌≡◌, ◌++◌, OnOk, length};
+ghost use Rattle.burr_container.specs.Rules.Plans.{live_slots as live_ones};
+ghost use Rattle.burr_container.specs.Views.Refs.{frame_of};
+ghost use Rattle.burr_plantext.specs.Views.Parts.{slot_text, slots_text, guards_text, stack_text, places_text, frame_text};
+ghost use Rattle.burr_plantext.specs.Views.Symbols.{AreSymbols, AreOver, ArePlacesOver, IsOverLive};
+
+use crate::forms::add_form_line;
+use crate::lines::{add_grip, add_piece, add_range};
+use crate::numbers::add_word;
+use burr_container::FrameRef;
+use std::alloc::AllocError;
+
+/// Adds the lines of a label's frame.
+pub fn add_frame(text: &mut Vec<u8>, frame: &FrameRef<'_>) -> Result<(), AllocError>
+    requires { IsOverLive (frame_of frame.now) }
+    ensures { OnOk result (text.new.items ≡ text.old.items ++ frame_text (frame_of frame.now)) }
+{
+    let symbols = live_slots(frame);
+    add_grip(text, b"frame", frame.tray(), frame.grip())?;
+    add_slots(text, frame)?;
+    add_guards(text, &symbols, frame)?;
+    add_stack(text, &symbols, frame)?;
+    add_form_line(text, b"cost ", &symbols, &frame.cost())?;
+    add_places(text, &symbols, frame)
+}
+
+/// The live slots in rising order, which are the symbols of the frame's forms; after them 0.
+fn live_slots(frame: &FrameRef<'_>) -> [u8; 8]
+    requires { length (frame_of frame.now).slots ≡ 8 }
+    ensures { AreSymbols (live_ones (frame_of frame.now).slots) result }
+{
+    let mut symbols = [0; 8];
+    let mut count = 0;
+    for slot in 0..8u8 {
+        if frame.slot(slot).is_some() {
+            symbols[count] = slot;
+            count += 1;
+        }
+    }
+    symbols
+}
+
+fn add_slots(text: &mut Vec<u8>, frame: &FrameRef<'_>) -> Result<(), AllocError>
+    requires { length (frame_of frame.now).slots ≡ 8 }
+    ensures { OnOk result
+        (text.new.items ≡ text.old.items ++ slots_text 0 (frame_of frame.now).slots) }
+{
+    for slot in 0..8u8 {
+        add_slot(text, slot, frame.slot(slot))?;
+    }
+    Ok(())
+}
+
+/// Adds the line of a slot, if it is live.
+fn add_slot(text: &mut Vec<u8>, slot: u8, range: Option<(i16, i16)>) -> Result<(), AllocError>
+    ensures { OnOk result (text.new.items ≡ text.old.items ++ slot_text slot range) }
+{
+    let Some(range) = range else {
+        return Ok(());
+    };
+    text.extend_from_slice(b"slot")?;
+    add_word(text, slot)?;
+    add_range(text, range)
+}
+
+fn add_guards(text: &mut Vec<u8>, symbols: &[u8; 8], frame: &FrameRef<'_>) -> Result<(), AllocError>
+    requires symbols { AreSymbols (live_ones (frame_of frame.now).slots) symbols.now }
+    requires over { AreOver (live_ones (frame_of frame.now).slots) (frame_of frame.now).guards }
+    ensures { OnOk result
+        (text.new.items ≡ text.old.items ++ guards_text (frame_of frame.now).guards) }
+{
+    for n in 0..frame.guard_count() {
+        add_form_line(text, b"guard ", symbols, &frame.guard(n))?;
+    }
+    Ok(())
+}
+
+fn add_stack(text: &mut Vec<u8>, symbols: &[u8; 8], frame: &FrameRef<'_>) -> Result<(), AllocError>
+    requires symbols { AreSymbols (live_ones (frame_of frame.now).slots) symbols.now }
+    requires over { AreOver (live_ones (frame_of frame.now).slots) (frame_of frame.now).stack }
+    ensures { OnOk result
+        (text.new.items ≡ text.old.items ++ stack_text (frame_of frame.now).stack) }
+{
+    for n in 0..frame.stack_count() {
+        add_form_line(text, b"stack ", symbols, &frame.stack(n))?;
+    }
+    Ok(())
+}
+
+fn add_places(text: &mut Vec<u8>, symbols: &[u8; 8], frame: &FrameRef<'_>) -> Result<(), AllocError>
+    requires symbols { AreSymbols (live_ones (frame_of frame.now).slots) symbols.now }
+    requires over { ArePlacesOver (live_ones (frame_of frame.now).slots)
+        (frame_of frame.now).places }
+    ensures { OnOk result
+        (text.new.items ≡ text.old.items ++ places_text 0 (frame_of frame.now).places) }
+{
+    for piece in 0..frame.piece_count() {
+        add_piece(text, symbols, piece, frame.place(piece))?;
+    }
+    Ok(())
+}

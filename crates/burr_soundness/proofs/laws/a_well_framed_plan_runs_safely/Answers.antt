@@ -1,5 +1,0 @@
-use Rattle.burr_soundness.proofs.Soundness.Sound.{verifier_is_sound, accepted_has_runs}
-use Rattle.burr_soundness.proofs.laws.a_well_framed_plan_runs_safely.Goals as goal
-
-pub returns : goal.returns
-returns c = record { safe = verifier_is_sound; some = accepted_has_runs }

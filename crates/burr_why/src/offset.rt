@@ -1,0 +1,74 @@
+//! How far from home pieces lie.
+
+use crate::point_state::value;
+use arrayvec::ArrayVec;
+use burr_code::Placement;
+use burr_code::limits::MOST_PIECES;
+use burr_container::{ExitRef, FrameRef};
+use burr_forms::Form;
+use std::fmt;
+
+/// How far a piece lies from home, in cells.
+#[derive(Clone, Copy, Default, PartialEq, Eq, Drop)]
+pub struct Offset {
+    pub x: i64,
+    pub y: i64,
+    pub z: i64,
+}
+
+impl Offset {
+    /// The offset so much further.
+    pub fn plus(&self, other: Offset) -> Offset {
+        Offset {
+            x: self.x.saturating_add(other.x),
+            y: self.y.saturating_add(other.y),
+            z: self.z.saturating_add(other.z),
+        }
+    }
+}
+
+impl fmt::Display for Offset {
+    fn fmt<W: fmt::Write>(&self, f: &mut fmt::Formatter<W>) -> fmt::Result {
+        let Offset { x, y, z } = *self;
+        write!(f, "{x} {y} {z}")
+    }
+}
+
+/// Where a frame has the pieces, for these values of its symbols.
+pub fn frame_places(
+    frame: &FrameRef<'_>,
+    symbols: &[i64],
+) -> ArrayVec<Placement<Offset>, MOST_PIECES> {
+    let mut places = ArrayVec::new();
+    for piece in 0..frame.piece_count() {
+        let _ = places.try_push(placed(frame.place(piece), symbols));
+    }
+    places
+}
+
+/// The same of an exit frame.
+pub fn exit_places(
+    exit: &ExitRef<'_>,
+    symbols: &[i64],
+) -> ArrayVec<Placement<Offset>, MOST_PIECES> {
+    let mut places = ArrayVec::new();
+    for piece in 0..exit.piece_count() {
+        let _ = places.try_push(placed(exit.place(piece), symbols));
+    }
+    places
+}
+
+/// The place that forms give for these values of their symbols.
+fn placed(place: Option<(u8, Form, Form, Form)>, symbols: &[i64]) -> Placement<Offset> {
+    match place {
+        None => Placement::Apart,
+        Some((tray, x, y, z)) => Placement::On {
+            tray,
+            position: Offset {
+                x: value(&x, symbols),
+                y: value(&y, symbols),
+                z: value(&z, symbols),
+            },
+        },
+    }
+}
