@@ -1,7 +1,7 @@
 //! Frames that are read off a run, in place of lines `auto`.
 
-use crate::arrivals::Arrivals;
-use crate::seen::{Seen, seen_at_each};
+use crate::arrivals::{Arrival, Arrivals};
+use crate::seen::{add_frame, seen_at_each};
 use burr_lines::Report;
 use burr_text::cut_at;
 use std::alloc::{AllocError, Global};
@@ -86,8 +86,8 @@ impl Unframed<'_> {
         self.with_frames(alloc, &seen)
     }
 
-    /// The text, with the frames of what was seen at each label in place of lines `auto`.
-    fn with_frames(&self, alloc: Global, seen: &[Option<Seen>]) -> Result<Filled, AllocError> {
+    /// The text, with the frames that the arrivals at each label agree with in place of lines `auto`.
+    fn with_frames(&self, alloc: Global, seen: &[Vec<&Arrival>]) -> Result<Filled, AllocError> {
         let mut made = Vec::new(alloc);
         let mut labels: usize = 0;
         let mut number: usize = 1;
@@ -98,8 +98,11 @@ impl Unframed<'_> {
             }
             if is_auto(line) {
                 match seen.get(labels.saturating_sub(1)) {
-                    Some(Some(seen)) if seen.is_one_frame() => add_frame(alloc, seen, &mut made)?,
-                    Some(Some(_)) => return Ok(Filled::Various(number)),
+                    Some(seen) if !seen.is_empty() => {
+                        if !extend_by_frame(alloc, seen, &mut made)? {
+                            return Ok(Filled::Various(number));
+                        }
+                    }
                     _ => return Ok(Filled::Unseen(number)),
                 }
             } else {
@@ -124,10 +127,15 @@ fn add_line(line: &[u8], made: &mut Vec<u8>) -> Result<(), AllocError> {
     Ok(())
 }
 
-/// Adds the lines of the frame that all agrees with that was seen.
-fn add_frame(alloc: Global, seen: &Seen, made: &mut Vec<u8>) -> Result<(), AllocError> {
+/// Adds the lines of the frame that some arrivals agree with, where there is one.
+fn extend_by_frame(
+    alloc: Global,
+    seen: &[&Arrival],
+    made: &mut Vec<u8>,
+) -> Result<bool, AllocError> {
     let mut report = Report::new(alloc);
-    seen.add_frame(&mut report);
+    let is_frame = add_frame(&mut report, seen);
     let frame = report.into_text()?;
-    made.extend_from_slice(frame.as_bytes())
+    made.extend_from_slice(frame.as_bytes())?;
+    Ok(is_frame)
 }

@@ -1,33 +1,196 @@
-//! Numbers as forms over slots.
+//! Numbers that were seen at a label, as forms over its slots.
 
+use crate::arrivals::Arrival;
 use burr_code::limits::SLOTS;
 use std::fmt;
 
-/// The numbers in the slots, none in an empty one.
-pub type Slots = [Option<i64>; SLOTS];
-
-/// By how much a number grows with a slot alone, as far as was seen.
+/// A number that an arrival has.
 #[derive(Clone, Copy)]
-enum Slope {
-    /// The slot was always the same.
-    Unknown,
-    Known(i64),
-    /// The number is no form of this slot alone.
-    Broken,
+pub enum Quantity {
+    Slot(usize),
+    /// An operand, counted from the bottom.
+    Operand(usize),
+    Cost,
+    /// How far a piece lies from home along x, and so on.
+    X(usize),
+    Y(usize),
+    Z(usize),
 }
 
-impl Slope {
-    /// The slope, after the slot and the number have gone so far from where they were first.
-    fn with(self, slot: i64, number: i64) -> Slope {
-        if slot == 0 {
-            return if number == 0 { self } else { Slope::Broken };
-        }
-        match (self, exact_quotient(number, slot)) {
-            (Slope::Unknown, Some(slope)) => Slope::Known(slope),
-            (Slope::Known(known), Some(slope)) if known == slope => self,
-            _ => Slope::Broken,
+impl Quantity {
+    /// The number at an arrival; 0 where it has none.
+    fn of(self, arrival: &Arrival) -> i64 {
+        match self {
+            Quantity::Slot(slot) => arrival.snapshot.number(slot),
+            Quantity::Operand(n) => arrival.snapshot.operand(n),
+            Quantity::Cost => i64::try_from(arrival.cost).unwrap_or(i64::MAX),
+            Quantity::X(piece) => i64::from(arrival.snapshot.position(piece).x),
+            Quantity::Y(piece) => i64::from(arrival.snapshot.position(piece).y),
+            Quantity::Z(piece) => i64::from(arrival.snapshot.position(piece).z),
         }
     }
+
+    /// The least and the greatest number at some arrivals.
+    pub fn range(self, seen: &[&Arrival]) -> (i64, i64) {
+        let mut range = None;
+        for arrival in seen {
+            let number = self.of(arrival);
+            let (least, greatest): (i64, i64) = range.unwrap_or((number, number));
+            range = Some((least.min(number), greatest.max(number)));
+        }
+        range.unwrap_or((0, 0))
+    }
+
+    /// How far it has grown from one arrival to another.
+    fn grown(self, from: &Arrival, to: &Arrival) -> i64 {
+        self.of(to).saturating_sub(self.of(from))
+    }
+}
+
+/// What is found of a number at some arrivals: a form of the slots that gives it at each, or how far it
+/// goes.
+#[derive(Clone, Copy, Drop)]
+pub enum Fit {
+    Form(FittedForm),
+    Range(i64, i64),
+}
+
+impl Fit {
+    /// The fit of a number at these arrivals: a constant, else a form of one slot, else of several, of
+    /// those that hold a number at each.
+    pub fn of(seen: &[&Arrival], quantity: Quantity) -> Fit {
+        let (least, greatest) = quantity.range(seen);
+        if least == greatest {
+            return Fit::Form(FittedForm::of_constant(least));
+        }
+        let found = match lone_factors(seen, quantity) {
+            Some(factors) => Some(factors),
+            None => factors_of_several(seen, quantity),
+        };
+        match (seen.first(), found) {
+            (Some(first), Some(factors)) => {
+                Fit::Form(FittedForm::through(quantity.of(first), factors, first))
+            }
+            _ => Fit::Range(least, greatest),
+        }
+    }
+
+    /// Whether a form is found.
+    pub fn is_form(&self) -> bool {
+        matches!(self, Fit::Form(_))
+    }
+
+    /// The form; where none is found, the greatest number.
+    pub fn form_or_greatest(&self) -> FittedForm {
+        match self {
+            Fit::Form(form) => *form,
+            Fit::Range(_, greatest) => FittedForm::of_constant(*greatest),
+        }
+    }
+}
+
+impl fmt::Display for Fit {
+    fn fmt<W: fmt::Write>(&self, f: &mut fmt::Formatter<W>) -> fmt::Result {
+        match self {
+            Fit::Form(form) => write!(f, "{form}"),
+            Fit::Range(least, greatest) => write!(f, "{least} to {greatest}"),
+        }
+    }
+}
+
+/// The factors of a form of one slot, the first that gives the number.
+fn lone_factors(seen: &[&Arrival], quantity: Quantity) -> Option<[i64; SLOTS]> {
+    let mut factors = [0; SLOTS];
+    for slot in 0..SLOTS {
+        if let Some(factor) = lone_factor(seen, quantity, slot) {
+            factors[slot] = factor;
+            return Some(factors);
+        }
+    }
+    None
+}
+
+/// By how much a number grows with a slot alone; none where it does not, or the slot was always the same.
+fn lone_factor(seen: &[&Arrival], quantity: Quantity, slot: usize) -> Option<i64> {
+    let (first, others) = seen.split_first()?;
+    let mut factor = None;
+    for arrival in others {
+        let moved = arrival
+            .snapshot
+            .slot(slot)?
+            .saturating_sub(first.snapshot.slot(slot)?);
+        let grown = quantity.grown(first, arrival);
+        if moved == 0 && grown != 0 {
+            return None;
+        }
+        if moved != 0 {
+            let found = exact_quotient(grown, moved)?;
+            if factor.is_some() && factor != Some(found) {
+                return None;
+            }
+            factor = Some(found);
+        }
+    }
+    factor
+}
+
+/// The factors of a form of several slots. It is found where from arrival to arrival at most one slot
+/// changes that was always the same before: its factor is then what the others leave of the growth.
+fn factors_of_several(seen: &[&Arrival], quantity: Quantity) -> Option<[i64; SLOTS]> {
+    let (first, others) = seen.split_first()?;
+    let mut factors = [None; SLOTS];
+    for arrival in others {
+        let grown = quantity.grown(first, arrival);
+        settle(&mut factors, grown, first, arrival)?;
+    }
+    let mut found = [0; SLOTS];
+    for slot in 0..SLOTS {
+        found[slot] = factors[slot].unwrap_or(0);
+        if found[slot] != 0 && !is_live(seen, slot) {
+            return None;
+        }
+    }
+    Some(found)
+}
+
+/// Finds the factor of the slot that has changed first since an arrival, by how far the number has grown
+/// since; none where there is none, or where the factors do not give that.
+fn settle(
+    factors: &mut [Option<i64>; SLOTS],
+    grown: i64,
+    from: &Arrival,
+    to: &Arrival,
+) -> Option<()> {
+    let mut left = grown;
+    let mut changed = None;
+    for slot in 0..SLOTS {
+        let moved = to
+            .snapshot
+            .number(slot)
+            .saturating_sub(from.snapshot.number(slot));
+        match factors[slot] {
+            Some(known) => left = left.saturating_sub(known.saturating_mul(moved)),
+            None if moved != 0 && changed.is_some() => return None,
+            None if moved != 0 => changed = Some((slot, moved)),
+            None => {}
+        }
+    }
+    match changed {
+        Some((slot, moved)) => *factors.get_mut(slot)? = Some(exact_quotient(left, moved)?),
+        None if left != 0 => return None,
+        None => {}
+    }
+    Some(())
+}
+
+/// Whether a slot holds a number at each of some arrivals.
+pub fn is_live(seen: &[&Arrival], slot: usize) -> bool {
+    for arrival in seen {
+        if arrival.snapshot.slot(slot).is_none() {
+            return false;
+        }
+    }
+    true
 }
 
 /// What a number has to be multiplied with to give another one; none where no whole number does.
@@ -38,141 +201,6 @@ fn exact_quotient(product: i64, number: i64) -> Option<i64> {
     }
 }
 
-/// By how much a number grows with each of several slots, as far as was seen.
-#[derive(Clone, Copy)]
-struct Slopes {
-    /// None for a slot that was always the same.
-    slopes: [Option<i64>; SLOTS],
-    /// Whether the number is no form of the slots, or this way of looking does not find it.
-    broken: bool,
-}
-
-impl Slopes {
-    /// Before the slots and the number have changed.
-    fn new() -> Slopes {
-        Slopes {
-            slopes: [None; SLOTS],
-            broken: false,
-        }
-    }
-
-    /// Sees that the number has grown so far since it was first seen, with what the slots hold now and
-    /// held then. At most one slot that was always the same may have changed: its slope is then what
-    /// the others leave of the growth.
-    fn see(&mut self, grown: i64, slots: &Slots, first: &Slots) {
-        let mut left = grown;
-        let mut changed = None;
-        for v in 0..SLOTS {
-            let moved = slots[v].unwrap_or(0).saturating_sub(first[v].unwrap_or(0));
-            if moved != 0 {
-                match self.slopes[v] {
-                    Some(known) => left = left.saturating_sub(known.saturating_mul(moved)),
-                    None if changed.is_none() => changed = Some((v, moved)),
-                    None => self.broken = true,
-                }
-            }
-        }
-        match changed {
-            Some((v, moved)) => self.settle(v, exact_quotient(left, moved)),
-            None if left != 0 => self.broken = true,
-            None => {}
-        }
-    }
-
-    /// Takes a slot's slope that was found; none where there is none.
-    fn settle(&mut self, slot: usize, found: Option<i64>) {
-        match (self.slopes.get_mut(slot), found) {
-            (Some(slope), Some(_)) => *slope = found,
-            _ => self.broken = true,
-        }
-    }
-}
-
-/// A number that was seen some times, each time with what the slots held.
-#[derive(Clone, Copy)]
-pub struct Fit {
-    first: i64,
-    least: i64,
-    greatest: i64,
-    /// By each slot alone.
-    alone: [Slope; SLOTS],
-    together: Slopes,
-}
-
-impl Fit {
-    /// A number that was seen once.
-    pub fn new(number: i64) -> Fit {
-        Fit {
-            first: number,
-            least: number,
-            greatest: number,
-            alone: [Slope::Unknown; SLOTS],
-            together: Slopes::new(),
-        }
-    }
-
-    /// Sees a number, where the slots hold these, and held those when the first one was seen.
-    pub fn see(&mut self, number: i64, slots: &Slots, first: &Slots) {
-        self.least = self.least.min(number);
-        self.greatest = self.greatest.max(number);
-        let grown = number.saturating_sub(self.first);
-        for v in 0..SLOTS {
-            self.alone[v] = match (slots[v], first[v]) {
-                (Some(now), Some(then)) => self.alone[v].with(now.saturating_sub(then), grown),
-                _ => Slope::Broken,
-            };
-        }
-        self.together.see(grown, slots, first);
-    }
-
-    /// A form of the slots that always held a number, which gives each number that was seen: a
-    /// constant, else a form of one slot, else of several; none where none is found.
-    pub fn form(&self, first: &Slots, live: &Live) -> Option<FittedForm> {
-        if self.least == self.greatest {
-            return Some(FittedForm::of_constant(self.least));
-        }
-        match self.lone_slope() {
-            Some(factors) => Some(FittedForm::through(self.first, factors, first)),
-            None => self.form_of_several(first, live),
-        }
-    }
-
-    /// The factors where one slot alone gives the number.
-    fn lone_slope(&self) -> Option<[i64; SLOTS]> {
-        let mut factors = [0; SLOTS];
-        for v in 0..SLOTS {
-            if let Slope::Known(known) = self.alone[v] {
-                factors[v] = known;
-                return Some(factors);
-            }
-        }
-        None
-    }
-
-    /// The form of several slots.
-    fn form_of_several(&self, first: &Slots, live: &Live) -> Option<FittedForm> {
-        if self.together.broken {
-            return None;
-        }
-        let mut factors = [0; SLOTS];
-        for v in 0..SLOTS {
-            factors[v] = self.together.slopes[v].unwrap_or(0);
-            if factors[v] != 0 && !live[v] {
-                return None;
-            }
-        }
-        Some(FittedForm::through(self.first, factors, first))
-    }
-
-    /// The least and the greatest number that was seen.
-    pub fn range(&self) -> (i64, i64) {
-        (self.least, self.greatest)
-    }
-}
-
-/// Which slots always held a number.
-pub type Live = [bool; SLOTS];
-
 /// A form over slots.
 #[derive(Clone, Copy, Drop)]
 pub struct FittedForm {
@@ -182,18 +210,19 @@ pub struct FittedForm {
 
 impl FittedForm {
     /// A number.
-    pub fn of_constant(constant: i64) -> FittedForm {
+    fn of_constant(constant: i64) -> FittedForm {
         FittedForm {
             constant,
             factors: [0; SLOTS],
         }
     }
 
-    /// The form with these factors that gives this number where the slots hold these.
-    fn through(number: i64, factors: [i64; SLOTS], slots: &Slots) -> FittedForm {
+    /// The form with these factors that gives this number at an arrival.
+    fn through(number: i64, factors: [i64; SLOTS], arrival: &Arrival) -> FittedForm {
         let mut constant = number;
-        for v in 0..SLOTS {
-            constant = constant.saturating_sub(factors[v].saturating_mul(slots[v].unwrap_or(0)));
+        for slot in 0..SLOTS {
+            let part = factors[slot].saturating_mul(arrival.snapshot.number(slot));
+            constant = constant.saturating_sub(part);
         }
         FittedForm { constant, factors }
     }

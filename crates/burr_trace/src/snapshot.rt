@@ -14,7 +14,7 @@ pub struct Snapshot {
     pub tray: u8,
     /// The gripped pieces: bit p is piece p.
     pub grip: u32,
-    pub slots: [Option<i64>; SLOTS],
+    slots: [Option<i64>; SLOTS],
     /// The top last.
     pub operands: ArrayVec<i64, MOST_OPERANDS>,
     /// How far each piece lies from home.
@@ -35,6 +35,34 @@ impl Snapshot {
             operands,
             places: places_of(alloc, bench)?,
         })
+    }
+
+    /// What a slot holds; none where it is empty.
+    pub fn slot(&self, slot: usize) -> Option<i64> {
+        self.slots.get(slot).copied().flatten()
+    }
+
+    /// The number in a slot; 0 where it is empty.
+    pub fn number(&self, slot: usize) -> i64 {
+        self.slot(slot).unwrap_or(0)
+    }
+
+    /// An operand, counted from the bottom; 0 where there is none.
+    pub fn operand(&self, n: usize) -> i64 {
+        self.operands.get(n).copied().unwrap_or(0)
+    }
+
+    /// The tray of a piece; none where it is apart.
+    pub fn tray_of(&self, piece: usize) -> Option<u8> {
+        self.places.get(piece)?.tray()
+    }
+
+    /// How far a piece lies from home; not at all where it is apart.
+    pub fn position(&self, piece: usize) -> Cell {
+        match self.places.get(piece) {
+            Some(Placement::On { position, .. }) => *position,
+            _ => Cell { x: 0, y: 0, z: 0 },
+        }
     }
 }
 

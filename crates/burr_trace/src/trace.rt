@@ -2,7 +2,7 @@
 
 use crate::arrivals::{Arrival, Arrivals, Stand};
 use crate::labels::Label;
-use crate::seen::{Seen, seen_at_each};
+use crate::seen::{add_frame, seen_at_each};
 use burr_lines::{PlanItem, Report, Shown};
 use std::alloc::{AllocError, Global};
 
@@ -21,7 +21,7 @@ pub fn trace_of(
         return report.into_text();
     };
     for arrival in arrivals.as_slice() {
-        add_arrival(alloc, &mut report, file, &arrivals, arrival)?;
+        add_arrival(&mut report, file, &arrivals, arrival);
     }
     if !stand.has_ended {
         add_end(&mut report, file, &arrivals, &stand);
@@ -31,13 +31,7 @@ pub fn trace_of(
 }
 
 /// Adds what held at an arrival.
-fn add_arrival(
-    alloc: Global,
-    report: &mut Report,
-    file: &str,
-    arrivals: &Arrivals<'_>,
-    arrival: &Arrival,
-) -> Result<(), AllocError> {
+fn add_arrival(report: &mut Report, file: &str, arrivals: &Arrivals<'_>, arrival: &Arrival) {
     if let Some(label) = arrivals.labels.as_slice().get(arrival.label) {
         add_label(report, file, label);
     }
@@ -47,8 +41,7 @@ fn add_arrival(
         report.add_words(format_args!(", answer {answer}"));
     }
     report.add_words("\n");
-    Seen::new(alloc, arrival)?.add_frame(report);
-    Ok(())
+    add_frame(report, &[arrival]);
 }
 
 /// Adds the line where a run stands that did not come to its end.
@@ -74,10 +67,9 @@ fn add_labels(
     let seen = seen_at_each(alloc, labels.len(), arrivals.as_slice())?;
     for (label, seen) in labels.iter().zip(&seen) {
         add_label(report, file, label);
-        match seen {
-            None => report.add_words(": times 0\n"),
-            Some(seen) => add_seen(report, seen),
-        }
+        let times = seen.len();
+        report.add_words(format_args!(": times {times}\n"));
+        add_frame(report, seen);
     }
     Ok(())
 }
@@ -88,11 +80,4 @@ fn add_label(report: &mut Report, file: &str, label: &Label<'_>) {
     let name = Shown(label.line.operand());
     let procedure = Shown(label.procedure_line.operand());
     report.add_words(format_args!("\n; {file}:{number}: label {name} of {procedure}"));
-}
-
-/// Ends the comment with how often the run came to a label, and adds the frame that it agrees with.
-fn add_seen(report: &mut Report, seen: &Seen) {
-    let times = seen.times();
-    report.add_words(format_args!(": times {times}\n"));
-    seen.add_frame(report);
 }
