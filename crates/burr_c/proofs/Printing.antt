@@ -2,8 +2,8 @@
 use Rattle.std.proofs.Common.{◌≡◌, ◌↔◌, ◌∙◌, List, ℕ, [], ap, refl, sym, subst, inl, inr, arith}
 use Rattle.std.specs.Prelude.{Option, Some, Result, Ok, Err, IfOk, IfErr}
 use Rattle.std.specs.Io.KnownBytes.{Appends}
-use Rattle.burr_c.specs.declared.fault.Fault.{Fault}
-use Rattle.burr_c.specs.declared.fault.Fault.TheVariants.{TooLong, Memory}
+use Rattle.burr_c.specs.declared.fault.CallFault.{CallFault}
+use Rattle.burr_c.specs.declared.fault.CallFault.TheVariants.{TooLong, Memory}
 use Rattle.burr_c.specs.declared.printed.Printed.{Printed}
 use Rattle.burr_judge.specs.declared.status.Status.{Status}
 use Rattle.burr_c.specs.Calls.{Call, Gives, Returns}
@@ -13,7 +13,7 @@ use Rattle.burr_io.specs.WholeLines.{Lines, lines_view}
 use Rattle.burr_io.proofs.Common.Lines.{went}
 use Rattle.burr_judge.specs.PlanEnds.{Ends, PutsEnd}
 use Rattle.burr_judge.specs.StepEnds.{StepTextEnds, left_by}
-use Rattle.burr_c.specs.StepEnds.{StepsEnd}
+use Rattle.burr_c.specs.CallEnds.{StepsEnd}
 use Rattle.burr_c.specs.Statuses.{status_of_fault}
 
 -- what was put since there was nothing is all that is kept
@@ -35,7 +35,7 @@ steps_end from to source first last sink old mid new commands text container byt
 )
 
 -- what is printed, or a fault, is given
-pub returned : (printed : Result Printed Fault) (TooMuch : Type 0) (AreEnds : Ends) (c : Call) → IfOk printed (λ p. AreEnds p.bytes.items p.status)
+pub returned : (printed : Result Printed CallFault) (TooMuch : Type 0) (AreEnds : Ends) (c : Call) → IfOk printed (λ p. AreEnds p.bytes.items p.status)
     → IfOk printed (λ _. ¬ TooMuch) → IfErr printed (λ fault. fault ≡ TooLong ↔ TooMuch) → IfOk printed (λ p. Gives p.bytes.items p.status c)
     → IfErr printed (λ fault. Gives [] (status_of_fault fault) c) → Returns TooMuch AreEnds c
 returned (Ok p) TooMuch AreEnds c ends short long gives fails = inr (short, inr (p.bytes.items, p.status, ends, gives))

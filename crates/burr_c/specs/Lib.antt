@@ -1,4 +1,3 @@
-pub mod AssemblingEnds
+pub mod CallEnds
 pub mod Calls
 pub mod Statuses
-pub mod StepEnds

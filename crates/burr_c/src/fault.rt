@@ -4,14 +4,14 @@ use thiserror::Error;
 
 /// Why there is nothing to print.
 #[derive(Clone, Copy, Debug, PartialEq, Eq, Error)]
-pub enum Fault {
+pub enum CallFault {
     #[error("an input has more than 16777216 bytes")]
     TooLong,
     #[error("no memory")]
     Memory,
 }
 
-impl Fault {
+impl CallFault {
     ghost use Rattle.std.specs.Prelude.{◌≡◌};
     ghost use Rattle.burr_c.specs.Statuses.{status_of_fault};
 
@@ -20,31 +20,31 @@ impl Fault {
         ensures { result ≡ status_of_fault self }
     {
         match self {
-            Fault::TooLong => Status::Failed,
-            Fault::Memory => Status::Memory,
+            CallFault::TooLong => Status::Failed,
+            CallFault::Memory => Status::Memory,
         }
     }
 }
 
 /// What is printed is kept in memory, so that nothing but memory is wanting.
-impl From<burr_judge::Fault<'_>> for Fault {
+impl From<burr_judge::Fault<'_>> for CallFault {
     ghost use Rattle.std.specs.Prelude.{◌≡◌};
-    ghost use Rattle.burr_c.specs.declared.fault.Fault.TheVariants.{Memory};
+    ghost use Rattle.burr_c.specs.declared.fault.CallFault.TheVariants.{Memory};
 
     ghost from_gives = { λ _ e. e ≡ Memory };
 
-    fn from(_e: burr_judge::Fault<'_>) -> Fault {
-        Fault::Memory
+    fn from(_e: burr_judge::Fault<'_>) -> CallFault {
+        CallFault::Memory
     }
 }
 
-impl From<WriteFault> for Fault {
+impl From<WriteFault> for CallFault {
     ghost use Rattle.std.specs.Prelude.{◌≡◌};
-    ghost use Rattle.burr_c.specs.declared.fault.Fault.TheVariants.{Memory};
+    ghost use Rattle.burr_c.specs.declared.fault.CallFault.TheVariants.{Memory};
 
     ghost from_gives = { λ _ e. e ≡ Memory };
 
-    fn from(_e: WriteFault) -> Fault {
-        Fault::Memory
+    fn from(_e: WriteFault) -> CallFault {
+        CallFault::Memory
     }
 }

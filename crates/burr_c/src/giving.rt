@@ -4,12 +4,12 @@ ghost use Rattle.std.specs.Prelude.{◌≡◌, ◌++◌, [], IfErr, IfOk, length
 ghost use Rattle.burr_c.specs.Calls.{call, Gives};
 ghost use Rattle.burr_c.specs.Statuses.{status_of_fault};
 
-use crate::fault::Fault;
+use crate::fault::CallFault;
 use crate::printed::Printed;
 
 /// Copies what is printed to the front of the caller's room, as far as it goes there, tells how
 /// many bytes are printed, and gives the number of the status. After a fault no byte is printed.
-pub fn give(printed: Result<Printed, Fault>, room: &mut [u8], size: &mut usize) -> u8
+pub fn give(printed: Result<Printed, CallFault>, room: &mut [u8], size: &mut usize) -> u8
     ensures ok { IfOk printed (λ printed. Gives printed.bytes.items printed.status
         (call room.old room.new size.new result)) }
     ensures err { IfErr printed (λ fault. Gives [] (status_of_fault fault)

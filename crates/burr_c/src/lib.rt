@@ -19,10 +19,9 @@ mod tests;
 
 ghost use Rattle.std.specs.Prelude.{[]};
 ghost use Rattle.burr_judge.specs.declared.task.Task.TheVariants.{Check, Run, Try};
-ghost use Rattle.burr_c.specs.AssemblingEnds.{AssemblingEnds};
+ghost use Rattle.burr_c.specs.CallEnds.{AssemblingEnds, StepsEnd};
 ghost use Rattle.burr_c.specs.Calls.{call, IsTooLong, IsEitherTooLong, IsAnyTooLong, Returns};
 ghost use Rattle.burr_judge.specs.PlanEnds.{PlanEnds};
-ghost use Rattle.burr_c.specs.StepEnds.{StepsEnd};
 
 use crate::giving::give;
 use crate::printed::{print_assembled, print_judgement, print_steps};

@@ -1,14 +1,13 @@
 //! What there is to print for a call, kept in memory.
 
 ghost use Rattle.std.specs.Prelude.{◌≡◌, ◌↔◌, IfOk, IfErr, IsTrue};
-ghost use Rattle.burr_c.specs.declared.fault.Fault.TheVariants.{Memory, TooLong};
-ghost use Rattle.burr_c.specs.AssemblingEnds.{AssemblingEnds};
+ghost use Rattle.burr_c.specs.declared.fault.CallFault.TheVariants.{Memory, TooLong};
+ghost use Rattle.burr_c.specs.CallEnds.{AssemblingEnds, StepsEnd};
 ghost use Rattle.burr_c.specs.Calls.{IsTooLong, IsEitherTooLong, IsAnyTooLong};
-ghost use Rattle.burr_c.specs.StepEnds.{StepsEnd};
 ghost use Rattle.burr_judge.specs.PlanEnds.{IsRefusal, PlanEnds};
 ghost use Rattle.burr_judge.specs.Refusals.{plan_text_refusal};
 
-use crate::fault::Fault;
+use crate::fault::CallFault;
 use burr_asm::{AsmFault, assemble};
 use burr_io::{Kept, Reading, WholeLines};
 use burr_judge::{Refused, Status, Task, judge_text, refuse, step_text};
@@ -34,7 +33,7 @@ pub fn print_judgement(
     text: &[u8],
     container: &[u8],
     answers: &[u8],
-) -> Result<Printed, Fault>
+) -> Result<Printed, CallFault>
     ensures ok { IfOk result (λ printed.
         PlanEnds task text.now container.now answers.now printed.bytes.items printed.status) }
     ensures short { IfOk result (λ _. ¬ IsAnyTooLong text.now container.now answers.now) }
@@ -42,7 +41,7 @@ pub fn print_judgement(
         fault ≡ TooLong ↔ IsAnyTooLong text.now container.now answers.now) }
 {
     if is_too_long(text) || is_too_long(container) || is_too_long(answers) {
-        return Err(Fault::TooLong);
+        return Err(CallFault::TooLong);
     }
     let mut kept = Kept::new(alloc);
     let status = judge_text(alloc, task, text, container, answers, &mut kept)?;
@@ -60,7 +59,7 @@ pub fn print_steps(
     text: &[u8],
     container: &[u8],
     commands: &[u8],
-) -> Result<Printed, Fault>
+) -> Result<Printed, CallFault>
     ensures ok { IfOk result (λ printed. StepsEnd commands.now text.now container.now
         printed.bytes.items printed.status) }
     ensures short { IfOk result (λ _. ¬ IsEitherTooLong text.now container.now) }
@@ -68,7 +67,7 @@ pub fn print_steps(
         fault ≡ TooLong ↔ IsEitherTooLong text.now container.now) }
 {
     if is_too_long(text) || is_too_long(container) {
-        return Err(Fault::TooLong);
+        return Err(CallFault::TooLong);
     }
     let mut source = Reading::new(commands);
     let mut sink: WholeLines<_, HELD> = WholeLines::new(Kept::new(alloc));
@@ -82,27 +81,27 @@ pub fn print_steps(
 
 /// The container of a plan text, with `Done`; or the line that refuses the text. `TooLong` where it
 /// has more than 16,777,216 bytes, and `Memory` where a request for memory was refused.
-pub fn print_assembled(alloc: Global, text: &[u8]) -> Result<Printed, Fault>
+pub fn print_assembled(alloc: Global, text: &[u8]) -> Result<Printed, CallFault>
     ensures ok { IfOk result (λ printed.
         AssemblingEnds text.now printed.bytes.items printed.status) }
     ensures short { IfOk result (λ _. ¬ IsTooLong text.now) }
     ensures long { IfErr result (λ fault. fault ≡ TooLong ↔ IsTooLong text.now) }
 {
     if is_too_long(text) {
-        return Err(Fault::TooLong);
+        return Err(CallFault::TooLong);
     }
     match assemble(alloc, text) {
         Ok(bytes) => Ok(Printed {
             bytes,
             status: Status::Done,
         }),
-        Err(AsmFault::Memory) => Err(Fault::Memory),
+        Err(AsmFault::Memory) => Err(CallFault::Memory),
         Err(fault) => print_text_refusal(alloc, fault),
     }
 }
 
 /// The line that refuses a plan text.
-fn print_text_refusal(alloc: Global, fault: AsmFault) -> Result<Printed, Fault>
+fn print_text_refusal(alloc: Global, fault: AsmFault) -> Result<Printed, CallFault>
     ensures ok { IfOk result (λ printed.
         IsRefusal (plan_text_refusal fault) printed.bytes.items printed.status) }
     ensures memory { IfErr result (λ fault. fault ≡ Memory) }
