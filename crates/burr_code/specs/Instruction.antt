@@ -84,6 +84,12 @@ IsInRange (Pick labels) = AreLabels labels
 IsInRange (Call callee) = callee < 256
 IsInRange Ret = Unit {0}
 
+-- each instruction but `step` and `aside`
+abbrev pub MovesNoPiece : Instruction → Type 0
+MovesNoPiece (Step direction) = ⊥
+MovesNoPiece (Aside direction tray) = ⊥
+MovesNoPiece i = Unit {0}
+
 -- the bytes begin with the instruction's
 abbrev pub Begins : List ℕ → Instruction → Type 0
 Begins bytes i = (rest : List ℕ) × (bytes ≡ spelled i ++ rest)

@@ -1,5 +1,6 @@
 pub mod Decided
 pub mod ExitsRead
+pub mod FineVerdicts
 pub mod Heres
 pub mod Room
 pub mod RuleLooks

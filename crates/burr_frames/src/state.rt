@@ -1,3 +1,6 @@
+ghost use Rattle.std.specs.Prelude.{◌≡◌, ◌<◌, IfSome, None, get_or, reverse};
+ghost use Rattle.burr_forms.specs.Rules.Forms.{IsSmallForm};
+
 mod after;
 mod asking;
 mod calling;
@@ -54,4 +57,56 @@ impl Model for State {
 
     ghost invariant = { λ s. IsSmallState (abstract_state s.ranges.items s.guards.items s.slots
         s.operands.items s.places.items s.tray s.grip s.cost) };
+}
+
+impl State {
+    /// Of each symbol, both ends in it.
+    pub fn ranges(&self) -> &[(i32, i32)]
+        ensures { result.now ≡ self.now.ranges }
+    {
+        self.ranges.as_slice()
+    }
+
+    /// The form in slot v; None where nothing is known of it, or there is no such slot.
+    pub fn slot(&self, v: u8) -> Option<Form>
+        ensures slot { get_or self.now.slots v None ≡ result }
+        ensures small { IfSome result (λ form. (v < 8) × IsSmallForm form) }
+    {
+        *self.slots.get(usize::from(v))?
+    }
+
+    /// The operands, the top last.
+    pub fn operands(&self) -> &[Form]
+        ensures { reverse result.now ≡ self.now.operands }
+    {
+        self.operands.as_slice()
+    }
+
+    /// Where the pieces are.
+    pub fn places(&self) -> &[Placement<FormOffset>]
+        ensures { result.now ≡ self.now.places }
+    {
+        self.places.as_slice()
+    }
+
+    /// The current tray.
+    pub fn tray(&self) -> u8
+        ensures { result ≡ self.now.tray }
+    {
+        self.tray
+    }
+
+    /// The pieces of the current tray that are gripped: bit p is piece p.
+    pub fn grip(&self) -> u32
+        ensures { result ≡ self.now.grip }
+    {
+        self.grip
+    }
+
+    /// How many steps may still be made at most.
+    pub fn cost(&self) -> Form
+        ensures { result ≡ self.now.cost }
+    {
+        self.cost
+    }
 }

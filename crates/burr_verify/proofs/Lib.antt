@@ -20,5 +20,6 @@ mod PassLooks
 mod SomePass
 mod Stages
 mod Trays
+mod Transfers
 mod VerifyLaws
 mod Worked

@@ -9,6 +9,7 @@ mod labels;
 mod laws;
 mod passing;
 mod refusal;
+mod states;
 mod transfer;
 
 pub use accepting::{Accepted, accept, accept_counted};
@@ -19,3 +20,4 @@ pub use laws::{
     a_plan_has_so_many_looks, a_plan_is_judged_in_one_way,
 };
 pub use refusal::Refusal;
+pub use states::{state_after, state_before};

@@ -22,7 +22,7 @@ use Rattle.burr_bench.specs.Soundness.Framing.{bench_part, framed_setup}
 use Rattle.burr_bench.specs.Soundness.Standing.{Stands}
 use Rattle.burr_bench.proofs.Soundness.StepOutcomes.{FallsOn}
 use Rattle.burr_bench.specs.Soundness.Invariant.{IsGood}
-use Rattle.burr_verify.proofs.Common.FineVerdicts.{IsFine, held, held_everywhere, held_of_pairs, paid}
+use Rattle.burr_frames.proofs.Common.FineVerdicts.{IsFine, held, held_everywhere, held_of_pairs, paid}
 use Rattle.burr_bench.proofs.Soundness.Failing.{goes_past}
 use Rattle.burr_bench.proofs.Soundness.Operands.{is_paid}
 use Rattle.burr_bench.proofs.Soundness.Mapped.{lies_at_back, lies_at_map, aside_mapped}

@@ -24,7 +24,7 @@ use Rattle.burr_bench.specs.Soundness.Framing.{bench_part, framed_setup}
 use Rattle.burr_bench.specs.Soundness.Standing.{Stands}
 use Rattle.burr_bench.proofs.Soundness.StepOutcomes.{FallsOn, SentOn, ParametersStay}
 use Rattle.burr_bench.specs.Soundness.Invariant.{IsGood}
-use Rattle.burr_verify.proofs.Common.FineVerdicts.{IsFine, held, found, held_everywhere, paid}
+use Rattle.burr_frames.proofs.Common.FineVerdicts.{IsFine, held, found, held_everywhere, paid}
 use Rattle.burr_bench.proofs.Soundness.Failing.{goes_past, goes_with}
 use Rattle.burr_verify.proofs.Common.FormValues.{value_raised, value_negated}
 use Rattle.burr_bench.proofs.Soundness.Operands.{is_paid, new_slot, apart_from}

@@ -32,7 +32,7 @@ use Rattle.burr_bench.specs.Soundness.Standing.{Stands}
 use Rattle.burr_bench.specs.Soundness.Invariant.{IsGood, HasParameters, IsAdmitted, IsGiven, ReturnsAs}
 use Rattle.burr_verify.proofs.Common.CallRule.{call_holds}
 use Rattle.burr_verify.proofs.Common.Costs.{cost_after}
-use Rattle.burr_verify.proofs.Common.FineVerdicts.{IsFine}
+use Rattle.burr_frames.proofs.Common.FineVerdicts.{IsFine}
 use Rattle.burr_bench.proofs.Soundness.Failing.{goes_past, goes_with}
 use Rattle.burr_bench.proofs.Soundness.Values.{value_more}
 use Rattle.burr_bench.proofs.Soundness.Arrival.{stands_at_frame}

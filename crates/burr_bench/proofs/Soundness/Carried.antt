@@ -21,7 +21,7 @@ use Rattle.burr_bench.specs.Soundness.Standing.{Stands}
 use Rattle.burr_bench.proofs.Soundness.StepOutcomes.{FallsOn, SentOn, EndsOn, Carries}
 use Rattle.burr_bench.specs.Soundness.SafeRuns.{HasEnded}
 use Rattle.burr_bench.specs.Soundness.Invariant.{IsGood, IsSafeState}
-use Rattle.burr_verify.proofs.Common.FineVerdicts.{IsFine}
+use Rattle.burr_frames.proofs.Common.FineVerdicts.{IsFine}
 use Rattle.burr_bench.proofs.Soundness.Asks.{sound_ask}
 use Rattle.burr_bench.proofs.Soundness.Others.{sound_pick}
 use Rattle.burr_bench.proofs.Soundness.Mapped.{map_at}

@@ -17,7 +17,7 @@ use Rattle.burr_bench.specs.Soundness.Framing.{bench_part, framed_setup, HasFram
 use Rattle.burr_bench.specs.Soundness.Standing.{Stands}
 use Rattle.burr_bench.proofs.Soundness.StepOutcomes.{FallsOn, SentOn, EndsOn}
 use Rattle.burr_bench.specs.Soundness.Invariant.{IsGood, HasParameters, AllWait}
-use Rattle.burr_verify.proofs.Common.FineVerdicts.{IsFine, found}
+use Rattle.burr_frames.proofs.Common.FineVerdicts.{IsFine, found}
 use Rattle.burr_bench.proofs.Soundness.Operands.{sound_push, sound_load, sound_store, sound_add, sound_sub, sound_drop}
 use Rattle.burr_bench.proofs.Soundness.UnitSteps.{sound_step}
 use Rattle.burr_bench.proofs.Soundness.Asides.{sound_aside}

@@ -21,7 +21,7 @@ use Rattle.burr_bench.specs.Soundness.Framing.{bench_part}
 use Rattle.burr_bench.specs.Soundness.Standing.{Stands}
 use Rattle.burr_bench.proofs.Soundness.StepOutcomes.{FallsOn, IsPaid}
 use Rattle.burr_bench.specs.Soundness.Invariant.{IsGood}
-use Rattle.burr_verify.proofs.Common.FineVerdicts.{IsFine, held, found, held_everywhere, paid}
+use Rattle.burr_frames.proofs.Common.FineVerdicts.{IsFine, held, found, held_everywhere, paid}
 use Rattle.burr_bench.proofs.Soundness.Failing.{goes_past, goes_with}
 use Rattle.burr_verify.proofs.Common.FormValues.{value_number, value_raised, value_plus, value_minus}
 

@@ -25,7 +25,7 @@ use Rattle.burr_bench.specs.Soundness.Framing.{bench_part, framed_setup}
 use Rattle.burr_bench.specs.Soundness.Standing.{Stands}
 use Rattle.burr_bench.proofs.Soundness.StepOutcomes.{FallsOn, SentOn, EndsOn}
 use Rattle.burr_bench.specs.Soundness.Invariant.{IsGood}
-use Rattle.burr_verify.proofs.Common.FineVerdicts.{IsFine, held, found, paid}
+use Rattle.burr_frames.proofs.Common.FineVerdicts.{IsFine, held, found, paid}
 use Rattle.burr_bench.proofs.Soundness.Failing.{goes_past, goes_with}
 use Rattle.burr_bench.proofs.Soundness.Operands.{is_paid}
 use Rattle.burr_bench.proofs.Soundness.Mapped.{map_at, mapped_at, lies_at_map}

@@ -25,7 +25,7 @@ use Rattle.burr_state.specs.Rules.Step.{Executes}
 use Rattle.burr_bench.specs.Soundness.Framing.{bench_part, framed_setup}
 use Rattle.burr_bench.specs.Soundness.Standing.{Stands}
 use Rattle.burr_bench.specs.Soundness.Invariant.{IsGood, HasParameters, IsAdmitted, Waits}
-use Rattle.burr_verify.proofs.Common.FineVerdicts.{IsFine, held, found, held_everywhere, paid}
+use Rattle.burr_frames.proofs.Common.FineVerdicts.{IsFine, held, found, held_everywhere, paid}
 use Rattle.burr_bench.proofs.Soundness.Failing.{goes_with}
 use Rattle.burr_bench.proofs.Soundness.Arrival.{stands_at_frame}
 

@@ -18,7 +18,7 @@ use Rattle.burr_frames.specs.Views.Over.{IsWellScoped, AllOver, IsTidy, IsWellSc
 use Rattle.burr_verify.specs.Rules.WellFramed.{Annotated, after, IsLabelled, Enters, FallsOut, IsCutFrom}
 use Rattle.burr_verify.specs.Views.FromContainers.{IsFromContainer}
 use Rattle.burr_verify.proofs.Common.CallRule.{call_holds}
-use Rattle.burr_verify.proofs.Common.FineVerdicts.{IsFine, held, found, held_everywhere, held_of_pairs, paid}
+use Rattle.burr_frames.proofs.Common.FineVerdicts.{IsFine, held, found, held_everywhere, held_of_pairs, paid}
 use Rattle.burr_bench.proofs.Soundness.CallSteps.{over_reverse, over_slots, over_live, split_over}
 use Rattle.burr_bench.proofs.Soundness.Overs.{over_more, over_number, over_symbol, over_plus, over_times, over_minus, over_substituted, all_more, all_appended, all_substituted, all_symbols, numbered_over, numbered_length, moved_over, aside_over, places_over_more, substituted_over}
 use Rattle.burr_bench.proofs.Soundness.Costs.{AreTidy}

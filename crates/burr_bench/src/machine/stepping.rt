@@ -1,10 +1,9 @@
 ghost use Rattle.std.specs.Prelude.{◌≡◌, Ok, Some, None};
-ghost use Rattle.burr_code.specs.Instruction.{Step, Aside};
+ghost use Rattle.burr_code.specs.Instruction.{Step, Aside, MovesNoPiece};
 ghost use Rattle.burr_code.specs.Meaning.{meaning};
 ghost use Rattle.burr_state.specs.declared.mode.Mode.TheVariants.{Running};
 ghost use Rattle.burr_state.specs.Rules.Step.{CallIn, Called};
 ghost use Rattle.burr_state.specs.Views.Benches.{setup_of, motion_in, GoesOn, IsSameRun};
-ghost use Rattle.burr_state.specs.Views.Effects.{MovesNoPiece};
 ghost use Rattle.burr_state.specs.Views.Work.{IsNext, work};
 ghost use Rattle.burr_bench.specs.BenchViews.{CarriesOut};
 

@@ -9,7 +9,7 @@ ghost use Rattle.burr_frames.specs.Rules.SpaceRules.{grip_rule, step_rule, aside
 ghost use Rattle.burr_frames.specs.Rules.SpaceRules.{moved, AllSmallPlaces};
 ghost use Rattle.burr_frames.specs.Views.Breaks.{next_verdict};
 ghost use Rattle.burr_frames.specs.Rules.Looks.{HasRoom, step_looks, aside_looks, clearing_looks};
-ghost use Rattle.burr_frames.specs.Views.Moving.{ClearOrBreaks, HasRest};
+ghost use Rattle.burr_frames.specs.Views.Moving.{ClearOrBreaks, HasRest, free_aside, free_step};
 
 use super::places::{moved_places, offsets_in, roles_in};
 use super::{MOST_PIECES, State};
@@ -81,6 +81,20 @@ impl State {
         Ok(())
     }
 
+    /// What `step` comes to where nothing is in the way: the grip goes one unit along a direction,
+    /// and no look is made.
+    pub fn step_freely(&mut self, direction: Direction) -> Result<(), Break>
+        ensures { free_step self.old direction (next_verdict self.new result) }
+    {
+        let Ok(there) = self.moved(direction) else {
+            return Err(Break::plain(Rule::V26));
+        };
+        let cost = self.paid()?;
+        self.set_cost(cost);
+        self.set_places(there);
+        Ok(())
+    }
+
     /// `aside`: the grip, which is not the whole tray, goes out along a direction to an empty tray,
     /// free of the rest of its tray. A piece that is alone in a tray then is apart. Each pair at
     /// each point is a look, and the caller's conditions are those of `step`.
@@ -111,6 +125,17 @@ impl State {
         let cost = self.paid()?;
         self.set_cost(cost);
         self.go_aside(tray);
+        Ok(())
+    }
+
+    /// What `aside` comes to where nothing is in the way: the grip goes out to a tray, and no look is
+    /// made.
+    pub fn aside_freely(&mut self, there: u8) -> Result<(), Break>
+        ensures { free_aside self.old there (next_verdict self.new result) }
+    {
+        let cost = self.paid()?;
+        self.set_cost(cost);
+        self.go_aside(there);
         Ok(())
     }
 

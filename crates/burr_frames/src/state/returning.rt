@@ -1,7 +1,5 @@
 //! The rule of `ret`.
 
-ghost use Rattle.std.specs.Prelude.{◌≡◌, ◌<◌, IfSome, None, get_or};
-ghost use Rattle.burr_forms.specs.Rules.Forms.{IsSmallForm};
 ghost use Rattle.burr_frames.specs.Rules.ControlRules.{ret_rule};
 ghost use Rattle.burr_frames.specs.Views.Breaks.{last_verdict};
 ghost use Rattle.burr_frames.specs.Views.CallViews.{GivesFirstForms};
@@ -46,19 +44,11 @@ impl State {
     {
         let mut forms = ArrayVec::new();
         for v in 0..count {
-            let Some(form) = self.known_in(v) else {
+            let Some(form) = self.slot(v) else {
                 return None;
             };
             forms.push(form);
         }
         Some(forms)
-    }
-
-    /// The form in slot v; None where nothing is known of it, or there is no such slot.
-    fn known_in(&self, v: u8) -> Option<Form>
-        ensures slot { get_or self.now.slots v None ≡ result }
-        ensures small { IfSome result (λ form. (v < 8) × IsSmallForm form) }
-    {
-        *self.slots.get(usize::from(v))?
     }
 }

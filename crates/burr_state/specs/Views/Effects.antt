@@ -1,6 +1,6 @@
 -- What the code's instructions came to.
 use Rattle.std.specs.Prelude.{◌≡◌, ◌⊎◌, ◌+◌, ◌-◌, ◌≤◌, ◌++◌, ℕ, ℤ, pos, List, [], ◌∷◌, map, take, drop, length, replicate, Bool, true, false, Option, Some, None, Result, MatchResult, Ok, Err, slice_get}
-use Rattle.burr_code.specs.Instruction.{Instruction, Step, Aside, Ask}
+use Rattle.burr_code.specs.Instruction.{Instruction, Ask}
 use Rattle.burr_code.specs.Places.{AllLieIn}
 use Rattle.burr_code.specs.Stacks.{top_many}
 use Rattle.burr_code.specs.Labels.{argument_slots}
@@ -45,12 +45,6 @@ abbrev pub KeepsUnlessGoes : {A : Type 0} → Result Effect Trap → A → A →
 KeepsUnlessGoes (Ok (effects.Goes motion)) old new = Unit {0}
 KeepsUnlessGoes (Ok (effects.Asks low high)) old new = new ≡ old
 KeepsUnlessGoes (Err trap) old new = new ≡ old
-
--- each instruction but `step` and `aside`
-abbrev pub MovesNoPiece : Instruction → Type 0
-MovesNoPiece (Step direction) = ⊥
-MovesNoPiece (Aside direction tray) = ⊥
-MovesNoPiece i = Unit {0}
 
 -- no piece moved, and the grip lies in the current tray
 pub record PiecesStay (old new : BenchState) : Type 0 where

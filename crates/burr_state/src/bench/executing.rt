@@ -1,11 +1,11 @@
 ghost use Rattle.std.specs.Prelude.{◌≡◌, ◌+◌, ◌≤◌, List, true, false, MatchOption};
 ghost use Rattle.burr_voxels.specs.declared.cell.Cell.{Cell};
 ghost use Rattle.burr_code.specs.declared.limits.TheConstants.{MOST_CODE};
-ghost use Rattle.burr_code.specs.Instruction.{Instruction};
+ghost use Rattle.burr_code.specs.Instruction.{Instruction, MovesNoPiece};
 ghost use Rattle.burr_code.specs.Meaning.{meaning};
 ghost use Rattle.burr_state.specs.declared.mode.Mode.TheVariants.{Trapped};
 ghost use Rattle.burr_state.specs.Rules.Bench.{running};
-ghost use Rattle.burr_state.specs.Views.Effects.{next_of, KeepsUnlessGoes, NeverMoves, MovesNoPiece, PiecesStay};
+ghost use Rattle.burr_state.specs.Views.Effects.{next_of, KeepsUnlessGoes, NeverMoves, PiecesStay};
 ghost use Rattle.burr_state.specs.Rules.Space.{motion_of};
 ghost use Rattle.burr_state.specs.Views.StateViews.{gone_aside, moved_grip, StaysOnBench};
 ghost use Rattle.burr_state.specs.Rules.Step.{NextIs};

@@ -3,12 +3,12 @@
 ghost use Rattle.std.specs.Prelude.{◌≡◌, ◌<◌, ◌≤◌, ◌+◌, List, Some, length, slice_get};
 ghost use Rattle.burr_voxels.specs.declared.cell.Cell.{Cell};
 ghost use Rattle.burr_code.specs.declared.limits.TheConstants.{MOST_CODE};
-ghost use Rattle.burr_code.specs.Instruction.{IsInRange, spelled};
+ghost use Rattle.burr_code.specs.Instruction.{IsInRange, MovesNoPiece, spelled};
 ghost use Rattle.burr_code.specs.Meaning.{meaning};
 ghost use Rattle.burr_state.specs.Rules.Bench.{running};
 ghost use Rattle.burr_state.specs.Views.Programs.{FitsProgram};
 ghost use Rattle.burr_state.specs.Rules.Step.{Executes};
-ghost use Rattle.burr_state.specs.Views.Effects.{next_of, KeepsUnlessGoes, NeverMoves, StaysFitting, MovesNoPiece};
+ghost use Rattle.burr_state.specs.Views.Effects.{next_of, KeepsUnlessGoes, NeverMoves, StaysFitting};
 ghost use Rattle.burr_state.specs.Views.StateViews.{IsOrderly};
 
 use crate::effect::Effect;

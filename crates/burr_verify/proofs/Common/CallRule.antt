@@ -10,7 +10,7 @@ use Rattle.burr_frames.specs.Rules.States.{AbstractState, Everywhere}
 use Rattle.burr_frames.specs.Rules.Arrival.{Meets}
 use Rattle.burr_frames.specs.Rules.Verdicts.{Verdict, FallsThrough}
 use Rattle.burr_frames.specs.Rules.ControlRules.{entry_of, called_with, after_call, left_of, call_rule}
-use Rattle.burr_verify.proofs.Common.FineVerdicts.{IsFine, held, found, held_everywhere}
+use Rattle.burr_frames.proofs.Common.FineVerdicts.{IsFine, held, found, held_everywhere}
 
 pub record CallHolds (plan : FramedPlan) (n q : ℕ) (s : AbstractState) (v : Verdict) : Type 0 where
   pub there : FramedProcedure

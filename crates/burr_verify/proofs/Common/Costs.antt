@@ -15,7 +15,7 @@ use Rattle.burr_frames.specs.Rules.Verdicts.{Verdict, Breaks, FallsThrough, NoSu
 use Rattle.burr_frames.specs.Rules.Transfer.{Transfer}
 use Rattle.burr_verify.specs.Rules.WellFramed.{Annotated, after, FallsOut, IsCutFrom, IsCut}
 use Rattle.burr_verify.proofs.Common.CallRule.{call_holds}
-use Rattle.burr_verify.proofs.Common.FineVerdicts.{IsFine, held, found, held_everywhere, held_of_pairs, paid}
+use Rattle.burr_frames.proofs.Common.FineVerdicts.{IsFine, held, found, held_everywhere, held_of_pairs, paid}
 use Rattle.burr_verify.proofs.Common.FormValues.{value_raised, value_minus, value_substituted}
 use Rattle.burr_verify.proofs.Common.FromContainers.{first_label}
 

@@ -71,3 +71,19 @@ IsFirstFailure homes plan n here r =
     (rows : List Annotated) × (to : ℕ) × (out : Option AbstractState)
     × IsFront homes plan n here rows to out
     × FailsNext homes plan n here (last_from 0 rows) to out r
+
+-- The pass comes to the instruction at pc in this state: it cuts the code before it, and the rules
+-- hold there.
+abbrev pub ComesTo : List (List Cell) → FramedPlan → ℕ → FramedProcedure → ℕ → AbstractState
+    → Type 0
+ComesTo homes plan n here pc s =
+    (rows : List Annotated) × (falling : Option AbstractState)
+    × PassesTo homes plan n here 0 None rows pc falling × Enters here pc falling s
+
+-- The pass goes over the instruction at pc, whose rule holds, and this state falls out of it, if one
+-- does.
+abbrev pub GoesOver : List (List Cell) → FramedPlan → ℕ → FramedProcedure → ℕ
+    → Option AbstractState → Type 0
+GoesOver homes plan n here pc out =
+    (s : AbstractState) × (i : Instruction) × (verdict : Verdict) × ComesTo homes plan n here pc s
+    × StandsAt here.code pc i × Transfer homes plan n here s i verdict × FallsOut verdict out

@@ -1,11 +1,18 @@
--- For crates above too: checks of a verdict that names no broken rule.
-use Rattle.std.proofs.Common.{◌≡◌, ◌⊎◌, ℕ, Option, Some, None, subst, inl, inr}
+-- For crates above: checks of a verdict that names no broken rule, and moves that keep their rules,
+-- which come to what they come to where nothing is in the way.
+use Rattle.std.proofs.Common.{◌≡◌, ◌⊎◌, ℕ, List, Option, Some, None, subst, inl, inr}
 use Rattle.std.specs.Prelude.{pos, ◌≤ℤ◌}
 use Rattle.burr_text.specs.Checks.{needs}
+use Rattle.burr_voxels.specs.declared.cell.Cell.{Cell}
+use Rattle.burr_voxels.specs.declared.direction.Direction.{Direction}
+use Rattle.burr_code.proofs.Common.OneAnswer.{IsOne, one_given, one_needed}
 use Rattle.burr_forms.specs.Rules.Forms.{Point, value, one_less, IsSmallForm}
 use Rattle.burr_frames.specs.declared.rule.Rule.{Rule}
 use Rattle.burr_frames.specs.declared.rule.Rule.TheVariants as rules
+use Rattle.burr_frames.specs.Views.Moving.{free_aside, free_step}
+use Rattle.burr_frames.specs.Rules.SpaceRules.{aside_rule, step_rule}
 use Rattle.burr_frames.specs.Rules.States.{AbstractState, Everywhere, IsFirstFailing}
+use Rattle.burr_frames.proofs.Common.Unique.{one_paid}
 use Rattle.burr_frames.specs.Rules.Verdicts.{Broken, Verdict, Breaks, FallsThrough, NoSuccessor, everywhere, plainly, at_point, at_pair, IsFirstPair}
 
 abbrev pub IsFine : Verdict → Type 0
@@ -47,3 +54,23 @@ pub paid : (s : AbstractState) {Q : Type 0} {v : Verdict} → IsFine v
     (everywhere s (λ point. pos 0 ≤ℤ value point (one_less s.cost)) rules.V24 (λ _. Q)) v
     → Everywhere s (λ point. pos 0 ≤ℤ value point (one_less s.cost)) × Q
 paid s fine p = held_everywhere s fine (held fine p).1
+
+-- Moves
+
+pub free_of_step : (homes : List (List Cell)) (s : AbstractState) (direction : Direction) (v : Verdict) → IsFine v
+    → step_rule homes s direction v → free_step s direction v
+free_of_step homes s direction v fine rule =
+    let small = held fine (held fine rule).1 in
+    inr (small.0, (held_of_pairs s fine (held_everywhere s fine small.1).1).1)
+
+pub free_of_aside : (homes : List (List Cell)) (s : AbstractState) (direction : Direction) (tray : ℕ) (v : Verdict) → IsFine v
+    → aside_rule homes s direction tray v → free_aside s tray v
+free_of_aside homes s direction tray v fine rule =
+    let empty = held fine (held fine rule).1 in
+    (held_of_pairs s fine (held_everywhere s fine empty.1).1).1
+
+pub one_free_step : (s : AbstractState) (direction : Direction) → IsOne (free_step s direction)
+one_free_step s direction = one_needed _ _ _ (one_paid s _ (one_given _))
+
+pub one_free_aside : (s : AbstractState) (tray : ℕ) → IsOne (free_aside s tray)
+one_free_aside s tray = one_paid s _ (one_given _)

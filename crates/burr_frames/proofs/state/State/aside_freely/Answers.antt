@@ -1,0 +1,27 @@
+-- A way out that can't be paid for, and one that is gone.
+use Rattle.std.proofs.Common.{◌≡◌, ◌∙◌, ap}
+use Rattle.std.proofs.lemmas.Result.{err_from_is_err_and}
+use Rattle.burr_code.specs.Places.{aside_places}
+use Rattle.burr_frames.specs.Views.Changes.{at_cost, with_grip, with_places}
+use Rattle.burr_frames.specs.Rules.States.{AbstractState}
+use Rattle.burr_frames.specs.Rules.Verdicts.{FallsThrough, falls_through}
+use Rattle.burr_frames.proofs.Paying.{paying_on, paying_breaks}
+use Rattle.burr_frames.proofs.state.State.aside_freely.Goals as goal
+
+pub returns-in_err-cost : goal.returns-in_err-cost
+returns-in_err-cost c =
+    let s = c.args.self.now in
+    let new = aside_places s.grip s.tray c.args.there s.places in
+    let p = err_from_is_err_and c.from_residual.result c.from_residual.ensures.1 in
+    rw (p.1, p.2)
+    (paying_breaks s c.in_err-cost.field-0.0 (λ paid. falls_through (with_grip 0 (with_places new paid))) c.in_err-cost.ensures)
+
+pub returns : goal.returns
+returns c =
+    let s = c.args.self.now in
+    let new = aside_places s.grip s.tray c.args.there s.places in
+    let cost = c.in_ok-cost.cost in
+    let changed : c.go_aside.new.self ≡ with_grip 0 (with_places new (at_cost cost s)) =
+    c.go_aside.ensures
+    ∙ ap (λ (a : AbstractState). with_grip 0 (with_places (aside_places a.grip a.tray c.args.there a.places) a)) c.set_cost.ensures in
+    paying_on s cost (λ paid. falls_through (with_grip 0 (with_places new paid))) (FallsThrough c.go_aside.new.self) c.in_ok-cost.ensures (ap FallsThrough changed)

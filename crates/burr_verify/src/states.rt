@@ -1,0 +1,93 @@
+//! The states of a pass at one place, for who tells of a refusal.
+
+ghost use Rattle.std.specs.Prelude.{◌≡◌, ◌<◌, ◌^◌, List, Option, Some};
+ghost use Rattle.burr_voxels.specs.declared.cell.Cell.{Cell};
+ghost use Rattle.burr_code.specs.Instruction.{IsInRange};
+ghost use Rattle.burr_code.specs.Meaning.{meaning};
+ghost use Rattle.burr_frames.specs.Views.Here.{OfFramedProcedure};
+ghost use Rattle.burr_frames.specs.Rules.States.{AbstractState};
+ghost use Rattle.burr_frames.specs.Rules.Transfer.{Transfer};
+ghost use Rattle.burr_frames.specs.Rules.Verdicts.{Verdict};
+ghost use Rattle.burr_verify.specs.Rules.Fronts.{ComesTo, GoesOver};
+ghost use Rattle.burr_verify.specs.Rules.WellFramed.{Enters, FallsOut};
+
+use crate::labels::label_within;
+use crate::laws::a_container_has_a_plan;
+use crate::transfer::{Successor, transfer_freely};
+use burr_code::{Instr, fetch};
+use burr_container::ProcedureRef;
+use burr_frames::State;
+
+/// The state in which the pass over a procedure comes to the instruction at a place of its code. Where
+/// it does not come there, because a rule is broken before, the answer may be any. No look is made.
+pub fn state_before(procedure: ProcedureRef<'_, '_>, pc: u16) -> Option<State>
+    ensures { OfFramedProcedure procedure.entry (λ plan here. (homes : List (List Cell))
+        (s : AbstractState)
+        → ComesTo homes plan procedure.entry.number here pc s → result ≡ Some s) }
+{
+    let mut falling = None;
+    let mut at = 0;
+    while at < usize::from(pc) {
+        let Some((instruction, size)) = fetch(procedure.code(), at) else {
+            return None;
+        };
+        let Some(before) = entered(procedure, at, falling) else {
+            return None;
+        };
+        falling = fallen_out(before, &instruction, procedure);
+        at += size;
+    }
+    entered(procedure, usize::from(pc), falling)
+}
+
+/// The state that falls out of the instruction at a place of a procedure's code, where the pass goes
+/// over it; None where none does. Where a rule is broken before, the answer may be any; where it is
+/// broken there since pieces are in each other's way, they are where they would come to. No look is
+/// made.
+pub fn state_after(procedure: ProcedureRef<'_, '_>, pc: u16) -> Option<State>
+    ensures { OfFramedProcedure procedure.entry (λ plan here. (homes : List (List Cell))
+        (out : Option AbstractState)
+        → GoesOver homes plan procedure.entry.number here pc out → result ≡ out) }
+{
+    let Some((instruction, _size)) = fetch(procedure.code(), usize::from(pc)) else {
+        return None;
+    };
+    let Some(before) = state_before(procedure, pc) else {
+        return None;
+    };
+    fallen_out(before, &instruction, procedure)
+}
+
+/// The state before the instruction at a place into which a state falls, if one does: that of the
+/// frame there, or else what falls in.
+fn entered(procedure: ProcedureRef<'_, '_>, at: usize, falling: Option<State>) -> Option<State>
+    requires { at < 2 ^ 16 }
+    ensures { OfFramedProcedure procedure.entry (λ plan here. (s : AbstractState)
+        → Enters here at falling s → result ≡ Some s) }
+{
+    // The plan is within the format, so that one frame at most stands at a place.
+    a_container_has_a_plan(procedure.container());
+    match label_within(procedure, at, at + 1) {
+        Some(label) => Some(State::of(&procedure.frame(label))),
+        None => falling,
+    }
+}
+
+/// The state that falls out of an instruction, if one does, where its rule holds.
+fn fallen_out(
+    mut state: State,
+    instruction: &Instr<'_>,
+    procedure: ProcedureRef<'_, '_>,
+) -> Option<State>
+    requires { IsInRange (meaning instruction.now) }
+    ensures { OfFramedProcedure procedure.entry (λ plan here. (homes : List (List Cell))
+        (verdict : Verdict) (out : Option AbstractState)
+        → Transfer homes plan procedure.entry.number here state (meaning instruction.now)
+        verdict
+        → FallsOut verdict out → result ≡ out) }
+{
+    match transfer_freely(&mut state, instruction, procedure) {
+        Ok(Successor::FallsThrough) => Some(state),
+        Ok(Successor::None) | Err(_) => None,
+    }
+}
