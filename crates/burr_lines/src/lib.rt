@@ -3,13 +3,9 @@
 #![tactic(auto)]
 
 mod lines;
-mod plan_item;
 mod plan_text;
 mod report;
-mod shown;
 
-pub use lines::{Line, PlanLines, numbered_line};
-pub use plan_item::{FramePart, PlanItem};
+pub use lines::{FramePart, Line, PlanItem, PlanLines, numbered_line};
 pub use plan_text::{PlanText, piece_name};
-pub use report::Report;
-pub use shown::Shown;
+pub use report::{Report, Shown};

@@ -1,10 +1,51 @@
 //! The lines of a plan text, each with what it says.
 
-use crate::plan_item::{FramePart, PlanItem};
 use burr_code::fetch;
 use burr_container::Container;
 use burr_text::{cut_at, integer};
 use std::alloc::{AllocError, Global};
+
+/// What a line of a frame or of an exit frame tells.
+#[derive(Clone, Copy, PartialEq, Eq)]
+pub enum FramePart {
+    /// The current tray and the grip.
+    Head,
+    Slot(u8),
+    Result(u8),
+    Guard(u8),
+    /// An operand, counted from the bottom.
+    Operand(u8),
+    Cost,
+    Piece(u8),
+}
+
+/// What a line of a plan text says: procedures, their labels and the bytes of their code are told
+/// by their numbers, from 0.
+#[derive(Clone, Copy, PartialEq, Eq)]
+pub enum PlanItem {
+    Plan,
+    Procedure(usize),
+    /// A line of a procedure's exit frame.
+    Exit {
+        procedure: usize,
+        part: FramePart,
+    },
+    Label {
+        procedure: usize,
+        label: usize,
+    },
+    /// A line of a label's frame.
+    Frame {
+        procedure: usize,
+        label: usize,
+        part: FramePart,
+    },
+    /// A line of code, by the place where its bytes begin.
+    Code {
+        procedure: usize,
+        pc: usize,
+    },
+}
 
 /// A line: its number, counted from 1, and its bytes without the line feed.
 #[derive(Clone, Copy)]
@@ -52,14 +93,6 @@ pub fn numbered_line(text: &[u8], number: usize) -> Option<Line<'_>> {
         None => rest,
     };
     Some(Line { number, bytes })
-}
-
-/// How many lines of some words a frame has had so far.
-#[derive(Clone, Copy, Default)]
-struct Counts {
-    results: u8,
-    guards: u8,
-    operands: u8,
 }
 
 /// The lines of a plan text that is assembled to a container, each with what it says; lines that
@@ -123,9 +156,11 @@ struct ItemCursor<'a, 'c> {
     procedures: usize,
     /// How many labels of the procedure have begun.
     labels: usize,
-    counts: Counts,
     /// How many bytes of the procedure's code stand before.
     pc: usize,
+    /// The first word of the last line, and how many lines in a row before it have the same.
+    word: &'a [u8],
+    count: u8,
 }
 
 impl<'a, 'c> ItemCursor<'a, 'c> {
@@ -135,44 +170,39 @@ impl<'a, 'c> ItemCursor<'a, 'c> {
             container,
             procedures: 0,
             labels: 0,
-            counts: Counts::default(),
             pc: 0,
+            word: b"",
+            count: 0,
         }
     }
 
     /// What a line says; none of one that is skipped, or that names no slot or piece by a number.
-    fn item_of(&mut self, line: &Line<'_>) -> Option<PlanItem> {
+    fn item_of(&mut self, line: &Line<'a>) -> Option<PlanItem> {
         if line.is_skipped() {
             return None;
         }
-        match line.word() {
-            b"plan" | b"plan2" => Some(PlanItem::Plan),
-            b"proc" => Some(self.begin_procedure()),
-            b"label" => Some(self.begin_label()),
-            b"slot" => self.slot_item(line.operand()),
-            b"at" => self.piece_item(line.operand()),
-            word => Some(self.item_in_procedure(word)),
-        }
+        self.count_line(line.word());
+        let item = match line.word() {
+            b"plan" | b"plan2" => PlanItem::Plan,
+            b"proc" => self.begin_procedure(),
+            b"label" => self.begin_label(),
+            b"exit" | b"frame" => self.frame_item(FramePart::Head),
+            b"slot" => self.frame_item(FramePart::Slot(number_of(line.operand())?)),
+            b"result" => self.frame_item(FramePart::Result(self.count)),
+            b"guard" => self.frame_item(FramePart::Guard(self.count)),
+            b"stack" => self.frame_item(FramePart::Operand(self.count)),
+            b"cost" => self.frame_item(FramePart::Cost),
+            b"at" => self.frame_item(FramePart::Piece(number_of(line.operand())?)),
+            word => self.code_item(word),
+        };
+        Some(item)
     }
 
-    /// The line of a slot, by its second word.
-    fn slot_item(&self, operand: &[u8]) -> Option<PlanItem> {
-        let slot = number_of(operand)?;
-        Some(self.frame_item(FramePart::Slot(slot)))
-    }
-
-    /// The line of a piece, by its second word.
-    fn piece_item(&self, operand: &[u8]) -> Option<PlanItem> {
-        let piece = number_of(operand)?;
-        Some(self.frame_item(FramePart::Piece(piece)))
-    }
-
-    /// What another line of a frame, or one of code, says, by its first word.
-    fn item_in_procedure(&mut self, word: &[u8]) -> PlanItem {
-        match self.part_of(word) {
-            Some(part) => self.frame_item(part),
-            None => self.code_item(word),
-        }
+    /// Counts a line that begins with a word; those of a frame that have one word stand in a row.
+    fn count_line(&mut self, word: &'a [u8]) {
+        let more = self.count.saturating_add(1);
+        self.count = if word == self.word { more } else { 0 };
+        self.word = word;
     }
 
     /// The line of a procedure.
@@ -199,35 +229,17 @@ impl<'a, 'c> ItemCursor<'a, 'c> {
         self.procedures.saturating_sub(1)
     }
 
-    /// What a line of a frame tells, by its first word; none of a line of code.
-    fn part_of(&mut self, word: &[u8]) -> Option<FramePart> {
-        match word {
-            b"exit" | b"frame" => Some(self.begin_frame()),
-            b"cost" => Some(FramePart::Cost),
-            b"result" => Some(FramePart::Result(counted(&mut self.counts.results))),
-            b"guard" => Some(FramePart::Guard(counted(&mut self.counts.guards))),
-            b"stack" => Some(FramePart::Operand(counted(&mut self.counts.operands))),
-            _ => None,
-        }
-    }
-
-    /// The first line of a frame.
-    fn begin_frame(&mut self) -> FramePart {
-        self.counts = Counts::default();
-        FramePart::Head
-    }
-
     /// A line of the frame of the label that has begun last, or of the exit frame before the first
     /// label.
     fn frame_item(&self, part: FramePart) -> PlanItem {
         let procedure = self.procedure();
-        if self.labels == 0 {
-            return PlanItem::Exit { procedure, part };
-        }
-        PlanItem::Frame {
-            procedure,
-            label: self.labels.saturating_sub(1),
-            part,
+        match self.labels.checked_sub(1) {
+            None => PlanItem::Exit { procedure, part },
+            Some(label) => PlanItem::Frame {
+                procedure,
+                label,
+                part,
+            },
         }
     }
 
@@ -252,13 +264,6 @@ impl<'a, 'c> ItemCursor<'a, 'c> {
             None => 1,
         }
     }
-}
-
-/// The number of a line of its kind, which is counted.
-fn counted(count: &mut u8) -> u8 {
-    let number = *count;
-    *count = number.saturating_add(1);
-    number
 }
 
 /// The number that a word tells; none where it tells none of 0 to 255.

@@ -3,7 +3,7 @@
 use burr_assembly::Assembly;
 use burr_code::limits::MOST_LABELS;
 use burr_code::{Instr, fetch};
-use burr_container::{Container, ExitRef, FrameRef};
+use burr_container::{Container, ExitRef, FrameRef, ProcedureRef};
 use burr_voxels::Cell;
 
 /// A plan text, the container that it is assembled to, and the assembly that it was judged for.
@@ -30,40 +30,43 @@ impl<'a, 'c> PlanText<'a, 'c> {
         self.assembly.cells(piece)
     }
 
+    /// A procedure; none where there is no such procedure.
+    pub fn procedure(&self, procedure: usize) -> Option<ProcedureRef<'a, 'c>> {
+        if self.container.proc_count() <= procedure {
+            return None;
+        }
+        Some(self.container.procedure(procedure))
+    }
+
     /// How many parameters a procedure has; 0 where there is no such procedure.
     pub fn parameters(&self, procedure: usize) -> u8 {
-        if self.container.proc_count() <= procedure {
-            return 0;
+        match self.procedure(procedure) {
+            Some(procedure) => procedure.params(),
+            None => 0,
         }
-        self.container.params(procedure)
     }
 
     /// The exit frame of a procedure; none of main, and where there is no such procedure.
     pub fn exit(&self, procedure: usize) -> Option<ExitRef<'c>> {
-        if self.container.proc_count() <= procedure {
-            return None;
-        }
-        self.container.exit(procedure)
+        self.procedure(procedure)?.exit()
     }
 
     /// The position of a label in its procedure's code; none where there is no such label.
     pub fn position(&self, procedure: usize, label: usize) -> Option<usize> {
-        if self.container.proc_count() <= procedure
-            || self.container.label_count(procedure) <= label
-        {
+        let procedure = self.procedure(procedure)?;
+        if procedure.label_count() <= label {
             return None;
         }
-        Some(usize::from(self.container.label(procedure, label)))
+        Some(usize::from(procedure.label(label)))
     }
 
     /// The frame of a label; none where there is no such label.
     pub fn frame(&self, procedure: usize, label: usize) -> Option<FrameRef<'c>> {
-        if self.container.proc_count() <= procedure
-            || self.container.label_count(procedure) <= label
-        {
+        let procedure = self.procedure(procedure)?;
+        if procedure.label_count() <= label {
             return None;
         }
-        Some(self.container.frame(procedure, label))
+        Some(procedure.frame(label))
     }
 
     /// The last label of a procedure at a place of its code or before it; none where there is none.
@@ -90,10 +93,7 @@ impl<'a, 'c> PlanText<'a, 'c> {
     /// The instruction at a place of a procedure's code, and how many bytes it has; none where none
     /// stands there.
     pub fn instruction_at(&self, procedure: usize, pc: usize) -> Option<(Instr<'c>, usize)> {
-        if self.container.proc_count() <= procedure {
-            return None;
-        }
-        fetch(self.container.code(procedure), pc)
+        fetch(self.procedure(procedure)?.code(), pc)
     }
 
     /// Where the instruction at a place of a procedure's code ends; that place where none stands

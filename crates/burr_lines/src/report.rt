@@ -1,7 +1,6 @@
 //! Texts about lines.
 
 use crate::lines::Line;
-use crate::shown::Shown;
 use std::alloc::{AllocError, Global};
 use std::fmt;
 
@@ -58,4 +57,26 @@ impl Report {
         }
         Err(AllocError)
     }
+}
+
+/// Bytes of a text that somebody else wrote, with a mark in place of each that is no printable one.
+#[derive(Clone, Copy, Drop)]
+pub struct Shown<'a>(pub &'a [u8]);
+
+impl fmt::Display for Shown<'_> {
+    fn fmt<W: fmt::Write>(&self, f: &mut fmt::Formatter<W>) -> fmt::Result {
+        for byte in self.0 {
+            let printed = printed(*byte);
+            write!(f, "{printed}")?;
+        }
+        Ok(())
+    }
+}
+
+/// How a byte is shown.
+fn printed(byte: u8) -> char {
+    if b' ' <= byte && byte <= b'~' {
+        return char::from(byte);
+    }
+    '?'
 }

@@ -1,10 +1,12 @@
 //! The arrivals of a run at the labels of its plan.
 
-use crate::labels::Labels;
-use crate::snapshot::Snapshot;
-use burr_lines::{PlanLines, PlanText};
+use arrayvec::ArrayVec;
+use burr_code::Placement;
+use burr_code::limits::{MOST_OPERANDS, SLOTS};
+use burr_lines::{Line, PlanItem, PlanLines, PlanText};
 use burr_runs::Observer;
 use burr_state::{Bench, Mode};
+use burr_voxels::Cell;
 use std::alloc::{AllocError, Global};
 
 /// An arrival of a run at a label.
@@ -77,7 +79,7 @@ impl<'a> Arrivals<'a> {
     /// Before the run of a plan.
     pub fn new(alloc: Global, plan: PlanText<'a, '_>) -> Result<Arrivals<'a>, AllocError> {
         let lines = PlanLines::of(alloc, plan.text, plan.container)?;
-        let labels = Labels::of(alloc, &lines, plan.container)?;
+        let labels = Labels::of(alloc, &lines, plan)?;
         Ok(Arrivals {
             alloc,
             lines,
@@ -160,5 +162,152 @@ impl Observer for Arrivals<'_> {
         if self.note(bench, &stand).is_err() {
             self.is_whole = false;
         }
+    }
+}
+
+/// What holds where a run stands, as far as a frame tells of it; its cost is not known yet.
+#[derive(Drop)]
+pub struct Snapshot {
+    /// The current tray.
+    pub tray: u8,
+    /// The gripped pieces: bit p is piece p.
+    pub grip: u32,
+    slots: [Option<i64>; SLOTS],
+    /// The top last.
+    pub operands: ArrayVec<i64, MOST_OPERANDS>,
+    /// How far each piece lies from home.
+    pub places: Vec<Placement<Cell>>,
+}
+
+impl Snapshot {
+    /// What holds where a bench stands.
+    pub fn of(alloc: Global, bench: &Bench<'_>) -> Result<Snapshot, AllocError> {
+        let mut operands = ArrayVec::new();
+        for operand in bench.operands() {
+            let _ = operands.try_push(i64::from(*operand));
+        }
+        Ok(Snapshot {
+            tray: bench.tray(),
+            grip: bench.grip(),
+            slots: slots_of(bench),
+            operands,
+            places: places_of(alloc, bench)?,
+        })
+    }
+
+    /// What a slot holds; none where it is empty.
+    pub fn slot(&self, slot: usize) -> Option<i64> {
+        self.slots.get(slot).copied().flatten()
+    }
+
+    /// The number in a slot; 0 where it is empty.
+    pub fn number(&self, slot: usize) -> i64 {
+        self.slot(slot).unwrap_or(0)
+    }
+
+    /// An operand, counted from the bottom; 0 where there is none.
+    pub fn operand(&self, n: usize) -> i64 {
+        self.operands.get(n).copied().unwrap_or(0)
+    }
+
+    /// The tray of a piece; none where it is apart.
+    pub fn tray_of(&self, piece: usize) -> Option<u8> {
+        self.places.get(piece)?.tray()
+    }
+
+    /// How far a piece lies from home; not at all where it is apart.
+    pub fn position(&self, piece: usize) -> Cell {
+        match self.places.get(piece) {
+            Some(Placement::On { position, .. }) => *position,
+            _ => Cell { x: 0, y: 0, z: 0 },
+        }
+    }
+}
+
+/// The numbers in the slots.
+fn slots_of(bench: &Bench<'_>) -> [Option<i64>; SLOTS] {
+    let mut slots = [None; SLOTS];
+    for slot in 0..SLOTS as u8 {
+        if let Some(number) = bench.slot(slot) {
+            slots[usize::from(slot)] = Some(i64::from(number));
+        }
+    }
+    slots
+}
+
+/// Where the pieces are.
+fn places_of(alloc: Global, bench: &Bench<'_>) -> Result<Vec<Placement<Cell>>, AllocError> {
+    let mut places = Vec::new(alloc);
+    for piece in 0..bench.piece_count() {
+        places.push(bench.place(piece))?;
+    }
+    Ok(places)
+}
+
+/// A label of a plan text.
+#[derive(Clone, Copy)]
+pub struct Label<'a> {
+    /// The number of its procedure.
+    pub procedure: usize,
+    /// The line that names the procedure.
+    pub procedure_line: Line<'a>,
+    /// Where it stands in the procedure's code.
+    pub pc: usize,
+    /// The line that names it.
+    pub line: Line<'a>,
+}
+
+/// The labels of a plan text, in its order: that of procedures and, within each, of places.
+#[derive(Drop)]
+pub struct Labels<'a> {
+    labels: Vec<Label<'a>>,
+}
+
+impl<'a> Labels<'a> {
+    /// The labels of a plan text with these lines.
+    pub fn of(
+        alloc: Global,
+        lines: &PlanLines<'a>,
+        plan: PlanText<'a, '_>,
+    ) -> Result<Labels<'a>, AllocError> {
+        let mut labels = Vec::new(alloc);
+        let mut head = Line {
+            number: 0,
+            bytes: b"",
+        };
+        for (item, line) in lines.lines() {
+            match *item {
+                PlanItem::Procedure(_) => head = *line,
+                PlanItem::Label { procedure, label } => {
+                    labels.push(Label {
+                        procedure,
+                        procedure_line: head,
+                        pc: plan.position(procedure, label).unwrap_or(0),
+                        line: *line,
+                    })?;
+                }
+                _ => {}
+            }
+        }
+        Ok(Labels { labels })
+    }
+
+    /// The labels.
+    pub fn as_slice(&self) -> &[Label<'a>] {
+        &self.labels
+    }
+
+    /// The number, from 0, of the label at a place of a procedure's code; none where none stands
+    /// there.
+    pub fn at(&self, procedure: usize, pc: usize) -> Option<usize> {
+        let wanted = (procedure, pc);
+        let number = self
+            .labels
+            .partition_point(|label| (label.procedure, label.pc) < wanted);
+        let label = self.labels.get(number)?;
+        if label.procedure == procedure && label.pc == pc {
+            return Some(number);
+        }
+        None
     }
 }

@@ -4,14 +4,11 @@
 #![tactic(auto)]
 
 mod arrivals;
-mod filling;
 mod fit;
-mod labels;
-mod pieces;
 mod seen;
-mod snapshot;
 mod trace;
+mod unframed;
 
 pub use arrivals::Arrivals;
-pub use filling::{Filled, Unframed};
 pub use trace::trace_of;
+pub use unframed::{Filled, Unframed};

@@ -1,12 +1,12 @@
 //! The frame that some arrivals at a label agree with.
 
-use crate::arrivals::Arrival;
+use crate::arrivals::{Arrival, Snapshot};
 use crate::fit::{Fit, Quantity, is_live};
-use crate::pieces::Pieces;
-use crate::snapshot::Snapshot;
-use burr_code::limits::SLOTS;
+use burr_code::is_in_set;
+use burr_code::limits::{MOST_PIECES, SLOTS};
 use burr_lines::Report;
 use std::alloc::{AllocError, Global};
+use std::fmt;
 
 /// The arrivals at each of some labels, in their order.
 pub fn seen_at_each<'x>(
@@ -125,4 +125,24 @@ fn add_offset(report: &mut Report, piece: usize, tray: u8, seen: &[&Arrival]) ->
     }
     report.add_words(format_args!("; at {piece} {tray}: x {x}, y {y}, z {z}\n"));
     false
+}
+
+/// A set of pieces, as frames have it: bit p is piece p.
+#[derive(Clone, Copy, Drop)]
+pub struct Pieces(pub u32);
+
+impl fmt::Display for Pieces {
+    fn fmt<W: fmt::Write>(&self, f: &mut fmt::Formatter<W>) -> fmt::Result {
+        if self.0 == 0 {
+            return write!(f, "-");
+        }
+        let mut separator = "";
+        for piece in 0..MOST_PIECES as u8 {
+            if is_in_set(self.0, piece) {
+                write!(f, "{separator}{piece}")?;
+                separator = ",";
+            }
+        }
+        Ok(())
+    }
 }

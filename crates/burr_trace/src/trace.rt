@@ -1,7 +1,6 @@
 //! A trace: what held whenever a run came to a label, and what was seen at each.
 
-use crate::arrivals::{Arrival, Arrivals, Stand};
-use crate::labels::Label;
+use crate::arrivals::{Arrival, Arrivals, Label, Stand};
 use crate::seen::{add_frame, seen_at_each};
 use burr_lines::{PlanItem, Report, Shown};
 use std::alloc::{AllocError, Global};

@@ -29,7 +29,7 @@ impl fmt::Display for Group<'_> {
 }
 
 /// Where a piece is, without regard to how far from home: apart, or in a tray.
-#[derive(Clone, Copy, Drop)]
+#[derive(Clone, Copy, PartialEq, Drop)]
 pub struct Whereabouts(pub Option<u8>);
 
 impl fmt::Display for Whereabouts {

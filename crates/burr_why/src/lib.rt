@@ -3,14 +3,13 @@
 //! the verifier alone.
 #![tactic(auto)]
 
-mod comparing;
-mod difference;
+mod differences;
 mod group;
 mod meeting;
 mod offset;
+mod origins;
 mod point_state;
 mod reasons;
-mod why;
 
 pub use burr_lines::PlanText;
-pub use why::{reason_of_line, reason_of_refusal};
+pub use reasons::{reason_of_line, reason_of_refusal};

@@ -4,8 +4,9 @@ use crate::point_state::value;
 use arrayvec::ArrayVec;
 use burr_code::Placement;
 use burr_code::limits::MOST_PIECES;
-use burr_container::{ExitRef, FrameRef};
+use burr_container::ExitRef;
 use burr_forms::Form;
+use burr_voxels::Direction;
 use std::fmt;
 
 /// How far a piece lies from home, in cells.
@@ -17,6 +18,26 @@ pub struct Offset {
 }
 
 impl Offset {
+    /// The offset that forms give for these values of their symbols.
+    pub fn of(forms: [&Form; 3], symbols: &[i64]) -> Offset {
+        let [x, y, z] = forms;
+        Offset {
+            x: value(x, symbols),
+            y: value(y, symbols),
+            z: value(z, symbols),
+        }
+    }
+
+    /// One unit along a direction.
+    pub fn unit(direction: Direction) -> Offset {
+        let unit = direction.unit();
+        Offset {
+            x: i64::from(unit.x),
+            y: i64::from(unit.y),
+            z: i64::from(unit.z),
+        }
+    }
+
     /// The offset so much further.
     pub fn plus(&self, other: Offset) -> Offset {
         Offset {
@@ -34,41 +55,21 @@ impl fmt::Display for Offset {
     }
 }
 
-/// Where a frame has the pieces, for these values of its symbols.
-pub fn frame_places(
-    frame: &FrameRef<'_>,
-    symbols: &[i64],
-) -> ArrayVec<Placement<Offset>, MOST_PIECES> {
-    let mut places = ArrayVec::new();
-    for piece in 0..frame.piece_count() {
-        let _ = places.try_push(placed(frame.place(piece), symbols));
-    }
-    places
-}
-
-/// The same of an exit frame.
+/// Where an exit frame has the pieces, for these values of its symbols.
 pub fn exit_places(
     exit: &ExitRef<'_>,
     symbols: &[i64],
 ) -> ArrayVec<Placement<Offset>, MOST_PIECES> {
     let mut places = ArrayVec::new();
     for piece in 0..exit.piece_count() {
-        let _ = places.try_push(placed(exit.place(piece), symbols));
+        let place = match exit.place(piece) {
+            None => Placement::Apart,
+            Some((tray, x, y, z)) => Placement::On {
+                tray,
+                position: Offset::of([&x, &y, &z], symbols),
+            },
+        };
+        let _ = places.try_push(place);
     }
     places
-}
-
-/// The place that forms give for these values of their symbols.
-fn placed(place: Option<(u8, Form, Form, Form)>, symbols: &[i64]) -> Placement<Offset> {
-    match place {
-        None => Placement::Apart,
-        Some((tray, x, y, z)) => Placement::On {
-            tray,
-            position: Offset {
-                x: value(&x, symbols),
-                y: value(&y, symbols),
-                z: value(&z, symbols),
-            },
-        },
-    }
 }

@@ -1,19 +1,19 @@
 //! What is said of each rule that refuses a plan.
 
-mod code;
 mod control;
 mod costs;
-mod forming;
 mod frames;
+mod malformed;
 mod numbers;
 mod site;
 mod space;
 
 use burr_frames::Rule;
-use burr_lines::{FramePart, PlanItem, PlanLines, PlanText, Report};
+use burr_lines::{FramePart, PlanItem, PlanLines, PlanText, Report, numbered_line};
 use burr_verify::Refusal;
 use site::Site;
 use std::alloc::{AllocError, Global};
+use std::fmt;
 
 /// Says why a plan is refused.
 #[derive(Drop)]
@@ -24,24 +24,9 @@ pub struct Reasons<'a, 'c> {
     report: Report,
 }
 
-impl<'a, 'c> Reasons<'a, 'c> {
-    /// Nothing is said yet.
-    pub fn new(alloc: Global, plan: PlanText<'a, 'c>) -> Result<Reasons<'a, 'c>, AllocError> {
-        Ok(Reasons {
-            alloc,
-            plan,
-            lines: PlanLines::of(alloc, plan.text, plan.container)?,
-            report: Report::new(alloc),
-        })
-    }
-
-    /// What was said, if memory was never wanting.
-    pub fn into_text(self) -> Result<String, AllocError> {
-        self.report.into_text()
-    }
-
+impl Reasons<'_, '_> {
     /// Says why this refusal was made.
-    pub fn add(&mut self, refusal: &Refusal) {
+    fn add(&mut self, refusal: &Refusal) {
         match refusal.rule {
             Rule::V1 => self.add_other_assembly(),
             Rule::V27 => self.add_malformed_frame(refusal),
@@ -54,7 +39,7 @@ impl<'a, 'c> Reasons<'a, 'c> {
     /// Says why a place of the code breaks a rule.
     fn add_at_site(&mut self, rule: Rule, refusal: &Refusal) {
         let site = Site::of(&self.plan, refusal);
-        self.add_item(site.code_item(site.pc));
+        self.add_item(site.code_item(usize::from(site.pc)));
         self.add_surroundings(&site);
         match rule {
             Rule::V2 | Rule::V3 | Rule::V4 | Rule::V5 => self.add_bad_code(rule, &site),
@@ -65,7 +50,7 @@ impl<'a, 'c> Reasons<'a, 'c> {
 
     /// Says why an instruction breaks a rule.
     fn add_bad_instruction(&mut self, rule: Rule, site: &Site) {
-        let Some((instruction, _)) = self.plan.instruction_at(site.procedure, site.pc) else {
+        let Some((instruction, _)) = site.instruction(&self.plan) else {
             return;
         };
         match rule {
@@ -88,7 +73,12 @@ impl<'a, 'c> Reasons<'a, 'c> {
         self.add_item(PlanItem::Plan);
         let name = self.plan.assembly.name();
         let pieces = self.plan.assembly.piece_count();
-        self.report.add_note(format_args!("the assembly is {name} and has {pieces} pieces"));
+        self.note(format_args!("the assembly is {name} and has {pieces} pieces"));
+    }
+
+    /// Notes something of the line that was named last.
+    fn note<D: fmt::Display + Drop>(&mut self, note: D) {
+        self.report.add_note(note);
     }
 
     /// Names the line that says this, where there is one.
@@ -114,4 +104,38 @@ impl<'a, 'c> Reasons<'a, 'c> {
             part: FramePart::Head,
         });
     }
+}
+
+/// Says why a plan is refused: the lines of its text that are at fault, each as
+/// `cup.plan:38: jump L`, and below each what was compared there.
+pub fn reason_of_refusal(
+    alloc: Global,
+    plan: PlanText<'_, '_>,
+    refusal: &Refusal,
+) -> Result<String, AllocError> {
+    let mut reasons = Reasons {
+        alloc,
+        plan,
+        lines: PlanLines::of(alloc, plan.text, plan.container)?,
+        report: Report::new(alloc),
+    };
+    reasons.add(refusal);
+    reasons.report.into_text()
+}
+
+/// Names a faulty line of a text, as `cup.plan:38: jump`; or says that the text ends before it.
+pub fn reason_of_line(
+    alloc: Global,
+    file: &str,
+    text: &[u8],
+    number: usize,
+) -> Result<String, AllocError> {
+    let mut report = Report::new(alloc);
+    match numbered_line(text, number) {
+        Some(line) => report.add_line(file, &line),
+        None => {
+            report.add_words(format_args!("{file}:{number}: the text ends before this line\n"));
+        }
+    }
+    report.into_text()
 }

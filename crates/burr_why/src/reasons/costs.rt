@@ -1,12 +1,12 @@
 //! Costs, and what is too much to be judged.
 
 use super::{Reasons, Site};
-use crate::point_state::MOST_SYMBOLS;
+use crate::point_state::{MOST_SYMBOLS, value};
 use burr_code::Instr;
 use burr_code::limits::{MOST_STATE_GUARDS, SLOTS};
 use burr_container::FrameRef;
 use burr_forms::limits::{MOST_FORM_NUMBER, MOST_POINTS};
-use burr_frames::Rule;
+use burr_frames::{Rule, State};
 use burr_lines::{FramePart, PlanItem};
 use burr_verify::Refusal;
 
@@ -21,27 +21,35 @@ impl Reasons<'_, '_> {
     pub(super) fn add_bad_cost(&mut self, rule: Rule, instruction: &Instr<'_>, site: &Site) {
         match rule {
             Rule::V24 => self.add_want_of_cost(instruction, site),
-            Rule::V26 => self.report.add_note(LARGE_FORM_NUMBER),
+            Rule::V26 => self.note(LARGE_FORM_NUMBER),
             _ => self.add_too_many(instruction, site),
         }
     }
 
     /// How many steps are left, and how many are needed.
     fn add_want_of_cost(&mut self, instruction: &Instr<'_>, site: &Site) {
-        self.add_left_and_needed(site.before.cost, site.after.cost);
+        let left = site.before.cost;
+        let needed = self.needed(instruction, site);
+        self.note(format_args!("cost {left} is left, {needed} is needed"));
         self.add_point(site, &site.before);
         if let Instr::Call(callee) = instruction {
             self.add_first_cost(usize::from(*callee));
-            self.report.add_note("a call takes 1 more than this");
+            self.note("a call takes 1 more than this");
         }
         self.add_last_part(site, FramePart::Cost);
     }
 
-    /// Notes that `left` steps are left, and how many an instruction takes that leaves `after`.
-    fn add_left_and_needed(&mut self, left: i64, after: i64) {
-        let needed = left.saturating_sub(after);
-        self.report
-            .add_note(format_args!("cost {left} is left, {needed} is needed"));
+    /// How many steps an instruction needs: one, and those of a procedure that it calls.
+    fn needed(&self, instruction: &Instr<'_>, site: &Site) -> i64 {
+        let Instr::Call(callee) = instruction else {
+            return 1;
+        };
+        let callee = usize::from(*callee);
+        let arguments = site.before.arguments(self.plan.parameters(callee));
+        match self.plan.frame(callee, 0) {
+            Some(entry) => value(&entry.cost(), &arguments).saturating_add(1),
+            None => 1,
+        }
     }
 
     /// What would be one too many.
@@ -50,21 +58,19 @@ impl Reasons<'_, '_> {
             Instr::Ask(low, high) if site.before.symbols.len() < MOST_SYMBOLS => {
                 self.add_wide_answer(*low, *high)
             }
-            Instr::Ask(..) => self.report.add_note(format_args!(
+            Instr::Ask(..) => self.note(format_args!(
                 "{MOST_SYMBOLS} numbers are open, and the answer is one more"
             )),
-            Instr::Down(..) => self.report.add_note(format_args!(
+            Instr::Down(..) => self.note(format_args!(
                 "{MOST_STATE_GUARDS} guards are there, and this makes one more"
             )),
-            _ => self
-                .report
-                .add_note("its results make too many open numbers, guards or points"),
+            _ => self.note("its results make too many open numbers, guards or points"),
         }
     }
 
     /// Notes that an answer of this range makes too many points.
     fn add_wide_answer(&mut self, low: i16, high: i16) {
-        self.report.add_note(format_args!(
+        self.note(format_args!(
             "with {low} to {high} the open numbers have more than {MOST_POINTS} points"
         ));
     }
@@ -100,7 +106,7 @@ impl Reasons<'_, '_> {
 
     /// Notes how many points the ranges of a frame have.
     fn add_points(&mut self, points: u64) {
-        self.report.add_note(format_args!(
+        self.note(format_args!(
             "its slots have {points} points together, and {MOST_POINTS} are the most"
         ));
     }
@@ -109,7 +115,7 @@ impl Reasons<'_, '_> {
     pub(super) fn add_small_budget(&mut self) {
         self.add_item(PlanItem::Plan);
         let budget = self.plan.container.header().budget;
-        self.report.add_note(format_args!("the budget is {budget}, so below what main costs"));
+        self.note(format_args!("the budget is {budget}, so below what main costs"));
         self.add_first_cost(0);
     }
 
@@ -126,18 +132,9 @@ impl Reasons<'_, '_> {
 /// How many points the ranges of a frame have together, guards not counted.
 fn points(frame: &FrameRef<'_>) -> u64 {
     let mut points: u64 = 1;
-    for v in 0..SLOTS as u8 {
-        if let Some((low, high)) = frame.slot(v) {
-            points = points.saturating_mul(span(low, high));
-        }
+    for (low, high) in State::of(frame).ranges() {
+        let numbers = u64::from(high.abs_diff(*low)).saturating_add(1);
+        points = points.saturating_mul(numbers);
     }
     points
-}
-
-/// How many numbers a range has.
-fn span(low: i16, high: i16) -> u64 {
-    let span = i64::from(high)
-        .saturating_sub(i64::from(low))
-        .saturating_add(1);
-    u64::try_from(span).unwrap_or(0)
 }

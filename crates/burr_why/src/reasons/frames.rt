@@ -1,7 +1,7 @@
 //! Frames that are not met.
 
 use super::{Reasons, Site};
-use crate::difference::Differences;
+use crate::differences::Differences;
 use crate::point_state::PointState;
 use burr_code::{Instr, Labels};
 use burr_frames::Rule;
@@ -17,7 +17,7 @@ pub enum PlanFrame {
     Exit { procedure: usize },
 }
 
-impl Reasons<'_, '_> {
+impl<'a> Reasons<'a, '_> {
     /// Says what differs from the frame that is not met.
     pub(super) fn add_missed_frame(&mut self, rule: Rule, instruction: &Instr<'_>, site: &Site) {
         match (rule, instruction) {
@@ -31,16 +31,9 @@ impl Reasons<'_, '_> {
     /// What differs from the first frame of a procedure that is called.
     fn add_missed_entry(&mut self, callee: usize, site: &Site) {
         self.add_point(site, &site.before);
-        let mut state = site.state_at(&self.plan, site.pc);
+        let mut state = site.state_before(&self.plan);
         state.enter(self.plan.parameters(callee));
-        let differences = self.differences(callee, 0, &state, None);
-        self.add_differences(
-            PlanFrame::Label {
-                procedure: callee,
-                label: 0,
-            },
-            &differences,
-        );
+        self.add_differences_of_label(callee, 0, &state, None);
     }
 
     /// What differs from the exit frame at a `ret`.
@@ -49,23 +42,17 @@ impl Reasons<'_, '_> {
             return self.add_wrong_end(site);
         };
         self.add_point(site, &site.before);
-        let mut differences = Differences::new(self.alloc);
-        differences.add_of_exit(self.plan.assembly, &site.before, &exit);
-        self.add_differences(
-            PlanFrame::Exit {
-                procedure: site.procedure,
-            },
-            &differences,
-        );
+        let assembly = self.plan.assembly;
+        let differences = Differences::of_exit(self.alloc, assembly, &site.before, &exit);
+        let procedure = site.procedure;
+        self.add_differences(PlanFrame::Exit { procedure }, &differences);
     }
 
     /// That a `halt` or a `ret` may not stand here.
     fn add_wrong_end(&mut self, site: &Site) {
         match self.plan.exit(site.procedure) {
-            Some(_) => self
-                .report
-                .add_note("only main ends by `halt`; other procedures end by `ret`"),
-            None => self.report.add_note("main ends by `halt`"),
+            Some(_) => self.note("only main ends by `halt`; other procedures end by `ret`"),
+            None => self.note("main ends by `halt`"),
         }
     }
 
@@ -82,7 +69,7 @@ impl Reasons<'_, '_> {
 
     /// The same of the label of a `down`, or where nothing differs there of the next one.
     fn add_count_down(&mut self, site: &Site, slot: u8, label: usize) {
-        let mut branch = site.state_at(&self.plan, site.end);
+        let mut branch = site.state_after(&self.plan);
         branch.count_down(slot);
         if self.differs(site, label, &branch) {
             return self.add_arrival(site, label, &branch);
@@ -110,58 +97,66 @@ impl Reasons<'_, '_> {
 
     /// Whether something differs from the frame of a label that control comes to.
     fn differs(&mut self, site: &Site, label: usize, after: &PointState) -> bool {
-        let differences = self.differences(site.procedure, label, after, Some(after.cost));
-        self.report.lose_unless(differences.is_whole);
-        !differences.found.is_empty()
+        match self.differences(site.procedure, label, after, Some(after.cost)) {
+            Some(differences) => {
+                self.report.lose_unless(differences.is_whole);
+                !differences.found.is_empty()
+            }
+            None => false,
+        }
     }
 
     /// What differs between what holds and the frame of a label, and of the cost that is left where
-    /// it is given.
-    pub(super) fn differences(
+    /// it is given; none where there is no such label.
+    fn differences(
         &self,
         procedure: usize,
         label: usize,
         state: &PointState,
         left: Option<i64>,
-    ) -> Differences {
-        let mut differences = Differences::new(self.alloc);
-        if let Some(frame) = self.plan.frame(procedure, label) {
-            differences.add_of_frame(self.plan.assembly, state, &frame, left);
-        }
-        differences
+    ) -> Option<Differences<'a>> {
+        let (frame, assembly) = (self.plan.frame(procedure, label)?, self.plan.assembly);
+        let found = Differences::of_frame(self.alloc, assembly, state, &frame, left);
+        Some(found)
     }
 
     /// Says what differs from the frame of a label that control comes to.
     fn add_arrival(&mut self, site: &Site, label: usize, after: &PointState) {
         self.add_missed_name(site.label_item(label));
-        let differences = self.differences(site.procedure, label, after, Some(after.cost));
-        self.add_differences(
-            PlanFrame::Label {
-                procedure: site.procedure,
-                label,
-            },
-            &differences,
-        );
+        let is_cost = self.add_differences_of_label(site.procedure, label, after, Some(after.cost));
         match site.label {
-            Some(last) if last != label && differences.has_cost() => {
+            Some(last) if last != label && is_cost => {
                 self.add_part(site.procedure, last, FramePart::Cost);
-                self.report
-                    .add_note("what is left is counted down from here");
+                self.note("what is left is counted down from here");
             }
             _ => {}
         }
     }
 
+    /// Says what differs between what holds and the frame of a label, and of the cost that is left where
+    /// it is given. Whether too little of that is left.
+    pub(super) fn add_differences_of_label(
+        &mut self,
+        procedure: usize,
+        label: usize,
+        state: &PointState,
+        left: Option<i64>,
+    ) -> bool {
+        let Some(differences) = self.differences(procedure, label, state, left) else {
+            return false;
+        };
+        self.add_differences(PlanFrame::Label { procedure, label }, &differences);
+        differences.has_cost()
+    }
+
     /// Notes the label whose frame is not met.
     fn add_missed_name(&mut self, label: PlanItem) {
         let name = Shown(self.lines.name_of(label));
-        self.report.add_note(format_args!(
-            "what holds after it is not what the frame of {name} says"
-        ));
+        self.note(format_args!("what holds after it is not what the frame of {name} says"));
     }
 
     /// Names the lines of a frame that tell something else, each with what differs.
-    pub(super) fn add_differences(&mut self, frame: PlanFrame, differences: &Differences) {
+    fn add_differences(&mut self, frame: PlanFrame, differences: &Differences<'_>) {
         self.report.lose_unless(differences.is_whole);
         let mut last = None;
         for difference in differences.found.iter().take(MOST_TOLD) {
@@ -169,7 +164,7 @@ impl Reasons<'_, '_> {
                 self.add_frame_line(frame, difference.part);
                 last = Some(difference.part);
             }
-            self.report.add_note(&difference.note);
+            self.note(&difference.note);
         }
         self.add_untold(differences.found.len().saturating_sub(MOST_TOLD));
     }

@@ -12,7 +12,7 @@ impl Reasons<'_, '_> {
         match rule {
             Rule::V6 => self.add_missing_operand(self.operands_needed(instruction), site),
             Rule::V7 => self.add_full_stack(site),
-            Rule::V12 => self.add_large_number(site),
+            Rule::V12 => self.add_large_number(instruction, site),
             _ => {
                 if let Some(slot) = slot_of(instruction) {
                     self.add_bad_slot(rule, slot, site);
@@ -24,7 +24,7 @@ impl Reasons<'_, '_> {
     /// How many operands are there, and how many are needed.
     fn add_missing_operand(&mut self, needed: u8, site: &Site) {
         let count = site.before.operands.len();
-        self.report.add_note(format_args!("operands: {count} are there, {needed} are needed"));
+        self.note(format_args!("operands: {count} are there, {needed} are needed"));
     }
 
     /// How many operands an instruction takes.
@@ -39,9 +39,7 @@ impl Reasons<'_, '_> {
     /// How many operands are there.
     fn add_full_stack(&mut self, site: &Site) {
         let count = site.before.operands.len();
-        self.report.add_note(format_args!(
-            "operands: {count} are there, with room for {MOST_OPERANDS}"
-        ));
+        self.note(format_args!("operands: {count} are there, with room for {MOST_OPERANDS}"));
     }
 
     /// Says what is wrong with a slot.
@@ -55,8 +53,7 @@ impl Reasons<'_, '_> {
 
     /// The slot that is not known, and the frame that does not tell of it.
     fn add_unknown_slot(&mut self, slot: u8, site: &Site) {
-        self.report
-            .add_note(format_args!("slot {slot} is not known"));
+        self.note(format_args!("slot {slot} is not known"));
         let Some(label) = site.label else {
             return;
         };
@@ -65,38 +62,35 @@ impl Reasons<'_, '_> {
             label,
             part: FramePart::Head,
         });
-        self.report
-            .add_note(format_args!("this frame has no line of slot {slot}"));
+        self.note(format_args!("this frame has no line of slot {slot}"));
     }
 
     /// The slot that is a parameter.
     fn add_parameter(&mut self, slot: u8, site: &Site) {
         let name = Shown(self.lines.name_of(PlanItem::Procedure(site.procedure)));
-        self.report
-            .add_note(format_args!("slot {slot} is a parameter of {name}"));
+        self.note(format_args!("slot {slot} is a parameter of {name}"));
     }
 
     /// What the counter is, and its range.
     fn add_negative_counter(&mut self, slot: u8, site: &Site) {
         if let Some(Some(number)) = site.before.slots.get(usize::from(slot)) {
             let number = *number;
-            self.report.add_note(format_args!(
-                "slot {slot} is {number}, and counts down from 0 or more"
-            ));
+            self.note(format_args!("slot {slot} is {number}, and counts down from 0 or more"));
         }
         self.add_point(site, &site.before);
         self.add_last_part(site, FramePart::Slot(slot));
     }
 
     /// What the result is.
-    fn add_large_number(&mut self, site: &Site) {
-        if let Some(number) = site.after.operands.last() {
-            let number = *number;
-            self.report.add_note(format_args!(
-                "the result is {number}, beyond {MOST_NUMBER} either way"
-            ));
+    fn add_large_number(&mut self, instruction: &Instr<'_>, site: &Site) {
+        if let [.., lower, upper] = site.before.operands.as_slice() {
+            let number = match instruction {
+                Instr::Sub => lower.saturating_sub(*upper),
+                _ => lower.saturating_add(*upper),
+            };
+            self.note(format_args!("the result is {number}, beyond {MOST_NUMBER} either way"));
         }
-        self.add_point(site, &site.after);
+        self.add_point(site, &site.before);
     }
 }
 

@@ -1,19 +1,20 @@
 //! The place at which a rule is broken, with all that is around it.
 
 use super::Reasons;
-use crate::point_state::{Origin, PointState, Symbol};
+use crate::origins::{Origin, Origins};
+use crate::point_state::PointState;
 use arrayvec::ArrayVec;
-use burr_code::limits::MOST_CODE;
+use burr_code::Instr;
 use burr_forms::Point;
 use burr_lines::{FramePart, PlanItem, PlanText, Shown};
-use burr_verify::Refusal;
+use burr_verify::{Refusal, state_after, state_before};
 use std::fmt;
 
 /// Where a rule is broken.
 #[derive(Drop)]
 pub struct Site {
     pub procedure: usize,
-    pub pc: usize,
+    pub pc: u16,
     /// Where the instruction ends; where none stands here, where it would begin.
     pub end: usize,
     /// The last label at the instruction or before it.
@@ -22,8 +23,10 @@ pub struct Site {
     pub point: Point,
     /// What holds before the instruction, at the point.
     pub before: PointState,
-    /// What holds after the instruction, at the point, where it falls through.
+    /// What holds after the instruction, at the point; where no state falls out of it, what it makes of
+    /// the places of the pieces and of the cost.
     pub after: PointState,
+    pub origins: Origins,
 }
 
 impl Site {
@@ -31,38 +34,53 @@ impl Site {
     pub fn of(plan: &PlanText<'_, '_>, refusal: &Refusal) -> Site {
         let procedure = usize::from(refusal.proc);
         let pc = usize::from(refusal.pc);
+        let label = plan.label_before(procedure, pc);
         let mut site = Site {
             procedure,
-            pc,
+            pc: refusal.pc,
             end: plan.end_of_instruction(procedure, pc),
-            label: plan.label_before(procedure, pc),
+            label,
             point: point_of(refusal),
-            before: PointState::at_home(0),
-            after: PointState::at_home(0),
+            before: PointState::new(),
+            after: PointState::new(),
+            origins: match label {
+                Some(label) => Origins::since(plan, procedure, label, pc),
+                None => Origins::new(),
+            },
         };
-        site.before = site.state_at(plan, pc);
-        site.after = site.state_at(plan, site.end);
+        site.before = site.state_before(plan);
+        site.after = site.state_after(plan);
         site
     }
 
-    /// What holds at a place after the last label, at the point: what its frame says, and what the
-    /// instructions since then do. Without a label there are no pieces.
-    pub fn state_at(&self, plan: &PlanText<'_, '_>, pc: usize) -> PointState {
-        let Some(label) = self.label else {
-            return PointState::at_home(0);
-        };
-        let Some(frame) = plan.frame(self.procedure, label) else {
-            return PointState::at_home(0);
-        };
-        let mut state = PointState::of(&frame, &self.point);
-        let mut at = plan.position(self.procedure, label).unwrap_or(pc);
-        for _ in 0..MOST_CODE {
-            if pc <= at {
-                break;
+    /// What holds before the instruction, at the point; nothing where the verifier does not come to it.
+    pub fn state_before(&self, plan: &PlanText<'_, '_>) -> PointState {
+        if let Some(procedure) = plan.procedure(self.procedure) {
+            if let Some(state) = state_before(procedure, self.pc) {
+                return PointState::at(&state, &self.point);
             }
-            at = self.go_on(plan, at, &mut state);
+        }
+        PointState::new()
+    }
+
+    /// What holds after it, or what it makes of the places of the pieces and of the cost.
+    pub fn state_after(&self, plan: &PlanText<'_, '_>) -> PointState {
+        if let Some(procedure) = plan.procedure(self.procedure) {
+            if let Some(state) = state_after(procedure, self.pc) {
+                return PointState::at(&state, &self.point);
+            }
+        }
+        let mut state = self.state_before(plan);
+        state.pay();
+        if let Some((Instr::Step(direction), _)) = self.instruction(plan) {
+            state.step(direction);
         }
         state
+    }
+
+    /// The instruction, and how many bytes it has; none where none stands here.
+    pub fn instruction<'c>(&self, plan: &PlanText<'_, 'c>) -> Option<(Instr<'c>, usize)> {
+        plan.instruction_at(self.procedure, usize::from(self.pc))
     }
 
     /// What the line of a label of the procedure says.
@@ -78,17 +96,6 @@ impl Site {
         PlanItem::Code {
             procedure: self.procedure,
             pc,
-        }
-    }
-
-    /// Goes on after the instruction at a place of the code, and gives where it ends.
-    fn go_on(&self, plan: &PlanText<'_, '_>, at: usize, state: &mut PointState) -> usize {
-        match plan.instruction_at(self.procedure, at) {
-            Some((instruction, size)) => {
-                state.carry_out(&instruction, at, plan.container, &self.point);
-                at.saturating_add(size)
-            }
-            None => at,
         }
     }
 }
@@ -131,8 +138,7 @@ impl Reasons<'_, '_> {
         };
         let procedure = Shown(self.lines.name_of(PlanItem::Procedure(site.procedure)));
         let name = Shown(self.lines.name_of(site.label_item(label)));
-        self.report
-            .add_note(format_args!("in {procedure}, after label {name}"));
+        self.note(format_args!("in {procedure}, after label {name}"));
     }
 
     /// Names the line of a part of the last label's frame, where there is a label.
@@ -148,20 +154,19 @@ impl Reasons<'_, '_> {
             return;
         }
         self.report.add_words("    where ");
-        for (n, symbol) in state.symbols.iter().enumerate() {
-            self.add_symbol(n, site, symbol);
+        for (n, (value, origin)) in state.symbols.iter().zip(&site.origins.symbols).enumerate() {
+            let separator = if n == 0 { "" } else { ", " };
+            self.add_symbol(separator, site, *origin, *value);
         }
         self.report.add_words("\n");
     }
 
-    /// Adds the open number at this index of their order, with what it belongs to.
-    fn add_symbol(&mut self, n: usize, site: &Site, symbol: &Symbol) {
-        let separator = if n == 0 { "" } else { ", " };
+    /// Adds an open number after a separator, with what it belongs to.
+    fn add_symbol(&mut self, separator: &str, site: &Site, origin: Origin, value: i64) {
         let origin = SymbolOrigin {
-            origin: symbol.origin,
-            line: self.line_number(site, symbol.origin),
+            origin,
+            line: self.line_number(site, origin),
         };
-        let value = symbol.value;
         self.report
             .add_words(format_args!("{separator}{origin} is {value}"));
     }

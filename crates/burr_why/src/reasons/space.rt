@@ -27,8 +27,7 @@ impl Reasons<'_, '_> {
     /// The pieces of a set that are not in the current tray.
     fn add_pieces_elsewhere(&mut self, set: u32, site: &Site) {
         let tray = site.before.tray;
-        self.report
-            .add_note(format_args!("the current tray is {tray}"));
+        self.note(format_args!("the current tray is {tray}"));
         for piece in 0..MOST_PIECES as u8 {
             if is_in_set(set, piece) && !site.before.place(piece).is_in(tray) {
                 self.add_piece_elsewhere(piece, site);
@@ -39,9 +38,7 @@ impl Reasons<'_, '_> {
     /// A piece that is not in the current tray, with its line of the last frame.
     fn add_piece_elsewhere(&mut self, piece: u8, site: &Site) {
         if site.before.places.len() <= usize::from(piece) {
-            return self
-                .report
-                .add_note(format_args!("there is no piece {piece}"));
+            return self.note(format_args!("there is no piece {piece}"));
         }
         self.add_whereabouts(piece, site);
         self.add_last_told(FramePart::Piece(piece), site);
@@ -51,13 +48,13 @@ impl Reasons<'_, '_> {
     fn add_whereabouts(&mut self, piece: u8, site: &Site) {
         let name = piece_name(self.plan.assembly, piece);
         let place = Whereabouts(site.before.place(piece).tray());
-        self.report.add_note(format_args!("{name} is {place}"));
+        self.note(format_args!("{name} is {place}"));
     }
 
     /// Names the line of a part of the frame that tells where the pieces lie: that of the last label, or
     /// the exit frame of a procedure that was called since.
     fn add_last_told(&mut self, part: FramePart, site: &Site) {
-        match site.before.returned_from {
+        match site.origins.returned_from {
             Some(callee) => self.add_item(PlanItem::Exit {
                 procedure: callee,
                 part,
@@ -69,18 +66,17 @@ impl Reasons<'_, '_> {
     /// Nothing is gripped, or the whole tray.
     fn add_wrong_grip(&mut self, site: &Site) {
         if site.before.grip == 0 {
-            self.report.add_note("nothing is gripped");
+            self.note("nothing is gripped");
         } else {
             let tray = site.before.tray;
-            self.report
-                .add_note(format_args!("all pieces of tray {tray} are gripped"));
+            self.note(format_args!("all pieces of tray {tray} are gripped"));
         }
         self.add_grip_line(site);
     }
 
     /// Names the line that tells which pieces are gripped.
     fn add_grip_line(&mut self, site: &Site) {
-        match site.before.gripped_at {
+        match site.origins.gripped_at {
             Some(pc) => self.add_item(site.code_item(pc)),
             None => self.add_last_told(FramePart::Head, site),
         }
@@ -99,7 +95,7 @@ impl Reasons<'_, '_> {
     /// Notes that a tray has a piece.
     fn add_piece_of_tray(&mut self, tray: u8, piece: u8) {
         let name = piece_name(self.plan.assembly, piece);
-        self.report.add_note(format_args!("tray {tray} has {name}"));
+        self.note(format_args!("tray {tray} has {name}"));
     }
 
     /// The pieces of the current tray that are too far from home.
@@ -117,7 +113,7 @@ impl Reasons<'_, '_> {
     /// Notes how far from home a piece is.
     fn add_far_piece(&mut self, piece: u8, offset: Offset) {
         let name = piece_name(self.plan.assembly, piece);
-        self.report.add_note(format_args!(
+        self.note(format_args!(
             "{name} is {offset} from home, and {MOST_OFFSET} is as far as it may be"
         ));
     }
@@ -141,12 +137,12 @@ impl Reasons<'_, '_> {
             assembly: self.plan.assembly,
             set: site.before.grip,
         };
-        self.report.add_note(format_args!("gripped: {grip}"));
+        self.note(format_args!("gripped: {grip}"));
     }
 
     /// Notes the cell at which two pieces meet.
     fn add_meeting_cell(&mut self, piece: u8, other: u8, site: &Site) {
-        match self.plan.instruction_at(site.procedure, site.pc) {
+        match site.instruction(&self.plan) {
             Some((Instr::Step(_), _)) => self.add_overlap(piece, other, site),
             Some((Instr::Aside(direction, _), _)) => {
                 self.add_way_out(piece, other, direction, site)
@@ -162,7 +158,7 @@ impl Reasons<'_, '_> {
         };
         let name = piece_name(self.plan.assembly, piece);
         let other = piece_name(self.plan.assembly, other);
-        self.report.add_note(format_args!("after it {name} and {other} overlap at cell {cell}"));
+        self.note(format_args!("after it {name} and {other} overlap at cell {cell}"));
     }
 
     /// The cell at which a piece that is taken out meets another one.
@@ -175,9 +171,7 @@ impl Reasons<'_, '_> {
         let Meeting { cell, units } = meeting;
         let way = direction.name();
         let way = Shown(&way);
-        self.report.add_note(format_args!(
-            "{name} and {other} overlap at cell {cell}, {units} along {way}"
-        ));
+        self.note(format_args!("{name} and {other} overlap at cell {cell}, {units} along {way}"));
     }
 
     /// The first cell of a piece that another piece of the current tray has too.

@@ -8,6 +8,7 @@ use crate::point_state::PointState;
 use burr_code::limits::{MOST_PIECES, SLOTS};
 use burr_code::{Placement, count_in_tray, is_in_set};
 use burr_container::FrameRef;
+use burr_frames::State;
 use burr_lines::{FramePart, PlanItem, piece_name};
 use burr_verify::Refusal;
 
@@ -42,7 +43,7 @@ impl Reasons<'_, '_> {
         };
         if let Some(frame) = self.plan.frame(procedure, label) {
             self.add_malformed_slots(procedure, label, &frame);
-            let state = PointState::of(&frame, &[]);
+            let state = PointState::at(&State::of(&frame), &[]);
             self.add_malformed_places(PlanFrame::Label { procedure, label }, &state);
         }
     }
@@ -102,7 +103,7 @@ impl Reasons<'_, '_> {
         fault: D,
     ) {
         self.add_frame_line(frame, part);
-        self.report.add_note(fault);
+        self.note(fault);
     }
 
     /// Says how the start of a run differs from main's first frame.
@@ -114,18 +115,10 @@ impl Reasons<'_, '_> {
             procedure: 0,
             label: 0,
         });
-        self.report.add_note(
-            "a run begins here, with all pieces at home in tray 0 and nothing gripped",
-        );
-        let start = PointState::at_home(self.plan.assembly.piece_count());
-        let differences = self.differences(0, 0, &start, None);
-        self.add_differences(
-            PlanFrame::Label {
-                procedure: 0,
-                label: 0,
-            },
-            &differences,
-        );
+        self.note("a run begins here, with all pieces at home in tray 0 and nothing gripped");
+        let home = State::at_home(self.plan.assembly.piece_count());
+        let start = PointState::at(&home, &[]);
+        self.add_differences_of_label(0, 0, &start, None);
     }
 }
 
