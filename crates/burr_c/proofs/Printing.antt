@@ -2,8 +2,8 @@
 use Rattle.std.proofs.Common.{◌≡◌, ◌↔◌, ◌∙◌, List, ℕ, [], ap, refl, sym, subst, inl, inr, arith}
 use Rattle.std.specs.Prelude.{Option, Some, Result, Ok, Err, IfOk, IfErr}
 use Rattle.std.specs.Io.KnownBytes.{Appends}
-use Rattle.burr_c.specs.declared.fault.CallFault.{CallFault}
-use Rattle.burr_c.specs.declared.fault.CallFault.TheVariants.{TooLong, Memory}
+use Rattle.burr_c.specs.declared.printed.CallFault.{CallFault}
+use Rattle.burr_c.specs.declared.printed.CallFault.TheVariants.{TooLong, Memory}
 use Rattle.burr_c.specs.declared.printed.Printed.{Printed}
 use Rattle.burr_judge.specs.declared.status.Status.{Status}
 use Rattle.burr_c.specs.Calls.{Call, Gives, Returns}

@@ -1,8 +1,8 @@
 -- The status that goes with a fault.
 use Rattle.burr_judge.specs.declared.status.Status.{Status}
 use Rattle.burr_judge.specs.declared.status.Status.TheVariants as statuses
-use Rattle.burr_c.specs.declared.fault.CallFault.{CallFault}
-use Rattle.burr_c.specs.declared.fault.CallFault.TheVariants as faults
+use Rattle.burr_c.specs.declared.printed.CallFault.{CallFault}
+use Rattle.burr_c.specs.declared.printed.CallFault.TheVariants as faults
 
 -- the status of a fault
 abbrev pub status_of_fault : CallFault → Status

@@ -11,20 +11,17 @@
 //! request for memory was refused 4, and then `size` is 0 and the room is left alone.
 #![tactic(auto)]
 
-mod fault;
-mod giving;
 mod printed;
 #[cfg(test)]
 mod tests;
 
 ghost use Rattle.std.specs.Prelude.{[]};
-ghost use Rattle.burr_judge.specs.declared.task.Task.TheVariants.{Check, Run, Try};
+ghost use Rattle.burr_judge.specs.declared.tasks.Task.TheVariants.{Check, Run, Try};
 ghost use Rattle.burr_c.specs.CallEnds.{AssemblingEnds, StepsEnd};
 ghost use Rattle.burr_c.specs.Calls.{call, IsTooLong, IsEitherTooLong, IsAnyTooLong, Returns};
 ghost use Rattle.burr_judge.specs.PlanEnds.{PlanEnds};
 
-use crate::giving::give;
-use crate::printed::{print_assembled, print_judgement, print_steps};
+use crate::printed::{give, print_assembled, print_judgement, print_steps};
 use burr_judge::Task;
 use std::alloc::Global;
 

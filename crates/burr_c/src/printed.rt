@@ -1,18 +1,19 @@
 //! What there is to print for a call, kept in memory.
 
-ghost use Rattle.std.specs.Prelude.{◌≡◌, ◌↔◌, IfOk, IfErr, IsTrue};
-ghost use Rattle.burr_c.specs.declared.fault.CallFault.TheVariants.{Memory, TooLong};
+ghost use Rattle.std.specs.Prelude.{◌≡◌, ◌↔◌, IfOk, IfErr, IsTrue, ◌++◌, [], length, take, drop};
+ghost use Rattle.burr_c.specs.declared.printed.CallFault.TheVariants.{Memory, TooLong};
 ghost use Rattle.burr_c.specs.CallEnds.{AssemblingEnds, StepsEnd};
-ghost use Rattle.burr_c.specs.Calls.{IsTooLong, IsEitherTooLong, IsAnyTooLong};
+ghost use Rattle.burr_c.specs.Calls.{IsTooLong, IsEitherTooLong, IsAnyTooLong, call, Gives};
 ghost use Rattle.burr_judge.specs.PlanEnds.{IsRefusal, PlanEnds};
 ghost use Rattle.burr_judge.specs.Refusals.{plan_text_refusal};
+ghost use Rattle.burr_c.specs.Statuses.{status_of_fault};
 
-use crate::fault::CallFault;
 use burr_asm::{AsmFault, assemble};
-use burr_io::{Kept, Reading, WholeLines};
+use burr_io::{Kept, Reading, WholeLines, WriteFault};
 use burr_judge::{Refused, Status, Task, judge_text, refuse, step_text};
 use burr_runs::LIMIT;
 use std::alloc::Global;
+use thiserror::Error;
 
 /// How many bytes of an answer to a command are held back before they are kept.
 const HELD: usize = 1_024;
@@ -22,6 +23,53 @@ const HELD: usize = 1_024;
 pub struct Printed {
     pub bytes: Vec<u8>,
     pub status: Status,
+}
+
+/// Why there is nothing to print.
+#[derive(Clone, Copy, Debug, PartialEq, Eq, Error)]
+pub enum CallFault {
+    #[error("an input has more than 16777216 bytes")]
+    TooLong,
+    #[error("no memory")]
+    Memory,
+}
+
+impl CallFault {
+    ghost use Rattle.std.specs.Prelude.{◌≡◌};
+    ghost use Rattle.burr_c.specs.Statuses.{status_of_fault};
+
+    /// The status to end with.
+    pub fn status(self) -> Status
+        ensures { result ≡ status_of_fault self }
+    {
+        match self {
+            CallFault::TooLong => Status::Failed,
+            CallFault::Memory => Status::Memory,
+        }
+    }
+}
+
+/// What is printed is kept in memory, so that nothing but memory is wanting.
+impl From<burr_judge::Fault<'_>> for CallFault {
+    ghost use Rattle.std.specs.Prelude.{◌≡◌};
+    ghost use Rattle.burr_c.specs.declared.printed.CallFault.TheVariants.{Memory};
+
+    ghost from_gives = { λ _ e. e ≡ Memory };
+
+    fn from(_e: burr_judge::Fault<'_>) -> CallFault {
+        CallFault::Memory
+    }
+}
+
+impl From<WriteFault> for CallFault {
+    ghost use Rattle.std.specs.Prelude.{◌≡◌};
+    ghost use Rattle.burr_c.specs.declared.printed.CallFault.TheVariants.{Memory};
+
+    ghost from_gives = { λ _ e. e ≡ Memory };
+
+    fn from(_e: WriteFault) -> CallFault {
+        CallFault::Memory
+    }
 }
 
 /// What `check`, `run` or `try` print of an assembly's text, a container and a text of answers.
@@ -119,4 +167,33 @@ fn is_too_long(bytes: &[u8]) -> bool
     ensures { IsTrue result ↔ IsTooLong bytes.now }
 {
     bytes.len() > LIMIT
+}
+
+/// Copies what is printed to the front of the caller's room, as far as it goes there, tells how
+/// many bytes are printed, and gives the number of the status. After a fault no byte is printed.
+pub fn give(printed: Result<Printed, CallFault>, room: &mut [u8], size: &mut usize) -> u8
+    ensures ok { IfOk printed (λ printed. Gives printed.bytes.items printed.status
+        (call room.old room.new size.new result)) }
+    ensures err { IfErr printed (λ fault. Gives [] (status_of_fault fault)
+        (call room.old room.new size.new result)) }
+{
+    match printed {
+        Ok(printed) => {
+            copy_front(&printed.bytes, room);
+            *size = printed.bytes.len();
+            printed.status.code()
+        }
+        Err(fault) => {
+            *size = 0;
+            fault.status().code()
+        }
+    }
+}
+
+/// Copies bytes to the front of a room, as many as it takes.
+fn copy_front(bytes: &[u8], room: &mut [u8])
+    ensures { room.new ≡ take (length room.old) bytes.now ++ drop (length bytes.now) room.old }
+{
+    let count = bytes.len().min(room.len());
+    room[..count].copy_from_slice(&bytes[..count]);
 }

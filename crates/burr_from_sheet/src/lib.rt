@@ -2,13 +2,11 @@
 //! sheet. The plan is judged and run before it is handed back.
 #![tactic(auto)]
 
-mod checking;
-mod code;
-mod drafting;
+mod check;
+mod draft;
 mod fault;
 mod laws;
 mod lines;
-mod planning;
 mod sheet_plans;
 
 pub use fault::{RefusedDraft, SheetFault};

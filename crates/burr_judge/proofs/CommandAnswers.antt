@@ -16,8 +16,8 @@ use Rattle.burr_step.specs.declared.refusal.StepRefusal.TheVariants as code
 use Rattle.burr_step.specs.Rules.Stepper.{History, StepCommand, StepRefusal, S1, S2, S3, S4, Taken, Refused}
 use Rattle.burr_step.specs.Rules.StepTexts.{LineAnswer, LineCommand, Steps, Shows, Quits, IsLineOf, Lined, IsStandingWords, IsAfterLine, answered, ended_word, refused_line, refusal_word, show_text}
 use Rattle.burr_step.specs.Views.Stepping.{Stepping, CameTo, NeedsNoMemory, IsDone, IsRefused, commanding}
-use Rattle.burr_judge.specs.declared.commanding.StepFault.{StepFault}
-use Rattle.burr_judge.specs.declared.commanding.StepFault.TheVariants as faults
+use Rattle.burr_judge.specs.declared.commands.StepFault.{StepFault}
+use Rattle.burr_judge.specs.declared.commands.StepFault.TheVariants as faults
 use Rattle.burr_judge.specs.Views.Commanding.{IsAnswered, IsAnswerLine, PutsAnswer, FailsInAnswer}
 use Rattle.burr_judge.specs.Views.CommandLines.{IsCameLine, PutsAfter, PutsCame, PutsLine, after_line, question_words}
 

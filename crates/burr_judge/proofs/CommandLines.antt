@@ -17,7 +17,7 @@ use Rattle.burr_step.specs.Rules.Stepper.{Forward, Over, Until, Answer, Back}
 use Rattle.burr_step.specs.Rules.StepTexts.{LineCommand, Steps, Shows, Quits, line_of, IsLineOf}
 use Rattle.burr_step.specs.Views.Stepping.{LabelsAreFew}
 use Rattle.burr_judge.specs.Views.CommandLines.{IsOfCode, command_of}
-use Rattle.burr_judge.specs.declared.commanding.reading.Command.{Command}
+use Rattle.burr_judge.specs.declared.commands.line.Command.{Command}
 
 -- Numbers without a sign
 

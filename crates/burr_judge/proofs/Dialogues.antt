@@ -20,8 +20,8 @@ use Rattle.burr_step.specs.Rules.Stepper.{History, Forward, Over, Until, Answer,
 use Rattle.burr_step.specs.Rules.StepTexts.{LineAnswer, LineCommand, Steps, Shows, Quits, Lined, IsTakeable, IsLineOf, HasFewDigits, LinesAreShort, answered}
 use Rattle.burr_step.specs.Views.Stepping.{Stepping, LabelsAreFew}
 use Rattle.burr_io.proofs.Common.Lines.{went, failed_early, failed_late, holds_more}
-use Rattle.burr_judge.specs.declared.commanding.StepFault.{StepFault}
-use Rattle.burr_judge.specs.declared.commanding.StepFault.TheVariants as steps
+use Rattle.burr_judge.specs.declared.commands.StepFault.{StepFault}
+use Rattle.burr_judge.specs.declared.commands.StepFault.TheVariants as steps
 use Rattle.burr_runs.specs.declared.fault.BenchFault.{BenchFault}
 use Rattle.burr_runs.specs.declared.fault.BenchFault.TheVariants as faults
 use Rattle.burr_judge.specs.Rules.Dialogue.{opened, continued, lines_bytes, IsInputOf}

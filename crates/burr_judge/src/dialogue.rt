@@ -7,7 +7,7 @@ ghost use Rattle.burr_judge.specs.Views.Dialogues.{EndsDialogue, BreaksDialogue}
 ghost use Rattle.burr_judge.specs.Views.Dialogues.{HandsAnswer, FailsToHandAnswer, HandsLast};
 ghost use Rattle.burr_judge.specs.Views.Dialogues.{TakesByte, GivesByte};
 
-use crate::commanding::{StepFault, command};
+use crate::commands::{StepFault, command};
 use arrayvec::ArrayVec;
 use burr_blocking::Blocking;
 use burr_io::{IoFailed, Sink, Source, WholeLines};

@@ -2,26 +2,22 @@
 //! through step by step by lines of commands; the faults and statuses that it ends with.
 #![tactic(auto)]
 
-mod accepting;
-mod commanding;
+mod commands;
 mod dialogue;
 mod fault;
-mod judging;
 mod ladder;
 mod refused;
 mod refuser;
 mod status;
-mod stepping;
-mod task;
+mod tasks;
 
-pub use accepting::{AcceptedUse, IfAccepted};
-pub use commanding::{StepFault, command};
+pub use commands::{StepFault, command};
 pub use dialogue::{KEPT, answer_commands, take_command_byte};
 pub use fault::{Fault, put_fault};
-pub use judging::{Check, Run, Try, judge_text};
-pub use ladder::{AssemblyUse, Given, OfPlan, PlanUse, use_given, use_text};
+pub use ladder::{
+    AcceptedUse, AssemblyUse, Given, IfAccepted, OfPlan, PlanUse, use_given, use_text,
+};
 pub use refused::{Refused, put_refusal, refuse};
 pub use refuser::{Plainly, Refuse};
 pub use status::Status;
-pub use stepping::step_text;
-pub use task::Task;
+pub use tasks::{Check, Run, Task, Try, judge_text, step_text};

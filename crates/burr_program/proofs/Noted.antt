@@ -16,7 +16,7 @@ use Rattle.burr_runs.specs.Rules.Verdicts.{plan_refusal}
 use Rattle.burr_judge.specs.declared.fault.Fault.{Fault}
 use Rattle.burr_judge.specs.declared.ladder.Given.TheVariants.{Text}
 use Rattle.burr_judge.specs.declared.status.Status.{Status}
-use Rattle.burr_judge.specs.declared.task.Task.{Task}
+use Rattle.burr_judge.specs.declared.tasks.Task.{Task}
 use Rattle.burr_judge.specs.Faults.{line_of, output_failed}
 use Rattle.burr_judge.specs.Ladder.{PlanJudged, PlanTried, LadderComes, WantsMemory}
 use Rattle.burr_judge.specs.PlanEnds.{Ends, EndsOn, AnswersEnd, IsRefusal, CheckEnds, SheetEnds, TaskEnds, TryEnds, VerdictEnds}

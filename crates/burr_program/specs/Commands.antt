@@ -15,8 +15,8 @@ use Rattle.burr_command.specs.declared.job.Job.TheVariants as jobs
 use Rattle.burr_judge.specs.declared.fault.Fault.{Fault}
 use Rattle.burr_judge.specs.declared.status.Status.{Status}
 use Rattle.burr_judge.specs.declared.status.Status.TheVariants.{Done, Refused}
-use Rattle.burr_judge.specs.declared.task.Task.{Task}
-use Rattle.burr_judge.specs.declared.task.Task.TheVariants.{Check, Run, Try}
+use Rattle.burr_judge.specs.declared.tasks.Task.{Task}
+use Rattle.burr_judge.specs.declared.tasks.Task.TheVariants.{Check, Run, Try}
 use Rattle.burr_judge.specs.Faults.{line_of, output_failed}
 use Rattle.burr_judge.specs.Statuses.{code_of}
 use Rattle.burr_judge.specs.PlanEnds.{Ends, PutsEnd, HoldsFrontOfEnd, PlanTextEnds, ContainerEnds, PlanEnds, never}

@@ -1,7 +1,7 @@
 -- How the program ends: its status, and what it tells on standard error.
 use Rattle.std.specs.Prelude.{◌≡◌, ◌⊎◌, ℕ, List, Bool, Option, true}
 use Rattle.std.specs.Io.KnownBytes.{Appends}
-use Rattle.burr_io.specs.Sink.{HoldsFront}
+use Rattle.burr_io.specs.Sink.{HoldsFront, SinkView}
 use Rattle.burr_command.specs.declared.job.Job.{Job}
 use Rattle.burr_runs.specs.declared.outcome.Outcome.{Outcome}
 use Rattle.burr_runs.specs.declared.fault.BenchFault.{BenchFault}
@@ -27,6 +27,11 @@ pub record Taken : Type 0 where
 -- such a sink, with what it took
 abbrev pub took : Option (List ℕ) → Option (List ℕ) → Bool → Taken
 took old new failed = record { old = old; new = new; failed = failed }
+
+-- a sink that stood so before and stands so now
+abbrev pub took_by : {S : Type 0} → SinkView S → S → S → Taken
+took_by sink before after =
+    took (sink.taken before) (sink.taken after) (sink.has_failed after)
 
 -- it took nothing
 abbrev pub TakesNothing : Taken → Type 0

@@ -1,7 +1,7 @@
 -- How `why` and `trace` end: what they print begins with the line that `asm` prints of the plan text,
 -- or with what `check` or `try` prints of the container.
 use Rattle.std.specs.Prelude.{◌≡◌, ◌++◌, ℕ, List}
-use Rattle.burr_judge.specs.declared.task.Task.{Task}
+use Rattle.burr_judge.specs.declared.tasks.Task.{Task}
 use Rattle.burr_judge.specs.PlanEnds.{Ends, TaskEnds, ContainerEnds, PlanTextEnds, TextEnds}
 
 -- what is printed begins with what is printed where it ends so, and the status is the same

@@ -4,7 +4,6 @@
 
 mod commands;
 mod files;
-mod handing;
 mod laws;
 mod notes;
 mod program;

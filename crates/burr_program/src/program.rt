@@ -8,11 +8,10 @@ ghost use Rattle.burr_judge.specs.Faults.{complaint_of, line_of, status_of_fault
 ghost use Rattle.burr_judge.specs.Statuses.{code_of};
 ghost use Rattle.burr_judge.specs.StepEnds.{left_by};
 ghost use Rattle.burr_program.specs.Commands.{EndingBelow, JobEnds, JobBreaks};
-ghost use Rattle.burr_program.specs.Ends.{DoesJob, FailsInText, IsEnd, IsRun, Replies};
-ghost use Rattle.burr_program.specs.Ends.{TakesText, TellsFault, took};
+ghost use Rattle.burr_program.specs.Ends.{DoesJob, FailsInText, IsEnd, IsRun, Replies, TakesText, TellsFault, took_by};
+ghost use Rattle.burr_program.specs.HandedOn.{HandsOnDone};
 
 use crate::commands::put_job;
-use crate::handing::hand_on;
 use burr_command::{Job, Reply, Request, request_of};
 use burr_io::{Sink, Source, WholeLines, WriteFault, put_all};
 use burr_judge::{Fault, Status, put_fault};
@@ -50,14 +49,10 @@ pub fn run_words<
     requires told { complaints.old.held ≡ [] }
     ensures run { length words.now ≤ 1 → IsRun
         (streams R.Source source.old source.new W.Sink sink.old.sink sink.new.sink)
-        (took (E.taken complaints.old.sink) (E.taken complaints.new.sink)
-        (E.has_failed complaints.new.sink))
-        result }
+        (took_by E.Sink complaints.old.sink complaints.new.sink) result }
     ensures end { 1 < length words.now → IsEnd
         (streams R.Source source.old source.new W.Sink sink.old.sink sink.new.sink)
-        (took (E.taken complaints.old.sink) (E.taken complaints.new.sink)
-        (E.has_failed complaints.new.sink))
-        result }
+        (took_by E.Sink complaints.old.sink complaints.new.sink) result }
 {
     let alloc = files.alloc();
     if words.len() <= 1 {
@@ -82,9 +77,7 @@ fn work<F: Files + AllocGlobal, R: Source, W: Sink, E: Sink, const N: usize, con
     requires told { complaints.old.held ≡ [] }
     ensures { DoesJob
         (streams R.Source source.old source.new W.Sink sink.old.sink sink.new.sink)
-        (took (E.taken complaints.old.sink) (E.taken complaints.new.sink)
-        (E.has_failed complaints.new.sink))
-        (code_of result) job.now }
+        (took_by E.Sink complaints.old.sink complaints.new.sink) (code_of result) job.now }
 {
     match do_job(files, job, source, sink) {
         Ok(status) => status,
@@ -112,9 +105,7 @@ fn do_job<'a, F: Files + AllocGlobal, R: Source, W: Sink, const N: usize>(
 /// Puts the line of standard error for a fault, and hands it on.
 fn complain_of<E: Sink, const N: usize>(fault: &Fault<'_>, complaints: &mut WholeLines<E, N>)
     requires told { complaints.old.held ≡ [] }
-    ensures { TakesText
-        (took (E.taken complaints.old.sink) (E.taken complaints.new.sink)
-        (E.has_failed complaints.new.sink))
+    ensures { TakesText (took_by E.Sink complaints.old.sink complaints.new.sink)
         (line_of fault.now) }
 {
     let _ = put_fault(fault, complaints);
@@ -124,10 +115,7 @@ fn complain_of<E: Sink, const N: usize>(fault: &Fault<'_>, complaints: &mut Whol
 /// Puts a text on standard error, and hands it on.
 fn complain<E: Sink, const N: usize>(text: &[u8], complaints: &mut WholeLines<E, N>)
     requires told { complaints.old.held ≡ [] }
-    ensures { TakesText
-        (took (E.taken complaints.old.sink) (E.taken complaints.new.sink)
-        (E.has_failed complaints.new.sink))
-        text.now }
+    ensures { TakesText (took_by E.Sink complaints.old.sink complaints.new.sink) text.now }
 {
     let _ = put_all(text, complaints);
     let _ = complaints.flush();
@@ -141,12 +129,9 @@ pub fn end_without_words<E: Sink, const N: usize>(
 ) -> u8
     requires told { complaints.old.held ≡ [] }
     ensures memory { kind ≡ ErrorKind.OutOfMemory → (result ≡ 4) × TakesText
-        (took (E.taken complaints.old.sink) (E.taken complaints.new.sink)
-        (E.has_failed complaints.new.sink))
-        (complaint_of Memory) }
+        (took_by E.Sink complaints.old.sink complaints.new.sink) (complaint_of Memory) }
     ensures fault { kind ≢ ErrorKind.OutOfMemory → (result ≡ 2) × TakesText
-        (took (E.taken complaints.old.sink) (E.taken complaints.new.sink)
-        (E.has_failed complaints.new.sink))
+        (took_by E.Sink complaints.old.sink complaints.new.sink)
         (codes "error: a word of the command line is not UTF-8\n") }
 {
     if kind == ErrorKind::OutOfMemory {
@@ -168,10 +153,8 @@ fn give<W: Sink, E: Sink, const N: usize, const M: usize>(
     requires fresh { sink.old.held ≡ [] }
     requires told { complaints.old.held ≡ [] }
     ensures { Replies
-        (took (W.taken sink.old.sink) (W.taken sink.new.sink) (W.has_failed sink.new.sink))
-        (took (E.taken complaints.old.sink) (E.taken complaints.new.sink)
-        (E.has_failed complaints.new.sink))
-        (code_of result) }
+        (took_by W.Sink sink.old.sink sink.new.sink)
+        (took_by E.Sink complaints.old.sink complaints.new.sink) (code_of result) }
 {
     let text = reply.text.as_bytes();
     if reply.is_fault {
@@ -192,8 +175,7 @@ fn put_whole<W: Sink, const N: usize>(
     requires fresh { sink.old.held ≡ [] }
     ensures ok { OnOk result (Takes W.Sink sink.old.sink sink.new.sink text.now) }
     ensures err { OnErr result (FailsInText
-        (took (W.taken sink.old.sink) (W.taken sink.new.sink) (W.has_failed sink.new.sink))
-        text.now) }
+        (took_by W.Sink sink.old.sink sink.new.sink) text.now) }
 {
     put_all(text, sink)?;
     sink.flush()
@@ -211,9 +193,7 @@ fn run<R: Source, W: Sink, E: Sink, const N: usize, const M: usize>(
     requires told { complaints.old.held ≡ [] }
     ensures { IsRun
         (streams R.Source source.old source.new W.Sink sink.old.sink sink.new.sink)
-        (took (E.taken complaints.old.sink) (E.taken complaints.new.sink)
-        (E.has_failed complaints.new.sink))
-        (code_of result) }
+        (took_by E.Sink complaints.old.sink complaints.new.sink) (code_of result) }
 {
     match bench_text(alloc, source, sink) {
         Ok(outcome) => match sink.flush() {
@@ -228,11 +208,25 @@ fn run<R: Source, W: Sink, E: Sink, const N: usize, const M: usize>(
 fn end_by<E: Sink, const N: usize>(fault: &Fault<'_>, complaints: &mut WholeLines<E, N>) -> Status
     requires told { complaints.old.held ≡ [] }
     ensures status { result ≡ status_of_fault fault.now }
-    ensures told { TakesText
-        (took (E.taken complaints.old.sink) (E.taken complaints.new.sink)
-        (E.has_failed complaints.new.sink))
+    ensures told { TakesText (took_by E.Sink complaints.old.sink complaints.new.sink)
         (line_of fault.now) }
 {
     complain_of(fault, complaints);
     fault.status()
+}
+
+/// What was done, once all that was put for it is handed on; after a fault nothing is.
+pub fn hand_on<'a, W: Sink, const N: usize>(
+    done: Result<Status, Fault<'a>>,
+    sink: &mut WholeLines<W, N>,
+) -> Result<Status, Fault<'a>>
+    ensures { HandsOnDone W.Sink sink.old sink.new done.entry result }
+{
+    match done {
+        Ok(status) => {
+            sink.flush()?;
+            Ok(status)
+        }
+        Err(fault) => Err(fault),
+    }
 }

@@ -1,5 +1,6 @@
 -- A run and its sheet, taken step by step.
 use Rattle.std.proofs.Common.{◌≡◌, ◌≢◌, ◌<◌, ◌≤◌, ◌+◌, ◌++◌, ◌∷◌, ◌∙◌, ◌⊎◌, ◌^◌, ℕ, ℤ, List, [], length, refl, sym, ap, subst, inl, inr, append_assoc, arith, false}
+use Rattle.std.specs.Borrow.{Bor}
 use Rattle.std.specs.Prelude.{Some, None, Result, Ok, OnOk}
 use Rattle.std.specs.Io.KnownBytes.{Appends}
 use Rattle.std.proofs.KnownBytes.{Appends-nil, Appends-trans}
@@ -16,8 +17,8 @@ use Rattle.burr_state.specs.Rules.Bench.{Program, BenchState, running}
 use Rattle.burr_state.specs.Rules.Step.{NextIs, TakesAnswer, CallIn, Called}
 use Rattle.burr_state.specs.declared.mode.Mode.{Mode}
 use Rattle.burr_state.specs.declared.progress.Progress.{Progress as Told}
-use Rattle.burr_runs.specs.declared.running.Turn.{Turn}
-use Rattle.burr_runs.specs.declared.running.Turn.TheVariants as turns
+use Rattle.std.specs.declared.ops.ControlFlow.{ControlFlow}
+use Rattle.std.specs.declared.ops.ControlFlow.TheVariants as turns
 use Rattle.burr_state.specs.Rules.Next.{Goes, Asks, Traps}
 use Rattle.burr_state.specs.Rules.Questions.{Fits}
 use Rattle.burr_state.specs.Rules.Run.{Run, IsGoing, traps, waits, passes, takes, goes}
@@ -235,10 +236,10 @@ in_step_passed b new u step same stays =
 
 module _ {S : Type 0} (sink : SinkView S) where
   -- a turn at a question
-  pub asked_turn : (b new : Benched) (answers : List ℤ) (u : UnderWay) (low high : ℤ) (now : S) (turn : Turn)
+  pub asked_turn : (b new : Benched) (answers : List ℤ) (u : UnderWay) (low high : ℤ) (now : S) (turn : ControlFlow Closing (Bor (List ℤ)))
       → IsInStep b u → IsGoing b.program.budget b.state → NextIs (setup_of b) b.state (Asks low high) → AnswerIs b answers low high new turn
       → TurnIs sink now now (run_state b answers u) new u turn
-  asked_turn b new answers u low high now (turns.GoesOn left) step going asks (answer, are, same, on, inl (taken, from)) =
+  asked_turn b new answers u low high now (turns.Continue left) step going asks (answer, are, same, on, inl (taken, from)) =
       let under = under_way b new u step going.running going.within from same in
       rw are (
         record {
@@ -248,7 +249,7 @@ module _ {S : Type 0} (sink : SinkView S) where
         },
         one_step_less b new (answer ∷ left.now) left.now u u step.within going.within same under.1 (omega arith),
       )
-  asked_turn b new answers u low high now (turns.GoesOn left) step going asks (answer, are, same, on, inr (unfit, stays)) =
+  asked_turn b new answers u low high now (turns.Continue left) step going asks (answer, are, same, on, inr (unfit, stays)) =
       let budget : new.program.budget ≡ b.program.budget = ap (λ (p : Program). p.budget) same.program in
       let steps : new.state.steps ≡ b.state.steps = ap (λ (s : BenchState). s.steps) stays in
       rw are (
@@ -259,6 +260,6 @@ module _ {S : Type 0} (sink : SinkView S) where
         },
         omega (arith, budget, steps),
       )
-  asked_turn b new answers u low high now (turns.Closes closing) step going asks (none, is, stays) =
+  asked_turn b new answers u low high now (turns.Break closing) step going asks (none, is, stays) =
       let steps = ap (λ (c : Benched). c.state.steps) stays in
       (rw (none, is, steps) (waits b.state low high going asks), refl, refl)

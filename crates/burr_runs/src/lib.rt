@@ -1,22 +1,18 @@
 //! Runs of plans on the bench from readers to writers: what is read, and what is written for it.
 #![tactic(auto)]
 
-mod accepted_runs;
 mod answers;
-mod checking;
 mod fault;
 mod input;
 mod laws;
 mod lines;
 mod outcome;
-mod reading;
-mod running;
+mod runs;
+mod sources;
 mod text_runs;
 
-pub use accepted_runs::run_plan;
 pub use answers::{AnswersFault, read_answers};
 pub use burr_container::upgrade;
-pub use checking::check;
 pub use fault::BenchFault;
 pub use laws::{
     an_input_has_one_output, an_upgraded_plan_is_judged_as_before, an_upgraded_plan_runs_as_before,
@@ -27,7 +23,6 @@ pub use lines::{
     put_plan_refusal,
 };
 pub use outcome::Outcome;
-pub use reading::{LIMIT, read_whole};
-pub use running::observer::Observer;
-pub use running::{try_observed, try_plan};
-pub use text_runs::bench_text;
+pub use runs::{Observer, try_observed, try_plan};
+pub use sources::{LIMIT, read_whole};
+pub use text_runs::{bench_text, check, run_plan};

@@ -1,19 +1,16 @@
 //! The lines that say a refusal or a verdict.
 
-mod answers;
-mod assembly;
-mod container;
-mod verdict;
-
 ghost use Rattle.burr_io.specs.Sink.{Puts};
-ghost use Rattle.burr_runs.specs.Rules.Refusals.{place_line};
+ghost use Rattle.burr_runs.specs.Rules.Refusals.{place_line, answers_refusal, assembly_refusal, clash_line, container_refusal};
+ghost use Rattle.std.specs.Prelude.{◌<◌};
+ghost use Rattle.burr_runs.specs.Rules.Verdicts.{accepted_line, plan_refusal, place_part, pieces_part, name_or_none, point_part, numbers_part};
 
-pub use answers::put_answers_refusal;
-pub use assembly::put_assembly_refusal;
-use burr_io::{Sink, WriteFault, put_words};
-pub use container::put_container_refusal;
+use burr_assembly::{Assembly, AssemblyFault, piece_name};
+use burr_container::ContainerFault;
+use burr_forms::Point;
+use burr_io::{Sink, WriteFault, put_all, put_number, put_words};
+use burr_verify::Refusal;
 use itoa::Buffer;
-pub use verdict::{put_accepted, put_plan_refusal};
 
 /// Puts the line of what is refused at a place, on a `line` or `at` a position, as `refused C1 at 12`.
 pub fn put_place_line<W: Sink>(
@@ -27,4 +24,159 @@ pub fn put_place_line<W: Sink>(
     let mut buffer = Buffer::new();
     let place = buffer.format(place).as_bytes();
     put_words(&[b"refused", subject, unit, place], sink)
+}
+
+/// Puts the line for answers of which this line, counted from 1, is not an answer, as `refused
+/// answers line 2`.
+pub fn put_answers_refusal<W: Sink>(line: usize, sink: &mut W) -> Result<(), WriteFault>
+    ensures { Puts W.Sink sink.old sink.new (answers_refusal line) result }
+{
+    put_place_line(b"answers", b"line", line, sink)
+}
+
+/// Puts the line of the fault of an assembly's text, as `refused A4 line 7`, or `refused A8 line 7 A B`
+/// with the names of the pieces, which are found in the text. Want of memory is no fault of a text: of
+/// it nothing is put.
+pub fn put_assembly_refusal<W: Sink>(
+    text: &[u8],
+    fault: AssemblyFault,
+    sink: &mut W,
+) -> Result<(), WriteFault>
+    ensures { Puts W.Sink sink.old sink.new (assembly_refusal text.now fault) result }
+{
+    match fault {
+        AssemblyFault::A8 {
+            line,
+            earlier,
+            piece,
+        } => put_clash(
+            line,
+            piece_name(text, earlier),
+            piece_name(text, piece),
+            sink,
+        ),
+        _ => match fault.code_and_line() {
+            Some((code, line)) => put_place_line(code.as_bytes(), b"line", line, sink),
+            None => Ok(()),
+        },
+    }
+}
+
+/// Puts a line with the names of two pieces of which the second shares a cell with the first.
+fn put_clash<W: Sink>(
+    line: usize,
+    first: &[u8],
+    second: &[u8],
+    sink: &mut W,
+) -> Result<(), WriteFault>
+    ensures { Puts W.Sink sink.old sink.new (clash_line line first.now second.now) result }
+{
+    let mut buffer = Buffer::new();
+    let line = buffer.format(line).as_bytes();
+    put_words(&[b"refused", b"A8", b"line", line, first, second], sink)
+}
+
+/// Puts the line of a container's fault, as `refused C1 at 12`.
+pub fn put_container_refusal<W: Sink>(fault: ContainerFault, sink: &mut W) -> Result<(), WriteFault>
+    ensures { Puts W.Sink sink.old sink.new (container_refusal fault) result }
+{
+    let (code, position) = fault.code_and_position();
+    put_place_line(code.as_bytes(), b"at", position, sink)
+}
+
+/// Puts the line of an accepted plan, as `accepted cost 4 budget 4 looks 2`.
+pub fn put_accepted<W: Sink>(
+    cost: u32,
+    budget: u32,
+    looks: u64,
+    sink: &mut W,
+) -> Result<(), WriteFault>
+    ensures { Puts W.Sink sink.old sink.new (accepted_line cost budget looks) result }
+{
+    put_all(b"accepted cost ", sink)?;
+    put_number(cost, sink)?;
+    put_all(b" budget ", sink)?;
+    put_number(budget, sink)?;
+    put_all(b" looks ", sink)?;
+    put_number(looks, sink)?;
+    put_all(b"\n", sink)
+}
+
+/// Puts the line of a refused plan, as `refused V15 proc 0 pc 24 pieces A B point 0 1`; pieces that are
+/// not named, and a point that is not or is empty, are left out with their word.
+pub fn put_plan_refusal<W: Sink>(
+    refusal: &Refusal,
+    assembly: &Assembly,
+    sink: &mut W,
+) -> Result<(), WriteFault>
+    ensures { Puts W.Sink sink.old sink.new (plan_refusal assembly.now refusal.now) result }
+{
+    put_place(refusal, sink)?;
+    put_pieces(refusal.pieces, assembly, sink)?;
+    put_point(&refusal.point, sink)?;
+    put_all(b"\n", sink)
+}
+
+/// Puts the rule and the place, as `refused V15 proc 0 pc 24`.
+fn put_place<W: Sink>(refusal: &Refusal, sink: &mut W) -> Result<(), WriteFault>
+    ensures { Puts W.Sink sink.old sink.new (place_part refusal.now) result }
+{
+    put_all(b"refused V", sink)?;
+    put_number(refusal.rule.number(), sink)?;
+    put_all(b" proc ", sink)?;
+    put_number(refusal.proc, sink)?;
+    put_all(b" pc ", sink)?;
+    put_number(refusal.pc, sink)
+}
+
+/// Puts the names of two pieces, as ` pieces A B`; where none are named, nothing.
+fn put_pieces<W: Sink>(
+    pieces: Option<(u8, u8)>,
+    assembly: &Assembly,
+    sink: &mut W,
+) -> Result<(), WriteFault>
+    ensures { Puts W.Sink sink.old sink.new (pieces_part assembly.now pieces) result }
+{
+    let Some((piece, other)) = pieces else {
+        return Ok(());
+    };
+    put_all(b" pieces ", sink)?;
+    put_name(assembly, piece, sink)?;
+    put_all(b" ", sink)?;
+    put_name(assembly, other, sink)
+}
+
+/// Puts the name of a piece; nothing where there is no such piece.
+fn put_name<W: Sink>(assembly: &Assembly, piece: u8, sink: &mut W) -> Result<(), WriteFault>
+    ensures { Puts W.Sink sink.old sink.new (name_or_none assembly.now piece) result }
+{
+    if piece >= assembly.piece_count() {
+        return Ok(());
+    }
+    put_all(assembly.piece_name(piece).as_bytes(), sink)
+}
+
+/// Puts a point, as ` point 0 1`; of none, or an empty one, nothing.
+fn put_point<W: Sink>(point: &Option<Point>, sink: &mut W) -> Result<(), WriteFault>
+    ensures { Puts W.Sink sink.old sink.new (point_part point.now) result }
+{
+    let Some(point) = point else {
+        return Ok(());
+    };
+    if point.is_empty() {
+        return Ok(());
+    }
+    put_all(b" point", sink)?;
+    put_numbers(point.as_slice(), sink)
+}
+
+/// Puts numbers, a space before each.
+fn put_numbers<W: Sink>(numbers: &[i32], sink: &mut W) -> Result<(), WriteFault>
+    ensures { Puts W.Sink sink.old sink.new (numbers_part numbers.now) result }
+{
+    for number in numbers {
+        put_all(b" ", sink)?;
+        put_number(*number, sink)?;
+    }
+    Ok(())
 }

@@ -1,4 +1,4 @@
-ghost use Rattle.std.specs.Prelude.{◌≡◌, ◌≢◌, ◌≤◌, length, IfErr, IfOk, codes};
+ghost use Rattle.std.specs.Prelude.{◌≡◌, ◌≢◌, ◌≤◌, length, IfErr, IfOk, codes, OnErr};
 ghost use Rattle.burr_io.specs.Sink.{Puts};
 ghost use Rattle.burr_runs.specs.declared.outcome.Outcome.TheVariants.{Refused};
 ghost use Rattle.burr_runs.specs.declared.fault.BenchFault.TheVariants.{Write};
@@ -6,16 +6,22 @@ ghost use Rattle.burr_runs.specs.Rules.Refusals.{assembly_refusal};
 ghost use Rattle.burr_runs.specs.Rules.Output.{IsOutput, IsTextOutput};
 ghost use Rattle.burr_code.specs.declared.limits.TheConstants.{MOST_CODE};
 ghost use Rattle.burr_runs.specs.Views.BenchText.{PutsOutput, OutputFails, streams, Succeeds, Fails};
+ghost use Rattle.burr_runs.specs.Rules.Headline.{PutsSafely, FailsSafely, EndsWell};
+ghost use Rattle.burr_runs.specs.Rules.Verdicts.{PutsVerdict, FailsInVerdict};
 
 use crate::fault::BenchFault;
 use crate::input::parse_input;
-use crate::lines::put_assembly_refusal;
+use crate::lines::{put_accepted, put_assembly_refusal, put_plan_refusal};
 use crate::outcome::Outcome;
-use crate::reading::read_whole;
-use crate::running::run_bare;
+use crate::runs::{run, run_bare};
+use crate::sources::read_whole;
 use burr_assembly::{Assembly, AssemblyFault};
-use burr_blocking::RowTables;
+use burr_bench::{Machine, a_well_framed_plan_runs_safely};
+use burr_blocking::{Blocking, RowTables};
+use burr_container::Container;
 use burr_io::{Sink, Source, WriteFault, put_all};
+use burr_state::pieces_never_overlap;
+use burr_verify::{Accepted, a_fitting_plan_is_from_a_container, accept_counted};
 use std::alloc::Global;
 
 /// Reads an assembly's text and after it a last line `code` with 1 to 4,096 bytes as lower case
@@ -99,4 +105,52 @@ fn refuse_input<W: Sink>(sink: &mut W) -> Result<Outcome, WriteFault>
 {
     put_all(b"refused input\n", sink)?;
     Ok(Outcome::Refused)
+}
+
+/// Runs an accepted plan with these answers, and writes the run's sheet. The run meets no trap, and
+/// makes no more steps than the plan's budget; it ends with every piece apart, or waits at a question
+/// for which no answer is left.
+pub fn run_plan<'a, 'c: 'a, B: Blocking, W: Sink>(
+    accepted: &Accepted<'a, 'c, B>,
+    answers: &[i32],
+    sink: &mut W,
+) -> Result<Outcome, WriteFault>
+    ensures ok { IfOk result (PutsSafely W.Sink sink.old sink.new accepted.now.judged
+        answers.now) }
+    ensures ends { IfOk result EndsWell }
+    ensures err { OnErr result (FailsSafely W.Sink sink.old sink.new accepted.now.judged
+        answers.now) }
+{
+    a_well_framed_plan_runs_safely();
+    a_fitting_plan_is_from_a_container();
+    pieces_never_overlap();
+    let mut machine = Machine::start(accepted);
+    let assembly = machine.assembly();
+    let budget = accepted.plan().header().budget;
+    run(&mut machine, assembly, budget, answers, &mut (), sink)
+}
+
+/// Judges a container's plan for the pieces of an assembly, and puts the line that says so: `accepted
+/// cost 4 budget 4 looks 2`, or the refusal. Whether the plan is accepted.
+pub fn check<B: Blocking, W: Sink>(
+    container: &Container<'_>,
+    blocking: &B,
+    sink: &mut W,
+) -> Result<bool, WriteFault>
+    ensures ok { IfOk result (PutsVerdict W.Sink sink.old sink.new container.now
+        (B.subject blocking.now)) }
+    ensures err { OnErr result (FailsInVerdict W.Sink sink.old sink.new container.now
+        (B.subject blocking.now)) }
+{
+    let budget = container.header().budget;
+    match accept_counted(container, blocking) {
+        Ok((accepted, looks)) => {
+            put_accepted(accepted.cost(), budget, looks, sink)?;
+            Ok(true)
+        }
+        Err(refusal) => {
+            put_plan_refusal(&refusal, blocking.assembly(), sink)?;
+            Ok(false)
+        }
+    }
 }

@@ -1,6 +1,6 @@
 -- What is to come of a sheet at its end, and of one at its start.
 use Rattle.std.proofs.Common.{◌≡◌, ℕ, [], ◌++◌, Option, Some, None, refl, ap, ◌∙◌, append_assoc, append-nil}
-use Rattle.burr_sheet.specs.declared.sheet.line.GrowingLine.{GrowingLine}
+use Rattle.burr_sheet.specs.declared.sheet.GrowingLine.{GrowingLine}
 use Rattle.burr_sheet.specs.declared.sheet.Sheet.TheInside.{Inside}
 use Rattle.burr_state.specs.declared.closing.Closing.{Closing}
 use Rattle.burr_sheet.specs.Rules.SheetText.{levels_from, levels_line, closing_line}

@@ -5,7 +5,7 @@ use Rattle.std.proofs.lemmas.List.Elements.{All-nil, All-head, All-tail, All-con
 use Rattle.burr_code.specs.declared.limits.TheConstants.{MOST_BUDGET}
 use Rattle.burr_assembly.specs.Rules.Homes.{names_of}
 use Rattle.burr_state.specs.declared.motion.Motion.{Motion}
-use Rattle.burr_sheet.specs.declared.expanding.line.MotionLine.{MotionLine}
+use Rattle.burr_sheet.specs.declared.motion_lines.MotionLine.{MotionLine}
 use Rattle.burr_state.specs.Rules.Motions.{IsMotionOf}
 use Rattle.burr_sheet.specs.Rules.Expanding.{AreLinesOf}
 use Rattle.burr_sheet.specs.Rules.SheetText.{MoveLine, longest_lines, move_line, move_lines, motion_lines}

@@ -2,14 +2,14 @@
 //! motions whose lines a text is. The names of a group's pieces.
 #![tactic(auto)]
 
-mod expanding;
 mod laws;
+mod motion_lines;
 mod sheet;
 
 pub use burr_state::Closing;
-pub use expanding::expand;
 pub use laws::{
     a_sheet_closes_once, lines_are_longest, lines_are_of_one_list_of_motions,
     move_lines_of_runs_are_expanded,
 };
+pub use motion_lines::expand;
 pub use sheet::{Sheet, put_names};

@@ -1,24 +1,22 @@
-ghost use Rattle.std.specs.Prelude.{◌≡◌, ◌+◌, ◌<◌, ◌≤◌, [], true, false, Some, length, IfOk, OnOk, OnErr};
+ghost use Rattle.std.specs.Prelude.{◌≡◌, ◌+◌, ◌<◌, ◌≤◌, [], true, false, Some, length, IfOk, OnOk, OnErr, ◌==◌, ◌∷◌, decimal};
 ghost use Rattle.burr_io.specs.Sink.{Puts};
 ghost use Rattle.burr_code.specs.declared.limits.TheConstants.{MOST_BUDGET};
 ghost use Rattle.burr_assembly.specs.Rules.Homes.{names_of};
-ghost use Rattle.burr_sheet.specs.Rules.SheetText.{alone};
-ghost use Rattle.burr_sheet.specs.Views.SheetUnderWay.{blank, still, outs_of, growing_text};
-ghost use Rattle.burr_sheet.specs.Views.SheetUnderWay.{move_line_of, is_one, KeepsCounts, OnUnfailed};
-ghost use Rattle.burr_sheet.specs.Views.SheetUnderWay.{PutsBefore, PutsMotion, FailsInMotion};
-ghost use Rattle.burr_sheet.specs.Views.SheetUnderWay.{StaysUnfailed};
+ghost use Rattle.burr_sheet.specs.Rules.SheetText.{alone, move_line, names_from, out_word, closing_line, levels_line};
+ghost use Rattle.burr_sheet.specs.Views.SheetUnderWay.{blank, still, outs_of, growing_text, move_line_of, is_one, KeepsCounts, OnUnfailed, PutsBefore, PutsMotion, FailsInMotion, StaysUnfailed};
+ghost use Rattle.std.specs.List.{join_with_byte};
+ghost use Rattle.burr_voxels.specs.Grid.{name_of};
+ghost use Rattle.burr_text.specs.Words.{text_line};
+ghost use Rattle.burr_state.specs.declared.closing.Closing.TheVariants as closings;
 
-mod ending;
-mod line;
-
-use crate::sheet::ending::{put_closing, put_levels};
-use crate::sheet::line::{GrowingLine, put_line};
 use arrayvec::ArrayVec;
 use burr_assembly::Assembly;
+use burr_code::is_in_set;
 use burr_code::limits::MOST_PIECES;
-use burr_io::{Sink, WriteFault};
-use burr_state::{Closing, Motion};
-pub use line::put_names;
+use burr_io::{Sink, WriteFault, put_all, put_number, put_words};
+use burr_state::{Closing, Motion, Trap};
+use burr_voxels::Direction;
+use itoa::Buffer;
 use std::marker::Model;
 
 /// The most outs of a run: each makes one group of pieces two.
@@ -171,4 +169,202 @@ impl<'a> Sheet<'a> {
             None => Ok(()),
         }
     }
+}
+
+/// The line that may still grow: unit steps of one group in one tray along one direction.
+#[derive(Clone, Copy, Debug)]
+pub struct GrowingLine {
+    /// The pieces that move: bit p is piece p.
+    pub group: u32,
+    pub tray: u8,
+    pub direction: Direction,
+    pub units: u32,
+}
+
+impl GrowingLine {
+    /// The line that a motion begins, before the motion goes on it.
+    pub fn before(motion: Motion) -> GrowingLine
+        ensures { result ≡ record {
+          group = motion.group;
+          tray = motion.tray;
+          direction = motion.dir;
+          units = 0;
+        } }
+    {
+        GrowingLine {
+            group: motion.group,
+            tray: motion.tray,
+            direction: motion.dir,
+            units: 0,
+        }
+    }
+
+    /// Whether a motion goes on the line: of the same group in the same tray along the same
+    /// direction.
+    pub fn is_of(self, motion: Motion) -> bool
+        ensures { result ≡ is_one (move_line_of self false) (alone motion) }
+    {
+        self.group == motion.group
+            && self.tray == motion.tray
+            && self.direction.number() == motion.dir.number()
+    }
+
+    /// The line with one step more.
+    pub fn with_step(self) -> GrowingLine
+        requires { self.units ≤ MOST_BUDGET }
+        ensures { result ≡ record self { units = self.units + 1 } }
+    {
+        GrowingLine {
+            units: self.units + 1,
+            ..self
+        }
+    }
+}
+
+/// Puts a line with its number, as `1 t0 A,B -x 2`, or `1 t0 A,B -x 2 out`.
+pub fn put_line<W: Sink>(
+    assembly: &Assembly,
+    number: u32,
+    line: GrowingLine,
+    out: bool,
+    sink: &mut W,
+) -> Result<(), WriteFault>
+    ensures { Puts W.Sink sink.old sink.new
+        (move_line (names_of assembly.now) number (move_line_of line out)) result }
+{
+    put_number(number, sink)?;
+    put_all(b" t", sink)?;
+    put_number(line.tray, sink)?;
+    put_all(b" ", sink)?;
+    put_names(assembly, line.group, sink)?;
+    put_all(b" ", sink)?;
+    put_steps(line.direction, line.units, out, sink)
+}
+
+/// Puts the end of a line, as `-x 2`, or `-x 2 out`.
+fn put_steps<W: Sink>(
+    direction: Direction,
+    units: u32,
+    out: bool,
+    sink: &mut W,
+) -> Result<(), WriteFault>
+    ensures { Puts W.Sink sink.old sink.new
+        (text_line (name_of direction ∷ decimal units ∷ out_word out)) result }
+{
+    let name = direction.name();
+    let mut buffer = Buffer::new();
+    let units = buffer.format(units).as_bytes();
+    if out {
+        put_words(&[&name, units, b"out"], sink)
+    } else {
+        put_words(&[&name, units], sink)
+    }
+}
+
+/// Puts the names of the pieces of a group, as `A,B`.
+pub fn put_names<W: Sink>(assembly: &Assembly, group: u32, sink: &mut W) -> Result<(), WriteFault>
+    ensures { Puts W.Sink sink.old sink.new
+        (join_with_byte 44 (names_from 0 group (names_of assembly.now))) result }
+{
+    let mut separator: &[u8] = b"";
+    for piece in 0..assembly.piece_count() {
+        if is_in_set(group, piece) {
+            let name = assembly.piece_name(piece).as_bytes();
+            put_all(separator, sink)?;
+            put_all(name, sink)?;
+            separator = b",";
+        }
+    }
+    Ok(())
+}
+
+/// Puts how a run closed, as `apart in 3 steps`.
+pub fn put_closing<W: Sink>(closing: Closing, steps: u64, sink: &mut W) -> Result<(), WriteFault>
+    ensures { Puts W.Sink sink.old sink.new (closing_line closing steps) result }
+{
+    match closing {
+        Closing::Apart => put_words(
+            &[
+                b"apart",
+                b"in",
+                Buffer::new().format(steps).as_bytes(),
+                b"steps",
+            ],
+            sink,
+        ),
+        Closing::Waiting(low, high) => put_waiting(low, high, steps, sink),
+        Closing::Trapped(trap, procedure, pc) => put_trap(trap, procedure, pc, steps, sink),
+        Closing::Stopped => put_words(
+            &[
+                b"stopped",
+                b"after",
+                Buffer::new().format(steps).as_bytes(),
+                b"steps",
+            ],
+            sink,
+        ),
+    }
+}
+
+/// Puts the bounds of a question, as `waiting 0 2 after 1 steps`.
+fn put_waiting<W: Sink>(low: i32, high: i32, steps: u64, sink: &mut W) -> Result<(), WriteFault>
+    ensures { Puts W.Sink sink.old sink.new
+        (closing_line (closings.Waiting low high) steps) result }
+{
+    put_words(
+        &[
+            b"waiting",
+            Buffer::new().format(low).as_bytes(),
+            Buffer::new().format(high).as_bytes(),
+            b"after",
+            Buffer::new().format(steps).as_bytes(),
+            b"steps",
+        ],
+        sink,
+    )
+}
+
+/// Puts a trap and its place, as `trap 3 NotFree proc 0 pc 5 after 1 steps`.
+fn put_trap<W: Sink>(
+    trap: Trap,
+    procedure: u8,
+    pc: u16,
+    steps: u64,
+    sink: &mut W,
+) -> Result<(), WriteFault>
+    ensures { Puts W.Sink sink.old sink.new
+        (closing_line (closings.Trapped trap procedure pc) steps) result }
+{
+    put_words(
+        &[
+            b"trap",
+            Buffer::new().format(trap.number()).as_bytes(),
+            trap.name().as_bytes(),
+            b"proc",
+            Buffer::new().format(procedure).as_bytes(),
+            b"pc",
+            Buffer::new().format(pc).as_bytes(),
+            b"after",
+            Buffer::new().format(steps).as_bytes(),
+            b"steps",
+        ],
+        sink,
+    )
+}
+
+/// Puts the levels, as `levels 1.3`, or `levels -` without an out.
+pub fn put_levels<W: Sink>(levels: &[u32], sink: &mut W) -> Result<(), WriteFault>
+    ensures { Puts W.Sink sink.old sink.new (levels_line levels.now) result }
+{
+    if levels.is_empty() {
+        return put_words(&[b"levels", b"-"], sink);
+    }
+    put_all(b"levels ", sink)?;
+    let mut separator: &[u8] = b"";
+    for level in levels {
+        put_all(separator, sink)?;
+        put_number(*level, sink)?;
+        separator = b".";
+    }
+    put_all(b"\n", sink)
 }

@@ -17,7 +17,7 @@ use Rattle.burr_step.specs.declared.refusal.StepRefusal.{StepRefusal as CodeRefu
 use Rattle.burr_step.specs.declared.refusal.StepRefusal.TheVariants as code
 use Rattle.burr_step.specs.Rules.Stepper.{History, history, IsAsking, IsHalted, Goes, GoesUntil, there, farther, Forward, StepRefusal, S1, S2, StepOutcome, Taken, Refused, Follows, farther_by, going, going_until, Commanding}
 use Rattle.burr_step.specs.Views.Stepping.{Stepping, stepping, IsDone, IsRefused, CameTo, NeedsNoMemory, commanding, IsUpTo, IsThere, StopsFor}
-use Rattle.burr_step.specs.declared.stepper.going.Stop.{Stop}
+use Rattle.burr_step.specs.declared.stepper.Stop.{Stop}
 use Rattle.burr_step.proofs.Commands.{decide_ended, decide_asking, decided_so, past, same_history, same_state}
 use Rattle.burr_step.proofs.UnderWay.{IsFurther, same_setup}
 

@@ -10,10 +10,10 @@ use Rattle.burr_step.specs.declared.refusal.StepRefusal.TheVariants as code
 use Rattle.burr_step.specs.Rules.Stepper.{Forward, Over, Until, Answer, Back, S1, S2, S3, S4}
 use Rattle.burr_step.specs.Rules.StepTexts.{LineCommand, Steps, Shows, Quits, line_of, IsAfterLine, refused_line, refusal_word}
 use Rattle.burr_step.specs.Views.Stepping.{Stepping}
-use Rattle.burr_judge.specs.declared.commanding.StepFault.{StepFault}
-use Rattle.burr_judge.specs.declared.commanding.StepFault.TheVariants as faults
-use Rattle.burr_judge.specs.declared.commanding.reading.Command.{Command}
-use Rattle.burr_judge.specs.declared.commanding.reading.Command.TheVariants as read
+use Rattle.burr_judge.specs.declared.commands.StepFault.{StepFault}
+use Rattle.burr_judge.specs.declared.commands.StepFault.TheVariants as faults
+use Rattle.burr_judge.specs.declared.commands.line.Command.{Command}
+use Rattle.burr_judge.specs.declared.commands.line.Command.TheVariants as read
 
 -- a command that the code has read
 abbrev pub command_of : Command → LineCommand

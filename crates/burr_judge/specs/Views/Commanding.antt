@@ -6,8 +6,8 @@ use Rattle.burr_state.specs.Views.Benches.{setup_of, IsSameRun}
 use Rattle.burr_step.specs.Rules.Stepper.{Answer}
 use Rattle.burr_step.specs.Rules.StepTexts.{IsLineOf, LineAnswer, Lined, Steps}
 use Rattle.burr_step.specs.Views.Stepping.{Stepping}
-use Rattle.burr_judge.specs.declared.commanding.StepFault.{StepFault}
-use Rattle.burr_judge.specs.declared.commanding.StepFault.TheVariants as faults
+use Rattle.burr_judge.specs.declared.commands.StepFault.{StepFault}
+use Rattle.burr_judge.specs.declared.commands.StepFault.TheVariants as faults
 
 -- the line comes to this, and leaves the stepper so, on the same run
 pub record IsAnswered (old : Stepping) (line : List ℕ) (answer : LineAnswer) (new : Stepping)

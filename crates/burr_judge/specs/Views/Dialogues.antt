@@ -10,8 +10,8 @@ use Rattle.burr_step.specs.Rules.StepTexts.{LineAnswer, Lined}
 use Rattle.burr_step.specs.Views.Stepping.{Stepping}
 use Rattle.burr_runs.specs.declared.fault.BenchFault.{BenchFault}
 use Rattle.burr_runs.specs.declared.fault.BenchFault.TheVariants as faults
-use Rattle.burr_judge.specs.declared.commanding.StepFault.{StepFault}
-use Rattle.burr_judge.specs.declared.commanding.StepFault.TheVariants as steps
+use Rattle.burr_judge.specs.declared.commands.StepFault.{StepFault}
+use Rattle.burr_judge.specs.declared.commands.StepFault.TheVariants as steps
 use Rattle.burr_judge.specs.Rules.Dialogue.{Dialogue, lines_bytes, IsInputOf, IsReadOf}
 use Rattle.burr_runs.specs.Views.BenchText.{Streams}
 use Rattle.burr_judge.specs.Views.Commanding.{IsAnswered, IsAnswerLine, PutsAnswer}

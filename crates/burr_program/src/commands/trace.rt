@@ -1,4 +1,4 @@
-ghost use Rattle.burr_judge.specs.declared.task.Task.TheVariants as tasks;
+ghost use Rattle.burr_judge.specs.declared.tasks.Task.TheVariants as tasks;
 ghost use Rattle.burr_judge.specs.PlanEnds.{EndsOn, Ending, never};
 ghost use Rattle.burr_judge.specs.StepEnds.{left_by};
 ghost use Rattle.burr_program.specs.Commands.{TraceCommand};

@@ -1,5 +1,5 @@
 ghost use Rattle.std.specs.Prelude.{[]};
-ghost use Rattle.burr_judge.specs.declared.task.Task.TheVariants as tasks;
+ghost use Rattle.burr_judge.specs.declared.tasks.Task.TheVariants as tasks;
 ghost use Rattle.burr_judge.specs.PlanEnds.{EndsOn, Ending, never};
 ghost use Rattle.burr_program.specs.Commands.{WhyCommand};
 ghost use Rattle.burr_program.specs.NotedEnds.{NotedEnds};

@@ -1,5 +1,6 @@
 -- Where a bench stands after its run was put on a sink.
 use Rattle.std.specs.Prelude.{◌≡◌, ◌⊎◌, ℤ, List}
+use Rattle.std.specs.Borrow.{Bor}
 use Rattle.burr_state.specs.declared.motion.Motion.{Motion}
 use Rattle.burr_state.specs.declared.mode.Mode.TheVariants.{Trapped}
 use Rattle.burr_state.specs.declared.closing.Closing.{Closing}
@@ -8,8 +9,8 @@ use Rattle.burr_state.specs.Rules.Bench.{BenchState}
 use Rattle.burr_state.specs.Rules.Calls.{Calls, ClosesAt}
 use Rattle.burr_state.specs.Views.Benches.{Benched, setup_of, IsSameRun}
 use Rattle.burr_runs.specs.declared.outcome.Outcome.{Outcome}
-use Rattle.burr_runs.specs.declared.running.Turn.{Turn}
-use Rattle.burr_runs.specs.declared.running.Turn.TheVariants as turns
+use Rattle.std.specs.declared.ops.ControlFlow.{ControlFlow}
+use Rattle.std.specs.declared.ops.ControlFlow.TheVariants as turns
 use Rattle.burr_runs.specs.Rules.Output.{outcome_of}
 
 -- calls of the run with these answers have led the bench to where it stands, and those are left
@@ -47,7 +48,8 @@ IsInRun old answers new =
 
 -- Where a turn leaves the bench: calls have led there, and the run goes on with those answers left;
 -- or the run closes in this way, and the bench stands at its end.
-abbrev pub TurnStands : Benched → List ℤ → Benched → Turn → Type 0
-TurnStands old answers new (turns.GoesOn left) = HasComeOn old answers new left.now
-TurnStands old answers new (turns.Closes closing) =
+abbrev pub TurnStands : Benched → List ℤ → Benched
+    → ControlFlow Closing (Bor (List ℤ)) → Type 0
+TurnStands old answers new (turns.Continue left) = HasComeOn old answers new left.now
+TurnStands old answers new (turns.Break closing) =
     IsAtRunEnd old answers new (outcome_of closing)

@@ -1,5 +1,6 @@
 -- A run and its sheet, both under way.
 use Rattle.std.specs.Prelude.{◌≡◌, ◌<◌, ◌≤◌, ◌+◌, ◌-◌, ◌++◌, ◌⊎◌, ℕ, ℤ, List, [], ◌∷◌, length, None, false}
+use Rattle.std.specs.Borrow.{Bor}
 use Rattle.burr_io.specs.Sink.{SinkView, Takes, FailsWithin}
 use Rattle.burr_assembly.specs.Rules.Text.{Assembly}
 use Rattle.burr_state.specs.declared.mode.Mode.TheVariants.{Running, Ended}
@@ -15,8 +16,8 @@ use Rattle.burr_state.specs.Views.Benches.{Benched, setup_of, IsSameRun, GoesOn}
 use Rattle.burr_state.specs.Rules.Step.{TakesAnswer}
 use Rattle.burr_state.specs.Rules.Step.{IsStepFrom}
 use Rattle.burr_state.specs.Rules.Questions.{Fits}
-use Rattle.burr_runs.specs.declared.running.Turn.{Turn}
-use Rattle.burr_runs.specs.declared.running.Turn.TheVariants as turns
+use Rattle.std.specs.declared.ops.ControlFlow.{ControlFlow}
+use Rattle.std.specs.declared.ops.ControlFlow.TheVariants as turns
 use Rattle.burr_runs.specs.Rules.Output.{IsSheetOf}
 
 -- how far a run is: the bench, the answers that are left, and the sheet
@@ -88,23 +89,24 @@ abbrev pub left_to_take : RunState → ℕ
 left_to_take p = (p.bench.program.budget - p.bench.state.steps) + length p.answers
 
 -- what a turn of the run came to: it goes on with these answers left, or closes where it stands
-abbrev pub TurnIs : {S : Type 0} → SinkView S → S → S → RunState → Benched → UnderWay → Turn
-    → Type 0
-TurnIs sink before after p new more (turns.GoesOn left) =
+abbrev pub TurnIs : {S : Type 0} → SinkView S → S → S → RunState → Benched → UnderWay
+    → ControlFlow Closing (Bor (List ℤ)) → Type 0
+TurnIs sink before after p new more (turns.Continue left) =
     GoesWith sink before after p (run_state new left.now more)
     × (left_to_take (run_state new left.now more) < left_to_take p)
-TurnIs sink before after p new more (turns.Closes closing) =
+TurnIs sink before after p new more (turns.Break closing) =
     RunsOn p [] new.state.steps closing × (more ≡ p.sheet)
     × (sink.taken after ≡ sink.taken before)
 
 -- what a bench that asks for a number of this range came to with these answers: the first is taken or
 -- passed over, and where there is none the run waits
-abbrev pub AnswerIs : Benched → List ℤ → ℤ → ℤ → Benched → Turn → Type 0
-AnswerIs b answers low high new (turns.GoesOn left) =
+abbrev pub AnswerIs : Benched → List ℤ → ℤ → ℤ → Benched
+    → ControlFlow Closing (Bor (List ℤ)) → Type 0
+AnswerIs b answers low high new (turns.Continue left) =
     (answer : ℤ) × (answers ≡ answer ∷ left.now) × IsSameRun b new × GoesOn b new None
     × ((TakesAnswer (setup_of b) b.state answer new.state × IsStepFrom b.state new.state)
     ⊎ ((¬ Fits low high answer) × (new.state ≡ b.state)))
-AnswerIs b answers low high new (turns.Closes closing) =
+AnswerIs b answers low high new (turns.Break closing) =
     (answers ≡ []) × (closing ≡ closings.Waiting low high) × (new ≡ b)
 
 -- the sheet of the run was written

@@ -6,8 +6,8 @@ use Rattle.burr_text.specs.Words.{IsCutAt}
 use Rattle.burr_voxels.specs.Grid.{name_of}
 use Rattle.burr_code.specs.declared.limits.TheConstants.{MOST_BUDGET, TRAYS}
 use Rattle.burr_state.specs.declared.motion.Motion.{Motion}
-use Rattle.burr_sheet.specs.declared.expanding.line.MotionLine.{MotionLine}
-use Rattle.burr_sheet.specs.declared.expanding.words.LineWords.{LineWords}
+use Rattle.burr_sheet.specs.declared.motion_lines.MotionLine.{MotionLine}
+use Rattle.burr_sheet.specs.declared.motion_lines.LineWords.{LineWords}
 use Rattle.burr_sheet.specs.Rules.SheetText.{MoveLine, goes_onto, names_from, out_word, move_line}
 
 -- The motions of a line

@@ -5,7 +5,7 @@ use Rattle.burr_voxels.specs.Grid.{number_of}
 use Rattle.burr_code.specs.declared.limits.TheConstants.{MOST_BUDGET}
 use Rattle.burr_state.specs.declared.motion.Motion.{Motion}
 use Rattle.burr_state.specs.declared.closing.Closing.{Closing}
-use Rattle.burr_sheet.specs.declared.sheet.line.GrowingLine.{GrowingLine}
+use Rattle.burr_sheet.specs.declared.sheet.GrowingLine.{GrowingLine}
 use Rattle.burr_sheet.specs.Rules.SheetText.{MoveLine, with_motion, longest_lines, levels_from, move_lines, levels_line, closing_line}
 
 -- how far a sheet is

@@ -1,7 +1,7 @@
 -- How far a sheet is, by its fields.
 use Rattle.std.specs.Prelude.{Option, Some, None, false}
 use Rattle.burr_assembly.specs.Rules.Homes.{names_of}
-use Rattle.burr_sheet.specs.declared.sheet.line.GrowingLine.{GrowingLine}
+use Rattle.burr_sheet.specs.declared.sheet.GrowingLine.{GrowingLine}
 use Rattle.burr_sheet.specs.declared.sheet.Sheet.TheInside.{Inside}
 use Rattle.burr_sheet.specs.Rules.SheetText.{MoveLine}
 use Rattle.burr_sheet.specs.Views.SheetUnderWay.{UnderWay, move_line_of}

@@ -1,4 +1,4 @@
-use Rattle.burr_judge.specs.declared.task.Task.TheVariants.{Try}
+use Rattle.burr_judge.specs.declared.tasks.Task.TheVariants.{Try}
 use Rattle.burr_program.proofs.Noted.{text_noted}
 use Rattle.burr_program.proofs.commands.trace.trace.Goals as goal
 

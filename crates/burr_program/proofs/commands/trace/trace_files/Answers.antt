@@ -1,6 +1,6 @@
 use Rattle.std.proofs.Common.{ℕ, List, subst, sym}
 use Rattle.burr_runs.specs.Views.ReadWhole.{IsWholeInput}
-use Rattle.burr_judge.specs.declared.task.Task.TheVariants.{Try}
+use Rattle.burr_judge.specs.declared.tasks.Task.TheVariants.{Try}
 use Rattle.burr_judge.specs.StepEnds.{left_by}
 use Rattle.burr_program.specs.Commands.{TraceCommand}
 use Rattle.burr_program.specs.NotedEnds.{NotedEnds}

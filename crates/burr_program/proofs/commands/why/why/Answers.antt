@@ -1,5 +1,5 @@
 use Rattle.std.proofs.Common.{[]}
-use Rattle.burr_judge.specs.declared.task.Task.TheVariants.{Check}
+use Rattle.burr_judge.specs.declared.tasks.Task.TheVariants.{Check}
 use Rattle.burr_program.proofs.Noted.{text_noted, why_noted}
 use Rattle.burr_program.proofs.commands.why.why.Goals as goal
 

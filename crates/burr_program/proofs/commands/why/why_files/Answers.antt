@@ -1,5 +1,5 @@
 use Rattle.std.proofs.Common.{[]}
-use Rattle.burr_judge.specs.declared.task.Task.TheVariants.{Check}
+use Rattle.burr_judge.specs.declared.tasks.Task.TheVariants.{Check}
 use Rattle.burr_program.specs.Commands.{WhyCommand}
 use Rattle.burr_program.specs.NotedEnds.{NotedEnds}
 use Rattle.burr_judge.proofs.Common.Stages.{ending_from}

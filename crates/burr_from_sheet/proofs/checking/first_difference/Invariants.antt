@@ -1,6 +1,0 @@
-use Rattle.std.proofs.Common.{◌+◌, ◌≤◌}
-use Rattle.burr_from_sheet.proofs.checking.first_difference.Given as goal
-
--- there were no more ends of lines than bytes
-abbrev pub invariant-loop-place : goal.invariant-loop-place
-invariant-loop-place l = l.line ≤ l.place + 1

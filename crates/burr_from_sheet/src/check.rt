@@ -1,0 +1,124 @@
+//! The check of a drafted plan: it is judged, run, and what its run puts is compared with the sheet.
+
+ghost use Rattle.std.specs.Prelude.{IfErr, IfOk, IsTrue, OnOk};
+ghost use Rattle.burr_container.specs.Laws.PlanBytes.{IsSpelled};
+ghost use Rattle.burr_from_sheet.specs.Drafts.{IsOfDraft, IsSheetWith, RunsAs};
+ghost use Rattle.burr_from_sheet.specs.SheetPlans.{IsPlanTextOf};
+
+use crate::draft::DraftedCode;
+use crate::fault::{RefusedDraft, SheetFault};
+use burr_blocking::Blocking;
+use burr_container::{Container, a_container_is_of_one_plan, containers_are_unique};
+use burr_io::Kept;
+use burr_plantext::list;
+use burr_runs::{Outcome, run_plan};
+use burr_verify::{Accepted, Refusal, accept};
+use std::alloc::{AllocError, Global};
+
+/// The listing of the container of drafted code, where its plan is accepted and the sheet of its run
+/// has these move lines.
+#[inline(never)]
+pub fn checked_text<B: Blocking>(
+    alloc: Global,
+    blocking: &B,
+    lines: &[u8],
+    code: &DraftedCode,
+    bytes: &[u8],
+) -> Result<Vec<u8>, SheetFault>
+    requires { IsSpelled bytes.now }
+    ensures ok { IfOk result (λ text. IsPlanTextOf (B.subject blocking.now) lines.now text.items) }
+    ensures err { IfErr result IsOfDraft }
+{
+    containers_are_unique();
+    match Container::parse(bytes) {
+        Ok(container) => match text_if_accepted(alloc, &container, blocking, lines)? {
+            Ok(text) => Ok(text),
+            Err(refusal) => Err(refused(alloc, bytes, &container, code, refusal)?),
+        },
+        Err(_) => unreachable!(),
+    }
+}
+
+/// The listing of a container, where the sheet of its run has these move lines; or the refusal of
+/// its plan.
+#[inline(never)]
+fn text_if_accepted<'x, B: Blocking>(
+    alloc: Global,
+    container: &'x Container<'_>,
+    blocking: &'x B,
+    lines: &[u8],
+) -> Result<Result<Vec<u8>, Refusal>, SheetFault>
+    ensures ok { IfOk result (λ judged. IfOk judged (λ text.
+        IsPlanTextOf (B.subject blocking.entry.now) lines.now text.items)) }
+    ensures err { IfErr result IsOfDraft }
+{
+    a_container_is_of_one_plan();
+    match accept(container, blocking) {
+        Ok(accepted) => {
+            compare_run(alloc, &accepted, lines)?;
+            Ok(Ok(list(alloc, container)?))
+        }
+        Err(refusal) => Ok(Err(refusal)),
+    }
+}
+
+/// Runs an accepted plan without answers, and compares: all pieces are apart at its end, and its
+/// sheet has these move lines.
+#[inline(never)]
+fn compare_run<B: Blocking>(
+    alloc: Global,
+    accepted: &Accepted<'_, '_, B>,
+    lines: &[u8],
+) -> Result<(), SheetFault>
+    ensures ok { OnOk result (RunsAs accepted.now.judged lines.now) }
+    ensures err { IfErr result IsOfDraft }
+{
+    let mut sheet = Kept::new(alloc);
+    let Ok(outcome) = run_plan(accepted, &[], &mut sheet) else {
+        return Err(SheetFault::Memory);
+    };
+    let sheet = sheet.as_bytes();
+    if outcome == Outcome::Apart && has_move_lines(sheet, lines) {
+        return Ok(());
+    }
+    Err(SheetFault::Differs(first_difference(lines, sheet)))
+}
+
+/// Whether these are the move lines of a run's sheet: it begins with them, and its levels follow.
+fn has_move_lines(sheet: &[u8], lines: &[u8]) -> bool
+    ensures { IsTrue result → IsSheetWith lines.now sheet.now }
+{
+    sheet.starts_with(lines) && sheet[lines.len()..].starts_with(b"levels ")
+}
+
+/// The first line, counted from 1, in which a text differs from another one.
+fn first_difference(text: &[u8], other: &[u8]) -> usize {
+    let mut line = 1;
+    for (place, byte) in text.iter().enumerate() {
+        if other.get(place) != Some(byte) {
+            return line;
+        }
+        if *byte == b'\n' {
+            line += 1;
+        }
+    }
+    line
+}
+
+/// The fault of drafted code whose plan is refused.
+fn refused(
+    alloc: Global,
+    bytes: &[u8],
+    container: &Container<'_>,
+    code: &DraftedCode,
+    refusal: Refusal,
+) -> Result<SheetFault, AllocError>
+    ensures { IfOk result IsOfDraft }
+{
+    Ok(SheetFault::Refused(RefusedDraft {
+        container: Vec::from_slice(alloc, bytes)?,
+        text: list(alloc, container)?,
+        line: code.line_at(refusal.pc),
+        refusal,
+    }))
+}

@@ -1,0 +1,177 @@
+//! Lines of commands for a stepper.
+
+ghost use Rattle.std.specs.Prelude.{◌≡◌, false, IfOk, IfErr, [], ◌∷◌, codes};
+ghost use Rattle.burr_judge.specs.Views.Commanding.{PutsAnswer, FailsInAnswer};
+ghost use Rattle.burr_io.specs.Sink.{Puts};
+ghost use Rattle.burr_assembly.specs.Rules.Homes.{names_of};
+ghost use Rattle.burr_step.specs.Rules.StepTexts.{refused_line, show_text};
+ghost use Rattle.burr_judge.specs.Views.CommandLines.{PutsAfter, PutsCame, PutsLine, after_line, question_words};
+
+mod line;
+
+use crate::commands::line::{Command, read_command};
+use burr_blocking::Blocking;
+use burr_io::{Sink, WriteFault, put_words};
+use burr_step::{StepRefusal, Stepper};
+use itoa::Buffer;
+use thiserror::Error;
+
+/// Why what a line comes to can't be told.
+#[derive(Clone, Copy, Debug, PartialEq, Eq, Error)]
+pub enum StepFault {
+    #[error("the output cannot be written")]
+    Write,
+    #[error("no memory")]
+    Memory,
+}
+
+impl From<WriteFault> for StepFault {
+    ghost use Rattle.std.specs.Prelude.{◌≡◌};
+    ghost use Rattle.burr_judge.specs.declared.commands.StepFault.TheVariants.{Write};
+
+    ghost from_gives = { λ _ e. e ≡ Write };
+
+    fn from(_e: WriteFault) -> StepFault {
+        StepFault::Write
+    }
+}
+
+/// Takes a line of commands, without its end, and puts what it comes to, as
+/// `after 3 steps asks 0 2`, `refused S2` or `refused command`. False for `quit`, after which no
+/// line is to come. After `Write` the command counts as taken or refused as it would without the
+/// fault; after `Memory` nothing has changed. For `quit` the sink is left alone.
+pub fn command<B: Blocking, W: Sink>(
+    stepper: &mut Stepper<'_, '_, '_, B>,
+    line: &[u8],
+    sink: &mut W,
+) -> Result<bool, StepFault>
+    ensures ok { IfOk result (λ goes_on.
+        PutsAnswer W.Sink sink.old sink.new stepper.old line.now goes_on stepper.new) }
+    ensures err { IfErr result (λ fault.
+        FailsInAnswer W.Sink sink.old sink.new stepper.old line.now fault stepper.new) }
+    ensures quit { IfOk result (λ goes_on. goes_on ≡ false → sink.new ≡ sink.old) }
+{
+    stepper.labels_are_few();
+    let Some(command) = read_command(line) else {
+        return put_no_command(sink);
+    };
+    match command {
+        Command::Forward => put_outcome(stepper.forward(), stepper, sink),
+        Command::Over => put_outcome(stepper.over(), stepper, sink),
+        Command::Until(procedure, label) => {
+            if !stepper.has_label(procedure, label) {
+                return put_no_command(sink);
+            }
+            put_outcome(stepper.until(procedure, label), stepper, sink)
+        }
+        Command::Answer(answer) => put_outcome(stepper.answer(answer), stepper, sink),
+        Command::Back(steps) => put_outcome(stepper.back(steps), stepper, sink),
+        Command::Show => put_state(stepper, sink),
+        Command::Quit => Ok(false),
+    }
+}
+
+/// Puts what a call came to: where the stepper stands after it, or why it was refused. `Memory`
+/// where a request for memory was.
+pub fn put_outcome<B: Blocking, W: Sink>(
+    came: Result<(), StepRefusal>,
+    stepper: &Stepper<'_, '_, '_, B>,
+    sink: &mut W,
+) -> Result<bool, StepFault>
+    ensures { PutsCame W.Sink sink.old sink.new stepper.now came result }
+{
+    match came {
+        Ok(_done) => put_after(stepper, sink)?,
+        Err(StepRefusal::S1) => put_refused(b"S1", sink)?,
+        Err(StepRefusal::S2) => put_refused(b"S2", sink)?,
+        Err(StepRefusal::S3) => put_refused(b"S3", sink)?,
+        Err(StepRefusal::S4) => put_refused(b"S4", sink)?,
+        Err(StepRefusal::Memory) => return Err(StepFault::Memory),
+    }
+    Ok(true)
+}
+
+/// Puts where a stepper stands, as `after 3 steps asks 0 2`.
+fn put_after<B: Blocking, W: Sink>(
+    stepper: &Stepper<'_, '_, '_, B>,
+    sink: &mut W,
+) -> Result<(), WriteFault>
+    ensures { PutsAfter W.Sink sink.old sink.new stepper.now result }
+{
+    if stepper.ended() {
+        return put_ended(stepper.steps(), sink);
+    }
+    match stepper.asks() {
+        Some((low, high)) => put_question(stepper.steps(), low, high, sink),
+        None => put_steps(stepper.steps(), sink),
+    }
+}
+
+/// Puts that a run has ended, as `after 3 steps ended`.
+fn put_ended<W: Sink>(steps: u64, sink: &mut W) -> Result<(), WriteFault>
+    ensures { Puts W.Sink sink.old sink.new (after_line steps (codes "ended" ∷ [])) result }
+{
+    put_words(
+        &[
+            b"after",
+            Buffer::new().format(steps).as_bytes(),
+            b"steps",
+            b"ended",
+        ],
+        sink,
+    )
+}
+
+/// Puts that a run waits for a number of this range, as `after 3 steps asks 0 2`.
+fn put_question<W: Sink>(steps: u64, low: i32, high: i32, sink: &mut W) -> Result<(), WriteFault>
+    ensures { Puts W.Sink sink.old sink.new (after_line steps (question_words low high)) result }
+{
+    put_words(
+        &[
+            b"after",
+            Buffer::new().format(steps).as_bytes(),
+            b"steps",
+            b"asks",
+            Buffer::new().format(low).as_bytes(),
+            Buffer::new().format(high).as_bytes(),
+        ],
+        sink,
+    )
+}
+
+/// Puts that a run goes on, as `after 3 steps`.
+fn put_steps<W: Sink>(steps: u64, sink: &mut W) -> Result<(), WriteFault>
+    ensures { Puts W.Sink sink.old sink.new (after_line steps []) result }
+{
+    put_words(
+        &[b"after", Buffer::new().format(steps).as_bytes(), b"steps"],
+        sink,
+    )
+}
+
+/// Puts a refusal, as `refused S2`.
+pub fn put_refused<W: Sink>(word: &[u8], sink: &mut W) -> Result<(), WriteFault>
+    ensures { Puts W.Sink sink.old sink.new (refused_line word.now) result }
+{
+    put_words(&[b"refused", word], sink)
+}
+
+/// Puts that a line is no command's.
+pub fn put_no_command<W: Sink>(sink: &mut W) -> Result<bool, StepFault>
+    ensures { PutsLine W.Sink sink.old sink.new (refused_line (codes "command")) result }
+{
+    put_refused(b"command", sink)?;
+    Ok(true)
+}
+
+/// Puts the state of a stepper.
+pub fn put_state<B: Blocking, W: Sink>(
+    stepper: &Stepper<'_, '_, '_, B>,
+    sink: &mut W,
+) -> Result<bool, StepFault>
+    ensures { PutsLine W.Sink sink.old sink.new
+        (show_text (names_of stepper.now.bench.assembly) stepper.now.bench.state) result }
+{
+    stepper.show(sink)?;
+    Ok(true)
+}
