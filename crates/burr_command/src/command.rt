@@ -22,7 +22,7 @@ pub enum Kind {
 }
 
 /// A command by its name, with what may stand after it.
-struct Form {
+struct Syntax {
     kind: Kind,
     name: &'static str,
     about: &'static str,
@@ -48,9 +48,9 @@ const TEXT: Argument = Argument::Word("TEXT", "The plan text");
 
 const PLAN: Argument = Argument::Word("PLAN", "The container");
 
-/// The form of each command, in the order in which help lists them.
-const FORMS: &[Form] = &[
-    Form {
+/// The words of each command, in the order in which help lists them.
+const COMMANDS: &[Syntax] = &[
+    Syntax {
         kind: Kind::Assemble,
         name: "asm",
         about: "Assembles a plan text into a container",
@@ -62,7 +62,7 @@ one stands. OUT may not be TEXT itself.
 Example: ./burr asm examples/ring.plan /tmp/ring.bpln",
         arguments: &[TEXT, Argument::Word("OUT", "The container that is made")],
     },
-    Form {
+    Syntax {
         kind: Kind::List,
         name: "list",
         about: "Prints the plan text of a container",
@@ -76,7 +76,7 @@ Example: ./burr list /tmp/ring.bpln",
             Argument::Flag("places", "Says before each line of code where it stands"),
         ],
     },
-    Form {
+    Syntax {
         kind: Kind::Upgrade,
         name: "upgrade",
         about: "Makes the container of version 2 of a plan",
@@ -89,7 +89,7 @@ whole. OUT may not be PLAN itself.
 Example: ./burr upgrade /tmp/ring.bpln /tmp/ring2.bpln",
         arguments: &[PLAN, Argument::Word("OUT", "The container that is made")],
     },
-    Form {
+    Syntax {
         kind: Kind::Check,
         name: "check",
         about: "Says whether a plan is accepted",
@@ -102,7 +102,7 @@ fails is named, as `refused V28 proc 0 pc 0`, with status 1.
 Example: ./burr check examples/cup.assembly /tmp/cup.bpln",
         arguments: &[ASSEMBLY, PLAN],
     },
-    Form {
+    Syntax {
         kind: Kind::Run,
         name: "run",
         about: "Runs a plan that is accepted",
@@ -115,7 +115,7 @@ with what the run waits for and status 5.
 Example: echo 2 | ./burr run examples/cup.assembly /tmp/cup.bpln",
         arguments: &[ASSEMBLY, PLAN],
     },
-    Form {
+    Syntax {
         kind: Kind::Try,
         name: "try",
         about: "Runs a plan on the bench, without accepting it",
@@ -127,7 +127,7 @@ closed. Status 5: it waits for an answer.
 Example: echo 2 | ./burr try examples/cup.assembly /tmp/cup.bpln",
         arguments: &[ASSEMBLY, PLAN],
     },
-    Form {
+    Syntax {
         kind: Kind::Step,
         name: "step",
         about: "Goes through a plan that is accepted, step by step",
@@ -151,7 +151,7 @@ status is 0 whatever was refused. docs/STEPPER.md says more.
 Example: echo forward | ./burr step examples/cup.assembly /tmp/cup.bpln",
         arguments: &[ASSEMBLY, PLAN],
     },
-    Form {
+    Syntax {
         kind: Kind::Why,
         name: "why",
         about: "Says why a plan text is refused, and which lines are at fault",
@@ -164,7 +164,7 @@ compared there and what was found, and at the end what the refusal means.
 Example: ./burr why examples/cup.assembly examples/cup.plan",
         arguments: &[ASSEMBLY, TEXT],
     },
-    Form {
+    Syntax {
         kind: Kind::Trace,
         name: "trace",
         about: "Runs a plan text, and prints what holds at each label",
@@ -179,7 +179,7 @@ frame for all of these times. What no line of a frame can say is a comment.
 Example: echo 2 | ./burr trace examples/cup.assembly examples/cup.plan",
         arguments: &[ASSEMBLY, TEXT],
     },
-    Form {
+    Syntax {
         kind: Kind::Frames,
         name: "frames",
         about: "Fills in frames that a plan text leaves out",
@@ -198,7 +198,7 @@ Example: ./burr frames puzzle.assembly draft.plan whole.plan < /dev/null",
             Argument::Word("OUT", "The plan text that is made"),
         ],
     },
-    Form {
+    Syntax {
         kind: Kind::PlanSheet,
         name: "plan",
         about: "Makes a plan text from a sheet of moves",
@@ -215,7 +215,7 @@ Example: ./burr plan examples/cup.assembly moves.sheet /tmp/moves.plan",
             Argument::Word("OUT", "The plan text that is made"),
         ],
     },
-    Form {
+    Syntax {
         kind: Kind::Explain,
         name: "explain",
         about: "Says what a refusal, a trap or another line means",
@@ -235,18 +235,18 @@ Examples: ./burr explain A8
 /// The command line: the commands, help and the version.
 pub fn command<'a>(alloc: Global) -> Result<Command<'a>, AllocError> {
     let mut command = without_commands(alloc);
-    for form in FORMS {
-        command = command.subcommand(form.command(alloc)?)?;
+    for syntax in COMMANDS {
+        command = command.subcommand(syntax.command(alloc)?)?;
     }
     Ok(command)
 }
 
 /// The kind of the command of this name; None where there is no such command.
 pub fn kind_of(name: &str) -> Option<Kind> {
-    FORMS
+    COMMANDS
         .iter()
-        .find(|form| form.name == name)
-        .map(|form| form.kind)
+        .find(|syntax| syntax.name == name)
+        .map(|syntax| syntax.kind)
 }
 
 /// The command line without its commands.
@@ -258,8 +258,8 @@ fn without_commands<'a>(alloc: Global) -> Command<'a> {
         .after_help(help::OVERVIEW)
 }
 
-impl Form {
-    /// The command of this form.
+impl Syntax {
+    /// The command with these words.
     fn command<'a>(&self, alloc: Global) -> Result<Command<'a>, AllocError> {
         let mut command = Command::new(alloc, self.name)
             .about(self.about)
