@@ -6,7 +6,7 @@ ghost use Rattle.burr_state.specs.Laws.SpaceLaws.{GripStays, NoOverlapStays, Non
 ghost use Rattle.burr_state.specs.Laws.SpaceLaws.{HomesAreDisjoint, GripIsHere, PiecesNeverOverlap, NoPieceIsLone};
 ghost use Rattle.burr_state.specs.Laws.StepLaws.{SomeExecution, OneExecution, CallIsOneStep};
 ghost use Rattle.burr_state.specs.Laws.RunLaws.{OneNext, SomeNext, OneCall, SomeCall};
-ghost use Rattle.burr_state.specs.Laws.RunLaws.{OneResult, SomeResult, RunIsCalls};
+ghost use Rattle.burr_state.specs.Laws.RunLaws.{OneResult, SomeResult, RunIsCalls, MoreAnswersGoOn};
 
 /// Each instruction, carried out at any state, has one effect.
 pub fn an_instruction_has_one_effect()
@@ -33,6 +33,11 @@ pub fn a_call_leaves_what_it_tells()
 pub fn a_run_has_one_result()
     ensures some { SomeResult }
     ensures one { OneResult }
+{}
+
+/// A run with more answers begins with the motions of the run with fewer.
+pub fn a_run_with_more_answers_goes_on()
+    ensures { MoreAnswersGoOn }
 {}
 
 /// A run is a chain of calls of the bench, up to where the last of them closes it.

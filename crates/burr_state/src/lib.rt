@@ -21,9 +21,10 @@ pub use closing::Closing;
 pub use effect::Effect;
 pub use laws::{
     a_call_leaves_what_it_tells, a_run_has_one_result, a_run_is_a_chain_of_calls,
-    a_step_has_one_result, a_step_keeps_pieces_apart, an_instruction_has_one_effect,
-    going_aside_parts_lone_pieces, motions_are_of_pieces_in_trays, motions_are_within_the_budget,
-    parts_are_trays_and_pieces_apart, pieces_never_overlap, records_go_back,
+    a_run_with_more_answers_goes_on, a_step_has_one_result, a_step_keeps_pieces_apart,
+    an_instruction_has_one_effect, going_aside_parts_lone_pieces, motions_are_of_pieces_in_trays,
+    motions_are_within_the_budget, parts_are_trays_and_pieces_apart, pieces_never_overlap,
+    records_go_back,
 };
 pub use mode::Mode;
 pub use motion::Motion;

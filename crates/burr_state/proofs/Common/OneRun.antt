@@ -1,5 +1,5 @@
--- For crates above: a run has one result: by what it does first.
-use Rattle.std.proofs.Common.{◌≡◌, ◌≢◌, ℕ, List, [], ◌∷◌, ◌++◌, refl, sym, ap, subst, ◌∙◌, inl, inr}
+-- For crates above: a run has one result, and goes on with more answers: by what it does first.
+use Rattle.std.proofs.Common.{◌≡◌, ◌≢◌, ℕ, List, [], ◌∷◌, ◌++◌, append_assoc, refl, sym, ap, subst, ◌∙◌, inl, inr}
 use Rattle.std.specs.Prelude.{ℤ}
 use Rattle.std.specs.Option.{option_to_list}
 use Rattle.burr_text.specs.Checks.{needs}
@@ -12,7 +12,7 @@ use Rattle.burr_state.specs.Rules.Step.{NextIs, TakesAnswer}
 use Rattle.burr_state.specs.Rules.Questions.{Fits}
 use Rattle.burr_state.specs.Rules.Run.{Run, ends, stops, traps, waits, passes, takes, goes, IsGoing}
 use Rattle.burr_state.specs.declared.closing.Closing.{Closing}
-use Rattle.burr_state.specs.Laws.RunLaws.{OneResult}
+use Rattle.burr_state.specs.Laws.RunLaws.{OneResult, MoreAnswersGoOn}
 use Rattle.burr_state.specs.declared.closing.Closing.TheVariants as closings
 use Rattle.burr_code.proofs.Common.OneAnswer.{IsOne, one_given, one_needed}
 use Rattle.burr_state.proofs.Uniqueness.OneStep.{one_next, one_way_on, asks_where_taken}
@@ -79,13 +79,19 @@ begins setup budget s _ motions steps closing (takes _ new answer answers _ _ _ 
 begins setup budget s answers _ steps closing (goes _ new motion _ motions _ _ g is rest) =
     record { turn = GoesOn new answers (option_to_list motion); is = going setup budget s answers (Goes new motion) _ g is refl; follows = (motions, refl, rest) }
 
+-- a run from there does this first
+does_first : {setup : Setup} {budget : ℕ} {s : BenchState} {answers : List ℤ} {others : List Motion} {count : ℕ} {other : Closing}
+    → (turn : Turn) → TurnIn s.mode setup budget s answers turn → Run setup budget s answers others count other → Follows setup budget s turn others count other
+does_first {setup} {budget} {s} {answers} {others} {count} {other} turn is run =
+    let also = begins setup budget s answers others count other run in
+    subst (λ (turn : Turn). Follows setup budget s turn others count other) (one_turn s.mode setup budget s answers also.turn turn also.is is) also.follows
+
 -- another run from there does the same first
 same_first : {setup : Setup} {budget : ℕ} {s : BenchState} {answers : List ℤ} {motions others : List Motion} {steps count : ℕ} {closing other : Closing}
     → (first : Run setup budget s answers motions steps closing) → Run setup budget s answers others count other → Follows setup budget s (begins setup budget s answers motions steps closing first).turn others count other
 same_first {setup} {budget} {s} {answers} {motions} {others} {steps} {count} {closing} {other} first run =
     let known = begins setup budget s answers motions steps closing first in
-    let also = begins setup budget s answers others count other run in
-    subst (λ (turn : Turn). Follows setup budget s turn others count other) (one_turn s.mode setup budget s answers also.turn known.turn also.is known.is) also.follows
+    does_first known.turn known.is run
 
 -- two results are the same
 abbrev Same : List Motion → List Motion → ℕ → ℕ → Closing → Closing → Type 0
@@ -115,3 +121,27 @@ one_result setup budget s _ motions others steps count closing other (takes _ ne
 one_result setup budget s answers _ others steps count closing other (goes _ new motion _ motions _ _ g is left) run =
     let f = same_first (goes s new motion answers motions steps closing g is left) run in
     led (option_to_list motion) motions f.0 others steps count closing other f.1 (one_result setup budget new answers motions f.0 steps count closing other left f.2)
+
+-- With more answers
+
+-- where both go on at the same state, after the same motions
+gone_on : (made motions rest all : List Motion) → all ≡ made ++ rest → (later : List Motion) × (rest ≡ motions ++ later)
+    → (later : List Motion) × (all ≡ (made ++ motions) ++ later)
+gone_on made motions rest all e so =
+    (so.0, e ∙ ap (λ (ms : List Motion). made ++ ms) so.1 ∙ sym (append_assoc made motions so.0))
+
+pub more_answers_go_on : MoreAnswersGoOn
+more_answers_go_on setup budget s answers more _ all _ count _ other (ends _ _ ended) run = (all, refl)
+more_answers_go_on setup budget s answers more _ all _ count _ other (stops _ _ running used) run = (all, refl)
+more_answers_go_on setup budget s answers more _ all _ count _ other (traps _ _ trap g is) run = (all, refl)
+more_answers_go_on setup budget s _ more _ all _ count _ other (waits _ low high g is) run = (all, refl)
+more_answers_go_on setup budget s _ more motions all steps count closing other (passes _ low high answer answers _ _ _ g is unfit left) run =
+    let f = does_first (GoesOn s (answers ++ more) []) (going setup budget s (answer ∷ (answers ++ more)) (Asks low high) _ g is (inl (unfit, refl))) run in
+    gone_on [] motions f.0 all f.1 (more_answers_go_on setup budget s answers more motions f.0 steps count closing other left f.2)
+more_answers_go_on setup budget s _ more motions all steps count closing other (takes _ new answer answers _ _ _ g taken left) run =
+    let asked = asks_where_taken setup s new answer taken in
+    let f = does_first (GoesOn new (answers ++ more) []) (going setup budget s (answer ∷ (answers ++ more)) (Asks asked.0 asked.1) _ g asked.2 (inr (asked.3, (new, taken, refl)))) run in
+    gone_on [] motions f.0 all f.1 (more_answers_go_on setup budget new answers more motions f.0 steps count closing other left f.2)
+more_answers_go_on setup budget s answers more _ all steps count closing other (goes _ new motion _ motions _ _ g is left) run =
+    let f = does_first (GoesOn new (answers ++ more) (option_to_list motion)) (going setup budget s (answers ++ more) (Goes new motion) _ g is refl) run in
+    gone_on (option_to_list motion) motions f.0 all f.1 (more_answers_go_on setup budget new answers more motions f.0 steps count closing other left f.2)

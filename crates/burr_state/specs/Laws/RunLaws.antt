@@ -1,5 +1,5 @@
 -- What holds of all runs.
-use Rattle.std.specs.Prelude.{◌≡◌, ◌↔◌, ◌≤◌, ◌<◌, ◌^◌, ◌⊎◌, ℕ, ℤ, List, Option, Result}
+use Rattle.std.specs.Prelude.{◌≡◌, ◌↔◌, ◌≤◌, ◌<◌, ◌^◌, ◌⊎◌, ◌++◌, ℕ, ℤ, List, Option, Result}
 use Rattle.burr_state.specs.declared.mode.Mode.TheVariants.{Running, Ended}
 use Rattle.burr_state.specs.declared.motion.Motion.{Motion}
 use Rattle.burr_state.specs.Rules.Bench.{BenchState, Setup}
@@ -61,6 +61,15 @@ abbrev pub SomeResult : Type 0
 SomeResult =
     (setup : Setup) (budget : ℕ) (s : BenchState) (answers : List ℤ)
     → budget < 2 ^ 64 → IsUnderWay budget s → RunOf setup budget s answers
+
+-- with more answers a run begins with the motions that it makes with fewer
+abbrev pub MoreAnswersGoOn : Type 0
+MoreAnswersGoOn =
+    (setup : Setup) (budget : ℕ) (s : BenchState) (answers more : List ℤ)
+    (motions all : List Motion) (steps count : ℕ) (closing other : Closing)
+    → Run setup budget s answers motions steps closing
+    → Run setup budget s (answers ++ more) all count other
+    → (rest : List Motion) × (all ≡ motions ++ rest)
 
 -- a run is such a chain of calls
 abbrev pub RunIsCalls : Type 0
