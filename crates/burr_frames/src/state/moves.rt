@@ -84,7 +84,8 @@ impl State {
     /// What `step` comes to where nothing is in the way: the grip goes one unit along a direction,
     /// and no look is made.
     pub fn step_freely(&mut self, direction: Direction) -> Result<(), Break>
-        ensures { free_step self.old direction (next_verdict self.new result) }
+        ensures verdict { free_step self.old direction (next_verdict self.new result) }
+        ensures kept { IfErr result (λ _. self.new ≡ self.old) }
     {
         let Ok(there) = self.moved(direction) else {
             return Err(Break::plain(Rule::V26));
@@ -131,7 +132,8 @@ impl State {
     /// What `aside` comes to where nothing is in the way: the grip goes out to a tray, and no look is
     /// made.
     pub fn aside_freely(&mut self, there: u8) -> Result<(), Break>
-        ensures { free_aside self.old there (next_verdict self.new result) }
+        ensures verdict { free_aside self.old there (next_verdict self.new result) }
+        ensures kept { IfErr result (λ _. self.new ≡ self.old) }
     {
         let cost = self.paid()?;
         self.set_cost(cost);

@@ -13,14 +13,14 @@ pub returns-in-Step : goal.returns-in-Step
 returns-in-Step c p here kept at homes verdict rule none =
     let held = subst (λ (i : Instr). Transfer homes (framed_plan p) c.args.procedure.number here c.args.state.now (meaning i) verdict) c.in-Step.is rule in
     c.falls_through.ensures c.step_freely.new.self
-    ∙ one_free_step c.args.state.now c.in-Step.direction _ verdict c.step_freely.ensures
+    ∙ one_free_step c.args.state.now c.in-Step.direction _ verdict c.step_freely.ensures.verdict
     (free_of_step homes c.args.state.now c.in-Step.direction verdict (fine verdict none) held)
 
 pub returns-in-Aside : goal.returns-in-Aside
 returns-in-Aside c p here kept at homes verdict rule none =
     let held = subst (λ (i : Instr). Transfer homes (framed_plan p) c.args.procedure.number here c.args.state.now (meaning i) verdict) c.in-Aside.is rule in
     c.falls_through-in-Aside.ensures c.aside_freely.new.self
-    ∙ one_free_aside c.args.state.now c.in-Aside.tray _ verdict c.aside_freely.ensures
+    ∙ one_free_aside c.args.state.now c.in-Aside.tray _ verdict c.aside_freely.ensures.verdict
     (free_of_aside homes c.args.state.now c.in-Aside.field-0 c.in-Aside.tray verdict (fine verdict none) held)
 
 pub returns-in_default : goal.returns-in_default

@@ -8,16 +8,16 @@ use Rattle.burr_frames.specs.Rules.Verdicts.{FallsThrough, falls_through}
 use Rattle.burr_frames.proofs.Paying.{paying_on, paying_breaks}
 use Rattle.burr_frames.proofs.state.State.aside_freely.Goals as goal
 
-pub returns-in_err-cost : goal.returns-in_err-cost
-returns-in_err-cost c =
+pub returns-in_err-cost-clause-verdict : goal.returns-in_err-cost-clause-verdict
+returns-in_err-cost-clause-verdict c =
     let s = c.args.self.now in
     let new = aside_places s.grip s.tray c.args.there s.places in
     let p = err_from_is_err_and c.from_residual.result c.from_residual.ensures.1 in
     rw (p.1, p.2)
     (paying_breaks s c.in_err-cost.field-0.0 (λ paid. falls_through (with_grip 0 (with_places new paid))) c.in_err-cost.ensures)
 
-pub returns : goal.returns
-returns c =
+pub returns-clause-verdict : goal.returns-clause-verdict
+returns-clause-verdict c =
     let s = c.args.self.now in
     let new = aside_places s.grip s.tray c.args.there s.places in
     let cost = c.in_ok-cost.cost in

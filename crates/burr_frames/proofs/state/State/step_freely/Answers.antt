@@ -9,8 +9,8 @@ use Rattle.burr_frames.specs.Rules.Verdicts.{FallsThrough, falls_through}
 use Rattle.burr_frames.proofs.Paying.{paying_on, paying_breaks}
 use Rattle.burr_frames.proofs.state.State.step_freely.Goals as goal
 
-pub returns-in_err-cost : goal.returns-in_err-cost
-returns-in_err-cost c =
+pub returns-in_err-cost-clause-verdict : goal.returns-in_err-cost-clause-verdict
+returns-in_err-cost-clause-verdict c =
     let s = c.args.self.now in
     let new = moved s.grip c.args.direction s.places in
     let p = err_from_is_err_and c.from_residual.result c.from_residual.ensures.1 in
@@ -20,8 +20,8 @@ returns-in_err-cost c =
       paying_breaks s c.in_err-cost.field-0.0 (λ paid. falls_through (with_places new paid)) c.in_err-cost.ensures,
     ))
 
-pub returns : goal.returns
-returns c =
+pub returns-clause-verdict : goal.returns-clause-verdict
+returns-clause-verdict c =
     let s = c.args.self.now in
     let new = moved s.grip c.args.direction s.places in
     let cost = c.in_ok-cost.cost in
