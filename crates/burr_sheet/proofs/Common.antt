@@ -1,1 +1,2 @@
 pub mod FailedMotions
+pub mod LineMotions

@@ -4,7 +4,6 @@ pub mod End
 pub mod GroupNames
 pub mod GrowingLines
 pub mod LineByLine
-pub mod LineMotions
 pub mod LineTexts
 pub mod LineWords
 pub mod LinesOfRuns

@@ -12,7 +12,7 @@ use Rattle.burr_sheet.specs.Rules.SheetText.{MoveLine, longest_lines, move_line,
 use Rattle.burr_sheet.specs.Laws.SheetLaws.{OneListOfMotions}
 use Rattle.burr_sheet.specs.Views.MotionLines.{BeginsWithLine, IsLineOf, joins, joins_last, line_of, motion_count, motions_of}
 use Rattle.burr_sheet.proofs.GroupNames.{AreNames, names_of_assembly}
-use Rattle.burr_sheet.proofs.LineMotions.{BeginsWith, begins_with, each_of, is_line_of, length-motions_of, longest_lines-first, none_of_none}
+use Rattle.burr_sheet.proofs.Common.LineMotions.{BeginsWith, begins_with, each_of, is_line_of, length-motions_of, longest_lines-first, none_of_none}
 use Rattle.burr_sheet.proofs.LineTexts.{one_line}
 
 -- Lists of motions

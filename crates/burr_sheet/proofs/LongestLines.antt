@@ -6,7 +6,7 @@ use Rattle.burr_sheet.specs.Rules.SheetText.{MoveLine, alone, goes_onto, with_mo
 use Rattle.burr_sheet.specs.Laws.SheetLaws.{AreLongest, LinesAreLongest}
 use Rattle.burr_sheet.specs.Views.MotionLines.{motions_of}
 use Rattle.burr_sheet.proofs.GrowingLines.{goes_onto-step, with_motion-joined, with_motion-apart}
-use Rattle.burr_sheet.proofs.LineMotions.{alone_motions, longer_motions}
+use Rattle.burr_sheet.proofs.Common.LineMotions.{alone_motions, longer_motions}
 
 -- the motions of lines
 abbrev motions_back : List MoveLine → List Motion

@@ -12,4 +12,4 @@ pub use laws::{
     move_lines_of_runs_are_expanded,
 };
 pub use motion_lines::expand;
-pub use sheet::{Sheet, put_names};
+pub use sheet::{GrowingLine, Sheet, put_names};

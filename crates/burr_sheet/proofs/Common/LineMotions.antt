@@ -1,4 +1,4 @@
--- Lines and the motions that they stand for give each other back.
+-- For crates above: lines and the motions that they stand for give each other back.
 use Rattle.std.proofs.Common.{◌≡◌, ◌≢◌, ℕ, zero, suc, ◌+◌, ◌<◌, ◌≤◌, List, [], ◌∷◌, ◌++◌, length, replicate, if◌then◌else◌, Bool, true, false, not, ◌&&◌, ◌==◌, All, refl, sym, ap, subst, ◌∙◌, length-append, arith}
 use Rattle.std.proofs.lemmas.List.{length-replicate}
 use Rattle.std.proofs.lemmas.List.Elements.{All-head, All-append, All-replicate, All-nil, All-cons}
