@@ -29,7 +29,7 @@ asked_for setup s new answer called =
     (taken.2, taken.3, (running, inl (taken.0, taken.1, taken.4, taken.5)), taken.6)
 
 -- one that makes no step, where the run has not ended, fits no question
-unfit_in : (setup : Setup) (s new : BenchState) (answer : ℤ) (told : Progress) (mode : Mode) → mode ≢ Ended
+pub unfit_in : (setup : Setup) (s new : BenchState) (answer : ℤ) (told : Progress) (mode : Mode) → mode ≢ Ended
     → CallIn mode setup s (Some answer) (Ok told) new → (¬ MadeStep told) → IsUnfit setup s answer
 unfit_in setup s new answer told Running on (inl taken) still = absurd (still (subst MadeOne (sym taken.1) tt))
 unfit_in setup s new answer told Running on (inr unfit) still = unfit.0

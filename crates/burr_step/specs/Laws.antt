@@ -1,1 +1,2 @@
 pub mod StepperLaws
+pub mod MoveLaws

@@ -1,2 +1,5 @@
 pub mod StepTexts
+pub mod Drive
+pub mod DriveTexts
+pub mod Moves
 pub mod Stepper

@@ -1,3 +1,4 @@
+pub mod Driving
 pub mod Stepping
 pub mod UndoRing
 pub mod ShownParts

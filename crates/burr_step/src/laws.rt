@@ -4,6 +4,9 @@ ghost use Rattle.burr_step.specs.Laws.StepperLaws.{GoingIsRefused, AnswerIsRefus
 ghost use Rattle.burr_step.specs.Laws.StepperLaws.{LeadsSafely, SomeOutcome, StepsAreCounted};
 ghost use Rattle.burr_step.specs.Views.UndoRing.{UndoingIsBack, RecordIsKept, LastAreKept};
 ghost use Rattle.burr_step.specs.Rules.StepTexts.{LinesAreShort, OneLine};
+ghost use Rattle.burr_step.specs.Rules.DriveTexts.{DriveLinesAreShort, OneDriveLine};
+ghost use Rattle.burr_step.specs.Laws.MoveLaws.{MovesAreJoined, OneMove, OneWay};
+ghost use Rattle.burr_step.specs.Laws.MoveLaws.{MovesAreNumbered, MovesAreTheRuns, HaltIsTheClose, MoreAnswersGoOn};
 
 use burr_verify::a_fitting_plan_is_from_a_container;
 
@@ -44,9 +47,39 @@ pub fn lines_of_commands_are_short()
     ensures one { OneLine }
 {}
 
+/// A line is of one command of a drive at most, and no command's line is long.
+pub fn drive_lines_are_short()
+    ensures short { DriveLinesAreShort }
+    ensures one { OneDriveLine }
+{}
+
 /// Undoing kept records is going back, and records stay.
 pub fn undoing_is_going_back()
     ensures back { UndoingIsBack }
     ensures kept { RecordIsKept }
     ensures last { LastAreKept }
+{}
+
+/// Whole moves are the motions of a run as a sheet joins them, and are the same however they are asked
+/// for.
+pub fn moves_are_joined_motions()
+    ensures joined { MovesAreJoined }
+    ensures one { OneMove }
+    ensures way { OneWay }
+{}
+
+/// A run of an accepted plan that is led by moves and answers is its run with these answers: it makes
+/// their motions, meets no trap, stays within the budget, and where it halts it waits for an answer or
+/// each piece is apart. The moves are numbered from 1.
+pub fn moves_are_those_of_the_run()
+    ensures numbered { MovesAreNumbered }
+    ensures calls { MovesAreTheRuns }
+    ensures closes { HaltIsTheClose }
+{
+    a_fitting_plan_is_from_a_container();
+}
+
+/// A run with more answers begins with the moves of the run with fewer.
+pub fn moves_go_on_with_more_answers()
+    ensures { MoreAnswersGoOn }
 {}

@@ -9,9 +9,7 @@ ghost use Rattle.burr_code.specs.declared.placement.Placement.TheVariants.{On};
 ghost use Rattle.burr_step.specs.Rules.StepTexts.{grip_word, piece_line, piece_lines, show_text, slot_word};
 ghost use Rattle.burr_step.specs.Views.ShownParts.{after_line, slots_line, spaced_words, stack_line, tray_line};
 
-use crate::stepper::Stepper;
 use burr_bench::Machine;
-use burr_blocking::Blocking;
 use burr_code::Placement;
 use burr_code::limits::SLOTS;
 use burr_io::{Sink, WriteFault, put_all, put_number, put_words};
@@ -19,20 +17,19 @@ use burr_sheet::put_names;
 use burr_voxels::Cell;
 use itoa::Buffer;
 
-impl<'s, 'a: 's, 'c: 'a, B: Blocking> Stepper<'s, 'a, 'c, B> {
-    /// Puts where the run stands: its steps, procedure and position; the tray and the names of the
-    /// gripped pieces; the slots and operands of the running activation, the bottom operand first;
-    /// and where each piece is, by how far from home it lies.
-    pub fn show<W: Sink>(&self, sink: &mut W) -> Result<(), WriteFault>
-        ensures { Puts W.Sink sink.old sink.new
-            (show_text (names_of self.now.bench.assembly) self.now.bench.state) result }
-    {
-        put_after(&self.machine, sink)?;
-        put_tray(&self.machine, sink)?;
-        put_slots(&self.machine, sink)?;
-        put_stack(&self.machine, sink)?;
-        put_pieces(&self.machine, sink)
-    }
+/// Puts where a run stands: its steps, procedure and position; the tray and the names of the gripped
+/// pieces; the slots, of which there are eight, and operands of the running activation, the bottom
+/// operand first; and where each piece is, by how far from home it lies.
+pub fn put_state<W: Sink>(machine: &Machine, sink: &mut W) -> Result<(), WriteFault>
+    requires { length machine.now.state.running.slots ≡ SLOTS }
+    ensures { Puts W.Sink sink.old sink.new
+        (show_text (names_of machine.now.assembly) machine.now.state) result }
+{
+    put_after(machine, sink)?;
+    put_tray(machine, sink)?;
+    put_slots(machine, sink)?;
+    put_stack(machine, sink)?;
+    put_pieces(machine, sink)
 }
 
 /// Puts how far the run is, as `after 3 steps proc 0 pc 5`, or with `ended` at the end.

@@ -4,14 +4,17 @@ ghost use Rattle.burr_state.specs.declared.mode.Mode.TheVariants.{Ended};
 ghost use Rattle.burr_state.specs.Rules.Bench.{HasLabelOf};
 ghost use Rattle.burr_state.specs.Rules.Step.{IsQuestionOf};
 ghost use Rattle.burr_state.specs.Views.Benches.{setup_of, IsAtStart, IsSameRun};
+ghost use Rattle.burr_assembly.specs.Rules.Homes.{names_of};
+ghost use Rattle.burr_io.specs.Sink.{Puts};
+ghost use Rattle.burr_step.specs.Rules.StepTexts.{show_text};
 ghost use Rattle.burr_step.specs.Rules.Stepper.{Answer, Forward, Over, Until, going, going_until, Back};
-
-mod state_text;
 
 use crate::records::Records;
 use crate::refusal::StepRefusal;
+use crate::state_text::put_state;
 use burr_bench::{Machine, an_accepted_bench_never_traps};
 use burr_blocking::Blocking;
+use burr_io::{Sink, WriteFault};
 use burr_verify::{Accepted, a_fitting_plan_is_from_a_container};
 use std::alloc::{AllocError, Global};
 use std::marker::Model;
@@ -81,6 +84,16 @@ impl<'s, 'a: 's, 'c: 'a, B: Blocking> Stepper<'s, 'a, 'c, B> {
     {
         a_fitting_plan_is_from_a_container();
         self.machine.steps()
+    }
+
+    /// Puts where the run stands: its steps, procedure and position; the tray and the names of the
+    /// gripped pieces; the slots and operands of the running activation, the bottom operand first;
+    /// and where each piece is, by how far from home it lies.
+    pub fn show<W: Sink>(&self, sink: &mut W) -> Result<(), WriteFault>
+        ensures { Puts W.Sink sink.old sink.new
+            (show_text (names_of self.now.bench.assembly) self.now.bench.state) result }
+    {
+        put_state(&self.machine, sink)
     }
 
     /// Whether the plan has such a procedure with such a label, both counted from 0.

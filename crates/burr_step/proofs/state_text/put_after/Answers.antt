@@ -1,7 +1,7 @@
 -- The words of how far the run is.
 use Rattle.burr_text.proofs.Common.Tests.{yes_of, no_of}
 use Rattle.burr_step.proofs.ShownWords.{not_ended}
-use Rattle.burr_step.proofs.stepper.state_text.put_after.Goals as goal
+use Rattle.burr_step.proofs.state_text.put_after.Goals as goal
 
 pub returns-then-ended : goal.returns-then-ended
 returns-then-ended g c =

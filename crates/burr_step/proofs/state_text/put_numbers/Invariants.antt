@@ -3,7 +3,7 @@ use Rattle.std.proofs.Common.{drop, map}
 use Rattle.std.specs.Fmt.{signed_decimal}
 use Rattle.burr_io.proofs.Common.Puts.{Remains}
 use Rattle.burr_step.specs.Views.ShownParts.{spaced_words}
-use Rattle.burr_step.proofs.stepper.state_text.put_numbers.Given as goal
+use Rattle.burr_step.proofs.state_text.put_numbers.Given as goal
 
 abbrev pub invariant-loop-number : goal.invariant-loop-number
 invariant-loop-number g l =

@@ -5,7 +5,7 @@ use Rattle.burr_assembly.specs.Rules.Homes.{names_of}
 use Rattle.burr_io.proofs.Common.Puts.{Puts-more, Puts-fails, Puts-nothing}
 use Rattle.burr_step.specs.Rules.StepTexts.{piece_lines}
 use Rattle.burr_step.proofs.ShownWords.{next_line}
-use Rattle.burr_step.proofs.stepper.state_text.put_pieces.Goals as goal
+use Rattle.burr_step.proofs.state_text.put_pieces.Goals as goal
 
 pub returns-in_err-put_piece : goal.returns-in_err-put_piece
 returns-in_err-put_piece g c =

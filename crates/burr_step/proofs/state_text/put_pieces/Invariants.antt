@@ -3,7 +3,7 @@ use Rattle.std.proofs.Common.{drop}
 use Rattle.burr_assembly.specs.Rules.Homes.{names_of}
 use Rattle.burr_io.proofs.Common.Puts.{Remains}
 use Rattle.burr_step.specs.Rules.StepTexts.{piece_lines}
-use Rattle.burr_step.proofs.stepper.state_text.put_pieces.Given as goal
+use Rattle.burr_step.proofs.state_text.put_pieces.Given as goal
 
 abbrev pub invariant-loop-piece : goal.invariant-loop-piece
 invariant-loop-piece g l =

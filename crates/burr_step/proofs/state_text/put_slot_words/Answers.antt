@@ -4,7 +4,7 @@ use Rattle.std.proofs.Math.ListN.{drop_of_length-le}
 use Rattle.burr_io.proofs.Common.Puts.{Puts-more, Puts-fails, Puts-nothing}
 use Rattle.burr_step.specs.Rules.StepTexts.{slot_word}
 use Rattle.burr_step.proofs.ShownWords.{next_word}
-use Rattle.burr_step.proofs.stepper.state_text.put_slot_words.Goals as goal
+use Rattle.burr_step.proofs.state_text.put_slot_words.Goals as goal
 
 pub returns-in_err-put_all : goal.returns-in_err-put_all
 returns-in_err-put_all g c =

@@ -3,7 +3,7 @@ use Rattle.std.proofs.Common.{drop, map}
 use Rattle.burr_io.proofs.Common.Puts.{Remains}
 use Rattle.burr_step.specs.Rules.StepTexts.{slot_word}
 use Rattle.burr_step.specs.Views.ShownParts.{spaced_words}
-use Rattle.burr_step.proofs.stepper.state_text.put_slot_words.Given as goal
+use Rattle.burr_step.proofs.state_text.put_slot_words.Given as goal
 
 abbrev pub invariant-loop-slot : goal.invariant-loop-slot
 invariant-loop-slot g l =

@@ -1,7 +1,7 @@
 use Rattle.burr_assembly.specs.Rules.Homes.{names_of}
 use Rattle.burr_io.proofs.Common.Puts.{Puts-more, Puts-fails}
 use Rattle.burr_step.proofs.ShownWords.{tray_line-parts}
-use Rattle.burr_step.proofs.stepper.state_text.put_tray.Goals as goal
+use Rattle.burr_step.proofs.state_text.put_tray.Goals as goal
 
 pub returns-in_err-put_all : goal.returns-in_err-put_all
 returns-in_err-put_all g c =
