@@ -30,9 +30,10 @@ pub trait Commanded {
     fn lines_are_short(&self)
         ensures { TellsByFront KEPT answers wants self.now };
 
-    /// Takes a line, without its end, and puts what it comes to. False where no line is to come after
-    /// it, and then the sink is left alone. After `Write` the line counts as taken as it would without
-    /// the fault; after `Memory` nothing has changed.
+    /// Takes a line, without its end, and puts what it comes to, which is some text where more lines
+    /// are taken. False where no line is to come after it, and then the sink is left alone. After
+    /// `Write` the line counts as taken as it would without the fault; after `Memory` nothing has
+    /// changed.
     fn command<W: Sink>(&mut self, line: &[u8], sink: &mut W) -> Result<bool, StepFault>
         ensures ok { IfOk result (λ goes_on.
             PutsAnswer answers W.Sink sink.old sink.new self.old line.now goes_on self.new) }

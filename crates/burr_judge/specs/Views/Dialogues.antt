@@ -30,11 +30,13 @@ pub record TellsByFront {Told : Type 0} (most : ℕ) (Answers : Answering Told) 
 
 -- One line
 
--- a sink took what the line comes to, and this tells whether more lines are taken
+-- a sink took what the line comes to, and this tells whether more lines are taken; where they are, it
+-- is some text
 abbrev pub PutsAnswer : {Told S : Type 0} → Answering Told → SinkView S → S → S → Told → List ℕ
     → Bool → Told → Type 0
 PutsAnswer Answers sink before after old line goes_on new =
     (text : List ℕ) × Answers old line text goes_on new × Takes sink before after text
+    × (goes_on ≡ true → text ≢ [])
 
 -- Where the line comes to some text, the sink may fail in that, and then took a front of it, and all
 -- is left as it would be without the fault; where memory was refused that is wanted, nothing changed.
