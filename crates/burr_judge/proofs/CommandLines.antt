@@ -1,9 +1,10 @@
 -- Lines of commands: how their numbers are read.
-use Rattle.std.proofs.Common.{◌≡◌, ◌≢◌, ℕ, ◌<◌, ◌≤◌, ◌^◌, true, List, [], ◌∷◌, ◌++◌, drop, get_or, Contains, Some, None, Result, Ok, Err, MatchResult, sym, ap, subst, ◌∙◌, arith}
+use Rattle.std.proofs.Common.{◌≡◌, ◌≢◌, ℕ, ◌<◌, ◌≤◌, ◌^◌, true, List, [], ◌∷◌, ◌++◌, drop, inl, inr, length, take, get_or, Contains, Some, None, Result, Ok, Err, MatchResult, sym, ap, subst, ◌∙◌, arith}
 use Rattle.std.specs.Prelude.{codes, decimal, not}
 use Rattle.std.specs.Result.{result_ok, OkIff}
 use Rattle.std.specs.Str.{IsUtf8, bytes_eq}
 use Rattle.std.specs.Str.Parse.{ParsesUnsigned}
+use Rattle.std.proofs.lemmas.List.{length-take, take_all}
 use Rattle.std.proofs.lemmas.Option.{none-some, same_Some}
 use Rattle.std.proofs.lemmas.Fmt.{parse-decimal, IsAscii-decimal, decimal_injective}
 use Rattle.std.proofs.lemmas.Str.{IsUtf8-from_ascii}
@@ -12,9 +13,9 @@ use denote.Bor.{Bor}
 use Rattle.burr_text.specs.Words.{IsCutAt}
 use Rattle.burr_text.proofs.Common.Cuts.{Lacks, cut, lacks, contains_cut}
 use Rattle.burr_text.proofs.Common.Unended.{AreDigits, decimal_is_digits}
-use Rattle.burr_state.specs.Rules.Bench.{Setup, HasLabelOf}
-use Rattle.burr_step.specs.Rules.Stepper.{Forward, Over, Until, Answer, Back}
-use Rattle.burr_step.specs.Rules.StepTexts.{LineCommand, Steps, Shows, Quits, line_of, IsLineOf}
+use Rattle.burr_state.specs.Rules.Bench.{BenchState, Setup, HasLabelOf}
+use Rattle.burr_step.specs.Rules.Stepper.{History, Forward, Over, Until, Answer, Back}
+use Rattle.burr_step.specs.Rules.StepTexts.{HasFewDigits, IsLineOf, IsTakeable, LineAnswer, LineCommand, Lined, LinesAreShort, Quits, Shows, Steps, line_of}
 use Rattle.burr_step.specs.Views.Stepping.{LabelsAreFew}
 use Rattle.burr_judge.specs.Views.CommandLines.{IsOfCode, command_of}
 use Rattle.burr_judge.specs.declared.commands.line.Command.{Command}
@@ -140,3 +141,38 @@ none_without_label setup line p l few a b e none (Steps (Answer n)) is = never 9
 none_without_label setup line p l few a b e none (Steps (Back n)) is = never 98 (λ h. omega arith) (letters (line_of (Steps (Until p l))) (line_of (Steps (Back n))) (sym e ∙ is.1))
 none_without_label setup line p l few a b e none Shows is = never 115 (λ h. omega arith) (letters (line_of (Steps (Until p l))) (line_of Shows) (sym e ∙ is.1))
 none_without_label setup line p l few a b e none Quits is = never 113 (λ h. omega arith) (letters (line_of (Steps (Until p l))) (line_of Quits) (sym e ∙ is.1))
+
+-- Lines that are cut
+
+-- the numbers of a command that may be taken have few digits
+few_digits : (setup : Setup) (x : LineCommand) → LabelsAreFew setup → IsTakeable setup x → HasFewDigits x
+few_digits setup (Steps Forward) few has = tt
+few_digits setup (Steps Over) few has = tt
+few_digits setup (Steps (Until p l)) few has =
+    let small = few p l has in
+    (omega (arith, small.0), omega (arith, small.1))
+few_digits setup (Steps (Answer n)) few has = tt
+few_digits setup (Steps (Back n)) few has = tt
+few_digits setup Shows few has = tt
+few_digits setup Quits few has = tt
+
+-- so the line of such a command is short
+is_short : (setup : Setup) (line : List ℕ) (x : LineCommand) → LinesAreShort → LabelsAreFew setup → IsLineOf setup line x → length line ≤ 64
+is_short setup line x short few is = short setup line x (few_digits setup x few is.0) is
+
+-- where the first bytes of a line, one more than a command has, are a command's, so is the line
+pub kept_line : (setup : Setup) (line : List ℕ) (x : LineCommand) → LinesAreShort → LabelsAreFew setup → IsLineOf setup (take 65 line) x → IsLineOf setup line x
+kept_line setup line x short few is =
+    let within : length line ≤ 65 = omega (arith, is_short setup (take 65 line) x short few is, length-take 65 line) in
+    subst (λ (l : List ℕ). IsLineOf setup l x) (take_all 65 line within) is
+
+-- what they come to, comes of the line
+pub of_kept : (setup : Setup) (names : List (List ℕ)) (h : History) (s : BenchState) (line : List ℕ) (answer : LineAnswer)
+    → LinesAreShort → LabelsAreFew setup → Lined setup names h s (take 65 line) answer → Lined setup names h s line answer
+of_kept setup names h s line answer short few (inl (none, is)) = inl (uncut, is)
+  where
+    uncut : (x : LineCommand) → ¬ IsLineOf setup line x
+    uncut x of_line =
+        let within : length line ≤ 65 = omega (arith, is_short setup line x short few of_line) in
+        none x (subst (λ (l : List ℕ). IsLineOf setup l x) (sym (take_all 65 line within)) of_line)
+of_kept setup names h s line answer short few (inr (x, is, comes)) = inr (x, kept_line setup line x short few is, comes)

@@ -2,8 +2,6 @@
 use Rattle.std.proofs.Common.{Bor, ◌≡◌, List, ℕ, [], refl, sym, subst, inl, inr}
 use Rattle.std.specs.Prelude.{Option, Result}
 use Rattle.std.specs.Io.KnownBytes.{Appends, append_known}
-use Rattle.std.specs.Result.{IsErrAnd}
-use Rattle.std.proofs.lemmas.Result.{err_from_is_err_and}
 use Rattle.burr_io.specs.Sink.{SinkView, Takes}
 use Rattle.burr_io.specs.Source.{SourceView}
 use Rattle.burr_io.specs.WholeLines.{Lines, lines_view}
@@ -13,14 +11,13 @@ use Rattle.burr_container.specs.Views.Containers.{ContainerView}
 use Rattle.burr_verify.specs.Rules.Accepting.{Judged, judged}
 use Rattle.burr_step.specs.Views.Stepping.{Stepping, IsFresh}
 use Rattle.burr_runs.specs.Rules.Verdicts.{plan_refusal}
-use Rattle.burr_runs.specs.declared.fault.BenchFault.{BenchFault}
 use Rattle.burr_runs.specs.Views.BenchText.{Streams, streams}
-use Rattle.burr_judge.specs.Views.Dialogues.{EndsDialogue, BreaksDialogue}
+use Rattle.burr_judge.specs.Views.Commanding.{StepAnswers}
+use Rattle.burr_judge.specs.Views.Dialogues.{EndsDialogue}
 use Rattle.burr_judge.specs.declared.fault.Fault.{Fault}
 use Rattle.burr_judge.specs.declared.ladder.Given.TheVariants.{Container}
 use Rattle.burr_judge.specs.declared.status.Status.{Status}
 use Rattle.burr_judge.specs.declared.status.Status.TheVariants.{Done}
-use Rattle.burr_judge.specs.Faults.{line_of, complaint_of}
 use Rattle.burr_judge.specs.Ladder.{IsRead, PlanJudged, LadderComes, WantsMemory}
 use Rattle.burr_judge.specs.PlanEnds.{Ends, EndsOn, Ending, PutsEnd, IsRefusal, never}
 use Rattle.burr_judge.proofs.Common.Comes.{memory_ends, text_told}
@@ -29,19 +26,13 @@ use Rattle.burr_judge.proofs.Common.Stages.{ending_from, ending_among}
 
 -- a dialogue has ended, and nothing is held back
 pub dialogue_ends : {R S : Type 0} (source : SourceView R) (first last : R) (sink : SinkView S) (before after : Lines S) (j : Judged) (old new : Stepping) → before.held ≡ [] → after.held ≡ []
-    → IsFresh j old → EndsDialogue old (streams source first last sink before.sink after.sink) new
+    → IsFresh j old → EndsDialogue StepAnswers old (streams source first last sink before.sink after.sink) new
     → PutsEnd (lines_view sink) before after (DialogueEnds (left_by source first last) j) Done
 dialogue_ends source first last sink before after j old new none nothing fresh (text, dialogue, took) = (text, (refl, (old, new, fresh, dialogue)), put)
   where
     put : Takes (lines_view sink) before after text
     put = subst (λ (x : Option (List ℕ)). Appends x (append_known (sink.taken after.sink) after.held) text) (sym (nothing_held sink before none))
         (subst (λ (x : Option (List ℕ)). Appends (sink.taken before.sink) x text) (sym (nothing_held sink after nothing)) took)
-
--- or has broken off
-pub dialogue_breaks : {S : Type 0} (sink : SinkView S) (before after : S) (AreEnds : Ends) (s : Streams) (j : Judged) (old new : Stepping) (fault : BenchFault) (r : Result Status Fault)
-    → IsFresh j old → BreaksDialogue old s fault new → IsErrAnd r (λ told. line_of told ≡ complaint_of fault) → Ending sink before after AreEnds (DialogueBreaks s j) r
-dialogue_breaks sink before after AreEnds s j old new fault r fresh breaks err =
-    let p = err_from_is_err_and r err in rw p.1 (tt, inr (inr (fault, p.2, (old, new, fresh, breaks))))
 
 -- what the ladder comes to is how `step` ends, or breaks off
 pub text_steps : {I S : Type 0} (first last : I) (sink : SinkView S) (before after : S) (left : Left) (s : Streams) (text : List ℕ) (bytes : Bor (List ℕ)) (r : Result Status Fault)

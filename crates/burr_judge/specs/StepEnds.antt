@@ -8,6 +8,7 @@ use Rattle.burr_verify.specs.Rules.Accepting.{Judged, judged, IsAccepted}
 use Rattle.burr_step.specs.Views.Stepping.{Stepping, IsFresh}
 use Rattle.burr_runs.specs.declared.fault.BenchFault.{BenchFault}
 use Rattle.burr_runs.specs.Views.BenchText.{Streams}
+use Rattle.burr_judge.specs.Views.Commanding.{StepAnswers, IsAnswerLine}
 use Rattle.burr_judge.specs.Views.Dialogues.{IsDialogue, BreaksDialogue}
 use Rattle.burr_judge.specs.declared.status.Status.TheVariants.{Done}
 use Rattle.burr_judge.specs.Faults.{complaint_of}
@@ -32,7 +33,8 @@ left_by source before after = record {
 abbrev pub DialogueEnds : Left → Judged → Ends
 DialogueEnds left j output status =
     (status ≡ Done)
-    × ((old new : Stepping) × IsFresh j old × IsDialogue old left.old left.new output new)
+    × ((old new : Stepping) × IsFresh j old
+    × IsDialogue StepAnswers old left.old left.new output new)
 
 -- the plan is refused; or it is accepted, and the commands are answered
 abbrev pub StepEnds : Left → ContainerView → Assembly → Ends
@@ -53,7 +55,8 @@ left_of s = record { old = s.left_old; new = s.left_new; failed = s.read_failed 
 abbrev pub DialogueBreaks : Streams → Judged → List ℕ → Type 0
 DialogueBreaks s j line =
     (fault : BenchFault) × (line ≡ complaint_of fault)
-    × ((old new : Stepping) × IsFresh j old × BreaksDialogue old s fault new)
+    × ((old new : Stepping) × IsFresh j old
+    × BreaksDialogue StepAnswers IsAnswerLine old s fault new)
 
 -- the plan is accepted, and the dialogue breaks off
 abbrev pub StepBreaks : Streams → ContainerView → Assembly → List ℕ → Type 0

@@ -1,7 +1,6 @@
 //! Lines of commands for a stepper.
 
-ghost use Rattle.std.specs.Prelude.{◌≡◌, false, IfOk, IfErr, [], ◌∷◌, codes};
-ghost use Rattle.burr_judge.specs.Views.Commanding.{PutsAnswer, FailsInAnswer};
+ghost use Rattle.std.specs.Prelude.{[], ◌∷◌, codes};
 ghost use Rattle.burr_io.specs.Sink.{Puts};
 ghost use Rattle.burr_assembly.specs.Rules.Homes.{names_of};
 ghost use Rattle.burr_step.specs.Rules.StepTexts.{refused_line, show_text};
@@ -10,9 +9,10 @@ ghost use Rattle.burr_judge.specs.Views.CommandLines.{PutsAfter, PutsCame, PutsL
 mod line;
 
 use crate::commands::line::{Command, read_command};
+use crate::dialogue::Commanded;
 use burr_blocking::Blocking;
 use burr_io::{Sink, WriteFault, put_words};
-use burr_step::{StepRefusal, Stepper};
+use burr_step::{StepRefusal, Stepper, lines_of_commands_are_short};
 use itoa::Buffer;
 use thiserror::Error;
 
@@ -36,38 +36,39 @@ impl From<WriteFault> for StepFault {
     }
 }
 
-/// Takes a line of commands, without its end, and puts what it comes to, as
-/// `after 3 steps asks 0 2`, `refused S2` or `refused command`. False for `quit`, after which no
-/// line is to come. After `Write` the command counts as taken or refused as it would without the
-/// fault; after `Memory` nothing has changed. For `quit` the sink is left alone.
-pub fn command<B: Blocking, W: Sink>(
-    stepper: &mut Stepper<'_, '_, '_, B>,
-    line: &[u8],
-    sink: &mut W,
-) -> Result<bool, StepFault>
-    ensures ok { IfOk result (λ goes_on.
-        PutsAnswer W.Sink sink.old sink.new stepper.old line.now goes_on stepper.new) }
-    ensures err { IfErr result (λ fault.
-        FailsInAnswer W.Sink sink.old sink.new stepper.old line.now fault stepper.new) }
-    ensures quit { IfOk result (λ goes_on. goes_on ≡ false → sink.new ≡ sink.old) }
-{
-    stepper.labels_are_few();
-    let Some(command) = read_command(line) else {
-        return put_no_command(sink);
-    };
-    match command {
-        Command::Forward => put_outcome(stepper.forward(), stepper, sink),
-        Command::Over => put_outcome(stepper.over(), stepper, sink),
-        Command::Until(procedure, label) => {
-            if !stepper.has_label(procedure, label) {
-                return put_no_command(sink);
+/// A stepper takes the lines of its commands, as `forward` or `answer 2`, and puts what each comes to,
+/// as `after 3 steps asks 0 2`, `refused S2` or `refused command`. After `quit` no line is to come.
+impl<'s, 'a: 's, 'c: 'a, B: Blocking> Commanded for Stepper<'s, 'a, 'c, B> {
+    ghost use Rattle.burr_judge.specs.Views.Commanding.{StepAnswers, IsAnswerLine};
+
+    ghost answers = { StepAnswers };
+
+    ghost wants = { IsAnswerLine };
+
+    fn lines_are_short(&self) {
+        lines_of_commands_are_short();
+        self.labels_are_few();
+    }
+
+    fn command<W: Sink>(&mut self, line: &[u8], sink: &mut W) -> Result<bool, StepFault> {
+        self.labels_are_few();
+        let Some(command) = read_command(line) else {
+            return put_no_command(sink);
+        };
+        match command {
+            Command::Forward => put_outcome(self.forward(), self, sink),
+            Command::Over => put_outcome(self.over(), self, sink),
+            Command::Until(procedure, label) => {
+                if !self.has_label(procedure, label) {
+                    return put_no_command(sink);
+                }
+                put_outcome(self.until(procedure, label), self, sink)
             }
-            put_outcome(stepper.until(procedure, label), stepper, sink)
+            Command::Answer(answer) => put_outcome(self.answer(answer), self, sink),
+            Command::Back(steps) => put_outcome(self.back(steps), self, sink),
+            Command::Show => put_state(self, sink),
+            Command::Quit => Ok(false),
         }
-        Command::Answer(answer) => put_outcome(stepper.answer(answer), stepper, sink),
-        Command::Back(steps) => put_outcome(stepper.back(steps), stepper, sink),
-        Command::Show => put_state(stepper, sink),
-        Command::Quit => Ok(false),
     }
 }
 

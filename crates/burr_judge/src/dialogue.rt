@@ -1,18 +1,46 @@
 //! Lines of commands from a source, each answered before a byte of the next one is read.
 
-ghost use Rattle.std.specs.Prelude.{◌≡◌, ◌≢◌, [], IfOk, IfErr, OnOk, OnErr, IsTrue};
+ghost use Rattle.std.specs.Prelude.{◌≡◌, ◌≢◌, [], ℕ, List, take, IfOk, IfErr, OnOk, OnErr, IsTrue};
 ghost use Rattle.std.specs.Io.KnownBytes.{Keeps};
 ghost use Rattle.burr_runs.specs.Views.BenchText.{streams};
 ghost use Rattle.burr_judge.specs.Views.Dialogues.{EndsDialogue, BreaksDialogue};
 ghost use Rattle.burr_judge.specs.Views.Dialogues.{HandsAnswer, FailsToHandAnswer, HandsLast};
 ghost use Rattle.burr_judge.specs.Views.Dialogues.{TakesByte, GivesByte};
+ghost use Rattle.burr_judge.specs.declared.dialogue.TheConstants.{KEPT};
 
-use crate::commands::{StepFault, command};
+use crate::commands::StepFault;
 use arrayvec::ArrayVec;
-use burr_blocking::Blocking;
 use burr_io::{IoFailed, Sink, Source, WholeLines};
 use burr_runs::BenchFault;
-use burr_step::{Stepper, lines_of_commands_are_short};
+
+/// What is told lines of commands, and answers each by a text.
+pub trait Commanded {
+    ghost use Rattle.std.specs.Prelude.{◌≡◌, false, ℕ, List, Bool, IfOk, IfErr};
+    ghost use Rattle.burr_judge.specs.declared.dialogue.TheConstants.{KEPT};
+    ghost use Rattle.burr_judge.specs.Views.Dialogues.{TellsByFront, PutsAnswer, FailsInAnswer};
+
+    /// A line is answered by a text, after which more lines are taken or not, and leaves this.
+    ghost answers: { Self → List ℕ → List ℕ → Bool → Self → Type 0 };
+
+    /// A line for whose answer memory is asked.
+    ghost wants: { Self → List ℕ → Type 0 };
+
+    /// A law: no command's line has more than 64 bytes, so that no more of a line than the bytes that
+    /// are kept matters.
+    fn lines_are_short(&self)
+        ensures { TellsByFront KEPT answers wants self.now };
+
+    /// Takes a line, without its end, and puts what it comes to, which is some text where more lines
+    /// are taken. False where no line is to come after it, and then the sink is left alone. After
+    /// `Write` the line counts as taken as it would without the fault; after `Memory` nothing has
+    /// changed.
+    fn command<W: Sink>(&mut self, line: &[u8], sink: &mut W) -> Result<bool, StepFault>
+        ensures ok { IfOk result (λ goes_on.
+            PutsAnswer answers W.Sink sink.old sink.new self.old line.now goes_on self.new) }
+        ensures err { IfErr result (λ fault.
+            FailsInAnswer answers wants W.Sink sink.old sink.new self.old line.now fault self.new) }
+        ensures quit { IfOk result (λ goes_on. goes_on ≡ false → sink.new ≡ sink.old) };
+}
 
 /// How many bytes of a line are kept: one more than a command's line may have, so that a longer
 /// line is recognised as no command.
@@ -33,34 +61,33 @@ impl From<StepFault> for BenchFault {
     }
 }
 
-/// Takes lines of commands from a source, up to `quit` or its end, and puts the answer to each, which
-/// is handed on before a byte of the next line is read. A last line that lacks its end is taken too.
-/// Of a long line no more than a command's length is held, and no byte after `quit` is read.
+/// Takes lines of commands from a source, up to one after which no line is taken or to its end, and
+/// puts the answer to each, which is handed on before a byte of the next line is read. A last line that
+/// lacks its end is taken too. Of a long line no more than a command's length is held, and no byte
+/// after the last line that is taken is read.
 ///
 /// Where the source fails, or memory is refused, the lines before are answered. A fault of the sink
 /// comes only of a line that was read and has an answer, and then the last command counts as taken or
 /// refused as it would without the fault. `TooLong` comes after 2^64 - 1 bytes.
-pub fn answer_commands<B: Blocking, R: Source, W: Sink, const N: usize>(
-    stepper: &mut Stepper<'_, '_, '_, B>,
+pub fn answer_commands<C: Commanded, R: Source, W: Sink, const N: usize>(
+    commanded: &mut C,
     source: &mut R,
     sink: &mut WholeLines<W, N>,
 ) -> Result<(), BenchFault>
     requires fresh { sink.old.held ≡ [] }
-    ensures ok { OnOk result (EndsDialogue stepper.old
-        (streams R.Source source.old source.new W.Sink sink.old.sink sink.new.sink) stepper.new) }
+    ensures ok { OnOk result (EndsDialogue C.answers commanded.old
+        (streams R.Source source.old source.new W.Sink sink.old.sink sink.new.sink) commanded.new) }
     ensures held { OnOk result (sink.new.held ≡ []) }
-    ensures err { IfErr result (λ fault. BreaksDialogue stepper.old
+    ensures err { IfErr result (λ fault. BreaksDialogue C.answers C.wants commanded.old
         (streams R.Source source.old source.new W.Sink sink.old.sink sink.new.sink)
-        fault stepper.new) }
+        fault commanded.new) }
 {
-    lines_of_commands_are_short();
-    stepper.labels_are_few();
     let mut line: ArrayVec<u8, KEPT> = ArrayVec::new();
     for _ in 0..u64::MAX {
         let Some(byte) = next_byte(source)? else {
-            return answer_last(line.as_slice(), stepper, sink);
+            return answer_last(line.as_slice(), commanded, sink);
         };
-        if !take_command_byte(byte, &mut line, stepper, sink)? {
+        if !take_command_byte(byte, &mut line, commanded, sink)? {
             return Ok(());
         }
     }
@@ -83,24 +110,25 @@ fn next_byte<R: Source>(source: &mut R) -> Result<Option<u8>, IoFailed>
 
 /// Takes one more byte of commands: one of a line that goes on, which is kept in `line`, or the line
 /// feed that ends that line. Then the line is answered, and when this returns the sink below has taken
-/// the whole answer. False for `quit`, after which no byte is to come. `answer_commands` reads a byte
-/// and gives it to this call, in turn, so that each answer is handed on before a byte of the next line
-/// is read.
+/// the whole answer. False for a line after which none is to come. `answer_commands` reads a byte and
+/// gives it to this call, in turn, so that each answer is handed on before a byte of the next line is
+/// read.
 ///
 /// `line` is empty where a line begins. `Write` comes only where a line ends that has an answer, and
-/// `Memory` only where a line `answer ..` ends.
-pub fn take_command_byte<B: Blocking, W: Sink, const N: usize>(
+/// `Memory` only where a line ends for whose answer memory is asked.
+pub fn take_command_byte<C: Commanded, W: Sink, const N: usize>(
     byte: u8,
     line: &mut ArrayVec<u8, KEPT>,
-    stepper: &mut Stepper<'_, '_, '_, B>,
+    commanded: &mut C,
     sink: &mut WholeLines<W, N>,
 ) -> Result<bool, BenchFault>
     requires fresh { sink.old.held ≡ [] }
-    ensures ok { IfOk result (λ goes_on. TakesByte KEPT byte line.old.items line.new.items W.Sink
-        sink.old sink.new stepper.old goes_on stepper.new) }
+    ensures ok { IfOk result (λ goes_on. TakesByte C.answers KEPT byte line.old.items line.new.items
+        W.Sink sink.old sink.new commanded.old goes_on commanded.new) }
     ensures held { OnOk result (sink.new.held ≡ []) }
-    ensures err { IfErr result (λ fault. (byte ≡ 10) × FailsToHandAnswer W.Sink sink.old sink.new
-        stepper.old line.old.items fault stepper.new) }
+    ensures err { IfErr result (λ fault. (byte ≡ 10) × ((whole : List ℕ)
+        → line.old.items ≡ take KEPT whole → FailsToHandAnswer C.answers C.wants W.Sink sink.old
+        sink.new commanded.old whole fault commanded.new)) }
     ensures kept { OnErr result (line.new.items ≡ line.old.items) }
 {
     if byte != b'\n' {
@@ -109,43 +137,49 @@ pub fn take_command_byte<B: Blocking, W: Sink, const N: usize>(
         }
         return Ok(true);
     }
-    let goes_on = answer_line(line.as_slice(), stepper, sink)?;
+    let goes_on = answer_line(line.as_slice(), commanded, sink)?;
     line.clear();
     Ok(goes_on)
 }
 
 /// Answers a last line that lacks its end, where there is one.
-fn answer_last<B: Blocking, W: Sink, const N: usize>(
+fn answer_last<C: Commanded, W: Sink, const N: usize>(
     line: &[u8],
-    stepper: &mut Stepper<'_, '_, '_, B>,
+    commanded: &mut C,
     sink: &mut WholeLines<W, N>,
 ) -> Result<(), BenchFault>
     requires fresh { sink.old.held ≡ [] }
-    ensures ok { OnOk result
-        (HandsLast W.Sink sink.old sink.new stepper.old line.now stepper.new) }
-    ensures err { IfErr result (λ fault. (line.now ≢ [])
-        × FailsToHandAnswer W.Sink sink.old sink.new stepper.old line.now fault stepper.new) }
+    ensures ok { (whole : List ℕ) → line.now ≡ take KEPT whole → OnOk result
+        (HandsLast C.answers W.Sink sink.old sink.new commanded.old whole commanded.new) }
+    ensures held { OnOk result (sink.new.held ≡ []) }
+    ensures err { IfErr result (λ fault. (line.now ≢ []) × ((whole : List ℕ)
+        → line.now ≡ take KEPT whole → FailsToHandAnswer C.answers C.wants W.Sink sink.old sink.new
+        commanded.old whole fault commanded.new)) }
 {
     if line.is_empty() {
         return Ok(());
     }
-    answer_line(line, stepper, sink)?;
+    answer_line(line, commanded, sink)?;
     Ok(())
 }
 
-/// Answers a line, and hands the answer on. False for `quit`, for which there is nothing to hand on.
-fn answer_line<B: Blocking, W: Sink, const N: usize>(
+/// Answers the line of which these are the first bytes, or all, and hands the answer on. False for a
+/// line after which none is to come, for which there is nothing to hand on.
+fn answer_line<C: Commanded, W: Sink, const N: usize>(
     line: &[u8],
-    stepper: &mut Stepper<'_, '_, '_, B>,
+    commanded: &mut C,
     sink: &mut WholeLines<W, N>,
 ) -> Result<bool, BenchFault>
     requires fresh { sink.old.held ≡ [] }
-    ensures ok { IfOk result (λ goes_on. HandsAnswer W.Sink sink.old sink.new stepper.old line.now
-        goes_on stepper.new) }
-    ensures err { IfErr result (λ fault. FailsToHandAnswer W.Sink sink.old sink.new stepper.old
-        line.now fault stepper.new) }
+    ensures ok { (whole : List ℕ) → line.now ≡ take KEPT whole → IfOk result (λ goes_on.
+        HandsAnswer C.answers W.Sink sink.old sink.new commanded.old whole goes_on commanded.new) }
+    ensures held { OnOk result (sink.new.held ≡ []) }
+    ensures err { (whole : List ℕ) → line.now ≡ take KEPT whole → IfErr result (λ fault.
+        FailsToHandAnswer C.answers C.wants W.Sink sink.old sink.new commanded.old whole fault
+        commanded.new) }
 {
-    if !command(stepper, line, sink)? {
+    commanded.lines_are_short();
+    if !commanded.command(line, sink)? {
         return Ok(false);
     }
     sink.flush()?;

@@ -11,8 +11,8 @@ mod refuser;
 mod status;
 mod tasks;
 
-pub use commands::{StepFault, command};
-pub use dialogue::{KEPT, answer_commands, take_command_byte};
+pub use commands::StepFault;
+pub use dialogue::{Commanded, KEPT, answer_commands, take_command_byte};
 pub use fault::{Fault, put_fault};
 pub use ladder::{
     AcceptedUse, AssemblyUse, Given, IfAccepted, OfPlan, PlanUse, use_given, use_text,

@@ -2,7 +2,7 @@
 use crate::kit::Kit;
 use burr_blocking::PlainCells;
 use burr_io::Writing;
-use burr_judge::{StepFault, command};
+use burr_judge::{Commanded, StepFault};
 use burr_step::{StepRefusal, Stepper};
 use burr_verify::accept;
 use std::alloc::AllocError;
@@ -74,7 +74,7 @@ fn answer(stepper: &mut Steps<'_, '_, '_, '_>, way: Way) -> Result<bool, AllocEr
 fn answer_by_command(stepper: &mut Steps<'_, '_, '_, '_>) -> Result<bool, AllocError> {
     let mut room = [0u8; 16];
     let mut text = Cursor::new(room.as_mut_slice());
-    let taken = command(stepper, b"answer 1", &mut Writing::new(&mut text));
+    let taken = stepper.command(b"answer 1", &mut Writing::new(&mut text));
     let size = text.position();
     if taken == Err(StepFault::Memory) && size == 0 {
         return Err(AllocError);

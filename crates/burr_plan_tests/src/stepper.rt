@@ -8,7 +8,7 @@ use crate::texts::{bytes_of, lines_of};
 use crate::want::memory_taken;
 use burr_blocking::RowTables;
 use burr_io::Writing;
-use burr_judge::{StepFault, command};
+use burr_judge::{Commanded, StepFault};
 use burr_step::{StepRefusal, Stepper};
 use burr_testing::{MemoryHog, Narrow};
 use burr_verify::accept;
@@ -72,7 +72,7 @@ fn put<W: Write>(
     line: &[u8],
     writer: &mut W,
 ) -> Result<bool, StepFault> {
-    command(stepper, line, &mut Writing::new(writer))
+    stepper.command(line, &mut Writing::new(writer))
 }
 
 /// Whether a command puts this: nothing where no more lines are taken.

@@ -1,21 +1,17 @@
--- What lines of commands for a stepper come to, one after the other, and the bytes that they are.
-use Rattle.std.specs.Prelude.{◌≡◌, ◌≢◌, ◌⊎◌, ℕ, List, [], ◌∷◌, ◌++◌, Bool, true, false}
-use Rattle.std.specs.List.{flat_map}
+-- What lines of commands come to, one after the other, and the bytes that they are.
+use Rattle.std.specs.Prelude.{◌≡◌, ◌≢◌, ◌⊎◌, ℕ, List, [], ◌∷◌, ◌++◌, Bool, true, false, flat_map}
 use Rattle.burr_text.specs.Lines.{IsUnended}
-use Rattle.burr_state.specs.Rules.Bench.{BenchState, Setup}
-use Rattle.burr_step.specs.Rules.Stepper.{History}
-use Rattle.burr_step.specs.Rules.StepTexts.{LineAnswer, answered, Lined}
 
--- The answer to lines, each of which is taken where the answer to those before it says that more are:
--- their texts joined, what the last one leaves, and whether more are taken.
-pub data Dialogue (setup : Setup) (names : List (List ℕ)) (h : History) (s : BenchState)
-    : List (List ℕ) → LineAnswer → Type 0 where
-  opened : Dialogue setup names h s [] (answered [] h s true)
-  continued : (lines : List (List ℕ)) (line : List ℕ) (before answer : LineAnswer)
-      → Dialogue setup names h s lines before → before.goes_on ≡ true → IsUnended line
-      → Lined setup names before.history before.state line answer
-      → Dialogue setup names h s (lines ++ line ∷ [])
-      (answered (before.text ++ answer.text) answer.history answer.state answer.goes_on)
+-- The answer to lines: what is told a line answers it by a text, after which more lines are taken or
+-- not, and is left in some way. The texts are joined, and a line is taken where the one before it
+-- says that more are.
+pub data Dialogue {Told : Type 0} (Answers : Told → List ℕ → List ℕ → Bool → Told → Type 0)
+    (old : Told) : List (List ℕ) → List ℕ → Bool → Told → Type 0 where
+  opened : Dialogue Answers old [] [] true old
+  continued : (lines : List (List ℕ)) (line text more : List ℕ) (goes_on : Bool) (mid new : Told)
+      → Dialogue Answers old lines text true mid → IsUnended line
+      → Answers mid line more goes_on new
+      → Dialogue Answers old (lines ++ line ∷ []) (text ++ more) goes_on new
 
 -- the bytes of lines, each with its end
 abbrev pub lines_bytes : List (List ℕ) → List ℕ

@@ -1,89 +1,66 @@
-use Rattle.std.proofs.Common.{ℕ, List, Bool, sym, subst}
+use Rattle.std.proofs.Common.{◌≡◌, ◌∙◌, arith, refl}
 use Rattle.burr_runs.specs.declared.fault.BenchFault.TheVariants as faults
-use Rattle.burr_runs.specs.Views.BenchText.{streams}
-use Rattle.burr_judge.specs.Views.Dialogues.{IsConversing, TakesByte}
-use Rattle.burr_judge.proofs.Dialogues.{nothing_read, goes_on_by, quits_by, ends_by, breaks_by_source, breaks_at_end_of_line, breaks_at_end_of_input, on_ok_more, if_err_more, breaks_as, gave_byte, gave_none, all_counted}
+use Rattle.burr_judge.specs.declared.dialogue.TheConstants.{KEPT}
+use Rattle.burr_judge.proofs.Dialogues.{nothing_read, goes_on_by, quits_by, ends_by, breaks_by_source, breaks_at_end_of_line, breaks_at_end_of_input, on_ok_more, if_err_more, breaks_as}
 use Rattle.burr_judge.proofs.dialogue.answer_commands.Goals as goal
 
 pub loop-init : goal.loop-init
 loop-init g c =
-    let old = c.args.stepper.now in
-    let source = c.args.source.now in
-    let sink = c.args.sink.now in
-    let s = streams g.R.Source source source g.W.Sink sink.sink sink.sink in (
-      c.requires.fresh,
-      subst (λ (line : List ℕ). IsConversing 65 0 old s line old) (sym c.new-line.ensures)
-          (nothing_read g.R.Source g.W.Sink source sink old c.lines_of_commands_are_short.ensures.short c.labels_are_few.ensures),
-    )
+    let none = nothing_read g.C.Commanded.answers g.C.Commanded.wants KEPT g.R.Source g.W.Sink c.args.source.now c.args.sink.now c.args.commanded.now in
+    (c.requires.fresh, rw c.new-line.ensures none)
 
 pub returns-in_err-byte-clause-err : goal.returns-in_err-byte-clause-err
 returns-in_err-byte-clause-err g c =
-    let old = c.args.stepper.now in
-    let s = streams g.R.Source c.args.source.now c.next_byte.new.source g.W.Sink c.args.sink.now.sink c.loop.sink.sink in
-    breaks_as c.from_residual.result old s c.loop.stepper faults.Read c.from_residual.ensures.1
-    (breaks_by_source g.R.Source g.W.Sink c.args.source.now c.args.sink.now old c.lines_of_commands_are_short.ensures.short c.labels_are_few.ensures
-    c.loop.counter c.loop.line.items c.loop.source c.next_byte.new.source c.loop.sink c.loop.stepper c.loop.invariant.1 c.in_err-byte.ensures.kept c.in_err-byte.ensures.failed)
+    breaks_as g.C.Commanded.answers g.C.Commanded.wants c.from_residual.result _ _ _ faults.Read c.from_residual.ensures.1
+    (breaks_by_source g.C.Commanded.answers g.C.Commanded.wants KEPT g.R.Source g.W.Sink c.args.source.now c.args.sink.now c.args.commanded.now
+    _ _ c.loop.source c.next_byte.new.source c.loop.sink c.loop.sink _ c.loop.commanded c.loop.invariant.1
+    refl refl c.in_err-byte.ensures.kept c.in_err-byte.ensures.failed)
 
 pub returns-in_default-clause-ok : goal.returns-in_default-clause-ok
 returns-in_default-clause-ok g c =
-    let old = c.args.stepper.now in
-    let s = streams g.R.Source c.args.source.now c.loop.source g.W.Sink c.args.sink.now.sink c.loop.sink.sink in
-    let end = gave_none (g.R.Source.left c.loop.source) (g.R.Source.left c.next_byte.new.source) c.in_ok-byte.field-0 c.in_default.is c.in_ok-byte.ensures.ok in
-    let so_far = subst (λ (line : List ℕ). IsConversing 65 c.loop.counter old s line c.loop.stepper) (sym c.as_slice.ensures.value) c.loop.invariant.1 in
-    on_ok_more c.answer_last.result (λ hands.
-    ends_by g.R.Source g.W.Sink c.args.source.now c.args.sink.now old c.lines_of_commands_are_short.ensures.short c.labels_are_few.ensures
-    c.loop.counter c.as_slice.result.now c.loop.source c.next_byte.new.source c.loop.sink c.answer_last.new.sink c.loop.stepper c.answer_last.new.stepper so_far end.0 end.1 hands)
-    c.answer_last.ensures.ok
+    let end = rw c.in_default.is at c.in_ok-byte.ensures.ok in
+    on_ok_more c.answer_last.result
+    (ends_by g.C.Commanded.answers g.C.Commanded.wants KEPT g.R.Source g.W.Sink c.args.source.now c.args.sink.now c.args.commanded.now
+    _ _ c.loop.source c.next_byte.new.source c.loop.sink c.answer_last.new.sink _ c.answer_last.new.commanded c.loop.invariant.1 end.0 end.1)
+    (c.answer_last.ensures.ok c.loop.invariant.1.rest (c.as_slice.ensures.value ∙ c.loop.invariant.1.kept_is))
 
 pub returns-in_default-clause-err : goal.returns-in_default-clause-err
 returns-in_default-clause-err g c =
-    let old = c.args.stepper.now in
-    let s = streams g.R.Source c.args.source.now c.loop.source g.W.Sink c.args.sink.now.sink c.loop.sink.sink in
-    let end = gave_none (g.R.Source.left c.loop.source) (g.R.Source.left c.next_byte.new.source) c.in_ok-byte.field-0 c.in_default.is c.in_ok-byte.ensures.ok in
-    let so_far = subst (λ (line : List ℕ). IsConversing 65 c.loop.counter old s line c.loop.stepper) (sym c.as_slice.ensures.value) c.loop.invariant.1 in
+    let end = rw c.in_default.is at c.in_ok-byte.ensures.ok in
     if_err_more c.answer_last.result (λ fault fails.
-    breaks_at_end_of_input g.R.Source g.W.Sink c.args.source.now c.args.sink.now old c.lines_of_commands_are_short.ensures.short c.labels_are_few.ensures
-    c.loop.counter c.as_slice.result.now c.loop.source c.next_byte.new.source c.loop.sink c.answer_last.new.sink c.loop.stepper c.answer_last.new.stepper
-    fault so_far end.0 end.1 fails.0 fails.1)
+    breaks_at_end_of_input g.C.Commanded.answers g.C.Commanded.wants KEPT g.R.Source g.W.Sink c.args.source.now c.args.sink.now c.args.commanded.now
+    _ _ c.loop.source c.next_byte.new.source c.loop.sink c.answer_last.new.sink _ c.answer_last.new.commanded c.loop.invariant.1
+    fault end.0 end.1 (λ none. fails.0 (c.as_slice.ensures.value ∙ none)) (λ whole cut. fails.1 whole (c.as_slice.ensures.value ∙ cut)))
     c.answer_last.ensures.err
 
 pub returns-in_err-take_command_byte-clause-err : goal.returns-in_err-take_command_byte-clause-err
 returns-in_err-take_command_byte-clause-err g c =
-    let old = c.args.stepper.now in
-    let s = streams g.R.Source c.args.source.now c.next_byte.new.source g.W.Sink c.args.sink.now.sink c.take_command_byte.new.sink.sink in
-    let gave = gave_byte (g.R.Source.left c.loop.source) (g.R.Source.left c.next_byte.new.source) c.in_ok-byte.field-0 c.in-Some.byte c.in-Some.is c.in_ok-byte.ensures.ok in
+    let gave = rw c.in-Some.is at c.in_ok-byte.ensures.ok in
     let fails = c.in_err-take_command_byte.ensures.err in
-    breaks_as c.from_residual-in_err-take_command_byte.result old s c.take_command_byte.new.stepper c.in_err-take_command_byte.field-0.0 c.from_residual-in_err-take_command_byte.ensures.1
-    (breaks_at_end_of_line g.R.Source g.W.Sink c.args.source.now c.args.sink.now old c.lines_of_commands_are_short.ensures.short c.labels_are_few.ensures
-    c.loop.counter c.in-Some.byte c.loop.line.items c.loop.source c.next_byte.new.source c.loop.sink c.take_command_byte.new.sink c.loop.stepper c.take_command_byte.new.stepper c.in_err-take_command_byte.field-0.0
-    c.loop.invariant.1 gave fails.0 fails.1)
+    let fault = c.in_err-take_command_byte.field-0.0 in
+    breaks_as g.C.Commanded.answers g.C.Commanded.wants c.from_residual-in_err-take_command_byte.result _ _ _ fault
+    c.from_residual-in_err-take_command_byte.ensures.1
+    (breaks_at_end_of_line g.C.Commanded.answers g.C.Commanded.wants KEPT g.R.Source g.W.Sink c.args.source.now c.args.sink.now c.args.commanded.now
+    _ _ c.loop.source c.next_byte.new.source c.loop.sink c.take_command_byte.new.sink _ c.take_command_byte.new.commanded c.loop.invariant.1
+    c.in-Some.byte fault gave fails.0 fails.1)
 
 pub returns-then-not-branch-clause-ok : goal.returns-then-not-branch-clause-ok
 returns-then-not-branch-clause-ok g c =
-    let old = c.args.stepper.now in
-    let byte = c.in-Some.byte in
-    let gave = gave_byte (g.R.Source.left c.loop.source) (g.R.Source.left c.next_byte.new.source) c.in_ok-byte.field-0 byte c.in-Some.is c.in_ok-byte.ensures.ok in
-    let takes = subst (λ (goes_on : Bool). TakesByte 65 byte c.loop.line.items c.take_command_byte.new.line.items g.W.Sink c.loop.sink c.take_command_byte.new.sink c.loop.stepper goes_on c.take_command_byte.new.stepper)
-    c.if-not-branch.true c.in_ok-take_command_byte.ensures.ok in
-    quits_by g.R.Source g.W.Sink c.args.source.now c.args.sink.now old c.lines_of_commands_are_short.ensures.short c.labels_are_few.ensures
-    c.loop.counter byte c.loop.line.items c.take_command_byte.new.line.items c.loop.source c.next_byte.new.source c.loop.sink c.take_command_byte.new.sink c.loop.stepper c.take_command_byte.new.stepper
-    c.loop.invariant.1 gave takes
+    let gave = rw c.in-Some.is at c.in_ok-byte.ensures.ok in
+    quits_by g.C.Commanded.answers g.C.Commanded.wants KEPT g.R.Source g.W.Sink c.args.source.now c.args.sink.now c.args.commanded.now
+    _ _ c.loop.source c.next_byte.new.source c.loop.sink c.take_command_byte.new.sink _ c.take_command_byte.new.commanded c.loop.invariant.1
+    c.in-Some.byte c.take_command_byte.new.line.items _ c.if-not-branch.true gave c.in_ok-take_command_byte.ensures.ok
 
 pub loop-preserved : goal.loop-preserved
 loop-preserved g c =
-    let old = c.args.stepper.now in
-    let byte = c.in-Some.byte in
-    let gave = gave_byte (g.R.Source.left c.loop.source) (g.R.Source.left c.next_byte.new.source) c.in_ok-byte.field-0 byte c.in-Some.is c.in_ok-byte.ensures.ok in
-    let takes = subst (λ (goes_on : Bool). TakesByte 65 byte c.loop.line.items c.take_command_byte.new.line.items g.W.Sink c.loop.sink c.take_command_byte.new.sink c.loop.stepper goes_on c.take_command_byte.new.stepper)
-    c.if-not-branch.false c.in_ok-take_command_byte.ensures.ok in (
+    let gave = rw c.in-Some.is at c.in_ok-byte.ensures.ok in (
       c.in_ok-take_command_byte.ensures.held,
-      goes_on_by g.R.Source g.W.Sink c.args.source.now c.args.sink.now old c.lines_of_commands_are_short.ensures.short c.labels_are_few.ensures
-          c.loop.counter byte c.loop.line.items c.take_command_byte.new.line.items c.loop.source c.next_byte.new.source c.loop.sink c.take_command_byte.new.sink c.loop.stepper c.take_command_byte.new.stepper
-          c.loop.invariant.1 gave takes,
+      goes_on_by g.C.Commanded.answers g.C.Commanded.wants KEPT g.R.Source g.W.Sink c.args.source.now c.args.sink.now c.args.commanded.now
+          _ _ c.loop.source c.next_byte.new.source c.loop.sink c.take_command_byte.new.sink _ c.take_command_byte.new.commanded c.loop.invariant.1
+          c.in-Some.byte c.take_command_byte.new.line.items _ c.if-not-branch.false gave c.in_ok-take_command_byte.ensures.ok,
     )
 
 pub returns-clause-err : goal.returns-clause-err
 returns-clause-err g c =
-    let old = c.args.stepper.now in
-    let s = streams g.R.Source c.args.source.now c.loop.source g.W.Sink c.args.sink.now.sink c.loop.sink.sink in
-    (c.loop.line.items, 65, subst (λ n. IsConversing 65 n old s c.loop.line.items c.loop.stepper) (all_counted c.loop.counter c.loop-test.false c.loop.auto.counter-end) c.loop.invariant.1)
+    let all : c.loop.counter ≡ 18446744073709551615 = omega arith in
+    (c.loop.line.items, KEPT, rw all at c.loop.invariant.1)
