@@ -70,7 +70,7 @@ digits_lack_blank : (bytes : List ℕ) → AreDigits bytes → Lacks 32 bytes
 digits_lack_blank [] h = tt
 digits_lack_blank (b ∷ bytes) h = ((λ e. let low = h.0.0 in omega arith), digits_lack_blank bytes h.1)
 
-no_blank : (n : ℕ) → Lacks 32 (decimal n)
+pub no_blank : (n : ℕ) → Lacks 32 (decimal n)
 no_blank n = digits_lack_blank (decimal n) (decimal_is_digits n)
 
 -- what stands after the word of a label's line

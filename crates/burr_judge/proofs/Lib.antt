@@ -1,6 +1,8 @@
+mod Dialogues
+mod DriveAnswers
+mod MoveWords
+mod SteppedPlans
 pub mod CommandAnswers
 pub mod CommandLines
 pub mod Common
-mod Dialogues
 pub mod Ending
-mod SteppedPlans

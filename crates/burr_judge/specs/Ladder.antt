@@ -1,5 +1,5 @@
 -- What bytes come to on the way to a plan and an assembly: they are refused, or the plan is used.
-use Rattle.std.specs.Prelude.{◌≡◌, ◌⊎◌, ℕ, List, Result, IsTrue, codes}
+use Rattle.std.specs.Prelude.{◌≡◌, ◌≢◌, ◌⊎◌, ℕ, List, take, Result, IsTrue, codes}
 use Rattle.std.specs.Result.{IsErrAnd}
 use Rattle.burr_asm.specs.declared.fault.AsmFault.{AsmFault}
 use Rattle.burr_asm.specs.Rules.Faults.{IsFirstFault}
@@ -59,6 +59,11 @@ abbrev pub GivenComes : (List ℕ → Type 0) → (ContainerView → Type 0) →
 GivenComes Refuses Uses (given.Container bytes) = BytesCome Refuses Uses bytes.now
 GivenComes Refuses Uses (given.Text text) =
     PlanTextComes Refuses (λ bytes. BytesCome Refuses Uses bytes) text.now
+
+-- a plan as it is given by bytes: what begins with the mark of a container is one, and else a text
+abbrev pub IsGivenBy : List ℕ → Given → Type 0
+IsGivenBy bytes (given.Container kept) = (take 4 bytes ≡ codes "BPLN") × (kept.now ≡ bytes)
+IsGivenBy bytes (given.Text text) = (take 4 bytes ≢ codes "BPLN") × (text.now ≡ bytes)
 
 -- a plan is refused, or it is accepted by some number of looks and used
 abbrev pub PlanJudged : (List ℕ → Type 0) → (ℕ → Type 0) → ContainerView → Assembly → Type 0

@@ -1,3 +1,4 @@
+pub mod DriveEnds
 pub mod Faults
 pub mod Ladder
 pub mod PlanEnds

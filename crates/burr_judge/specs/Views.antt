@@ -1,3 +1,4 @@
 pub mod CommandLines
 pub mod Commanding
 pub mod Dialogues
+pub mod DriveLines

@@ -6,7 +6,7 @@ ghost use Rattle.burr_assembly.specs.Rules.Homes.{names_of};
 ghost use Rattle.burr_step.specs.Rules.StepTexts.{refused_line, show_text};
 ghost use Rattle.burr_judge.specs.Views.CommandLines.{PutsAfter, PutsCame, PutsLine, after_line, question_words};
 
-mod line;
+pub mod line;
 
 use crate::commands::line::{Command, read_command};
 use crate::dialogue::Commanded;

@@ -79,6 +79,21 @@ pub enum Given<'x> {
     Text(&'x [u8]),
 }
 
+impl<'x> Given<'x> {
+    ghost use Rattle.burr_judge.specs.Ladder.{IsGivenBy};
+
+    /// The plan that these bytes give: a container, where they begin with the mark of one, else a text.
+    pub fn of(bytes: &'x [u8]) -> Given<'x>
+        ensures { IsGivenBy bytes.entry.now result }
+    {
+        if bytes.starts_with(b"BPLN") {
+            Given::Container(bytes)
+        } else {
+            Given::Text(bytes)
+        }
+    }
+}
+
 /// Uses the assembly of a text.
 #[inline(never)]
 pub fn use_text<'a, R: Refuse<W>, I, W, U: AssemblyUse<R, I, W>>(

@@ -1,9 +1,10 @@
 //! What is asked with a plan and an assembly, over bytes: the plan is judged, run with answers, or gone
-//! through step by step by lines of commands; the faults and statuses that it ends with.
+//! through step by step or led move by move by lines of commands; the faults and statuses that it ends with.
 #![tactic(auto)]
 
 mod commands;
 mod dialogue;
+mod drive;
 mod fault;
 mod ladder;
 mod refused;
@@ -20,4 +21,4 @@ pub use ladder::{
 pub use refused::{Refused, put_refusal, refuse};
 pub use refuser::{Plainly, Refuse};
 pub use status::Status;
-pub use tasks::{Check, Run, Task, Try, judge_text, step_text};
+pub use tasks::{Check, Run, Task, Try, drive_text, judge_text, step_text};

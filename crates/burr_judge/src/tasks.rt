@@ -1,27 +1,35 @@
 //! What is done with a plan and an assembly: it is judged, run with answers, or gone through by lines
-//! of commands.
+//! of commands, step by step or move by move.
 
 ghost use Rattle.burr_state.specs.Views.Benches.{IsAtStart};
 ghost use Rattle.burr_judge.specs.PlanEnds.{AnswersEnd, BenchEnds, EndsOn, PlanEnds, Ending};
-ghost use Rattle.std.specs.Prelude.{◌≡◌, []};
+ghost use Rattle.std.specs.Prelude.{◌≡◌, ◌++◌, [], IfErr, IfOk, OnOk, string_bytes};
 ghost use Rattle.burr_io.specs.WholeLines.{lines_view};
+ghost use Rattle.hex.specs.Hex.{encode_lower};
+ghost use Rattle.sha2.specs.Sha256.{sha256};
 ghost use Rattle.burr_runs.specs.Views.BenchText.{streams};
+ghost use Rattle.burr_io.specs.Sink.{Takes};
+ghost use Rattle.burr_judge.specs.Faults.{line_of};
+ghost use Rattle.burr_judge.specs.DriveEnds.{DriveBytesBreak, DriveBytesEnd, DriveTextBreaks, DriveTextEnds, FailsToBegin, LeavesWith, ready_text};
 ghost use Rattle.burr_judge.specs.StepEnds.{StepTextEnds, StepTextBreaks, left_by};
 
 use crate::dialogue::answer_commands;
 use crate::fault::Fault;
-use crate::ladder::{AcceptedUse, Given, IfAccepted, OfPlan, PlanUse, use_text};
+use crate::ladder::{AcceptedUse, AssemblyUse, Given, IfAccepted, OfPlan, PlanUse, use_text};
 use crate::refused::{Refused, refuse};
 use crate::refuser::{Plainly, Refuse};
 use crate::status::Status;
+use burr_asm::{AsmFault, assemble};
+use burr_assembly::Assembly;
 use burr_bench::Checked;
 use burr_blocking::Blocking;
 use burr_container::Container;
-use burr_io::{Sink, Source, WholeLines};
+use burr_io::{Sink, Source, WholeLines, put_words};
 use burr_runs::{AnswersFault, Observer, put_accepted, read_answers, run_plan, try_observed};
-use burr_step::Stepper;
+use burr_step::{Drive, Halt, Stepper};
 use burr_verify::Accepted;
-use std::alloc::Global;
+use sha2::{Digest, Sha256};
+use std::alloc::{AllocError, Global};
 
 /// What is done with a plan and an assembly.
 #[derive(Clone, Copy, Debug, PartialEq, Eq)]
@@ -238,5 +246,162 @@ impl<R: Source, W: Sink, const N: usize> AcceptedUse<R, WholeLines<W, N>> for St
         let mut stepper = Stepper::new(alloc, accepted)?;
         answer_commands(&mut stepper, source, sink)?;
         Ok(Status::Done)
+    }
+}
+
+/// Leads the plan for the assembly of a text move by move: puts that it is ready, with the digest of
+/// the text and the container, and then an answer to each command that the source gives, which is
+/// handed on before the next is read; or puts a refusal. The source is read only where the plan is
+/// accepted. `Waiting` where the last command left a question open.
+pub fn drive_text<'a, R: Source, W: Sink, const N: usize>(
+    alloc: Global,
+    text: &[u8],
+    plan: Given<'_>,
+    source: &mut R,
+    sink: &mut WholeLines<W, N>,
+) -> Result<Status, Fault<'a>>
+    requires fresh { sink.old.held ≡ [] }
+    ensures { Ending (lines_view W.Sink) sink.old sink.new
+        (DriveTextEnds (left_by R.Source source.old source.new) text.now plan.entry)
+        (DriveTextBreaks (streams R.Source source.old source.new W.Sink sink.old.sink sink.new.sink)
+        text.now plan.entry) result }
+{
+    match plan {
+        Given::Container(bytes) => drive_container(alloc, text, bytes, source, sink),
+        Given::Text(plan_text) => match assemble(alloc, plan_text) {
+            Ok(bytes) => drive_container(alloc, text, &bytes, source, sink),
+            Err(fault) => match fault.code_and_line() {
+                Some(_place) => {
+                    use_text(alloc, &Plainly, &RefusedText(fault), text, source, sink)
+                }
+                None => Err(Fault::Memory),
+            },
+        },
+    }
+}
+
+/// The same of a container's bytes.
+fn drive_container<'a, R: Source, W: Sink, const N: usize>(
+    alloc: Global,
+    text: &[u8],
+    bytes: &[u8],
+    source: &mut R,
+    sink: &mut WholeLines<W, N>,
+) -> Result<Status, Fault<'a>>
+    requires fresh { sink.old.held ≡ [] }
+    ensures { Ending (lines_view W.Sink) sink.old sink.new
+        (DriveBytesEnd (left_by R.Source source.old source.new) text.now bytes.now)
+        (DriveBytesBreak (streams R.Source source.old source.new W.Sink sink.old.sink sink.new.sink)
+        text.now bytes.now) result }
+{
+    let plan = Given::Container(bytes);
+    let work = IfAccepted(Lead { text, bytes });
+    use_text(alloc, &Plainly, &OfPlan { plan, work }, text, source, sink)
+}
+
+/// Refuses a plan text, whatever the assembly is.
+#[derive(Clone, Copy)]
+struct RefusedText(AsmFault);
+
+impl<I, W: Sink> AssemblyUse<Plainly, I, W> for RefusedText {
+    ghost use Rattle.std.specs.Prelude.{⊤, ◌≡◌};
+    ghost use Rattle.burr_judge.specs.PlanEnds.{EndsOn, IsRefusal};
+    ghost use Rattle.burr_judge.specs.Refusals.{plan_text_refusal};
+
+    ghost can = { λ _. ⊤ };
+
+    ghost uses = { λ it _ first before _ r last after.
+        EndsOn W.Sink before after (IsRefusal (plan_text_refusal it.0)) r × (last ≡ first) };
+
+    fn use_assembly<'a, 'x>(
+        &self,
+        _alloc: Global,
+        _refuser: &Plainly,
+        _assembly: &'x Assembly,
+        _input: &mut I,
+        sink: &mut W,
+    ) -> Result<Status, Fault<'a>> {
+        refuse(&Refused::PlanText(self.0), sink)
+    }
+}
+
+/// Leads an accepted plan by the commands of the input.
+#[derive(Clone, Copy)]
+struct Lead<'x> {
+    /// The assembly's text.
+    text: &'x [u8],
+    /// The container's bytes.
+    bytes: &'x [u8],
+}
+
+impl<'x, R: Source, W: Sink, const N: usize> AcceptedUse<R, WholeLines<W, N>> for Lead<'x> {
+    ghost use Rattle.std.specs.Prelude.{◌≡◌, []};
+    ghost use Rattle.burr_io.specs.WholeLines.{lines_view};
+    ghost use Rattle.burr_runs.specs.Views.BenchText.{streams};
+    ghost use Rattle.burr_judge.specs.PlanEnds.{Ending};
+    ghost use Rattle.burr_judge.specs.DriveEnds.{LedBreaks, LedEnds};
+    ghost use Rattle.burr_judge.specs.StepEnds.{left_by};
+
+    ghost can = { λ sink. sink.held ≡ [] };
+
+    ghost uses = { λ it first before j _ r last after.
+        Ending (lines_view W.Sink) before after
+        (LedEnds (left_by R.Source first last) it.text.now it.bytes.now j)
+        (LedBreaks (streams R.Source first last W.Sink before.sink after.sink) it.text.now it.bytes.now
+        j) r };
+
+    #[inline(never)]
+    fn use_accepted<'a, B: Blocking>(
+        &self,
+        alloc: Global,
+        accepted: &Accepted<'_, '_, B>,
+        _looks: u64,
+        source: &mut R,
+        sink: &mut WholeLines<W, N>,
+    ) -> Result<Status, Fault<'a>> {
+        let mut drive = Drive::new(accepted);
+        put_ready(alloc, self.text, self.bytes, sink)?;
+        answer_commands(&mut drive, source, sink)?;
+        Ok(status_after(&drive))
+    }
+}
+
+/// Puts that a run is ready, with the digest of what it is of, and hands it on.
+fn put_ready<'a, W: Sink, const N: usize>(
+    alloc: Global,
+    text: &[u8],
+    bytes: &[u8],
+    sink: &mut WholeLines<W, N>,
+) -> Result<(), Fault<'a>>
+    requires fresh { sink.old.held ≡ [] }
+    ensures ok { OnOk result (Takes W.Sink sink.old.sink sink.new.sink (ready_text text.now bytes.now)
+        × (sink.new.held ≡ [])) }
+    ensures err { IfErr result (λ fault. FailsToBegin W.Sink sink.old sink.new
+        (ready_text text.now bytes.now) (line_of fault)) }
+{
+    let digest = digest_of(alloc, text, bytes)?;
+    put_words(&[b"ready", digest.as_bytes()], sink)?;
+    sink.flush()?;
+    Ok(())
+}
+
+/// The SHA-256 of two texts, one after the other, in hexadecimal digits.
+fn digest_of(alloc: Global, text: &[u8], bytes: &[u8]) -> Result<String, AllocError>
+    ensures { IfOk result (λ digest. string_bytes digest
+        ≡ encode_lower (sha256 (text.now ++ bytes.now))) }
+{
+    let mut hasher = Sha256::new();
+    hasher.update(text);
+    hasher.update(bytes);
+    hex::encode(alloc, hasher.finalize())
+}
+
+/// The status of a drive that is left where it stands: a question may be open.
+fn status_after(drive: &Drive<'_>) -> Status
+    ensures { LeavesWith drive.now result }
+{
+    match drive.halt() {
+        Some(Halt::Asks(_question)) => Status::Waiting,
+        _ => Status::Done,
     }
 }

@@ -71,7 +71,7 @@ fn back_steps(line: &[u8]) -> Option<u32>
 }
 
 /// The number of 32 bits without a sign that is written so, if one is: `01` and `+1` are none.
-fn unsigned(text: &[u8]) -> Option<u32>
+pub fn unsigned(text: &[u8]) -> Option<u32>
     ensures { IsUnsigned 32 text.now result }
 {
     let number: u32 = str::from_utf8(text).ok()?.parse().ok()?;

@@ -1,0 +1,105 @@
+-- How a drive through a plan ends: what is printed for the commands that a source gave, and with
+-- which status.
+use Rattle.std.specs.Prelude.{◌≡◌, ◌⊎◌, ℕ, List, [], ◌∷◌, ◌++◌, true, Option, codes}
+use Rattle.std.specs.Io.KnownBytes.{Appends}
+use Rattle.hex.specs.Hex.{encode_lower}
+use Rattle.sha2.specs.Sha256.{sha256}
+use Rattle.burr_text.specs.Words.{text_line}
+use Rattle.burr_io.specs.Sink.{SinkView, HoldsFront}
+use Rattle.burr_io.specs.WholeLines.{Lines}
+use Rattle.burr_assembly.specs.Rules.Text.{Assembly, IsText}
+use Rattle.burr_container.specs.Views.Containers.{ContainerView}
+use Rattle.burr_verify.specs.Rules.Accepting.{Judged, judged, IsAccepted}
+use Rattle.burr_state.specs.Views.Benches.{setup_of}
+use Rattle.burr_step.specs.Rules.Stepper.{IsAsking}
+use Rattle.burr_step.specs.Views.Driving.{Driving, IsReady}
+use Rattle.burr_runs.specs.declared.fault.BenchFault.{BenchFault}
+use Rattle.burr_runs.specs.Views.BenchText.{Streams}
+use Rattle.burr_judge.specs.Views.Dialogues.{IsDialogue, BreaksDialogue}
+use Rattle.burr_judge.specs.Views.DriveLines.{DriveAnswers, AsksNone}
+use Rattle.burr_judge.specs.declared.ladder.Given.{Given}
+use Rattle.burr_judge.specs.declared.ladder.Given.TheVariants as given
+use Rattle.burr_judge.specs.declared.status.Status.{Status}
+use Rattle.burr_judge.specs.declared.status.Status.TheVariants.{Done, Waiting}
+use Rattle.burr_judge.specs.Faults.{complaint_of, output_failed}
+use Rattle.burr_asm.specs.Rules.Assembling.{IsAssembled}
+use Rattle.burr_judge.specs.Ladder.{IsRead}
+use Rattle.burr_judge.specs.PlanEnds.{Ends, RefusedEnds, ContainerEnds, PlanTextEnds, TextEnds}
+use Rattle.burr_judge.specs.StepEnds.{Left}
+
+-- the line that tells that a run is ready, by the SHA-256 of what it is of: the assembly's text, and
+-- then the bytes of the container
+abbrev pub ready_text : List ℕ → List ℕ → List ℕ
+ready_text text bytes =
+    text_line (codes "ready" ∷ encode_lower (sha256 (text ++ bytes)) ∷ [])
+
+-- the status of a drive that is left where it stands: it waits where a question is open
+abbrev pub LeavesWith : Driving → Status → Type 0
+LeavesWith d status =
+    (IsAsking (setup_of d.bench) d.bench.state × (status ≡ Waiting))
+    ⊎ ((¬ IsAsking (setup_of d.bench) d.bench.state) × (status ≡ Done))
+
+-- the run is ready, and the commands that the source gave are answered
+abbrev pub LedEnds : Left → List ℕ → List ℕ → Judged → Ends
+LedEnds left text bytes j output status =
+    (old new : Driving) × (said : List ℕ) × IsReady j old
+    × IsDialogue DriveAnswers old left.old left.new said new
+    × (output ≡ ready_text text bytes ++ said) × LeavesWith new status
+
+-- the plan is refused; or it is accepted, and led
+abbrev pub DriveEnds : Left → List ℕ → List ℕ → ContainerView → Assembly → Ends
+DriveEnds left text bytes kept a output status =
+    RefusedEnds kept a output status
+    ⊎ (IsAccepted (judged kept a) × LedEnds left text bytes (judged kept a) output status)
+
+-- the same of an assembly's text and a container's bytes
+abbrev pub DriveBytesEnd : Left → List ℕ → List ℕ → Ends
+DriveBytesEnd left text bytes =
+    TextEnds text (λ a. ContainerEnds bytes (λ kept. DriveEnds left text bytes kept a))
+
+-- the same of a plan that comes as a container or as a text
+abbrev pub DriveTextEnds : Left → List ℕ → Given → Ends
+DriveTextEnds left text (given.Container bytes) = DriveBytesEnd left text bytes.now
+DriveTextEnds left text (given.Text plan) =
+    TextEnds text (λ a. PlanTextEnds plan.now (λ bytes. ContainerEnds bytes (λ kept.
+    DriveEnds left text bytes kept a)))
+
+-- the streams since this was taken
+abbrev pub since : Option (List ℕ) → Streams → Streams
+since taken s = record s { taken_old = taken }
+
+-- The drive breaks off, as this line tells: the sink failed while it was told that the run is ready;
+-- or after that the dialogue broke off.
+abbrev pub LedBreaks : Streams → List ℕ → List ℕ → Judged → List ℕ → Type 0
+LedBreaks s text bytes j line =
+    ((line ≡ output_failed) × HoldsFront s.taken_old s.taken_new (ready_text text bytes)
+    × (s.write_failed ≡ true))
+    ⊎ ((taken : Option (List ℕ)) × Appends s.taken_old taken (ready_text text bytes)
+    × ((fault : BenchFault) × (line ≡ complaint_of fault)
+    × ((old new : Driving) × IsReady j old
+    × BreaksDialogue DriveAnswers AsksNone old (since taken s) fault new)))
+
+-- the plan is accepted, and the drive breaks off
+abbrev pub DriveBreaks : Streams → List ℕ → List ℕ → ContainerView → Assembly → List ℕ → Type 0
+DriveBreaks s text bytes kept a line =
+    IsAccepted (judged kept a) × LedBreaks s text bytes (judged kept a) line
+
+-- the same of an assembly's text and a container's bytes
+abbrev pub DriveBytesBreak : Streams → List ℕ → List ℕ → List ℕ → Type 0
+DriveBytesBreak s text bytes line =
+    (a : Assembly) × IsText text a
+    × ((kept : ContainerView) × IsRead bytes kept × DriveBreaks s text bytes kept a line)
+
+-- the same of a plan that comes as a container or as a text
+abbrev pub DriveTextBreaks : Streams → List ℕ → Given → List ℕ → Type 0
+DriveTextBreaks s text (given.Container bytes) line = DriveBytesBreak s text bytes.now line
+DriveTextBreaks s text (given.Text plan) line =
+    (bytes : List ℕ) × IsAssembled plan.now bytes × DriveBytesBreak s text bytes line
+
+-- why it was not told that the run is ready: the sink failed, and holds a front of that; or memory
+-- was refused, and it was left alone
+abbrev pub FailsToBegin : {S : Type 0} → SinkView S → Lines S → Lines S → List ℕ → List ℕ → Type 0
+FailsToBegin sink before after ready line =
+    ((line ≡ output_failed) × HoldsFront (sink.taken before.sink) (sink.taken after.sink) ready
+    × (sink.has_failed after.sink ≡ true))
+    ⊎ ((line ≡ codes "no memory\n") × (after ≡ before))
