@@ -80,6 +80,7 @@ fn job_name(job: &Job<'_>) -> &'static str {
         Job::Run { .. } => "run",
         Job::Try { .. } => "try",
         Job::Step { .. } => "step",
+        Job::Drive { .. } => "drive",
         Job::Why { .. } => "why",
         Job::Trace { .. } => "trace",
         Job::Frames { .. } => "frames",
@@ -97,7 +98,8 @@ fn job_files<'a>(job: &Job<'a>) -> [&'a str; 3] {
         Job::Check { assembly, plan }
         | Job::Run { assembly, plan }
         | Job::Try { assembly, plan }
-        | Job::Step { assembly, plan } => [assembly, plan, ""],
+        | Job::Step { assembly, plan }
+        | Job::Drive { assembly, plan } => [assembly, plan, ""],
         Job::Why { assembly, text } | Job::Trace { assembly, text } => [assembly, text, ""],
         Job::Frames {
             assembly,
@@ -146,6 +148,7 @@ burr --help;burr -h;burr -h run;burr -hV;burr help
 >  run      Runs a plan that is accepted
 >  try      Runs a plan on the bench, without accepting it
 >  step     Goes through a plan that is accepted, step by step
+>  drive    Leads a gripper through a plan that is accepted, move by move
 >  why      Says why a plan text is refused, and which lines are at fault
 >  trace    Runs a plan text, and prints what holds at each label
 >  frames   Fills in frames that a plan text leaves out
@@ -325,6 +328,36 @@ $burr step --help
 >status is 0 whatever was refused. docs/STEPPER.md says more.
 >
 >Example: echo forward | ./burr step examples/cup.assembly /tmp/cup.bpln
+$burr drive --help
+>Leads a gripper through a plan that is accepted, move by move
+>
+>Usage: burr drive <ASSEMBLY> <PLAN>
+>
+>Arguments:
+>  <ASSEMBLY>  The assembly text
+>  <PLAN>      The container, or the plan text
+>
+>Options:
+>  -h, --help  Print help
+>
+>PLAN may be a plan text too, which is assembled. What `check` refuses is not
+>led: the refusal is printed, with status 1. Else `ready D` is printed, with the
+>SHA-256 of the assembly text and the container. Then commands are read from
+>standard input, one a line, and each is answered before the next one is read:
+>
+>  next        the next whole move, or a question, or the end
+>  answer Q N  gives the number N to question Q
+>  goto K      goes on to behind move K, and tells no move
+>  show        where the run stands, its slots, operands and pieces
+>  quit        the end; so is the end of the input
+>
+>A move is `move 1 t0 A +z 2 out t1 apart A,B`: what moves, and where it goes out
+>the tray it goes to, and which pieces are apart by it. A question is
+>`ask 1 0 2 proc 0 pc 7`, the end `end 14`. `refused answer` and `refused command`
+>change nothing. The status is 5 where a question is left open, and else 0.
+>docs/GRIPPER.md says more.
+>
+>Example: echo next | ./burr drive examples/cup.assembly examples/cup.plan
 $burr why --help
 >Says why a plan text is refused, and which lines are at fault
 >

@@ -14,6 +14,7 @@ pub enum Kind {
     Run,
     Try,
     Step,
+    Drive,
     Why,
     Trace,
     Frames,
@@ -150,6 +151,34 @@ status is 0 whatever was refused. docs/STEPPER.md says more.
 
 Example: echo forward | ./burr step examples/cup.assembly /tmp/cup.bpln",
         arguments: &[ASSEMBLY, PLAN],
+    },
+    Syntax {
+        kind: Kind::Drive,
+        name: "drive",
+        about: "Leads a gripper through a plan that is accepted, move by move",
+        after_help: "\
+PLAN may be a plan text too, which is assembled. What `check` refuses is not
+led: the refusal is printed, with status 1. Else `ready D` is printed, with the
+SHA-256 of the assembly text and the container. Then commands are read from
+standard input, one a line, and each is answered before the next one is read:
+
+  next        the next whole move, or a question, or the end
+  answer Q N  gives the number N to question Q
+  goto K      goes on to behind move K, and tells no move
+  show        where the run stands, its slots, operands and pieces
+  quit        the end; so is the end of the input
+
+A move is `move 1 t0 A +z 2 out t1 apart A,B`: what moves, and where it goes out
+the tray it goes to, and which pieces are apart by it. A question is
+`ask 1 0 2 proc 0 pc 7`, the end `end 14`. `refused answer` and `refused command`
+change nothing. The status is 5 where a question is left open, and else 0.
+docs/GRIPPER.md says more.
+
+Example: echo next | ./burr drive examples/cup.assembly examples/cup.plan",
+        arguments: &[
+            ASSEMBLY,
+            Argument::Word("PLAN", "The container, or the plan text"),
+        ],
     },
     Syntax {
         kind: Kind::Why,

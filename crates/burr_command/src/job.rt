@@ -43,6 +43,12 @@ pub enum Job<'a> {
         assembly: &'a str,
         plan: &'a str,
     },
+    /// Leads an accepted plan, a container or a plan text, move by move by the commands of standard
+    /// input.
+    Drive {
+        assembly: &'a str,
+        plan: &'a str,
+    },
     /// Says why a plan text is refused for an assembly.
     Why {
         assembly: &'a str,
@@ -160,6 +166,7 @@ fn job_with<'a>(kind: Kind, words: &ArgMatches<'a>, line: String) -> Option<Job<
         Kind::Run => of_plan.map(|(assembly, plan)| Job::Run { assembly, plan }),
         Kind::Try => of_plan.map(|(assembly, plan)| Job::Try { assembly, plan }),
         Kind::Step => of_plan.map(|(assembly, plan)| Job::Step { assembly, plan }),
+        Kind::Drive => of_plan.map(|(assembly, plan)| Job::Drive { assembly, plan }),
         Kind::Why => of_text.map(|(assembly, text)| Job::Why { assembly, text }),
         Kind::Trace => of_text.map(|(assembly, text)| Job::Trace { assembly, text }),
         Kind::Frames => Some(Job::Frames {

@@ -23,6 +23,9 @@ use Rattle.burr_judge.specs.PlanEnds.{Ends, PutsEnd, HoldsFrontOfEnd, PlanTextEn
 use Rattle.burr_program.specs.ExplainEnds.{ExplainEnds}
 use Rattle.burr_program.specs.MakingEnds.{MakesPlanOf}
 use Rattle.burr_program.specs.NotedEnds.{NotedEnds}
+use Rattle.burr_judge.specs.DriveEnds.{DriveTextEnds, DriveTextBreaks}
+use Rattle.burr_judge.specs.declared.ladder.Given.{Given}
+use Rattle.burr_judge.specs.Ladder.{IsGivenBy}
 use Rattle.burr_judge.specs.StepEnds.{Left, StepTextEnds, StepTextBreaks}
 
 -- What a command leaves on its sink
@@ -95,6 +98,16 @@ StepCommand left output status = (text bytes : List ℕ) × StepTextEnds left te
 abbrev pub StepCommandBreaks : Streams → List ℕ → Type 0
 StepCommandBreaks s line = (text bytes : List ℕ) × StepTextBreaks s text bytes line
 
+-- `drive`: a drive through some texts, and where it breaks off
+abbrev pub DriveCommand : Left → Ends
+DriveCommand left output status =
+    (text bytes : List ℕ) × (plan : Given) × IsGivenBy bytes plan
+    × DriveTextEnds left text plan output status
+
+abbrev pub DriveCommandBreaks : Streams → List ℕ → Type 0
+DriveCommandBreaks s line =
+    (text bytes : List ℕ) × (plan : Given) × IsGivenBy bytes plan × DriveTextBreaks s text plan line
+
 -- `why`: the judgement of a plan text, with notes
 abbrev pub WhyCommand : Ends
 WhyCommand output status = (text plan : List ℕ) × NotedEnds Check text plan [] output status
@@ -132,13 +145,15 @@ JobEnds left (jobs.Check assembly plan) = CheckCommand
 JobEnds left (jobs.Run assembly plan) = AnsweredCommand Run left
 JobEnds left (jobs.Try assembly plan) = AnsweredCommand Try left
 JobEnds left (jobs.Step assembly plan) = StepCommand left
+JobEnds left (jobs.Drive assembly plan) = DriveCommand left
 JobEnds left (jobs.Why assembly text) = WhyCommand
 JobEnds left (jobs.Trace assembly text) = TraceCommand left
 JobEnds left (jobs.Frames assembly text out) = DoneEnds
 JobEnds left (jobs.PlanSheet assembly sheet out) = PlanSheetCommand
 JobEnds left (jobs.Explain line) = ExplainEnds (string_bytes line)
 
--- where it breaks off: a dialogue alone
+-- where it breaks off: dialogues alone
 abbrev pub JobBreaks : Streams → Job → List ℕ → Type 0
 JobBreaks s (jobs.Step assembly plan) = StepCommandBreaks s
+JobBreaks s (jobs.Drive assembly plan) = DriveCommandBreaks s
 JobBreaks s job = never

@@ -3,6 +3,7 @@
 
 mod asm;
 mod check;
+mod drive;
 mod explain;
 mod frames;
 mod list;
@@ -25,6 +26,7 @@ use burr_command::Job;
 use burr_io::{Sink, Source, WholeLines};
 use burr_judge::{Fault, Status, Task};
 use check::check_files;
+use drive::drive_files;
 use explain::explain_line;
 use frames::frames_file;
 use list::list_file;
@@ -36,7 +38,8 @@ use trace::trace_files;
 use upgrade::upgrade_file;
 use why::why_files;
 
-/// Does a command's job, and puts what there is to print; `step` hands on each answer by itself.
+/// Does a command's job, and puts what there is to print; `step` and `drive` hand on each answer by
+/// themselves.
 pub fn put_job<'a, F: Files + AllocGlobal, R: Source, W: Sink, const N: usize>(
     files: &F,
     job: &'a Job<'_>,
@@ -57,6 +60,7 @@ pub fn put_job<'a, F: Files + AllocGlobal, R: Source, W: Sink, const N: usize>(
         Job::Run { assembly, plan } => { run_files(files, Task::Run, assembly, plan, source, sink) }
         Job::Try { assembly, plan } => { run_files(files, Task::Try, assembly, plan, source, sink) }
         Job::Step { assembly, plan } => step_files(files, assembly, plan, source, sink),
+        Job::Drive { assembly, plan } => drive_files(files, assembly, plan, source, sink),
         Job::Why { assembly, text } => why_files(files, assembly, text, sink),
         Job::Trace { assembly, text } => trace_files(files, assembly, text, source, sink),
         Job::Frames {

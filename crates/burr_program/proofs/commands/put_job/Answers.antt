@@ -25,6 +25,9 @@ returns-in-Try g c = rw c.in-Try.is c.run_files-in-Try.ensures
 pub returns-in-Step : goal.returns-in-Step
 returns-in-Step g c = rw c.in-Step.is c.step_files.ensures
 
+pub returns-in-Drive : goal.returns-in-Drive
+returns-in-Drive g c = rw c.in-Drive.is c.drive_files.ensures
+
 pub returns-in-Why : goal.returns-in-Why
 returns-in-Why g c = rw c.in-Why.is c.why_files.ensures
 
