@@ -14,8 +14,7 @@ use Rattle.burr_command.specs.declared.job.Job.{Job}
 use Rattle.burr_judge.specs.declared.fault.Fault.{Fault}
 use Rattle.burr_judge.specs.declared.status.Status.{Status}
 use Rattle.burr_judge.specs.Faults.{line_of, output_failed}
-use Rattle.burr_judge.specs.PlanEnds.{Ends, EndsOn, PutsEnd, HoldsFrontOfEnd, Ending, never}
-use Rattle.burr_judge.proofs.Common.Stages.{AreAmong}
+use Rattle.burr_judge.specs.PlanEnds.{Ends, PutsEnd, HoldsFrontOfEnd, Ending}
 use Rattle.burr_judge.specs.StepEnds.{left_by}
 use Rattle.burr_program.specs.Commands.{EndingBelow, StopsBelow, JobEnds, JobBreaks}
 use Rattle.burr_program.specs.Ends.{StopsJob}
