@@ -19,7 +19,7 @@ use crate::cases::runs::{
 };
 use crate::cases::states::STATES;
 use crate::tables::{How, Kind, assert_tables};
-pub use dialogues::{DIALOGUES, WANTING};
+pub use dialogues::{DIALOGUES, DRIVES, WANTING};
 pub use scripts::SCRIPTS;
 
 #[test]

@@ -15,6 +15,8 @@ mod cases;
 #[cfg(test)]
 mod damage;
 #[cfg(test)]
+mod drive;
+#[cfg(test)]
 mod looks;
 #[cfg(test)]
 mod machine;

@@ -8,6 +8,7 @@ use std::process::Abort;
 use std::rt::Files;
 
 mod bench;
+mod driving;
 mod examples;
 mod file_faults;
 mod files;

@@ -184,6 +184,75 @@ until 0 1=after 3 steps/
 until 0 1=after 5 steps/
 back 6=refused S4/";
 
+/// Dialogues with drives, as those above, without edits.
+pub const DRIVES: &str = "\
+duo | duo
+next=move 1 t0 A -x 0 out t1 apart A,B/
+next=end 3/
+next=end 3/
+goto 1=at 1/
+goto 2=end 3/
+goto 0=refused command/
+answer 1 0=refused answer/
+quit=
+
+duo | choice
+show=after 0 steps proc 0 pc 0/tray 0 grip -/slots - - - - - - - -/stack -/A tray 0 at 0 0 0/B tray 0 at 0 0 0/
+goto 0=at 0/
+goto 1=ask 1 0 1 proc 0 pc 0/
+next=ask 1 0 1 proc 0 pc 0/
+answer 1 2=refused answer/
+answer 1 -1=refused answer/
+answer 0 1=refused answer/
+answer 2 1=refused answer/
+answer 1 1=taken 1/
+answer 1 1=refused answer/
+next=move 1 t0 B +x 0 out t1 apart A,B/
+next=end 4/
+quit=
+
+cup | cup
+next=ask 1 0 2 proc 0 pc 5/
+next=ask 1 0 2 proc 0 pc 5/
+goto 0=at 0/
+answer 1 3=refused answer/
+answer 1 2=taken 1/
+show=after 2 steps proc 0 pc 10/tray 0 grip A/slots - - - - - - - -/stack 2/A tray 0 at 0 0 0/B tray 0 at 0 0 0/
+next=move 1 t0 A +z 2 out t1 apart A,B/
+goto 1=at 1/
+next=end 14/
+goto 4294967295=end 14/
+goto 4294967296=refused command/
+=refused command/
+ next=refused command/
+next =refused command/
+NEXT=refused command/
+next 1=refused command/
+back 1=refused command/
+forward=refused command/
+answer 1=refused command/
+answer 2=refused command/
+answer 2 0 0=refused command/
+answer 02 0=refused command/
+answer -1 0=refused command/
+answer 2 2147483648=refused command/
+answer 4294967296 0=refused command/
+goto=refused command/
+goto 01=refused command/
+goto -1=refused command/
+goto 1 =refused command/
+show 1=refused command/
+quit 1=refused command/
+quit=
+
+cup | lift
+goto 1=at 1/
+next=end 11/
+
+cup | lift
+next=move 1 t0 A +z 2 out t1 apart A,B/
+next=end 11/";
+
 /// A dialogue while memory is wanting here and there.
 pub const WANTING: &str = "\
 duo | duo code

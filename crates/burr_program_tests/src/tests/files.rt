@@ -19,6 +19,8 @@ burr try * duo.bpln
 burr try duo *
 burr step * duo.bpln
 burr step duo *
+burr drive * duo.bpln
+burr drive duo *
 burr why * duo.plan
 burr why duo *
 burr trace * duo.plan

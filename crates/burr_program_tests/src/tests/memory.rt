@@ -138,6 +138,8 @@ const WITH_FILES: &str = "\
 burr check cup cup.bpln
 burr run cup duo.bpln
 burr step cup cup.bpln
+burr drive cup cup.bpln
+burr drive cup cup.plan
 burr why cup cup.plan
 burr why cup duo.plan
 burr plan duo cup made

@@ -43,6 +43,7 @@ burr why cup cup.plan
 burr explain V15
 burr check cup cup.bpln
 burr step cup duo.bpln
+burr drive cup duo.bpln
 burr --help
 burr solve
 ";
@@ -116,6 +117,8 @@ burr run cup cup.bpln
 burr run cup duo.bpln
 burr try cup cup.bpln<2;
 burr step cup cup.bpln<forward;answer 1;show;
+burr drive cup cup.bpln<next;answer 1 1;next;show;
+burr drive cup cup.plan<next;next;
 burr step cup duo.bpln<forward;
 ";
 
