@@ -40,6 +40,9 @@ $burr drive cup cup.bpln
 const LEFT: &str = "\
 $burr drive cup cup.plan
 >ready b4fb2d488d4a4ecc8e0b80f745a8287728ee823a3297d7f0cd2022f79b647f65
+?5
+$burr drive duo duo.plan
+>ready 04628b243834a3e56bed450fddb3666a81111728c2465e0c897a015fe021392a
 ?0
 <next
 $burr drive cup cup.plan
