@@ -1,5 +1,6 @@
 -- What holds of each machine, which runs an accepted plan.
 use Rattle.burr_state.specs.Views.Benches.{Benched}
+use Rattle.burr_state.specs.Views.Programs.{FitsProgram}
 use Rattle.burr_bench.specs.Soundness.Machine.{IsSafeBench}
 use Rattle.burr_bench.specs.Sound.{IsSound}
 
@@ -8,3 +9,8 @@ use Rattle.burr_bench.specs.Sound.{IsSound}
 pub record IsSafe (b : Benched) : Type 0 where
   pub sound : IsSound b
   pub safe : IsSafeBench b
+
+-- a machine stands there, and its state is one of its program: so it can be suspended and gone on with
+pub record IsResumable (b : Benched) : Type 0 where
+  pub safe : IsSafe b
+  pub fits : FitsProgram b.program.procedures b.state

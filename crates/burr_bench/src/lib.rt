@@ -7,7 +7,9 @@ mod checked;
 mod laws;
 mod machine;
 
-pub use burr_state::{Bench, Closing, Motion, Progress, Trap, Undo};
+pub use burr_state::{
+    Bench, Closing, Motion, OwnedProgram, Program, Progress, Suspended, Trap, Undo,
+};
 pub use checked::Checked;
 pub use laws::{
     a_run_makes_no_more_steps_than_it_costs, a_well_framed_plan_runs_safely,

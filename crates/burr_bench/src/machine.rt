@@ -2,6 +2,7 @@ mod readers;
 mod recording;
 mod starting;
 mod stepping;
+mod suspending;
 
 use burr_assembly::Assembly;
 use burr_state::Bench;

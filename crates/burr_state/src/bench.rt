@@ -3,6 +3,7 @@ mod executing;
 mod questions;
 mod readers;
 mod starting;
+mod suspending;
 mod undoing;
 
 use crate::program::Program;

@@ -13,6 +13,7 @@ mod program;
 mod progress;
 mod shifting;
 mod state;
+mod suspended;
 mod trap;
 mod undo;
 
@@ -28,7 +29,9 @@ pub use laws::{
 };
 pub use mode::Mode;
 pub use motion::Motion;
+pub use program::{OwnedProgram, Program};
 pub use progress::Progress;
 pub use shifting::one_unit_on;
+pub use suspended::Suspended;
 pub use trap::Trap;
 pub use undo::Undo;

@@ -1,5 +1,6 @@
 //! What a bench runs.
 
+mod owned;
 mod reading;
 
 ghost use Rattle.std.specs.Prelude.{◌≡◌, ◌<◌, ◌≤◌, ◌↔◌, [], length, slice_get, IsTrue, MatchOption, None, Some};
@@ -10,6 +11,7 @@ ghost use Rattle.burr_state.specs.Views.Programs.{HasLabels};
 use arrayvec::ArrayVec;
 use burr_code::Labels;
 use burr_code::limits::{MOST_BUDGET, MOST_LABELS, MOST_PROCEDURES};
+pub use owned::OwnedProgram;
 use std::marker::Model;
 
 /// A procedure: its parameters and results, the positions of its labels, and its code.

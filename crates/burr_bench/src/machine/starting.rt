@@ -3,7 +3,9 @@ ghost use Rattle.burr_container.specs.Rules.Plans.{Plan};
 ghost use Rattle.burr_container.specs.Views.Containers.{IsContainer};
 ghost use Rattle.burr_state.specs.Views.Programs.{plan_program};
 ghost use Rattle.burr_verify.specs.Rules.Accepting.{IsAccepted};
-ghost use Rattle.burr_state.specs.Views.Benches.{IsAtStart};
+ghost use Rattle.burr_state.specs.Rules.Bench.{start};
+ghost use Rattle.burr_state.specs.Views.Benches.{IsAtStart, IsSameRun, in_state, setup_of};
+ghost use Rattle.burr_bench.specs.Soundness.Machine.{IsSafeBench};
 
 use crate::laws::an_accepted_bench_never_traps;
 use crate::machine::Machine;
@@ -25,5 +27,14 @@ impl<'a> Machine<'a> {
         let assembly = accepted.assembly();
         let bench = Bench::of(accepted.plan(), assembly.piece_count());
         Machine { bench, assembly }
+    }
+
+    /// Goes back to the start of the plan. That it runs safely from there is the caller's condition.
+    pub fn rewind(&mut self)
+        requires { IsSafeBench (in_state (start (setup_of self.old)) self.old) }
+        ensures same { IsSameRun self.old self.new }
+        ensures start { IsAtStart self.new }
+    {
+        self.bench.rewind(self.assembly.piece_count());
     }
 }

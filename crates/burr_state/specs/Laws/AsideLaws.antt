@@ -1,9 +1,9 @@
 -- What becomes of each piece where a group goes aside.
-use Rattle.std.specs.Prelude.{◌≡◌, ◌≢◌, ℕ, List, length, Some, slice_get}
+use Rattle.std.specs.Prelude.{◌≡◌, ◌≢◌, ℕ, List, length}
 use Rattle.burr_code.specs.PieceSets.{IsInSet}
 use Rattle.burr_code.specs.declared.placement.Placement.{Placement}
-use Rattle.burr_code.specs.declared.placement.Placement.TheVariants.{Apart}
 use Rattle.burr_code.specs.Places.{LiesAt, LiesIn, AllLieIn, IsPartOfTray, IsEmptyTray, count_in, aside_places}
+use Rattle.burr_state.specs.Rules.Space.{LiesApart}
 
 -- this one is so, and no other
 abbrev pub IsOnly : (ℕ → Type 0) → ℕ → Type 0
@@ -16,10 +16,6 @@ IsLoneGroup group p = IsOnly (λ q. IsInSet group q) p
 -- the rest of the tray, without the group, is this piece alone
 abbrev pub IsLoneRest : {Position : Type 0} → ℕ → List (Placement Position) → ℕ → ℕ → Type 0
 IsLoneRest group places tray p = IsOnly (λ q. LiesIn places q tray × (¬ IsInSet group q)) p
-
--- piece p is apart
-abbrev pub LiesApart : {Position : Type 0} → List (Placement Position) → ℕ → Type 0
-LiesApart places p = slice_get places p ≡ Some Apart
 
 -- no tray has exactly one piece: a tray in play keeps two
 abbrev pub NoneLone : {Position : Type 0} → List (Placement Position) → Type 0

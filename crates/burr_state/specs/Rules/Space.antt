@@ -1,6 +1,6 @@
 -- Instructions that move pieces: their traps in the order in which they are tried, and then the
 -- effect.
-use Rattle.std.specs.Prelude.{◌≢◌, ℕ, pos, List, Some, None, Bool, true, false}
+use Rattle.std.specs.Prelude.{◌≡◌, ◌≢◌, ℕ, pos, List, slice_get, Some, None, Bool, true, false}
 use Rattle.burr_text.specs.Checks.{needs}
 use Rattle.burr_voxels.specs.declared.cell.Cell.{Cell}
 use Rattle.burr_voxels.specs.declared.direction.Direction.{Direction}
@@ -11,12 +11,17 @@ use Rattle.burr_code.specs.declared.limits.TheConstants.{MOST_OFFSET}
 use Rattle.burr_code.specs.Instruction.{Grip, Step, Aside, Tray}
 use Rattle.burr_code.specs.PieceSets.{IsInSet}
 use Rattle.burr_code.specs.declared.placement.Placement.{Placement}
+use Rattle.burr_code.specs.declared.placement.Placement.TheVariants.{Apart}
 use Rattle.burr_code.specs.Places.{LiesAt, AllLieIn, at_position, changed, aside_places, IsPartOfTray, IsEmptyTray}
 use Rattle.burr_assembly.specs.Rules.Homes.{HasHome}
 use Rattle.burr_state.specs.declared.trap.Trap.TheVariants as traps
 use Rattle.burr_state.specs.declared.motion.Motion.{Motion}
 use Rattle.burr_state.specs.Rules.Bench.{BenchState, Setup}
 use Rattle.burr_state.specs.Rules.Next.{Next, Traps, goes, after}
+
+-- piece p is apart
+abbrev pub LiesApart : {Position : Type 0} → List (Placement Position) → ℕ → Type 0
+LiesApart places p = slice_get places p ≡ Some Apart
 
 -- no two pieces of this tray overlap
 abbrev pub NoOverlapIn : List (List Cell) → List (Placement Cell) → ℕ → Type 0

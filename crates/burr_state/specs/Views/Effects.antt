@@ -1,6 +1,6 @@
 -- What the code's instructions came to.
 use Rattle.std.specs.Prelude.{◌≡◌, ◌⊎◌, ◌+◌, ◌-◌, ◌≤◌, ◌++◌, ℕ, ℤ, pos, List, [], ◌∷◌, map, take, drop, length, replicate, Bool, true, false, Option, Some, None, Result, MatchResult, Ok, Err, slice_get}
-use Rattle.burr_code.specs.Instruction.{Instruction, Ask}
+use Rattle.burr_code.specs.Instruction.{Ask}
 use Rattle.burr_code.specs.Places.{AllLieIn}
 use Rattle.burr_code.specs.Stacks.{top_many}
 use Rattle.burr_code.specs.Labels.{argument_slots}

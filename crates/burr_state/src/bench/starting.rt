@@ -5,6 +5,7 @@ ghost use Rattle.burr_container.specs.Views.Containers.{IsContainer};
 ghost use Rattle.burr_state.specs.Rules.Bench.{bare_program};
 ghost use Rattle.burr_state.specs.Views.Programs.{plan_program};
 ghost use Rattle.burr_state.specs.Views.StateViews.{at_start};
+ghost use Rattle.burr_state.specs.Views.Work.{work};
 
 use crate::bench::Bench;
 use crate::program::Program;
@@ -32,6 +33,14 @@ impl<'a> Bench<'a> {
         ensures start { result.state ≡ at_start pieces }
     {
         Bench::start(Program::bare(code), pieces)
+    }
+
+    /// Goes back to before the first step of the program, with this many pieces.
+    pub fn rewind(&mut self, pieces: u8)
+        requires { pieces ≤ 32 }
+        ensures { self.new ≡ work self.old.program (at_start pieces) }
+    {
+        self.state = BenchState::start(pieces);
     }
 
     /// A program before its first step.

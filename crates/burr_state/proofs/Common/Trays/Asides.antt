@@ -9,7 +9,8 @@ use Rattle.burr_code.specs.declared.placement.Placement.{Placement}
 use Rattle.burr_code.specs.declared.placement.Placement.TheVariants.{Apart, On}
 use Rattle.burr_code.specs.Places.{LiesAt, LiesIn, AllLieIn, IsPartOfTray, IsEmptyTray, changed, to_tray, count_in, parted, aside_places}
 use Rattle.burr_code.proofs.Common.PieceSets.{decide_bit}
-use Rattle.burr_state.specs.Laws.AsideLaws.{LiesApart, NoneLone, CanGoAside, IsGoneAside}
+use Rattle.burr_state.specs.Laws.AsideLaws.{NoneLone, CanGoAside, IsGoneAside}
+use Rattle.burr_state.specs.Rules.Space.{LiesApart}
 use Rattle.burr_code.proofs.Common.Conditions.{same_tray, same_position}
 use Rattle.burr_state.proofs.Common.Trays.Counts.{changed_place, is_changed, is_kept, changed_back, lies_still_at, lies_still, lies_there_at, lies_there, apart_still, group_taken, count_in-third}
 use Rattle.burr_state.proofs.Common.Trays.Lone.{one_where_lone, lone_where_one, parted_place, slice_get-parted, parted_back, parted_place-apart, parted_place-other, parted_place-lone, parted_place-kept, not_lone_parted, count_in-parted}
