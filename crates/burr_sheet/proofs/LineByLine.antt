@@ -8,9 +8,9 @@ use Rattle.burr_state.specs.declared.motion.Motion.{Motion}
 use Rattle.burr_sheet.specs.declared.motion_lines.MotionLine.{MotionLine}
 use Rattle.burr_state.specs.Rules.Motions.{IsMotionOf}
 use Rattle.burr_sheet.specs.Rules.Expanding.{AreLinesOf}
-use Rattle.burr_sheet.specs.Rules.SheetText.{MoveLine, longest_lines, move_line, move_lines, motion_lines}
+use Rattle.burr_sheet.specs.Rules.SheetText.{MoveLine, longest_lines, move_line, move_lines, motion_lines, motion_count, motions_of}
 use Rattle.burr_sheet.specs.Laws.SheetLaws.{OneListOfMotions}
-use Rattle.burr_sheet.specs.Views.MotionLines.{BeginsWithLine, IsLineOf, joins, joins_last, line_of, motion_count, motions_of}
+use Rattle.burr_sheet.specs.Views.MotionLines.{BeginsWithLine, IsLineOf, joins, joins_last, line_of}
 use Rattle.burr_sheet.proofs.GroupNames.{AreNames, names_of_assembly}
 use Rattle.burr_sheet.proofs.Common.LineMotions.{BeginsWith, begins_with, each_of, is_line_of, length-motions_of, longest_lines-first, none_of_none}
 use Rattle.burr_sheet.proofs.LineTexts.{one_line}

@@ -13,9 +13,9 @@ use Rattle.burr_text.specs.Words.{IsCutAt}
 use Rattle.burr_text.proofs.Common.Cuts.{Lacks, cut, lacks, contains_cut}
 use Rattle.burr_text.proofs.Common.Unended.{AreDigits, decimal_is_digits, lacks_append, lacks_join, lacks_decimal}
 use Rattle.burr_text.specs.Names.{IsName}
-use Rattle.burr_sheet.specs.Rules.SheetText.{MoveLine, names_from, move_line}
+use Rattle.burr_sheet.specs.Rules.SheetText.{MoveLine, names_from, move_line, motion_count}
 use Rattle.burr_sheet.specs.declared.motion_lines.LineWords.{LineWords}
-use Rattle.burr_sheet.specs.Views.MotionLines.{ArePlain, AreWordsOf, IsLineOf, motion_count, ending_text, group_text, words_text}
+use Rattle.burr_sheet.specs.Views.MotionLines.{ArePlain, AreWordsOf, IsLineOf, ending_text, group_text, words_text}
 use Rattle.burr_sheet.proofs.LineWords.{move_line-parts}
 use Rattle.burr_sheet.proofs.GroupNames.{AreNames, each_lacks, each_from, one_group, lacks_not}
 

@@ -2,9 +2,8 @@
 use Rattle.std.proofs.Common.{◌≡◌, ◌+◌, ◌<◌, List, [], ◌∷◌, ◌++◌, Bool, true, false, refl, sym, ap, subst, ◌∙◌, append-nil, arith}
 use Rattle.std.specs.Prelude.{flat_map, if◌then◌else◌}
 use Rattle.burr_state.specs.declared.motion.Motion.{Motion}
-use Rattle.burr_sheet.specs.Rules.SheetText.{MoveLine, alone, goes_onto, with_motion, longest_lines}
+use Rattle.burr_sheet.specs.Rules.SheetText.{MoveLine, alone, goes_onto, with_motion, longest_lines, motions_of}
 use Rattle.burr_sheet.specs.Laws.SheetLaws.{AreLongest, LinesAreLongest}
-use Rattle.burr_sheet.specs.Views.MotionLines.{motions_of}
 use Rattle.burr_sheet.proofs.GrowingLines.{goes_onto-step, with_motion-joined, with_motion-apart}
 use Rattle.burr_sheet.proofs.Common.LineMotions.{alone_motions, longer_motions}
 

@@ -4,8 +4,8 @@ ghost use Rattle.std.specs.Prelude.{◌≡◌, ◌≤◌, ◌+◌, ◌++◌, ◌
 ghost use Rattle.burr_assembly.specs.Rules.Homes.{names_of};
 ghost use Rattle.burr_state.specs.declared.motion.Motion.{Motion as MotionOf};
 ghost use Rattle.burr_sheet.specs.Rules.Expanding.{AreLinesOf};
-ghost use Rattle.burr_sheet.specs.Rules.SheetText.{MoveLine, move_line};
-ghost use Rattle.burr_sheet.specs.Views.MotionLines.{BeginsWithLine, IsLineOf, joins_last, line_of, motion_count, motions_of, AreWordsOf, motion_on, ArePlain, IsCutInto, ending_text, words_text, IsFirstName, group_text};
+ghost use Rattle.burr_sheet.specs.Rules.SheetText.{MoveLine, move_line, motion_count, motions_of, motion_on};
+ghost use Rattle.burr_sheet.specs.Views.MotionLines.{BeginsWithLine, IsLineOf, joins_last, line_of, AreWordsOf, ArePlain, IsCutInto, ending_text, words_text, IsFirstName, group_text};
 
 use crate::laws::a_reference_holds_an_assembly;
 use burr_assembly::Assembly;

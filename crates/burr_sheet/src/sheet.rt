@@ -2,8 +2,8 @@ ghost use Rattle.std.specs.Prelude.{◌≡◌, ◌+◌, ◌<◌, ◌≤◌, [], 
 ghost use Rattle.burr_io.specs.Sink.{Puts};
 ghost use Rattle.burr_code.specs.declared.limits.TheConstants.{MOST_BUDGET};
 ghost use Rattle.burr_assembly.specs.Rules.Homes.{names_of};
-ghost use Rattle.burr_sheet.specs.Rules.SheetText.{alone, move_line, names_from, out_word, closing_line, levels_line};
-ghost use Rattle.burr_sheet.specs.Views.SheetUnderWay.{blank, still, outs_of, growing_text, move_line_of, is_one, KeepsCounts, OnUnfailed, PutsBefore, PutsMotion, FailsInMotion, StaysUnfailed};
+ghost use Rattle.burr_sheet.specs.Rules.SheetText.{alone, move_line, names_from, out_word, closing_line, levels_line, is_one};
+ghost use Rattle.burr_sheet.specs.Views.SheetUnderWay.{blank, still, outs_of, growing_text, move_line_of, KeepsCounts, OnUnfailed, PutsBefore, PutsMotion, FailsInMotion, StaysUnfailed};
 ghost use Rattle.std.specs.List.{join_with_byte};
 ghost use Rattle.burr_voxels.specs.Grid.{name_of};
 ghost use Rattle.burr_text.specs.Words.{text_line};

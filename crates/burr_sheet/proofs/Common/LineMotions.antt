@@ -8,8 +8,8 @@ use Rattle.burr_voxels.specs.declared.direction.Direction.{Direction}
 use Rattle.burr_voxels.specs.Grid.{number_of}
 use Rattle.burr_state.specs.declared.motion.Motion.{Motion}
 use Rattle.burr_state.specs.Rules.Motions.{IsMotionOf}
-use Rattle.burr_sheet.specs.Rules.SheetText.{MoveLine, alone, goes_onto, with_motion, longest_lines}
-use Rattle.burr_sheet.specs.Views.MotionLines.{IsLineOf, aside_of, joins, motion_count, motion_on, motions_of}
+use Rattle.burr_sheet.specs.Rules.SheetText.{MoveLine, alone, goes_onto, with_motion, longest_lines, aside_of, motion_count, motion_on, motions_of}
+use Rattle.burr_sheet.specs.Views.MotionLines.{IsLineOf, joins}
 use Rattle.burr_sheet.proofs.GrowingLines.{same_number, goes_onto-alike, with_motion-joined, with_motion-apart, with_motion-out}
 
 -- the line with this many units, which an aside ends or not

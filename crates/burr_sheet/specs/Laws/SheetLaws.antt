@@ -9,9 +9,7 @@ use Rattle.burr_state.specs.declared.closing.Closing.{Closing}
 use Rattle.burr_state.specs.Rules.Bench.{Program, running, start}
 use Rattle.burr_state.specs.Rules.Run.{Run}
 use Rattle.burr_sheet.specs.Rules.Expanding.{AreLinesOf}
-use Rattle.burr_sheet.specs.Rules.SheetText.{MoveLine, sheet, closing_line, longest_lines, motion_lines}
-use Rattle.burr_sheet.specs.Views.MotionLines.{motion_count, motions_of}
-use Rattle.burr_sheet.specs.Views.SheetUnderWay.{is_one}
+use Rattle.burr_sheet.specs.Rules.SheetText.{MoveLine, sheet, closing_line, longest_lines, motion_lines, motion_count, motions_of, is_one}
 
 -- a closing line is one line
 abbrev pub ClosesInOneLine : Type 0

@@ -1,5 +1,5 @@
 -- The sheet of a run: its motions in lines, the levels, and how it closed.
-use Rattle.std.specs.Prelude.{ℕ, suc, ◌+◌, List, [], ◌∷◌, ◌++◌, Bool, ◌&&◌, not, ◌==◌, if◌then◌else◌, codes, map, decimal}
+use Rattle.std.specs.Prelude.{ℕ, suc, ◌+◌, List, [], ◌∷◌, ◌++◌, Bool, true, false, ◌&&◌, not, ◌==◌, if◌then◌else◌, codes, map, decimal, replicate}
 use Rattle.std.specs.List.{join_with_byte}
 use Rattle.std.specs.Fmt.{signed_decimal}
 use Rattle.burr_text.specs.Words.{text_line}
@@ -30,6 +30,29 @@ alone m = record {
   units = if m.out then 0 else 1;
   out = m.out;
 }
+
+-- a motion of a line: a step, or an aside
+abbrev pub motion_on : MoveLine → Bool → Motion
+motion_on l out =
+    record { group = l.group; tray = l.tray; dir = l.direction; out = out }
+
+-- the aside of a line, if it ends in one
+abbrev pub aside_of : MoveLine → List Motion
+aside_of l = if l.out then (motion_on l true ∷ []) else []
+
+-- the motions of a line: its steps, and the aside
+abbrev pub motions_of : MoveLine → List Motion
+motions_of l = replicate l.units (motion_on l false) ++ aside_of l
+
+-- how many motions a line has
+abbrev pub motion_count : MoveLine → ℕ
+motion_count l = l.units + (if l.out then 1 else 0)
+
+-- a line that does not end in an aside and the one after it are of one group, tray and direction
+abbrev pub is_one : MoveLine → MoveLine → Bool
+is_one l m =
+    (l.group == m.group) && (l.tray == m.tray)
+    && (number_of l.direction == number_of m.direction)
 
 -- A motion goes onto the line after it where group, tray and direction are equal and it is no
 -- aside.

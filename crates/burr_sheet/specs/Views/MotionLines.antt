@@ -1,14 +1,13 @@
 -- Lines of a text: their words, and the motions that they stand for.
-use Rattle.std.specs.Prelude.{◌≡◌, ◌≢◌, ℕ, ◌+◌, ◌<◌, ◌≤◌, ◌^◌, List, [], ◌∷◌, ◌++◌, Bool, true, false, Option, Some, None, codes, decimal, length, replicate, Contains, if◌then◌else◌}
+use Rattle.std.specs.Prelude.{◌≡◌, ◌≢◌, ℕ, ◌<◌, ◌≤◌, ◌^◌, List, [], ◌∷◌, ◌++◌, Bool, false, Option, Some, None, codes, decimal, length, Contains}
 use Rattle.std.specs.Borrow.{Bor}
 use Rattle.std.specs.List.{join_with_byte}
 use Rattle.burr_text.specs.Words.{IsCutAt}
 use Rattle.burr_voxels.specs.Grid.{name_of}
 use Rattle.burr_code.specs.declared.limits.TheConstants.{MOST_BUDGET, TRAYS}
-use Rattle.burr_state.specs.declared.motion.Motion.{Motion}
 use Rattle.burr_sheet.specs.declared.motion_lines.MotionLine.{MotionLine}
 use Rattle.burr_sheet.specs.declared.motion_lines.LineWords.{LineWords}
-use Rattle.burr_sheet.specs.Rules.SheetText.{MoveLine, goes_onto, names_from, out_word, move_line}
+use Rattle.burr_sheet.specs.Rules.SheetText.{MoveLine, goes_onto, motion_count, motion_on, names_from, out_word, move_line}
 
 -- The motions of a line
 
@@ -21,23 +20,6 @@ line_of l = record {
   units = l.units;
   out = l.out;
 }
-
--- a motion of a line: a step, or an aside
-abbrev pub motion_on : MoveLine → Bool → Motion
-motion_on l out =
-    record { group = l.group; tray = l.tray; dir = l.direction; out = out }
-
--- the aside of a line, if it ends in one
-abbrev pub aside_of : MoveLine → List Motion
-aside_of l = if l.out then (motion_on l true ∷ []) else []
-
--- the motions of a line: its steps, and the aside
-abbrev pub motions_of : MoveLine → List Motion
-motions_of l = replicate l.units (motion_on l false) ++ aside_of l
-
--- how many motions a line has
-abbrev pub motion_count : MoveLine → ℕ
-motion_count l = l.units + (if l.out then 1 else 0)
 
 -- the last motion of the first line goes onto the next, so that they are one
 abbrev pub joins : MoveLine → List MoveLine → Bool

@@ -1,12 +1,11 @@
 -- A sheet under way: its motions come one at a time, and what they close is written at once.
-use Rattle.std.specs.Prelude.{◌≡◌, ◌≢◌, ℕ, ◌+◌, ◌≤◌, ◌==◌, ◌&&◌, List, [], ◌∷◌, ◌++◌, Bool, true, false, Option, Some, None, MatchOption, if◌then◌else◌}
+use Rattle.std.specs.Prelude.{◌≡◌, ◌≢◌, ℕ, ◌+◌, ◌≤◌, List, [], ◌∷◌, ◌++◌, Bool, true, false, Option, Some, None, MatchOption, if◌then◌else◌}
 use Rattle.burr_io.specs.Sink.{SinkView, Takes, FailsWithin}
-use Rattle.burr_voxels.specs.Grid.{number_of}
 use Rattle.burr_code.specs.declared.limits.TheConstants.{MOST_BUDGET}
 use Rattle.burr_state.specs.declared.motion.Motion.{Motion}
 use Rattle.burr_state.specs.declared.closing.Closing.{Closing}
 use Rattle.burr_sheet.specs.declared.sheet.GrowingLine.{GrowingLine}
-use Rattle.burr_sheet.specs.Rules.SheetText.{MoveLine, with_motion, longest_lines, levels_from, move_lines, levels_line, closing_line}
+use Rattle.burr_sheet.specs.Rules.SheetText.{MoveLine, is_one, with_motion, longest_lines, levels_from, move_lines, levels_line, closing_line}
 
 -- how far a sheet is
 pub record UnderWay : Type 0 where
@@ -36,12 +35,6 @@ blank names = record {
   motions = 0;
   failed = false;
 }
-
--- the growing line and the first of those that follow are one
-abbrev pub is_one : MoveLine → MoveLine → Bool
-is_one l m =
-    (l.group == m.group) && (l.tray == m.tray)
-    && (number_of l.direction == number_of m.direction)
 
 -- the growing line with the lines that follow
 abbrev pub with_growing : Option MoveLine → List MoveLine → List MoveLine

@@ -1,6 +1,7 @@
 use Rattle.std.proofs.Common.{◌≡◌, ◌+◌, ◌<◌, ◌≤◌, length, ap, arith, rules}
 use Rattle.burr_code.specs.declared.limits.TheConstants.{MOST_BUDGET}
-use Rattle.burr_sheet.specs.Views.MotionLines.{line_of, motion_count}
+use Rattle.burr_sheet.specs.Views.MotionLines.{line_of}
+use Rattle.burr_sheet.specs.Rules.SheetText.{motion_count}
 use Rattle.burr_sheet.proofs.LineByLine.{expands_none, expands_line}
 use Rattle.burr_sheet.proofs.motion_lines.expand.Goals as goal
 

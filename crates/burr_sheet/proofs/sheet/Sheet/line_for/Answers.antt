@@ -1,6 +1,6 @@
 use Rattle.std.proofs.Common.{◌≡◌, true, false, refl, ap, sym, ◌∙◌, rules}
-use Rattle.burr_sheet.specs.Rules.SheetText.{alone}
-use Rattle.burr_sheet.specs.Views.SheetUnderWay.{move_line_of, is_one}
+use Rattle.burr_sheet.specs.Rules.SheetText.{alone, is_one}
+use Rattle.burr_sheet.specs.Views.SheetUnderWay.{move_line_of}
 use Rattle.burr_sheet.specs.Views.SheetView.{growing_of, under_way}
 use Rattle.burr_text.proofs.Common.Tests.{on_err}
 use Rattle.burr_sheet.proofs.Motions.{PutsBefore-fresh, ClosesBefore-other, FailsInMotion-other}
