@@ -8,9 +8,6 @@ use burr_verify::accept;
 use std::alloc::AllocError;
 use std::io::Cursor;
 
-/// The stepper of a plan whose pieces' cells are compared.
-type Steps<'s, 'a, 'c, 'b> = Stepper<'s, 'a, 'c, PlainCells<'b>>;
-
 pub fn stepper_is_made(kit: &Kit<'_>) -> Result<bool, AllocError> {
     let cells = PlainCells::new(&kit.assembly);
     let Ok(accepted) = accept(&kit.container, &cells) else {
@@ -54,12 +51,12 @@ fn is_answered(kit: &Kit<'_>, way: Way) -> Result<bool, AllocError> {
 }
 
 /// Whether a stepper stands at the question, which comes after two steps.
-fn is_asked(stepper: &Steps<'_, '_, '_, '_>) -> bool {
+fn is_asked(stepper: &Stepper<'_>) -> bool {
     stepper.steps() == 2 && stepper.asks() == Some((0, 2))
 }
 
 /// Answers the question with 1; whether that is taken.
-fn answer(stepper: &mut Steps<'_, '_, '_, '_>, way: Way) -> Result<bool, AllocError> {
+fn answer(stepper: &mut Stepper<'_>, way: Way) -> Result<bool, AllocError> {
     match way {
         Way::Answer => match stepper.answer(1) {
             Ok(()) => Ok(true),
@@ -71,7 +68,7 @@ fn answer(stepper: &mut Steps<'_, '_, '_, '_>, way: Way) -> Result<bool, AllocEr
 }
 
 /// The same by a command; whether what it puts is right. Nothing is put where memory is wanting.
-fn answer_by_command(stepper: &mut Steps<'_, '_, '_, '_>) -> Result<bool, AllocError> {
+fn answer_by_command(stepper: &mut Stepper<'_>) -> Result<bool, AllocError> {
     let mut room = [0u8; 16];
     let mut text = Cursor::new(room.as_mut_slice());
     let taken = stepper.command(b"answer 1", &mut Writing::new(&mut text));

@@ -16,9 +16,6 @@ use std::alloc::{AllocError, Global};
 use std::io::{Cursor, Write};
 use std::process::Abort;
 
-/// The stepper of a plan for an assembly that has rows of bits.
-type Steps<'s, 'a, 'c, 'b> = Stepper<'s, 'a, 'c, RowTables<'b>>;
-
 #[test]
 fn puts_what_each_command_comes_to(rt: HostRuntime) {
     for dialogue in DIALOGUES.split("\n\n") {
@@ -51,7 +48,7 @@ fn assert_steps(rt: &impl Abort, alloc: Global, rows: &RowTables<'_>, bytes: &[u
 }
 
 /// Asserts a line of a dialogue: how a command is given, the command, and what is put.
-fn assert_line(rt: &impl Abort, alloc: Global, stepper: &mut Steps<'_, '_, '_, '_>, line: &str) {
+fn assert_line(rt: &impl Abort, alloc: Global, stepper: &mut Stepper<'_>, line: &str) {
     let (given, wanted) = line.split_once('=').expect(rt, "what is put");
     let (how, words) = given.split_once(": ").unwrap_or(("", given));
     let wanted = lines_of(rt, alloc, wanted);
@@ -68,7 +65,7 @@ fn assert_line(rt: &impl Abort, alloc: Global, stepper: &mut Steps<'_, '_, '_, '
 
 /// Takes a command and puts what it comes to.
 fn put<W: Write>(
-    stepper: &mut Steps<'_, '_, '_, '_>,
+    stepper: &mut Stepper<'_>,
     line: &[u8],
     writer: &mut W,
 ) -> Result<bool, StepFault> {
@@ -76,7 +73,7 @@ fn put<W: Write>(
 }
 
 /// Whether a command puts this: nothing where no more lines are taken.
-fn puts(alloc: Global, stepper: &mut Steps<'_, '_, '_, '_>, line: &[u8], wanted: &str) -> bool {
+fn puts(alloc: Global, stepper: &mut Stepper<'_>, line: &[u8], wanted: &str) -> bool {
     let mut written = Vec::new(alloc);
     let told = put(stepper, line, &mut written);
     told == Ok(!wanted.is_empty()) && written.as_slice() == wanted.as_bytes()
@@ -84,12 +81,7 @@ fn puts(alloc: Global, stepper: &mut Steps<'_, '_, '_, '_>, line: &[u8], wanted:
 
 /// Whether a command of one step or none puts this, and a sink that fails has the front of it that
 /// it has room for; the command counts as taken all the same.
-fn puts_fronts(
-    alloc: Global,
-    stepper: &mut Steps<'_, '_, '_, '_>,
-    line: &[u8],
-    wanted: &str,
-) -> bool {
+fn puts_fronts(alloc: Global, stepper: &mut Stepper<'_>, line: &[u8], wanted: &str) -> bool {
     let before = stepper.steps();
     let is_right = puts(alloc, stepper, line, wanted);
     let after = stepper.steps();
@@ -107,12 +99,7 @@ fn puts_fronts(
 }
 
 /// Whether of what a command puts a sink has this front, and then fails.
-fn puts_front(
-    alloc: Global,
-    stepper: &mut Steps<'_, '_, '_, '_>,
-    line: &[u8],
-    front: &[u8],
-) -> bool {
+fn puts_front(alloc: Global, stepper: &mut Stepper<'_>, line: &[u8], front: &[u8]) -> bool {
     let mut writer = Narrow::new(alloc, front.len(), None);
     let told = put(stepper, line, &mut writer);
     told == Err(StepFault::Write) && writer.taken.as_slice() == front
@@ -120,7 +107,7 @@ fn puts_front(
 
 /// Whether a command to answer wants memory while all of it is held, and then puts nothing, and makes
 /// no step; and the stepper's own call does, too.
-fn wants_memory(stepper: &mut Steps<'_, '_, '_, '_>, line: &[u8], hog: MemoryHog) -> bool {
+fn wants_memory(stepper: &mut Stepper<'_>, line: &[u8], hog: MemoryHog) -> bool {
     let (steps, asks) = (stepper.steps(), stepper.asks());
     let mut room = [0u8; 40];
     let mut written = Cursor::new(room.as_mut_slice());
@@ -133,12 +120,7 @@ fn wants_memory(stepper: &mut Steps<'_, '_, '_, '_>, line: &[u8], hog: MemoryHog
 }
 
 /// Whether a command puts this while all memory is held.
-fn puts_poorly(
-    stepper: &mut Steps<'_, '_, '_, '_>,
-    line: &[u8],
-    wanted: &str,
-    hog: MemoryHog,
-) -> bool {
+fn puts_poorly(stepper: &mut Stepper<'_>, line: &[u8], wanted: &str, hog: MemoryHog) -> bool {
     let mut room = [0u8; 128];
     let mut written = Cursor::new(room.as_mut_slice());
     let told = put(stepper, line, &mut written);
@@ -148,11 +130,7 @@ fn puts_poorly(
 }
 
 /// What a call of the stepper's own tells, how many steps it has made then, and what it asks.
-fn told(
-    alloc: Global,
-    stepper: &mut Steps<'_, '_, '_, '_>,
-    call: &str,
-) -> Result<String, AllocError> {
+fn told(alloc: Global, stepper: &mut Stepper<'_>, call: &str) -> Result<String, AllocError> {
     let told = match call {
         "forward" => stepper.forward(),
         "answer 1" => stepper.answer(1),

@@ -11,7 +11,7 @@ use Rattle.burr_code.specs.declared.placement.Placement.{Placement}
 use Rattle.burr_code.specs.declared.placement.Placement.TheVariants.{Apart}
 use Rattle.burr_code.specs.PieceSets.{IsInSet}
 use Rattle.burr_code.proofs.Common.PieceSets.{decide_bit}
-use Rattle.burr_state.specs.Laws.AsideLaws.{LiesApart}
+use Rattle.burr_state.specs.Rules.Space.{LiesApart}
 use Rattle.burr_state.specs.Rules.Bench.{BenchState}
 use Rattle.burr_step.specs.Rules.Moves.{AreApartBy}
 use Rattle.burr_step.specs.Views.Driving.{AreApart}

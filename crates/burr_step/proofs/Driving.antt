@@ -13,12 +13,11 @@ use Rattle.burr_code.specs.declared.limits.TheConstants.{MOST_BUDGET}
 use Rattle.burr_container.proofs.Common.Containers.{plan_fits}
 use Rattle.burr_bench.specs.Soundness.Machine.{IsSafeBench}
 use Rattle.burr_bench.proofs.Common.Machine.{budgeted}
-use Rattle.burr_sheet.specs.Views.MotionLines.{motions_of}
+use Rattle.burr_sheet.specs.Rules.SheetText.{motions_of}
 use Rattle.burr_sheet.proofs.Common.LineMotions.{length-motions_of}
 use Rattle.burr_step.specs.declared.drive.Move.{Move}
 use Rattle.burr_step.specs.Rules.Stepper.{Leads, stays as here, goes, takes, history, IsStateOf}
-use Rattle.burr_step.specs.Rules.Moves.{Makes, stays, makes, Rests, ComesToRest, line_of, MakesMove, MakesMoves, rests, moves, IsLed, leg, asked}
-use Rattle.burr_step.specs.Laws.MoveLaws.{moves_of}
+use Rattle.burr_step.specs.Rules.Moves.{Makes, stays, makes, Rests, ComesToRest, line_of, MakesMove, MakesMoves, rests, moves, IsLed, leg, asked, moves_of}
 use Rattle.burr_step.specs.Rules.Drive.{Led, Moves, GoesTo}
 use Rattle.burr_step.specs.Views.Driving.{Driving, driving, IsDriving, Goes}
 use Rattle.burr_step.specs.Views.Stepping.{stepping, IsUnderWay}
@@ -28,7 +27,7 @@ use Rattle.burr_step.proofs.UnderWay.{is_safe, same_run, same_setup}
 
 -- Steps that are counted
 
--- as many steps, with these answers, and at least so many
+-- steps with these answers, and at least this many
 pub record LeadsBy (setup : Setup) (s : BenchState) (least : ℕ) (answers : List ℤ) (last : BenchState) : Type 0 where
   pub steps : ℕ
   pub leads : Leads setup s steps answers last

@@ -19,15 +19,15 @@ use Rattle.burr_state.proofs.Common.CallLaws.{run_is_calls}
 use Rattle.burr_state.proofs.Common.StepCalls.{runs_where_went, same_answered}
 use Rattle.burr_bench.specs.Soundness.Machine.{IsSafeBench}
 use Rattle.burr_bench.proofs.Common.Machine.{budgeted, call_is_safe}
-use Rattle.burr_sheet.specs.Views.MotionLines.{motion_count, motions_of}
+use Rattle.burr_sheet.specs.Rules.SheetText.{motion_count, motions_of}
 use Rattle.burr_sheet.proofs.Common.LineMotions.{length-motions_of}
 use Rattle.burr_step.specs.declared.drive.Halt.{Halt}
 use Rattle.burr_step.specs.declared.drive.Halt.TheVariants as halts
 use Rattle.burr_step.specs.declared.drive.Move.{Move}
 use Rattle.burr_step.specs.Rules.Stepper.{IsHalted}
-use Rattle.burr_step.specs.Rules.Moves.{Makes, stays, makes, ComesToRest, line_of, MakesMove, MakesMoves, rests, moves, IsLed, leg, asked}
+use Rattle.burr_step.specs.Rules.Moves.{Makes, stays, makes, ComesToRest, line_of, MakesMove, MakesMoves, rests, moves, IsLed, leg, asked, moves_of}
 use Rattle.burr_step.specs.Rules.Drive.{led, HaltsAt}
-use Rattle.burr_step.specs.Laws.MoveLaws.{motions_made, moves_of, AreNumbered, MovesAreNumbered, MovesAreTheRuns, closing_of, LieWell, HaltIsTheClose, MoreAnswersGoOn}
+use Rattle.burr_step.specs.Laws.MoveLaws.{motions_made, AreNumbered, MovesAreNumbered, MovesAreTheRuns, closing_of, LieWell, HaltIsTheClose, MoreAnswersGoOn}
 use Rattle.burr_step.proofs.Answering.{asked_for}
 use Rattle.burr_step.proofs.Going.{goes_unhalted}
 use Rattle.burr_step.proofs.Making.{begins as steps_begin, same_rest}

@@ -7,6 +7,7 @@ mod DriveLines
 mod Driving
 mod EightSlots
 mod Going
+mod KeptDrives
 mod Labels
 mod LedRuns
 mod Lines

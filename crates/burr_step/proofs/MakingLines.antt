@@ -12,9 +12,8 @@ use Rattle.burr_state.specs.Rules.Step.{Called}
 use Rattle.burr_state.specs.Views.Benches.{Benched, setup_of, in_state, IsSameRun}
 use Rattle.burr_bench.specs.Soundness.Machine.{IsSafeBench}
 use Rattle.burr_sheet.specs.declared.sheet.GrowingLine.{GrowingLine}
-use Rattle.burr_sheet.specs.Rules.SheetText.{MoveLine, alone}
-use Rattle.burr_sheet.specs.Views.MotionLines.{motion_count, motion_on, motions_of}
-use Rattle.burr_sheet.specs.Views.SheetUnderWay.{is_one, move_line_of}
+use Rattle.burr_sheet.specs.Rules.SheetText.{MoveLine, alone, motion_count, motion_on, motions_of, is_one}
+use Rattle.burr_sheet.specs.Views.SheetUnderWay.{move_line_of}
 use Rattle.burr_step.specs.Rules.Moves.{Makes, stays, makes, Rests, ComesToRest, MovesNext, GoesAsideTo, MakesMove}
 use Rattle.std.specs.Prelude.{is_some}
 use Rattle.std.proofs.lemmas.Option.{same_Some}

@@ -8,19 +8,15 @@ use Rattle.burr_state.specs.Rules.Step.{Called, IsQuestionOf}
 use Rattle.burr_state.specs.Rules.Undo.{Undo, laid_over}
 use Rattle.burr_state.specs.Views.Benches.{Benched, setup_of, in_state, IsSameRun, IsAtStart}
 use Rattle.burr_state.proofs.Common.StepCalls.{call_is_one}
-use Rattle.burr_container.specs.Rules.Plans.{Plan}
-use Rattle.burr_container.specs.Views.Containers.{IsContainer}
-use Rattle.burr_verify.specs.Rules.Accepting.{Judged}
-use Rattle.burr_state.specs.Views.Programs.{plan_program}
-use Rattle.burr_bench.specs.Soundness.Machine.{StartIsSafe}
+use Rattle.burr_bench.specs.Soundness.Machine.{IsSafeBench}
 use Rattle.burr_bench.specs.Recorded.{TakesBack, MadeStep, gone_back}
 use Rattle.burr_step.specs.Rules.Stepper.{Leads, History, history, IsStateOf, IsAsking, IsKept, Back, Taken}
 use Rattle.burr_step.specs.Views.UndoRing.{AreRecordsOf, answers_more, StepsTo}
-use Rattle.burr_step.specs.Views.Stepping.{Stepping, stepping, IsUnderWay, IsStepping, IsDone, commanding, HasRun, IsUndone, IsAgain, IsLeft, IsNextAnswer, IsStepOn, IsStill, taken_more}
+use Rattle.burr_step.specs.Views.Stepping.{Stepping, stepping, IsUnderWay, IsDone, commanding, HasRun, IsUndone, IsAgain, IsLeft, IsNextAnswer, IsStepOn, IsStill, taken_more}
 use Rattle.burr_step.proofs.Commands.{Begins, begins, same_front, split_at, nothing_more}
 use Rattle.burr_step.proofs.Lists.{all_but_last}
 use Rattle.burr_step.proofs.UndoRing.{kept_before, kept_of_kept}
-use Rattle.burr_step.proofs.UnderWay.{same_setup, is_counted, further_of, begins_bare, MadeOne}
+use Rattle.burr_step.proofs.UnderWay.{same_run, same_setup, is_counted, further_of, at_its_start, MadeOne}
 use Rattle.burr_step.proofs.Going.{goes_unhalted, same_twice}
 use Rattle.burr_step.proofs.Answering.{asked_for}
 
@@ -296,15 +292,11 @@ again_more given old b c answers answer undos left steps i taken at run less aga
 
 -- The start again
 
--- a machine at the start of the same plan
-pub restarted : StartIsSafe → (j : Judged) (old : Stepping) (undos : List Undo) → IsStepping j old undos → (b : Benched)
-    → b.assembly ≡ j.assembly → ((p : Plan) → IsContainer j.container p → b.program ≡ plan_program p) → IsAtStart b
-    → IsSameRun old.bench b × IsUnderWay (stepping b []) []
-restarted law j old undos is b assembly program at =
-    let a = is.is_accepted in (
-      record { assembly = assembly ∙ sym is.assembly; program = program a.plan a.is_container ∙ sym (is.program a.plan a.is_container) },
-      (begins_bare law j a b assembly program at).under_way,
-    )
+-- a machine at the start of the same run
+pub restarted : (old : Stepping) (undos : List Undo) → IsUnderWay old undos → (b : Benched) → IsSameRun old.bench b → IsAtStart b
+    → IsUnderWay (stepping b []) []
+restarted old undos under_way b same at =
+    at_its_start b (subst (λ (x : Benched). IsSafeBench (in_state (start (setup_of x)) x)) (same_run old.bench b same) under_way.start) at
 
 -- the steps that were made, or fewer of them, can be made again from the start
 pub has_run : (old : Stepping) (undos : List Undo) → IsUnderWay old undos → (b : Benched) → IsSameRun old.bench b → IsAtStart b

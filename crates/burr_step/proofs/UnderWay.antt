@@ -21,7 +21,7 @@ use Rattle.burr_bench.proofs.Common.Machine.{budgeted}
 use Rattle.burr_bench.specs.Recorded.{TakesBack, GoesBack, MadeStep, gone_back}
 use Rattle.burr_step.specs.Rules.Stepper.{Leads, stays, goes, takes, History, history, IsStateOf}
 use Rattle.burr_step.specs.Views.UndoRing.{AreRecordsOf, answers_more, one_more, StepsTo}
-use Rattle.burr_step.specs.Views.Stepping.{Stepping, stepping, IsUnderWay, IsStepping, IsStepOn, IsStill}
+use Rattle.burr_step.specs.Views.Stepping.{Stepping, stepping, IsUnderWay, IsStepOn, IsStill}
 use Rattle.burr_step.proofs.Commands.{leads_on, goes_there}
 use Rattle.burr_step.proofs.SomeCommand.{leads_safely, steps_are_counted}
 use Rattle.burr_step.proofs.UndoRing.{record_is_kept, last_are_kept}
@@ -171,35 +171,38 @@ further_of given b c answers answer undos left under_way on =
     subst (λ (l : List Undo). IsFurther b c answers answer l) (sym on.kept)
     (goes_further given b c answers answer undos on.undo on.told 256 under_way on.same on.called on.made on.takes_back on.back)
 
--- a stepper of the same run stays one
-pub stays_stepping : (j : Judged) (b c : Benched) (old new : List ℤ) (undos more : List Undo) → IsStepping j (stepping b old) undos
-    → IsSameRun b c → IsUnderWay (stepping c new) more → IsStepping j (stepping c new) more
-stays_stepping j b c old new undos more is same under_way = record {
-  is_accepted = is.is_accepted;
-  under_way = under_way;
-  assembly = same.assembly ∙ is.assembly;
-  program = λ p of_plan. same.program ∙ is.program p of_plan;
-}
-
 -- where no step was made, and the answers are the same, nothing changed
 pub same_stepping : (b c : Benched) (answer : Option ℤ) (old new : List ℤ) (undos left : List Undo) → IsStill b answer undos c left
     → new ≡ old → stepping c new ≡ stepping b old
 same_stepping b c answer old new undos left still same =
     ap (λ (x : Benched). stepping x new) still.machine ∙ ap (λ (l : List ℤ). stepping b l) same
 
--- so does one that made no step
-pub still_stepping : (j : Judged) (b c : Benched) (answer : Option ℤ) (old new : List ℤ) (undos left : List Undo)
-    → IsStepping j (stepping b old) undos → IsStill b answer undos c left → new ≡ old → IsStepping j (stepping c new) left
-still_stepping j b c answer old new undos left is still same =
-    subst (λ (l : List Undo). IsStepping j (stepping c new) l) (sym still.records)
-    (subst (λ (s : Stepping). IsStepping j s undos) (sym (same_stepping b c answer old new undos left still same)) is)
+-- so the run is under way as it was
+pub still_under_way : (b c : Benched) (answer : Option ℤ) (old new : List ℤ) (undos left : List Undo)
+    → IsUnderWay (stepping b old) undos → IsStill b answer undos c left → new ≡ old → IsUnderWay (stepping c new) left
+still_under_way b c answer old new undos left is still same =
+    subst (λ (l : List Undo). IsUnderWay (stepping c new) l) (sym still.records)
+    (subst (λ (s : Stepping). IsUnderWay s undos) (sym (same_stepping b c answer old new undos left still same)) is)
 
 -- The start
 
-pub begins_bare : StartIsSafe → (j : Judged) (a : IsAccepted j) (b : Benched) → b.assembly ≡ j.assembly
-    → ((p : Plan) → IsContainer j.container p → b.program ≡ plan_program p) → IsAtStart b
-    → IsStepping j (stepping b []) []
-begins_bare law j a b assembly program at =
+-- a bench that runs safely from its start, and is there
+pub at_its_start : (b : Benched) → IsSafeBench (in_state (start (setup_of b)) b) → IsAtStart b → IsUnderWay (stepping b []) []
+at_its_start b safe at = record {
+  start = safe;
+  state = subst (λ (h : History). Leads (setup_of b) (start (setup_of b)) h.steps h.answers b.state) (sym none_yet)
+      (subst (λ (s : BenchState). Leads (setup_of b) (start (setup_of b)) 0 [] s) (sym at.state) (stays (start (setup_of b))));
+  records = tt;
+}
+  where
+    none_yet : history b.state.steps [] ≡ history 0 []
+    none_yet = ap (λ (s : BenchState). history s.steps []) at.state
+
+-- an accepted plan does so
+pub begins_well : StartIsSafe → (j : Judged) (a : IsAccepted j) (b : Benched) (answers : List ℤ) (undos : List Undo)
+    → b.assembly ≡ j.assembly → ((p : Plan) → IsContainer j.container p → b.program ≡ plan_program p) → IsAtStart b
+    → answers ≡ [] → undos ≡ [] → IsUnderWay (stepping b answers) undos
+begins_well law j a b answers undos assembly program at none empty =
     let runs : b.program ≡ plan_program a.plan = program a.plan a.is_container in
     let state : b.state ≡ start (setup_of (benched j.assembly (plan_program a.plan) b.state)) =
     at.state ∙ ap (λ (p : Program). start (setup_of (benched b.assembly p b.state))) runs
@@ -207,24 +210,5 @@ begins_bare law j a b assembly program at =
     let safe : IsSafeBench b =
     subst (λ (x : Assembly). IsSafeBench (benched x b.program b.state)) (sym assembly)
     (subst (λ (p : Program). IsSafeBench (benched j.assembly p b.state)) (sym runs) (law j a b.state state)) in
-    record {
-      is_accepted = a;
-      under_way = record {
-        start = subst (λ (s : BenchState). IsSafeBench (in_state s b)) at.state safe;
-        state = subst (λ (h : History). Leads (setup_of b) (start (setup_of b)) h.steps h.answers b.state) (sym (none_yet b at))
-            (subst (λ (s : BenchState). Leads (setup_of b) (start (setup_of b)) 0 [] s) (sym at.state) (stays (start (setup_of b))));
-        records = tt;
-      };
-      assembly = assembly;
-      program = program;
-    }
-  where
-    none_yet : (b : Benched) → IsAtStart b → history b.state.steps [] ≡ history 0 []
-    none_yet b at = ap (λ (s : BenchState). history s.steps []) at.state
-
-pub begins_well : StartIsSafe → (j : Judged) (a : IsAccepted j) (b : Benched) (answers : List ℤ) (undos : List Undo)
-    → b.assembly ≡ j.assembly → ((p : Plan) → IsContainer j.container p → b.program ≡ plan_program p) → IsAtStart b
-    → answers ≡ [] → undos ≡ [] → IsStepping j (stepping b answers) undos
-begins_well law j a b answers undos assembly program at none empty =
-    subst (λ (l : List ℤ). IsStepping j (stepping b l) undos) (sym none)
-    (subst (λ (l : List Undo). IsStepping j (stepping b []) l) (sym empty) (begins_bare law j a b assembly program at))
+    subst (λ (l : List ℤ). IsUnderWay (stepping b l) undos) (sym none)
+    (subst (λ (l : List Undo). IsUnderWay (stepping b []) l) (sym empty) (at_its_start b (subst (λ (s : BenchState). IsSafeBench (in_state s b)) at.state safe) at))

@@ -7,9 +7,8 @@ use Rattle.burr_code.proofs.Common.Reading.{one_stands_at}
 use Rattle.burr_voxels.specs.declared.direction.Direction.{Direction}
 use Rattle.burr_state.specs.declared.motion.Motion.{Motion}
 use Rattle.burr_state.specs.Rules.Bench.{BenchProcedure, BenchState, Setup}
-use Rattle.burr_sheet.specs.Rules.SheetText.{MoveLine, alone, goes_onto, longest_lines}
-use Rattle.burr_sheet.specs.Views.MotionLines.{joins, motion_count, motion_on, motions_of}
-use Rattle.burr_sheet.specs.Views.SheetUnderWay.{is_one}
+use Rattle.burr_sheet.specs.Rules.SheetText.{MoveLine, alone, goes_onto, longest_lines, motion_count, motion_on, motions_of, is_one}
+use Rattle.burr_sheet.specs.Views.MotionLines.{joins}
 use Rattle.burr_sheet.proofs.Common.LineMotions.{begins_with, longest_lines-first, none_of_none}
 use Rattle.burr_step.specs.declared.drive.Move.{Move}
 use Rattle.burr_step.specs.Rules.Moves.{Makes, stays, Rests, line_of, GoesAsideTo, GoesOutTo, AreApartBy, IsWhole, MakesMove, MakesMoves, rests, moves}

@@ -1,24 +1,27 @@
-ghost use Rattle.std.specs.Prelude.{◌≡◌, ◌≤◌, ◌<◌, ◌↔◌, IsTrue, None};
+ghost use Rattle.std.specs.Prelude.{◌≡◌, ◌≤◌, ◌<◌, ◌↔◌, IfOk, IsTrue, None};
 ghost use Rattle.burr_io.specs.Sink.{Puts};
 ghost use Rattle.burr_assembly.specs.Rules.Homes.{names_of};
 ghost use Rattle.burr_step.specs.Rules.StepTexts.{show_text};
 ghost use Rattle.burr_state.specs.Rules.Space.{motion_of};
 ghost use Rattle.burr_state.specs.Views.Benches.{setup_of};
 ghost use Rattle.burr_bench.specs.Soundness.Machine.{IsSafeBench};
-ghost use Rattle.burr_sheet.specs.Views.MotionLines.{motion_count};
-ghost use Rattle.burr_step.specs.Views.Driving.{HaltsSo, IsReady, MovesOn, Answers, Arrives, Goes, led_of, IsAhead, HasComeToRest, MakesLine, AreApart, ended};
+ghost use Rattle.burr_sheet.specs.Rules.SheetText.{motion_count};
+ghost use Rattle.burr_step.specs.Views.Driving.{HaltsSo, IsLasting, IsReady, MovesOn, Answers, Arrives, Goes, led_of, resumed, IsAhead, HasComeToRest, MakesLine, AreApart, ended};
 ghost use Rattle.burr_step.specs.Rules.Drive.{GoesTo, HaltsAt};
 ghost use Rattle.burr_step.specs.Rules.Moves.{Rests, MovesNext};
 
 use crate::state_text::put_state;
 use burr_assembly::Assembly;
-use burr_bench::{Machine, Motion, Progress, an_accepted_bench_never_traps};
+use burr_bench::{
+    Machine, Motion, OwnedProgram, Program, Progress, Suspended, an_accepted_bench_never_traps,
+};
 use burr_blocking::Blocking;
 use burr_code::Instr;
 use burr_io::{Sink, WriteFault};
 use burr_sheet::GrowingLine;
 use burr_verify::{Accepted, a_fitting_plan_is_from_a_container};
 use burr_voxels::Direction;
+use std::alloc::{AllocError, Global};
 use std::marker::Model;
 
 /// A run of an accepted plan that is led move by move. Motions are joined into moves as a sheet joins
@@ -82,6 +85,40 @@ pub enum Halt {
     Ends(u64),
 }
 
+/// Where a drive stands, and nothing of what it leads.
+#[derive(Debug, Drop)]
+pub(crate) struct Standing {
+    run: Suspended,
+    moves: u32,
+    answers: u32,
+}
+
+impl Model for Standing {
+    ghost use Rattle.burr_step.specs.Rules.Drive.{Led, led};
+
+    ghost Value = { Led };
+
+    ghost view = { λ s. led s.run s.moves s.answers };
+}
+
+impl Standing {
+    /// Where no drive stands: what stands in for a drive's while a drive goes on from that.
+    pub(crate) fn nowhere() -> Standing {
+        Standing {
+            run: Suspended::nowhere(),
+            moves: 0,
+            answers: 0,
+        }
+    }
+
+    /// How many moves were made.
+    pub(crate) fn moves(&self) -> u32
+        ensures { result ≡ self.now.moves }
+    {
+        self.moves
+    }
+}
+
 impl<'a> Drive<'a> {
     /// A run of an accepted plan before its first move.
     pub fn new<'c: 'a, B: Blocking>(accepted: &Accepted<'a, 'c, B>) -> Drive<'a>
@@ -95,6 +132,43 @@ impl<'a> Drive<'a> {
             machine,
             moves: 0,
             answers: 0,
+        }
+    }
+
+    /// The assembly and the program, as copies that borrow nothing.
+    pub(crate) fn keep(&self, alloc: Global) -> Result<(Assembly, OwnedProgram), AllocError>
+        ensures { IfOk result (λ kept.
+            (kept.0 ≡ self.now.bench.assembly) × (kept.1 ≡ self.now.bench.program)) }
+    {
+        self.machine.keep(alloc)
+    }
+
+    /// Lets go of the program and the assembly, and keeps where the drive stands.
+    pub(crate) fn suspend(self) -> Standing
+        ensures stands { result ≡ led_of self.entry }
+        ensures lasting { IsLasting self.entry }
+    {
+        Standing {
+            run: self.machine.suspend(),
+            moves: self.moves,
+            answers: self.answers,
+        }
+    }
+
+    /// The drive that was suspended where it stood. That it led this program on this assembly is the
+    /// caller's condition.
+    pub(crate) fn resume(
+        program: Program<'a>,
+        assembly: &'a Assembly,
+        standing: Standing,
+    ) -> Drive<'a>
+        requires { IsLasting (resumed assembly.now program standing) }
+        ensures { result ≡ resumed assembly.entry.now program.entry standing }
+    {
+        Drive {
+            machine: Machine::resume(program, assembly, standing.run),
+            moves: standing.moves,
+            answers: standing.answers,
         }
     }
 
@@ -134,7 +208,7 @@ impl<'a> Drive<'a> {
         })
     }
 
-    /// Goes on without telling the moves, up to behind that of a number, which is not below that of
+    /// Goes on without telling the moves, until that of a number is made, which is not below that of
     /// the moves made, the caller's condition; or to where the run halts before it, and tells why.
     pub fn go_to(&mut self, number: u32) -> Result<(), Halt>
         requires { self.old.moves ≤ number }

@@ -2,6 +2,7 @@
 #![tactic(auto)]
 
 mod drive;
+mod kept_drive;
 mod laws;
 mod records;
 mod refusal;
@@ -9,6 +10,7 @@ mod state_text;
 mod stepper;
 
 pub use drive::{Drive, Halt, Move, Question};
+pub use kept_drive::KeptDrive;
 pub use laws::{
     commands_are_refused_so, commands_come_to_something, commands_lead_to_one_state,
     drive_lines_are_short, going_back_forgets_steps, lines_of_commands_are_short,
@@ -16,4 +18,4 @@ pub use laws::{
     undoing_is_going_back,
 };
 pub use refusal::StepRefusal;
-pub use stepper::Stepper;
+pub use stepper::{Paused, Stepper};

@@ -1,5 +1,5 @@
 ghost use Rattle.std.specs.Prelude.{IfOk, ◌≡◌, ◌≤◌, ◌↔◌, IsTrue, OnOk, true, false, [], length, take};
-ghost use Rattle.burr_step.specs.Views.Stepping.{IsFresh, LabelsAreFew, CameTo, commanding, NeedsNoMemory, IsThere, StopsFor, IsStepOn, IsStill, stepping, IsDone, IsUnderWay, HasRun, IsLeft, IsNextAnswer, taken_more};
+ghost use Rattle.burr_step.specs.Views.Stepping.{IsFresh, IsPaused, IsPauseOf, stepping_at, LabelsAreFew, CameTo, commanding, NeedsNoMemory, IsThere, StopsFor, IsStepOn, IsStill, stepping, IsDone, IsUnderWay, HasRun, IsLeft, IsNextAnswer, taken_more};
 ghost use Rattle.burr_state.specs.declared.mode.Mode.TheVariants.{Ended};
 ghost use Rattle.burr_state.specs.Rules.Bench.{HasLabelOf};
 ghost use Rattle.burr_state.specs.Rules.Step.{IsQuestionOf};
@@ -12,7 +12,8 @@ ghost use Rattle.burr_step.specs.Rules.Stepper.{Answer, Forward, Over, Until, go
 use crate::records::Records;
 use crate::refusal::StepRefusal;
 use crate::state_text::put_state;
-use burr_bench::{Machine, an_accepted_bench_never_traps};
+use burr_assembly::Assembly;
+use burr_bench::{Machine, OwnedProgram, Program, Suspended, an_accepted_bench_never_traps};
 use burr_blocking::Blocking;
 use burr_io::{Sink, WriteFault};
 use burr_verify::{Accepted, a_fitting_plan_is_from_a_container};
@@ -22,8 +23,7 @@ use std::marker::Model;
 /// A run of an accepted plan, step by step: it goes forwards by commands, and back by records of
 /// its last 256 steps, or by running again with the answers that are kept.
 #[derive(Drop)]
-pub struct Stepper<'s, 'a: 's, 'c: 'a, B: Blocking> {
-    accepted: &'s Accepted<'a, 'c, B>,
+pub struct Stepper<'a> {
     machine: Machine<'a>,
     /// The answers that the steps so far took, in their order.
     answers: Vec<i32>,
@@ -31,34 +31,64 @@ pub struct Stepper<'s, 'a: 's, 'c: 'a, B: Blocking> {
     records: Records,
 }
 
-impl<'s, 'a: 's, 'c: 'a, B: Blocking> Model for Stepper<'s, 'a, 'c, B> {
-    ghost use Rattle.burr_step.specs.Views.Stepping.{Stepping, stepping, IsStepping};
+impl<'a> Model for Stepper<'a> {
+    ghost use Rattle.burr_step.specs.Views.Stepping.{Stepping, stepping, IsUnderWay};
 
     ghost Value = { Stepping };
 
     ghost view = { λ s. stepping s.machine s.answers.items };
 
-    ghost invariant = { λ s.
-        IsStepping s.accepted.now.judged (stepping s.machine s.answers.items) s.records };
+    ghost invariant = { λ s. IsUnderWay (stepping s.machine s.answers.items) s.records };
 }
 
-impl<'s, 'a: 's, 'c: 'a, B: Blocking> Stepper<'s, 'a, 'c, B> {
+impl<'a> Stepper<'a> {
     /// A run of an accepted plan before its first step. All memory but that of answers is asked for
     /// here.
-    pub fn new(
+    pub fn new<'c: 'a, B: Blocking>(
         alloc: Global,
-        accepted: &'s Accepted<'a, 'c, B>,
-    ) -> Result<Stepper<'s, 'a, 'c, B>, AllocError>
+        accepted: &Accepted<'a, 'c, B>,
+    ) -> Result<Stepper<'a>, AllocError>
         ensures { IfOk result (IsFresh accepted.now.judged) }
     {
         an_accepted_bench_never_traps();
         let records = Records::new(alloc)?;
         Ok(Stepper {
-            accepted,
             machine: Machine::start(accepted),
             answers: Vec::new(alloc),
             records,
         })
+    }
+
+    /// The stepper that was paused where it stood. That it ran this program on this assembly is the
+    /// caller's condition.
+    pub fn resume(program: Program<'a>, assembly: &'a Assembly, paused: Paused) -> Stepper<'a>
+        requires { IsPaused assembly.now program paused }
+        ensures { result ≡ stepping_at assembly.entry.now program.entry paused }
+    {
+        Stepper {
+            machine: Machine::resume(program, assembly, paused.run),
+            answers: paused.answers,
+            records: paused.records,
+        }
+    }
+
+    /// Lets go of the program and the assembly, and keeps where the stepper stands.
+    pub fn pause(self) -> Paused
+        ensures { IsPauseOf self.entry result }
+    {
+        Paused {
+            run: self.machine.suspend(),
+            answers: self.answers,
+            records: self.records,
+        }
+    }
+
+    /// The assembly and the program, as copies that borrow nothing.
+    pub fn keep(&self, alloc: Global) -> Result<(Assembly, OwnedProgram), AllocError>
+        ensures { IfOk result (λ kept.
+            (kept.0 ≡ self.now.bench.assembly) × (kept.1 ≡ self.now.bench.program)) }
+    {
+        self.machine.keep(alloc)
     }
 
     /// The question for which the run waits: the least and the greatest number that answer it. None
@@ -217,13 +247,28 @@ impl<'s, 'a: 's, 'c: 'a, B: Blocking> Stepper<'s, 'a, 'c, B> {
         requires { steps ≤ self.old.history.steps }
         ensures { IsDone self.old (commanding self.old (Back steps)) self.new }
     {
-        an_accepted_bench_never_traps();
         let left = self.machine.steps() - u64::from(steps);
-        self.machine = Machine::start(self.accepted);
+        self.machine.rewind();
         self.records.clear();
         let taken = run_again(left, &mut self.machine, &self.answers, &mut self.records);
         self.answers.truncate(taken);
     }
+}
+
+/// Where a stepper stands, and nothing of what it runs.
+#[derive(Drop)]
+pub struct Paused {
+    run: Suspended,
+    answers: Vec<i32>,
+    records: Records,
+}
+
+impl Model for Paused {
+    ghost use Rattle.burr_step.specs.Views.Stepping.{Pause, pause};
+
+    ghost Value = { Pause };
+
+    ghost view = { λ p. pause p.run p.answers.items p.records };
 }
 
 /// Where several steps stop, if the run does not halt before.

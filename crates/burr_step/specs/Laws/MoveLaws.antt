@@ -9,22 +9,17 @@ use Rattle.burr_state.specs.Rules.Calls.{Calls}
 use Rattle.burr_state.specs.Rules.Run.{Run}
 use Rattle.burr_state.specs.Views.Benches.{Benched, setup_of, in_state}
 use Rattle.burr_bench.specs.Soundness.Machine.{IsSafeBench}
-use Rattle.burr_sheet.specs.Rules.SheetText.{longest_lines}
-use Rattle.burr_sheet.specs.Views.MotionLines.{motions_of}
+use Rattle.burr_sheet.specs.Rules.SheetText.{longest_lines, motions_of}
 use Rattle.burr_step.specs.declared.drive.Halt.{Halt}
 use Rattle.burr_step.specs.declared.drive.Halt.TheVariants.{Asks, Ends}
 use Rattle.burr_step.specs.declared.drive.Move.{Move}
 use Rattle.burr_step.specs.Rules.Stepper.{IsHalted}
-use Rattle.burr_step.specs.Rules.Moves.{Makes, line_of, MakesMove, MakesMoves, IsLed}
+use Rattle.burr_step.specs.Rules.Moves.{Makes, line_of, MakesMove, MakesMoves, IsLed, moves_of}
 use Rattle.burr_step.specs.Rules.Drive.{led, HaltsAt}
 
 -- the motions of moves, in their order
 abbrev pub motions_made : List Move → List Motion
 motions_made ms = flat_map (λ m. motions_of (line_of m)) ms
-
--- the moves of legs, in their order
-abbrev pub moves_of : List (List Move) → List Move
-moves_of legs = flat_map (λ ms. ms) legs
 
 -- Of one leg
 

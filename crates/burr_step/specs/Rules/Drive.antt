@@ -38,7 +38,7 @@ Moves setup d m new =
     (s : BenchState) × MakesMove setup d.moves d.state m s
     × (new ≡ led s (d.moves + 1) d.answers)
 
--- the run goes on up to behind the move of this number, or to where it halts before
+-- the run goes on until the move of this number is made, or to where it halts before
 pub record GoesTo (setup : Setup) (number : ℕ) (d new : Led) : Type 0 where
   pub ms : List Move
   pub makes : MakesMoves setup d.moves d.state ms new.state

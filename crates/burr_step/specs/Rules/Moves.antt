@@ -1,18 +1,16 @@
 -- A run move by move: motions are joined into moves as the sheet joins them into lines, but never
 -- over a question.
-use Rattle.std.specs.Prelude.{◌≡◌, ◌↔◌, ◌<◌, ◌+◌, ℕ, ℤ, List, [], ◌∷◌, ◌++◌, length, Option, Some, None, is_some, false, replicate, Ok}
+use Rattle.std.specs.Prelude.{◌≡◌, ◌↔◌, ◌<◌, ◌+◌, ℕ, ℤ, List, [], ◌∷◌, ◌++◌, length, flat_map, Option, Some, None, is_some, false, replicate, Ok}
 use Rattle.std.specs.Option.{option_to_list}
 use Rattle.burr_voxels.specs.declared.direction.Direction.{Direction}
 use Rattle.burr_code.specs.Instruction.{Aside}
 use Rattle.burr_code.specs.PieceSets.{IsInSet}
-use Rattle.burr_state.specs.Laws.AsideLaws.{LiesApart}
+use Rattle.burr_state.specs.Rules.Space.{LiesApart}
 use Rattle.burr_state.specs.declared.motion.Motion.{Motion}
 use Rattle.burr_state.specs.declared.progress.Progress.TheVariants as progress
 use Rattle.burr_state.specs.Rules.Bench.{BenchProcedure, BenchState, Setup}
 use Rattle.burr_state.specs.Rules.Step.{Called, IsAt}
-use Rattle.burr_sheet.specs.Rules.SheetText.{MoveLine, alone}
-use Rattle.burr_sheet.specs.Views.MotionLines.{motion_count, motion_on, motions_of}
-use Rattle.burr_sheet.specs.Views.SheetUnderWay.{is_one}
+use Rattle.burr_sheet.specs.Rules.SheetText.{MoveLine, alone, motion_count, motion_on, motions_of, is_one}
 use Rattle.burr_step.specs.declared.drive.Move.{Move}
 
 -- Steps without an answer lead from a state to another, and make these motions.
@@ -101,3 +99,7 @@ pub data IsLed (setup : Setup) : ℕ → BenchState → List (List Move) → Lis
       → Called setup here (Some answer) (Ok (progress.Went None)) new
       → IsLed setup (n + length ms) new legs answers last
       → IsLed setup n s (ms ∷ legs) (answer ∷ answers) last
+
+-- the moves of legs, in their order
+abbrev pub moves_of : List (List Move) → List Move
+moves_of legs = flat_map (λ ms. ms) legs

@@ -1,24 +1,24 @@
 -- What a drive is at work on, and what its calls come to.
 use Rattle.std.specs.Prelude.{◌≡◌, ◌↔◌, ◌<◌, ℕ, ℤ, List, length, Bool, true, false, Option, Some, None, is_some, MatchOption, Result, Ok, Err}
 use Rattle.burr_code.specs.PieceSets.{IsInSet}
-use Rattle.burr_state.specs.Laws.AsideLaws.{LiesApart}
+use Rattle.burr_state.specs.Rules.Space.{LiesApart}
 use Rattle.burr_state.specs.declared.motion.Motion.{Motion}
-use Rattle.burr_state.specs.Rules.Bench.{BenchState, Setup, start}
-use Rattle.burr_state.specs.Views.Benches.{Benched, setup_of, in_state, IsSameRun}
+use Rattle.burr_assembly.specs.Rules.Text.{Assembly}
+use Rattle.burr_state.specs.Rules.Bench.{BenchState, Program, Setup, start}
+use Rattle.burr_state.specs.Views.Benches.{Benched, benched, setup_of, in_state, IsSameRun}
 use Rattle.burr_state.specs.Views.Programs.{plan_program}
 use Rattle.burr_container.specs.Rules.Plans.{Plan}
 use Rattle.burr_container.specs.Views.Containers.{IsContainer}
 use Rattle.burr_verify.specs.Rules.Accepting.{Judged}
+use Rattle.burr_bench.specs.Safe.{IsResumable}
 use Rattle.burr_bench.specs.Soundness.Machine.{IsSafeBench}
 use Rattle.burr_sheet.specs.declared.sheet.GrowingLine.{GrowingLine}
-use Rattle.burr_sheet.specs.Rules.SheetText.{MoveLine}
-use Rattle.burr_sheet.specs.Views.MotionLines.{motions_of}
+use Rattle.burr_sheet.specs.Rules.SheetText.{MoveLine, motions_of}
 use Rattle.burr_sheet.specs.Views.SheetUnderWay.{move_line_of}
 use Rattle.burr_step.specs.declared.drive.Halt.{Halt}
 use Rattle.burr_step.specs.declared.drive.Move.{Move}
-use Rattle.burr_step.specs.Rules.Moves.{Makes, Rests, ComesToRest, MovesNext, GoesAsideTo, GoesOutTo, IsWhole, IsLed}
+use Rattle.burr_step.specs.Rules.Moves.{Makes, Rests, ComesToRest, MovesNext, GoesAsideTo, GoesOutTo, IsWhole, IsLed, moves_of}
 use Rattle.burr_step.specs.Rules.Stepper.{IsHalted}
-use Rattle.burr_step.specs.Laws.MoveLaws.{moves_of}
 use Rattle.burr_step.specs.Rules.Drive.{Led, led, HaltsAt, Moves, IsFitting, Takes}
 
 -- a bench at work, and how many moves it has made and questions answered
@@ -33,6 +33,10 @@ driving bench moves answers = record { bench = bench; moves = moves; answers = a
 abbrev pub led_of : Driving → Led
 led_of d = led d.bench.state d.moves d.answers
 
+-- the drive of a program on an assembly that stands there
+abbrev pub resumed : Assembly → Program → Led → Driving
+resumed assembly program d = driving (benched assembly program d.state) d.moves d.answers
+
 -- What holds of each drive of an accepted plan: its run with some answers is led to where it stands.
 pub record IsDriving (d : Driving) : Type 0 where
   pub safe : IsSafeBench (in_state (start (setup_of d.bench)) d.bench)
@@ -41,6 +45,11 @@ pub record IsDriving (d : Driving) : Type 0 where
   pub run : IsLed (setup_of d.bench) 0 (start (setup_of d.bench)) legs taken d.bench.state
   pub moves : d.moves ≡ length (moves_of legs)
   pub answers : d.answers ≡ length taken
+
+-- it is a drive, and its machine can be suspended and gone on with
+pub record IsLasting (d : Driving) : Type 0 where
+  pub driving : IsDriving d
+  pub resumable : IsResumable d.bench
 
 -- it runs the plan and the assembly that were accepted, and no move is made yet
 pub record IsReady (accepted : Judged) (d : Driving) : Type 0 where

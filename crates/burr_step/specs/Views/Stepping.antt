@@ -2,13 +2,15 @@
 use Rattle.std.specs.Prelude.{◌≡◌, ◌<◌, ◌≤◌, ◌⊎◌, ◌+◌, ◌-◌, ◌^◌, [], ◌∷◌, ℕ, ℤ, List, length, take, slice_get, Option, Some, None, Result, Ok, Err}
 use Rattle.burr_container.specs.Rules.Plans.{Plan}
 use Rattle.burr_container.specs.Views.Containers.{IsContainer}
-use Rattle.burr_verify.specs.Rules.Accepting.{Judged, IsAccepted}
-use Rattle.burr_state.specs.Rules.Bench.{BenchState, Setup, HasLabelOf, start}
+use Rattle.burr_verify.specs.Rules.Accepting.{Judged}
+use Rattle.burr_assembly.specs.Rules.Text.{Assembly}
+use Rattle.burr_state.specs.Rules.Bench.{BenchState, Program, Setup, HasLabelOf, start}
 use Rattle.burr_state.specs.Rules.Undo.{Undo}
-use Rattle.burr_state.specs.Views.Benches.{Benched, setup_of, in_state, IsAtStart, IsSameRun}
+use Rattle.burr_state.specs.Views.Benches.{Benched, benched, setup_of, in_state, IsAtStart, IsSameRun}
 use Rattle.burr_state.specs.Views.Programs.{plan_program}
 use Rattle.burr_state.specs.declared.progress.Progress.{Progress}
 use Rattle.burr_state.specs.Rules.Step.{Called}
+use Rattle.burr_bench.specs.Safe.{IsResumable}
 use Rattle.burr_bench.specs.Soundness.Machine.{IsSafeBench}
 use Rattle.burr_bench.specs.Recorded.{TakesBack, MadeStep, gone_back}
 use Rattle.burr_step.specs.declared.records.TheConstants.{MOST_RECORDS}
@@ -35,13 +37,29 @@ pub record IsUnderWay (s : Stepping) (undos : List Undo) : Type 0 where
   pub state : IsStateOf (setup_of s.bench) s.history s.bench.state
   pub records : AreRecordsOf s.bench s.history undos
 
--- What holds of each stepper of an accepted plan: it runs that plan.
-pub record IsStepping (accepted : Judged) (s : Stepping) (undos : List Undo) : Type 0 where
-  pub is_accepted : IsAccepted accepted
-  pub under_way : IsUnderWay s undos
-  pub assembly : s.bench.assembly ≡ accepted.assembly
-  pub program : (p : Plan) → IsContainer accepted.container p
-      → s.bench.program ≡ plan_program p
+-- where a stepper stands, and nothing of what it runs: its answers, and the records of its last steps
+pub record Pause : Type 0 where
+  pub state : BenchState
+  pub answers : List ℤ
+  pub undos : List Undo
+
+abbrev pub pause : BenchState → List ℤ → List Undo → Pause
+pause state answers undos = record { state = state; answers = answers; undos = undos }
+
+-- the stepper of a program on an assembly that stands there
+abbrev pub stepping_at : Assembly → Program → Pause → Stepping
+stepping_at assembly program p = stepping (benched assembly program p.state) p.answers
+
+-- a run of the program on the assembly is under way there, and its machine can be gone on with
+pub record IsPaused (assembly : Assembly) (program : Program) (p : Pause) : Type 0 where
+  pub under_way : IsUnderWay (stepping_at assembly program p) p.undos
+  pub resumable : IsResumable (benched assembly program p.state)
+
+-- the stepper stands there, and can be gone on with
+pub record IsPauseOf (s : Stepping) (p : Pause) : Type 0 where
+  pub state : p.state ≡ s.bench.state
+  pub answers : p.answers ≡ s.history.answers
+  pub paused : IsPaused s.bench.assembly s.bench.program p
 
 -- before its first step, on the plan and the assembly that were accepted
 pub record IsFresh (accepted : Judged) (s : Stepping) : Type 0 where

@@ -5,4 +5,4 @@ use Rattle.burr_step.specs.Views.Stepping.{Stepping}
 use Rattle.burr_step.proofs.stepper.Stepper.asks.Goals as goal
 
 pub returns : goal.returns
-returns g c = subst (λ (s : Stepping). IsQuestionOf (setup_of s.bench) s.bench.state c.question.result) c.self.view_is c.question.ensures
+returns c = subst (λ (s : Stepping). IsQuestionOf (setup_of s.bench) s.bench.state c.question.result) c.self.view_is c.question.ensures

@@ -6,7 +6,7 @@ use Rattle.burr_step.proofs.UnderWay.{is_safe}
 use Rattle.burr_step.proofs.stepper.Stepper.labels_are_few.Goals as goal
 
 pub returns : goal.returns
-returns g c =
+returns c =
     subst (λ (s : Stepping). LabelsAreFew (setup_of s.bench)) c.self.view_is
     (labels_are_few c.self.inside.machine
-    (is_safe c.a_fitting_plan_is_from_a_container.ensures (stepping c.self.inside.machine c.self.inside.answers.items) c.self.inside.records c.self.invariant.under_way))
+    (is_safe c.a_fitting_plan_is_from_a_container.ensures (stepping c.self.inside.machine c.self.inside.answers.items) c.self.inside.records c.self.invariant))

@@ -6,7 +6,7 @@ use Rattle.burr_step.proofs.Going.{one_up}
 use Rattle.burr_step.proofs.stepper.Stepper.over.Goals as goal
 
 pub returns-clause-comes : goal.returns-clause-comes
-returns-clause-comes g c =
+returns-clause-comes c =
     let old = c.args.self.now in
     subst (λ (n : ℕ). CameTo old (going (setup_of old.bench) old.bench.state
     (going_until (setup_of old.bench) old.history old.bench.state (StopsOver (setup_of old.bench) n))) c.go_to.result c.go_to.new.self)

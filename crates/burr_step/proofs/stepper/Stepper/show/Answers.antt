@@ -7,7 +7,7 @@ use Rattle.burr_step.proofs.EightSlots.{has_eight}
 use Rattle.burr_step.proofs.stepper.Stepper.show.Goals as goal
 
 pub put_state-requires : goal.put_state-requires
-put_state-requires g c = has_eight (stepping c.self.inside.machine c.self.inside.answers.items) c.self.inside.records c.self.invariant.under_way
+put_state-requires g c = has_eight (stepping c.self.inside.machine c.self.inside.answers.items) c.self.inside.records c.self.invariant
 
 pub returns : goal.returns
 returns g c =

@@ -10,31 +10,25 @@ at_most : (made steps : ℕ) → made - steps ≤ made
 at_most made steps = omega arith
 
 pub run_again-taken-requires-clause-under_way : goal.run_again-taken-requires-clause-under_way
-run_again-taken-requires-clause-under_way g c =
-    let start = c.start-self-inside.ensures in
-    subst (λ (l : List Undo). IsUnderWay (stepping c.start-self-inside.result []) l) (sym c.clear.ensures)
-    (restarted c.an_accepted_bench_never_traps.ensures.start c.self.inside.accepted.now.judged (stepping c.self.inside.machine c.self.inside.answers.items)
-    c.self.inside.records c.self.invariant c.start-self-inside.result start.assembly start.program start.start).1
+run_again-taken-requires-clause-under_way c =
+    let b = c.rewind.new.self in
+    subst (λ (l : List Undo). IsUnderWay (stepping b []) l) (sym c.clear.ensures)
+    (restarted (stepping c.self.inside.machine c.self.inside.answers.items) c.self.inside.records c.self.invariant b c.rewind.ensures.same c.rewind.ensures.start)
 
 pub run_again-taken-requires-clause-run : goal.run_again-taken-requires-clause-run
-run_again-taken-requires-clause-run g c =
-    let start = c.start-self-inside.ensures in
+run_again-taken-requires-clause-run c =
+    let b = c.rewind.new.self in
     let old = stepping c.self.inside.machine c.self.inside.answers.items in
-    let again = restarted c.an_accepted_bench_never_traps.ensures.start c.self.inside.accepted.now.judged old c.self.inside.records c.self.invariant
-    c.start-self-inside.result start.assembly start.program start.start in
     let within : c.steps.result - c.from.result ≤ old.history.steps =
     subst (λ (n : ℕ). c.steps.result - c.from.result ≤ n) c.steps.ensures (at_most c.steps.result c.from.result) in
-    subst (λ (l : List ℤ). HasRun c.start-self-inside.result l (c.steps.result - c.from.result)) (sym c.deref.ensures.value)
-    (has_run old c.self.inside.records c.self.invariant.under_way c.start-self-inside.result again.0 start.start _ within)
+    subst (λ (l : List ℤ). HasRun b l (c.steps.result - c.from.result)) (sym c.deref.ensures.value)
+    (has_run old c.self.inside.records c.self.invariant b c.rewind.ensures.same c.rewind.ensures.start _ within)
 
 pub returns : goal.returns
-returns g c =
-    let start = c.start-self-inside.ensures in
+returns c =
     let old = stepping c.self.inside.machine c.self.inside.answers.items in
     let now = c.run_again-taken.new.machine in
     let taken = c.run_again-taken.result in
-    let again = restarted c.an_accepted_bench_never_traps.ensures.start c.self.inside.accepted.now.judged old c.self.inside.records c.self.invariant
-    c.start-self-inside.result start.assembly start.program start.start in
     let under_way = subst (λ (l : List ℤ). IsUnderWay (stepping now (take taken l)) c.run_again-taken.new.records) c.deref.ensures.value c.run_again-taken.ensures.under_way in
     let within : c.args.steps ≤ old.history.steps = subst (λ (s : Stepping). c.args.steps ≤ s.history.steps) (sym c.self.view_is) c.requires in
     let count : now.state.steps ≡ old.history.steps - c.args.steps =
@@ -42,4 +36,4 @@ returns g c =
     ∙ ap (λ (n : ℕ). old.history.steps - n) c.from.ensures in
     subst (λ (s : Stepping). IsDone s (commanding s (Back c.args.steps)) (stepping now c.truncate.new.self.items)) c.self.view_is
     (subst (λ (l : List ℤ). IsDone old (commanding old (Back c.args.steps)) (stepping now l)) (sym c.truncate.ensures.items)
-    (again_done old c.start-self-inside.result now c.args.steps taken c.run_again-taken.new.records again.0 c.run_again-taken.ensures.same under_way within count))
+    (again_done old c.rewind.new.self now c.args.steps taken c.run_again-taken.new.records c.rewind.ensures.same c.run_again-taken.ensures.same under_way within count))
