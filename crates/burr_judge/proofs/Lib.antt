@@ -1,6 +1,7 @@
 mod Dialogues
 mod DriveAnswers
 mod MoveWords
+mod OpenedDrives
 mod SteppedPlans
 pub mod CommandAnswers
 pub mod CommandLines

@@ -38,15 +38,19 @@ use Rattle.burr_judge.specs.StepEnds.{Left, left_by, DialogueEnds}
 use Rattle.burr_judge.proofs.Common.Comes.{memory_ends, text_told}
 use Rattle.burr_judge.proofs.Common.Stages.{AreAmong, ending_from, ending_among}
 
+-- where nothing is held back, what the sink took is put whole
+pub put_whole : {S : Type 0} (sink : SinkView S) (before after : Lines S) (text : List ℕ) → before.held ≡ [] → after.held ≡ [] → Takes sink before.sink after.sink text
+    → Takes (lines_view sink) before after text
+put_whole sink before after text none nothing took =
+    subst (λ (x : Option (List ℕ)). Appends x (append_known (sink.taken after.sink) after.held) text) (sym (nothing_held sink before none))
+    (subst (λ (x : Option (List ℕ)). Appends (sink.taken before.sink) x text) (sym (nothing_held sink after nothing)) took)
+
 -- a dialogue has ended, and nothing is held back
 pub dialogue_ends : {R S : Type 0} (source : SourceView R) (first last : R) (sink : SinkView S) (before after : Lines S) (j : Judged) (old new : Stepping) → before.held ≡ [] → after.held ≡ []
     → IsFresh j old → EndsDialogue StepAnswers old (streams source first last sink before.sink after.sink) new
     → PutsEnd (lines_view sink) before after (DialogueEnds (left_by source first last) j) Done
-dialogue_ends source first last sink before after j old new none nothing fresh (text, dialogue, took) = (text, (refl, (old, new, fresh, dialogue)), put)
-  where
-    put : Takes (lines_view sink) before after text
-    put = subst (λ (x : Option (List ℕ)). Appends x (append_known (sink.taken after.sink) after.held) text) (sym (nothing_held sink before none))
-        (subst (λ (x : Option (List ℕ)). Appends (sink.taken before.sink) x text) (sym (nothing_held sink after nothing)) took)
+dialogue_ends source first last sink before after j old new none nothing fresh (text, dialogue, took) =
+    (text, (refl, (old, new, fresh, dialogue)), put_whole sink before after text none nothing took)
 
 -- what the ladder comes to is how a command ends or breaks off that does so with an accepted plan
 pub text_led : {I S : Type 0} (first last : I) (sink : SinkView S) (before after : S) (With : Judged → Ends) (Broken : Judged → List ℕ → Type 0)
@@ -101,14 +105,10 @@ pub led_ends : {R S : Type 0} (source : SourceView R) (first last : R) (sink : S
     → EndsDialogue DriveAnswers old (streams source first last sink mid.sink after.sink) new → LeavesWith new status
     → PutsEnd (lines_view sink) before after (LedEnds (left_by source first last) text bytes j) status
 led_ends source first last sink before mid after text bytes j old new status none nothing ready began (said, dialogue, took) leaves =
-    (ready_text text bytes ++ said, (old, new, said, ready, dialogue, refl, leaves), put)
+    (ready_text text bytes ++ said, (old, new, said, ready, dialogue, refl, leaves), put_whole sink before after (ready_text text bytes ++ said) none nothing both)
   where
     both : Appends (sink.taken before.sink) (sink.taken after.sink) (ready_text text bytes ++ said)
     both = Appends-trans (sink.taken before.sink) (sink.taken mid.sink) (sink.taken after.sink) (ready_text text bytes) said began took
-
-    put : Takes (lines_view sink) before after (ready_text text bytes ++ said)
-    put = subst (λ (x : Option (List ℕ)). Appends x (append_known (sink.taken after.sink) after.held) (ready_text text bytes ++ said)) (sym (nothing_held sink before none))
-        (subst (λ (x : Option (List ℕ)). Appends (sink.taken before.sink) x (ready_text text bytes ++ said)) (sym (nothing_held sink after nothing)) both)
 
 -- the sink failed while it was told that the run is ready, or memory was refused
 pub begin_fails : {R S : Type 0} (source : SourceView R) (first last : R) (sink : SinkView S) (before after : Lines S) (text bytes : List ℕ) (j : Judged) (AreEnds : Ends)

@@ -10,7 +10,6 @@ pub mod line;
 
 use crate::commands::line::{Command, read_command};
 use crate::dialogue::Commanded;
-use burr_blocking::Blocking;
 use burr_io::{Sink, WriteFault, put_words};
 use burr_step::{StepRefusal, Stepper, lines_of_commands_are_short};
 use itoa::Buffer;
@@ -38,7 +37,7 @@ impl From<WriteFault> for StepFault {
 
 /// A stepper takes the lines of its commands, as `forward` or `answer 2`, and puts what each comes to,
 /// as `after 3 steps asks 0 2`, `refused S2` or `refused command`. After `quit` no line is to come.
-impl<'s, 'a: 's, 'c: 'a, B: Blocking> Commanded for Stepper<'s, 'a, 'c, B> {
+impl<'a> Commanded for Stepper<'a> {
     ghost use Rattle.burr_judge.specs.Views.Commanding.{StepAnswers, IsAnswerLine};
 
     ghost answers = { StepAnswers };
@@ -74,9 +73,9 @@ impl<'s, 'a: 's, 'c: 'a, B: Blocking> Commanded for Stepper<'s, 'a, 'c, B> {
 
 /// Puts what a call came to: where the stepper stands after it, or why it was refused. `Memory`
 /// where a request for memory was.
-pub fn put_outcome<B: Blocking, W: Sink>(
+pub fn put_outcome<W: Sink>(
     came: Result<(), StepRefusal>,
-    stepper: &Stepper<'_, '_, '_, B>,
+    stepper: &Stepper<'_>,
     sink: &mut W,
 ) -> Result<bool, StepFault>
     ensures { PutsCame W.Sink sink.old sink.new stepper.now came result }
@@ -93,10 +92,7 @@ pub fn put_outcome<B: Blocking, W: Sink>(
 }
 
 /// Puts where a stepper stands, as `after 3 steps asks 0 2`.
-fn put_after<B: Blocking, W: Sink>(
-    stepper: &Stepper<'_, '_, '_, B>,
-    sink: &mut W,
-) -> Result<(), WriteFault>
+fn put_after<W: Sink>(stepper: &Stepper<'_>, sink: &mut W) -> Result<(), WriteFault>
     ensures { PutsAfter W.Sink sink.old sink.new stepper.now result }
 {
     if stepper.ended() {
@@ -166,10 +162,7 @@ pub fn put_no_command<W: Sink>(sink: &mut W) -> Result<bool, StepFault>
 }
 
 /// Puts the state of a stepper.
-pub fn put_state<B: Blocking, W: Sink>(
-    stepper: &Stepper<'_, '_, '_, B>,
-    sink: &mut W,
-) -> Result<bool, StepFault>
+pub fn put_state<W: Sink>(stepper: &Stepper<'_>, sink: &mut W) -> Result<bool, StepFault>
     ensures { PutsLine W.Sink sink.old sink.new
         (show_text (names_of stepper.now.bench.assembly) stepper.now.bench.state) result }
 {

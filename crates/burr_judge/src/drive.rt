@@ -77,7 +77,7 @@ fn put_next<W: Sink>(
     Ok(true)
 }
 
-/// Puts that the run has come to behind a move, or why it halts before.
+/// Puts that the move of a number is made, or why the run halts before.
 fn put_arrival<W: Sink>(
     came: Result<(), Halt>,
     number: u32,

@@ -21,4 +21,4 @@ pub use ladder::{
 pub use refused::{Refused, put_refusal, refuse};
 pub use refuser::{Plainly, Refuse};
 pub use status::Status;
-pub use tasks::{Check, Run, Task, Try, drive_text, judge_text, step_text};
+pub use tasks::{Check, Run, Task, Try, drive_text, judge_text, open_drive, step_text};

@@ -10,7 +10,7 @@ ghost use Rattle.sha2.specs.Sha256.{sha256};
 ghost use Rattle.burr_runs.specs.Views.BenchText.{streams};
 ghost use Rattle.burr_io.specs.Sink.{Takes};
 ghost use Rattle.burr_judge.specs.Faults.{line_of};
-ghost use Rattle.burr_judge.specs.DriveEnds.{DriveBytesBreak, DriveBytesEnd, DriveTextBreaks, DriveTextEnds, FailsToBegin, LeavesWith, ready_text};
+ghost use Rattle.burr_judge.specs.DriveEnds.{DriveBytesBreak, DriveBytesEnd, DriveTextBreaks, DriveTextEnds, FailsToBegin, LeavesWith, OpenBreaks, OpenEnds, Opens, ready_text};
 ghost use Rattle.burr_judge.specs.StepEnds.{StepTextEnds, StepTextBreaks, left_by};
 
 use crate::dialogue::answer_commands;
@@ -26,7 +26,7 @@ use burr_blocking::Blocking;
 use burr_container::Container;
 use burr_io::{Sink, Source, WholeLines, put_words};
 use burr_runs::{AnswersFault, Observer, put_accepted, read_answers, run_plan, try_observed};
-use burr_step::{Drive, Halt, Stepper};
+use burr_step::{Drive, Halt, KeptDrive, Stepper};
 use burr_verify::Accepted;
 use sha2::{Digest, Sha256};
 use std::alloc::{AllocError, Global};
@@ -363,6 +363,61 @@ impl<'x, R: Source, W: Sink, const N: usize> AcceptedUse<R, WholeLines<W, N>> fo
         put_ready(alloc, self.text, self.bytes, sink)?;
         answer_commands(&mut drive, source, sink)?;
         Ok(status_after(&drive))
+    }
+}
+
+/// Opens a drive of a container's plan for the assembly of a text, where the plan is accepted, and puts
+/// that it is ready, with the digest of the text and the container; or puts a refusal, and leaves the
+/// place of the drive alone, as it does where there is a fault.
+pub fn open_drive<'a, W: Sink, const N: usize>(
+    alloc: Global,
+    text: &[u8],
+    bytes: &[u8],
+    drive: &mut Option<KeptDrive>,
+    sink: &mut WholeLines<W, N>,
+) -> Result<Status, Fault<'a>>
+    requires fresh { sink.old.held ≡ [] }
+    ensures puts { Ending (lines_view W.Sink) sink.old sink.new (OpenEnds text.now bytes.now)
+        (OpenBreaks W.Sink sink.old sink.new text.now bytes.now) result }
+    ensures opens { IfOk result (λ status. Opens text.now bytes.now status drive.old drive.new) }
+    ensures err { IfErr result (λ _. drive.new ≡ drive.old) }
+{
+    let plan = Given::Container(bytes);
+    let work = IfAccepted(Keep { text, bytes });
+    use_text(alloc, &Plainly, &OfPlan { plan, work }, text, drive, sink)
+}
+
+/// Opens a drive of an accepted plan in the place for it.
+#[derive(Clone, Copy)]
+struct Keep<'x> {
+    /// The assembly's text.
+    text: &'x [u8],
+    /// The container's bytes.
+    bytes: &'x [u8],
+}
+
+impl<'x, W: Sink, const N: usize> AcceptedUse<Option<KeptDrive>, WholeLines<W, N>> for Keep<'x> {
+    ghost use Rattle.std.specs.Prelude.{◌≡◌, []};
+    ghost use Rattle.burr_judge.specs.DriveEnds.{OpensOn};
+
+    ghost can = { λ sink. sink.held ≡ [] };
+
+    ghost uses = { λ it first before j _ r last after.
+        OpensOn W.Sink before after it.text.now it.bytes.now j first last r };
+
+    #[inline(never)]
+    fn use_accepted<'a, B: Blocking>(
+        &self,
+        alloc: Global,
+        accepted: &Accepted<'_, '_, B>,
+        _looks: u64,
+        drive: &mut Option<KeptDrive>,
+        sink: &mut WholeLines<W, N>,
+    ) -> Result<Status, Fault<'a>> {
+        let kept = KeptDrive::new(alloc, accepted)?;
+        put_ready(alloc, self.text, self.bytes, sink)?;
+        *drive = Some(kept);
+        Ok(Status::Done)
     }
 }
 

@@ -46,12 +46,12 @@ bytes_told Told goes Refuses Uses With bytes refuses uses (inr (kept, read, come
     goes (With kept) (ContainerEnds bytes With) (λ output status is. inr (kept, read, is)) (uses kept read come)
 
 -- the bytes of the container of a plan, as it is given
-abbrev pub IsGivenBy : Given → List ℕ → Type 0
-IsGivenBy (Container lent) bytes = bytes ≡ lent.now
-IsGivenBy (Text text) bytes = IsAssembled text.now bytes
+abbrev pub AreBytesOf : Given → List ℕ → Type 0
+AreBytesOf (Container lent) bytes = bytes ≡ lent.now
+AreBytesOf (Text text) bytes = IsAssembled text.now bytes
 
 given_told : (Told : Ends → Type 0) → Goes Told → (Refuses : List ℕ → Type 0) (Uses : ContainerView → Type 0) (With : ContainerView → Ends) (plan : Given)
-    → ((line : List ℕ) → Refuses line → Told (IsRefusal line)) → ((bytes : List ℕ) → IsGivenBy plan bytes → (kept : ContainerView) → IsRead bytes kept → Uses kept → Told (With kept))
+    → ((line : List ℕ) → Refuses line → Told (IsRefusal line)) → ((bytes : List ℕ) → AreBytesOf plan bytes → (kept : ContainerView) → IsRead bytes kept → Uses kept → Told (With kept))
     → GivenComes Refuses Uses plan → Told (GivenEnds plan With)
 given_told Told goes Refuses Uses With (Container bytes) refuses uses come = bytes_told Told goes Refuses Uses With bytes.now refuses (uses bytes.now refl) come
 given_told Told goes Refuses Uses With (Text text) refuses uses (inl (fault, first, come)) =
@@ -62,7 +62,7 @@ given_told Told goes Refuses Uses With (Text text) refuses uses (inr (bytes, ass
 -- So it is told of the texts, where it is told of want of memory, of each refusal and of each use of a plan.
 pub text_told : (Told : Ends → Type 0) → Goes Told → (Wants : Type 0) (Refuses : List ℕ → Type 0) (Uses : ContainerView → Assembly → Type 0) (With : ContainerView → Assembly → Ends) (text : List ℕ) (plan : Given)
     → ((ends : Ends) → Wants → Told ends) → ((line : List ℕ) → Refuses line → Told (IsRefusal line))
-    → ((a : Assembly) → IsText text a → (bytes : List ℕ) → IsGivenBy plan bytes → (kept : ContainerView) → IsRead bytes kept → Uses kept a → Told (With kept a))
+    → ((a : Assembly) → IsText text a → (bytes : List ℕ) → AreBytesOf plan bytes → (kept : ContainerView) → IsRead bytes kept → Uses kept a → Told (With kept a))
     → LadderComes Wants Refuses Uses text plan → Told (TextEnds text (λ a. GivenEnds plan (λ kept. With kept a)))
 text_told Told goes Wants Refuses Uses With text plan wants refuses uses (inl want) = wants (TextEnds text (λ a. GivenEnds plan (λ kept. With kept a))) want
 text_told Told goes Wants Refuses Uses With text plan wants refuses uses (inr (inl (fault, first, come))) =

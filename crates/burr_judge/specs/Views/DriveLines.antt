@@ -62,7 +62,7 @@ abbrev pub next_text : List (List ℕ) → Result Move Halt → List ℕ
 next_text names (Ok m) = move_text names m
 next_text names (Err halt) = halt_text halt
 
--- that the run has come to behind a move, or why it halts before
+-- that the move of this number is made, or why the run halts before
 abbrev pub arrival_text : ℕ → Result (Unit {0}) Halt → List ℕ
 arrival_text number (Ok there) = at_text number
 arrival_text number (Err halt) = halt_text halt
