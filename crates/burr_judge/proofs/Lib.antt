@@ -1,7 +1,8 @@
 mod Dialogues
 mod DriveAnswers
+mod KeptSteps
 mod MoveWords
-mod OpenedDrives
+mod Opening
 mod SteppedPlans
 pub mod CommandAnswers
 pub mod CommandLines

@@ -1,12 +1,12 @@
 -- How a drive through a plan ends: what is printed for the commands that a source gave, and with
 -- which status.
-use Rattle.std.specs.Prelude.{◌≡◌, ◌⊎◌, ℕ, List, [], ◌∷◌, ◌++◌, true, Option, Some, Result, IfOk, IfErr, codes}
+use Rattle.std.specs.Prelude.{◌≡◌, ◌⊎◌, ℕ, List, [], ◌∷◌, ◌++◌, true, Option, codes}
 use Rattle.std.specs.Io.KnownBytes.{Appends}
 use Rattle.hex.specs.Hex.{encode_lower}
 use Rattle.sha2.specs.Sha256.{sha256}
 use Rattle.burr_text.specs.Words.{text_line}
 use Rattle.burr_io.specs.Sink.{SinkView, HoldsFront}
-use Rattle.burr_io.specs.WholeLines.{Lines, lines_view}
+use Rattle.burr_io.specs.WholeLines.{Lines}
 use Rattle.burr_assembly.specs.Rules.Text.{Assembly, IsText}
 use Rattle.burr_container.specs.Views.Containers.{ContainerView}
 use Rattle.burr_verify.specs.Rules.Accepting.{Judged, judged, IsAccepted}
@@ -17,15 +17,14 @@ use Rattle.burr_runs.specs.declared.fault.BenchFault.{BenchFault}
 use Rattle.burr_runs.specs.Views.BenchText.{Streams}
 use Rattle.burr_judge.specs.Views.Dialogues.{IsDialogue, BreaksDialogue}
 use Rattle.burr_judge.specs.Views.DriveLines.{DriveAnswers, AsksNone}
-use Rattle.burr_judge.specs.declared.fault.Fault.{Fault}
 use Rattle.burr_judge.specs.declared.ladder.Given.{Given}
 use Rattle.burr_judge.specs.declared.ladder.Given.TheVariants as given
 use Rattle.burr_judge.specs.declared.status.Status.{Status}
-use Rattle.burr_judge.specs.declared.status.Status.TheVariants.{Done, Refused, Waiting}
+use Rattle.burr_judge.specs.declared.status.Status.TheVariants.{Done, Waiting}
 use Rattle.burr_judge.specs.Faults.{complaint_of, output_failed}
 use Rattle.burr_asm.specs.Rules.Assembling.{IsAssembled}
 use Rattle.burr_judge.specs.Ladder.{IsRead}
-use Rattle.burr_judge.specs.PlanEnds.{Ends, Ending, RefusedEnds, ContainerEnds, PlanTextEnds, TextEnds}
+use Rattle.burr_judge.specs.PlanEnds.{Ends, RefusedEnds, ContainerEnds, PlanTextEnds, TextEnds}
 use Rattle.burr_judge.specs.StepEnds.{Left}
 
 -- the line that tells that a run is ready, by the SHA-256 of what it is of: the assembly's text, and
@@ -43,27 +42,6 @@ LeavesWith d status =
 -- it is told that the run is ready
 abbrev pub ReadyEnds : List ℕ → List ℕ → Ends
 ReadyEnds text bytes output status = (output ≡ ready_text text bytes) × (status ≡ Done)
-
--- an assembly's text, a container or its plan is refused; or the plan is accepted, and that is told
-abbrev pub OpenEnds : List ℕ → List ℕ → Ends
-OpenEnds text bytes =
-    TextEnds text (λ a. ContainerEnds bytes (λ kept output status. RefusedEnds kept a output status
-    ⊎ (IsAccepted (judged kept a) × ReadyEnds text bytes output status)))
-
--- a drive of the accepted plan is open, and has made no move
-abbrev pub IsOpened : Judged → Option Driving → Type 0
-IsOpened j drive = (d : Driving) × (drive ≡ Some d) × IsReady j d
-
--- the container's plan is accepted for the text's assembly, and a drive of it is open
-abbrev pub IsOpenedOf : List ℕ → List ℕ → Option Driving → Type 0
-IsOpenedOf text bytes drive =
-    (a : Assembly) × IsText text a × ((kept : ContainerView) × IsRead bytes kept
-    × (IsAccepted (judged kept a) × IsOpened (judged kept a) drive))
-
--- where something was refused, the place of a drive is as it was; else a drive is open there
-abbrev pub Opens : List ℕ → List ℕ → Status → Option Driving → Option Driving → Type 0
-Opens text bytes status old new =
-    ((status ≡ Refused) × (new ≡ old)) ⊎ ((status ≡ Done) × IsOpenedOf text bytes new)
 
 -- the run is ready, and the commands that the source gave are answered
 abbrev pub LedEnds : Left → List ℕ → List ℕ → Judged → Ends
@@ -129,20 +107,3 @@ FailsToBegin sink before after ready line =
     ((line ≡ output_failed) × HoldsFront (sink.taken before.sink) (sink.taken after.sink) ready
     × (sink.has_failed after.sink ≡ true))
     ⊎ ((line ≡ codes "no memory\n") × (after ≡ before))
-
--- the plan is accepted, and it was not told that the run is ready
-abbrev pub OpenBreaks : {S : Type 0} → SinkView S → Lines S → Lines S → List ℕ → List ℕ → List ℕ
-    → Type 0
-OpenBreaks sink before after text bytes line =
-    (a : Assembly) × IsText text a × ((kept : ContainerView) × IsRead bytes kept
-    × (IsAccepted (judged kept a) × FailsToBegin sink before after (ready_text text bytes) line))
-
--- what comes of an accepted plan: it is told that the run is ready, and a drive of it is open; or that
--- was not told, and the place of the drive is as it was
-abbrev pub OpensOn : {S : Type 0} → SinkView S → Lines S → Lines S → List ℕ → List ℕ → Judged
-    → Option Driving → Option Driving → Result Status Fault → Type 0
-OpensOn sink before after text bytes j old new r =
-    Ending (lines_view sink) before after (ReadyEnds text bytes)
-    (FailsToBegin sink before after (ready_text text bytes)) r
-    × IfOk r (λ status. (status ≡ Done) × IsOpened j new)
-    × IfErr r (λ fault. new ≡ old)

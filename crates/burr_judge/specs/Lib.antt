@@ -1,6 +1,7 @@
 pub mod DriveEnds
 pub mod Faults
 pub mod Ladder
+pub mod OpenEnds
 pub mod PlanEnds
 pub mod Refusals
 pub mod Rules

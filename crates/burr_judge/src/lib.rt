@@ -6,6 +6,7 @@ mod commands;
 mod dialogue;
 mod drive;
 mod fault;
+mod kept_stepper;
 mod ladder;
 mod refused;
 mod refuser;
@@ -15,10 +16,13 @@ mod tasks;
 pub use commands::StepFault;
 pub use dialogue::{Commanded, KEPT, answer_commands, take_command_byte};
 pub use fault::{Fault, put_fault};
+pub use kept_stepper::KeptStepper;
 pub use ladder::{
     AcceptedUse, AssemblyUse, Given, IfAccepted, OfPlan, PlanUse, use_given, use_text,
 };
 pub use refused::{Refused, put_refusal, refuse};
 pub use refuser::{Plainly, Refuse};
 pub use status::Status;
-pub use tasks::{Check, Run, Task, Try, drive_text, judge_text, open_drive, step_text};
+pub use tasks::{
+    Check, Run, Task, Try, drive_text, judge_text, open_drive, open_stepper, step_text,
+};

@@ -2,7 +2,7 @@
 //! of commands, step by step or move by move.
 
 ghost use Rattle.burr_state.specs.Views.Benches.{IsAtStart};
-ghost use Rattle.burr_judge.specs.PlanEnds.{AnswersEnd, BenchEnds, EndsOn, PlanEnds, Ending};
+ghost use Rattle.burr_judge.specs.PlanEnds.{AnswersEnd, BenchEnds, EndsOn, PlanEnds, Ending, never};
 ghost use Rattle.std.specs.Prelude.{◌≡◌, ◌++◌, [], IfErr, IfOk, OnOk, string_bytes};
 ghost use Rattle.burr_io.specs.WholeLines.{lines_view};
 ghost use Rattle.hex.specs.Hex.{encode_lower};
@@ -10,11 +10,15 @@ ghost use Rattle.sha2.specs.Sha256.{sha256};
 ghost use Rattle.burr_runs.specs.Views.BenchText.{streams};
 ghost use Rattle.burr_io.specs.Sink.{Takes};
 ghost use Rattle.burr_judge.specs.Faults.{line_of};
-ghost use Rattle.burr_judge.specs.DriveEnds.{DriveBytesBreak, DriveBytesEnd, DriveTextBreaks, DriveTextEnds, FailsToBegin, LeavesWith, OpenBreaks, OpenEnds, Opens, ready_text};
+ghost use Rattle.burr_judge.specs.DriveEnds.{DriveBytesBreak, DriveBytesEnd, DriveTextBreaks, DriveTextEnds, FailsToBegin, LeavesWith, ReadyEnds, ready_text};
+ghost use Rattle.burr_judge.specs.OpenEnds.{NothingEnds, OpenBreaks, OpenEnds, Opens};
+ghost use Rattle.burr_step.specs.Views.Driving.{IsReady};
+ghost use Rattle.burr_step.specs.Views.Stepping.{IsFresh};
 ghost use Rattle.burr_judge.specs.StepEnds.{StepTextEnds, StepTextBreaks, left_by};
 
 use crate::dialogue::answer_commands;
 use crate::fault::Fault;
+use crate::kept_stepper::KeptStepper;
 use crate::ladder::{AcceptedUse, AssemblyUse, Given, IfAccepted, OfPlan, PlanUse, use_text};
 use crate::refused::{Refused, refuse};
 use crate::refuser::{Plainly, Refuse};
@@ -377,9 +381,12 @@ pub fn open_drive<'a, W: Sink, const N: usize>(
     sink: &mut WholeLines<W, N>,
 ) -> Result<Status, Fault<'a>>
     requires fresh { sink.old.held ≡ [] }
-    ensures puts { Ending (lines_view W.Sink) sink.old sink.new (OpenEnds text.now bytes.now)
-        (OpenBreaks W.Sink sink.old sink.new text.now bytes.now) result }
-    ensures opens { IfOk result (λ status. Opens text.now bytes.now status drive.old drive.new) }
+    ensures puts { Ending (lines_view W.Sink) sink.old sink.new
+        (OpenEnds (ReadyEnds text.now bytes.now) text.now bytes.now)
+        (OpenBreaks (FailsToBegin W.Sink sink.old sink.new (ready_text text.now bytes.now)) text.now
+        bytes.now) result }
+    ensures opens { IfOk result (λ status.
+        Opens IsReady text.now bytes.now status drive.old drive.new) }
     ensures err { IfErr result (λ _. drive.new ≡ drive.old) }
 {
     let plan = Given::Container(bytes);
@@ -398,12 +405,17 @@ struct Keep<'x> {
 
 impl<'x, W: Sink, const N: usize> AcceptedUse<Option<KeptDrive>, WholeLines<W, N>> for Keep<'x> {
     ghost use Rattle.std.specs.Prelude.{◌≡◌, []};
-    ghost use Rattle.burr_judge.specs.DriveEnds.{OpensOn};
+    ghost use Rattle.burr_io.specs.WholeLines.{lines_view};
+    ghost use Rattle.burr_step.specs.Views.Driving.{IsReady};
+    ghost use Rattle.burr_judge.specs.DriveEnds.{FailsToBegin, ReadyEnds, ready_text};
+    ghost use Rattle.burr_judge.specs.OpenEnds.{OpensOn};
 
     ghost can = { λ sink. sink.held ≡ [] };
 
     ghost uses = { λ it first before j _ r last after.
-        OpensOn W.Sink before after it.text.now it.bytes.now j first last r };
+        OpensOn IsReady (ReadyEnds it.text.now it.bytes.now)
+        (FailsToBegin W.Sink before after (ready_text it.text.now it.bytes.now))
+        (lines_view W.Sink) before after j first last r };
 
     #[inline(never)]
     fn use_accepted<'a, B: Blocking>(
@@ -417,6 +429,55 @@ impl<'x, W: Sink, const N: usize> AcceptedUse<Option<KeptDrive>, WholeLines<W, N
         let kept = KeptDrive::new(alloc, accepted)?;
         put_ready(alloc, self.text, self.bytes, sink)?;
         *drive = Some(kept);
+        Ok(Status::Done)
+    }
+}
+
+/// Opens a stepper of a container's plan for the assembly of a text, where the plan is accepted; or puts
+/// a refusal, and leaves the place of the stepper alone, as it does where there is a fault.
+pub fn open_stepper<'a, W: Sink>(
+    alloc: Global,
+    text: &[u8],
+    bytes: &[u8],
+    stepper: &mut Option<KeptStepper>,
+    sink: &mut W,
+) -> Result<Status, Fault<'a>>
+    ensures puts { Ending W.Sink sink.old sink.new (OpenEnds NothingEnds text.now bytes.now)
+        (OpenBreaks never text.now bytes.now) result }
+    ensures opens { IfOk result (λ status.
+        Opens IsFresh text.now bytes.now status stepper.old stepper.new) }
+    ensures err { IfErr result (λ _. stepper.new ≡ stepper.old) }
+{
+    let plan = Given::Container(bytes);
+    let work = IfAccepted(KeepStepper);
+    use_text(alloc, &Plainly, &OfPlan { plan, work }, text, stepper, sink)
+}
+
+/// Opens a stepper of an accepted plan in the place for it.
+#[derive(Clone, Copy)]
+struct KeepStepper;
+
+impl<W: Sink> AcceptedUse<Option<KeptStepper>, W> for KeepStepper {
+    ghost use Rattle.std.specs.Prelude.{⊤};
+    ghost use Rattle.burr_step.specs.Views.Stepping.{IsFresh};
+    ghost use Rattle.burr_judge.specs.OpenEnds.{NothingEnds, OpensOn};
+    ghost use Rattle.burr_judge.specs.PlanEnds.{never};
+
+    ghost can = { λ _. ⊤ };
+
+    ghost uses = { λ _ first before j _ r last after.
+        OpensOn IsFresh NothingEnds never W.Sink before after j first last r };
+
+    #[inline(never)]
+    fn use_accepted<'a, B: Blocking>(
+        &self,
+        alloc: Global,
+        accepted: &Accepted<'_, '_, B>,
+        _looks: u64,
+        stepper: &mut Option<KeptStepper>,
+        _sink: &mut W,
+    ) -> Result<Status, Fault<'a>> {
+        *stepper = Some(KeptStepper::new(alloc, accepted)?);
         Ok(Status::Done)
     }
 }

@@ -57,8 +57,7 @@ pub record IsPaused (assembly : Assembly) (program : Program) (p : Pause) : Type
 
 -- the stepper stands there, and can be gone on with
 pub record IsPauseOf (s : Stepping) (p : Pause) : Type 0 where
-  pub state : p.state ≡ s.bench.state
-  pub answers : p.answers ≡ s.history.answers
+  pub stands : s ≡ stepping_at s.bench.assembly s.bench.program p
   pub paused : IsPaused s.bench.assembly s.bench.program p
 
 -- before its first step, on the plan and the assembly that were accepted
