@@ -1,1 +1,5 @@
+mod Boxed
+mod HandleValues
+mod Heap
+mod LooseValues
 mod Printing

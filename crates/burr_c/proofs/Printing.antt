@@ -23,15 +23,22 @@ all_kept AreEnds old new bytes status first last (output, is, took) =
     let same : Appends (Some []) (Some bytes) output = subst (λ (o : Option (List ℕ)). Appends o (Some bytes) output) first (subst (λ (n : Option (List ℕ)). Appends old n output) last took) in
     subst (λ (b : List ℕ). AreEnds b status) (sym same) is
 
--- what `step` puts for these commands on a sink of whole lines over such a one, once all is handed on
+-- what is put on a sink of whole lines over such a one, once all is handed on
+pub all_handed_on : {S : Type 0} (first last : S) (sink : SinkView S) (old mid new : Lines S) (AreEnds : Ends) (bytes : List ℕ) (status : Status)
+    → old.held ≡ [] → old.sink ≡ first → sink.taken first ≡ Some [] → last ≡ new.sink → sink.taken last ≡ Some bytes
+    → PutsEnd (lines_view sink) old mid AreEnds status → Takes sink mid.sink new.sink mid.held → AreEnds bytes status
+all_handed_on first last sink old mid new AreEnds bytes status none begins nothing ends kept (output, is, put) took =
+    all_kept AreEnds (sink.taken old.sink) (sink.taken new.sink) bytes status (ap sink.taken begins ∙ nothing) (ap sink.taken (sym ends) ∙ kept)
+    (output, is, went sink old mid new output none put took)
+
+-- so what `step` puts for these commands
 pub steps_end : {R S : Type 0} (from to : R) (source : SourceView R) (first last : S) (sink : SinkView S) (old mid new : Lines S) (commands text container bytes : List ℕ) (status : Status)
     → source.left from ≡ Some commands → old.held ≡ [] → old.sink ≡ first → sink.taken first ≡ Some [] → last ≡ new.sink → sink.taken last ≡ Some bytes
     → PutsEnd (lines_view sink) old mid (StepTextEnds (left_by source from to) text container) status → Takes sink mid.sink new.sink mid.held → StepsEnd commands text container bytes status
-steps_end from to source first last sink old mid new commands text container bytes status given none begins nothing ends kept (output, is, put) took = (
+steps_end from to source first last sink old mid new commands text container bytes status given none begins nothing ends kept puts took = (
   left_by source from to,
   given,
-  all_kept (StepTextEnds (left_by source from to) text container) (sink.taken old.sink) (sink.taken new.sink) bytes status (ap sink.taken begins ∙ nothing) (ap sink.taken (sym ends) ∙ kept)
-      (output, is, went sink old mid new output none put took),
+  all_handed_on first last sink old mid new (StepTextEnds (left_by source from to) text container) bytes status none begins nothing ends kept puts took,
 )
 
 -- what is printed, or a fault, is given

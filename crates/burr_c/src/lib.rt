@@ -6,14 +6,19 @@
 //! beyond them. So a caller whose room was too small sees a `size` above its length, and calls again
 //! with a larger one.
 //!
-//! Each call answers for its arguments alone: it reads no file, keeps nothing, and gives back all
-//! memory that it asks for. Where an input has more than 16,777,216 bytes the status is 3, where a
-//! request for memory was refused 4, and then `size` is 0 and the room is left alone.
+//! Each call answers for its arguments alone: it reads no file, keeps nothing but an open drive, which
+//! its caller owns by a handle, and gives back all other memory that it asks for. Where an input has
+//! more than 16,777,216 bytes the status is 3, where a request for memory was refused 4, and then `size`
+//! is 0 and the room is left alone.
 #![tactic(auto)]
 
+mod drive;
+mod handle;
+mod loose;
 mod printed;
 #[cfg(test)]
 mod tests;
+mod told;
 
 ghost use Rattle.std.specs.Prelude.{[]};
 ghost use Rattle.burr_judge.specs.declared.tasks.Task.TheVariants.{Check, Run, Try};

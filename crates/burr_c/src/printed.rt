@@ -1,17 +1,21 @@
 //! What there is to print for a call, kept in memory.
 
-ghost use Rattle.std.specs.Prelude.{◌≡◌, ◌↔◌, IfOk, IfErr, IsTrue, ◌++◌, [], length, take, drop};
+ghost use Rattle.std.specs.Prelude.{◌≡◌, ◌↔◌, IfOk, IfErr, IsTrue, None, ◌++◌, [], length, take, drop};
 ghost use Rattle.burr_c.specs.declared.printed.CallFault.TheVariants.{Memory, TooLong};
 ghost use Rattle.burr_c.specs.CallEnds.{AssemblingEnds, StepsEnd};
 ghost use Rattle.burr_c.specs.Calls.{IsTooLong, IsEitherTooLong, IsAnyTooLong, call, Gives};
+ghost use Rattle.burr_step.specs.Views.Driving.{IsReady};
+ghost use Rattle.burr_judge.specs.DriveEnds.{ReadyEnds};
+ghost use Rattle.burr_judge.specs.OpenEnds.{OpenEnds, Opens};
 ghost use Rattle.burr_judge.specs.PlanEnds.{IsRefusal, PlanEnds};
 ghost use Rattle.burr_judge.specs.Refusals.{plan_text_refusal};
 ghost use Rattle.burr_c.specs.Statuses.{status_of_fault};
 
 use burr_asm::{AsmFault, assemble};
 use burr_io::{Kept, Reading, WholeLines, WriteFault};
-use burr_judge::{Refused, Status, Task, judge_text, refuse, step_text};
+use burr_judge::{Refused, Status, Task, judge_text, open_drive, refuse, step_text};
 use burr_runs::LIMIT;
+use burr_step::KeptDrive;
 use std::alloc::Global;
 use thiserror::Error;
 
@@ -125,6 +129,36 @@ pub fn print_steps(
         bytes: sink.into_sink().into_bytes(),
         status,
     })
+}
+
+/// A drive of a container's plan for an assembly's text, where the plan is accepted, and what `drive`
+/// prints before its first command; or the refusal, and no drive. `TooLong` where the text or the
+/// container has more than 16,777,216 bytes, and `Memory` where a request for memory was refused.
+pub fn print_ready(
+    alloc: Global,
+    text: &[u8],
+    container: &[u8],
+) -> Result<(Printed, Option<KeptDrive>), CallFault>
+    ensures ok { IfOk result (λ ready.
+        OpenEnds (ReadyEnds text.now container.now) text.now container.now ready.0.bytes.items ready.0.status) }
+    ensures opens { IfOk result (λ ready.
+        Opens IsReady text.now container.now ready.0.status None ready.1) }
+    ensures short { IfOk result (λ _. ¬ IsEitherTooLong text.now container.now) }
+    ensures long { IfErr result (λ fault.
+        fault ≡ TooLong ↔ IsEitherTooLong text.now container.now) }
+{
+    if is_too_long(text) || is_too_long(container) {
+        return Err(CallFault::TooLong);
+    }
+    let mut drive = None;
+    let mut lines: WholeLines<_, HELD> = WholeLines::new(Kept::new(alloc));
+    let status = open_drive(alloc, text, container, &mut drive, &mut lines)?;
+    lines.flush()?;
+    let printed = Printed {
+        bytes: lines.into_sink().into_bytes(),
+        status,
+    };
+    Ok((printed, drive))
 }
 
 /// The container of a plan text, with `Done`; or the line that refuses the text. `TooLong` where it

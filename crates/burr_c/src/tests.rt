@@ -1,4 +1,9 @@
 //! What each export gives, where that is long.
+use crate::drive::{
+    burr_drive_answer, burr_drive_close, burr_drive_goto, burr_drive_next, burr_drive_open,
+};
+use crate::handle::Handle;
+use crate::told::{ToldHalt, ToldMove};
 use crate::{burr_assemble, burr_check, burr_run, burr_step_through, burr_try};
 use std::alloc::{AllocError, Global};
 use std::process::Abort;
@@ -151,4 +156,69 @@ fn each_export_gives_more_than_64_kib(rt: HostRuntime) {
     let status = burr_step_through(alloc, DUO, &plan, commands.as_bytes(), room, &mut size);
     assert_given(&rt, "step", status, room.get(..size), shown.as_bytes());
     assert!(rt; long.len() > 65_536 && sheet.len() > 65_536 && shown.len() > 65_536);
+}
+
+/// What is told before a call.
+const NO_MOVE: ToldMove = ToldMove {
+    number: 0,
+    group: 0,
+    units: 0,
+    apart: 0,
+    out: 0,
+    tray: 0,
+    direction: 0,
+};
+
+const NO_HALT: ToldHalt = ToldHalt {
+    steps: 0,
+    question: 0,
+    low: 0,
+    high: 0,
+    pc: 0,
+    procedure: 0,
+};
+
+/// Asserts that no drive is open: each call says so and tells nothing.
+fn assert_closed(rt: &impl Abort, alloc: Global, drive: &mut Handle) {
+    let mut step = NO_MOVE;
+    let mut halt = NO_HALT;
+    assert!(rt; burr_drive_next(alloc, drive, &mut step, &mut halt) == 7);
+    assert!(rt; burr_drive_goto(alloc, drive, 1, &mut halt) == 7);
+    assert!(rt; burr_drive_answer(alloc, drive, 1, 0) == 7);
+    assert!(rt; step == NO_MOVE && halt == NO_HALT);
+}
+
+/// Each move out and back is a move of its own, 6,001 in all, and the last goes aside.
+#[test]
+fn a_drive_goes_on_from_call_to_call(rt: HostRuntime) {
+    let alloc = rt.alloc();
+    let mut drive = Handle::none();
+    assert_closed(&rt, alloc, &mut drive);
+    let mut room = [0u8; 512];
+    let mut size = 0;
+    let status = burr_assemble(alloc, TURNS, &mut room, &mut size);
+    assert!(rt; status == 0 && size <= room.len());
+    let plan = Vec::from_slice(alloc, &room[..size]).expect(&rt, "memory");
+    assert!(rt; burr_drive_open(alloc, TURNS, &plan, &mut room, &mut size, &mut drive) == 1);
+    assert_closed(&rt, alloc, &mut drive);
+    assert!(rt; burr_drive_open(alloc, DUO, &plan, &mut room, &mut size, &mut drive) == 0);
+    assert!(rt; size == 71 && room.starts_with(b"ready "));
+    let mut step = NO_MOVE;
+    let mut halt = NO_HALT;
+    assert!(rt; burr_drive_next(alloc, &mut drive, &mut step, &mut halt) == 0);
+    assert!(rt; (step.number, step.group, step.units) == (1, 1, 1));
+    assert!(rt; (step.tray, step.direction, step.out, step.apart) == (0, 1, -1, 0));
+    assert!(rt; burr_drive_answer(alloc, &mut drive, 1, 0) == 1);
+    assert!(rt; burr_drive_goto(alloc, &mut drive, 0, &mut halt) == 1);
+    assert!(rt; burr_drive_goto(alloc, &mut drive, 6000, &mut halt) == 0);
+    assert!(rt; burr_drive_next(alloc, &mut drive, &mut step, &mut halt) == 0);
+    assert!(rt; (step.number, step.group, step.units) == (6001, 1, 0));
+    assert!(rt; (step.out, step.apart) == (1, 3) && halt == NO_HALT);
+    assert!(rt; burr_drive_next(alloc, &mut drive, &mut step, &mut halt) == 6);
+    assert!(rt; burr_drive_goto(alloc, &mut drive, 7000, &mut halt) == 6);
+    assert!(rt; (halt.steps, halt.question) == (9005, 0) && step.number == 6001);
+    burr_drive_close(alloc, &mut drive);
+    burr_drive_close(alloc, &mut drive);
+    assert_closed(&rt, alloc, &mut drive);
+    let _none = drive.into_box(alloc);
 }

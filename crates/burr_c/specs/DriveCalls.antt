@@ -1,0 +1,124 @@
+-- What a program in C is told of a drive, and what its calls come to.
+use Rattle.std.specs.Prelude.{◌≡◌, ◌≢◌, ◌⊎◌, ◌<◌, ◌≤◌, ℕ, ℤ, pos, negsuc, List, Bool, true, false, Option, None, Some, Result, Ok, Err}
+use Rattle.burr_voxels.specs.Grid.{number_of}
+use Rattle.burr_state.specs.Views.Benches.{setup_of}
+use Rattle.burr_step.specs.declared.drive.Halt.{Halt}
+use Rattle.burr_step.specs.declared.drive.Halt.TheVariants.{Asks, Ends}
+use Rattle.burr_step.specs.declared.drive.Move.{Move}
+use Rattle.burr_step.specs.Rules.Drive.{GoesTo}
+use Rattle.burr_step.specs.Views.Driving.{Driving, IsReady, MovesOn, Goes, Arrives, Answers, led_of}
+use Rattle.burr_judge.specs.OpenEnds.{IsOpened}
+use Rattle.burr_c.specs.declared.told.Came.{Came}
+use Rattle.burr_c.specs.declared.told.Came.TheVariants.{Done, Refused, Waiting, Ended, Closed}
+use Rattle.burr_c.specs.declared.told.ToldMove.{ToldMove}
+use Rattle.burr_c.specs.declared.told.ToldHalt.{ToldHalt}
+
+-- the tray to which a group goes out; or -1 where it stays in its tray
+abbrev pub told_out : Option ℕ → ℤ
+told_out None = negsuc 0
+told_out (Some tray) = pos tray
+
+abbrev pub told_move : Move → ToldMove
+told_move m = record {
+  number = m.number;
+  group = m.group;
+  units = m.units;
+  apart = m.apart;
+  out = told_out m.out;
+  tray = m.tray;
+  direction = number_of m.direction;
+}
+
+-- a question; or the end, which has the number 0, after its steps
+abbrev pub told_halt : Halt → ToldHalt
+told_halt (Asks q) = record {
+  steps = 0;
+  question = q.number;
+  low = q.low;
+  high = q.high;
+  pc = q.pc;
+  procedure = q.procedure;
+}
+told_halt (Ends steps) = record {
+  steps = steps;
+  question = 0;
+  low = pos 0;
+  high = pos 0;
+  pc = 0;
+  procedure = 0;
+}
+
+-- what a call returns
+abbrev pub code_of : Came → ℕ
+code_of Done = 0
+code_of Refused = 1
+code_of Waiting = 5
+code_of Ended = 6
+code_of Closed = 7
+
+-- what a call came to at a halt
+abbrev pub halted : Halt → Came
+halted (Asks question) = Waiting
+halted (Ends steps) = Ended
+
+-- a drive is open, and the call returns 0; or none is, and it returns another number
+abbrev pub OpensAs : List ℕ → List ℕ → ℕ → Option Driving → Type 0
+OpensAs text bytes code drive =
+    ((code ≡ code_of Done) × IsOpened IsReady text bytes drive) ⊎ ((code ≢ code_of Done) × (drive ≡ None))
+
+-- What the caller's places for a move and for a halt held before and hold after a call, and what it
+-- returns.
+pub record Told : Type 0 where
+  pub old_move : ToldMove
+  pub move : ToldMove
+  pub old_halt : ToldHalt
+  pub halt : ToldHalt
+  pub code : ℕ
+
+abbrev pub told : ToldMove → ToldMove → ToldHalt → ToldHalt → ℕ → Told
+told old_move move old_halt halt code =
+    record { old_move = old_move; move = move; old_halt = old_halt; halt = halt; code = code }
+
+-- no drive is open, and nothing is told
+abbrev pub IsClosed : Option Driving → Told → Type 0
+IsClosed new t =
+    (new ≡ None) × (t.move ≡ t.old_move) × (t.halt ≡ t.old_halt) × (t.code ≡ code_of Closed)
+
+-- the next move is told, or why there is none
+abbrev pub TellsNext : Result Move Halt → Told → Type 0
+TellsNext (Ok move) t =
+    (t.move ≡ told_move move) × (t.halt ≡ t.old_halt) × (t.code ≡ code_of Done)
+TellsNext (Err halt) t =
+    (t.move ≡ t.old_move) × (t.halt ≡ told_halt halt) × (t.code ≡ code_of (halted halt))
+
+-- the drive that is open makes its next move and tells it, or tells why there is none
+abbrev pub NextComes : Option Driving → Option Driving → Told → Type 0
+NextComes None new t = IsClosed new t
+NextComes (Some old) new t =
+    (d : Driving) × (next : Result Move Halt) × (new ≡ Some d) × MovesOn old next d × TellsNext next t
+
+-- that the move was come to is told by the number alone; else why not
+abbrev pub TellsArrival : Result (Unit {0}) Halt → ToldHalt → ToldHalt → ℕ → Type 0
+TellsArrival (Ok there) old halt code = (halt ≡ old) × (code ≡ code_of Done)
+TellsArrival (Err why) old halt code = (halt ≡ told_halt why) × (code ≡ code_of (halted why))
+
+-- the drive that is open goes on to the move of a number; below those made that is refused
+abbrev pub GoComes : ℕ → Option Driving → Option Driving → ToldHalt → ToldHalt → ℕ → Type 0
+GoComes number None new was halt code = (new ≡ None) × (halt ≡ was) × (code ≡ code_of Closed)
+GoComes number (Some old) new was halt code =
+    ((number < old.moves) × (new ≡ Some old) × (halt ≡ was) × (code ≡ code_of Refused))
+    ⊎ ((old.moves ≤ number) × ((d : Driving) × (came : Result (Unit {0}) Halt) × (new ≡ Some d)
+    × Goes old d (λ setup from to. GoesTo setup number from to)
+    × Arrives number (setup_of old.bench) came (led_of d) × TellsArrival came was halt code))
+
+-- an answer was taken, or not
+abbrev pub answered : Bool → Came
+answered true = Done
+answered false = Refused
+
+-- the drive that is open takes the answer, or none that can be was given
+abbrev pub AnswerComes : ℕ → ℤ → Option Driving → Option Driving → ℕ → Type 0
+AnswerComes question answer None new code = (new ≡ None) × (code ≡ code_of Closed)
+AnswerComes question answer (Some old) new code =
+    (d : Driving) × (taken : Bool) × (new ≡ Some d) × Answers question answer old taken d
+    × (code ≡ code_of (answered taken))

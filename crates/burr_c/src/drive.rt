@@ -1,0 +1,154 @@
+//! Calls by which a program in C leads a run move by move. It keeps the run, by a handle, from call to
+//! call: nothing is read or judged again.
+
+ghost use Rattle.std.specs.Prelude.{◌≡◌, ◌↔◌, None, IfErr, IfOk};
+ghost use Rattle.burr_step.specs.Views.Driving.{IsReady};
+ghost use Rattle.burr_judge.specs.DriveEnds.{ReadyEnds};
+ghost use Rattle.burr_judge.specs.OpenEnds.{OpenEnds, Opens};
+ghost use Rattle.burr_c.specs.declared.printed.CallFault.TheVariants.{TooLong};
+ghost use Rattle.burr_c.specs.Calls.{IsEitherTooLong, Returns, call};
+ghost use Rattle.burr_c.specs.DriveCalls.{AnswerComes, GoComes, NextComes, OpensAs, told};
+
+use crate::handle::Handle;
+use crate::printed::{CallFault, Printed, give, print_ready};
+use crate::told::{Came, ToldHalt, ToldMove};
+use std::alloc::Global;
+
+/// Opens a drive of the container `plan`, where it is accepted, and prints what `burr drive` does before
+/// its first command: that the run is ready, with the digest of the assembly's text and the container;
+/// or prints a refusal. A drive that the handle had is closed before. The handle has a drive exactly
+/// where the status is 0.
+#[unsafe(no_mangle)]
+pub extern "C" fn burr_drive_open(
+    alloc: Global,
+    assembly: &[u8],
+    plan: &[u8],
+    room: &mut [u8],
+    size: &mut usize,
+    drive: &mut Handle,
+) -> u8
+    ensures printed { Returns (IsEitherTooLong assembly.now plan.now)
+        (OpenEnds (ReadyEnds assembly.now plan.now) assembly.now plan.now)
+        (call room.old room.new size.new result) }
+    ensures opened { OpensAs assembly.now plan.now result drive.new.value }
+{
+    let printed = open(alloc, assembly, plan, drive);
+    give(printed, room, size)
+}
+
+/// Opens a drive in the handle, where the plan is accepted: what there is to print.
+fn open(
+    alloc: Global,
+    text: &[u8],
+    container: &[u8],
+    drive: &mut Handle,
+) -> Result<Printed, CallFault>
+    ensures ok { IfOk result (λ printed.
+        OpenEnds (ReadyEnds text.now container.now) text.now container.now printed.bytes.items printed.status) }
+    ensures opens { IfOk result (λ printed.
+        Opens IsReady text.now container.now printed.status None drive.new.value) }
+    ensures none { IfErr result (λ _. drive.new.value ≡ None) }
+    ensures short { IfOk result (λ _. ¬ IsEitherTooLong text.now container.now) }
+    ensures long { IfErr result (λ fault.
+        fault ≡ TooLong ↔ IsEitherTooLong text.now container.now) }
+{
+    let _old = drive.take(alloc);
+    let (printed, opened) = print_ready(alloc, text, container)?;
+    if let Some(opened) = opened {
+        let Ok(kept) = Box::new(alloc, opened) else {
+            return Err(CallFault::Memory);
+        };
+        drive.put(alloc, kept);
+    }
+    Ok(printed)
+}
+
+/// Makes the next move, and tells it whole: 0; or tells why there is none, and changes nothing: 5 where
+/// the run waits for an answer, 6 where it has ended. 7 where no drive is open.
+#[unsafe(no_mangle)]
+pub extern "C" fn burr_drive_next(
+    alloc: Global,
+    drive: &mut Handle,
+    step: &mut ToldMove,
+    halt: &mut ToldHalt,
+) -> u8
+    ensures { NextComes drive.old.value drive.new.value
+        (told step.old step.new halt.old halt.new result) }
+{
+    let Some(mut open) = drive.take(alloc) else {
+        return Came::Closed.code();
+    };
+    let came = match open.next() {
+        Ok(made) => {
+            *step = ToldMove::of(made);
+            Came::Done
+        }
+        Err(why) => {
+            *halt = ToldHalt::of(why);
+            Came::at(why)
+        }
+    };
+    drive.put(alloc, open);
+    came.code()
+}
+
+/// Goes on without telling the moves, until that of a number is made: 0; or to where the run halts
+/// before, and tells why: 5 or 6. 1 where a move of a greater number was made, and then nothing changes;
+/// 7 where no drive is open.
+#[unsafe(no_mangle)]
+pub extern "C" fn burr_drive_goto(
+    alloc: Global,
+    drive: &mut Handle,
+    number: u32,
+    halt: &mut ToldHalt,
+) -> u8
+    ensures { GoComes number drive.old.value drive.new.value halt.old halt.new result }
+{
+    let Some(mut open) = drive.take(alloc) else {
+        return Came::Closed.code();
+    };
+    let came = if number < open.moves() {
+        Came::Refused
+    } else {
+        match open.go_to(number) {
+            Ok(()) => Came::Done,
+            Err(why) => {
+                *halt = ToldHalt::of(why);
+                Came::at(why)
+            }
+        }
+    };
+    drive.put(alloc, open);
+    came.code()
+}
+
+/// Answers the question of a number, where it is the one for which the run waits and the answer fits it:
+/// 0; else 1, and then nothing changes. 7 where no drive is open.
+#[unsafe(no_mangle)]
+pub extern "C" fn burr_drive_answer(
+    alloc: Global,
+    drive: &mut Handle,
+    question: u32,
+    answer: i32,
+) -> u8
+    ensures { AnswerComes question answer drive.old.value drive.new.value result }
+{
+    let Some(mut open) = drive.take(alloc) else {
+        return Came::Closed.code();
+    };
+    let came = if open.answer(question, answer) {
+        Came::Done
+    } else {
+        Came::Refused
+    };
+    drive.put(alloc, open);
+    came.code()
+}
+
+/// Closes the drive, if one is open, and gives back its memory.
+#[unsafe(no_mangle)]
+pub extern "C" fn burr_drive_close(alloc: Global, drive: &mut Handle)
+    ensures { drive.new.value ≡ None }
+{
+    let _closed = drive.take(alloc);
+}
