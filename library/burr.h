@@ -1,11 +1,12 @@
 /* What a program in C calls of burr. docs/LIBRARY.md says how it is built and linked.
 
-   The five functions below are those of the library libburr_c.a. Nothing compares these
+   The functions without a body are those of the library libburr_c.a. Nothing compares these
    declarations with the library's source: they were written by hand to fit it. What stands after
-   them is plain C over these five, which hands over what is printed line by line. */
+   them is plain C over these functions, which hands over what is printed line by line. */
 #ifndef BURR_H
 #define BURR_H
 
+#include <stdbool.h>
 #include <stddef.h>
 #include <stdint.h>
 #include <stdlib.h>
@@ -15,13 +16,15 @@
 extern "C" {
 #endif
 
-/* What a call gives: the exit status that the program would end with. */
+/* What a call gives: the exit status that the program ends with. Only a drive gives 6 and 7. */
 enum burr_status {
     BURR_DONE = 0,      /* all pieces are apart; a plan is accepted; what was asked is done */
-    BURR_REFUSED = 1,   /* refused, trapped or stopped: the lines say why */
+    BURR_REFUSED = 1,   /* refused, trapped or stopped: the lines say why, where there are any */
     BURR_TOO_LONG = 3,  /* an input has more than 16,777,216 bytes; nothing is printed */
     BURR_NO_MEMORY = 4, /* a request for memory was refused; nothing is printed */
-    BURR_WAITING = 5    /* the run waits for an answer: the last line says which */
+    BURR_WAITING = 5,   /* the run waits for an answer: the last line, or the halt, says which */
+    BURR_ENDED = 6,     /* the run of a drive has ended: there is no next move */
+    BURR_CLOSED = 7     /* no drive is open in this handle; nothing has changed */
 };
 
 /* The library's own functions. An input is a pointer and a number of bytes; the pointer is never
@@ -41,6 +44,58 @@ uint8_t burr_step_through(const uint8_t *assembly, size_t assembly_length, const
                           uint8_t *room, size_t room_length, size_t *size);
 uint8_t burr_assemble(const uint8_t *text, size_t text_length, uint8_t *room, size_t room_length,
                       size_t *size);
+
+/* A run that is kept between calls. It begins closed, as {NULL, false}. While it is open it is
+   neither copied nor altered, but by these functions; and it has to be closed in the end. */
+struct burr_handle {
+    uint8_t *at;
+    bool is_open;
+};
+
+/* A whole move: unit steps of one group of pieces, and then perhaps its way out. */
+struct burr_move {
+    uint32_t number;   /* moves are counted from 1 */
+    uint32_t group;    /* the pieces that move: bit p is piece p of the assembly, from 0 on */
+    uint32_t units;    /* how many unit steps */
+    uint32_t apart;    /* the pieces that are apart by the move, as bits too */
+    int16_t out;       /* the tray to which the group goes out after them; -1 where it stays */
+    uint8_t tray;      /* the tray in which the group is before */
+    uint8_t direction; /* 0 to 5: +x, -x, +y, -y, +z, -z */
+};
+
+/* Why no move is made: the run waits for an answer, or has ended. */
+struct burr_halt {
+    uint64_t steps;    /* how many steps were made, where the run has ended; else 0 */
+    uint32_t question; /* questions are counted from 1; where the run has ended this is 0, */
+                       /* and so are those below */
+    int32_t low;       /* the least number that answers it */
+    int32_t high;      /* the greatest one */
+    uint16_t pc;       /* where it stands in the code of its procedure */
+    uint8_t procedure; /* which procedure that is */
+};
+
+/* A drive leads a run of an accepted plan move by move, as `burr drive` does. *move and *halt have
+   to be initialised, and are written only where the status says that they tell something. Only the
+   call that opens a drive asks for memory.
+
+   Opens a drive before the first move, and prints what `burr drive` does before its first command:
+   `ready D`, or the refusal of the assembly or of the plan, which is a container. The handle is
+   open exactly where the status is BURR_DONE. A drive that it had is closed before. */
+uint8_t burr_drive_open(const uint8_t *assembly, size_t assembly_length, const uint8_t *plan,
+                        size_t plan_length, uint8_t *room, size_t room_length, size_t *size,
+                        struct burr_handle *run);
+/* BURR_DONE: the next move is made, and *move tells it. BURR_WAITING or BURR_ENDED: there is none
+   now, as *halt tells, and nothing has changed. */
+uint8_t burr_drive_next(struct burr_handle *run, struct burr_move *move, struct burr_halt *halt);
+/* Goes on, without telling the moves, until the move of this number is the last that is made:
+   BURR_DONE. BURR_WAITING or BURR_ENDED: the run halts before that, and *halt tells why.
+   BURR_REFUSED: a later move is made already, and nothing has changed. */
+uint8_t burr_drive_goto(struct burr_handle *run, uint32_t number, struct burr_halt *halt);
+/* BURR_DONE: the answer is taken. BURR_REFUSED: the run does not wait at the question of this
+   number, or the answer does not fit it, and nothing has changed. */
+uint8_t burr_drive_answer(struct burr_handle *run, uint32_t question, int32_t answer);
+/* Closes the drive and frees its memory; leaves a handle alone that is closed. */
+void burr_drive_close(struct burr_handle *run);
 
 /* Bytes of the caller's. Where there are none the pointer may be null. */
 struct burr_bytes {
@@ -73,20 +128,33 @@ static inline void burr_free(struct burr_text *text)
     text->length = 0;
 }
 
-/* Which of the five functions is called. */
+/* Which function is called. */
 enum burr_command_ {
     BURR_CHECK_,
     BURR_RUN_,
     BURR_TRY_,
     BURR_STEP_,
+    BURR_DRIVE_,
     BURR_ASSEMBLE_
 };
 
 /* What it is called with: an assembly's text, or a plan text where that is assembled; a container;
-   and answers, or commands. */
+   answers, or commands; and, of a drive, its handle. */
 struct burr_inputs_ {
     struct burr_bytes text, plan, more;
+    struct burr_handle *run;
 };
+
+static inline struct burr_inputs_ burr_inputs_of_(struct burr_bytes text, struct burr_bytes plan,
+                                                  struct burr_bytes more)
+{
+    struct burr_inputs_ in;
+    in.text = text;
+    in.plan = plan;
+    in.more = more;
+    in.run = NULL;
+    return in;
+}
 
 static inline const uint8_t *burr_pointer_(struct burr_bytes bytes)
 {
@@ -112,6 +180,9 @@ static inline int burr_call_(enum burr_command_ command, struct burr_inputs_ in,
     case BURR_STEP_:
         return burr_step_through(text, in.text.length, plan, in.plan.length, more, in.more.length,
                                  room, length, size);
+    case BURR_DRIVE_:
+        return burr_drive_open(text, in.text.length, plan, in.plan.length, room, length, size,
+                               in.run);
     default:
         return burr_assemble(text, in.text.length, room, length, size);
     }
@@ -142,7 +213,7 @@ static inline int burr_print_(enum burr_command_ command, struct burr_inputs_ in
     }
 }
 
-/* Hands over the lines from so many bytes on. */
+/* Hands over the lines from this number of bytes on. */
 static inline void burr_hand_over_(struct burr_text *text, size_t from, burr_line *take,
                                    void *context)
 {
@@ -170,10 +241,7 @@ static inline int burr_hand_lines_(enum burr_command_ command, struct burr_input
 static inline int burr_check_lines(struct burr_bytes assembly, struct burr_bytes plan,
                                    burr_line *take, void *context)
 {
-    struct burr_inputs_ in;
-    in.text = assembly;
-    in.plan = plan;
-    in.more = burr_bytes_of(NULL, 0);
+    struct burr_inputs_ in = burr_inputs_of_(assembly, plan, burr_bytes_of(NULL, 0));
     return burr_hand_lines_(BURR_CHECK_, in, take, context);
 }
 
@@ -182,22 +250,14 @@ static inline int burr_check_lines(struct burr_bytes assembly, struct burr_bytes
 static inline int burr_run_lines(struct burr_bytes assembly, struct burr_bytes plan,
                                  struct burr_bytes answers, burr_line *take, void *context)
 {
-    struct burr_inputs_ in;
-    in.text = assembly;
-    in.plan = plan;
-    in.more = answers;
-    return burr_hand_lines_(BURR_RUN_, in, take, context);
+    return burr_hand_lines_(BURR_RUN_, burr_inputs_of_(assembly, plan, answers), take, context);
 }
 
 /* The same without judging the plan: each move is checked, and the run may end in a trap. */
 static inline int burr_try_lines(struct burr_bytes assembly, struct burr_bytes plan,
                                  struct burr_bytes answers, burr_line *take, void *context)
 {
-    struct burr_inputs_ in;
-    in.text = assembly;
-    in.plan = plan;
-    in.more = answers;
-    return burr_hand_lines_(BURR_TRY_, in, take, context);
+    return burr_hand_lines_(BURR_TRY_, burr_inputs_of_(assembly, plan, answers), take, context);
 }
 
 /* Assembles a plan text. With BURR_DONE the container is in *container, which burr_free frees; else
@@ -205,15 +265,26 @@ static inline int burr_try_lines(struct burr_bytes assembly, struct burr_bytes p
 static inline int burr_assemble_text(struct burr_bytes text, struct burr_text *container,
                                      burr_line *take, void *context)
 {
-    struct burr_inputs_ in;
-    int status;
-    in.text = text;
-    in.plan = in.more = burr_bytes_of(NULL, 0);
-    status = burr_print_(BURR_ASSEMBLE_, in, container);
+    struct burr_bytes none = burr_bytes_of(NULL, 0);
+    int status = burr_print_(BURR_ASSEMBLE_, burr_inputs_of_(text, none, none), container);
     if (status != BURR_DONE) {
         burr_hand_over_(container, 0, take, context);
         burr_free(container);
     }
+    return status;
+}
+
+/* Opens a drive, and hands over the line that says so, or the refusal. With any other status than
+   BURR_DONE the handle is closed. */
+static inline int burr_drive_open_lines(struct burr_handle *run, struct burr_bytes assembly,
+                                        struct burr_bytes plan, burr_line *take, void *context)
+{
+    struct burr_inputs_ in = burr_inputs_of_(assembly, plan, burr_bytes_of(NULL, 0));
+    int status;
+    in.run = run;
+    status = burr_hand_lines_(BURR_DRIVE_, in, take, context);
+    if (status != BURR_DONE)
+        burr_drive_close(run); /* also where no room was to be had */
     return status;
 }
 
@@ -231,12 +302,9 @@ struct burr_stepper {
 static inline int burr_stepper_go_(struct burr_stepper *stepper, burr_line *take, void *context)
 {
     struct burr_text text;
-    struct burr_inputs_ in;
-    int status;
-    in.text = stepper->assembly;
-    in.plan = stepper->plan;
-    in.more = burr_bytes_of(stepper->commands, stepper->commands_length);
-    status = burr_print_(BURR_STEP_, in, &text);
+    struct burr_bytes commands = burr_bytes_of(stepper->commands, stepper->commands_length);
+    struct burr_inputs_ in = burr_inputs_of_(stepper->assembly, stepper->plan, commands);
+    int status = burr_print_(BURR_STEP_, in, &text);
     burr_hand_over_(&text, stepper->handed, take, context);
     if (status == BURR_DONE)
         stepper->handed = text.length;

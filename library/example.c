@@ -1,12 +1,14 @@
-/* Assembles a plan text and judges it for an assembly, runs it with answers, and goes through it
-   step by step with the same answers:
+/* Assembles a plan text and judges it for an assembly, runs it with answers, and with the same
+   answers goes through it step by step and leads it move by move:
 
        example ASSEMBLY TEXT [ANSWER..]
 
-   It prints what `burr check` and `burr run` print, and then each command for the stepper after
-   "> " and what `burr step` answers. It ends with the status of the run. */
+   It prints what `burr check` and `burr run` print; then each command for the stepper after "> "
+   and what `burr step` answers; and then what `burr drive` answers, where a set of pieces is told
+   as a hexadecimal number, whose bit p is piece p. It ends with the status of the run. */
 #include "burr.h"
 
+#include <inttypes.h>
 #include <stdio.h>
 
 /* What the stepper's last answer says. */
@@ -97,7 +99,64 @@ static int step_through(struct burr_bytes assembly, struct burr_bytes plan, int 
     return status;
 }
 
-/* Judges the plan, runs it and goes through it. The status of the run. */
+/* Here a real gripper would make the move. */
+static void print_move(const struct burr_move *move)
+{
+    static const char *const directions[] = {"+x", "-x", "+y", "-y", "+z", "-z"};
+    printf("move %" PRIu32 " t%u %" PRIx32 " %s %" PRIu32, move->number, move->tray, move->group,
+           directions[move->direction], move->units);
+    if (move->out >= 0)
+        printf(" out t%d", move->out);
+    if (move->apart != 0)
+        printf(" apart %" PRIx32, move->apart);
+    putchar('\n');
+}
+
+static void print_halt(const struct burr_halt *halt)
+{
+    if (halt->question == 0)
+        printf("end %" PRIu64 "\n", halt->steps);
+    else
+        printf("ask %" PRIu32 " %" PRId32 " %" PRId32 " proc %u pc %u\n", halt->question, halt->low,
+               halt->high, halt->procedure, halt->pc);
+}
+
+/* Answers a question with a word. What has more than 32 bits becomes a number that none takes. */
+static void give_answer(struct burr_handle *run, uint32_t question, const char *word)
+{
+    long long number = strtoll(word, NULL, 10);
+    int32_t answer = number < INT32_MIN || number > INT32_MAX ? INT32_MAX : (int32_t)number;
+    if (burr_drive_answer(run, question, answer) == BURR_DONE)
+        printf("taken %" PRIu32 "\n", question);
+    else
+        puts("refused answer");
+}
+
+/* Leads the run to its end, or until no answer is left. */
+static int lead(struct burr_bytes assembly, struct burr_bytes plan, int count, char **answers)
+{
+    struct burr_handle run = {NULL, false};
+    struct burr_move move = {0};
+    struct burr_halt halt = {0};
+    int status = burr_drive_open_lines(&run, assembly, plan, print_line, NULL);
+    while (status == BURR_DONE) {
+        status = burr_drive_next(&run, &move, &halt);
+        if (status == BURR_DONE) {
+            print_move(&move);
+        } else {
+            print_halt(&halt);
+            if (status == BURR_WAITING && count > 0) {
+                give_answer(&run, halt.question, *answers++);
+                count--;
+                status = BURR_DONE;
+            }
+        }
+    }
+    burr_drive_close(&run);
+    return status == BURR_ENDED ? BURR_DONE : status;
+}
+
+/* Judges the plan, runs it, goes through it and leads it. The status of the run. */
 static int use_plan(struct burr_bytes assembly, struct burr_bytes plan, int count, char **answers)
 {
     char *text = join_answers(count, answers);
@@ -110,7 +169,7 @@ static int use_plan(struct burr_bytes assembly, struct burr_bytes plan, int coun
             burr_run_lines(assembly, plan, burr_bytes_of(text, strlen(text)), print_line, NULL);
         if (status == BURR_DONE || status == BURR_WAITING) {
             int stepped = step_through(assembly, plan, count, answers);
-            status = stepped == BURR_DONE ? status : stepped;
+            status = stepped == BURR_DONE ? lead(assembly, plan, count, answers) : stepped;
         }
     }
     free(text);
