@@ -21,12 +21,14 @@ pub enum Call {
     ReadWhole,
     RunBench,
     MakeStepper,
+    KeepDrive,
+    KeepStepper,
     Answer,
     Command,
 }
 
 /// All of them, by their names.
-pub const CALLS: [(&str, Call); 17] = [
+pub const CALLS: [(&str, Call); 19] = [
     ("Assembly::read", Call::ReadAssembly),
     ("Assembly::write", Call::WriteAssembly),
     ("CellTables::build", Call::BuildCellTables),
@@ -42,6 +44,8 @@ pub const CALLS: [(&str, Call); 17] = [
     ("read_whole", Call::ReadWhole),
     ("bench_text", Call::RunBench),
     ("Stepper::new", Call::MakeStepper),
+    ("KeptDrive::new", Call::KeepDrive),
+    ("KeptStepper::new", Call::KeepStepper),
     ("Stepper::answer", Call::Answer),
     ("command", Call::Command),
 ];
@@ -65,6 +69,8 @@ impl Call {
             Call::ReadWhole => inputs::source_is_read(kit),
             Call::RunBench => inputs::code_is_run(kit),
             Call::MakeStepper => stepping::stepper_is_made(kit),
+            Call::KeepDrive => stepping::drive_is_kept(kit),
+            Call::KeepStepper => stepping::stepper_is_kept(kit),
             Call::Answer => stepping::answer_is_taken(kit),
             Call::Command => stepping::command_is_taken(kit),
         }

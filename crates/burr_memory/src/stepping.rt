@@ -2,8 +2,8 @@
 use crate::kit::Kit;
 use burr_blocking::PlainCells;
 use burr_io::Writing;
-use burr_judge::{Commanded, StepFault};
-use burr_step::{StepRefusal, Stepper};
+use burr_judge::{Commanded, KeptStepper, StepFault};
+use burr_step::{KeptDrive, StepRefusal, Stepper};
 use burr_verify::accept;
 use std::alloc::AllocError;
 use std::io::Cursor;
@@ -15,6 +15,27 @@ pub fn stepper_is_made(kit: &Kit<'_>) -> Result<bool, AllocError> {
     };
     let stepper = Stepper::new(kit.alloc, &accepted)?;
     Ok(stepper.steps() == 0 && !stepper.ended())
+}
+
+pub fn drive_is_kept(kit: &Kit<'_>) -> Result<bool, AllocError> {
+    let cells = PlainCells::new(&kit.assembly);
+    let Ok(accepted) = accept(&kit.container, &cells) else {
+        return Ok(false);
+    };
+    let drive = KeptDrive::new(kit.alloc, &accepted)?;
+    Ok(drive.moves() == 0)
+}
+
+pub fn stepper_is_kept(kit: &Kit<'_>) -> Result<bool, AllocError> {
+    let cells = PlainCells::new(&kit.assembly);
+    let Ok(accepted) = accept(&kit.container, &cells) else {
+        return Ok(false);
+    };
+    let mut stepper = KeptStepper::new(kit.alloc, &accepted)?;
+    let mut room = [0u8; 16];
+    let mut text = Cursor::new(room.as_mut_slice());
+    let taken = stepper.command(b"forward", &mut Writing::new(&mut text));
+    Ok(taken == Ok(true) && text.position() == 14)
 }
 
 pub fn answer_is_taken(kit: &Kit<'_>) -> Result<bool, AllocError> {

@@ -6,8 +6,8 @@ use crate::tables::{How, Kind, table_of};
 use crate::texts::lines_of;
 use burr_blocking::RowTables;
 use burr_io::Writing;
-use burr_judge::{Commanded, StepFault};
-use burr_step::Drive;
+use burr_judge::{Commanded, KeptStepper, StepFault};
+use burr_step::{Drive, Halt, KeptDrive, Stepper};
 use burr_testing::Narrow;
 use burr_verify::{Accepted, accept};
 use std::alloc::Global;
@@ -34,6 +34,60 @@ fn assert_dialogue(rt: &impl Abort, alloc: Global, dialogue: &'static str) {
     assert_lines(rt, alloc, &accepted, lines, usize::MAX, 0);
     for (place, line) in lines.lines().enumerate() {
         assert_fronts(rt, alloc, &accepted, lines, place, line);
+    }
+}
+
+/// Asserts that a drive and a stepper that are kept go on as those that they lend to themselves.
+#[test]
+fn goes_on_where_it_is_kept(rt: HostRuntime) {
+    for dialogue in DRIVES.split("\n\n") {
+        let (head, _lines) = dialogue.split_once('\n').expect(&rt, "lines");
+        let table = table_of(&rt, Kind::Check, How::Plainly, head);
+        let bytes = plan_of(&rt, rt.alloc(), &table, "none");
+        let assembly = assembly_of(&rt, rt.alloc(), table.assembly);
+        let rows = rows_of(&rt, rt.alloc(), &assembly);
+        let container = container_of(&rt, &bytes);
+        let Ok(accepted) = accept(&container, &rows) else {
+            panic!(rt; "refused");
+        };
+        assert_kept_drive(&rt, rt.alloc(), &accepted);
+        assert_kept_stepper(&rt, rt.alloc(), &accepted);
+    }
+}
+
+/// Leads both drives to the end, and answers each question by its least number.
+fn assert_kept_drive(rt: &impl Abort, alloc: Global, accepted: &Accepted<'_, '_, RowTables<'_>>) {
+    let mut drive = Drive::new(accepted);
+    let mut kept = KeptDrive::new(alloc, accepted).expect(rt, "memory");
+    for _ in 0..1000 {
+        let next = drive.next();
+        assert!(rt; kept.next() == next && kept.moves() == drive.moves());
+        assert!(rt; kept.assembly().name() == drive.assembly().name());
+        match next {
+            Ok(made) => assert!(rt; kept.go_to(made.number).is_ok()),
+            Err(Halt::Asks(question)) => {
+                assert!(rt; !kept.answer(question.number + 1, question.low));
+                assert!(rt; kept.answer(question.number, question.low));
+                assert!(rt; drive.answer(question.number, question.low));
+            }
+            Err(Halt::Ends(_steps)) => return,
+        }
+    }
+    panic!(rt; "no end");
+}
+
+/// Gives both steppers the same lines.
+fn assert_kept_stepper(rt: &impl Abort, alloc: Global, accepted: &Accepted<'_, '_, RowTables<'_>>) {
+    let mut stepper = Stepper::new(alloc, accepted).expect(rt, "memory");
+    let mut kept = KeptStepper::new(alloc, accepted).expect(rt, "memory");
+    for line in [
+        "forward", "over", "answer 1", "show", "back 1", "back 9", "no", "show", "quit",
+    ] {
+        let mut text = Vec::new(alloc);
+        let taken = stepper.command(line.as_bytes(), &mut Writing::new(&mut text));
+        let mut other = Vec::new(alloc);
+        assert!(rt; kept.command(line.as_bytes(), &mut Writing::new(&mut other)) == taken);
+        assert!(rt; other.as_slice() == text.as_slice(), "{line}");
     }
 }
 
