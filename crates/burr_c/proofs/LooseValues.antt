@@ -15,8 +15,7 @@ use denote.Struct.Struct.{Shape, Struct, Struct-Makes}
 use denote.Struct.Owning.{shape}
 use Rattle.core.proofs.atomic.Steps.{Ptr-Good}
 use Rattle.std_alloc.proofs.ResultValues.{and_tt}
-use Rattle.libc.specs.Heap.{chunk}
-use Rattle.std_alloc.specs.Box.Ownership.{box_owns}
+use Rattle.burr_c.specs.Keeps.{owns_block}
 use Rattle.burr_c.specs.contracts.loose.Loose as loose
 
 -- the struct that lies in the machine for the pointer p
@@ -32,7 +31,7 @@ module _ (R : RattleType) where
 
   -- what is at p: the value x, and the right to free its block
   abbrev pub kept : Ptr → R.Denot → Fml
-  kept p x = box_owns (λ τ q. chunk τ q) R p x
+  kept p x = owns_block R p x
 
   pub word_fits : (p : Ptr) → T (has_ty (layout Loose) (word p)) × WT (word p)
   word_fits p = (and_tt _ (Ptr-Good p).0, ((Ptr-Good p).1, tt))

@@ -1,8 +1,7 @@
 //! A box as its pointer, so that a handle can keep the pointer.
 
 ghost use Rattle.std.specs.Prelude.{◌≡◌};
-ghost use Rattle.libc.specs.Heap.{chunk};
-ghost use Rattle.std_alloc.specs.Box.Ownership.{box_owns};
+ghost use Rattle.burr_c.specs.Keeps.{owns_block};
 
 use std::marker::Model;
 
@@ -13,7 +12,7 @@ pub struct Loose<T> {
 }
 
 impl<T> Model for Loose<T> {
-    ghost also_owns = { λ l. box_owns (λ τ q. chunk τ q) T.row l.at l.value };
+    ghost also_owns = { λ l. owns_block T.row l.at l.value };
 }
 
 impl<T: Drop> Loose<T> {

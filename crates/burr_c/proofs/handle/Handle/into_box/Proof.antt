@@ -8,7 +8,7 @@ use contract.BorrowLft.{◌⊑◌, ⊑_refl}
 use contract.Monad.{fact, fact_i}
 use contract.Running.{tables}
 use types.Kit.{‵, raw, ◌⊛◌, some, later, at_ret, ◌$◌, ◌∵◌, !, qed, done, suffices, await}
-use types.Kit.{move, keep, drop, group, split, join, pick, use0, use1, use2, feq_i}
+use types.Kit.{fpick, move, keep, drop, group, split, join, pick, use0, use1, use2, feq_i}
 use types.Run.{stop, fld, of_opd, un, lit, no_more, and_then, first, blocks, branches, skips, exec, returns, returns_within, enter}
 use types.ByLocal.{alloc_all, pass_all, free_all, look_at, get, get_in, sets, lands_last, env}
 use types.Match.{live}
@@ -89,7 +89,7 @@ into_box_spec {M} 𝓤 𝓛 𝓜 𝓡 wired =
     returns_within ! (W.post y) refl (look_at ! 0 refl) $ free_all ! refl $ keep ! (0 ∷ []) $
     suffices ! _ (ends_at 𝓛 f.ended stayed c y (live 0 vnil) None (tt, (tt, tt)) (tt, (tt, tt))) $
     says ! none $ nothing ! $ nothing ! $ join ! $ nothing ! $ join ! $ nothing ! $ done !))
-    (λ is_open. opened ! handle.is_open handle.at handle.value is_open (λ value has_value.
+    (λ is_open. opened ! handle.is_open handle.at handle.value is_open (λ value has_value. fpick ! (λ held.
     skips ! $ exec ! 𝓣.C 𝓣.Λ Env code.Mir.t-5 (at_ret Env (W.post y)) $
     first ! $ blocks ! $
     sets ! (of_opd ! (get ! refl)) refl (Ptr-Good handle.at) $
@@ -128,4 +128,4 @@ into_box_spec {M} 𝓤 𝓛 𝓜 𝓡 wired =
     use1 𝓛 (‵ (Out.own_val (Some made) (live 1 (vcons given vnil) ∷ []))) (Some-of 𝓛 Whole made given) $
     returns ! (look_at ! 0 refl) $ free_all ! refl $ keep ! (0 ∷ []) $
     suffices ! _ (ends_at 𝓛 f.ended stayed c y (live 1 (vcons given vnil)) (Some made) (tt, (tt, tt)) (tt, (tt, tt))) $
-    says ! (has_value ∙ ap Some (sym same)) $ nothing ! $ nothing ! $ join ! $ nothing ! $ join ! $ nothing ! $ done !)))))))))
+    says ! (has_value ∙ ap Some (sym same)) $ nothing ! $ nothing ! $ join ! $ nothing ! $ join ! $ nothing ! $ done !))))))))))

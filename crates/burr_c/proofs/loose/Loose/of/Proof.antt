@@ -10,7 +10,7 @@ use contract.BorrowLft.{◌⊑◌, ⊑_refl}
 use contract.Monad.{fact, fact_i}
 use contract.Running.{tables}
 use types.Kit.{‵, raw, ◌⊛◌, some, later, ◌$◌, ◌∵◌, !, qed, done, suffices, await}
-use types.Kit.{move, keep, drop, group, split, join, pick, use0, use1, use2, feq_l}
+use types.Kit.{fpack, move, keep, drop, group, split, join, pick, use0, use1, use2, feq_l}
 use types.Run.{of_opd, no_more, and_then, returns, enter}
 use types.ByLocal.{alloc_all, pass_all, free_all, look_at, get, sets, lands_as}
 use types.Part.{agg}
@@ -38,10 +38,11 @@ use Rattle.std.specs.contracts.impls.GlobalAllocator.TheImpl.{ghosts, dict}
 use Rattle.std.proofs.raw_atomic.Walks.{proved}
 use Rattle.std_alloc.proofs.boxed.Box.TheLaws as box_laws
 use Rattle.std_alloc.specs.contracts.boxed.Box as Box
+use Rattle.std_alloc.specs.Box.Ownership.{box_owns}
 use Rattle.std_alloc.specs.contracts.boxed.Box.into_raw as callee
 use Rattle.std_alloc.proofs.boxed.Box.into_raw.Met.{met}
 use Rattle.burr_c.proofs.Heap.{Heap, heap, heap_laws, heap_bits, heap_told, no_drop, heap_drop}
-use Rattle.burr_c.proofs.LooseValues.{kept, word, word_fits, makes_loose}
+use Rattle.burr_c.proofs.LooseValues.{word, word_fits, makes_loose}
 use Rattle.burr_c.proofs.Destruct++none.drop.Code as no_drop_code
 use Rattle.burr_c.specs.contracts.loose.Loose.of as f
 use Rattle.burr_c.proofs.loose.Loose.of.Statement.{statement}
@@ -81,6 +82,7 @@ of_spec {M} 𝓤 𝓛 𝓜 𝓡 wired T laws drops glue =
     let raw_triple = triple_of 𝓛 called.signature (callee.spec T heap ghosts dict heap_drop drops 𝓛 𝓜.mem 𝓡.returns) in
     let asked : raw_triple.Ghost = (((κ, ([], tt)), (share, (full_share, tt)), tt, (whole, tt), (bits ∷ [], tt)), tt) in
     let heap_lives : Type 0 = [] ⊑ heap.lives in
+    let block = λ (alloc : Heap.Denot) (at : Ptr). box_owns (ghosts.dealloc_token alloc) R at whole.value in
     -- a token of the heap's lifetime, which is the longest, and the fact that it is within the heap's
     split ! $ split ! $ use0 𝓛 (‵ (flft [] full_share)) (𝓛.lfts.lft-nil full_share) $ move ! (1 ∷ 0 ∷ 2 ∷ []) $ group ! 3 $ join ! $
     move ! (1 ∷ []) $ split ! $ use0 𝓛 (raw (fact 𝓤 heap_lives)) (fact_i 𝓤 heap_lives (emp 𝓤) (⊑_refl [])) $
@@ -95,12 +97,12 @@ of_spec {M} 𝓤 𝓛 𝓜 𝓡 wired T laws drops glue =
     (glues no_drop 𝓡.env (code.calls-burr_c::Destruct++none::drop 𝓡.env wired) heap heap_laws M 𝓤 𝓛 𝓜 𝓡) glue)
     asked (and_then ! (get ! refl) (no_more !)) (λ given.
     use1 𝓛 (later (some (λ (at : Ptr). ((‵ (flft κ share) ⊛ ‵ (flft [] full_share) ⊛ ‵ ftrue) ⊛ ‵ (RawPtr.own_val at (given ∷ []))) ⊛
-    some (λ (ws : Lasts called asked.0.0 asked.0.3). ‵ (lasts called asked.0.0 asked.0.3 ws) ⊛ ‵ (kept R at whole.value))))) (id⊢ 𝓤 _) $
+    some (λ (ws : Lasts called asked.0.0 asked.0.3). ‵ (lasts called asked.0.0 asked.0.3 ws) ⊛ ‵ (block whole.alloc at))))) (id⊢ 𝓤 _) $
     await ! tt $ pick ! (λ at. split ! $ split ! $ split ! $ move ! (2 ∷ 3 ∷ []) $ feq_l ! (λ is_at. pick ! (λ ws. split ! $ drop ! $
     -- [the value and the right to free its block; the token; the heap's]
     lands_as ! (ap only is_at) refl (Ptr-Good at) $
     sets ! (agg ! (and_then ! (get ! refl) (no_more !))) refl (word_fits R at) $
-    makes_loose R ! at whole.value $
+    fpack ! Heap.Denot (λ alloc. block alloc at) whole.alloc $ makes_loose R ! at whole.value $
     returns ! (look_at ! 0 refl) $ free_all ! refl $ keep ! (1 ∷ 0 ∷ []) $
     -- [the token; the loose box]
     suffices ! _ (ends_at 𝓛 ended stayed c y (word at) (record { at = at; value = whole.value }) (tt, tt) (tt, tt)) $ says ! refl $
