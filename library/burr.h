@@ -16,7 +16,7 @@
 extern "C" {
 #endif
 
-/* What a call gives: the exit status that the program ends with. Only a drive gives 6 and 7. */
+/* What a call gives: the exit status that the program ends with; or, with a handle, 6 or 7. */
 enum burr_status {
     BURR_DONE = 0,      /* all pieces are apart; a plan is accepted; what was asked is done */
     BURR_REFUSED = 1,   /* refused, trapped or stopped: the lines say why, where there are any */
@@ -24,7 +24,7 @@ enum burr_status {
     BURR_NO_MEMORY = 4, /* a request for memory was refused; nothing is printed */
     BURR_WAITING = 5,   /* the run waits for an answer: the last line, or the halt, says which */
     BURR_ENDED = 6,     /* the run of a drive has ended: there is no next move */
-    BURR_CLOSED = 7     /* no drive is open in this handle; nothing has changed */
+    BURR_CLOSED = 7     /* no drive, or no stepper, is open in this handle; nothing has changed */
 };
 
 /* The library's own functions. An input is a pointer and a number of bytes; the pointer is never
@@ -94,8 +94,22 @@ uint8_t burr_drive_goto(struct burr_handle *run, uint32_t number, struct burr_ha
 /* BURR_DONE: the answer is taken. BURR_REFUSED: the run does not wait at the question of this
    number, or the answer does not fit it, and nothing has changed. */
 uint8_t burr_drive_answer(struct burr_handle *run, uint32_t question, int32_t answer);
-/* Closes the drive and frees its memory; leaves a handle alone that is closed. */
+/* Closes the drive, or the stepper, and frees its memory; leaves a handle alone that is closed. */
 void burr_drive_close(struct burr_handle *run);
+
+/* A stepper takes an accepted plan by single steps, forwards and back, as `burr step` does.
+
+   Opens a stepper at the start of a run, and prints nothing, or the refusal of the assembly or of the
+   plan, which is a container. The handle is open exactly where the status is BURR_DONE. A run that it
+   had is closed before; burr_drive_close closes the stepper. */
+uint8_t burr_step_open(const uint8_t *assembly, size_t assembly_length, const uint8_t *plan,
+                       size_t plan_length, uint8_t *room, size_t room_length, size_t *size,
+                       struct burr_handle *run);
+/* Takes a command, a line without its end, and prints what answers it. BURR_DONE also where the
+   command is refused. BURR_NO_MEMORY: it is not taken; or it is, and its answer is lost, and `show`
+   tells where the run stands. `quit` is answered by nothing, and changes nothing. */
+uint8_t burr_step_command(struct burr_handle *run, const uint8_t *line, size_t line_length,
+                          uint8_t *room, size_t room_length, size_t *size);
 
 /* Bytes of the caller's. Where there are none the pointer may be null. */
 struct burr_bytes {
@@ -133,13 +147,13 @@ enum burr_command_ {
     BURR_CHECK_,
     BURR_RUN_,
     BURR_TRY_,
-    BURR_STEP_,
     BURR_DRIVE_,
+    BURR_STEPPER_,
     BURR_ASSEMBLE_
 };
 
 /* What it is called with: an assembly's text, or a plan text where that is assembled; a container;
-   answers, or commands; and, of a drive, its handle. */
+   answers; and the handle in which a drive or a stepper is opened. */
 struct burr_inputs_ {
     struct burr_bytes text, plan, more;
     struct burr_handle *run;
@@ -177,12 +191,12 @@ static inline int burr_call_(enum burr_command_ command, struct burr_inputs_ in,
     case BURR_TRY_:
         return burr_try(text, in.text.length, plan, in.plan.length, more, in.more.length, room,
                         length, size);
-    case BURR_STEP_:
-        return burr_step_through(text, in.text.length, plan, in.plan.length, more, in.more.length,
-                                 room, length, size);
     case BURR_DRIVE_:
         return burr_drive_open(text, in.text.length, plan, in.plan.length, room, length, size,
                                in.run);
+    case BURR_STEPPER_:
+        return burr_step_open(text, in.text.length, plan, in.plan.length, room, length, size,
+                              in.run);
     default:
         return burr_assemble(text, in.text.length, room, length, size);
     }
@@ -274,84 +288,74 @@ static inline int burr_assemble_text(struct burr_bytes text, struct burr_text *c
     return status;
 }
 
-/* Opens a drive, and hands over the line that says so, or the refusal. With any other status than
-   BURR_DONE the handle is closed. */
-static inline int burr_drive_open_lines(struct burr_handle *run, struct burr_bytes assembly,
-                                        struct burr_bytes plan, burr_line *take, void *context)
+/* Opens a drive or a stepper, and hands over what is printed. With any other status than BURR_DONE
+   the handle is closed. */
+static inline int burr_open_lines_(enum burr_command_ command, struct burr_handle *run,
+                                   struct burr_bytes assembly, struct burr_bytes plan,
+                                   burr_line *take, void *context)
 {
     struct burr_inputs_ in = burr_inputs_of_(assembly, plan, burr_bytes_of(NULL, 0));
     int status;
     in.run = run;
-    status = burr_hand_lines_(BURR_DRIVE_, in, take, context);
+    status = burr_hand_lines_(command, in, take, context);
     if (status != BURR_DONE)
         burr_drive_close(run); /* also where no room was to be had */
     return status;
 }
 
-/* An accepted plan that is gone through step by step. The bytes of the assembly and of the plan
-   stay the caller's, and have to last, unchanged, until burr_stepper_close. Only the commands so
-   far are kept: with each command the plan is judged again and taken through all of them. */
+/* Opens a drive, and hands over the line that says so, or the refusal. With any other status than
+   BURR_DONE the handle is closed. */
+static inline int burr_drive_open_lines(struct burr_handle *run, struct burr_bytes assembly,
+                                        struct burr_bytes plan, burr_line *take, void *context)
+{
+    return burr_open_lines_(BURR_DRIVE_, run, assembly, plan, take, context);
+}
+
+/* An accepted plan that is gone through step by step. */
 struct burr_stepper {
-    struct burr_bytes assembly, plan;
-    char *commands;         /* the commands so far, a line each, in memory of malloc */
-    size_t commands_length; /* how many bytes these are */
-    size_t handed;          /* how many bytes of answers were handed over */
+    struct burr_handle run;
+    bool has_quit; /* no command is taken any more */
 };
 
-/* Takes the commands so far, and hands over the answers that were not yet. */
-static inline int burr_stepper_go_(struct burr_stepper *stepper, burr_line *take, void *context)
-{
-    struct burr_text text;
-    struct burr_bytes commands = burr_bytes_of(stepper->commands, stepper->commands_length);
-    struct burr_inputs_ in = burr_inputs_of_(stepper->assembly, stepper->plan, commands);
-    int status = burr_print_(BURR_STEP_, in, &text);
-    burr_hand_over_(&text, stepper->handed, take, context);
-    if (status == BURR_DONE)
-        stepper->handed = text.length;
-    burr_free(&text);
-    return status;
-}
+/* More bytes than any answer to a command has: the longest shows 32 pieces. */
+enum { BURR_ANSWER_ = 8192 };
 
 /* Opens a stepper at the start of a plan. BURR_DONE where the plan is accepted; else the refusal is
    handed over, and there is nothing to close. */
 static inline int burr_stepper_open(struct burr_stepper *stepper, struct burr_bytes assembly,
                                     struct burr_bytes plan, burr_line *take, void *context)
 {
-    stepper->assembly = assembly;
-    stepper->plan = plan;
-    stepper->commands = NULL;
-    stepper->commands_length = 0;
-    stepper->handed = 0;
-    return burr_stepper_go_(stepper, take, context);
+    stepper->run.at = NULL;
+    stepper->run.is_open = false;
+    stepper->has_quit = false;
+    return burr_open_lines_(BURR_STEPPER_, &stepper->run, assembly, plan, take, context);
 }
 
 /* Takes a command, as "forward" or "answer 2", and hands over the lines that answer it. BURR_DONE
-   whatever the answer is, also where the command is refused; with BURR_NO_MEMORY it counts as not
-   given. After "quit" nothing is answered. */
+   whatever the answer is, also where the command is refused; with BURR_NO_MEMORY it is not taken, or
+   its answer is lost: "show" tells where the run stands. After "quit" nothing is answered. */
 static inline int burr_stepper_command(struct burr_stepper *stepper, const char *command,
                                        burr_line *take, void *context)
 {
-    size_t before = stepper->commands_length;
-    size_t length = strlen(command);
-    char *commands = (char *)realloc(stepper->commands, before + length + 1);
+    char room[BURR_ANSWER_] = {0};
+    struct burr_bytes line = burr_bytes_of(command, strlen(command));
+    struct burr_text text;
+    size_t size = 0;
     int status;
-    if (commands == NULL)
-        return BURR_NO_MEMORY;
-    memcpy(commands + before, command, length);
-    commands[before + length] = '\n';
-    stepper->commands = commands;
-    stepper->commands_length = before + length + 1;
-    status = burr_stepper_go_(stepper, take, context);
-    if (status != BURR_DONE)
-        stepper->commands_length = before;
+    if (stepper->has_quit)
+        return BURR_DONE;
+    status = burr_step_command(&stepper->run, burr_pointer_(line), line.length, (uint8_t *)room,
+                               BURR_ANSWER_, &size);
+    text.at = room;
+    text.length = size;
+    burr_hand_over_(&text, 0, take, context);
+    stepper->has_quit = status == BURR_DONE && size == 0;
     return status;
 }
 
 static inline void burr_stepper_close(struct burr_stepper *stepper)
 {
-    free(stepper->commands);
-    stepper->commands = NULL;
-    stepper->commands_length = 0;
+    burr_drive_close(&stepper->run);
 }
 
 #ifdef __cplusplus

@@ -1,4 +1,4 @@
--- What the box behind a handle holds, as a call of a generic function is handed it: at the layout that a call passes.
+-- What the box of a handle holds, as a call of a generic function is handed it: at the layout that a call passes.
 use Rattle.std.proofs.Common.{refl}
 use mir.Raw.{raw}
 use denote.Exit.{no}
@@ -6,7 +6,7 @@ use denote.Param.{arg, layout}
 use denote.Param.Laws.{Laws, arg_laws}
 use denote.RattleType.{RattleType}
 use Rattle.burr_c.specs.Boxed.{C}
-pub use Rattle.burr_step.proofs.kept_drive.KeptDrive.TheLaws.{the_row_laws as C-laws}
+pub use Rattle.burr_c.proofs.kept_run.KeptRun.TheLaws.{the_row_laws as C-laws}
 
 abbrev pub boxed : RattleType
 boxed = arg (raw (layout C)) no C

@@ -2,4 +2,5 @@ mod Boxed
 mod HandleValues
 mod Heap
 mod LooseValues
+mod Opening
 mod Printing

@@ -7,7 +7,9 @@ use Rattle.burr_step.specs.declared.drive.Halt.TheVariants.{Asks, Ends}
 use Rattle.burr_step.specs.declared.drive.Move.{Move}
 use Rattle.burr_step.specs.Rules.Drive.{GoesTo}
 use Rattle.burr_step.specs.Views.Driving.{Driving, IsReady, MovesOn, Goes, Arrives, Answers, led_of}
-use Rattle.burr_judge.specs.OpenEnds.{IsOpened}
+use Rattle.burr_judge.specs.OpenEnds.{Beginnings, IsOpened}
+use Rattle.burr_c.specs.declared.kept_run.KeptRun.{KeptRun}
+use Rattle.burr_c.specs.declared.kept_run.KeptRun.TheVariants.{Drive, Stepper}
 use Rattle.burr_c.specs.declared.told.Came.{Came}
 use Rattle.burr_c.specs.declared.told.Came.TheVariants.{Done, Refused, Waiting, Ended, Closed}
 use Rattle.burr_c.specs.declared.told.ToldMove.{ToldMove}
@@ -61,10 +63,16 @@ abbrev pub halted : Halt → Came
 halted (Asks question) = Waiting
 halted (Ends steps) = Ended
 
--- a drive is open, and the call returns 0; or none is, and it returns another number
-abbrev pub OpensAs : List ℕ → List ℕ → ℕ → Option Driving → Type 0
-OpensAs text bytes code drive =
-    ((code ≡ code_of Done) × IsOpened IsReady text bytes drive) ⊎ ((code ≢ code_of Done) × (drive ≡ None))
+-- a run of the accepted plan is open, and the call returns 0; or none is, and it returns another number
+abbrev pub OpensAs : Beginnings KeptRun → List ℕ → List ℕ → ℕ → Option KeptRun → Type 0
+OpensAs Begins text bytes code run =
+    ((code ≡ code_of Done) × IsOpened Begins text bytes run)
+    ⊎ ((code ≢ code_of Done) × (run ≡ None))
+
+-- a drive has begun
+abbrev pub DriveBegins : Beginnings KeptRun
+DriveBegins j (Drive d) = IsReady j d
+DriveBegins j (Stepper s) = ⊥
 
 -- What the caller's places for a move and for a halt held before and hold after a call, and what it
 -- returns.
@@ -79,10 +87,10 @@ abbrev pub told : ToldMove → ToldMove → ToldHalt → ToldHalt → ℕ → To
 told old_move move old_halt halt code =
     record { old_move = old_move; move = move; old_halt = old_halt; halt = halt; code = code }
 
--- no drive is open, and nothing is told
-abbrev pub IsClosed : Option Driving → Told → Type 0
-IsClosed new t =
-    (new ≡ None) × (t.move ≡ t.old_move) × (t.halt ≡ t.old_halt) × (t.code ≡ code_of Closed)
+-- no drive is open: nothing is told, and what is open is as it was
+abbrev pub IsClosed : Option KeptRun → Option KeptRun → Told → Type 0
+IsClosed old new t =
+    (new ≡ old) × (t.move ≡ t.old_move) × (t.halt ≡ t.old_halt) × (t.code ≡ code_of Closed)
 
 -- the next move is told, or why there is none
 abbrev pub TellsNext : Result Move Halt → Told → Type 0
@@ -92,10 +100,11 @@ TellsNext (Err halt) t =
     (t.move ≡ t.old_move) × (t.halt ≡ told_halt halt) × (t.code ≡ code_of (halted halt))
 
 -- the drive that is open makes its next move and tells it, or tells why there is none
-abbrev pub NextComes : Option Driving → Option Driving → Told → Type 0
-NextComes None new t = IsClosed new t
-NextComes (Some old) new t =
-    (d : Driving) × (next : Result Move Halt) × (new ≡ Some d) × MovesOn old next d × TellsNext next t
+abbrev pub NextComes : Option KeptRun → Option KeptRun → Told → Type 0
+NextComes None new t = IsClosed None new t
+NextComes (Some (Stepper s)) new t = IsClosed (Some (Stepper s)) new t
+NextComes (Some (Drive old)) new t =
+    (d : Driving) × (next : Result Move Halt) × (new ≡ Some (Drive d)) × MovesOn old next d × TellsNext next t
 
 -- that the move was come to is told by the number alone; else why not
 abbrev pub TellsArrival : Result (Unit {0}) Halt → ToldHalt → ToldHalt → ℕ → Type 0
@@ -103,11 +112,13 @@ TellsArrival (Ok there) old halt code = (halt ≡ old) × (code ≡ code_of Done
 TellsArrival (Err why) old halt code = (halt ≡ told_halt why) × (code ≡ code_of (halted why))
 
 -- the drive that is open goes on to the move of a number; below those made that is refused
-abbrev pub GoComes : ℕ → Option Driving → Option Driving → ToldHalt → ToldHalt → ℕ → Type 0
+abbrev pub GoComes : ℕ → Option KeptRun → Option KeptRun → ToldHalt → ToldHalt → ℕ → Type 0
 GoComes number None new was halt code = (new ≡ None) × (halt ≡ was) × (code ≡ code_of Closed)
-GoComes number (Some old) new was halt code =
-    ((number < old.moves) × (new ≡ Some old) × (halt ≡ was) × (code ≡ code_of Refused))
-    ⊎ ((old.moves ≤ number) × ((d : Driving) × (came : Result (Unit {0}) Halt) × (new ≡ Some d)
+GoComes number (Some (Stepper s)) new was halt code =
+    (new ≡ Some (Stepper s)) × (halt ≡ was) × (code ≡ code_of Closed)
+GoComes number (Some (Drive old)) new was halt code =
+    ((number < old.moves) × (new ≡ Some (Drive old)) × (halt ≡ was) × (code ≡ code_of Refused))
+    ⊎ ((old.moves ≤ number) × ((d : Driving) × (came : Result (Unit {0}) Halt) × (new ≡ Some (Drive d))
     × Goes old d (λ setup from to. GoesTo setup number from to)
     × Arrives number (setup_of old.bench) came (led_of d) × TellsArrival came was halt code))
 
@@ -117,8 +128,10 @@ answered true = Done
 answered false = Refused
 
 -- the drive that is open takes the answer, or none that can be was given
-abbrev pub AnswerComes : ℕ → ℤ → Option Driving → Option Driving → ℕ → Type 0
+abbrev pub AnswerComes : ℕ → ℤ → Option KeptRun → Option KeptRun → ℕ → Type 0
 AnswerComes question answer None new code = (new ≡ None) × (code ≡ code_of Closed)
-AnswerComes question answer (Some old) new code =
-    (d : Driving) × (taken : Bool) × (new ≡ Some d) × Answers question answer old taken d
+AnswerComes question answer (Some (Stepper s)) new code =
+    (new ≡ Some (Stepper s)) × (code ≡ code_of Closed)
+AnswerComes question answer (Some (Drive old)) new code =
+    (d : Driving) × (taken : Bool) × (new ≡ Some (Drive d)) × Answers question answer old taken d
     × (code ≡ code_of (answered taken))

@@ -4,3 +4,4 @@ pub mod Calls
 pub mod DriveCalls
 pub mod Keeps
 pub mod Statuses
+pub mod StepCalls

@@ -7,9 +7,10 @@ ghost use Rattle.burr_judge.specs.DriveEnds.{ReadyEnds};
 ghost use Rattle.burr_judge.specs.OpenEnds.{OpenEnds, Opens};
 ghost use Rattle.burr_c.specs.declared.printed.CallFault.TheVariants.{TooLong};
 ghost use Rattle.burr_c.specs.Calls.{IsEitherTooLong, Returns, call};
-ghost use Rattle.burr_c.specs.DriveCalls.{AnswerComes, GoComes, NextComes, OpensAs, told};
+ghost use Rattle.burr_c.specs.DriveCalls.{AnswerComes, DriveBegins, GoComes, NextComes, OpensAs, told};
 
 use crate::handle::Handle;
+use crate::kept_run::KeptRun;
 use crate::printed::{CallFault, Printed, give, print_ready};
 use crate::told::{Came, ToldHalt, ToldMove};
 use std::alloc::Global;
@@ -25,14 +26,14 @@ pub extern "C" fn burr_drive_open(
     plan: &[u8],
     room: &mut [u8],
     size: &mut usize,
-    drive: &mut Handle,
+    run: &mut Handle,
 ) -> u8
     ensures printed { Returns (IsEitherTooLong assembly.now plan.now)
         (OpenEnds (ReadyEnds assembly.now plan.now) assembly.now plan.now)
         (call room.old room.new size.new result) }
-    ensures opened { OpensAs assembly.now plan.now result drive.new.value }
+    ensures opened { OpensAs DriveBegins assembly.now plan.now result run.new.value }
 {
-    let printed = open(alloc, assembly, plan, drive);
+    let printed = open(alloc, assembly, plan, run);
     give(printed, room, size)
 }
 
@@ -41,24 +42,24 @@ fn open(
     alloc: Global,
     text: &[u8],
     container: &[u8],
-    drive: &mut Handle,
+    run: &mut Handle,
 ) -> Result<Printed, CallFault>
     ensures ok { IfOk result (λ printed.
         OpenEnds (ReadyEnds text.now container.now) text.now container.now printed.bytes.items printed.status) }
     ensures opens { IfOk result (λ printed.
-        Opens IsReady text.now container.now printed.status None drive.new.value) }
-    ensures none { IfErr result (λ _. drive.new.value ≡ None) }
+        Opens DriveBegins text.now container.now printed.status None run.new.value) }
+    ensures none { IfErr result (λ _. run.new.value ≡ None) }
     ensures short { IfOk result (λ _. ¬ IsEitherTooLong text.now container.now) }
     ensures long { IfErr result (λ fault.
         fault ≡ TooLong ↔ IsEitherTooLong text.now container.now) }
 {
-    let _old = drive.take(alloc);
+    let _old = run.take(alloc);
     let (printed, opened) = print_ready(alloc, text, container)?;
     if let Some(opened) = opened {
-        let Ok(kept) = Box::new(alloc, opened) else {
+        let Ok(kept) = Box::new(alloc, KeptRun::Drive(opened)) else {
             return Err(CallFault::Memory);
         };
-        drive.put(alloc, kept);
+        run.put(alloc, kept);
     }
     Ok(printed)
 }
@@ -68,27 +69,30 @@ fn open(
 #[unsafe(no_mangle)]
 pub extern "C" fn burr_drive_next(
     alloc: Global,
-    drive: &mut Handle,
+    run: &mut Handle,
     step: &mut ToldMove,
     halt: &mut ToldHalt,
 ) -> u8
-    ensures { NextComes drive.old.value drive.new.value
+    ensures { NextComes run.old.value run.new.value
         (told step.old step.new halt.old halt.new result) }
 {
-    let Some(mut open) = drive.take(alloc) else {
+    let Some(mut open) = run.take(alloc) else {
         return Came::Closed.code();
     };
-    let came = match open.next() {
-        Ok(made) => {
-            *step = ToldMove::of(made);
-            Came::Done
-        }
-        Err(why) => {
-            *halt = ToldHalt::of(why);
-            Came::at(why)
-        }
+    let came = match &mut *open {
+        KeptRun::Drive(drive) => match drive.next() {
+            Ok(made) => {
+                *step = ToldMove::of(made);
+                Came::Done
+            }
+            Err(why) => {
+                *halt = ToldHalt::of(why);
+                Came::at(why)
+            }
+        },
+        KeptRun::Stepper(_) => Came::Closed,
     };
-    drive.put(alloc, open);
+    run.put(alloc, open);
     came.code()
 }
 
@@ -98,27 +102,27 @@ pub extern "C" fn burr_drive_next(
 #[unsafe(no_mangle)]
 pub extern "C" fn burr_drive_goto(
     alloc: Global,
-    drive: &mut Handle,
+    run: &mut Handle,
     number: u32,
     halt: &mut ToldHalt,
 ) -> u8
-    ensures { GoComes number drive.old.value drive.new.value halt.old halt.new result }
+    ensures { GoComes number run.old.value run.new.value halt.old halt.new result }
 {
-    let Some(mut open) = drive.take(alloc) else {
+    let Some(mut open) = run.take(alloc) else {
         return Came::Closed.code();
     };
-    let came = if number < open.moves() {
-        Came::Refused
-    } else {
-        match open.go_to(number) {
+    let came = match &mut *open {
+        KeptRun::Drive(drive) if number < drive.moves() => Came::Refused,
+        KeptRun::Drive(drive) => match drive.go_to(number) {
             Ok(()) => Came::Done,
             Err(why) => {
                 *halt = ToldHalt::of(why);
                 Came::at(why)
             }
-        }
+        },
+        KeptRun::Stepper(_) => Came::Closed,
     };
-    drive.put(alloc, open);
+    run.put(alloc, open);
     came.code()
 }
 
@@ -127,28 +131,33 @@ pub extern "C" fn burr_drive_goto(
 #[unsafe(no_mangle)]
 pub extern "C" fn burr_drive_answer(
     alloc: Global,
-    drive: &mut Handle,
+    run: &mut Handle,
     question: u32,
     answer: i32,
 ) -> u8
-    ensures { AnswerComes question answer drive.old.value drive.new.value result }
+    ensures { AnswerComes question answer run.old.value run.new.value result }
 {
-    let Some(mut open) = drive.take(alloc) else {
+    let Some(mut open) = run.take(alloc) else {
         return Came::Closed.code();
     };
-    let came = if open.answer(question, answer) {
-        Came::Done
-    } else {
-        Came::Refused
+    let came = match &mut *open {
+        KeptRun::Drive(drive) => {
+            if drive.answer(question, answer) {
+                Came::Done
+            } else {
+                Came::Refused
+            }
+        }
+        KeptRun::Stepper(_) => Came::Closed,
     };
-    drive.put(alloc, open);
+    run.put(alloc, open);
     came.code()
 }
 
 /// Closes the drive, if one is open, and gives back its memory.
 #[unsafe(no_mangle)]
-pub extern "C" fn burr_drive_close(alloc: Global, drive: &mut Handle)
-    ensures { drive.new.value ≡ None }
+pub extern "C" fn burr_drive_close(alloc: Global, run: &mut Handle)
+    ensures { run.new.value ≡ None }
 {
-    let _closed = drive.take(alloc);
+    let _closed = run.take(alloc);
 }

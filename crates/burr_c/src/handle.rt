@@ -1,24 +1,24 @@
-//! What a program in C keeps of a drive.
+//! What a program in C keeps of a run.
 
 ghost use Rattle.std.specs.Prelude.{◌≡◌, Option, None, Some, MatchOption};
-ghost use Rattle.burr_step.specs.Views.Driving.{Driving};
+ghost use Rattle.burr_c.specs.declared.kept_run.KeptRun.{KeptRun as KeptRunOf};
 ghost use Rattle.burr_c.specs.Boxed.{C};
 ghost use Rattle.burr_c.specs.Keeps.{keeps};
 
+use crate::kept_run::KeptRun;
 use crate::loose::Loose;
-use burr_step::KeptDrive;
 use std::alloc::Global;
 use std::marker::Model;
 use std::mem::replace;
 use std::ptr::null_mut;
 
-/// A drive that is open, by a pointer to its box; or none. An open handle owns its drive. The pointer is
+/// A run that is open, by a pointer to its box; or none. An open handle owns its run. The pointer is
 /// one to bytes, since C is shown no type that owns memory.
 #[repr(C)]
 pub struct Handle {
     at: *mut u8,
     is_open: bool,
-    pub ghost value: { Option Driving },
+    pub ghost value: { Option KeptRunOf },
 }
 
 impl Model for Handle {
@@ -27,7 +27,7 @@ impl Model for Handle {
 
 // The first three make a handle and take it apart, and are proved by hand. The others call them.
 impl Handle {
-    /// No drive.
+    /// No run.
     pub fn none() -> Handle
         ensures { result.value ≡ None }
     {
@@ -37,7 +37,7 @@ impl Handle {
         }
     }
 
-    fn of_loose(loose: Loose<KeptDrive>) -> Handle
+    fn of_loose(loose: Loose<KeptRun>) -> Handle
         ensures { result.value ≡ Some loose.value }
     {
         let Loose { at } = loose;
@@ -47,31 +47,31 @@ impl Handle {
         }
     }
 
-    /// The drive, if one is open.
-    pub fn into_box(self, alloc: Global) -> Option<Box<KeptDrive>>
-        ensures { MatchOption result (self.value ≡ None) (λ drive. self.value ≡ Some drive.value) }
+    /// The run, if one is open.
+    pub fn into_box(self, alloc: Global) -> Option<Box<KeptRun>>
+        ensures { MatchOption result (self.value ≡ None) (λ run. self.value ≡ Some run.value) }
     {
         let Handle { at, is_open } = self;
         if !is_open {
             return None;
         }
-        let drive = unsafe { Box::from_raw(alloc, at as *mut KeptDrive) };
-        Some(drive)
+        let run = unsafe { Box::from_raw(alloc, at as *mut KeptRun) };
+        Some(run)
     }
 
-    /// Takes the drive out, if one is open. The handle then has none.
-    pub fn take(&mut self, alloc: Global) -> Option<Box<KeptDrive>>
-        ensures taken { MatchOption result (self.old.value ≡ None) (λ drive.
-            self.old.value ≡ Some drive.value) }
+    /// Takes the run out, if one is open. The handle then has none.
+    pub fn take(&mut self, alloc: Global) -> Option<Box<KeptRun>>
+        ensures taken { MatchOption result (self.old.value ≡ None) (λ run.
+            self.old.value ≡ Some run.value) }
         ensures left { self.new.value ≡ None }
     {
         replace(self, Handle::none()).into_box(alloc)
     }
 
-    /// Puts a drive in. One that was open is closed.
-    pub fn put(&mut self, alloc: Global, drive: Box<KeptDrive>)
-        ensures { self.new.value ≡ Some drive.value }
+    /// Puts a run in. One that was open is closed.
+    pub fn put(&mut self, alloc: Global, run: Box<KeptRun>)
+        ensures { self.new.value ≡ Some run.value }
     {
-        let _closed = replace(self, Handle::of_loose(Loose::of(drive))).into_box(alloc);
+        let _closed = replace(self, Handle::of_loose(Loose::of(run))).into_box(alloc);
     }
 }

@@ -14,8 +14,10 @@
 
 mod drive;
 mod handle;
+mod kept_run;
 mod loose;
 mod printed;
+mod stepper;
 #[cfg(test)]
 mod tests;
 mod told;

@@ -6,14 +6,20 @@ ghost use Rattle.burr_c.specs.CallEnds.{AssemblingEnds, StepsEnd};
 ghost use Rattle.burr_c.specs.Calls.{IsTooLong, IsEitherTooLong, IsAnyTooLong, call, Gives};
 ghost use Rattle.burr_step.specs.Views.Driving.{IsReady};
 ghost use Rattle.burr_judge.specs.DriveEnds.{ReadyEnds};
-ghost use Rattle.burr_judge.specs.OpenEnds.{OpenEnds, Opens};
+ghost use Rattle.burr_judge.specs.OpenEnds.{NothingEnds, OpenEnds, Opens};
+ghost use Rattle.burr_judge.specs.declared.status.Status.TheVariants.{Done};
+ghost use Rattle.burr_step.specs.Views.Stepping.{IsFresh};
+ghost use Rattle.burr_c.specs.StepCalls.{AnswersWith, LosesAnswer};
 ghost use Rattle.burr_judge.specs.PlanEnds.{IsRefusal, PlanEnds};
 ghost use Rattle.burr_judge.specs.Refusals.{plan_text_refusal};
 ghost use Rattle.burr_c.specs.Statuses.{status_of_fault};
 
 use burr_asm::{AsmFault, assemble};
 use burr_io::{Kept, Reading, WholeLines, WriteFault};
-use burr_judge::{Refused, Status, Task, judge_text, open_drive, refuse, step_text};
+use burr_judge::{
+    KeptStepper, Refused, Status, StepFault, Task, judge_text, open_drive, open_stepper, refuse,
+    step_text,
+};
 use burr_runs::LIMIT;
 use burr_step::KeptDrive;
 use std::alloc::Global;
@@ -61,6 +67,17 @@ impl From<burr_judge::Fault<'_>> for CallFault {
     ghost from_gives = { λ _ e. e ≡ Memory };
 
     fn from(_e: burr_judge::Fault<'_>) -> CallFault {
+        CallFault::Memory
+    }
+}
+
+impl From<StepFault> for CallFault {
+    ghost use Rattle.std.specs.Prelude.{◌≡◌};
+    ghost use Rattle.burr_c.specs.declared.printed.CallFault.TheVariants.{Memory};
+
+    ghost from_gives = { λ _ e. e ≡ Memory };
+
+    fn from(_e: StepFault) -> CallFault {
         CallFault::Memory
     }
 }
@@ -159,6 +176,56 @@ pub fn print_ready(
         status,
     };
     Ok((printed, drive))
+}
+
+/// A stepper of a container's plan for an assembly's text, where the plan is accepted, and nothing
+/// printed; or the refusal, and no stepper. `TooLong` where the text or the container has more than
+/// 16,777,216 bytes, and `Memory` where a request for memory was refused.
+pub fn print_opening(
+    alloc: Global,
+    text: &[u8],
+    container: &[u8],
+) -> Result<(Printed, Option<KeptStepper>), CallFault>
+    ensures ok { IfOk result (λ opened.
+        OpenEnds NothingEnds text.now container.now opened.0.bytes.items opened.0.status) }
+    ensures opens { IfOk result (λ opened.
+        Opens IsFresh text.now container.now opened.0.status None opened.1) }
+    ensures short { IfOk result (λ _. ¬ IsEitherTooLong text.now container.now) }
+    ensures long { IfErr result (λ fault.
+        fault ≡ TooLong ↔ IsEitherTooLong text.now container.now) }
+{
+    if is_too_long(text) || is_too_long(container) {
+        return Err(CallFault::TooLong);
+    }
+    let mut stepper = None;
+    let mut kept = Kept::new(alloc);
+    let status = open_stepper(alloc, text, container, &mut stepper, &mut kept)?;
+    let printed = Printed {
+        bytes: kept.into_bytes(),
+        status,
+    };
+    Ok((printed, stepper))
+}
+
+/// What a stepper answers to a line of a command, with `Done`. `Memory` where a request for memory was
+/// refused: then the line counts as not given, or it was taken and its answer is lost.
+pub fn print_answer(
+    alloc: Global,
+    stepper: &mut KeptStepper,
+    line: &[u8],
+) -> Result<Printed, CallFault>
+    ensures ok { IfOk result (λ printed.
+        AnswersWith stepper.old line.now printed.bytes.items stepper.new
+        × (printed.status ≡ Done)) }
+    ensures err { IfErr result (λ fault.
+        (fault ≡ Memory) × LosesAnswer stepper.old line.now stepper.new) }
+{
+    let mut kept = Kept::new(alloc);
+    stepper.command(line, &mut kept)?;
+    Ok(Printed {
+        bytes: kept.into_bytes(),
+        status: Status::Done,
+    })
 }
 
 /// The container of a plan text, with `Done`; or the line that refuses the text. `TooLong` where it

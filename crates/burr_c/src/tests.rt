@@ -3,6 +3,7 @@ use crate::drive::{
     burr_drive_answer, burr_drive_close, burr_drive_goto, burr_drive_next, burr_drive_open,
 };
 use crate::handle::Handle;
+use crate::stepper::{burr_step_command, burr_step_open};
 use crate::told::{ToldHalt, ToldMove};
 use crate::{burr_assemble, burr_check, burr_run, burr_step_through, burr_try};
 use std::alloc::{AllocError, Global};
@@ -188,9 +189,10 @@ fn assert_closed(rt: &impl Abort, alloc: Global, drive: &mut Handle) {
     assert!(rt; step == NO_MOVE && halt == NO_HALT);
 }
 
-/// Each move out and back is a move of its own, 6,001 in all, and the last goes aside.
+/// Each move out and back is a move of its own, 6,001 in all, and the last goes aside. Then the same
+/// handle keeps a stepper.
 #[test]
-fn a_drive_goes_on_from_call_to_call(rt: HostRuntime) {
+fn a_run_goes_on_from_call_to_call(rt: HostRuntime) {
     let alloc = rt.alloc();
     let mut drive = Handle::none();
     assert_closed(&rt, alloc, &mut drive);
@@ -217,8 +219,22 @@ fn a_drive_goes_on_from_call_to_call(rt: HostRuntime) {
     assert!(rt; burr_drive_next(alloc, &mut drive, &mut step, &mut halt) == 6);
     assert!(rt; burr_drive_goto(alloc, &mut drive, 7000, &mut halt) == 6);
     assert!(rt; (halt.steps, halt.question) == (9005, 0) && step.number == 6001);
+    assert!(rt; burr_step_command(alloc, &mut drive, b"forward", &mut room, &mut size) == 7);
     burr_drive_close(alloc, &mut drive);
     burr_drive_close(alloc, &mut drive);
     assert_closed(&rt, alloc, &mut drive);
+    assert!(rt; burr_step_open(alloc, DUO, &plan, &mut room, &mut size, &mut drive) == 0);
+    assert!(rt; size == 0);
+    assert!(rt; burr_step_command(alloc, &mut drive, b"forward", &mut room, &mut size) == 0);
+    assert!(rt; size == 14 && room.starts_with(b"after 1 steps\n"));
+    assert!(rt; burr_step_command(alloc, &mut drive, b"back 2", &mut room, &mut size) == 0);
+    assert!(rt; size == 11 && room.starts_with(b"refused S4\n"));
+    assert!(rt; burr_step_command(alloc, &mut drive, b"quit", &mut room, &mut size) == 0);
+    assert!(rt; size == 0);
+    assert_closed(&rt, alloc, &mut drive);
+    assert!(rt; burr_step_command(alloc, &mut drive, b"back 1", &mut room, &mut size) == 0);
+    assert!(rt; size == 14 && room.starts_with(b"after 0 steps\n"));
+    burr_drive_close(alloc, &mut drive);
+    assert!(rt; burr_step_command(alloc, &mut drive, b"show", &mut room, &mut size) == 7);
     let _none = drive.into_box(alloc);
 }

@@ -1,0 +1,22 @@
+use Rattle.std.proofs.Common.{◌≡◌, ◌∙◌, Some, ap, sym}
+use Rattle.burr_step.specs.Views.Stepping.{Stepping, IsFresh}
+use Rattle.burr_c.specs.declared.handle.Handle.{Handle}
+use Rattle.burr_c.specs.declared.kept_run.KeptRun.{KeptRun}
+use Rattle.burr_c.specs.declared.kept_run.KeptRun.TheVariants.{Stepper}
+use Rattle.burr_c.specs.StepCalls.{StepperBegins}
+use Rattle.burr_c.proofs.Opening.{opens_as, wrapped}
+use Rattle.burr_c.proofs.stepper.open.Goals as goal
+use Rattle.burr_c.proofs.stepper.open.Goals.{in-Some+in-Ok, in_default}
+
+pub returns-clause-opens : goal.returns-clause-opens
+returns-clause-opens c =
+    opens_as (λ (s : Stepping). Stepper s) IsFresh StepperBegins (λ j s fresh. fresh) c.args.text.now c.args.container.now c.in_ok-printed.printed.status
+    c.in_ok-printed.opened c.match-opened.run.value put c.in_ok-printed.ensures.opens
+  where
+    put : c.match-opened.run.value ≡ wrapped (λ (s : Stepping). Stepper s) c.in_ok-printed.opened
+    put = elim c.match-opened.branch [
+      | in-Some+in-Ok w ↦
+          ap (λ (h : Handle). h.value) w.run-is ∙ w.put.ensures ∙ ap (λ (k : KeptRun). Some k) w.in-Ok.ensures.ok
+          ∙ sym (ap (wrapped (λ (s : Stepping). Stepper s)) w.in-Some.is)
+      | in_default w ↦ ap (λ (h : Handle). h.value) w.run-is ∙ c.take-old.ensures.left ∙ sym (ap (wrapped (λ (s : Stepping). Stepper s)) w.in_default.is)
+    ]
