@@ -1,5 +1,6 @@
 mod Dialogues
 mod DriveAnswers
+mod DriveLaws
 mod KeptSteps
 mod MoveWords
 mod Opening

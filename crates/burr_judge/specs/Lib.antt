@@ -1,4 +1,5 @@
 pub mod DriveEnds
+pub mod DriveLaws
 pub mod Faults
 pub mod Ladder
 pub mod OpenEnds

@@ -8,6 +8,7 @@ mod drive;
 mod fault;
 mod kept_stepper;
 mod ladder;
+mod laws;
 mod refused;
 mod refuser;
 mod status;
@@ -20,6 +21,7 @@ pub use kept_stepper::KeptStepper;
 pub use ladder::{
     AcceptedUse, AssemblyUse, Given, IfAccepted, OfPlan, PlanUse, use_given, use_text,
 };
+pub use laws::a_dialogue_tells_of_its_run;
 pub use refused::{Refused, put_refusal, refuse};
 pub use refuser::{Plainly, Refuse};
 pub use status::Status;

@@ -4,6 +4,7 @@ mod Answering
 mod ApartSets
 mod Commands
 mod DriveLines
+mod DrivenRuns
 mod Driving
 mod EightSlots
 mod Going

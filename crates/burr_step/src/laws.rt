@@ -5,7 +5,7 @@ ghost use Rattle.burr_step.specs.Laws.StepperLaws.{LeadsSafely, SomeOutcome, Ste
 ghost use Rattle.burr_step.specs.Views.UndoRing.{UndoingIsBack, RecordIsKept, LastAreKept};
 ghost use Rattle.burr_step.specs.Rules.StepTexts.{LinesAreShort, OneLine};
 ghost use Rattle.burr_step.specs.Rules.DriveTexts.{DriveLinesAreShort, OneDriveLine};
-ghost use Rattle.burr_step.specs.Laws.MoveLaws.{MovesAreJoined, OneMove, OneWay};
+ghost use Rattle.burr_step.specs.Laws.MoveLaws.{DriveTellsItsRun, MovesAreJoined, OneMove, OneWay};
 ghost use Rattle.burr_step.specs.Laws.MoveLaws.{MovesAreNumbered, MovesAreTheRuns, HaltIsTheClose, MoreAnswersGoOn};
 
 use burr_verify::a_fitting_plan_is_from_a_container;
@@ -78,6 +78,12 @@ pub fn moves_are_those_of_the_run()
 {
     a_fitting_plan_is_from_a_container();
 }
+
+/// However a drive is called from its begin on, it makes the moves of the run with the answers that it
+/// took, and tells of them, in their order, each once.
+pub fn a_drive_tells_of_its_run()
+    ensures { DriveTellsItsRun }
+{}
 
 /// A run with more answers begins with the moves of the run with fewer.
 pub fn moves_go_on_with_more_answers()

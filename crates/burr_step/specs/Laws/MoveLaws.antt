@@ -14,8 +14,8 @@ use Rattle.burr_step.specs.declared.drive.Halt.{Halt}
 use Rattle.burr_step.specs.declared.drive.Halt.TheVariants.{Asks, Ends}
 use Rattle.burr_step.specs.declared.drive.Move.{Move}
 use Rattle.burr_step.specs.Rules.Stepper.{IsHalted}
-use Rattle.burr_step.specs.Rules.Moves.{Makes, line_of, MakesMove, MakesMoves, IsLed, moves_of}
-use Rattle.burr_step.specs.Rules.Drive.{led, HaltsAt}
+use Rattle.burr_step.specs.Rules.Moves.{Makes, ComesToRest, line_of, MakesMove, MakesMoves, IsLed, moves_of}
+use Rattle.burr_step.specs.Rules.Drive.{Led, led, HaltsAt, Moves, GoesTo, Takes}
 
 -- the motions of moves, in their order
 abbrev pub motions_made : List Move → List Motion
@@ -96,3 +96,43 @@ MoreAnswersGoOn =
     → IsLed setup n s legs answers last → IsHalted setup last
     → IsLed setup n s others (answers ++ more) later → IsHalted setup later
     → (rest : List Move) × (moves_of others ≡ moves_of legs ++ rest)
+
+-- Of all calls of a drive
+
+-- Calls lead a drive from where it stands to another place, in any order. They make the first of these
+-- moves, tell the second, and take these answers.
+pub data IsDriven (setup : Setup) (d : Led) : List Move → List Move → List ℤ → Led → Type 0 where
+  stands : IsDriven setup d [] [] [] d
+  next : (e last : Led) (m : Move) (made told : List Move) (answers : List ℤ)
+      → IsDriven setup d made told answers e → Moves setup e m last
+      → IsDriven setup d (made ++ m ∷ []) (told ++ m ∷ []) answers last
+  goes : (e last : Led) (number : ℕ) (made told : List Move) (answers : List ℤ)
+      → IsDriven setup d made told answers e → (on : GoesTo setup number e last)
+      → IsDriven setup d (made ++ on.ms) told answers last
+  takes : (e last : Led) (answer : ℤ) (made told : List Move) (answers : List ℤ)
+      → IsDriven setup d made told answers e → Takes setup e answer last
+      → IsDriven setup d made told (answers ++ answer ∷ []) last
+
+-- the first of these moves are among the second, in their order, each of them once
+pub data AreAmong : List Move → List Move → Type 0 where
+  none : AreAmong [] []
+  one : (m : Move) (told made : List Move) → AreAmong told made
+      → AreAmong (told ++ m ∷ []) (made ++ m ∷ [])
+  passed : (told made more : List Move) → AreAmong told made → AreAmong told (made ++ more)
+
+-- The run with these answers is led so, by these moves, of which those are told.
+pub record TellsRun (setup : Setup) (made told : List Move) (answers : List ℤ) (last : Led)
+    : Type 0 where
+  pub legs : List (List Move)
+  pub run : IsLed setup 0 (start setup) legs answers last.state
+  pub made_are : moves_of legs ≡ made
+  pub told_are : AreAmong told made
+  pub moves : last.moves ≡ length made
+
+-- whatever calls a drive is led by from its begin, it makes the moves of the run with the answers that
+-- were taken, and tells of them, in their order, each once
+abbrev pub DriveTellsItsRun : Type 0
+DriveTellsItsRun =
+    (setup : Setup) (d last : Led) (made told : List Move) (answers : List ℤ)
+    → ComesToRest setup (start setup) d.state → d.moves ≡ 0
+    → IsDriven setup d made told answers last → TellsRun setup made told answers last
