@@ -2,7 +2,6 @@
 //! call: nothing is read or judged again.
 
 ghost use Rattle.std.specs.Prelude.{◌≡◌, ◌↔◌, None, IfErr, IfOk};
-ghost use Rattle.burr_step.specs.Views.Driving.{IsReady};
 ghost use Rattle.burr_judge.specs.DriveEnds.{ReadyEnds};
 ghost use Rattle.burr_judge.specs.OpenEnds.{OpenEnds, Opens};
 ghost use Rattle.burr_c.specs.declared.printed.CallFault.TheVariants.{TooLong};
@@ -44,8 +43,8 @@ fn open(
     container: &[u8],
     run: &mut Handle,
 ) -> Result<Printed, CallFault>
-    ensures ok { IfOk result (λ printed.
-        OpenEnds (ReadyEnds text.now container.now) text.now container.now printed.bytes.items printed.status) }
+    ensures ok { IfOk result (λ printed. OpenEnds (ReadyEnds text.now container.now) text.now
+        container.now printed.bytes.items printed.status) }
     ensures opens { IfOk result (λ printed.
         Opens DriveBegins text.now container.now printed.status None run.new.value) }
     ensures none { IfErr result (λ _. run.new.value ≡ None) }

@@ -156,8 +156,8 @@ pub fn print_ready(
     text: &[u8],
     container: &[u8],
 ) -> Result<(Printed, Option<KeptDrive>), CallFault>
-    ensures ok { IfOk result (λ ready.
-        OpenEnds (ReadyEnds text.now container.now) text.now container.now ready.0.bytes.items ready.0.status) }
+    ensures ok { IfOk result (λ ready. OpenEnds (ReadyEnds text.now container.now) text.now
+        container.now ready.0.bytes.items ready.0.status) }
     ensures opens { IfOk result (λ ready.
         Opens IsReady text.now container.now ready.0.status None ready.1) }
     ensures short { IfOk result (λ _. ¬ IsEitherTooLong text.now container.now) }
