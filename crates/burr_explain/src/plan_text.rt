@@ -74,8 +74,8 @@ const FAULTS: &[Explanation] = &[
         meaning: "No `frame` is next after `label`, or a procedure's first label is missing: its\n\
                   code begins with a label and that label's frame.",
         cause: "code right after the `proc` line, a label without a frame, or a\n\
-                `frame` line that is indented or in upper case.",
-        remedy: "",
+                `frame` line that is indented or in upper case; or a line `auto`.",
+        remedy: "put a frame in place of each line `auto` by `burr frames`.",
         example: "code where main's first label is due
 
     proc main 0

@@ -3,18 +3,25 @@
 
 use crate::notes::Named;
 use burr_explain::explanation_of;
+use burr_trace::is_auto_at;
 use burr_verify::Refusal;
 use burr_why::{PlanText, reason_of_line, reason_of_refusal};
 use std::alloc::{AllocError, Global};
 
-/// Why a text is refused, by a fault of this code on this line; want of memory is no fault of a text.
+/// Why a text is refused, by a fault of this code on this line; want of memory is no fault of a text. Of
+/// a line `auto` where a plan text needs another it says what that line is for.
 pub fn reason_of_fault(
     alloc: Global,
     named: Named<'_>,
     fault: Option<(&str, usize)>,
 ) -> Result<String, AllocError> {
     let (code, line) = fault.ok_or(AllocError)?;
-    let reason = reason_of_line(alloc, named.file, named.text, line)?;
+    let mut reason = reason_of_line(alloc, named.file, named.text, line)?;
+    if code == "P5" && is_auto_at(named.text, line) {
+        reason.push_str(
+            "    `auto` stands after a label until `burr frames` puts a frame there\n",
+        )?;
+    }
     with_meaning(reason, code)
 }
 

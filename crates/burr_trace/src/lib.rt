@@ -11,4 +11,4 @@ mod unframed;
 
 pub use arrivals::Arrivals;
 pub use trace::trace_of;
-pub use unframed::{Filled, Unframed};
+pub use unframed::{Filled, Unframed, is_auto_at};

@@ -2,7 +2,7 @@
 
 use crate::arrivals::{Arrival, Arrivals};
 use crate::seen::{add_frame, seen_at_each};
-use burr_lines::Report;
+use burr_lines::{Report, numbered_line};
 use burr_text::cut_at;
 use std::alloc::{AllocError, Global};
 
@@ -112,6 +112,14 @@ impl Unframed<'_> {
             rest = more;
         }
         Ok(Filled::Whole(made))
+    }
+}
+
+/// Whether the line of this number, counted from 1, stands in place of a frame.
+pub fn is_auto_at(text: &[u8], number: usize) -> bool {
+    match numbered_line(text, number) {
+        Some(line) => is_auto(line.bytes),
+        None => false,
     }
 }
 

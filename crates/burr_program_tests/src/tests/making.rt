@@ -125,6 +125,14 @@ const FRAMES: &str = "\
 <aside +z 1
 <halt
 =f.plan
+$burr why ring f.plan
+>refused P5 line 4
+>f.plan:4: auto
+>    `auto` stands after a label until `burr frames` puts a frame there
+>No `frame` is next after `label`, or a procedure's first label is missing: its
+>code begins with a label and that label's frame.
+>`burr explain P5` says more
+?1
 $burr frames ring f.plan g.plan
 ?0
 $burr why ring g.plan
