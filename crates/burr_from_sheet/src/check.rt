@@ -5,7 +5,7 @@ ghost use Rattle.burr_container.specs.Laws.PlanBytes.{IsSpelled};
 ghost use Rattle.burr_from_sheet.specs.Drafts.{IsOfDraft, IsSheetWith, RunsAs};
 ghost use Rattle.burr_from_sheet.specs.SheetPlans.{IsPlanTextOf};
 
-use crate::draft::DraftedCode;
+use crate::drafted_plan::DraftedPlan;
 use crate::fault::{RefusedDraft, SheetFault};
 use burr_blocking::Blocking;
 use burr_container::{Container, a_container_is_of_one_plan, containers_are_unique};
@@ -15,14 +15,14 @@ use burr_runs::{Outcome, run_plan};
 use burr_verify::{Accepted, Refusal, accept};
 use std::alloc::{AllocError, Global};
 
-/// The listing of the container of drafted code, where its plan is accepted and the sheet of its run
+/// The listing of the container of a drafted plan, where the plan is accepted and the sheet of its run
 /// has these move lines.
 #[inline(never)]
 pub fn checked_text<B: Blocking>(
     alloc: Global,
     blocking: &B,
     lines: &[u8],
-    code: &DraftedCode,
+    draft: &DraftedPlan,
     bytes: &[u8],
 ) -> Result<Vec<u8>, SheetFault>
     requires { IsSpelled bytes.now }
@@ -33,7 +33,7 @@ pub fn checked_text<B: Blocking>(
     match Container::parse(bytes) {
         Ok(container) => match text_if_accepted(alloc, &container, blocking, lines)? {
             Ok(text) => Ok(text),
-            Err(refusal) => Err(refused(alloc, bytes, &container, code, refusal)?),
+            Err(refusal) => Err(refused(alloc, bytes, &container, draft, refusal)?),
         },
         Err(_) => unreachable!(),
     }
@@ -105,12 +105,12 @@ fn first_difference(text: &[u8], other: &[u8]) -> usize {
     line
 }
 
-/// The fault of drafted code whose plan is refused.
+/// The fault of a drafted plan that is refused.
 fn refused(
     alloc: Global,
     bytes: &[u8],
     container: &Container<'_>,
-    code: &DraftedCode,
+    draft: &DraftedPlan,
     refusal: Refusal,
 ) -> Result<SheetFault, AllocError>
     ensures { IfOk result IsOfDraft }
@@ -118,7 +118,7 @@ fn refused(
     Ok(SheetFault::Refused(RefusedDraft {
         container: Vec::from_slice(alloc, bytes)?,
         text: list(alloc, container)?,
-        line: code.line_at(refusal.pc),
+        line: draft.line_at(refusal.proc, refusal.pc),
         refusal,
     }))
 }

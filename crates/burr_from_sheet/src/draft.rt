@@ -1,4 +1,4 @@
-//! The code that makes motions one after the other.
+//! The draft of a plan that makes motions one after the other.
 
 ghost use Rattle.std.specs.Prelude.{◌<◌, All, IfErr};
 ghost use Rattle.burr_code.specs.declared.limits.TheConstants.{TRAYS};
@@ -6,107 +6,28 @@ ghost use Rattle.burr_from_sheet.specs.Drafts.{IsOfDraft, MayBeMade};
 ghost use Rattle.burr_code.specs.Instruction.{IsInRange};
 ghost use Rattle.burr_code.specs.Meaning.{meaning};
 
+use crate::drafted_code::DraftedCode;
+use crate::drafted_plan::{DraftedPlan, DraftedProcedure};
 use crate::fault::SheetFault;
+use crate::situation::Situation;
 use burr_assembly::Assembly;
-use burr_code::limits::{MOST_CODE, MOST_PIECES, TRAYS};
-use burr_code::{Instr, Placement, encode, is_empty_tray, take_aside};
+use burr_code::Instr;
+use burr_code::limits::{MOST_PROCEDURES, TRAYS};
 use burr_state::Motion;
-use std::alloc::Global;
+use std::alloc::{AllocError, Global};
+use std::mem::replace;
 
-/// Code of at most 4,096 bytes, and what each of its instructions is for.
-#[derive(Debug, Drop)]
-pub struct DraftedCode {
-    bytes: Vec<u8>,
-    /// One for each instruction, in their order.
-    purposes: Vec<Purpose>,
-}
-
-/// What an instruction is for.
-#[derive(Clone, Copy, Debug)]
-struct Purpose {
-    /// Where the instruction stands in the code.
-    position: usize,
-    /// The line of the sheet that it is for.
-    line: usize,
-}
-
-impl DraftedCode {
-    /// Code without an instruction.
-    pub fn new(alloc: Global) -> DraftedCode {
-        DraftedCode {
-            bytes: Vec::new(alloc),
-            purposes: Vec::new(alloc),
-        }
-    }
-
-    /// Adds an instruction that is for a line of the sheet, unless the code would be too long.
-    pub fn add(
-        &mut self,
-        alloc: Global,
-        instruction: &Instr<'_>,
-        line: usize,
-    ) -> Result<(), SheetFault>
-        requires { IsInRange (meaning instruction.now) }
-        ensures { IfErr result IsOfDraft }
-    {
-        let bytes = encode(alloc, instruction)?;
-        let position = self.bytes.len();
-        if bytes.len() > MOST_CODE.saturating_sub(position) {
-            return Err(SheetFault::TooLong(line));
-        }
-        self.purposes.push(Purpose { position, line })?;
-        self.bytes.extend_from_slice(&bytes)?;
-        Ok(())
-    }
-
-    /// The bytes.
-    pub fn as_bytes(&self) -> &[u8] {
-        &self.bytes
-    }
-
-    /// How many instructions there are.
-    pub fn count(&self) -> u16 {
-        // In 4,096 bytes there are no more.
-        u16::try_from(self.purposes.len()).unwrap_or(u16::MAX)
-    }
-
-    /// The line of the sheet that the instruction at a position is for.
-    pub fn line_at(&self, position: u16) -> usize {
-        let mut line = 1;
-        for purpose in &self.purposes {
-            if purpose.position > usize::from(position) {
-                break;
-            }
-            line = purpose.line;
-        }
-        line
-    }
-}
-
-/// Code under way, and where a run of it stands.
-#[derive(Drop)]
-struct Draft {
-    code: DraftedCode,
-    /// The current tray.
-    tray: u8,
-    /// The pieces that are gripped.
-    grip: u32,
-    /// The tray of each piece that isn't apart. Numbers that no piece has count as apart.
-    places: [Placement<()>; MOST_PIECES],
-}
-
-/// Code that makes these motions of an assembly's pieces, and then halts.
-pub fn code_of(
+/// A plan whose run makes these motions of an assembly's pieces, and then halts.
+pub fn draft_of(
     alloc: Global,
     assembly: &Assembly,
     motions: &[Motion],
-) -> Result<DraftedCode, SheetFault>
+) -> Result<DraftedPlan, SheetFault>
     requires { All MayBeMade motions.now }
     ensures { IfErr result IsOfDraft }
 {
-    // A motion takes two bytes or more, so the code is too long before more of them are made.
-    let motions = &motions[..motions.len().min(MOST_CODE)];
-    let mut draft = Draft::new(alloc, assembly.piece_count());
+    let start = Situation::at_start(assembly.piece_count());
+    let mut draft = Draft::new(alloc, start);
     let mut line = 0;
     for (place, motion) in motions.iter().enumerate() {
         if begins_line(&motions[..place], motion) {
@@ -114,8 +35,8 @@ pub fn code_of(
         }
         draft.add_motion(alloc, motion, line, &motions[place + 1..])?;
     }
-    draft.code.add(alloc, &Instr::Halt, line.max(1))?;
-    Ok(draft.code)
+    let procedures = draft.into_procedures(alloc, start, line.max(1))?;
+    Ok(DraftedPlan { procedures })
 }
 
 /// Whether a motion that follows these ones begins a line of the sheet.
@@ -131,21 +52,26 @@ fn begins_line(before: &[Motion], motion: &Motion) -> bool {
     }
 }
 
+/// Code under way. It is cut into parts where it grows too long for one procedure.
+#[derive(Drop)]
+struct Draft {
+    /// The parts before the one that is under way.
+    parts: Vec<DraftedProcedure>,
+    /// What holds where the part under way begins.
+    start: Situation,
+    code: DraftedCode,
+    /// What holds after that code.
+    situation: Situation,
+}
+
 impl Draft {
-    /// A draft without code, with this many pieces, which are all in tray 0.
-    fn new(alloc: Global, pieces: u8) -> Draft {
-        let mut places = [Placement::Apart; MOST_PIECES];
-        for place in places.iter_mut().take(usize::from(pieces)) {
-            *place = Placement::On {
-                tray: 0,
-                position: (),
-            };
-        }
+    /// A draft without code, of a run that begins so.
+    fn new(alloc: Global, start: Situation) -> Draft {
         Draft {
+            parts: Vec::new(alloc),
+            start,
             code: DraftedCode::new(alloc),
-            tray: 0,
-            grip: 0,
-            places,
+            situation: start,
         }
     }
 
@@ -161,24 +87,77 @@ impl Draft {
         requires later { All MayBeMade later.now }
         ensures { IfErr result IsOfDraft }
     {
-        if motion.tray != self.tray {
-            self.code.add(alloc, &Instr::Tray(motion.tray), line)?;
-            self.tray = motion.tray;
-            self.grip = 0;
+        if motion.tray != self.situation.tray {
+            self.add(alloc, &Instr::Tray(motion.tray), line)?;
+            self.situation.turn_to(motion.tray);
         }
-        if motion.group != self.grip {
-            self.code.add(alloc, &Instr::Grip(motion.group), line)?;
-            self.grip = motion.group;
+        if motion.group != self.situation.grip {
+            self.add(alloc, &Instr::Grip(motion.group), line)?;
+            self.situation.grip = motion.group;
         }
-        if !motion.out {
-            return self.code.add(alloc, &Instr::Step(motion.dir), line);
+        if motion.out {
+            let there = self.tray_for(motion.group, later);
+            self.add(alloc, &Instr::Aside(motion.dir, there), line)?;
+            self.situation.go_aside(there);
+        } else {
+            self.add(alloc, &Instr::Step(motion.dir), line)?;
+            self.situation.step(motion.dir);
         }
-        let there = self.tray_for(motion.group, later);
-        self.code
-            .add(alloc, &Instr::Aside(motion.dir, there), line)?;
-        take_aside(&mut self.places, motion.group, motion.tray, there);
-        self.grip = 0;
         Ok(())
+    }
+
+    /// Adds an instruction for a line of the sheet, to another part where this one has no room. Main
+    /// and those that it calls are at most 16.
+    fn add(&mut self, alloc: Global, instruction: &Instr<'_>, line: usize) -> Result<(), SheetFault>
+        requires { IsInRange (meaning instruction.now) }
+        ensures { IfErr result IsOfDraft }
+    {
+        if !self.code.has_room_for(instruction) {
+            if self.parts.len() >= MOST_PROCEDURES - 2 {
+                return Err(SheetFault::TooLong(line));
+            }
+            self.end_part(alloc, line)?;
+        }
+        self.code.add(alloc, instruction, line)?;
+        Ok(())
+    }
+
+    /// Ends the part under way, a procedure that returns, and begins another one.
+    fn end_part(&mut self, alloc: Global, line: usize) -> Result<(), AllocError> {
+        self.code.add(alloc, &Instr::Ret, line)?;
+        let code = replace(&mut self.code, DraftedCode::new(alloc));
+        let start = replace(&mut self.start, self.situation);
+        self.parts.push(DraftedProcedure {
+            start,
+            code,
+            end: Some(self.situation),
+        })?;
+        Ok(())
+    }
+
+    /// The procedures of a run that begins so, and halts after all code: the only part is main, and
+    /// of several main calls one after the other.
+    fn into_procedures(
+        mut self,
+        alloc: Global,
+        start: Situation,
+        line: usize,
+    ) -> Result<Vec<DraftedProcedure>, AllocError> {
+        if !self.parts.is_empty() {
+            self.end_part(alloc, line)?;
+            self.code = calls_of(alloc, &self.parts)?;
+        }
+        self.code.add(alloc, &Instr::Halt, line)?;
+        let mut procedures = self.parts;
+        procedures.insert(
+            0,
+            DraftedProcedure {
+                start,
+                code: self.code,
+                end: None,
+            },
+        )?;
+        Ok(procedures)
     }
 
     /// The tray that a group goes to: the one in which the first of these later motions that moves a
@@ -192,19 +171,17 @@ impl Draft {
                 return motion.tray;
             }
         }
-        lowest_empty_tray(&self.places)
+        self.situation.lowest_empty_tray()
     }
 }
 
-/// The lowest tray in which no piece lies.
-fn lowest_empty_tray(places: &[Placement<()>]) -> u8
-    ensures { result < TRAYS }
-{
-    for tray in 0..TRAYS {
-        if is_empty_tray(places, tray) {
-            return tray;
-        }
+/// Code that calls the procedures after main, which are these, one after the other.
+fn calls_of(alloc: Global, parts: &[DraftedProcedure]) -> Result<DraftedCode, AllocError> {
+    let mut code = DraftedCode::new(alloc);
+    let mut callee: u8 = 0;
+    for part in parts {
+        callee = callee.saturating_add(1);
+        code.add(alloc, &Instr::Call(callee), part.code.line_at(0))?;
     }
-    // There are 32 pieces at most, and none is alone in a tray.
-    0
+    Ok(code)
 }

@@ -13,7 +13,7 @@ pub enum SheetFault {
     /// those before it are lines of motions.
     #[error("line {0}: no move line of this form may stand here")]
     Line(usize),
-    /// With this line the plan would have more than 4,096 bytes of code.
+    /// With this line the code of the plan has more than 61,425 bytes: fifteen procedures of 4,095.
     #[error("line {0}: the plan is too long")]
     TooLong(usize),
     /// The verifier refuses the plan that makes these motions.

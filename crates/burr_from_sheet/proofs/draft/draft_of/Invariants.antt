@@ -1,5 +1,5 @@
 use Rattle.std.proofs.Common.{◌≤◌}
-use Rattle.burr_from_sheet.proofs.draft.code_of.Given as goal
+use Rattle.burr_from_sheet.proofs.draft.draft_of.Given as goal
 
 -- there were no more lines than motions
 abbrev pub invariant-loop-place : goal.invariant-loop-place
