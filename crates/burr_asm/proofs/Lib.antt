@@ -16,6 +16,7 @@ pub mod LineForms
 pub mod Numbers
 pub mod Offers
 pub mod Operands
+pub mod PartLines
 pub mod PieceSets
 pub mod PlanRead
 pub mod ReadLines
@@ -23,6 +24,7 @@ pub mod Refusals
 pub mod RoutineParts
 pub mod Sets
 pub mod SlotRanges
+pub mod SourceParts
 pub mod StageLabels
 pub mod StagePlaces
 pub mod StageCode

@@ -1,3 +1,4 @@
 pub mod Assembling
 pub mod FaultNames
 pub mod Faults
+pub mod SourceMaps

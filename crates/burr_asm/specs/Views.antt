@@ -20,6 +20,7 @@ pub mod Plain
 pub mod Reading
 pub mod Routines
 pub mod Sets
+pub mod SourceMaps
 pub mod Steps
 pub mod Versions
 pub mod Words

@@ -4,6 +4,7 @@
 mod assembling;
 mod fault;
 mod laws;
+mod source_maps;
 mod text;
 mod version;
 
@@ -11,3 +12,4 @@ pub use assembling::assemble;
 pub use burr_plantext::{list, list_with_places};
 pub use fault::AsmFault;
 pub use laws::a_listing_assembles_to_its_container;
+pub use source_maps::{PlanPart, source_map};

@@ -22,4 +22,8 @@ mod stage;
 mod statement;
 mod words;
 
+pub use code_line::CodeLine;
+pub use line::LineForm;
 pub use reader::read_plan;
+pub use statement::Statement;
+pub use words::is_skipped;
