@@ -4,6 +4,7 @@
 #![tactic(auto)]
 
 mod differences;
+mod expected;
 mod group;
 mod meeting;
 mod offset;
@@ -12,4 +13,5 @@ mod point_state;
 mod reasons;
 
 pub use burr_lines::PlanText;
+pub use expected::expectation_of_line;
 pub use reasons::{reason_of_line, reason_of_refusal};

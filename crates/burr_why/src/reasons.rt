@@ -20,7 +20,7 @@ use std::fmt;
 pub struct Reasons<'a, 'c> {
     alloc: Global,
     plan: PlanText<'a, 'c>,
-    lines: PlanLines<'a>,
+    lines: PlanLines<'a, 'c>,
     report: Report,
 }
 
@@ -116,7 +116,7 @@ pub fn reason_of_refusal(
     let mut reasons = Reasons {
         alloc,
         plan,
-        lines: PlanLines::of(alloc, plan.text, plan.container)?,
+        lines: PlanLines::of(alloc, plan)?,
         report: Report::new(alloc),
     };
     reasons.add(refusal);

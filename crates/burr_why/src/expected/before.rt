@@ -1,0 +1,138 @@
+//! What stands in a plan text before a line.
+
+use burr_lines::Line;
+use burr_text::integer;
+use std::fmt;
+
+/// The lines before one, all of which are right, as far as they bear on what belongs next.
+#[derive(Clone, Copy, Drop)]
+pub struct Before<'a> {
+    /// The first word of the last of them that is not skipped.
+    pub word: &'a [u8],
+    pub plan: Option<Line<'a>>,
+    /// The last line of a procedure.
+    pub procedure: Option<Line<'a>>,
+    pub procedures: usize,
+    /// The last line `label` or `exit`, with which a frame begins.
+    pub head: Option<Line<'a>>,
+    results: usize,
+    places: usize,
+}
+
+/// What belongs next.
+#[derive(Clone, Copy, Drop)]
+pub enum Due {
+    /// A line that is written so.
+    Line(&'static str),
+    /// The `at` line of a piece.
+    Place(usize),
+    Code,
+}
+
+impl<'a> Before<'a> {
+    /// What stands before the line of this number.
+    pub fn of(text: &'a [u8], number: usize) -> Before<'a> {
+        let mut before = Before {
+            word: b"",
+            plan: None,
+            procedure: None,
+            procedures: 0,
+            head: None,
+            results: 0,
+            places: 0,
+        };
+        let lines = text.split(|byte| *byte == b'\n').enumerate();
+        for (place, bytes) in lines.take(number.saturating_sub(1)) {
+            let number = place.saturating_add(1);
+            before.add(Line { number, bytes });
+        }
+        before
+    }
+
+    /// Adds the next line.
+    fn add(&mut self, line: Line<'a>) {
+        if matches!(line.bytes, [] | [b';', ..]) {
+            return;
+        }
+        self.word = line.word();
+        match self.word {
+            b"plan" | b"plan2" => self.plan = Some(line),
+            b"proc" => {
+                self.procedure = Some(line);
+                self.procedures = self.procedures.saturating_add(1);
+            }
+            b"exit" | b"label" => {
+                self.head = Some(line);
+                self.results = 0;
+                self.places = 0;
+            }
+            b"result" => self.results = self.results.saturating_add(1),
+            b"at" => self.places = self.places.saturating_add(1),
+            _ => {}
+        }
+    }
+
+    /// What belongs next.
+    pub fn due(&self) -> Due {
+        match self.word {
+            b"" => Due::Line("plan NAME PIECES BUDGET"),
+            b"plan" => Due::Line("proc NAME 0"),
+            b"plan2" => Due::Line("proc NAME 0 0"),
+            b"proc" if self.is_in_exit() => Due::Line("exit TRAY SET"),
+            b"exit" | b"result" if self.results < number_in(self.procedure, 3) => {
+                Due::Line("result LO HI")
+            }
+            b"label" => Due::Line("frame TRAY SET"),
+            b"exit" | b"result" | b"cost" => Due::Place(0),
+            b"guard" if self.is_in_exit() => Due::Place(0),
+            b"frame" | b"slot" | b"guard" | b"stack" => Due::Line("cost FORM"),
+            b"at" if self.places < self.pieces() => Due::Place(self.places),
+            b"at" if !self.is_in_exit() => Due::Code,
+            b"at" | b"proc" => Due::Line("label NAME"),
+            _ => Due::Code,
+        }
+    }
+
+    /// Whether a line of an exit frame is the last one, or belongs next.
+    pub fn is_in_exit(&self) -> bool {
+        match self.head {
+            Some(head) => match self.word {
+                b"proc" => true,
+                _ => head.word() == b"exit".as_slice(),
+            },
+            None => false,
+        }
+    }
+
+    /// Whether procedures of the plan may have results.
+    pub fn has_results(&self) -> bool {
+        self.plan
+            .is_some_and(|plan| plan.word() == b"plan2".as_slice())
+    }
+
+    /// How many pieces the plan is for.
+    pub fn pieces(&self) -> usize {
+        number_in(self.plan, 2)
+    }
+}
+
+/// The number in a word of a line, counted from 0; 0 where there is none.
+fn number_in(line: Option<Line<'_>>, place: usize) -> usize {
+    let Some(line) = line else {
+        return 0;
+    };
+    match line.bytes.split(|byte| *byte == b' ').nth(place) {
+        Some(word) => usize::try_from(integer(word).unwrap_or(0)).unwrap_or(0),
+        None => 0,
+    }
+}
+
+impl fmt::Display for Due {
+    fn fmt<W: fmt::Write>(&self, f: &mut fmt::Formatter<W>) -> fmt::Result {
+        match *self {
+            Due::Line(form) => write!(f, "`{form}`"),
+            Due::Place(piece) => write!(f, "`at {piece}`"),
+            Due::Code => write!(f, "code, `label` or `proc`"),
+        }
+    }
+}
