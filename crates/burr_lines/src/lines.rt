@@ -1,8 +1,10 @@
 //! The lines of a plan text, each with what it says.
 
-use burr_code::fetch;
-use burr_container::Container;
-use burr_text::{cut_at, integer};
+use crate::plan_text::PlanText;
+use burr_asm::{PlanPart, source_map};
+use burr_code::limits::SLOTS;
+use burr_container::{ExitRef, FrameRef};
+use burr_text::cut_at;
 use std::alloc::{AllocError, Global};
 
 /// What a line of a frame or of an exit frame tells.
@@ -55,11 +57,6 @@ pub struct Line<'a> {
 }
 
 impl<'a> Line<'a> {
-    /// Whether it is empty, or a comment.
-    fn is_skipped(&self) -> bool {
-        self.bytes.is_empty() || self.bytes.starts_with(b";")
-    }
-
     /// The first word.
     pub fn word(&self) -> &'a [u8] {
         before_blank(self.bytes).0
@@ -95,48 +92,76 @@ pub fn numbered_line(text: &[u8], number: usize) -> Option<Line<'_>> {
     Some(Line { number, bytes })
 }
 
-/// The lines of a plan text that is assembled to a container, each with what it says; lines that
-/// are skipped are left out.
+/// The lines of a plan text that is assembled to a container, by what they say.
 #[derive(Drop)]
-pub struct PlanLines<'a> {
-    lines: Vec<(PlanItem, Line<'a>)>,
+pub struct PlanLines<'a, 'c> {
+    plan: PlanText<'a, 'c>,
+    lines: Vec<&'a [u8]>,
+    /// Each part of the plan, with the number of its line, from 1.
+    parts: Vec<(PlanPart, usize)>,
 }
 
-impl<'a> PlanLines<'a> {
-    /// The lines of a text, and what they say.
-    pub fn of(
-        alloc: Global,
-        text: &'a [u8],
-        container: &Container<'_>,
-    ) -> Result<PlanLines<'a>, AllocError> {
-        let mut lines = Vec::new(alloc);
-        let mut cursor = ItemCursor::new(container);
-        let mut rest = text;
-        let mut number: usize = 1;
-        while let Some((bytes, more)) = cut_at(rest, b'\n') {
-            let line = Line { number, bytes };
-            if let Some(item) = cursor.item_of(&line) {
-                lines.push((item, line))?;
-            }
-            rest = more;
-            number = number.saturating_add(1);
-        }
-        Ok(PlanLines { lines })
+impl<'a, 'c> PlanLines<'a, 'c> {
+    /// The lines of a text that is assembled as it stands, and what they say.
+    pub fn of(alloc: Global, plan: PlanText<'a, 'c>) -> Result<PlanLines<'a, 'c>, AllocError> {
+        PlanLines::with(alloc, plan, source_map(alloc, plan.text)?)
     }
 
-    /// The lines, in their order.
-    pub fn lines(&self) -> &[(PlanItem, Line<'a>)] {
-        &self.lines
+    /// The lines of a text, where the parts of the plan stand on the lines of these numbers.
+    pub fn with(
+        alloc: Global,
+        plan: PlanText<'a, 'c>,
+        parts: Vec<(PlanPart, usize)>,
+    ) -> Result<PlanLines<'a, 'c>, AllocError> {
+        let mut lines = Vec::new(alloc);
+        for line in plan.text.split(|byte| *byte == b'\n') {
+            lines.push(line)?;
+        }
+        Ok(PlanLines { plan, lines, parts })
+    }
+
+    /// The parts of the plan in their order, each with the number of its line.
+    pub fn parts(&self) -> &[(PlanPart, usize)] {
+        &self.parts
+    }
+
+    /// The line of a number, counted from 1; an empty one where there is none.
+    pub fn line(&self, number: usize) -> Line<'a> {
+        let bytes = self.lines.get(number.saturating_sub(1));
+        Line {
+            number,
+            bytes: bytes.copied().unwrap_or(b""),
+        }
     }
 
     /// The line that says this; none where there is none.
     pub fn line_of(&self, item: PlanItem) -> Option<Line<'a>> {
-        for (found, line) in &self.lines {
-            if *found == item {
-                return Some(*line);
-            }
-        }
-        None
+        let wanted = self.part_of(item)?;
+        let (_, number) = self.parts.iter().find(|(part, _)| *part == wanted)?;
+        Some(self.line(*number))
+    }
+
+    /// The part of the plan's text that says this; none where there is none.
+    fn part_of(&self, item: PlanItem) -> Option<PlanPart> {
+        Some(match item {
+            PlanItem::Plan => PlanPart::Plan,
+            PlanItem::Procedure(procedure) => PlanPart::Procedure(procedure),
+            PlanItem::Label { procedure, label } => PlanPart::Label { procedure, label },
+            PlanItem::Code { procedure, pc } => PlanPart::Code { procedure, pc },
+            PlanItem::Exit { procedure, part } => PlanPart::Exit {
+                procedure,
+                row: row_in_exit(&self.plan.exit(procedure)?, part)?,
+            },
+            PlanItem::Frame {
+                procedure,
+                label,
+                part,
+            } => PlanPart::Frame {
+                procedure,
+                label,
+                row: row_in_frame(&self.plan.frame(procedure, label)?, part)?,
+            },
+        })
     }
 
     /// The name that stands in the line that says this; nothing where there is no such line.
@@ -148,125 +173,41 @@ impl<'a> PlanLines<'a> {
     }
 }
 
-/// How far a plan text was gone over, line by line, which decides what the next line says.
-#[derive(Drop)]
-struct ItemCursor<'a, 'c> {
-    container: &'a Container<'c>,
-    /// How many procedures have begun.
-    procedures: usize,
-    /// How many labels of the procedure have begun.
-    labels: usize,
-    /// How many bytes of the procedure's code stand before.
-    pc: usize,
-    /// The first word of the last line, and how many lines in a row before it have the same.
-    word: &'a [u8],
-    count: u8,
-}
-
-impl<'a, 'c> ItemCursor<'a, 'c> {
-    /// Before the first line.
-    fn new(container: &'a Container<'c>) -> ItemCursor<'a, 'c> {
-        ItemCursor {
-            container,
-            procedures: 0,
-            labels: 0,
-            pc: 0,
-            word: b"",
-            count: 0,
-        }
-    }
-
-    /// What a line says; none of one that is skipped, or that names no slot or piece by a number.
-    fn item_of(&mut self, line: &Line<'a>) -> Option<PlanItem> {
-        if line.is_skipped() {
-            return None;
-        }
-        self.count_line(line.word());
-        let item = match line.word() {
-            b"plan" | b"plan2" => PlanItem::Plan,
-            b"proc" => self.begin_procedure(),
-            b"label" => self.begin_label(),
-            b"exit" | b"frame" => self.frame_item(FramePart::Head),
-            b"slot" => self.frame_item(FramePart::Slot(number_of(line.operand())?)),
-            b"result" => self.frame_item(FramePart::Result(self.count)),
-            b"guard" => self.frame_item(FramePart::Guard(self.count)),
-            b"stack" => self.frame_item(FramePart::Operand(self.count)),
-            b"cost" => self.frame_item(FramePart::Cost),
-            b"at" => self.frame_item(FramePart::Piece(number_of(line.operand())?)),
-            word => self.code_item(word),
-        };
-        Some(item)
-    }
-
-    /// Counts a line that begins with a word; those of a frame that have one word stand in a row.
-    fn count_line(&mut self, word: &'a [u8]) {
-        let more = self.count.saturating_add(1);
-        self.count = if word == self.word { more } else { 0 };
-        self.word = word;
-    }
-
-    /// The line of a procedure.
-    fn begin_procedure(&mut self) -> PlanItem {
-        let procedure = self.procedures;
-        self.procedures = procedure.saturating_add(1);
-        self.labels = 0;
-        self.pc = 0;
-        PlanItem::Procedure(procedure)
-    }
-
-    /// The line of a label.
-    fn begin_label(&mut self) -> PlanItem {
-        let label = self.labels;
-        self.labels = label.saturating_add(1);
-        PlanItem::Label {
-            procedure: self.procedure(),
-            label,
-        }
-    }
-
-    /// The number of the procedure that has begun last.
-    fn procedure(&self) -> usize {
-        self.procedures.saturating_sub(1)
-    }
-
-    /// A line of the frame of the label that has begun last, or of the exit frame before the first
-    /// label.
-    fn frame_item(&self, part: FramePart) -> PlanItem {
-        let procedure = self.procedure();
-        match self.labels.checked_sub(1) {
-            None => PlanItem::Exit { procedure, part },
-            Some(label) => PlanItem::Frame {
-                procedure,
-                label,
-                part,
-            },
-        }
-    }
-
-    /// A line of code; the next one stands after its bytes.
-    fn code_item(&mut self, word: &[u8]) -> PlanItem {
-        let pc = self.pc;
-        self.pc = pc.saturating_add(self.size_of(word));
-        PlanItem::Code {
-            procedure: self.procedure(),
-            pc,
-        }
-    }
-
-    /// How many bytes of code a line stands for.
-    fn size_of(&self, word: &[u8]) -> usize {
-        let procedure = self.procedure();
-        if word == b"byte".as_slice() || self.container.proc_count() <= procedure {
-            return 1;
-        }
-        match fetch(self.container.code(procedure), self.pc) {
-            Some((_, size)) => size,
-            None => 1,
-        }
+/// The row of a part of a label's frame among its lines, from 0; none where it has no such part.
+fn row_in_frame(frame: &FrameRef<'_>, part: FramePart) -> Option<usize> {
+    let guards = live_below(frame, SLOTS as u8).saturating_add(1);
+    let operands = guards.saturating_add(frame.guard_count());
+    let cost = operands.saturating_add(frame.stack_count());
+    match part {
+        FramePart::Head => Some(0),
+        FramePart::Slot(v) if is_live(frame, v) => Some(live_below(frame, v).saturating_add(1)),
+        FramePart::Guard(n) => Some(guards.saturating_add(usize::from(n))),
+        FramePart::Operand(n) => Some(operands.saturating_add(usize::from(n))),
+        FramePart::Cost => Some(cost),
+        FramePart::Piece(n) => Some(cost.saturating_add(usize::from(n)).saturating_add(1)),
+        FramePart::Slot(_) | FramePart::Result(_) => None,
     }
 }
 
-/// The number that a word tells; none where it tells none of 0 to 255.
-fn number_of(word: &[u8]) -> Option<u8> {
-    u8::try_from(integer(word)?).ok()
+/// How many slots below this one are live in a frame.
+fn live_below(frame: &FrameRef<'_>, slot: u8) -> usize {
+    (0..slot).filter(|v| is_live(frame, *v)).count()
+}
+
+/// Whether a slot is live in a frame.
+fn is_live(frame: &FrameRef<'_>, slot: u8) -> bool {
+    slot < SLOTS as u8 && frame.slot(slot).is_some()
+}
+
+/// The row of a part of an exit frame among its lines, from 0; none where it has no such part.
+fn row_in_exit(exit: &ExitRef<'_>, part: FramePart) -> Option<usize> {
+    let guards = usize::from(exit.result_count()).saturating_add(1);
+    let pieces = guards.saturating_add(usize::from(exit.guard_count()));
+    match part {
+        FramePart::Head => Some(0),
+        FramePart::Result(n) => Some(usize::from(n).saturating_add(1)),
+        FramePart::Guard(n) => Some(guards.saturating_add(usize::from(n))),
+        FramePart::Piece(n) => Some(pieces.saturating_add(usize::from(n))),
+        FramePart::Slot(_) | FramePart::Operand(_) | FramePart::Cost => None,
+    }
 }
