@@ -1,12 +1,12 @@
-//! The arrivals of a run at the labels of its plan.
+//! What a run of a plan text comes to: its labels, and the ends of its procedures.
 
-use arrayvec::ArrayVec;
-use burr_code::Placement;
-use burr_code::limits::{MOST_OPERANDS, SLOTS};
-use burr_lines::{Line, PlanItem, PlanLines, PlanText};
+use crate::frame::Visit;
+use crate::labels::Labels;
+use crate::questions::Question;
+use crate::snapshot::Snapshot;
+use burr_code::Instr;
 use burr_runs::Observer;
 use burr_state::{Bench, Mode};
-use burr_voxels::Cell;
 use std::alloc::{AllocError, Global};
 
 /// An arrival of a run at a label.
@@ -20,6 +20,23 @@ pub struct Arrival {
     pub cost: u64,
     /// The answer that was taken last; none before the first.
     pub answer: Option<i32>,
+    pub snapshot: Snapshot,
+}
+
+impl Arrival {
+    /// What held then, and the steps that still came.
+    pub fn visit(&self) -> Visit<'_> {
+        Visit {
+            snapshot: &self.snapshot,
+            cost: self.cost,
+        }
+    }
+}
+
+/// A return of a run from a procedure.
+#[derive(Drop)]
+pub struct Return {
+    pub procedure: usize,
     pub snapshot: Snapshot,
 }
 
@@ -59,37 +76,36 @@ impl Stand {
     }
 }
 
-/// What the run of a plan text came to at its labels: who makes the run lets this look on.
+/// What the run of a plan text came to: who makes the run lets this look on.
 #[derive(Drop)]
-pub struct Arrivals<'a> {
+pub struct Arrivals<'x, 'a, 'c> {
     alloc: Global,
-    pub lines: PlanLines<'a>,
-    pub labels: Labels<'a>,
-    arrivals: Vec<Arrival>,
+    pub labels: &'x Labels<'a, 'c>,
+    /// In their order.
+    pub arrivals: Vec<Arrival>,
+    pub returns: Vec<Return>,
     /// The innermost last.
     open: Vec<Open>,
     stand: Option<Stand>,
     /// The answer that was taken last.
     answer: Option<i32>,
-    /// Whether no arrival was left out for want of memory.
+    /// Whether nothing was left out for want of memory.
     is_whole: bool,
 }
 
-impl<'a> Arrivals<'a> {
-    /// Before the run of a plan.
-    pub fn new(alloc: Global, plan: PlanText<'a, '_>) -> Result<Arrivals<'a>, AllocError> {
-        let lines = PlanLines::of(alloc, plan.text, plan.container)?;
-        let labels = Labels::of(alloc, &lines, plan)?;
-        Ok(Arrivals {
+impl<'x, 'a, 'c> Arrivals<'x, 'a, 'c> {
+    /// Before the run of a plan text with these labels.
+    pub fn new(alloc: Global, labels: &'x Labels<'a, 'c>) -> Arrivals<'x, 'a, 'c> {
+        Arrivals {
             alloc,
-            lines,
             labels,
             arrivals: Vec::new(alloc),
+            returns: Vec::new(alloc),
             open: Vec::new(alloc),
             stand: None,
             answer: None,
             is_whole: true,
-        })
+        }
     }
 
     /// Ends what is seen of the run, and gives where it stood when it was last seen; none where it was not
@@ -104,9 +120,22 @@ impl<'a> Arrivals<'a> {
         Ok(self.stand)
     }
 
-    /// The arrivals, in their order.
-    pub fn as_slice(&self) -> &[Arrival] {
-        &self.arrivals
+    /// The question at which the run stood when it was last seen; none where it asked nothing there.
+    pub fn question(&self) -> Option<Question> {
+        let stand = self.stand?;
+        match self.labels.instruction_at(stand.procedure, stand.pc)? {
+            Instr::Ask(least, greatest) => Some(Question {
+                least: i32::from(least),
+                greatest: i32::from(greatest),
+                is_choice: false,
+            }),
+            Instr::Pick(offer) => Some(Question {
+                least: 0,
+                greatest: i32::try_from(offer.len()).unwrap_or(1).saturating_sub(1),
+                is_choice: true,
+            }),
+            _ => None,
+        }
     }
 
     /// Counts the costs of arrivals above this many activations, which have ended after these steps.
@@ -130,9 +159,22 @@ impl<'a> Arrivals<'a> {
         if stand.has_ended {
             return Ok(());
         }
-        let Some(label) = self.labels.at(stand.procedure, stand.pc) else {
-            return Ok(());
-        };
+        if let Some(label) = self.labels.at(stand.procedure, stand.pc) {
+            self.note_arrival(label, bench, stand)?;
+        }
+        match self.labels.instruction_at(stand.procedure, stand.pc) {
+            Some(Instr::Ret) => self.note_return(stand.procedure, bench),
+            _ => Ok(()),
+        }
+    }
+
+    /// Notes that the bench has come to a label.
+    fn note_arrival(
+        &mut self,
+        label: usize,
+        bench: &Bench<'_>,
+        stand: &Stand,
+    ) -> Result<(), AllocError> {
         self.open.push(Open {
             arrival: self.arrivals.len(),
             depth: bench.depth(),
@@ -146,9 +188,22 @@ impl<'a> Arrivals<'a> {
         })?;
         Ok(())
     }
+
+    /// Notes that the bench is about to return from a procedure.
+    fn note_return(&mut self, procedure: usize, bench: &Bench<'_>) -> Result<(), AllocError> {
+        let Some(returning) = self.labels.plan.procedure(procedure) else {
+            return Ok(());
+        };
+        let (parameters, results) = (returning.params(), returning.results());
+        self.returns.push(Return {
+            procedure,
+            snapshot: Snapshot::at_return(self.alloc, bench, parameters, results)?,
+        })?;
+        Ok(())
+    }
 }
 
-impl Observer for Arrivals<'_> {
+impl Observer for Arrivals<'_, '_, '_> {
     fn observe(&mut self, bench: &Bench<'_>, answers: &[i32]) {
         let stand = Stand::of(bench, answers);
         let before = self.stand;
@@ -162,152 +217,5 @@ impl Observer for Arrivals<'_> {
         if self.note(bench, &stand).is_err() {
             self.is_whole = false;
         }
-    }
-}
-
-/// What holds where a run stands, as far as a frame tells of it; its cost is not known yet.
-#[derive(Drop)]
-pub struct Snapshot {
-    /// The current tray.
-    pub tray: u8,
-    /// The gripped pieces: bit p is piece p.
-    pub grip: u32,
-    slots: [Option<i64>; SLOTS],
-    /// The top last.
-    pub operands: ArrayVec<i64, MOST_OPERANDS>,
-    /// How far each piece lies from home.
-    pub places: Vec<Placement<Cell>>,
-}
-
-impl Snapshot {
-    /// What holds where a bench stands.
-    pub fn of(alloc: Global, bench: &Bench<'_>) -> Result<Snapshot, AllocError> {
-        let mut operands = ArrayVec::new();
-        for operand in bench.operands() {
-            let _ = operands.try_push(i64::from(*operand));
-        }
-        Ok(Snapshot {
-            tray: bench.tray(),
-            grip: bench.grip(),
-            slots: slots_of(bench),
-            operands,
-            places: places_of(alloc, bench)?,
-        })
-    }
-
-    /// What a slot holds; none where it is empty.
-    pub fn slot(&self, slot: usize) -> Option<i64> {
-        self.slots.get(slot).copied().flatten()
-    }
-
-    /// The number in a slot; 0 where it is empty.
-    pub fn number(&self, slot: usize) -> i64 {
-        self.slot(slot).unwrap_or(0)
-    }
-
-    /// An operand, counted from the bottom; 0 where there is none.
-    pub fn operand(&self, n: usize) -> i64 {
-        self.operands.get(n).copied().unwrap_or(0)
-    }
-
-    /// The tray of a piece; none where it is apart.
-    pub fn tray_of(&self, piece: usize) -> Option<u8> {
-        self.places.get(piece)?.tray()
-    }
-
-    /// How far a piece lies from home; not at all where it is apart.
-    pub fn position(&self, piece: usize) -> Cell {
-        match self.places.get(piece) {
-            Some(Placement::On { position, .. }) => *position,
-            _ => Cell { x: 0, y: 0, z: 0 },
-        }
-    }
-}
-
-/// The numbers in the slots.
-fn slots_of(bench: &Bench<'_>) -> [Option<i64>; SLOTS] {
-    let mut slots = [None; SLOTS];
-    for slot in 0..SLOTS as u8 {
-        if let Some(number) = bench.slot(slot) {
-            slots[usize::from(slot)] = Some(i64::from(number));
-        }
-    }
-    slots
-}
-
-/// Where the pieces are.
-fn places_of(alloc: Global, bench: &Bench<'_>) -> Result<Vec<Placement<Cell>>, AllocError> {
-    let mut places = Vec::new(alloc);
-    for piece in 0..bench.piece_count() {
-        places.push(bench.place(piece))?;
-    }
-    Ok(places)
-}
-
-/// A label of a plan text.
-#[derive(Clone, Copy)]
-pub struct Label<'a> {
-    /// The number of its procedure.
-    pub procedure: usize,
-    /// The line that names the procedure.
-    pub procedure_line: Line<'a>,
-    /// Where it stands in the procedure's code.
-    pub pc: usize,
-    /// The line that names it.
-    pub line: Line<'a>,
-}
-
-/// The labels of a plan text, in its order: that of procedures and, within each, of places.
-#[derive(Drop)]
-pub struct Labels<'a> {
-    labels: Vec<Label<'a>>,
-}
-
-impl<'a> Labels<'a> {
-    /// The labels of a plan text with these lines.
-    pub fn of(
-        alloc: Global,
-        lines: &PlanLines<'a>,
-        plan: PlanText<'a, '_>,
-    ) -> Result<Labels<'a>, AllocError> {
-        let mut labels = Vec::new(alloc);
-        let mut head = Line {
-            number: 0,
-            bytes: b"",
-        };
-        for (item, line) in lines.lines() {
-            match *item {
-                PlanItem::Procedure(_) => head = *line,
-                PlanItem::Label { procedure, label } => {
-                    labels.push(Label {
-                        procedure,
-                        procedure_line: head,
-                        pc: plan.position(procedure, label).unwrap_or(0),
-                        line: *line,
-                    })?;
-                }
-                _ => {}
-            }
-        }
-        Ok(Labels { labels })
-    }
-
-    /// The labels.
-    pub fn as_slice(&self) -> &[Label<'a>] {
-        &self.labels
-    }
-
-    /// The number, from 0, of the label at a place of a procedure's code; none where none stands
-    /// there.
-    pub fn at(&self, procedure: usize, pc: usize) -> Option<usize> {
-        let wanted = (procedure, pc);
-        let number = self
-            .labels
-            .partition_point(|label| (label.procedure, label.pc) < wanted);
-        let label = self.labels.get(number)?;
-        if label.procedure == procedure && label.pc == pc {
-            return Some(number);
-        }
-        None
     }
 }

@@ -1,54 +1,58 @@
-//! Numbers that were seen at a label, as forms over its slots.
+//! Numbers that were seen, as forms over slots.
 
-use crate::arrivals::Arrival;
+use arrayvec::ArrayVec;
 use burr_code::limits::SLOTS;
+use std::alloc::{AllocError, Global};
 use std::fmt;
 
-/// A number that an arrival has.
-#[derive(Clone, Copy)]
-pub enum Quantity {
-    Slot(usize),
-    /// An operand, counted from the bottom.
-    Operand(usize),
-    Cost,
-    /// How far a piece lies from home along x, and so on.
-    X(usize),
-    Y(usize),
-    Z(usize),
-}
+/// The unknown numbers of a form: its constant, and a factor for each slot.
+const UNKNOWNS: usize = SLOTS + 1;
 
-impl Quantity {
-    /// The number at an arrival; 0 where it has none.
-    fn of(self, arrival: &Arrival) -> i64 {
-        match self {
-            Quantity::Slot(slot) => arrival.snapshot.number(slot),
-            Quantity::Operand(n) => arrival.snapshot.operand(n),
-            Quantity::Cost => i64::try_from(arrival.cost).unwrap_or(i64::MAX),
-            Quantity::X(piece) => i64::from(arrival.snapshot.position(piece).x),
-            Quantity::Y(piece) => i64::from(arrival.snapshot.position(piece).y),
-            Quantity::Z(piece) => i64::from(arrival.snapshot.position(piece).z),
+/// Numbers of slots.
+pub type SlotList = ArrayVec<usize, SLOTS>;
+
+/// The lists of slots of which a form may be: first those with the fewest slots beside some that are had
+/// anyway, and of these the shortest.
+pub fn slot_choices(
+    alloc: Global,
+    had: &SlotList,
+    others: &SlotList,
+) -> Result<Vec<SlotList>, AllocError> {
+    let mut choices: Vec<SlotList> = Vec::new(alloc);
+    choices.push(SlotList::new())?;
+    for slot in had.iter().chain(others) {
+        for n in 0..choices.len() {
+            if let Some(choice) = choices.get(n) {
+                let mut longer = choice.clone()?;
+                let _ = longer.try_push(*slot);
+                choices.push(longer)?;
+            }
         }
     }
+    choices.sort_by_key(|choice| (count_among(choice, others), choice.len()))?;
+    Ok(choices)
+}
 
-    /// The least and the greatest number at some arrivals.
-    pub fn range(self, seen: &[&Arrival]) -> (i64, i64) {
-        let mut range = None;
-        for arrival in seen {
-            let number = self.of(arrival);
-            let (least, greatest): (i64, i64) = range.unwrap_or((number, number));
-            range = Some((least.min(number), greatest.max(number)));
-        }
-        range.unwrap_or((0, 0))
-    }
+/// How many slots of a list are among others.
+fn count_among(list: &SlotList, others: &SlotList) -> usize {
+    list.iter().filter(|slot| others.contains(slot)).count()
+}
 
-    /// How far it has grown from one arrival to another.
-    fn grown(self, from: &Arrival, to: &Arrival) -> i64 {
-        self.of(to).saturating_sub(self.of(from))
+/// A number that was seen once, and what the slots held then.
+#[derive(Clone, Copy, Drop)]
+pub struct Point {
+    pub slots: [i64; SLOTS],
+    pub number: i64,
+}
+
+impl Point {
+    /// What a slot held; 0 where there is no such slot.
+    pub fn held(&self, slot: usize) -> i64 {
+        self.slots.get(slot).copied().unwrap_or(0)
     }
 }
 
-/// What is found of a number at some arrivals: a form of the slots that gives it at each, or how far it
-/// goes.
+/// What is found of a number: a form of the slots that gives it at each point, or how far it goes.
 #[derive(Clone, Copy, Drop)]
 pub enum Fit {
     Form(FittedForm),
@@ -56,23 +60,16 @@ pub enum Fit {
 }
 
 impl Fit {
-    /// The fit of a number at these arrivals: a constant, else a form of one slot, else of several, of
-    /// those that hold a number at each.
-    pub fn of(seen: &[&Arrival], quantity: Quantity) -> Fit {
-        let (least, greatest) = quantity.range(seen);
-        if least == greatest {
-            return Fit::Form(FittedForm::of_constant(least));
-        }
-        let found = match lone_factors(seen, quantity) {
-            Some(factors) => Some(factors),
-            None => factors_of_several(seen, quantity),
-        };
-        match (seen.first(), found) {
-            (Some(first), Some(factors)) => {
-                Fit::Form(FittedForm::through(quantity.of(first), factors, first))
+    /// The fit of a number at these points, by a form of the first of these lists of slots of which there
+    /// is one.
+    pub fn of(points: &[Point], choices: &[SlotList]) -> Fit {
+        for slots in choices {
+            if let Some(form) = FittedForm::through(points, slots) {
+                return Fit::Form(form);
             }
-            _ => Fit::Range(least, greatest),
         }
+        let (least, greatest) = range_of(points);
+        Fit::Range(least, greatest)
     }
 
     /// Whether a form is found.
@@ -80,12 +77,9 @@ impl Fit {
         matches!(self, Fit::Form(_))
     }
 
-    /// The form; where none is found, the greatest number.
-    pub fn form_or_greatest(&self) -> FittedForm {
-        match self {
-            Fit::Form(form) => *form,
-            Fit::Range(_, greatest) => FittedForm::of_constant(*greatest),
-        }
+    /// Whether it is a form that has this slot.
+    pub fn has_slot(&self, slot: usize) -> bool {
+        matches!(self, Fit::Form(form) if form.factor(slot) != 0)
     }
 }
 
@@ -98,111 +92,18 @@ impl fmt::Display for Fit {
     }
 }
 
-/// The factors of a form of one slot, the first that gives the number.
-fn lone_factors(seen: &[&Arrival], quantity: Quantity) -> Option<[i64; SLOTS]> {
-    let mut factors = [0; SLOTS];
-    for slot in 0..SLOTS {
-        if let Some(factor) = lone_factor(seen, quantity, slot) {
-            factors[slot] = factor;
-            return Some(factors);
-        }
+/// The least and the greatest number at some points.
+pub fn range_of(points: &[Point]) -> (i64, i64) {
+    let mut range = None;
+    for point in points {
+        let (least, greatest): (i64, i64) = range.unwrap_or((point.number, point.number));
+        range = Some((least.min(point.number), greatest.max(point.number)));
     }
-    None
-}
-
-/// By how much a number grows with a slot alone; none where it does not, or the slot was always the same.
-fn lone_factor(seen: &[&Arrival], quantity: Quantity, slot: usize) -> Option<i64> {
-    let (first, others) = seen.split_first()?;
-    let mut factor = None;
-    for arrival in others {
-        let moved = arrival
-            .snapshot
-            .slot(slot)?
-            .saturating_sub(first.snapshot.slot(slot)?);
-        let grown = quantity.grown(first, arrival);
-        if moved == 0 && grown != 0 {
-            return None;
-        }
-        if moved != 0 {
-            let found = exact_quotient(grown, moved)?;
-            if factor.is_some() && factor != Some(found) {
-                return None;
-            }
-            factor = Some(found);
-        }
-    }
-    factor
-}
-
-/// The factors of a form of several slots. It is found where from arrival to arrival at most one slot
-/// changes that was always the same before: its factor is then what the others leave of the growth.
-fn factors_of_several(seen: &[&Arrival], quantity: Quantity) -> Option<[i64; SLOTS]> {
-    let (first, others) = seen.split_first()?;
-    let mut factors = [None; SLOTS];
-    for arrival in others {
-        let grown = quantity.grown(first, arrival);
-        settle(&mut factors, grown, first, arrival)?;
-    }
-    let mut found = [0; SLOTS];
-    for slot in 0..SLOTS {
-        found[slot] = factors[slot].unwrap_or(0);
-        if found[slot] != 0 && !is_live(seen, slot) {
-            return None;
-        }
-    }
-    Some(found)
-}
-
-/// Finds the factor of the slot that has changed first since an arrival, by how far the number has grown
-/// since; none where there is none, or where the factors do not give that.
-fn settle(
-    factors: &mut [Option<i64>; SLOTS],
-    grown: i64,
-    from: &Arrival,
-    to: &Arrival,
-) -> Option<()> {
-    let mut left = grown;
-    let mut changed = None;
-    for slot in 0..SLOTS {
-        let moved = to
-            .snapshot
-            .number(slot)
-            .saturating_sub(from.snapshot.number(slot));
-        match factors[slot] {
-            Some(known) => left = left.saturating_sub(known.saturating_mul(moved)),
-            None if moved != 0 && changed.is_some() => return None,
-            None if moved != 0 => changed = Some((slot, moved)),
-            None => {}
-        }
-    }
-    match changed {
-        Some((slot, moved)) => *factors.get_mut(slot)? = Some(exact_quotient(left, moved)?),
-        None if left != 0 => return None,
-        None => {}
-    }
-    Some(())
-}
-
-/// Whether a slot holds a number at each of some arrivals.
-pub fn is_live(seen: &[&Arrival], slot: usize) -> bool {
-    for arrival in seen {
-        if arrival.snapshot.slot(slot).is_none() {
-            return false;
-        }
-    }
-    true
-}
-
-/// What a number has to be multiplied with to give another one; none where no whole number does.
-fn exact_quotient(product: i64, number: i64) -> Option<i64> {
-    match (product.checked_div(number), product.checked_rem(number)) {
-        (Some(quotient), Some(0)) => Some(quotient),
-        _ => None,
-    }
+    range.unwrap_or((0, 0))
 }
 
 /// A form over slots.
-#[derive(Clone, Copy, Drop)]
+#[derive(Clone, Copy, Default, Drop, PartialEq, Eq)]
 pub struct FittedForm {
     constant: i64,
     factors: [i64; SLOTS],
@@ -210,21 +111,85 @@ pub struct FittedForm {
 
 impl FittedForm {
     /// A number.
-    fn of_constant(constant: i64) -> FittedForm {
+    pub fn of_constant(constant: i64) -> FittedForm {
         FittedForm {
             constant,
             factors: [0; SLOTS],
         }
     }
 
-    /// The form with these factors that gives this number at an arrival.
-    fn through(number: i64, factors: [i64; SLOTS], arrival: &Arrival) -> FittedForm {
-        let mut constant = number;
-        for slot in 0..SLOTS {
-            let part = factors[slot].saturating_mul(arrival.snapshot.number(slot));
-            constant = constant.saturating_sub(part);
+    /// What a slot holds.
+    pub fn of_slot(slot: usize) -> FittedForm {
+        let mut form = FittedForm::of_constant(0);
+        form.set_factor(slot, 1);
+        form
+    }
+
+    /// The form over these slots that gives the number at each point; none where there is none, or its
+    /// factors are not whole.
+    fn through(points: &[Point], slots: &SlotList) -> Option<FittedForm> {
+        let mut equations = Equations::new();
+        for point in points {
+            equations.add(Equation::of(point, slots))?;
         }
-        FittedForm { constant, factors }
+        let unknowns = equations.solve()?;
+        let mut form = FittedForm::of_constant(unknowns[0]);
+        for (slot, factor) in slots.iter().zip(&unknowns[1..]) {
+            form.set_factor(*slot, *factor);
+        }
+        Some(form)
+    }
+
+    /// The factor of a slot.
+    pub fn factor(&self, slot: usize) -> i64 {
+        self.factors.get(slot).copied().unwrap_or(0)
+    }
+
+    /// Gives a slot a factor.
+    pub fn set_factor(&mut self, slot: usize, factor: i64) {
+        if let Some(place) = self.factors.get_mut(slot) {
+            *place = factor;
+        }
+    }
+
+    /// What is left of it without another form.
+    pub fn less(&self, other: &FittedForm) -> FittedForm {
+        let mut left = self.raised_by(other.constant.saturating_neg());
+        for (factor, others) in left.factors.iter_mut().zip(&other.factors) {
+            *factor = factor.saturating_sub(*others);
+        }
+        left
+    }
+
+    /// The form that gives so much more.
+    pub fn raised_by(&self, number: i64) -> FittedForm {
+        FittedForm {
+            constant: self.constant.saturating_add(number),
+            factors: self.factors,
+        }
+    }
+
+    /// A form that is at least the number at each point, with factors for these slots as the number grows
+    /// from the least to the greatest that they hold.
+    pub fn above(points: &[Point], slots: &SlotList) -> FittedForm {
+        let mut form = FittedForm::of_constant(0);
+        for slot in slots {
+            form.set_factor(*slot, growth(points, *slot));
+        }
+        let mut raise = i64::MIN;
+        for point in points {
+            raise = raise.max(point.number.saturating_sub(form.at(&point.slots)));
+        }
+        form.raised_by(raise)
+    }
+
+    /// The number that it gives where the slots hold these.
+    pub fn at(&self, slots: &[i64; SLOTS]) -> i64 {
+        let mut number = self.constant;
+        for (factor, held) in self.factors.iter().zip(slots) {
+            number = number.saturating_add(factor.saturating_mul(*held));
+        }
+        number
     }
 }
 
@@ -240,5 +205,160 @@ impl fmt::Display for FittedForm {
             }
         }
         Ok(())
+    }
+}
+
+/// By how much the greatest number grows with a slot, a unit, from the least to the greatest that it
+/// holds; more rather than less.
+fn growth(points: &[Point], slot: usize) -> i64 {
+    let mut least = i64::MAX;
+    let mut most = i64::MIN;
+    for point in points {
+        least = least.min(point.held(slot));
+        most = most.max(point.held(slot));
+    }
+    let grown = greatest_at(points, slot, most).saturating_sub(greatest_at(points, slot, least));
+    let units = most.saturating_sub(least);
+    match (
+        grown.checked_div_euclid(units),
+        grown.checked_rem_euclid(units),
+    ) {
+        (Some(whole), Some(0)) => whole,
+        (Some(whole), _) => whole.saturating_add(1),
+        (None, _) => 0,
+    }
+}
+
+/// The greatest number at the points where a slot holds this.
+fn greatest_at(points: &[Point], slot: usize, held: i64) -> i64 {
+    let mut greatest = i64::MIN;
+    for point in points {
+        if point.held(slot) == held {
+            greatest = greatest.max(point.number);
+        }
+    }
+    greatest
+}
+
+/// What a point asks of a form's unknown numbers: that their multiples by these coefficients have a sum.
+#[derive(Clone, Copy)]
+struct Equation {
+    coefficients: [i64; UNKNOWNS],
+    sum: i64,
+}
+
+impl Equation {
+    /// The equation of a point, for a form of these slots.
+    fn of(point: &Point, slots: &SlotList) -> Equation {
+        let mut coefficients = [0; UNKNOWNS];
+        coefficients[0] = 1;
+        for (coefficient, slot) in coefficients[1..].iter_mut().zip(slots) {
+            *coefficient = point.held(*slot);
+        }
+        Equation {
+            coefficients,
+            sum: point.number,
+        }
+    }
+
+    /// What is left of it without an unknown number, by another equation that has that; none where the
+    /// numbers are too great.
+    fn without(&self, unknown: usize, other: &Equation) -> Option<Equation> {
+        let own = *self.coefficients.get(unknown)?;
+        let others = *other.coefficients.get(unknown)?;
+        let mut left = Equation {
+            coefficients: [0; UNKNOWNS],
+            sum: cross(self.sum, others, other.sum, own)?,
+        };
+        for n in 0..UNKNOWNS {
+            left.coefficients[n] = cross(self.coefficients[n], others, other.coefficients[n], own)?;
+        }
+        Some(left.reduced())
+    }
+
+    /// The same equation in the least whole numbers.
+    fn reduced(&self) -> Equation {
+        let mut divisor = self.sum;
+        for coefficient in self.coefficients {
+            divisor = common_divisor(divisor, coefficient);
+        }
+        let quotient = |number: i64| number.checked_div(divisor).unwrap_or(number);
+        Equation {
+            coefficients: self.coefficients.map(quotient),
+            sum: quotient(self.sum),
+        }
+    }
+}
+
+/// A product less another one; none where it is too great.
+fn cross(a: i64, b: i64, c: i64, d: i64) -> Option<i64> {
+    a.checked_mul(b)?.checked_sub(c.checked_mul(d)?)
+}
+
+/// The greatest number that divides both; 0 of two zeros.
+fn common_divisor(a: i64, b: i64) -> i64 {
+    let (mut a, mut b) = (a, b);
+    for _ in 0..i64::BITS.saturating_mul(2) {
+        match a.checked_rem(b) {
+            Some(rest) => (a, b) = (b, rest),
+            None => return a,
+        }
+    }
+    1
+}
+
+/// Equations, each with the first unknown number that it has, in echelon form.
+#[derive(Clone, Copy)]
+struct Equations {
+    by_unknown: [Option<Equation>; UNKNOWNS],
+}
+
+impl Equations {
+    /// None.
+    fn new() -> Equations {
+        Equations {
+            by_unknown: [None; UNKNOWNS],
+        }
+    }
+
+    /// Adds an equation; none where no numbers meet it beside the others.
+    fn add(&mut self, equation: Equation) -> Option<()> {
+        let mut left = equation;
+        for unknown in 0..UNKNOWNS {
+            if left.coefficients[unknown] == 0 {
+                continue;
+            }
+            match &self.by_unknown[unknown] {
+                Some(other) => left = left.without(unknown, other)?,
+                None => {
+                    self.by_unknown[unknown] = Some(left);
+                    return Some(());
+                }
+            }
+        }
+        if left.sum == 0 { Some(()) } else { None }
+    }
+
+    /// Whole numbers that meet all of them, with 0 for each unknown number that may be any.
+    fn solve(&self) -> Option<[i64; UNKNOWNS]> {
+        let mut found: [i64; UNKNOWNS] = [0; UNKNOWNS];
+        for unknown in (0..UNKNOWNS).rev() {
+            if let Some(equation) = &self.by_unknown[unknown] {
+                let mut left = equation.sum;
+                for (coefficient, number) in equation.coefficients.iter().zip(&found) {
+                    left = left.checked_sub(coefficient.checked_mul(*number)?)?;
+                }
+                found[unknown] = exact_quotient(left, equation.coefficients[unknown])?;
+            }
+        }
+        Some(found)
+    }
+}
+
+/// What a number has to be multiplied with to give another one; none where no whole number does.
+fn exact_quotient(product: i64, number: i64) -> Option<i64> {
+    match (product.checked_div(number), product.checked_rem(number)) {
+        (Some(quotient), Some(0)) => Some(quotient),
+        _ => None,
     }
 }

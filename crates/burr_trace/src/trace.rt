@@ -1,7 +1,10 @@
-//! A trace: what held whenever a run came to a label, and what was seen at each.
+//! A trace: what held whenever the run came to a label, and what was seen at each.
 
-use crate::arrivals::{Arrival, Arrivals, Label, Stand};
-use crate::seen::{add_frame, seen_at_each};
+use crate::arrivals::{Arrival, Arrivals, Stand};
+use crate::fit::SlotList;
+use crate::frame::{Frame, Visit};
+use crate::labels::Label;
+use crate::sightings::live_slots;
 use burr_lines::{PlanItem, Report, Shown};
 use std::alloc::{AllocError, Global};
 
@@ -13,24 +16,32 @@ use std::alloc::{AllocError, Global};
 pub fn trace_of(
     alloc: Global,
     file: &str,
-    mut arrivals: Arrivals<'_>,
+    mut arrivals: Arrivals<'_, '_, '_>,
 ) -> Result<String, AllocError> {
     let mut report = Report::new(alloc);
     let Some(stand) = arrivals.close()? else {
         return report.into_text();
     };
-    for arrival in arrivals.as_slice() {
-        add_arrival(&mut report, file, &arrivals, arrival);
+    for arrival in &arrivals.arrivals {
+        add_arrival(alloc, &mut report, file, &arrivals, arrival)?;
     }
     if !stand.has_ended {
         add_end(&mut report, file, &arrivals, &stand);
     }
-    add_labels(alloc, &mut report, file, &arrivals)?;
+    for (number, label) in arrivals.labels.as_slice().iter().enumerate() {
+        add_visits(alloc, &mut report, file, &arrivals, (number, label))?;
+    }
     report.into_text()
 }
 
 /// Adds what held at an arrival.
-fn add_arrival(report: &mut Report, file: &str, arrivals: &Arrivals<'_>, arrival: &Arrival) {
+fn add_arrival(
+    alloc: Global,
+    report: &mut Report,
+    file: &str,
+    arrivals: &Arrivals<'_, '_, '_>,
+    arrival: &Arrival,
+) -> Result<(), AllocError> {
     if let Some(label) = arrivals.labels.as_slice().get(arrival.label) {
         add_label(report, file, label);
     }
@@ -40,35 +51,45 @@ fn add_arrival(report: &mut Report, file: &str, arrivals: &Arrivals<'_>, arrival
         report.add_words(format_args!(", answer {answer}"));
     }
     report.add_words("\n");
-    add_frame(report, &[arrival]);
+    add_frame(alloc, report, &[arrival.visit()])
 }
 
 /// Adds the line where a run stands that did not come to its end.
-fn add_end(report: &mut Report, file: &str, arrivals: &Arrivals<'_>, stand: &Stand) {
+fn add_end(report: &mut Report, file: &str, arrivals: &Arrivals<'_, '_, '_>, stand: &Stand) {
     let item = PlanItem::Code {
         procedure: stand.procedure,
         pc: stand.pc,
     };
-    if let Some(line) = arrivals.lines.line_of(item) {
+    if let Some(line) = arrivals.labels.lines.line_of(item) {
         report.add_words("\n; the run stands at ");
         report.add_line(file, &line);
     }
 }
 
-/// Adds how often the run came to each label, and the frame that all of it agrees with.
-fn add_labels(
+/// Adds how often the run came to a label of this number, and the frame that all of it agrees with.
+fn add_visits(
     alloc: Global,
     report: &mut Report,
     file: &str,
-    arrivals: &Arrivals<'_>,
+    arrivals: &Arrivals<'_, '_, '_>,
+    (number, label): (usize, &Label<'_>),
 ) -> Result<(), AllocError> {
-    let labels = arrivals.labels.as_slice();
-    let seen = seen_at_each(alloc, labels.len(), arrivals.as_slice())?;
-    for (label, seen) in labels.iter().zip(&seen) {
-        add_label(report, file, label);
-        let times = seen.len();
-        report.add_words(format_args!(": times {times}\n"));
-        add_frame(report, seen);
+    let mut visits = Vec::new(alloc);
+    for arrival in &arrivals.arrivals {
+        if arrival.label == number {
+            visits.push(arrival.visit())?;
+        }
+    }
+    add_label(report, file, label);
+    let times = visits.len();
+    report.add_words(format_args!(": times {times}\n"));
+    add_frame(alloc, report, &visits)
+}
+
+/// Adds the lines of the frame that these visits agree with.
+fn add_frame(alloc: Global, report: &mut Report, visits: &[Visit<'_>]) -> Result<(), AllocError> {
+    if let Some(frame) = Frame::of(alloc, visits, &live_slots(visits), &SlotList::new())? {
+        frame.add_to(report);
     }
     Ok(())
 }

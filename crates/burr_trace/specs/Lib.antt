@@ -1,0 +1,2 @@
+pub mod FilledTexts
+pub mod Parts
