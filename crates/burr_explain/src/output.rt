@@ -34,7 +34,7 @@ const LINES: &[Explanation] = &[
         subject: Subject::Refusal("sheet"),
         meaning: "`burr plan` can't go on at the line of the sheet that is named, counted from 1.\n\
                   It is not the next move line of this assembly's pieces, or with it the plan has\n\
-                  more than 4,096 bytes of code, which is some 2,000 moves of a unit.",
+                  more than 61,425 bytes of code, which is some 30,000 moves of a unit.",
         cause: "a number of a line left out or twice, pieces out of their order, a\n\
                 name that the assembly does not have, `x` in place of `+x`, two lines that are\n\
                 one since pieces, tray and direction are the same, or no line feed at the end.",
@@ -47,14 +47,14 @@ const LINES: &[Explanation] = &[
     },
     Explanation {
         subject: Subject::Refusal("frame"),
-        meaning: "`burr frames` finds no frame to put in place of the line `auto` that is named,\n\
-                  counted from 1. The run does not come to the label before it, or it comes there\n\
-                  several times and no frame agrees with all of them.",
-        cause: "a label that other answers lead to; a loop in which a piece lies\n\
-                now in one tray, now in another, or moves by no fixed number of units for each\n\
-                count of a slot.",
-        remedy: "see with `burr trace` what holds there each time, and write the\n\
-                 frame yourself, or give answers with which the run comes there.",
+        meaning: "`burr frames` finds nothing to put in place of the `auto` in the line that is\n\
+                  named, counted from 1. No run comes there, whatever is answered, or the runs\n\
+                  come there with pieces that no frame can tell of.",
+        cause: "a label that nothing leads to; two ways that meet with a piece in\n\
+                two trays, or with another grip; a loop in which a piece moves by no fixed\n\
+                number of units for each count of a slot.",
+        remedy: "the lines below show what was seen there. Let each way have a label\n\
+                 of its own, or keep in a slot what differs, and then fill in the rest.",
         example: "nothing jumps to the label; `refused frame line 12`
 
     label spare

@@ -22,8 +22,8 @@ const FAULTS: &[Explanation] = &[
                 few; indented lines, tabs, a blank too many or at a line's end; lines that end\n\
                 by carriage return and line feed (CRLF), a byte order mark; `4+v0` in place of\n\
                 `4+1v0`, or `1v0` in place of `0+1v0`; a comment after the words of a line: `;`\n\
-                makes a comment only as a line's first byte.",
-        remedy: "",
+                makes a comment only as a line's first byte; or a word `auto`.",
+        remedy: "fill in what `auto` stands for by `burr frames`.",
         example: "a comment after the words of a line
 
     push 2 ; two units",
@@ -75,7 +75,7 @@ const FAULTS: &[Explanation] = &[
                   code begins with a label and that label's frame.",
         cause: "code right after the `proc` line, a label without a frame, or a\n\
                 `frame` line that is indented or in upper case; or a line `auto`.",
-        remedy: "put a frame in place of each line `auto` by `burr frames`.",
+        remedy: "fill in what `auto` stands for by `burr frames`.",
         example: "code where main's first label is due
 
     proc main 0

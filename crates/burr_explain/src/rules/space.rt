@@ -43,10 +43,12 @@ const RULES: &[Explanation] = &[
         subject: Subject::Refusal("V15"),
         meaning: "The step may make two pieces of the tray overlap: the first one named, which is\n\
                   gripped, and the other one, at the point that is named.",
-        cause: "a step too far, a direction that is blocked, or a frame without\n\
-                the `guard` that leaves such points out.",
+        cause: "a step too far, a direction that is blocked, a frame without the\n\
+                `guard` that leaves such points out, or a slot of which only each fourth number\n\
+                occurs, as 0, 4, 8 and 12.",
         remedy: "ask whether a run can come to the point named. Where none can, add\n\
-                 a `guard` that is below 0 there to the last frame, or make a range smaller.\n\
+                 a `guard` that is below 0 there to the last frame, or make a range smaller; of\n\
+                 a slot with strides count the periods, 0 to 3, and write `0+4v0` in the forms.\n\
                  Where one can, step along another direction or less far, or take the other\n\
                  piece out first.",
         example: "cubes A at 0 0 0 and B at 1 0 0
