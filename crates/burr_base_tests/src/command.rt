@@ -73,6 +73,7 @@ fn add_words(words: &[&str], answer: &mut String) -> Result<(), AllocError> {
 /// The command of a job, with its option.
 fn job_name(job: &Job<'_>) -> &'static str {
     match job {
+        Job::Cells { .. } => "cells",
         Job::Assemble { .. } => "asm",
         Job::List { places, .. } => { if *places { "list --places" } else { "list" } }
         Job::Upgrade { .. } => "upgrade",
@@ -92,6 +93,7 @@ fn job_name(job: &Job<'_>) -> &'static str {
 /// The files of a job in the order of its command line, and an empty word for each that it lacks.
 fn job_files<'a>(job: &Job<'a>) -> [&'a str; 3] {
     match job {
+        Job::Cells { assembly } => [assembly, "", ""],
         Job::Assemble { text, out } => [text, out, ""],
         Job::List { plan, .. } => [plan, "", ""],
         Job::Upgrade { plan, out } => [plan, out, ""],
@@ -141,6 +143,7 @@ burr --help;burr -h;burr -h run;burr -hV;burr help
 >       burr < INPUT
 >
 >Commands:
+>  cells    Prints the cells in which the pieces of an assembly lie
 >  asm      Assembles a plan text into a container
 >  list     Prints the plan text of a container
 >  upgrade  Makes the container of version 2 of a plan
@@ -195,7 +198,23 @@ $burr --version;burr -V;burr -Vh run
 
 /// What is said of each command.
 const COMMAND_HELP: &str = "\
-burr asm --help;burr asm -h;burr help asm
+burr cells --help
+>Prints the cells in which the pieces of an assembly lie
+>
+>Usage: burr cells <ASSEMBLY>
+>
+>Arguments:
+>  <ASSEMBLY>  The assembly text
+>
+>Options:
+>  -h, --help  Print help
+>
+>A line is printed for each home cell, as `A 0 -1 2`: the piece, x, y and z. The
+>pieces stand in the order of the text, the cells of each as its shape is drawn.
+>A text that is no assembly is refused, as `refused A3 line 5`.
+>
+>Example: ./burr cells examples/cup.assembly
+$burr asm --help;burr asm -h;burr help asm
 >Assembles a plan text into a container
 >
 >Usage: burr asm <TEXT> <OUT>
@@ -388,12 +407,13 @@ $burr trace --help
 >Options:
 >  -h, --help  Print help
 >
->TEXT is assembled and run as by `try`, and no file is written. Answers are read
->from standard input, a number on each line. What is printed begins with what
->`try` prints. Below, whenever the run came to a label, stand the lines of a
->frame that holds there, with the steps that were still to come as its cost; and
->at the end, for each label, how often the run came to it, and the lines of one
->frame for all of these times. What no line of a frame can say is a comment.
+>TEXT is assembled and run as by `try`, and no file is written; `auto` may stand
+>in it as for `frames`. Answers are read from standard input, a number on each
+>line. What is printed begins with what `try` prints. Below, whenever the run
+>came to a label, stand the lines of a frame that holds there, with the steps that
+>were still to come as its cost; and at the end, for each label, how often the run
+>came to it, and the lines of one frame for all of these times. What no line of a
+>frame can say is a comment.
 >
 >Example: echo 2 | ./burr trace examples/cup.assembly examples/cup.plan
 $burr frames --help
@@ -403,20 +423,21 @@ $burr frames --help
 >
 >Arguments:
 >  <ASSEMBLY>  The assembly text
->  <TEXT>      The plan text, with lines `auto`
+>  <TEXT>      The plan text, with `auto` in place of frames
 >  <OUT>       The plan text that is made
 >
 >Options:
 >  -h, --help  Print help
 >
->In TEXT a line `auto` may stand after a label, in place of its frame. The plan is
->run as by `try`, with the answers of standard input, and OUT is TEXT with the
->frames that `trace` finds in place of these lines. Where the run does not come
->to its end, what `try` prints is printed; where no frame is found at a label,
->`refused frame line 12`. OUT is left alone then. Whether OUT is accepted, `check`
->says: a frame knows of this run alone.
+>In TEXT a line `auto` may stand after a label in place of its frame, after a
+>`proc` line in place of its exit frame, and the word `auto` in place of the
+>budget. The plan is run as by `try` with all answers that its questions have, and
+>OUT is TEXT with frames that agree with all these runs. Where a run does not come
+>to its end, what `try` prints is printed, and OUT is left alone. Where nothing is
+>found for an `auto`, it stays, and is named, as `refused frame line 12`, with what
+>was seen there. Whether OUT is accepted, `check` says.
 >
->Example: ./burr frames puzzle.assembly draft.plan whole.plan < /dev/null
+>Example: ./burr frames puzzle.assembly draft.plan whole.plan
 $burr plan --help
 >Makes a plan text from a sheet of moves
 >
@@ -571,7 +592,9 @@ $burr help solve
 
 /// Words that ask for a job; paths are taken as they stand.
 const JOBS: &str = "\
-burr asm a b
+burr cells a
+=cells a
+$burr asm a b
 =asm a b
 $burr asm -- -h --help
 =asm -h --help

@@ -7,6 +7,7 @@ use std::alloc::{AllocError, Global};
 /// The commands, in the order in which help lists them.
 #[derive(Clone, Copy)]
 pub enum Kind {
+    Cells,
     Assemble,
     List,
     Upgrade,
@@ -51,6 +52,18 @@ const PLAN: Argument = Argument::Word("PLAN", "The container");
 
 /// The words of each command, in the order in which help lists them.
 const COMMANDS: &[Syntax] = &[
+    Syntax {
+        kind: Kind::Cells,
+        name: "cells",
+        about: "Prints the cells in which the pieces of an assembly lie",
+        after_help: "\
+A line is printed for each home cell, as `A 0 -1 2`: the piece, x, y and z. The
+pieces stand in the order of the text, the cells of each as its shape is drawn.
+A text that is no assembly is refused, as `refused A3 line 5`.
+
+Example: ./burr cells examples/cup.assembly",
+        arguments: &[ASSEMBLY],
+    },
     Syntax {
         kind: Kind::Assemble,
         name: "asm",
@@ -198,12 +211,13 @@ Example: ./burr why examples/cup.assembly examples/cup.plan",
         name: "trace",
         about: "Runs a plan text, and prints what holds at each label",
         after_help: "\
-TEXT is assembled and run as by `try`, and no file is written. Answers are read
-from standard input, a number on each line. What is printed begins with what
-`try` prints. Below, whenever the run came to a label, stand the lines of a
-frame that holds there, with the steps that were still to come as its cost; and
-at the end, for each label, how often the run came to it, and the lines of one
-frame for all of these times. What no line of a frame can say is a comment.
+TEXT is assembled and run as by `try`, and no file is written; `auto` may stand
+in it as for `frames`. Answers are read from standard input, a number on each
+line. What is printed begins with what `try` prints. Below, whenever the run
+came to a label, stand the lines of a frame that holds there, with the steps that
+were still to come as its cost; and at the end, for each label, how often the run
+came to it, and the lines of one frame for all of these times. What no line of a
+frame can say is a comment.
 
 Example: echo 2 | ./burr trace examples/cup.assembly examples/cup.plan",
         arguments: &[ASSEMBLY, TEXT],
@@ -213,17 +227,18 @@ Example: echo 2 | ./burr trace examples/cup.assembly examples/cup.plan",
         name: "frames",
         about: "Fills in frames that a plan text leaves out",
         after_help: "\
-In TEXT a line `auto` may stand after a label, in place of its frame. The plan is
-run as by `try`, with the answers of standard input, and OUT is TEXT with the
-frames that `trace` finds in place of these lines. Where the run does not come
-to its end, what `try` prints is printed; where no frame is found at a label,
-`refused frame line 12`. OUT is left alone then. Whether OUT is accepted, `check`
-says: a frame knows of this run alone.
+In TEXT a line `auto` may stand after a label in place of its frame, after a
+`proc` line in place of its exit frame, and the word `auto` in place of the
+budget. The plan is run as by `try` with all answers that its questions have, and
+OUT is TEXT with frames that agree with all these runs. Where a run does not come
+to its end, what `try` prints is printed, and OUT is left alone. Where nothing is
+found for an `auto`, it stays, and is named, as `refused frame line 12`, with what
+was seen there. Whether OUT is accepted, `check` says.
 
-Example: ./burr frames puzzle.assembly draft.plan whole.plan < /dev/null",
+Example: ./burr frames puzzle.assembly draft.plan whole.plan",
         arguments: &[
             ASSEMBLY,
-            Argument::Word("TEXT", "The plan text, with lines `auto`"),
+            Argument::Word("TEXT", "The plan text, with `auto` in place of frames"),
             Argument::Word("OUT", "The plan text that is made"),
         ],
     },

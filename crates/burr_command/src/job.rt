@@ -8,6 +8,10 @@ use std::alloc::{AllocError, Global};
 /// A command, with the words after its name.
 #[derive(Drop)]
 pub enum Job<'a> {
+    /// Prints the home cells of an assembly's pieces.
+    Cells {
+        assembly: &'a str,
+    },
     /// Assembles a plan text into a container.
     Assemble {
         text: &'a str,
@@ -156,6 +160,7 @@ fn job_with<'a>(kind: Kind, words: &ArgMatches<'a>, line: String) -> Option<Job<
     let of_plan = assembly.zip(plan);
     let of_text = assembly.zip(text);
     match kind {
+        Kind::Cells => assembly.map(|assembly| Job::Cells { assembly }),
         Kind::Assemble => text.zip(out).map(|(text, out)| Job::Assemble { text, out }),
         Kind::List => Some(Job::List {
             plan: plan?,

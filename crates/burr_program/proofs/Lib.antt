@@ -1,3 +1,4 @@
+mod CellLines
 mod Ending
 mod ExplainLaws
 mod HandedText

@@ -19,7 +19,8 @@ use Rattle.burr_judge.specs.declared.tasks.Task.{Task}
 use Rattle.burr_judge.specs.declared.tasks.Task.TheVariants.{Check, Run, Try}
 use Rattle.burr_judge.specs.Faults.{line_of, output_failed}
 use Rattle.burr_judge.specs.Statuses.{code_of}
-use Rattle.burr_judge.specs.PlanEnds.{Ends, PutsEnd, HoldsFrontOfEnd, PlanTextEnds, ContainerEnds, PlanEnds, never}
+use Rattle.burr_judge.specs.PlanEnds.{Ends, PutsEnd, HoldsFrontOfEnd, TextEnds, PlanTextEnds, ContainerEnds, PlanEnds, never}
+use Rattle.burr_program.specs.CellEnds.{CellEnds}
 use Rattle.burr_program.specs.ExplainEnds.{ExplainEnds}
 use Rattle.burr_program.specs.MakingEnds.{MakesPlanOf}
 use Rattle.burr_program.specs.NotedEnds.{NotedEnds}
@@ -49,6 +50,10 @@ EndingBelow sink before after AreEnds Breaks r =
 -- nothing is printed, and a file was made
 abbrev pub MakesFile : Ends
 MakesFile output status = (output ≡ []) × (status ≡ Done)
+
+-- `cells`: an assembly's text is refused, or its home cells are printed
+abbrev pub CellsCommand : Ends
+CellsCommand output status = (text : List ℕ) × TextEnds text CellEnds output status
 
 -- `asm`: a plan text is refused, or it is assembled
 abbrev pub AsmCommand : Ends
@@ -138,6 +143,7 @@ PlanSheetCommand output status =
 
 -- each of them
 abbrev pub JobEnds : Left → Job → Ends
+JobEnds left (jobs.Cells assembly) = CellsCommand
 JobEnds left (jobs.Assemble text out) = AsmCommand
 JobEnds left (jobs.List plan places) = ListCommand places
 JobEnds left (jobs.Upgrade plan out) = UpgradeCommand

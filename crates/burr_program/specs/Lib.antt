@@ -1,4 +1,5 @@
 pub mod AddedNotes
+pub mod CellEnds
 pub mod Commands
 pub mod Ends
 pub mod ExplainEnds

@@ -1,5 +1,5 @@
 -- How what is made for a file ends: a text is made, and nothing is printed; or something is.
-use Rattle.std.specs.Prelude.{◌≡◌, ⊤, ℕ, List, Result, IfOk, IfErr}
+use Rattle.std.specs.Prelude.{◌≡◌, ℕ, List, Option, Some, None, Result, IfOk, IfErr}
 use Rattle.burr_io.specs.Sink.{SinkView}
 use Rattle.burr_assembly.specs.Rules.Text.{Assembly, IsText}
 use Rattle.burr_from_sheet.specs.SheetPlans.{IsPlanOfSheet}
@@ -8,29 +8,22 @@ use Rattle.burr_judge.specs.declared.status.Status.{Status}
 use Rattle.burr_judge.specs.declared.status.Status.TheVariants.{Done}
 use Rattle.burr_judge.specs.Faults.{line_of}
 use Rattle.burr_judge.specs.PlanEnds.{Ends, PutsEnd, FailsToEnd}
-use Rattle.burr_program.specs.declared.files.Made.{Made}
-use Rattle.burr_program.specs.declared.files.Made.TheVariants as made
 
--- a text was made that is such a one, and the sink was left alone; or nothing was, and something was
--- printed
-abbrev pub MakesOrPuts : {S : Type 0} → SinkView S → S → S → Ends → (List ℕ → Type 0) → Made → Status
+-- what was made is such a thing, and the sink was left alone; or nothing was, and something was printed
+abbrev pub MakesOrPuts : {S T : Type 0} → SinkView S → S → S → Ends → (T → Type 0) → Option T → Status
     → Type 0
-MakesOrPuts sink before after AreEnds IsSuch (made.Text text) status =
-    IsSuch text.items × (after ≡ before) × (status ≡ Done)
-MakesOrPuts sink before after AreEnds IsSuch made.Nothing status =
+MakesOrPuts sink before after AreEnds IsSuch (Some made) status =
+    IsSuch made × (after ≡ before) × (status ≡ Done)
+MakesOrPuts sink before after AreEnds IsSuch None status =
     PutsEnd sink before after AreEnds status
 
 -- where nothing had been made so far
-abbrev pub Makes : {S : Type 0} → SinkView S → Made → S → Ends → (List ℕ → Type 0) → Made → S
+abbrev pub Makes : {S T : Type 0} → SinkView S → Option T → S → Ends → (T → Type 0) → Option T → S
     → Result Status Fault → Type 0
 Makes sink first before AreEnds IsSuch last after r =
-    first ≡ made.Nothing
+    first ≡ None
     → IfOk r (MakesOrPuts sink before after AreEnds IsSuch last)
     × IfErr r (λ fault. FailsToEnd sink before after AreEnds (line_of fault))
-
--- any text
-abbrev pub IsAnyText : List ℕ → Type 0
-IsAnyText text = ⊤
 
 -- the text is that of the plan of a sheet, for the assembly of a text
 abbrev pub MakesPlanOf : List ℕ → List ℕ → List ℕ → Type 0

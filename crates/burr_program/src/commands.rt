@@ -2,6 +2,7 @@
 //! is to print, which the caller hands on.
 
 mod asm;
+mod cells;
 mod check;
 mod drive;
 mod explain;
@@ -25,6 +26,7 @@ use asm::assemble_file;
 use burr_command::Job;
 use burr_io::{Sink, Source, WholeLines};
 use burr_judge::{Fault, Status, Task};
+use cells::cells_file;
 use check::check_files;
 use drive::drive_files;
 use explain::explain_line;
@@ -53,6 +55,7 @@ pub fn put_job<'a, F: Files + AllocGlobal, R: Source, W: Sink, const N: usize>(
         job.entry.now) result }
 {
     match job {
+        Job::Cells { assembly } => cells_file(files, assembly, sink),
         Job::Assemble { text, out } => assemble_file(files, text, out, sink),
         Job::List { plan, places } => list_file(files, plan, *places, sink),
         Job::Upgrade { plan, out } => upgrade_file(files, plan, out, sink),
@@ -67,7 +70,7 @@ pub fn put_job<'a, F: Files + AllocGlobal, R: Source, W: Sink, const N: usize>(
             assembly,
             text,
             out,
-        } => frames_file(files, assembly, text, out, source, sink),
+        } => frames_file(files, assembly, text, out, sink),
         Job::PlanSheet {
             assembly,
             sheet,

@@ -52,13 +52,6 @@ pub fn read_text<'a, F: Files + AllocGlobal>(
     Ok(TextFile { file, bytes })
 }
 
-/// What is made for a file.
-#[derive(Drop)]
-pub enum Made {
-    Nothing,
-    Text(Vec<u8>),
-}
-
 /// A file that is made may not be one that is read; the word of the usage for the second of these.
 pub fn keep_sources<'a, F: Files>(
     files: &F,

@@ -3,13 +3,13 @@
 
 use crate::notes::Named;
 use burr_explain::explanation_of;
-use burr_trace::is_auto_at;
+use burr_trace::Unframed;
 use burr_verify::Refusal;
-use burr_why::{PlanText, reason_of_line, reason_of_refusal};
+use burr_why::{PlanText, expectation_of_line, reason_of_line, reason_of_refusal};
 use std::alloc::{AllocError, Global};
 
 /// Why a text is refused, by a fault of this code on this line; want of memory is no fault of a text. Of
-/// a line `auto` where a plan text needs another it says what that line is for.
+/// a plan text it says what was expected there, and of a line `auto` what that is for.
 pub fn reason_of_fault(
     alloc: Global,
     named: Named<'_>,
@@ -17,10 +17,11 @@ pub fn reason_of_fault(
 ) -> Result<String, AllocError> {
     let (code, line) = fault.ok_or(AllocError)?;
     let mut reason = reason_of_line(alloc, named.file, named.text, line)?;
-    if code == "P5" && is_auto_at(named.text, line) {
-        reason.push_str(
-            "    `auto` stands after a label until `burr frames` puts a frame there\n",
-        )?;
+    if code.starts_with('P') && Unframed::of(alloc, named.text)?.has_auto_at(line) {
+        reason.push_str("    `auto` stands here until `burr frames` fills it in\n")?;
+    } else {
+        let expectation = expectation_of_line(alloc, named.file, named.text, code, line)?;
+        reason.push_str(&expectation)?;
     }
     with_meaning(reason, code)
 }

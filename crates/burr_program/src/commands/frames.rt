@@ -1,33 +1,31 @@
+ghost use Rattle.burr_container.specs.Views.Containers.{HasPlan};
 ghost use Rattle.burr_judge.specs.PlanEnds.{EndsOn, Ending, never};
 ghost use Rattle.burr_program.specs.Commands.{DoneEnds};
-ghost use Rattle.burr_program.specs.MakingEnds.{IsAnyText, Makes};
+ghost use Rattle.burr_program.specs.MakingEnds.{Makes};
+ghost use Rattle.burr_trace.specs.FilledTexts.{IsFilledIn};
 
-use crate::files::{Content, Made, keep_sources, read_text, write_file};
-use crate::notes::{Named, Noting, put_kept, refuse_line, refuse_with_notes};
-use crate::reasons::reason_of_fault;
+use crate::files::{Content, keep_sources, read_text, write_file};
+use crate::notes::{Noting, add_notes, put_kept, refuse_with_notes};
+use crate::reasons::{reason_of_fault, with_meaning};
 use burr_asm::AsmFault;
-use burr_assembly::Assembly;
 use burr_blocking::Blocking;
 use burr_container::Container;
-use burr_io::{Kept, Sink, Source};
-use burr_judge::{
-    AssemblyUse, Fault, Given, Plainly, PlanUse, Refuse, Refused, Status, Try, use_given, use_text,
-};
-use burr_runs::read_whole;
-use burr_trace::{Arrivals, Filled, Unframed};
+use burr_io::{Kept, Sink};
+use burr_judge::{Fault, Given, OfPlan, PlanUse, Refuse, Refused, Status, Try, use_text};
+use burr_trace::{Arrivals, Filled, Labels, MOST_RUNS, Questions, Sightings, Unframed};
 use std::alloc::{AllocError, Global};
 use std::rt::Files;
 
-/// Makes a file of a plan text with a frame in place of each line `auto`, read off the run with the
-/// answers of a source. Where there is none, why is put, and the file is left alone. That file may not
+/// Makes a file of a plan text with a frame in place of each `auto`, read off the runs with all answers
+/// that its questions have. Where a run does not come to its end, what is printed of it is put, and the
+/// file is left alone; where there is no frame for an `auto`, it stays, and why is put. That file may not
 /// be one that is read.
 #[inline(never)]
-pub fn frames_file<'a, F: Files + AllocGlobal, R: Source, W: Sink>(
+pub fn frames_file<'a, F: Files + AllocGlobal, W: Sink>(
     files: &F,
     assembly: &'a str,
     text: &'a str,
     out: &'a str,
-    source: &mut R,
     sink: &mut W,
 ) -> Result<Status, Fault<'a>>
     ensures { Ending W.Sink sink.old sink.new DoneEnds never result }
@@ -35,94 +33,91 @@ pub fn frames_file<'a, F: Files + AllocGlobal, R: Source, W: Sink>(
     keep_sources(files, assembly, ("TEXT", text), out)?;
     let drawing = read_text(files, assembly)?;
     let text = read_text(files, text)?;
-    let answers = read_whole(files.alloc(), source)?;
     let noting = Noting {
         drawing: drawing.named(),
         plan: text.named(),
     };
-    let framing = Framing {
-        noting,
-        answers: &answers,
+    let mut made: Option<Filled> = None;
+    let status = fill_text(files.alloc(), &noting, &mut made, sink)?;
+    match made {
+        None => Ok(status),
+        Some(filled) => write_filled(files, &Framed(noting.plan.text), out, filled, sink),
+    }
+}
+
+/// Fills in a plan text for an assembly's text, or says why it can't be done.
+fn fill_text<'a, W: Sink>(
+    alloc: Global,
+    noting: &Noting<'_>,
+    made: &mut Option<Filled>,
+    sink: &mut W,
+) -> Result<Status, Fault<'a>>
+    ensures { Makes W.Sink made.old sink.old DoneEnds
+        (λ filled. IsFilledIn noting.now.plan.text.now filled.text.items) made.new sink.new result }
+{
+    let unframed = Unframed::of(alloc, noting.plan.text)?;
+    let blank = unframed.with_blanks()?;
+    let work = Filling {
+        noting: &*noting,
+        unframed: &unframed,
+        blank: &blank,
     };
-    let mut made = Made::Nothing;
-    let drawn = noting.drawing.text;
-    let status = use_text(files.alloc(), &noting, &framing, drawn, &mut made, sink)?;
-    if let Made::Text(text) = made {
-        write_file(files, out, &Framed, &text)?;
-    }
-    Ok(status)
+    let plan = Given::Text(work.blank);
+    let text = noting.drawing.text;
+    use_text(alloc, &work, &OfPlan { plan, work }, text, made, sink)
 }
 
-/// A plan text with frames that were read off a run.
-#[derive(Clone, Copy)]
-struct Framed;
-
-impl Content for Framed {
-    ghost use Rattle.std.specs.Prelude.{⊤};
-
-    ghost holds = { λ _ _. ⊤ };
+/// Makes a file of a text that was filled in, and then tells of the lines that were not.
+fn write_filled<'a, F: Files + AllocGlobal, W: Sink>(
+    files: &F,
+    framed: &Framed<'_>,
+    out: &'a str,
+    filled: Filled,
+    sink: &mut W,
+) -> Result<Status, Fault<'a>>
+    requires { IsFilledIn framed.now.0.now filled.text.items }
+    ensures { Ending W.Sink sink.old sink.new DoneEnds never result }
+{
+    write_file(files, out, framed, &filled.text)?;
+    tell_left(filled, sink)
 }
 
-/// Fills in the frames of a plan text for an assembly, by its run with the answers of a text.
-#[derive(Clone, Copy)]
-struct Framing<'x> {
-    noting: Noting<'x>,
-    answers: &'x [u8],
-}
-
-impl<'x, R, W: Sink> AssemblyUse<R, Made, W> for Framing<'x> {
-    ghost use Rattle.std.specs.Prelude.{⊤};
-    ghost use Rattle.burr_program.specs.Commands.{DoneEnds};
-    ghost use Rattle.burr_program.specs.MakingEnds.{IsAnyText, Makes};
-
-    ghost can = { λ _. ⊤ };
-
-    ghost uses = { λ _ _ first before _ r last after.
-        Makes W.Sink first before DoneEnds IsAnyText last after r };
-
-    fn use_assembly<'a, 'b>(
-        &self,
-        alloc: Global,
-        _refuser: &R,
-        assembly: &'b Assembly,
-        made: &mut Made,
-        sink: &mut W,
-    ) -> Result<Status, Fault<'a>> {
-        let unframed = Unframed {
-            text: self.noting.plan.text,
-            pieces: assembly.piece_count(),
-        };
-        let blank = unframed.with_blank_frames(alloc)?;
-        let filling = Filling {
-            framing: *self,
-            unframed,
-            blank: Named {
-                file: self.noting.plan.file,
-                text: &blank,
-            },
-        };
-        use_given(
-            alloc,
-            &filling,
-            &filling,
-            assembly,
-            Given::Text(&blank),
-            made,
-            sink,
-        )
+/// Tells of the lines `auto` that were not filled in, if there are any, and of answers that were not
+/// tried.
+#[tactic(auto, using(crate::proofs::Making::noted_ends, crate::proofs::Making::notes_done))]
+fn tell_left<'a, W: Sink>(filled: Filled, sink: &mut W) -> Result<Status, Fault<'a>>
+    ensures { EndsOn W.Sink sink.old sink.new DoneEnds result }
+{
+    match filled.left {
+        None => add_notes(Ok(Status::Done), &filled.notes, sink),
+        Some(line) => {
+            let notes = with_meaning(filled.notes, "frame")?;
+            refuse_with_notes(&Refused::Line("frame", line), &notes, sink)
+        }
     }
 }
 
-/// Fills in the frames of a plan text by the run of the text with frames that say nothing. What is
+/// A plan text of which nothing is changed but lines that end by the word `auto`.
+#[derive(Clone, Copy)]
+struct Framed<'x>(&'x [u8]);
+
+impl<'x> Content for Framed<'x> {
+    ghost use Rattle.burr_trace.specs.FilledTexts.{IsFilledIn};
+
+    ghost holds = { λ it bytes. IsFilledIn it.0.now bytes };
+}
+
+/// Fills in the frames of a plan text by the runs of the text with frames that say nothing. What is
 /// refused of that text is told of the text itself.
 #[derive(Clone, Copy)]
-struct Filling<'x> {
-    framing: Framing<'x>,
-    unframed: Unframed<'x>,
-    blank: Named<'x>,
+struct Filling<'x, 't> {
+    noting: &'x Noting<'t>,
+    unframed: &'x Unframed<'t>,
+    /// The text with frames that say nothing.
+    blank: &'x [u8],
 }
 
-impl<'x, W: Sink> Refuse<W> for Filling<'x> {
+impl<'x, 't, W: Sink> Refuse<W> for Filling<'x, 't> {
     ghost use Rattle.burr_judge.specs.PlanEnds.{EndsOn};
     ghost use Rattle.burr_program.specs.Commands.{DoneEnds};
 
@@ -137,7 +132,7 @@ impl<'x, W: Sink> Refuse<W> for Filling<'x> {
     ) -> Result<Status, Fault<'a>> {
         match refused {
             Refused::PlanText(fault) => refuse_own_line(alloc, self, *fault, sink),
-            _ => self.framing.noting.refuse(alloc, refused, sink),
+            _ => self.noting.refuse(alloc, refused, sink),
         }
     }
 }
@@ -146,7 +141,7 @@ impl<'x, W: Sink> Refuse<W> for Filling<'x> {
 #[tactic(auto, using(crate::proofs::Making::noted_ends))]
 fn refuse_own_line<'a, W: Sink>(
     alloc: Global,
-    filling: &Filling<'_>,
+    filling: &Filling<'_, '_>,
     fault: AsmFault,
     sink: &mut W,
 ) -> Result<Status, Fault<'a>>
@@ -154,19 +149,31 @@ fn refuse_own_line<'a, W: Sink>(
 {
     let (code, line) = fault.code_and_line().ok_or(AllocError)?;
     let line = filling.unframed.own_line(line);
-    let notes = reason_of_fault(alloc, filling.framing.noting.plan, Some((code, line)))?;
+    let notes = reason_of_fault(alloc, filling.noting.plan, Some((code, line)))?;
     refuse_with_notes(&Refused::Line(code, line), &notes, sink)
 }
 
-impl<'x, R, W: Sink> PlanUse<R, Made, W> for Filling<'x> {
+/// What came of the runs of a plan.
+#[derive(Drop)]
+enum Runs {
+    /// All came to their ends: what was seen, and a note of answers that were not tried.
+    Seen(Sightings, &'static str),
+    /// One did not, or the plan is for another assembly: what is printed of it, and a note of the
+    /// answers.
+    Broken { sheet: Kept, note: String },
+}
+
+impl<'x, 't, R, W: Sink> PlanUse<R, Option<Filled>, W> for Filling<'x, 't> {
     ghost use Rattle.std.specs.Prelude.{⊤};
     ghost use Rattle.burr_program.specs.Commands.{DoneEnds};
-    ghost use Rattle.burr_program.specs.MakingEnds.{IsAnyText, Makes};
+    ghost use Rattle.burr_program.specs.MakingEnds.{Makes};
+    ghost use Rattle.burr_trace.specs.FilledTexts.{IsFilledIn};
 
     ghost can = { λ _. ⊤ };
 
-    ghost uses = { λ _ _ first before _ _ r last after.
-        Makes W.Sink first before DoneEnds IsAnyText last after r };
+    ghost uses = { λ it _ first before _ _ r last after.
+        Makes W.Sink first before DoneEnds
+        (λ filled. IsFilledIn it.unframed.now filled.text.items) last after r };
 
     fn use_plan<'a, 'b, B: Blocking>(
         &self,
@@ -174,57 +181,72 @@ impl<'x, R, W: Sink> PlanUse<R, Made, W> for Filling<'x> {
         _refuser: &R,
         container: &'b Container<'_>,
         blocking: &'b B,
-        made: &mut Made,
+        made: &mut Option<Filled>,
         sink: &mut W,
     ) -> Result<Status, Fault<'a>> {
-        let plan = self.blank.beside(container, blocking.assembly());
-        let mut arrivals = Arrivals::new(alloc, plan)?;
-        let mut kept = Kept::new(alloc);
-        let answers = self.framing.answers;
-        let work = Try { answers };
-        let done = work.use_plan(
-            alloc,
-            &Plainly,
-            container,
-            blocking,
-            &mut arrivals,
-            &mut kept,
-        );
-        if !is_apart(&done) {
-            return put_kept(done, kept.as_bytes(), "", sink);
+        let plan = self.noting.plan.beside(container, blocking.assembly());
+        let labels = Labels::of(alloc, plan, self.unframed, self.blank)?;
+        match self.runs(alloc, &labels, container, blocking)? {
+            Runs::Broken { sheet, note } => {
+                put_kept(Ok(Status::Refused), sheet.as_bytes(), &note, sink)
+            }
+            Runs::Seen(sightings, gaps) => {
+                let mut filled = self.unframed.fill(plan.file, &labels, &sightings)?;
+                filled.notes.push_str(gaps)?;
+                *made = Some(filled);
+                Ok(Status::Done)
+            }
         }
-        self.fill(alloc, arrivals, made, sink)
     }
 }
 
-/// Whether a run was made that came to its end, with all pieces apart.
-fn is_apart(done: &Result<Status, Fault<'_>>) -> bool {
-    matches!(done, Ok(Status::Done))
-}
-
-impl Filling<'_> {
-    /// Makes the text with the frames that a run agrees with, of which these are the arrivals; or says why
-    /// there is none.
-    fn fill<'a, W: Sink>(
+impl Filling<'_, '_> {
+    /// Makes the runs of a plan with all answers that its questions have, up to one that does not come to
+    /// its end.
+    fn runs<B: Blocking>(
         &self,
         alloc: Global,
-        arrivals: Arrivals<'_>,
-        made: &mut Made,
-        sink: &mut W,
-    ) -> Result<Status, Fault<'a>>
-        ensures { Makes W.Sink made.old sink.old DoneEnds IsAnyText made.new sink.new result }
+        labels: &Labels<'_, '_>,
+        container: &Container<'_>,
+        blocking: &B,
+    ) -> Result<Runs, AllocError>
+        requires { HasPlan container.now }
     {
-        let (line, note) = match self.unframed.fill(alloc, arrivals)? {
-            Filled::Whole(text) => {
-                *made = Made::Text(text);
-                return Ok(Status::Done);
+        let mut sightings = Sightings::new(alloc, labels)?;
+        let mut questions = Questions::new(alloc);
+        for _ in 0..MOST_RUNS {
+            let mut run = Arrivals::new(alloc, &*labels);
+            let mut sheet = Kept::new(alloc);
+            let text = questions.text(alloc)?;
+            let work = Try {
+                answers: text.as_bytes(),
+            };
+            let done = work.use_plan(
+                alloc,
+                self.noting,
+                &*container,
+                &*blocking,
+                &mut run,
+                &mut sheet,
+            );
+            match (done, run.question()) {
+                (Ok(Status::Done), _) => {
+                    sightings.add_run(run)?;
+                    if !questions.advance() {
+                        return Ok(Runs::Seen(sightings, questions.gaps(true)));
+                    }
+                }
+                (Ok(Status::Waiting), Some(question)) => {
+                    run.close()?;
+                    questions.ask(question)?;
+                }
+                (Ok(_), _) => {
+                    let note = questions.note(alloc)?;
+                    return Ok(Runs::Broken { sheet, note });
+                }
+                (Err(_), _) => return Err(AllocError),
             }
-            Filled::Unseen(line) => (line, "the run does not come to the label before it"),
-            Filled::Various(line) => (
-                line,
-                "no frame agrees with all that the run comes here with",
-            ),
-        };
-        refuse_line(alloc, "frame", self.framing.noting.plan, line, note, sink)
+        }
+        Ok(Runs::Seen(sightings, questions.gaps(false)))
     }
 }

@@ -1,13 +1,13 @@
 ghost use Rattle.burr_judge.specs.PlanEnds.{EndsOn, Ending, never};
 ghost use Rattle.burr_program.specs.Commands.{PlanSheetCommand, SomeRefusal};
 
-use crate::files::{Content, Made, keep_sources, read_text, write_file};
+use crate::files::{Content, keep_sources, read_text, write_file};
 use crate::notes::{Named, Noting, refuse_line, refuse_with_notes};
 use crate::reasons::reason_of_refused_plan;
 use burr_assembly::Assembly;
 use burr_blocking::RowTables;
 use burr_container::Container;
-use burr_from_sheet::{RefusedDraft, SheetFault, plan_of_sheet};
+use burr_from_sheet::{LineFault, RefusedDraft, SheetFault, plan_of_sheet};
 use burr_io::Sink;
 use burr_judge::{AssemblyUse, Fault, Refused, Status, use_text};
 use burr_why::reason_of_line;
@@ -33,10 +33,10 @@ pub fn plan_sheet_file<'a, F: Files + AllocGlobal, W: Sink>(
         drawing: drawing.named(),
         plan: sheet.named(),
     });
-    let mut made = Made::Nothing;
+    let mut made: Option<Vec<u8>> = None;
     let drawn = work.0.drawing.text;
     let status = use_text(files.alloc(), &work.0, &work, drawn, &mut made, sink)?;
-    if let Made::Text(text) = made {
+    if let Some(text) = made {
         write_file(files, out, &work, &text)?;
     }
     Ok(status)
@@ -52,7 +52,7 @@ impl<'x> Content for OfSheet<'x> {
     ghost holds = { λ it bytes. MakesPlanOf it.0.drawing.text.now it.0.plan.text.now bytes };
 }
 
-impl<'x, R, W: Sink> AssemblyUse<R, Made, W> for OfSheet<'x> {
+impl<'x, R, W: Sink> AssemblyUse<R, Option<Vec<u8>>, W> for OfSheet<'x> {
     ghost use Rattle.std.specs.Prelude.{⊤};
     ghost use Rattle.burr_from_sheet.specs.SheetPlans.{IsPlanOfSheet};
     ghost use Rattle.burr_program.specs.Commands.{SomeRefusal};
@@ -61,20 +61,21 @@ impl<'x, R, W: Sink> AssemblyUse<R, Made, W> for OfSheet<'x> {
     ghost can = { λ _. ⊤ };
 
     ghost uses = { λ it _ first before a r last after.
-        Makes W.Sink first before SomeRefusal (IsPlanOfSheet a it.0.plan.text.now) last after r };
+        Makes W.Sink first before SomeRefusal
+        (λ made. IsPlanOfSheet a it.0.plan.text.now made.items) last after r };
 
     fn use_assembly<'a, 'b>(
         &self,
         alloc: Global,
         _refuser: &R,
         assembly: &'b Assembly,
-        made: &mut Made,
+        made: &mut Option<Vec<u8>>,
         sink: &mut W,
     ) -> Result<Status, Fault<'a>> {
         let tables = RowTables::build(alloc, assembly)?;
         match plan_of_sheet(alloc, &tables, self.0.plan.text) {
             Ok(text) => {
-                *made = Made::Text(text);
+                *made = Some(text);
                 Ok(Status::Done)
             }
             Err(fault) => refuse_sheet(alloc, assembly, self.0.plan, &fault, sink),
@@ -96,8 +97,12 @@ fn refuse_sheet<'a, W: Sink>(
     let (line, note) = match fault {
         SheetFault::Memory => return Err(Fault::Memory),
         SheetFault::Refused(draft) => return refuse_draft(alloc, assembly, sheet, draft, sink),
-        SheetFault::Line(line) => (*line, "this is not the next move line of these pieces"),
-        SheetFault::TooLong(line) => (*line, "with it the plan has more than 4096 bytes of code"),
+        SheetFault::Line(line) => {
+            let fault = LineFault::of(assembly, sheet.text, *line);
+            let note = format!(in alloc; "{fault}")?;
+            return refuse_line(alloc, "sheet", sheet, *line, &note, sink);
+        }
+        SheetFault::TooLong(line) => (*line, "with it the code has no room in 16 procedures"),
         SheetFault::Differs(line) => (*line, "the run of the plan has another line here"),
     };
     refuse_line(alloc, "sheet", sheet, line, note, sink)

@@ -1,22 +1,26 @@
+ghost use Rattle.std.specs.Prelude.{◌≡◌, IfOk};
 ghost use Rattle.burr_judge.specs.declared.tasks.Task.TheVariants as tasks;
 ghost use Rattle.burr_judge.specs.PlanEnds.{EndsOn, Ending, never};
 ghost use Rattle.burr_judge.specs.StepEnds.{left_by};
 ghost use Rattle.burr_program.specs.Commands.{TraceCommand};
 ghost use Rattle.burr_program.specs.NotedEnds.{NotedEnds};
+ghost use Rattle.burr_trace.specs.FilledTexts.{IsFilledIn};
 
 use crate::files::read_text;
 use crate::notes::{Noting, put_kept};
+use burr_asm::{AsmFault, assemble};
 use burr_blocking::Blocking;
 use burr_container::Container;
 use burr_io::{Kept, Sink, Source};
 use burr_judge::{Fault, Given, OfPlan, PlanUse, Status, Try, use_text};
 use burr_runs::read_whole;
-use burr_trace::{Arrivals, trace_of};
+use burr_trace::{Arrivals, Labels, Unframed, trace_of};
 use std::alloc::Global;
 use std::rt::Files;
 
 /// Puts the run of a plan text for an assembly with the answers of a source, as `asm` and `try` do, and
-/// what it came to at each label. The files are read in order, and then the source whole, before
+/// what it came to at each label. A text that has `auto` in place of frames is run with frames that say
+/// nothing, where it is assembled so. The files are read in order, and then the source whole, before
 /// anything is judged.
 #[inline(never)]
 pub fn trace_files<'a, F: Files + AllocGlobal, R: Source, W: Sink>(
@@ -36,21 +40,46 @@ pub fn trace_files<'a, F: Files + AllocGlobal, R: Source, W: Sink>(
         drawing: drawing.named(),
         plan: text.named(),
     };
-    trace(files.alloc(), &noting, &answers, sink)
+    let unframed = Unframed::of(files.alloc(), &text.bytes)?;
+    let given = framed_text(files.alloc(), &unframed, &text.bytes)?;
+    trace(files.alloc(), &noting, &unframed, &given, &answers, sink)
 }
 
-/// The same of the texts.
+/// A plan text with frames that say nothing in place of `auto`, where it is assembled so; else the text.
+fn framed_text<'a>(
+    alloc: Global,
+    unframed: &Unframed<'_>,
+    text: &[u8],
+) -> Result<Vec<u8>, Fault<'a>>
+    requires { unframed.now ≡ text.now }
+    ensures { IfOk result (λ framed. IsFilledIn text.now framed.items) }
+{
+    let blank = unframed.with_blanks()?;
+    match assemble(alloc, &blank) {
+        Ok(_) => Ok(blank),
+        Err(AsmFault::Memory) => Err(Fault::Memory),
+        Err(_) => Ok(Vec::from_slice(alloc, text)?),
+    }
+}
+
+/// The same of the texts, where the plan's text has a frame at each label.
 fn trace<'a, W: Sink>(
     alloc: Global,
     noting: &Noting<'_>,
+    unframed: &Unframed<'_>,
+    given: &[u8],
     answers: &[u8],
     sink: &mut W,
 ) -> Result<Status, Fault<'a>>
     ensures { EndsOn W.Sink sink.old sink.new (NotedEnds tasks.Try noting.now.drawing.text.now
-        noting.now.plan.text.now answers.now) result }
+        given.now answers.now) result }
 {
-    let plan = Given::Text(noting.plan.text);
-    let work = Tracing { answers };
+    let plan = Given::Text(given);
+    let work = Tracing {
+        unframed,
+        given,
+        answers,
+    };
     use_text(
         alloc,
         noting,
@@ -63,11 +92,14 @@ fn trace<'a, W: Sink>(
 
 /// Runs a plan with the answers of a text, and notes what it came to at each label.
 #[derive(Clone, Copy)]
-struct Tracing<'x> {
+struct Tracing<'x, 't> {
+    unframed: &'x Unframed<'t>,
+    /// The text with frames that say nothing in place of `auto`.
+    given: &'x [u8],
     answers: &'x [u8],
 }
 
-impl<'x, 'y, W: Sink> PlanUse<Noting<'y>, (), W> for Tracing<'x> {
+impl<'x, 't, 'y, W: Sink> PlanUse<Noting<'y>, (), W> for Tracing<'x, 't> {
     ghost use Rattle.std.specs.Prelude.{⊤};
     ghost use Rattle.burr_judge.specs.PlanEnds.{EndsOn, TryEnds};
     ghost use Rattle.burr_program.specs.NotedEnds.{Begins};
@@ -87,7 +119,8 @@ impl<'x, 'y, W: Sink> PlanUse<Noting<'y>, (), W> for Tracing<'x> {
         sink: &mut W,
     ) -> Result<Status, Fault<'a>> {
         let plan = noting.plan.beside(container, blocking.assembly());
-        let mut arrivals = Arrivals::new(alloc, plan)?;
+        let labels = Labels::of(alloc, plan, self.unframed, self.given)?;
+        let mut arrivals = Arrivals::new(alloc, &labels);
         let mut kept = Kept::new(alloc);
         let work = Try {
             answers: self.answers,

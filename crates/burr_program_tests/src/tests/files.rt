@@ -8,6 +8,7 @@ use std::os::unix::fs::symlink;
 /// The commands that read files, each with `*` in place of one of them.
 const READING: &str = "\
 burr asm * made
+burr cells *
 burr list *
 burr list --places *
 burr upgrade * made

@@ -130,11 +130,11 @@ const WITH_INPUT: &str = "\
 burr run cup cup.bpln
 burr try cup cup.bpln
 burr trace cup cup.plan
-burr frames cup cup.plan made
 ";
 
 /// Command lines that read none, or none that is there.
 const WITH_FILES: &str = "\
+burr cells cup
 burr check cup cup.bpln
 burr run cup duo.bpln
 burr step cup cup.bpln
@@ -142,6 +142,7 @@ burr drive cup cup.bpln
 burr drive cup cup.plan
 burr why cup cup.plan
 burr why cup duo.plan
+burr frames cup cup.plan made
 burr plan duo cup made
 burr upgrade cup.bpln made
 burr asm cup.plan made

@@ -57,6 +57,39 @@ const DUO_BYTES: &[u8] = b"BPLN\x00\x01\x00\x00\x00\x03\x02\x03duo\x01\
 \x00\x00\x00\x00\x00\x00\x00\x00\x00\x00\x00\x00\x00\
 \x00\x09\x10\x00\x00\x00\x01\x12\x01\x01\x00";
 
+/// Two pieces of one shape, of which the second is turned and lies on both sides of 0; and a text that is
+/// no assembly.
+const HOMES: &str = "\
+<assembly two-ells
+<shape ell
+<layer
+<##
+<#.
+<end
+<piece first ell +x+y+z 2 0 0
+<piece B ell -y+x+z -1 0 -3
+=ells
+$burr cells ells
+>first 2 0 0
+>first 3 0 0
+>first 2 1 0
+>B -1 0 -3
+>B -1 -1 -3
+>B 0 0 -3
+?0
+@ells
+/-y+x+z/+y+x+z
+=ells
+$burr cells ells
+>refused A4 line 8
+?1
+";
+
+#[test]
+fn prints_home_cells(rt: HostRuntime) {
+    assert_transcript(&rt, HOMES);
+}
+
 #[test]
 fn assembles_and_lists(rt: HostRuntime) {
     assert_examples(&rt, CONTAINERS);

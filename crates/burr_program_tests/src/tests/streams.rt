@@ -30,16 +30,17 @@ const READING: &str = "\
 burr run cup cup.bpln
 burr try cup cup.bpln
 burr trace cup cup.plan
-burr frames cup cup.plan made
 ";
 
 /// Command lines that read no standard input.
 const NOT_READING: &str = "\
+burr cells cup
 burr asm duo.plan made
 burr list duo.bpln
 burr upgrade duo.bpln made
 burr plan duo cup made
 burr why cup cup.plan
+burr frames cup cup.plan made
 burr explain V15
 burr check cup cup.bpln
 burr step cup duo.bpln
@@ -99,6 +100,8 @@ const PRINTING: &str = "\
 burr asm duo.plan made
 burr upgrade duo.bpln made
 burr --version
+burr cells cup
+burr cells duo.plan
 burr asm duo made
 burr list duo.bpln
 burr list --places duo.bpln
@@ -107,7 +110,7 @@ burr upgrade duo made
 burr why cup cup.plan
 burr why cup duo.plan
 burr trace duo duo.plan
-burr frames cup cup.plan made
+burr frames duo cup.plan made
 burr plan duo cup made
 burr explain V15
 burr check cup cup.bpln

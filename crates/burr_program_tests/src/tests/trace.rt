@@ -118,6 +118,7 @@ $burr trace ring duo.plan
 $burr trace cup t.plan
 >refused P2 line 33
 >t.plan:33: jump N
+>    no label of this procedure has the name `N`
 >A name is taken already, or nothing has it.
 >`burr explain P2` says more
 ?1

@@ -15,6 +15,7 @@ $burr why cup x.plan
 $burr why cup x.plan
 >refused P3 line 9
 >x.plan:9: ask 2 0
+>    LO stands before HI, and is above it
 >A number, a set or a form is out of its range, or a form names a slot that is
 >not live: one without a `slot` line in its frame.
 >`burr explain P3` says more
@@ -25,6 +26,7 @@ $burr why cup x.plan
 $burr why cup x.plan
 >refused P2 line 21
 >x.plan:21: down 1 N
+>    no label of this procedure has the name `N`
 >A name is taken already, or nothing has it.
 >`burr explain P2` says more
 ?1
@@ -34,6 +36,7 @@ $burr why cup x.plan
 $burr why cup x.plan
 >refused P1 line 33
 >x.plan:33: jump L;
+>    a comment stands on a line of its own, which begins with `;`
 >The line is not of the grammar, may not stand here or has no line feed, or the
 >text ends too early.
 >`burr explain P1` says more
@@ -435,6 +438,191 @@ $burr why cup x.plan
 ?1
 ";
 
+/// Lines of texts that are not of the grammar, or out of their ranges.
+const WORDS: &str = "\
+@ring.plan
+/grip 0/grip runner
+=x.plan
+$burr why ring x.plan
+>refused P1 line 8
+>x.plan:8: grip runner
+>    `runner` stands where SET belongs: rising numbers of pieces, as `0,2`
+>    such a line is written `grip SET`
+>The line is not of the grammar, may not stand here or has no line feed, or the
+>text ends too early.
+>`burr explain P1` says more
+?1
+@ring.plan
+/cost 4+2v0/cost 4v0
+=x.plan
+$burr why ring x.plan
+>refused P1 line 14
+>x.plan:14: cost 4v0
+>    `4v0` stands where FORM belongs: a number, and then terms of rising slots, as `4+2v0-3v1`
+>    perhaps `0+4v0` is meant
+>    such a line is written `cost FORM`
+>The line is not of the grammar, may not stand here or has no line feed, or the
+>text ends too early.
+>`burr explain P1` says more
+?1
+@ring.plan
+/step +z/step +z 2
+=x.plan
+$burr why ring x.plan
+>refused P1 line 17
+>x.plan:17: step +z 2
+>    `2` stands where the line has to end
+>    such a line is written `step DIRECTION`
+>    a step is one unit
+>The line is not of the grammar, may not stand here or has no line feed, or the
+>text ends too early.
+>`burr explain P1` says more
+?1
+@ring.plan
+/aside +z 1/aside +z
+=x.plan
+$burr why ring x.plan
+>refused P1 line 19
+>x.plan:19: aside +z
+>    the line ends where TRAY belongs: a number of 0 to 31
+>    such a line is written `aside DIRECTION TRAY`
+>The line is not of the grammar, may not stand here or has no line feed, or the
+>text ends too early.
+>`burr explain P1` says more
+?1
+@ring.plan
+/aside +z 1/aside +z 32
+=x.plan
+$burr why ring x.plan
+>refused P3 line 19
+>x.plan:19: aside +z 32
+>    `32` stands where TRAY belongs: a number of 0 to 31
+>    such a line is written `aside DIRECTION TRAY`
+>A number, a set or a form is out of its range, or a form names a slot that is
+>not live: one without a `slot` line in its frame.
+>`burr explain P3` says more
+?1
+@ring.plan
+/halt/Halt
+=x.plan
+$burr why ring x.plan
+>refused P1 line 20
+>x.plan:20: Halt
+>    no line begins with `Halt`: words are in small letters
+>    perhaps `halt` is meant
+>The line is not of the grammar, may not stand here or has no line feed, or the
+>text ends too early.
+>`burr explain P1` says more
+?1
+@ring.plan
+/frame 0 0/fame 0 0
+=x.plan
+$burr why ring x.plan
+>refused P5 line 12
+>x.plan:12: fame 0 0
+>    no line begins with `fame`
+>    perhaps `frame` is meant
+>No `frame` is next after `label`, or a procedure's first label is missing: its
+>code begins with a label and that label's frame.
+>`burr explain P5` says more
+?1
+";
+
+/// Lines of frames that do not stand there, or are missing.
+const PLACES: &str = "\
+@ring.plan
+/slot 0 0 2/cost 1
+=x.plan
+$burr why ring x.plan
+>refused P1 line 14
+>x.plan:14: cost 4+2v0
+>    `at 0` belongs here
+>    after `label` come, in this order: `frame`, `slot`, `guard`, `stack`, `cost`, `at`
+>The line is not of the grammar, may not stand here or has no line feed, or the
+>text ends too early.
+>`burr explain P1` says more
+?1
+@ring.plan
+/at 0 0 0 0 2-1v0/;
+=x.plan
+$burr why ring x.plan
+>refused P1 line 16
+>x.plan:16: at 1 0 0 0 0
+>    `at 0` belongs here
+>    after `label` come, in this order: `frame`, `slot`, `guard`, `stack`, `cost`, `at`
+>x.plan:11: label L
+>    `at` lines of its frame: 1, pieces of the plan: 2
+>The line is not of the grammar, may not stand here or has no line feed, or the
+>text ends too early.
+>`burr explain P1` says more
+?1
+@cup.plan
+/plan cup 2/plan cup 3
+=x.plan
+$burr why cup x.plan
+>refused P1 line 8
+>x.plan:8: grip 0
+>    `at 2` belongs here
+>    after `label` come, in this order: `frame`, `slot`, `guard`, `stack`, `cost`, `at`
+>x.plan:3: label start
+>    `at` lines of its frame: 2, pieces of the plan: 3
+>x.plan:1: plan cup 3 14
+>    `at` lines of each frame: 2
+>The line is not of the grammar, may not stand here or has no line feed, or the
+>text ends too early.
+>`burr explain P1` says more
+?1
+@ring.plan
+/halt/label M
+=x.plan
+$burr why ring x.plan
+>refused P5 line 21
+>x.plan:21: the text ends before this line
+>    `frame TRAY SET` belongs here
+>    after `label` come, in this order: `frame`, `slot`, `guard`, `stack`, `cost`, `at`
+>No `frame` is next after `label`, or a procedure's first label is missing: its
+>code begins with a label and that label's frame.
+>`burr explain P5` says more
+?1
+";
+
+/// Names that are taken, or that nothing has.
+const NAMES: &str = "\
+@lift.plan
+/call lift/call lfit
+=x.plan
+$burr why cup x.plan
+>refused P2 line 9
+>x.plan:9: call lfit
+>    no procedure has the name `lfit`
+>    perhaps `lift` is meant
+>A name is taken already, or nothing has it.
+>`burr explain P2` says more
+?1
+@lift.plan
+/call lift/jump L
+=x.plan
+$burr why cup x.plan
+>refused P2 line 9
+>x.plan:9: jump L
+>    no label of this procedure has the name `L`
+>    a label of another procedure has it, and is known there alone
+>A name is taken already, or nothing has it.
+>`burr explain P2` says more
+?1
+@lift.plan
+/label L/label start
+=x.plan
+$burr why cup x.plan
+>refused P2 line 27
+>x.plan:27: label start
+>    the name `start` is taken by another label of this procedure
+>x.plan:18: label start
+>A name is taken already, or nothing has it.
+>`burr explain P2` says more
+?1
+";
+
 #[test]
 fn says_what_is_wrong(rt: HostRuntime) {
     assert_examples(&rt, TEXTS);
@@ -443,4 +631,12 @@ fn says_what_is_wrong(rt: HostRuntime) {
     assert_transcript(&rt, FRAMES);
     assert_transcript(&rt, LIFT);
     assert_transcript(&rt, CALLS);
+}
+
+#[test]
+fn says_what_was_expected(rt: HostRuntime) {
+    assert_examples(&rt, WORDS);
+    assert_transcript(&rt, PLACES);
+    assert_transcript(&rt, LIFT);
+    assert_transcript(&rt, NAMES);
 }

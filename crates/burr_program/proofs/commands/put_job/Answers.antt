@@ -4,6 +4,9 @@ use Rattle.burr_judge.specs.PlanEnds.{Ending, never}
 use Rattle.burr_program.specs.ExplainEnds.{ExplainEnds}
 use Rattle.burr_program.proofs.commands.put_job.Goals as goal
 
+pub returns-in-Cells : goal.returns-in-Cells
+returns-in-Cells g c = rw c.in-Cells.is c.cells_file.ensures
+
 pub returns-in-Assemble : goal.returns-in-Assemble
 returns-in-Assemble g c = rw c.in-Assemble.is c.assemble_file.ensures
 

@@ -10,9 +10,9 @@ use Rattle.burr_program.proofs.commands.trace.trace_files.Goals as goal
 pub returns : goal.returns
 returns g c =
     let drawing = c.named.result.text.now in
-    let text = c.named-2.result.text.now in
-    let answers = c.deref.result.now in
+    let given = c.deref-3.result.now in
+    let answers = c.deref-4.result.now in
     let gave = left_by g.R.Source c.args.source.now c.read_whole.new.source in
-    let whole = subst (λ (a : List ℕ). IsWholeInput gave.old gave.new gave.failed a) (sym c.deref.ensures.value) c.in_ok-answers.ensures.ok in
-    ending_from g.W.Sink c.args.sink.now c.trace.new.sink (NotedEnds Try drawing text answers) (TraceCommand gave) c.trace.result
-    (λ output status is. (drawing, text, answers, whole, is)) c.trace.ensures
+    let whole = subst (λ (a : List ℕ). IsWholeInput gave.old gave.new gave.failed a) (sym c.deref-4.ensures.value) c.in_ok-answers.ensures.ok in
+    ending_from g.W.Sink c.args.sink.now c.trace.new.sink (NotedEnds Try drawing given answers) (TraceCommand gave) c.trace.result
+    (λ output status is. (drawing, given, answers, whole, is)) c.trace.ensures
