@@ -39,6 +39,7 @@ REPLY = re.compile(
     rb"|after \d+ steps proc \d+ pc \d+(?: ended)?\ntray \d+ grip (?:-|" + NAMES_OF_PIECES + rb")\n"
     rb"slots(?: (?:-|-?\d+)){8}\nstack(?: -|(?: -?\d+)+)\n(?:" + NAME + rb" (?:apart|tray \d+ at -?\d+ -?\d+ -?\d+)\n)+"
 )
+CELLS = re.compile(rb"(?:[A-Za-z][A-Za-z0-9_-]*(?: (?:0|-?[1-9][0-9]*)){3}\n)+")
 LISTED = re.compile(rb"(?:[ -~]+\n)+")
 FAULT = re.compile(rb"cannot (?:read|write) .*\n", re.DOTALL)
 COMPLAINT = re.compile(
@@ -94,14 +95,16 @@ def is_dialogue(output):
 
 def is_done(command, output):
     """Whether a command may print this with status 0."""
-    if command in ("asm", "upgrade", "frames", "plan"):
+    if command in ("asm", "upgrade", "plan"):
         return not output
+    if command == "frames":
+        return not output or output.startswith(b"not all answers were tried: ")
     if command in ("run", "try", "trace", None):
         closing = closing_of(output)
         return closing and closing["apart"]
     if command == "step":
         return is_dialogue(output)
-    return {"check": ACCEPTED, "list": LISTED, "why": ACCEPTED}[command].fullmatch(output)
+    return {"cells": CELLS, "check": ACCEPTED, "list": LISTED, "why": ACCEPTED}[command].fullmatch(output)
 
 
 def judge(command, answer, is_free):
