@@ -11,8 +11,8 @@ use Rattle.burr_plantext.specs.Rules.Sources.{ExitSource}
 use Rattle.burr_plantext.specs.Rules.Meaning.{range_in, place_in, result_count}
 use Rattle.burr_plantext.specs.Rules.Checks.{FaultKind, P1, P3, P4, unless, is_empty, piece_check, exit_live, result_check, exit_guard_check, exit_piece_check}
 use Rattle.burr_asm.specs.declared.fault.AsmFault.{AsmFault}
-use Rattle.burr_asm.specs.declared.version.Version.{Version}
-use Rattle.burr_asm.specs.declared.version.Version.TheVariants.{One, Two}
+use Rattle.burr_asm.specs.declared.text.front.Version.{Version}
+use Rattle.burr_asm.specs.declared.text.front.Version.TheVariants.{One, Two}
 use Rattle.burr_asm.specs.declared.text.exit.Exit.{Exit}
 use Rattle.burr_asm.specs.Views.Versions.{number_of_version}
 use Rattle.burr_asm.specs.Views.Faults.{IsRefusal}

@@ -9,7 +9,7 @@ use Rattle.burr_code.specs.declared.limits.TheConstants.{MOST_GUARDS, MOST_OPERA
 use Rattle.burr_forms.specs.Rules.Forms.{Form}
 use Rattle.burr_container.specs.Rules.Plans.{Range, Frame, live_slots}
 use Rattle.burr_container.specs.Views.OwnedPlaces.{placement_of, placements_of}
-use Rattle.burr_container.specs.declared.place.Place.{Place}
+use Rattle.burr_container.specs.declared.plan.Place.{Place}
 use Rattle.burr_plantext.specs.Rules.Written.{natural_in, form_in, are_ends, is_within, is_form_over}
 use Rattle.burr_plantext.specs.Rules.Lines.{SlotLine, SlotWords, PieceWords}
 use Rattle.burr_plantext.specs.Rules.Sources.{Conditions, FrameSource}
@@ -44,11 +44,11 @@ module _ (live : List Bool) (old : List Place) (before : List PieceWords) (piece
   next_first : (count : ℕ) (next : Bool) → count ≡ length old → next ≡ is_within count count piece.piece → next ≡ true → piece_check live before piece ≡ unless (is_spot live piece.spot) P3 None
   next_first count next many is e = passed _ P1 (unless (is_spot live piece.spot) P3 None) (next_is count next many is ∙ e)
 
-  -- its place is none
+  -- its place is not right
   pub no_place : (count : ℕ) (next : Bool) → count ≡ length old → next ≡ is_within count count piece.piece → next ≡ true → is_spot live piece.spot ≡ false → piece_check live before piece ≡ Some P3
   no_place count next many is e no_spot = next_first count next many is e ∙ failed _ P3 None no_spot
 
-  -- it has its place
+  -- its place is right
   pub one_place : (count : ℕ) (next : Bool) → count ≡ length old → next ≡ is_within count count piece.piece → next ≡ true → is_spot live piece.spot ≡ true → piece_check live before piece ≡ None
   one_place count next many is e spot = next_first count next many is e ∙ passed _ P3 None spot
 

@@ -59,7 +59,7 @@ same_size n more e = grind (arith, e)
 less_size : (n k more : ℕ) → 0 < k → more ≡ n + k → (n == more) ≡ false
 less_size n k more some e = grind (arith, some, e)
 
--- the same size before code means that there is none
+-- the size before code is the size after it exactly where there is no code
 code_after : (n more : ℕ) (code : List Statement) → more ≡ n + code_size code
     → (n == more) ≡ is_empty code
 code_after n more [] e = same_size n more e

@@ -53,7 +53,7 @@ head_same number o title before h is =
     ap length names ∙ length-map before (λ (p : ProcedureSource). p.head.name) in
     λ i. head_judged (names i) (main i) (many i) h
 
--- A plan of which only the first line has been read.
+-- A plan whose first line has been read, and no other.
 pub outline_titled : (number : ℕ → ℕ) (title : PlanWords)
     → IsOutline number (titled_outline title) title [] []
 outline_titled number title = record {
@@ -125,7 +125,7 @@ lines_more ps p =
     let one = length-append (procedure_lines p) [] in
     omega (arith, both, long, one)
 
--- A procedure of which only the first line has been read.
+-- A procedure whose first line has been read, and no other.
 pub routine_begun : (number : ℕ → ℕ) (place start version : ℕ) (s : Signature)
     (h : ProcedureWords) → IsSignature s version h → place ≡ start + 1
     → BeforeLabels number place start version (begun s) h None 1

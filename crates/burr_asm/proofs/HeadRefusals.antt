@@ -14,7 +14,7 @@ use Rattle.burr_asm.specs.Views.Faults.{IsRefusal}
 use Rattle.burr_asm.specs.Views.Names.{number_if_known}
 use Rattle.burr_asm.specs.Views.Routines.{OutlineParts, are_counts, head_refusal}
 
--- the plan's line, of which a number is out of its range
+-- the plan's line with a number out of its range
 title_refused : (t : PlanWords) (line : ℕ) → (is_within 2 32 t.pieces && is_within 1 MOST_BUDGET t.budget) ≡ false → IsRefusal (title_check t) line (fault.P3 line)
 title_refused t line e = inr (P3, ap (λ (test : Bool). unless test P3 None) e, refl)
 
@@ -57,7 +57,7 @@ module _ (o : OutlineParts) (h : ProcedureWords) (main : Bool) (none_ended : mai
   pub counts_passed : parameters main ≡ true → results main ≡ true → are_counts o h ≡ true
   counts_passed e f = λ i. (ap parameters (sym is_main) ∙ e) i && (ap results (sym is_main) ∙ f) i
 
--- a name that has no number is none of the names
+-- a name that has no number is not among the names
 pub no_number : (known : Bool) (number : ℕ) → false ≡ is_some (if known then Some number else None) → known ≡ false
 no_number true number e = sym e
 no_number false number e = refl
@@ -77,7 +77,7 @@ head_known o h line names same taken =
     let known : is_known o.names h.name ≡ true = ap (λ (ns : List (List ℕ)). is_known ns h.name) (sym same) ∙ a_number (is_known names h.name) (number_of names h.name) taken in
     inr (P2, ap (λ (known : Bool). refusal known (are_counts o h) (nat_lt (length o.names) MOST_PROCEDURES)) known, refl)
 
--- a procedure's line with a new name, of which a number is out of its range
+-- a procedure's line with a new name and a number out of its range
 pub head_counts : (o : OutlineParts) (h : ProcedureWords) (line : ℕ) (names : List (List ℕ)) → names ≡ o.names → false ≡ is_some (number_if_known names h.name) → are_counts o h ≡ false → IsRefusal (head_refusal o h) line (fault.P3 line)
 head_counts o h line names same new counted =
     let unknown : is_known o.names h.name ≡ false = ap (λ (ns : List (List ℕ)). is_known ns h.name) (sym same) ∙ no_number (is_known names h.name) (number_of names h.name) new in

@@ -15,15 +15,15 @@ use Rattle.burr_plantext.specs.Rules.Texts.{words_of}
 use Rattle.burr_plantext.proofs.Common.Cuts.{some_pieces}
 use Rattle.burr_plantext.proofs.Common.ParsedNumbers.{or_cases}
 use Rattle.burr_asm.specs.Views.Keywords.{word_of, keyword_line}
-use Rattle.burr_asm.specs.declared.text.keyword.Keyword.{Keyword}
-use Rattle.burr_asm.specs.declared.text.keyword.Keyword.TheVariants as key
-use Rattle.burr_asm.specs.declared.text.keyword.PartKeyword.TheVariants as part
-use Rattle.burr_asm.specs.declared.text.keyword.FrameKeyword.TheVariants as frame
-use Rattle.burr_asm.specs.declared.text.keyword.FormKeyword.TheVariants as form
-use Rattle.burr_asm.specs.declared.text.keyword.CodeKeyword.TheVariants as code
-use Rattle.burr_asm.specs.declared.text.keyword.PlainKeyword.TheVariants as plain
-use Rattle.burr_asm.specs.declared.text.keyword.NumberKeyword.TheVariants as number
-use Rattle.burr_asm.specs.declared.version.Version.TheVariants.{One, Two}
+use Rattle.burr_asm.specs.declared.text.line.Keyword.{Keyword}
+use Rattle.burr_asm.specs.declared.text.line.Keyword.TheVariants as key
+use Rattle.burr_asm.specs.declared.text.line.PartKeyword.TheVariants as part
+use Rattle.burr_asm.specs.declared.text.line.FrameKeyword.TheVariants as frame
+use Rattle.burr_asm.specs.declared.text.line.FormKeyword.TheVariants as form
+use Rattle.burr_asm.specs.declared.text.line.CodeKeyword.TheVariants as code
+use Rattle.burr_asm.specs.declared.text.line.PlainKeyword.TheVariants as plain
+use Rattle.burr_asm.specs.declared.text.line.NumberKeyword.TheVariants as number
+use Rattle.burr_asm.specs.declared.text.front.Version.TheVariants.{One, Two}
 
 alike : (word key : List ℕ) → bytes_eq word key ≡ true → word ≡ key
 alike word key e = (bytes_eq-Decides word key).0 e
@@ -36,9 +36,9 @@ unlike word key differs = by (bytes_eq word key) refl
     by true e = absurd (differs (alike word key e))
     by false e = refl
 
--- Words that are none of some
+-- Words that are not among others
 
--- the word is none of these
+-- the word is not among these
 abbrev pub IsNoneOf : List ℕ → List (List ℕ) → Type 0
 IsNoneOf word [] = Unit {0}
 IsNoneOf word (key ∷ keys) = (word ≢ key) × IsNoneOf word keys
@@ -52,12 +52,12 @@ none_of word [] h key within = absurd (false≢true within)
 none_of word (k ∷ keys) h key within =
     or_cases (bytes_eq key k) (is_among keys key) (word ≢ key) (λ same is. h.0 (is ∙ alike key k same)) (none_of word keys h.1 key) within
 
--- what holds of each of some words
+-- P holds of each of these words
 abbrev pub Each : (List ℕ → Type 0) → List (List ℕ) → Type 0
 Each P [] = Unit {0}
 Each P (key ∷ keys) = P key × Each P keys
 
--- A word is one of some, or none of them.
+-- Where P holds of each key, and of the word if it is not among the keys, P holds of the word.
 pub by_keys : (P : List ℕ → Type 0) (keys : List (List ℕ)) (word : List ℕ) → Each P keys → (IsNoneOf word keys → P word) → P word
 by_keys P [] word each other = other tt
 by_keys P (key ∷ keys) word each other = by (bytes_eq word key) refl (by_keys P keys word each.1)
@@ -71,12 +71,12 @@ module _ {A : Type 0} where
   is_none None = true
   is_none (Some x) = false
 
-  -- of all but these, the table says nothing of these operands
+  -- each entry of the table whose word is not among these gives None for these operands
   abbrev pub says_nothing : List (List ℕ) → List (List ℕ × (List (List ℕ) → Option A)) → List (List ℕ) → Bool
   says_nothing keys table operands =
       list_all (λ (entry : List ℕ × (List (List ℕ) → Option A)). is_among keys entry.0 || is_none (entry.1 operands)) table
 
-  -- Of a word that is none of these nothing is said.
+  -- Then the table gives None for a word that is not among these.
   pub nothing_said : (word : List ℕ) (keys : List (List ℕ)) (table : List (List ℕ × (List (List ℕ) → Option A))) (operands : List (List ℕ))
       → IsNoneOf word keys → IsTrue (says_nothing keys table operands) → by_word word table operands ≡ None
   nothing_said word keys [] operands h k = refl

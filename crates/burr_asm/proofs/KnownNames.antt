@@ -37,7 +37,7 @@ not_either : (t s : Bool) → (t || s) ≡ false → (t ≡ false) × (s ≡ fal
 not_either true s h = absurd (true≢false h)
 not_either false s h = (refl, h)
 
--- the last name has the number of those before it, where it is none of them
+-- a last name that is not among those before it has their count as its number
 pub number_last : (names : List (List ℕ)) (new : List ℕ) → is_known names new ≡ false → (name : List ℕ) → number_if_known (names ++ new ∷ []) name ≡ cond (bytes_eq new name) (Some (length names)) (number_if_known names name)
 number_last [] new unknown name = by (bytes_eq new name)
   where

@@ -264,7 +264,7 @@ module _ {A B : Type 0} (f : A → B) where
   three_mapped is_so is_also is_last line [] = refl
   three_mapped is_so is_also is_last line (word ∷ words) = two_mapped is_also is_last (line word) (if is_so word then words else [])
 
--- Words of which the first was cut off: it is so, and others follow.
+-- The first of some words was cut off: the test holds of it, and other words follow.
 record IsCut (is_so : List ℕ → Bool) (words : List (List ℕ)) (word : List ℕ) (rest : List (List ℕ)) : Type 0 where
   next : List ℕ
   more : List (List ℕ)

@@ -55,7 +55,7 @@ none_used : (slots : List SlotWords) (ks : List ℕ) → list_all is_none (map (
 none_used [] ks = none_at_first ks
 none_used (t ∷ slots) ks = one_used t slots ks ∙ ap (λ (w : Bool). not (is_one_of (natural_in t.slot) ks) && w) (none_used slots ks)
 
--- a number below eight is none of those from n on
+-- the number is not among the slots' numbers from n on; of the numbers below eight, those below n are such
 abbrev is_before : ℕ → ℕ → Bool
 is_before n m = not (is_one_of m (drop n slot_numbers))
 

@@ -19,7 +19,7 @@ use Rattle.burr_asm.proofs.FrontBlocks.{size_both}
 use Rattle.burr_asm.proofs.StageLabels.{size_more}
 use Rattle.burr_asm.proofs.PartLines.{if_taken, and_on, walk}
 
--- Lines of which each is a part.
+-- Each of the lines is one of the parts, in their order.
 data Walks : Cursor → List Line → List PlanPart → Cursor → Type 0 where
   ends : {k : Cursor} → Walks k [] [] k
   goes : {k next last : Cursor} {line : Line} {lines : List Line} {part : PlanPart} {parts : List PlanPart}

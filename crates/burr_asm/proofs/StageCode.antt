@@ -15,7 +15,7 @@ use Rattle.burr_asm.specs.declared.fault.AsmFault.{AsmFault}
 use Rattle.burr_asm.specs.declared.fault.AsmFault.TheVariants as fault
 use Rattle.burr_asm.specs.declared.text.statement.Statement.{Statement as CodedStatement}
 use Rattle.burr_asm.specs.declared.text.stage.Stage.TheVariants.{AwaitsLabel, AwaitsFrame, InCode}
-use Rattle.burr_asm.specs.declared.text.code_line.CodeLine.{CodeLine as CodeWords}
+use Rattle.burr_asm.specs.declared.text.code.CodeLine.{CodeLine as CodeWords}
 use Rattle.burr_asm.specs.declared.text.line.LineForm.{LineForm}
 use Rattle.burr_asm.specs.declared.text.line.LineForm.TheVariants as form
 use Rattle.burr_asm.specs.Views.CodeParts.{with_statement}

@@ -51,7 +51,7 @@ pub size_longer : (blocks : List Block) (b : Block) (s : CodedStatement) (w : St
 size_longer blocks b s w size e is =
     size_with blocks b s w size e is ∙ sym (size_more blocks (with_code b w))
 
--- a block of which only the frame has been read adds nothing
+-- a block without code yet adds nothing to the size
 pub size_bare : (blocks : List Block) (label : List ℕ) (f : FrameSource)
     → code_size (block_code blocks) ≡ code_size (block_code (blocks ++ bare_block label f ∷ []))
 size_bare blocks label f =

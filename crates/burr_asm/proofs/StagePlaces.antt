@@ -12,7 +12,7 @@ use Rattle.burr_asm.specs.Views.Beginnings.{code_lines, lines_of, AreCoded}
 
 -- Lines of code among lines
 
--- the lines of code of two stretches, of which the second begins at the place `next`
+-- the lines of code of two stretches; the second begins at the place `next`
 pub code_lines-append : (number : ℕ → ℕ) (place next : ℕ) (xs ys : List Line)
     → next ≡ place + length xs
     → code_lines number place (xs ++ ys) ≡ code_lines number place xs ++ code_lines number next ys
@@ -84,7 +84,7 @@ begun_lacks h exit number place =
 
 -- Blocks
 
--- the block of a label of which only the frame has been read
+-- the block of a label whose frame has been read, but no code yet
 abbrev pub bare_block : List ℕ → FrameSource → Block
 bare_block label f = record { label = label; frame = f; code = [] }
 
@@ -222,7 +222,7 @@ coded_longer number start place h exit blocks b code n s w next line are is =
     subst (λ (t : List (ℕ × Statement)). AreCoded (code ++ (n, s) ∷ []) t) (sym lines)
     (coded_next code (code_lines number start front) n s w are is)
 
--- a block of which only the frame has been read adds no code
+-- a block without code yet adds no lines of code
 pub coded_bare : (number : ℕ → ℕ) (start : ℕ) (h : ProcedureWords) (exit : Option ExitSource)
     (blocks : List Block) (label : List ℕ) (f : FrameSource) (code : List (ℕ × CodedStatement))
     → AreCoded code (code_lines number start (lines_of h exit blocks))

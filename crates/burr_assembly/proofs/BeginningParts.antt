@@ -29,7 +29,7 @@ pub record IsDrawn (title : List ℕ) (shapes : List Drawing) (d : Drawing) (beg
   pub new : ¬ IsShapeName shapes d.name
   pub rows : AreRows d.layers (begun_rows begun)
 
--- finished shapes, and after them the pieces, no two of which share a cell
+-- finished shapes, and after them the pieces; no two pieces share a cell
 pub record ArePieces (name : List ℕ) (shapes : List Drawing) (pieces : List Piece) : Type 0 where
   pub before : AreShapes name shapes
   pub shape : 1 ≤ length shapes

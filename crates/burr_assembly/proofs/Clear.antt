@@ -21,7 +21,7 @@ IsClear b = b ≢ 10
 abbrev pub IsInk : ℕ → Type 0
 IsInk b = (33 ≤ b) × (b ≤ 126)
 
--- bytes of which none ends a line hold no end of a line
+-- where no byte ends a line, the bytes have no end of a line
 unended : (bytes : List ℕ) → All IsClear bytes → IsUnended bytes
 unended bytes clear has = All-contains IsClear bytes 10 clear has refl
 

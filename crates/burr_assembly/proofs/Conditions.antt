@@ -84,7 +84,7 @@ as_from_shares shapes p q h = take h.0 h.1 h.2 h.3 h.4
 pub decide_shares : (shapes : List Drawing) (p q : Piece) → Decided (Shares shapes p q)
 decide_shares shapes p q = decided_like (shares_from_as shapes p q) (as_from_shares shapes p q) (decide_shares_as shapes p q)
 
--- the earliest of the pieces that shares a cell with this one, or there is none
+-- the earliest of the pieces that shares a cell with this one, or no piece does
 pub decide_first_sharing : (shapes : List Drawing) (pieces : List Piece) (p : Piece) → Decided ((q : ℕ) × IsFirstSharing shapes pieces p q)
 decide_first_sharing shapes pieces p = from (decide_first_below (λ q. Shares shapes (slice_index_or pieces q p) p) (λ q. decide_shares shapes (slice_index_or pieces q p) p) (length pieces))
   where

@@ -19,7 +19,7 @@ use std::marker::Model;
 /// The fewest pieces of an assembly.
 pub const FEWEST_PIECES: usize = 2;
 
-/// An assembly: a name, 1 to 32 shapes, and 2 to 32 pieces that are made of them, of which no two
+/// An assembly: a name, 1 to 32 shapes, and 2 to 32 pieces that have these shapes. No two pieces
 /// share a cell. Pieces are numbered from 0 in their order.
 #[derive(Debug, Drop)]
 pub struct Assembly {

@@ -63,7 +63,7 @@ fn add_code(alloc: Global, code: &[u8], found: &mut String) -> Result<(), AllocE
     found.push_str(end_of_code(code, at))
 }
 
-/// Adds the instruction at a position, and gives its size; 0 where there is none.
+/// Adds the instruction at a position, and gives its size; 0 where no instruction stands there.
 fn add_instr(
     alloc: Global,
     code: &[u8],

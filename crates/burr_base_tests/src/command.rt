@@ -78,6 +78,7 @@ fn job_name(job: &Job<'_>) -> &'static str {
         Job::List { places, .. } => { if *places { "list --places" } else { "list" } }
         Job::Upgrade { .. } => "upgrade",
         Job::Check { .. } => "check",
+        Job::Judge => "judge",
         Job::Run { .. } => "run",
         Job::Try { .. } => "try",
         Job::Step { .. } => "step",
@@ -113,7 +114,7 @@ fn job_files<'a>(job: &Job<'a>) -> [&'a str; 3] {
             sheet,
             out,
         } => [assembly, sheet, out],
-        Job::Explain { .. } => ["", "", ""],
+        Job::Judge | Job::Explain { .. } => ["", "", ""],
     }
 }
 
@@ -148,6 +149,7 @@ burr --help;burr -h;burr -h run;burr -hV;burr help
 >  list     Prints the plan text of a container
 >  upgrade  Makes the container of version 2 of a plan
 >  check    Says whether a plan is accepted
+>  judge    Says whether plans are accepted, pair by pair
 >  run      Runs a plan that is accepted
 >  try      Runs a plan on the bench, without accepting it
 >  step     Goes through a plan that is accepted, step by step
@@ -193,7 +195,7 @@ burr --help;burr -h;burr -h run;burr -hV;burr help
 >  4  out of memory
 >  5  the run waits for an answer
 $burr --version;burr -V;burr -Vh run
->burr 0.1.0
+>burr 1.0.0 (rattle-kit-13f logic dac8208d650f15bf)
 ";
 
 /// What is said of each command.
@@ -283,6 +285,24 @@ $burr check --help
 >fails is named, as `refused V28 proc 0 pc 0`, with status 1.
 >
 >Example: ./burr check examples/cup.assembly /tmp/cup.bpln
+$burr judge --help;burr judge -h;burr help judge
+>Says whether plans are accepted, pair by pair
+>
+>Usage: burr judge
+>
+>Options:
+>  -h, --help  Print help
+>
+>Pairs of files are read from standard input, one a line: an assembly text and a
+>plan, a container or a plan text, with a tab between them. Each is judged as by
+>`asm` and `check`, and answered before the next line is read: by its number, the
+>status, and what would be printed, as `1 0 accepted cost 14 budget 14 looks 6`
+>or `2 1 refused P2 line 9`. A file that can't be read is `3 3 cannot read`, and
+>a line that is no such pair `4 1 refused pair`. No name is printed.
+>
+>The status is the greatest of those of the lines: 0 where all are accepted.
+>
+>Example: printf 'examples/cup.assembly\\texamples/cup.plan\\n' | ./burr judge
 $burr run --help;burr run -h;burr help run
 >Runs a plan that is accepted
 >
@@ -470,7 +490,7 @@ $burr explain --help;burr explain -h;burr help explain
 >
 >LINE is a word or a whole line that burr printed, in any case: A1 to A8, C1 to
 >C6, P1 to P5, V1 to V28, S1 to S4, `input`, `answers`, `command`, `sheet`,
->`frame`, a trap by its number or name, or `waiting`, `stopped`, `apart`,
+>`frame`, `pair`, a trap by its number or name, or `waiting`, `stopped`, `apart`,
 >`levels`, `accepted`, `after` and the lines of moves. docs/FAULTS.md has all of
 >them.
 >
@@ -574,6 +594,18 @@ $burr check assembly plan 2
 !Usage: burr check <ASSEMBLY> <PLAN>
 !
 !For more information, try '--help'.
+$burr judge list
+!error: unexpected argument 'list' found
+!
+!Usage: burr judge
+!
+!For more information, try '--help'.
+$burr judge -x
+!error: unexpected argument '-x' found
+!
+!Usage: burr judge
+!
+!For more information, try '--help'.
 $burr explain
 !error: the following required arguments were not provided:
 !  <LINE>...
@@ -608,6 +640,8 @@ $burr upgrade a b
 =upgrade a b
 $burr check a -dash
 =check a -dash
+$burr judge;burr judge --
+=judge
 $burr run a b
 =run a b
 $burr try a b

@@ -33,7 +33,7 @@ enum Want {
 use Want::{After, Anywhere, Byte, Bytes, Field, Front, Lines};
 
 /// The kind of an answer and what the input is made of; how many bytes are taken out from each
-/// place on, the bytes of which one is put in there, if there are any; and what is wanted then.
+/// place on; bytes that are put in there, one at a time, or none; and what is wanted then.
 type Damage<'a> = (&'static str, &'static str, usize, &'a [u8], Want);
 
 /// All that stands after a place.

@@ -15,6 +15,7 @@ answers=refused answers
 refused answers line 2=refused answers
 refused sheet line 3=refused sheet
 refused frame line 12=refused frame
+refused pair=refused pair
 a4=refused A4
 A4 in any words=refused A4
 REFUSED v15=refused V15
@@ -230,12 +231,12 @@ fn explains_nothing_else(rt: HostRuntime) {
     assert_headings(&rt, rt.alloc(), UNKNOWN);
 }
 
-/// What is written for an orientation that is none.
+/// What is written for an orientation that is not one of the 24 turns.
 const ORIENTATION: &str = "\
 refused A4
 
-The orientation is none of the 24 turns. It says where the shape's x, y and z
-axes point, as `+x+y+z` or `-y+x+z`. Mirrors are none of them.
+The orientation is not one of the 24 turns. It says where the shape's x, y and
+z axes point, as `+x+y+z` or `-y+x+z`. Mirrors are not among them.
 
 Usual cause: one sign turned round alone, a mirror; or an axis named twice.
 

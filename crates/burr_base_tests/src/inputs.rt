@@ -1,8 +1,8 @@
 //! How inputs and wanted answers are written. In them `/` is the end of a line, and `<3 ab%>` is
-//! `ab1ab2ab3`: what stands there is repeated, and `%` is the number of the repetition. What an
-//! input is made of is a text with an `@`, in whose place the input is put, or a text without one,
-//! of which the input edits lines: `4 cost 7|9 halt` puts `cost 7` in the place of the fourth line
-//! and `halt` in that of the ninth.
+//! `ab1ab2ab3`: what stands there is repeated, and `%` is the number of the repetition. An
+//! input is put into a text, in place of its `@`. Where the text has no `@`, the input edits lines
+//! of the text: `4 cost 7|9 halt` puts `cost 7` in the place of the fourth line and `halt` in that
+//! of the ninth.
 use burr_testing::bytes_of;
 use std::alloc::{AllocError, Global};
 

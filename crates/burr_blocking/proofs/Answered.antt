@@ -8,8 +8,8 @@ use Rattle.burr_voxels.specs.Grid.{minus, along, origin}
 use Rattle.burr_assembly.specs.Rules.Text.{Assembly}
 use Rattle.burr_assembly.specs.Rules.Homes.{home_at, home_of, homes_of}
 use Rattle.burr_blocking.specs.declared.triangle.translate.Translate.{Translate}
-use Rattle.burr_blocking.specs.declared.triangle.classes.Classes.{Classes}
-use Rattle.burr_blocking.specs.declared.triangle.class_pairs.ClassPairs.{ClassPairs}
+use Rattle.burr_blocking.specs.declared.triangle.Classes.{Classes}
+use Rattle.burr_blocking.specs.declared.triangle.ClassPairs.{ClassPairs}
 use Rattle.burr_blocking.specs.Rules.Pairs.{IsBlocked, IsFreeFrom}
 use Rattle.burr_blocking.specs.Views.Classes.{AreClasses, IsOfClass}
 use Rattle.burr_blocking.specs.Views.Overlaps.{HasNoneAhead}

@@ -10,7 +10,7 @@ use Rattle.burr_voxels.specs.declared.cell.Cell.{Cell}
 use Rattle.burr_voxels.specs.Grid.{origin, shifted}
 use Rattle.burr_assembly.specs.Rules.Homes.{home_at}
 use Rattle.burr_blocking.specs.declared.triangle.translate.Translate.{Translate}
-use Rattle.burr_blocking.specs.declared.triangle.classes.Classes.{Classes}
+use Rattle.burr_blocking.specs.declared.triangle.Classes.{Classes}
 use Rattle.burr_blocking.specs.Views.Classes.{AreFirstClasses, HasSeveral, IsAnother, IsIn, IsOfClass, IsPairCount}
 use Rattle.burr_blocking.specs.Views.Translates.{IsTranslate, representative_at}
 use Rattle.burr_blocking.proofs.Translated.{translate_of_itself}

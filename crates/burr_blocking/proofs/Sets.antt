@@ -114,7 +114,7 @@ minus_x_clear e rows from row end r short is at_row told = (
 same_x : (from : Cell) (direction : Direction) (k : ℤ) → (along direction k).x ≡ pos 0 → (plus from (along direction k)).x ≡ from.x
 same_x from direction k none = ap (λ (t : ℤ). from.x +ℤ t) none ∙ flat from.x
 
--- no displacement ahead is of the box where x is none of it
+-- where x lies outside the box, no displacement ahead is in the set
 pub across_outside : (e : Extent) (rows : List ℕ) (from : Cell) (direction : Direction) → ((k : ℤ) → (along direction k).x ≡ pos 0) → ¬ ((e.least.x ≤ℤ from.x) × (from.x ≤ℤ e.greatest.x)) → HasNoneAhead (IsSet e rows) from direction
 across_outside e rows from direction across out k least set =
     let same = same_x from direction (pos k) (across (pos k)) in

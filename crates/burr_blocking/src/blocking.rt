@@ -4,7 +4,6 @@ ghost use Rattle.burr_assembly.specs.Rules.Text.{Assembly as AssemblyOf};
 ghost use Rattle.burr_assembly.specs.Rules.Homes.{homes_of, home_at};
 ghost use Rattle.burr_blocking.specs.Rules.Pairs.{IsBlocked, IsFreeFrom, Clears};
 
-use crate::query::Query;
 use burr_assembly::Assembly;
 use burr_voxels::{Cell, Direction};
 
@@ -55,4 +54,16 @@ pub trait Blocking {
             Query::Exit(direction) => self.free(piece, other, displacement, direction),
         }
     }
+}
+
+/// A question about two pieces of an assembly, one displaced from home against the other at home:
+/// whether the first keeps clear of the second, where it is displaced to or all the way out from
+/// there.
+#[derive(Clone, Copy, Debug, PartialEq, Eq)]
+pub enum Query {
+    /// It does not overlap the other where it is displaced to.
+    Overlap,
+    /// It goes out along the direction: shifted from there any whole number of units, at least one,
+    /// it never overlaps the other.
+    Exit(Direction),
 }

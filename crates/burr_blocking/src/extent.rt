@@ -22,8 +22,8 @@ pub struct Extent {
 impl Extent {
     ghost use Rattle.burr_blocking.specs.Views.Boxes.{IsInBox, IsInRows, wide_of, deep_of, high_of, size_of, row_count_of, place_of, row_of, column_of};
 
-    /// The least box round cells of which no two lie farther than 15 apart, a coordinate; round no
-    /// cells, the origin's.
+    /// The least box round cells; no two of them differ by more than 15 in any coordinate. Where
+    /// there are no cells, it is the box of the origin alone.
     pub fn around(cells: &[Cell]) -> Extent
         requires near { All (IsWithin 79) cells.now }
         requires small { DiameterAtMost 15 cells.now }
@@ -205,7 +205,8 @@ impl Extent {
     }
 
     /// The first and the last number of units, at least 1, that can take a displacement into the
-    /// box along a direction; where there is none, both are 1.
+    /// box along a direction, as far as the coordinate on that axis tells. Both are 1 where there
+    /// is no such number.
     pub fn units_ahead(self, from: Cell, direction: Direction) -> (u16, u16)
         requires { IsWithin 828 from }
         ensures first { 1 ≤ result.0 }
@@ -245,7 +246,7 @@ fn at_least_one(units: i32) -> u16
     units.max(1) as u16
 }
 
-/// The first of the cells; the origin where there is none.
+/// The first of the cells; the origin where there are no cells.
 pub fn first_of(cells: &[Cell]) -> Cell
     requires { All (IsWithin 79) cells.now }
     ensures value { result ≡ slice_index_or cells.now 0 origin }

@@ -4,8 +4,7 @@ ghost use Rattle.burr_assembly.specs.Rules.Homes.{homes_of, home_at};
 ghost use Rattle.burr_blocking.specs.Rules.Pairs.{IsBlocked, IsFreeFrom, Clears};
 ghost use Rattle.burr_blocking.specs.Rules.Counted.{counted, with_more};
 
-use crate::blocking::Blocking;
-use crate::query::Query;
+use crate::blocking::{Blocking, Query};
 use burr_assembly::Assembly;
 use burr_voxels::{Cell, Direction};
 use std::marker::Model;

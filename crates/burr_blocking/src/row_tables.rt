@@ -1,15 +1,23 @@
-ghost use Rattle.std.specs.Prelude.{◌≡◌, IfOk};
-
-mod bits;
-mod pair_rows;
+ghost use Rattle.std.specs.Prelude.{◌≡◌, IfOk, ◌↔◌, ◌<◌, ◌≤ℤ◌, ◌+ℤ◌, ◌+◌, ◌≤◌, ◌⊎◌, ℕ, pos, length, slice_index_or, IsTrue, ℤ, vec_len};
+ghost use Rattle.std.specs.Simd.Lanes.{zip2};
+ghost use Rattle.std.specs.List.{All};
+ghost use Rattle.burr_voxels.specs.declared.direction.Direction.TheVariants.{PlusX, MinusX};
+ghost use Rattle.burr_voxels.specs.Grid.{along, minus, plus};
+ghost use Rattle.burr_voxels.specs.Near.{IsWithin};
+ghost use Rattle.burr_blocking.specs.Views.Bits.{AreNext, IsNext, HasBit, SetsBit, or_both, joined_from};
+ghost use Rattle.burr_blocking.specs.Views.Boxes.{IsInBox, row_of, column_of, row_count_of};
+ghost use Rattle.burr_blocking.specs.Views.Overlaps.{HasNoneAhead};
+ghost use Rattle.burr_blocking.specs.Views.PairBits.{AreBitsFrom, AreShort, HasBitIn, IsInRowOf, IsSet};
 
 use crate::blocking::Blocking;
+use crate::cell_tables::PairAnswers;
+use crate::extent::Extent;
 use crate::triangle::Triangle;
 use burr_assembly::Assembly;
 use burr_voxels::{Cell, Direction};
-use pair_rows::PairRows;
 use std::alloc::{AllocError, Global};
 use std::marker::Model;
+use std::simd::prelude::*;
 
 /// The queries of pieces, answered by rows of bits: for each two pieces one bit for each
 /// displacement at which they may overlap, 31 to a row. Pieces whose cells differ by a displacement
@@ -53,4 +61,326 @@ impl<'a> Blocking for RowTables<'a> {
     fn free(&self, piece: u8, other: u8, displacement: Cell, direction: Direction) -> bool {
         self.tables.free(piece, other, displacement, direction)
     }
+}
+
+/// Whether a bit of a row is set.
+fn has_bit(row: u32, column: u32) -> bool
+    requires { column < 32 }
+    ensures { IsTrue result ↔ HasBit row column }
+{
+    (row >> column) & 1 == 1
+}
+
+/// Whether no bit of a row is set.
+fn is_clear(row: u32) -> bool
+    ensures { IsTrue result ↔ ((k : ℕ) → ¬ HasBit row k) }
+{
+    row == 0
+}
+
+/// A column as a number without a sign.
+fn as_number(column: i32) -> u32
+    requires { pos 0 ≤ℤ column }
+    ensures { pos result ≡ column }
+{
+    column as u32
+}
+
+/// Whether no bit of a row is set from a column on.
+fn is_clear_from(row: u32, column: i32) -> bool
+    ensures { IsTrue result ↔ ((k : ℕ) → column ≤ℤ pos k → ¬ HasBit row k) }
+{
+    if column <= 0 {
+        return is_clear(row);
+    }
+    if column >= 32 {
+        return true;
+    }
+    is_clear(row >> as_number(column))
+}
+
+/// Whether no bit of a row is set before a column.
+fn is_clear_before(row: u32, column: i32) -> bool
+    ensures { IsTrue result ↔ ((k : ℕ) → (pos k +ℤ pos 1) ≤ℤ column → ¬ HasBit row k) }
+{
+    if column <= 0 {
+        return true;
+    }
+    if column >= 32 {
+        return is_clear(row);
+    }
+    is_clear(row << (32 - as_number(column)))
+}
+
+/// Sets a bit of a row.
+fn set_bit(rows: &mut [u32], row: usize, column: u32)
+    requires row { row < length rows.old }
+    requires column { column < 32 }
+    ensures { SetsBit rows.old rows.new row column }
+{
+    rows[row] |= 1 << column;
+}
+
+/// Joins the rows from a first one on with others twice, shifted by `columns` columns and shifted
+/// by `further` columns, one row at a time.
+fn join_each(rows: &mut [u32], first: usize, others: &[u32], columns: u32, further: u32)
+    requires fits { first + length others.now ≤ length rows.old }
+    requires columns { columns < 32 }
+    requires further { further < 32 }
+    ensures { rows.new ≡ joined_from (or_both columns further) first rows.old others.now }
+{
+    for i in 0..others.len() {
+        rows[first + i] = rows[first + i] | (others[i] << columns) | (others[i] << further);
+    }
+}
+
+/// Eight rows joined with eight others twice, shifted by `columns` columns and shifted by `further`
+/// columns.
+fn join_eight(rows: u32x8, others: u32x8, columns: u32, further: u32) -> u32x8
+    requires columns { columns < 32 }
+    requires further { further < 32 }
+    requires width { length rows ≡ 8 }
+    requires others_width { length others ≡ 8 }
+    ensures { result ≡ zip2 (or_both columns further) rows others }
+{
+    rows | (others << u32x8::splat(columns)) | (others << u32x8::splat(further))
+}
+
+/// The number of the first row from one on that is not empty, and of the end where all are. A row
+/// that is not empty itself is not looked up, so that the next eight rows wait for no answer.
+fn following(rows: &[u32], next: &[usize], number: usize) -> usize
+    requires inside { number ≤ length rows.now }
+    requires count { length next.now ≡ length rows.now + 1 }
+    requires next { AreNext rows.now next.now }
+    ensures { IsNext rows.now number result }
+{
+    if number < rows.len() && rows[number] != 0 {
+        return number;
+    }
+    next[number]
+}
+
+/// Joins the rows from a first one on with others twice, shifted by `columns` columns and shifted
+/// by `further` columns: what `join_each` gives, but eight rows at a time, each time from the next
+/// row on that is not empty, which `next` tells.
+fn join(rows: &mut [u32], first: usize, others: &[u32], next: &[usize], columns: u32, further: u32)
+    requires fits { first + length others.now ≤ length rows.old }
+    requires columns { columns < 32 }
+    requires further { further < 32 }
+    requires count { length next.now ≡ length others.now + 1 }
+    requires next { AreNext others.now next.now }
+    ensures { rows.new ≡ joined_from (or_both columns further) first rows.old others.now }
+{
+    let count = others.len();
+    let mut i = next[0];
+    while count - i >= 8 {
+        let joined = join_eight(
+            u32x8::from_slice(&rows[first + i..]),
+            u32x8::from_slice(&others[i..]),
+            columns,
+            further,
+        );
+        joined.copy_to_slice(&mut rows[first + i..]);
+        i = following(others, next, i + 8);
+    }
+    join_each(rows, first + i, &others[i..], columns, further);
+}
+
+/// A row's number where the row is not empty, else the number of a later one.
+fn nearer(row: u32, number: usize, later: usize) -> usize
+    ensures { (result ≡ number) ⊎ ((row ≡ 0) × (result ≡ later)) }
+{
+    if row == 0 { later } else { number }
+}
+
+/// For each row, and for the end of the rows, the first from there on that is not empty.
+fn find_next(next: &mut [usize], rows: &[u32])
+    requires count { length next.old ≡ length rows.now + 1 }
+    requires end { slice_index_or next.old (length rows.now) 0 ≡ length rows.now }
+    ensures { AreNext rows.now next.new }
+{
+    let count = rows.len();
+    let mut later = count;
+    let mut i = count;
+    while i > 0 {
+        i -= 1;
+        later = nearer(rows[i], i, later);
+        next[i] = later;
+    }
+}
+
+/// For each displacement of a box whether one piece, so displaced against another one at home,
+/// overlaps it, a bit each in a row along x; the box holds all displacements at which it does.
+#[derive(Debug, Drop)]
+pub struct PairRows {
+    extent: Extent,
+    rows: Vec<u32>,
+    ghost whole: { vec_len rows ≡ row_count_of extent },
+    ghost short: { AreShort extent rows.items },
+}
+
+impl PairAnswers for PairRows {
+    ghost Overlaps = { λ p. IsSet p.extent p.rows.items };
+
+    fn build(alloc: Global, cells: &[Cell], others: &[Cell]) -> Result<PairRows, AllocError> {
+        let hull = Extent::around(cells);
+        let other_hull = Extent::around(others);
+        let extent = hull.displacements_to(other_hull);
+        // the displacement from a cell to another one is a sum of two: from the cell to the other
+        // hull's least corner, and from this hull's greatest corner to the other cell
+        let last = extent.row(other_hull.greatest - hull.greatest);
+        let other_rows = rows_from(alloc, extent, hull.greatest, last + 1, others)?;
+        let next = next_rows(alloc, &other_rows)?;
+        let mut rows = Vec::from_elem(alloc, 0u32, extent.row_count())?;
+        let mut i = 0;
+        while i < cells.len() {
+            let also = last_in_row(cells, i);
+            let low = other_hull.least - cells[i];
+            let further = other_hull.least - cells[also];
+            join(
+                &mut rows,
+                extent.row(low),
+                &other_rows,
+                &next,
+                extent.column(low),
+                extent.column(further),
+            );
+            i = also + 1;
+        }
+        Ok(PairRows { extent, rows })
+    }
+
+    fn blocked(&self, displacement: Cell) -> bool {
+        self.extent.contains(displacement)
+            && has_bit(
+                self.rows[self.extent.row(displacement)],
+                self.extent.column(displacement),
+            )
+    }
+
+    fn free(&self, displacement: Cell, direction: Direction) -> bool {
+        match direction {
+            Direction::PlusX => self.is_clear_plus_x(displacement),
+            Direction::MinusX => self.is_clear_minus_x(displacement),
+            Direction::PlusY => self.is_clear_across(displacement, Direction::PlusY),
+            Direction::MinusY => self.is_clear_across(displacement, Direction::MinusY),
+            Direction::PlusZ => self.is_clear_across(displacement, Direction::PlusZ),
+            Direction::MinusZ => self.is_clear_across(displacement, Direction::MinusZ),
+        }
+    }
+}
+
+impl PairRows {
+    /// The row in which a displacement lies, before, in or after the box; an empty one where it
+    /// lies in none.
+    fn row_at(&self, displacement: Cell) -> u32
+        ensures { (k : ℕ) → HasBit result k
+            ↔ HasBitIn self.now.extent self.now.rows.items displacement k }
+    {
+        if self.extent.reaches_row(displacement) {
+            self.rows[self.extent.row(displacement)]
+        } else {
+            0
+        }
+    }
+
+    /// What `free` answers along +x.
+    fn is_clear_plus_x(&self, from: Cell) -> bool
+        requires { IsWithin 828 from }
+        ensures { IsTrue result
+            ↔ HasNoneAhead (IsSet self.now.extent self.now.rows.items) from PlusX }
+    {
+        let next = self.extent.signed_column(from) + 1;
+        is_clear_from(self.row_at(from), next)
+    }
+
+    /// What `free` answers along -x.
+    fn is_clear_minus_x(&self, from: Cell) -> bool
+        requires { IsWithin 828 from }
+        ensures { IsTrue result
+            ↔ HasNoneAhead (IsSet self.now.extent self.now.rows.items) from MinusX }
+    {
+        is_clear_before(self.row_at(from), self.extent.signed_column(from))
+    }
+
+    /// What `free` answers along a direction in which x stays.
+    fn is_clear_across(&self, from: Cell, direction: Direction) -> bool
+        requires near { IsWithin 828 from }
+        requires across { (k : ℤ) → (along direction k).x ≡ pos 0 }
+        ensures { IsTrue result
+            ↔ HasNoneAhead (IsSet self.now.extent self.now.rows.items) from direction }
+    {
+        if self.extent.reaches_x(from) {
+            !has_bit(self.rows_ahead(from, direction), self.extent.column(from))
+        } else {
+            true
+        }
+    }
+
+    /// The rows joined in which the displacements lie that are any number of units, at least one,
+    /// ahead along a direction.
+    fn rows_ahead(&self, from: Cell, direction: Direction) -> u32
+        requires { IsWithin 828 from }
+        ensures has { (n : ℕ) → HasBit result n → (k : ℕ) × (1 ≤ k)
+            × HasBitIn self.now.extent self.now.rows.items (plus from (along direction (pos k))) n }
+        ensures all { (n k : ℕ) → 1 ≤ k → IsSet self.now.extent self.now.rows.items
+            (plus from (along direction (pos k))) → n ≡ column_of self.now.extent
+            (plus from (along direction (pos k))) → HasBit result n }
+    {
+        let (first, last) = self.extent.units_ahead(from, direction);
+        let mut ahead = 0;
+        for units in first..=last {
+            ahead |= self.row_at(from + direction.along(i32::from(units)));
+        }
+        ahead
+    }
+}
+
+/// The first `count` rows of a box, with a bit set for each displacement from a corner to a cell.
+fn rows_from(
+    alloc: Global,
+    extent: Extent,
+    corner: Cell,
+    count: usize,
+    cells: &[Cell],
+) -> Result<Vec<u32>, AllocError>
+    requires corner { IsWithin 79 corner }
+    requires near { All (IsWithin 79) cells.now }
+    requires inside { All (λ to. IsInBox extent (minus to corner)) cells.now }
+    requires rows { All (λ to. row_of extent (minus to corner) < count) cells.now }
+    ensures { IfOk result (λ v. (vec_len v ≡ count) × AreBitsFrom extent v.items corner cells.now) }
+{
+    let mut rows = Vec::from_elem(alloc, 0u32, count)?;
+    for cell in cells {
+        let way = *cell - corner;
+        set_bit(&mut rows, extent.row(way), extent.column(way));
+    }
+    Ok(rows)
+}
+
+/// The number of the next cell where that one has the y and the z of this one, else of this one:
+/// the two are joined at once.
+fn last_in_row(cells: &[Cell], i: usize) -> usize
+    requires { i < length cells.now }
+    ensures { IsInRowOf cells.now i result }
+{
+    let next = i + 1;
+    if next >= cells.len() {
+        return i;
+    }
+    if cells[next].y != cells[i].y || cells[next].z != cells[i].z {
+        return i;
+    }
+    next
+}
+
+/// For each row, and for the end of the rows, the first from there on that is not empty.
+fn next_rows(alloc: Global, rows: &[u32]) -> Result<Vec<usize>, AllocError>
+    requires { length rows.now ≤ 961 }
+    ensures { IfOk result (λ v. (vec_len v ≡ length rows.now + 1) × AreNext rows.now v.items) }
+{
+    let count = rows.len();
+    let mut next = Vec::from_elem(alloc, count, count + 1)?;
+    find_next(&mut next, rows);
+    Ok(next)
 }

@@ -1,3 +1,4 @@
+pub mod Checked
 pub mod Conditions
 pub mod Counts
 pub mod Labels

@@ -1,17 +1,11 @@
-mod control;
-mod numbers;
 mod operands;
-mod questions;
-mod space;
 
-ghost use Rattle.std.specs.Prelude.{◌≤◌, ◌+◌, length, IfSome, MatchOption};
+ghost use Rattle.std.specs.Prelude.{◌≤◌, ◌+◌, length, IfSome, MatchOption, ◌∷◌};
 ghost use Rattle.burr_code.specs.Meaning.{IsDecoded, IsFoundAt, NoneStandsAt};
 
-use crate::fetching::control::{call, down, jump};
-use crate::fetching::numbers::{load, push, store};
-use crate::fetching::questions::{ask, pick};
-use crate::fetching::space::{aside, grip, step, tray};
+use crate::fetching::operands::{label, number, slot};
 use crate::instr::Instr;
+use crate::labels::Labels;
 
 /// The instruction at a position of the code, and the number of its bytes; None exactly where no
 /// instruction stands there.
@@ -49,4 +43,115 @@ fn decode(bytes: &[u8]) -> Option<Instr<'_>>
         0x25 => Some(Instr::Ret),
         _ => None,
     }
+}
+
+// The instructions of the flow of control that have operands.
+
+/// The `jump` with these operands: a label.
+fn jump(operands: &[u8]) -> Option<Instr<'_>>
+    ensures { IsDecoded (0x20 ∷ operands.now) result }
+{
+    let (label, _rest) = label(operands)?;
+    Some(Instr::Jump(label))
+}
+
+/// The `down` with these operands: a slot and a label.
+fn down(operands: &[u8]) -> Option<Instr<'_>>
+    ensures { IsDecoded (0x21 ∷ operands.now) result }
+{
+    let (slot, operands) = slot(operands)?;
+    let (label, _rest) = label(operands)?;
+    Some(Instr::Down(slot, label))
+}
+
+/// The `call` with these operands: the number of a procedure, in one byte.
+fn call(operands: &[u8]) -> Option<Instr<'_>>
+    ensures { IsDecoded (0x24 ∷ operands.now) result }
+{
+    let callee = operands.first()?;
+    Some(Instr::Call(*callee))
+}
+
+// The instructions on numbers that have operands.
+
+/// The `push` with these operands: a number.
+fn push(operands: &[u8]) -> Option<Instr<'_>>
+    ensures { IsDecoded (0x01 ∷ operands.now) result }
+{
+    let (number, _rest) = number(operands)?;
+    Some(Instr::Push(number))
+}
+
+/// The `load` with these operands: a slot.
+fn load(operands: &[u8]) -> Option<Instr<'_>>
+    ensures { IsDecoded (0x02 ∷ operands.now) result }
+{
+    let (slot, _rest) = slot(operands)?;
+    Some(Instr::Load(slot))
+}
+
+/// The `store` with these operands: a slot.
+fn store(operands: &[u8]) -> Option<Instr<'_>>
+    ensures { IsDecoded (0x03 ∷ operands.now) result }
+{
+    let (slot, _rest) = slot(operands)?;
+    Some(Instr::Store(slot))
+}
+
+// The instructions that ask.
+
+/// The `ask` with these operands: two numbers, the second no lower than the first.
+fn ask(operands: &[u8]) -> Option<Instr<'_>>
+    ensures { IsDecoded (0x22 ∷ operands.now) result }
+{
+    let (low, operands) = number(operands)?;
+    let (high, _rest) = number(operands)?;
+    if high < low {
+        return None;
+    }
+    Some(Instr::Ask(low, high))
+}
+
+/// The `pick` with these operands: how many labels there are, in one byte, and the labels.
+fn pick(operands: &[u8]) -> Option<Instr<'_>>
+    ensures { IsDecoded (0x23 ∷ operands.now) result }
+{
+    let (count, rest) = operands.split_first()?;
+    let labels = Labels::new(rest.get(..2 * usize::from(*count))?)?;
+    Some(Instr::Pick(labels))
+}
+
+// The instructions that move pieces.
+
+/// The `grip` with these operands: a set of pieces that is not empty.
+fn grip(operands: &[u8]) -> Option<Instr<'_>>
+    ensures { IsDecoded (0x10 ∷ operands.now) result }
+{
+    let (set, _rest) = operands::set(operands)?;
+    Some(Instr::Grip(set))
+}
+
+/// The `step` with these operands: a direction.
+fn step(operands: &[u8]) -> Option<Instr<'_>>
+    ensures { IsDecoded (0x11 ∷ operands.now) result }
+{
+    let (direction, _rest) = operands::direction(operands)?;
+    Some(Instr::Step(direction))
+}
+
+/// The `aside` with these operands: a direction and a tray.
+fn aside(operands: &[u8]) -> Option<Instr<'_>>
+    ensures { IsDecoded (0x12 ∷ operands.now) result }
+{
+    let (direction, operands) = operands::direction(operands)?;
+    let (tray, _rest) = operands::tray(operands)?;
+    Some(Instr::Aside(direction, tray))
+}
+
+/// The `tray` with these operands: a tray.
+fn tray(operands: &[u8]) -> Option<Instr<'_>>
+    ensures { IsDecoded (0x13 ∷ operands.now) result }
+{
+    let (tray, _rest) = operands::tray(operands)?;
+    Some(Instr::Tray(tray))
 }

@@ -1,4 +1,22 @@
 //! The instructions of a plan and their bytes, sets of pieces, and the limits of plans.
+//!
+//! # Promised
+//! - `fetch` is Some exactly where one of the seventeen instructions stands, with that instruction
+//!   and its length; else None.
+//! - `encode` gives exactly an instruction's bytes. It asks for operands in range; it takes memory,
+//!   and answers `AllocError` where that is refused.
+//! - At most one instruction begins any bytes (`instructions_are_unique`), and each is read back
+//!   from its bytes (`instructions_are_read_back`): so `fetch` finds what `encode` was given.
+//! - `Labels::new` takes exactly the bytes of 2 to 8 labels, and answers None to any other bytes.
+//!   The readers of `Labels` give these labels; `get` answers None where there is no such label.
+//! - The limits of plans and of the bench are these numbers (`the_limits_are_these`).
+//! - `is_in_set` says exactly which pieces are in a set. It asks for a piece below 32.
+//! - The readers of a `Placement` give its tray and its position, for any position. After `move_to`
+//!   a place that is not apart is in the tray.
+//! - `are_all_apart`, `is_empty_tray` and `count_in_tray` say of many places exactly what the
+//!   definition of places says.
+//! - `take_aside` does what the definition says: the group is in the other tray, and a piece that
+//!   is then alone in one of the two trays is apart. It asks for at most 32 places.
 #![tactic(auto)]
 
 mod encoding;
@@ -7,15 +25,13 @@ mod instr;
 mod labels;
 mod laws;
 pub mod limits;
-mod piece_set;
 mod placement;
-mod places;
 
 pub use encoding::encode;
 pub use fetching::fetch;
 pub use instr::Instr;
 pub use labels::Labels;
 pub use laws::{instructions_are_read_back, instructions_are_unique, the_limits_are_these};
-pub use piece_set::is_in_set;
-pub use placement::Placement;
-pub use places::{are_all_apart, count_in_tray, is_empty_tray, take_aside};
+pub use placement::{
+    Placement, are_all_apart, count_in_tray, is_empty_tray, is_in_set, take_aside,
+};

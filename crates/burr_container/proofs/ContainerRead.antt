@@ -5,7 +5,7 @@ use Rattle.std.proofs.lemmas.Bool.{and_parts, and_from, false≢true}
 use Rattle.burr_code.specs.declared.limits.TheConstants.{MOST_PROCEDURES}
 use Rattle.burr_container.specs.declared.fault.ContainerFault.TheVariants.{C4, C6}
 use Rattle.burr_container.specs.declared.reading.cursor.Cursor.{Cursor}
-use Rattle.burr_container.specs.declared.header.Header.{Header}
+use Rattle.burr_container.specs.declared.container.Header.{Header}
 use Rattle.burr_container.specs.Rules.Plans.{PlanProcedure, Plan}
 use Rattle.burr_container.specs.Rules.Spelling.{procedure_bytes, counted_bytes, front_bytes, plan_bytes}
 use Rattle.burr_container.specs.Rules.Fitting.{is_version, is_budget, is_piece_count, is_name_text, is_procedure, are_procedures, is_fitting}

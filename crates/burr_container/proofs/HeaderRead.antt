@@ -6,7 +6,7 @@ use Rattle.byteorder.specs.Endian.{big_bytes}
 use Rattle.burr_container.specs.declared.fault.ContainerFault.{ContainerFault}
 use Rattle.burr_container.specs.declared.fault.ContainerFault.TheVariants.{C2, C3, C4}
 use Rattle.burr_container.specs.declared.reading.cursor.Cursor.{Cursor}
-use Rattle.burr_container.specs.declared.header.Header.{Header}
+use Rattle.burr_container.specs.declared.container.Header.{Header}
 use Rattle.burr_container.specs.Rules.Spelling.{front_bytes}
 use Rattle.burr_container.specs.Rules.Fitting.{is_version, is_budget, is_piece_count}
 use Rattle.burr_container.specs.Rules.Faults.{Failing, number, raw, first, name, is_magic, ProceduresFail, ContainerFails}

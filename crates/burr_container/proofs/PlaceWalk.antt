@@ -106,7 +106,7 @@ few_forms most over live n bytes fits =
     let few = first_test (nat_le (length forms) most) (list_all (is_form over) forms) fits in
     omega (arith, le_of (length forms) most few, count_forms live n bytes)
 
--- places still to go over, of which number q is the answer
+-- places still to go over; the place with number q is the answer
 pub record IsWalk (live : List Bool) (k q : ℕ) (bytes : List ℕ) (answer : Option (Placement FormCell)) : Type 0 where
   pub are : IsTrue (places_stand live k bytes)
   pub answers : slice_get (map (place_over_symbols live) (places_in live k bytes)) q ≡ answer

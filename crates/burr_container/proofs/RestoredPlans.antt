@@ -2,7 +2,7 @@
 use Rattle.std.proofs.Common.{◌≡◌, ℕ, ◌<◌, Option, Some, None, length, refl, ap, ◌∙◌, arith}
 use Rattle.std.specs.Prelude.{IfSome}
 use Rattle.burr_container.specs.declared.exit_ref.ExitRef.{ExitRef}
-use Rattle.burr_container.specs.declared.stored_procedure.StoredProcedure.{StoredProcedure}
+use Rattle.burr_container.specs.declared.procedure_ref.StoredProcedure.{StoredProcedure}
 use Rattle.burr_container.specs.Rules.Plans.{ExitFrame}
 use Rattle.burr_container.specs.Views.Refs.{exit_frame_of}
 use Rattle.burr_container.specs.Views.InPlace.{IsExit}
@@ -13,7 +13,7 @@ pub has_label : (o : Option StoredProcedure) (n count : ℕ) → IfSome o (λ p.
 has_label None n count is less = tt
 has_label (Some p) n count is less = omega (arith, is, less)
 
--- without an exit frame there is none in the plan
+-- where no exit frame is stored, the plan has no exit frame
 pub no_exit : (pieces parameters results : ℕ) (exit : Option ExitFrame) → IsExit pieces parameters results None exit
     → None ≡ exit
 no_exit pieces parameters results None is = refl

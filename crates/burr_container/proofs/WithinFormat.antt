@@ -4,7 +4,7 @@ use Rattle.std.specs.List.{list_all}
 use Rattle.std.proofs.lemmas.Bool.{and_parts, leb-true, false≢true}
 use Rattle.std.proofs.lemmas.Option.{none-some, same_Some}
 use Rattle.burr_code.specs.declared.limits.TheConstants.{MOST_CODE}
-use Rattle.burr_container.specs.declared.stored_procedure.StoredProcedure.{StoredProcedure}
+use Rattle.burr_container.specs.declared.procedure_ref.StoredProcedure.{StoredProcedure}
 use Rattle.burr_container.specs.Rules.Plans.{PlanProcedure}
 use Rattle.burr_container.specs.Rules.Fitting.{are_procedures, is_procedure}
 use Rattle.burr_container.proofs.Common.Procedures.{procedure_fits}

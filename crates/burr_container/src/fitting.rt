@@ -5,12 +5,9 @@ ghost use Rattle.std.specs.List.{list_all};
 ghost use Rattle.burr_container.specs.Rules.Fitting.{is_fitting, is_version as fits_version, is_budget as fits_budget, is_piece_count as fits_piece_count, is_name_text as fits_name, are_procedures as fit_procedures, is_procedure as fits_procedure, is_exit as fits_exit, are_labels as fit_labels, are_parameters as fit_parameters, are_results as fit_results, is_code, rise_from, is_exit_frame as fits_exit_frame, is_exit_rest as fits_exit_rest, is_frame as fits_frame, is_frame_rest as fits_frame_rest, is_between, is_set_of as fits_set, is_range as fits_range, are_ranges as fit_ranges, are_forms as fit_forms, is_form as fits_form, are_coefficients, is_coefficient, are_places as fit_places, is_place as fits_place};
 ghost use Rattle.burr_container.specs.Views.OwnedPlaces.{placement_of, placements_of};
 
-use crate::frame::{ExitFrame, Frame};
 use crate::layout::Layout;
-use crate::live::{exit_symbols, live_slots};
-use crate::place::Place;
-use crate::plan::{Plan, Procedure};
-use crate::plan_form::PlanForm;
+use crate::lists::{exit_symbols, live_slots};
+use crate::plan::{ExitFrame, Frame, Place, Plan, PlanForm, Procedure};
 use burr_code::limits::{
     MOST_BUDGET, MOST_CODE, MOST_GUARDS, MOST_LABELS, MOST_OPERANDS, MOST_PARAMETERS,
     MOST_PROCEDURES, SLOTS, TRAYS,

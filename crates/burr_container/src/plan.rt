@@ -1,4 +1,3 @@
-use crate::frame::{ExitFrame, Frame};
 use std::marker::Model;
 
 /// A plan.
@@ -58,5 +57,101 @@ impl Model for Procedure {
           exit = p.exit;
           labels = p.labels.items;
           code = p.code.items;
+        } };
+}
+
+/// A form of a plan: a constant, and a coefficient for each of the eight slots, which is 0 for a
+/// slot that isn't live. In an exit frame the first symbols are the parameters, and the results
+/// follow them.
+#[derive(Clone, Copy, PartialEq, Eq)]
+pub struct PlanForm {
+    pub constant: i32,
+    pub coefs: [i16; 8],
+}
+
+impl Model for PlanForm {
+    ghost use Rattle.burr_forms.specs.Rules.Forms.{Form};
+
+    ghost Value = { Form };
+
+    ghost view = { λ f. record { constant = f.constant; coefs = f.coefs } };
+
+    ghost inverse = { λ f. record { constant = f.constant; coefs = f.coefs } };
+}
+
+/// Where a piece lies: apart from all others, or in a tray of 0 to 31, its offset given by a form
+/// for x, y and z each.
+#[derive(Clone, Copy)]
+pub enum Place {
+    Apart,
+    On(u8, PlanForm, PlanForm, PlanForm),
+}
+
+/// What holds at a label.
+#[derive(Drop)]
+pub struct Frame {
+    /// The current tray, 0 to 31.
+    pub tray: u8,
+    /// The grip: bit p is piece p.
+    pub grip: u32,
+    /// Of each slot, the lowest and the highest number that it may hold, if it is live.
+    pub slots: [Option<(i16, i16)>; 8],
+    /// At most four forms that are at least 0.
+    pub guards: Vec<PlanForm>,
+    /// At most eight operands, the bottom first.
+    pub stack: Vec<PlanForm>,
+    /// How many steps a run may still take from here in this activation.
+    pub cost: PlanForm,
+    /// Where each piece lies.
+    pub places: Vec<Place>,
+}
+
+impl Model for Frame {
+    ghost use Rattle.burr_container.specs.Rules.Plans.{Frame as FrameOf};
+    ghost use Rattle.burr_container.specs.Views.OwnedPlaces.{placements_of};
+
+    ghost Value = { FrameOf };
+
+    ghost view = { λ f.
+        record {
+          tray = f.tray;
+          grip = f.grip;
+          slots = f.slots;
+          guards = f.guards.items;
+          stack = f.stack.items;
+          cost = f.cost;
+          places = placements_of f.places.items;
+        } };
+}
+
+/// What holds where a procedure returns. Its forms are over the parameters, which are the first
+/// symbols, and after them the results.
+#[derive(Drop)]
+pub struct ExitFrame {
+    /// The current tray, 0 to 31.
+    pub tray: u8,
+    /// The grip: bit p is piece p.
+    pub grip: u32,
+    /// Of each result, the lowest and the highest number that it may be.
+    pub results: Vec<(i16, i16)>,
+    /// At most four forms that are at least 0; in version 1 none.
+    pub guards: Vec<PlanForm>,
+    /// Where each piece lies.
+    pub places: Vec<Place>,
+}
+
+impl Model for ExitFrame {
+    ghost use Rattle.burr_container.specs.Rules.Plans.{ExitFrame as ExitFrameOf};
+    ghost use Rattle.burr_container.specs.Views.OwnedPlaces.{placements_of};
+
+    ghost Value = { ExitFrameOf };
+
+    ghost view = { λ f.
+        record {
+          tray = f.tray;
+          grip = f.grip;
+          results = f.results.items;
+          guards = f.guards.items;
+          places = placements_of f.places.items;
         } };
 }

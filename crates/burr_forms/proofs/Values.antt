@@ -41,7 +41,7 @@ value_bound point f s n few =
 pub value_fits : (point : Point) (f : Form) → IsSmallForm f → AllNear point → length point ≤ 8 → FitsSigned w64 (value point f)
 value_fits point f s n few = let b = value_bound point f s n few in fits_signed_from_abs w64 (value point f) (omega arith)
 
--- places of lists of which all is near or small
+-- elements of lists whose numbers are all near, or all small
 
 pub near_at : (i : ℕ) (point : Point) (d : ℤ) → AllNear point → i < length point → unsigned_abs (slice_index_or point i d) ≤ 32767
 near_at i point d n h = n i d h

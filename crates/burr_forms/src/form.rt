@@ -1,10 +1,13 @@
 ghost use Rattle.std.specs.Prelude.{◌≡◌, ◌≤◌, ◌↔◌, IsTrue, length};
-ghost use Rattle.burr_forms.specs.Rules.Forms.{value, plus_form, minus_form, substituted};
-ghost use Rattle.burr_forms.specs.Rules.Forms.{IsSmall, IsSmallForm, AllSmallForms, AllNear};
+ghost use Rattle.burr_forms.specs.Rules.Forms.{value, plus_form, minus_form, substituted, IsSmall, IsSmallForm, AllSmallForms, AllNear};
 ghost use Rattle.burr_forms.specs.Views.Results.{IsFormOf};
+ghost use Rattle.burr_forms.specs.Rules.Points.{AreRanges};
+ghost use Rattle.burr_forms.specs.Views.Bounds.{IsLeastIn, IsGreatestIn, end_at, corner};
 
 use crate::limits::MOST_FORM_NUMBER;
+use crate::points::Point;
 use crate::wide::Wide;
+use arrayvec::ArrayVec;
 use std::marker::Model;
 use thiserror::Error;
 
@@ -106,4 +109,54 @@ fn is_small_number(number: i64) -> bool
     ensures { IsTrue result ↔ IsSmall number }
 {
     -MOST_FORM_NUMBER <= number && number <= MOST_FORM_NUMBER
+}
+
+// The bounds of the values that a form has at the points of a box.
+impl Form {
+    /// Its least value at a point of a box, guards not counted. The caller's conditions: there are
+    /// at most eight ranges; each range holds a number, and only numbers within ±32,767; the form's
+    /// own numbers lie within ±2^40.
+    pub fn least_in(&self, ranges: &[(i32, i32)]) -> i64
+        requires few { length ranges.now ≤ 8 }
+        requires ranges { AreRanges ranges.now }
+        requires small { IsSmallForm self.now }
+        ensures { IsLeastIn ranges.now self.now result }
+    {
+        let point = corner(&self.coefs, ranges, false);
+        self.value_at(point.as_slice())
+    }
+
+    /// Its greatest value at a point of a box, under the same conditions.
+    pub fn greatest_in(&self, ranges: &[(i32, i32)]) -> i64
+        requires few { length ranges.now ≤ 8 }
+        requires ranges { AreRanges ranges.now }
+        requires small { IsSmallForm self.now }
+        ensures { IsGreatestIn ranges.now self.now result }
+    {
+        let point = corner(&self.coefs, ranges, true);
+        self.value_at(point.as_slice())
+    }
+}
+
+/// The point of a box at which the sum of the multiples of these numbers is greatest, or least.
+fn corner(coefs: &[i64; 8], ranges: &[(i32, i32)], is_greatest: bool) -> Point
+    requires { length ranges.now ≤ 8 }
+    ensures { result.items ≡ corner is_greatest coefs.now ranges.now }
+{
+    let mut point = ArrayVec::new();
+    for symbol in 0..ranges.len() {
+        point.push(end_at(coefs[symbol], ranges[symbol], is_greatest));
+    }
+    point
+}
+
+/// The end of a range at which a multiple of a number is greatest, or least.
+fn end_at(coef: i64, range: (i32, i32), is_greatest: bool) -> i32
+    ensures { result ≡ end_at is_greatest coef range }
+{
+    let (low, high) = range;
+    match (is_greatest, coef < 0) {
+        (true, true) | (false, false) => low,
+        (true, false) | (false, true) => high,
+    }
 }

@@ -6,7 +6,7 @@ use crate::form::{Form, is_small};
 use arrayvec::ArrayVec;
 use std::marker::Model;
 
-/// At most eight forms, none of which may be negative.
+/// At most eight forms; none of them may be negative.
 #[derive(Clone, Debug, Drop)]
 pub struct Guards {
     forms: ArrayVec<Form, 8>,
@@ -39,8 +39,8 @@ impl Guards {
         Some(Guards { forms: guards })
     }
 
-    /// Whether none is negative at a point, each of whose numbers lies within ±32,767, the caller's
-    /// condition.
+    /// Whether no guard is negative at a point. The caller's condition: each number of the point
+    /// lies within ±32,767.
     pub fn hold(&self, point: &[i32; 8]) -> bool
         requires { AllNear point.now }
         ensures { result ≡ guards_hold self.now point.now }

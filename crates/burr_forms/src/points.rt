@@ -1,10 +1,14 @@
-ghost use Rattle.std.specs.Prelude.{◌≡◌};
+ghost use Rattle.std.specs.Prelude.{◌≡◌, ◌≤◌, ◌<◌, Some, None, length, MatchBool};
 ghost use Rattle.std.specs.Iterator.{YieldsFirst, item_count};
 ghost use Rattle.burr_forms.specs.Rules.Points.{points_of};
+ghost use Rattle.burr_forms.specs.Rules.Forms.{values, AllSmallForms, AllNear};
+ghost use Rattle.burr_forms.specs.Views.Rising.{following, lows};
+ghost use Rattle.burr_forms.specs.Views.Searching.{steps_of, AllBounded, sums, IsRaised, IsAtEnd};
 
-use crate::advancing::{advance, lowest};
+use crate::form::Form;
 use crate::guards::Guards;
 use crate::ranges::Box8;
+use arrayvec::ArrayVec;
 use std::marker::Model;
 
 /// The points of a box at which no guard is negative, each once, rising, the first symbol slowest.
@@ -61,4 +65,135 @@ impl<'a> Iterator for Points<'a> {
         }
         None
     }
+}
+
+/// Values of the symbols, in their order.
+pub type Point = ArrayVec<i32, 8>;
+
+/// A number for each of some forms. There is room for all of a state: its slots and operands, eight
+/// of each, three for each of 32 pieces, and its cost.
+pub type FormValues = ArrayVec<i64, 120>;
+
+/// The lowest point of a box: the lowest number of each range.
+pub fn lowest_point(ranges: &[(i32, i32)]) -> Point
+    requires few { length ranges.now ≤ 8 }
+    ensures { result.items ≡ lows ranges.now }
+{
+    let mut point = ArrayVec::new();
+    for range in ranges {
+        point.push(range.0);
+    }
+    point
+}
+
+/// Goes on to the following point of a box, and tells whether there is one.
+pub fn advance_point(ranges: &[(i32, i32)], point: &mut Point) -> bool
+    requires places { length point.old.items ≡ length ranges.now }
+    ensures { MatchBool result (following ranges.now point.old.items ≡ Some point.new.items)
+        (following ranges.now point.old.items ≡ None) }
+{
+    advance(ranges, point.as_mut_slice())
+}
+
+/// Puts the value of each form at a point in the place of a row.
+pub fn evaluate(forms: &[Form], point: &Point, row: &mut FormValues)
+    requires many { length forms.now ≤ 120 }
+    requires small { AllSmallForms forms.now }
+    requires near { AllNear point.now.items }
+    ensures { row.new.items ≡ values point.now.items forms.now }
+{
+    let numbers = point.as_slice();
+    row.clear();
+    for form in forms {
+        row.push(form.value_at(numbers));
+    }
+}
+
+/// How far the value of each form goes as a symbol goes one up.
+pub fn steps_along(forms: &[Form], symbol: usize) -> FormValues
+    requires many { length forms.now ≤ 120 }
+    requires symbol { symbol < 8 }
+    ensures { result.items ≡ steps_of symbol forms.now }
+{
+    let mut steps = ArrayVec::new();
+    for form in forms {
+        steps.push(form.coefs[symbol]);
+    }
+    steps
+}
+
+/// The lowest point of a box: the lowest number of each range.
+fn lowest(ranges: &[(i32, i32); 8]) -> [i32; 8]
+    ensures { result ≡ lows ranges.now }
+{
+    let mut point = [0; 8];
+    for symbol in 0..8 {
+        point[symbol] = ranges[symbol].0;
+    }
+    point
+}
+
+/// Goes on to the following point of a box, and tells whether there is one.
+fn advance(ranges: &[(i32, i32)], point: &mut [i32]) -> bool
+    requires places { length point.old ≡ length ranges.now }
+    ensures { MatchBool result (following ranges.now point.old ≡ Some point.new)
+        (following ranges.now point.old ≡ None) }
+{
+    let mut symbol = ranges.len();
+    while symbol > 0 {
+        symbol -= 1;
+        let (low, high) = ranges[symbol];
+        if point[symbol] < high {
+            point[symbol] += 1;
+            return true;
+        }
+        point[symbol] = low;
+    }
+    false
+}
+
+/// Raises the last number of a point, where it is below the end of its range.
+pub fn raise_last(ranges: &[(i32, i32)], point: &mut Point) -> bool
+    requires places { length point.old.items ≡ length ranges.now }
+    ensures { MatchBool result (IsRaised ranges.now point.old.items point.new.items)
+        ((point.new.items ≡ point.old.items) × IsAtEnd ranges.now point.old.items) }
+{
+    raise_last_of(ranges, point.as_mut_slice())
+}
+
+fn raise_last_of(ranges: &[(i32, i32)], point: &mut [i32]) -> bool
+    requires places { length point.old ≡ length ranges.now }
+    ensures { MatchBool result (IsRaised ranges.now point.old point.new)
+        ((point.new ≡ point.old) × IsAtEnd ranges.now point.old) }
+{
+    let count = ranges.len();
+    if count == 0 {
+        return false;
+    }
+    let last = count - 1;
+    if point[last] < ranges[last].1 {
+        point[last] += 1;
+        return true;
+    }
+    false
+}
+
+/// Adds the steps to the values.
+fn add(row: &mut [i64], steps: &[i64])
+    requires places { length row.old ≡ length steps.now }
+    requires bounded { AllBounded (sums row.old steps.now) }
+    ensures { row.new ≡ sums row.old steps.now }
+{
+    for place in 0..steps.len() {
+        row[place] += steps[place];
+    }
+}
+
+/// Carries the values of forms on, one step each.
+pub fn carry(row: &mut FormValues, steps: &FormValues)
+    requires places { length row.old.items ≡ length steps.now.items }
+    requires bounded { AllBounded (sums row.old.items steps.now.items) }
+    ensures { row.new.items ≡ sums row.old.items steps.now.items }
+{
+    add(row.as_mut_slice(), steps.as_slice());
 }

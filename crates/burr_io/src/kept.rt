@@ -1,5 +1,4 @@
-use crate::fault::IoFailed;
-use crate::sink::Sink;
+use crate::sink::{IoFailed, Sink};
 use std::alloc::Global;
 
 /// A sink that keeps the bytes that it takes in memory. It fails only where a request for memory is

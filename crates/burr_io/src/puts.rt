@@ -3,8 +3,7 @@ ghost use Rattle.std.specs.Io.KnownBytes.{Keeps};
 ghost use Rattle.burr_text.specs.Words.{text_line};
 ghost use Rattle.burr_io.specs.Sink.{Puts, TakesShort};
 
-use crate::fault::WriteFault;
-use crate::sink::Sink;
+use crate::sink::{Sink, WriteFault};
 use itoa::{Buffer, Integer};
 
 /// Puts all of the bytes, by as many calls of `put` as it takes; no bytes take none. A fault comes

@@ -1,4 +1,4 @@
-use crate::fault::IoFailed;
+use crate::sink::IoFailed;
 use crate::source::Source;
 use std::io::Read;
 

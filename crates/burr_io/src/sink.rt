@@ -1,7 +1,7 @@
 ghost use Rattle.std.specs.Prelude.{◌≡◌, ◌≤◌, ◌<◌, ℕ, Bool, List, length, Option, is_err, IsErr, IsTrue, IfOk};
 ghost use Rattle.std.specs.Io.KnownBytes.{WriteAppends};
 
-use crate::fault::IoFailed;
+use thiserror::Error;
 
 /// Something that takes bytes, until it fails.
 pub trait Sink {
@@ -24,3 +24,13 @@ pub trait Sink {
     fn failed(&self) -> bool
         ensures { result ≡ has_failed self.now };
 }
+
+/// A source or a sink has failed: no byte went in this call, and none will in any later one.
+#[derive(Clone, Copy, Debug, PartialEq, Eq, Error)]
+#[error("the stream has failed")]
+pub struct IoFailed;
+
+/// A text was not written whole, since its sink has failed.
+#[derive(Clone, Copy, Debug, PartialEq, Eq, Error)]
+#[error("the text was not written whole")]
+pub struct WriteFault;

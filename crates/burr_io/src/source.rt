@@ -1,7 +1,7 @@
 ghost use Rattle.std.specs.Prelude.{◌≡◌, ◌≤◌, ℕ, Bool, List, length, Option, is_err, IsErr, IsTrue, IfOk};
 ghost use Rattle.std.specs.Io.KnownBytes.{ReadConsumes};
 
-use crate::fault::IoFailed;
+use crate::sink::IoFailed;
 
 /// Something that gives bytes until its end, or until it fails.
 pub trait Source {

@@ -1,9 +1,7 @@
-ghost use Rattle.std.specs.Prelude.{◌≡◌, ◌≢◌, ◌≤◌, ◌<◌, ℕ, length, take, drop, OnOk, OnErr};
-ghost use Rattle.std.specs.Prelude.{Contains, MatchOption, slice_index};
+ghost use Rattle.std.specs.Prelude.{◌≡◌, ◌≢◌, ◌≤◌, ◌<◌, ℕ, length, take, drop, OnOk, OnErr, Contains, MatchOption, slice_index};
 ghost use Rattle.burr_io.specs.WholeLines.{GoesOf, HandsOn, HandsOnFront, HandsOnWhole, HandsOnLess};
 
-use crate::fault::{IoFailed, WriteFault};
-use crate::sink::Sink;
+use crate::sink::{IoFailed, Sink, WriteFault};
 use arrayvec::ArrayVec;
 use std::marker::Model;
 
@@ -143,7 +141,7 @@ fn whole_lines(full: &[u8]) -> usize
     }
 }
 
-/// Where the last line feed stands; None where there is none.
+/// Where the last line feed stands; None where there is no line feed.
 pub fn last_line_end(bytes: &[u8]) -> Option<usize>
     ensures { MatchOption result
         (¬ Contains bytes.now 10)

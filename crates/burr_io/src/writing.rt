@@ -1,5 +1,4 @@
-use crate::fault::IoFailed;
-use crate::sink::Sink;
+use crate::sink::{IoFailed, Sink};
 use std::io::Write;
 
 /// Any writer as a sink: an error of the writer, or no byte taken of some, is the sink's failure.

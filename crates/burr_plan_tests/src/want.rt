@@ -45,7 +45,7 @@ fn right_if(is_right: bool) -> Outcome {
     }
 }
 
-/// An input of bare code, of which a call gives so much, and how it ends with which text.
+/// An input of bare code, how many bytes of it each call gives, and how it ends, with which text.
 #[derive(Drop)]
 struct BareRun<'a> {
     input: &'a str,
@@ -167,7 +167,7 @@ fn tells_a_want_of_memory_for_an_assembly(rt: HostRuntime) {
     assert_wants(&rt, rt.alloc(), &mut Lines(&duo, "1 t0 A -x 200\n"));
 }
 
-/// A container of version 2, of which that is made again.
+/// A container of version 2, which `upgrade` makes again as it is.
 #[derive(Drop)]
 struct Upgrade<'a>(&'a [u8]);
 

@@ -17,8 +17,8 @@ use Rattle.burr_plantext.specs.Rules.ListedPlaces.{code_text, blocks_text, proce
 use Rattle.burr_plantext.specs.Views.Parts.{frame_text, exit_text, title_text, count_text}
 use Rattle.std.specs.Bool.{then_some}
 use Rattle.std.specs.Fmt.{decimal}
-use Rattle.burr_container.specs.declared.header.Header.{Header}
-use Rattle.burr_container.specs.declared.stored_procedure.StoredProcedure.{StoredProcedure}
+use Rattle.burr_container.specs.declared.container.Header.{Header}
+use Rattle.burr_container.specs.declared.procedure_ref.StoredProcedure.{StoredProcedure}
 use Rattle.burr_container.specs.Views.InPlace.{IsLabel, IsProcedure}
 use Rattle.burr_container.specs.Views.Containers.{ContainerView, IsHeader, IsContainer, HasPlan, HasLabel, OfProcedure, OfLabel}
 use Rattle.burr_container.proofs.Common.OneContainer.{fits_where_kept}

@@ -104,7 +104,7 @@ line_read line rest =
     ∙ ap (λ (ps : List (List ℕ)). flat_map ended (pieces 10 line) ++ reads (numbered_from 1 ps))
     (sym e)
 
--- Two texts of which the same lines are read
+-- The same lines are read from both texts.
 abbrev SameLines : List ℕ → List ℕ → Type 0
 SameLines a b = lines_read a ≡ lines_read b
 

@@ -1,8 +1,7 @@
 //! The labels and the code of a procedure, added to a text.
 
-ghost use Rattle.std.specs.Prelude.{◌≡◌, ◌<◌, ◌≤◌, ◌+◌, ◌-◌, ◌∷◌, ◌++◌, ℕ, length, take, drop, slice_get, OnOk, IfOk, Some, None, if◌then◌else◌};
+ghost use Rattle.std.specs.Prelude.{◌≡◌, ◌<◌, ◌≤◌, ◌+◌, ◌-◌, ◌∷◌, ◌++◌, ℕ, length, take, drop, slice_get, OnOk, IfOk, Some, None, if◌then◌else◌, nat_lt};
 ghost use Rattle.std.specs.List.{list_all};
-ghost use Rattle.std.specs.Prelude.{nat_lt};
 ghost use Rattle.burr_code.specs.Meaning.{meaning};
 ghost use Rattle.burr_code.specs.declared.limits.TheConstants.{MOST_CODE};
 ghost use Rattle.burr_container.specs.Rules.Plans.{Frame};
@@ -16,8 +15,7 @@ ghost use Rattle.burr_plantext.specs.Rules.ListedPlaces.{comment_at};
 
 use crate::frames::add_frame;
 use crate::instructions::{add_byte, add_instruction};
-use crate::names::add_label_name;
-use crate::numbers::{add_word, end_line};
+use crate::numbers::{add_label_name, add_word, end_line};
 use burr_code::{Instr, Labels, fetch};
 use burr_container::Container;
 use std::alloc::AllocError;

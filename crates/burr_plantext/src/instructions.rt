@@ -10,9 +10,7 @@ ghost use Rattle.burr_plantext.specs.Rules.Statements.{Byte};
 ghost use Rattle.burr_plantext.specs.Rules.Writing.{hex_digit as digit, statement_words, line_text};
 ghost use Rattle.burr_plantext.specs.Rules.Listing.{set_word, label_name, procedure_name, instruction_listed};
 
-use crate::names::{add_label_name, add_procedure_name};
-use crate::numbers::{add_word, end_line};
-use crate::sets::add_set;
+use crate::numbers::{add_label_name, add_procedure_name, add_set, add_word, end_line};
 use burr_code::{Instr, Labels};
 use burr_voxels::Direction;
 use itoa::Integer;

@@ -5,9 +5,8 @@ ghost use Rattle.burr_container.specs.Views.Refs.{placement_view};
 ghost use Rattle.burr_plantext.specs.Views.Parts.{grip_text, range_text};
 ghost use Rattle.burr_plantext.specs.Views.Symbols.{symbol_spot, symbol_piece};
 
-use crate::forms::add_form_word;
-use crate::numbers::{add_number, add_word, end_line};
-use crate::sets::add_set;
+use crate::frames::add_form_word;
+use crate::numbers::{add_number, add_set, add_word, end_line};
 use burr_forms::Form;
 use std::alloc::AllocError;
 

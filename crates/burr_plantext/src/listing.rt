@@ -13,8 +13,7 @@ ghost use Rattle.burr_plantext.specs.Views.Listings.{IsProcedureAdded};
 
 use crate::code::add_code;
 use crate::exits::add_exit;
-use crate::names::add_procedure_name;
-use crate::numbers::{add_word, end_line};
+use crate::numbers::{add_procedure_name, add_word, end_line};
 use burr_container::{Container, Header};
 use std::alloc::{AllocError, Global};
 

@@ -3,7 +3,7 @@ use Rattle.std.specs.Prelude.{◌≡◌, ◌≢◌, ℕ, ℤ, ◌≤◌, List, �
 use Rattle.std.specs.Int.{w32}
 use Rattle.std.specs.Fmt.{signed_decimal}
 
--- digits of which the first isn't `0`
+-- digits whose first isn't `0`
 pub record IsCount (bytes : List ℕ) : Type 0 where
   pub first : 49 ≤ slice_index bytes 0
   pub digits : All (λ b. (48 ≤ b) × (b ≤ 57)) bytes

@@ -11,8 +11,8 @@ pub fn integer(text: &[u8]) -> Option<i32>
     str::from_utf8(text).ok()?.parse().ok()
 }
 
-/// Whether the bytes are a number: `0`, or digits of which the first isn't `0`, perhaps after a
-/// `-`. A number may be of any length.
+/// Whether the bytes are a number: `0`, or digits whose first isn't `0`, perhaps after a `-`. A
+/// number may be of any length.
 pub fn is_number(bytes: &[u8]) -> bool
     ensures { IsTrue result ↔ IsNumber bytes.now }
 {
@@ -23,7 +23,7 @@ pub fn is_number(bytes: &[u8]) -> bool
     }
 }
 
-/// Whether the bytes are digits of which the first isn't `0`.
+/// Whether the bytes are digits whose first isn't `0`.
 fn is_count(bytes: &[u8]) -> bool
     ensures { IsTrue result ↔ IsCount bytes.now }
 {

@@ -97,7 +97,7 @@ impl Direction {
         }
     }
 
-    /// The direction with a name; None where there is none.
+    /// The direction with a name; None where no direction has it.
     pub fn named(name: &[u8]) -> Option<Direction>
         ensures { MatchOption result ((d : DirectionOf) → name_of d ≢ name.now) (λ d.
             name_of d ≡ name.now) }

@@ -7,12 +7,12 @@ use Rattle.burr_plantext.specs.Rules.Texts.{LineRead, numbered_lines, IsTextOf}
 use Rattle.burr_asm.specs.declared.source_maps.PlanPart.{PlanPart}
 use Rattle.burr_asm.specs.declared.source_maps.PlanPart.TheVariants.{Plan, Procedure, Exit, Label, Frame, Code}
 
--- rows, of which the first has this number, and how many there are
+-- rows: the number of the first, and how many there are
 abbrev pub rows : (ℕ → PlanPart) → ℕ → ℕ → List PlanPart
 rows row n zero = []
 rows row n (suc count) = row n ∷ rows row (suc n) count
 
--- lines of code of a procedure, of which the first begins at this place
+-- lines of code of a procedure; the first begins at this place
 abbrev pub code_parts : ℕ → ℕ → List Statement → List PlanPart
 code_parts procedure pc [] = []
 code_parts procedure pc (s ∷ code) =
@@ -25,7 +25,7 @@ block_parts procedure label pc b =
     ∷ (rows (Frame procedure label) 0 (length (frame_lines b.frame))
     ++ code_parts procedure pc b.code)
 
--- the labels of a procedure, of which the first has this number and stands at this place
+-- labels of a procedure; the first has this number and stands at this place
 abbrev pub blocks_parts : ℕ → ℕ → ℕ → List Block → List PlanPart
 blocks_parts procedure label pc [] = []
 blocks_parts procedure label pc (b ∷ blocks) =
@@ -39,7 +39,7 @@ procedure_parts procedure p =
     ∷ (rows (Exit procedure) 0 (length (some_exit_lines p.exit))
     ++ blocks_parts procedure 0 0 p.blocks)
 
--- procedures, of which the first has this number
+-- procedures; the first has this number
 abbrev pub procedures_parts : ℕ → List ProcedureSource → List PlanPart
 procedures_parts procedure [] = []
 procedures_parts procedure (p ∷ procedures) =

@@ -17,7 +17,7 @@ use Rattle.burr_asm.specs.Views.Routines.{RoutineParts}
 
 -- Lines of code
 
--- The lines of code among lines of which the first stands at a place, each with its number.
+-- The lines of code among lines, each with its number; the first of all the lines stands at this place.
 abbrev pub code_lines : (ℕ → ℕ) → ℕ → List Line → List (ℕ × Statement)
 code_lines number place [] = []
 code_lines number place (PlanLine title ∷ lines) = code_lines number (suc place) lines
@@ -62,7 +62,7 @@ abbrev pub IsEnded : (ℕ → ℕ) → ℕ → ℕ → RoutineParts → Procedur
 IsEnded number start version r p =
     IsRoutine number start version r p.head p.exit p.blocks × (r.names ≡ label_names p.blocks)
 
--- the same of procedures that have ended, of which the first begins at this place
+-- the same of procedures that have ended; the first begins at this place
 abbrev pub AreEnded : (ℕ → ℕ) → ℕ → ℕ → List RoutineParts → List ProcedureSource → Type 0
 AreEnded number start version [] [] = Unit {0}
 AreEnded number start version [] (p ∷ ps) = ⊥

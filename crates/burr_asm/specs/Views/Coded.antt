@@ -26,7 +26,7 @@ coded_bytes labels procedures (Call procedure) =
 abbrev pub coded_size : CodedStatement → ℕ
 coded_size s = length (coded_bytes [] [] s)
 
--- the statement names a label or a procedure that is none of these
+-- the statement names a label or a procedure that is not among these
 abbrev pub has_unknown : List (List ℕ) → List (List ℕ) → CodedStatement → Bool
 has_unknown labels procedures (Byte byte) = false
 has_unknown labels procedures (Plain plain) = false

@@ -7,8 +7,8 @@ use Rattle.burr_plantext.specs.Rules.Meaning.{exit_in, result_count}
 use Rattle.burr_plantext.specs.Rules.Checks.{FaultKind, P1, result_check, exit_guard_check, exit_piece_check}
 use Rattle.burr_asm.specs.declared.text.signature.Signature.{Signature}
 use Rattle.burr_asm.specs.declared.text.exit.Exit.{Exit}
-use Rattle.burr_asm.specs.declared.version.Version.{Version}
-use Rattle.burr_asm.specs.declared.version.Version.TheVariants.{One, Two}
+use Rattle.burr_asm.specs.declared.text.front.Version.{Version}
+use Rattle.burr_asm.specs.declared.text.front.Version.TheVariants.{One, Two}
 use Rattle.burr_asm.specs.Views.Versions.{number_of_version}
 
 -- the version of plans whose procedures may have results

@@ -15,7 +15,7 @@ AddsCondition old line number new result =
     (λ done. (condition_check c line ≡ None) × AreFor new (with_condition c line))
     (IsRefusal (condition_check c line) number)
 
--- the frame with its cost, of which no piece has been read
+-- the frame with its cost; no piece of it has been read yet
 abbrev pub costed : Conditions → List ℕ → FrameSource
 costed c form = record { conditions = c; cost = form; pieces = [] }
 

@@ -5,7 +5,7 @@ use Rattle.burr_code.specs.declared.limits.TheConstants.{SLOTS, TRAYS}
 use Rattle.burr_forms.specs.Rules.Forms.{Form}
 use Rattle.burr_container.specs.Rules.Plans.{Range}
 use Rattle.burr_container.specs.Views.OwnedPlaces.{placements_of}
-use Rattle.burr_container.specs.declared.place.Place.{Place}
+use Rattle.burr_container.specs.declared.plan.Place.{Place}
 use Rattle.burr_plantext.specs.Rules.Written.{natural_in, set_in, set_numbers, form_in, is_below, are_ends, are_members, is_form_over}
 use Rattle.burr_plantext.specs.Rules.Lines.{Line, SlotLine, GuardLine, StackLine, GripWords, SlotWords, PieceWords}
 use Rattle.burr_plantext.specs.Rules.Sources.{Conditions}

@@ -75,7 +75,7 @@ IsNext number place given result =
     (λ f. (b : Beginning) × (given ≡ Ok b) × IsFront number (suc place) f b)
     (IsFaultOf number given)
 
--- the same within a procedure, of which the code has a stage and changes the rest
+-- the same within a procedure: the code gives its stage, and changes the rest of it in place
 abbrev pub IsNextStage : (ℕ → ℕ) → ℕ → OpenProcedure → RoutineParts → LineResult
     → Result Stage AsmFault → Type 0
 IsNextStage number place u r given result =

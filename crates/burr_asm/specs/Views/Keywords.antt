@@ -5,20 +5,20 @@ use Rattle.burr_plantext.specs.Rules.Written.{is_number, is_set, is_form}
 use Rattle.burr_plantext.specs.Rules.Operands.{alone, one, two, directed}
 use Rattle.burr_plantext.specs.Rules.Statements.{Statement, Grip, Step, Aside, Ask, Jump, Down, Call, offer, bytes_line}
 use Rattle.burr_plantext.specs.Rules.Lines.{Line, ExitLine, LabelLine, FrameLine, GuardLine, StackLine, CostLine, title_line, procedure_line, grip_line, result_line, slot_line, piece_line, code_line}
-use Rattle.burr_asm.specs.declared.text.keyword.Keyword.{Keyword}
-use Rattle.burr_asm.specs.declared.text.keyword.Keyword.TheVariants as key
-use Rattle.burr_asm.specs.declared.text.keyword.PartKeyword.{PartKeyword}
-use Rattle.burr_asm.specs.declared.text.keyword.PartKeyword.TheVariants as part
-use Rattle.burr_asm.specs.declared.text.keyword.FrameKeyword.{FrameKeyword}
-use Rattle.burr_asm.specs.declared.text.keyword.FrameKeyword.TheVariants as frame
-use Rattle.burr_asm.specs.declared.text.keyword.FormKeyword.{FormKeyword}
-use Rattle.burr_asm.specs.declared.text.keyword.FormKeyword.TheVariants as form
-use Rattle.burr_asm.specs.declared.text.keyword.CodeKeyword.{CodeKeyword}
-use Rattle.burr_asm.specs.declared.text.keyword.CodeKeyword.TheVariants as code
-use Rattle.burr_asm.specs.declared.text.keyword.PlainKeyword.{PlainKeyword}
-use Rattle.burr_asm.specs.declared.text.keyword.PlainKeyword.TheVariants as plain
-use Rattle.burr_asm.specs.declared.text.keyword.NumberKeyword.{NumberKeyword}
-use Rattle.burr_asm.specs.declared.text.keyword.NumberKeyword.TheVariants as number
+use Rattle.burr_asm.specs.declared.text.line.Keyword.{Keyword}
+use Rattle.burr_asm.specs.declared.text.line.Keyword.TheVariants as key
+use Rattle.burr_asm.specs.declared.text.line.PartKeyword.{PartKeyword}
+use Rattle.burr_asm.specs.declared.text.line.PartKeyword.TheVariants as part
+use Rattle.burr_asm.specs.declared.text.line.FrameKeyword.{FrameKeyword}
+use Rattle.burr_asm.specs.declared.text.line.FrameKeyword.TheVariants as frame
+use Rattle.burr_asm.specs.declared.text.line.FormKeyword.{FormKeyword}
+use Rattle.burr_asm.specs.declared.text.line.FormKeyword.TheVariants as form
+use Rattle.burr_asm.specs.declared.text.line.CodeKeyword.{CodeKeyword}
+use Rattle.burr_asm.specs.declared.text.line.CodeKeyword.TheVariants as code
+use Rattle.burr_asm.specs.declared.text.line.PlainKeyword.{PlainKeyword}
+use Rattle.burr_asm.specs.declared.text.line.PlainKeyword.TheVariants as plain
+use Rattle.burr_asm.specs.declared.text.line.NumberKeyword.{NumberKeyword}
+use Rattle.burr_asm.specs.declared.text.line.NumberKeyword.TheVariants as number
 use Rattle.burr_asm.specs.Views.LineWords.{number_words}
 use Rattle.burr_asm.specs.Views.Versions.{first_word_of, number_of_version}
 

@@ -5,12 +5,12 @@ use Rattle.burr_plantext.specs.Rules.Statements.{Statement, Halt, Push, Load, St
 use Rattle.burr_plantext.specs.Rules.Lines.{Line, PlanLine, ProcLine, ExitLine, ResultLine, LabelLine, FrameLine, SlotLine, GuardLine, StackLine, CostLine, AtLine, CodeLine, PlanWords, ProcedureWords, GripWords, RangeWords, SlotWords, PlaceWords, Apart, On, PieceWords}
 use Rattle.burr_asm.specs.Views.Versions.{number_of_version}
 use Rattle.burr_asm.specs.declared.text.words.NumberWord.{NumberWord}
-use Rattle.burr_asm.specs.declared.text.keyword.NumberKeyword.{NumberKeyword}
-use Rattle.burr_asm.specs.declared.text.keyword.NumberKeyword.TheVariants as number
-use Rattle.burr_asm.specs.declared.text.plain_line.PlainLine.{PlainLine}
-use Rattle.burr_asm.specs.declared.text.plain_line.PlainLine.TheVariants as plain
-use Rattle.burr_asm.specs.declared.text.code_line.CodeLine.{CodeLine as CodeParts}
-use Rattle.burr_asm.specs.declared.text.code_line.CodeLine.TheVariants as code
+use Rattle.burr_asm.specs.declared.text.line.NumberKeyword.{NumberKeyword}
+use Rattle.burr_asm.specs.declared.text.line.NumberKeyword.TheVariants as number
+use Rattle.burr_asm.specs.declared.text.code.PlainLine.{PlainLine}
+use Rattle.burr_asm.specs.declared.text.code.PlainLine.TheVariants as plain
+use Rattle.burr_asm.specs.declared.text.code.CodeLine.{CodeLine as CodeParts}
+use Rattle.burr_asm.specs.declared.text.code.CodeLine.TheVariants as code
 use Rattle.burr_asm.specs.declared.text.line.PlanWords.{PlanWords as PlanParts}
 use Rattle.burr_asm.specs.declared.text.line.ProcedureWords.{ProcedureWords as ProcedureParts}
 use Rattle.burr_asm.specs.declared.text.line.GripWords.{GripWords as GripParts}

@@ -25,7 +25,7 @@ pub record RoutineParts : Type 0 where
   pub last : ℕ
   pub code : CodeParts
 
--- a procedure of which only the first line has been read
+-- a procedure whose first line has been read, and no other
 abbrev pub begun : Signature → RoutineParts
 begun signature = record {
   signature = signature;
@@ -83,7 +83,7 @@ pub record OutlineParts : Type 0 where
   -- the procedures that have ended
   pub ended : List RoutineParts
 
--- a plan of which only the first line has been read
+-- a plan whose first line has been read, and no other
 abbrev pub titled_outline : PlanWords → OutlineParts
 titled_outline t = record {
   version = t.version;

@@ -1,7 +1,7 @@
 -- Versions of plans, as the code tells them.
 use Rattle.std.specs.Prelude.{ℕ, List, codes}
-use Rattle.burr_asm.specs.declared.version.Version.{Version}
-use Rattle.burr_asm.specs.declared.version.Version.TheVariants.{One, Two}
+use Rattle.burr_asm.specs.declared.text.front.Version.{Version}
+use Rattle.burr_asm.specs.declared.text.front.Version.TheVariants.{One, Two}
 
 -- the number of a version
 abbrev pub number_of_version : Version → ℕ

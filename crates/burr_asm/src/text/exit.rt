@@ -1,7 +1,6 @@
 ghost use Rattle.std.specs.Prelude.{◌≡◌, ◌==◌, ◌&&◌, ℕ, [], length, nat_lt, not};
 ghost use Rattle.burr_plantext.specs.Rules.Checks.{is_empty};
-ghost use Rattle.burr_plantext.specs.Rules.Lines.{AtLine, GripWords as GripSource, GuardLine};
-ghost use Rattle.burr_plantext.specs.Rules.Lines.{ProcedureWords, ResultLine};
+ghost use Rattle.burr_plantext.specs.Rules.Lines.{AtLine, GripWords as GripSource, GuardLine, ProcedureWords, ResultLine};
 ghost use Rattle.burr_plantext.specs.Rules.Right.{exit_source};
 ghost use Rattle.burr_asm.specs.Views.ExitFrames.{AddsExitGuard, AddsExitPiece};
 ghost use Rattle.burr_asm.specs.Views.ExitLines.{AddsExitLine};
@@ -11,12 +10,11 @@ ghost use Rattle.burr_asm.specs.Views.LineWords.{line_words, piece_words, range_
 
 use crate::fault::AsmFault;
 use crate::text::form::FormWord;
-use crate::text::frame::{Grip, add_form};
+use crate::text::frame::{Grip, add_form, add_place};
+use crate::text::front::Version;
 use crate::text::line::{LineForm, PieceWords, RangeWords};
 use crate::text::numbers::range;
-use crate::text::places::add_place;
 use crate::text::signature::Signature;
-use crate::version::Version;
 use burr_code::limits::MOST_GUARDS;
 use burr_container::ExitFrame;
 use std::alloc::Global;
@@ -30,7 +28,7 @@ pub struct Exit {
 }
 
 impl Exit {
-    /// An exit frame of which only the first line has been read.
+    /// An exit frame whose first line has been read, and no other.
     pub fn new(alloc: Global, signature: Signature, grip: Grip) -> Exit
         ensures { (version : ℕ) (h : ProcedureWords) (words : GripSource)
             → IsSignature signature version h → IsGrip grip words

@@ -87,7 +87,7 @@ fn constant_end(bytes: &[u8]) -> Option<usize>
     Some(end)
 }
 
-/// How many bytes stand before the first sign, or in all where there is none.
+/// How many bytes stand before the first sign; where there is no sign, how many there are.
 fn before_sign(bytes: &[u8]) -> usize
     ensures few { result ≤ length bytes.now }
     ensures value { result ≡ position_or_len is_sign bytes.now }

@@ -1,30 +1,27 @@
-ghost use Rattle.std.specs.Prelude.{◌≡◌, ◌<◌, ◌≤◌, ◌++◌, ◌∷◌, [], false, true, IfSome, MatchOption};
-ghost use Rattle.std.specs.Prelude.{MatchResult, None, ◌&&◌};
+ghost use Rattle.std.specs.Prelude.{◌≡◌, ◌<◌, ◌≤◌, ◌++◌, ◌∷◌, [], false, true, IfSome, MatchOption, MatchResult, None, ◌&&◌};
 ghost use Rattle.burr_code.specs.declared.limits.TheConstants.{SLOTS};
 ghost use Rattle.burr_container.specs.Rules.Plans.{live_slots};
-ghost use Rattle.burr_plantext.specs.Rules.Checks.{cost_check, grip_check, is_empty, live_in};
-ghost use Rattle.burr_plantext.specs.Rules.Checks.{piece_check};
-ghost use Rattle.burr_plantext.specs.Rules.Meaning.{frame_in};
+ghost use Rattle.burr_container.specs.Views.OwnedPlaces.{placement_of};
+ghost use Rattle.burr_plantext.specs.Rules.Checks.{cost_check, grip_check, is_empty, live_in, piece_check, is_spot};
+ghost use Rattle.burr_plantext.specs.Rules.Meaning.{frame_in, place_in};
 ghost use Rattle.burr_plantext.specs.Rules.Right.{conditions as source_of};
 ghost use Rattle.burr_plantext.specs.Rules.Sources.{Conditions as ConditionsSource, FrameSource};
-ghost use Rattle.burr_plantext.specs.Rules.Written.{form_in, is_form_over};
-ghost use Rattle.burr_plantext.specs.Rules.Lines.{GripWords as GripSource, GuardLine, SlotLine};
-ghost use Rattle.burr_plantext.specs.Rules.Lines.{StackLine};
+ghost use Rattle.burr_plantext.specs.Rules.Written.{form_in, is_form_over, is_within};
+ghost use Rattle.burr_plantext.specs.Rules.Lines.{GripWords as GripSource, GuardLine, SlotLine, StackLine};
 ghost use Rattle.burr_asm.specs.declared.fault.AsmFault.TheVariants.{P3};
 ghost use Rattle.burr_asm.specs.Views.Faults.{IsRefusal};
-ghost use Rattle.burr_asm.specs.Views.Frames.{form_check, is_grip, AreFor, IsGrip};
-ghost use Rattle.burr_asm.specs.Views.Frames.{IsSlotAbove};
+ghost use Rattle.burr_asm.specs.Views.Frames.{form_check, is_grip, AreFor, IsGrip, IsSlotAbove, AddsPlace};
 ghost use Rattle.burr_asm.specs.Views.FrameLines.{costed, with_piece, AddsCondition};
-ghost use Rattle.burr_asm.specs.Views.LineWords.{grip_words, line_words, piece_words, slot_words};
+ghost use Rattle.burr_asm.specs.Views.LineWords.{grip_words, line_words, piece_words, slot_words, place_words};
 
 use crate::fault::AsmFault;
 use crate::text::form::FormWord;
-use crate::text::line::{GripWords, LineForm, PieceWords, SlotWords};
-use crate::text::numbers::{range, slot, tray};
-use crate::text::places::add_place;
+use crate::text::line::{GripWords, LineForm, PieceWords, PlaceWords, SlotWords};
+use crate::text::numbers::{index, range, slot, tray};
 use crate::text::set::piece_set;
+use crate::text::words::NumberWord;
 use burr_code::limits::{MOST_GUARDS, MOST_OPERANDS};
-use burr_container::{Frame, PlanForm};
+use burr_container::{Frame, Place, PlanForm};
 use std::alloc::Global;
 use std::marker::Model;
 use std::mem::replace;
@@ -89,7 +86,7 @@ impl Model for Conditions {
 }
 
 impl Conditions {
-    /// A frame of which only the first line has been read.
+    /// A frame whose first line has been read, and no other.
     pub fn new(alloc: Global, grip: Grip) -> Conditions
         ensures { (words : GripSource) → IsGrip grip words
             → AreFor result (source_of words [] [] []) }
@@ -163,7 +160,7 @@ impl Conditions {
         add_form(&mut self.stack, MOST_OPERANDS, &live, form, line)
     }
 
-    /// A line `cost`: takes out the frame, of which no piece has its place yet.
+    /// A line `cost`: takes out the frame, in which no piece has a place yet.
     pub fn take_frame(
         &mut self,
         alloc: Global,
@@ -275,4 +272,52 @@ pub fn add_piece(frame: &mut Frame, words: PieceWords<'_>, line: usize) -> Resul
 {
     let live = live_slots(&frame.slots);
     add_place(&mut frame.places, &live, words, line)
+}
+
+/// The place that words say, where its numbers are in their ranges and its forms are over these
+/// live slots.
+fn place(words: PlaceWords<'_>, live: &[bool; 8]) -> Option<Place>
+    ensures { MatchOption result (is_spot live.now (place_words words.entry) ≡ false) (λ place.
+        (is_spot live.now (place_words words.entry) ≡ true)
+        × (placement_of place ≡ place_in (place_words words.entry))) }
+{
+    match words {
+        PlaceWords::Apart => Some(Place::Apart),
+        PlaceWords::On(word, x, y, z) => {
+            let (x, y, z) = (x.value(live)?, y.value(live)?, z.value(live)?);
+            Some(Place::On(tray(word)?, x, y, z))
+        }
+    }
+}
+
+/// Whether the word is the number of the next piece, where the first `count` have their places.
+fn is_next(word: NumberWord<'_>, count: usize) -> bool
+    ensures { result ≡ is_within count count word.entry.bytes.now }
+{
+    match index(word) {
+        Some(piece) => piece == count,
+        None => false,
+    }
+}
+
+/// Adds the place of one more piece, which has to be the next.
+pub fn add_place(
+    places: &mut Vec<Place>,
+    live: &[bool; 8],
+    words: PieceWords<'_>,
+    line: usize,
+) -> Result<(), AsmFault>
+    ensures { AddsPlace live.now places.old.items (piece_words words.entry) line
+        places.new.items result }
+{
+    if !is_next(words.piece, places.len()) {
+        return Err(AsmFault::P1 { line });
+    }
+    match place(words.place, live) {
+        Some(place) => {
+            places.push(place)?;
+            Ok(())
+        }
+        None => Err(AsmFault::P3 { line }),
+    }
 }

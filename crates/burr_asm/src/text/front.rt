@@ -1,12 +1,10 @@
 ghost use Rattle.std.specs.Prelude.{◌≡◌};
 ghost use Rattle.burr_plantext.specs.Rules.Texts.{first_word, unended_line, Unread};
 ghost use Rattle.burr_asm.specs.Views.LineWords.{line_words, procedure_words};
-ghost use Rattle.burr_asm.specs.Views.FrontSteps.{BeginsMain, EndsText, GivesFault, GivesFront};
-ghost use Rattle.burr_asm.specs.Views.FrontSteps.{GivesNext, GivesUnderWay, GivesWithin};
-ghost use Rattle.burr_asm.specs.Views.FrontSteps.{front_after, misses, NextProcedure};
+ghost use Rattle.burr_asm.specs.Views.FrontSteps.{BeginsMain, EndsText, GivesFault, GivesFront, GivesNext, GivesUnderWay, GivesWithin, front_after, misses, NextProcedure};
 ghost use Rattle.burr_asm.specs.Views.Steps.{changed};
-ghost use Rattle.burr_asm.specs.declared.text.front.Front.TheVariants.{AwaitsMain, AwaitsPlan};
-ghost use Rattle.burr_asm.specs.declared.text.front.Front.TheVariants.{InProcedure};
+ghost use Rattle.burr_asm.specs.declared.text.front.Front.TheVariants.{AwaitsMain, AwaitsPlan, InProcedure};
+ghost use Rattle.burr_asm.specs.Views.Versions.{number_of_version};
 
 use crate::fault::AsmFault;
 use crate::text::line::{LineForm, ProcedureWords};
@@ -232,5 +230,24 @@ impl<'a> UnderWay<'a> {
         self.stage.end(line)?;
         self.outline.end(alloc, &mut self.routine)?;
         self.outline.take(alloc).resolve(alloc)
+    }
+}
+
+/// The version of a plan. In version 2 procedures may have results, and exit frames guards.
+#[derive(Clone, Copy)]
+pub enum Version {
+    One,
+    Two,
+}
+
+impl Version {
+    /// Its number: 1 or 2.
+    pub fn number(self) -> u16
+        ensures { result ≡ number_of_version self }
+    {
+        match self {
+            Version::One => 1,
+            Version::Two => 2,
+        }
     }
 }

@@ -1,27 +1,21 @@
-ghost use Rattle.std.specs.Prelude.{◌≡◌, None, Some, MatchOption};
+ghost use Rattle.std.specs.Prelude.{◌≡◌, None, Some, MatchOption, ◌≢◌};
 ghost use Rattle.burr_plantext.specs.Rules.Checks.{is_of_version};
-ghost use Rattle.burr_plantext.specs.Rules.Lines.{PlanLine, ProcLine, AtLine};
-ghost use Rattle.burr_plantext.specs.Rules.Lines.{grip_line, line_of, piece_line, procedure_line};
-ghost use Rattle.burr_plantext.specs.Rules.Lines.{title_line};
+ghost use Rattle.burr_plantext.specs.Rules.Lines.{PlanLine, ProcLine, AtLine, grip_line, line_of, piece_line, procedure_line, title_line};
 ghost use Rattle.burr_plantext.specs.Rules.Operands.{three, two};
 ghost use Rattle.burr_plantext.specs.Rules.Texts.{words_of};
 ghost use Rattle.burr_plantext.specs.Rules.Written.{is_form, is_number};
-ghost use Rattle.burr_asm.specs.Views.Keywords.{form_line, frame_line, keyword_line, part_line};
-ghost use Rattle.burr_asm.specs.Views.LineWords.{grip_words, line_words};
-ghost use Rattle.burr_asm.specs.Views.LineWords.{piece_words, place_words, plan_words};
-ghost use Rattle.burr_asm.specs.Views.LineWords.{procedure_words, range_between, range_words};
-ghost use Rattle.burr_asm.specs.Views.LineWords.{slot_between, slot_words, word_if_any};
+ghost use Rattle.burr_asm.specs.Views.Keywords.{form_line, frame_line, keyword_line, part_line, word_of};
+ghost use Rattle.burr_asm.specs.Views.LineWords.{grip_words, line_words, piece_words, place_words, plan_words, procedure_words, range_between, range_words, slot_between, slot_words, word_if_any};
 ghost use Rattle.burr_asm.specs.Views.Places.{place_line, three_words};
 ghost use Rattle.burr_asm.specs.Views.Versions.{number_of_version};
 ghost use Rattle.burr_asm.specs.Views.Words.{cut_word};
+ghost use Rattle.burr_asm.specs.declared.text.line.Keyword.{Keyword as KeywordOf};
 
-use crate::text::code_line::CodeLine;
+use crate::text::code::{CodeLine, PlainLine};
 use crate::text::form::FormWord;
-use crate::text::keyword::{FormKeyword, FrameKeyword, Keyword, PartKeyword};
-use crate::text::plain_line::PlainLine;
+use crate::text::front::Version;
 use crate::text::set::SetWord;
 use crate::text::words::{NumberWord, cut_name, name};
-use crate::version::Version;
 use burr_text::cut_at;
 
 /// A line of a plan text by its form alone: its numbers, sets and forms are not judged yet, its
@@ -54,7 +48,7 @@ pub enum LineForm<'a> {
     Code(CodeLine<'a>),
 }
 
-/// The words of the plan's line, the first of which tells its version.
+/// The words of the plan's line. Its first word tells the plan's version.
 #[derive(Clone, Copy)]
 pub struct PlanWords<'a> {
     pub version: Version,
@@ -319,4 +313,132 @@ fn cut_form(bytes: &[u8]) -> Option<(FormWord<'_>, &[u8])>
 {
     let (form, rest) = cut_at(bytes, b' ')?;
     Some((FormWord::parse(form)?, rest))
+}
+
+/// The word with which a line begins that has others after it.
+#[derive(Clone, Copy)]
+pub enum Keyword {
+    /// That of a plan's line.
+    Plan(Version),
+    /// One with which a part of the text begins.
+    Part(PartKeyword),
+    /// One of a line within a frame.
+    Frame(FrameKeyword),
+    /// One before a form.
+    Form(FormKeyword),
+    /// One of an instruction that names something, or of a raw byte.
+    Code(CodeKeyword),
+    /// One of an instruction that names nothing.
+    Plain(PlainKeyword),
+}
+
+/// A word with which a part of the text begins.
+#[derive(Clone, Copy)]
+pub enum PartKeyword {
+    Procedure,
+    Exit,
+    Label,
+    Frame,
+}
+
+/// The word of a line within a frame.
+#[derive(Clone, Copy)]
+pub enum FrameKeyword {
+    Slot,
+    Result,
+    At,
+}
+
+/// A word before a form.
+#[derive(Clone, Copy)]
+pub enum FormKeyword {
+    Guard,
+    Stack,
+    Cost,
+}
+
+/// The word of an instruction that names something, or of a raw byte.
+#[derive(Clone, Copy)]
+pub enum CodeKeyword {
+    Jump,
+    Down,
+    Pick,
+    Call,
+    Byte,
+}
+
+/// The word of an instruction that has operands and names nothing.
+#[derive(Clone, Copy)]
+pub enum PlainKeyword {
+    Number(NumberKeyword),
+    Ask,
+    Grip,
+    Step,
+    Aside,
+}
+
+/// The word of an instruction whose only operand is a number.
+#[derive(Clone, Copy)]
+pub enum NumberKeyword {
+    Push,
+    Load,
+    Store,
+    Tray,
+}
+
+/// All keywords, as they are written: those first that texts have most of, since a word is looked for from
+/// the first on.
+const KEYWORDS: [(&[u8], Keyword); 25] = [
+    (b"at", Keyword::Frame(FrameKeyword::At)),
+    (b"slot", Keyword::Frame(FrameKeyword::Slot)),
+    (b"guard", Keyword::Form(FormKeyword::Guard)),
+    (b"stack", Keyword::Form(FormKeyword::Stack)),
+    (b"cost", Keyword::Form(FormKeyword::Cost)),
+    (b"frame", Keyword::Part(PartKeyword::Frame)),
+    (b"label", Keyword::Part(PartKeyword::Label)),
+    (
+        b"push",
+        Keyword::Plain(PlainKeyword::Number(NumberKeyword::Push)),
+    ),
+    (
+        b"load",
+        Keyword::Plain(PlainKeyword::Number(NumberKeyword::Load)),
+    ),
+    (
+        b"store",
+        Keyword::Plain(PlainKeyword::Number(NumberKeyword::Store)),
+    ),
+    (b"step", Keyword::Plain(PlainKeyword::Step)),
+    (b"down", Keyword::Code(CodeKeyword::Down)),
+    (b"aside", Keyword::Plain(PlainKeyword::Aside)),
+    (b"jump", Keyword::Code(CodeKeyword::Jump)),
+    (b"grip", Keyword::Plain(PlainKeyword::Grip)),
+    (
+        b"tray",
+        Keyword::Plain(PlainKeyword::Number(NumberKeyword::Tray)),
+    ),
+    (b"ask", Keyword::Plain(PlainKeyword::Ask)),
+    (b"call", Keyword::Code(CodeKeyword::Call)),
+    (b"byte", Keyword::Code(CodeKeyword::Byte)),
+    (b"pick", Keyword::Code(CodeKeyword::Pick)),
+    (b"proc", Keyword::Part(PartKeyword::Procedure)),
+    (b"exit", Keyword::Part(PartKeyword::Exit)),
+    (b"result", Keyword::Frame(FrameKeyword::Result)),
+    (b"plan", Keyword::Plan(Version::One)),
+    (b"plan2", Keyword::Plan(Version::Two)),
+];
+
+impl Keyword {
+    /// The keyword that a word is; None where the word is no keyword.
+    pub fn of(word: &[u8]) -> Option<Keyword>
+        ensures { MatchOption result ((k : KeywordOf) → word_of k ≢ word.now) (λ keyword.
+            word_of keyword ≡ word.now) }
+    {
+        for (text, keyword) in &KEYWORDS {
+            if word == *text {
+                return Some(*keyword);
+            }
+        }
+        None
+    }
 }

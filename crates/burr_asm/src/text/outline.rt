@@ -11,12 +11,12 @@ ghost use Rattle.burr_asm.specs.Views.Routines.{with_routine, IsLabelAtEnd};
 ghost use Rattle.burr_asm.specs.Views.Versions.{number_of_version};
 
 use crate::fault::AsmFault;
+use crate::text::front::Version;
 use crate::text::line::{PlanWords, ProcedureWords};
 use crate::text::names::Names;
 use crate::text::numbers::{budget, parameter_count, piece_count, result_count};
 use crate::text::procedure::Routine;
 use crate::text::signature::Signature;
-use crate::version::Version;
 use burr_code::limits::MOST_PROCEDURES;
 use burr_container::{Plan, Procedure};
 use std::alloc::Global;
@@ -56,7 +56,7 @@ impl<'a> Model for Outline<'a> {
 }
 
 impl<'a> Outline<'a> {
-    /// A plan of which only the first line has been read.
+    /// A plan whose first line has been read, and no other.
     pub fn new(alloc: Global, words: PlanWords<'a>, line: usize) -> Result<Outline<'a>, AsmFault>
         ensures { MatchResult result
             (λ outline. (title_check (plan_words words.entry) ≡ None)

@@ -48,7 +48,7 @@ impl<'a> Model for Routine<'a> {
 }
 
 impl<'a> Routine<'a> {
-    /// A procedure of which only the first line has been read.
+    /// A procedure whose first line has been read, and no other.
     pub fn new(alloc: Global, signature: Signature) -> Routine<'a>
         ensures { result ≡ begun signature }
     {

@@ -2,7 +2,7 @@ ghost use Rattle.std.specs.Prelude.{◌≡◌, ◌≤◌};
 ghost use Rattle.burr_code.specs.declared.limits.TheConstants.{MOST_PARAMETERS};
 ghost use Rattle.burr_container.specs.Rules.Plans.{exit_symbols};
 
-use crate::version::Version;
+use crate::text::front::Version;
 
 /// What a procedure takes and gives, and the version of its plan: what its exit frame may say.
 #[derive(Clone, Copy)]

@@ -24,7 +24,7 @@ use std::alloc::Global;
 pub enum Stage {
     /// The line of a procedure that isn't main: its exit frame is due.
     AwaitsExit,
-    /// An exit frame, of which results, guards or pieces are due.
+    /// An exit frame: its results, guards or pieces are due.
     InExit(Exit),
     /// What stands before a procedure's code: its first label is due.
     AwaitsLabel,

@@ -1,7 +1,5 @@
-ghost use Rattle.std.specs.Prelude.{◌≡◌, ◌≤◌, ◌++◌, ◌∷◌, [], false, map, not, true, MatchOption};
-ghost use Rattle.std.specs.Prelude.{MatchResult};
+ghost use Rattle.std.specs.Prelude.{◌≡◌, ◌≤◌, ◌++◌, ◌∷◌, [], false, map, not, true, MatchOption, MatchResult};
 ghost use Rattle.std.specs.List.{list_all};
-ghost use Rattle.burr_code.specs.Instruction as instruction;
 ghost use Rattle.burr_code.specs.Instruction.{label_bytes, spelled};
 ghost use Rattle.burr_plantext.specs.Rules.Checks.{is_in_range, is_known};
 ghost use Rattle.burr_plantext.specs.Rules.Meaning.{number_of};
@@ -10,12 +8,11 @@ ghost use Rattle.burr_asm.specs.Views.Coded.{coded_bytes, coded_size, has_unknow
 ghost use Rattle.burr_asm.specs.Views.Faults.{IsUnknownAt};
 ghost use Rattle.burr_asm.specs.Views.LineWords.{code_words};
 ghost use Rattle.burr_asm.specs.Views.Names.{has_byte};
+ghost use Rattle.burr_code.specs.Instruction as instruction;
 
 use crate::fault::AsmFault;
-use crate::text::code_line::CodeLine;
-use crate::text::names::Names;
-use crate::text::offer::OfferWords;
-use crate::text::plain::Plain;
+use crate::text::code::{CodeLine, Plain};
+use crate::text::names::{Names, OfferWords};
 use crate::text::slot::Slot;
 use burr_code::{Instr, Labels, encode};
 use burr_text::cut_at;

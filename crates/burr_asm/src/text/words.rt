@@ -6,7 +6,7 @@ ghost use Rattle.burr_asm.specs.Views.Words.{cut_word};
 
 use burr_text::{cut_at, is_name, is_number};
 
-/// A number as it is written: `0`, or digits of which the first isn't `0`, perhaps after a `-`.
+/// A number as it is written: `0`, or digits whose first isn't `0`, perhaps after a `-`.
 #[derive(Clone, Copy)]
 pub struct NumberWord<'a> {
     bytes: &'a [u8],

@@ -1,4 +1,4 @@
--- The name of a piece in a text: by its lines, of which tests tell those of a piece's form.
+-- The name of a piece in a text, by the lines of the text. Tests tell which lines have a piece's form.
 use Rattle.std.specs.Prelude.{ℕ, ◌==◌, Bool, true, false, ◌&&◌, ◌||◌, nat_le, List, [], ◌∷◌, length, drop, map, codes, slice_index, slice_index_or, bytes_eq}
 use Rattle.std.specs.List.{filter, list_all, slice_split}
 use Rattle.burr_text.specs.Names.{is_digit}
@@ -9,7 +9,7 @@ but_last [] = []
 but_last (part ∷ []) = []
 but_last (part ∷ next ∷ parts) = part ∷ but_last (next ∷ parts)
 
--- the lines of a text, each without its end; what stands after the last end is none
+-- the lines of a text, each without its end; what stands after the last end is no line
 abbrev pub lines_of : List ℕ → List (List ℕ)
 lines_of text = but_last (slice_split (λ b. b == 10) text)
 
@@ -21,7 +21,7 @@ line_words line = slice_split (λ b. b == 32) line
 abbrev pub is_word : List ℕ → Bool
 is_word word = nat_le 1 (length word) && list_all (λ b. nat_le 33 b && nat_le b 126) word
 
--- digits of which the first isn't `0`
+-- digits whose first isn't `0`
 abbrev pub is_count : List ℕ → Bool
 is_count word = nat_le 49 (slice_index word 0) && list_all is_digit word
 

@@ -1,8 +1,12 @@
 ghost use Rattle.std.specs.Prelude.{◌≡◌, ◌↔◌, IsTrue, MatchOption};
-ghost use Rattle.burr_assembly.specs.Rules.Lines.{LineForm, IsLine, IsMarks, IsPieceWords, PieceWords, piece_words_text};
-ghost use Rattle.burr_assembly.specs.Views.LineViews.{HasWords, form_of, words_of};
+ghost use Rattle.burr_voxels.specs.declared.cell.Cell.{Cell as CellOf};
+ghost use Rattle.burr_assembly.specs.Rules.Lines.{LineForm, IsLine, IsMarks, IsPieceWords, PieceWords, piece_words_text, PieceLine as PieceForm};
+ghost use Rattle.burr_assembly.specs.Views.LineViews.{HasWords, form_of, words_of, IsCoordinateText};
+ghost use Rattle.burr_assembly.specs.Rules.Text.{IsPositionText};
+ghost use Rattle.burr_assembly.specs.Rules.PieceNames.{name_at};
 
-use burr_text::{cut_at, is_number, is_word};
+use burr_text::{cut_at, integer, is_number, is_word};
+use burr_voxels::Cell;
 
 /// A line of an assembly text by its form alone: its words are not judged yet, and whether it may
 /// stand where it stands isn't either.
@@ -72,8 +76,7 @@ fn is_row(bytes: &[u8]) -> bool
 }
 
 impl PieceLine<'_> {
-    /// The words after `piece `; None where they are not six words of which the last three are
-    /// numbers.
+    /// The words after `piece `; None unless there are six words and the last three are numbers.
     fn parse(bytes: &[u8]) -> Option<PieceLine<'_>>
         ensures { MatchOption result
             ((w : PieceWords) → IsPieceWords w → ¬ (bytes.now ≡ piece_words_text w))
@@ -106,5 +109,64 @@ impl PieceLine<'_> {
             && is_number(self.x)
             && is_number(self.y)
             && is_number(self.z)
+    }
+}
+
+/// A coordinate of a position is at most this, either way.
+const REACH: i32 = 64;
+
+/// The coordinate that is written so, if one of -64..64 is.
+fn coordinate(text: &[u8]) -> Option<i32>
+    ensures { IsCoordinateText text.now result }
+{
+    let value = integer(text)?;
+    if -REACH <= value && value <= REACH {
+        Some(value)
+    } else {
+        None
+    }
+}
+
+/// The position whose coordinates are written so, if each is one of -64..64.
+pub fn position(x: &[u8], y: &[u8], z: &[u8]) -> Option<Cell>
+    ensures { MatchOption result ((c : CellOf) → ¬ IsPositionText x.now y.now z.now c)
+        (IsPositionText x.now y.now z.now) }
+{
+    let (x, y, z) = (coordinate(x)?, coordinate(y)?, coordinate(z)?);
+    Some(Cell { x, y, z })
+}
+
+/// The name of the piece with this number, counted from 0, in a text whose lines are well formed as
+/// far as the line of that piece. The name is empty where the text has no such line.
+pub fn piece_name(text: &[u8], piece: u8) -> &[u8]
+    ensures { result.now ≡ name_at text.now piece }
+{
+    let mut left = piece;
+    let mut rest = text;
+    while let Some((line, more)) = cut_at(rest, b'\n') {
+        if let Some(words) = piece_line(line) {
+            if left == 0 {
+                return words.name;
+            }
+            left -= 1;
+        }
+        rest = more;
+    }
+    b""
+}
+
+/// The words of a line that is of a piece's form.
+fn piece_line(bytes: &[u8]) -> Option<PieceLine<'_>>
+    ensures { MatchOption result
+        ((w : PieceWords) → ¬ IsLine bytes.now (PieceForm w))
+        (λ words. IsLine bytes.now (PieceForm (words_of words))) }
+{
+    match TextLine::parse(bytes)? {
+        TextLine::Piece(words) => Some(words),
+        TextLine::Assembly(_)
+        | TextLine::Shape(_)
+        | TextLine::Layer
+        | TextLine::Row(_)
+        | TextLine::End => None,
     }
 }

@@ -4,9 +4,8 @@ ghost use Rattle.burr_assembly.specs.Rules.Lines.{LayerLine, RowLine, EndLine};
 ghost use Rattle.burr_assembly.specs.Rules.Faults.{IsFinishedLayer, IsRow, Shapes};
 ghost use Rattle.burr_assembly.specs.Views.ReaderViews.{sketched, SketchGives, IsDue};
 
-use crate::drawing::{Layer, Row, SIDE, cells_of};
 use crate::fault::AssemblyFault;
-use crate::shape::DrawnShape;
+use crate::shape::{DrawnShape, Layer, Row, SIDE, cells_of};
 use burr_text::Name;
 use burr_voxels::{Cell, Cells, Shape};
 use std::alloc::Global;
@@ -38,7 +37,7 @@ impl Model for Sketch {
 }
 
 impl Sketch {
-    /// A shape of which nothing is drawn yet.
+    /// A shape with nothing drawn yet.
     pub fn new(alloc: Global, name: Name) -> Sketch
         ensures { result ≡ record { drawing = record { name = name; layers = [] }; begun = None } }
     {

@@ -4,9 +4,8 @@ ghost use Rattle.std.specs.List.{flat_map};
 ghost use Rattle.burr_assembly.specs.Rules.Text.{text_of, shape_text, layer_text, piece_text};
 ghost use Rattle.burr_assembly.specs.Views.HomedPieces.{pieces_of};
 
-use crate::drawing::{Layer, Row};
 use crate::piece::Piece;
-use crate::shape::DrawnShape;
+use crate::shape::{DrawnShape, Layer, Row};
 use burr_text::Name;
 use itoa::Buffer;
 use std::alloc::{AllocError, Global};

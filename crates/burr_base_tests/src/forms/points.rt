@@ -3,7 +3,7 @@ use super::{MOST, form, is_small, number};
 use burr_forms::{Box8, Form, Guards, Points};
 use std::process::Abort;
 
-/// Asserts the points of a box under guards, of each of which the first two numbers are given.
+/// Asserts the points of a box under guards; a pair is the first two numbers of a point.
 fn assert_points(rt: &impl Abort, ranges: &[(i32, i32)], guards: &[Form], pairs: &[(i32, i32)]) {
     let ranges = Box8::new(ranges).expect(rt, "ranges");
     let guards = Guards::new(guards).expect(rt, "guards");

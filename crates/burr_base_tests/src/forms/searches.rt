@@ -19,7 +19,7 @@ fn assert_found(
     assert!(rt; is_point(&point, found));
 }
 
-/// Whether a point has these numbers, or there is none where none are given.
+/// Whether a point has these numbers; without numbers, whether there is no point.
 fn is_point(point: &Option<Point>, numbers: Option<&[i32]>) -> bool {
     match (point, numbers) {
         (Some(point), Some(numbers)) => point.as_slice() == numbers,

@@ -6,7 +6,7 @@ use super::{MOST, form, is_small, number};
 use burr_forms::{Form, FormTooLarge, Guards};
 use std::process::Abort;
 
-/// Asserts the value of a form at a point, in the front of which these numbers stand.
+/// Asserts the value of a form at a point.
 fn assert_value(rt: &impl Abort, form: Form, point: [i32; 8], value: i64) {
     assert!(rt; is_small(&form));
     assert!(rt; point.iter().all(|number| is_near(*number)));

@@ -1,4 +1,4 @@
--- Looks, which are queries that are counted: of which assembly's pieces, and how many so far.
+-- Looks are queries that are counted. Kept are the assembly whose pieces they are about, and their number so far.
 use Rattle.std.specs.Prelude.{◌≡◌, ℕ, ◌+◌}
 use Rattle.burr_assembly.specs.Rules.Text.{Assembly}
 
@@ -13,6 +13,6 @@ counted assembly count = record { assembly = assembly; count = count }
 abbrev pub with_more : ℕ → Counted → Counted
 with_more n looks = record looks { count = looks.count + n }
 
--- a number of looks of which `AreLooks` holds was made, and nothing else changed
+-- a number of looks was made for which `AreLooks` holds, and nothing else changed
 abbrev pub HasCounted : (ℕ → Type 0) → Counted → Counted → Type 0
 HasCounted AreLooks old new = (n : ℕ) × AreLooks n × (new ≡ with_more n old)

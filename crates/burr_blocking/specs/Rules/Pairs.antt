@@ -4,8 +4,8 @@ use Rattle.burr_voxels.specs.declared.cell.Cell.{Cell}
 use Rattle.burr_voxels.specs.declared.direction.Direction.{Direction}
 use Rattle.burr_voxels.specs.Grid.{plus, along, shifted}
 use Rattle.burr_voxels.specs.CellSets.{Overlap}
-use Rattle.burr_blocking.specs.declared.query.Query.{Query}
-use Rattle.burr_blocking.specs.declared.query.Query.TheVariants as queries
+use Rattle.burr_blocking.specs.declared.blocking.Query.{Query}
+use Rattle.burr_blocking.specs.declared.blocking.Query.TheVariants as queries
 
 -- the first piece, displaced by d, overlaps the second
 abbrev pub IsBlocked : List Cell → List Cell → Cell → Type 0

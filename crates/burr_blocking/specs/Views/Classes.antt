@@ -4,7 +4,7 @@ use Rattle.std.specs.List.{All}
 use Rattle.burr_voxels.specs.declared.cell.Cell.{Cell}
 use Rattle.burr_assembly.specs.Rules.Homes.{home_at}
 use Rattle.burr_blocking.specs.declared.triangle.translate.Translate.{Translate}
-use Rattle.burr_blocking.specs.declared.triangle.classes.Classes.{Classes}
+use Rattle.burr_blocking.specs.declared.triangle.Classes.{Classes}
 use Rattle.burr_blocking.specs.Views.Translates.{IsTranslate, representative_at}
 
 -- cells are a translate of those of the representative of a class

@@ -2,8 +2,8 @@
 -- representative of each one before it against its own.
 use Rattle.std.specs.Prelude.{◌≡◌, ℕ, ◌<◌, List, length, slice_index_or}
 use Rattle.burr_voxels.specs.declared.cell.Cell.{Cell}
-use Rattle.burr_blocking.specs.declared.triangle.classes.Classes.{Classes}
-use Rattle.burr_blocking.specs.declared.triangle.class_pairs.ClassPairs.{ClassPairs}
+use Rattle.burr_blocking.specs.declared.triangle.Classes.{Classes}
+use Rattle.burr_blocking.specs.declared.triangle.ClassPairs.{ClassPairs}
 use Rattle.burr_blocking.specs.Views.Classes.{AreClasses, IsPairCount}
 use Rattle.burr_blocking.specs.Views.Overlaps.{AreOverlapsOf}
 use Rattle.burr_blocking.specs.Views.Translates.{representative_at}

@@ -31,7 +31,7 @@ decide_all_numbers P each bound beyond = by_exception (decide_some_below (λ k. 
         at k (inl below) (inr h) = absurd (none (k, below, h))
         at k (inr above) (inr h) = beyond k (omega arith)
 
--- whether all values of which something holds are so, where it holds of one at most
+-- whether each value that fulfils `Holds` fulfils `P` too, where at most one value fulfils `Holds`
 pub decide_of_the_one : {A : Type 0} (Holds P : A → Type 0) → ((x y : A) → Holds x → Holds y → x ≡ y)
     → Decided ((x : A) × Holds x) → ((x : A) → Decided (P x)) → Decided ((x : A) → Holds x → P x)
 decide_of_the_one Holds P one (inr none) each = inl (λ x h. absurd (none (x, h)))

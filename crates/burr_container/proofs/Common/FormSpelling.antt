@@ -15,7 +15,7 @@ use Rattle.burr_container.proofs.Common.Spelled.{OneSpelling, apart_three, betwe
 pub zero_only : (n : ℤ) → IsTrue (is_between (pos 0) (pos 0) n) → n ≡ pos 0
 zero_only n test = let both = between (pos 0) (pos 0) n test in omega (arith, ints, both.0, both.1)
 
--- coefficients, of which those of the live slots are spelled and the others are 0
+-- coefficients: those of the live slots are spelled, and the others are 0
 one_coefficients : (live : List Bool) (xs ys : List ℤ) (r s : List ℕ)
     → IsTrue (are_coefficients live xs) → IsTrue (are_coefficients live ys)
     → flat_map signed_word (of_live live xs) ++ r ≡ flat_map signed_word (of_live live ys) ++ s

@@ -2,7 +2,7 @@
 use Rattle.std.proofs.Common.{◌≡◌, ℕ, ◌≤◌, true, IsTrue, nat_le, Option, Some, None, List, [], ◌∷◌, refl, sym, ap, ◌∙◌, subst, leb-true}
 use Rattle.std.proofs.lemmas.Bool.{and_parts}
 use Rattle.burr_container.specs.declared.exit_ref.ExitRef.{ExitRef}
-use Rattle.burr_container.specs.declared.stored_procedure.StoredProcedure.{StoredProcedure}
+use Rattle.burr_container.specs.declared.procedure_ref.StoredProcedure.{StoredProcedure}
 use Rattle.burr_container.specs.Rules.Plans.{Plan, PlanProcedure, ExitFrame, Frame}
 use Rattle.burr_container.specs.Rules.Fitting.{is_fitting}
 use Rattle.burr_container.specs.Views.InPlace.{AreFor, IsLabel, IsExit, IsProcedure}

@@ -58,7 +58,7 @@ range_sound =
     (λ low fits. signed_sound (is_high low)
     (λ high test. word_test high (and_parts (is_number high) (int_le low high) test).0)))
 
--- slots of which these are live
+-- the ranges of slots; `live` tells which slots are live
 abbrev pub OfRanges : List Bool → Front (List (Option Range))
 OfRanges live ranges bytes r =
     (live_slots ranges ≡ live) × IsTrue (list_all is_range ranges)

@@ -140,7 +140,7 @@ place live = record {
       by_test (tray == 255) passes (each 3 (form live)));
 }
 
--- a place for each piece, of which there are `pieces`
+-- a place for each piece; there are `pieces` of them
 abbrev pub places : ℕ → List Bool → Part (List (Placement FormCell))
 places pieces live = record {
   bytes = places_bytes live;

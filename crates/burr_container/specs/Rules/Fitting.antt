@@ -47,7 +47,7 @@ are_slots slots = (length slots == SLOTS) && list_all is_range slots
 abbrev pub is_tray : ℕ → Bool
 is_tray tray = nat_lt tray TRAYS
 
--- a set of pieces, bit p for piece p, all of which are below `pieces`
+-- a set of pieces, bit p for piece p; all its pieces are below `pieces`
 abbrev pub is_set_of : ℕ → ℕ → Bool
 is_set_of pieces set = nat_lt set (2 ^ pieces)
 

@@ -5,7 +5,7 @@ use Rattle.burr_code.specs.declared.placement.Placement.{Placement}
 use Rattle.burr_code.specs.Places.{at_position}
 use Rattle.burr_code.specs.declared.limits.TheConstants.{SLOTS}
 use Rattle.burr_forms.specs.Rules.Forms.{Form}
-use Rattle.burr_container.specs.declared.form_offset.FormOffset.{FormOffset}
+use Rattle.burr_container.specs.declared.frame_ref.FormOffset.{FormOffset}
 
 -- a position by forms
 abbrev pub FormCell : Type 0

@@ -1,8 +1,8 @@
 -- What a container stands for.
 use Rattle.std.specs.Prelude.{◌≡◌, ◌<◌, ℕ, List, length, Some, IfSome, Result, MatchResult, slice_get, IsTrue}
 use Rattle.burr_container.specs.declared.fault.ContainerFault.{ContainerFault}
-use Rattle.burr_container.specs.declared.header.Header.{Header}
-use Rattle.burr_container.specs.declared.stored_procedure.StoredProcedure.{StoredProcedure}
+use Rattle.burr_container.specs.declared.container.Header.{Header}
+use Rattle.burr_container.specs.declared.procedure_ref.StoredProcedure.{StoredProcedure}
 use Rattle.burr_container.specs.Rules.Plans.{Plan, PlanProcedure, Frame}
 use Rattle.burr_container.specs.Rules.Spelling.{plan_bytes}
 use Rattle.burr_container.specs.Rules.Fitting.{is_fitting}

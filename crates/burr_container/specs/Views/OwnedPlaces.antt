@@ -2,8 +2,8 @@
 use Rattle.std.specs.Prelude.{List, map}
 use Rattle.burr_code.specs.declared.placement.Placement.{Placement}
 use Rattle.burr_code.specs.declared.placement.Placement.TheVariants.{Apart, On}
-use Rattle.burr_container.specs.declared.place.Place.{Place}
-use Rattle.burr_container.specs.declared.place.Place.TheVariants as place
+use Rattle.burr_container.specs.declared.plan.Place.{Place}
+use Rattle.burr_container.specs.declared.plan.Place.TheVariants as place
 use Rattle.burr_container.specs.Rules.Plans.{FormCell}
 
 -- where the piece lies

@@ -5,7 +5,7 @@ use Rattle.std.proofs.KnownBytes.{Appends-nil, Appends-trans}
 use Rattle.std.specs.Io.KnownBytes.{Appends}
 use Rattle.std.specs.List.{join_with_byte}
 use Rattle.burr_io.specs.Sink.{SinkView, FailsWithin, Puts}
-use Rattle.burr_io.specs.declared.fault.WriteFault.{WriteFault}
+use Rattle.burr_io.specs.declared.sink.WriteFault.{WriteFault}
 
 -- a part went, and the sink fails within what follows
 pub FailsWithin-more : {S : Type 0} {sink : SinkView S} {old mid new : S} (part : List ℕ) {rest : List ℕ}

@@ -17,7 +17,7 @@ use Rattle.burr_plantext.proofs.Common.Cuts.{some_pieces}
 use Rattle.burr_plantext.proofs.Common.Pieces.{one_piece}
 use Rattle.burr_plantext.proofs.Common.ParsedNumbers.{or_cases}
 
--- bytes of which each passes a test that the byte c does not pass
+-- bytes that all pass a test lack the byte c, which does not pass it
 each_passes : (is_so : ℕ → Bool) (c : ℕ) → is_so c ≡ false → (bytes : List ℕ) → IsTrue (list_all is_so bytes) → Lacks c bytes
 each_passes is_so c fails [] h = tt
 each_passes is_so c fails (b ∷ bytes) h =
@@ -102,7 +102,7 @@ only_piece c (b ∷ w) p e = by (b == c) (pieces c w) (some_pieces c w) (only_pi
     by false (q ∷ []) some h e = sym (ap (λ (ps : List (List ℕ)). slice_index_or ps 0 []) e) ∙ ap (λ (r : List ℕ). b ∷ r) (h q refl)
     by false (q ∷ r ∷ more) some h e = absurd (let k = ap (λ (s : List (List ℕ)). length s) e in omega (arith, k))
 
--- one operand, of which all that are so have no blank
+-- one operand, where no word that passes the test has a blank
 pub one_word : {A : Type 0} (is_so : List ℕ → Bool) → ((w : List ℕ) → IsTrue (is_so w) → Lacks 32 w) → (line : List ℕ → A) (w : List ℕ)
     → one is_so line (words_of w) ≡ given (is_so w) (line w)
 one_word {A} is_so lack line w = by (is_so w) refl (pieces 32 w) refl

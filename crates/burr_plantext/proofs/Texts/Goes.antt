@@ -60,7 +60,7 @@ module _ {A : Type 0} (line : A → Line) (state : List A → Beginning) (check 
       goes_on (state before) (state (before ++ x ∷ [])) (state (before ++ (x ∷ xs))) (line x) (map line xs)
       (step_of (state before) (state (before ++ x ∷ [])) (line x) (check before x) (step before x) parts.0) more
 
--- lines of which there have to be this many
+-- lines of one kind; there have to be n of them
 module _ {A : Type 0} (n : ℕ) (line : A → Line) (state ended : List A → Beginning) (check : List A → A → Option FaultKind)
     (step : (before : List A) (x : A) (p : ℕ) → with_line p (state before) (Reads (line x)) ≡ judged p (check before x) (if length (before ++ x ∷ []) == n then ended (before ++ x ∷ []) else state (before ++ x ∷ []))) where
   pub goes_counted : (before xs : List A) → IsTrue (each_after (λ b x. is_none (check b x)) before xs)

@@ -40,7 +40,7 @@ slots a b = a ∷ b ∷ replicate 6 None
 abbrev up_to : ℕ → Option Range
 up_to n = Some (pos 0, pos n)
 
--- a frame of two pieces, of which the second stays at home
+-- a frame of two pieces; the second stays at home
 abbrev frame : ℕ → List (Option Range) → List Form → Form → Form → Frame
 frame grip live guards cost z = record {
   tray = 0;

@@ -172,7 +172,7 @@ label_check before name =
     unless (not (is_known (label_names before) name)) P2
     (unless (nat_lt (length before) MOST_LABELS && list_all has_code before) P4 None)
 
--- the line names a label or a procedure that is none of these
+-- the line names a label or a procedure that is not among these
 abbrev pub names_unknown : List (List ℕ) → List (List ℕ) → Statement → Bool
 names_unknown labels procedures (Jump label) = not (is_known labels label)
 names_unknown labels procedures (Down slot label) = not (is_known labels label)

@@ -16,7 +16,7 @@ pub record OpenProcedure : Type 0 where
   pub ended : List ProcedureSource
   pub head : ProcedureWords
 
--- a procedure of which the first line has been read
+-- a procedure whose first line has been read
 abbrev pub open_procedure : PlanWords → List ProcedureSource → ProcedureWords → OpenProcedure
 open_procedure title ended head = record { title = title; ended = ended; head = head }
 
@@ -33,7 +33,7 @@ pub data Stage : Type 0 where
   -- lines of the frame before its cost
   InFrame : (exit : Option ExitSource) (blocks : List Block) (label : List ℕ) (c : Conditions)
       → Stage
-  -- the frame, of which pieces are due
+  -- the frame: its pieces are due
   InPieces : (exit : Option ExitSource) (blocks : List Block) (label : List ℕ) (f : FrameSource)
       → Stage
   -- after the frame: code of the last block

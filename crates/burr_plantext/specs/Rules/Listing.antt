@@ -134,7 +134,7 @@ has_names labels procedures (code.Pick offered) = list_all (λ label. nat_lt lab
 has_names labels procedures (code.Call callee) = nat_lt callee procedures
 has_names labels procedures i = true
 
--- an instruction of which all names are there
+-- an instruction whose names are all there
 pub record MayBeListed (labels procedures : ℕ) (i : Instruction) : Type 0 where
   pub in_range : IsInRange i
   pub names : IsTrue (has_names labels procedures i)

@@ -14,7 +14,7 @@ use Rattle.burr_plantext.specs.Rules.Sources.{ExitSource, FrameSource, Block, Pr
 
 -- Code
 
--- the number of a name among names; as many as there are, where it is none of them
+-- the number of a name among names; where it is not among them, how many names there are
 abbrev pub number_of : List (List ℕ) → List ℕ → ℕ
 number_of [] name = 0
 number_of (first ∷ names) name = if bytes_eq first name then 0 else suc (number_of names name)
@@ -107,7 +107,7 @@ some_exit_in (Some e) = Some (exit_in e)
 
 -- Procedures
 
--- the labels of blocks of which the first begins at this position
+-- the labels of blocks; the first block begins at this position
 abbrev pub labels_in : ℕ → List Block → List (ℕ × Frame)
 labels_in position [] = []
 labels_in position (b ∷ blocks) =

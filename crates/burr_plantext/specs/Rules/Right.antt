@@ -80,7 +80,7 @@ is_right_so_far s =
 
 -- Unknown names
 
--- it is a line of code with a name that is none of these
+-- it is a line of code with a name that is not among these
 abbrev pub has_unknown_name : List (List ℕ) → List (List ℕ) → Line → Bool
 has_unknown_name labels procedures (CodeLine statement) =
     names_unknown labels procedures statement

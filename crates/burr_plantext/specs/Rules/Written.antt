@@ -26,7 +26,7 @@ pieces separator (b ∷ bytes) = parted (b == separator) b (pieces separator byt
 
 -- Numbers
 
--- digits of which the first isn't `0`
+-- digits whose first isn't `0`
 abbrev pub is_count : List ℕ → Bool
 is_count [] = false
 is_count (b ∷ bytes) = nat_le 49 b && nat_le b 57 && list_all is_digit bytes
@@ -102,7 +102,7 @@ abbrev pub signed : Bool → ℕ → List (List ℕ) → List (List ℕ)
 signed true b more = [] ∷ in_first b more
 signed false b more = in_first b more
 
--- parts of which each but the first begins with a sign
+-- parts; each part but the first begins with a sign
 abbrev pub signed_parts : List ℕ → List (List ℕ)
 signed_parts [] = [] ∷ []
 signed_parts (b ∷ bytes) = signed (is_sign b) b (signed_parts bytes)

@@ -43,13 +43,13 @@ pub record IsOverFirst (live : List Bool) (f : ExitFrame) : Type 0 where
   pub guards : AreOver live f.guards
   pub places : ArePlacesOver live f.places
 
--- a term for each symbol, of which these are the slots
+-- a term for each symbol; these are the slots of the symbols
 abbrev pub symbol_terms : List ℕ → List ℤ → List ℕ
 symbol_terms [] coefs = []
 symbol_terms (slot ∷ symbols) [] = []
 symbol_terms (slot ∷ symbols) (c ∷ coefs) = term_word slot c ++ symbol_terms symbols coefs
 
--- the word of a form of which these are the slots of its symbols
+-- the word of a form; these are the slots of its symbols
 abbrev pub symbol_word : List ℕ → Form → List ℕ
 symbol_word symbols f = signed_decimal f.constant ++ symbol_terms symbols f.coefs
 

@@ -47,7 +47,7 @@ same_axes x y z a b c h =
 pub axes_read : (x y z : Direction) (name rest : List ℕ) → name_of x ≡ take 2 name → rest ≡ drop 2 name → name_of y ≡ take 2 rest → name_of z ≡ drop 2 rest → axes_name x y z ≡ name
 axes_read x y z name rest in_x is in_y in_z = rw (in_x, in_y, in_z, take-append-drop 2 rest, is, take-append-drop 2 name)
 
--- the orientation of a name is the one with the images that the name spells, and where there is none, no other has it
+-- the orientation with a name is the one whose images the name spells; where no orientation has these images, none has the name
 pub named_by : (x y z : Direction) (name : List ℕ) (found : Option Orientation) → axes_name x y z ≡ name → MatchOption found (¬ IsRotation x y z) (λ o. (o.x ≡ x) × (o.y ≡ y) × (o.z ≡ z)) → MatchOption found ((a b c : Direction) → IsRotation a b c → axes_name a b c ≢ name) (λ o. axes_name o.x o.y o.z ≡ name)
 named_by x y z name None is none = λ a b c r same.
     let all = same_axes a b c x y z (same ∙ sym is) in

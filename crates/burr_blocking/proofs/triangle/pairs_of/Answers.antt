@@ -1,6 +1,6 @@
 use Rattle.std.proofs.Common.{◌≡◌, ℕ, length, subst, sym, arith}
 use Rattle.burr_assembly.specs.Rules.Homes.{homes_of}
-use Rattle.burr_blocking.specs.declared.triangle.class_pairs.ClassPairs.{ClassPairs}
+use Rattle.burr_blocking.specs.declared.triangle.ClassPairs.{ClassPairs}
 use Rattle.burr_blocking.specs.Views.Triangles.{AreClassPairs, AreFirstPairs}
 use Rattle.burr_blocking.proofs.Triangles.{one_pushed}
 use Rattle.burr_blocking.proofs.triangle.pairs_of.Goals as goal

@@ -5,7 +5,7 @@ use Rattle.burr_forms.specs.Rules.Forms.{Form}
 use Rattle.burr_container.specs.Rules.Plans.{Frame}
 use Rattle.burr_container.specs.Rules.Fitting.{are_forms, are_places, is_frame_rest}
 use Rattle.burr_container.specs.Views.OwnedPlaces.{placements_of}
-use Rattle.burr_container.specs.declared.place.Place.{Place}
+use Rattle.burr_container.specs.declared.plan.Place.{Place}
 use Rattle.burr_container.proofs.Fits.{first_fails, second_fails, last_of_four}
 use Rattle.burr_container.proofs.fitting.is_frame_rest.Goals as goal
 

@@ -2,7 +2,7 @@
 use Rattle.std.proofs.Common.{sym, subst}
 use Rattle.std.specs.Prelude.{◌<◌, ◌≤◌, List, length, slice_index_or}
 use Rattle.std.proofs.lemmas.Option.{slice_get-get_or}
-use Rattle.burr_container.specs.declared.stored_procedure.StoredProcedure.{StoredProcedure}
+use Rattle.burr_container.specs.declared.procedure_ref.StoredProcedure.{StoredProcedure}
 use Rattle.burr_container.specs.Views.InPlace.{AreFor, IsProcedure}
 use Rattle.burr_container.specs.Views.Containers.{ContainerView, container_view, IsContainer}
 use Rattle.burr_container.proofs.WithinFormat.{code_short}

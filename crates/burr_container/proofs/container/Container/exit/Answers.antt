@@ -1,7 +1,7 @@
 -- That of the procedure.
 use Rattle.std.proofs.Common.{sym, subst}
 use Rattle.std.specs.Prelude.{List}
-use Rattle.burr_container.specs.declared.stored_procedure.StoredProcedure.{StoredProcedure}
+use Rattle.burr_container.specs.declared.procedure_ref.StoredProcedure.{StoredProcedure}
 use Rattle.burr_container.specs.Views.InPlace.{AreFor, IsProcedure}
 use Rattle.burr_container.specs.Views.Containers.{ContainerView, IsContainer}
 use Rattle.burr_container.proofs.Kept.{for_at}

@@ -2,7 +2,7 @@
 use Rattle.std.proofs.Common.{◌≡◌, ◌∙◌, sym, ap, subst, ℕ}
 use Rattle.std.specs.Prelude.{List, slice_index_or}
 use Rattle.std.proofs.lemmas.Option.{slice_get-get_or}
-use Rattle.burr_container.specs.declared.stored_procedure.StoredProcedure.{StoredProcedure}
+use Rattle.burr_container.specs.declared.procedure_ref.StoredProcedure.{StoredProcedure}
 use Rattle.burr_container.specs.Views.InPlace.{AreFor, IsProcedure, IsLabel}
 use Rattle.burr_container.specs.Views.Containers.{ContainerView, IsContainer, HasPlan}
 use Rattle.burr_container.proofs.Kept.{for_at}

@@ -2,7 +2,7 @@
 use Rattle.std.proofs.Common.{◌≡◌, ◌≤◌, ◌∙◌, sym, ap, subst}
 use Rattle.std.specs.Prelude.{List, slice_index_or}
 use Rattle.burr_code.specs.declared.limits.TheConstants.{MOST_PARAMETERS}
-use Rattle.burr_container.specs.declared.stored_procedure.StoredProcedure.{StoredProcedure}
+use Rattle.burr_container.specs.declared.procedure_ref.StoredProcedure.{StoredProcedure}
 use Rattle.burr_container.specs.Views.InPlace.{AreFor, IsProcedure}
 use Rattle.burr_container.specs.Views.Containers.{ContainerView, IsContainer, HasPlan}
 use Rattle.burr_container.proofs.FewCounts.{few_counts}

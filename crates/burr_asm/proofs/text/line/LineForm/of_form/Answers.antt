@@ -3,8 +3,8 @@ use Rattle.std.specs.Prelude.{◌≡◌, None}
 use Rattle.burr_plantext.specs.Rules.Lines.{GuardLine, StackLine, CostLine}
 use Rattle.burr_plantext.specs.Rules.Texts.{words_of}
 use Rattle.burr_plantext.specs.Rules.Written.{is_form}
-use Rattle.burr_asm.specs.declared.text.keyword.FormKeyword.{FormKeyword}
-use Rattle.burr_asm.specs.declared.text.keyword.FormKeyword.TheVariants as form
+use Rattle.burr_asm.specs.declared.text.line.FormKeyword.{FormKeyword}
+use Rattle.burr_asm.specs.declared.text.line.FormKeyword.TheVariants as form
 use Rattle.burr_asm.specs.Views.Keywords.{form_line}
 use Rattle.burr_asm.proofs.LineForms.{form_lacks}
 use Rattle.burr_asm.proofs.Operands.{last_failed, last_passed}

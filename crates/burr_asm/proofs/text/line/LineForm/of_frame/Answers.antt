@@ -1,7 +1,7 @@
 use Rattle.std.proofs.Common.{ap, ◌∙◌}
 use Rattle.burr_plantext.specs.Rules.Lines.{ResultLine, SlotLine}
 use Rattle.burr_plantext.specs.Rules.Texts.{words_of}
-use Rattle.burr_asm.specs.declared.text.keyword.FrameKeyword.{FrameKeyword}
+use Rattle.burr_asm.specs.declared.text.line.FrameKeyword.{FrameKeyword}
 use Rattle.burr_asm.specs.Views.Keywords.{frame_line}
 use Rattle.burr_asm.proofs.LineForms.{mapped, result_mapped, slot_mapped}
 use Rattle.burr_asm.proofs.text.line.LineForm.of_frame.Goals as goal

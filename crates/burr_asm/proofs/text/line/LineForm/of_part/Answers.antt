@@ -3,7 +3,7 @@ use Rattle.burr_container.specs.Rules.Fitting.{is_name_text}
 use Rattle.burr_plantext.specs.Rules.Lines.{ExitLine, LabelLine, FrameLine}
 use Rattle.burr_plantext.specs.Rules.Texts.{words_of}
 use Rattle.burr_plantext.proofs.Common.Blanks.{name_lacks}
-use Rattle.burr_asm.specs.declared.text.keyword.PartKeyword.{PartKeyword}
+use Rattle.burr_asm.specs.declared.text.line.PartKeyword.{PartKeyword}
 use Rattle.burr_asm.specs.Views.Keywords.{part_line}
 use Rattle.burr_asm.proofs.LineForms.{mapped, grip_mapped}
 use Rattle.burr_asm.proofs.Operands.{last_failed, last_passed}
