@@ -2,9 +2,9 @@
 use Rattle.std.specs.Prelude.{Result, Ok}
 use Rattle.burr_code.specs.Instruction.{Instruction}
 use Rattle.burr_assembly.specs.Rules.Homes.{homes_of}
-use Rattle.burr_state.specs.declared.trap.Trap.{Trap}
-use Rattle.burr_bench.specs.declared.checked.way.Way.{Way}
-use Rattle.burr_bench.specs.declared.checked.way.Way.TheVariants as ways
+use Rattle.burr_state.specs.declared.effect.Trap.{Trap}
+use Rattle.burr_bench.specs.declared.checked.Way.{Way}
+use Rattle.burr_bench.specs.declared.checked.Way.TheVariants as ways
 use Rattle.burr_state.specs.Rules.Bench.{BenchProcedure}
 use Rattle.burr_state.specs.declared.effect.Effect.{Effect}
 use Rattle.burr_state.specs.Views.Benches.{Benched, setup_of, GoesOn, IsSameRun}

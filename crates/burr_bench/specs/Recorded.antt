@@ -1,7 +1,7 @@
 -- Records of a machine's steps.
 use Rattle.std.specs.Prelude.{◌≡◌, Option, MatchOption}
-use Rattle.burr_state.specs.declared.progress.Progress.{Progress}
-use Rattle.burr_state.specs.declared.progress.Progress.TheVariants as progress
+use Rattle.burr_state.specs.declared.effect.Progress.{Progress}
+use Rattle.burr_state.specs.declared.effect.Progress.TheVariants as progress
 use Rattle.burr_state.specs.Rules.Undo.{Undo, laid_over}
 use Rattle.burr_state.specs.Views.Benches.{Benched, in_state}
 use Rattle.burr_state.specs.Views.Records.{IsWorkState}

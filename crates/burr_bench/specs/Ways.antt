@@ -6,11 +6,11 @@ use Rattle.burr_code.specs.PieceSets.{IsInSet}
 use Rattle.burr_code.specs.declared.placement.Placement.{Placement}
 use Rattle.burr_code.specs.Places.{LiesAt}
 use Rattle.burr_assembly.specs.Rules.Homes.{home_at}
-use Rattle.burr_blocking.specs.declared.query.Query.{Query}
-use Rattle.burr_blocking.specs.declared.query.Query.TheVariants as queries
+use Rattle.burr_blocking.specs.declared.blocking.Query.{Query}
+use Rattle.burr_blocking.specs.declared.blocking.Query.TheVariants as queries
 use Rattle.burr_blocking.specs.Rules.Pairs.{Clears}
-use Rattle.burr_bench.specs.declared.checked.way.Way.{Way}
-use Rattle.burr_bench.specs.declared.checked.way.Way.TheVariants as ways
+use Rattle.burr_bench.specs.declared.checked.Way.{Way}
+use Rattle.burr_bench.specs.declared.checked.Way.TheVariants as ways
 
 -- the query that tells whether a gripped piece goes this way past another one of the tray
 abbrev pub query_of : Way → Query

@@ -13,8 +13,8 @@ use Rattle.burr_code.specs.Places.{LiesAt}
 use Rattle.burr_code.proofs.Common.Near.{near_difference}
 use Rattle.burr_code.proofs.Common.PieceSets.{not_left_out, left_out, in_set, not_in_set}
 use Rattle.burr_assembly.specs.Rules.Homes.{HasHome, home_at}
-use Rattle.burr_blocking.specs.declared.query.Query.{Query}
-use Rattle.burr_blocking.specs.declared.query.Query.TheVariants as queries
+use Rattle.burr_blocking.specs.declared.blocking.Query.{Query}
+use Rattle.burr_blocking.specs.declared.blocking.Query.TheVariants as queries
 use Rattle.burr_blocking.specs.Rules.Pairs.{Clears}
 use Rattle.burr_blocking.proofs.Common.Displaced.{free_of_difference, difference_of_free, blocked_of_overlap, overlap_of_blocked}
 use Rattle.burr_forms.specs.Rules.Forms.{Point, values}

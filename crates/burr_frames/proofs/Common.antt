@@ -1,6 +1,8 @@
+pub mod Built
 pub mod Decided
 pub mod ExitsRead
 pub mod FineVerdicts
+pub mod FirstPoints
 pub mod Heres
 pub mod Room
 pub mod RuleLooks

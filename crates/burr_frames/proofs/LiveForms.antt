@@ -41,7 +41,7 @@ found_live forms v slots known range form e f =
     ∙ ap (λ (k : List (Option Form)). in_front forms (live_forms (Some range ∷ drop (v + 1) slots) k)) (drop_here known v (Some form) f)
     ∙ in_front_first forms form (live_forms (drop (v + 1) slots) (drop (v + 1) known)))
 
--- a live slot of which nothing is known
+-- where nothing is known of a live slot
 pub found_nothing : (forms : List Form) (v : ℕ) (slots : List (Option Range)) (known : List (Option Form)) (range : Range)
     → slice_get slots v ≡ Some (Some range) → slice_get known v ≡ Some None
     → found_after forms v slots known ≡ None

@@ -7,7 +7,7 @@ use Rattle.burr_voxels.specs.declared.cell.Cell.{Cell}
 use Rattle.burr_code.specs.declared.placement.Placement.{Placement}
 use Rattle.burr_assembly.specs.Rules.Text.{Assembly}
 use Rattle.burr_assembly.specs.Rules.Homes.{homes_of, home_of}
-use Rattle.burr_blocking.specs.declared.query.Query.{Query}
+use Rattle.burr_blocking.specs.declared.blocking.Query.{Query}
 use Rattle.burr_forms.specs.Rules.Forms.{Form, Point, values, IsNear, AllNear}
 use Rattle.burr_forms.specs.Rules.Points.{IsRange, AreRanges, InBox}
 use Rattle.burr_forms.specs.Rules.Conditions.{Region, at_values, Throughout, FailsFirstAt}
@@ -74,7 +74,7 @@ pub record Searched : Type 0 where
   pub forms : List Form
   pub found : List Role
 
--- that of these places of a state, of which the assembly has n
+-- what it is handed for these places of a state, in an assembly of n pieces
 pub record IsSearchOf (s : AbstractState) (places : List (Placement FormCell)) (n : ℕ) (h : Searched) : Type 0 where
   pub region : h.region ≡ region_of s
   pub forms : h.forms ≡ offsets_in s.tray places

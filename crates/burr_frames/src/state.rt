@@ -1,27 +1,35 @@
-ghost use Rattle.std.specs.Prelude.{◌≡◌, ◌<◌, IfSome, None, get_or, reverse};
-ghost use Rattle.burr_forms.specs.Rules.Forms.{IsSmallForm};
-
-mod after;
-mod asking;
-mod calling;
-mod changes;
-mod control;
-mod copying;
-mod exit;
-mod framing;
+mod calls;
+mod instructions;
 mod meeting;
 mod moves;
-mod numbers;
-mod paying;
-mod places;
-mod returning;
-mod starting;
 
+ghost use Rattle.std.specs.Prelude.{◌≡◌, ◌<◌, IfSome, None, get_or, reverse, ◌≤◌, ◌∷◌, [], List, length, replicate, map, All, ◌+◌, ◌++◌, ◌↔◌, IsTrue, not, ◌≤ℤ◌, pos};
+ghost use Rattle.burr_voxels.specs.declared.cell.Cell.{Cell as CellOf};
+ghost use Rattle.burr_code.specs.declared.limits.TheConstants.{MOST_OPERANDS, MOST_PIECES};
+ghost use Rattle.burr_code.specs.declared.placement.Placement.TheVariants.{On};
+ghost use Rattle.burr_forms.specs.Rules.Forms.{IsSmallForm, symbol as symbol_of, AllSmallForms, value, values};
+ghost use Rattle.burr_forms.specs.Rules.Points.{AreRanges};
+ghost use Rattle.burr_container.specs.Rules.Plans.{live_slots, over_symbols, place_over_symbols};
+ghost use Rattle.burr_container.specs.Views.Refs.{frame_of};
+ghost use Rattle.burr_frames.specs.Rules.SpaceRules.{AllSmallPlaces};
+ghost use Rattle.burr_frames.specs.Rules.Starts.{start_state, home_position};
+ghost use Rattle.burr_frames.specs.Rules.FramedPlans.{framed};
+ghost use Rattle.burr_frames.specs.Rules.States.{state_of, live_ranges, numbered};
+ghost use Rattle.burr_frames.specs.Views.StateViews.{IsSmallSlot};
+ghost use Rattle.burr_frames.specs.Views.Changes.{at_cost, with_operand, without_top, with_form, with_grip, in_tray, with_places};
+ghost use Rattle.burr_frames.specs.Rules.ControlRules.{guarded};
+ghost use Rattle.burr_frames.specs.Views.Ranges.{AllInReach};
+ghost use Rattle.burr_frames.specs.Views.Breaks.{HoldsOrBreaks, Pays};
+
+use crate::breaking::Break;
+use crate::forms::{Within, lie_within, placed, raised_by};
+use crate::rule::Rule;
+use crate::state::instructions::number_form;
 use arrayvec::ArrayVec;
 use burr_code::Placement;
 use burr_code::limits::{MOST_OPERANDS, MOST_PIECES, MOST_STATE_GUARDS, SLOTS};
-use burr_container::FormOffset;
-use burr_forms::Form;
+use burr_container::{FormOffset, FrameRef};
+use burr_forms::{Form, NotNegative, first_failing};
 pub use meeting::{Miss, arrives, meets_entry, meets_exit};
 use std::marker::Model;
 
@@ -62,7 +70,8 @@ impl Model for State {
 impl State {
     /// Of each symbol, both ends in it.
     pub fn ranges(&self) -> &[(i32, i32)]
-        ensures { result.now ≡ self.now.ranges }
+        ensures ranges { result.now ≡ self.now.ranges }
+        ensures few { length result.now ≤ 8 }
     {
         self.ranges.as_slice()
     }
@@ -77,14 +86,18 @@ impl State {
 
     /// The operands, the top last.
     pub fn operands(&self) -> &[Form]
-        ensures { reverse result.now ≡ self.now.operands }
+        ensures operands { reverse result.now ≡ self.now.operands }
+        ensures few { length result.now ≤ MOST_OPERANDS }
+        ensures small { AllSmallForms result.now }
     {
         self.operands.as_slice()
     }
 
     /// Where the pieces are.
     pub fn places(&self) -> &[Placement<FormOffset>]
-        ensures { result.now ≡ self.now.places }
+        ensures places { result.now ≡ self.now.places }
+        ensures few { length result.now ≤ MOST_PIECES }
+        ensures small { AllSmallPlaces result.now }
     {
         self.places.as_slice()
     }
@@ -105,8 +118,339 @@ impl State {
 
     /// How many steps may still be made at most.
     pub fn cost(&self) -> Form
-        ensures { result ≡ self.now.cost }
+        ensures cost { result ≡ self.now.cost }
+        ensures small { IsSmallForm result }
     {
         self.cost
+    }
+}
+
+// The state of the start of a run.
+impl State {
+    /// The state with this many pieces, 32 at most, all at home in tray 0, with nothing gripped;
+    /// nothing is known of the slots, and the cost is 0.
+    pub fn at_home(pieces: u8) -> State
+        requires { pieces ≤ 32 }
+        ensures { (homes : List (List CellOf)) → length homes ≡ pieces
+            → result ≡ start_state homes }
+    {
+        State {
+            ranges: ArrayVec::new(),
+            guards: ArrayVec::new(),
+            slots: [None; 8],
+            operands: ArrayVec::new(),
+            places: home_places(pieces),
+            tray: 0,
+            grip: 0,
+            cost: number_form(0),
+        }
+    }
+}
+
+/// The places of this many pieces, all at home in tray 0.
+fn home_places(pieces: u8) -> ArrayVec<Placement<FormOffset>, MOST_PIECES>
+    requires { pieces ≤ 32 }
+    ensures places { result.items ≡ replicate pieces (On 0 home_position) }
+    ensures small { AllSmallPlaces result.items }
+{
+    let mut places = ArrayVec::new();
+    for _ in 0..pieces {
+        places.push(home(0));
+    }
+    places
+}
+
+/// The place of a piece at home in a tray.
+fn home(tray: u8) -> Placement<FormOffset>
+    ensures place { result ≡ On tray home_position }
+    ensures small { AllSmallPlaces (result ∷ []) }
+{
+    let zero = number_form(0);
+    Placement::On {
+        tray,
+        position: FormOffset {
+            x: zero,
+            y: zero,
+            z: zero,
+        },
+    }
+}
+
+// The state of a frame.
+impl State {
+    /// What a frame says: a symbol for each live slot, which is the slot's form.
+    pub fn of(frame: &FrameRef<'_>) -> State
+        ensures { result ≡ state_of (framed (frame_of frame.now)) }
+    {
+        State {
+            ranges: ranges(frame),
+            guards: guards(frame),
+            slots: slots(frame),
+            operands: operands(frame),
+            places: places(frame),
+            tray: frame.tray(),
+            grip: frame.grip(),
+            cost: frame.cost(),
+        }
+    }
+}
+
+/// The ranges of the live slots.
+fn ranges(frame: &FrameRef<'_>) -> ArrayVec<(i32, i32), 8>
+    ensures ranges { result.items ≡ live_ranges (frame_of frame.now).slots }
+    ensures are { AreRanges result.items }
+{
+    let mut ranges = ArrayVec::new();
+    for v in 0..8 {
+        let Some((low, high)) = frame.slot(v) else {
+            continue;
+        };
+        ranges.push((i32::from(low), i32::from(high)));
+    }
+    ranges
+}
+
+/// Of each live slot its symbol.
+fn slots(frame: &FrameRef<'_>) -> [Option<Form>; 8]
+    ensures slots { result ≡ numbered 0 (frame_of frame.now).slots }
+    ensures small { All IsSmallSlot result }
+{
+    let mut slots = [None; 8];
+    let mut count = 0;
+    for v in 0..8 {
+        if frame.slot(v).is_none() {
+            continue;
+        }
+        slots[usize::from(v)] = Some(symbol(count));
+        count += 1;
+    }
+    slots
+}
+
+/// The form of a symbol.
+pub(super) fn symbol(number: usize) -> Form
+    requires { number < 8 }
+    ensures symbol { result ≡ symbol_of number }
+    ensures small { IsSmallForm result }
+{
+    let mut coefs = [0; 8];
+    coefs[number] = 1;
+    Form { constant: 0, coefs }
+}
+
+/// The guards over symbols.
+fn guards(frame: &FrameRef<'_>) -> ArrayVec<Form, 8>
+    ensures guards { result.items
+        ≡ map (over_symbols (live_slots frame.now.slots)) (frame_of frame.now).guards }
+    ensures small { AllSmallForms result.items }
+{
+    let mut guards = ArrayVec::new();
+    for n in 0..frame.guard_count() {
+        guards.push(frame.guard(n));
+    }
+    guards
+}
+
+/// The operands over symbols, the bottom first.
+fn operands(frame: &FrameRef<'_>) -> ArrayVec<Form, 8>
+    ensures operands { result.items
+        ≡ map (over_symbols (live_slots frame.now.slots)) (frame_of frame.now).stack }
+    ensures small { AllSmallForms result.items }
+{
+    let mut operands = ArrayVec::new();
+    for n in 0..frame.stack_count() {
+        operands.push(frame.stack(n));
+    }
+    operands
+}
+
+/// The places by forms over symbols.
+fn places(frame: &FrameRef<'_>) -> ArrayVec<Placement<FormOffset>, MOST_PIECES>
+    ensures places { result.items
+        ≡ map (place_over_symbols (live_slots frame.now.slots)) (frame_of frame.now).places }
+    ensures small { AllSmallPlaces result.items }
+{
+    let mut places = ArrayVec::new();
+    for p in 0..frame.piece_count() {
+        places.push(placed(frame.place(p)));
+    }
+    places
+}
+
+// Copies of states and of lists.
+impl State {
+    /// The same state.
+    pub(super) fn copied(&self) -> State
+        ensures { result ≡ self.now }
+    {
+        State {
+            ranges: copied(&self.ranges),
+            guards: copied(&self.guards),
+            slots: copied_slots(&self.slots),
+            operands: copied(&self.operands),
+            places: copied(&self.places),
+            tray: self.tray,
+            grip: self.grip,
+            cost: self.cost,
+        }
+    }
+}
+
+/// The same elements.
+pub(super) fn copied<T: Copy + Default, const N: usize>(from: &ArrayVec<T, N>) -> ArrayVec<T, N>
+    ensures { result.items ≡ from.now.items }
+{
+    let mut to = ArrayVec::new();
+    extend(&mut to, from.as_slice());
+    to
+}
+
+/// Puts elements after those of a list. There is room, the caller's condition.
+pub(super) fn extend<T: Copy + Default, const N: usize>(list: &mut ArrayVec<T, N>, more: &[T])
+    requires { length list.old.items + length more.now ≤ N }
+    ensures { list.new.items ≡ list.old.items ++ more.now }
+{
+    if list.try_extend_from_slice(more).is_err() {
+        unreachable!();
+    }
+}
+
+/// The same forms.
+pub(super) fn copied_slots(from: &[Option<Form>; 8]) -> [Option<Form>; 8]
+    ensures { result ≡ from.now }
+{
+    let mut to = [None; 8];
+    for v in 0..8 {
+        to[v] = from[v];
+    }
+    to
+}
+
+// Changes of a part of a state.
+impl State {
+    /// What may still be spent is now this.
+    pub(super) fn set_cost(&mut self, cost: Form)
+        requires { IsSmallForm cost }
+        ensures { self.new ≡ at_cost cost self.old }
+    {
+        self.cost = cost;
+    }
+
+    /// Puts a form on the operands. There is room, the caller's condition.
+    pub(super) fn put(&mut self, form: Form)
+        requires room { length self.old.operands < 8 }
+        requires small { IsSmallForm form }
+        ensures { self.new ≡ with_operand form self.old }
+    {
+        self.operands.push(form);
+    }
+
+    /// Takes the topmost operand off. There is one, the caller's condition.
+    pub(super) fn take_off(&mut self)
+        requires { 0 < length self.old.operands }
+        ensures left { self.new ≡ without_top self.old }
+        ensures room { length self.new.operands < 8 }
+    {
+        let left = self.operands.len() - 1;
+        self.operands.truncate(left);
+    }
+
+    /// Puts a form in slot v.
+    pub(super) fn set_slot(&mut self, v: u8, form: Form)
+        requires slot { v < 8 }
+        requires small { IsSmallForm form }
+        ensures { self.new ≡ with_form v form self.old }
+    {
+        self.slots[usize::from(v)] = Some(form);
+    }
+
+    /// Grips these pieces.
+    pub(super) fn set_grip(&mut self, grip: u32)
+        ensures { self.new ≡ with_grip grip self.old }
+    {
+        self.grip = grip;
+    }
+
+    /// Goes to a tray, with nothing gripped.
+    pub(super) fn go_to(&mut self, tray: u8)
+        ensures { self.new ≡ in_tray tray self.old }
+    {
+        self.tray = tray;
+        self.grip = 0;
+    }
+
+    /// A guard more. There is room, the caller's condition.
+    pub(super) fn add_guard(&mut self, guard: Form)
+        requires room { length self.old.guards < 8 }
+        requires small { IsSmallForm guard }
+        ensures { self.new ≡ guarded guard self.old }
+    {
+        self.guards.push(guard);
+    }
+
+    /// Whether there is no room for a guard more.
+    pub(super) fn guards_are_full(&self) -> bool
+        ensures { IsTrue (not result) ↔ (length self.now.guards < 8) }
+    {
+        self.guards.is_full()
+    }
+
+    /// The pieces lie so.
+    pub(super) fn set_places(&mut self, places: ArrayVec<Placement<FormOffset>, MOST_PIECES>)
+        requires { AllSmallPlaces places.items }
+        ensures { self.new ≡ with_places places.items self.old }
+    {
+        self.places = places;
+    }
+}
+
+// Conditions at every point of a state, and what a step costs.
+impl State {
+    /// That a form is negative at no point; else the rule is broken at the first where it is.
+    pub(super) fn never_negative(&self, form: &Form, rule: Rule) -> Result<(), Break>
+        requires { IsSmallForm form.now }
+        ensures { HoldsOrBreaks self.now (λ point. pos 0 ≤ℤ value point form.now) rule result }
+    {
+        let ranges = self.ranges.as_slice();
+        // where its least value in the whole box tells, no point is looked at
+        if form.least_in(ranges) >= 0 {
+            return Ok(());
+        }
+        let forms = [*form];
+        let condition = NotNegative { forms: &forms };
+        match first_failing(ranges, self.guards.as_slice(), &condition) {
+            None => Ok(()),
+            Some(point) => Err(Break::at(rule, point)),
+        }
+    }
+
+    /// That no value of some forms is farther from 0 than this; else the rule is broken at the
+    /// first point where one is. There are at most 120 forms, the caller's condition.
+    pub(super) fn stays_within(&self, forms: &[Form], reach: u16, rule: Rule) -> Result<(), Break>
+        requires few { length forms.now ≤ 120 }
+        requires small { AllSmallForms forms.now }
+        ensures { HoldsOrBreaks self.now (λ point. AllInReach reach (values point forms.now))
+            rule result }
+    {
+        let ranges = self.ranges.as_slice();
+        if lie_within(ranges, forms, reach) {
+            return Ok(());
+        }
+        let condition = Within { forms, reach };
+        match first_failing(ranges, self.guards.as_slice(), &condition) {
+            None => Ok(()),
+            Some(point) => Err(Break::at(rule, point)),
+        }
+    }
+
+    /// The cost after one step: one less, and negative at no point.
+    pub(super) fn paid(&self) -> Result<Form, Break>
+        ensures { Pays self.now result }
+    {
+        let Ok(cost) = raised_by(&self.cost, -1) else {
+            return Err(Break::plain(Rule::V26));
+        };
+        self.never_negative(&cost, Rule::V24)?;
+        Ok(cost)
     }
 }

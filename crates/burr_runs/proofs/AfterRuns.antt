@@ -4,14 +4,14 @@ use Rattle.std.specs.Prelude.{Option, Some, None, Result, Ok, Err}
 use Rattle.std.specs.Option.{option_to_list}
 use Rattle.burr_assembly.specs.Rules.Text.{Assembly}
 use Rattle.burr_assembly.specs.Rules.Homes.{homes_of}
-use Rattle.burr_state.specs.declared.mode.Mode.{Mode}
-use Rattle.burr_state.specs.declared.mode.Mode.TheVariants.{Running, Trapped}
-use Rattle.burr_state.specs.declared.motion.Motion.{Motion}
-use Rattle.burr_state.specs.declared.trap.Trap.{Trap}
-use Rattle.burr_state.specs.declared.progress.Progress.{Progress as Told}
-use Rattle.burr_state.specs.declared.progress.Progress.TheVariants as progress
-use Rattle.burr_state.specs.declared.closing.Closing.{Closing}
-use Rattle.burr_state.specs.declared.closing.Closing.TheVariants as closings
+use Rattle.burr_state.specs.declared.effect.Mode.{Mode}
+use Rattle.burr_state.specs.declared.effect.Mode.TheVariants.{Running, Trapped}
+use Rattle.burr_state.specs.declared.effect.Motion.{Motion}
+use Rattle.burr_state.specs.declared.effect.Trap.{Trap}
+use Rattle.burr_state.specs.declared.effect.Progress.{Progress as Told}
+use Rattle.burr_state.specs.declared.effect.Progress.TheVariants as progress
+use Rattle.burr_state.specs.declared.effect.Closing.{Closing}
+use Rattle.burr_state.specs.declared.effect.Closing.TheVariants as closings
 use Rattle.burr_state.specs.Rules.Bench.{Program, BenchState, Activation, Setup, running}
 use Rattle.burr_state.specs.Rules.Next.{Asks}
 use Rattle.burr_state.specs.Rules.Step.{NextIs, CallIn, Called}

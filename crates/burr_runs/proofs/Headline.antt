@@ -11,14 +11,14 @@ use Rattle.burr_container.specs.Rules.Plans.{Plan}
 use Rattle.burr_container.specs.Rules.Fitting.{is_fitting}
 use Rattle.burr_frames.specs.Rules.FramedPlans.{framed_plan}
 use Rattle.burr_io.specs.Sink.{SinkView}
-use Rattle.burr_io.specs.declared.fault.WriteFault.{WriteFault}
+use Rattle.burr_io.specs.declared.sink.WriteFault.{WriteFault}
 use Rattle.burr_verify.specs.Rules.Accepting.{Judged, IsAccepted}
 use Rattle.burr_verify.specs.Rules.Fitting.{FitsAssembly}
 use Rattle.burr_verify.specs.Laws.VerifyLaws.{FittingIsFromContainer}
 use Rattle.burr_verify.specs.Rules.WellFramed.{IsWellFramed}
-use Rattle.burr_state.specs.declared.closing.Closing.{Closing}
-use Rattle.burr_state.specs.declared.closing.Closing.TheVariants as closings
-use Rattle.burr_state.specs.declared.motion.Motion.{Motion}
+use Rattle.burr_state.specs.declared.effect.Closing.{Closing}
+use Rattle.burr_state.specs.declared.effect.Closing.TheVariants as closings
+use Rattle.burr_state.specs.declared.effect.Motion.{Motion}
 use Rattle.burr_state.specs.Rules.Bench.{Setup, BenchState, Program, running, start}
 use Rattle.burr_bench.specs.Soundness.Framing.{framed_setup}
 use Rattle.burr_state.specs.Views.Programs.{plan_program}

@@ -8,15 +8,15 @@ use Rattle.burr_io.specs.Sink.{SinkView, FailsWithin}
 use Rattle.burr_io.proofs.Common.Puts.{FailsWithin-more}
 use Rattle.burr_assembly.specs.Rules.Text.{Assembly, IsAssembly}
 use Rattle.burr_assembly.specs.Rules.Homes.{homes_of, names_of}
-use Rattle.burr_state.specs.declared.mode.Mode.TheVariants.{Running, Ended, Trapped}
-use Rattle.burr_state.specs.declared.motion.Motion.{Motion}
-use Rattle.burr_state.specs.declared.trap.Trap.{Trap}
-use Rattle.burr_state.specs.declared.closing.Closing.{Closing}
-use Rattle.burr_state.specs.declared.closing.Closing.TheVariants as closings
+use Rattle.burr_state.specs.declared.effect.Mode.TheVariants.{Running, Ended, Trapped}
+use Rattle.burr_state.specs.declared.effect.Motion.{Motion}
+use Rattle.burr_state.specs.declared.effect.Trap.{Trap}
+use Rattle.burr_state.specs.declared.effect.Closing.{Closing}
+use Rattle.burr_state.specs.declared.effect.Closing.TheVariants as closings
 use Rattle.burr_state.specs.Rules.Bench.{Program, BenchState, running}
 use Rattle.burr_state.specs.Rules.Step.{NextIs, TakesAnswer, CallIn, Called}
-use Rattle.burr_state.specs.declared.mode.Mode.{Mode}
-use Rattle.burr_state.specs.declared.progress.Progress.{Progress as Told}
+use Rattle.burr_state.specs.declared.effect.Mode.{Mode}
+use Rattle.burr_state.specs.declared.effect.Progress.{Progress as Told}
 use Rattle.std.specs.declared.ops.ControlFlow.{ControlFlow}
 use Rattle.std.specs.declared.ops.ControlFlow.TheVariants as turns
 use Rattle.burr_state.specs.Rules.Next.{Goes, Asks, Traps}
@@ -25,7 +25,7 @@ use Rattle.burr_state.specs.Rules.Run.{Run, IsGoing, traps, waits, passes, takes
 use Rattle.burr_state.specs.Laws.RunLaws.{RunOf, IsUnderWay}
 use Rattle.burr_state.specs.Laws.StepLaws.{AfterCall}
 use Rattle.burr_state.specs.Rules.Step.{IsStepFrom}
-use Rattle.burr_state.specs.declared.progress.Progress.TheVariants.{Went}
+use Rattle.burr_state.specs.declared.effect.Progress.TheVariants.{Went}
 use Rattle.burr_state.proofs.Common.CallLaws.{call_leaves}
 use Rattle.burr_state.specs.Views.Benches.{Benched, GoesOn, motion_in, setup_of, IsSameRun, IsAtStart}
 use Rattle.burr_state.proofs.Common.SomeRun.{counted_step, under_way_on, some_result}

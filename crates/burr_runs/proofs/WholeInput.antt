@@ -13,10 +13,10 @@ use Rattle.burr_runs.specs.declared.outcome.Outcome.{Outcome}
 use Rattle.burr_runs.specs.declared.outcome.Outcome.TheVariants.{Refused}
 use Rattle.burr_runs.specs.declared.fault.BenchFault.{BenchFault}
 use Rattle.burr_runs.specs.declared.fault.BenchFault.TheVariants.{Read, TooLong, Write, Memory}
-use Rattle.burr_state.specs.declared.motion.Motion.{Motion}
+use Rattle.burr_state.specs.declared.effect.Motion.{Motion}
 use Rattle.burr_state.specs.Rules.Bench.{Program, running, start}
 use Rattle.burr_assembly.specs.Rules.Homes.{homes_of}
-use Rattle.burr_state.specs.declared.closing.Closing.{Closing}
+use Rattle.burr_state.specs.declared.effect.Closing.{Closing}
 use Rattle.burr_sheet.specs.Rules.SheetText.{sheet}
 use Rattle.burr_runs.specs.Rules.Input.{IsInput}
 use Rattle.burr_runs.specs.Rules.Output.{IsSheetOf, outcome_of, IsOutput, IsTextOutput}

@@ -1,13 +1,14 @@
 //! The input: an assembly's text, and after it a last line with code.
 
-ghost use Rattle.std.specs.Prelude.{◌≡◌, ◌≢◌, ℕ, ◌<◌, List, [], ◌∷◌, ◌++◌, length, slice_index, Contains, IfOk, MatchOption};
+ghost use Rattle.std.specs.Prelude.{◌≡◌, ◌≢◌, ℕ, ◌<◌, List, [], ◌∷◌, ◌++◌, length, slice_index, Contains, IfOk, MatchOption, IfErr};
 ghost use Rattle.std.specs.List.{list_all};
 ghost use Rattle.burr_text.specs.Lines.{IsLines};
-ghost use Rattle.burr_runs.specs.Rules.Input.{IsCodeLine, IsInput};
-ghost use Rattle.burr_runs.specs.Rules.Input.{is_hex_digit};
+ghost use Rattle.burr_runs.specs.Rules.Input.{IsCodeLine, IsInput, is_hex_digit};
+ghost use Rattle.burr_runs.specs.Views.ReadWhole.{IsWholeInput, ReadFails};
 
+use crate::fault::BenchFault;
 use burr_code::limits::MOST_CODE;
-use burr_io::last_line_end;
+use burr_io::{Source, last_line_end};
 use hex::FromHexError;
 use std::alloc::{AllocError, Global};
 
@@ -75,4 +76,27 @@ fn are_digits(bytes: &[u8]) -> bool
     bytes
         .iter()
         .all(|byte| matches!(byte, b'0'..=b'9' | b'a'..=b'f'))
+}
+
+/// The most bytes of an input.
+pub const LIMIT: usize = 16_777_216;
+
+/// The bytes of a source to its end. `Read` comes only where a call of the source failed, and
+/// `TooLong` where it gave more than the most bytes of an input.
+pub fn read_whole<R: Source>(alloc: Global, source: &mut R) -> Result<Vec<u8>, BenchFault>
+    ensures ok { IfOk result (λ bytes. IsWholeInput
+        (R.left source.old) (R.left source.new) (R.has_failed source.new) bytes.items) }
+    ensures err { IfErr result (λ fault. ReadFails
+        (R.left source.old) (R.left source.new) (R.has_failed source.new) fault) }
+{
+    let mut bytes = Vec::new(alloc);
+    let mut buffer = [0u8; 8192];
+    while bytes.len() <= LIMIT {
+        let count = source.pull(&mut buffer)?;
+        if count == 0 {
+            return Ok(bytes);
+        }
+        bytes.extend_from_slice(&buffer[..count])?;
+    }
+    Err(BenchFault::TooLong)
 }

@@ -26,8 +26,8 @@ pub fn put_place_line<W: Sink>(
     put_words(&[b"refused", subject, unit, place], sink)
 }
 
-/// Puts the line for answers of which this line, counted from 1, is not an answer, as `refused
-/// answers line 2`.
+/// Puts the refusal of answers by the number of the line, counted from 1, that is not an answer, as
+/// `refused answers line 2`.
 pub fn put_answers_refusal<W: Sink>(line: usize, sink: &mut W) -> Result<(), WriteFault>
     ensures { Puts W.Sink sink.old sink.new (answers_refusal line) result }
 {
@@ -62,7 +62,7 @@ pub fn put_assembly_refusal<W: Sink>(
     }
 }
 
-/// Puts a line with the names of two pieces of which the second shares a cell with the first.
+/// Puts a line with the names of two pieces; the second shares a cell with the first.
 fn put_clash<W: Sink>(
     line: usize,
     first: &[u8],

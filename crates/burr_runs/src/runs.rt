@@ -6,7 +6,7 @@ ghost use Rattle.burr_state.specs.Views.Benches.{IsAtStart, Benched, setup_of, m
 ghost use Rattle.burr_runs.specs.Rules.Output.{outcome_of};
 ghost use Rattle.burr_runs.specs.Views.Running.{PutsSheet, FailsInSheet, FailsInRun, IsInStep, ClosesPart, run_state, TurnIs, AnswerIs};
 ghost use Rattle.burr_runs.specs.Views.AfterRuns.{IsAtRunEnd, IsInRun, TurnStands};
-ghost use Rattle.burr_state.specs.declared.mode.Mode.TheVariants.{Ended, Running};
+ghost use Rattle.burr_state.specs.declared.effect.Mode.TheVariants.{Ended, Running};
 ghost use Rattle.burr_state.specs.Rules.Step.{Called, NextIs};
 ghost use Rattle.burr_state.specs.Views.Work.{work};
 ghost use Rattle.burr_state.specs.Rules.Next.{Asks};
@@ -279,7 +279,7 @@ pub fn take_turn<'a, 'r, R: Runner<'r>, W: Sink>(
     }
 }
 
-/// Gives a bench that asks the next answer; where there is none the run closes.
+/// Gives the next answer to a bench that asks; where no answer is left the run closes.
 fn give_answer<'a, 'r, R: Runner<'r>>(
     runner: &mut R,
     answers: &'a [i32],

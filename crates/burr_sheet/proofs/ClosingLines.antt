@@ -11,15 +11,15 @@ use Rattle.burr_voxels.specs.declared.direction.Direction.TheVariants.{PlusX, Mi
 use Rattle.burr_voxels.specs.Grid.{name_of}
 use Rattle.burr_text.specs.Lines.{IsUnended}
 use Rattle.burr_text.proofs.Common.Cuts.{Lacks, lacks}
-use Rattle.burr_state.specs.declared.motion.Motion.{Motion}
-use Rattle.burr_state.specs.declared.trap.Trap.{Trap}
-use Rattle.burr_state.specs.declared.trap.Trap.TheVariants.{Collision, GripOff, NotFree, BadGroup, TrayInUse, MissingOperand, StackFull, EmptySlot, BadJump, BadCode, BadCall, BadCount, NumberRange, OffBench, NotApart, Misplaced, ParamWritten}
+use Rattle.burr_state.specs.declared.effect.Motion.{Motion}
+use Rattle.burr_state.specs.declared.effect.Trap.{Trap}
+use Rattle.burr_state.specs.declared.effect.Trap.TheVariants.{Collision, GripOff, NotFree, BadGroup, TrayInUse, MissingOperand, StackFull, EmptySlot, BadJump, BadCode, BadCall, BadCount, NumberRange, OffBench, NotApart, Misplaced, ParamWritten}
 use Rattle.burr_state.specs.Rules.TrapNames.{trap_number, trap_name}
-use Rattle.burr_state.specs.declared.closing.Closing.{Closing}
+use Rattle.burr_state.specs.declared.effect.Closing.{Closing}
 use Rattle.burr_sheet.specs.Rules.SheetText.{MoveLine, longest_lines, levels_from, names_from, out_word, move_words, move_line, move_lines, levels_word, levels_line, after_words, trap_words, closing_line}
 use Rattle.burr_text.specs.Words.{text_line}
 use Rattle.burr_sheet.specs.Laws.SheetLaws.{ClosesInOneLine, EndsInClosing}
-use Rattle.burr_state.specs.declared.closing.Closing.TheVariants as closings
+use Rattle.burr_state.specs.declared.effect.Closing.TheVariants as closings
 use Rattle.burr_text.proofs.Common.Unended.{unended, lacks_append, is_clear, lacks_clear, EachLacks, lacks_join, AreDigits, decimal_is_digits, lacks_decimal, lacks_signed_decimal}
 
 -- The closing line

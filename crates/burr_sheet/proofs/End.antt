@@ -2,7 +2,7 @@
 use Rattle.std.proofs.Common.{◌≡◌, ℕ, [], ◌++◌, Option, Some, None, refl, ap, ◌∙◌, append_assoc, append-nil}
 use Rattle.burr_sheet.specs.declared.sheet.GrowingLine.{GrowingLine}
 use Rattle.burr_sheet.specs.declared.sheet.Sheet.TheInside.{Inside}
-use Rattle.burr_state.specs.declared.closing.Closing.{Closing}
+use Rattle.burr_state.specs.declared.effect.Closing.{Closing}
 use Rattle.burr_sheet.specs.Rules.SheetText.{levels_from, levels_line, closing_line}
 use Rattle.burr_sheet.specs.Views.SheetUnderWay.{UnderWay, still, with_growing, growing_text}
 use Rattle.burr_sheet.specs.Views.SheetView.{under_way, growing_of}

@@ -22,7 +22,7 @@ use Rattle.burr_sheet.proofs.LineWords.{names_from-at}
 
 -- Names
 
--- names of which no two are one
+-- at most 32 names, no two of them the same
 pub record AreNames (names : List (List ℕ)) : Type 0 where
   pub each : All IsName names
   pub apart : AllPairs (λ (a b : List ℕ). a ≢ b) names
@@ -37,7 +37,7 @@ name_apart (p ∷ pieces) apart i j d before inside =
     let second = get_or-map (λ (q : Piece). q.name) (p ∷ pieces) j p d far in
     λ e. apart i j p before far (sym first ∙ e ∙ second)
 
--- those of an assembly's pieces are so
+-- the names of an assembly's pieces are such names
 pub names_of_assembly : (a : Assembly) → IsAssembly a → AreNames (names_of a)
 names_of_assembly a is = record {
   each = All-map IsName (λ (p : Piece). p.name) a.pieces (λ k d inside. let piece : IsPiece a.shapes (get_or a.pieces k d) = is.each_piece k d inside in piece.name);
@@ -45,7 +45,7 @@ names_of_assembly a is = record {
   few = rw length-map is.pieces.1;
 }
 
--- the bytes of a name lack a byte that is none of a name's
+-- a name lacks each byte that no name may have
 lacks_other : (c : ℕ) (bytes : List ℕ) → is_name_byte c ≡ false → IsTrue (list_all is_name_byte bytes) → Lacks c bytes
 lacks_other c [] other h = tt
 lacks_other c (b ∷ bytes) other h =

@@ -25,7 +25,7 @@ use Rattle.burr_sheet.proofs.GroupNames.{AreNames, each_lacks, each_from, one_gr
 pub cut_same : (c : ℕ) (text front rest word more : List ℕ) → IsCutAt c text front rest → (¬ Contains word c) → text ≡ word ++ c ∷ more → (front ≡ word) × (rest ≡ more)
 cut_same c text front rest word more is plain e = cut c front word rest more (lacks c front is.first) (lacks c word plain) (sym is.parts ∙ e)
 
--- where there is none, the byte doesn't stand there
+-- a text that lacks the byte can't be cut at it
 pub no_cut : (c : ℕ) (text word more : List ℕ) → (¬ Contains text c) → text ≢ word ++ c ∷ more
 no_cut c text word more none e = none (subst (λ (bytes : List ℕ). Contains bytes c) (sym e) (contains_cut c word more))
 

@@ -10,7 +10,7 @@ use Rattle.burr_sheet.specs.Rules.SheetText.{MoveLine, levels_word, names_from, 
 use Rattle.burr_text.specs.Words.{text_line}
 use Rattle.burr_io.proofs.Common.Puts.{joined, joined-join}
 
--- levels, of which there are some, with a dot between each two
+-- at least one level, with a dot between each two
 pub levels_word-some : (levels : List ℕ) (last : List ℕ) → 0 < length levels → levels_word levels ++ last ≡ joined [] 46 (map decimal levels) last
 levels_word-some [] last some = absurd (omega arith)
 levels_word-some (level ∷ levels) last some = joined-join 46 (map decimal (level ∷ levels)) last

@@ -1,7 +1,7 @@
 -- The lines of motions: they give the motions back, and are as long as may be.
 use Rattle.std.proofs.Common.{◌≡◌, ◌+◌, ◌<◌, List, [], ◌∷◌, ◌++◌, Bool, true, false, refl, sym, ap, subst, ◌∙◌, append-nil, arith}
 use Rattle.std.specs.Prelude.{flat_map, if◌then◌else◌}
-use Rattle.burr_state.specs.declared.motion.Motion.{Motion}
+use Rattle.burr_state.specs.declared.effect.Motion.{Motion}
 use Rattle.burr_sheet.specs.Rules.SheetText.{MoveLine, alone, goes_onto, with_motion, longest_lines, motions_of}
 use Rattle.burr_sheet.specs.Laws.SheetLaws.{AreLongest, LinesAreLongest}
 use Rattle.burr_sheet.proofs.GrowingLines.{goes_onto-step, with_motion-joined, with_motion-apart}

@@ -5,8 +5,8 @@ use Rattle.std.proofs.KnownBytes.{Appends-nil, Appends-trans}
 use Rattle.std.specs.Io.KnownBytes.{Appends}
 use Rattle.burr_io.specs.Sink.{SinkView, FailsWithin}
 use Rattle.burr_io.proofs.Common.Puts.{FailsWithin-more, FailsWithin-first}
-use Rattle.burr_state.specs.declared.motion.Motion.{Motion}
-use Rattle.burr_state.specs.declared.closing.Closing.{Closing}
+use Rattle.burr_state.specs.declared.effect.Motion.{Motion}
+use Rattle.burr_state.specs.declared.effect.Closing.{Closing}
 use Rattle.burr_sheet.specs.Rules.SheetText.{MoveLine, alone, with_motion, longest_lines, levels_from, move_words, move_line, move_lines, levels_line, closing_line, is_one}
 use Rattle.burr_sheet.specs.Views.SheetUnderWay.{UnderWay, with_growing, to_come, Closes, ClosesBefore, PutsBefore, PutsMotion, FailsInMotion}
 use Rattle.burr_sheet.proofs.GrowingLines.{with_growing-other, with_growing-fresh, with_growing-longer, with_growing-ended, is_one-own}

@@ -2,7 +2,7 @@
 
 ghost use Rattle.std.specs.Prelude.{◌≡◌, ◌≤◌, ◌+◌, ◌++◌, ◌∷◌, [], List, ℕ, false, length, IfOk, OnOk, MatchOption, Bool, codes, decimal, ◌≢◌, ◌<◌, ◌^◌};
 ghost use Rattle.burr_assembly.specs.Rules.Homes.{names_of};
-ghost use Rattle.burr_state.specs.declared.motion.Motion.{Motion as MotionOf};
+ghost use Rattle.burr_state.specs.declared.effect.Motion.{Motion as MotionOf};
 ghost use Rattle.burr_sheet.specs.Rules.Expanding.{AreLinesOf};
 ghost use Rattle.burr_sheet.specs.Rules.SheetText.{MoveLine, move_line, motion_count, motions_of, motion_on};
 ghost use Rattle.burr_sheet.specs.Views.MotionLines.{BeginsWithLine, IsLineOf, joins_last, line_of, AreWordsOf, ArePlain, IsCutInto, ending_text, words_text, IsFirstName, group_text};
@@ -46,9 +46,9 @@ pub fn expand(
     Ok(Some(motions))
 }
 
-/// The line of a number at the head of a text, and what follows it; None where there is none, where
-/// it and the line before are one, and where it has more motions than a run makes, with the motions
-/// before it.
+/// The line of a number at the head of a text, and what follows it. None where there is no such
+/// line, where it and the line before would be one line, and where it and the lines before have
+/// more motions than a run makes.
 fn next_line<'a>(
     assembly: &Assembly,
     motions: usize,
@@ -255,7 +255,7 @@ pub fn ending(word: &[u8]) -> Option<(u32, bool)>
     Some((count(units, MOST_BUDGET)?, true))
 }
 
-/// The group of which these are the names: of its pieces in their order, a comma between each two.
+/// The group with these names: those of its pieces in their order, a comma between each two.
 pub fn group_named(assembly: &Assembly, names: &[u8]) -> Option<u32>
     ensures { MatchOption result
         ((g : ℕ) → g ≢ 0 → g < 2 ^ length (names_of assembly.now)

@@ -7,7 +7,7 @@ ghost use Rattle.burr_sheet.specs.Views.SheetUnderWay.{blank, still, outs_of, gr
 ghost use Rattle.std.specs.List.{join_with_byte};
 ghost use Rattle.burr_voxels.specs.Grid.{name_of};
 ghost use Rattle.burr_text.specs.Words.{text_line};
-ghost use Rattle.burr_state.specs.declared.closing.Closing.TheVariants as closings;
+ghost use Rattle.burr_state.specs.declared.effect.Closing.TheVariants as closings;
 
 use arrayvec::ArrayVec;
 use burr_assembly::Assembly;

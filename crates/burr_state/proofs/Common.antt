@@ -1,3 +1,4 @@
+pub mod Built
 pub mod CallLaws
 pub mod Calls
 pub mod Existence

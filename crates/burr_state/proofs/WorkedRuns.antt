@@ -7,9 +7,9 @@ use Rattle.burr_voxels.specs.Grid.{origin}
 use Rattle.burr_code.specs.declared.placement.Placement.{Placement}
 use Rattle.burr_code.specs.declared.placement.Placement.TheVariants.{On}
 use Rattle.burr_code.specs.Instruction.{Halt, Grip, Aside}
-use Rattle.burr_state.specs.declared.mode.Mode.TheVariants.{Running, Ended}
-use Rattle.burr_state.specs.declared.trap.Trap.TheVariants.{NotFree, GripOff}
-use Rattle.burr_state.specs.declared.closing.Closing.TheVariants as closings
+use Rattle.burr_state.specs.declared.effect.Mode.TheVariants.{Running, Ended}
+use Rattle.burr_state.specs.declared.effect.Trap.TheVariants.{NotFree, GripOff}
+use Rattle.burr_state.specs.declared.effect.Closing.TheVariants as closings
 use Rattle.burr_state.specs.Rules.Bench.{BenchState, Setup, start, activation, bare, bare_procedure}
 use Rattle.burr_state.specs.Rules.Next.{Goes, Traps}
 use Rattle.burr_state.specs.Rules.Space.{motion_of}

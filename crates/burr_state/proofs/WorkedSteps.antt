@@ -12,8 +12,8 @@ use Rattle.burr_code.specs.Places.{aside_places}
 use Rattle.burr_code.specs.Instruction.{Instruction, Halt, Push, Load, Store, Add, Sub, Drop, Grip, Step, Aside, Tray, Jump, Down, Ask, Pick, Call, Ret, IsInRange, Begins}
 use Rattle.burr_code.specs.Labels.{argument_slots}
 use Rattle.burr_code.proofs.Common.Reading.{read, read_begun}
-use Rattle.burr_state.specs.declared.trap.Trap.TheVariants as traps
-use Rattle.burr_state.specs.declared.mode.Mode.TheVariants.{Running, Ended}
+use Rattle.burr_state.specs.declared.effect.Trap.TheVariants as traps
+use Rattle.burr_state.specs.declared.effect.Mode.TheVariants.{Running, Ended}
 use Rattle.burr_state.specs.Rules.Bench.{Activation, activation, BenchState, BenchProcedure, Setup, bare, bare_procedure, start}
 use Rattle.burr_state.specs.Rules.Next.{Goes, Asks, Traps}
 use Rattle.burr_state.specs.Rules.Space.{motion_of}
@@ -231,7 +231,7 @@ halt_of_called = inl (λ is. omega (arith, is), refl)
 halt_apart : Executes cubes main (holding 0 both_apart) Halt (Goes (record (then_holding 0 0 both_apart) { mode = Ended }) None)
 halt_apart = inr (refl, inr (both_are_apart, refl))
 
--- Code that is none
+-- Code at which no instruction begins
 
 -- at code that begins with no instruction
 stands_nowhere : (code : List ℕ) → ¬ (IsInRange (read code) × Begins code (read code)) → NextIs (bare [] code) (start (bare [] code)) (Traps traps.BadCode)

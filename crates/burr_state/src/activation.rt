@@ -6,7 +6,7 @@ ghost use Rattle.burr_state.specs.Views.Effects.{CallsFor, slots_with};
 ghost use Rattle.burr_state.specs.Views.Programs.{HasRoomFor};
 ghost use Rattle.burr_state.specs.Rules.Numbers.{HasRoom, pushed, with_operands, with_slot};
 
-use crate::trap::Trap;
+use crate::effect::Trap;
 use arrayvec::ArrayVec;
 use burr_code::limits::{MOST_OPERANDS, SLOTS};
 use std::marker::Model;

@@ -1,19 +1,22 @@
-mod changes;
-mod conditions;
 mod control;
-mod executing;
-mod numbers;
-mod questions;
-mod readers;
-mod trays;
+mod instructions;
 mod undoing;
 
+ghost use Rattle.std.specs.Prelude.{◌≡◌, ◌≤◌, ◌<◌, ◌+◌, length, IfSome, Some, slice_get, ◌↔◌, IsTrue};
+ghost use Rattle.burr_voxels.specs.Near.{IsWithin};
+ghost use Rattle.burr_code.specs.declared.limits.TheConstants.{MOST_OFFSET, MOST_CODE};
+ghost use Rattle.burr_code.specs.Places.{LiesIn, AllLieIn, AllApart, IsPartOfTray, IsEmptyTray};
+ghost use Rattle.burr_state.specs.Views.StateViews.{at_start, IsOffsetHere, HasRest, StaysOnBench, PieceStaysOnBench, after, moved_grip, gone_aside};
+ghost use Rattle.burr_state.specs.Views.Offsets.{AreNear, PositionHolds};
+ghost use Rattle.burr_state.specs.declared.effect.Mode.TheVariants.{Trapped};
+
 use crate::activation::Activation;
-use crate::mode::Mode;
+use crate::effect::{Mode, Trap};
+use crate::shifting::{home, is_on_bench, one_unit_on, shift_group};
 use arrayvec::ArrayVec;
-use burr_code::Placement;
 use burr_code::limits::{MOST_PIECES, MOST_PROCEDURES};
-use burr_voxels::Cell;
+use burr_code::{Placement, are_all_apart, is_empty_tray, is_in_set, take_aside};
+use burr_voxels::{Cell, Direction};
 use std::marker::Model;
 
 /// The most activations that can wait for a running one: each calls one of a higher number.
@@ -49,4 +52,226 @@ impl Model for BenchState {
 
     ghost invariant = { λ s. IsOrderly (standing s.places.items s.tray s.grip s.running
         (reverse s.callers.items) s.steps s.mode) };
+}
+
+impl BenchState {
+    /// The start of a run with this many pieces: all in tray 0 at home, nothing gripped.
+    pub fn start(pieces: u8) -> BenchState
+        requires { pieces ≤ 32 }
+        ensures { result ≡ at_start pieces }
+    {
+        let mut places = ArrayVec::new();
+        for _piece in 0..pieces {
+            places.push(home(0));
+        }
+        BenchState {
+            places,
+            tray: 0,
+            grip: 0,
+            running: Activation::main(),
+            callers: ArrayVec::new(),
+            steps: 0,
+            mode: Mode::Running,
+        }
+    }
+
+    /// Whether the run goes on.
+    pub fn mode(&self) -> Mode
+        ensures { result ≡ self.now.mode }
+    {
+        self.mode
+    }
+
+    /// The steps made so far; the count stays at its greatest value.
+    pub fn steps(&self) -> u64
+        ensures { result ≡ self.now.steps }
+    {
+        self.steps
+    }
+
+    /// The current tray.
+    pub fn tray(&self) -> u8
+        ensures { result ≡ self.now.tray }
+    {
+        self.tray
+    }
+
+    /// The pieces that are gripped: bit p is piece p.
+    pub fn grip(&self) -> u32
+        ensures { result ≡ self.now.grip }
+    {
+        self.grip
+    }
+
+    /// The number of the running procedure.
+    pub fn procedure(&self) -> u8
+        ensures { result ≡ self.now.running.procedure }
+    {
+        self.running.procedure()
+    }
+
+    /// Where the next instruction stands in the running procedure's code, within 16 bits.
+    pub fn pc(&self) -> usize
+        ensures pc { result ≡ self.now.running.pc }
+        ensures within { result < 65536 }
+    {
+        self.running.pc()
+    }
+
+    /// The number of pieces. Each that isn't apart lies within 256 of home.
+    pub fn piece_count(&self) -> u8
+        ensures places { result ≡ length self.now.places }
+        ensures few { result ≤ 32 }
+        ensures near { AreNear self.now.places }
+    {
+        self.places.len() as u8
+    }
+
+    /// The number of activations: the running one and those that wait for it.
+    pub fn depth(&self) -> usize
+        ensures { result ≡ length self.now.callers + 1 }
+    {
+        self.callers.len() + 1
+    }
+
+    /// The running activation.
+    pub fn running(&self) -> &Activation
+        ensures { result.now ≡ self.now.running }
+    {
+        &self.running
+    }
+
+    /// Where a piece is: in a tray within 256 of home, or apart.
+    pub fn place(&self, piece: u8) -> Placement<Cell>
+        requires { piece < length self.now.places }
+        ensures place { slice_get self.now.places piece ≡ Some result }
+        ensures near { PositionHolds (IsWithin MOST_OFFSET) result }
+    {
+        self.places[usize::from(piece)]
+    }
+
+    /// How far from home a piece lies in the current tray; None where it isn't there.
+    pub fn offset_here(&self, piece: u8) -> Option<Cell>
+        ensures offset { IsOffsetHere self.now piece result }
+        ensures near { IfSome result (IsWithin MOST_OFFSET) }
+    {
+        self.places.get(usize::from(piece))?.position_in(self.tray)
+    }
+}
+
+impl BenchState {
+    /// Whether a piece lies in the current tray.
+    pub fn lies_here(&self, piece: u8) -> bool
+        ensures { IsTrue result ↔ LiesIn self.now.places piece self.now.tray }
+    {
+        self.offset_here(piece).is_some()
+    }
+
+    /// Whether each piece of a set lies in the current tray.
+    pub fn all_lie_here(&self, set: u32) -> bool
+        ensures { IsTrue result ↔ AllLieIn self.now.places self.now.tray set }
+    {
+        for piece in 0..32 {
+            if is_in_set(set, piece) && !self.lies_here(piece) {
+                return false;
+            }
+        }
+        true
+    }
+
+    /// Whether the grip has a piece, and not all of the current tray.
+    pub fn is_part_gripped(&self) -> bool
+        ensures { IsTrue result ↔ IsPartOfTray self.now.grip self.now.places self.now.tray }
+    {
+        self.grip() != 0 && self.leaves_some()
+    }
+
+    /// Whether the current tray has a piece that is not gripped.
+    fn leaves_some(&self) -> bool
+        ensures { IsTrue result ↔ HasRest self.now }
+    {
+        for piece in 0..self.piece_count() {
+            if self.lies_here(piece) && !is_in_set(self.grip(), piece) {
+                return true;
+            }
+        }
+        false
+    }
+
+    /// Whether each piece of the current tray is on the bench after one unit of the grip along a
+    /// direction.
+    pub fn stays_on_bench(&self, direction: Direction) -> bool
+        ensures { IsTrue result ↔ StaysOnBench self.now direction }
+    {
+        for piece in 0..self.piece_count() {
+            if is_in_set(self.grip(), piece) && !self.piece_stays_on_bench(piece, direction) {
+                return false;
+            }
+        }
+        true
+    }
+
+    /// Whether a piece, if it lies in the current tray, is on the bench one unit along a direction.
+    fn piece_stays_on_bench(&self, piece: u8, direction: Direction) -> bool
+        ensures { IsTrue result ↔ PieceStaysOnBench self.now direction piece }
+    {
+        match self.offset_here(piece) {
+            None => true,
+            Some(offset) => is_on_bench(one_unit_on(offset, direction)),
+        }
+    }
+
+    /// Whether no piece is in a tray.
+    pub fn is_empty(&self, tray: u8) -> bool
+        ensures { IsTrue result ↔ IsEmptyTray self.now.places tray }
+    {
+        is_empty_tray(self.places.as_slice(), tray)
+    }
+
+    /// Whether all pieces are apart.
+    pub fn are_all_apart(&self) -> bool
+        ensures { IsTrue result ↔ AllApart self.now.places }
+    {
+        are_all_apart(self.places.as_slice())
+    }
+}
+
+impl BenchState {
+    /// A trap: nothing but the mode changes.
+    pub fn trap(&mut self, trap: Trap)
+        ensures { self.new ≡ record self.old { mode = Trapped trap } }
+    {
+        self.mode = Mode::Trapped(trap);
+    }
+
+    /// The step of a `step` of this many bytes: the grip goes one unit along a direction, and stays
+    /// on the bench.
+    pub fn move_grip(&mut self, direction: Direction, size: usize)
+        requires on_bench { StaysOnBench self.old direction }
+        requires within { self.old.running.pc + size ≤ MOST_CODE }
+        ensures { self.new ≡ moved_grip direction size self.old }
+    {
+        shift_group(self.places.as_mut_slice(), self.grip, direction);
+        self.go_after(size);
+    }
+
+    /// The step of an `aside` of `size` bytes: the grip goes to an empty tray, a piece that is then
+    /// alone in one of the two trays is apart, and nothing is gripped.
+    pub fn go_aside(&mut self, tray: u8, size: usize)
+        requires within { self.old.running.pc + size ≤ MOST_CODE }
+        ensures { self.new ≡ gone_aside tray size self.old }
+    {
+        take_aside(self.places.as_mut_slice(), self.grip, self.tray, tray);
+        self.grip = 0;
+        self.go_after(size);
+    }
+
+    /// Makes a step after which the run goes on `size` bytes further.
+    pub fn go_after(&mut self, size: usize)
+        requires within { self.old.running.pc + size ≤ MOST_CODE }
+        ensures { self.new ≡ after size self.old }
+    {
+        self.running.go_to(self.running.pc() + size);
+        self.steps = self.steps.saturating_add(1);
+    }
 }

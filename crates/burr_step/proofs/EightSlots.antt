@@ -14,8 +14,8 @@ use Rattle.burr_container.specs.Rules.Fitting.{is_procedure, are_procedures, are
 use Rattle.burr_container.specs.Rules.Plans.{PlanProcedure}
 use Rattle.burr_container.proofs.Common.Containers.{plan_fits}
 use Rattle.burr_container.proofs.Common.Procedures.{procedure_fits}
-use Rattle.burr_state.specs.declared.motion.Motion.{Motion}
-use Rattle.burr_state.specs.declared.trap.Trap.{Trap}
+use Rattle.burr_state.specs.declared.effect.Motion.{Motion}
+use Rattle.burr_state.specs.declared.effect.Trap.{Trap}
 use Rattle.burr_state.specs.Rules.Bench.{Activation, BenchState, BenchProcedure, Program, Setup, start}
 use Rattle.burr_state.specs.Rules.Next.{Next, Goes, Asks, Traps}
 use Rattle.burr_state.specs.Rules.Questions.{Takes}
@@ -23,7 +23,7 @@ use Rattle.burr_state.specs.Rules.Step.{Executes, NextIs}
 use Rattle.burr_state.specs.Rules.Undo.{Undo}
 use Rattle.burr_state.specs.Views.Benches.{Benched, setup_of, in_state}
 use Rattle.burr_state.specs.Views.Programs.{bench_procedure}
-use Rattle.burr_state.proofs.Common.Leading.{at_either}
+use Rattle.burr_state.proofs.Common.Built.{at_either}
 use Rattle.burr_state.proofs.Common.Outcomes.{TrapsOr, past_check, past_search, comes}
 use Rattle.burr_state.proofs.Common.StepCalls.{next_where_went, taken_where_answered}
 use Rattle.burr_bench.specs.Soundness.Machine.{IsSafeBench}

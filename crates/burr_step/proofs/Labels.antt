@@ -15,7 +15,7 @@ use Rattle.burr_state.specs.Views.Programs.{bench_procedure}
 use Rattle.burr_bench.specs.Soundness.Machine.{IsSafeBench}
 use Rattle.burr_step.specs.Views.Stepping.{LabelsAreFew}
 
--- an element of a list of which all pass a test
+-- where all elements of a list pass a test, each one passes it
 passes_at : {A : Type 0} (test : A → Bool) (xs : List A) (k : ℕ) (x : A) → IsTrue (list_all test xs)
     → slice_get xs k ≡ Some x → IsTrue (test x)
 passes_at test [] k x all e = absurd (none-some x e)

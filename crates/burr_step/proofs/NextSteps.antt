@@ -7,13 +7,13 @@ use Rattle.burr_code.specs.declared.instr.Instr.{Instr}
 use Rattle.burr_code.specs.declared.instr.Instr.TheVariants as instr
 use Rattle.burr_code.specs.Meaning.{meaning}
 use Rattle.burr_voxels.specs.declared.direction.Direction.{Direction}
-use Rattle.burr_state.specs.declared.mode.Mode.TheVariants.{Running, Ended}
-use Rattle.burr_state.specs.declared.motion.Motion.{Motion}
-use Rattle.burr_state.specs.declared.progress.Progress.{Progress}
-use Rattle.burr_state.specs.declared.progress.Progress.TheVariants as progress
+use Rattle.burr_state.specs.declared.effect.Mode.TheVariants.{Running, Ended}
+use Rattle.burr_state.specs.declared.effect.Motion.{Motion}
+use Rattle.burr_state.specs.declared.effect.Progress.{Progress}
+use Rattle.burr_state.specs.declared.effect.Progress.TheVariants as progress
 use Rattle.burr_state.specs.Rules.Bench.{BenchProcedure, BenchState, Program, Setup}
-use Rattle.burr_state.specs.declared.trap.Trap.{Trap}
-use Rattle.burr_state.specs.declared.trap.Trap.TheVariants as traps
+use Rattle.burr_state.specs.declared.effect.Trap.{Trap}
+use Rattle.burr_state.specs.declared.effect.Trap.TheVariants as traps
 use Rattle.burr_state.specs.Rules.Next.{Goes, Asks, Traps}
 use Rattle.burr_state.specs.Rules.Step.{AsksNow, Called, IsAt, NextIs}
 use Rattle.burr_state.specs.Views.Benches.{Benched, setup_of, IsSameRun}
@@ -61,7 +61,7 @@ moves_unasked s (Ask low high) motion moves asks = none_some motion moves
 moves_unasked s (Pick labels) motion moves asks = none_some motion moves
 moves_unasked s i motion moves asks = absurd asks
 
--- nor where there is none
+-- nor does a motion stand next where no instruction stands
 pub nowhere_moves : (setup : Setup) (s : BenchState) (motion : Motion) → ((here : BenchProcedure) (i : Instruction) → ¬ IsAt setup s here i)
     → ¬ MovesNext setup s motion
 nowhere_moves setup s motion none (new, called) = by (next_where_went setup s new (Some motion) called)

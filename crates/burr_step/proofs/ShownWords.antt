@@ -8,14 +8,14 @@ use Rattle.std.proofs.lemmas.Option.{none-some, same_Some}
 use Rattle.burr_assembly.specs.Rules.Text.{Piece}
 use Rattle.burr_code.specs.declared.placement.Placement.{Placement}
 use Rattle.burr_voxels.specs.declared.cell.Cell.{Cell}
-use Rattle.burr_state.specs.declared.mode.Mode.{Mode}
-use Rattle.burr_state.specs.declared.mode.Mode.TheVariants.{Running, Ended, Trapped}
+use Rattle.burr_state.specs.declared.effect.Mode.{Mode}
+use Rattle.burr_state.specs.declared.effect.Mode.TheVariants.{Running, Ended, Trapped}
 use Rattle.burr_text.specs.Words.{text_line}
 use Rattle.burr_step.specs.Rules.StepTexts.{ended_word, grip_word, slot_word, stack_words, piece_line, piece_lines}
 use Rattle.burr_state.specs.Rules.Bench.{BenchState}
 use Rattle.burr_step.specs.Views.ShownParts.{slots_line, spaced_words, stack_line, tray_line}
 
--- the word of a run that has not ended is none
+-- where the run has not ended, the word for its end is empty
 pub not_ended : (mode : Mode) → (¬ mode ≡ Ended) → ended_word mode ≡ []
 not_ended Running none = refl
 not_ended Ended none = absurd (none refl)

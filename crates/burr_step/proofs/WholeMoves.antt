@@ -5,7 +5,7 @@ use Rattle.std.proofs.lemmas.Option.{same_Some}
 use Rattle.burr_code.specs.Instruction.{Aside, StandsAt}
 use Rattle.burr_code.proofs.Common.Reading.{one_stands_at}
 use Rattle.burr_voxels.specs.declared.direction.Direction.{Direction}
-use Rattle.burr_state.specs.declared.motion.Motion.{Motion}
+use Rattle.burr_state.specs.declared.effect.Motion.{Motion}
 use Rattle.burr_state.specs.Rules.Bench.{BenchProcedure, BenchState, Setup}
 use Rattle.burr_sheet.specs.Rules.SheetText.{MoveLine, alone, goes_onto, longest_lines, motion_count, motion_on, motions_of, is_one}
 use Rattle.burr_sheet.specs.Views.MotionLines.{joins}

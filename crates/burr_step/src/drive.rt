@@ -186,7 +186,8 @@ impl<'a> Drive<'a> {
         self.moves
     }
 
-    /// Makes the next move, and tells it whole; or tells why there is none, and changes nothing.
+    /// Makes the next move, and tells it whole; or tells why there is no next move, and changes
+    /// nothing.
     pub fn next(&mut self) -> Result<Move, Halt>
         ensures { MovesOn self.old result self.new }
     {

@@ -49,8 +49,8 @@ impl KeptDrive {
         })
     }
 
-    /// As `Drive::next`: makes the next move, and tells it whole; or tells why there is none, and changes
-    /// nothing.
+    /// As `Drive::next`: makes the next move, and tells it whole; or tells why there is no next
+    /// move, and changes nothing.
     pub fn next(&mut self) -> Result<Move, Halt>
         ensures { MovesOn self.old result self.new }
     {

@@ -18,8 +18,8 @@ use burr_voxels::Cell;
 use itoa::Buffer;
 
 /// Puts where a run stands: its steps, procedure and position; the tray and the names of the gripped
-/// pieces; the slots, of which there are eight, and operands of the running activation, the bottom
-/// operand first; and where each piece is, by how far from home it lies.
+/// pieces; the eight slots and the operands of the running activation, the bottom operand first;
+/// and where each piece is, by how far from home it lies.
 pub fn put_state<W: Sink>(machine: &Machine, sink: &mut W) -> Result<(), WriteFault>
     requires { length machine.now.state.running.slots ≡ SLOTS }
     ensures { Puts W.Sink sink.old sink.new
@@ -77,7 +77,7 @@ fn put_grip<W: Sink>(machine: &Machine, sink: &mut W) -> Result<(), WriteFault>
     put_names(machine.assembly(), machine.grip(), sink)
 }
 
-/// Puts the slots, of which there are eight, as `slots 3 - - - - - - -`.
+/// Puts the eight slots, as `slots 3 - - - - - - -`.
 fn put_slots<W: Sink>(machine: &Machine, sink: &mut W) -> Result<(), WriteFault>
     requires { length machine.now.state.running.slots ≡ SLOTS }
     ensures { Puts W.Sink sink.old sink.new (slots_line machine.now.state) result }

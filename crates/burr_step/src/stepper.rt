@@ -1,6 +1,6 @@
 ghost use Rattle.std.specs.Prelude.{IfOk, ◌≡◌, ◌≤◌, ◌↔◌, IsTrue, OnOk, true, false, [], length, take};
 ghost use Rattle.burr_step.specs.Views.Stepping.{IsFresh, IsPaused, IsPauseOf, stepping_at, LabelsAreFew, CameTo, commanding, NeedsNoMemory, IsThere, StopsFor, IsStepOn, IsStill, stepping, IsDone, IsUnderWay, HasRun, IsLeft, IsNextAnswer, taken_more};
-ghost use Rattle.burr_state.specs.declared.mode.Mode.TheVariants.{Ended};
+ghost use Rattle.burr_state.specs.declared.effect.Mode.TheVariants.{Ended};
 ghost use Rattle.burr_state.specs.Rules.Bench.{HasLabelOf};
 ghost use Rattle.burr_state.specs.Rules.Step.{IsQuestionOf};
 ghost use Rattle.burr_state.specs.Views.Benches.{setup_of, IsAtStart, IsSameRun};

@@ -8,7 +8,7 @@ use Rattle.std.proofs.lemmas.List.Elements.{All-nil}
 use Rattle.burr_voxels.specs.declared.cell.Cell.{Cell}
 use Rattle.burr_assembly.specs.Rules.Homes.{homes_of}
 use Rattle.burr_forms.specs.Rules.Forms.{Form, value, values}
-use Rattle.burr_container.specs.declared.stored_procedure.StoredProcedure.{StoredProcedure}
+use Rattle.burr_container.specs.declared.procedure_ref.StoredProcedure.{StoredProcedure}
 use Rattle.burr_container.specs.Rules.Plans.{Plan, PlanProcedure, Frame, Range}
 use Rattle.burr_container.specs.Rules.Fitting.{is_fitting}
 use Rattle.burr_container.specs.Views.InPlace.{AreFor, IsProcedure}
@@ -67,7 +67,7 @@ has_main j a =
 
 -- The cost
 
--- of slots of which none is known, no live one is
+-- where no slot is known, a list of the live slots' forms is empty
 none_known : (slots : List (Option Range)) (n : ℕ) (forms : List Form) → live_forms slots (replicate n None) ≡ Some forms
     → forms ≡ []
 none_known [] n forms e = sym (same_Some [] forms e)

@@ -31,7 +31,7 @@ second_of_four a b c d e = (and_parts a b (and_parts (a && b) c (and_parts (a &&
 last_of_four : (a b c d : Bool) → IsTrue (a && b && c && d) → IsTrue d
 last_of_four a b c d e = (and_parts (a && b && c) d e).1
 
--- an element of a list of which all pass a test
+-- where all elements of a list pass a test, each one passes it
 all_at : {A : Type 0} (test : A → Bool) (xs : List A) (k : ℕ) (x : A) → IsTrue (list_all test xs)
     → slice_get xs k ≡ Some x → IsTrue (test x)
 all_at test [] k x all e = absurd (none-some x e)
@@ -226,7 +226,7 @@ how_many version pieces (main ∷ others) fits =
     let few = (and_parts _ (nat_le (length (main ∷ others)) MOST_PROCEDURES) fits).1 in
     (omega arith, leb-true (length (main ∷ others)) 16 few)
 
--- a frame within the format, of which this is the one with forms over symbols
+-- this frame is a frame within the format, made into one with forms over symbols
 record IsFramed (pieces : ℕ) (f : Frame) : Type 0 where
   of : Frame
   fits : IsTrue (is_frame pieces of)

@@ -18,7 +18,7 @@ use Rattle.burr_verify.proofs.Before.{Splits, over_needs, over_exit, Carries, af
 
 -- One label
 
--- the frames of these labels, of which the first is label k
+-- the frames of these labels; the first of them is label k
 abbrev pub judging_from : ℕ → ℕ → ℕ → List (ℕ × Frame) → Rest → Rest
 judging_from n parameters zero labels = judging_entry n parameters labels
 judging_from n parameters (suc k) labels = judging_labels n parameters labels

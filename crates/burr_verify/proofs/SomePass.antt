@@ -19,7 +19,9 @@ use Rattle.burr_frames.specs.Rules.Verdicts.{Broken, Verdict, Breaks, FallsThrou
 use Rattle.burr_frames.specs.Rules.Transfer.{Transfer}
 use Rattle.burr_code.proofs.Common.Conditions.{decided_implies, decide_all_numbers, decide_all_lie}
 use Rattle.burr_frames.proofs.Common.Decided.{decide_meets}
-use Rattle.burr_frames.proofs.Common.SomeVerdict.{HasOne, some_given, some_needed, some_found, some_arriving, some_verdict}
+use Rattle.burr_code.proofs.Common.Checked.{HasOne, some_given, some_needed, some_found, some_built}
+use Rattle.burr_frames.proofs.Common.SomeVerdict.{some_verdict}
+use Rattle.burr_frames.proofs.Common.Built.{arriving_is_built}
 use Rattle.burr_frames.specs.Rules.Starts.{start_state}
 use Rattle.burr_verify.specs.Rules.WellFramed.{IsLabelled, IsFormed, IsFormedEntry, IsFormedExit, HasNoLonePiece}
 use Rattle.burr_verify.specs.Rules.Pass.{Judgement, Passed, Refuses, Stage, BeforeInstruction, AtInstruction, pass_start, Hides, Pass, ends, falls_off, lacks_frame, resumes, misses, arrives, goes_on, lacks_instruction, hides, breaks, falls_through, stops}
@@ -110,7 +112,7 @@ coming homes plan n here last pc None more (inl found) at =
 coming homes plan n here last pc (Some s) more (inr none) at =
     let rest = at s in (rest.0, goes_on last pc s rest.0 more (λ f labelled. none (f, labelled)) rest.1)
 coming homes plan n here last pc (Some s) more (inl found) at =
-    let v = some_arriving s found.0 no_successor (some_given NoSuccessor) in
+    let v = some_built (arriving_is_built s found.0) in
     arrived_or_not homes plan n here last pc s found.0 more found.1 v.0 v.1 at
 
 at_end : (homes : List (List Cell)) (plan : FramedPlan) (n : ℕ) (here : FramedProcedure) (last pc : ℕ)
@@ -267,7 +269,7 @@ some_frames n (here ∷ procedures) rest one =
 some_start : (homes : List (List Cell)) (plan : FramedPlan) (rest : Rest) → HasOne rest
     → HasOne (judging_start homes plan rest)
 some_start homes plan rest one =
-    some_found _ _ _ λ main. some_found _ _ _ λ f. some_needed _ _ _ (decide_meets (start_state homes) f)
+    some_found _ _ _ λ main at. some_found _ _ _ λ f first. some_needed _ _ _ (decide_meets (start_state homes) f)
     (some_needed _ _ _ (decide_le (value [] f.cost) (pos plan.budget)) one)
 
 some_then : (j : Judgement) (rest : Rest) → HasOne rest → HasOne (go_on j rest)

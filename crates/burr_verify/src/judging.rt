@@ -1,12 +1,12 @@
 //! The whole judgement of a plan.
 
 ghost use Rattle.std.specs.Prelude.{◌≡◌, ◌≤◌, ◌*◌, ◌↔◌, IsOk, List, length};
-ghost use Rattle.burr_container.specs.Rules.Plans.{Plan};
 ghost use Rattle.burr_voxels.specs.declared.cell.Cell.{Cell as CellOf};
-ghost use Rattle.burr_container.specs.Views.Containers.{IsContainer, HasPlan};
 ghost use Rattle.burr_assembly.specs.Rules.Text.{IsAssembly};
 ghost use Rattle.burr_assembly.specs.Rules.Homes.{homes_of};
 ghost use Rattle.burr_forms.specs.declared.limits.TheConstants.{MOST_POINTS};
+ghost use Rattle.burr_container.specs.Rules.Plans.{Plan};
+ghost use Rattle.burr_container.specs.Views.Containers.{IsContainer, HasPlan};
 ghost use Rattle.burr_frames.specs.Rules.FramedPlans.{framed_plan};
 ghost use Rattle.burr_verify.specs.Rules.Judging.{Judging, judging_frames, judging_start, passes};
 ghost use Rattle.burr_verify.specs.Rules.Pass.{Passed};
@@ -14,11 +14,10 @@ ghost use Rattle.burr_verify.specs.Rules.PassLooks.{Looking, looking_code, code_
 ghost use Rattle.burr_verify.specs.Rules.WellFramed.{IsWellFramed};
 ghost use Rattle.burr_verify.specs.Views.Judgements.{judgement_of, AnswersPart};
 
-use crate::fitting::fits_assembly;
 use crate::forming::judge_frames;
 use crate::laws::{a_container_has_a_plan, a_plan_has_so_many_looks, an_assembly_has_few_pieces};
 use crate::passing::judge_code;
-use crate::refusal::Refusal;
+use crate::refusal::{Refusal, fits_assembly};
 use burr_blocking::{Blocking, Looks};
 use burr_container::Container;
 use burr_frames::{Rule, State, meets_entry};

@@ -12,9 +12,9 @@ ghost use Rattle.burr_verify.specs.Rules.Pass.{BeforeInstruction, AtInstruction,
 ghost use Rattle.burr_verify.specs.Rules.PassLooks.{LookedPass};
 ghost use Rattle.burr_verify.specs.Views.Judgements.{judgement_of};
 
-use crate::labels::label_within;
 use crate::laws::an_assembly_has_few_pieces;
 use crate::refusal::Refusal;
+use crate::states::label_within;
 use crate::transfer::{Successor, transfer};
 use burr_blocking::{Blocking, Looks};
 use burr_code::fetch;

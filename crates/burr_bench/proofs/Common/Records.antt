@@ -1,7 +1,7 @@
 -- A safe bench that makes a step has a record of it, and any record of it takes it back.
 use Rattle.std.proofs.Common.{Ok, refl, sym, subst}
 use Rattle.burr_verify.specs.Laws.VerifyLaws.{FittingIsFromContainer}
-use Rattle.burr_state.specs.declared.progress.Progress.TheVariants as progress
+use Rattle.burr_state.specs.declared.effect.Progress.TheVariants as progress
 use Rattle.burr_state.specs.Rules.Bench.{BenchState}
 use Rattle.burr_state.specs.Views.Benches.{setup_of, in_state}
 use Rattle.burr_state.specs.Rules.Step.{Called}

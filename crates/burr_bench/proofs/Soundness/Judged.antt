@@ -10,8 +10,8 @@ use Rattle.burr_frames.specs.Rules.States.{AbstractState}
 use Rattle.burr_frames.specs.Rules.Verdicts.{Verdict, FallsThrough}
 use Rattle.burr_frames.specs.Rules.Transfer.{Transfer}
 use Rattle.burr_verify.specs.Rules.WellFramed.{Annotated, after, Enters, FallsOut, IsCutFrom}
-use Rattle.burr_state.specs.declared.motion.Motion.{Motion}
-use Rattle.burr_state.specs.declared.trap.Trap.{Trap}
+use Rattle.burr_state.specs.declared.effect.Motion.{Motion}
+use Rattle.burr_state.specs.declared.effect.Trap.{Trap}
 use Rattle.burr_state.specs.Rules.Bench.{BenchState}
 use Rattle.burr_state.specs.Rules.Next.{Next, Goes, Asks, Traps}
 

@@ -1,4 +1,4 @@
--- Lists and places of which each element is mapped: by forms, and by their values at a point.
+-- Lists and places whose elements are all mapped: by forms, and by their values at a point.
 use Rattle.std.proofs.Common.{◌≡◌, ℕ, zero, suc, ◌+◌, List, [], ◌∷◌, Some, Bool, true, false, refl, sym, ap, ◌∙◌}
 use Rattle.std.specs.Prelude.{map, slice_get, if◌then◌else◌, ◌==◌}
 use Rattle.std.proofs.lemmas.Option.{none-some, same_Some}

@@ -1,12 +1,12 @@
 -- Runs from a state with a fact that steps carry on close well.
 use Rattle.std.proofs.Common.{◌≡◌, ◌⊎◌, ℕ, List, Ok, sym, subst, ◌∙◌, arith, inl, inr}
 use Rattle.std.specs.Prelude.{ℤ, Some}
-use Rattle.burr_state.specs.declared.closing.Closing.{Closing}
-use Rattle.burr_state.specs.declared.closing.Closing.TheVariants as closings
-use Rattle.burr_state.specs.declared.mode.Mode.{Mode}
-use Rattle.burr_state.specs.declared.mode.Mode.TheVariants.{Running, Ended, Trapped}
-use Rattle.burr_state.specs.declared.motion.Motion.{Motion}
-use Rattle.burr_state.specs.declared.progress.Progress.{Progress}
+use Rattle.burr_state.specs.declared.effect.Closing.{Closing}
+use Rattle.burr_state.specs.declared.effect.Closing.TheVariants as closings
+use Rattle.burr_state.specs.declared.effect.Mode.{Mode}
+use Rattle.burr_state.specs.declared.effect.Mode.TheVariants.{Running, Ended, Trapped}
+use Rattle.burr_state.specs.declared.effect.Motion.{Motion}
+use Rattle.burr_state.specs.declared.effect.Progress.{Progress}
 use Rattle.burr_state.specs.Rules.Bench.{BenchState, Setup}
 use Rattle.burr_state.specs.Rules.Step.{CallIn}
 use Rattle.burr_state.specs.Rules.Run.{Run, IsGoing}

@@ -6,7 +6,7 @@ use Rattle.std.proofs.lemmas.Int.{ints}
 use Rattle.std.proofs.lemmas.List.{length-map}
 use Rattle.burr_voxels.specs.declared.cell.Cell.{Cell}
 use Rattle.burr_assembly.specs.Rules.Homes.{homes_of, home_of}
-use Rattle.burr_code.specs.Instruction.{Instruction, Halt, Push, Load, Store, Add, Sub, Drop, Grip, Step, Aside, Tray, Jump, Down, Ask, Pick, Call, Ret}
+use Rattle.burr_code.specs.Instruction.{Instruction, Halt}
 use Rattle.burr_forms.specs.Rules.Forms.{value}
 use Rattle.burr_frames.specs.Rules.FramedPlans.{FramedProcedure, FramedPlan, framed_plan}
 use Rattle.burr_frames.specs.Rules.States.{AbstractState}
@@ -16,7 +16,7 @@ use Rattle.burr_verify.specs.Laws.VerifyLaws.{FittingIsFromContainer}
 use Rattle.burr_verify.specs.Rules.WellFramed.{Annotated, after, IsCutFrom, IsFramedProcedure, IsWellFramed}
 use Rattle.burr_verify.specs.Views.FromContainers.{IsFromContainer}
 use Rattle.burr_state.specs.Laws.SpaceLaws.{HomesAreDisjoint}
-use Rattle.burr_state.specs.declared.motion.Motion.{Motion}
+use Rattle.burr_state.specs.declared.effect.Motion.{Motion}
 use Rattle.burr_state.specs.Rules.Bench.{BenchState, Setup, start, running}
 use Rattle.burr_state.specs.Rules.Calls.{answered, went, begun, Calls}
 use Rattle.burr_state.specs.Views.Programs.{plan_program}
@@ -40,22 +40,7 @@ same_rule : (homes : List (List Cell)) (plan : FramedPlan) (budget n : ℕ) (her
     (s : AbstractState) (i : Instruction) (v : Verdict) → Transfer homes plan n here s i v
     → Transfer homes (with_budget plan budget) n here s i v
 same_rule homes plan budget n here s Halt v t = t
-same_rule homes plan budget n here s (Push x) v t = t
-same_rule homes plan budget n here s (Load k) v t = t
-same_rule homes plan budget n here s (Store k) v t = t
-same_rule homes plan budget n here s Add v t = t
-same_rule homes plan budget n here s Sub v t = t
-same_rule homes plan budget n here s Drop v t = t
-same_rule homes plan budget n here s (Grip group) v t = t
-same_rule homes plan budget n here s (Step direction) v t = t
-same_rule homes plan budget n here s (Aside direction tray) v t = t
-same_rule homes plan budget n here s (Tray tray) v t = t
-same_rule homes plan budget n here s (Jump label) v t = t
-same_rule homes plan budget n here s (Down k label) v t = t
-same_rule homes plan budget n here s (Ask low high) v t = t
-same_rule homes plan budget n here s (Pick labels) v t = t
-same_rule homes plan budget n here s (Call q) v t = t
-same_rule homes plan budget n here s Ret v t = t
+same_rule homes plan budget n here s i v t = t
 
 same_cut : (homes : List (List Cell)) (plan : FramedPlan) (budget n : ℕ) (here : FramedProcedure)
     (rows : List Annotated) (pc : ℕ) (falling : Option AbstractState)

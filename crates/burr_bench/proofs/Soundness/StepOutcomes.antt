@@ -9,9 +9,9 @@ use Rattle.burr_frames.specs.Rules.FramedPlans.{FramedProcedure}
 use Rattle.burr_frames.specs.Rules.States.{AbstractState, state_of}
 use Rattle.burr_frames.specs.Rules.Verdicts.{Verdict, FallsThrough}
 use Rattle.burr_verify.specs.Rules.WellFramed.{IsLabelled}
-use Rattle.burr_state.specs.declared.mode.Mode.TheVariants.{Running, Ended}
-use Rattle.burr_state.specs.declared.motion.Motion.{Motion}
-use Rattle.burr_state.specs.declared.trap.Trap.{Trap}
+use Rattle.burr_state.specs.declared.effect.Mode.TheVariants.{Running, Ended}
+use Rattle.burr_state.specs.declared.effect.Motion.{Motion}
+use Rattle.burr_state.specs.declared.effect.Trap.{Trap}
 use Rattle.burr_state.specs.Rules.Bench.{BenchState, Setup}
 use Rattle.burr_state.specs.Rules.Next.{Next, Goes, Traps}
 use Rattle.burr_state.specs.Rules.Step.{NextIs, TakesAnswer}

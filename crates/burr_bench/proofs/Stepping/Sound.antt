@@ -11,14 +11,14 @@ use Rattle.burr_assembly.specs.Rules.Homes.{home_of, homes_of}
 use Rattle.burr_code.specs.declared.placement.Placement.{Placement}
 use Rattle.burr_code.specs.declared.placement.Placement.TheVariants.{On}
 use Rattle.burr_code.specs.Places.{IsPartOfTray, IsEmptyTray, aside_places}
-use Rattle.burr_state.specs.declared.motion.Motion.{Motion}
-use Rattle.burr_state.specs.declared.mode.Mode.{Mode}
-use Rattle.burr_state.specs.declared.mode.Mode.TheVariants.{Running}
+use Rattle.burr_state.specs.declared.effect.Motion.{Motion}
+use Rattle.burr_state.specs.declared.effect.Mode.{Mode}
+use Rattle.burr_state.specs.declared.effect.Mode.TheVariants.{Running}
 use Rattle.burr_state.specs.Rules.Bench.{activation, Program, start, BenchState}
 use Rattle.burr_state.specs.Rules.Space.{NoOverlapIn, NoOverlap, moved_places}
 use Rattle.burr_state.specs.Views.Parts.{parts}
 use Rattle.burr_state.specs.Views.Effects.{PiecesStay, NeverMoves, motion_made}
-use Rattle.burr_state.specs.declared.trap.Trap.{Trap}
+use Rattle.burr_state.specs.declared.effect.Trap.{Trap}
 use Rattle.burr_state.specs.declared.effect.Effect.{Effect}
 use Rattle.burr_state.specs.declared.effect.Effect.TheVariants as effects
 use Rattle.std.specs.Prelude.{Result, Ok, Err, OnOk}
@@ -70,7 +70,7 @@ goes_on_aside old new motion there sound out part empty places = record {
       omega (arith, most, same, few);
 }
 
--- a bench at work of which no piece moved is sound
+-- a bench at work is sound where none of its pieces moved
 pub sound_staying : (old new : Benched) → IsSound old → new.assembly ≡ old.assembly → PiecesStay old.state new.state → IsSound new
 sound_staying old new sound assembly stays = record {
   as_many = ap length stays.places ∙ sound.as_many ∙ ap (λ a. length a.pieces) (sym assembly);

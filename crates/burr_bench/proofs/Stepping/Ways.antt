@@ -13,11 +13,11 @@ use Rattle.burr_code.specs.declared.placement.Placement.{Placement}
 use Rattle.burr_code.specs.Places.{LiesAt, LiesIn}
 use Rattle.burr_assembly.specs.Rules.Text.{Assembly}
 use Rattle.burr_assembly.specs.Rules.Homes.{HasHome, home_at, home_of, homes_of}
-use Rattle.burr_blocking.specs.declared.query.Query.{Query}
+use Rattle.burr_blocking.specs.declared.blocking.Query.{Query}
 use Rattle.burr_blocking.specs.Rules.Pairs.{IsBlocked, Clears}
 use Rattle.burr_blocking.proofs.Common.Displaced.{free_of_difference, difference_of_free, blocked_of_overlap, overlap_of_blocked, overlap_before}
-use Rattle.burr_bench.specs.declared.checked.way.Way.{Way}
-use Rattle.burr_bench.specs.declared.checked.way.Way.TheVariants as ways
+use Rattle.burr_bench.specs.declared.checked.Way.{Way}
+use Rattle.burr_bench.specs.declared.checked.Way.TheVariants as ways
 use Rattle.burr_state.specs.Rules.Space.{IsFreeGroup, NoOverlapIn, moved_places}
 use Rattle.burr_state.specs.Views.Benches.{Benched}
 use Rattle.burr_bench.specs.BenchViews.{SetsOut}

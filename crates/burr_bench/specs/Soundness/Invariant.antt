@@ -13,7 +13,7 @@ use Rattle.burr_frames.specs.Rules.States.{AbstractState, IsPoint, places_at}
 use Rattle.burr_frames.specs.Rules.Transfer.{Transfer}
 use Rattle.burr_frames.specs.Rules.Verdicts.{FallsThrough}
 use Rattle.burr_verify.specs.Rules.WellFramed.{Annotated, Enters, IsCut}
-use Rattle.burr_state.specs.declared.mode.Mode.TheVariants.{Running}
+use Rattle.burr_state.specs.declared.effect.Mode.TheVariants.{Running}
 use Rattle.burr_state.specs.Laws.AsideLaws.{NoneLone}
 use Rattle.burr_state.specs.Rules.Bench.{Activation, BenchState}
 use Rattle.burr_state.specs.Rules.Space.{NoOverlap}

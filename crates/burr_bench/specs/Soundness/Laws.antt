@@ -4,8 +4,8 @@ use Rattle.burr_voxels.specs.declared.cell.Cell.{Cell}
 use Rattle.burr_frames.specs.Rules.FramedPlans.{FramedPlan}
 use Rattle.burr_verify.specs.Views.FromContainers.{IsFromContainer}
 use Rattle.burr_verify.specs.Rules.WellFramed.{IsWellFramed}
-use Rattle.burr_state.specs.declared.closing.Closing.{Closing}
-use Rattle.burr_state.specs.declared.motion.Motion.{Motion}
+use Rattle.burr_state.specs.declared.effect.Closing.{Closing}
+use Rattle.burr_state.specs.declared.effect.Motion.{Motion}
 use Rattle.burr_state.specs.Rules.Bench.{start}
 use Rattle.burr_bench.specs.Soundness.Framing.{framed_setup}
 use Rattle.burr_state.specs.Rules.Run.{Run}

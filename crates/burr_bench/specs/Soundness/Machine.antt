@@ -10,9 +10,9 @@ use Rattle.burr_container.specs.Rules.Plans.{Plan}
 use Rattle.burr_frames.specs.Rules.FramedPlans.{framed_plan}
 use Rattle.burr_verify.specs.Rules.Accepting.{Judged, IsAccepted, MainCosts}
 use Rattle.burr_verify.specs.Rules.WellFramed.{IsWellFramed}
-use Rattle.burr_state.specs.declared.mode.Mode.TheVariants.{Running}
-use Rattle.burr_state.specs.declared.progress.Progress.{Progress}
-use Rattle.burr_state.specs.declared.trap.Trap.{Trap}
+use Rattle.burr_state.specs.declared.effect.Mode.TheVariants.{Running}
+use Rattle.burr_state.specs.declared.effect.Progress.{Progress}
+use Rattle.burr_state.specs.declared.effect.Trap.{Trap}
 use Rattle.burr_state.specs.Rules.Bench.{BenchState, BenchProcedure, running, start}
 use Rattle.burr_state.specs.Views.Benches.{Benched, benched, setup_of, in_state}
 use Rattle.burr_bench.specs.Soundness.Invariant.{IsSafeState}

@@ -1,7 +1,7 @@
 -- A bench that runs an accepted plan can take back each of its steps.
 use Rattle.std.specs.Prelude.{◌≡◌, ℤ, Option, Ok}
-use Rattle.burr_state.specs.declared.motion.Motion.{Motion}
-use Rattle.burr_state.specs.declared.progress.Progress.TheVariants as progress
+use Rattle.burr_state.specs.declared.effect.Motion.{Motion}
+use Rattle.burr_state.specs.declared.effect.Progress.TheVariants as progress
 use Rattle.burr_state.specs.Rules.Bench.{BenchState}
 use Rattle.burr_state.specs.Views.Benches.{Benched, setup_of, in_state}
 use Rattle.burr_state.specs.Rules.Step.{Called}

@@ -5,14 +5,16 @@ use Rattle.std.specs.Prelude.{pos, ◌≤ℤ◌}
 use Rattle.burr_text.specs.Checks.{needs}
 use Rattle.burr_voxels.specs.declared.cell.Cell.{Cell}
 use Rattle.burr_voxels.specs.declared.direction.Direction.{Direction}
-use Rattle.burr_code.proofs.Common.OneAnswer.{IsOne, one_given, one_needed}
+use Rattle.burr_code.proofs.Common.OneAnswer.{IsOne}
+use Rattle.burr_code.proofs.Common.Checked.{needed, ends, one_built}
 use Rattle.burr_forms.specs.Rules.Forms.{Point, value, one_less, IsSmallForm}
 use Rattle.burr_frames.specs.declared.rule.Rule.{Rule}
 use Rattle.burr_frames.specs.declared.rule.Rule.TheVariants as rules
 use Rattle.burr_frames.specs.Views.Moving.{free_aside, free_step}
-use Rattle.burr_frames.specs.Rules.SpaceRules.{aside_rule, step_rule}
+use Rattle.burr_frames.specs.Rules.SpaceRules.{aside_rule, moved, step_rule}
 use Rattle.burr_frames.specs.Rules.States.{AbstractState, Everywhere, IsFirstFailing}
-use Rattle.burr_frames.proofs.Common.Unique.{one_paid}
+use Rattle.burr_frames.proofs.Common.Built.{built_paid}
+use Rattle.burr_frames.proofs.Common.Decided.{decide_small_places}
 use Rattle.burr_frames.specs.Rules.Verdicts.{Broken, Verdict, Breaks, FallsThrough, NoSuccessor, everywhere, plainly, at_point, at_pair, IsFirstPair}
 
 abbrev pub IsFine : Verdict → Type 0
@@ -70,7 +72,8 @@ free_of_aside homes s direction tray v fine rule =
     (held_of_pairs s fine (held_everywhere s fine empty.1).1).1
 
 pub one_free_step : (s : AbstractState) (direction : Direction) → IsOne (free_step s direction)
-one_free_step s direction = one_needed _ _ _ (one_paid s _ (one_given _))
+one_free_step s direction =
+    one_built (needed (decide_small_places (moved s.grip direction s.places)) λ small. built_paid {Ends = λ v. Unit {0}} s λ paid. ends tt)
 
 pub one_free_aside : (s : AbstractState) (tray : ℕ) → IsOne (free_aside s tray)
-one_free_aside s tray = one_paid s _ (one_given _)
+one_free_aside s tray = one_built (built_paid {Ends = λ v. Unit {0}} s λ paid. ends tt)

@@ -7,8 +7,8 @@ use Rattle.burr_code.specs.Instruction.{Instruction, Step, Aside}
 use Rattle.burr_code.specs.PieceSets.{is_left_out}
 use Rattle.burr_code.specs.declared.placement.Placement.{Placement}
 use Rattle.burr_code.specs.Places.{is_in, IsPartOfTray, IsEmptyTray}
-use Rattle.burr_blocking.specs.declared.query.Query.{Query}
-use Rattle.burr_blocking.specs.declared.query.Query.TheVariants as queries
+use Rattle.burr_blocking.specs.declared.blocking.Query.{Query}
+use Rattle.burr_blocking.specs.declared.blocking.Query.TheVariants as queries
 use Rattle.burr_forms.specs.declared.limits.TheConstants.{MOST_POINTS}
 use Rattle.burr_forms.specs.Rules.Forms.{Point}
 use Rattle.burr_forms.specs.Rules.Points.{box_size, points_of}

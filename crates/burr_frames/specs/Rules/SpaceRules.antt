@@ -11,8 +11,8 @@ use Rattle.burr_code.specs.PieceSets.{IsInSet}
 use Rattle.burr_code.specs.declared.placement.Placement.{Placement}
 use Rattle.burr_code.specs.declared.placement.Placement.TheVariants.{Apart, On}
 use Rattle.burr_code.specs.Places.{LiesAt, AllLieIn, at_position, changed, aside_places, IsPartOfTray, IsEmptyTray}
-use Rattle.burr_blocking.specs.declared.query.Query.{Query}
-use Rattle.burr_blocking.specs.declared.query.Query.TheVariants as queries
+use Rattle.burr_blocking.specs.declared.blocking.Query.{Query}
+use Rattle.burr_blocking.specs.declared.blocking.Query.TheVariants as queries
 use Rattle.burr_forms.specs.Rules.Forms.{Point, raised, IsSmallForm}
 use Rattle.burr_assembly.specs.Rules.Homes.{HasHome}
 use Rattle.burr_container.specs.Rules.Plans.{FormCell}

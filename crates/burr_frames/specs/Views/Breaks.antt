@@ -67,7 +67,7 @@ pub record IsPaid (s : AbstractState) (cost : Form) : Type 0 where
 abbrev pub Pays : AbstractState → Result Form Break → Type 0
 Pays s result = MatchResult result (IsPaid s) (CannotPay s)
 
--- the form in slot v, which is no parameter; or which rule is broken where there is none
+-- the form in slot v; or the rule that is broken: V9 at a parameter, V8 where the slot has no form
 abbrev pub FindsCounter : FramedProcedure → AbstractState → ℕ → Result Form Break → Type 0
 FindsCounter here s v result =
     MatchResult result

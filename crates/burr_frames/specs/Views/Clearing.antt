@@ -8,7 +8,7 @@ use Rattle.burr_code.specs.declared.placement.Placement.{Placement}
 use Rattle.burr_code.specs.declared.placement.Placement.TheVariants.{Apart, On}
 use Rattle.burr_code.specs.Places.{is_in}
 use Rattle.burr_assembly.specs.Rules.Homes.{home_at}
-use Rattle.burr_blocking.specs.declared.query.Query.{Query}
+use Rattle.burr_blocking.specs.declared.blocking.Query.{Query}
 use Rattle.burr_blocking.specs.Rules.Pairs.{Clears}
 use Rattle.burr_forms.specs.Rules.Forms.{Form, number}
 use Rattle.burr_container.specs.Rules.Plans.{FormCell}
@@ -68,7 +68,7 @@ pub record AreRoles (tray grip pieces : ℕ) (places : List (Placement FormCell)
 abbrev pub IsEarlierPair : ℕ → ℕ → ℕ → ℕ → Type 0
 IsEarlierPair r t p q = (r < p) ⊎ ((r ≡ p) × (t < q))
 
--- the first piece left in the tray of which gripped piece p is not clear; none where it is of each
+-- the first piece left in the tray that gripped piece p is not clear of, if there is one
 abbrev pub FirstAgainst : Query → List (List Cell) → List Role → List ℤ → ℕ → Option ℕ → Type 0
 FirstAgainst query homes pieces values p result =
     MatchOption result
@@ -76,7 +76,7 @@ FirstAgainst query homes pieces values p result =
     (λ q. IsRole pieces q roles.Resting × (¬ IsPairClear query homes values p q)
     × ((t : ℕ) → t < q → IsRole pieces t roles.Resting → IsPairClear query homes values p t))
 
--- the first pair that is not clear; none where each is
+-- the first pair that is not clear; None where each pair is clear
 abbrev pub FirstPairOf : Query → List (List Cell) → List Role → List ℤ → Option (ℕ × ℕ) → Type 0
 FirstPairOf query homes pieces values result =
     MatchOption result (AllClear query homes pieces values)

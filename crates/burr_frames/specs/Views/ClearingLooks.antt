@@ -2,7 +2,7 @@
 use Rattle.std.specs.Prelude.{ℕ, suc, ◌+◌, ℤ, List, [], ◌∷◌, ◌++◌, map, drop, Option, MatchOption}
 use Rattle.burr_voxels.specs.declared.cell.Cell.{Cell}
 use Rattle.burr_assembly.specs.Rules.Text.{Assembly}
-use Rattle.burr_blocking.specs.declared.query.Query.{Query}
+use Rattle.burr_blocking.specs.declared.blocking.Query.{Query}
 use Rattle.burr_forms.specs.Rules.Forms.{Form}
 use Rattle.burr_frames.specs.declared.clearing.Role.{Role}
 use Rattle.burr_frames.specs.declared.clearing.Role.TheVariants as roles

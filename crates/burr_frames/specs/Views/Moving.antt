@@ -7,7 +7,7 @@ use Rattle.burr_voxels.specs.declared.direction.Direction.{Direction}
 use Rattle.burr_code.specs.PieceSets.{IsInSet}
 use Rattle.burr_code.specs.declared.placement.Placement.{Placement}
 use Rattle.burr_code.specs.Places.{LiesIn, aside_places}
-use Rattle.burr_blocking.specs.declared.query.Query.{Query}
+use Rattle.burr_blocking.specs.declared.blocking.Query.{Query}
 use Rattle.burr_container.specs.Rules.Plans.{FormCell}
 use Rattle.burr_forms.specs.Rules.Forms.{Point}
 use Rattle.burr_frames.specs.declared.breaking.Break.{Break}

@@ -1,5 +1,5 @@
 -- What values are compared with in an agreement.
-use Rattle.burr_frames.specs.declared.state.meeting.agreement.Agreement.{Agreement}
+use Rattle.burr_frames.specs.declared.state.meeting.Agreement.{Agreement}
 use Rattle.burr_frames.specs.Views.Comparing.{Target}
 
 abbrev pub target_of : Agreement → Target

@@ -1,26 +1,30 @@
 //! A state's agreement with what a frame says: arrival at a frame, and meeting one that is entered.
 
-ghost use Rattle.std.specs.Prelude.{◌≡◌, ◌≤◌, [], IfOk, MatchOption, length};
-ghost use Rattle.burr_forms.specs.Rules.Forms.{AllSmallForms};
-ghost use Rattle.burr_container.specs.Views.Refs.{frame_of};
-ghost use Rattle.burr_frames.specs.declared.rule.Rule.TheVariants as rules;
+ghost use Rattle.std.specs.Prelude.{◌≡◌, ◌≤◌, [], IfOk, MatchOption, length, ◌+◌, ◌↔◌, IsTrue, ◌<◌, ◌++◌, ◌*◌, Some, slice_get, map, reverse, All};
+ghost use Rattle.burr_code.specs.Places.{tray_of};
+ghost use Rattle.burr_forms.specs.Rules.Forms.{AllSmallForms, values as values_of};
+ghost use Rattle.burr_forms.specs.Rules.Points.{AreRanges, InBox, GuardsHold};
+ghost use Rattle.burr_forms.specs.Views.Searching.{AllBounded};
+ghost use Rattle.burr_container.specs.Views.Refs.{frame_of, parameters_of};
 ghost use Rattle.burr_frames.specs.Rules.FramedPlans.{framed};
 ghost use Rattle.burr_frames.specs.Rules.Verdicts.{arriving, meeting, no_successor};
 ghost use Rattle.burr_frames.specs.Rules.States.{Everywhere, IsFirstFailing, state_of};
 ghost use Rattle.burr_frames.specs.Rules.Arrival.{IsAlike};
 ghost use Rattle.burr_frames.specs.Views.ArrivalViews.{arrival_verdict, AgreesAbove, AgreesOrMisses};
-ghost use Rattle.burr_frames.specs.Views.Exits.{miss_verdict};
+ghost use Rattle.burr_frames.specs.Views.Exits.{miss_verdict, framed_ref, meeting_exit, meeting_exit_with};
+ghost use Rattle.burr_frames.specs.Views.Comparing.{NoneBelow, offset_forms};
+ghost use Rattle.burr_frames.specs.Rules.ControlRules.{IsAlikeExit, MeetsExitAt};
+ghost use Rattle.burr_frames.specs.Rules.SpaceRules.{AllSmallPlaces};
+ghost use Rattle.burr_frames.specs.Views.StateViews.{IsSmallSlot, GivesLiveForms};
+ghost use Rattle.burr_frames.specs.declared.rule.Rule.TheVariants as rules;
 
-mod agreement;
-mod alike;
-mod exit;
-
-use super::State;
-use agreement::Agreement;
+use crate::forms::{offset_forms, wide_value};
+use crate::state::calls::{Exit, joined};
+use crate::state::{State, extend};
 use arrayvec::ArrayVec;
-use burr_container::FrameRef;
-use burr_forms::{Form, Point, first_failing};
-pub use exit::meets_exit;
+use burr_code::Placement;
+use burr_container::{ExitRef, FormOffset, FrameRef};
+use burr_forms::{Condition, Form, Point, first_failing};
 use thiserror::Error;
 
 /// Why a state does not agree with what a frame says.
@@ -140,6 +144,332 @@ impl State {
             guards: there.guards.as_slice(),
             least,
             same: met.as_slice(),
+        };
+        first_failing(self.ranges.as_slice(), self.guards.as_slice(), &agreement)
+    }
+}
+
+// Values of a state's forms beside those of the forms of a frame or an exit frame.
+
+/// The condition that values of a state's forms meet a target, which is given by forms over the
+/// symbols whose values come first.
+#[derive(Drop)]
+pub struct Agreement<'a> {
+    /// The state's forms: those of the symbols, then one for each of `least`, then one for each of
+    /// `same`.
+    pub forms: &'a [Form],
+    /// How many symbols in front nothing bounds: none at a frame, the parameters at an exit frame.
+    pub free: usize,
+    /// Of each symbol after those.
+    pub ranges: &'a [(i32, i32)],
+    /// Forms that are not negative where all symbols have these values.
+    pub guards: &'a [Form],
+    /// Forms whose values there are at most the state's.
+    pub least: &'a [Form],
+    /// Forms whose values there are the state's.
+    pub same: &'a [Form],
+    ghost shape: { length forms.now
+        ≡ free + length ranges.now + length least.now + length same.now },
+    ghost few: { free + length ranges.now ≤ 8 },
+    ghost are: { AreRanges ranges.now },
+    ghost guards_small: { AllSmallForms guards.now },
+    ghost least_small: { AllSmallForms least.now },
+    ghost same_small: { AllSmallForms same.now },
+}
+
+impl<'a> Condition for Agreement<'a> {
+    ghost use Rattle.burr_frames.specs.Views.Comparing.{IsMetBy};
+    ghost use Rattle.burr_frames.specs.Views.Targets.{target_of};
+
+    ghost asked = { λ c. c.forms.now };
+
+    ghost Holds = { λ c values. IsMetBy (target_of c) values };
+
+    fn forms(&self) -> &[Form] {
+        self.forms
+    }
+
+    fn holds(&self, values: &[i64]) -> bool {
+        let (symbols, others) = values.split_at(self.free + self.ranges.len());
+        let (_, ranged) = symbols.split_at(self.free);
+        let (least, same) = others.split_at(self.least.len());
+        are_within(self.ranges, ranged)
+            && guards_hold(self.guards, symbols)
+            && none_below(self.least, symbols, least)
+            && are_values(self.same, symbols, same)
+    }
+}
+
+/// Whether each of these numbers lies in its range.
+fn are_within(ranges: &[(i32, i32)], numbers: &[i64]) -> bool
+    requires places { length numbers.now ≡ length ranges.now }
+    ensures { IsTrue result ↔ InBox ranges.now numbers.now }
+{
+    for place in 0..ranges.len() {
+        let (low, high) = ranges[place];
+        let number = numbers[place];
+        if number < i64::from(low) || i64::from(high) < number {
+            return false;
+        }
+    }
+    true
+}
+
+/// Whether no guard is negative where the symbols have these values.
+fn guards_hold(guards: &[Form], symbols: &[i64]) -> bool
+    requires small { AllSmallForms guards.now }
+    requires bounded { AllBounded symbols.now }
+    requires few { length symbols.now ≤ 8 }
+    ensures { IsTrue result ↔ GuardsHold guards.now symbols.now }
+{
+    guards.iter().all(|guard| wide_value(guard, symbols) >= 0)
+}
+
+/// Whether none of these numbers is below the value of its form where the symbols have these
+/// values.
+fn none_below(forms: &[Form], symbols: &[i64], numbers: &[i64]) -> bool
+    requires small { AllSmallForms forms.now }
+    requires bounded { AllBounded symbols.now }
+    requires few { length symbols.now ≤ 8 }
+    requires places { length numbers.now ≡ length forms.now }
+    ensures { IsTrue result ↔ NoneBelow (values_of symbols.now forms.now) numbers.now }
+{
+    for place in 0..forms.len() {
+        if i128::from(numbers[place]) < wide_value(&forms[place], symbols) {
+            return false;
+        }
+    }
+    true
+}
+
+/// Whether these numbers are the values of forms where the symbols have these values.
+fn are_values(forms: &[Form], symbols: &[i64], numbers: &[i64]) -> bool
+    requires small { AllSmallForms forms.now }
+    requires bounded { AllBounded symbols.now }
+    requires few { length symbols.now ≤ 8 }
+    requires places { length numbers.now ≡ length forms.now }
+    ensures { IsTrue result ↔ (values_of symbols.now forms.now ≡ numbers.now) }
+{
+    for place in 0..forms.len() {
+        if i128::from(numbers[place]) != wide_value(&forms[place], symbols) {
+            return false;
+        }
+    }
+    true
+}
+
+// What a state and a frame have in common without regard to points, and which forms are compared
+// at points.
+impl State {
+    /// The forms in the slots that are live in a frame; None where one of them is not known.
+    pub(super) fn live_forms(&self, frame: &FrameRef<'_>) -> Option<ArrayVec<Form, 8>>
+        ensures { GivesLiveForms (frame_of frame.now).slots self.now.slots result }
+    {
+        live_forms(&self.slots, frame)
+    }
+
+    /// Whether the current tray, the grip, the number of operands and each piece's tray are those
+    /// of another state.
+    pub(super) fn is_alike(&self, other: &State) -> bool
+        ensures { IsTrue result ↔ IsAlike self.now other.now }
+    {
+        if self.tray != other.tray || self.grip != other.grip {
+            return false;
+        }
+        if self.operands.len() != other.operands.len() {
+            return false;
+        }
+        are_in_same_trays(self.places.as_slice(), other.places.as_slice())
+    }
+
+    /// Whether the current tray and the grip are those of an exit frame, and each piece's tray is
+    /// that of its places.
+    pub(super) fn is_alike_exit(&self, exit: &Exit) -> bool
+        ensures { IsTrue result ↔ IsAlikeExit self.now exit.now }
+    {
+        if self.tray != exit.tray || self.grip != exit.grip {
+            return false;
+        }
+        are_in_same_trays(self.places.as_slice(), exit.places.as_slice())
+    }
+}
+
+/// The forms in the slots that are live in a frame; None where one of them is not known.
+fn live_forms(slots: &[Option<Form>; 8], frame: &FrameRef<'_>) -> Option<ArrayVec<Form, 8>>
+    requires { All IsSmallSlot slots.now }
+    ensures { GivesLiveForms (frame_of frame.now).slots slots.now result }
+{
+    let mut forms = ArrayVec::new();
+    for v in 0..8 {
+        if frame.slot(v).is_none() {
+            continue;
+        }
+        let Some(form) = form_of(slots, v) else {
+            return None;
+        };
+        forms.push(form);
+    }
+    Some(forms)
+}
+
+/// The form in slot v.
+fn form_of(slots: &[Option<Form>; 8], v: u8) -> Option<Form>
+    requires { v < 8 }
+    ensures { slice_get slots.now v ≡ Some result }
+{
+    slots[usize::from(v)]
+}
+
+/// Whether each piece is apart in both, or in the same tray.
+fn are_in_same_trays(places: &[Placement<FormOffset>], others: &[Placement<FormOffset>]) -> bool
+    ensures { IsTrue result ↔ (map tray_of places.now ≡ map tray_of others.now) }
+{
+    if places.len() != others.len() {
+        return false;
+    }
+    for piece in 0..places.len() {
+        if places[piece].tray() != others[piece].tray() {
+            return false;
+        }
+    }
+    true
+}
+
+impl State {
+    /// Forms of the state to be compared: those of symbols, others, and those of the operands, the
+    /// bottom first, and of the offsets, piece by piece.
+    pub(super) fn compared(&self, symbols: &[Form], others: &[Form]) -> ArrayVec<Form, 120>
+        requires few { length symbols.now ≤ 8 }
+        requires other { length others.now ≤ 1 }
+        requires small { AllSmallForms symbols.now }
+        requires others_small { AllSmallForms others.now }
+        ensures forms { result.items ≡ symbols.now
+            ++ (others.now ++ (reverse self.now.operands ++ offset_forms self.now.places)) }
+        ensures small { AllSmallForms result.items }
+    {
+        let mut forms = ArrayVec::new();
+        append(&mut forms, symbols);
+        append(&mut forms, others);
+        append(&mut forms, self.operands.as_slice());
+        append_offsets(&mut forms, self.places.as_slice());
+        forms
+    }
+}
+
+/// Forms, and after them those of offsets, piece by piece.
+pub(super) fn with_offsets(
+    symbols: &[Form],
+    places: &[Placement<FormOffset>],
+) -> ArrayVec<Form, 120>
+    requires few { length symbols.now ≤ 8 }
+    requires pieces { length places.now ≤ 32 }
+    requires small { AllSmallForms symbols.now }
+    requires places_small { AllSmallPlaces places.now }
+    ensures forms { result.items ≡ symbols.now ++ offset_forms places.now }
+    ensures small { AllSmallForms result.items }
+{
+    let mut forms = ArrayVec::new();
+    append(&mut forms, symbols);
+    append_offsets(&mut forms, places);
+    forms
+}
+
+/// Puts forms after others. There is room, the caller's condition.
+fn append(forms: &mut ArrayVec<Form, 120>, more: &[Form])
+    requires room { length forms.old.items + length more.now ≤ 120 }
+    requires small { AllSmallForms forms.old.items }
+    requires more_small { AllSmallForms more.now }
+    ensures forms { forms.new.items ≡ forms.old.items ++ more.now }
+    ensures small { AllSmallForms forms.new.items }
+{
+    extend(forms, more);
+}
+
+/// Puts the forms of offsets after others. There is room, the caller's condition.
+fn append_offsets(forms: &mut ArrayVec<Form, 120>, places: &[Placement<FormOffset>])
+    requires room { length forms.old.items + 3 * length places.now ≤ 120 }
+    requires small { AllSmallForms forms.old.items }
+    requires places_small { AllSmallPlaces places.now }
+    ensures forms { forms.new.items ≡ forms.old.items ++ offset_forms places.now }
+    ensures small { AllSmallForms forms.new.items }
+{
+    for piece in 0..places.len() {
+        let offset = offset_forms(&places[piece]);
+        append(forms, offset.as_slice());
+    }
+}
+
+// Meeting an exit frame.
+
+/// Whether a state meets an exit frame. First what is asked without regard to points: each of the
+/// first slots, as many as the frame's procedure has parameters, is known, there are as many
+/// operands as results at least, and the current tray, the grip and each piece's tray are the exit
+/// frame's. Then, at each point of the state, rising: the topmost operands, the results, lie in
+/// their ranges, the guards hold, and the offsets have the values of the exit frame's forms, where
+/// the parameters have the values of those slots and the results theirs.
+pub fn meets_exit(state: &State, exit: &ExitRef<'_>) -> Result<(), Miss>
+    ensures { meeting_exit (parameters_of exit.now) state.now (framed_ref exit.now)
+        (miss_verdict rules.V22 result) }
+{
+    let Some(forms) = state.first_forms(exit.parameters()) else {
+        return Err(Miss { point: None });
+    };
+    let exit = Exit::of(exit);
+    let Some(results) = state.top_many(exit.results.len()) else {
+        return Err(Miss { point: None });
+    };
+    state.meets_exit_with(&exit, forms.as_slice(), results.as_slice())
+}
+
+impl State {
+    /// Whether the state meets an exit frame where these forms are the parameters and the results.
+    #[inline(never)]
+    pub(in crate::state) fn meets_exit_with(
+        &self,
+        exit: &Exit,
+        parameters: &[Form],
+        results: &[Form],
+    ) -> Result<(), Miss>
+        requires many { length results.now ≡ length exit.now.results }
+        requires few { length parameters.now + length results.now ≤ 8 }
+        requires small { AllSmallForms parameters.now }
+        requires results_small { AllSmallForms results.now }
+        ensures { meeting_exit_with self.now exit.now parameters.now results.now
+            (miss_verdict rules.V22 result) }
+    {
+        if !self.is_alike_exit(exit) {
+            return Err(Miss { point: None });
+        }
+        match self.first_exit_missed(parameters, results, exit) {
+            None => Ok(()),
+            Some(point) => Err(Miss { point: Some(point) }),
+        }
+    }
+
+    /// The first point at which the state is not as an exit frame says of the parameters and the
+    /// results, which are these forms; None where there is no such point. Each piece's tray is the
+    /// same, the caller's condition.
+    fn first_exit_missed(&self, parameters: &[Form], results: &[Form], exit: &Exit) -> Option<Point>
+        requires alike { IsAlikeExit self.now exit.now }
+        requires many { length results.now ≡ length exit.now.results }
+        requires few { length parameters.now + length results.now ≤ 8 }
+        requires small { AllSmallForms parameters.now }
+        requires results_small { AllSmallForms results.now }
+        ensures { MatchOption result
+            (Everywhere self.now (MeetsExitAt self.now exit.now parameters.now results.now))
+            (λ found. IsFirstFailing self.now
+            (MeetsExitAt self.now exit.now parameters.now results.now) found.items) }
+    {
+        let symbols = joined(parameters, results);
+        let compared = with_offsets(symbols.as_slice(), self.places.as_slice());
+        let same = with_offsets(&[], exit.places.as_slice());
+        let agreement = Agreement {
+            forms: compared.as_slice(),
+            free: parameters.len(),
+            ranges: exit.results.as_slice(),
+            guards: exit.guards.as_slice(),
+            least: &[],
+            same: same.as_slice(),
         };
         first_failing(self.ranges.as_slice(), self.guards.as_slice(), &agreement)
     }

@@ -1,27 +1,28 @@
 //! The rules of the instructions that grip and move pieces.
 
-ghost use Rattle.std.specs.Prelude.{◌≡◌, ◌≤◌, ◌^◌, ◌↔◌, IsTrue, IfErr, MatchResult, length};
-ghost use Rattle.burr_code.specs.Places.{LiesIn, AllLieIn, IsPartOfTray, IsEmptyTray, aside_places};
+ghost use Rattle.std.specs.Prelude.{◌≡◌, ◌≤◌, ◌^◌, ◌↔◌, IsTrue, IfErr, MatchResult, length, ◌<◌, ◌∷◌, []};
+ghost use Rattle.burr_code.specs.Places.{LiesIn, AllLieIn, IsPartOfTray, IsEmptyTray, aside_places, changed, at_position};
 ghost use Rattle.burr_assembly.specs.Rules.Homes.{homes_of};
 ghost use Rattle.burr_blocking.specs.Rules.Counted.{HasCounted};
+ghost use Rattle.burr_forms.specs.Rules.Forms.{AllSmallForms};
 ghost use Rattle.burr_frames.specs.Views.Changes.{with_grip, with_places};
-ghost use Rattle.burr_frames.specs.Rules.SpaceRules.{grip_rule, step_rule, aside_rule, tray_rule};
-ghost use Rattle.burr_frames.specs.Rules.SpaceRules.{moved, AllSmallPlaces};
+ghost use Rattle.burr_frames.specs.Rules.SpaceRules.{grip_rule, step_rule, aside_rule, tray_rule, moved, AllSmallPlaces, moved_forms};
 ghost use Rattle.burr_frames.specs.Views.Breaks.{next_verdict};
 ghost use Rattle.burr_frames.specs.Rules.Looks.{HasRoom, step_looks, aside_looks, clearing_looks};
 ghost use Rattle.burr_frames.specs.Views.Moving.{ClearOrBreaks, HasRest, free_aside, free_step};
+ghost use Rattle.burr_frames.specs.Views.Clearing.{offsets_in, role_of, AreRoles};
 
-use super::places::{moved_places, offsets_in, roles_in};
-use super::{MOST_PIECES, State};
 use crate::breaking::Break;
-use crate::clearing::Clearing;
+use crate::clearing::{Clearing, Role};
+use crate::forms::{moved, offset_forms_in};
 use crate::rule::Rule;
+use crate::state::{MOST_PIECES, State};
 use arrayvec::ArrayVec;
 use burr_blocking::{Blocking, Looks, Query};
 use burr_code::limits::MOST_OFFSET;
 use burr_code::{Placement, is_empty_tray, is_in_set, take_aside};
 use burr_container::FormOffset;
-use burr_forms::{FormTooLarge, first_refused, the_points_are_given};
+use burr_forms::{Form, FormTooLarge, first_refused, the_points_are_given};
 use burr_voxels::Direction;
 
 impl State {
@@ -256,5 +257,99 @@ impl State {
         ensures { IsTrue result ↔ IsEmptyTray self.now.places tray }
     {
         is_empty_tray(self.places.as_slice(), tray)
+    }
+}
+
+// Where pieces lie: a group moved, the forms of their offsets, and how they stand to a grip.
+
+/// The places where a group has gone one unit along a direction. The numbers of all forms lie
+/// within ±2^40, the caller's condition.
+pub(super) fn moved_places(
+    places: &[Placement<FormOffset>],
+    group: u32,
+    direction: Direction,
+) -> Result<ArrayVec<Placement<FormOffset>, MOST_PIECES>, FormTooLarge>
+    requires few { length places.now ≤ 32 }
+    requires small { AllSmallPlaces places.now }
+    ensures { MatchResult result
+        (λ new. (new.items ≡ moved group direction places.now) × AllSmallPlaces new.items)
+        (λ _. ¬ AllSmallPlaces (moved group direction places.now)) }
+{
+    let mut new = ArrayVec::new();
+    for piece in 0..places.len() {
+        new.push(moved_place(&places[piece], group, piece as u8, direction)?);
+    }
+    Ok(new)
+}
+
+/// The place of a piece, one unit along a direction if it is of the group.
+fn moved_place(
+    place: &Placement<FormOffset>,
+    group: u32,
+    piece: u8,
+    direction: Direction,
+) -> Result<Placement<FormOffset>, FormTooLarge>
+    requires piece { piece < 32 }
+    requires small { AllSmallPlaces (place.now ∷ []) }
+    ensures { MatchResult result
+        (λ new. (new ∷ []
+        ≡ changed (at_position (moved_forms direction)) group piece (place.now ∷ []))
+        × AllSmallPlaces (new ∷ []))
+        (λ _. ¬ AllSmallPlaces
+        (changed (at_position (moved_forms direction)) group piece (place.now ∷ []))) }
+{
+    if is_in_set(group, piece) {
+        moved(place, direction)
+    } else {
+        Ok(*place)
+    }
+}
+
+/// Three forms for each piece: its offset where it is in the tray, and else zeros. The numbers of
+/// all forms lie within ±2^40, the caller's condition.
+pub(super) fn offsets_in(tray: u8, places: &[Placement<FormOffset>]) -> ArrayVec<Form, 120>
+    requires few { length places.now ≤ 32 }
+    requires small { AllSmallPlaces places.now }
+    ensures offsets { result.items ≡ offsets_in tray places.now }
+    ensures small { AllSmallForms result.items }
+{
+    let mut offsets = ArrayVec::new();
+    for piece in 0..places.len() {
+        let [x, y, z] = offset_forms_in(&places[piece], tray);
+        offsets.push(x);
+        offsets.push(y);
+        offsets.push(z);
+    }
+    offsets
+}
+
+/// How each of the first pieces, as many as an assembly has, stands to a grip of a tray.
+pub(super) fn roles_in(
+    tray: u8,
+    grip: u32,
+    places: &[Placement<FormOffset>],
+    pieces: u8,
+) -> ArrayVec<Role, MOST_PIECES>
+    requires few { length places.now ≤ 32 }
+    ensures { AreRoles tray grip pieces places.now result.items }
+{
+    let mut roles = ArrayVec::new();
+    for piece in 0..places.len().min(usize::from(pieces)) {
+        roles.push(role_in(tray, grip, piece as u8, &places[piece]));
+    }
+    roles
+}
+
+/// How a piece with this place stands to a grip of a tray.
+fn role_in(tray: u8, grip: u32, piece: u8, place: &Placement<FormOffset>) -> Role
+    requires { piece < 32 }
+    ensures { result ≡ role_of grip tray piece place.now }
+{
+    if !place.is_in(tray) {
+        Role::Elsewhere
+    } else if is_in_set(grip, piece) {
+        Role::Gripped
+    } else {
+        Role::Resting
     }
 }

@@ -7,8 +7,8 @@ use Rattle.burr_frames.specs.Rules.FramedPlans.{framed_plan}
 use Rattle.burr_verify.specs.Rules.Judging.{Judging}
 use Rattle.burr_verify.specs.Rules.Pass.{Judgement}
 use Rattle.burr_verify.specs.Rules.WellFramed.{IsWellFramed}
-use Rattle.burr_state.specs.declared.closing.Closing.{Closing}
-use Rattle.burr_state.specs.declared.motion.Motion.{Motion}
+use Rattle.burr_state.specs.declared.effect.Closing.{Closing}
+use Rattle.burr_state.specs.declared.effect.Motion.{Motion}
 use Rattle.burr_state.specs.Rules.Bench.{start}
 use Rattle.burr_state.specs.Rules.Run.{Run}
 use Rattle.burr_container.specs.Rules.Plans.{upgraded}

@@ -5,9 +5,9 @@ use Rattle.burr_assembly.specs.declared.fault.AssemblyFault.{AssemblyFault}
 use Rattle.burr_assembly.specs.Rules.Text.{Assembly, IsText}
 use Rattle.burr_assembly.specs.Rules.Faults.{FirstFault}
 use Rattle.burr_assembly.specs.Rules.Homes.{names_of, HaveCells}
-use Rattle.burr_state.specs.declared.motion.Motion.{Motion}
-use Rattle.burr_state.specs.declared.closing.Closing.{Closing}
-use Rattle.burr_state.specs.declared.closing.Closing.TheVariants as closings
+use Rattle.burr_state.specs.declared.effect.Motion.{Motion}
+use Rattle.burr_state.specs.declared.effect.Closing.{Closing}
+use Rattle.burr_state.specs.declared.effect.Closing.TheVariants as closings
 use Rattle.burr_state.specs.Rules.Bench.{Program, bare_program, running, start}
 use Rattle.burr_state.specs.Rules.Run.{Run}
 use Rattle.burr_sheet.specs.Rules.SheetText.{sheet}

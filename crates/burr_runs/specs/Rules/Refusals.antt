@@ -12,7 +12,7 @@ use Rattle.burr_container.specs.Rules.FaultNames.{fault_code as container_code, 
 abbrev pub place_line : List ℕ → List ℕ → ℕ → List ℕ
 place_line subject unit place = text_line (codes "refused" ∷ subject ∷ unit ∷ decimal place ∷ [])
 
--- the line for two pieces of which the second, on the n-th line, shares a cell with the first
+-- the line for two pieces: the second, on the n-th line, shares a cell with the first
 abbrev pub clash_line : ℕ → List ℕ → List ℕ → List ℕ
 clash_line n first second =
     text_line (codes "refused" ∷ codes "A8" ∷ codes "line" ∷ decimal n ∷ first ∷ second ∷ [])

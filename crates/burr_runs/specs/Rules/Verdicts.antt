@@ -54,7 +54,7 @@ abbrev pub plan_refusal : Assembly → Refusal → List ℕ
 plan_refusal a r =
     place_part r ++ (pieces_part a r.pieces ++ (point_part r.point ++ 10 ∷ []))
 
--- the container is that of a plan, of which no check fails before this one, and this one does
+-- the container is that of a plan, and this check is the first that fails for the plan
 abbrev pub IsRefusedBy : ContainerView → Assembly → Refusal → Type 0
 IsRefusedBy kept a r =
     HasPlan kept

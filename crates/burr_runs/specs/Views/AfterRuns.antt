@@ -1,10 +1,10 @@
 -- Where a bench stands after its run was put on a sink.
 use Rattle.std.specs.Prelude.{◌≡◌, ◌⊎◌, ℤ, List}
 use Rattle.std.specs.Borrow.{Bor}
-use Rattle.burr_state.specs.declared.motion.Motion.{Motion}
-use Rattle.burr_state.specs.declared.mode.Mode.TheVariants.{Trapped}
-use Rattle.burr_state.specs.declared.closing.Closing.{Closing}
-use Rattle.burr_state.specs.declared.closing.Closing.TheVariants as closings
+use Rattle.burr_state.specs.declared.effect.Motion.{Motion}
+use Rattle.burr_state.specs.declared.effect.Mode.TheVariants.{Trapped}
+use Rattle.burr_state.specs.declared.effect.Closing.{Closing}
+use Rattle.burr_state.specs.declared.effect.Closing.TheVariants as closings
 use Rattle.burr_state.specs.Rules.Bench.{BenchState}
 use Rattle.burr_state.specs.Rules.Calls.{Calls, ClosesAt}
 use Rattle.burr_state.specs.Views.Benches.{Benched, setup_of, IsSameRun}

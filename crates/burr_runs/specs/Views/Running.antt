@@ -3,13 +3,13 @@ use Rattle.std.specs.Prelude.{◌≡◌, ◌<◌, ◌≤◌, ◌+◌, ◌-◌, �
 use Rattle.std.specs.Borrow.{Bor}
 use Rattle.burr_io.specs.Sink.{SinkView, Takes, FailsWithin}
 use Rattle.burr_assembly.specs.Rules.Text.{Assembly}
-use Rattle.burr_state.specs.declared.mode.Mode.TheVariants.{Running, Ended}
-use Rattle.burr_state.specs.declared.motion.Motion.{Motion}
+use Rattle.burr_state.specs.declared.effect.Mode.TheVariants.{Running, Ended}
+use Rattle.burr_state.specs.declared.effect.Motion.{Motion}
 use Rattle.burr_runs.specs.declared.outcome.Outcome.{Outcome}
 use Rattle.burr_state.specs.Rules.Bench.{Program}
 use Rattle.burr_state.specs.Rules.Run.{Run}
-use Rattle.burr_state.specs.declared.closing.Closing.{Closing}
-use Rattle.burr_state.specs.declared.closing.Closing.TheVariants as closings
+use Rattle.burr_state.specs.declared.effect.Closing.{Closing}
+use Rattle.burr_state.specs.declared.effect.Closing.TheVariants as closings
 use Rattle.burr_state.specs.Views.Parts.{parts}
 use Rattle.burr_sheet.specs.Views.SheetUnderWay.{UnderWay, still}
 use Rattle.burr_state.specs.Views.Benches.{Benched, setup_of, IsSameRun, GoesOn}
@@ -99,7 +99,7 @@ TurnIs sink before after p new more (turns.Break closing) =
     × (sink.taken after ≡ sink.taken before)
 
 -- what a bench that asks for a number of this range came to with these answers: the first is taken or
--- passed over, and where there is none the run waits
+-- passed over, and where no answer is left the run waits
 abbrev pub AnswerIs : Benched → List ℤ → ℤ → ℤ → Benched
     → ControlFlow Closing (Bor (List ℤ)) → Type 0
 AnswerIs b answers low high new (turns.Continue left) =

@@ -4,8 +4,8 @@ use Rattle.std.specs.List.{All}
 use Rattle.burr_text.specs.Lines.{IsUnended, IsLines}
 use Rattle.burr_assembly.specs.Rules.Text.{Assembly, IsAssembly}
 use Rattle.burr_assembly.specs.Rules.Homes.{homes_of, names_of}
-use Rattle.burr_state.specs.declared.motion.Motion.{Motion}
-use Rattle.burr_state.specs.declared.closing.Closing.{Closing}
+use Rattle.burr_state.specs.declared.effect.Motion.{Motion}
+use Rattle.burr_state.specs.declared.effect.Closing.{Closing}
 use Rattle.burr_state.specs.Rules.Bench.{Program, running, start}
 use Rattle.burr_state.specs.Rules.Run.{Run}
 use Rattle.burr_sheet.specs.Rules.Expanding.{AreLinesOf}

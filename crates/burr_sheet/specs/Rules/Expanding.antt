@@ -1,7 +1,7 @@
 -- Texts that are the lines of motions, and those motions.
 use Rattle.std.specs.Prelude.{◌≡◌, ◌≤◌, ℕ, List, length, All}
 use Rattle.burr_code.specs.declared.limits.TheConstants.{MOST_BUDGET}
-use Rattle.burr_state.specs.declared.motion.Motion.{Motion}
+use Rattle.burr_state.specs.declared.effect.Motion.{Motion}
 use Rattle.burr_state.specs.Rules.Motions.{IsMotionOf}
 use Rattle.burr_sheet.specs.Rules.SheetText.{motion_lines}
 

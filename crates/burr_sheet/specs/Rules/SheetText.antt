@@ -6,11 +6,11 @@ use Rattle.burr_text.specs.Words.{text_line}
 use Rattle.burr_voxels.specs.declared.direction.Direction.{Direction}
 use Rattle.burr_voxels.specs.Grid.{number_of, name_of}
 use Rattle.burr_code.specs.PieceSets.{is_left_out}
-use Rattle.burr_state.specs.declared.motion.Motion.{Motion}
-use Rattle.burr_state.specs.declared.trap.Trap.{Trap}
+use Rattle.burr_state.specs.declared.effect.Motion.{Motion}
+use Rattle.burr_state.specs.declared.effect.Trap.{Trap}
 use Rattle.burr_state.specs.Rules.TrapNames.{trap_number, trap_name}
-use Rattle.burr_state.specs.declared.closing.Closing.{Closing}
-use Rattle.burr_state.specs.declared.closing.Closing.TheVariants as closings
+use Rattle.burr_state.specs.declared.effect.Closing.{Closing}
+use Rattle.burr_state.specs.declared.effect.Closing.TheVariants as closings
 
 -- a line of a sheet: unit steps of one group in one tray along one direction, and whether an aside
 -- ends them

@@ -2,8 +2,8 @@
 use Rattle.std.specs.Prelude.{◌≡◌, ◌≢◌, ℕ, ◌+◌, ◌≤◌, List, [], ◌∷◌, ◌++◌, Bool, true, false, Option, Some, None, MatchOption, if◌then◌else◌}
 use Rattle.burr_io.specs.Sink.{SinkView, Takes, FailsWithin}
 use Rattle.burr_code.specs.declared.limits.TheConstants.{MOST_BUDGET}
-use Rattle.burr_state.specs.declared.motion.Motion.{Motion}
-use Rattle.burr_state.specs.declared.closing.Closing.{Closing}
+use Rattle.burr_state.specs.declared.effect.Motion.{Motion}
+use Rattle.burr_state.specs.declared.effect.Closing.{Closing}
 use Rattle.burr_sheet.specs.declared.sheet.GrowingLine.{GrowingLine}
 use Rattle.burr_sheet.specs.Rules.SheetText.{MoveLine, is_one, with_motion, longest_lines, levels_from, move_lines, levels_line, closing_line}
 
@@ -103,7 +103,7 @@ abbrev pub PutsBefore : {S : Type 0} → SinkView S → S → S → UnderWay →
 PutsBefore sink before after old motion new =
     (bytes : List ℕ) × Takes sink before after bytes × ClosesBefore old motion new bytes
 
--- how many lines the growing one is: one, or none where there is none
+-- how many lines are growing: one or none
 abbrev pub growing_lines : Option MoveLine → ℕ
 growing_lines None = 0
 growing_lines (Some l) = 1

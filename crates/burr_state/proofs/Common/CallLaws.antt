@@ -1,14 +1,14 @@
 -- For crates above: what calls of the bench leave, and runs as chains of calls.
 use Rattle.std.proofs.Common.{◌≡◌, ℕ, ℤ, List, [], ◌∷◌, ◌++◌, Option, Some, None, Result, Ok, Err, refl, sym, ap, subst, ◌∙◌, inl, inr}
 use Rattle.std.specs.Option.{option_to_list}
-use Rattle.burr_state.specs.declared.mode.Mode.{Mode}
-use Rattle.burr_state.specs.declared.mode.Mode.TheVariants.{Running, Ended, Trapped}
-use Rattle.burr_state.specs.declared.motion.Motion.{Motion}
-use Rattle.burr_state.specs.declared.closing.Closing.{Closing}
-use Rattle.burr_state.specs.declared.closing.Closing.TheVariants as closings
-use Rattle.burr_state.specs.declared.progress.Progress.{Progress}
-use Rattle.burr_state.specs.declared.progress.Progress.TheVariants as progress
-use Rattle.burr_state.specs.declared.trap.Trap.{Trap}
+use Rattle.burr_state.specs.declared.effect.Mode.{Mode}
+use Rattle.burr_state.specs.declared.effect.Mode.TheVariants.{Running, Ended, Trapped}
+use Rattle.burr_state.specs.declared.effect.Motion.{Motion}
+use Rattle.burr_state.specs.declared.effect.Closing.{Closing}
+use Rattle.burr_state.specs.declared.effect.Closing.TheVariants as closings
+use Rattle.burr_state.specs.declared.effect.Progress.{Progress}
+use Rattle.burr_state.specs.declared.effect.Progress.TheVariants as progress
+use Rattle.burr_state.specs.declared.effect.Trap.{Trap}
 use Rattle.burr_state.specs.Rules.Bench.{BenchState, Setup}
 use Rattle.burr_state.specs.Rules.Next.{Goes, Asks, Traps}
 use Rattle.burr_state.specs.Rules.Step.{NextIs, TakesAnswer, CallIn, Called, IsStepFrom}

@@ -17,11 +17,11 @@ use Rattle.burr_code.specs.Places.{LiesAt, LiesIn, aside_places}
 use Rattle.burr_code.proofs.Common.Conditions.{lies_within}
 use Rattle.burr_code.proofs.Common.Counts.{length-aside_places}
 use Rattle.burr_code.proofs.Common.PieceSets.{set_bit}
-use Rattle.burr_state.specs.declared.mode.Mode.{Mode}
-use Rattle.burr_state.specs.declared.mode.Mode.TheVariants.{Running, Ended, Trapped}
-use Rattle.burr_state.specs.declared.motion.Motion.{Motion}
-use Rattle.burr_state.specs.declared.closing.Closing.{Closing}
-use Rattle.burr_state.specs.declared.progress.Progress.TheVariants as progress
+use Rattle.burr_state.specs.declared.effect.Mode.{Mode}
+use Rattle.burr_state.specs.declared.effect.Mode.TheVariants.{Running, Ended, Trapped}
+use Rattle.burr_state.specs.declared.effect.Motion.{Motion}
+use Rattle.burr_state.specs.declared.effect.Closing.{Closing}
+use Rattle.burr_state.specs.declared.effect.Progress.TheVariants as progress
 use Rattle.burr_state.specs.Rules.Bench.{BenchState, BenchProcedure, Setup, start}
 use Rattle.burr_state.specs.Rules.Motions.{IsMotionOf}
 use Rattle.burr_state.specs.Rules.Next.{Next, Goes, Asks, Traps}
@@ -34,7 +34,8 @@ use Rattle.burr_state.specs.Laws.SpaceLaws.{IsGripHere, StepsTo}
 use Rattle.burr_state.specs.Laws.MotionLaws.{IsInTrays, TraysAreFew, MotionsAreOfPieces, MotionsAreWithinBudget}
 use Rattle.burr_state.proofs.Common.CallLaws.{step_where_taken}
 use Rattle.burr_state.proofs.Common.Calls.{tells}
-use Rattle.burr_state.proofs.Common.Leading.{at_either, leads_from}
+use Rattle.burr_state.proofs.Common.Built.{at_either}
+use Rattle.burr_state.proofs.Common.Leading.{leads_from}
 use Rattle.burr_state.proofs.Common.Outcomes.{TrapsOr, past_check, past_search, comes}
 use Rattle.burr_state.proofs.Common.Pieces.{grip_stays}
 use Rattle.burr_state.proofs.Common.Reached.{IsKept, home_places, kept_by_calls, lies_at_start}

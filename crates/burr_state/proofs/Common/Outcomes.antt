@@ -1,6 +1,6 @@
 -- For crates above: what comes of an instruction's checks in their order, where a trap is no matter.
 use Rattle.std.proofs.Common.{◌≡◌, ◌⊎◌, Option, None, Some, inl, inr, subst, sym}
-use Rattle.burr_state.specs.declared.trap.Trap.{Trap}
+use Rattle.burr_state.specs.declared.effect.Trap.{Trap}
 use Rattle.burr_state.specs.Rules.Next.{Next, Traps}
 
 -- a trap, or what is so

@@ -15,10 +15,10 @@ use Rattle.burr_code.specs.Places.{LiesAt, count_in}
 use Rattle.burr_assembly.specs.Rules.Text.{Assembly, IsAssembly, Piece, IsPiece, HasCells, Shares}
 use Rattle.burr_assembly.specs.Rules.Homes.{HasHome, home_of, homes_of}
 use Rattle.burr_assembly.proofs.Common.HomeCells.{home_has}
-use Rattle.burr_state.specs.declared.mode.Mode.{Mode}
-use Rattle.burr_state.specs.declared.mode.Mode.TheVariants.{Running}
-use Rattle.burr_state.specs.declared.motion.Motion.{Motion}
-use Rattle.burr_state.specs.declared.progress.Progress.{Progress}
+use Rattle.burr_state.specs.declared.effect.Mode.{Mode}
+use Rattle.burr_state.specs.declared.effect.Mode.TheVariants.{Running}
+use Rattle.burr_state.specs.declared.effect.Motion.{Motion}
+use Rattle.burr_state.specs.declared.effect.Progress.{Progress}
 use Rattle.burr_state.specs.Rules.Bench.{BenchState, Setup, start}
 use Rattle.burr_state.specs.Rules.Space.{NoOverlap}
 use Rattle.burr_state.specs.Rules.Step.{CallIn}

@@ -4,7 +4,7 @@ use Rattle.std.specs.Prelude.{ℤ}
 use Rattle.std.specs.Option.{option_to_list}
 use Rattle.std.proofs.lemmas.Int.{ints, by_lt_z}
 use Rattle.burr_text.proofs.Common.Decisions.{Decided, decide_same}
-use Rattle.burr_state.specs.declared.mode.Mode.TheVariants.{Running, Ended}
+use Rattle.burr_state.specs.declared.effect.Mode.TheVariants.{Running, Ended}
 use Rattle.burr_state.specs.Rules.Bench.{BenchState, Setup}
 use Rattle.burr_state.specs.Rules.Next.{Next, Goes, Asks, Traps}
 use Rattle.burr_state.specs.Rules.Step.{NextIs}
@@ -13,7 +13,7 @@ use Rattle.burr_state.specs.Rules.Run.{IsGoing, ends, stops, traps, waits, passe
 use Rattle.burr_state.specs.Laws.RunLaws.{IsUnderWay, RunOf, SomeResult}
 use Rattle.burr_state.specs.Rules.Step.{IsStepFrom}
 use Rattle.burr_state.proofs.Common.Existence.SomeStep.{some_next}
-use Rattle.burr_state.specs.declared.closing.Closing.TheVariants as closings
+use Rattle.burr_state.specs.declared.effect.Closing.TheVariants as closings
 use Rattle.burr_state.proofs.Common.Leading.{leads_from}
 
 pub decide_fits : (low high answer : ℤ) → Decided (Fits low high answer)

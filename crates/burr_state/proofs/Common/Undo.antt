@@ -1,135 +1,31 @@
 -- A record, laid over what its step leaves, gives the state before it.
-use Rattle.std.proofs.Common.{◌≡◌, ℕ, ◌+◌, ◌-◌, ◌<◌, ◌≤◌, ◌^◌, ℤ, List, [], ◌∷◌, ◌++◌, length, drop, Bool, true, false, Option, Some, None, Result, Ok, Err, refl, sym, ap, subst, ◌∙◌, arith, inl, inr}
-use Rattle.std.specs.Prelude.{min, nat_le, if◌then◌else◌}
-use Rattle.std.proofs.Math.ListN.{length-take}
-use Rattle.std.proofs.lemmas.Bool.{leb-true}
-use Rattle.std.proofs.lemmas.Option.{none-some, same_Some}
-use Rattle.burr_code.specs.Instruction.{Instruction, Halt, Push, Load, Store, Add, Sub, Drop, Grip, Step, Aside, Tray, Jump, Down, Ask, Pick, Call, Ret, StandsAt}
-use Rattle.burr_code.specs.Stacks.{top, top_many, split_at}
+use Rattle.std.proofs.Common.{◌≡◌, ◌-◌, ◌<◌, ◌^◌, ℤ, Option, Some, None, Result, Ok, Err, sym, ap, subst, ◌∙◌, inl, inr}
+use Rattle.std.proofs.lemmas.Option.{same_Some}
+use Rattle.burr_code.specs.Instruction.{Instruction, Ask, Pick, StandsAt}
 use Rattle.burr_code.proofs.Common.Reading.{one_stands_at}
-use Rattle.burr_state.specs.declared.mode.Mode.{Mode}
-use Rattle.burr_state.specs.declared.mode.Mode.TheVariants.{Running, Ended, Trapped}
-use Rattle.burr_state.specs.declared.motion.Motion.{Motion}
-use Rattle.burr_state.specs.declared.progress.Progress.{Progress}
-use Rattle.burr_state.specs.declared.progress.Progress.TheVariants as progress
-use Rattle.burr_state.specs.declared.trap.Trap.{Trap}
-use Rattle.burr_state.specs.Rules.Bench.{Activation, BenchState, BenchProcedure, Setup}
-use Rattle.burr_state.specs.Rules.Next.{Next, Goes, Asks, Traps}
+use Rattle.burr_state.specs.declared.effect.Mode.{Mode}
+use Rattle.burr_state.specs.declared.effect.Mode.TheVariants.{Running, Ended, Trapped}
+use Rattle.burr_state.specs.declared.effect.Motion.{Motion}
+use Rattle.burr_state.specs.declared.effect.Progress.{Progress}
+use Rattle.burr_state.specs.declared.effect.Progress.TheVariants as progress
+use Rattle.burr_state.specs.declared.effect.Trap.{Trap}
+use Rattle.burr_state.specs.Rules.Bench.{BenchState, BenchProcedure, Setup}
+use Rattle.burr_state.specs.Rules.Next.{Goes, Traps}
 use Rattle.burr_state.specs.Rules.Questions.{Takes}
-use Rattle.burr_state.specs.Rules.Step.{Executes, IsAt, NextIs, TakesAnswer, CallIn, Called}
-use Rattle.burr_state.proofs.Common.Leading.{at_either}
-use Rattle.burr_state.proofs.Common.Outcomes.{TrapsOr, past_check, past_search, comes}
+use Rattle.burr_state.specs.Rules.Step.{IsAt, NextIs, TakesAnswer, CallIn, Called}
+use Rattle.burr_state.proofs.Common.Built.{back, next_went}
 use Rattle.burr_state.specs.Rules.Undo.{Undo, laid_over, record_of, IsRecordOf, RecordsGoBack, RecordsTell}
 use Rattle.burr_state.proofs.Common.StepCalls.{next_where_went}
 
--- The count of steps and the mode
+-- Answers
 
-one_back : (n : ℕ) → n < 2 ^ 64 - 1 → min (n + 1) (2 ^ 64 - 1) - 1 ≡ n
-one_back n few = omega arith
-
--- a running state, its steps counted up and down again
-pub back : (s : BenchState) → s.mode ≡ Running → s.steps < 2 ^ 64 - 1
-    → ◌≡◌ {A = BenchState} (record s { steps = min (s.steps + 1) (2 ^ 64 - 1) - 1; mode = Running }) s
-back s running few =
-    ap (λ (n : ℕ). record s { steps = n; mode = Running }) (one_back s.steps few)
-    ∙ ap (λ (m : Mode). record s { mode = m }) (sym running)
-
--- the same, of a state whose callers come out as they were
-back_to_callers : (s : BenchState) (callers : List Activation) → callers ≡ s.callers → s.mode ≡ Running
-    → s.steps < 2 ^ 64 - 1
-    → ◌≡◌ {A = BenchState}
-    (record s { callers = callers; steps = min (s.steps + 1) (2 ^ 64 - 1) - 1; mode = Running }) s
-back_to_callers s callers same running few =
-    ap (λ (cs : List Activation). record s {
-      callers = cs;
-      steps = min (s.steps + 1) (2 ^ 64 - 1) - 1;
-      mode = Running;
-    }) same ∙ back s running few
-
--- Stacks
-
-top_is : {A : Type 0} (xs : List A) (x : A × List A) → top xs ≡ Some x → xs ≡ x.0 ∷ x.1
-top_is [] x e = absurd (none-some x e)
-top_is {A = A} (y ∷ ys) x e = ap (λ (z : A × List A). z.0 ∷ z.1) (same_Some (y, ys) x e)
-
-many_are : {A : Type 0} (n : ℕ) (xs : List A) (x : List A × List A) → top_many n xs ≡ Some x → length x.0 ≡ n
-many_are {A} n xs x e = by_test (nat_le n (length xs)) refl e
-  where
-    as_many : (n m : ℕ) → n ≤ m → min n m ≡ n
-    as_many n m h = omega arith
-
-    by_test : (b : Bool) → nat_le n (length xs) ≡ b → (if b then Some (split_at n xs) else None) ≡ Some x
-        → length x.0 ≡ n
-    by_test true is e =
-        ap (λ (z : List A × List A). length z.0) (sym (same_Some (split_at n xs) x e))
-        ∙ (let some = leb-true n (length xs) is in simp length-take (omega (arith, some)))
-    by_test false is e = absurd (none-some x e)
-
-drop_front : {A : Type 0} (xs ys : List A) → drop (length xs) (xs ++ ys) ≡ ys
-drop_front [] ys = refl
-drop_front (x ∷ xs) ys = drop_front xs ys
-
--- Rules
-
--- where a step is made, its record goes back
-abbrev GoesBack : BenchProcedure → BenchState → Instruction → Next → Type 0
-GoesBack here s i (Goes new motion) = laid_over (record_of here s i) new ≡ s
-GoesBack here s i (Asks low high) = Unit {0}
-GoesBack here s i (Traps trap) = Unit {0}
-
-module _ (setup : Setup) (here : BenchProcedure) (s : BenchState) (running : s.mode ≡ Running)
-    (few : s.steps < 2 ^ 64 - 1) where
-  back_ret : (next : Next) → Executes setup here s Ret next → TrapsOr (GoesBack here s Ret) next
-  back_ret next rule =
-      past_search rule λ up is results. past_search results λ found has gone. comes gone
-      (back_to_callers s _ (callers_again up found is has) running few)
-    where
-      callers_again : (up : Activation × List Activation) (found : List ℤ × List ℤ) → top s.callers ≡ Some up
-          → top_many here.results s.running.operands ≡ Some found
-          → ◌≡◌ {A = List Activation}
-          (record up.0 { operands = drop here.results (found.0 ++ up.0.operands) } ∷ up.1) s.callers
-      callers_again up found is has =
-          ap (λ (xs : List ℤ). record up.0 { operands = xs } ∷ up.1)
-          (subst (λ (n : ℕ). drop n (found.0 ++ up.0.operands) ≡ up.0.operands)
-          (many_are here.results s.running.operands found has) (drop_front found.0 up.0.operands))
-          ∙ sym (top_is s.callers up is)
-
-  by_rule : (i : Instruction) (next : Next) → Executes setup here s i next → TrapsOr (GoesBack here s i) next
-  by_rule Halt next rule = past_check rule λ main apart. past_check apart λ all gone. comes gone (back s running few)
-  by_rule (Push n) next rule = past_check rule λ room gone. comes gone (back s running few)
-  by_rule (Load v) next rule = past_search rule λ x is room. past_check room λ some gone. comes gone (back s running few)
-  by_rule (Store v) next rule = past_check rule λ may top. past_search top λ x is gone. comes gone (back s running few)
-  by_rule Add next rule = past_search rule λ x is number. past_check number λ small gone. comes gone (back s running few)
-  by_rule Sub next rule = past_search rule λ x is number. past_check number λ small gone. comes gone (back s running few)
-  by_rule Drop next rule = past_search rule λ x is gone. comes gone (back s running few)
-  by_rule (Grip set) next rule = past_check rule λ lie gone. comes gone (back s running few)
-  by_rule (Step direction) next rule =
-      past_check rule λ some on_bench. past_check on_bench λ all apart. past_check apart λ none gone.
-      comes gone (back s running few)
-  by_rule (Aside direction tray) next rule =
-      past_check rule λ part empty. past_check empty λ none free. past_check free λ way gone.
-      comes gone (back s running few)
-  by_rule (Tray tray) next rule = comes rule (back s running few)
-  by_rule (Jump label) next rule = past_search rule λ to is gone. comes gone (back s running few)
-  by_rule (Down v label) next rule =
-      past_search rule λ to is writable. past_check writable λ may full. past_search full λ x has count.
-      past_check count λ some gone.
-      comes gone (at_either (λ (new : BenchState). laid_over (record_of here s (Down v label)) new ≡ s) x _ _
-      (back s running few) (back s running few))
-  by_rule (Ask low high) next rule = past_check rule λ room asked. comes asked tt
-  by_rule (Pick labels) next rule = past_search rule λ found is asked. comes asked tt
-  by_rule (Call callee) next rule =
-      past_search rule λ there is arguments. past_search arguments λ found has room. past_check room λ small gone.
-      comes gone (back s running few)
-  by_rule Ret next rule = back_ret next rule
-
-  by_answer : (i : Instruction) (answer : ℤ) (new : BenchState) → Takes here s i answer new
-      → laid_over (record_of here s i) new ≡ s
-  by_answer (Ask low high) answer new takes =
-      ap (λ (x : BenchState). laid_over (record_of here s (Ask low high)) x) takes ∙ back s running few
-  by_answer (Pick labels) answer new takes =
-      ap (λ (x : BenchState). laid_over (record_of here s (Pick labels)) x) takes.6 ∙ back s running few
-  by_answer i answer new takes = absurd takes
+by_answer : (here : BenchProcedure) (s : BenchState) → s.mode ≡ Running → s.steps < 2 ^ 64 - 1 → (i : Instruction) (answer : ℤ) (new : BenchState) → Takes here s i answer new
+    → laid_over (record_of here s i) new ≡ s
+by_answer here s running few (Ask low high) answer new takes =
+    ap (λ (x : BenchState). laid_over (record_of here s (Ask low high)) x) takes ∙ back s running few
+by_answer here s running few (Pick labels) answer new takes =
+    ap (λ (x : BenchState). laid_over (record_of here s (Pick labels)) x) takes.6 ∙ back s running few
+by_answer here s running few i answer new takes = absurd takes
 
 -- Calls
 
@@ -146,28 +42,19 @@ at_others setup s IsSo here there i j at also_at holds =
 goes-traps : (new : BenchState) (motion : Option Motion) (trap : Trap) → Goes new motion ≡ Traps trap → ⊥
 goes-traps new motion trap e = cc
 
-went_back : (setup : Setup) (here : BenchProcedure) (s new : BenchState) (motion : Option Motion) (i : Instruction)
-    → s.mode ≡ Running → s.steps < 2 ^ 64 - 1 → Executes setup here s i (Goes new motion)
-    → laid_over (record_of here s i) new ≡ s
-went_back setup here s new motion i running few rule =
-    elim (by_rule setup here s running few i (Goes new motion) rule).cases [
-      | inl trapped ↦ absurd (goes-traps new motion trapped.0 trapped.1)
-      | inr so ↦ so
-    ]
-
 next_back : (setup : Setup) (s new : BenchState) (motion : Option Motion) (u : Undo) → s.mode ≡ Running
     → s.steps < 2 ^ 64 - 1 → NextIs setup s (Goes new motion) → IsRecordOf setup s u → laid_over u new ≡ s
-next_back setup s new motion u running few (inl n) r =
+next_back setup s new motion u running few next r =
+    let n = next_went setup s new motion next in
     ap (λ (x : Undo). laid_over x new) r.3
-    ∙ went_back setup r.0 s new motion r.1 running few
-    (at_others setup s (λ here i. Executes setup here s i (Goes new motion)) r.0 n.0 r.1 n.1 r.2 n.2 n.3)
-next_back setup s new motion u running few (inr n) r = absurd (n.0 r.0 r.1 r.2)
+    ∙ at_others setup s (λ here i. laid_over (record_of here s i) new ≡ s) r.0 n.here r.1 n.i r.2 n.at
+    (n.went.back running few)
 
 answer_back : (setup : Setup) (s new : BenchState) (answer : ℤ) (u : Undo) → s.mode ≡ Running
     → s.steps < 2 ^ 64 - 1 → TakesAnswer setup s answer new → IsRecordOf setup s u → laid_over u new ≡ s
 answer_back setup s new answer u running few t r =
     ap (λ (x : Undo). laid_over x new) r.3
-    ∙ by_answer setup r.0 s running few r.1 answer new
+    ∙ by_answer r.0 s running few r.1 answer new
     (at_others setup s (λ here i. Takes here s i answer new) r.0 t.0 r.1 t.1 r.2 t.4 t.7)
 
 -- an answer makes a step that moves nothing

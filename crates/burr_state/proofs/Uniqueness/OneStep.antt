@@ -2,39 +2,25 @@
 use Rattle.std.proofs.Common.{Result, ◌≡◌, ℕ, Option, Some, None, sym, ap, subst, ◌∙◌, inl, inr}
 use Rattle.std.specs.Prelude.{ℤ, pos, slice_get}
 use Rattle.std.proofs.lemmas.Option.{same_Some}
-use Rattle.burr_code.specs.Instruction.{Instruction, Halt, Push, Load, Store, Add, Sub, Drop, Grip, Step, Aside, Tray, Jump, Down, Ask, Pick, Call, Ret, StandsAt}
-use Rattle.burr_code.proofs.Common.OneAnswer.{IsOne, one_given, one_needed, one_found}
+use Rattle.burr_code.specs.Instruction.{Instruction, Ask, Pick, StandsAt}
+use Rattle.burr_code.proofs.Common.OneAnswer.{IsOne, one_given}
 use Rattle.burr_code.proofs.Common.Reading.{one_stands_at}
-use Rattle.burr_state.specs.declared.mode.Mode.{Mode}
-use Rattle.burr_state.specs.declared.mode.Mode.TheVariants.{Running, Ended, Trapped}
+use Rattle.burr_state.specs.declared.effect.Mode.{Mode}
+use Rattle.burr_state.specs.declared.effect.Mode.TheVariants.{Running, Ended, Trapped}
 use Rattle.burr_state.specs.Rules.Bench.{BenchState, Setup, BenchProcedure}
 use Rattle.burr_state.specs.Rules.Step.{Executes, IsAt, AsksFor, TakesAnswer, IsUnfit, call_result, left_by, CallIn}
 use Rattle.burr_state.specs.Rules.Questions.{Takes, Fits}
-use Rattle.burr_state.specs.declared.progress.Progress.{Progress}
-use Rattle.burr_state.specs.declared.trap.Trap.{Trap}
+use Rattle.burr_state.specs.declared.effect.Progress.{Progress}
+use Rattle.burr_state.specs.declared.effect.Trap.{Trap}
 use Rattle.burr_state.specs.Rules.Next.{at_label}
 use Rattle.burr_state.specs.Laws.StepLaws.{OneExecution}
 use Rattle.burr_state.specs.Laws.RunLaws.{OneNext, OneCall}
+use Rattle.burr_state.proofs.Common.Built.{executes_is_built}
+use Rattle.burr_code.proofs.Common.Checked.{one_built}
 
 -- one thing stands next where an instruction is carried out
 pub one_execution : OneExecution
-one_execution setup here s Halt = one_needed _ _ _ (one_needed _ _ _ (one_given _))
-one_execution setup here s (Push n) = one_needed _ _ _ (one_given _)
-one_execution setup here s (Load v) = one_found _ _ _ λ x. one_needed _ _ _ (one_given _)
-one_execution setup here s (Store v) = one_needed _ _ _ (one_found _ _ _ λ found. one_given _)
-one_execution setup here s Add = one_found _ _ _ λ found. one_needed _ _ _ (one_given _)
-one_execution setup here s Sub = one_found _ _ _ λ found. one_needed _ _ _ (one_given _)
-one_execution setup here s Drop = one_found _ _ _ λ found. one_given _
-one_execution setup here s (Grip set) = one_needed _ _ _ (one_given _)
-one_execution setup here s (Step direction) = one_needed _ _ _ (one_needed _ _ _ (one_needed _ _ _ (one_given _)))
-one_execution setup here s (Aside direction tray) = one_needed _ _ _ (one_needed _ _ _ (one_needed _ _ _ (one_given _)))
-one_execution setup here s (Tray tray) = one_given _
-one_execution setup here s (Jump label) = one_found _ _ _ λ to. one_given _
-one_execution setup here s (Down v label) = one_found _ _ _ λ to. one_needed _ _ _ (one_found _ _ _ λ x. one_needed _ _ _ (one_given _))
-one_execution setup here s (Ask low high) = one_needed _ _ _ (one_given _)
-one_execution setup here s (Pick labels) = one_found _ _ _ λ to. one_given _
-one_execution setup here s (Call callee) = one_found _ _ _ λ there. one_found _ _ _ λ found. one_needed _ _ _ (one_given _)
-one_execution setup here s Ret = one_found _ _ _ λ up. one_found _ _ _ λ found. one_given _
+one_execution setup here s i = one_built (executes_is_built setup here s i)
 
 -- what holds at a procedure and an instruction at which a state stands holds at any others at which it stands
 at_others : (setup : Setup) (s : BenchState) (IsSo : BenchProcedure → Instruction → Type 0) (here there : BenchProcedure) (i j : Instruction) → IsAt setup s here i → IsAt setup s there j → IsSo there j → IsSo here i

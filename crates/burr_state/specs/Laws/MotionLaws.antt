@@ -1,9 +1,9 @@
 -- In which trays pieces lie, and which motions they make, along each run.
 use Rattle.std.specs.Prelude.{◌≤◌, ◌<◌, ◌+◌, ◌^◌, ℕ, ℤ, List, length, Option, Some, Ok}
 use Rattle.burr_code.specs.Places.{LiesIn}
-use Rattle.burr_state.specs.declared.motion.Motion.{Motion}
-use Rattle.burr_state.specs.declared.closing.Closing.{Closing}
-use Rattle.burr_state.specs.declared.progress.Progress.TheVariants as progress
+use Rattle.burr_state.specs.declared.effect.Motion.{Motion}
+use Rattle.burr_state.specs.declared.effect.Closing.{Closing}
+use Rattle.burr_state.specs.declared.effect.Progress.TheVariants as progress
 use Rattle.burr_state.specs.Rules.Bench.{BenchState, Setup}
 use Rattle.burr_state.specs.Rules.Motions.{IsMotionOf}
 use Rattle.burr_state.specs.Rules.Run.{Run}

@@ -5,7 +5,7 @@ use Rattle.burr_voxels.specs.CellSets.{Overlap}
 use Rattle.burr_code.specs.Places.{AllLieIn}
 use Rattle.burr_assembly.specs.Rules.Text.{Assembly, IsAssembly}
 use Rattle.burr_assembly.specs.Rules.Homes.{HasHome, homes_of}
-use Rattle.burr_state.specs.declared.motion.Motion.{Motion}
+use Rattle.burr_state.specs.declared.effect.Motion.{Motion}
 use Rattle.burr_state.specs.Rules.Bench.{BenchState, Setup, start}
 use Rattle.burr_state.specs.Rules.Next.{Goes}
 use Rattle.burr_state.specs.Rules.Space.{NoOverlap}

@@ -1,10 +1,10 @@
 -- What holds of each instruction and of each call of the bench.
 use Rattle.std.specs.Prelude.{◌≡◌, ℤ, Option, Result, Ok, Err}
 use Rattle.burr_code.specs.Instruction.{Instruction}
-use Rattle.burr_state.specs.declared.mode.Mode.TheVariants.{Trapped}
-use Rattle.burr_state.specs.declared.trap.Trap.{Trap}
-use Rattle.burr_state.specs.declared.progress.Progress.{Progress}
-use Rattle.burr_state.specs.declared.progress.Progress.TheVariants as progress
+use Rattle.burr_state.specs.declared.effect.Mode.TheVariants.{Trapped}
+use Rattle.burr_state.specs.declared.effect.Trap.{Trap}
+use Rattle.burr_state.specs.declared.effect.Progress.{Progress}
+use Rattle.burr_state.specs.declared.effect.Progress.TheVariants as progress
 use Rattle.burr_state.specs.Rules.Bench.{BenchState, BenchProcedure, Setup}
 use Rattle.burr_state.specs.Rules.Next.{Next}
 use Rattle.burr_state.specs.Rules.Step.{Executes, Called, IsStepFrom}

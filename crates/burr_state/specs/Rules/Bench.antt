@@ -6,8 +6,8 @@ use Rattle.burr_voxels.specs.Grid.{origin}
 use Rattle.burr_code.specs.declared.placement.Placement.{Placement}
 use Rattle.burr_code.specs.declared.placement.Placement.TheVariants.{On}
 use Rattle.burr_code.specs.declared.limits.TheConstants.{MOST_BUDGET}
-use Rattle.burr_state.specs.declared.mode.Mode.{Mode}
-use Rattle.burr_state.specs.declared.mode.Mode.TheVariants.{Running}
+use Rattle.burr_state.specs.declared.effect.Mode.{Mode}
+use Rattle.burr_state.specs.declared.effect.Mode.TheVariants.{Running}
 
 -- a call that has not returned; of a caller, pc is after its call
 pub record Activation : Type 0 where

@@ -6,8 +6,8 @@ use Rattle.burr_code.specs.Instruction.{Instruction, Down, Call, spelled}
 use Rattle.burr_code.specs.Places.{AllApart}
 use Rattle.burr_code.specs.Stacks.{top, top_many}
 use Rattle.burr_code.specs.Labels.{callee_of, argument_slots}
-use Rattle.burr_state.specs.declared.mode.Mode.TheVariants.{Ended}
-use Rattle.burr_state.specs.declared.trap.Trap.TheVariants as traps
+use Rattle.burr_state.specs.declared.effect.Mode.TheVariants.{Ended}
+use Rattle.burr_state.specs.declared.effect.Trap.TheVariants as traps
 use Rattle.burr_state.specs.Rules.Bench.{Activation, activation, BenchState, BenchProcedure, Setup}
 use Rattle.burr_state.specs.Rules.Next.{Next, Traps, goes, stepped, after, at_label}
 use Rattle.burr_state.specs.Rules.Numbers.{with_slot}

@@ -1,8 +1,8 @@
 -- What stands next at a running state, and where the run then goes on.
 use Rattle.std.specs.Prelude.{◌≡◌, ℕ, ◌+◌, ◌-◌, ◌^◌, min, ℤ, Option, length}
 use Rattle.burr_code.specs.Instruction.{Instruction, spelled}
-use Rattle.burr_state.specs.declared.trap.Trap.{Trap}
-use Rattle.burr_state.specs.declared.motion.Motion.{Motion}
+use Rattle.burr_state.specs.declared.effect.Trap.{Trap}
+use Rattle.burr_state.specs.declared.effect.Motion.{Motion}
 use Rattle.burr_state.specs.Rules.Bench.{Activation, BenchState}
 
 pub data Next : Type 0 where

@@ -4,7 +4,7 @@ use Rattle.std.specs.Prelude.{ℕ, ◌<◌, ◌≤◌, ℤ, ◌+ℤ◌, ◌-ℤ�
 use Rattle.burr_text.specs.Checks.{needs, finds}
 use Rattle.burr_code.specs.Instruction.{Push, Load, Store, Add, Sub, Drop, IsInNumberRange}
 use Rattle.burr_code.specs.Stacks.{top, top_two}
-use Rattle.burr_state.specs.declared.trap.Trap.TheVariants as traps
+use Rattle.burr_state.specs.declared.effect.Trap.TheVariants as traps
 use Rattle.burr_state.specs.Rules.Bench.{Activation, BenchState, BenchProcedure}
 use Rattle.burr_state.specs.Rules.Next.{Next, Traps, goes, after}
 

@@ -3,7 +3,7 @@ use Rattle.std.specs.Prelude.{◌≡◌, ℕ, ℤ, pos, ◌-ℤ◌, ◌≤ℤ◌
 use Rattle.burr_text.specs.Checks.{needs, finds}
 use Rattle.burr_code.specs.Instruction.{Instruction, Ask, Pick}
 use Rattle.burr_code.specs.Labels.{labelled}
-use Rattle.burr_state.specs.declared.trap.Trap.TheVariants as traps
+use Rattle.burr_state.specs.declared.effect.Trap.TheVariants as traps
 use Rattle.burr_state.specs.Rules.Bench.{BenchState, BenchProcedure}
 use Rattle.burr_state.specs.Rules.Next.{Next, Asks, Traps, after, at_label}
 use Rattle.burr_state.specs.Rules.Numbers.{HasRoom, pushed}

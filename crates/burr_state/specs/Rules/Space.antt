@@ -14,8 +14,8 @@ use Rattle.burr_code.specs.declared.placement.Placement.{Placement}
 use Rattle.burr_code.specs.declared.placement.Placement.TheVariants.{Apart}
 use Rattle.burr_code.specs.Places.{LiesAt, AllLieIn, at_position, changed, aside_places, IsPartOfTray, IsEmptyTray}
 use Rattle.burr_assembly.specs.Rules.Homes.{HasHome}
-use Rattle.burr_state.specs.declared.trap.Trap.TheVariants as traps
-use Rattle.burr_state.specs.declared.motion.Motion.{Motion}
+use Rattle.burr_state.specs.declared.effect.Trap.TheVariants as traps
+use Rattle.burr_state.specs.declared.effect.Motion.{Motion}
 use Rattle.burr_state.specs.Rules.Bench.{BenchState, Setup}
 use Rattle.burr_state.specs.Rules.Next.{Next, Traps, goes, after}
 

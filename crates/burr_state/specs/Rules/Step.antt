@@ -1,12 +1,12 @@
 -- One step of the bench, and one call of it.
 use Rattle.std.specs.Prelude.{◌≡◌, ℤ, Option, Some, None, MatchOption, Result, Ok, Err, slice_get, ◌⊎◌, ◌+◌, ◌-◌, ◌^◌, min}
 use Rattle.burr_code.specs.Instruction.{Instruction, Halt, Push, Load, Store, Add, Sub, Drop, Grip, Step, Aside, Tray, Jump, Down, Ask, Pick, Call, Ret, StandsAt}
-use Rattle.burr_state.specs.declared.mode.Mode.{Mode}
-use Rattle.burr_state.specs.declared.mode.Mode.TheVariants.{Running, Ended, Trapped}
-use Rattle.burr_state.specs.declared.trap.Trap.{Trap}
-use Rattle.burr_state.specs.declared.trap.Trap.TheVariants as traps
-use Rattle.burr_state.specs.declared.progress.Progress.{Progress}
-use Rattle.burr_state.specs.declared.progress.Progress.TheVariants as progress
+use Rattle.burr_state.specs.declared.effect.Mode.{Mode}
+use Rattle.burr_state.specs.declared.effect.Mode.TheVariants.{Running, Ended, Trapped}
+use Rattle.burr_state.specs.declared.effect.Trap.{Trap}
+use Rattle.burr_state.specs.declared.effect.Trap.TheVariants as traps
+use Rattle.burr_state.specs.declared.effect.Progress.{Progress}
+use Rattle.burr_state.specs.declared.effect.Progress.TheVariants as progress
 use Rattle.burr_state.specs.Rules.Bench.{BenchState, BenchProcedure, Setup}
 use Rattle.burr_state.specs.Rules.Next.{Next, Goes, Asks, Traps}
 use Rattle.burr_state.specs.Rules.Space.{gripping, stepping, going_aside, choosing_tray}
@@ -58,7 +58,7 @@ AsksFor setup s low high = NextIs setup s (Asks low high)
 abbrev pub AsksNow : Setup → BenchState → ℤ → ℤ → Type 0
 AsksNow setup s low high = (s.mode ≡ Running) × AsksFor setup s low high
 
--- the question for which it waits, by its least and its greatest answer; none where there is none
+-- the question for which it waits, by its least and its greatest answer; None where it asks nothing
 abbrev pub IsQuestionOf : Setup → BenchState → Option (ℤ × ℤ) → Type 0
 IsQuestionOf setup s question =
     MatchOption question ((low high : ℤ) → ¬ AsksNow setup s low high)

@@ -1,7 +1,7 @@
 -- The numbers and names of the traps.
 use Rattle.std.specs.Prelude.{ℕ, List, codes}
-use Rattle.burr_state.specs.declared.trap.Trap.{Trap}
-use Rattle.burr_state.specs.declared.trap.Trap.TheVariants.{Collision, GripOff, NotFree, BadGroup, TrayInUse, MissingOperand, StackFull, EmptySlot, BadJump, BadCode, BadCall, BadCount, NumberRange, OffBench, NotApart, Misplaced, ParamWritten}
+use Rattle.burr_state.specs.declared.effect.Trap.{Trap}
+use Rattle.burr_state.specs.declared.effect.Trap.TheVariants.{Collision, GripOff, NotFree, BadGroup, TrayInUse, MissingOperand, StackFull, EmptySlot, BadJump, BadCode, BadCall, BadCount, NumberRange, OffBench, NotApart, Misplaced, ParamWritten}
 
 abbrev pub trap_number : Trap → ℕ
 trap_number Collision = 1

@@ -3,9 +3,9 @@ use Rattle.std.specs.Prelude.{◌≡◌, ◌<◌, ◌-◌, ◌^◌, ℕ, ℤ, Li
 use Rattle.burr_voxels.specs.declared.cell.Cell.{Cell}
 use Rattle.burr_code.specs.Instruction.{Instruction, Halt, Grip, Step, Aside, Tray, Jump, Pick, Call, Ret}
 use Rattle.burr_code.specs.declared.placement.Placement.{Placement}
-use Rattle.burr_state.specs.declared.mode.Mode.TheVariants.{Running}
-use Rattle.burr_state.specs.declared.motion.Motion.{Motion}
-use Rattle.burr_state.specs.declared.progress.Progress.TheVariants as progress
+use Rattle.burr_state.specs.declared.effect.Mode.TheVariants.{Running}
+use Rattle.burr_state.specs.declared.effect.Motion.{Motion}
+use Rattle.burr_state.specs.declared.effect.Progress.TheVariants as progress
 use Rattle.burr_state.specs.Rules.Bench.{Activation, BenchState, BenchProcedure, Setup}
 use Rattle.burr_state.specs.Rules.Step.{Called, IsAt}
 

@@ -5,9 +5,9 @@ use Rattle.burr_code.specs.Places.{AllLieIn}
 use Rattle.burr_code.specs.Stacks.{top_many}
 use Rattle.burr_code.specs.Labels.{argument_slots}
 use Rattle.burr_code.specs.declared.limits.TheConstants.{SLOTS}
-use Rattle.burr_state.specs.declared.trap.Trap.{Trap}
-use Rattle.burr_state.specs.declared.trap.Trap.TheVariants as traps
-use Rattle.burr_state.specs.declared.motion.Motion.{Motion}
+use Rattle.burr_state.specs.declared.effect.Trap.{Trap}
+use Rattle.burr_state.specs.declared.effect.Trap.TheVariants as traps
+use Rattle.burr_state.specs.declared.effect.Motion.{Motion}
 use Rattle.burr_state.specs.declared.effect.Effect.{Effect}
 use Rattle.burr_state.specs.declared.effect.Effect.TheVariants as effects
 use Rattle.burr_state.specs.Rules.Bench.{Activation, activation, BenchState, BenchProcedure}

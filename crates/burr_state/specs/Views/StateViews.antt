@@ -11,10 +11,10 @@ use Rattle.burr_code.specs.PieceSets.{IsInSet}
 use Rattle.burr_code.specs.declared.placement.Placement.{Placement}
 use Rattle.burr_code.specs.declared.placement.Placement.TheVariants.{On}
 use Rattle.burr_code.specs.Places.{LiesAt, LiesIn, AllLieIn, aside_places}
-use Rattle.burr_state.specs.declared.mode.Mode.{Mode}
-use Rattle.burr_state.specs.declared.mode.Mode.TheVariants.{Running}
+use Rattle.burr_state.specs.declared.effect.Mode.{Mode}
+use Rattle.burr_state.specs.declared.effect.Mode.TheVariants.{Running}
 use Rattle.burr_state.specs.Rules.Bench.{Activation, activation, BenchState}
-use Rattle.burr_state.specs.declared.trap.Trap.TheVariants as traps
+use Rattle.burr_state.specs.declared.effect.Trap.TheVariants as traps
 use Rattle.burr_state.specs.Rules.Next.{Next, Traps, goes, stepped}
 use Rattle.burr_state.specs.Rules.Numbers.{with_operands}
 use Rattle.burr_state.specs.Views.Offsets.{AreNear}

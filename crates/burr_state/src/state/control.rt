@@ -10,11 +10,9 @@ ghost use Rattle.burr_state.specs.Rules.Next.{at_label};
 ghost use Rattle.burr_state.specs.Views.Programs.{FitsProgram};
 ghost use Rattle.burr_state.specs.Views.Effects.{next_of, KeepsUnlessGoes, NeverMoves, StaysPut, PiecesStay, CallerHasRoom, CallerGoesOn};
 
-use crate::effect::Effect;
-use crate::mode::Mode;
+use crate::effect::{Effect, Mode, Trap};
 use crate::program::Program;
 use crate::state::BenchState;
-use crate::trap::Trap;
 use std::mem::replace;
 
 impl BenchState {
@@ -52,8 +50,9 @@ impl BenchState {
         Ok(Effect::Goes(None))
     }
 
-    /// `down`, in a procedure with this many parameters: at 0 it goes on after, else the slot holds
-    /// one less and it goes on at a label, which stands at this position; None where there is none.
+    /// `down`, in a procedure with this many parameters: at 0 it goes on after it, else the slot
+    /// holds one less and it goes on at a label. The position is where the label stands; None where
+    /// there is no such label.
     pub fn down(
         &mut self,
         slot: u8,

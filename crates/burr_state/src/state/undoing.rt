@@ -9,7 +9,7 @@ ghost use Rattle.burr_state.specs.Views.Records.{kept_change};
 ghost use Rattle.burr_state.specs.Views.StateViews.{IsOrderly};
 
 use crate::activation::Activation;
-use crate::mode::Mode;
+use crate::effect::Mode;
 use crate::shifting::copied_places;
 use crate::state::BenchState;
 use crate::undo::{Change, Undo};

@@ -1,9 +1,9 @@
 -- What holds of the moves of a run.
 use Rattle.std.specs.Prelude.{◌≡◌, ◌+◌, ℕ, ℤ, List, [], ◌∷◌, ◌++◌, length, map, flat_map}
 use Rattle.burr_code.specs.Places.{AllApart}
-use Rattle.burr_state.specs.declared.closing.Closing.{Closing}
-use Rattle.burr_state.specs.declared.closing.Closing.TheVariants.{Apart, Waiting}
-use Rattle.burr_state.specs.declared.motion.Motion.{Motion}
+use Rattle.burr_state.specs.declared.effect.Closing.{Closing}
+use Rattle.burr_state.specs.declared.effect.Closing.TheVariants.{Apart, Waiting}
+use Rattle.burr_state.specs.declared.effect.Motion.{Motion}
 use Rattle.burr_state.specs.Rules.Bench.{BenchState, Setup, start}
 use Rattle.burr_state.specs.Rules.Calls.{Calls}
 use Rattle.burr_state.specs.Rules.Run.{Run}
@@ -120,7 +120,7 @@ pub data AreAmong : List Move → List Move → Type 0 where
       → AreAmong (told ++ m ∷ []) (made ++ m ∷ [])
   passed : (told made more : List Move) → AreAmong told made → AreAmong told (made ++ more)
 
--- The run with these answers is led so, by these moves, of which those are told.
+-- The run with these answers comes to `last` by the moves `made`; those `told` are among them.
 pub record TellsRun (setup : Setup) (made told : List Move) (answers : List ℤ) (last : Led)
     : Type 0 where
   pub legs : List (List Move)

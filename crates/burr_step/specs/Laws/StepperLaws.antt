@@ -1,6 +1,6 @@
 -- Laws of the stepper.
 use Rattle.std.specs.Prelude.{◌≡◌, ◌≢◌, ◌↔◌, ℕ, ◌+◌, ◌<◌, ℤ, List, ◌++◌}
-use Rattle.burr_state.specs.declared.mode.Mode.TheVariants.{Ended}
+use Rattle.burr_state.specs.declared.effect.Mode.TheVariants.{Ended}
 use Rattle.burr_state.specs.Rules.Bench.{BenchState, Setup, start, HasLabelOf}
 use Rattle.burr_state.specs.Rules.Questions.{Fits}
 use Rattle.burr_state.specs.Views.Benches.{Benched, setup_of}

@@ -1,7 +1,7 @@
 -- A drive: it leads a run by whole moves and numbered questions. What its commands come to.
 use Rattle.std.specs.Prelude.{◌≡◌, ◌≤◌, ◌+◌, ℕ, ℤ, List, length, Some, None, Ok}
-use Rattle.burr_state.specs.declared.mode.Mode.TheVariants.{Ended}
-use Rattle.burr_state.specs.declared.progress.Progress.TheVariants as progress
+use Rattle.burr_state.specs.declared.effect.Mode.TheVariants.{Ended}
+use Rattle.burr_state.specs.declared.effect.Progress.TheVariants as progress
 use Rattle.burr_state.specs.Rules.Bench.{BenchState, Setup}
 use Rattle.burr_state.specs.Rules.Questions.{Fits}
 use Rattle.burr_state.specs.Rules.Step.{AsksNow, Called}

@@ -32,7 +32,7 @@ move_text names m =
     text_line (codes "move" ∷ (move_words names m.number (sheet_line_of m)
     ++ (to_words m.out ++ apart_words names m.apart)))
 
--- why there is none: a question and where it stands, or the end and after how many steps
+-- why there is no next move: a question and where it stands, or the end and after how many steps
 abbrev pub halt_text : Halt → List ℕ
 halt_text (Asks q) =
     text_line (codes "ask" ∷ decimal q.number ∷ signed_decimal q.low ∷ signed_decimal q.high

@@ -6,8 +6,8 @@ use Rattle.burr_voxels.specs.declared.direction.Direction.{Direction}
 use Rattle.burr_code.specs.Instruction.{Aside}
 use Rattle.burr_code.specs.PieceSets.{IsInSet}
 use Rattle.burr_state.specs.Rules.Space.{LiesApart}
-use Rattle.burr_state.specs.declared.motion.Motion.{Motion}
-use Rattle.burr_state.specs.declared.progress.Progress.TheVariants as progress
+use Rattle.burr_state.specs.declared.effect.Motion.{Motion}
+use Rattle.burr_state.specs.declared.effect.Progress.TheVariants as progress
 use Rattle.burr_state.specs.Rules.Bench.{BenchProcedure, BenchState, Setup}
 use Rattle.burr_state.specs.Rules.Step.{Called, IsAt}
 use Rattle.burr_sheet.specs.Rules.SheetText.{MoveLine, alone, motion_count, motion_on, motions_of, is_one}

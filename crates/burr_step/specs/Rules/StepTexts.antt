@@ -8,8 +8,8 @@ use Rattle.burr_text.specs.Words.{text_line}
 use Rattle.burr_voxels.specs.declared.cell.Cell.{Cell}
 use Rattle.burr_code.specs.declared.placement.Placement.{Placement}
 use Rattle.burr_code.specs.declared.placement.Placement.TheVariants.{Apart, On}
-use Rattle.burr_state.specs.declared.mode.Mode.{Mode}
-use Rattle.burr_state.specs.declared.mode.Mode.TheVariants.{Running, Ended, Trapped}
+use Rattle.burr_state.specs.declared.effect.Mode.{Mode}
+use Rattle.burr_state.specs.declared.effect.Mode.TheVariants.{Running, Ended, Trapped}
 use Rattle.burr_state.specs.Rules.Bench.{BenchState, Setup, HasLabelOf}
 use Rattle.burr_state.specs.Rules.Step.{AsksNow}
 use Rattle.burr_sheet.specs.Rules.SheetText.{names_from}

@@ -1,9 +1,9 @@
 -- A run step by step: what its commands fix, and what each of them comes to.
 use Rattle.std.specs.Prelude.{◌≡◌, ◌≢◌, ◌⊎◌, ℕ, suc, ◌+◌, ◌-◌, ◌≤◌, ℤ, List, [], ◌∷◌, ◌++◌, length, Option, Some, None, Ok}
 use Rattle.burr_text.specs.Checks.{needs}
-use Rattle.burr_state.specs.declared.mode.Mode.TheVariants.{Ended}
-use Rattle.burr_state.specs.declared.motion.Motion.{Motion}
-use Rattle.burr_state.specs.declared.progress.Progress.TheVariants as progress
+use Rattle.burr_state.specs.declared.effect.Mode.TheVariants.{Ended}
+use Rattle.burr_state.specs.declared.effect.Motion.{Motion}
+use Rattle.burr_state.specs.declared.effect.Progress.TheVariants as progress
 use Rattle.burr_state.specs.Rules.Bench.{BenchState, IsLabelAt, Setup, start}
 use Rattle.burr_state.specs.Rules.Questions.{Fits}
 use Rattle.burr_state.specs.Rules.Step.{AsksNow, Called}
@@ -57,8 +57,8 @@ StopsAt setup procedure position s =
 abbrev pub Goes : Setup → BenchState → BenchState → Type 0
 Goes setup s new = (motion : Option Motion) × Called setup s None (Ok (progress.Went motion)) new
 
--- This many such steps, at least one, lead to the first state after one of them of which `IsSo`
--- holds.
+-- This many such steps, at least one, lead to the first state after one of them for which
+-- `IsSo` holds.
 pub data GoesUntil (setup : Setup) (IsSo : BenchState → Type 0) : BenchState → ℕ → BenchState
     → Type 0 where
   there : (s new : BenchState) → Goes setup s new → IsSo new → GoesUntil setup IsSo s 1 new
@@ -98,7 +98,7 @@ abbrev pub going : Setup → BenchState → Follows → Follows
 going setup s rest =
     needs (s.mode ≢ Ended) (Refused S1) (needs (¬ IsAsking setup s) (Refused S2) rest)
 
--- steps up to the first state of which `IsSo` holds
+-- steps up to the first state for which `IsSo` holds
 abbrev pub going_until : Setup → History → BenchState → (BenchState → Type 0) → Follows
 going_until setup h s IsSo outcome =
     (steps : ℕ) × (new : BenchState) × GoesUntil setup IsSo s steps new

@@ -2,7 +2,7 @@
 use Rattle.std.specs.Prelude.{◌≡◌, ◌↔◌, ◌<◌, ℕ, ℤ, List, length, Bool, true, false, Option, Some, None, is_some, MatchOption, Result, Ok, Err}
 use Rattle.burr_code.specs.PieceSets.{IsInSet}
 use Rattle.burr_state.specs.Rules.Space.{LiesApart}
-use Rattle.burr_state.specs.declared.motion.Motion.{Motion}
+use Rattle.burr_state.specs.declared.effect.Motion.{Motion}
 use Rattle.burr_assembly.specs.Rules.Text.{Assembly}
 use Rattle.burr_state.specs.Rules.Bench.{BenchState, Program, Setup, start}
 use Rattle.burr_state.specs.Views.Benches.{Benched, benched, setup_of, in_state, IsSameRun}
@@ -85,7 +85,7 @@ abbrev pub Arrives : ℕ → Setup → Result (Unit {0}) Halt → Led → Type 0
 Arrives number setup (Ok done) d = d.moves ≡ number
 Arrives number setup (Err halt) d = (d.moves < number) × HaltsAt setup d halt
 
--- what an answer comes to: it is taken, or it is none that can be, and nothing has changed
+-- what an answer comes to: it is taken; or it can't be taken, and nothing has changed
 abbrev pub Answers : ℕ → ℤ → Driving → Bool → Driving → Type 0
 Answers question answer old true new =
     Goes old new (λ setup d e. IsFitting setup d question answer × Takes setup d answer e)

@@ -8,7 +8,7 @@ use Rattle.burr_state.specs.Rules.Bench.{BenchState, Program, Setup, HasLabelOf,
 use Rattle.burr_state.specs.Rules.Undo.{Undo}
 use Rattle.burr_state.specs.Views.Benches.{Benched, benched, setup_of, in_state, IsAtStart, IsSameRun}
 use Rattle.burr_state.specs.Views.Programs.{plan_program}
-use Rattle.burr_state.specs.declared.progress.Progress.{Progress}
+use Rattle.burr_state.specs.declared.effect.Progress.{Progress}
 use Rattle.burr_state.specs.Rules.Step.{Called}
 use Rattle.burr_bench.specs.Safe.{IsResumable}
 use Rattle.burr_bench.specs.Soundness.Machine.{IsSafeBench}
@@ -125,8 +125,9 @@ IsThere (stops.Position procedure position) s =
 abbrev pub StopsFor : Setup → Stop → BenchState → Type 0
 StopsFor setup stop s = IsHalted setup s ⊎ IsThere stop s
 
--- Steps were made from `old` to `now`. Where `IsSo` holds now, they led to the first state of which
--- it holds; else steps that lead from `now` to the first such state lead there from `old` too.
+-- Steps were made from `old` to `now`. Where `IsSo` holds now, they led to the first state for
+-- which it holds; else steps that lead from `now` to the first such state lead there from `old`
+-- too.
 pub record IsUpTo (IsSo : BenchState → Type 0) (old now : Stepping) : Type 0 where
   pub same : IsSameRun old.bench now.bench
   pub begins : ¬ IsHalted (setup_of old.bench) old.bench.state

@@ -1,21 +1,23 @@
 -- For crates above too: each instruction of a cut costs at least one.
-use Rattle.std.proofs.Common.{◌≡◌, ℕ, zero, suc, ◌+◌, ◌<◌, ◌≤◌, Bool, true, false, List, [], ◌∷◌, length, Option, Some, None, refl, subst, arith}
+use Rattle.std.proofs.Common.{◌≡◌, inl, inr, ℕ, zero, suc, ◌+◌, ◌<◌, ◌≤◌, Bool, true, false, List, [], ◌∷◌, length, Option, Some, None, refl, subst, arith}
 use Rattle.std.specs.Prelude.{ℤ, pos, neg_ℤ, ◌+ℤ◌, ◌-ℤ◌, ◌≤ℤ◌, slice_get, nat_lt, if◌then◌else◌}
 use Rattle.std.proofs.lemmas.Int.{ints}
 use Rattle.std.proofs.lemmas.Option.{none-some, same_Some, slice_get_within}
 use Rattle.burr_voxels.specs.declared.cell.Cell.{Cell}
-use Rattle.burr_code.specs.Instruction.{Instruction, Halt, Push, Load, Store, Add, Sub, Drop, Grip, Step, Aside, Tray, Jump, Down, Ask, Pick, Call, Ret}
+use Rattle.burr_code.specs.Instruction.{Instruction, Call}
 use Rattle.burr_code.specs.Labels.{callee_of}
 use Rattle.burr_forms.specs.Rules.Forms.{Form, Point, value, values, one_less, substituted}
 use Rattle.burr_container.specs.Rules.Plans.{Frame}
 use Rattle.burr_frames.specs.Rules.FramedPlans.{FramedProcedure, FramedPlan}
 use Rattle.burr_frames.specs.Rules.States.{AbstractState, IsPoint, Everywhere, state_of}
 use Rattle.burr_frames.specs.Rules.ControlRules.{entry_of, left_of}
-use Rattle.burr_frames.specs.Rules.Verdicts.{Verdict, Breaks, FallsThrough, NoSuccessor}
+use Rattle.burr_frames.specs.Rules.Verdicts.{Verdict, Breaks, FallsThrough, NoSuccessor, Rest}
 use Rattle.burr_frames.specs.Rules.Transfer.{Transfer}
+use Rattle.burr_code.proofs.Common.Checked.{IsBuilt, fails_or_ends}
+use Rattle.burr_frames.proofs.Common.Built.{transfer_is_built}
 use Rattle.burr_verify.specs.Rules.WellFramed.{Annotated, after, FallsOut, IsCutFrom, IsCut}
 use Rattle.burr_verify.proofs.Common.CallRule.{call_holds}
-use Rattle.burr_frames.proofs.Common.FineVerdicts.{IsFine, held, found, held_everywhere, held_of_pairs, paid}
+use Rattle.burr_frames.proofs.Common.FineVerdicts.{IsFine}
 use Rattle.burr_verify.proofs.Common.FormValues.{value_raised, value_minus, value_substituted}
 use Rattle.burr_verify.proofs.Common.FromContainers.{first_label}
 
@@ -105,55 +107,16 @@ entry_costs homes plan n here rows f each cut e =
     (each first.1.instruction first.1.state rule.verdict rule.fine rule.rule) in
     subst (λ (g : Frame). CostsOne (state_of g)) label.2 costs
 
+-- what is so of each verdict that is fine
+fine_ends : {Ends : Verdict → Type 0} {rest : Rest} {v : Verdict} → IsBuilt Breaks Ends rest → IsFine v → rest v → Ends v
+fine_ends {v} built fine rule =
+    elim (fails_or_ends built v rule).cases [ inl broken ↦ absurd (subst IsFine broken.1 fine) | inr so ↦ so ]
+
 -- every instruction costs at least one; of a call by what its callee costs, which has a higher number
 pub costs : (homes : List (List Cell)) (plan : FramedPlan) → AllCut homes plan → (fuel n : ℕ) (here : FramedProcedure)
     → slice_get plan.procedures n ≡ Some here → length plan.procedures ≤ n + fuel → EachCosts homes plan n here
 costs homes plan cuts zero n here is few i s v fine t point at =
     absurd (let w = slice_get_within plan.procedures n here is in omega arith)
-costs homes plan cuts (suc fuel) n here is few Halt s v fine t point at =
-    from_one_less s point at (paid s fine (held fine (held fine t).1).1).0
-costs homes plan cuts (suc fuel) n here is few (Push x) s v fine t point at =
-    from_one_less s point at (paid s fine (held fine t).1).0
-costs homes plan cuts (suc fuel) n here is few (Load k) s v fine t point at =
-    let f = found fine t in let h = held fine f.2 in from_one_less s point at (paid s fine h.1).0
-costs homes plan cuts (suc fuel) n here is few (Store k) s v fine t point at =
-    let h = held fine t in let f = found fine h.1 in from_one_less s point at (paid s fine f.2).0
-costs homes plan cuts (suc fuel) n here is few Add s v fine t point at =
-    let f =
-    found fine t in let h =
-    held fine f.2 in from_one_less s point at (paid s fine (held_everywhere s fine h.1).1).0
-costs homes plan cuts (suc fuel) n here is few Sub s v fine t point at =
-    let f =
-    found fine t in let h =
-    held fine f.2 in from_one_less s point at (paid s fine (held_everywhere s fine h.1).1).0
-costs homes plan cuts (suc fuel) n here is few Drop s v fine t point at =
-    let f = found fine t in from_one_less s point at (paid s fine f.2).0
-costs homes plan cuts (suc fuel) n here is few (Grip group) s v fine t point at =
-    from_one_less s point at (paid s fine (held fine t).1).0
-costs homes plan cuts (suc fuel) n here is few (Step direction) s v fine t point at =
-    from_one_less s point at
-    (paid s fine (held_of_pairs s fine
-    (held_everywhere s fine (held fine (held fine t).1).1).1).1).0
-costs homes plan cuts (suc fuel) n here is few (Aside direction tray) s v fine t point at =
-    from_one_less s point at
-    (paid s fine (held_of_pairs s fine
-    (held_everywhere s fine (held fine (held fine t).1).1).1).1).0
-costs homes plan cuts (suc fuel) n here is few (Tray tray) s v fine t point at =
-    from_one_less s point at (paid s fine t).0
-costs homes plan cuts (suc fuel) n here is few (Jump label) s v fine t point at =
-    let f = found fine t in from_one_less s point at (paid s fine f.2).0
-costs homes plan cuts (suc fuel) n here is few (Down k label) s v fine t point at =
-    let to = found fine t in
-    let param = held fine to.2 in
-    let f = found fine param.1 in
-    let small = held fine f.2 in
-    let count = held_everywhere s fine small.1 in
-    let room = held fine count.1 in
-    from_one_less s point at (paid s fine room.1).0
-costs homes plan cuts (suc fuel) n here is few (Ask low high) s v fine t point at =
-    from_one_less s point at (paid s fine (held fine (held fine t).1).1).0
-costs homes plan cuts (suc fuel) n here is few (Pick labels) s v fine t point at =
-    let f = found fine t in from_one_less s point at (paid s fine f.2).0
 costs homes plan cuts (suc fuel) n here is few (Call q) s v fine t point at =
     let c = call_holds plan n q s v fine t in
     let callee = callee_above plan.procedures n q c.there c.there_is in
@@ -168,11 +131,8 @@ costs homes plan cuts (suc fuel) n here is few (Call q) s v fine t point at =
   where
     further : (n q fuel l : ℕ) → n < q → l ≤ n + suc fuel → l ≤ q + fuel
     further n q fuel l lt le = omega arith
-costs homes plan cuts (suc fuel) n here is few Ret s v fine t point at =
-    let exit = found fine t in
-    let fp = found fine exit.2 in
-    let rs = found fine fp.2 in
-    from_one_less s point at (paid s fine rs.2).0
+costs homes plan cuts (suc fuel) n here is few i s v fine t point at =
+    from_one_less s point at (fine_ends (transfer_is_built homes plan n here s i) fine t).1
 
 -- So an entry frame costs at least one at each of its points.
 pub entry_costs_one : (homes : List (List Cell)) (plan : FramedPlan) → AllCut homes plan → (n : ℕ) (here : FramedProcedure)

@@ -43,7 +43,7 @@ looking_code homes plan n (here ∷ procedures) answer looks =
     × look_on j (looking_code homes plan (suc n) procedures) answer after
     × (looks ≡ own + after)
 
--- The whole judgement of a plan with its looks: before the code there is none.
+-- The whole judgement of a plan with its looks: before the code no look is taken.
 abbrev pub Looking : List ℕ → List (List Cell) → FramedPlan → Looked
 Looking name homes plan answer looks =
     (judging_before name homes plan nothing answer × (looks ≡ 0))

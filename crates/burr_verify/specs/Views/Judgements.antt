@@ -54,7 +54,7 @@ abbrev pub AreBefore : FramedProcedure → ℕ → ℕ → Type 0
 AreBefore here place n =
     (k : ℕ) (l : ℕ × Frame) → slice_get here.labels k ≡ Some l → (k < n) ↔ (l.0 < place)
 
--- the first label at a place from one on and before another; none where there is none
+-- the first label at a place from `from` on and before `end`; None where there is no such label
 abbrev pub IsLabelWithin : FramedProcedure → ℕ → ℕ → Option ℕ → Type 0
 IsLabelWithin here from end result =
     MatchOption result

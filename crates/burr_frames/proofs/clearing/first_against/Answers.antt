@@ -4,7 +4,7 @@ use Rattle.std.proofs.lemmas.Option.{slice_get_within}
 use Rattle.burr_text.proofs.Common.Tests.{yes_of, no_of, one_more_number}
 use Rattle.burr_voxels.specs.declared.cell.Cell.{Cell}
 use Rattle.burr_assembly.specs.Rules.Homes.{homes_of}
-use Rattle.burr_blocking.specs.declared.query.Query.{Query}
+use Rattle.burr_blocking.specs.declared.blocking.Query.{Query}
 use Rattle.burr_frames.specs.declared.clearing.Role.TheVariants.{Resting}
 use Rattle.burr_frames.specs.Views.Clearing.{IsRole, IsPairClear}
 use Rattle.burr_frames.proofs.Clearances.{two_roles}

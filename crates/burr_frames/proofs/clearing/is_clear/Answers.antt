@@ -6,7 +6,7 @@ use Rattle.burr_voxels.specs.declared.cell.Cell.{Cell}
 use Rattle.burr_voxels.specs.Grid.{minus}
 use Rattle.burr_voxels.specs.Near.{IsWithin}
 use Rattle.burr_assembly.specs.Rules.Homes.{homes_of, home_at}
-use Rattle.burr_blocking.specs.declared.query.Query.{Query}
+use Rattle.burr_blocking.specs.declared.blocking.Query.{Query}
 use Rattle.burr_blocking.specs.Rules.Pairs.{Clears}
 use Rattle.burr_frames.specs.Views.Clearing.{cell_of, IsPairClear}
 use Rattle.burr_frames.proofs.clearing.is_clear.Goals as goal

@@ -3,8 +3,8 @@ use Rattle.std.specs.Borrow.{Bor}
 use Rattle.std.proofs.KnownBytes.{Appends-nil}
 use Rattle.burr_state.specs.Rules.Bench.{Program}
 use Rattle.burr_state.specs.Rules.Run.{ends, stops}
-use Rattle.burr_state.specs.declared.closing.Closing.{Closing}
-use Rattle.burr_state.specs.declared.closing.Closing.TheVariants as closings
+use Rattle.burr_state.specs.declared.effect.Closing.{Closing}
+use Rattle.burr_state.specs.declared.effect.Closing.TheVariants as closings
 use Rattle.burr_sheet.specs.Views.SheetUnderWay.{UnderWay}
 use Rattle.std.specs.declared.ops.ControlFlow.{ControlFlow}
 use Rattle.burr_runs.specs.Rules.Output.{outcome_of}

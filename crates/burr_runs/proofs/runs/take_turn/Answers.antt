@@ -1,9 +1,9 @@
 use Rattle.std.proofs.Common.{◌≡◌, ℤ, subst₂, rules, to_z, of_z, w32, refl, subst, [], Some, None, Ok, Err, ◌∙◌, ap, inl}
 use Rattle.std.specs.Prelude.{Option}
 use Rattle.std.proofs.KnownBytes.{Appends-nil}
-use Rattle.burr_state.specs.declared.motion.Motion.{Motion}
-use Rattle.burr_state.specs.declared.progress.Progress.{Progress}
-use Rattle.burr_state.specs.declared.progress.Progress.TheVariants.{Went}
+use Rattle.burr_state.specs.declared.effect.Motion.{Motion}
+use Rattle.burr_state.specs.declared.effect.Progress.{Progress}
+use Rattle.burr_state.specs.declared.effect.Progress.TheVariants.{Went}
 use Rattle.burr_state.specs.Views.Benches.{Benched, GoesOn, motion_in, setup_of}
 use Rattle.burr_state.specs.Rules.Next.{Goes}
 use Rattle.burr_state.specs.Rules.Step.{Called}

@@ -2,7 +2,7 @@
 use Rattle.std.proofs.Common.{◌≡◌, ℕ, true, ap, subst}
 use Rattle.burr_assembly.specs.Rules.Text.{Assembly}
 use Rattle.burr_container.specs.Views.Containers.{ContainerView}
-use Rattle.burr_container.specs.declared.header.Header.{Header}
+use Rattle.burr_container.specs.declared.container.Header.{Header}
 use Rattle.burr_text.proofs.Common.Tests.{on_err}
 use Rattle.burr_verify.specs.Rules.Accepting.{Judged, judged, IsAccepted, MainCosts}
 use Rattle.burr_runs.specs.Rules.Verdicts.{accepted_line, IsPassedBy, IsVerdictLine}

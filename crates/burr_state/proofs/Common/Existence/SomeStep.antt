@@ -4,7 +4,7 @@ use Rattle.std.specs.Prelude.{slice_get}
 use Rattle.burr_text.proofs.Common.Decisions.{Decided}
 use Rattle.burr_code.specs.Instruction.{Instruction, StandsAt}
 use Rattle.burr_code.proofs.Common.Reading.{stands_or_none}
-use Rattle.burr_state.specs.declared.trap.Trap.TheVariants.{BadCode}
+use Rattle.burr_state.specs.declared.effect.Trap.TheVariants.{BadCode}
 use Rattle.burr_state.specs.Rules.Bench.{BenchState, Setup, BenchProcedure}
 use Rattle.burr_state.specs.Rules.Next.{Next, Traps}
 use Rattle.burr_state.specs.Rules.Step.{NextIs, IsAt, Runs}

@@ -1,18 +1,16 @@
 -- Which instructions ask, and which answers they take.
-use Rattle.std.proofs.Common.{◌≡◌, ◌<◌, ◌⊎◌, ℕ, ℤ, pos, ◌-ℤ◌, List, length, inl, inr, refl, subst, arith, Bool, true, false, Some, None, Option, Result, Ok, Err}
-use Rattle.burr_text.specs.Checks.{needs, finds}
+use Rattle.std.proofs.Common.{◌≡◌, ◌<◌, ◌⊎◌, ℕ, ℤ, pos, ◌-ℤ◌, List, length, inl, inr, refl, subst, arith, Bool, true, false, Some, None, Result, Ok, Err}
 use Rattle.burr_text.proofs.Common.Decisions.{Decided, decide_below}
-use Rattle.burr_code.specs.Instruction.{Instruction, Halt, Push, Load, Store, Add, Sub, Drop, Grip, Step, Aside, Tray, Jump, Down, Ask, Pick, Call, Ret}
+use Rattle.burr_code.specs.Instruction.{Instruction, Ask, Pick}
 use Rattle.burr_code.specs.Labels.{labelled}
 use Rattle.burr_code.proofs.Common.Labels.{picked}
 use Rattle.burr_state.specs.declared.effect.Effect.{Effect}
 use Rattle.burr_state.specs.declared.effect.Effect.TheVariants as effects
-use Rattle.burr_state.specs.declared.mode.Mode.TheVariants.{Running}
-use Rattle.burr_state.specs.declared.trap.Trap.{Trap}
-use Rattle.burr_state.specs.declared.trap.Trap.TheVariants as traps
-use Rattle.burr_state.specs.declared.motion.Motion.{Motion}
+use Rattle.burr_state.specs.declared.effect.Mode.TheVariants.{Running}
+use Rattle.burr_state.specs.declared.effect.Trap.{Trap}
+use Rattle.burr_state.specs.declared.effect.Trap.TheVariants as traps
 use Rattle.burr_state.specs.Rules.Bench.{BenchProcedure, BenchState, Setup}
-use Rattle.burr_state.specs.Rules.Next.{Next, Goes, Asks, Traps, goes}
+use Rattle.burr_state.specs.Rules.Next.{Next, Goes, Asks, Traps}
 use Rattle.burr_state.specs.Rules.Numbers.{HasRoom}
 use Rattle.burr_state.specs.Rules.Questions.{Fits}
 use Rattle.burr_state.specs.Rules.Step.{Executes, IsAt, NextIs, IsUnfit, IsQuestionOf}
@@ -21,51 +19,20 @@ use Rattle.burr_state.specs.Views.Benches.{Answered}
 use Rattle.std.proofs.lemmas.Int.{ints}
 use Rattle.std.proofs.lemmas.Option.{slice_get_within}
 use Rattle.burr_state.proofs.Uniqueness.OneStep.{one_next}
-use Rattle.burr_state.proofs.Common.Leading.{answer_number}
+use Rattle.burr_code.proofs.Common.Checked.{FailsOr, fails_or_ends}
+use Rattle.burr_state.proofs.Common.Built.{AsksNothing, EndsSo, answer_number, executes_is_built}
 use Rattle.burr_state.proofs.Offers.{labelled_all, all_labelled, none_or_some}
 use Rattle.burr_state.proofs.Common.Existence.Executions.{some_execution}
 use Rattle.burr_state.proofs.Common.Existence.SomeCall.{IsQuestion, unfit_elsewhere, unfit_there}
 
--- each instruction but `ask` and `pick`
-abbrev pub AsksNothing : Instruction → Type 0
-AsksNothing (Ask low high) = ⊥
-AsksNothing (Pick labels) = ⊥
-AsksNothing i = Unit {0}
+-- an instruction that stands before a question asks
+asks_there : (setup : Setup) (here : BenchProcedure) (s : BenchState) (i : Instruction) (next : Next) → FailsOr Traps (EndsSo setup here s i) next → IsQuestion next → ¬ AsksNothing i
+asks_there setup here s i (Goes new motion) is asks = absurd asks
+asks_there setup here s i (Asks low high) is asks = elim is.cases [ inl trapped ↦ absurd (subst IsQuestion trapped.1 asks) | inr so ↦ so.0 ]
+asks_there setup here s i (Traps trap) is asks = absurd asks
 
--- none of these asks
-abbrev NeverAsks : (Next → Type 0) → Type 0
-NeverAsks Tells = (next : Next) → Tells next → ¬ IsQuestion next
-
-given : (new : BenchState) (motion : Option Motion) → NeverAsks (goes new motion)
-given new motion next is asks = subst IsQuestion is asks
-
-needed : (condition : Type 0) (trap : Trap) (rest : Next → Type 0) → NeverAsks rest → NeverAsks (needs condition (Traps trap) rest)
-needed condition trap rest none next (inl failed) asks = subst IsQuestion failed.1 asks
-needed condition trap rest none next (inr held) asks = none next held.1 asks
-
-found : {A : Type 0} (o : Option A) (trap : Trap) (rest : A → Next → Type 0) → ((x : A) → NeverAsks (rest x)) → NeverAsks (finds o (Traps trap) rest)
-found o trap rest none next (inl failed) asks = subst IsQuestion failed.1 asks
-found o trap rest none next (inr held) asks = none held.0 next held.2 asks
-
--- such an instruction asks nothing
-no_question : (setup : Setup) (here : BenchProcedure) (s : BenchState) (i : Instruction) → AsksNothing i → NeverAsks (Executes setup here s i)
-no_question setup here s Halt still = needed _ _ _ (needed _ _ _ (given _ _))
-no_question setup here s (Push n) still = needed _ _ _ (given _ _)
-no_question setup here s (Load v) still = found _ _ _ λ x. needed _ _ _ (given _ _)
-no_question setup here s (Store v) still = needed _ _ _ (found _ _ _ λ x. given _ _)
-no_question setup here s Add still = found _ _ _ λ x. needed _ _ _ (given _ _)
-no_question setup here s Sub still = found _ _ _ λ x. needed _ _ _ (given _ _)
-no_question setup here s Drop still = found _ _ _ λ x. given _ _
-no_question setup here s (Grip set) still = needed _ _ _ (given _ _)
-no_question setup here s (Step direction) still = needed _ _ _ (needed _ _ _ (needed _ _ _ (given _ _)))
-no_question setup here s (Aside direction tray) still = needed _ _ _ (needed _ _ _ (needed _ _ _ (given _ _)))
-no_question setup here s (Tray tray) still = given _ _
-no_question setup here s (Jump label) still = found _ _ _ λ to. given _ _
-no_question setup here s (Down v label) still = found _ _ _ λ to. needed _ _ _ (found _ _ _ λ x. needed _ _ _ (given _ _))
-no_question setup here s (Ask low high) still = absurd still
-no_question setup here s (Pick labels) still = absurd still
-no_question setup here s (Call callee) still = found _ _ _ λ there. found _ _ _ λ x. needed _ _ _ (given _ _)
-no_question setup here s Ret still = found _ _ _ λ up. found _ _ _ λ x. given _ _
+no_question : (setup : Setup) (here : BenchProcedure) (s : BenchState) (i : Instruction) (next : Next) → AsksNothing i → Executes setup here s i next → ¬ IsQuestion next
+no_question setup here s i next still rule asks = asks_there setup here s i next (fails_or_ends (executes_is_built setup here s i) next rule) asks still
 
 -- where no question stands next, the run waits for none
 waits_for_none : (setup : Setup) (s : BenchState) (next : Next) → NextIs setup s next → ¬ IsQuestion next → IsQuestionOf setup s None
@@ -81,7 +48,7 @@ waits_for setup s new (Err trap) runs is = waits_for_none setup s (Traps trap) i
 pub unfit_at : (setup : Setup) (here : BenchProcedure) (s : BenchState) (i : Instruction) (answer : ℤ) → AsksNothing i → IsAt setup s here i → IsUnfit setup s answer
 unfit_at setup here s i answer still at =
     let next = some_execution setup here s i in
-    unfit_elsewhere setup s next.0 answer (inl (here, i, at, next.1)) (no_question setup here s i still next.0 next.1)
+    unfit_elsewhere setup s next.0 answer (inl (here, i, at, next.1)) (no_question setup here s i next.0 still next.1)
 
 -- where none stands, none does
 pub unfit_nowhere : (setup : Setup) (s : BenchState) (answer : ℤ) → ((here : BenchProcedure) (i : Instruction) → ¬ IsAt setup s here i) → IsUnfit setup s answer

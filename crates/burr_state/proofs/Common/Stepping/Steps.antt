@@ -8,8 +8,8 @@ use Rattle.burr_voxels.specs.Near.{IsWithin}
 use Rattle.burr_code.specs.Places.{IsPartOfTray, IsEmptyTray, aside_places}
 use Rattle.burr_code.proofs.Common.Counts.{length-aside_places}
 use Rattle.burr_code.specs.Instruction.{Instruction, Step, Aside, spelled, StandsAt}
-use Rattle.burr_state.specs.declared.trap.Trap.TheVariants as traps
-use Rattle.burr_state.specs.declared.motion.Motion.{Motion}
+use Rattle.burr_state.specs.declared.effect.Trap.TheVariants as traps
+use Rattle.burr_state.specs.declared.effect.Motion.{Motion}
 use Rattle.burr_state.specs.Rules.Bench.{BenchProcedure, BenchState, Setup}
 use Rattle.burr_state.specs.Rules.Next.{Goes, Traps}
 use Rattle.burr_state.specs.Rules.Space.{NoOverlapIn, AllOnBench, IsFreeGroup, moved_places, motion_of}

@@ -1,4 +1,4 @@
--- Places of which those of a set are changed, and how many pieces are counted in a tray.
+-- The places of a set's pieces are changed; and how many pieces are counted in a tray.
 use Rattle.std.proofs.Common.{◌≡◌, ◌≢◌, ◌⊎◌, ℕ, zero, suc, ◌+◌, ◌==◌, if◌then◌else◌}
 use Rattle.std.proofs.Common.{List, [], ◌∷◌, slice_get, Some, All}
 use Rattle.std.proofs.Common.{refl, sym, ap, subst, ◌∙◌, inl, inr, arith}

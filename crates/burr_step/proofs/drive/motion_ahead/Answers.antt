@@ -3,7 +3,7 @@ use Rattle.burr_text.proofs.Common.Tests.{no_of}
 use Rattle.burr_code.specs.declared.instr.Instr.{Instr}
 use Rattle.burr_code.specs.Instruction.{Step, Aside}
 use Rattle.burr_code.specs.Meaning.{meaning}
-use Rattle.burr_state.specs.declared.motion.Motion.{Motion}
+use Rattle.burr_state.specs.declared.effect.Motion.{Motion}
 use Rattle.burr_state.specs.Rules.Space.{motion_of}
 use Rattle.burr_state.specs.Views.Benches.{setup_of}
 use Rattle.burr_state.specs.Views.Work.{Work, StandsBefore}

@@ -5,7 +5,7 @@ use Rattle.burr_state.specs.Rules.Space.{NoOverlap, motion_of}
 use Rattle.burr_state.specs.Views.StateViews.{moved_grip, StaysOnBench}
 use Rattle.burr_state.specs.Views.Benches.{Benched, benched, setup_of}
 use Rattle.burr_bench.specs.BenchViews.{GripPasses}
-use Rattle.burr_bench.specs.declared.checked.way.Way.TheVariants.{Unit}
+use Rattle.burr_bench.specs.declared.checked.Way.TheVariants.{Unit}
 use Rattle.burr_text.proofs.Common.Tests.{yes_of, no_of}
 use Rattle.burr_state.proofs.Common.Stepping.Steps.{step_off_bench, step_collides, step_goes}
 use Rattle.burr_bench.proofs.Stepping.Sound.{goes_on_unit, sound_unit}

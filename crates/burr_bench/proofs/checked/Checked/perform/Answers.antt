@@ -5,7 +5,7 @@ use Rattle.burr_code.specs.Instruction.{Instruction, Step, Aside}
 use Rattle.burr_code.specs.Meaning.{meaning}
 use Rattle.burr_code.specs.declared.instr.Instr.{Instr}
 use Rattle.burr_state.specs.declared.effect.Effect.{Effect}
-use Rattle.burr_state.specs.declared.trap.Trap.{Trap}
+use Rattle.burr_state.specs.declared.effect.Trap.{Trap}
 use Rattle.burr_state.specs.Rules.Step.{NextIs}
 use Rattle.burr_state.specs.Views.Benches.{Benched, benched, setup_of}
 use Rattle.burr_state.specs.Views.Effects.{next_of}

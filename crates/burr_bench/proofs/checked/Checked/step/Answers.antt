@@ -1,6 +1,6 @@
 use Rattle.std.proofs.Common.{◌≡◌, sym, subst, refl, rules, Some, Ok, to_z, of_z, w32, Option, ℤ}
-use Rattle.burr_state.specs.declared.mode.Mode.{Mode}
-use Rattle.burr_state.specs.declared.mode.Mode.TheVariants.{Running}
+use Rattle.burr_state.specs.declared.effect.Mode.{Mode}
+use Rattle.burr_state.specs.declared.effect.Mode.TheVariants.{Running}
 use Rattle.burr_state.specs.Rules.Step.{CallIn, Called}
 use Rattle.burr_state.specs.Views.Benches.{setup_of}
 use Rattle.burr_bench.proofs.Stepping.Sound.{goes_on_still}

@@ -2,8 +2,8 @@ use Rattle.std.proofs.Common.{◌≡◌, refl, subst, sym}
 use Rattle.std.specs.Prelude.{Result}
 use Rattle.burr_assembly.specs.Rules.Homes.{homes_of}
 use Rattle.burr_state.specs.declared.effect.Effect.{Effect}
-use Rattle.burr_state.specs.declared.mode.Mode.TheVariants.{Running}
-use Rattle.burr_state.specs.declared.trap.Trap.{Trap}
+use Rattle.burr_state.specs.declared.effect.Mode.TheVariants.{Running}
+use Rattle.burr_state.specs.declared.effect.Trap.{Trap}
 use Rattle.burr_state.specs.Rules.Step.{NextIs}
 use Rattle.burr_state.specs.Views.Benches.{Benched, benched, setup_of}
 use Rattle.burr_state.specs.Views.Effects.{next_of}

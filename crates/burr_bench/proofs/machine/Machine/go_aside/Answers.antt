@@ -1,7 +1,7 @@
 use Rattle.std.proofs.Common.{◌≡◌, Some, refl, subst, sym}
 use Rattle.burr_code.specs.Instruction.{Aside}
 use Rattle.burr_state.specs.declared.effect.Effect.TheVariants as effects
-use Rattle.burr_state.specs.declared.mode.Mode.TheVariants.{Running}
+use Rattle.burr_state.specs.declared.effect.Mode.TheVariants.{Running}
 use Rattle.burr_state.specs.Views.Benches.{Benched, benched}
 use Rattle.burr_state.specs.Views.Work.{IsNext, work}
 use Rattle.burr_bench.proofs.Stepping.Safe.{carried, aside_carries}

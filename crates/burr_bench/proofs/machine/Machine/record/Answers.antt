@@ -1,6 +1,6 @@
 use Rattle.std.proofs.Common.{inr, refl}
 use Rattle.burr_assembly.specs.Rules.Homes.{homes_of}
-use Rattle.burr_state.specs.declared.trap.Trap.TheVariants as traps
+use Rattle.burr_state.specs.declared.effect.Trap.TheVariants as traps
 use Rattle.burr_bench.proofs.machine.Machine.record.Goals as goal
 
 pub unreachable-requires : goal.unreachable-requires

@@ -1,5 +1,5 @@
 use Rattle.std.proofs.Common.{sym, subst, refl, Ok}
-use Rattle.burr_state.specs.declared.progress.Progress.{Progress}
+use Rattle.burr_state.specs.declared.effect.Progress.{Progress}
 use Rattle.burr_state.specs.Rules.Step.{Called}
 use Rattle.burr_state.specs.Views.Benches.{setup_of}
 use Rattle.burr_bench.specs.Safe.{IsSafe}

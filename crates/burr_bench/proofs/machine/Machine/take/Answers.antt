@@ -1,7 +1,7 @@
 use Rattle.std.proofs.Common.{◌≡◌, Bool, true, false, ℤ, Ok, Some, w32, sym, subst, refl, ap, inl, inr}
 use Rattle.std.proofs.lemmas.Int.{to_z-of_z}
 use Rattle.burr_assembly.specs.Rules.Homes.{homes_of}
-use Rattle.burr_state.specs.declared.mode.Mode.TheVariants.{Running}
+use Rattle.burr_state.specs.declared.effect.Mode.TheVariants.{Running}
 use Rattle.burr_state.specs.Views.Benches.{Benched, benched, setup_of, Answered}
 use Rattle.burr_bench.proofs.Stepping.Safe.{answer_call, called_in, safe_after, sound_put, told_of_answer}
 use Rattle.burr_bench.proofs.Stepping.Sound.{goes_on_still}

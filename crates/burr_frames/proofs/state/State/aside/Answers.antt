@@ -5,7 +5,7 @@ use Rattle.burr_text.proofs.Common.Tests.{yes_of, no_of}
 use Rattle.burr_code.specs.declared.placement.Placement.{Placement}
 use Rattle.burr_code.specs.Places.{aside_places}
 use Rattle.burr_assembly.specs.Rules.Homes.{homes_of}
-use Rattle.burr_blocking.specs.declared.query.Query.TheVariants as queries
+use Rattle.burr_blocking.specs.declared.blocking.Query.TheVariants as queries
 use Rattle.burr_container.specs.Rules.Plans.{FormCell}
 use Rattle.burr_frames.specs.declared.rule.Rule.TheVariants as rules
 use Rattle.burr_frames.specs.Views.Breaks.{broken_of}

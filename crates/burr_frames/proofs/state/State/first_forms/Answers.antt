@@ -1,4 +1,4 @@
--- A slot of which nothing is known ends it; else its form is one more.
+-- The loop ends at a slot that is not known; else it adds the slot's form.
 use Rattle.std.proofs.Common.{◌≡◌, ◌+◌, ◌∙◌, ap, sym, subst, List, [], ◌∷◌, ◌++◌, Some, length, arith}
 use Rattle.std.proofs.lemmas.List.{length_push}
 use Rattle.std.proofs.lemmas.List.Elements.{All-push}

@@ -3,7 +3,7 @@ use Rattle.std.proofs.Common.{rules, ◌≡◌, ◌≢◌, ◌∙◌, List, ap, 
 use Rattle.std.proofs.lemmas.Result.{err_from_is_err_and}
 use Rattle.burr_code.specs.declared.placement.Placement.{Placement}
 use Rattle.burr_assembly.specs.Rules.Homes.{homes_of}
-use Rattle.burr_blocking.specs.declared.query.Query.TheVariants as queries
+use Rattle.burr_blocking.specs.declared.blocking.Query.TheVariants as queries
 use Rattle.burr_container.specs.Rules.Plans.{FormCell}
 use Rattle.burr_frames.specs.declared.rule.Rule.TheVariants as rules_of
 use Rattle.burr_frames.specs.Views.Breaks.{broken_of}

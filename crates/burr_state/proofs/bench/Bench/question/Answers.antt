@@ -2,7 +2,7 @@ use Rattle.std.proofs.Common.{◌≡◌, rules, subst, inl}
 use Rattle.burr_code.specs.declared.instr.Instr.{Instr}
 use Rattle.burr_code.specs.Instruction.{Pick, StandsAt}
 use Rattle.burr_code.specs.Meaning.{meaning}
-use Rattle.burr_state.specs.declared.mode.Mode.TheVariants.{Running}
+use Rattle.burr_state.specs.declared.effect.Mode.TheVariants.{Running}
 use Rattle.burr_state.specs.Rules.Bench.{running}
 use Rattle.burr_state.proofs.Common.Stepping.Steps.{is_at}
 use Rattle.burr_state.proofs.Common.Stepping.Questions.{waits_for}

@@ -5,7 +5,7 @@ use Rattle.std.specs.Prelude.{Ok}
 use Rattle.burr_state.specs.Views.Benches.{Benched, setup_of}
 use Rattle.burr_step.specs.Views.Driving.{Driving, driving, Answers, Goes}
 use Rattle.burr_state.specs.Rules.Bench.{Setup}
-use Rattle.burr_state.specs.declared.progress.Progress.TheVariants as progress
+use Rattle.burr_state.specs.declared.effect.Progress.TheVariants as progress
 use Rattle.burr_step.specs.Rules.Drive.{IsFitting, Takes}
 use Rattle.burr_step.specs.Rules.Moves.{ComesToRest}
 use Rattle.burr_step.proofs.MakingLines.{same_twice}

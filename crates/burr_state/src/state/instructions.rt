@@ -1,0 +1,334 @@
+ghost use Rattle.std.specs.Prelude.{◌≡◌, ◌<◌, ◌≤◌, ◌+◌, List, Some, length, slice_get, MatchOption, ◌-ℤ◌, pos};
+ghost use Rattle.burr_voxels.specs.declared.cell.Cell.{Cell};
+ghost use Rattle.burr_code.specs.declared.limits.TheConstants.{MOST_CODE, SLOTS};
+ghost use Rattle.burr_code.specs.Instruction.{IsInRange, MovesNoPiece, spelled, Push, Load, Store, Add, Sub, Drop, IsInNumberRange, Ask, Grip, Tray};
+ghost use Rattle.burr_code.specs.Meaning.{meaning};
+ghost use Rattle.burr_state.specs.Rules.Bench.{running, BenchProcedure};
+ghost use Rattle.burr_state.specs.Views.Programs.{FitsProgram};
+ghost use Rattle.burr_state.specs.Rules.Step.{Executes};
+ghost use Rattle.burr_state.specs.Views.Effects.{next_of, KeepsUnlessGoes, NeverMoves, StaysFitting, StaysPut, TakesNumber, TakesLabel, IsPicked, PicksAt, ChoosesPieces};
+ghost use Rattle.burr_state.specs.Views.StateViews.{IsOrderly, replacing_two};
+ghost use Rattle.burr_state.specs.Rules.Numbers.{pushing, loading, storing, adding, subtracting, dropping};
+ghost use Rattle.burr_state.specs.Rules.Questions.{asking, picking};
+ghost use Rattle.burr_state.specs.Rules.Space.{gripping, choosing_tray};
+
+use crate::effect::{Effect, Trap};
+use crate::program::{Procedure, Program};
+use crate::state::BenchState;
+use burr_code::limits::MOST_NUMBER;
+use burr_code::{Instr, Labels};
+
+// Instructions that move no piece.
+impl BenchState {
+    /// Carries out an instruction of this many bytes that moves no piece, in the procedure that
+    /// runs; a trap changes nothing.
+    pub fn execute(
+        &mut self,
+        instruction: &Instr<'_>,
+        procedure: &Procedure<'_>,
+        program: &Program<'_>,
+        size: usize,
+    ) -> Result<Effect, Trap>
+        requires still { MovesNoPiece (meaning instruction.now) }
+        requires in_range { IsInRange (meaning instruction.now) }
+        requires procedure { slice_get program.now.procedures self.old.running.procedure
+            ≡ Some procedure.now }
+        requires fits { FitsProgram program.now.procedures self.old }
+        requires within { self.old.running.pc + size ≤ MOST_CODE }
+        requires size { size ≡ length (spelled (meaning instruction.now)) }
+        ensures next { (homes : List (List Cell)) → Executes (running homes program.now)
+            procedure.now self.old (meaning instruction.now) (next_of result self.new) }
+        ensures kept { KeepsUnlessGoes result self.old self.new }
+        ensures no_motion { NeverMoves result }
+        ensures stays { StaysFitting program.now.procedures self.old self.new }
+    {
+        self.each_state_is_orderly();
+        match instruction {
+            Instr::Halt => self.halt(),
+            Instr::Push(number) => self.push(*number, size),
+            Instr::Load(slot) => self.load(*slot, size),
+            Instr::Store(slot) => self.store(*slot, procedure.parameters(), size),
+            Instr::Add => self.add(size),
+            Instr::Sub => self.sub(size),
+            Instr::Drop => self.drop_top(size),
+            Instr::Grip(set) => self.take_grip(*set, size),
+            Instr::Tray(tray) => self.choose_tray(*tray, size),
+            Instr::Jump(label) => self.jump(*label, procedure.label(*label)),
+            Instr::Down(slot, label) => {
+                let position = procedure.label(*label);
+                self.down(*slot, *label, position, procedure.parameters(), size)
+            }
+            Instr::Ask(low, high) => self.ask(*low, *high),
+            Instr::Pick(labels) => self.pick(labels, procedure),
+            Instr::Call(callee) => self.call(*callee, program, size),
+            Instr::Ret => self.ret(procedure.results()),
+            Instr::Step(_) | Instr::Aside(..) => unreachable!(),
+        }
+    }
+
+    /// A law of each state: the gripped pieces lie in the current tray, and callers have lower
+    /// numbers than those that they call.
+    fn each_state_is_orderly(&self)
+        ensures { IsOrderly self.now }
+    {
+        let _ = &self.grip;
+    }
+}
+
+// Instructions on operands and slots.
+impl BenchState {
+    /// `push`: a number comes on top of the operands.
+    pub fn push(&mut self, number: i16, size: usize) -> Result<Effect, Trap>
+        requires within { self.old.running.pc + size ≤ MOST_CODE }
+        requires size { size ≡ length (spelled (Push number)) }
+        ensures next { pushing self.old number (next_of result self.new) }
+        ensures kept { KeepsUnlessGoes result self.old self.new }
+        ensures no_motion { NeverMoves result }
+        ensures stays { StaysPut self.old self.new }
+    {
+        if !self.running.has_room() {
+            return Err(Trap::StackFull);
+        }
+        self.running.push(i32::from(number));
+        self.go_after(size);
+        Ok(Effect::Goes(None))
+    }
+
+    /// `load`: what a slot holds comes on top of the operands.
+    pub fn load(&mut self, slot: u8, size: usize) -> Result<Effect, Trap>
+        requires slot { slot < SLOTS }
+        requires within { self.old.running.pc + size ≤ MOST_CODE }
+        requires size { size ≡ length (spelled (Load slot)) }
+        ensures next { loading self.old slot (next_of result self.new) }
+        ensures kept { KeepsUnlessGoes result self.old self.new }
+        ensures no_motion { NeverMoves result }
+        ensures stays { StaysPut self.old self.new }
+    {
+        let Some(number) = self.running.slot(slot) else {
+            return Err(Trap::EmptySlot);
+        };
+        if !self.running.has_room() {
+            return Err(Trap::StackFull);
+        }
+        self.running.push(number);
+        self.go_after(size);
+        Ok(Effect::Goes(None))
+    }
+
+    /// `store`, in a procedure with this many parameters: the top of the operands goes into a slot.
+    pub fn store(&mut self, slot: u8, parameters: u8, size: usize) -> Result<Effect, Trap>
+        requires slot { slot < SLOTS }
+        requires within { self.old.running.pc + size ≤ MOST_CODE }
+        requires size { size ≡ length (spelled (Store slot)) }
+        ensures next { (here : BenchProcedure) → here.parameters ≡ parameters
+            → storing here self.old slot (next_of result self.new) }
+        ensures kept { KeepsUnlessGoes result self.old self.new }
+        ensures no_motion { NeverMoves result }
+        ensures stays { StaysPut self.old self.new }
+    {
+        if slot < parameters {
+            return Err(Trap::ParamWritten);
+        }
+        let Some(number) = self.running.pop() else {
+            return Err(Trap::MissingOperand);
+        };
+        self.running.set_slot(slot, number);
+        self.go_after(size);
+        Ok(Effect::Goes(None))
+    }
+
+    /// `add`: the two topmost operands are replaced by their sum.
+    pub fn add(&mut self, size: usize) -> Result<Effect, Trap>
+        requires within { self.old.running.pc + size ≤ MOST_CODE }
+        requires size { size ≡ length (spelled Add) }
+        ensures next { adding self.old (next_of result self.new) }
+        ensures kept { KeepsUnlessGoes result self.old self.new }
+        ensures no_motion { NeverMoves result }
+        ensures stays { StaysPut self.old self.new }
+    {
+        let Some((top, below)) = self.running.top_two() else {
+            return Err(Trap::MissingOperand);
+        };
+        self.replace_two(i64::from(below) + i64::from(top), size)
+    }
+
+    /// `sub`: the two topmost operands are replaced by their difference, the top taken from the one
+    /// below.
+    pub fn sub(&mut self, size: usize) -> Result<Effect, Trap>
+        requires within { self.old.running.pc + size ≤ MOST_CODE }
+        requires size { size ≡ length (spelled Sub) }
+        ensures next { subtracting self.old (next_of result self.new) }
+        ensures kept { KeepsUnlessGoes result self.old self.new }
+        ensures no_motion { NeverMoves result }
+        ensures stays { StaysPut self.old self.new }
+    {
+        let Some((top, below)) = self.running.top_two() else {
+            return Err(Trap::MissingOperand);
+        };
+        self.replace_two(i64::from(below) - i64::from(top), size)
+    }
+
+    /// The step of an instruction of `size` bytes that puts a number in place of the two topmost
+    /// operands; it traps with `NumberRange` where operands may not hold that number.
+    fn replace_two(&mut self, number: i64, size: usize) -> Result<Effect, Trap>
+        requires two { 2 ≤ length self.old.running.operands }
+        requires within { self.old.running.pc + size ≤ MOST_CODE }
+        ensures next { replacing_two self.old number size (next_of result self.new) }
+        ensures kept { KeepsUnlessGoes result self.old self.new }
+        ensures no_motion { NeverMoves result }
+        ensures stays { StaysPut self.old self.new }
+    {
+        let Some(number) = in_number_range(number) else {
+            return Err(Trap::NumberRange);
+        };
+        self.running.replace_two(number);
+        self.go_after(size);
+        Ok(Effect::Goes(None))
+    }
+
+    /// `drop`: the top of the operands goes.
+    pub fn drop_top(&mut self, size: usize) -> Result<Effect, Trap>
+        requires within { self.old.running.pc + size ≤ MOST_CODE }
+        requires size { size ≡ length (spelled Drop) }
+        ensures next { dropping self.old (next_of result self.new) }
+        ensures kept { KeepsUnlessGoes result self.old self.new }
+        ensures no_motion { NeverMoves result }
+        ensures stays { StaysPut self.old self.new }
+    {
+        if self.running.pop().is_none() {
+            return Err(Trap::MissingOperand);
+        }
+        self.go_after(size);
+        Ok(Effect::Goes(None))
+    }
+}
+
+/// A number where it is one that operands and slots may hold: -32767 to 32767.
+fn in_number_range(number: i64) -> Option<i32>
+    ensures { MatchOption result (¬ IsInNumberRange number)
+        (λ same. (same ≡ number) × IsInNumberRange number) }
+{
+    let most = i64::from(MOST_NUMBER);
+    if number < -most || most < number {
+        return None;
+    }
+    Some(number as i32)
+}
+
+// Instructions that ask the operator, and the answers.
+impl BenchState {
+    /// `ask`: asks for a number of a range.
+    pub fn ask(&self, low: i16, high: i16) -> Result<Effect, Trap>
+        ensures next { asking self.now low high (next_of result self.now) }
+        ensures kept { KeepsUnlessGoes result self.now self.now }
+        ensures no_motion { NeverMoves result }
+        ensures stays { StaysPut self.now self.now }
+    {
+        if !self.running.has_room() {
+            return Err(Trap::StackFull);
+        }
+        Ok(Effect::Asks(i32::from(low), i32::from(high)))
+    }
+
+    /// `pick`: asks for the number of one of the labels.
+    pub fn pick(&self, labels: &Labels<'_>, procedure: &Procedure<'_>) -> Result<Effect, Trap>
+        ensures next { picking procedure.now labels.now (next_of result self.now) }
+        ensures kept { KeepsUnlessGoes result self.now self.now }
+        ensures no_motion { NeverMoves result }
+        ensures stays { StaysPut self.now self.now }
+    {
+        if !procedure.has_labels(labels) {
+            return Err(Trap::BadJump);
+        }
+        Ok(Effect::Asks(0, last_number(labels)))
+    }
+
+    /// An answer to `ask`: pushed, where there is room and it fits; else nothing changes. Whether
+    /// it is taken.
+    pub fn take_number(&mut self, low: i16, high: i16, answer: i32, size: usize) -> bool
+        requires within { self.old.running.pc + size ≤ MOST_CODE }
+        requires size { size ≡ length (spelled (Ask low high)) }
+        ensures taken { TakesNumber self.old low high answer result self.new }
+        ensures stays { StaysPut self.old self.new }
+    {
+        if !self.running.has_room() || answer < i32::from(low) || i32::from(high) < answer {
+            return false;
+        }
+        self.running.push(answer);
+        self.go_after(size);
+        true
+    }
+
+    /// An answer to `pick`: the run goes on at the label that it numbers, where all labels are
+    /// there and it fits; else nothing changes. Whether it is taken.
+    pub fn take_label(
+        &mut self,
+        labels: &Labels<'_>,
+        procedure: &Procedure<'_>,
+        answer: i32,
+    ) -> bool
+        ensures taken { TakesLabel procedure.now self.old labels.now answer result self.new }
+        ensures stays { StaysPut self.old self.new }
+    {
+        if !procedure.has_labels(labels) {
+            return false;
+        }
+        let Some(position) = picked(labels, procedure, answer) else {
+            return false;
+        };
+        self.go_to(position);
+        true
+    }
+}
+
+/// The number of the last label.
+fn last_number(labels: &Labels<'_>) -> i32
+    ensures { result ≡ pos (length labels.now) -ℤ pos 1 }
+{
+    labels.len() as i32 - 1
+}
+
+/// The position of the label that an answer numbers; None where it numbers none.
+fn picked(labels: &Labels<'_>, procedure: &Procedure<'_>, answer: i32) -> Option<u16>
+    ensures { MatchOption result
+        (¬ IsPicked procedure.now.labels labels.now answer)
+        (λ to. PicksAt procedure.now.labels labels.now answer to) }
+{
+    let number = usize::try_from(answer).ok()?;
+    procedure.label(labels.get(number)?)
+}
+
+// Instructions that choose the grip and the current tray.
+impl BenchState {
+    /// `grip`: the grip becomes a set of pieces of the current tray.
+    pub fn take_grip(&mut self, set: u32, size: usize) -> Result<Effect, Trap>
+        requires within { self.old.running.pc + size ≤ MOST_CODE }
+        requires size { size ≡ length (spelled (Grip set)) }
+        ensures next { gripping self.old set (next_of result self.new) }
+        ensures kept { KeepsUnlessGoes result self.old self.new }
+        ensures no_motion { NeverMoves result }
+        ensures stays { ChoosesPieces self.old self.new }
+    {
+        if !self.all_lie_here(set) {
+            return Err(Trap::GripOff);
+        }
+        self.grip = set;
+        self.go_after(size);
+        Ok(Effect::Goes(None))
+    }
+
+    /// `tray`: another tray becomes the current one, and nothing is gripped.
+    pub fn choose_tray(&mut self, tray: u8, size: usize) -> Result<Effect, Trap>
+        requires within { self.old.running.pc + size ≤ MOST_CODE }
+        requires size { size ≡ length (spelled (Tray tray)) }
+        ensures next { choosing_tray self.old tray (next_of result self.new) }
+        ensures kept { KeepsUnlessGoes result self.old self.new }
+        ensures no_motion { NeverMoves result }
+        ensures stays { ChoosesPieces self.old self.new }
+    {
+        self.tray = tray;
+        self.grip = 0;
+        self.go_after(size);
+        Ok(Effect::Goes(None))
+    }
+}
