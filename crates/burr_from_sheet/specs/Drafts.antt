@@ -5,7 +5,7 @@ use Rattle.burr_container.specs.Rules.Plans.{Plan}
 use Rattle.burr_container.specs.Views.Containers.{IsContainer}
 use Rattle.burr_runs.specs.declared.outcome.Outcome.TheVariants.{Apart}
 use Rattle.burr_runs.specs.Rules.Headline.{IsSafeSheetOf}
-use Rattle.burr_state.specs.declared.motion.Motion.{Motion}
+use Rattle.burr_state.specs.declared.effect.Motion.{Motion}
 use Rattle.burr_verify.specs.Rules.Accepting.{Judged}
 use Rattle.burr_from_sheet.specs.declared.fault.SheetFault.{SheetFault}
 use Rattle.burr_from_sheet.specs.declared.fault.SheetFault.TheVariants.{Line, TooLong, Refused, Differs, Memory}

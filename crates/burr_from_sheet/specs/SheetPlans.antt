@@ -11,7 +11,7 @@ use Rattle.burr_plantext.specs.Rules.Listing.{IsListing}
 use Rattle.burr_runs.specs.declared.outcome.Outcome.TheVariants.{Apart}
 use Rattle.burr_runs.specs.Rules.Headline.{IsSafeSheetOf}
 use Rattle.burr_sheet.specs.Rules.Expanding.{AreLinesOf}
-use Rattle.burr_state.specs.declared.motion.Motion.{Motion}
+use Rattle.burr_state.specs.declared.effect.Motion.{Motion}
 use Rattle.burr_verify.specs.Rules.WellFramed.{IsWellFramed}
 use Rattle.burr_from_sheet.specs.declared.fault.SheetFault.{SheetFault}
 use Rattle.burr_from_sheet.specs.declared.fault.SheetFault.TheVariants.{Line, TooLong, Refused, Differs, Memory}
@@ -32,8 +32,8 @@ BeginsLevels text = (rest : List ℕ) × (text ≡ codes "levels " ++ rest)
 abbrev pub move_lines_of : List ℕ → List ℕ
 move_lines_of sheet = before_levels true sheet
 
--- The text begins with these lines, none of which begins `levels `; the line after them does, or
--- there is none.
+-- The text begins with these lines. None of them begins `levels `; the line after them does, or
+-- there is no line after them.
 pub record AreBeforeLevels (text lines : List ℕ) : Type 0 where
   pub rest : List ℕ
   pub parts : text ≡ lines ++ rest

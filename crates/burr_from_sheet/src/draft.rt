@@ -2,17 +2,16 @@
 
 ghost use Rattle.std.specs.Prelude.{◌<◌, All, IfErr};
 ghost use Rattle.burr_code.specs.declared.limits.TheConstants.{TRAYS};
-ghost use Rattle.burr_from_sheet.specs.Drafts.{IsOfDraft, MayBeMade};
 ghost use Rattle.burr_code.specs.Instruction.{IsInRange};
 ghost use Rattle.burr_code.specs.Meaning.{meaning};
+ghost use Rattle.burr_from_sheet.specs.Drafts.{IsOfDraft, MayBeMade};
 
-use crate::drafted_code::DraftedCode;
-use crate::drafted_plan::{DraftedPlan, DraftedProcedure};
 use crate::fault::SheetFault;
 use crate::situation::Situation;
 use burr_assembly::Assembly;
-use burr_code::Instr;
-use burr_code::limits::{MOST_PROCEDURES, TRAYS};
+use burr_code::limits::{MOST_CODE, MOST_PROCEDURES, TRAYS};
+use burr_code::{Instr, encode};
+use burr_container::{Plan, Procedure};
 use burr_state::Motion;
 use std::alloc::{AllocError, Global};
 use std::mem::replace;
@@ -184,4 +183,155 @@ fn calls_of(alloc: Global, parts: &[DraftedProcedure]) -> Result<DraftedCode, Al
         code.add(alloc, &Instr::Call(callee), part.code.line_at(0))?;
     }
     Ok(code)
+}
+
+// The code of a procedure of a draft.
+
+/// The code of a procedure, and what each of its instructions is for.
+#[derive(Debug, Drop)]
+pub struct DraftedCode {
+    bytes: Vec<u8>,
+    /// One for each instruction, in their order.
+    purposes: Vec<Purpose>,
+}
+
+/// What an instruction is for.
+#[derive(Clone, Copy, Debug)]
+struct Purpose {
+    /// Where the instruction stands in the code.
+    position: usize,
+    /// The line of the sheet that it is for.
+    line: usize,
+}
+
+impl DraftedCode {
+    /// Code without an instruction.
+    pub fn new(alloc: Global) -> DraftedCode {
+        DraftedCode {
+            bytes: Vec::new(alloc),
+            purposes: Vec::new(alloc),
+        }
+    }
+
+    /// Whether there is room for an instruction, and for the `halt` or `ret` of one byte after it.
+    pub fn has_room_for(&self, instruction: &Instr<'_>) -> bool {
+        instruction.size() < MOST_CODE.saturating_sub(self.bytes.len())
+    }
+
+    /// Adds an instruction that is for a line of the sheet.
+    pub fn add(
+        &mut self,
+        alloc: Global,
+        instruction: &Instr<'_>,
+        line: usize,
+    ) -> Result<(), AllocError>
+        requires { IsInRange (meaning instruction.now) }
+    {
+        let bytes = encode(alloc, instruction)?;
+        let position = self.bytes.len();
+        self.purposes.push(Purpose { position, line })?;
+        self.bytes.extend_from_slice(&bytes)?;
+        Ok(())
+    }
+
+    /// The bytes.
+    pub fn as_bytes(&self) -> &[u8] {
+        &self.bytes
+    }
+
+    /// How many instructions there are.
+    pub fn count(&self) -> i32 {
+        i32::try_from(self.purposes.len()).unwrap_or(i32::MAX)
+    }
+
+    /// The line of the sheet that the instruction at a position is for.
+    pub fn line_at(&self, position: u16) -> usize {
+        let mut line = 1;
+        for purpose in &self.purposes {
+            if purpose.position > usize::from(position) {
+                break;
+            }
+            line = purpose.line;
+        }
+        line
+    }
+}
+
+// A plan that is drafted, and not judged yet.
+
+/// The procedures of a drafted plan, main first. Each instruction is one step of the plan's run.
+#[derive(Drop)]
+pub struct DraftedPlan {
+    pub procedures: Vec<DraftedProcedure>,
+}
+
+/// A procedure of a drafted plan.
+#[derive(Drop)]
+pub struct DraftedProcedure {
+    /// What holds where it begins.
+    pub start: Situation,
+    pub code: DraftedCode,
+    /// What holds where it returns, which main does not.
+    pub end: Option<Situation>,
+}
+
+impl DraftedPlan {
+    /// The plan, of version 1.
+    pub fn plan(&self, alloc: Global, assembly: &Assembly) -> Result<Plan, AllocError> {
+        let mut procs = Vec::new(alloc);
+        for procedure in &self.procedures {
+            procs.push(procedure.procedure(alloc, self.steps_of(procedure))?)?;
+        }
+        Ok(Plan {
+            version: 1,
+            name: Vec::from_slice(alloc, assembly.name().as_bytes())?,
+            pieces: assembly.piece_count(),
+            budget: self.steps().unsigned_abs(),
+            procs,
+        })
+    }
+
+    /// How many steps a run makes.
+    fn steps(&self) -> i32 {
+        let mut steps: i32 = 0;
+        for procedure in &self.procedures {
+            steps = steps.saturating_add(procedure.code.count());
+        }
+        steps
+    }
+
+    /// How many steps a run makes from where it comes into a procedure to where it comes out again.
+    fn steps_of(&self, procedure: &DraftedProcedure) -> i32 {
+        match procedure.end {
+            Some(_) => procedure.code.count(),
+            None => self.steps(),
+        }
+    }
+
+    /// The line of the sheet that an instruction is for.
+    pub fn line_at(&self, procedure: u8, position: u16) -> usize {
+        match self.procedures.get(usize::from(procedure)) {
+            Some(procedure) => procedure.code.line_at(position),
+            None => 1,
+        }
+    }
+}
+
+impl DraftedProcedure {
+    /// The procedure, in which a run makes this many steps: one label, where the code begins.
+    fn procedure(&self, alloc: Global, steps: i32) -> Result<Procedure, AllocError> {
+        let mut labels = Vec::new(alloc);
+        labels.push((0, self.start.frame(alloc, steps)?))?;
+        let exit = match &self.end {
+            Some(end) => Some(end.exit_frame(alloc)?),
+            None => None,
+        };
+        Ok(Procedure {
+            params: 0,
+            results: 0,
+            exit,
+            labels,
+            code: Vec::from_slice(alloc, self.code.as_bytes())?,
+        })
+    }
 }

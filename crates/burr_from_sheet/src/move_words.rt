@@ -2,14 +2,14 @@
 
 ghost use Rattle.std.specs.Prelude.{◌<◌, IfSome};
 
-use crate::line_fault::LineFault;
+use crate::lines::LineFault;
 use burr_assembly::Assembly;
 use burr_code::is_in_set;
 use burr_code::limits::{MOST_BUDGET, TRAYS};
 use burr_text::{integer, is_number};
 use burr_voxels::Direction;
 
-/// The words of a line that has as many as a move line, of which the first is a number.
+/// The words of a line that has as many words as a move line; the first is a number.
 #[derive(Clone, Copy)]
 pub struct MoveWords<'a> {
     number: &'a str,

@@ -62,7 +62,7 @@ impl<'a> Line<'a> {
         before_blank(self.bytes).0
     }
 
-    /// The second word; nothing where there is none.
+    /// The second word; nothing where there is no second word.
     pub fn operand(&self) -> &'a [u8] {
         before_blank(before_blank(self.bytes).1).0
     }
@@ -125,7 +125,7 @@ impl<'a, 'c> PlanLines<'a, 'c> {
         &self.parts
     }
 
-    /// The line of a number, counted from 1; an empty one where there is none.
+    /// The line of a number, counted from 1; an empty one where there is no such line.
     pub fn line(&self, number: usize) -> Line<'a> {
         let bytes = self.lines.get(number.saturating_sub(1));
         Line {
@@ -134,14 +134,14 @@ impl<'a, 'c> PlanLines<'a, 'c> {
         }
     }
 
-    /// The line that says this; none where there is none.
+    /// The line that says this; None where no line says it.
     pub fn line_of(&self, item: PlanItem) -> Option<Line<'a>> {
         let wanted = self.part_of(item)?;
         let (_, number) = self.parts.iter().find(|(part, _)| *part == wanted)?;
         Some(self.line(*number))
     }
 
-    /// The part of the plan's text that says this; none where there is none.
+    /// The part of the plan's text that says this; None where no part says it.
     fn part_of(&self, item: PlanItem) -> Option<PlanPart> {
         Some(match item {
             PlanItem::Plan => PlanPart::Plan,

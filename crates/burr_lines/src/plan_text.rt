@@ -69,7 +69,8 @@ impl<'a, 'c> PlanText<'a, 'c> {
         Some(procedure.frame(label))
     }
 
-    /// The last label of a procedure at a place of its code or before it; none where there is none.
+    /// The last label of a procedure at a place of its code or before it; None where there is no
+    /// such label.
     pub fn label_before(&self, procedure: usize, pc: usize) -> Option<usize> {
         let mut last = None;
         for label in 0..MOST_LABELS {
@@ -81,7 +82,7 @@ impl<'a, 'c> PlanText<'a, 'c> {
         last
     }
 
-    /// The label of a procedure at a place of its code; none where there is none.
+    /// The label of a procedure at a place of its code; None where no label stands there.
     pub fn label_at(&self, procedure: usize, pc: usize) -> Option<usize> {
         let label = self.label_before(procedure, pc)?;
         if self.position(procedure, label)? == pc {

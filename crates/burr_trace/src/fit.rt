@@ -11,8 +11,8 @@ const UNKNOWNS: usize = SLOTS + 1;
 /// Numbers of slots.
 pub type SlotList = ArrayVec<usize, SLOTS>;
 
-/// The lists of slots of which a form may be: first those with the fewest slots beside some that are had
-/// anyway, and of these the shortest.
+/// The lists of slots that a form may use: first those with the fewest slots beside the ones that
+/// are had anyway, and of these the shortest.
 pub fn slot_choices(
     alloc: Global,
     had: &SlotList,
@@ -60,8 +60,8 @@ pub enum Fit {
 }
 
 impl Fit {
-    /// The fit of a number at these points, by a form of the first of these lists of slots of which there
-    /// is one.
+    /// The fit of a number at these points: the form over the first of these lists of slots over
+    /// which there is a form, else a range.
     pub fn of(points: &[Point], choices: &[SlotList]) -> Fit {
         for slots in choices {
             if let Some(form) = FittedForm::through(points, slots) {
@@ -125,8 +125,8 @@ impl FittedForm {
         form
     }
 
-    /// The form over these slots that gives the number at each point; none where there is none, or its
-    /// factors are not whole.
+    /// The form over these slots that gives the number at each point; None where there is no such
+    /// form, or its factors are not whole.
     fn through(points: &[Point], slots: &SlotList) -> Option<FittedForm> {
         let mut equations = Equations::new();
         for point in points {

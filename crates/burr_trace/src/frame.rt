@@ -335,7 +335,7 @@ impl Place {
     }
 }
 
-/// The visits of a place, and the slots of which forms are made.
+/// The visits of a place, and the slots that forms are made of.
 #[derive(Clone, Copy)]
 struct Fitting<'x> {
     alloc: Global,

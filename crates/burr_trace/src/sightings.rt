@@ -129,7 +129,7 @@ impl Sightings {
     }
 }
 
-/// As many places of which nothing was seen.
+/// This many places at which nothing was seen.
 fn nothing_at(alloc: Global, count: usize) -> Result<Vec<Seen>, AllocError> {
     let mut places = Vec::new(alloc);
     for _ in 0..count {

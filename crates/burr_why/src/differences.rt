@@ -1,12 +1,15 @@
 //! What a frame says, and what holds where something else does.
 
+ghost use Rattle.burr_forms.specs.Rules.Forms.{AllNear};
+
 use crate::group::{Group, Whereabouts};
 use crate::offset::Offset;
-use crate::point_state::{PointState, value};
+use crate::point_state::PointState;
 use burr_assembly::Assembly;
 use burr_code::Placement;
 use burr_code::limits::{MOST_OPERANDS, MOST_PIECES, SLOTS};
 use burr_container::{ExitRef, FrameRef};
+use burr_forms::Point;
 use burr_lines::{FramePart, piece_name};
 use std::alloc::{AllocError, Global};
 use std::fmt;
@@ -171,7 +174,7 @@ impl<'a> Differences<'a> {
         }
     }
 
-    /// The slots that are live in a frame, and of which nothing is known.
+    /// The slots that are live in a frame, while nothing is known of them.
     fn add_unknown_slots(&mut self, state: &PointState, frame: &FrameRef<'_>) {
         for v in 0..SLOTS as u8 {
             if frame.slot(v).is_some() && state.slots[usize::from(v)].is_none() {
@@ -190,12 +193,17 @@ impl<'a> Differences<'a> {
     }
 
     /// The ranges of results, whose symbols come after those of the parameters.
-    fn compare_results(&mut self, exit: &ExitRef<'_>, symbols: &[i64]) {
+    fn compare_results(&mut self, exit: &ExitRef<'_>, symbols: &Point) {
         let parameters = usize::from(exit.parameters());
         for n in 0..exit.result_count() {
             if let Some(is) = symbols.get(parameters + usize::from(n)) {
                 let subject = format_args!("result {n}");
-                self.compare_range(FramePart::Result(n), subject, *is, exit.result(n));
+                self.compare_range(
+                    FramePart::Result(n),
+                    subject,
+                    i64::from(*is),
+                    exit.result(n),
+                );
             }
         }
     }
@@ -218,14 +226,16 @@ impl<'a> Differences<'a> {
     fn compare_guards(&mut self, state: &PointState, frame: &FrameRef<'_>) {
         let symbols = state.live_values(frame);
         for n in 0..frame.guard_count() {
-            self.compare_guard(n as u8, value(&frame.guard(n), &symbols));
+            self.compare_guard(n as u8, frame.guard(n).value_at(&symbols));
         }
     }
 
     /// The guards of an exit frame.
-    fn compare_exit_guards(&mut self, exit: &ExitRef<'_>, symbols: &[i64]) {
+    fn compare_exit_guards(&mut self, exit: &ExitRef<'_>, symbols: &Point)
+        requires near { AllNear symbols.now.items }
+    {
         for n in 0..exit.guard_count() {
-            self.compare_guard(n, value(&exit.guard(n), symbols));
+            self.compare_guard(n, exit.guard(n).value_at(symbols));
         }
     }
 

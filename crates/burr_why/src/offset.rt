@@ -1,11 +1,15 @@
 //! How far from home pieces lie.
 
-use crate::point_state::value;
+ghost use Rattle.std.specs.Prelude.{◌≡◌, ◌≤◌, length};
+ghost use Rattle.burr_forms.specs.Rules.Forms.{AllNear, IsSmallForm};
+ghost use Rattle.burr_frames.specs.Rules.States.{cell_at};
+ghost use Rattle.burr_why.specs.Numbers.{cell_of};
+
 use arrayvec::ArrayVec;
 use burr_code::Placement;
 use burr_code::limits::MOST_PIECES;
-use burr_container::ExitRef;
-use burr_forms::Form;
+use burr_container::{ExitRef, FormOffset};
+use burr_forms::Point;
 use burr_voxels::Direction;
 use std::fmt;
 
@@ -19,12 +23,18 @@ pub struct Offset {
 
 impl Offset {
     /// The offset that forms give for these values of their symbols.
-    pub fn of(forms: [&Form; 3], symbols: &[i64]) -> Offset {
-        let [x, y, z] = forms;
+    pub fn of(forms: &FormOffset, symbols: &[i32]) -> Offset
+        requires x { IsSmallForm forms.now.x }
+        requires y { IsSmallForm forms.now.y }
+        requires z { IsSmallForm forms.now.z }
+        requires near { AllNear symbols.now }
+        requires few { length symbols.now ≤ 8 }
+        ensures { cell_of result ≡ cell_at symbols.now forms.now }
+    {
         Offset {
-            x: value(x, symbols),
-            y: value(y, symbols),
-            z: value(z, symbols),
+            x: forms.x.value_at(symbols),
+            y: forms.y.value_at(symbols),
+            z: forms.z.value_at(symbols),
         }
     }
 
@@ -56,17 +66,16 @@ impl fmt::Display for Offset {
 }
 
 /// Where an exit frame has the pieces, for these values of its symbols.
-pub fn exit_places(
-    exit: &ExitRef<'_>,
-    symbols: &[i64],
-) -> ArrayVec<Placement<Offset>, MOST_PIECES> {
+pub fn exit_places(exit: &ExitRef<'_>, symbols: &Point) -> ArrayVec<Placement<Offset>, MOST_PIECES>
+    requires near { AllNear symbols.now.items }
+{
     let mut places = ArrayVec::new();
     for piece in 0..exit.piece_count() {
         let place = match exit.place(piece) {
             None => Placement::Apart,
             Some((tray, x, y, z)) => Placement::On {
                 tray,
-                position: Offset::of([&x, &y, &z], symbols),
+                position: Offset::of(&FormOffset { x, y, z }, symbols),
             },
         };
         let _ = places.try_push(place);

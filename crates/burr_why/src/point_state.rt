@@ -1,11 +1,19 @@
 //! What holds at a place of the code, at one point.
 
+ghost use Rattle.std.specs.Prelude.{◌≡◌, ◌≤◌, ◌<◌, ◌∷◌, [], ℕ, length, map, get_or, option_map, None};
+ghost use Rattle.burr_code.specs.declared.limits.TheConstants.{MOST_OPERANDS, MOST_PIECES};
+ghost use Rattle.burr_code.specs.Places.{at_position};
+ghost use Rattle.burr_forms.specs.Rules.Forms.{AllNear, AllSmallForms, IsNear, value, values};
+ghost use Rattle.burr_frames.specs.Rules.SpaceRules.{AllSmallPlaces};
+ghost use Rattle.burr_frames.specs.Rules.States.{cell_at, places_at};
+ghost use Rattle.burr_why.specs.Numbers.{AreNumbersAt, cell_of};
+
 use crate::offset::{Offset, exit_places};
 use arrayvec::ArrayVec;
 use burr_code::limits::{MOST_OPERANDS, MOST_PIECES, SLOTS};
 use burr_code::{Placement, is_in_set};
 use burr_container::{ExitRef, FormOffset, FrameRef};
-use burr_forms::Form;
+use burr_forms::{Form, Point};
 use burr_frames::State;
 use burr_voxels::Direction;
 
@@ -16,7 +24,7 @@ pub const MOST_SYMBOLS: usize = 8;
 #[derive(Drop)]
 pub struct PointState {
     /// The numbers that were open, in the order of the point.
-    pub symbols: ArrayVec<i64, MOST_SYMBOLS>,
+    pub symbols: Point,
     pub slots: [Option<i64>; SLOTS],
     /// The top last.
     pub operands: ArrayVec<i64, MOST_OPERANDS>,
@@ -41,34 +49,31 @@ impl PointState {
     }
 
     /// A state at a point; a number that the point does not have is the lowest of its range.
-    pub fn at(state: &State, point: &[i32]) -> PointState {
-        let mut symbols = ArrayVec::new();
+    pub fn at(state: &State, point: &[i32]) -> PointState
+        ensures { length point.now ≡ length state.now.ranges → AllNear point.now
+            → AreNumbersAt state.now point.now result }
+    {
+        let mut symbols = Point::new();
         for (n, range) in state.ranges().iter().enumerate() {
-            let number = point.get(n).copied().unwrap_or(range.0);
-            let _ = symbols.try_push(i64::from(number));
+            symbols.push(number_at(point, n, range.0));
         }
         PointState::of(state, symbols)
     }
 
     /// A state, for these values of its symbols.
-    pub fn of(state: &State, symbols: ArrayVec<i64, MOST_SYMBOLS>) -> PointState {
-        let mut numbers = PointState::new();
-        for v in 0..SLOTS as u8 {
-            if let Some(form) = state.slot(v) {
-                numbers.slots[usize::from(v)] = Some(value(&form, &symbols));
-            }
+    pub fn of(state: &State, symbols: Point) -> PointState
+        requires near { AllNear symbols.items }
+        ensures { AreNumbersAt state.now symbols.items result }
+    {
+        PointState {
+            slots: slots_at(state, &symbols),
+            operands: operands_at(state.operands(), &symbols),
+            places: places_of(state.places(), &symbols),
+            tray: state.tray(),
+            grip: state.grip(),
+            cost: state.cost().value_at(&symbols),
+            symbols,
         }
-        for form in state.operands() {
-            let _ = numbers.operands.try_push(value(form, &symbols));
-        }
-        for place in state.places() {
-            let _ = numbers.places.try_push(placed(place, &symbols));
-        }
-        numbers.tray = state.tray();
-        numbers.grip = state.grip();
-        numbers.cost = value(&state.cost(), &symbols);
-        numbers.symbols = symbols;
-        numbers
     }
 
     /// What a frame says, for what is in the slots that are live in it; 0 where that is not known.
@@ -77,7 +82,9 @@ impl PointState {
     }
 
     /// What an exit frame says, for these values of its symbols.
-    pub fn at_exit(exit: &ExitRef<'_>, symbols: &[i64]) -> PointState {
+    pub fn at_exit(exit: &ExitRef<'_>, symbols: &Point) -> PointState
+        requires near { AllNear symbols.now.items }
+    {
         let mut state = PointState::new();
         state.tray = exit.tray();
         state.grip = exit.grip();
@@ -129,11 +136,13 @@ impl PointState {
     }
 
     /// What is in the slots that are live in a frame; 0 where it is not known.
-    pub fn live_values(&self, frame: &FrameRef<'_>) -> ArrayVec<i64, MOST_SYMBOLS> {
-        let mut values = ArrayVec::new();
+    pub fn live_values(&self, frame: &FrameRef<'_>) -> Point
+        ensures near { AllNear result.items }
+    {
+        let mut values = Point::new();
         for v in 0..SLOTS as u8 {
             if frame.slot(v).is_some() {
-                let _ = values.try_push(self.slots[usize::from(v)].unwrap_or(0));
+                let _ = values.try_push(near(self.slots[usize::from(v)].unwrap_or(0)));
             }
         }
         values
@@ -141,8 +150,10 @@ impl PointState {
 
     /// The values of an exit frame's symbols: the parameters, 0 where one is not known, and the topmost
     /// operands as results.
-    pub fn exit_values(&self, exit: &ExitRef<'_>) -> ArrayVec<i64, MOST_SYMBOLS> {
-        let mut values = ArrayVec::new();
+    pub fn exit_values(&self, exit: &ExitRef<'_>) -> Point
+        ensures near { AllNear result.items }
+    {
+        let mut values: ArrayVec<i64, MOST_SYMBOLS> = ArrayVec::new();
         for v in 0..usize::from(exit.parameters()) {
             let parameter = self.slots.get(v).copied().flatten();
             let _ = values.try_push(parameter.unwrap_or(0));
@@ -150,7 +161,7 @@ impl PointState {
         for result in &self.arguments(exit.result_count()) {
             let _ = values.try_push(*result);
         }
-        values
+        point_of(&values)
     }
 
     /// The arguments of a procedure with this many parameters: the topmost operands.
@@ -165,22 +176,96 @@ impl PointState {
     }
 }
 
-/// What a form is where its symbols have these values.
-pub fn value(form: &Form, symbols: &[i64]) -> i64 {
-    let mut sum = form.constant;
-    for (coefficient, symbol) in form.coefs.iter().zip(symbols) {
-        sum = sum.saturating_add(coefficient.saturating_mul(*symbol));
+/// The numbers that are known in the slots of a state.
+fn slots_at(state: &State, symbols: &Point) -> [Option<i64>; SLOTS]
+    requires near { AllNear symbols.now.items }
+    ensures { (v : ℕ) → v < 8
+        → get_or result v None ≡ option_map (value symbols.now.items) (get_or state.now.slots v None) }
+{
+    let mut slots = [None; SLOTS];
+    for v in 0..SLOTS as u8 {
+        slots[usize::from(v)] = slot_at(state, v, symbols);
     }
-    sum
+    slots
 }
 
-/// The place that forms give for these values of their symbols.
-fn placed(place: &Placement<FormOffset>, symbols: &[i64]) -> Placement<Offset> {
+/// The number that is known in a slot.
+fn slot_at(state: &State, v: u8, symbols: &Point) -> Option<i64>
+    requires near { AllNear symbols.now.items }
+    ensures { option_map (value symbols.now.items) (get_or state.now.slots v None) ≡ result }
+{
+    Some(state.slot(v)?.value_at(symbols))
+}
+
+/// What forms come to.
+fn operands_at(forms: &[Form], symbols: &Point) -> ArrayVec<i64, MOST_OPERANDS>
+    requires few { length forms.now ≤ MOST_OPERANDS }
+    requires small { AllSmallForms forms.now }
+    requires near { AllNear symbols.now.items }
+    ensures { result.items ≡ values symbols.now.items forms.now }
+{
+    let mut numbers = ArrayVec::new();
+    for form in forms {
+        numbers.push(form.value_at(symbols));
+    }
+    numbers
+}
+
+/// The places that forms give.
+fn places_of(
+    places: &[Placement<FormOffset>],
+    symbols: &Point,
+) -> ArrayVec<Placement<Offset>, MOST_PIECES>
+    requires few { length places.now ≤ MOST_PIECES }
+    requires small { AllSmallPlaces places.now }
+    requires near { AllNear symbols.now.items }
+    ensures { map (at_position cell_of) result.items ≡ places_at symbols.now.items places.now }
+{
+    let mut placed = ArrayVec::new();
+    for place in places {
+        placed.push(place_at(place, symbols));
+    }
+    placed
+}
+
+/// The place that forms give.
+fn place_at(place: &Placement<FormOffset>, symbols: &Point) -> Placement<Offset>
+    requires small { AllSmallPlaces (place.now ∷ []) }
+    requires near { AllNear symbols.now.items }
+    ensures { at_position cell_of result ≡ at_position (cell_at symbols.now.items) place.now }
+{
     match place {
         Placement::Apart => Placement::Apart,
         Placement::On { tray, position } => Placement::On {
             tray: *tray,
-            position: Offset::of([&position.x, &position.y, &position.z], symbols),
+            position: Offset::of(position, symbols),
         },
     }
+}
+
+/// A number of a point; where the point does not have it, the one that stands for it.
+fn number_at(point: &[i32], n: usize, missing: i32) -> i32
+    ensures near { IsNear result }
+    ensures same { n < length point.now → AllNear point.now → result ≡ get_or point.now n missing }
+{
+    near(i64::from(point.get(n).copied().unwrap_or(missing)))
+}
+
+/// The number within ±32,767 that is nearest: all numbers of a run are such.
+fn near(number: i64) -> i32
+    ensures near { IsNear result }
+    ensures same { IsNear number → result ≡ number }
+{
+    number.clamp(-32_767, 32_767) as i32
+}
+
+/// These numbers as values of symbols.
+pub fn point_of(numbers: &[i64]) -> Point
+    ensures near { AllNear result.items }
+{
+    let mut point = Point::new();
+    for number in numbers {
+        let _ = point.try_push(near(*number));
+    }
+    point
 }

@@ -4,7 +4,7 @@ use burr_lines::Line;
 use burr_text::integer;
 use std::fmt;
 
-/// The lines before one, all of which are right, as far as they bear on what belongs next.
+/// What the lines before a line have that bears on what belongs next. All those lines are right.
 #[derive(Clone, Copy, Drop)]
 pub struct Before<'a> {
     /// The first word of the last of them that is not skipped.
@@ -116,7 +116,7 @@ impl<'a> Before<'a> {
     }
 }
 
-/// The number in a word of a line, counted from 0; 0 where there is none.
+/// The number in the word at a place of a line, counted from 0; 0 where there is no such number.
 fn number_in(line: Option<Line<'_>>, place: usize) -> usize {
     let Some(line) = line else {
         return 0;

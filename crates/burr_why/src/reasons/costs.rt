@@ -1,7 +1,7 @@
 //! Costs, and what is too much to be judged.
 
 use super::{Reasons, Site};
-use crate::point_state::{MOST_SYMBOLS, value};
+use crate::point_state::{MOST_SYMBOLS, point_of};
 use burr_code::Instr;
 use burr_code::limits::{MOST_STATE_GUARDS, SLOTS};
 use burr_container::FrameRef;
@@ -47,7 +47,10 @@ impl Reasons<'_, '_> {
         let callee = usize::from(*callee);
         let arguments = site.before.arguments(self.plan.parameters(callee));
         match self.plan.frame(callee, 0) {
-            Some(entry) => value(&entry.cost(), &arguments).saturating_add(1),
+            Some(entry) => entry
+                .cost()
+                .value_at(&point_of(&arguments))
+                .saturating_add(1),
             None => 1,
         }
     }

@@ -8,6 +8,7 @@ use crate::point_state::PointState;
 use burr_code::limits::{MOST_PIECES, SLOTS};
 use burr_code::{Placement, count_in_tray, is_in_set};
 use burr_container::FrameRef;
+use burr_forms::Point;
 use burr_frames::State;
 use burr_lines::{FramePart, PlanItem, piece_name};
 use burr_verify::Refusal;
@@ -31,7 +32,7 @@ impl Reasons<'_, '_> {
     /// Says what is wrong with an exit frame.
     fn add_malformed_exit(&mut self, procedure: usize) {
         if let Some(exit) = self.plan.exit(procedure) {
-            let state = PointState::at_exit(&exit, &[]);
+            let state = PointState::at_exit(&exit, &Point::new());
             self.add_malformed_places(PlanFrame::Exit { procedure }, &state);
         }
     }
@@ -79,7 +80,7 @@ impl Reasons<'_, '_> {
         }
     }
 
-    /// Names the line of a grip, of which a piece is not in the current tray.
+    /// Names the line of a grip that holds a piece outside the current tray.
     fn add_far_grip(&mut self, frame: PlanFrame, piece: u8, state: &PointState) {
         let name = piece_name(self.plan.assembly, piece);
         let place = Whereabouts(state.place(piece).tray());

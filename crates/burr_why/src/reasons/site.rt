@@ -162,7 +162,7 @@ impl Reasons<'_, '_> {
     }
 
     /// Adds an open number after a separator, with what it belongs to.
-    fn add_symbol(&mut self, separator: &str, site: &Site, origin: Origin, value: i64) {
+    fn add_symbol(&mut self, separator: &str, site: &Site, origin: Origin, value: i32) {
         let origin = SymbolOrigin {
             origin,
             line: self.line_number(site, origin),

@@ -1,0 +1,28 @@
+-- Each part is that of the state at the point.
+use Rattle.std.proofs.Common.{rules, List, ap, ◌∙◌}
+use Rattle.std.specs.Prelude.{reverse, FitsSigned}
+use Rattle.std.specs.Int.{w64}
+use Rattle.std.proofs.lemmas.Int.{to_z-of_z}
+use Rattle.burr_code.specs.declared.placement.Placement.{Placement}
+use Rattle.burr_container.specs.Rules.Plans.{FormCell}
+use Rattle.burr_forms.specs.Rules.Forms.{Form, Point, value, values}
+use Rattle.burr_frames.specs.Rules.States.{places_at}
+use Rattle.burr_why.proofs.PointNumbers.{reverse_values}
+use Rattle.burr_why.proofs.point_state.PointState.of.Goals as goal
+
+pub returns : goal.returns
+returns c =
+    let point = c.args.symbols.items in
+    let fits : FitsSigned w64 c.value_at.result = search rules in
+    record {
+      slots = c.slots_at.ensures;
+      operands =
+          ap reverse c.operands_at.ensures ∙ reverse_values point c.operands.result.now
+          ∙ ap (λ (forms : List Form). values point forms) c.operands.ensures.operands;
+      places = c.places_of.ensures ∙ ap (λ (places : List (Placement FormCell)). places_at point places) c.places.ensures.places;
+      tray = c.tray.ensures;
+      grip = c.grip.ensures;
+      cost =
+          to_z-of_z w64 c.value_at.result fits ∙ c.value_at.ensures
+          ∙ ap (λ (p : Point). value p c.cost.result) c.deref.ensures.0 ∙ ap (λ (f : Form). value point f) c.cost.ensures.cost;
+    }
