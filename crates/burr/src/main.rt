@@ -1,4 +1,13 @@
 //! burr takes interlocking puzzles apart by programs: the program, its words and its streams.
+//!
+//! # Promised
+//! - Nothing is promised beyond safety.
+//!
+//! # Tested only
+//! - `main` hands the words of the command line and the streams of the operating system to
+//!   `run_words` of burr_program, and ends with the status that comes of it. The run that the gate
+//!   makes of the program as two compilers build it tests that, and so do the scripts that call it;
+//!   so no must-fail edit stands in it.
 #![tactic(auto)]
 
 use burr_io::{Reading, WholeLines, Writing};

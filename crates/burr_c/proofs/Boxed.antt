@@ -6,7 +6,7 @@ use denote.Param.{arg, layout}
 use denote.Param.Laws.{Laws, arg_laws}
 use denote.RattleType.{RattleType}
 use Rattle.burr_c.specs.Boxed.{C}
-pub use Rattle.burr_c.proofs.kept_run.KeptRun.TheLaws.{the_row_laws as C-laws}
+pub use Rattle.burr_c.proofs.handle.KeptRun.TheLaws.{the_row_laws as C-laws}
 
 abbrev pub boxed : RattleType
 boxed = arg (raw (layout C)) no C

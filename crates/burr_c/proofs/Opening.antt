@@ -4,7 +4,7 @@ use Rattle.std.specs.Prelude.{Option}
 use Rattle.burr_verify.specs.Rules.Accepting.{Judged}
 use Rattle.burr_judge.specs.declared.status.Status.{Status}
 use Rattle.burr_judge.specs.OpenEnds.{Beginnings, Opens}
-use Rattle.burr_c.specs.declared.kept_run.KeptRun.{KeptRun}
+use Rattle.burr_c.specs.declared.handle.KeptRun.{KeptRun}
 
 abbrev pub wrapped : {Run : Type 0} → (Run → KeptRun) → Option Run → Option KeptRun
 wrapped wrap None = None

@@ -1,2 +1,2 @@
 -- What a handle keeps, as the logic has it.
-pub use Rattle.burr_c.specs.contracts.kept_run.KeptRun.{the_row as C}
+pub use Rattle.burr_c.specs.contracts.handle.KeptRun.{the_row as C}

@@ -8,8 +8,8 @@ use Rattle.burr_step.specs.declared.drive.Move.{Move}
 use Rattle.burr_step.specs.Rules.Drive.{GoesTo}
 use Rattle.burr_step.specs.Views.Driving.{Driving, IsReady, MovesOn, Goes, Arrives, Answers, led_of}
 use Rattle.burr_judge.specs.OpenEnds.{Beginnings, IsOpened}
-use Rattle.burr_c.specs.declared.kept_run.KeptRun.{KeptRun}
-use Rattle.burr_c.specs.declared.kept_run.KeptRun.TheVariants.{Drive, Stepper}
+use Rattle.burr_c.specs.declared.handle.KeptRun.{KeptRun}
+use Rattle.burr_c.specs.declared.handle.KeptRun.TheVariants.{Drive, Stepper}
 use Rattle.burr_c.specs.declared.told.Came.{Came}
 use Rattle.burr_c.specs.declared.told.Came.TheVariants.{Done, Refused, Waiting, Ended, Closed}
 use Rattle.burr_c.specs.declared.told.ToldMove.{ToldMove}
@@ -92,14 +92,14 @@ abbrev pub IsClosed : Option KeptRun → Option KeptRun → Told → Type 0
 IsClosed old new t =
     (new ≡ old) × (t.move ≡ t.old_move) × (t.halt ≡ t.old_halt) × (t.code ≡ code_of Closed)
 
--- the next move is told, or why there is none
+-- the next move is told, or why there is no next move
 abbrev pub TellsNext : Result Move Halt → Told → Type 0
 TellsNext (Ok move) t =
     (t.move ≡ told_move move) × (t.halt ≡ t.old_halt) × (t.code ≡ code_of Done)
 TellsNext (Err halt) t =
     (t.move ≡ t.old_move) × (t.halt ≡ told_halt halt) × (t.code ≡ code_of (halted halt))
 
--- the drive that is open makes its next move and tells it, or tells why there is none
+-- the drive that is open makes its next move and tells it, or tells why it has no next move
 abbrev pub NextComes : Option KeptRun → Option KeptRun → Told → Type 0
 NextComes None new t = IsClosed None new t
 NextComes (Some (Stepper s)) new t = IsClosed (Some (Stepper s)) new t

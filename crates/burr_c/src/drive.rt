@@ -8,8 +8,7 @@ ghost use Rattle.burr_c.specs.declared.printed.CallFault.TheVariants.{TooLong};
 ghost use Rattle.burr_c.specs.Calls.{IsEitherTooLong, Returns, call};
 ghost use Rattle.burr_c.specs.DriveCalls.{AnswerComes, DriveBegins, GoComes, NextComes, OpensAs, told};
 
-use crate::handle::Handle;
-use crate::kept_run::KeptRun;
+use crate::handle::{Handle, KeptRun};
 use crate::printed::{CallFault, Printed, give, print_ready};
 use crate::told::{Came, ToldHalt, ToldMove};
 use std::alloc::Global;
@@ -63,8 +62,8 @@ fn open(
     Ok(printed)
 }
 
-/// Makes the next move, and tells it whole: 0; or tells why there is none, and changes nothing: 5 where
-/// the run waits for an answer, 6 where it has ended. 7 where no drive is open.
+/// Makes the next move, and tells it whole: 0. Or tells why there is no next move, and changes
+/// nothing: 5 where the run waits for an answer, 6 where it has ended. 7 where no drive is open.
 #[unsafe(no_mangle)]
 pub extern "C" fn burr_drive_next(
     alloc: Global,

@@ -1,12 +1,13 @@
 //! What a program in C keeps of a run.
 
 ghost use Rattle.std.specs.Prelude.{◌≡◌, Option, None, Some, MatchOption};
-ghost use Rattle.burr_c.specs.declared.kept_run.KeptRun.{KeptRun as KeptRunOf};
+ghost use Rattle.burr_c.specs.declared.handle.KeptRun.{KeptRun as KeptRunOf};
 ghost use Rattle.burr_c.specs.Boxed.{C};
 ghost use Rattle.burr_c.specs.Keeps.{keeps};
 
-use crate::kept_run::KeptRun;
 use crate::loose::Loose;
+use burr_judge::KeptStepper;
+use burr_step::KeptDrive;
 use std::alloc::Global;
 use std::marker::Model;
 use std::mem::replace;
@@ -74,4 +75,13 @@ impl Handle {
     {
         let _closed = replace(self, Handle::of_loose(Loose::of(run))).into_box(alloc);
     }
+}
+
+/// A run that a program in C keeps.
+#[derive(Drop)]
+pub enum KeptRun {
+    /// It is led move by move.
+    Drive(KeptDrive),
+    /// It is gone through step by step.
+    Stepper(KeptStepper),
 }

@@ -8,8 +8,7 @@ ghost use Rattle.burr_c.specs.Calls.{IsEitherTooLong, Returns, call};
 ghost use Rattle.burr_c.specs.DriveCalls.{OpensAs};
 ghost use Rattle.burr_c.specs.StepCalls.{CommandComes, StepperBegins};
 
-use crate::handle::Handle;
-use crate::kept_run::KeptRun;
+use crate::handle::{Handle, KeptRun};
 use crate::printed::{CallFault, Printed, give, print_answer, print_opening};
 use crate::told::Came;
 use std::alloc::Global;

@@ -12,6 +12,7 @@ pub enum Kind {
     List,
     Upgrade,
     Check,
+    Judge,
     Run,
     Try,
     Step,
@@ -115,6 +116,23 @@ fails is named, as `refused V28 proc 0 pc 0`, with status 1.
 
 Example: ./burr check examples/cup.assembly /tmp/cup.bpln",
         arguments: &[ASSEMBLY, PLAN],
+    },
+    Syntax {
+        kind: Kind::Judge,
+        name: "judge",
+        about: "Says whether plans are accepted, pair by pair",
+        after_help: "\
+Pairs of files are read from standard input, one a line: an assembly text and a
+plan, a container or a plan text, with a tab between them. Each is judged as by
+`asm` and `check`, and answered before the next line is read: by its number, the
+status, and what would be printed, as `1 0 accepted cost 14 budget 14 looks 6`
+or `2 1 refused P2 line 9`. A file that can't be read is `3 3 cannot read`, and
+a line that is no such pair `4 1 refused pair`. No name is printed.
+
+The status is the greatest of those of the lines: 0 where all are accepted.
+
+Example: printf 'examples/cup.assembly\\texamples/cup.plan\\n' | ./burr judge",
+        arguments: &[],
     },
     Syntax {
         kind: Kind::Run,
@@ -266,7 +284,7 @@ Example: ./burr plan examples/cup.assembly moves.sheet /tmp/moves.plan",
         after_help: "\
 LINE is a word or a whole line that burr printed, in any case: A1 to A8, C1 to
 C6, P1 to P5, V1 to V28, S1 to S4, `input`, `answers`, `command`, `sheet`,
-`frame`, a trap by its number or name, or `waiting`, `stopped`, `apart`,
+`frame`, `pair`, a trap by its number or name, or `waiting`, `stopped`, `apart`,
 `levels`, `accepted`, `after` and the lines of moves. docs/FAULTS.md has all of
 them.
 
@@ -297,7 +315,7 @@ pub fn kind_of(name: &str) -> Option<Kind> {
 fn without_commands<'a>(alloc: Global) -> Command<'a> {
     Command::new(alloc, "burr")
         .about(help::ABOUT)
-        .version("0.1.0")
+        .version(help::VERSION)
         .override_usage(help::USAGE)
         .after_help(help::OVERVIEW)
 }

@@ -1,5 +1,8 @@
 //! What help of the program says beyond the lists of commands and options.
 
+/// The version, and the kit that the program is proved and made by, as `rt --version` names it.
+pub const VERSION: &str = "1.0.0 (rattle-kit-13f logic dac8208d650f15bf)";
+
 /// What help says first.
 pub const ABOUT: &str =
     "Checks and runs plans that take burr puzzles apart, and prints move sheets.";

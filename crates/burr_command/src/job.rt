@@ -32,6 +32,8 @@ pub enum Job<'a> {
         assembly: &'a str,
         plan: &'a str,
     },
+    /// Says the same of each pair of files that standard input names.
+    Judge,
     /// Runs a plan, where it is accepted, with the answers of standard input.
     Run {
         assembly: &'a str,
@@ -97,9 +99,9 @@ pub enum Request<'a> {
     Job(Job<'a>),
 }
 
-/// What the words of the command line ask for, of which the first is the program's name and there are
-/// more: a job, or a reply, which is help or the version where they ask for it, else what is wrong
-/// with them. An error is a want of memory.
+/// What the words of the command line ask for: a job, or a reply. The first word is the program's
+/// name, and there are more. A reply is help or the version where the words ask for it, else what
+/// is wrong with them. An error is a want of memory.
 pub fn request_of<'a>(alloc: Global, words: &'a [String]) -> Result<Request<'a>, AllocError> {
     let mut command = command(alloc)?;
     match command.try_get_matches_from_mut(words) {
@@ -152,8 +154,8 @@ fn line_of(alloc: Global, words: &[&str]) -> Result<String, AllocError> {
     Ok(line)
 }
 
-/// The job of a command with its words, of which a line to explain is one; None where one of its
-/// words is missing.
+/// The job of a command with its words, a line to explain among them; None where one of its words
+/// is missing.
 fn job_with<'a>(kind: Kind, words: &ArgMatches<'a>, line: String) -> Option<Job<'a>> {
     let (text, out) = (words.get_str("TEXT"), words.get_str("OUT"));
     let (assembly, plan) = (words.get_str("ASSEMBLY"), words.get_str("PLAN"));
@@ -168,6 +170,7 @@ fn job_with<'a>(kind: Kind, words: &ArgMatches<'a>, line: String) -> Option<Job<
         }),
         Kind::Upgrade => plan.zip(out).map(|(plan, out)| Job::Upgrade { plan, out }),
         Kind::Check => of_plan.map(|(assembly, plan)| Job::Check { assembly, plan }),
+        Kind::Judge => Some(Job::Judge),
         Kind::Run => of_plan.map(|(assembly, plan)| Job::Run { assembly, plan }),
         Kind::Try => of_plan.map(|(assembly, plan)| Job::Try { assembly, plan }),
         Kind::Step => of_plan.map(|(assembly, plan)| Job::Step { assembly, plan }),

@@ -28,7 +28,7 @@ in_more : (key : List ℕ) (words more : List (List ℕ)) → Contains (map lowe
 in_more key words more is =
     subst (λ (keys : List (List ℕ)). Contains keys key) (sym (of_both words more)) (Contains-append_right (map lower_case words) (map lower_case more) key is)
 
--- what is no key of either is none of both
+-- a key that neither of two lists of words has is not in the two together
 in_neither : (key : List ℕ) (words more : List (List ℕ)) → (¬ Contains (map lower_case words) key) → (¬ Contains (map lower_case more) key)
     → ¬ Contains (map lower_case (words ++ more)) key
 in_neither key words more not_first not_more is =
@@ -53,7 +53,7 @@ key_of_subject key (Line word) is = subst (λ (k : List ℕ). Contains (lower_ca
 nothing_in : (key : List ℕ) → ¬ Contains [] key
 nothing_in key (k, inside, is) = absurd (omega (arith, inside))
 
--- a key other than these is none of them
+-- a list of one key does not have another key
 none_of_one : (key one : List ℕ) → one ≢ key → ¬ Contains (one ∷ []) key
 none_of_one key one other is = nothing_in key (Contains-tail one [] key other is)
 
@@ -98,7 +98,7 @@ unasked_in key [] none = nothing_in key
 unasked_in key (e ∷ es) none =
     in_neither key (words_of e.subject) (words_in es) (no_key_of_subject key e.subject (All-head (λ e. ¬ IsAskedBy key e) e es none)) (unasked_in key es (All-tail (λ e. ¬ IsAskedBy key e) e es none))
 
--- the families of which the key asks for none
+-- the key asks for no explanation of this family
 abbrev Unasked : List ℕ → Bor (List Explanation) → Type 0
 Unasked key f = All (λ e. ¬ IsAskedBy key e) f.now
 

@@ -20,7 +20,7 @@ IsDigits word = (word ≢ []) × All (λ b. (48 ≤ b) × (b ≤ 57)) word
 abbrev pub IsLead : List ℕ → Type 0
 IsLead word = (word ≡ codes "refused") ⊎ (word ≡ codes "trap")
 
--- the bytes before the first blank, or all where there is none
+-- the bytes before the first blank, or all where there is no blank
 abbrev pub IsFirstWord : List ℕ → List ℕ → Type 0
 IsFirstWord line word =
     ((rest : List ℕ) × IsCutAt 32 line word rest) ⊎ ((¬ Contains line 32) × (word ≡ line))

@@ -37,8 +37,8 @@ frame_rule_words =
 -- of other lines that are printed
 abbrev pub output_words : List (List ℕ)
 output_words =
-    codes "answers" ∷ codes "sheet" ∷ codes "frame" ∷ codes "waiting" ∷ codes "stopped"
-    ∷ codes "apart" ∷ codes "levels" ∷ codes "accepted" ∷ codes "move" ∷ []
+    codes "answers" ∷ codes "sheet" ∷ codes "frame" ∷ codes "pair" ∷ codes "waiting"
+    ∷ codes "stopped" ∷ codes "apart" ∷ codes "levels" ∷ codes "accepted" ∷ codes "move" ∷ []
 
 -- of lines of the stepper
 abbrev pub stepper_words : List (List ℕ)

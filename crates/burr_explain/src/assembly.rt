@@ -67,8 +67,8 @@ const FAULTS: &[Explanation] = &[
     },
     Explanation {
         subject: Subject::Refusal("A4"),
-        meaning: "The orientation is none of the 24 turns. It says where the shape's x, y and z\n\
-                  axes point, as `+x+y+z` or `-y+x+z`. Mirrors are none of them.",
+        meaning: "The orientation is not one of the 24 turns. It says where the shape's x, y and\n\
+                  z axes point, as `+x+y+z` or `-y+x+z`. Mirrors are not among them.",
         cause: "one sign turned round alone, a mirror; or an axis named twice.",
         remedy: "",
         example: "the x axis alone is turned round

@@ -5,8 +5,8 @@ ghost use Rattle.burr_explain.specs.Known.{output_words};
 
 use crate::explanation::{Explanation, Subject};
 
-/// The refusals of answers, of sheets and of frames that are left out, the closing lines of sheets but traps, their levels and moves, and the
-/// verdict of a plan that is accepted.
+/// The refusals of answers, of sheets, of frames that are left out and of pairs of files; the closing
+/// lines of sheets but traps, their levels and moves; and the verdict of a plan that is accepted.
 pub fn lines() -> &'static [Explanation]
     ensures { words_in result.now ≡ output_words }
 {
@@ -17,7 +17,7 @@ const LINES: &[Explanation] = &[
     Explanation {
         subject: Subject::Refusal("answers"),
         meaning: "A line of the answers that were read from standard input is not an answer: `0`,\n\
-                  or an optional `-` and digits of which the first is not 0, from -2147483648 to\n\
+                  or an optional `-` and digits that do not begin with 0, from -2147483648 to\n\
                   2147483647, and a line feed after it. The first such line is named, counted\n\
                   from 1. Without any bytes there are no answers, and that is no fault.",
         cause: "a last line without its line feed, two answers on one line, an\n\
@@ -59,6 +59,19 @@ const LINES: &[Explanation] = &[
 
     label spare
     auto",
+    },
+    Explanation {
+        subject: Subject::Refusal("pair"),
+        meaning: "A line of the list that `burr judge` reads is not two names of files with a tab\n\
+                  between them. The lines after it are judged all the same.",
+        cause: "blanks in place of the tab, a second tab, a name left out, an empty\n\
+                line, a name that is not UTF-8, or a line of 8,192 bytes or more.",
+        remedy: "write the assembly, a tab and the plan, by\n\
+                 `printf '%s\\t%s\\n'`, say.",
+        example: "the second line names no plan; `2 1 refused pair`
+
+    examples/cup.assembly\texamples/cup.plan
+    examples/duo.assembly",
     },
     Explanation {
         subject: Subject::Line("waiting"),

@@ -64,7 +64,7 @@ const TRAPS: &[Explanation] = &[
         meaning: "`aside` names a tray that has pieces.",
         cause: "the current tray, or one in which pieces still lie together.",
         remedy: "",
-        example: "four cubes in a square, of which C and D go to tray 1 together
+        example: "four cubes in a square; C and D go to tray 1 together
 
     grip 2,3
     aside +y 1

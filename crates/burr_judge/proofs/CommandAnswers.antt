@@ -40,7 +40,7 @@ puts_question sink before after s result steps low high a b asks same puts =
     (subst (λ (n : ℤ). Puts sink before after (after_line steps (question_words (to_z w32 (of_z w32 low)) n)) result) (to_z-of_z w32 high b) puts))
 
 -- no more of a line matters to a stepper than the bytes that are kept
-pub tells_by_front : (s : Stepping) → LinesAreShort → LabelsAreFew (setup_of s.bench) → TellsByFront 65 StepAnswers IsAnswerLine s
+pub tells_by_front : (s : Stepping) → LinesAreShort → LabelsAreFew (setup_of s.bench) → TellsByFront 8192 StepAnswers IsAnswerLine s
 tells_by_front s short few =
     let setup = setup_of s.bench in
     record {

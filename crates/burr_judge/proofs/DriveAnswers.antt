@@ -18,7 +18,7 @@ use Rattle.burr_step.specs.Rules.DriveTexts.{DriveCommand, Next, Answer, GoTo, S
 use Rattle.burr_step.specs.Rules.StepTexts.{refused_line, show_text}
 use Rattle.burr_step.specs.Views.Driving.{Driving, led_of, MovesOn, Answers, Arrives, Goes}
 use Rattle.burr_judge.specs.declared.commands.StepFault.{StepFault}
-use Rattle.burr_judge.specs.declared.drive.line.DriveCommand.{DriveCommand as Command}
+use Rattle.burr_judge.specs.declared.drive.DriveCommand.{DriveCommand as Command}
 use Rattle.burr_judge.specs.Views.CommandLines.{PutsLine}
 use Rattle.burr_judge.specs.Views.Dialogues.{PutsAnswer, FailsInAnswer, TellsByFront}
 use Rattle.burr_judge.specs.Views.DriveLines.{DriveAnswers, AsksNone, command_of, next_text, arrival_text}
@@ -29,26 +29,26 @@ use Rattle.burr_judge.proofs.CommandLines.{no_blank}
 is_short : (line : List ℕ) (x : DriveCommand) → DriveLinesAreShort → IsDriveLine line x → length line ≤ 64
 is_short line x short is = short line x is
 
-kept_line : (line : List ℕ) (x : DriveCommand) → DriveLinesAreShort → IsDriveLine (take 65 line) x → IsDriveLine line x
+kept_line : (line : List ℕ) (x : DriveCommand) → DriveLinesAreShort → IsDriveLine (take 8192 line) x → IsDriveLine line x
 kept_line line x short is =
-    let within : length line ≤ 65 = omega (arith, is_short (take 65 line) x short is, length-take 65 line) in
-    subst (λ (l : List ℕ). IsDriveLine l x) (take_all 65 line within) is
+    let within : length line ≤ 8192 = omega (arith, is_short (take 8192 line) x short is, length-take 8192 line) in
+    subst (λ (l : List ℕ). IsDriveLine l x) (take_all 8192 line within) is
 
 -- no more of a line matters to a drive than the bytes that are kept
-pub tells_by_front : (d : Driving) → DriveLinesAreShort → TellsByFront 65 DriveAnswers AsksNone d
+pub tells_by_front : (d : Driving) → DriveLinesAreShort → TellsByFront 8192 DriveAnswers AsksNone d
 tells_by_front d short = record {
   answers = λ line text goes_on new is. record { replied = of_kept line (record { text = text; goes_on = goes_on; left = led_of new }) is.replied; same = is.same };
   wants = λ line asks. absurd asks;
 }
   where
-    of_kept : (line : List ℕ) (answer : Reply) → Replied (setup_of d.bench) (names_of d.bench.assembly) (led_of d) (take 65 line) answer
+    of_kept : (line : List ℕ) (answer : Reply) → Replied (setup_of d.bench) (names_of d.bench.assembly) (led_of d) (take 8192 line) answer
         → Replied (setup_of d.bench) (names_of d.bench.assembly) (led_of d) line answer
     of_kept line answer (inl (none, is)) = inl (uncut, is)
       where
         uncut : (x : DriveCommand) → ¬ IsDriveLine line x
         uncut x of_line =
-            let within : length line ≤ 65 = omega (arith, is_short line x short of_line) in
-            none x (subst (λ (l : List ℕ). IsDriveLine l x) (sym (take_all 65 line within)) of_line)
+            let within : length line ≤ 8192 = omega (arith, is_short line x short of_line) in
+            none x (subst (λ (l : List ℕ). IsDriveLine l x) (sym (take_all 8192 line within)) of_line)
     of_kept line answer (inr (x, is, comes)) = inr (x, kept_line line x short is, comes)
 
 -- What is told

@@ -1,5 +1,5 @@
 -- How what is done with a plan ends: steps from one stage to the next, and ways out.
-use Rattle.std.proofs.Common.{Bor, ◌≡◌, List, ℕ, ℤ, refl, subst, inl, inr}
+use Rattle.std.proofs.Common.{◌≡◌, List, ℕ, ℤ, refl, subst, inl, inr}
 use Rattle.std.specs.Prelude.{Result, IfOk, IfErr}
 use Rattle.std.specs.Result.{IsErrAnd}
 use Rattle.std.proofs.lemmas.Result.{err_from_is_err_and}
@@ -19,12 +19,11 @@ use Rattle.burr_runs.specs.Views.Running.{FailsInSheet}
 use Rattle.burr_runs.specs.Rules.Verdicts.{plan_refusal}
 use Rattle.burr_judge.specs.declared.fault.Fault.{Fault}
 use Rattle.burr_judge.specs.Faults.{line_of, output_failed}
-use Rattle.burr_judge.specs.declared.tasks.Task.{Task}
 use Rattle.burr_judge.specs.Statuses.{status_of}
 use Rattle.burr_judge.specs.declared.status.Status.{Status}
-use Rattle.burr_judge.specs.declared.ladder.Given.TheVariants.{Container}
+use Rattle.burr_judge.specs.declared.ladder.Given.{Given}
 use Rattle.burr_judge.specs.Ladder.{PlanJudged, PlanTried, LadderComes, WantsMemory}
-use Rattle.burr_judge.specs.PlanEnds.{Ends, EndsOn, PutsFrontOfEnd, FailsToEnd, IsRefusal, VerdictEnds, CheckEnds, RunEnds, TryEnds, AnswersEnd, SafeEnds, BenchEnds, SheetEnds, TaskEnds, PlanEnds}
+use Rattle.burr_judge.specs.PlanEnds.{Ends, EndsOn, PutsFrontOfEnd, FailsToEnd, IsRefusal, VerdictEnds, CheckEnds, RunEnds, TryEnds, AnswersEnd, SafeEnds, BenchEnds, SheetEnds, GivenEnds, TextEnds}
 use Rattle.burr_judge.proofs.Common.Comes.{ends_among, memory_ends, text_told, verdict_among}
 use Rattle.burr_judge.proofs.Common.Stages.{AreAmong}
 
@@ -59,13 +58,14 @@ bench_among kept a text b same programs output status (inr (answers, read, (outc
 
 -- What the ladder comes to, as one of the three tasks ends
 
-pub text_ends : {I S : Type 0} (first last : I) (sink : SinkView S) (before after : S) (task : Task) (text : List ℕ) (bytes : Bor (List ℕ)) (answers : List ℕ) (r : Result Status Fault) (Uses : ContainerView → Assembly → Type 0)
-    → ((kept : ContainerView) (a : Assembly) → Uses kept a → EndsOn sink before after (TaskEnds task kept a answers) r)
-    → LadderComes (WantsMemory before after r × (last ≡ first)) (λ line. EndsOn sink before after (IsRefusal line) r × (last ≡ first)) Uses text (Container bytes)
-    → EndsOn sink before after (PlanEnds task text bytes.now answers) r
-text_ends first last sink before after task text bytes answers r Uses uses =
+-- where what is done with a plan ends so, the whole command does, with a plan as it is given
+pub text_ends : {I S : Type 0} (first last : I) (sink : SinkView S) (before after : S) (With : ContainerView → Assembly → Ends) (text : List ℕ) (plan : Given) (r : Result Status Fault) (Uses : ContainerView → Assembly → Type 0)
+    → ((kept : ContainerView) (a : Assembly) → Uses kept a → EndsOn sink before after (With kept a) r)
+    → LadderComes (WantsMemory before after r × (last ≡ first)) (λ line. EndsOn sink before after (IsRefusal line) r × (last ≡ first)) Uses text plan
+    → EndsOn sink before after (TextEnds text (λ a. GivenEnds plan (λ kept. With kept a))) r
+text_ends first last sink before after With text plan r Uses uses =
     text_told (λ ends. EndsOn sink before after ends r) (λ these those among. ends_among sink before after these those r among) (WantsMemory before after r × (last ≡ first))
-    (λ line. EndsOn sink before after (IsRefusal line) r × (last ≡ first)) Uses (λ kept a. TaskEnds task kept a answers) text (Container bytes) (λ ends want. memory_ends sink before after ends r want.0) (λ line is. is.0) (λ a read of given kept was. uses kept a)
+    (λ line. EndsOn sink before after (IsRefusal line) r × (last ≡ first)) Uses With text plan (λ ends want. memory_ends sink before after ends r want.0) (λ line is. is.0) (λ a read of given kept was. uses kept a)
 
 pub check_ends : {I S : Type 0} (first last : I) (sink : SinkView S) (before after : S) (r : Result Status Fault) (kept : ContainerView) (a : Assembly)
     → PlanJudged (λ line. EndsOn sink before after (IsRefusal line) r × (last ≡ first)) (λ looks. EndsOn sink before after (VerdictEnds (judged kept a) looks) r) kept a

@@ -32,7 +32,7 @@ use Rattle.burr_judge.specs.declared.status.Status.TheVariants.{Done}
 use Rattle.burr_judge.specs.DriveEnds.{LedEnds, LeavesWith, LedBreaks, DriveBytesEnd, DriveTextEnds, DriveBytesBreak, DriveTextBreaks, FailsToBegin, ready_text}
 use Rattle.burr_judge.specs.Faults.{complaint_of, line_of, status_of_complaint, status_of_fault}
 use Rattle.burr_judge.specs.Ladder.{IsRead, PlanJudged, LadderComes, TextComes, WantsMemory}
-use Rattle.burr_judge.specs.PlanEnds.{Ends, EndsOn, Ending, PutsEnd, IsRefusal, RefusedEnds, ContainerEnds, TextEnds, Stops, never}
+use Rattle.burr_judge.specs.PlanEnds.{Ends, EndsOn, Ending, PutsEnd, IsRefusal, RefusedEnds, ContainerEnds, TextEnds, Stops}
 use Rattle.burr_judge.specs.Refusals.{plan_text_refusal}
 use Rattle.burr_judge.specs.StepEnds.{Left, left_by, DialogueEnds}
 use Rattle.burr_judge.proofs.Common.Comes.{memory_ends, text_told}
@@ -82,7 +82,7 @@ text_led first last sink before after With Broken text bytes r =
 
     told : (These Those : Ends) → ((output : List ℕ) (status : Status) → These output status → Those output status) → EndsOn sink before after These r → Told Those
     told These Those among ends =
-        ending_among sink before after Those Those never Breaks r (λ output status is. is) (λ line none. absurd none) (ending_from sink before after These Those r among ends)
+        ending_from sink before after These Those Breaks r among ends
 
     wants : (ends : Ends) → WantsMemory before after r × (last ≡ first) → Told ends
     wants ends want = told ends ends (λ output status is. is) (memory_ends sink before after ends r want.0)
@@ -119,8 +119,8 @@ begin_fails source first last sink before after text bytes j AreEnds fault r err
   where
     stops : (line : List ℕ) → FailsToBegin sink before after (ready_text text bytes) line
         → Stops (lines_view sink) before after AreEnds (LedBreaks (streams source first last sink before.sink after.sink) text bytes j) line
-    stops line (inl (told, holds, failed)) = inr (inr (inl (told, holds, failed)))
-    stops line (inr (told, same)) = inr (inl same)
+    stops line (inl fails) = inr (inl fails)
+    stops line (inr want) = inl (inr want)
 
 -- the dialogue broke off
 pub led_breaks : {R S : Type 0} (source : SourceView R) (first last : R) (sink : SinkView S) (before mid after : Lines S) (text bytes : List ℕ) (j : Judged) (AreEnds : Ends)
@@ -129,7 +129,7 @@ pub led_breaks : {R S : Type 0} (source : SourceView R) (first last : R) (sink :
     → BreaksDialogue DriveAnswers AsksNone old (streams source first last sink mid.sink after.sink) fault new
     → Ending (lines_view sink) before after AreEnds (LedBreaks (streams source first last sink before.sink after.sink) text bytes j) r
 led_breaks source first last sink before mid after text bytes j AreEnds old new fault r err ready began breaks =
-    let p = err_from_is_err_and r err in rw p.1 (tt, inr (inr (inr (sink.taken mid.sink, began, (fault, p.2.0, (old, new, ready, breaks))))))
+    let p = err_from_is_err_and r err in rw p.1 (tt, inr (inr (sink.taken mid.sink, began, (fault, p.2.0, (old, new, ready, breaks)))))
 
 -- what a plan text is assembled to is led
 pub assembled_led : {S : Type 0} (sink : SinkView S) (before after : S) (left : Left) (s : Streams) (text : List ℕ) (plan : Given) (given : Bor (List ℕ)) (bytes lent : List ℕ)
@@ -159,9 +159,7 @@ faulty_led first last sink before after left s text plan given fault r is faulty
     These = DriveTextEnds left text (Text given)
 
     ending : (Those : Ends) → AreAmong Those These → EndsOn sink before after Those r → Ending sink before after These (DriveTextBreaks s text (Text given)) r
-    ending Those among ends =
-        ending_among sink before after These These never (DriveTextBreaks s text (Text given)) r (λ output status same. same) (λ line none. absurd none)
-        (ending_from sink before after Those These r among ends)
+    ending Those among = ending_from sink before after Those These (DriveTextBreaks s text (Text given)) r among
 
     told : (WantsMemory before after r × (last ≡ first)) ⊎ TextComes (λ line. EndsOn sink before after (IsRefusal line) r × (last ≡ first))
         (λ a. EndsOn sink before after (IsRefusal (plan_text_refusal fault)) r × (last ≡ first)) text

@@ -121,6 +121,10 @@ abbrev pub PlanEnds : Task → List ℕ → List ℕ → List ℕ → Ends
 PlanEnds task text bytes answers =
     TextEnds text (λ a. ContainerEnds bytes (λ kept. TaskEnds task kept a answers))
 
+-- of `check`, with a plan as it is given
+abbrev pub CheckTextEnds : List ℕ → Given → Ends
+CheckTextEnds text plan = TextEnds text (λ a. GivenEnds plan (λ kept. CheckEnds kept a))
+
 -- a sink took what is printed with this status
 abbrev pub PutsEnd : {S : Type 0} → SinkView S → S → S → Ends → Status → Type 0
 PutsEnd sink before after AreEnds status =
@@ -165,11 +169,10 @@ StopsBeforeEnd sink before after AreEnds line =
 abbrev pub never : List ℕ → Type 0
 never line = ⊥
 
--- the sink failed in what there is to print, or it was left alone, or the command broke off
+-- why there is no end, or the command broke off
 abbrev pub Stops : {S : Type 0} → SinkView S → S → S → Ends → (List ℕ → Type 0) → List ℕ → Type 0
 Stops sink before after AreEnds Breaks line =
-    ((line ≡ output_failed) × PutsFrontOfEnd sink before after AreEnds)
-    ⊎ (after ≡ before) ⊎ Breaks line
+    FailsToEnd sink before after AreEnds line ⊎ Breaks line
 
 -- the sink took what is printed with this status, or a fault is told and it stopped so
 abbrev pub Ending : {S : Type 0} → SinkView S → S → S → Ends → (List ℕ → Type 0)

@@ -4,14 +4,12 @@ ghost use Rattle.std.specs.Prelude.{[], ◌∷◌, codes};
 ghost use Rattle.burr_io.specs.Sink.{Puts};
 ghost use Rattle.burr_assembly.specs.Rules.Homes.{names_of};
 ghost use Rattle.burr_step.specs.Rules.StepTexts.{refused_line, show_text};
-ghost use Rattle.burr_judge.specs.Views.CommandLines.{PutsAfter, PutsCame, PutsLine, after_line, question_words};
+ghost use Rattle.burr_judge.specs.Views.CommandLines.{PutsAfter, PutsCame, PutsLine, after_line, question_words, IsRead, IsNumberedRead, IsUntil, IsAnswer, IsBack, IsUnsigned};
 
-pub mod line;
-
-use crate::commands::line::{Command, read_command};
 use crate::dialogue::Commanded;
 use burr_io::{Sink, WriteFault, put_words};
 use burr_step::{StepRefusal, Stepper, lines_of_commands_are_short};
+use burr_text::{cut_at, integer};
 use itoa::Buffer;
 use thiserror::Error;
 
@@ -73,7 +71,7 @@ impl<'a> Commanded for Stepper<'a> {
 
 /// Puts what a call came to: where the stepper stands after it, or why it was refused. `Memory`
 /// where a request for memory was.
-pub fn put_outcome<W: Sink>(
+fn put_outcome<W: Sink>(
     came: Result<(), StepRefusal>,
     stepper: &Stepper<'_>,
     sink: &mut W,
@@ -162,10 +160,88 @@ pub fn put_no_command<W: Sink>(sink: &mut W) -> Result<bool, StepFault>
 }
 
 /// Puts the state of a stepper.
-pub fn put_state<W: Sink>(stepper: &Stepper<'_>, sink: &mut W) -> Result<bool, StepFault>
+fn put_state<W: Sink>(stepper: &Stepper<'_>, sink: &mut W) -> Result<bool, StepFault>
     ensures { PutsLine W.Sink sink.old sink.new
         (show_text (names_of stepper.now.bench.assembly) stepper.now.bench.state) result }
 {
     stepper.show(sink)?;
     Ok(true)
+}
+
+// What a line of commands asks.
+
+/// What a line asks of a stepper.
+#[derive(Clone, Copy, Debug)]
+pub enum Command {
+    Forward,
+    Over,
+    /// A procedure and its label.
+    Until(u8, u16),
+    Answer(i32),
+    /// How many steps back.
+    Back(u32),
+    Show,
+    Quit,
+}
+
+/// The command of a line, if it is the line of one whose numbers fit.
+fn read_command(line: &[u8]) -> Option<Command>
+    ensures { IsRead line.now result }
+{
+    match line {
+        b"forward" => Some(Command::Forward),
+        b"over" => Some(Command::Over),
+        b"show" => Some(Command::Show),
+        b"quit" => Some(Command::Quit),
+        _ => read_numbered(line),
+    }
+}
+
+/// The command of a line with numbers.
+fn read_numbered(line: &[u8]) -> Option<Command>
+    ensures { IsNumberedRead line.now result }
+{
+    if let Some((procedure, label)) = until_label(line) {
+        return Some(Command::Until(procedure, label));
+    }
+    if let Some(answer) = answer_number(line) {
+        return Some(Command::Answer(answer));
+    }
+    let steps = back_steps(line)?;
+    Some(Command::Back(steps))
+}
+
+/// The procedure and the label of a line `until 0 2`.
+fn until_label(line: &[u8]) -> Option<(u8, u16)>
+    ensures { IsUntil line.now result }
+{
+    let (procedure, label) = cut_at(line.strip_prefix(b"until ")?, b' ')?;
+    let procedure = u8::try_from(unsigned(procedure)?).ok()?;
+    let label = u16::try_from(unsigned(label)?).ok()?;
+    Some((procedure, label))
+}
+
+/// The number of a line `answer -1`.
+fn answer_number(line: &[u8]) -> Option<i32>
+    ensures { IsAnswer line.now result }
+{
+    integer(line.strip_prefix(b"answer ")?)
+}
+
+/// The number of a line `back 1`.
+fn back_steps(line: &[u8]) -> Option<u32>
+    ensures { IsBack line.now result }
+{
+    unsigned(line.strip_prefix(b"back ")?)
+}
+
+/// The number of 32 bits without a sign that is written so, if one is: `01` and `+1` are none.
+pub fn unsigned(text: &[u8]) -> Option<u32>
+    ensures { IsUnsigned 32 text.now result }
+{
+    let number: u32 = str::from_utf8(text).ok()?.parse().ok()?;
+    if Buffer::new().format(number).as_bytes() != text {
+        return None;
+    }
+    Some(number)
 }

@@ -25,8 +25,8 @@ pub trait Commanded {
     /// A line for whose answer memory is asked.
     ghost wants: { Self → List ℕ → Type 0 };
 
-    /// A law: no command's line has more than 64 bytes, so that no more of a line than the bytes that
-    /// are kept matters.
+    /// A law: no line that means anything is as long as the bytes that are kept, so that no more of a
+    /// line than those matters.
     fn lines_are_short(&self)
         ensures { TellsByFront KEPT answers wants self.now };
 
@@ -42,9 +42,9 @@ pub trait Commanded {
         ensures quit { IfOk result (λ goes_on. goes_on ≡ false → sink.new ≡ sink.old) };
 }
 
-/// How many bytes of a line are kept: one more than a command's line may have, so that a longer
-/// line is recognised as no command.
-pub const KEPT: usize = 65;
+/// How many bytes of a line are kept: room for two names of files, and more than a command's line may
+/// have, so that a longer line is recognised as none that means anything.
+pub const KEPT: usize = 8192;
 
 /// A fault of a line is one of the dialogue.
 impl From<StepFault> for BenchFault {
@@ -163,8 +163,8 @@ fn answer_last<C: Commanded, W: Sink, const N: usize>(
     Ok(())
 }
 
-/// Answers the line of which these are the first bytes, or all, and hands the answer on. False for a
-/// line after which none is to come, for which there is nothing to hand on.
+/// Answers a line, given by its first bytes or by all, and hands the answer on. False for a line
+/// after which no line is to come; such a line has no answer to hand on.
 fn answer_line<C: Commanded, W: Sink, const N: usize>(
     line: &[u8],
     commanded: &mut C,

@@ -1,24 +1,22 @@
 //! Lines of commands for a drive.
 
 ghost use Rattle.std.specs.Prelude.{◌∷◌, [], codes, decimal};
-ghost use Rattle.burr_assembly.specs.Rules.Homes.{names_of};
-ghost use Rattle.burr_io.specs.Sink.{Puts};
 ghost use Rattle.burr_text.specs.Words.{text_line};
+ghost use Rattle.burr_io.specs.Sink.{Puts};
+ghost use Rattle.burr_assembly.specs.Rules.Homes.{names_of};
 ghost use Rattle.burr_step.specs.declared.drive.Halt.TheVariants.{Asks};
 ghost use Rattle.burr_step.specs.Rules.DriveTexts.{halt_text, move_text};
 ghost use Rattle.burr_step.specs.Rules.StepTexts.{refused_line};
-ghost use Rattle.burr_judge.specs.Views.DriveLines.{apart_text, arrival_text, next_text, out_text};
+ghost use Rattle.burr_judge.specs.Views.DriveLines.{apart_text, arrival_text, next_text, out_text, IsDriveRead, IsNumberedDriveRead, IsDriveAnswer, IsGoTo};
 ghost use Rattle.burr_judge.specs.Views.CommandLines.{PutsLine};
 
-mod line;
-
-use crate::commands::{StepFault, put_no_command, put_refused};
+use crate::commands::{StepFault, put_no_command, put_refused, unsigned};
 use crate::dialogue::Commanded;
-use crate::drive::line::{DriveCommand, read_drive_command};
 use burr_assembly::Assembly;
 use burr_io::{Sink, WriteFault, put_all, put_number, put_words};
 use burr_sheet::put_names;
 use burr_step::{Drive, Halt, Move, Question, drive_lines_are_short};
+use burr_text::{cut_at, integer};
 use itoa::Buffer;
 
 /// A drive takes the lines of its commands, as `next` or `answer 1 2`, and puts what each comes to, as
@@ -62,7 +60,7 @@ impl<'a> Commanded for Drive<'a> {
     }
 }
 
-/// Puts the next move, or why there is none.
+/// Puts the next move, or why there is no next move.
 fn put_next<W: Sink>(
     next: Result<Move, Halt>,
     assembly: &Assembly,
@@ -179,4 +177,58 @@ fn put_question<W: Sink>(question: Question, sink: &mut W) -> Result<(), WriteFa
         ],
         sink,
     )
+}
+
+// What a line of commands asks of a drive.
+
+/// What a line asks of a drive.
+#[derive(Clone, Copy, Debug)]
+pub enum DriveCommand {
+    Next,
+    /// The number of a question, and the answer.
+    Answer(u32, i32),
+    /// The number of a move.
+    GoTo(u32),
+    Show,
+    Quit,
+}
+
+/// The command of a line, if it is the line of one whose numbers fit.
+fn read_drive_command(line: &[u8]) -> Option<DriveCommand>
+    ensures { IsDriveRead line.now result }
+{
+    match line {
+        b"next" => Some(DriveCommand::Next),
+        b"show" => Some(DriveCommand::Show),
+        b"quit" => Some(DriveCommand::Quit),
+        _ => read_numbered(line),
+    }
+}
+
+/// The command of a line with numbers.
+fn read_numbered(line: &[u8]) -> Option<DriveCommand>
+    ensures { IsNumberedDriveRead line.now result }
+{
+    if let Some((question, answer)) = answer_numbers(line) {
+        return Some(DriveCommand::Answer(question, answer));
+    }
+    let number = move_number(line)?;
+    Some(DriveCommand::GoTo(number))
+}
+
+/// The numbers of a line `answer 1 -2`.
+fn answer_numbers(line: &[u8]) -> Option<(u32, i32)>
+    ensures { IsDriveAnswer line.now result }
+{
+    let (question, answer) = cut_at(line.strip_prefix(b"answer ")?, b' ')?;
+    let question = unsigned(question)?;
+    let answer = integer(answer)?;
+    Some((question, answer))
+}
+
+/// The number of a line `goto 12`.
+fn move_number(line: &[u8]) -> Option<u32>
+    ensures { IsGoTo line.now result }
+{
+    unsigned(line.strip_prefix(b"goto ")?)
 }

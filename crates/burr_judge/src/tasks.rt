@@ -2,7 +2,7 @@
 //! of commands, step by step or move by move.
 
 ghost use Rattle.burr_state.specs.Views.Benches.{IsAtStart};
-ghost use Rattle.burr_judge.specs.PlanEnds.{AnswersEnd, BenchEnds, EndsOn, PlanEnds, Ending, never};
+ghost use Rattle.burr_judge.specs.PlanEnds.{AnswersEnd, BenchEnds, CheckTextEnds, EndsOn, PlanEnds, Ending, never};
 ghost use Rattle.std.specs.Prelude.{◌≡◌, ◌++◌, [], IfErr, IfOk, OnOk, string_bytes};
 ghost use Rattle.burr_io.specs.WholeLines.{lines_view};
 ghost use Rattle.hex.specs.Hex.{encode_lower};
@@ -75,6 +75,20 @@ pub fn judge_text<'a, W: Sink>(
             use_text(alloc, &Plainly, &OfPlan { plan, work }, text, &mut (), sink)
         }
     }
+}
+
+/// Judges a plan, as it is given, for the assembly of a text, and puts what `check` prints: or, of a
+/// plan text that is refused, what `asm` does.
+pub fn check_text<'a, W: Sink>(
+    alloc: Global,
+    text: &[u8],
+    plan: Given<'_>,
+    sink: &mut W,
+) -> Result<Status, Fault<'a>>
+    ensures { EndsOn W.Sink sink.old sink.new (CheckTextEnds text.now plan.entry) result }
+{
+    let work = IfAccepted(Check);
+    use_text(alloc, &Plainly, &OfPlan { plan, work }, text, &mut (), sink)
 }
 
 /// Puts that the plan is accepted.

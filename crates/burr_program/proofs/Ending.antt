@@ -14,15 +14,32 @@ use Rattle.burr_command.specs.declared.job.Job.{Job}
 use Rattle.burr_judge.specs.declared.fault.Fault.{Fault}
 use Rattle.burr_judge.specs.declared.status.Status.{Status}
 use Rattle.burr_judge.specs.Faults.{line_of, output_failed}
-use Rattle.burr_judge.specs.PlanEnds.{Ends, PutsEnd, HoldsFrontOfEnd, Ending}
+use Rattle.burr_judge.specs.PlanEnds.{Ends, PutsEnd, HoldsFrontOfEnd, EndsOn, Ending, never}
 use Rattle.burr_judge.specs.StepEnds.{left_by}
-use Rattle.burr_program.specs.Commands.{EndingBelow, StopsBelow, JobEnds, JobBreaks}
+use Rattle.burr_judge.proofs.Common.Stages.{AreAmong}
+use Rattle.burr_program.specs.Commands.{EndsOnFiles, EndingBelow, StopsBelow, JobEnds, JobBreaks}
 use Rattle.burr_program.specs.Ends.{StopsJob}
 use Rattle.burr_program.specs.HandedOn.{HandsOnDone}
 
+-- what is told of a call is told of a command that reads files
+pub files_from : {S : Type 0} (sink : SinkView S) (before after : S) (These Those : Ends) (r : Result Status Fault)
+    → AreAmong These Those → EndsOn sink before after These r → EndsOnFiles sink before after Those never r
+files_from sink before after These Those (Ok status) among ((output, is, takes), tt) = ((output, among output status is, takes), tt)
+files_from sink before after These Those (Err fault) among (tt, inl (line, (output, status, is, fails))) = (tt, inl (line, (output, status, among output status is, fails)))
+files_from sink before after These Those (Err fault) among (tt, inr (line, kept)) = (tt, inr (inl kept))
+
+-- the same of a call that may break off
+pub files_among : {S : Type 0} (sink : SinkView S) (before after : S) (These Those : Ends) (Breaks Others : List ℕ → Type 0) (r : Result Status Fault)
+    → AreAmong These Those → ((line : List ℕ) → Breaks line → Others line) → Ending sink before after These Breaks r → EndsOnFiles sink before after Those Others r
+files_among sink before after These Those Breaks Others (Ok status) among more ((output, is, takes), tt) = ((output, among output status is, takes), tt)
+files_among sink before after These Those Breaks Others (Err fault) among more (tt, inl (inl (line, (output, status, is, fails)))) =
+    (tt, inl (line, (output, status, among output status is, fails)))
+files_among sink before after These Those Breaks Others (Err fault) among more (tt, inl (inr (line, kept))) = (tt, inr (inl kept))
+files_among sink before after These Those Breaks Others (Err fault) among more (tt, inr breaks) = (tt, inr (inr (more (line_of fault) breaks)))
+
 -- the sink failed in what is printed
 pub ending_fails : {S : Type 0} (sink : SinkView S) (before after : S) (AreEnds : Ends) (Breaks : List ℕ → Type 0) (output : List ℕ) (status : Status) (r : Result Status Fault) → AreEnds output status
-    → FailsWithin sink before after output → IsErrAnd r (λ fault. line_of fault ≡ output_failed) → Ending sink before after AreEnds Breaks r
+    → FailsWithin sink before after output → IsErrAnd r (λ fault. line_of fault ≡ output_failed) → EndsOnFiles sink before after AreEnds Breaks r
 ending_fails sink before after AreEnds Breaks output status r is fails err = let p = err_from_is_err_and r err in rw p.1 (tt, inl (p.2, (output, status, is, fails)))
 
 -- nothing was printed
@@ -38,7 +55,7 @@ early sink old mid AreEnds output status none is within =
 
 -- what was put is handed on
 pub ending_handed : {S : Type 0} (sink : SinkView S) (old mid new : Lines S) (AreEnds : Ends) (Breaks Others : List ℕ → Type 0) (done result : Result Status Fault) → old.held ≡ []
-    → HandsOnDone sink mid new done result → ((line : List ℕ) → new ≡ mid → Breaks line → Others line) → Ending (lines_view sink) old mid AreEnds Breaks done
+    → HandsOnDone sink mid new done result → ((line : List ℕ) → new ≡ mid → Breaks line → Others line) → EndsOnFiles (lines_view sink) old mid AreEnds Breaks done
     → EndingBelow sink old.sink new.sink AreEnds Others result
 ending_handed sink old mid new AreEnds Breaks Others (Ok given) (Ok status) none (same, handed) more ((output, is, put), tt) =
     ((output, subst (λ s. AreEnds output s) (sym same) is, went sink old mid new output none put handed), tt)

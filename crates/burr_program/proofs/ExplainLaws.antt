@@ -7,7 +7,7 @@ use Rattle.std.specs.List.{list_any}
 use Rattle.std.specs.Prelude.{Contains, nat_eq}
 use Rattle.burr_explain.specs.Known.{known_words}
 use Rattle.burr_frames.specs.declared.rule.Rule.TheVariants.{V1, V2, V3, V4, V5, V6, V7, V8, V9, V10, V11, V12, V13, V14, V15, V16, V17, V18, V19, V20, V21, V22, V23, V24, V25, V26, V27, V28}
-use Rattle.burr_state.specs.declared.trap.Trap.TheVariants.{Collision, GripOff, NotFree, BadGroup, TrayInUse, MissingOperand, StackFull, EmptySlot, BadJump, BadCode, BadCall, BadCount, NumberRange, OffBench, NotApart, Misplaced, ParamWritten}
+use Rattle.burr_state.specs.declared.effect.Trap.TheVariants.{Collision, GripOff, NotFree, BadGroup, TrayInUse, MissingOperand, StackFull, EmptySlot, BadJump, BadCode, BadCall, BadCount, NumberRange, OffBench, NotApart, Misplaced, ParamWritten}
 use Rattle.burr_program.specs.ExplainLaws.{EachRuleIsExplained, EachTrapIsExplained}
 
 -- a word that a search finds is there

@@ -13,11 +13,11 @@ use Rattle.burr_judge.specs.declared.status.Status.TheVariants.{Done, Refused}
 use Rattle.burr_judge.specs.declared.ladder.Given.{Given}
 use Rattle.burr_judge.specs.Faults.{line_of}
 use Rattle.burr_judge.specs.Ladder.{LadderComes, TextComes, WantsMemory}
-use Rattle.burr_judge.specs.PlanEnds.{Ends, EndsOn, FailsToEnd, IsRefusal, PutsEnd, Ending, Stops, never}
+use Rattle.burr_judge.specs.PlanEnds.{Ends, EndsOn, FailsToEnd, IsRefusal, PutsEnd, never}
 use Rattle.burr_judge.proofs.Common.Stages.{AreAmong}
 use Rattle.burr_judge.proofs.Common.Comes.{ends_among, memory_ends, text_told}
 use Rattle.burr_program.specs.AddedNotes.{AddsNotes, PutsKept}
-use Rattle.burr_program.specs.Commands.{DoneEnds, PlanSheetCommand, SomeRefusal}
+use Rattle.burr_program.specs.Commands.{DoneEnds, PlanSheetCommand, SomeRefusal, EndsOnFiles, StopsOnFiles}
 use Rattle.burr_program.specs.MakingEnds.{Makes, MakesOrPuts, MakesPlanOf}
 use Rattle.burr_program.specs.NotedEnds.{Begins}
 use Rattle.burr_program.proofs.Ending.{silent}
@@ -90,11 +90,11 @@ made_sheet sink before after drawing sheet None status (output, is, takes) = (ou
 
 -- or why there is no end
 pub sheet_stops : {S : Type 0} (fault : Fault) (sink : SinkView S) (before after : S) (r : Result Status Fault) → IsErrAnd r (λ e. e ≡ fault) → FailsToEnd sink before after SomeRefusal (line_of fault)
-    → Ending sink before after PlanSheetCommand never r
+    → EndsOnFiles sink before after PlanSheetCommand never r
 sheet_stops fault sink before after r err fails =
     let p = err_from_is_err_and r err in
-    rw p.1 (tt, subst (λ (e : Fault). Stops sink before after PlanSheetCommand never (line_of e)) (sym p.2) (stops fails))
+    rw p.1 (tt, subst (λ (e : Fault). StopsOnFiles sink before after PlanSheetCommand never (line_of e)) (sym p.2) (stops fails))
   where
-    stops : FailsToEnd sink before after SomeRefusal (line_of fault) → Stops sink before after PlanSheetCommand never (line_of fault)
+    stops : FailsToEnd sink before after SomeRefusal (line_of fault) → StopsOnFiles sink before after PlanSheetCommand never (line_of fault)
     stops (inl (line, (output, status, is, within))) = inl (line, (output, status, inr is, within))
     stops (inr (line, kept)) = inr (inl kept)

@@ -19,9 +19,10 @@ use Rattle.burr_judge.specs.declared.tasks.Task.{Task}
 use Rattle.burr_judge.specs.declared.tasks.Task.TheVariants.{Check, Run, Try}
 use Rattle.burr_judge.specs.Faults.{line_of, output_failed}
 use Rattle.burr_judge.specs.Statuses.{code_of}
-use Rattle.burr_judge.specs.PlanEnds.{Ends, PutsEnd, HoldsFrontOfEnd, TextEnds, PlanTextEnds, ContainerEnds, PlanEnds, never}
+use Rattle.burr_judge.specs.PlanEnds.{Ends, PutsEnd, PutsFrontOfEnd, HoldsFrontOfEnd, TextEnds, PlanTextEnds, ContainerEnds, PlanEnds, never}
 use Rattle.burr_program.specs.CellEnds.{CellEnds}
 use Rattle.burr_program.specs.ExplainEnds.{ExplainEnds}
+use Rattle.burr_program.specs.ListEnds.{JudgeCommand, JudgeCommandBreaks}
 use Rattle.burr_program.specs.MakingEnds.{MakesPlanOf}
 use Rattle.burr_program.specs.NotedEnds.{NotedEnds}
 use Rattle.burr_judge.specs.DriveEnds.{DriveTextEnds, DriveTextBreaks}
@@ -30,6 +31,21 @@ use Rattle.burr_judge.specs.Ladder.{IsGivenBy}
 use Rattle.burr_judge.specs.StepEnds.{Left, StepTextEnds, StepTextBreaks}
 
 -- What a command leaves on its sink
+
+-- Why a command that reads files has no end: the sink failed in what there is to print; or it was
+-- left alone, as it is where a file can't be read; or the command broke off.
+abbrev pub StopsOnFiles : {S : Type 0} → SinkView S → S → S → Ends → (List ℕ → Type 0) → List ℕ
+    → Type 0
+StopsOnFiles sink before after AreEnds Breaks line =
+    ((line ≡ output_failed) × PutsFrontOfEnd sink before after AreEnds)
+    ⊎ (after ≡ before) ⊎ Breaks line
+
+-- the sink took what is printed with this status, or a fault is told and it stopped so
+abbrev pub EndsOnFiles : {S : Type 0} → SinkView S → S → S → Ends → (List ℕ → Type 0)
+    → Result Status Fault → Type 0
+EndsOnFiles sink before after AreEnds Breaks r =
+    IfOk r (PutsEnd sink before after AreEnds)
+    × IfErr r (λ fault. StopsOnFiles sink before after AreEnds Breaks (line_of fault))
 
 -- What a command comes to on the sink below, to which all is handed on at the end: that failed in what
 -- there is to print, or took nothing, or the command broke off.
@@ -148,6 +164,7 @@ JobEnds left (jobs.Assemble text out) = AsmCommand
 JobEnds left (jobs.List plan places) = ListCommand places
 JobEnds left (jobs.Upgrade plan out) = UpgradeCommand
 JobEnds left (jobs.Check assembly plan) = CheckCommand
+JobEnds left jobs.Judge = JudgeCommand left
 JobEnds left (jobs.Run assembly plan) = AnsweredCommand Run left
 JobEnds left (jobs.Try assembly plan) = AnsweredCommand Try left
 JobEnds left (jobs.Step assembly plan) = StepCommand left
@@ -160,6 +177,7 @@ JobEnds left (jobs.Explain line) = ExplainEnds (string_bytes line)
 
 -- where it breaks off: dialogues alone
 abbrev pub JobBreaks : Streams → Job → List ℕ → Type 0
+JobBreaks s jobs.Judge = JudgeCommandBreaks s
 JobBreaks s (jobs.Step assembly plan) = StepCommandBreaks s
 JobBreaks s (jobs.Drive assembly plan) = DriveCommandBreaks s
 JobBreaks s job = never

@@ -12,7 +12,7 @@ abbrev pub IsExplainedBy : List ℕ → Explanation → Type 0
 IsExplainedBy line e =
     (key : List ℕ) → IsKeyOf line key → Contains known_keys key × IsAskedBy key e
 
--- the line's key is none of those that are explained
+-- the line's key is not one of those that are explained
 abbrev pub IsUnexplained : List ℕ → Type 0
 IsUnexplained line = (key : List ℕ) → IsKeyOf line key → ¬ Contains known_keys key
 
@@ -22,7 +22,7 @@ ExplainEnds line output status =
     (status ≡ Done)
     × ((e : Explanation) × IsExplainedBy line e × (output ≡ explanation_text e))
 
--- what is told where there is none: nothing is explained under the line, or the sink failed
+-- what is told where no explanation comes: nothing is explained under the line, or the sink failed
 abbrev pub FailsToExplain : List ℕ → List ℕ → Type 0
 FailsToExplain line told =
     (IsUnexplained line × (told ≡ not_explained line)) ⊎ (told ≡ output_failed)

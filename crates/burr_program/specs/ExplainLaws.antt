@@ -1,6 +1,6 @@
 -- Each rule of the verifier and each trap of the bench is explained.
 use Rattle.std.specs.Prelude.{◌++◌, Contains, codes, decimal}
-use Rattle.burr_state.specs.declared.trap.Trap.{Trap}
+use Rattle.burr_state.specs.declared.effect.Trap.{Trap}
 use Rattle.burr_state.specs.Rules.TrapNames.{trap_number, trap_name}
 use Rattle.burr_frames.specs.declared.rule.Rule.{Rule}
 use Rattle.burr_frames.specs.Rules.RuleNumbers.{rule_number}

@@ -5,5 +5,7 @@ pub mod Ends
 pub mod ExplainEnds
 pub mod ExplainLaws
 pub mod HandedOn
+pub mod Judging
+pub mod ListEnds
 pub mod MakingEnds
 pub mod NotedEnds

@@ -7,6 +7,7 @@ mod check;
 mod drive;
 mod explain;
 mod frames;
+mod judge;
 mod list;
 mod plan_sheet;
 mod run;
@@ -18,9 +19,8 @@ mod why;
 ghost use Rattle.std.specs.Prelude.{◌≡◌, []};
 ghost use Rattle.burr_io.specs.WholeLines.{lines_view};
 ghost use Rattle.burr_runs.specs.Views.BenchText.{streams};
-ghost use Rattle.burr_judge.specs.PlanEnds.{Ending};
 ghost use Rattle.burr_judge.specs.StepEnds.{left_by};
-ghost use Rattle.burr_program.specs.Commands.{JobEnds, JobBreaks};
+ghost use Rattle.burr_program.specs.Commands.{JobEnds, JobBreaks, EndsOnFiles};
 
 use asm::assemble_file;
 use burr_command::Job;
@@ -31,6 +31,7 @@ use check::check_files;
 use drive::drive_files;
 use explain::explain_line;
 use frames::frames_file;
+use judge::judge_list;
 use list::list_file;
 use plan_sheet::plan_sheet_file;
 use run::run_files;
@@ -40,8 +41,8 @@ use trace::trace_files;
 use upgrade::upgrade_file;
 use why::why_files;
 
-/// Does a command's job, and puts what there is to print; `step` and `drive` hand on each answer by
-/// themselves.
+/// Does a command's job, and puts what there is to print; `judge`, `step` and `drive` hand on each
+/// answer by themselves.
 pub fn put_job<'a, F: Files + AllocGlobal, R: Source, W: Sink, const N: usize>(
     files: &F,
     job: &'a Job<'_>,
@@ -49,7 +50,7 @@ pub fn put_job<'a, F: Files + AllocGlobal, R: Source, W: Sink, const N: usize>(
     sink: &mut WholeLines<W, N>,
 ) -> Result<Status, Fault<'a>>
     requires fresh { sink.old.held ≡ [] }
-    ensures { Ending (lines_view W.Sink) sink.old sink.new
+    ensures { EndsOnFiles (lines_view W.Sink) sink.old sink.new
         (JobEnds (left_by R.Source source.old source.new) job.entry.now)
         (JobBreaks (streams R.Source source.old source.new W.Sink sink.old.sink sink.new.sink)
         job.entry.now) result }
@@ -60,6 +61,7 @@ pub fn put_job<'a, F: Files + AllocGlobal, R: Source, W: Sink, const N: usize>(
         Job::List { plan, places } => list_file(files, plan, *places, sink),
         Job::Upgrade { plan, out } => upgrade_file(files, plan, out, sink),
         Job::Check { assembly, plan } => check_files(files, assembly, plan, sink),
+        Job::Judge => judge_list(files, source, sink),
         Job::Run { assembly, plan } => { run_files(files, Task::Run, assembly, plan, source, sink) }
         Job::Try { assembly, plan } => { run_files(files, Task::Try, assembly, plan, source, sink) }
         Job::Step { assembly, plan } => step_files(files, assembly, plan, source, sink),

@@ -23,7 +23,8 @@ use std::rt::Files;
 /// Does all that the program does, and gives the status to end with. Without a word but the
 /// program's name it writes the output for the source to the sink, as `bench_text` does. With more
 /// words a command's job is done on the files that it names; `run`, `try` and `trace` read
-/// the source to its end, `step` line by line after its verdict, and no other command reads it. Help
+/// the source to its end, `judge` line by line, `step` and `drive` so after their verdict, and no other
+/// command reads it. Help
 /// and the version are written to the sink, and a fault of the words is told to the complaints.
 /// These take one line for status 3 and one for status 4.
 ///

@@ -12,6 +12,7 @@ mod driving;
 mod examples;
 mod file_faults;
 mod files;
+mod judging;
 mod making;
 mod memory;
 mod plans;

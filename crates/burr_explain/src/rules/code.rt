@@ -112,8 +112,8 @@ const RULES: &[Explanation] = &[
         subject: Subject::Refusal("V9"),
         meaning: "The slot is a parameter of the procedure, and parameters are not written.",
         cause: "a counter in a slot that is a parameter: `down` writes its slot.",
-        remedy: "copy the parameter into a slot that is none, with `load` and\n\
-                 `store`, and count in that one.",
+        remedy: "copy the parameter into a slot that is not a parameter, with\n\
+                 `load` and `store`, and count in that one.",
         example: "in a procedure with 1 parameter, which is slot 0
 
     push 5

@@ -31,8 +31,8 @@ const RULES: &[Explanation] = &[
                   else its tray: a failure there names no point. Next, at each point, the\n\
                   arguments in their slots' ranges, the guards, and the offsets of the pieces: the\n\
                   first point at which one of them fails is named. Where the state at the `call`\n\
-                  has no open numbers there is none to name, so a refusal without a point may also\n\
-                  be a wrong argument, guard or offset.",
+                  has no open numbers there is no point to name, so a refusal without a point may\n\
+                  also be a wrong argument, guard or offset.",
         cause: "pieces moved or gripped between two calls, or a wrong argument.",
         remedy: "put the callee's `at` lines, with the arguments in their slots,\n\
                  beside where the pieces are before the `call`. Without a point compare the\n\
@@ -52,8 +52,8 @@ const RULES: &[Explanation] = &[
                   no point. Next, at each point, the slots' ranges, the guards, the operands, the\n\
                   offsets of the pieces, and the cost that is left, which may not be below the\n\
                   frame's: the first point at which one of them fails is named. Where the state\n\
-                  that comes has no open numbers there is none to name, so a refusal without a\n\
-                  point may also be a wrong range, guard, operand, offset or cost.",
+                  that comes has no open numbers there is no point to name, so a refusal without\n\
+                  a point may also be a wrong range, guard, operand, offset or cost.",
         cause: "a loop that moves a piece whose `at` line does not count it.",
         remedy: "without a point, compare current tray, grip, number of operands,\n\
                  trays of pieces and live slots with the frame's; where they agree, nothing is\n\
@@ -78,10 +78,10 @@ const RULES: &[Explanation] = &[
                   else its tray: a failure there names no point. Next, at each point, the results,\n\
                   which are the topmost operands, in their ranges, the exit frame's guards, and\n\
                   the offsets of the pieces: the first point at which one of them fails is named.\n\
-                  Where the state at the `ret` has no open numbers there is none to name, so a\n\
-                  refusal without a point may also be a wrong result, guard or offset. Slots and\n\
-                  the operands below the results are not compared. A `ret` in main and a `halt` in\n\
-                  another procedure are V22 too.",
+                  Where the state at the `ret` has no open numbers there is no point to name, so\n\
+                  a refusal without a point may also be a wrong result, guard or offset. Slots\n\
+                  and the operands below the results are not compared. A `ret` in main and a\n\
+                  `halt` in another procedure are V22 too.",
         cause: "a path through the procedure on which a step is missing, a\n\
                 `result` range that is too narrow, or two results in the wrong order: the one\n\
                 that was pushed last is the last one.",

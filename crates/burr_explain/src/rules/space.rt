@@ -44,7 +44,7 @@ const RULES: &[Explanation] = &[
         meaning: "The step may make two pieces of the tray overlap: the first one named, which is\n\
                   gripped, and the other one, at the point that is named.",
         cause: "a step too far, a direction that is blocked, a frame without the\n\
-                `guard` that leaves such points out, or a slot of which only each fourth number\n\
+                `guard` that leaves such points out, or a slot in which only each fourth number\n\
                 occurs, as 0, 4, 8 and 12.",
         remedy: "ask whether a run can come to the point named. Where none can, add\n\
                  a `guard` that is below 0 there to the last frame, or make a range smaller; of\n\
@@ -76,7 +76,7 @@ const RULES: &[Explanation] = &[
         cause: "the current tray, or one in which pieces still lie together.",
         remedy: "name a tray that has no piece at this place; the last frame's `at`\n\
                  lines and the `aside` lines after it say which do.",
-        example: "four cubes in a square, of which C and D go to tray 1 together
+        example: "four cubes in a square; C and D go to tray 1 together
 
     grip 2,3
     aside +y 1

@@ -5,7 +5,7 @@ use Rattle.burr_io.specs.Sink.{SinkView}
 use Rattle.burr_judge.specs.declared.fault.Fault.{Fault}
 use Rattle.burr_judge.specs.Faults.{line_of}
 use Rattle.burr_judge.specs.declared.status.Status.{Status}
-use Rattle.burr_judge.specs.PlanEnds.{Ends, PutsEnd, FailsToEnd, EndsOn, Ending, never}
+use Rattle.burr_judge.specs.PlanEnds.{Ends, PutsEnd, FailsToEnd, EndsOn, Ending}
 
 -- all that may be printed at one stage may be printed at the other
 abbrev pub AreAmong : Ends → Ends → Type 0
@@ -24,16 +24,14 @@ fails_among sink before after These Those (Err fault) among (inl (line, (output,
 fails_among sink before after These Those (Err fault) among (inr want) = inr want
 
 -- what is told of a call is told of the command
-pub ending_from : {S : Type 0} (sink : SinkView S) (before after : S) (These Those : Ends) (r : Result Status Fault)
-    → AreAmong These Those → EndsOn sink before after These r → Ending sink before after Those never r
-ending_from sink before after These Those (Ok status) among ((output, is, takes), tt) = ((output, among output status is, takes), tt)
-ending_from sink before after These Those (Err fault) among (tt, inl (line, (output, status, is, fails))) = (tt, inl (line, (output, status, among output status is, fails)))
-ending_from sink before after These Those (Err fault) among (tt, inr (line, kept)) = (tt, inr (inl kept))
+pub ending_from : {S : Type 0} (sink : SinkView S) (before after : S) (These Those : Ends) (Breaks : List ℕ → Type 0) (r : Result Status Fault)
+    → AreAmong These Those → EndsOn sink before after These r → Ending sink before after Those Breaks r
+ending_from sink before after These Those Breaks (Ok status) among ((output, is, takes), tt) = ((output, among output status is, takes), tt)
+ending_from sink before after These Those Breaks (Err fault) among (tt, fails) = (tt, inl (fails_among sink before after These Those (Err fault) among fails))
 
 -- so it is of one stage and the next of a command
 pub ending_among : {S : Type 0} (sink : SinkView S) (before after : S) (These Those : Ends) (Breaks Others : List ℕ → Type 0) (r : Result Status Fault)
     → AreAmong These Those → ((line : List ℕ) → Breaks line → Others line) → Ending sink before after These Breaks r → Ending sink before after Those Others r
 ending_among sink before after These Those Breaks Others (Ok status) among more ((output, is, takes), tt) = ((output, among output status is, takes), tt)
-ending_among sink before after These Those Breaks Others (Err fault) among more (tt, inl (line, (output, status, is, fails))) = (tt, inl (line, (output, status, among output status is, fails)))
-ending_among sink before after These Those Breaks Others (Err fault) among more (tt, inr (inl kept)) = (tt, inr (inl kept))
-ending_among sink before after These Those Breaks Others (Err fault) among more (tt, inr (inr breaks)) = (tt, inr (inr (more (line_of fault) breaks)))
+ending_among sink before after These Those Breaks Others (Err fault) among more (tt, inl fails) = (tt, inl (fails_among sink before after These Those (Err fault) among fails))
+ending_among sink before after These Those Breaks Others (Err fault) among more (tt, inr breaks) = (tt, inr (more (line_of fault) breaks))

@@ -17,7 +17,7 @@ pub data Dialogue {Told : Type 0} (Answers : Told → List ℕ → List ℕ → 
 abbrev pub lines_bytes : List (List ℕ) → List ℕ
 lines_bytes lines = flat_map (λ line. line ++ 10 ∷ []) lines
 
--- a whole input is that of lines, the last of which may lack its end, but then is not empty
+-- a whole input is that of lines; the last line may lack its end, but then it is not empty
 abbrev pub IsInputOf : List ℕ → List (List ℕ) → Type 0
 IsInputOf input lines =
     (input ≡ lines_bytes lines)

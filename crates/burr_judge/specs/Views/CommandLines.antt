@@ -12,8 +12,8 @@ use Rattle.burr_step.specs.Rules.StepTexts.{LineCommand, Steps, Shows, Quits, li
 use Rattle.burr_step.specs.Views.Stepping.{Stepping}
 use Rattle.burr_judge.specs.declared.commands.StepFault.{StepFault}
 use Rattle.burr_judge.specs.declared.commands.StepFault.TheVariants as faults
-use Rattle.burr_judge.specs.declared.commands.line.Command.{Command}
-use Rattle.burr_judge.specs.declared.commands.line.Command.TheVariants as read
+use Rattle.burr_judge.specs.declared.commands.Command.{Command}
+use Rattle.burr_judge.specs.declared.commands.Command.TheVariants as read
 
 -- a command that the code has read
 abbrev pub command_of : Command → LineCommand

@@ -79,8 +79,8 @@ HandsLast Answers sink before after old line new =
     ((line ≡ []) × (after ≡ before) × (new ≡ old))
     ⊎ ((line ≢ []) × ((goes_on : Bool) × HandsAnswer Answers sink before after old line goes_on new))
 
--- one more byte: it belongs to a line that goes on, of which the first `most` bytes are kept; or it
--- ends a line, and whatever line it is whose first bytes were kept, that is answered
+-- one more byte: it belongs to a line that goes on, and the first `most` bytes of that are kept;
+-- or it ends a line, which is answered, whatever line it is whose first bytes were kept
 abbrev pub TakesByte : {Told S : Type 0} → Answering Told → ℕ → ℕ → List ℕ → List ℕ → SinkView S
     → Lines S → Lines S → Told → Bool → Told → Type 0
 TakesByte Answers most byte kept kept_after sink before after old goes_on new =

@@ -1,5 +1,5 @@
-ghost use Rattle.burr_judge.specs.PlanEnds.{Ending, never};
-ghost use Rattle.burr_program.specs.Commands.{AsmCommand};
+ghost use Rattle.burr_judge.specs.PlanEnds.{never};
+ghost use Rattle.burr_program.specs.Commands.{AsmCommand, EndsOnFiles};
 
 use crate::files::{Content, are_one_file, read_file, write_file};
 use burr_asm::{AsmFault, assemble};
@@ -16,7 +16,7 @@ pub fn assemble_file<'a, F: Files + AllocGlobal, W: Sink>(
     out: &'a str,
     sink: &mut W,
 ) -> Result<Status, Fault<'a>>
-    ensures { Ending W.Sink sink.old sink.new AsmCommand never result }
+    ensures { EndsOnFiles W.Sink sink.old sink.new AsmCommand never result }
 {
     if are_one_file(files, text, out) {
         return Err(Fault::OutIsInput("TEXT", out));

@@ -3,9 +3,9 @@ ghost use Rattle.std.specs.Fmt.{signed_decimal};
 ghost use Rattle.std.specs.List.{flat_map};
 ghost use Rattle.burr_assembly.specs.Rules.Faults.{FirstFault};
 ghost use Rattle.burr_assembly.specs.Rules.Homes.{homes_of, names_of};
-ghost use Rattle.burr_judge.specs.PlanEnds.{EndsOn, Ending, never, TextEnds};
+ghost use Rattle.burr_judge.specs.PlanEnds.{EndsOn, never, TextEnds};
 ghost use Rattle.burr_program.specs.CellEnds.{CellEnds, cell_line, cell_lines};
-ghost use Rattle.burr_program.specs.Commands.{CellsCommand};
+ghost use Rattle.burr_program.specs.Commands.{CellsCommand, EndsOnFiles};
 
 use crate::files::read_file;
 use burr_assembly::{Assembly, AssemblyFault};
@@ -23,7 +23,7 @@ pub fn cells_file<'a, F: Files + AllocGlobal, W: Sink>(
     assembly: &'a str,
     sink: &mut W,
 ) -> Result<Status, Fault<'a>>
-    ensures { Ending W.Sink sink.old sink.new CellsCommand never result }
+    ensures { EndsOnFiles W.Sink sink.old sink.new CellsCommand never result }
 {
     let text = read_file(files, assembly)?;
     put_cells_of(files.alloc(), &text, sink)

@@ -1,5 +1,5 @@
-ghost use Rattle.burr_judge.specs.PlanEnds.{Ending, never};
-ghost use Rattle.burr_program.specs.Commands.{CheckCommand};
+ghost use Rattle.burr_judge.specs.PlanEnds.{never};
+ghost use Rattle.burr_program.specs.Commands.{CheckCommand, EndsOnFiles};
 
 use crate::files::read_file;
 use burr_io::Sink;
@@ -15,7 +15,7 @@ pub fn check_files<'a, F: Files + AllocGlobal, W: Sink>(
     plan: &'a str,
     sink: &mut W,
 ) -> Result<Status, Fault<'a>>
-    ensures { Ending W.Sink sink.old sink.new CheckCommand never result }
+    ensures { EndsOnFiles W.Sink sink.old sink.new CheckCommand never result }
 {
     let text = read_file(files, assembly)?;
     let container = read_file(files, plan)?;

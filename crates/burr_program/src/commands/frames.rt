@@ -1,6 +1,6 @@
 ghost use Rattle.burr_container.specs.Views.Containers.{HasPlan};
-ghost use Rattle.burr_judge.specs.PlanEnds.{EndsOn, Ending, never};
-ghost use Rattle.burr_program.specs.Commands.{DoneEnds};
+ghost use Rattle.burr_judge.specs.PlanEnds.{EndsOn, never};
+ghost use Rattle.burr_program.specs.Commands.{DoneEnds, EndsOnFiles};
 ghost use Rattle.burr_program.specs.MakingEnds.{Makes};
 ghost use Rattle.burr_trace.specs.FilledTexts.{IsFilledIn};
 
@@ -28,7 +28,7 @@ pub fn frames_file<'a, F: Files + AllocGlobal, W: Sink>(
     out: &'a str,
     sink: &mut W,
 ) -> Result<Status, Fault<'a>>
-    ensures { Ending W.Sink sink.old sink.new DoneEnds never result }
+    ensures { EndsOnFiles W.Sink sink.old sink.new DoneEnds never result }
 {
     keep_sources(files, assembly, ("TEXT", text), out)?;
     let drawing = read_text(files, assembly)?;
@@ -76,7 +76,7 @@ fn write_filled<'a, F: Files + AllocGlobal, W: Sink>(
     sink: &mut W,
 ) -> Result<Status, Fault<'a>>
     requires { IsFilledIn framed.now.0.now filled.text.items }
-    ensures { Ending W.Sink sink.old sink.new DoneEnds never result }
+    ensures { EndsOnFiles W.Sink sink.old sink.new DoneEnds never result }
 {
     write_file(files, out, framed, &filled.text)?;
     tell_left(filled, sink)
@@ -97,7 +97,7 @@ fn tell_left<'a, W: Sink>(filled: Filled, sink: &mut W) -> Result<Status, Fault<
     }
 }
 
-/// A plan text of which nothing is changed but lines that end by the word `auto`.
+/// A plan text in which nothing is changed but lines that end by the word `auto`.
 #[derive(Clone, Copy)]
 struct Framed<'x>(&'x [u8]);
 
@@ -119,7 +119,7 @@ struct Filling<'x, 't> {
 
 impl<'x, 't, W: Sink> Refuse<W> for Filling<'x, 't> {
     ghost use Rattle.burr_judge.specs.PlanEnds.{EndsOn};
-    ghost use Rattle.burr_program.specs.Commands.{DoneEnds};
+    ghost use Rattle.burr_program.specs.Commands.{DoneEnds, EndsOnFiles};
 
     ghost refuses = { λ _ before _ r after. EndsOn W.Sink before after DoneEnds r };
 
@@ -165,7 +165,7 @@ enum Runs {
 
 impl<'x, 't, R, W: Sink> PlanUse<R, Option<Filled>, W> for Filling<'x, 't> {
     ghost use Rattle.std.specs.Prelude.{⊤};
-    ghost use Rattle.burr_program.specs.Commands.{DoneEnds};
+    ghost use Rattle.burr_program.specs.Commands.{DoneEnds, EndsOnFiles};
     ghost use Rattle.burr_program.specs.MakingEnds.{Makes};
     ghost use Rattle.burr_trace.specs.FilledTexts.{IsFilledIn};
 

@@ -1,6 +1,6 @@
 ghost use Rattle.std.specs.Prelude.{IfOk};
-ghost use Rattle.burr_judge.specs.PlanEnds.{EndsOn, Ending, never};
-ghost use Rattle.burr_program.specs.Commands.{IsContainerListing, ListingEnds, ListCommand};
+ghost use Rattle.burr_judge.specs.PlanEnds.{EndsOn, never};
+ghost use Rattle.burr_program.specs.Commands.{IsContainerListing, ListingEnds, ListCommand, EndsOnFiles};
 
 use crate::files::read_file;
 use burr_asm::{list, list_with_places};
@@ -19,7 +19,7 @@ pub fn list_file<'a, F: Files + AllocGlobal, W: Sink>(
     places: bool,
     sink: &mut W,
 ) -> Result<Status, Fault<'a>>
-    ensures { Ending W.Sink sink.old sink.new (ListCommand places) never result }
+    ensures { EndsOnFiles W.Sink sink.old sink.new (ListCommand places) never result }
 {
     let bytes = read_file(files, plan)?;
     match Container::parse(&bytes) {

@@ -1,5 +1,5 @@
-ghost use Rattle.burr_judge.specs.PlanEnds.{EndsOn, Ending, never};
-ghost use Rattle.burr_program.specs.Commands.{PlanSheetCommand, SomeRefusal};
+ghost use Rattle.burr_judge.specs.PlanEnds.{EndsOn, never};
+ghost use Rattle.burr_program.specs.Commands.{PlanSheetCommand, SomeRefusal, EndsOnFiles};
 
 use crate::files::{Content, keep_sources, read_text, write_file};
 use crate::notes::{Named, Noting, refuse_line, refuse_with_notes};
@@ -14,8 +14,8 @@ use burr_why::reason_of_line;
 use std::alloc::Global;
 use std::rt::Files;
 
-/// Makes a file of the plan text of a sheet's move lines. Where there is none, why is put, and the file
-/// is left alone. That file may not be one that is read.
+/// Makes a file of the plan text of a sheet's move lines. Where there is no such text, the reason
+/// is put, and the file is left alone. That file may not be one that is read.
 #[inline(never)]
 pub fn plan_sheet_file<'a, F: Files + AllocGlobal, W: Sink>(
     files: &F,
@@ -24,7 +24,7 @@ pub fn plan_sheet_file<'a, F: Files + AllocGlobal, W: Sink>(
     out: &'a str,
     sink: &mut W,
 ) -> Result<Status, Fault<'a>>
-    ensures { Ending W.Sink sink.old sink.new PlanSheetCommand never result }
+    ensures { EndsOnFiles W.Sink sink.old sink.new PlanSheetCommand never result }
 {
     keep_sources(files, assembly, ("SHEET", sheet), out)?;
     let drawing = read_text(files, assembly)?;

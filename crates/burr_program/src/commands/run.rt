@@ -1,6 +1,6 @@
-ghost use Rattle.burr_judge.specs.PlanEnds.{Ending, never};
+ghost use Rattle.burr_judge.specs.PlanEnds.{never};
 ghost use Rattle.burr_judge.specs.StepEnds.{left_by};
-ghost use Rattle.burr_program.specs.Commands.{AnsweredCommand};
+ghost use Rattle.burr_program.specs.Commands.{AnsweredCommand, EndsOnFiles};
 
 use crate::files::read_file;
 use burr_io::{Sink, Source};
@@ -20,7 +20,7 @@ pub fn run_files<'a, F: Files + AllocGlobal, R: Source, W: Sink>(
     source: &mut R,
     sink: &mut W,
 ) -> Result<Status, Fault<'a>>
-    ensures { Ending W.Sink sink.old sink.new
+    ensures { EndsOnFiles W.Sink sink.old sink.new
         (AnsweredCommand task (left_by R.Source source.old source.new)) never result }
 {
     let text = read_file(files, assembly)?;

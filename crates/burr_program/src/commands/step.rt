@@ -1,9 +1,8 @@
 ghost use Rattle.std.specs.Prelude.{◌≡◌, []};
 ghost use Rattle.burr_io.specs.WholeLines.{lines_view};
 ghost use Rattle.burr_runs.specs.Views.BenchText.{streams};
-ghost use Rattle.burr_judge.specs.PlanEnds.{Ending};
 ghost use Rattle.burr_judge.specs.StepEnds.{left_by};
-ghost use Rattle.burr_program.specs.Commands.{StepCommand, StepCommandBreaks};
+ghost use Rattle.burr_program.specs.Commands.{StepCommand, StepCommandBreaks, EndsOnFiles};
 
 use crate::files::read_file;
 use burr_io::{Sink, Source, WholeLines};
@@ -22,7 +21,7 @@ pub fn step_files<'a, F: Files + AllocGlobal, R: Source, W: Sink, const N: usize
     sink: &mut WholeLines<W, N>,
 ) -> Result<Status, Fault<'a>>
     requires fresh { sink.old.held ≡ [] }
-    ensures { Ending (lines_view W.Sink) sink.old sink.new
+    ensures { EndsOnFiles (lines_view W.Sink) sink.old sink.new
         (StepCommand (left_by R.Source source.old source.new))
         (StepCommandBreaks (streams R.Source source.old source.new W.Sink sink.old.sink sink.new.sink))
         result }

@@ -1,8 +1,8 @@
 ghost use Rattle.std.specs.Prelude.{◌≡◌, IfOk};
 ghost use Rattle.burr_judge.specs.declared.tasks.Task.TheVariants as tasks;
-ghost use Rattle.burr_judge.specs.PlanEnds.{EndsOn, Ending, never};
+ghost use Rattle.burr_judge.specs.PlanEnds.{EndsOn, never};
 ghost use Rattle.burr_judge.specs.StepEnds.{left_by};
-ghost use Rattle.burr_program.specs.Commands.{TraceCommand};
+ghost use Rattle.burr_program.specs.Commands.{TraceCommand, EndsOnFiles};
 ghost use Rattle.burr_program.specs.NotedEnds.{NotedEnds};
 ghost use Rattle.burr_trace.specs.FilledTexts.{IsFilledIn};
 
@@ -30,7 +30,7 @@ pub fn trace_files<'a, F: Files + AllocGlobal, R: Source, W: Sink>(
     source: &mut R,
     sink: &mut W,
 ) -> Result<Status, Fault<'a>>
-    ensures { Ending W.Sink sink.old sink.new
+    ensures { EndsOnFiles W.Sink sink.old sink.new
         (TraceCommand (left_by R.Source source.old source.new)) never result }
 {
     let drawing = read_text(files, assembly)?;

@@ -1,5 +1,5 @@
-ghost use Rattle.burr_judge.specs.PlanEnds.{Ending, never};
-ghost use Rattle.burr_program.specs.Commands.{UpgradeCommand};
+ghost use Rattle.burr_judge.specs.PlanEnds.{never};
+ghost use Rattle.burr_program.specs.Commands.{UpgradeCommand, EndsOnFiles};
 
 use crate::files::{Content, are_one_file, read_file, write_file};
 use burr_container::Container;
@@ -17,7 +17,7 @@ pub fn upgrade_file<'a, F: Files + AllocGlobal, W: Sink>(
     out: &'a str,
     sink: &mut W,
 ) -> Result<Status, Fault<'a>>
-    ensures { Ending W.Sink sink.old sink.new UpgradeCommand never result }
+    ensures { EndsOnFiles W.Sink sink.old sink.new UpgradeCommand never result }
 {
     if are_one_file(files, plan, out) {
         return Err(Fault::OutIsInput("PLAN", out));

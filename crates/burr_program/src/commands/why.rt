@@ -1,7 +1,7 @@
 ghost use Rattle.std.specs.Prelude.{[]};
 ghost use Rattle.burr_judge.specs.declared.tasks.Task.TheVariants as tasks;
-ghost use Rattle.burr_judge.specs.PlanEnds.{EndsOn, Ending, never};
-ghost use Rattle.burr_program.specs.Commands.{WhyCommand};
+ghost use Rattle.burr_judge.specs.PlanEnds.{EndsOn, never};
+ghost use Rattle.burr_program.specs.Commands.{WhyCommand, EndsOnFiles};
 ghost use Rattle.burr_program.specs.NotedEnds.{NotedEnds};
 
 use crate::files::read_text;
@@ -20,7 +20,7 @@ pub fn why_files<'a, F: Files + AllocGlobal, W: Sink>(
     plan: &'a str,
     sink: &mut W,
 ) -> Result<Status, Fault<'a>>
-    ensures { Ending W.Sink sink.old sink.new WhyCommand never result }
+    ensures { EndsOnFiles W.Sink sink.old sink.new WhyCommand never result }
 {
     let drawing = read_text(files, assembly)?;
     let text = read_text(files, plan)?;

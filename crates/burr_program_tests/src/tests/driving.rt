@@ -116,8 +116,8 @@ $burr drive cup cup.bpln
 ";
 
 /// Real burrs: a question in the middle of a line of the sheet, so that the moves before and after it are
-/// two; two questions, of which one asks for a number of units; groups of several pieces, and more trays.
-const PUZZLES: &str = "\
+/// two; two questions, one of them for a number of units; groups of several pieces, and more trays.
+pub const PUZZLES: &str = "\
 <plan cup 2 6
 <proc main 0
 <label start
@@ -721,7 +721,7 @@ fn leads_move_by_move(rt: HostRuntime) {
 }
 
 /// A pair of four cubes that goes out as one lies in a tray of its own, and is taken apart there.
-const GROUP: &str = "\
+pub const GROUP: &str = "\
 <assembly square
 <shape cube
 <layer

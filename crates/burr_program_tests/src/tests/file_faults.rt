@@ -88,7 +88,7 @@ impl<F: OpenFile> OpenFile for FaultyFile<'_, F> {
     }
 }
 
-/// A runtime with files of which one call fails, and which move a byte a call.
+/// A runtime with files: one call to them fails, and each call moves one byte.
 #[derive(Drop)]
 struct Faulty<'a, T> {
     rt: &'a T,
@@ -253,6 +253,46 @@ fn assert_faults<T: Abort + Files + AllocGlobal>(rt: &T, command: &str, from: &s
     let faults = faults_of(rt, making);
     assert_case(rt, &unread, faults.unread > length_of(rt, from));
     assert_case(rt, &line, faults.unwritten > length_of(rt, "right"));
+}
+
+/// How a list ends where the call on files after the first `before` fails; None where it makes no such
+/// call.
+fn end_of_faulty<T: Files + AllocGlobal>(rt: &T, words: &[String], before: usize) -> Option<End> {
+    let calls = Calls {
+        before: Cell::new(before),
+        has_failed: Cell::new(false),
+    };
+    let faulty = Faulty { rt, calls: &calls };
+    let end = end_over(&faulty, words, Drips::of("duo\tduo.plan\nduo\tduo.bpln\n"));
+    calls.has_failed.get().then_some(end)
+}
+
+/// A call that fails is that of a file of the first line, or of the second one.
+const FIRST: &str = "1 3 cannot read\n2 0 accepted cost 3 budget 3 looks 1\n";
+
+const SECOND: &str = "1 0 accepted cost 3 budget 3 looks 1\n2 3 cannot read\n";
+
+/// Whichever call on files fails, its line is told so, and the other one is judged.
+#[test]
+fn judges_the_other_line_where_a_call_fails(rt: HostRuntime) {
+    assert_examples(&rt, "");
+    let words = words_of(&rt, "burr judge");
+    let mut firsts = 0u64;
+    let mut seconds = 0u64;
+    for before in 0..MANY {
+        let Some(end) = end_of_faulty(&rt, &words, before) else {
+            break;
+        };
+        if end.is(3, FIRST, "") {
+            firsts = firsts.saturating_add(1);
+            assert_case(&rt, "first", seconds == 0);
+        } else {
+            seconds = seconds.saturating_add(1);
+            assert_case(&rt, "second", end.is(3, SECOND, ""));
+        }
+    }
+    assert_case(&rt, "duo.plan", firsts > length_of(&rt, "duo.plan"));
+    assert_case(&rt, "duo.bpln", seconds > length_of(&rt, "duo.bpln"));
 }
 
 /// The old container stands until the new one is whole, whichever call on files fails.

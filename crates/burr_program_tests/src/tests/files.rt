@@ -54,7 +54,7 @@ fn assert_told<T: Abort + Files + AllocGlobal>(rt: &T, commands: &str, told: &st
 }
 
 /// Makes a file of `length` bytes.
-fn put_long<T: Files>(rt: &T, name: &str, length: usize) -> io::Result<()> {
+pub fn put_long<T: Files>(rt: &T, name: &str, length: usize) -> io::Result<()> {
     File::create(rt, name)?.set_len(length as u64)
 }
 

@@ -111,7 +111,7 @@ $burr why duo s.plan
 ?0
 ";
 
-/// Lines of which each is faulty as the second one of a sheet, and what is said of it.
+/// Lines that are each faulty as the second one of a sheet, and what is said of them.
 const FAULTY_LINES: &str = "\
 |a move line has the form `3 t0 A,B +x 2 out`, one blank between words
 A +z|a move line has the form `3 t0 A,B +x 2 out`, one blank between words

@@ -38,10 +38,11 @@ fn number_of_made<T: Files>(rt: &T) -> Option<u64> {
     }
 }
 
-/// Whether a call wants memory: its status and its line, nothing printed, and the file stands that
-/// stood before.
+/// Whether a call wants memory: its status, with its complaint alone or the answer to a list's first line
+/// alone, and the file stands that stood before.
 fn is_want<T: Files>(rt: &T, end: &End, made: Option<u64>) -> bool {
-    end.is(4, "", "no memory\n") && number_of_made(rt) == made
+    let is_told = end.is(4, "", "no memory\n") || end.is(4, "1 4 no memory\n", "");
+    is_told && number_of_made(rt) == made
 }
 
 /// How a call ends that is made farther down the stack than others: those that tell a fault need
@@ -132,6 +133,14 @@ burr try cup cup.bpln
 burr trace cup cup.plan
 ";
 
+/// Lists of one line.
+const LISTS: &str = "\
+cup\tcup.bpln
+cup\tcup.plan
+cup\tduo.bpln
+cup.bpln\tcup.plan
+";
+
 /// Command lines that read none, or none that is there.
 const WITH_FILES: &str = "\
 burr cells cup
@@ -169,22 +178,41 @@ fn tells_a_want_of_memory_for_files(rt: HostRuntime) {
     assert_transcript(&rt, BESIDE);
 }
 
-/// A reader that gives a byte a call, and takes all memory where `greed` bytes are left.
+#[test]
+fn tells_a_want_of_memory_for_a_line_of_a_list(rt: HostRuntime) {
+    assert_transcript(&rt, EXAMPLES);
+    for list in LISTS.lines() {
+        grow_stack(&rt, "burr judge", list);
+    }
+    for list in LISTS.lines() {
+        assert_wants(&rt, "burr judge", list);
+    }
+}
+
+/// A reader that gives a byte a call, takes all memory before a text of what is left, and gives it back
+/// before another one.
 #[derive(Drop)]
 struct Greedy<'a> {
     drips: Drips<'a>,
-    greed: usize,
+    greed: &'a str,
+    relief: &'a str,
     alloc: Global,
     blocks: Vec<Vec<u8>>,
 }
 
-impl Greedy<'_> {
-    /// A reader of commands that takes all memory after the first of them.
-    fn commands<T: Abort + AllocGlobal>(rt: &T) -> Greedy<'_> {
+impl<'a> Greedy<'a> {
+    /// A reader of a text.
+    fn of<T: Abort + AllocGlobal>(
+        rt: &T,
+        text: &'a str,
+        greed: &'a str,
+        relief: &'a str,
+    ) -> Greedy<'a> {
         let alloc = rt.alloc();
         Greedy {
-            drips: Drips::of(COMMANDS),
-            greed: COMMANDS.len() - "forward\n".len(),
+            drips: Drips::of(text),
+            greed,
+            relief,
             alloc,
             blocks: Vec::with_capacity(alloc, MOST_BLOCKS).expect(rt, "memory"),
         }
@@ -193,8 +221,11 @@ impl Greedy<'_> {
 
 impl Read for Greedy<'_> {
     fn read(&mut self, buffer: &mut [u8]) -> io::Result<usize> {
-        if self.drips.left.len() == self.greed {
+        if self.drips.left == self.greed.as_bytes() {
             take_all_memory(self.alloc, &mut self.blocks);
+        }
+        if self.drips.left == self.relief.as_bytes() {
+            self.blocks.clear();
         }
         self.drips.read(buffer)
     }
@@ -205,13 +236,15 @@ const ANSWERED: &str = "forward\nshow\nback 1\nuntil 0 2\n";
 
 const COMMANDS: &str = "forward\nshow\nback 1\nuntil 0 2\nanswer 1\nshow\n";
 
+const AFTER_FORWARD: &str = "show\nback 1\nuntil 0 2\nanswer 1\nshow\n";
+
 /// Once a dialogue has begun answers alone ask for memory, and what was answered before one of them
 /// holds.
 #[test]
 fn tells_a_want_of_memory_between_commands(rt: HostRuntime) {
     assert_transcript(&rt, EXAMPLES);
     let words = words_of(&rt, "burr step cup cup.bpln");
-    let greedy = Greedy::commands(&rt);
+    let greedy = Greedy::of(&rt, COMMANDS, AFTER_FORWARD, "none");
     // farther down the stack first, as above
     let ample = end_farther_down(&rt, &words, COMMANDS);
     let answered = end_over(&rt, &words, Drips::of(ANSWERED));
@@ -222,4 +255,30 @@ fn tells_a_want_of_memory_between_commands(rt: HostRuntime) {
         "want",
         end.is(4, answered.output.text(), "no memory\n"),
     );
+}
+
+/// A list: memory is taken before its second line, and given back before the third one.
+const LISTED: &str = "duo\tduo.plan\ncup\tcup.plan\nduo\tduo.bpln\n";
+
+const LAST_TWO: &str = "cup\tcup.plan\nduo\tduo.bpln\n";
+
+const LAST: &str = "duo\tduo.bpln\n";
+
+const TOLD: &str = "\
+1 0 accepted cost 3 budget 3 looks 1
+2 4 no memory
+3 0 accepted cost 3 budget 3 looks 1
+";
+
+/// A line without memory is answered so, and the next one is judged with the memory that there is then.
+#[test]
+fn judges_lines_after_one_that_wants_memory(rt: HostRuntime) {
+    assert_transcript(&rt, EXAMPLES);
+    let words = words_of(&rt, "burr judge");
+    let greedy = Greedy::of(&rt, LISTED, LAST_TWO, LAST);
+    // farther down the stack first, as above
+    let ample = end_farther_down(&rt, &words, LISTED);
+    let end = end_over(&rt, &words, greedy);
+    assert_case(&rt, "ample", ample.status == 0);
+    assert_case(&rt, end.output.text(), end.is(4, TOLD, ""));
 }

@@ -57,7 +57,7 @@ const DUO_BYTES: &[u8] = b"BPLN\x00\x01\x00\x00\x00\x03\x02\x03duo\x01\
 \x00\x00\x00\x00\x00\x00\x00\x00\x00\x00\x00\x00\x00\
 \x00\x09\x10\x00\x00\x00\x01\x12\x01\x01\x00";
 
-/// Two pieces of one shape, of which the second is turned and lies on both sides of 0; and a text that is
+/// Two pieces of one shape: the second is turned, and lies on both sides of 0. And a text that is
 /// no assembly.
 const HOMES: &str = "\
 <assembly two-ells

@@ -100,7 +100,7 @@ fn reads_up_to_the_end_or_quit(rt: HostRuntime) {
     assert_case(&rt, "rest", rest.left == b"forward\n".as_slice());
 }
 
-/// A line of 64 bytes and longer ones, of up to 5005 bytes, are no commands, whatever they begin with.
+/// A line of 64 bytes and longer ones, of up to 50,005 bytes, are no commands, whatever they begin with.
 const LONG: &str = "\
 <back 00000000000000000000000000000000000000000000000000000000000
 <forward
@@ -122,6 +122,7 @@ $burr step cup cup.bpln
 ?0
 <back 0
 /0/00000
+/0/0000000000
 /0/0000000000
 /0/0000000000
 /0/0000000000

@@ -45,6 +45,7 @@ burr explain V15
 burr check cup cup.bpln
 burr step cup duo.bpln
 burr drive cup duo.bpln
+burr judge --help
 burr --help
 burr solve
 ";
@@ -115,6 +116,7 @@ burr plan duo cup made
 burr explain V15
 burr check cup cup.bpln
 burr check cup duo.bpln
+burr judge<duo\tduo.plan;duo\tnone;;cup\tduo.bpln;
 burr run cup cup.bpln<2;
 burr run cup cup.bpln
 burr run cup duo.bpln

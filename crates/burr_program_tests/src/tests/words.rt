@@ -6,7 +6,7 @@ use burr_program::end_without_words;
 /// The version, a fault of the words, and words and lines that are explained or not.
 const REPLIES: &str = "\
 $burr --version
->burr 0.1.0
+>burr 1.0.0 (rattle-kit-13f logic dac8208d650f15bf)
 ?0
 $burr list
 !error: the following required arguments were not provided:
@@ -33,6 +33,7 @@ fn replies_to_words(rt: HostRuntime) {
 const ALIKE: &str = "\
 burr help=burr --help
 burr help asm=burr asm --help
+burr help judge=burr judge -h
 burr explain a4=burr explain REFUSED A4 line 7
 burr explain 3=burr explain trap 3 NotFree proc 0 pc 5 after 1 steps
 ";

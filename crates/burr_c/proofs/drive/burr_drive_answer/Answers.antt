@@ -4,8 +4,8 @@ use Rattle.std.proofs.lemmas.Int.{to_z-of_z}
 use Rattle.burr_step.specs.Views.Driving.{Answers, Driving}
 use Rattle.burr_step.specs.Views.Stepping.{Stepping}
 use Rattle.burr_c.specs.DriveCalls.{AnswerComes, answered, code_of}
-use Rattle.burr_c.specs.declared.kept_run.KeptRun.{KeptRun}
-use Rattle.burr_c.specs.declared.kept_run.KeptRun.TheVariants.{Drive, Stepper}
+use Rattle.burr_c.specs.declared.handle.KeptRun.{KeptRun}
+use Rattle.burr_c.specs.declared.handle.KeptRun.TheVariants.{Drive, Stepper}
 use Rattle.burr_c.specs.declared.told.Came.{Came}
 use Rattle.burr_c.specs.declared.told.Came.TheVariants.{Closed}
 use Rattle.burr_c.proofs.drive.burr_drive_answer.Goals as goal

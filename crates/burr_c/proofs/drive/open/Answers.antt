@@ -1,8 +1,8 @@
 use Rattle.std.proofs.Common.{◌≡◌, ◌∙◌, Some, ap, sym}
 use Rattle.burr_step.specs.Views.Driving.{Driving, IsReady}
 use Rattle.burr_c.specs.declared.handle.Handle.{Handle}
-use Rattle.burr_c.specs.declared.kept_run.KeptRun.{KeptRun}
-use Rattle.burr_c.specs.declared.kept_run.KeptRun.TheVariants.{Drive}
+use Rattle.burr_c.specs.declared.handle.KeptRun.{KeptRun}
+use Rattle.burr_c.specs.declared.handle.KeptRun.TheVariants.{Drive}
 use Rattle.burr_c.specs.DriveCalls.{DriveBegins}
 use Rattle.burr_c.proofs.Opening.{opens_as, wrapped}
 use Rattle.burr_c.proofs.drive.open.Goals as goal

@@ -4,8 +4,8 @@ use Rattle.burr_step.specs.Views.Driving.{Driving}
 use Rattle.burr_step.specs.Views.Stepping.{Stepping}
 use Rattle.burr_judge.specs.declared.status.Status.{Status}
 use Rattle.burr_judge.specs.declared.status.Status.TheVariants.{Done}
-use Rattle.burr_c.specs.declared.kept_run.KeptRun.{KeptRun}
-use Rattle.burr_c.specs.declared.kept_run.KeptRun.TheVariants.{Drive, Stepper}
+use Rattle.burr_c.specs.declared.handle.KeptRun.{KeptRun}
+use Rattle.burr_c.specs.declared.handle.KeptRun.TheVariants.{Drive, Stepper}
 use Rattle.burr_c.specs.declared.printed.CallFault.{CallFault}
 use Rattle.burr_c.specs.declared.printed.CallFault.TheVariants.{Memory}
 use Rattle.burr_c.specs.declared.printed.Printed.{Printed}

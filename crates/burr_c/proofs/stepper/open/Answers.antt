@@ -1,8 +1,8 @@
 use Rattle.std.proofs.Common.{◌≡◌, ◌∙◌, Some, ap, sym}
 use Rattle.burr_step.specs.Views.Stepping.{Stepping, IsFresh}
 use Rattle.burr_c.specs.declared.handle.Handle.{Handle}
-use Rattle.burr_c.specs.declared.kept_run.KeptRun.{KeptRun}
-use Rattle.burr_c.specs.declared.kept_run.KeptRun.TheVariants.{Stepper}
+use Rattle.burr_c.specs.declared.handle.KeptRun.{KeptRun}
+use Rattle.burr_c.specs.declared.handle.KeptRun.TheVariants.{Stepper}
 use Rattle.burr_c.specs.StepCalls.{StepperBegins}
 use Rattle.burr_c.proofs.Opening.{opens_as, wrapped}
 use Rattle.burr_c.proofs.stepper.open.Goals as goal

@@ -1,6 +1,7 @@
 use Rattle.std.proofs.Common.{ℕ, List, subst}
 use Rattle.burr_io.specs.WholeLines.{lines_view}
-use Rattle.burr_judge.specs.PlanEnds.{Ending, never}
+use Rattle.burr_judge.specs.PlanEnds.{never}
+use Rattle.burr_program.specs.Commands.{EndsOnFiles}
 use Rattle.burr_program.specs.ExplainEnds.{ExplainEnds}
 use Rattle.burr_program.proofs.commands.put_job.Goals as goal
 
@@ -18,6 +19,9 @@ returns-in-Upgrade g c = rw c.in-Upgrade.is c.upgrade_file.ensures
 
 pub returns-in-Check : goal.returns-in-Check
 returns-in-Check g c = rw c.in-Check.is c.check_files.ensures
+
+pub returns-in-Judge : goal.returns-in-Judge
+returns-in-Judge g c = rw c.in-Judge.is c.judge_list.ensures
 
 pub returns-in-Run : goal.returns-in-Run
 returns-in-Run g c = rw c.in-Run.is c.run_files.ensures
@@ -45,4 +49,4 @@ returns-in-PlanSheet g c = rw c.in-PlanSheet.is c.plan_sheet_file.ensures
 
 pub returns-in-Explain : goal.returns-in-Explain
 returns-in-Explain g c =
-    rw c.in-Explain.is (subst (λ (l : List ℕ). Ending (lines_view g.W.Sink) c.args.sink.now c.explain_line.new.sink (ExplainEnds l) never c.explain_line.result) c.deref.ensures c.explain_line.ensures.ends)
+    rw c.in-Explain.is (subst (λ (l : List ℕ). EndsOnFiles (lines_view g.W.Sink) c.args.sink.now c.explain_line.new.sink (ExplainEnds l) never c.explain_line.result) c.deref.ensures c.explain_line.ensures.ends)

@@ -3,8 +3,7 @@ use Rattle.burr_runs.specs.Rules.Refusals.{container_refusal}
 use Rattle.burr_judge.specs.declared.status.Status.TheVariants.{Done}
 use Rattle.burr_judge.specs.PlanEnds.{IsRefusal}
 use Rattle.burr_program.specs.Commands.{UpgradeCommand}
-use Rattle.burr_judge.proofs.Common.Stages.{ending_from}
-use Rattle.burr_program.proofs.Ending.{silent}
+use Rattle.burr_program.proofs.Ending.{files_from, silent}
 use Rattle.burr_program.proofs.commands.upgrade.upgrade_file.Goals as goal
 
 pub write_file-requires : goal.write_file-requires
@@ -18,5 +17,5 @@ returns-in-Ok g c =
 
 pub returns : goal.returns
 returns g c =
-    ending_from g.W.Sink c.args.sink.now c.refuse.new.sink (IsRefusal (container_refusal c.in-Err.fault)) UpgradeCommand c.refuse.result
+    files_from g.W.Sink c.args.sink.now c.refuse.new.sink (IsRefusal (container_refusal c.in-Err.fault)) UpgradeCommand c.refuse.result
     (λ output status is. (c.deref.result.now, inl (c.in-Err.fault, c.in-Err.ensures, is))) c.refuse.ensures
