@@ -10,7 +10,7 @@ TOP = os.path.dirname(os.path.dirname(os.path.dirname(os.path.abspath(__file__))
 BURR = os.path.abspath(os.environ.get("BURR", os.path.join(TOP, "crates", "burr", "out", "burr")))
 LIMITS = (
     (resource.RLIMIT_AS, 64 << 20),
-    (resource.RLIMIT_STACK, 256 << 10),
+    (resource.RLIMIT_STACK, 512 << 10),
     (resource.RLIMIT_CPU, 10),
     (resource.RLIMIT_CORE, 0),
     # what is printed is held in memory; beyond this burr has to say that it cannot write
@@ -32,12 +32,17 @@ REFUSAL = re.compile(
 )
 REASON = re.compile(REFUSAL.pattern + rb"(?:[ -~]+\n)+`burr explain (?:[APV]\d+|sheet|frame)` says more\n")
 TOLD = re.compile(rb"(?:\n(?:[ -~]+\n)+)+")
+NOTE = re.compile(rb"    answers:(?: -?\d+)+\n")
 WITH_REASON = ("why", "trace", "frames", "plan")
 ACCEPTED = re.compile(rb"accepted cost (\d+) budget (\d+) looks \d+\n")
 REPLY = re.compile(
     rb"refused (?:S[1-4]|command)\n|after \d+ steps(?: asks -?\d+ -?\d+| ended)?\n"
     rb"|after \d+ steps proc \d+ pc \d+(?: ended)?\ntray \d+ grip (?:-|" + NAMES_OF_PIECES + rb")\n"
     rb"slots(?: (?:-|-?\d+)){8}\nstack(?: -|(?: -?\d+)+)\n(?:" + NAME + rb" (?:apart|tray \d+ at -?\d+ -?\d+ -?\d+)\n)+"
+)
+LISTED_PAIR = re.compile(
+    rb"(?P<number>\d+) (?P<said>0 " + ACCEPTED.pattern + rb"|1 refused pair\n|1 " + REFUSAL.pattern
+    + rb"|3 cannot read\n|4 no memory\n)"
 )
 CELLS = re.compile(rb"(?:[A-Za-z][A-Za-z0-9_-]*(?: (?:0|-?[1-9][0-9]*)){3}\n)+")
 LISTED = re.compile(rb"(?:[ -~]+\n)+")
@@ -77,7 +82,10 @@ def closing_of(sheet):
 
 
 def parts_of(command, output):
-    """What is printed, of `trace` what `try` prints, and what it tells of labels."""
+    """What is printed, of `trace` what `try` prints, and what it tells of labels; of `frames` without the answers of the
+    run whose sheet it prints."""
+    if command == "frames":
+        return NOTE.sub(b"", output), b""
     end = output.find(b"\n\n")
     return (output[: end + 1], output[end + 1 :]) if command == "trace" and end >= 0 else (output, b"")
 
@@ -91,6 +99,17 @@ def is_dialogue(output):
             return False
         place = reply.end()
     return True
+
+
+def worst_of(output):
+    """The greatest status of the lines of `judge`; None where this is not lines of it, numbered from 1."""
+    place, number, worst = 0, 0, 0
+    while place < len(output):
+        line, number = LISTED_PAIR.match(output, place), number + 1
+        if not line or int(line["number"]) != number:
+            return None
+        place, worst = line.end(), max(worst, int(line["said"][:1]))
+    return worst
 
 
 def is_done(command, output):
@@ -111,12 +130,14 @@ def judge(command, answer, is_free):
     """Tells whether status, output and complaint go together. Where `is_free`, the words may have asked for help, and
     files may be missing or too large."""
     status, output, complaint = answer
+    if command == "judge" and not complaint and worst_of(output) == status:
+        return
     output, told = parts_of(command, output)
     if told and not TOLD.fullmatch(told):
         raise Wrong(f"trace tells {told[-200:]}")
     refusals = (REASON, REFUSAL) if command in WITH_REASON else (REFUSAL,)
     closing = closing_of(output) if status in (1, 5) else None
-    has_failed = is_free and (command == "step" or not output or complaint == b"cannot write -\n")
+    has_failed = is_free and (command in ("judge", "step") or not output or complaint == b"cannot write -\n")
     is_known = {
         0: lambda: not complaint and (is_free or is_done(command, output)),
         1: lambda: not complaint
