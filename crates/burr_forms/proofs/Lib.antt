@@ -5,6 +5,7 @@ mod Containing
 mod Corners
 mod Counting
 mod Counts
+mod Cutting
 mod Going
 mod GuardTests
 mod Listing

@@ -13,7 +13,7 @@ use Rattle.burr_forms.proofs.Carrying.{length-sums}
 use Rattle.burr_forms.proofs.Orders.{IsUpTo, IsNext, IsLast, follows_next, follows_none, lows_inside, none_before_lows}
 
 -- the guard's value, or the number, is not negative
-abbrev IsHeld : Point → Form → Type 0
+abbrev pub IsHeld : Point → Form → Type 0
 IsHeld point g = pos 0 ≤ℤ value point g
 
 abbrev IsNotNegative : ℤ → Type 0

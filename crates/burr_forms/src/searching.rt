@@ -1,10 +1,10 @@
-ghost use Rattle.std.specs.Prelude.{◌≡◌, ◌≤◌, ◌+◌, ◌*◌, ◌^◌, length, MatchOption, true};
+ghost use Rattle.std.specs.Prelude.{◌≡◌, ◌↔◌, ◌≤◌, ◌+◌, ◌*◌, ◌^◌, IsTrue, length, MatchOption, true};
 ghost use Rattle.burr_forms.specs.Views.Counting.{Counted, looks_at_values};
 ghost use Rattle.burr_forms.specs.Views.Rising.{count_in};
-ghost use Rattle.burr_forms.specs.Rules.Forms.{AllSmallForms, values, AllNear};
+ghost use Rattle.burr_forms.specs.Rules.Forms.{AllSmallForms, IsSmallForm, values, AllNear};
 ghost use Rattle.burr_forms.specs.Rules.Points.{AreRanges};
 ghost use Rattle.burr_forms.specs.Rules.Conditions.{region, at_values, Throughout, FailsFirstAt};
-ghost use Rattle.burr_forms.specs.Views.Searching.{IsAfter};
+ghost use Rattle.burr_forms.specs.Views.Searching.{HoldAlike, IsAfter, IsNegativeIn};
 
 use crate::condition::{Asking, passes};
 use crate::form::Form;
@@ -14,7 +14,8 @@ use crate::points::{
 use arrayvec::ArrayVec;
 
 /// The first failing point of a box, as `first_failing` gives it, by a look at each point. Along
-/// the last symbol values are carried on by addition.
+/// the last symbol values are carried on by addition. Where there are at most eight guards, those
+/// that hold in the whole box are left out.
 pub fn first_refused<C: Asking>(
     ranges: &[(i32, i32)],
     guards: &[Form],
@@ -44,12 +45,14 @@ pub fn first_refused<C: Asking>(
         (looks_at_values (C.Counts (C.subject condition.old)) (C.wanted (C.subject condition.old)))
         (C.count condition.old) (C.count condition.new) }
 {
+    let mut room = ArrayVec::new();
+    let cutting = cutting_guards(ranges, guards, &mut room);
     let last = ranges.len().saturating_sub(1);
-    let sign_steps = steps_along(guards, last);
+    let sign_steps = steps_along(cutting, last);
     let steps = steps_along(condition.wanted_forms(), last);
     let mut point = lowest_point(ranges);
     let mut signs = ArrayVec::new();
-    evaluate(guards, &point, &mut signs);
+    evaluate(cutting, &point, &mut signs);
     let mut line = Sweep {
         row: ArrayVec::new(),
         is_kept: false,
@@ -65,9 +68,45 @@ pub fn first_refused<C: Asking>(
         if !advance_point(ranges, &mut point) {
             return None;
         }
-        evaluate(guards, &point, &mut signs);
+        evaluate(cutting, &point, &mut signs);
         line.is_kept = false;
     }
+}
+
+/// The guards that are negative at a point of a box, copied into `room`. Where there are more than
+/// eight guards, all of them stay.
+fn cutting_guards<'a>(
+    ranges: &[(i32, i32)],
+    guards: &'a [Form],
+    room: &'a mut ArrayVec<Form, 8>,
+) -> &'a [Form]
+    requires few { length ranges.now ≤ 8 }
+    requires ranges { AreRanges ranges.now }
+    requires guards { AllSmallForms guards.now }
+    ensures alike { HoldAlike ranges.now guards.now result.now }
+    ensures small { AllSmallForms result.now }
+    ensures fewer { length result.now ≤ length guards.now }
+{
+    if 8 < guards.len() {
+        return guards;
+    }
+    room.clear();
+    for guard in guards {
+        if is_negative_in(ranges, guard) {
+            room.push(*guard);
+        }
+    }
+    room.as_slice()
+}
+
+/// Whether a form is negative at a point of a box, guards not counted.
+fn is_negative_in(ranges: &[(i32, i32)], form: &Form) -> bool
+    requires few { length ranges.now ≤ 8 }
+    requires ranges { AreRanges ranges.now }
+    requires small { IsSmallForm form.now }
+    ensures { IsTrue result ↔ IsNegativeIn ranges.now form.now }
+{
+    form.least_in(ranges) < 0
 }
 
 /// Values of forms on a line of points, which differ in their last number alone.

@@ -1,8 +1,8 @@
 -- A search over the points of a region, which carries values along the last symbol.
-use Rattle.std.specs.Prelude.{◌≡◌, ◌⊎◌, ◌^◌, ◌≤◌, ◌-◌, ℕ, suc, ℤ, pos, ◌+ℤ◌, ◌≤ℤ◌, Bool, IsTrue, List, [], ◌∷◌, map, All, length, Some, slice_index_or}
+use Rattle.std.specs.Prelude.{◌≡◌, ◌⊎◌, ◌↔◌, ◌^◌, ◌≤◌, ◌-◌, ℕ, suc, ℤ, pos, ◌+ℤ◌, ◌≤ℤ◌, ◌<ℤ◌, Bool, IsTrue, List, [], ◌∷◌, map, All, length, Some, slice_index_or}
 use Rattle.std.specs.Int.RustNames.{unsigned_abs}
-use Rattle.burr_forms.specs.Rules.Forms.{Form, Point, values}
-use Rattle.burr_forms.specs.Rules.Points.{InBox, IsPointOf, Precedes}
+use Rattle.burr_forms.specs.Rules.Forms.{Form, Point, value, values}
+use Rattle.burr_forms.specs.Rules.Points.{InBox, GuardsHold, IsPointOf, Precedes}
 use Rattle.burr_forms.specs.Views.Rising.{following}
 use Rattle.burr_forms.specs.Rules.Conditions.{Region}
 
@@ -61,6 +61,15 @@ IsAfter steps forms point numbers is_kept =
 -- what is kept are the values at this point
 abbrev pub IsHere : List Form → Point → List ℤ → Bool → Type 0
 IsHere forms point numbers is_kept = IsTrue is_kept → numbers ≡ values point forms
+
+-- the form is negative at a point of the box, guards not counted
+abbrev pub IsNegativeIn : List (ℤ × ℤ) → Form → Type 0
+IsNegativeIn ranges f = (point : Point) × InBox ranges point × (value point f <ℤ pos 0)
+
+-- guards that hold at the same points of a box
+abbrev pub HoldAlike : List (ℤ × ℤ) → List Form → List Form → Type 0
+HoldAlike ranges guards others =
+    (point : Point) → InBox ranges point → GuardsHold guards point ↔ GuardsHold others point
 
 -- no form has this symbol
 abbrev pub AllLack : ℕ → List Form → Type 0

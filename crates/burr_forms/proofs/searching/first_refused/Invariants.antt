@@ -6,13 +6,13 @@ use Rattle.burr_forms.proofs.searching.first_refused.Given as goal
 
 -- the condition holds at each point before this one; at this one the guards have these values, and
 -- the forms this line; and the looks so far are counted
-abbrev pub invariant-loop-sign_steps : goal.invariant-loop-sign_steps
-invariant-loop-sign_steps g l =
+abbrev pub invariant-loop-cutting : goal.invariant-loop-cutting
+invariant-loop-cutting g l =
     (g.C.Asking.subject l.condition ≡ g.C.Asking.subject l.initial.condition)
-    × Searches (region l.ranges l.guards) (g.C.Asking.Says (g.C.Asking.subject l.initial.condition))
+    × Searches (region l.ranges l.cutting) (g.C.Asking.Says (g.C.Asking.subject l.initial.condition))
     (g.C.Asking.Counts (g.C.Asking.subject l.initial.condition)) (g.C.Asking.most (g.C.Asking.subject l.initial.condition))
     (g.C.Asking.wanted (g.C.Asking.subject l.initial.condition)) l.signs.items l.steps.items l.line.row.items
     l.line.is_kept l.point.items (g.C.Asking.count l.initial.condition) (g.C.Asking.count l.condition)
 
-abbrev pub decreases-loop-sign_steps : goal.decreases-loop-sign_steps
-decreases-loop-sign_steps g l = count_after l.ranges l.point.items
+abbrev pub decreases-loop-cutting : goal.decreases-loop-cutting
+decreases-loop-cutting g l = count_after l.ranges l.point.items
