@@ -1,45 +1,29 @@
 -- What the pair that is kept of two classes answers about two pieces of them.
-use Rattle.std.proofs.Common.{◌≡◌, ◌↔◌, ℕ, ◌<◌, ◌≤◌, Bool, List, length, get_or, refl, sym, ap, subst, arith}
-use Rattle.std.specs.Prelude.{ℤ, ◌≢◌, IsTrue}
+use Rattle.std.proofs.Common.{◌≡◌, ◌↔◌, ◌∙◌, ℕ, ◌<◌, ◌≤◌, Bool, true, false, List, length, get_or, refl, sym, ap, subst, inl, inr, arith}
+use Rattle.std.specs.Prelude.{ℤ, ◌≢◌, ◌⊎◌, ◌+ℤ◌, ◌-ℤ◌, IsTrue}
+use Rattle.std.proofs.lemmas.Int.{ints}
 use Rattle.std.proofs.lemmas.List.{length-map}
 use Rattle.burr_voxels.specs.declared.cell.Cell.{Cell}
 use Rattle.burr_voxels.specs.declared.direction.Direction.{Direction}
-use Rattle.burr_voxels.specs.Grid.{minus, along, origin}
+use Rattle.burr_voxels.specs.Grid.{plus, minus, along, origin}
+use Rattle.burr_voxels.proofs.Common.Ahead.{same_cell}
 use Rattle.burr_assembly.specs.Rules.Text.{Assembly}
 use Rattle.burr_assembly.specs.Rules.Homes.{home_at, home_of, homes_of}
 use Rattle.burr_blocking.specs.declared.triangle.translate.Translate.{Translate}
 use Rattle.burr_blocking.specs.declared.triangle.Classes.{Classes}
+use Rattle.burr_blocking.specs.declared.triangle.translate.ClassPair.{ClassPair}
 use Rattle.burr_blocking.specs.declared.triangle.ClassPairs.{ClassPairs}
 use Rattle.burr_blocking.specs.Rules.Pairs.{IsBlocked, IsFreeFrom}
 use Rattle.burr_blocking.specs.Views.Classes.{AreClasses, IsOfClass}
 use Rattle.burr_blocking.specs.Views.Overlaps.{HasNoneAhead}
 use Rattle.burr_blocking.specs.Views.Translates.{displacement_of, representative_at}
-use Rattle.burr_blocking.specs.Views.Triangles.{IsTriangle, AreClassPairs, IsPairOf}
+use Rattle.burr_blocking.specs.Views.Triangles.{IsTriangle, AreClassPairs, IsPairOf, AreOfClasses, IsPairOfPieces, IsTurnedBy, turned_by, way_of}
 use Rattle.burr_blocking.proofs.Classed.{pair_kept}
 use Rattle.burr_blocking.proofs.Triangles.{one_read, tells_blocked, tells_free, tells_blocked_back, tells_free_back, tells_pieces_blocked, tells_pieces_free}
 
--- two pieces that a query is about, by their classes, and the displacement of their representatives
-pub record AreAsked (homes : List (List Cell)) (c : Classes) (p q : ℕ) (d : Cell) (s t : Translate) (way : Cell) : Type 0 where
-  pub two : p ≢ q
-  pub first : p < length homes
-  pub second : q < length homes
-  pub from : s ≡ get_or c.translates.items p s
-  pub to : t ≡ get_or c.translates.items q t
-  pub way_is : way ≡ displacement_of s.displacement t.displacement d
-
-pub are_asked : (homes : List (List Cell)) (c : Classes) (p q : ℕ) (d : Cell) (s t : Translate) (way : Cell) → p ≢ q → p < length homes → q < length homes → s ≡ get_or c.translates.items p s → t ≡ get_or c.translates.items q t → way ≡ displacement_of s.displacement t.displacement d → AreAsked homes c p q d s t way
-are_asked homes c p q d s t way two first second from to way_is = record {
-  two = two;
-  first = first;
-  second = second;
-  from = from;
-  to = to;
-  way_is = way_is;
-}
-
 -- a piece of an assembly has a home
-pub has_home : (a b : Assembly) (p : ℕ) → a ≡ b → p < length b.pieces → p < length (homes_of a)
-has_home a b p same lt = omega (arith, lt, ap (λ (c : Assembly). length c.pieces) same, length-map a.pieces (home_of a.shapes))
+pub has_home : (a : Assembly) (p : ℕ) → p < length a.pieces → p < length (homes_of a)
+has_home a p lt = omega (arith, lt, length-map a.pieces (home_of a.shapes))
 
 -- a piece that is read is a translate of its class's representative
 class_read : (homes : List (List Cell)) (c : Classes) (q : ℕ) (t : Translate) → AreClasses homes c → q < length homes → t ≡ get_or c.translates.items q t → IsOfClass homes c.representatives.items (home_at homes q) t
@@ -53,7 +37,7 @@ module _ {P : Type 0} (Overlaps : P → Cell → Type 0) where
       one_read (AreClassPairs Overlaps homes c) kept t.class t.class row whole.each (omega (arith, whole.count, of.class)) refl row_is
 
   -- the pair of two pieces is kept, where the first one's class is the earlier
-  pub pair_there : (homes : List (List Cell)) (c : Classes) (kept : List (ClassPairs P)) (p q : ℕ) (s t : Translate) (row : ClassPairs P) → IsTriangle Overlaps homes c kept → p ≢ q → p < length homes → q < length homes → s ≡ get_or c.translates.items p s → t ≡ get_or c.translates.items q t → s.class ≤ t.class → row ≡ get_or kept t.class row → s.class < length row.pairs.items
+  pair_there : (homes : List (List Cell)) (c : Classes) (kept : List (ClassPairs P)) (p q : ℕ) (s t : Translate) (row : ClassPairs P) → IsTriangle Overlaps homes c kept → p ≢ q → p < length homes → q < length homes → s ≡ get_or c.translates.items p s → t ≡ get_or c.translates.items q t → s.class ≤ t.class → row ≡ get_or kept t.class row → s.class < length row.pairs.items
   pair_there homes c kept p q s t row whole two lt_p lt_q is_s is_t le row_is =
       let pairs = row_read homes c kept q t row whole lt_q is_t row_is in
       pair_kept c p q (length row.pairs.items) s t two (omega (arith, whole.pieces.count, lt_p)) (omega (arith, whole.pieces.count, lt_q)) is_s is_t le pairs.count
@@ -64,36 +48,102 @@ module _ {P : Type 0} (Overlaps : P → Cell → Type 0) where
       let pairs = row_read homes c kept q t row whole lt_q is_t row_is in
       one_read (λ (k : ℕ) (o : P). IsPairOf Overlaps homes c.representatives.items k t.class o) row.pairs.items s.class s.class pair pairs.pairs (pair_there homes c kept p q s t row whole two lt_p lt_q is_s is_t le row_is) refl pair_is
 
-  pub answers_blocked : (homes : List (List Cell)) (c : Classes) (kept : List (ClassPairs P)) (p q : ℕ) (d : Cell) (s t : Translate) (way : Cell) (row : ClassPairs P) (pair : P) (r : Bool) → IsTriangle Overlaps homes c kept → AreAsked homes c p q d s t way → s.class ≤ t.class → row ≡ get_or kept t.class row → pair ≡ get_or row.pairs.items s.class pair → IsTrue r ↔ Overlaps pair way → IsTrue r ↔ IsBlocked (home_at homes p) (home_at homes q) d
-  answers_blocked homes c kept p q d s t way row pair r whole a le row_is pair_is test =
+  answers_blocked : (homes : List (List Cell)) (c : Classes) (kept : List (ClassPairs P)) (p q : ℕ) (d : Cell) (s t : Translate) (way : Cell) (row : ClassPairs P) (pair : P) (r : Bool) → IsTriangle Overlaps homes c kept → AreOfClasses homes c p q s t → way ≡ displacement_of s.displacement t.displacement d → s.class ≤ t.class → row ≡ get_or kept t.class row → pair ≡ get_or row.pairs.items s.class pair → IsTrue r ↔ Overlaps pair way → IsTrue r ↔ IsBlocked (home_at homes p) (home_at homes q) d
+  answers_blocked homes c kept p q d s t way row pair r whole a way_is le row_is pair_is test =
       let rs = c.representatives.items in
       let one = class_read homes c p s whole.pieces a.first a.from in
       let other = class_read homes c q t whole.pieces a.second a.to in
       let told = tells_blocked (representative_at homes rs s.class) (representative_at homes rs t.class) (Overlaps pair) way r (pair_read homes c kept p q s t row pair whole a.two a.first a.second a.from a.to le row_is pair_is) test in
-      tells_pieces_blocked (home_at homes p) (home_at homes q) (representative_at homes rs s.class) (representative_at homes rs t.class) s.displacement t.displacement d way r one.translate other.translate a.way_is told
+      tells_pieces_blocked (home_at homes p) (home_at homes q) (representative_at homes rs s.class) (representative_at homes rs t.class) s.displacement t.displacement d way r one.translate other.translate way_is told
 
-  pub answers_free : (homes : List (List Cell)) (c : Classes) (kept : List (ClassPairs P)) (p q : ℕ) (d : Cell) (s t : Translate) (way : Cell) (direction : Direction) (row : ClassPairs P) (pair : P) (r : Bool) → IsTriangle Overlaps homes c kept → AreAsked homes c p q d s t way → s.class ≤ t.class → row ≡ get_or kept t.class row → pair ≡ get_or row.pairs.items s.class pair → IsTrue r ↔ HasNoneAhead (Overlaps pair) way direction → IsTrue r ↔ IsFreeFrom (home_at homes p) (home_at homes q) d direction
-  answers_free homes c kept p q d s t way direction row pair r whole a le row_is pair_is test =
+  answers_free : (homes : List (List Cell)) (c : Classes) (kept : List (ClassPairs P)) (p q : ℕ) (d : Cell) (s t : Translate) (way : Cell) (direction : Direction) (row : ClassPairs P) (pair : P) (r : Bool) → IsTriangle Overlaps homes c kept → AreOfClasses homes c p q s t → way ≡ displacement_of s.displacement t.displacement d → s.class ≤ t.class → row ≡ get_or kept t.class row → pair ≡ get_or row.pairs.items s.class pair → IsTrue r ↔ HasNoneAhead (Overlaps pair) way direction → IsTrue r ↔ IsFreeFrom (home_at homes p) (home_at homes q) d direction
+  answers_free homes c kept p q d s t way direction row pair r whole a way_is le row_is pair_is test =
       let rs = c.representatives.items in
       let one = class_read homes c p s whole.pieces a.first a.from in
       let other = class_read homes c q t whole.pieces a.second a.to in
       let told = tells_free (representative_at homes rs s.class) (representative_at homes rs t.class) (Overlaps pair) way direction r (pair_read homes c kept p q s t row pair whole a.two a.first a.second a.from a.to le row_is pair_is) test in
-      tells_pieces_free (home_at homes p) (home_at homes q) (representative_at homes rs s.class) (representative_at homes rs t.class) s.displacement t.displacement d way direction r one.translate other.translate a.way_is told
+      tells_pieces_free (home_at homes p) (home_at homes q) (representative_at homes rs s.class) (representative_at homes rs t.class) s.displacement t.displacement d way direction r one.translate other.translate way_is told
 
   -- The other order of the two classes
 
-  pub answers_blocked_back : (homes : List (List Cell)) (c : Classes) (kept : List (ClassPairs P)) (p q : ℕ) (d : Cell) (s t : Translate) (way back : Cell) (row : ClassPairs P) (pair : P) (r : Bool) → IsTriangle Overlaps homes c kept → AreAsked homes c p q d s t way → t.class ≤ s.class → row ≡ get_or kept s.class row → pair ≡ get_or row.pairs.items t.class pair → back ≡ minus origin way → IsTrue r ↔ Overlaps pair back → IsTrue r ↔ IsBlocked (home_at homes p) (home_at homes q) d
-  answers_blocked_back homes c kept p q d s t way back row pair r whole a le row_is pair_is back_is test =
+  answers_blocked_back : (homes : List (List Cell)) (c : Classes) (kept : List (ClassPairs P)) (p q : ℕ) (d : Cell) (s t : Translate) (way back : Cell) (row : ClassPairs P) (pair : P) (r : Bool) → IsTriangle Overlaps homes c kept → AreOfClasses homes c p q s t → way ≡ displacement_of s.displacement t.displacement d → t.class ≤ s.class → row ≡ get_or kept s.class row → pair ≡ get_or row.pairs.items t.class pair → back ≡ minus origin way → IsTrue r ↔ Overlaps pair back → IsTrue r ↔ IsBlocked (home_at homes p) (home_at homes q) d
+  answers_blocked_back homes c kept p q d s t way back row pair r whole a way_is le row_is pair_is back_is test =
       let rs = c.representatives.items in
       let one = class_read homes c p s whole.pieces a.first a.from in
       let other = class_read homes c q t whole.pieces a.second a.to in
       let told = tells_blocked_back (representative_at homes rs s.class) (representative_at homes rs t.class) (Overlaps pair) way back r back_is (pair_read homes c kept q p t s row pair whole (λ (e : q ≡ p). a.two (sym e)) a.second a.first a.to a.from le row_is pair_is) test in
-      tells_pieces_blocked (home_at homes p) (home_at homes q) (representative_at homes rs s.class) (representative_at homes rs t.class) s.displacement t.displacement d way r one.translate other.translate a.way_is told
+      tells_pieces_blocked (home_at homes p) (home_at homes q) (representative_at homes rs s.class) (representative_at homes rs t.class) s.displacement t.displacement d way r one.translate other.translate way_is told
 
-  pub answers_free_back : (homes : List (List Cell)) (c : Classes) (kept : List (ClassPairs P)) (p q : ℕ) (d : Cell) (s t : Translate) (way back : Cell) (direction turned : Direction) (row : ClassPairs P) (pair : P) (r : Bool) → IsTriangle Overlaps homes c kept → AreAsked homes c p q d s t way → t.class ≤ s.class → row ≡ get_or kept s.class row → pair ≡ get_or row.pairs.items t.class pair → back ≡ minus origin way → ((k : ℤ) → along turned k ≡ minus origin (along direction k)) → IsTrue r ↔ HasNoneAhead (Overlaps pair) back turned → IsTrue r ↔ IsFreeFrom (home_at homes p) (home_at homes q) d direction
-  answers_free_back homes c kept p q d s t way back direction turned row pair r whole a le row_is pair_is back_is opposite test =
+  answers_free_back : (homes : List (List Cell)) (c : Classes) (kept : List (ClassPairs P)) (p q : ℕ) (d : Cell) (s t : Translate) (way back : Cell) (direction turned : Direction) (row : ClassPairs P) (pair : P) (r : Bool) → IsTriangle Overlaps homes c kept → AreOfClasses homes c p q s t → way ≡ displacement_of s.displacement t.displacement d → t.class ≤ s.class → row ≡ get_or kept s.class row → pair ≡ get_or row.pairs.items t.class pair → back ≡ minus origin way → ((k : ℤ) → along turned k ≡ minus origin (along direction k)) → IsTrue r ↔ HasNoneAhead (Overlaps pair) back turned → IsTrue r ↔ IsFreeFrom (home_at homes p) (home_at homes q) d direction
+  answers_free_back homes c kept p q d s t way back direction turned row pair r whole a way_is le row_is pair_is back_is opposite test =
       let rs = c.representatives.items in
       let one = class_read homes c p s whole.pieces a.first a.from in
       let other = class_read homes c q t whole.pieces a.second a.to in
       let told = tells_free_back (representative_at homes rs s.class) (representative_at homes rs t.class) (Overlaps pair) way back direction turned r back_is opposite (pair_read homes c kept q p t s row pair whole (λ (e : q ≡ p). a.two (sym e)) a.second a.first a.to a.from le row_is pair_is) test in
-      tells_pieces_free (home_at homes p) (home_at homes q) (representative_at homes rs s.class) (representative_at homes rs t.class) s.displacement t.displacement d way direction r one.translate other.translate a.way_is told
+      tells_pieces_free (home_at homes p) (home_at homes q) (representative_at homes rs s.class) (representative_at homes rs t.class) s.displacement t.displacement d way direction r one.translate other.translate way_is told
+
+-- The displacement that a pair is asked about
+
+shifted_on : (a b d : ℤ) → ((a -ℤ b) +ℤ d) ≡ ((a +ℤ d) -ℤ b)
+shifted_on a b d = omega (arith, ints)
+
+shifted_between : (a b d : Cell) → plus (minus a b) d ≡ displacement_of a b d
+shifted_between a b d = same_cell _ _ (shifted_on a.x b.x d.x) (shifted_on a.y b.y d.y) (shifted_on a.z b.z d.z)
+
+module _ (pair : ClassPair) (s t : Translate) (d way : Cell) (shift : pair.shift ≡ minus s.displacement t.displacement) (is : way ≡ way_of pair d) where
+  way_on : (turned : Bool) → pair.is_turned ≡ turned → way ≡ turned_by turned (displacement_of s.displacement t.displacement d)
+  way_on turned e =
+      is ∙ ap (λ (b : Bool). turned_by b (plus pair.shift d)) e
+      ∙ ap (λ (x : Cell). turned_by turned (plus x d)) shift
+      ∙ ap (turned_by turned) (shifted_between s.displacement t.displacement d)
+
+module _ {P : Type 0} (Overlaps : P → Cell → Type 0) (homes : List (List Cell)) (c : Classes) (kept : List (ClassPairs P)) (whole : IsTriangle Overlaps homes c kept) (pair : ClassPair) (p q : ℕ) where
+  module _ (row : ClassPairs P) (row_is : row ≡ get_or kept pair.later row) where
+    row_at : (u : ℕ) → pair.later ≡ u → row ≡ get_or kept u row
+    row_at u e = row_is ∙ ap (λ (k : ℕ). get_or kept k row) e
+
+    -- the row of the later class has the pair
+    pub pair_in_row : IsPairOfPieces homes c pair p q → pair.earlier < length row.pairs.items
+    pair_in_row (s, t, of, by) = by_order by.classes
+      where
+        by_order : ((pair.is_turned ≡ false) × (pair.earlier ≡ s.class) × (pair.later ≡ t.class))
+            ⊎ ((pair.is_turned ≡ true) × (pair.earlier ≡ t.class) × (pair.later ≡ s.class)) → pair.earlier < length row.pairs.items
+        by_order (inl (straight, earlier, later)) =
+            let there = pair_there Overlaps homes c kept p q s t row whole of.two of.first of.second of.from of.to (omega (arith, by.order, earlier, later)) (row_at t.class later) in
+            omega (arith, there, earlier)
+        by_order (inr (turned, earlier, later)) =
+            let there = pair_there Overlaps homes c kept q p t s row whole (λ (e : q ≡ p). of.two (sym e)) of.second of.first of.to of.from (omega (arith, by.order, earlier, later)) (row_at s.class later) in
+            omega (arith, there, earlier)
+
+    module _ (one : P) (one_is : one ≡ get_or row.pairs.items pair.earlier one) (d way : Cell) (way_is : way ≡ way_of pair d) (r : Bool) where
+      one_at : (u : ℕ) → pair.earlier ≡ u → one ≡ get_or row.pairs.items u one
+      one_at u e = one_is ∙ ap (λ (k : ℕ). get_or row.pairs.items k one) e
+
+      -- it tells of the two pieces whether they overlap
+      pub pair_blocked : IsTrue r ↔ Overlaps one way → IsPairOfPieces homes c pair p q → IsTrue r ↔ IsBlocked (home_at homes p) (home_at homes q) d
+      pair_blocked test (s, t, of, by) = by_order by.classes
+        where
+          by_order : ((pair.is_turned ≡ false) × (pair.earlier ≡ s.class) × (pair.later ≡ t.class))
+              ⊎ ((pair.is_turned ≡ true) × (pair.earlier ≡ t.class) × (pair.later ≡ s.class)) → IsTrue r ↔ IsBlocked (home_at homes p) (home_at homes q) d
+          by_order (inl (straight, earlier, later)) =
+              answers_blocked Overlaps homes c kept p q d s t way row one r whole of (way_on pair s t d way by.shift way_is false straight)
+              (omega (arith, by.order, earlier, later)) (row_at t.class later) (one_at s.class earlier) test
+          by_order (inr (turned, earlier, later)) =
+              answers_blocked_back Overlaps homes c kept p q d s t (displacement_of s.displacement t.displacement d) way row one r whole of refl
+              (omega (arith, by.order, earlier, later)) (row_at s.class later) (one_at t.class earlier) (way_on pair s t d way by.shift way_is true turned) test
+
+      -- and whether the first is free to go out along a direction
+      pub pair_free : (direction asked : Direction) → IsTurnedBy pair.is_turned direction asked → IsTrue r ↔ HasNoneAhead (Overlaps one) way asked → IsPairOfPieces homes c pair p q → IsTrue r ↔ IsFreeFrom (home_at homes p) (home_at homes q) d direction
+      pair_free direction asked asked_is test (s, t, of, by) = by_order by.classes
+        where
+          by_order : ((pair.is_turned ≡ false) × (pair.earlier ≡ s.class) × (pair.later ≡ t.class))
+              ⊎ ((pair.is_turned ≡ true) × (pair.earlier ≡ t.class) × (pair.later ≡ s.class)) → IsTrue r ↔ IsFreeFrom (home_at homes p) (home_at homes q) d direction
+          by_order (inl (straight, earlier, later)) =
+              let same : asked ≡ direction = subst (λ (b : Bool). IsTurnedBy b direction asked) straight asked_is in
+              answers_free Overlaps homes c kept p q d s t way direction row one r whole of (way_on pair s t d way by.shift way_is false straight)
+              (omega (arith, by.order, earlier, later)) (row_at t.class later) (one_at s.class earlier)
+              (subst (λ (x : Direction). IsTrue r ↔ HasNoneAhead (Overlaps one) way x) same test)
+          by_order (inr (turned, earlier, later)) =
+              answers_free_back Overlaps homes c kept p q d s t (displacement_of s.displacement t.displacement d) way direction asked row one r whole of refl
+              (omega (arith, by.order, earlier, later)) (row_at s.class later) (one_at t.class earlier) (way_on pair s t d way by.shift way_is true turned)
+              (subst (λ (b : Bool). IsTurnedBy b direction asked) turned asked_is) test

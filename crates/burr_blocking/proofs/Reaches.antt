@@ -76,6 +76,16 @@ farther_within n m c le near = record {
   z_below = omega (arith, ints, near.z_below);
 }
 
+pub plus_within : (n m : ℕ) (a b : Cell) → IsWithin n a → IsWithin m b → IsWithin (n + m) (plus a b)
+plus_within n m a b near also = record {
+  x_above = omega (arith, ints, near.x_above, also.x_above);
+  x_below = omega (arith, ints, near.x_below, also.x_below);
+  y_above = omega (arith, ints, near.y_above, also.y_above);
+  y_below = omega (arith, ints, near.y_below, also.y_below);
+  z_above = omega (arith, ints, near.z_above, also.z_above);
+  z_below = omega (arith, ints, near.z_below, also.z_below);
+}
+
 pub minus_within : (n m : ℕ) (a b : Cell) → IsWithin n a → IsWithin m b → IsWithin (n + m) (minus a b)
 minus_within n m a b near also = record {
   x_above = omega (arith, ints, near.x_above, also.x_below);

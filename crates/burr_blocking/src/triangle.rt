@@ -6,11 +6,12 @@ ghost use Rattle.burr_voxels.specs.Near.{IsWithin};
 ghost use Rattle.burr_assembly.specs.Rules.Text.{IsAssembly};
 ghost use Rattle.burr_assembly.specs.Rules.Homes.{homes_of, DiameterAtMost};
 ghost use Rattle.burr_blocking.specs.Views.Classes.{AreClasses};
-ghost use Rattle.burr_blocking.specs.Views.Triangles.{AreFirstPairs};
+ghost use Rattle.burr_blocking.specs.Views.Triangles.{AreFirstPairs, held};
 ghost use Rattle.burr_blocking.specs.declared.triangle.translate.Translate.{Translate as TranslateOf};
 
 use crate::blocking::Blocking;
 use crate::cell_tables::PairAnswers;
+pub use crate::triangle::translate::ClassPair;
 use crate::triangle::translate::{Translate, displacement_between};
 use burr_assembly::Assembly;
 use burr_voxels::{Cell, Direction};
@@ -23,31 +24,30 @@ use std::marker::Model;
 /// query is turned round: the second one is displaced back.
 #[derive(Debug, Drop)]
 pub struct Triangle<'a, P: PairAnswers> {
-    assembly: &'a Assembly,
+    assembly: Held<'a>,
     classes: Classes,
     pairs: Vec<ClassPairs<P>>,
 }
 
 impl<'a, P: PairAnswers> Model for Triangle<'a, P> {
-    ghost use Rattle.burr_assembly.specs.Rules.Text.{Assembly as AssemblyOf};
     ghost use Rattle.burr_assembly.specs.Rules.Homes.{homes_of};
-    ghost use Rattle.burr_blocking.specs.Views.Triangles.{IsTriangle};
+    ghost use Rattle.burr_blocking.specs.Views.Triangles.{Classed, IsTriangle, held};
 
-    ghost Value = { AssemblyOf };
+    ghost Value = { Classed };
 
-    ghost view = { λ t. t.assembly.now };
+    ghost view = { λ t. record { assembly = held t.assembly; classes = t.classes } };
 
     ghost invariant = { λ t.
-        IsTriangle P.Overlaps (homes_of t.assembly.now) t.classes t.pairs.items };
+        IsTriangle P.Overlaps (homes_of (held t.assembly)) t.classes t.pairs.items };
 }
 
 impl<'a, P: PairAnswers> Triangle<'a, P> {
     /// The pairs of the classes of an assembly's pieces.
-    pub fn build(alloc: Global, assembly: &'a Assembly) -> Result<Triangle<'a, P>, AllocError>
-        ensures { IfOk result (λ t. t ≡ assembly.entry.now) }
+    pub fn build(alloc: Global, assembly: Held<'a>) -> Result<Triangle<'a, P>, AllocError>
+        ensures { IfOk result (λ t. t.assembly ≡ held assembly.entry) }
     {
-        let classes = Classes::build(alloc, assembly)?;
-        let pairs = pairs_of(alloc, assembly, &classes)?;
+        let classes = Classes::build(alloc, assembly.lent())?;
+        let pairs = pairs_of(alloc, assembly.lent(), &classes)?;
         Ok(Triangle {
             assembly,
             classes,
@@ -57,34 +57,68 @@ impl<'a, P: PairAnswers> Triangle<'a, P> {
 }
 
 impl<'a, P: PairAnswers> Blocking for Triangle<'a, P> {
-    ghost subject = { λ t. t };
+    ghost use Rattle.burr_blocking.specs.Views.Triangles.{IsPairOfPieces};
+
+    ghost subject = { λ t. t.assembly };
+
+    ghost IsPairOf = { λ t. IsPairOfPieces (homes_of t.assembly) t.classes };
 
     fn assembly(&self) -> &Assembly {
-        self.assembly
+        self.assembly.lent()
     }
 
-    fn blocked(&self, piece: u8, other: u8, displacement: Cell) -> bool {
+    fn pair(&self, piece: u8, other: u8) -> ClassPair {
         let from = self.classes.translate(piece);
         let to = self.classes.translate(other);
-        let way = from.between_representatives(displacement, to);
-        if from.class <= to.class {
-            self.pairs[to.class].pair(from.class).blocked(way)
-        } else {
-            let back = Cell::ORIGIN - way;
-            self.pairs[from.class].pair(to.class).blocked(back)
+        let shift = from.displacement - to.displacement;
+        if to.class < from.class {
+            return ClassPair {
+                piece,
+                other,
+                earlier: to.class,
+                later: from.class,
+                shift,
+                is_turned: true,
+            };
+        }
+        ClassPair {
+            piece,
+            other,
+            earlier: from.class,
+            later: to.class,
+            shift,
+            is_turned: false,
         }
     }
 
-    fn free(&self, piece: u8, other: u8, displacement: Cell, direction: Direction) -> bool {
-        let from = self.classes.translate(piece);
-        let to = self.classes.translate(other);
-        let way = from.between_representatives(displacement, to);
-        if from.class <= to.class {
-            self.pairs[to.class].pair(from.class).free(way, direction)
-        } else {
-            let back = Cell::ORIGIN - way;
-            let opposite = direction.opposite();
-            self.pairs[from.class].pair(to.class).free(back, opposite)
+    fn blocked_pair(&self, pair: &ClassPair, displacement: Cell) -> bool {
+        self.pairs[pair.later]
+            .pair(pair.earlier)
+            .blocked(pair.way(displacement))
+    }
+
+    fn free_pair(&self, pair: &ClassPair, displacement: Cell, direction: Direction) -> bool {
+        self.pairs[pair.later]
+            .pair(pair.earlier)
+            .free(pair.way(displacement), pair.direction(direction))
+    }
+}
+
+/// An assembly that is lent, or owned.
+#[derive(Debug, Drop)]
+pub enum Held<'a> {
+    Lent(&'a Assembly),
+    Owned(Assembly),
+}
+
+impl Held<'_> {
+    /// The assembly.
+    fn lent(&self) -> &Assembly
+        ensures { result.now ≡ held self.now }
+    {
+        match self {
+            Held::Lent(assembly) => assembly,
+            Held::Owned(assembly) => assembly,
         }
     }
 }

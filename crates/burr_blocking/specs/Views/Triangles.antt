@@ -1,7 +1,14 @@
 -- The pairs of the classes of an assembly's pieces: for each class, what is kept of the
 -- representative of each one before it against its own.
-use Rattle.std.specs.Prelude.{◌≡◌, ℕ, ◌<◌, List, length, slice_index_or}
+use Rattle.std.specs.Prelude.{◌≡◌, ◌≢◌, ◌⊎◌, ℕ, ℤ, ◌<◌, ◌≤◌, Bool, true, false, List, length, slice_index_or}
 use Rattle.burr_voxels.specs.declared.cell.Cell.{Cell}
+use Rattle.burr_voxels.specs.declared.direction.Direction.{Direction}
+use Rattle.burr_voxels.specs.Grid.{along, plus, minus, origin}
+use Rattle.burr_assembly.specs.Rules.Text.{Assembly}
+use Rattle.burr_blocking.specs.declared.triangle.translate.ClassPair.{ClassPair}
+use Rattle.burr_blocking.specs.declared.triangle.Held.{Held}
+use Rattle.burr_blocking.specs.declared.triangle.Held.TheVariants.{Lent, Owned}
+use Rattle.burr_blocking.specs.declared.triangle.translate.Translate.{Translate}
 use Rattle.burr_blocking.specs.declared.triangle.Classes.{Classes}
 use Rattle.burr_blocking.specs.declared.triangle.ClassPairs.{ClassPairs}
 use Rattle.burr_blocking.specs.Views.Classes.{AreClasses, IsPairCount}
@@ -36,3 +43,51 @@ module _ {P : Type 0} (Overlaps : P → Cell → Type 0) where
     pub pieces : AreClasses homes classes
     pub count : length kept ≡ length classes.representatives.items
     pub each : AreFirstPairs homes classes kept
+
+-- the assembly that is lent or owned
+abbrev pub held : Held → Assembly
+held (Lent assembly) = assembly.now
+held (Owned assembly) = assembly
+
+-- an assembly, and its pieces in classes
+pub record Classed : Type 0 where
+  pub assembly : Assembly
+  pub classes : Classes
+
+-- A pair of pieces, by that of their classes
+
+-- two different pieces, each as a translate of the representative of its class
+pub record AreOfClasses (homes : List (List Cell)) (classes : Classes) (p q : ℕ) (s t : Translate)
+    : Type 0 where
+  pub two : p ≢ q
+  pub first : p < length homes
+  pub second : q < length homes
+  pub from : s ≡ slice_index_or classes.translates.items p s
+  pub to : t ≡ slice_index_or classes.translates.items q t
+
+-- the classes of two pieces as they come, or turned round where the second one's is the earlier
+pub record IsPairOfClasses (pair : ClassPair) (s t : Translate) : Type 0 where
+  pub order : pair.earlier ≤ pair.later
+  pub shift : pair.shift ≡ minus s.displacement t.displacement
+  pub classes :
+      ((pair.is_turned ≡ false) × (pair.earlier ≡ s.class) × (pair.later ≡ t.class))
+      ⊎ ((pair.is_turned ≡ true) × (pair.earlier ≡ t.class) × (pair.later ≡ s.class))
+
+-- the pair is that of the classes of pieces p and q
+abbrev pub IsPairOfPieces : List (List Cell) → Classes → ClassPair → ℕ → ℕ → Type 0
+IsPairOfPieces homes classes pair p q =
+    (s t : Translate) × AreOfClasses homes classes p q s t × IsPairOfClasses pair s t
+
+-- a displacement as it is, or turned round
+abbrev pub turned_by : Bool → Cell → Cell
+turned_by false d = d
+turned_by true d = minus origin d
+
+-- the displacement of the earlier class's representative where the first piece has this one
+abbrev pub way_of : ClassPair → Cell → Cell
+way_of pair d = turned_by pair.is_turned (plus pair.shift d)
+
+-- a direction as it is, or turned round
+abbrev pub IsTurnedBy : Bool → Direction → Direction → Type 0
+IsTurnedBy false direction turned = turned ≡ direction
+IsTurnedBy true direction turned = (k : ℤ) → along turned k ≡ minus origin (along direction k)

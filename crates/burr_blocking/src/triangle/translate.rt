@@ -3,10 +3,10 @@ ghost use Rattle.std.specs.List.{All};
 ghost use Rattle.burr_voxels.specs.declared.cell.Cell.{Cell as CellOf};
 ghost use Rattle.burr_voxels.specs.Grid.{origin};
 ghost use Rattle.burr_voxels.specs.Near.{IsWithin};
-ghost use Rattle.burr_blocking.specs.Views.Translates.{IsTranslate, displacement_of};
+ghost use Rattle.burr_blocking.specs.Views.Translates.{IsTranslate};
 
 use crate::extent::first_of;
-use burr_voxels::Cell;
+use burr_voxels::{Cell, Direction};
 
 /// A piece by its class and by what it is displaced from its class's representative: its cells are
 /// a translate of that one's.
@@ -28,15 +28,49 @@ impl Translate {
             displacement: Cell::ORIGIN,
         }
     }
+}
 
-    /// The displacement at which this piece's representative overlaps another one's where this
-    /// piece, displaced, overlaps the other piece.
-    pub fn between_representatives(self, displacement: Cell, other: Translate) -> Cell
+/// Two pieces, and the pair that is kept of their classes.
+#[derive(Clone, Copy, Debug)]
+pub struct ClassPair {
+    pub piece: u8,
+    pub other: u8,
+    pub earlier: usize,
+    pub later: usize,
+    /// What the first representative is displaced by where the first piece is displaced by nothing.
+    pub shift: Cell,
+    /// The first piece is of the later class.
+    pub is_turned: bool,
+    ghost near: { IsWithin 316 shift },
+}
+
+impl ClassPair {
+    ghost use Rattle.burr_blocking.specs.Views.Triangles.{IsTurnedBy, way_of};
+
+    /// The displacement of the representative of the earlier class where the first piece has this
+    /// one.
+    pub fn way(&self, displacement: Cell) -> Cell
         requires { IsWithin 512 displacement }
-        ensures value { result ≡ displacement_of self.displacement other.displacement displacement }
+        ensures value { result ≡ way_of self.now displacement }
         ensures near { IsWithin 828 result }
     {
-        self.displacement + displacement - other.displacement
+        let way = self.shift + displacement;
+        if self.is_turned {
+            Cell::ORIGIN - way
+        } else {
+            way
+        }
+    }
+
+    /// The direction in which that one goes as the first piece goes along this one.
+    pub fn direction(&self, direction: Direction) -> Direction
+        ensures { IsTurnedBy self.now.is_turned direction result }
+    {
+        if self.is_turned {
+            direction.opposite()
+        } else {
+            direction
+        }
     }
 }
 
