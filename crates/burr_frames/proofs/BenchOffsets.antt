@@ -1,88 +1,72 @@
--- The forms of the offsets of a tray's pieces, three for each piece, and their values at a point.
-use Rattle.std.proofs.Common.{◌≡◌, ◌≢◌, ℕ, zero, suc, ◌+◌, ◌*◌, ◌==◌, if◌then◌else◌, Bool, true, false, ℤ, List, [], ◌∷◌, length, Some, slice_index_or, refl, sym, ap, subst, ◌∙◌, arith}
-use Rattle.std.specs.Prelude.{pos, negsuc, replicate, ◌*ℤ◌, ◌+ℤ◌}
-use Rattle.std.proofs.lemmas.Int.{ints}
+-- The forms of the offsets of a tray's pieces, three for each, and their values at a point.
+use Rattle.std.proofs.Common.{◌≡◌, ◌≢◌, ◌⊎◌, ℕ, zero, suc, ◌+◌, ◌*◌, ◌<◌, ◌≤◌, ◌==◌, if◌then◌else◌, Bool, true, false, ℤ, List, [], ◌∷◌, length, take, Some, slice_index_or, refl, sym, ap, subst, ◌∙◌, arith, inl, inr}
+use Rattle.std.specs.Prelude.{pos, filter}
 use Rattle.std.proofs.lemmas.Bool.Decides.{nat_tests}
 use Rattle.std.proofs.lemmas.List.Elements.{All-nil, All-cons, All-head, All-tail}
 use Rattle.std.proofs.lemmas.Option.{same_Some, none-some}
 use native.Mathlib.Decide.{ℕ_discrete}
+use Rattle.burr_voxels.specs.declared.cell.Cell.{Cell}
 use Rattle.burr_voxels.specs.Near.{IsWithin}
 use Rattle.burr_voxels.proofs.Common.Ahead.{same_cell}
 use Rattle.burr_code.specs.declared.placement.Placement.{Placement}
 use Rattle.burr_code.specs.declared.placement.Placement.TheVariants.{Apart, On}
-use Rattle.burr_code.specs.Places.{LiesAt}
-use Rattle.burr_forms.specs.Rules.Forms.{Form, Point, dot, value, values, number}
+use Rattle.burr_code.specs.Places.{LiesAt, is_in}
+use Rattle.burr_forms.specs.Rules.Forms.{Form, Point, value, values}
 use Rattle.burr_container.specs.Rules.Plans.{FormCell}
 use Rattle.burr_frames.specs.Rules.States.{cell_at}
 use Rattle.burr_frames.specs.Views.Ranges.{IsInReach, AllInReach}
-use Rattle.burr_frames.specs.Views.Clearing.{offsets_in, cell_of}
+use Rattle.burr_frames.specs.Views.Comparing.{offset_forms}
+use Rattle.burr_frames.specs.Views.Clearing.{offsets_in, number_in, cell_of}
 use Rattle.burr_frames.specs.Rules.SpaceRules.{OnBenchAt}
 
--- Three forms for each piece
+-- In the tray or not
 
--- the three forms of the first piece
-abbrev ThreeBefore : ℕ → Placement FormCell → List (Placement FormCell) → Type 0
-ThreeBefore tray place places =
-    (a b d : Form) × (offsets_in tray (place ∷ places) ≡ a ∷ b ∷ d ∷ offsets_in tray places)
+own_tray : (t : ℕ) → (t == t) ≡ true
+own_tray t = grind (arith, nat_tests)
 
-three_before : (tray : ℕ) (place : Placement FormCell) (places : List (Placement FormCell)) → ThreeBefore tray place places
-three_before tray Apart places = (number (pos 0), number (pos 0), number (pos 0), refl)
-three_before tray (On t c) places = by_test (t == tray)
-  where
-    by_test : (here : Bool) → (a b d : Form)
-        × ((if here then c.x ∷ c.y ∷ c.z ∷ offsets_in tray places
-        else (number (pos 0) ∷ number (pos 0) ∷ number (pos 0) ∷ offsets_in tray places)) ≡ a ∷ b ∷ d ∷ offsets_in tray places)
-    by_test true = (c.x, c.y, c.z, refl)
-    by_test false = (number (pos 0), number (pos 0), number (pos 0), refl)
+other_tray : (t u : ℕ) → t ≢ u → (t == u) ≡ false
+other_tray t u other = grind (arith, nat_tests)
 
-same_number : (t : ℕ) → (t == t) ≡ true
-same_number t = grind (arith, nat_tests)
+-- a place is in the tray, with an offset, or it is not
+pub in_tray : (tray : ℕ) (place : Placement FormCell) → ((c : FormCell) × (place ≡ On tray c)) ⊎ (is_in tray place ≡ false)
+in_tray tray Apart = inr refl
+in_tray tray (On t c) = elim (ℕ_discrete t tray) [
+  | yes e ↦ inl (c, ap (λ (u : ℕ). On u c) e)
+  | no other ↦ inr (other_tray t tray other)
+]
 
-other_number : (t u : ℕ) → t ≢ u → (t == u) ≡ false
-other_number t u other = grind (arith, nat_tests)
+pub is_here : (tray : ℕ) (place : Placement FormCell) (c : FormCell) → place ≡ On tray c → is_in tray place ≡ true
+is_here tray place c e = ap (is_in tray) e ∙ own_tray tray
 
--- those of a piece in the tray are its offset
-offsets_here : (tray : ℕ) (c : FormCell) (places : List (Placement FormCell))
-    → offsets_in tray (On tray c ∷ places) ≡ c.x ∷ c.y ∷ c.z ∷ offsets_in tray places
-offsets_here tray c places =
-    ap (λ (here : Bool). if here then c.x ∷ c.y ∷ c.z ∷ offsets_in tray places
-    else (number (pos 0) ∷ number (pos 0) ∷ number (pos 0) ∷ offsets_in tray places)) (same_number tray)
+-- The forms after a place, and the numbers of the pieces after it
 
--- those of a piece in another tray are zeros
-offsets_elsewhere : (tray t : ℕ) (c : FormCell) (places : List (Placement FormCell)) → t ≢ tray
-    → offsets_in tray (On t c ∷ places) ≡ number (pos 0) ∷ number (pos 0) ∷ number (pos 0) ∷ offsets_in tray places
-offsets_elsewhere tray t c places other =
-    ap (λ (here : Bool). if here then c.x ∷ c.y ∷ c.z ∷ offsets_in tray places
-    else (number (pos 0) ∷ number (pos 0) ∷ number (pos 0) ∷ offsets_in tray places)) (other_number t tray other)
+module _ (tray : ℕ) (place : Placement FormCell) (places : List (Placement FormCell)) where
+  pub offsets_here : (c : FormCell) → place ≡ On tray c
+      → offsets_in tray (place ∷ places) ≡ c.x ∷ c.y ∷ c.z ∷ offsets_in tray places
+  offsets_here c e =
+      ap (λ (here : Bool). offset_forms (if here then place ∷ filter (is_in tray) places else filter (is_in tray) places))
+      (is_here tray place c e)
+      ∙ ap (λ (x : Placement FormCell). offset_forms (x ∷ filter (is_in tray) places)) e
 
-pub length-offsets_in : (tray : ℕ) (places : List (Placement FormCell)) → length (offsets_in tray places) ≡ 3 * length places
-length-offsets_in tray [] = refl
-length-offsets_in tray (place ∷ places) =
-    let first = three_before tray place places in
-    omega (arith, ap (length {A = Form}) first.3, length-offsets_in tray places)
+  pub offsets_past : is_in tray place ≡ false → offsets_in tray (place ∷ places) ≡ offsets_in tray places
+  offsets_past e =
+      ap (λ (here : Bool). offset_forms (if here then place ∷ filter (is_in tray) places else filter (is_in tray) places)) e
 
--- Values of zeros
+  number_here : (c : FormCell) (p : ℕ) → place ≡ On tray c
+      → number_in tray (place ∷ places) (suc p) ≡ suc (number_in tray places p)
+  number_here c p e =
+      ap (λ (here : Bool). (if here then 1 else 0) + number_in tray places p) (is_here tray place c e) ∙ one_first _
+    where
+      one_first : (n : ℕ) → 1 + n ≡ suc n
+      one_first n = omega arith
 
-nothing_times : (x : ℤ) → (pos 0 *ℤ x) ≡ pos 0
-nothing_times (pos n) = omega (arith, ints)
-nothing_times (negsuc n) = omega (arith, ints)
-
-both_nothing : (a b : ℤ) → a ≡ pos 0 → b ≡ pos 0 → (a +ℤ b) ≡ pos 0
-both_nothing a b e f = omega (arith, ints)
-
-dot_zeros : (n : ℕ) (point : Point) → dot (replicate n (pos 0)) point ≡ pos 0
-dot_zeros zero point = refl
-dot_zeros (suc n) [] = refl
-dot_zeros (suc n) (x ∷ point) = both_nothing _ _ (nothing_times x) (dot_zeros n point)
-
-value_of_zero : (point : Point) → value point (number (pos 0)) ≡ pos 0
-value_of_zero point = both_nothing (pos 0) _ refl (dot_zeros 8 point)
-
-zero_in_reach : IsInReach 256 (pos 0)
-zero_in_reach = (omega (arith, ints), omega (arith, ints))
-
-zero_value_in_reach : (point : Point) → IsInReach 256 (value point (number (pos 0)))
-zero_value_in_reach point = subst (IsInReach 256) (sym (value_of_zero point)) zero_in_reach
+  number_past : (p : ℕ) → is_in tray place ≡ false
+      → number_in tray (place ∷ places) (suc p) ≡ number_in tray places p
+  number_past p e =
+      ap (λ (here : Bool). (if here then 1 else 0) + number_in tray places p) e ∙ none_first _
+    where
+      none_first : (n : ℕ) → 0 + n ≡ n
+      none_first n = omega arith
 
 -- On the bench
 
@@ -91,59 +75,53 @@ three_in_reach : (x y z : ℤ) (rest : List ℤ) → IsInReach 256 x → IsInRea
 three_in_reach x y z rest a b d all =
     All-cons (IsInReach 256) x (y ∷ z ∷ rest) a (All-cons (IsInReach 256) y (z ∷ rest) b (All-cons (IsInReach 256) z rest d all))
 
--- all values are in reach where each piece of the tray is on the bench
-pub reach_of_on_bench : (places : List (Placement FormCell)) (tray : ℕ) (point : Point) → OnBenchAt places tray point
-    → AllInReach 256 (values point (offsets_in tray places))
-reach_of_on_bench [] tray point on = All-nil (IsInReach 256)
-reach_of_on_bench (Apart ∷ places) tray point on =
-    let zero_value = zero_value_in_reach point in
-    three_in_reach _ _ _ _ zero_value zero_value zero_value (reach_of_on_bench places tray point (λ p c lies. on (suc p) c lies))
-reach_of_on_bench (On t c ∷ places) tray point on =
-    let zero_value = zero_value_in_reach point in
-    let rest = reach_of_on_bench places tray point (λ p d lies. on (suc p) d lies) in
-    elim (ℕ_discrete t tray) [
-      | yes e ↦
-          let near = on 0 c (ap (λ (u : ℕ). Some (On u c)) e) in
-          subst (λ (u : ℕ). AllInReach 256 (values point (offsets_in tray (On u c ∷ places)))) (sym e)
-          (subst (λ (forms : List Form). AllInReach 256 (values point forms)) (sym (offsets_here tray c places))
-          (three_in_reach _ _ _ _ (near.x_above, near.x_below) (near.y_above, near.y_below) (near.z_above, near.z_below) rest))
-      | no other ↦
-          subst (λ (forms : List Form). AllInReach 256 (values point forms)) (sym (offsets_elsewhere tray t c places other))
-          (three_in_reach _ _ _ _ zero_value zero_value zero_value rest)
-    ]
-
--- the values after the first three
-rest_in_reach : (a b d : Form) (rest forms : List Form) (point : Point) → forms ≡ a ∷ b ∷ d ∷ rest → AllInReach 256 (values point forms)
-    → AllInReach 256 (values point rest)
-rest_in_reach a b d rest forms point e all =
-    All-tail (IsInReach 256) (value point d) (values point rest)
-    (All-tail (IsInReach 256) (value point b) (values point (d ∷ rest))
-    (All-tail (IsInReach 256) (value point a) (values point (b ∷ d ∷ rest))
-    (subst (λ (fs : List Form). AllInReach 256 (values point fs)) e all)))
-
--- the first three values are those of a cell on the bench
+-- the first three values are those of a cell on the bench, and the others are in reach
 first_within : (c : FormCell) (rest : List Form) (point : Point) → AllInReach 256 (values point (c.x ∷ c.y ∷ c.z ∷ rest))
-    → IsWithin 256 (cell_at point c)
+    → IsWithin 256 (cell_at point c) × AllInReach 256 (values point rest)
 first_within c rest point all =
     let x = All-head (IsInReach 256) (value point c.x) (values point (c.y ∷ c.z ∷ rest)) all in
     let after_x = All-tail (IsInReach 256) (value point c.x) (values point (c.y ∷ c.z ∷ rest)) all in
     let y = All-head (IsInReach 256) (value point c.y) (values point (c.z ∷ rest)) after_x in
     let after_y = All-tail (IsInReach 256) (value point c.y) (values point (c.z ∷ rest)) after_x in
-    let z = All-head (IsInReach 256) (value point c.z) (values point rest) after_y in
-    record { x_above = x.0; x_below = x.1; y_above = y.0; y_below = y.1; z_above = z.0; z_below = z.1 }
+    let z = All-head (IsInReach 256) (value point c.z) (values point rest) after_y in (
+      record { x_above = x.0; x_below = x.1; y_above = y.0; y_below = y.1; z_above = z.0; z_below = z.1 },
+      All-tail (IsInReach 256) (value point c.z) (values point rest) after_y,
+    )
+
+abbrev InReach : Point → List Form → Type 0
+InReach point forms = AllInReach 256 (values point forms)
+
+-- all values are in reach where each piece of the tray is on the bench
+pub reach_of_on_bench : (places : List (Placement FormCell)) (tray : ℕ) (point : Point) → OnBenchAt places tray point
+    → AllInReach 256 (values point (offsets_in tray places))
+reach_of_on_bench [] tray point on = All-nil (IsInReach 256)
+reach_of_on_bench (place ∷ places) tray point on =
+    by_place (in_tray tray place) (reach_of_on_bench places tray point (λ p c lies. on (suc p) c lies))
+  where
+    by_place : ((c : FormCell) × (place ≡ On tray c)) ⊎ (is_in tray place ≡ false)
+        → InReach point (offsets_in tray places) → InReach point (offsets_in tray (place ∷ places))
+    by_place (inl (c, e)) rest =
+        let near = on 0 c (ap (λ (x : Placement FormCell). Some x) e) in
+        subst (InReach point) (sym (offsets_here tray place places c e))
+        (three_in_reach _ _ _ _ (near.x_above, near.x_below) (near.y_above, near.y_below) (near.z_above, near.z_below) rest)
+    by_place (inr e) rest = subst (InReach point) (sym (offsets_past tray place places e)) rest
 
 -- each piece of the tray is on the bench where all values are in reach
 pub on_bench_of_reach : (places : List (Placement FormCell)) (tray : ℕ) (point : Point)
     → AllInReach 256 (values point (offsets_in tray places)) → OnBenchAt places tray point
 on_bench_of_reach [] tray point all p c lies = absurd (none-some (On tray c) lies)
 on_bench_of_reach (place ∷ places) tray point all zero c lies =
-    first_within c (offsets_in tray places) point
-    (subst (λ (forms : List Form). AllInReach 256 (values point forms)) (offsets_here tray c places)
-    (subst (λ (x : Placement FormCell). AllInReach 256 (values point (offsets_in tray (x ∷ places)))) (same_Some place (On tray c) lies) all))
+    (first_within c (offsets_in tray places) point
+    (subst (InReach point) (offsets_here tray place places c (same_Some place (On tray c) lies)) all)).0
 on_bench_of_reach (place ∷ places) tray point all (suc p) c lies =
-    let first = three_before tray place places in
-    on_bench_of_reach places tray point
-    (rest_in_reach first.0 first.1 first.2 (offsets_in tray places) (offsets_in tray (place ∷ places)) point first.3 all) p c lies
+    on_bench_of_reach places tray point (by_place (in_tray tray place)) p c lies
+  where
+    by_place : ((d : FormCell) × (place ≡ On tray d)) ⊎ (is_in tray place ≡ false)
+        → InReach point (offsets_in tray places)
+    by_place (inl (d, e)) =
+        (first_within d (offsets_in tray places) point
+        (subst (InReach point) (offsets_here tray place places d e) all)).1
+    by_place (inr e) = subst (InReach point) (offsets_past tray place places e) all
 
 -- Values three by three
 
@@ -151,22 +129,45 @@ third_on : {A : Type 0} (a b d e : A) (xs : List A) (i j : ℕ) → i ≡ suc (s
     → slice_index_or (a ∷ b ∷ d ∷ xs) i e ≡ slice_index_or xs j e
 third_on {A} a b d e xs i j same = ap (λ (k : ℕ). slice_index_or (a ∷ b ∷ d ∷ xs) k e) same
 
--- the values of a piece after the first one
-cell_after : (a b d : ℤ) (numbers : List ℤ) (p : ℕ) → cell_of (a ∷ b ∷ d ∷ numbers) (suc p) ≡ cell_of numbers p
-cell_after a b d numbers p =
-    same_cell _ _ (third_on a b d (pos 0) numbers (3 * suc p) (3 * p) (omega arith))
-    (third_on a b d (pos 0) numbers (3 * suc p + 1) (3 * p + 1) (omega arith))
-    (third_on a b d (pos 0) numbers (3 * suc p + 2) (3 * p + 2) (omega arith))
+-- those of the number after this one
+cell_after : (a b d : ℤ) (numbers : List ℤ) (m n : ℕ) → m ≡ suc n → cell_of (a ∷ b ∷ d ∷ numbers) m ≡ cell_of numbers n
+cell_after a b d numbers m n e =
+    same_cell _ _ (third_on a b d (pos 0) numbers (3 * m) (3 * n) (omega (arith, e)))
+    (third_on a b d (pos 0) numbers (3 * m + 1) (3 * n + 1) (omega (arith, e)))
+    (third_on a b d (pos 0) numbers (3 * m + 2) (3 * n + 2) (omega (arith, e)))
 
--- those of a piece in the tray are its offset at the point
-pub cell_of_offset : (places : List (Placement FormCell)) (tray p : ℕ) (c : FormCell) (point : Point) → LiesAt places p tray c
-    → cell_of (values point (offsets_in tray places)) p ≡ cell_at point c
-cell_of_offset [] tray p c point lies = absurd (none-some (On tray c) lies)
-cell_of_offset (place ∷ places) tray zero c point lies =
-    ap (λ (x : Placement FormCell). cell_of (values point (offsets_in tray (x ∷ places))) 0) (same_Some place (On tray c) lies)
-    ∙ ap (λ (forms : List Form). cell_of (values point forms) 0) (offsets_here tray c places)
-cell_of_offset (place ∷ places) tray (suc p) c point lies =
-    let first = three_before tray place places in
-    ap (λ (forms : List Form). cell_of (values point forms) (suc p)) first.3
-    ∙ cell_after (value point first.0) (value point first.1) (value point first.2) (values point (offsets_in tray places)) p
-    ∙ cell_of_offset places tray p c point lies
+-- those with this number are the cell, and they stand among the values
+abbrev pub StandsAt : List Form → Point → ℕ → Cell → Type 0
+StandsAt forms point n cell = (cell_of (values point forms) n ≡ cell) × (3 * n + 3 ≤ length forms)
+
+-- a piece more in front
+stands_here : (forms rest : List Form) (point : Point) (m n : ℕ) (cell : Cell) (c : FormCell)
+    → forms ≡ c.x ∷ c.y ∷ c.z ∷ rest → m ≡ suc n → StandsAt rest point n cell → StandsAt forms point m cell
+stands_here forms rest point m n cell c are one_more (is, inside) = (
+  ap (λ (fs : List Form). cell_of (values point fs) m) are
+      ∙ cell_after (value point c.x) (value point c.y) (value point c.z) (values point rest) m n one_more ∙ is,
+  omega (arith, inside, one_more, ap (length {A = Form}) are),
+)
+
+-- Of one of the first n pieces that lies in the tray, they are its offset at the point.
+pub stands_at : (n : ℕ) (places : List (Placement FormCell)) (tray p : ℕ) (c : FormCell) (point : Point) → p < n
+    → LiesAt places p tray c → StandsAt (offsets_in tray places) point (number_in tray (take n places) p) (cell_at point c)
+stands_at zero places tray p c point below lies = absurd (omega (arith, below))
+stands_at (suc n) [] tray p c point below lies = absurd (none-some (On tray c) lies)
+stands_at (suc n) (place ∷ places) tray zero c point below lies =
+    let are = offsets_here tray place places c (same_Some place (On tray c) lies) in
+    (ap (λ (forms : List Form). cell_of (values point forms) 0) are, omega (arith, ap (length {A = Form}) are))
+stands_at (suc n) (place ∷ places) tray (suc p) c point below lies =
+    by_place (in_tray tray place) (stands_at n places tray p c point (omega (arith, below)) lies)
+  where
+    by_place : ((d : FormCell) × (place ≡ On tray d)) ⊎ (is_in tray place ≡ false)
+        → StandsAt (offsets_in tray places) point (number_in tray (take n places) p) (cell_at point c)
+        → StandsAt (offsets_in tray (place ∷ places)) point (number_in tray (place ∷ take n places) (suc p)) (cell_at point c)
+    by_place (inl (d, e)) rest =
+        stands_here _ (offsets_in tray places) point _ _ (cell_at point c) d (offsets_here tray place places d e)
+        (number_here tray place (take n places) d p e) rest
+    by_place (inr e) rest =
+        subst (λ (forms : List Form). StandsAt forms point (number_in tray (place ∷ take n places) (suc p)) (cell_at point c))
+        (sym (offsets_past tray place places e))
+        (subst (λ (m : ℕ). StandsAt (offsets_in tray places) point m (cell_at point c))
+        (sym (number_past tray place (take n places) p e)) rest)

@@ -1,93 +1,30 @@
--- What the tests of pairs of pieces come to.
-use Rattle.std.proofs.Common.{◌≡◌, ◌≢◌, ◌∙◌, ◌<◌, ◌≤◌, ◌==◌, ℕ, ℤ, List, [], length, Bool, true, Some, if◌then◌else◌, sym, subst, ap, arith}
-use Rattle.std.specs.Prelude.{slice_get, slice_index_or}
-use Rattle.std.proofs.lemmas.Bool.{cond_both}
-use Rattle.std.proofs.lemmas.Bool.Decides.{nat_tests}
-use Rattle.std.proofs.lemmas.Option.{same_Some, slice_get_within, slice_get-get_or, get_or_from_slice_get}
+-- At a point, the pairs of a search are clear where those of the rule are.
+use Rattle.std.proofs.Common.{◌≡◌, ◌↔◌, ℕ, ◌<◌, ℤ, List, [], ◌∷◌, length, take, Option, Some, None, refl, sym, subst, ap, ◌∙◌, inl, inr}
+use Rattle.std.specs.Prelude.{All, map}
+use Rattle.std.proofs.lemmas.List.Elements.{All-nil, All-cons, All-head, All-tail}
+use Rattle.std.proofs.lemmas.Option.{none-some, slice_get_within, slice_get-get_or, get_or_from_slice_get}
 use Rattle.burr_voxels.specs.declared.cell.Cell.{Cell}
 use Rattle.burr_voxels.specs.Grid.{minus, shifted}
-use Rattle.burr_code.specs.PieceSets.{IsInSet, is_left_out}
+use Rattle.burr_code.specs.PieceSets.{IsInSet}
 use Rattle.burr_code.specs.declared.placement.Placement.{Placement}
-use Rattle.burr_code.specs.declared.placement.Placement.TheVariants.{Apart, On}
 use Rattle.burr_code.specs.Places.{LiesAt}
-use Rattle.burr_code.proofs.Common.Near.{near_difference}
-use Rattle.burr_code.proofs.Common.PieceSets.{not_left_out, left_out, in_set, not_in_set}
-use Rattle.burr_assembly.specs.Rules.Homes.{HasHome, home_at}
+use Rattle.burr_assembly.specs.Rules.Text.{Assembly}
+use Rattle.burr_assembly.specs.Rules.Homes.{homes_of, home_at}
 use Rattle.burr_blocking.specs.declared.blocking.Query.{Query}
 use Rattle.burr_blocking.specs.declared.blocking.Query.TheVariants as queries
 use Rattle.burr_blocking.specs.Rules.Pairs.{Clears}
 use Rattle.burr_blocking.proofs.Common.Displaced.{free_of_difference, difference_of_free, blocked_of_overlap, overlap_of_blocked}
 use Rattle.burr_forms.specs.Rules.Forms.{Point, values}
 use Rattle.burr_container.specs.Rules.Plans.{FormCell}
-use Rattle.burr_frames.specs.declared.clearing.Role.{Role}
-use Rattle.burr_frames.specs.declared.clearing.Role.TheVariants.{Elsewhere, Gripped, Resting}
 use Rattle.burr_frames.specs.Rules.States.{cell_at}
-use Rattle.burr_frames.specs.Views.Clearing.{IsRole, IsClearAt, IsPairClear, AreRoles, cell_of, role_of, offsets_in}
-use Rattle.burr_frames.specs.Rules.SpaceRules.{OnBenchAt, PairAt}
-use Rattle.burr_frames.specs.Rules.SpaceRules.{IsApartBy}
-use Rattle.burr_frames.proofs.BenchOffsets.{cell_of_offset}
-
--- One piece and another
-
-gripped-left : ¬ (Gripped ≡ Resting)
-gripped-left e = cc
-
--- a piece that is gripped and one that is left are two
-pub two_roles : (pieces : List Role) (p q : ℕ) → IsRole pieces p Gripped → IsRole pieces q Resting → p ≢ q
-two_roles pieces p q gripped left e =
-    gripped-left (same_Some Gripped Resting (sym gripped ∙ ap (slice_get pieces) e ∙ left))
-
--- Roles
-
-same_tray_number : (t u : ℕ) → (t == u) ≡ true → t ≡ u
-same_tray_number t u e = grind (arith, nat_tests)
-
-own_tray : (t : ℕ) → (t == t) ≡ true
-own_tray t = grind (arith, nat_tests)
-
--- how a piece in a role lies
-abbrev StandsSo : ℕ → ℕ → List (Placement FormCell) → ℕ → Role → Type 0
-StandsSo tray grip places p Elsewhere = Unit {0}
-StandsSo tray grip places p Gripped = (c : FormCell) × LiesAt places p tray c × IsInSet grip p
-StandsSo tray grip places p Resting = (c : FormCell) × LiesAt places p tray c × (¬ IsInSet grip p)
-
-by_place : (tray grip : ℕ) (places : List (Placement FormCell)) (p : ℕ) (place : Placement FormCell) → slice_get places p ≡ Some place
-    → StandsSo tray grip places p (role_of grip tray p place)
-by_place tray grip places p Apart at = tt
-by_place tray grip places p (On t c) at =
-    cond_both (t == tray) (if is_left_out grip p then Resting else Gripped) Elsewhere (StandsSo tray grip places p)
-    (λ here.
-    let lies : LiesAt places p tray c = at ∙ ap (λ (u : ℕ). Some (On u c)) (same_tray_number t tray here) in
-    cond_both (is_left_out grip p) Resting Gripped (StandsSo tray grip places p) (λ out. (c, lies, not_in_set grip p out)) (λ bit. (c, lies, in_set grip p bit)))
-    (λ other. tt)
-
--- a piece lies as its role tells
-stands_so : (tray grip n : ℕ) (places : List (Placement FormCell)) (found : List Role) → AreRoles tray grip n places found
-    → (p : ℕ) (role : Role) → IsRole found p role → StandsSo tray grip places p role
-stands_so tray grip n places found are p role is =
-    let within = slice_get_within found p role is in
-    let place = slice_index_or places p Apart in
-    let at : slice_get places p ≡ Some place =
-    let no_more = are.no_more in slice_get-get_or places p Apart (omega (arith, within, no_more)) in
-    let few = are.few in
-    let own : role_of grip tray p place ≡ role =
-    same_Some (role_of grip tray p place) role (sym (are.each p place (omega (arith, within, few)) at) ∙ is) in
-    subst (StandsSo tray grip places p) own (by_place tray grip places p place at)
-
--- a gripped piece of the tray has its role, and so has one that is left
-gripped_role : (tray grip n : ℕ) (places : List (Placement FormCell)) (found : List Role) → AreRoles tray grip n places found
-    → (p : ℕ) (c : FormCell) → p < n → LiesAt places p tray c → IsInSet grip p → IsRole found p Gripped
-gripped_role tray grip n places found are p c below lies bit =
-    are.each p (On tray c) below lies
-    ∙ ap (λ (here : Bool). Some (if here then (if is_left_out grip p then Resting else Gripped) else Elsewhere)) (own_tray tray)
-    ∙ ap (λ (out : Bool). Some (if out then Resting else Gripped)) (not_left_out grip p bit)
-
-left_role : (tray grip n : ℕ) (places : List (Placement FormCell)) (found : List Role) → AreRoles tray grip n places found
-    → (p : ℕ) (c : FormCell) → p < n → LiesAt places p tray c → (¬ IsInSet grip p) → IsRole found p Resting
-left_role tray grip n places found are p c below lies out =
-    are.each p (On tray c) below lies
-    ∙ ap (λ (here : Bool). Some (if here then (if is_left_out grip p then Resting else Gripped) else Elsewhere)) (own_tray tray)
-    ∙ ap (λ (rest : Bool). Some (if rest then Resting else Gripped)) (left_out grip p out)
+use Rattle.burr_frames.specs.Rules.SpaceRules.{PairAt, IsApartBy}
+use Rattle.burr_frames.specs.Rules.Looks.{pieces_in, gripped_in, left_in, grip_pairs}
+use Rattle.burr_frames.specs.Rules.Verdicts.{IsFirstPair}
+use Rattle.burr_frames.specs.Views.Clearing.{TrayPair, IsPairClear, FirstPairOf, number_in, cell_of, offsets_in, pair_in, tray_pairs}
+use Rattle.burr_frames.proofs.BenchOffsets.{stands_at}
+use Rattle.burr_frames.proofs.Common.Until.{EachIs}
+use Rattle.burr_frames.proofs.Each.{each_of_all, all_of_each, each_true, each_map, each_unmap, each_same}
+use Rattle.burr_frames.proofs.GripPairs.{each_grip_pair, of_grip_pair, of_rows, FirstOf, Earlier, first_in_rows, rising_pieces, rising_filter}
 
 -- Two groups of cells at offsets
 
@@ -101,50 +38,134 @@ apart_where_clear : (query : Query) (a b : Cell) (ps qs : List Cell) → Clears 
 apart_where_clear queries.Overlap a b ps qs clear = λ overlap. clear (blocked_of_overlap a b ps qs overlap)
 apart_where_clear (queries.Exit direction) a b ps qs clear = free_of_difference a b ps qs direction clear
 
--- A pair at a point
+-- there is no first pair that is not clear where all are
+pub first_none : (query : Query) (numbers : List ℤ) (pairs : List TrayPair) (found : Option (ℕ × ℕ))
+    → FirstPairOf query numbers pairs found → (found ≡ None) ↔ All (IsPairClear query numbers) pairs
+first_none query numbers [] found h = ((λ none. All-nil (IsPairClear query numbers)), (λ all. h))
+first_none query numbers (pair ∷ pairs) found (inl (fails, e)) = (
+  (λ none. absurd (none-some _ (sym none ∙ e))),
+  (λ all. absurd (fails (All-head (IsPairClear query numbers) pair pairs all))),
+)
+first_none query numbers (pair ∷ pairs) found (inr (is, rest)) =
+    let none_left = first_none query numbers pairs found rest in (
+      (λ none. All-cons (IsPairClear query numbers) pair pairs is (none_left.0 none)),
+      (λ all. none_left.1 (All-tail (IsPairClear query numbers) pair pairs all)),
+    )
 
--- what the condition says of a pair of pieces in these roles
-abbrev pub IsPairOfRolesClear : Query → List (List Cell) → List Role → List ℤ → ℕ → ℕ → Type 0
-IsPairOfRolesClear query homes found numbers p q =
-    IsRole found p Gripped → IsRole found q Resting → IsPairClear query homes numbers p q
+-- the first pair that is not clear, by another condition on its pieces
+first_like : (query : Query) (numbers : List ℤ) (f : ℕ → ℕ → TrayPair) (P : ℕ → ℕ → Type 0) (pairs : List (ℕ × ℕ))
+    (found : Option (ℕ × ℕ))
+    → ((p q : ℕ) → ((f p q).pieces.piece ≡ p) × ((f p q).pieces.other ≡ q))
+    → EachIs (λ pair. IsPairClear query numbers (f pair.0 pair.1) ↔ P pair.0 pair.1) pairs
+    → FirstPairOf query numbers (map (λ pair. f pair.0 pair.1) pairs) found → FirstOf P pairs found
+first_like query numbers f P [] found named same h = h
+first_like query numbers f P ((p, q) ∷ pairs) found named same (inl (fails, e)) =
+    inl (
+      (λ good. fails (same.0.1 good)),
+      e ∙ ap (λ (r : ℕ). Some (r, (f p q).pieces.other)) (named p q).0 ∙ ap (λ (t : ℕ). Some (p, t)) (named p q).1,
+    )
+first_like query numbers f P ((p, q) ∷ pairs) found named same (inr (is, rest)) =
+    inr (same.0.0 is, first_like query numbers f P pairs found named same.1 rest)
 
--- where each piece is on the bench, it holds of a pair that is apart so
-pub clear_of_apart : (query : Query) (homes : List (List Cell)) (places : List (Placement FormCell)) (tray grip n : ℕ) (found : List Role) (point : Point)
-    → AreRoles tray grip n places found → n ≤ length homes → OnBenchAt places tray point → (p q : ℕ)
-    → PairAt (IsApartBy query) homes places tray grip point p q → IsPairOfRolesClear query homes found (values point (offsets_in tray places)) p q
-clear_of_apart query homes places tray grip n found point are homed on p q apart gripped left =
-    let numbers = values point (offsets_in tray places) in
-    let (c, lies, bit) = stands_so tray grip n places found are p Gripped gripped in
-    let (d, lies_q, out) = stands_so tray grip n places found are q Resting left in
-    let few = are.few in
-    let inside = slice_get_within found p Gripped gripped in
-    let inside_q = slice_get_within found q Resting left in
-    let home : HasHome homes p (home_at homes p) = slice_get-get_or homes p [] (omega (arith, inside, few, homed)) in
-    let home_q : HasHome homes q (home_at homes q) = slice_get-get_or homes q [] (omega (arith, inside_q, few, homed)) in
-    let a = cell_at point c in
-    let b = cell_at point d in
-    subst (λ (x : Cell). IsClearAt query (home_at homes p) (home_at homes q) (minus x (cell_of numbers q))) (sym (cell_of_offset places tray p c point lies))
-    (subst (λ (y : Cell). IsClearAt query (home_at homes p) (home_at homes q) (minus a y)) (sym (cell_of_offset places tray q d point lies_q)) (
-      near_difference a b (on p c lies) (on q d lies_q),
-      clear_where_apart query a b (home_at homes p) (home_at homes q)
-          (apart (home_at homes p) (home_at homes q) c d bit out home home_q lies lies_q),
-    ))
+module _ (query : Query) (assembly : Assembly) (places : List (Placement FormCell)) (tray grip : ℕ) (point : Point) where
+  abbrev homes : List (List Cell)
+  homes = homes_of assembly
 
--- and a pair is apart so where it holds of it
-pub apart_of_clear : (query : Query) (homes : List (List Cell)) (places : List (Placement FormCell)) (tray grip n : ℕ) (found : List Role) (point : Point)
-    → AreRoles tray grip n places found → length homes ≤ n → (p q : ℕ)
-    → IsPairOfRolesClear query homes found (values point (offsets_in tray places)) p q → PairAt (IsApartBy query) homes places tray grip point p q
-apart_of_clear query homes places tray grip n found point are homed p q clear p_home q_home c d bit out home home_q lies lies_q =
-    let numbers = values point (offsets_in tray places) in
-    let inside = slice_get_within homes p p_home home in
-    let inside_q = slice_get_within homes q q_home home_q in
-    let gripped = gripped_role tray grip n places found are p c (omega (arith, inside, homed)) lies bit in
-    let left = left_role tray grip n places found are q d (omega (arith, inside_q, homed)) lies_q out in
-    let asked = clear gripped left in
-    let a = cell_at point c in
-    let b = cell_at point d in
-    subst (λ (cells : List Cell). IsApartBy query (shifted a cells) (shifted b q_home)) (get_or_from_slice_get homes p p_home [] home)
-    (subst (λ (cells : List Cell). IsApartBy query (shifted a (home_at homes p)) (shifted b cells)) (get_or_from_slice_get homes q q_home [] home_q)
-    (apart_where_clear query a b (home_at homes p) (home_at homes q)
-    (subst (λ (y : Cell). Clears query (home_at homes p) (home_at homes q) (minus a y)) (cell_of_offset places tray q d point lies_q)
-    (subst (λ (x : Cell). Clears query (home_at homes p) (home_at homes q) (minus x (cell_of numbers q))) (cell_of_offset places tray p c point lies) asked.1))))
+  abbrev homed : List (Placement FormCell)
+  homed = take (length homes) places
+
+  abbrev numbers : List ℤ
+  numbers = values point (offsets_in tray places)
+
+  -- as the rule asks of two pieces
+  abbrev Good : ℕ → ℕ → Type 0
+  Good p q = PairAt (IsApartBy query) homes places tray grip point p q
+
+  abbrev ClearFor : ℕ → ℕ → Cell → Cell → Type 0
+  ClearFor p q a b = Clears query (home_at homes p) (home_at homes q) (minus a b)
+
+  good_of_clear : (p q : ℕ) → IsPairClear query numbers (pair_in assembly tray homed p q) → Good p q
+  good_of_clear p q clear p_home q_home c d gripped out home home_q lies lies_q =
+      let a = cell_at point c in
+      let b = cell_at point d in
+      let first = (stands_at (length homes) places tray p c point (slice_get_within homes p p_home home) lies).0 in
+      let second = (stands_at (length homes) places tray q d point (slice_get_within homes q q_home home_q) lies_q).0 in
+      subst (λ (cells : List Cell). IsApartBy query (shifted a cells) (shifted b q_home))
+      (get_or_from_slice_get homes p p_home [] home)
+      (subst (λ (cells : List Cell). IsApartBy query (shifted a (home_at homes p)) (shifted b cells))
+      (get_or_from_slice_get homes q q_home [] home_q)
+      (apart_where_clear query a b (home_at homes p) (home_at homes q)
+      (subst (ClearFor p q a) second
+      (subst (λ (x : Cell). ClearFor p q x (cell_of numbers (number_in tray homed q))) first clear))))
+
+  clear_of_good : (p q : ℕ) (c d : FormCell) → p < length homes → q < length homes → LiesAt places p tray c
+      → LiesAt places q tray d → IsInSet grip p → (¬ IsInSet grip q) → Good p q
+      → IsPairClear query numbers (pair_in assembly tray homed p q)
+  clear_of_good p q c d below below_q lies lies_q gripped out good =
+      let a = cell_at point c in
+      let b = cell_at point d in
+      let first = (stands_at (length homes) places tray p c point below lies).0 in
+      let second = (stands_at (length homes) places tray q d point below_q lies_q).0 in
+      subst (λ (x : Cell). ClearFor p q x (cell_of numbers (number_in tray homed q))) (sym first)
+      (subst (ClearFor p q a) (sym second)
+      (clear_where_apart query a b (home_at homes p) (home_at homes q)
+      (good (home_at homes p) (home_at homes q) c d gripped out (slice_get-get_or homes p [] below)
+      (slice_get-get_or homes q [] below_q) lies lies_q)))
+
+  pub same_pairs : EachIs (λ pair. IsPairClear query numbers (pair_in assembly tray homed pair.0 pair.1) ↔ Good pair.0 pair.1)
+      (grip_pairs tray grip homed)
+  same_pairs =
+      each_grip_pair (λ p q. IsPairClear query numbers (pair_in assembly tray homed p q) ↔ Good p q) tray grip
+      (length homes) places
+      (λ p q c d below below_q lies lies_q gripped out.
+      (good_of_clear p q, clear_of_good p q c d below below_q lies lies_q gripped out))
+
+  abbrev pairs : List (ℕ × ℕ)
+  pairs = grip_pairs tray grip homed
+
+  abbrev made : ℕ × ℕ → TrayPair
+  made pair = pair_in assembly tray homed pair.0 pair.1
+
+  -- those of the search are clear where each is good
+  pub clear_where_good : All (IsPairClear query numbers) (tray_pairs assembly tray grip homed)
+      ↔ EachIs (λ pair. Good pair.0 pair.1) pairs
+  clear_where_good =
+      let same = each_same (λ pair. IsPairClear query numbers (made pair)) (λ pair. Good pair.0 pair.1) pairs same_pairs in (
+        (λ all. same.0 (each_unmap made (IsPairClear query numbers) pairs
+            (each_of_all (IsPairClear query numbers) (map made pairs) all))),
+        (λ good. all_of_each (IsPairClear query numbers) (map made pairs)
+            (each_map made (IsPairClear query numbers) pairs (same.1 good))),
+      )
+
+  -- all pairs are good where those of the search are clear
+  pub all_good : All (IsPairClear query numbers) (tray_pairs assembly tray grip homed) → (p q : ℕ) → Good p q
+  all_good all p q p_home q_home c d gripped out home home_q lies lies_q =
+      of_grip_pair Good tray grip (length homes) places (clear_where_good.0 all) p q c d
+      (slice_get_within homes p p_home home) (slice_get_within homes q q_home home_q) lies lies_q gripped out
+      p_home q_home c d gripped out home home_q lies lies_q
+
+  pub all_clear : ((p q : ℕ) → Good p q) → All (IsPairClear query numbers) (tray_pairs assembly tray grip homed)
+  all_clear good =
+      clear_where_good.1 (each_true (λ (pair : ℕ × ℕ). Good pair.0 pair.1) (grip_pairs tray grip homed)
+      (λ pair. good pair.0 pair.1))
+
+  -- the first pair of the search that is not clear is the first that is not good
+  pub first_bad : (p q : ℕ) → FirstPairOf query numbers (tray_pairs assembly tray grip homed) (Some (p, q))
+      → IsFirstPair Good p q
+  first_bad p q first = (rows.0, earlier)
+    where
+      rows : (¬ Good p q)
+          × EachIs (λ r. EachIs (λ t. Earlier r t p q → Good r t) (left_in grip (pieces_in tray 0 homed)))
+          (gripped_in grip (pieces_in tray 0 homed))
+      rows =
+          first_in_rows Good 0 0 (gripped_in grip (pieces_in tray 0 homed)) (left_in grip (pieces_in tray 0 homed)) p q
+          (rising_filter _ 0 (pieces_in tray 0 homed) (rising_pieces tray 0 homed))
+          (rising_filter _ 0 (pieces_in tray 0 homed) (rising_pieces tray 0 homed))
+          (first_like query numbers (pair_in assembly tray homed) Good (grip_pairs tray grip homed) (Some (p, q))
+          (λ r t. (refl, refl)) same_pairs first)
+
+      earlier : (r t : ℕ) → Earlier r t p q → Good r t
+      earlier r t before r_home t_home c d gripped out home home_t lies lies_t =
+          of_rows (λ j k. Earlier j k p q → Good j k) tray grip (length homes) places rows.1 r t c d
+          (slice_get_within homes r r_home home) (slice_get_within homes t t_home home_t) lies lies_t gripped out before
+          r_home t_home c d gripped out home home_t lies lies_t

@@ -1,6 +1,6 @@
 -- The checks of a counter, one after the other, and what follows them.
 use Rattle.std.proofs.Common.{◌≡◌, ap, subst, inl, inr}
-use Rattle.std.specs.Prelude.{ℕ, ◌<◌, length, slice_get, Some, Result, Ok, Err}
+use Rattle.std.specs.Prelude.{ℕ, ◌<◌, length, slice_get, Some, Ok, Err}
 use Rattle.burr_forms.specs.Rules.Forms.{Form, one_less}
 use Rattle.burr_container.specs.Rules.Plans.{Frame}
 use Rattle.burr_frames.specs.declared.breaking.Break.{Break}

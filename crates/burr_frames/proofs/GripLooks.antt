@@ -1,10 +1,10 @@
 -- What the search for a pair in the way counts, are the looks of the rule.
-use Rattle.std.proofs.Common.{◌≡◌, ◌≢◌, ◌∙◌, ℕ, List, [], ◌∷◌, length, ap, subst, inl, inr, refl}
-use Rattle.std.specs.Prelude.{All}
-use Rattle.std.proofs.lemmas.List.Elements.{All-head, All-tail}
+use Rattle.std.proofs.Common.{◌≡◌, ◌≢◌, ◌↔◌, ◌∙◌, ℕ, List, length, ap, subst, inl, inr, refl}
+use Rattle.std.specs.Prelude.{map, take}
 use Rattle.burr_voxels.specs.declared.cell.Cell.{Cell}
 use Rattle.burr_voxels.specs.declared.direction.Direction.{Direction}
 use Rattle.burr_assembly.specs.Rules.Text.{Assembly}
+use Rattle.burr_assembly.specs.Rules.Homes.{homes_of}
 use Rattle.burr_blocking.specs.declared.blocking.Query.{Query}
 use Rattle.burr_blocking.specs.declared.blocking.Query.TheVariants as queries
 use Rattle.burr_blocking.specs.Rules.Counted.{Counted, counted, with_more, HasCounted}
@@ -12,52 +12,62 @@ use Rattle.burr_blocking.proofs.Common.Counts.{none_more}
 use Rattle.burr_code.specs.declared.placement.Placement.{Placement}
 use Rattle.burr_code.specs.Places.{IsPartOfTray, IsEmptyTray}
 use Rattle.burr_container.specs.Rules.Plans.{FormCell}
-use Rattle.burr_forms.specs.Rules.Conditions.{Region, at_values}
 use Rattle.burr_forms.specs.Views.Counting.{searched, looks_at_values}
-use Rattle.burr_forms.specs.Rules.Forms.{Form, Point}
-use Rattle.burr_forms.specs.Laws.PointLaws.{ThePointsAreGiven}
-use Rattle.burr_forms.specs.Rules.Points.{IsPointOf, AreRanges, points_of}
-use Rattle.burr_frames.specs.Views.Clearing.{AllClear, AreRoles, offsets_in}
-use Rattle.burr_frames.specs.Views.ClearingLooks.{ClearLooks}
-use Rattle.burr_frames.specs.Rules.Looks.{clearing_looks, step_looks, aside_looks}
+use Rattle.burr_forms.specs.Rules.Forms.{Point, values}
+use Rattle.burr_forms.specs.Rules.Points.{points_of}
+use Rattle.burr_frames.specs.Views.Clearing.{IsPairClear, offsets_in, pair_in}
+use Rattle.burr_frames.specs.Rules.Looks.{until_one_fails, Look, look_of, grip_pairs, IsGoodLook, clearing_looks, step_looks, aside_looks}
 use Rattle.burr_frames.specs.Rules.SpaceRules.{OnBenchAt, moved, AllSmallPlaces}
 use Rattle.burr_frames.specs.Rules.States.{AbstractState, Everywhere, IsFirstFailing}
-use Rattle.burr_frames.proofs.ClearingLooks.{looks_of_search}
-use Rattle.burr_frames.proofs.Common.Until.{EachIs}
-use Rattle.burr_frames.proofs.MoveVerdicts.{Searched, IsSearchOf}
+use Rattle.burr_frames.proofs.Clearances.{clear_where_good, same_pairs}
+use Rattle.burr_frames.proofs.Common.Until.{EachIs, until_like}
+use Rattle.burr_frames.proofs.Each.{each_true, each_map, each_unmap}
+use Rattle.burr_frames.proofs.MoveVerdicts.{Searched, search_of, AllAreClear}
+use Rattle.burr_frames.proofs.SearchedPairs.{pairs_searched, searched_same}
 
--- where all points of a state are so, each of the list of them is
-each_point : (s : AbstractState) (P : Point → Type 0) (points : List Point) → Everywhere s P
-    → All (IsPointOf s.ranges s.guards) points → EachIs P points
-each_point s P [] all are = tt
-each_point s P (x ∷ points) all are =
-    (all x (All-head (IsPointOf s.ranges s.guards) x points are), each_point s P points all (All-tail (IsPointOf s.ranges s.guards) x points are))
+-- the looks of a search at a point
+abbrev pub LooksOf : Query → Searched → Point → ℕ → Type 0
+LooksOf query h = looks_at_values (λ numbers. until_one_fails (IsPairClear query numbers) h.pairs) h.forms
 
--- the looks of a search, of the forms and roles that it is handed
-abbrev pub SearchLooks : Query → List (List Cell) → Searched → ℕ → Type 0
-SearchLooks query homes h looks =
-    searched (at_values (AllClear query homes h.found) h.forms)
-    (looks_at_values (ClearLooks query homes h.found) h.forms)
-    (points_of h.region.ranges h.region.guards) looks
+-- at each point, a search looks at the pairs at which the rule looks
+module _ (assembly : Assembly) (s : AbstractState) (places : List (Placement FormCell)) (query : Query) where
+  abbrev pairs : List (ℕ × ℕ)
+  pairs = grip_pairs s.tray s.grip (take (length (homes_of assembly)) places)
 
-pub looks_of_clearing : ThePointsAreGiven → (s : AbstractState) (places : List (Placement FormCell)) (n : ℕ)
-    (h : Searched) (query : Query) (homes : List (List Cell)) (looks : ℕ) → IsSearchOf s places n h
-    → n ≡ length homes → AreRanges s.ranges → Everywhere s (OnBenchAt places s.tray)
-    → SearchLooks query homes h looks → clearing_looks homes s places query looks
-looks_of_clearing given s places n h query homes looks is homed ranges on made =
-    inr (
-      on,
-      looks_of_search homes s places query h.found
-          (subst (λ (m : ℕ). AreRoles s.tray s.grip m places h.found) homed is.roles)
-          (points_of s.ranges s.guards) looks
-          (each_point s (OnBenchAt places s.tray) (points_of s.ranges s.guards) on (given s.ranges s.guards ranges).inside)
-          (subst (λ (r : Region). searched (at_values (AllClear query homes h.found) (offsets_in s.tray places))
-          (looks_at_values (ClearLooks query homes h.found) (offsets_in s.tray places)) (points_of r.ranges r.guards) looks)
-          is.region
-          (subst (λ (forms : List Form). searched (at_values (AllClear query homes h.found) forms)
-          (looks_at_values (ClearLooks query homes h.found) forms) (points_of h.region.ranges h.region.guards) looks)
-          is.forms made)),
-    )
+  abbrev Good : Look → Type 0
+  Good = IsGoodLook (homes_of assembly) s places query
+
+  holds_here : (point : Point) → AllAreClear query (search_of assembly s places) point
+      ↔ EachIs Good (map (look_of point) pairs)
+  holds_here point =
+      let same = clear_where_good query assembly places s.tray s.grip point in (
+        (λ all. each_map (look_of point) Good pairs (same.0 all)),
+        (λ each. same.1 (each_unmap (look_of point) Good pairs each)),
+      )
+
+  looks_here : (point : Point) (n : ℕ) → LooksOf query (search_of assembly s places) point n
+      → until_one_fails Good (map (look_of point) pairs) n
+  looks_here point n =
+      until_like
+      (λ (pair : ℕ × ℕ). pair_in assembly s.tray (take (length (homes_of assembly)) places) pair.0 pair.1) (look_of point)
+      (IsPairClear query (values point (offsets_in s.tray places))) Good pairs n
+      (same_pairs query assembly places s.tray s.grip point)
+
+  pub looks_of_search : (h : Searched) (looks : ℕ) → h ≡ search_of assembly s places
+      → Everywhere s (OnBenchAt places s.tray)
+      → searched (AllAreClear query h) (LooksOf query h) (points_of h.region.ranges h.region.guards) looks
+      → clearing_looks (homes_of assembly) s places query looks
+  looks_of_search h looks is on made =
+      inr (
+        on,
+        pairs_searched (λ point. map (look_of point) pairs) Good (points_of s.ranges s.guards) looks
+            (searched_same (AllAreClear query (search_of assembly s places))
+            (λ point. EachIs Good (map (look_of point) pairs)) (LooksOf query (search_of assembly s places))
+            (λ point. until_one_fails Good (map (look_of point) pairs)) (points_of s.ranges s.guards) looks
+            (each_true _ (points_of s.ranges s.guards) (λ point. (holds_here point, looks_here point)))
+            (subst (λ (h : Searched). searched (AllAreClear query h) (LooksOf query h)
+            (points_of h.region.ranges h.region.guards) looks) is made)),
+      )
 
 -- where a piece is off the bench there are no looks
 pub no_looks_off_bench : (homes : List (List Cell)) (s : AbstractState) (places : List (Placement FormCell))

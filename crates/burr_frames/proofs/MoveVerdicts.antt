@@ -1,21 +1,20 @@
 -- What the searches for a piece off the bench, and for a pair in each other's way, say of the
 -- verdict.
-use Rattle.std.proofs.Common.{◌≡◌, ◌∙◌, ◌≤◌, ℕ, ℤ, List, [], ◌∷◌, length, Option, Some, None, inl, inr, refl, sym, subst, ap, arith}
+use Rattle.std.proofs.Common.{◌≡◌, ◌∙◌, ℕ, ℤ, List, [], ◌∷◌, length, Option, Some, None, inl, inr, refl, sym, subst, ap}
+use Rattle.std.specs.Prelude.{All, map, take, min}
 use Rattle.std.proofs.lemmas.List.Elements.{All-nil, All-cons, All-head, All-tail}
-use Rattle.std.proofs.lemmas.List.{length-map}
 use Rattle.burr_voxels.specs.declared.cell.Cell.{Cell}
 use Rattle.burr_code.specs.declared.placement.Placement.{Placement}
 use Rattle.burr_assembly.specs.Rules.Text.{Assembly}
-use Rattle.burr_assembly.specs.Rules.Homes.{homes_of, home_of}
+use Rattle.burr_assembly.specs.Rules.Homes.{homes_of}
 use Rattle.burr_blocking.specs.declared.blocking.Query.{Query}
 use Rattle.burr_forms.specs.Rules.Forms.{Form, Point, values, IsNear, AllNear}
 use Rattle.burr_forms.specs.Rules.Points.{IsRange, AreRanges, InBox}
 use Rattle.burr_forms.specs.Rules.Conditions.{Region, at_values, Throughout, FailsFirstAt}
 use Rattle.burr_container.specs.Rules.Plans.{FormCell}
-use Rattle.burr_frames.specs.declared.clearing.Role.{Role}
 use Rattle.burr_frames.specs.declared.rule.Rule.{Rule}
 use Rattle.burr_frames.specs.declared.rule.Rule.TheVariants as rules
-use Rattle.burr_frames.specs.Views.Clearing.{AllClear, AreRoles, FirstPairOf, offsets_in}
+use Rattle.burr_frames.specs.Views.Clearing.{TrayPair, IsPairClear, FirstPairOf, held, offsets_in, tray_pairs}
 use Rattle.burr_frames.specs.Views.Moving.{break_of_pieces}
 use Rattle.burr_frames.specs.Rules.SpaceRules.{IsApartBy}
 use Rattle.burr_frames.specs.Views.Ranges.{AllInReach}
@@ -24,7 +23,8 @@ use Rattle.burr_frames.specs.Rules.States.{AbstractState, Everywhere, IsFirstFai
 use Rattle.burr_frames.specs.Rules.Verdicts.{Broken, Verdict, Breaks, NoSuccessor, Rest, everywhere, everywhere_of_pairs, no_successor}
 use Rattle.burr_frames.proofs.BenchOffsets.{reach_of_on_bench, on_bench_of_reach}
 use Rattle.burr_frames.proofs.Comparisons.{near_in_range}
-use Rattle.burr_frames.proofs.Clearances.{clear_of_apart, apart_of_clear}
+use Rattle.burr_frames.proofs.Clearances.{first_none, all_good, all_clear, first_bad}
+use Rattle.burr_frames.proofs.PreparedPairs.{homed_pairs, pairs_held}
 
 -- On the bench
 
@@ -72,39 +72,31 @@ near_inside (range ∷ ranges) (x ∷ point) are inside =
 pub record Searched : Type 0 where
   pub region : Region
   pub forms : List Form
-  pub found : List Role
+  pub pairs : List TrayPair
 
--- what it is handed for these places of a state, in an assembly of n pieces
-pub record IsSearchOf (s : AbstractState) (places : List (Placement FormCell)) (n : ℕ) (h : Searched) : Type 0 where
-  pub region : h.region ≡ region_of s
-  pub forms : h.forms ≡ offsets_in s.tray places
-  pub roles : AreRoles s.tray s.grip n places h.found
+-- what it is handed for these places of a state
+abbrev pub search_of : Assembly → AbstractState → List (Placement FormCell) → Searched
+search_of assembly s places = record {
+  region = region_of s;
+  forms = offsets_in s.tray places;
+  pairs = homed_pairs assembly s.tray s.grip places;
+}
 
-pub search_of : (s a : AbstractState) (places : List (Placement FormCell)) (n : ℕ) (h : Searched) → a ≡ s → h.region ≡ region_of a → h.forms ≡ offsets_in a.tray places
-    → AreRoles a.tray a.grip n places h.found → IsSearchOf s places n h
-search_of s a places n h same region forms roles =
-    subst (λ (b : AbstractState). IsSearchOf b places n h) same (record { region = region; forms = forms; roles = roles })
+pub is_search : (assembly lent : Assembly) (s a : AbstractState) (places : List (Placement FormCell))
+    (slots : List (Option TrayPair)) (many pieces : ℕ) (h : Searched) → h.region ≡ region_of a
+    → h.forms ≡ offsets_in a.tray places → h.pairs ≡ held slots
+    → slots ≡ map Some (tray_pairs assembly a.tray a.grip (take many places)) → pieces ≡ length lent.pieces
+    → lent ≡ assembly → many ≡ min (length places) pieces → a ≡ s → h ≡ search_of assembly s places
+is_search assembly lent s a places slots many pieces h region forms pairs are count same homed here =
+    (λ i. record { region = region i; forms = forms i; pairs = all i })
+    ∙ ap (λ (b : AbstractState). search_of assembly b places) here
+  where
+    all : h.pairs ≡ homed_pairs assembly a.tray a.grip places
+    all = pairs ∙ pairs_held assembly lent a.tray a.grip places slots many pieces are count same homed
 
--- there are as many homes as pieces
-pub as_many_homes : (a b : Assembly) (n : ℕ) → n ≡ length a.pieces → a ≡ b → n ≡ length (homes_of b)
-as_many_homes a b n count same = count ∙ ap (λ (x : Assembly). length x.pieces) same ∙ sym (length-map b.pieces (home_of b.shapes))
-
-abbrev Asked : Query → List (List Cell) → List Form → List Role → Point → Type 0
-Asked query homes forms found = at_values (AllClear query homes found) forms
-
-holds_of : (s : AbstractState) (places : List (Placement FormCell)) (n : ℕ) (h : Searched) (query : Query) (homes : List (List Cell))
-    → IsSearchOf s places n h → Throughout h.region (Asked query homes h.forms h.found)
-    → Everywhere s (Asked query homes (offsets_in s.tray places) h.found)
-holds_of s places n h query homes is all =
-    subst (λ (r : Region). Throughout r (Asked query homes (offsets_in s.tray places) h.found)) is.region
-    (subst (λ (forms : List Form). Throughout h.region (Asked query homes forms h.found)) is.forms all)
-
-fails_of : (s : AbstractState) (places : List (Placement FormCell)) (n : ℕ) (h : Searched) (query : Query) (homes : List (List Cell)) (point : Point)
-    → IsSearchOf s places n h → FailsFirstAt h.region (Asked query homes h.forms h.found) point
-    → IsFirstFailing s (Asked query homes (offsets_in s.tray places) h.found) point
-fails_of s places n h query homes point is first =
-    subst (λ (r : Region). FailsFirstAt r (Asked query homes (offsets_in s.tray places) h.found) point) is.region
-    (subst (λ (forms : List Form). FailsFirstAt h.region (Asked query homes forms h.found) point) is.forms first)
+-- each pair of the search is clear at this point
+abbrev pub AllAreClear : Query → Searched → Point → Type 0
+AllAreClear query h = at_values (λ numbers. All (IsPairClear query numbers) h.pairs) h.forms
 
 -- what is said of the verdict
 abbrev pub Says : List (List Cell) → AbstractState → List (Placement FormCell) → Query → Rule → Verdict → Type 0
@@ -112,50 +104,40 @@ Says homes s places query rule verdict =
     everywhere s (OnBenchAt places s.tray) rules.V18
     (everywhere_of_pairs s (PairAt (IsApartBy query) homes places s.tray s.grip) rule no_successor) verdict
 
--- no pair is in each other's way
-pub all_clear : (s : AbstractState) (places : List (Placement FormCell)) (n : ℕ) (h : Searched) (query : Query) (homes : List (List Cell)) (rule : Rule)
-    → IsSearchOf s places n h → n ≡ length homes → Everywhere s (OnBenchAt places s.tray)
-    → Throughout h.region (Asked query homes h.forms h.found) → Says homes s places query rule NoSuccessor
-all_clear s places n h query homes rule is homed on all =
-    let clear = holds_of s places n h query homes is all in
-    inr (
-      on,
-      inr (λ point at p q. apart_of_clear query homes places s.tray s.grip n h.found point is.roles (omega (arith, homed)) p q (clear point at p q), refl),
-    )
+module _ (assembly : Assembly) (s : AbstractState) (places : List (Placement FormCell)) (query : Query) (rule : Rule)
+    (h : Searched) (is : h ≡ search_of assembly s places) (on : Everywhere s (OnBenchAt places s.tray)) where
+  -- no pair is in each other's way
+  pub none_in_way : Throughout h.region (AllAreClear query h)
+      → Says (homes_of assembly) s places query rule NoSuccessor
+  none_in_way =
+      subst (λ (h : Searched). Throughout h.region (AllAreClear query h)
+      → Says (homes_of assembly) s places query rule NoSuccessor) (sym is)
+      (λ all. inr (on, inr ((λ point at. all_good query assembly places s.tray s.grip point (all point at)), refl)))
 
--- a pair is in each other's way
-pub first_in_way : (s : AbstractState) (places : List (Placement FormCell)) (n : ℕ) (h : Searched) (query : Query) (homes : List (List Cell)) (rule : Rule)
-    (point : Point) (pieces : Option (ℕ × ℕ)) (broken : Broken)
-    → IsSearchOf s places n h → n ≡ length homes → Everywhere s (OnBenchAt places s.tray)
-    → FailsFirstAt h.region (Asked query homes h.forms h.found) point → FirstPairOf query homes h.found (values point h.forms) pieces
-    → broken ≡ break_of_pieces rule pieces point → Says homes s places query rule (Breaks broken)
-first_in_way s places n h query homes rule point None broken is homed on first pair e = absurd (first.fails pair)
-first_in_way s places n h query homes rule point (Some found) broken is homed on first pair e =
-    let asked = fails_of s places n h query homes point is first in
-    let here = subst (λ (forms : List Form). FirstPairOf query homes h.found (values point forms) (Some found)) is.forms pair in
-    let few : n ≤ length homes = omega (arith, homed) in
-    let many : length homes ≤ n = omega (arith, homed) in
-    let tray = s.tray in
-    let grip = s.grip in
-    let failing : IsFirstFailing s (λ (x : Point). (r t : ℕ) → PairAt (IsApartBy query) homes places tray grip x r t) point = record {
-      is_point = asked.is_point;
-      fails = λ apart. asked.fails (λ r t. clear_of_apart query homes places tray grip n h.found point is.roles few (on point asked.is_point) r t (apart r t));
-      before = λ q at before r t. apart_of_clear query homes places tray grip n h.found q is.roles many r t (asked.before q at before r t);
-    } in
-    inr (
-      on,
-      inl (
-        point,
-        found.0,
-        found.1,
-        failing,
-        (
-          λ apart. here.2 (clear_of_apart query homes places tray grip n h.found point is.roles few (on point asked.is_point) found.0 found.1 apart here.0 here.1),
-          λ r t earlier. apart_of_clear query homes places tray grip n h.found point is.roles many r t (here.3 r t earlier),
-        ),
-        ap Breaks e,
-      ),
-    )
+  -- a pair is in each other's way
+  pub first_in_way : (point : Point) (pieces : Option (ℕ × ℕ)) (broken : Broken)
+      → FailsFirstAt h.region (AllAreClear query h) point → FirstPairOf query (values point h.forms) h.pairs pieces
+      → broken ≡ break_of_pieces rule pieces point → Says (homes_of assembly) s places query rule (Breaks broken)
+  first_in_way point pieces broken first found e =
+      by_pair pieces
+      (subst (λ (h : Searched). FailsFirstAt h.region (AllAreClear query h) point) is first)
+      (subst (λ (h : Searched). FirstPairOf query (values point h.forms) h.pairs pieces) is found) e
+    where
+      by_pair : (pieces : Option (ℕ × ℕ)) → IsFirstFailing s (AllAreClear query (search_of assembly s places)) point
+          → FirstPairOf query (values point (offsets_in s.tray places)) (search_of assembly s places).pairs pieces
+          → broken ≡ break_of_pieces rule pieces point → Says (homes_of assembly) s places query rule (Breaks broken)
+      by_pair None first found e = absurd (first.fails ((first_none query _ _ None found).0 refl))
+      by_pair (Some (p, q)) first found e =
+          let failing : IsFirstFailing s (λ (x : Point). (r t : ℕ)
+          → PairAt (IsApartBy query) (homes_of assembly) places s.tray s.grip x r t) point = record {
+            is_point = first.is_point;
+            fails = λ good. first.fails (all_clear query assembly places s.tray s.grip point good);
+            before = λ x at before. all_good query assembly places s.tray s.grip x (first.before x at before);
+          } in
+          inr (
+            on,
+            inl (point, p, q, failing, first_bad query assembly places s.tray s.grip point p q found, ap Breaks e),
+          )
 
 -- What follows
 

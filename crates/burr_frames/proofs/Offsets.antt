@@ -1,17 +1,19 @@
 -- The forms of offsets, piece by piece.
-use Rattle.std.proofs.Common.{◌≡◌, ℕ, zero, suc, ◌+◌, ◌<◌, ◌≤◌, List, [], ◌∷◌, ◌++◌, length, take, refl, sym, ap, subst, ◌∙◌, arith, slice_index_or}
-use Rattle.std.specs.Prelude.{reverse}
-use Rattle.std.proofs.lemmas.List.{take_more, reverse-reverse}
-use Rattle.std.proofs.lemmas.List.Elements.{All-nil, All-cons}
+use Rattle.std.proofs.Common.{◌≡◌, ℕ, zero, suc, ◌+◌, ◌<◌, ◌≤◌, List, [], ◌∷◌, ◌++◌, length, take, Bool, true, false, refl, sym, ap, subst, ◌∙◌, arith, slice_index_or}
+use Rattle.std.specs.Prelude.{reverse, filter, if◌then◌else◌}
+use Rattle.std.proofs.lemmas.List.{take_more, reverse-reverse, append-nil}
+use Rattle.std.proofs.lemmas.List.Elements.{All-nil, All-cons, filter_more}
 use Rattle.std.proofs.lemmas.List.Sorted.{All-permutation, IsPermutation-reverse}
 use Rattle.burr_code.specs.declared.placement.Placement.{Placement}
 use Rattle.burr_code.specs.declared.placement.Placement.TheVariants.{Apart, On}
+use Rattle.burr_code.specs.Places.{is_in}
 use Rattle.burr_forms.specs.Rules.Forms.{Form, IsSmallForm, AllSmallForms}
 use Rattle.burr_container.specs.Rules.Plans.{FormCell}
 use Rattle.burr_frames.specs.Rules.SpaceRules.{AllSmallPlaces}
+use Rattle.burr_frames.specs.Views.Clearing.{offsets_in}
 use Rattle.burr_frames.specs.Views.Comparing.{offset_forms}
 
-offsets_push : (places : List (Placement FormCell)) (place : Placement FormCell)
+pub offsets_push : (places : List (Placement FormCell)) (place : Placement FormCell)
     → offset_forms (places ++ place ∷ []) ≡ offset_forms places ++ offset_forms (place ∷ [])
 offsets_push [] place = refl
 offsets_push (Apart ∷ places) place = offsets_push places place
@@ -45,3 +47,23 @@ pub small_reversed : (forms : List Form) → AllSmallForms (reverse forms) → A
 small_reversed forms small =
     subst AllSmallForms (reverse-reverse forms)
     (All-permutation IsSmallForm (reverse forms) (reverse (reverse forms)) (IsPermutation-reverse (reverse forms)) small)
+
+-- Those of a tray's pieces, one place more
+
+module _ (tray : ℕ) (places : List (Placement FormCell)) (p : ℕ) (place : Placement FormCell)
+    (l : p < length places) (is : place ≡ slice_index_or places p place) where
+  abbrev Own : Bool → List (Placement FormCell)
+  Own here = filter (is_in tray) (take p places) ++ (if here then place ∷ [] else [])
+
+  one_place_more : (here : Bool) → is_in tray place ≡ here → filter (is_in tray) (take (p + 1) places) ≡ Own here
+  one_place_more here e =
+      filter_more (is_in tray) places p place l
+      ∙ ap (λ (x : Placement FormCell). filter (is_in tray) (take p places) ++ (if is_in tray x then x ∷ [] else [])) (sym is)
+      ∙ ap Own e
+
+  pub one_here : is_in tray place ≡ true
+      → offsets_in tray (take (p + 1) places) ≡ offsets_in tray (take p places) ++ offset_forms (place ∷ [])
+  one_here e = ap offset_forms (one_place_more true e) ∙ offsets_push (filter (is_in tray) (take p places)) place
+
+  pub one_past : is_in tray place ≡ false → offsets_in tray (take (p + 1) places) ≡ offsets_in tray (take p places)
+  one_past e = ap offset_forms (one_place_more false e ∙ append-nil (filter (is_in tray) (take p places)))

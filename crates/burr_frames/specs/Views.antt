@@ -3,7 +3,6 @@ pub mod Breaks
 pub mod CallViews
 pub mod Changes
 pub mod Clearing
-pub mod ClearingLooks
 pub mod Comparing
 pub mod Exits
 pub mod Here

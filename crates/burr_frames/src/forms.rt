@@ -6,7 +6,6 @@ ghost use Rattle.burr_forms.specs.Views.Results.{IsFormOf};
 ghost use Rattle.burr_forms.specs.Rules.Points.{AreRanges};
 ghost use Rattle.burr_forms.specs.Views.Searching.{AllBounded};
 ghost use Rattle.burr_container.specs.Views.Refs.{placement_view};
-ghost use Rattle.burr_frames.specs.Views.Clearing.{offsets_in};
 ghost use Rattle.burr_frames.specs.Views.Comparing.{offset_forms};
 ghost use Rattle.burr_frames.specs.Rules.ControlRules.{substituted_cell};
 ghost use Rattle.burr_frames.specs.Rules.SpaceRules.{moved_forms, AllSmallPlaces};
@@ -42,16 +41,6 @@ pub fn offset_forms(place: &Placement<FormOffset>) -> ArrayVec<Form, 3>
     match *place {
         Placement::Apart => ArrayVec::new(),
         Placement::On { position, .. } => ArrayVec::from([position.x, position.y, position.z]),
-    }
-}
-
-/// The three forms of the offset where the piece is in this tray; else three zeros.
-pub fn offset_forms_in(place: &Placement<FormOffset>, tray: u8) -> [Form; 3]
-    ensures { result ≡ offsets_in tray (place.now ∷ []) }
-{
-    match place.position_in(tray) {
-        Some(offset) => [offset.x, offset.y, offset.z],
-        None => [Form::default(); 3],
     }
 }
 

@@ -1,86 +1,97 @@
--- Pairs of a gripped piece and another piece of its tray, and whether they are clear.
-use Rattle.std.specs.Prelude.{◌⊎◌, ◌<◌, Option, MatchOption, ℕ, ◌*◌, ◌+◌, ℤ, pos, List, [], ◌∷◌, slice_index_or, ◌≤◌, length, if◌then◌else◌, ◌==◌, ◌≡◌, Some, slice_get}
+-- Pairs of a gripped piece and a piece that is left in its tray, prepared for a search, and whether
+-- they are clear where the offsets of the tray's pieces have certain values.
+use Rattle.std.specs.Prelude.{◌≡◌, ◌≤◌, ℕ, ◌*◌, ◌+◌, ℤ, pos, List, [], ◌∷◌, map, filter, filter_map, take, Option, Some, None, slice_index_or}
+use Rattle.burr_text.specs.Checks.{needs}
 use Rattle.burr_voxels.specs.declared.cell.Cell.{Cell}
 use Rattle.burr_voxels.specs.Grid.{at, minus}
-use Rattle.burr_voxels.specs.Near.{IsWithin}
-use Rattle.burr_code.specs.PieceSets.{is_left_out}
 use Rattle.burr_code.specs.declared.placement.Placement.{Placement}
-use Rattle.burr_code.specs.declared.placement.Placement.TheVariants.{Apart, On}
-use Rattle.burr_code.specs.Places.{is_in}
-use Rattle.burr_assembly.specs.Rules.Homes.{home_at}
+use Rattle.burr_code.specs.Places.{is_in, count_in}
+use Rattle.burr_assembly.specs.Rules.Text.{Assembly}
+use Rattle.burr_assembly.specs.Rules.Homes.{homes_of, home_at}
 use Rattle.burr_blocking.specs.declared.blocking.Query.{Query}
 use Rattle.burr_blocking.specs.Rules.Pairs.{Clears}
-use Rattle.burr_forms.specs.Rules.Forms.{Form, number}
+use Rattle.burr_blocking.specs.Rules.Counted.{PreparedPair, prepared}
+use Rattle.burr_forms.specs.Rules.Forms.{Form}
 use Rattle.burr_container.specs.Rules.Plans.{FormCell}
-use Rattle.burr_frames.specs.declared.clearing.Role.{Role}
-use Rattle.burr_frames.specs.declared.clearing.Role.TheVariants as roles
+use Rattle.burr_frames.specs.Rules.Looks.{grip_pairs}
+use Rattle.burr_frames.specs.Views.Comparing.{offset_forms}
 
--- three forms for each piece: its offset where it is in the tray, and else zeros
+-- the forms of the offsets of the tray's pieces, in order, three for each
 abbrev pub offsets_in : ℕ → List (Placement FormCell) → List Form
-offsets_in tray [] = []
-offsets_in tray (Apart ∷ places) =
-    number (pos 0) ∷ number (pos 0) ∷ number (pos 0) ∷ offsets_in tray places
-offsets_in tray (On t c ∷ places) =
-    if t == tray then c.x ∷ c.y ∷ c.z ∷ offsets_in tray places
-    else (number (pos 0) ∷ number (pos 0) ∷ number (pos 0) ∷ offsets_in tray places)
+offsets_in tray places = offset_forms (filter (is_in tray) places)
 
--- of values that stand three by three, those of piece p
+-- the number of piece p among the pieces of the tray: how many of them come before it
+abbrev pub number_in : ℕ → List (Placement FormCell) → ℕ → ℕ
+number_in tray places p = count_in tray (take p places)
+
+-- two pieces of a tray, prepared, and the numbers of the two among the pieces of the tray
+pub record TrayPair : Type 0 where
+  pub pieces : PreparedPair
+  pub number : ℕ
+  pub other_number : ℕ
+
+abbrev pub tray_pair : PreparedPair → ℕ → ℕ → TrayPair
+tray_pair pieces number other_number =
+    record { pieces = pieces; number = number; other_number = other_number }
+
+-- pieces p and q of the tray as such a pair
+abbrev pub pair_in : Assembly → ℕ → List (Placement FormCell) → ℕ → ℕ → TrayPair
+pair_in assembly tray places p q =
+    tray_pair (prepared assembly p q) (number_in tray places p) (number_in tray places q)
+
+-- each gripped piece of the tray with each piece of it that is not gripped, in order
+abbrev pub tray_pairs : Assembly → ℕ → ℕ → List (Placement FormCell) → List TrayPair
+tray_pairs assembly tray grip places =
+    map (λ pair. pair_in assembly tray places pair.0 pair.1) (grip_pairs tray grip places)
+
+-- the pairs that stand in a list with room for more
+abbrev pub held : List (Option TrayPair) → List TrayPair
+held slots = filter_map (λ slot. slot) slots
+
+-- of values that stand three by three, those with this number
 abbrev pub cell_of : List ℤ → ℕ → Cell
-cell_of values p =
-    at (slice_index_or values (3 * p) (pos 0)) (slice_index_or values (3 * p + 1) (pos 0))
-    (slice_index_or values (3 * p + 2) (pos 0))
+cell_of values n =
+    at (slice_index_or values (3 * n) (pos 0)) (slice_index_or values (3 * n + 1) (pos 0))
+    (slice_index_or values (3 * n + 2) (pos 0))
 
--- displaced by d, which is not too large, the first piece keeps clear of the second
-abbrev pub IsClearAt : Query → List Cell → List Cell → Cell → Type 0
-IsClearAt query ps qs d = IsWithin 512 d × Clears query ps qs d
+-- what the first piece is displaced by against the second where the offsets have these values
+abbrev pub displacement_in : List ℤ → TrayPair → Cell
+displacement_in values pair =
+    minus (cell_of values pair.number) (cell_of values pair.other_number)
 
--- piece p keeps clear of piece q where the pieces have these offsets
-abbrev pub IsPairClear : Query → List (List Cell) → List ℤ → ℕ → ℕ → Type 0
-IsPairClear query homes values p q =
-    IsClearAt query (home_at homes p) (home_at homes q)
-    (minus (cell_of values p) (cell_of values q))
+-- so displaced, the first piece keeps clear of the second
+abbrev pub IsPairClear : Query → List ℤ → TrayPair → Type 0
+IsPairClear query values pair =
+    Clears query (home_at (homes_of pair.pieces.assembly) pair.pieces.piece)
+    (home_at (homes_of pair.pieces.assembly) pair.pieces.other) (displacement_in values pair)
 
--- piece p has this role
-abbrev pub IsRole : List Role → ℕ → Role → Type 0
-IsRole pieces p role = slice_get pieces p ≡ Some role
+-- the pieces of the first pair that is not clear; None where each is
+abbrev pub FirstPairOf : Query → List ℤ → List TrayPair → Option (ℕ × ℕ) → Type 0
+FirstPairOf query values [] found = found ≡ None
+FirstPairOf query values (pair ∷ pairs) found =
+    needs (IsPairClear query values pair) (Some (pair.pieces.piece, pair.pieces.other))
+    (FirstPairOf query values pairs) found
 
--- each gripped piece keeps clear of each other piece of the tray
-abbrev pub AllClear : Query → List (List Cell) → List Role → List ℤ → Type 0
-AllClear query homes pieces values =
-    (p q : ℕ) → IsRole pieces p roles.Gripped → IsRole pieces q roles.Resting
-    → IsPairClear query homes values p q
+-- the pair is of this assembly, and its offsets stand among a given number of values
+pub record IsAskable (assembly : Assembly) (values : ℕ) (pair : TrayPair) : Type 0 where
+  pub own : pair.pieces.assembly ≡ assembly
+  pub inside : 3 * pair.number + 3 ≤ values
+  pub other_inside : 3 * pair.other_number + 3 ≤ values
 
--- where each piece stands: elsewhere, in the tray and gripped, or in the tray and not
-abbrev pub role_of : ℕ → ℕ → ℕ → Placement FormCell → Role
-role_of grip tray p place =
-    if is_in tray place then (if is_left_out grip p then roles.Resting else roles.Gripped)
-    else roles.Elsewhere
+-- what a search is about: the pairs, the forms of the offsets, and the query; and the reference
+-- that counts, by its ghost name, with its assembly
+pub record Asked : Type 0 where
+  pub counter : ℕ
+  pub assembly : Assembly
+  pub forms : List Form
+  pub pairs : List TrayPair
+  pub query : Query
 
--- these are the roles of the first pieces, as many as given
-pub record AreRoles (tray grip pieces : ℕ) (places : List (Placement FormCell))
-    (found : List Role) : Type 0 where
-  pub few : length found ≤ pieces
-  pub no_more : length found ≤ length places
-  pub each : (p : ℕ) (place : Placement FormCell) → p < pieces → slice_get places p ≡ Some place
-      → IsRole found p (role_of grip tray p place)
-
--- the pair comes before this one, by its first piece and then by its second
-abbrev pub IsEarlierPair : ℕ → ℕ → ℕ → ℕ → Type 0
-IsEarlierPair r t p q = (r < p) ⊎ ((r ≡ p) × (t < q))
-
--- the first piece left in the tray that gripped piece p is not clear of, if there is one
-abbrev pub FirstAgainst : Query → List (List Cell) → List Role → List ℤ → ℕ → Option ℕ → Type 0
-FirstAgainst query homes pieces values p result =
-    MatchOption result
-    ((t : ℕ) → IsRole pieces t roles.Resting → IsPairClear query homes values p t)
-    (λ q. IsRole pieces q roles.Resting × (¬ IsPairClear query homes values p q)
-    × ((t : ℕ) → t < q → IsRole pieces t roles.Resting → IsPairClear query homes values p t))
-
--- the first pair that is not clear; None where each pair is clear
-abbrev pub FirstPairOf : Query → List (List Cell) → List Role → List ℤ → Option (ℕ × ℕ) → Type 0
-FirstPairOf query homes pieces values result =
-    MatchOption result (AllClear query homes pieces values)
-    (λ found. IsRole pieces found.0 roles.Gripped × IsRole pieces found.1 roles.Resting
-    × (¬ IsPairClear query homes values found.0 found.1)
-    × ((r t : ℕ) → IsEarlierPair r t found.0 found.1 → IsRole pieces r roles.Gripped
-    → IsRole pieces t roles.Resting → IsPairClear query homes values r t))
+abbrev pub asked_of : ℕ → Assembly → List Form → List TrayPair → Query → Asked
+asked_of counter assembly forms pairs query = record {
+  counter = counter;
+  assembly = assembly;
+  forms = forms;
+  pairs = pairs;
+  query = query;
+}

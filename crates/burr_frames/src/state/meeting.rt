@@ -375,7 +375,7 @@ pub(super) fn with_offsets(
 }
 
 /// Puts forms after others. There is room, the caller's condition.
-fn append(forms: &mut ArrayVec<Form, 120>, more: &[Form])
+pub(super) fn append(forms: &mut ArrayVec<Form, 120>, more: &[Form])
     requires room { length forms.old.items + length more.now ≤ 120 }
     requires small { AllSmallForms forms.old.items }
     requires more_small { AllSmallForms more.now }

@@ -10,12 +10,13 @@ ghost use Rattle.burr_frames.specs.Rules.SpaceRules.{grip_rule, step_rule, aside
 ghost use Rattle.burr_frames.specs.Views.Breaks.{next_verdict};
 ghost use Rattle.burr_frames.specs.Rules.Looks.{HasRoom, step_looks, aside_looks, clearing_looks};
 ghost use Rattle.burr_frames.specs.Views.Moving.{ClearOrBreaks, HasRest, free_aside, free_step};
-ghost use Rattle.burr_frames.specs.Views.Clearing.{offsets_in, role_of, AreRoles};
+ghost use Rattle.burr_frames.specs.Views.Clearing.{offsets_in};
 
 use crate::breaking::Break;
-use crate::clearing::{Clearing, Role};
-use crate::forms::{moved, offset_forms_in};
+use crate::clearing::{Clearing, prepare_pairs};
+use crate::forms::{moved, offset_forms};
 use crate::rule::Rule;
+use crate::state::meeting::append;
 use crate::state::{MOST_PIECES, State};
 use arrayvec::ArrayVec;
 use burr_blocking::{Blocking, Looks, Query};
@@ -166,11 +167,14 @@ impl State {
         the_points_are_given();
         let offsets = offsets_in(self.tray, places);
         self.stays_within(offsets.as_slice(), MOST_OFFSET, Rule::V18)?;
-        let pieces = looks.assembly().piece_count();
-        let roles = roles_in(self.tray, self.grip, places, pieces);
+        let homed = places
+            .len()
+            .min(usize::from(looks.assembly().piece_count()));
+        let mut pairs = ArrayVec::new();
+        prepare_pairs(looks, self.tray, self.grip, &places[..homed], &mut pairs);
         let mut clearing = Clearing {
             forms: offsets.as_slice(),
-            roles: roles.as_slice(),
+            pairs: pairs.as_slice(),
             query,
             looks,
             found: None,
@@ -260,7 +264,7 @@ impl State {
     }
 }
 
-// Where pieces lie: a group moved, the forms of their offsets, and how they stand to a grip.
+// Where pieces lie: a group moved, and the forms of their offsets.
 
 /// The places where a group has gone one unit along a direction. The numbers of all forms lie
 /// within ±2^40, the caller's condition.
@@ -305,9 +309,9 @@ fn moved_place(
     }
 }
 
-/// Three forms for each piece: its offset where it is in the tray, and else zeros. The numbers of
-/// all forms lie within ±2^40, the caller's condition.
-pub(super) fn offsets_in(tray: u8, places: &[Placement<FormOffset>]) -> ArrayVec<Form, 120>
+/// The forms of the offsets of a tray's pieces, in order, three for each. The numbers of all forms
+/// lie within ±2^40, the caller's condition.
+fn offsets_in(tray: u8, places: &[Placement<FormOffset>]) -> ArrayVec<Form, 120>
     requires few { length places.now ≤ 32 }
     requires small { AllSmallPlaces places.now }
     ensures offsets { result.items ≡ offsets_in tray places.now }
@@ -315,41 +319,12 @@ pub(super) fn offsets_in(tray: u8, places: &[Placement<FormOffset>]) -> ArrayVec
 {
     let mut offsets = ArrayVec::new();
     for piece in 0..places.len() {
-        let [x, y, z] = offset_forms_in(&places[piece], tray);
-        offsets.push(x);
-        offsets.push(y);
-        offsets.push(z);
+        let place = &places[piece];
+        if !place.is_in(tray) {
+            continue;
+        }
+        let offset = offset_forms(place);
+        append(&mut offsets, offset.as_slice());
     }
     offsets
-}
-
-/// How each of the first pieces, as many as an assembly has, stands to a grip of a tray.
-pub(super) fn roles_in(
-    tray: u8,
-    grip: u32,
-    places: &[Placement<FormOffset>],
-    pieces: u8,
-) -> ArrayVec<Role, MOST_PIECES>
-    requires few { length places.now ≤ 32 }
-    ensures { AreRoles tray grip pieces places.now result.items }
-{
-    let mut roles = ArrayVec::new();
-    for piece in 0..places.len().min(usize::from(pieces)) {
-        roles.push(role_in(tray, grip, piece as u8, &places[piece]));
-    }
-    roles
-}
-
-/// How a piece with this place stands to a grip of a tray.
-fn role_in(tray: u8, grip: u32, piece: u8, place: &Placement<FormOffset>) -> Role
-    requires { piece < 32 }
-    ensures { result ≡ role_of grip tray piece place.now }
-{
-    if !place.is_in(tray) {
-        Role::Elsewhere
-    } else if is_in_set(grip, piece) {
-        Role::Gripped
-    } else {
-        Role::Resting
-    }
 }

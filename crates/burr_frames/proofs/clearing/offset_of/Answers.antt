@@ -34,4 +34,4 @@ offset_is values p q same inside near =
 
 pub returns-clause-value : goal.returns-clause-value
 returns-clause-value c =
-    offset_is c.args.values.now c.args.piece c.from-first.result c.from-first.ensures c.requires.inside c.requires.reach
+    offset_is c.args.values.now c.args.number c.from-first.result c.from-first.ensures c.requires.inside c.requires.reach

@@ -1,5 +1,5 @@
 -- The label is not there, the counter is not found, and what comes of lowering it.
-use Rattle.std.proofs.Common.{◌≡◌, ℕ, ap, inl}
+use Rattle.std.proofs.Common.{ℕ, ap, inl}
 use Rattle.std.proofs.lemmas.Result.{err_from_is_err_and}
 use Rattle.burr_container.specs.Rules.Plans.{Frame}
 use Rattle.burr_container.specs.Views.Refs.{frame_of}

@@ -2,7 +2,6 @@
 use Rattle.std.proofs.Common.{◌≡◌, ◌<◌, ◌∙◌, length, ap, sym, subst, inl}
 use Rattle.std.proofs.lemmas.Result.{err_from_is_err_and}
 use Rattle.burr_container.specs.Views.Refs.{frame_of}
-use Rattle.burr_forms.specs.Rules.Forms.{one_less}
 use Rattle.burr_frames.specs.Rules.FramedPlans.{framed}
 use Rattle.burr_frames.specs.Rules.States.{AbstractState}
 use Rattle.burr_frames.specs.Rules.Verdicts.{Breaks, FallsThrough, NoSuccessor, falls_through, no_successor, arriving}

@@ -1,26 +1,24 @@
 -- A piece off the bench, a pair in each other's way, and neither.
 use Rattle.std.proofs.Common.{rules, ◌≡◌, ◌≤◌, ◌+◌, ◌*◌, ◌^◌, ℕ, ℤ, List, ◌∙◌, length, inl, refl, sym, subst, ap, arith}
+use Rattle.std.specs.Prelude.{All}
 use Rattle.std.proofs.lemmas.Result.{err_from_is_err_and}
-use Rattle.burr_assembly.specs.Rules.Text.{Assembly}
 use Rattle.burr_assembly.specs.Rules.Homes.{homes_of}
 use Rattle.burr_blocking.proofs.Common.Counts.{none_more}
 use Rattle.burr_forms.specs.Rules.Forms.{Form}
-use Rattle.burr_forms.specs.Rules.Points.{AreRanges, box_size}
+use Rattle.burr_forms.specs.Rules.Points.{box_size}
 use Rattle.burr_forms.specs.Views.Rising.{count_in}
-use Rattle.burr_frames.specs.declared.clearing.Role.{Role}
-use Rattle.burr_frames.specs.Views.Clearing.{AreRoles}
-use Rattle.burr_frames.specs.Views.ClearingLooks.{Asked}
+use Rattle.burr_frames.specs.Views.Clearing.{Asked, TrayPair, IsAskable, held}
 use Rattle.burr_frames.specs.Rules.States.{AbstractState}
 use Rattle.burr_frames.specs.Rules.Verdicts.{Breaks}
 use Rattle.burr_frames.proofs.Common.Sizes.{count-le}
-use Rattle.burr_frames.proofs.BenchOffsets.{length-offsets_in}
-use Rattle.burr_frames.proofs.GripLooks.{no_looks_off_bench, looks_of_clearing, counted_more}
-use Rattle.burr_frames.proofs.MoveVerdicts.{on_bench_of_forms, off_bench_of_forms, Searched, search_of, as_many_homes, all_clear, first_in_way}
+use Rattle.burr_frames.proofs.GripLooks.{no_looks_off_bench, looks_of_search, counted_more}
+use Rattle.burr_frames.proofs.MoveVerdicts.{on_bench_of_forms, off_bench_of_forms, Searched, is_search, none_in_way, first_in_way}
+use Rattle.burr_frames.proofs.PreparedPairs.{homed_pairs, pairs_held, all_askable, few_pairs}
 use Rattle.burr_frames.proofs.state.State.goes_clear.Goals as goal
 
 -- a search over at most 4,096 points has room to count
 has_room : (count : ℕ) (ranges : List (ℤ × ℤ)) → count ≤ 2 ^ 40 → box_size ranges ≤ 4096
-    → count + 1024 * count_in ranges ≤ 2 ^ 61
+    → count + 256 * count_in ranges ≤ 2 ^ 61
 has_room count ranges few small = let points = count-le ranges in omega (arith, few, small, points)
 
 pub returns-in_err-stays_within-clause-verdict : goal.returns-in_err-stays_within-clause-verdict
@@ -34,60 +32,6 @@ returns-in_err-stays_within-clause-verdict g c =
           (c.as_slice.ensures.value ∙ c.offsets_in-offsets.ensures.offsets) failing.1,
       ap Breaks failing.2,
     ))
-
-pub invariant_of-clearing : goal.invariant_of-clearing
-invariant_of-clearing g c =
-    let offsets = length-offsets_in c.self.inside.tray c.args.places.now in
-    let forms = c.as_slice-2.ensures.value ∙ c.offsets_in-offsets.ensures.offsets in
-    let roles = c.as_slice-3.ensures.value in
-    let many = c.roles_in-roles.ensures.no_more in
-    let few = c.roles_in-roles.ensures.few in
-    let count = c.piece_count-pieces.ensures.count ∙ ap (λ (a : Assembly). length a.pieces) c.assembly.ensures in
-    let few_places = c.requires.few in
-    record {
-      shape = omega (arith, ap (length {A = Role}) roles, ap (length {A = Form}) forms, offsets, many);
-      pieces = omega (arith, ap (length {A = Role}) roles, few, count);
-      few = omega (arith, ap (length {A = Role}) roles, many, few_places);
-    }
-
-pub returns-in-None-clause-verdict : goal.returns-in-None-clause-verdict
-returns-in-None-clause-verdict g c =
-    let s = c.args.self.now in
-    let places = c.args.places.now in
-    let pieces = c.piece_count-pieces.result in
-    let searched : Searched = record {
-      region = record { ranges = c.as_slice-4.result.now; guards = c.as_slice-5.result.now };
-      forms = c.as_slice-2.result.now;
-      found = c.as_slice-3.result.now;
-    } in
-    let is = search_of s _ places pieces searched c.self.view_is
-    (λ i. record { ranges = c.as_slice-4.ensures.value i; guards = c.as_slice-5.ensures.value i })
-    (c.as_slice-2.ensures.value ∙ c.offsets_in-offsets.ensures.offsets)
-    (subst (AreRoles c.self.inside.tray c.self.inside.grip pieces places) (sym c.as_slice-3.ensures.value) c.roles_in-roles.ensures) in
-    all_clear s places pieces searched c.args.query (homes_of c.args.looks.now.assembly) c.args.rule is
-    (as_many_homes _ _ pieces c.piece_count-pieces.ensures.count c.assembly.ensures)
-    (on_bench_of_forms s _ places c.as_slice.result.now c.self.view_is (c.as_slice.ensures.value ∙ c.offsets_in-offsets.ensures.offsets) c.in_ok-stays_within.ensures)
-    c.in-None.ensures.found
-
-pub returns-in-Some-clause-verdict : goal.returns-in-Some-clause-verdict
-returns-in-Some-clause-verdict g c =
-    let s = c.args.self.now in
-    let places = c.args.places.now in
-    let pieces = c.piece_count-pieces.result in
-    let searched : Searched = record {
-      region = record { ranges = c.as_slice-4.result.now; guards = c.as_slice-5.result.now };
-      forms = c.as_slice-2.result.now;
-      found = c.as_slice-3.result.now;
-    } in
-    let is = search_of s _ places pieces searched c.self.view_is
-    (λ i. record { ranges = c.as_slice-4.ensures.value i; guards = c.as_slice-5.ensures.value i })
-    (c.as_slice-2.ensures.value ∙ c.offsets_in-offsets.ensures.offsets)
-    (subst (AreRoles c.self.inside.tray c.self.inside.grip pieces places) (sym c.as_slice-3.ensures.value) c.roles_in-roles.ensures) in
-    first_in_way s places pieces searched c.args.query (homes_of c.args.looks.now.assembly) c.args.rule
-    c.in-Some.point.items c.first_refused.new.condition.found _ is
-    (as_many_homes _ _ pieces c.piece_count-pieces.ensures.count c.assembly.ensures)
-    (on_bench_of_forms s _ places c.as_slice.result.now c.self.view_is (c.as_slice.ensures.value ∙ c.offsets_in-offsets.ensures.offsets) c.in_ok-stays_within.ensures)
-    c.in-Some.ensures.found c.in-Some.ensures.kept refl
 
 pub returns-in_err-stays_within-clause-counted : goal.returns-in_err-stays_within-clause-counted
 returns-in_err-stays_within-clause-counted g c =
@@ -105,50 +49,73 @@ first_refused-requires-clause-room g c =
     c.as_slice-4.ensures.value ∙ ap (λ (a : AbstractState). a.ranges) c.self.view_is in
     has_room c.args.looks.now.count c.as_slice-4.result.now c.requires.room (subst (λ (rs : List (ℤ × ℤ)). box_size rs ≤ 4096) (sym same) c.requires.points)
 
-pub returns-in-None-clause-counted : goal.returns-in-None-clause-counted
-returns-in-None-clause-counted g c =
-    let s = c.args.self.now in
+pub invariant_of-clearing : goal.invariant_of-clearing
+invariant_of-clearing g c =
+    let s = c.self.inside in
+    let assembly = c.args.looks.now.assembly in
     let places = c.args.places.now in
-    let pieces = c.piece_count-pieces.result in
-    let searched : Searched = record {
-      region = record { ranges = c.as_slice-4.result.now; guards = c.as_slice-5.result.now };
-      forms = c.as_slice-2.result.now;
-      found = c.as_slice-3.result.now;
-    } in
-    let is = search_of s _ places pieces searched c.self.view_is
-    (λ i. record { ranges = c.as_slice-4.ensures.value i; guards = c.as_slice-5.ensures.value i })
-    (c.as_slice-2.ensures.value ∙ c.offsets_in-offsets.ensures.offsets)
-    (subst (AreRoles c.self.inside.tray c.self.inside.grip pieces places) (sym c.as_slice-3.ensures.value) c.roles_in-roles.ensures) in
-    let made = c.in-None.ensures.counted in (
-      made.0,
-      looks_of_clearing c.the_points_are_given.ensures.given s places pieces searched c.args.query (homes_of c.args.looks.now.assembly) made.0 is
-          (as_many_homes _ _ pieces c.piece_count-pieces.ensures.count c.assembly.ensures)
-          (subst (λ (a : AbstractState). AreRanges a.ranges) c.self.view_is c.self.invariant.ranges)
-          (on_bench_of_forms s _ places c.as_slice.result.now c.self.view_is (c.as_slice.ensures.value ∙ c.offsets_in-offsets.ensures.offsets) c.in_ok-stays_within.ensures)
-          made.1,
-      search (counted_more c.args.looks.now c.first_refused.new.condition.looks.now made.0 (ap (λ (a : Asked). a.assembly) c.in-None.ensures.same) made.2, ap (λ (a : Asked). a.counter) c.in-None.ensures.same, rules),
-    )
+    let forms = c.as_slice-2.ensures.value ∙ c.offsets_in-offsets.ensures.offsets in
+    let pairs = pairs_held assembly c.assembly.result.now s.tray s.grip places c.as_slice-3.result.now c.min-homed.result
+    c.from.result (c.as_slice-3.ensures.value ∙ c.prepare_pairs.ensures) (c.from.ensures ∙ c.piece_count.ensures.count) c.assembly.ensures
+    (c.min-homed.ensures) in
+    record {
+      askable = subst (All (IsAskable assembly (length c.as_slice-2.result.now))) (sym pairs)
+          (subst (λ (fs : List Form). All (IsAskable assembly (length fs)) (homed_pairs assembly s.tray s.grip places)) (sym forms)
+          (all_askable assembly s.tray s.grip places));
+      few = subst (λ (ps : List TrayPair). length ps ≤ 256) (sym pairs) (few_pairs assembly s.tray s.grip places c.requires.few);
+    }
 
-pub returns-in-Some-clause-counted : goal.returns-in-Some-clause-counted
-returns-in-Some-clause-counted g c =
+pub returns-in-None : goal.returns-in-None
+returns-in-None g c =
+    let assembly = c.args.looks.now.assembly in
     let s = c.args.self.now in
     let places = c.args.places.now in
-    let pieces = c.piece_count-pieces.result in
     let searched : Searched = record {
       region = record { ranges = c.as_slice-4.result.now; guards = c.as_slice-5.result.now };
       forms = c.as_slice-2.result.now;
-      found = c.as_slice-3.result.now;
+      pairs = held c.as_slice-3.result.now;
     } in
-    let is = search_of s _ places pieces searched c.self.view_is
-    (λ i. record { ranges = c.as_slice-4.ensures.value i; guards = c.as_slice-5.ensures.value i })
-    (c.as_slice-2.ensures.value ∙ c.offsets_in-offsets.ensures.offsets)
-    (subst (AreRoles c.self.inside.tray c.self.inside.grip pieces places) (sym c.as_slice-3.ensures.value) c.roles_in-roles.ensures) in
-    let made = c.in-Some.ensures.counted in (
-      made.0,
-      looks_of_clearing c.the_points_are_given.ensures.given s places pieces searched c.args.query (homes_of c.args.looks.now.assembly) made.0 is
-          (as_many_homes _ _ pieces c.piece_count-pieces.ensures.count c.assembly.ensures)
-          (subst (λ (a : AbstractState). AreRanges a.ranges) c.self.view_is c.self.invariant.ranges)
-          (on_bench_of_forms s _ places c.as_slice.result.now c.self.view_is (c.as_slice.ensures.value ∙ c.offsets_in-offsets.ensures.offsets) c.in_ok-stays_within.ensures)
-          made.1,
-      search (counted_more c.args.looks.now c.first_refused.new.condition.looks.now made.0 (ap (λ (a : Asked). a.assembly) c.in-Some.ensures.same) made.2, ap (λ (a : Asked). a.counter) c.in-Some.ensures.same, rules),
-    )
+    let is = is_search assembly c.assembly.result.now s _ places c.as_slice-3.result.now c.min-homed.result c.from.result
+    searched (λ i. record { ranges = c.as_slice-4.ensures.value i; guards = c.as_slice-5.ensures.value i })
+    (c.as_slice-2.ensures.value ∙ c.offsets_in-offsets.ensures.offsets) refl
+    (c.as_slice-3.ensures.value ∙ c.prepare_pairs.ensures) (c.from.ensures ∙ c.piece_count.ensures.count) c.assembly.ensures c.min-homed.ensures
+    c.self.view_is in
+    let on = on_bench_of_forms s _ places c.as_slice.result.now c.self.view_is
+    (c.as_slice.ensures.value ∙ c.offsets_in-offsets.ensures.offsets) c.in_ok-stays_within.ensures in
+    let made = c.in-None.ensures.counted in
+    record {
+      verdict = none_in_way assembly s places c.args.query c.args.rule searched is on c.in-None.ensures.found;
+      counted = (
+        made.0,
+        looks_of_search assembly s places c.args.query searched made.0 is on made.1,
+        search (counted_more c.args.looks.now c.first_refused.new.condition.looks.now made.0 (ap (λ (a : Asked). a.assembly) c.in-None.ensures.same) made.2, ap (λ (a : Asked). a.counter) c.in-None.ensures.same, rules),
+      );
+    }
+
+pub returns-in-Some : goal.returns-in-Some
+returns-in-Some g c =
+    let assembly = c.args.looks.now.assembly in
+    let s = c.args.self.now in
+    let places = c.args.places.now in
+    let searched : Searched = record {
+      region = record { ranges = c.as_slice-4.result.now; guards = c.as_slice-5.result.now };
+      forms = c.as_slice-2.result.now;
+      pairs = held c.as_slice-3.result.now;
+    } in
+    let is = is_search assembly c.assembly.result.now s _ places c.as_slice-3.result.now c.min-homed.result c.from.result
+    searched (λ i. record { ranges = c.as_slice-4.ensures.value i; guards = c.as_slice-5.ensures.value i })
+    (c.as_slice-2.ensures.value ∙ c.offsets_in-offsets.ensures.offsets) refl
+    (c.as_slice-3.ensures.value ∙ c.prepare_pairs.ensures) (c.from.ensures ∙ c.piece_count.ensures.count) c.assembly.ensures c.min-homed.ensures
+    c.self.view_is in
+    let on = on_bench_of_forms s _ places c.as_slice.result.now c.self.view_is
+    (c.as_slice.ensures.value ∙ c.offsets_in-offsets.ensures.offsets) c.in_ok-stays_within.ensures in
+    let made = c.in-Some.ensures.counted in
+    record {
+      verdict = first_in_way assembly s places c.args.query c.args.rule searched is on c.in-Some.point.items
+          c.first_refused.new.condition.found _ c.in-Some.ensures.found c.in-Some.ensures.kept refl;
+      counted = (
+        made.0,
+        looks_of_search assembly s places c.args.query searched made.0 is on made.1,
+        search (counted_more c.args.looks.now c.first_refused.new.condition.looks.now made.0 (ap (λ (a : Asked). a.assembly) c.in-Some.ensures.same) made.2, ap (λ (a : Asked). a.counter) c.in-Some.ensures.same, rules),
+      );
+    }

@@ -5,7 +5,7 @@ use Rattle.std.proofs.lemmas.Result.{err_from_is_err_and}
 use Rattle.burr_text.proofs.Common.Tests.{yes_of, no_of}
 use Rattle.burr_forms.specs.Rules.Forms.{IsSmallForm}
 use Rattle.burr_frames.specs.Rules.States.{AbstractState}
-use Rattle.burr_frames.specs.Rules.Verdicts.{Breaks, FallsThrough, Rest, falls_through}
+use Rattle.burr_frames.specs.Rules.Verdicts.{Breaks, FallsThrough, falls_through}
 use Rattle.burr_frames.specs.Rules.ControlRules.{counted_down, guarded}
 use Rattle.burr_frames.specs.Views.Changes.{at_cost, with_form}
 use Rattle.burr_frames.proofs.Paying.{paying_on, paying_breaks}

@@ -1,12 +1,12 @@
-use Rattle.std.proofs.Common.{◌≡◌, ◌*◌, ◌++◌, length, drop}
+use Rattle.std.proofs.Common.{◌≡◌, ◌≤◌, ◌*◌, take, length}
 use Rattle.burr_forms.specs.Rules.Forms.{AllSmallForms}
 use Rattle.burr_frames.specs.Views.Clearing.{offsets_in}
 use Rattle.burr_frames.proofs.state.moves.offsets_in.Given as goal
 
--- the forms of the first pieces, and those to come
+-- the forms of the first places
 abbrev pub invariant-loop-piece : goal.invariant-loop-piece
 invariant-loop-piece l = record {
-  forms : l.offsets.items ++ offsets_in l.tray (drop l.piece l.places) ≡ offsets_in l.tray l.places;
+  forms : l.offsets.items ≡ offsets_in l.tray (take l.piece l.places);
   small : AllSmallForms l.offsets.items;
-  many : length l.offsets.items ≡ 3 * l.piece;
+  room : length l.offsets.items ≤ 3 * l.piece;
 }
