@@ -191,7 +191,7 @@ fn is_exit_frame(layout: Layout, parameters: u8, results: u8, exit: &ExitFrame) 
 }
 
 /// Whether what follows the grip of an exit frame is within the format.
-fn is_exit_rest(layout: Layout, results: u8, live: &[bool; 8], exit: &ExitFrame) -> bool
+fn is_exit_rest(layout: Layout, results: u8, live: &[bool; SLOTS], exit: &ExitFrame) -> bool
     ensures { result ≡ fits_exit_rest layout.version layout.pieces results live.now exit.now }
 {
     if !are_result_ranges(results, &exit.results) {
@@ -232,7 +232,7 @@ fn is_frame(layout: Layout, frame: &Frame) -> bool
 }
 
 /// Whether what follows the slots of a frame is within the format.
-fn is_frame_rest(layout: Layout, live: &[bool; 8], frame: &Frame) -> bool
+fn is_frame_rest(layout: Layout, live: &[bool; SLOTS], frame: &Frame) -> bool
     ensures { result ≡ fits_frame_rest layout.pieces live.now frame.now }
 {
     if !are_forms(MOST_GUARDS, live, &frame.guards) {
@@ -269,20 +269,20 @@ fn is_range(slot: Option<(i16, i16)>) -> bool
     }
 }
 
-fn are_forms(most: usize, live: &[bool; 8], forms: &[PlanForm]) -> bool
+fn are_forms(most: usize, live: &[bool; SLOTS], forms: &[PlanForm]) -> bool
     ensures { result ≡ fit_forms most live.now forms.now }
 {
     forms.len() <= most && all_forms(live, forms)
 }
 
-fn all_forms(live: &[bool; 8], forms: &[PlanForm]) -> bool
+fn all_forms(live: &[bool; SLOTS], forms: &[PlanForm]) -> bool
     ensures { result ≡ list_all (fits_form live.now) forms.now }
 {
     forms.iter().all(|form| is_form(live, form))
 }
 
 /// Whether the coefficients of slots that aren't live are 0.
-fn is_form(live: &[bool; 8], form: &PlanForm) -> bool
+fn is_form(live: &[bool; SLOTS], form: &PlanForm) -> bool
     ensures { result ≡ fits_form live.now form.now }
 {
     is_constant(&form.constant) && are_coefs(live, &form.coefs)
@@ -295,7 +295,7 @@ fn is_constant(constant: &i32) -> bool
     i32::MIN <= *constant
 }
 
-fn are_coefs(live: &[bool; 8], coefs: &[i16; 8]) -> bool
+fn are_coefs(live: &[bool; SLOTS], coefs: &[i16; SLOTS]) -> bool
     ensures { result ≡ are_coefficients live.now coefs.now }
 {
     for v in 0..SLOTS {
@@ -313,13 +313,13 @@ fn is_coef(is_live: bool, coef: i16) -> bool
     is_live || coef == 0
 }
 
-fn are_places(layout: Layout, live: &[bool; 8], places: &[Place]) -> bool
+fn are_places(layout: Layout, live: &[bool; SLOTS], places: &[Place]) -> bool
     ensures { result ≡ fit_places layout.pieces live.now (placements_of places.now) }
 {
     places.len() == usize::from(layout.pieces) && all_places(live, places)
 }
 
-fn all_places(live: &[bool; 8], places: &[Place]) -> bool
+fn all_places(live: &[bool; SLOTS], places: &[Place]) -> bool
     ensures { result ≡ list_all (fits_place live.now) (placements_of places.now) }
 {
     for place in places {
@@ -330,7 +330,7 @@ fn all_places(live: &[bool; 8], places: &[Place]) -> bool
     true
 }
 
-fn is_place(live: &[bool; 8], place: &Place) -> bool
+fn is_place(live: &[bool; SLOTS], place: &Place) -> bool
     ensures { result ≡ fits_place live.now (placement_of place.now) }
 {
     match place {

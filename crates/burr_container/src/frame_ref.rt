@@ -6,6 +6,7 @@ ghost use Rattle.burr_container.specs.Rules.Plans.{live_slots, over_symbols, pla
 ghost use Rattle.burr_container.specs.Rules.Fitting.{are_slots};
 
 use crate::lists::{FormList, PlaceList};
+use burr_code::limits::SLOTS;
 use burr_forms::Form;
 
 /// The frame of a label, read in place. Coefficient j of its forms belongs to the j-th live slot;
@@ -14,7 +15,7 @@ use burr_forms::Form;
 pub struct FrameRef<'a> {
     pub(crate) tray: u8,
     pub(crate) grip: u32,
-    pub(crate) slots: [Option<(i16, i16)>; 8],
+    pub(crate) slots: [Option<(i16, i16)>; SLOTS],
     pub(crate) guards: FormList<'a>,
     pub(crate) stack: FormList<'a>,
     pub(crate) cost: FormList<'a>,

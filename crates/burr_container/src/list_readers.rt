@@ -8,16 +8,17 @@ ghost use Rattle.burr_container.specs.Views.Decoding.{signed_in, form_in, place_
 ghost use Rattle.burr_container.specs.Views.Refs.{forms_of, places_of, placement_view, IsSmallPlace};
 
 use crate::lists::{FormList, PlaceList, form_size, live_count};
+use burr_code::limits::SLOTS;
 use burr_forms::Form;
 use byteorder::{BigEndian, ByteOrder};
 
 /// The form over these live slots at the front of some bytes.
-fn form_of(live: &[bool; 8], bytes: &[u8]) -> Form
+fn form_of(live: &[bool; SLOTS], bytes: &[u8]) -> Form
     requires { size_of_form live.now ≤ length bytes.now }
     ensures form { result ≡ over_symbols live.now (form_in live.now bytes.now) }
     ensures small { IsSmallForm result }
 {
-    let mut coefs = [0; 8];
+    let mut coefs = [0; SLOTS];
     let count = live_count(live);
     for symbol in 0..count {
         coefs[symbol] = signed_at(bytes, 4 + 2 * symbol);
@@ -66,7 +67,7 @@ impl PlaceList<'_> {
 }
 
 /// The bytes after the place at the front of some bytes.
-pub fn after_place<'a>(live: &[bool; 8], bytes: &'a [u8]) -> &'a [u8]
+pub fn after_place<'a>(live: &[bool; SLOTS], bytes: &'a [u8]) -> &'a [u8]
     requires first { 0 < length bytes.now }
     requires whole { 1 + place_rest live.now (slice_index bytes.now 0) ≤ length bytes.now }
     ensures { result.now ≡ drop (1 + place_rest live.now (slice_index bytes.now 0)) bytes.now }
@@ -79,7 +80,7 @@ pub fn after_place<'a>(live: &[bool; 8], bytes: &'a [u8]) -> &'a [u8]
 }
 
 /// The place by forms over symbols at the front of some bytes.
-fn place_of(live: &[bool; 8], bytes: &[u8]) -> Option<(u8, Form, Form, Form)>
+fn place_of(live: &[bool; SLOTS], bytes: &[u8]) -> Option<(u8, Form, Form, Form)>
     requires first { 0 < length bytes.now }
     requires whole { 1 + place_rest live.now (slice_index bytes.now 0) ≤ length bytes.now }
     ensures place { placement_view result ≡ place_over_symbols live.now

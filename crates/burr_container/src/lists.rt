@@ -5,11 +5,12 @@ ghost use Rattle.burr_container.specs.Rules.Spelling.{form_size as size_of_form}
 ghost use Rattle.burr_container.specs.Views.Decoding.{live_count as count_of_live, places_stand};
 ghost use Rattle.burr_container.specs.Rules.Plans.{live_slots as live_ones, exit_symbols as first_ones};
 
+use burr_code::limits::SLOTS;
 use burr_forms::Form;
 use byteorder::{BigEndian, ByteOrder};
 
 /// How many slots are live.
-pub fn live_count(live: &[bool; 8]) -> usize
+pub fn live_count(live: &[bool; SLOTS]) -> usize
     ensures count { result ≡ count_of_live live.now }
     ensures size { size_of_form live.now ≡ 4 + 2 * result }
     ensures few { result ≤ 8 }
@@ -18,7 +19,7 @@ pub fn live_count(live: &[bool; 8]) -> usize
 }
 
 /// How many bytes a form over these live slots takes.
-pub fn form_size(live: &[bool; 8]) -> usize
+pub fn form_size(live: &[bool; SLOTS]) -> usize
     ensures size { result ≡ size_of_form live.now }
     ensures few { result ≤ 20 }
 {
@@ -28,7 +29,7 @@ pub fn form_size(live: &[bool; 8]) -> usize
 /// Forms over these live slots.
 #[derive(Clone, Copy)]
 pub struct FormList<'a> {
-    pub live: [bool; 8],
+    pub live: [bool; SLOTS],
     pub count: usize,
     pub bytes: &'a [u8],
     ghost sized: { length bytes.now ≡ count * size_of_form live },
@@ -37,7 +38,7 @@ pub struct FormList<'a> {
 /// Places, given by forms over these live slots: the first `count` that stand in the bytes.
 #[derive(Clone, Copy)]
 pub struct PlaceList<'a> {
-    pub live: [bool; 8],
+    pub live: [bool; SLOTS],
     pub count: usize,
     pub bytes: &'a [u8],
     ghost stand: { IsTrue (places_stand live count bytes.now) },
@@ -46,7 +47,7 @@ pub struct PlaceList<'a> {
 // Which slots are live.
 
 /// The slots that have a range.
-pub fn live_slots(slots: &[Option<(i16, i16)>; 8]) -> [bool; 8]
+pub fn live_slots(slots: &[Option<(i16, i16)>; SLOTS]) -> [bool; SLOTS]
     ensures { result ≡ live_ones slots.now }
 {
     let [a, b, c, d, e, f, g, h] = *slots;
@@ -63,13 +64,13 @@ pub fn live_slots(slots: &[Option<(i16, i16)>; 8]) -> [bool; 8]
 }
 
 /// The symbols of an exit frame: the first ones, as many as the parameters and results together.
-pub fn exit_symbols(parameters: u8, results: u8) -> [bool; 8]
+pub fn exit_symbols(parameters: u8, results: u8) -> [bool; SLOTS]
     requires parameters { parameters ≤ 4 }
     requires results { results ≤ 2 }
     ensures { result ≡ first_ones parameters results }
 {
     match parameters + results {
-        0 => [false; 8],
+        0 => [false; SLOTS],
         1 => [true, false, false, false, false, false, false, false],
         2 => [true, true, false, false, false, false, false, false],
         3 => [true, true, true, false, false, false, false, false],

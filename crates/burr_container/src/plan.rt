@@ -1,3 +1,4 @@
+use burr_code::limits::SLOTS;
 use std::marker::Model;
 
 /// A plan.
@@ -66,7 +67,7 @@ impl Model for Procedure {
 #[derive(Clone, Copy, PartialEq, Eq)]
 pub struct PlanForm {
     pub constant: i32,
-    pub coefs: [i16; 8],
+    pub coefs: [i16; SLOTS],
 }
 
 impl Model for PlanForm {
@@ -95,7 +96,7 @@ pub struct Frame {
     /// The grip: bit p is piece p.
     pub grip: u32,
     /// Of each slot, the lowest and the highest number that it may hold, if it is live.
-    pub slots: [Option<(i16, i16)>; 8],
+    pub slots: [Option<(i16, i16)>; SLOTS],
     /// At most four forms that are at least 0.
     pub guards: Vec<PlanForm>,
     /// At most eight operands, the bottom first.

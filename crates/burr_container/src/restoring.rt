@@ -23,7 +23,7 @@ use std::alloc::{AllocError, Global};
 // Forms over slots, of their bytes.
 impl PlanForm {
     /// The form over these live slots at the front of some bytes.
-    pub(crate) fn of(live: &[bool; 8], bytes: &[u8]) -> PlanForm
+    pub(crate) fn of(live: &[bool; SLOTS], bytes: &[u8]) -> PlanForm
         requires { size_of_form live.now ≤ length bytes.now }
         ensures { result ≡ form_in live.now bytes.now }
     {
@@ -35,11 +35,11 @@ impl PlanForm {
 }
 
 /// The number of each live slot, which stand at the front of some bytes, and 0 for each other slot.
-fn coefs(live: &[bool; 8], bytes: &[u8]) -> [i16; 8]
+fn coefs(live: &[bool; SLOTS], bytes: &[u8]) -> [i16; SLOTS]
     requires { 2 * count_of_live live.now ≤ length bytes.now }
     ensures { result ≡ coefs_in live.now bytes.now }
 {
-    let mut coefs = [0; 8];
+    let mut coefs = [0; SLOTS];
     let mut rest = bytes;
     for slot in 0..SLOTS {
         if !live[slot] {
@@ -68,7 +68,7 @@ pub fn forms(alloc: Global, list: &FormList<'_>) -> Result<Vec<PlanForm>, AllocE
 // Places by forms over slots, of their bytes.
 impl Place {
     /// The place by forms over these live slots at the front of some bytes.
-    pub(crate) fn of(live: &[bool; 8], bytes: &[u8]) -> Place
+    pub(crate) fn of(live: &[bool; SLOTS], bytes: &[u8]) -> Place
         requires first { 0 < length bytes.now }
         requires whole { 1 + place_rest live.now (slice_index bytes.now 0) ≤ length bytes.now }
         ensures { placement_of result

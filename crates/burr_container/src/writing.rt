@@ -77,7 +77,7 @@ fn add_signed_long(bytes: &mut Vec<u8>, number: i32) -> Result<(), AllocError>
 // Forms and places, added to bytes.
 
 /// A form: its constant, and its coefficients of live slots.
-fn add_form(bytes: &mut Vec<u8>, live: &[bool; 8], form: &PlanForm) -> Result<(), AllocError>
+fn add_form(bytes: &mut Vec<u8>, live: &[bool; SLOTS], form: &PlanForm) -> Result<(), AllocError>
     ensures { OnOk result (bytes.new.items ≡ bytes.old.items ++ form_bytes live.now form.now) }
 {
     add_signed_long(bytes, form.constant)?;
@@ -85,7 +85,11 @@ fn add_form(bytes: &mut Vec<u8>, live: &[bool; 8], form: &PlanForm) -> Result<()
 }
 
 /// The coefficients of live slots.
-fn add_coefs(bytes: &mut Vec<u8>, live: &[bool; 8], coefs: &[i16; 8]) -> Result<(), AllocError>
+fn add_coefs(
+    bytes: &mut Vec<u8>,
+    live: &[bool; SLOTS],
+    coefs: &[i16; SLOTS],
+) -> Result<(), AllocError>
     ensures { OnOk result
         (bytes.new.items ≡ bytes.old.items ++ flat_map signed_word (of_live live.now coefs.now)) }
 {
@@ -106,7 +110,11 @@ fn add_coef(bytes: &mut Vec<u8>, is_live: bool, coef: i16) -> Result<(), AllocEr
 }
 
 /// Forms, with their count in front of them.
-fn add_forms(bytes: &mut Vec<u8>, live: &[bool; 8], forms: &[PlanForm]) -> Result<(), AllocError>
+fn add_forms(
+    bytes: &mut Vec<u8>,
+    live: &[bool; SLOTS],
+    forms: &[PlanForm],
+) -> Result<(), AllocError>
     requires { length forms.now < 256 }
     ensures { OnOk result (bytes.new.items ≡ bytes.old.items ++ forms_bytes live.now forms.now) }
 {
@@ -118,7 +126,7 @@ fn add_forms(bytes: &mut Vec<u8>, live: &[bool; 8], forms: &[PlanForm]) -> Resul
 }
 
 /// Where each piece lies.
-fn add_places(bytes: &mut Vec<u8>, live: &[bool; 8], places: &[Place]) -> Result<(), AllocError>
+fn add_places(bytes: &mut Vec<u8>, live: &[bool; SLOTS], places: &[Place]) -> Result<(), AllocError>
     ensures { OnOk result
         (bytes.new.items ≡ bytes.old.items ++ places_bytes live.now (placements_of places.now)) }
 {
@@ -129,7 +137,7 @@ fn add_places(bytes: &mut Vec<u8>, live: &[bool; 8], places: &[Place]) -> Result
 }
 
 /// Where a piece lies.
-fn add_place(bytes: &mut Vec<u8>, live: &[bool; 8], place: &Place) -> Result<(), AllocError>
+fn add_place(bytes: &mut Vec<u8>, live: &[bool; SLOTS], place: &Place) -> Result<(), AllocError>
     ensures { OnOk result
         (bytes.new.items ≡ bytes.old.items ++ place_bytes live.now (placement_of place.now)) }
 {
@@ -171,7 +179,7 @@ fn add_exit_frame(
 fn add_exit_rest(
     bytes: &mut Vec<u8>,
     layout: Layout,
-    live: &[bool; 8],
+    live: &[bool; SLOTS],
     exit: &ExitFrame,
 ) -> Result<(), AllocError>
     requires { length exit.now.guards < 256 }
@@ -187,7 +195,7 @@ fn add_exit_rest(
 fn add_exit_guards(
     bytes: &mut Vec<u8>,
     layout: Layout,
-    live: &[bool; 8],
+    live: &[bool; SLOTS],
     guards: &[PlanForm],
 ) -> Result<(), AllocError>
     requires { length guards.now < 256 }
@@ -230,8 +238,8 @@ fn add_frame(bytes: &mut Vec<u8>, frame: &Frame) -> Result<(), AllocError>
 /// Which slots are live, and their ranges.
 fn add_slots(
     bytes: &mut Vec<u8>,
-    live: &[bool; 8],
-    slots: &[Option<(i16, i16)>; 8],
+    live: &[bool; SLOTS],
+    slots: &[Option<(i16, i16)>; SLOTS],
 ) -> Result<(), AllocError>
     requires { live.now ≡ live_ones slots.now }
     ensures { OnOk result (bytes.new.items ≡ bytes.old.items ++ slots_bytes slots.now) }
@@ -257,7 +265,7 @@ fn add_range(bytes: &mut Vec<u8>, slot: &Option<(i16, i16)>) -> Result<(), Alloc
 }
 
 /// The live slots as a byte: bit v for slot v.
-fn mask_of(live: &[bool; 8]) -> u8
+fn mask_of(live: &[bool; SLOTS]) -> u8
     ensures { result ≡ mask_of_live live.now }
 {
     let [a, b, c, d, e, f, g, h] = *live;

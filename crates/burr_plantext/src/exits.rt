@@ -8,11 +8,12 @@ ghost use Rattle.burr_plantext.specs.Views.Symbols.{AreSymbols, AreOver, ArePlac
 
 use crate::frames::add_form_line;
 use crate::lines::{add_grip, add_piece, add_range};
+use burr_code::limits::SLOTS;
 use burr_container::ExitRef;
 use std::alloc::AllocError;
 
 /// The symbols of an exit frame: parameters, and then results.
-const EXIT_SYMBOLS: [u8; 8] = [0, 1, 2, 3, 4, 5, 6, 7];
+const EXIT_SYMBOLS: [u8; SLOTS] = [0, 1, 2, 3, 4, 5, 6, 7];
 
 /// Adds the lines of an exit frame.
 pub fn add_exit(text: &mut Vec<u8>, exit: &ExitRef<'_>) -> Result<(), AllocError>

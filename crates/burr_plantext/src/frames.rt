@@ -29,11 +29,11 @@ pub fn add_frame(text: &mut Vec<u8>, frame: &FrameRef<'_>) -> Result<(), AllocEr
 }
 
 /// The live slots in rising order, which are the symbols of the frame's forms; after them 0.
-fn live_slots(frame: &FrameRef<'_>) -> [u8; 8]
+fn live_slots(frame: &FrameRef<'_>) -> [u8; SLOTS]
     requires { length (frame_of frame.now).slots ≡ 8 }
     ensures { AreSymbols (live_ones (frame_of frame.now).slots) result }
 {
-    let mut symbols = [0; 8];
+    let mut symbols = [0; SLOTS];
     let mut count = 0;
     for slot in 0..8u8 {
         if frame.slot(slot).is_some() {
@@ -67,7 +67,11 @@ fn add_slot(text: &mut Vec<u8>, slot: u8, range: Option<(i16, i16)>) -> Result<(
     add_range(text, range)
 }
 
-fn add_guards(text: &mut Vec<u8>, symbols: &[u8; 8], frame: &FrameRef<'_>) -> Result<(), AllocError>
+fn add_guards(
+    text: &mut Vec<u8>,
+    symbols: &[u8; SLOTS],
+    frame: &FrameRef<'_>,
+) -> Result<(), AllocError>
     requires symbols { AreSymbols (live_ones (frame_of frame.now).slots) symbols.now }
     requires over { AreOver (live_ones (frame_of frame.now).slots) (frame_of frame.now).guards }
     ensures { OnOk result
@@ -79,7 +83,11 @@ fn add_guards(text: &mut Vec<u8>, symbols: &[u8; 8], frame: &FrameRef<'_>) -> Re
     Ok(())
 }
 
-fn add_stack(text: &mut Vec<u8>, symbols: &[u8; 8], frame: &FrameRef<'_>) -> Result<(), AllocError>
+fn add_stack(
+    text: &mut Vec<u8>,
+    symbols: &[u8; SLOTS],
+    frame: &FrameRef<'_>,
+) -> Result<(), AllocError>
     requires symbols { AreSymbols (live_ones (frame_of frame.now).slots) symbols.now }
     requires over { AreOver (live_ones (frame_of frame.now).slots) (frame_of frame.now).stack }
     ensures { OnOk result
@@ -91,7 +99,11 @@ fn add_stack(text: &mut Vec<u8>, symbols: &[u8; 8], frame: &FrameRef<'_>) -> Res
     Ok(())
 }
 
-fn add_places(text: &mut Vec<u8>, symbols: &[u8; 8], frame: &FrameRef<'_>) -> Result<(), AllocError>
+fn add_places(
+    text: &mut Vec<u8>,
+    symbols: &[u8; SLOTS],
+    frame: &FrameRef<'_>,
+) -> Result<(), AllocError>
     requires symbols { AreSymbols (live_ones (frame_of frame.now).slots) symbols.now }
     requires over { ArePlacesOver (live_ones (frame_of frame.now).slots)
         (frame_of frame.now).places }
@@ -108,7 +120,7 @@ fn add_places(text: &mut Vec<u8>, symbols: &[u8; 8], frame: &FrameRef<'_>) -> Re
 
 /// Adds a form whose symbols are these slots: its constant, and a term for each coefficient that
 /// isn't 0.
-fn add_form(text: &mut Vec<u8>, symbols: &[u8; 8], form: &Form) -> Result<(), AllocError>
+fn add_form(text: &mut Vec<u8>, symbols: &[u8; SLOTS], form: &Form) -> Result<(), AllocError>
     ensures { OnOk result
         (text.new.items ≡ text.old.items ++ symbol_word symbols.now form.now) }
 {
@@ -120,7 +132,11 @@ fn add_form(text: &mut Vec<u8>, symbols: &[u8; 8], form: &Form) -> Result<(), Al
 }
 
 /// Adds a blank and a form.
-pub fn add_form_word(text: &mut Vec<u8>, symbols: &[u8; 8], form: &Form) -> Result<(), AllocError>
+pub fn add_form_word(
+    text: &mut Vec<u8>,
+    symbols: &[u8; SLOTS],
+    form: &Form,
+) -> Result<(), AllocError>
     ensures { OnOk result
         (text.new.items ≡ text.old.items ++ 32 ∷ symbol_word symbols.now form.now) }
 {
@@ -132,7 +148,7 @@ pub fn add_form_word(text: &mut Vec<u8>, symbols: &[u8; 8], form: &Form) -> Resu
 pub fn add_form_line(
     text: &mut Vec<u8>,
     word: &[u8],
-    symbols: &[u8; 8],
+    symbols: &[u8; SLOTS],
     form: &Form,
 ) -> Result<(), AllocError>
     ensures { OnOk result

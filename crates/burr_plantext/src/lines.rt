@@ -7,6 +7,7 @@ ghost use Rattle.burr_plantext.specs.Views.Symbols.{symbol_spot, symbol_piece};
 
 use crate::frames::add_form_word;
 use crate::numbers::{add_number, add_set, add_word, end_line};
+use burr_code::limits::SLOTS;
 use burr_forms::Form;
 use std::alloc::AllocError;
 
@@ -33,7 +34,7 @@ pub fn add_range(text: &mut Vec<u8>, range: (i16, i16)) -> Result<(), AllocError
 /// Adds the line of a piece: its tray and its offset, or `apart`.
 pub fn add_piece(
     text: &mut Vec<u8>,
-    symbols: &[u8; 8],
+    symbols: &[u8; SLOTS],
     piece: usize,
     place: Option<(u8, Form, Form, Form)>,
 ) -> Result<(), AllocError>
@@ -50,7 +51,7 @@ pub fn add_piece(
 /// Adds a blank and where a piece lies.
 fn add_spot(
     text: &mut Vec<u8>,
-    symbols: &[u8; 8],
+    symbols: &[u8; SLOTS],
     place: Option<(u8, Form, Form, Form)>,
 ) -> Result<(), AllocError>
     ensures { OnOk result

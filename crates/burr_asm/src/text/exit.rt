@@ -15,7 +15,7 @@ use crate::text::front::Version;
 use crate::text::line::{LineForm, PieceWords, RangeWords};
 use crate::text::numbers::range;
 use crate::text::signature::Signature;
-use burr_code::limits::MOST_GUARDS;
+use burr_code::limits::{MOST_GUARDS, SLOTS};
 use burr_container::ExitFrame;
 use std::alloc::Global;
 use std::mem::replace;
@@ -140,7 +140,7 @@ impl Exit {
 /// A guard of an exit frame, over these symbols.
 fn add_guard(
     frame: &mut ExitFrame,
-    symbols: &[bool; 8],
+    symbols: &[bool; SLOTS],
     form: FormWord<'_>,
     line: usize,
 ) -> Result<(), AsmFault>
@@ -152,7 +152,7 @@ fn add_guard(
 /// A piece of an exit frame, over these symbols.
 fn add_piece(
     frame: &mut ExitFrame,
-    symbols: &[bool; 8],
+    symbols: &[bool; SLOTS],
     words: PieceWords<'_>,
     line: usize,
 ) -> Result<(), AsmFault>

@@ -11,6 +11,7 @@ ghost use Rattle.burr_asm.specs.Views.Forms.{begins_signed, begins_term, terms_o
 
 use crate::text::numbers::{coefficient, constant, slot};
 use crate::text::words::NumberWord;
+use burr_code::limits::SLOTS;
 use burr_container::PlanForm;
 use burr_text::cut_at;
 
@@ -47,13 +48,13 @@ impl<'a> FormWord<'a> {
 
     /// The form that is written; None where a number is out of its range, a slot isn't live, or
     /// the slots don't rise.
-    pub fn value(self, live: &[bool; 8]) -> Option<PlanForm>
+    pub fn value(self, live: &[bool; SLOTS]) -> Option<PlanForm>
         ensures { MatchOption result (is_form_over live.now self.entry.bytes.now ≡ false) (λ form.
             (is_form_over live.now self.entry.bytes.now ≡ true)
             × (form ≡ form_in self.entry.bytes.now)) }
     {
         let (first, terms) = self.bytes.split_at(self.constant);
-        let mut coefs = [0; 8];
+        let mut coefs = [0; SLOTS];
         let mut least = 0;
         let mut rest = terms;
         while let Some((term, more)) = TermWords::cut(rest) {
@@ -68,7 +69,7 @@ impl<'a> FormWord<'a> {
 }
 
 /// The slot of this number; None where it is below the least, or isn't live.
-fn live_slot(number: NumberWord<'_>, least: usize, live: &[bool; 8]) -> Option<usize>
+fn live_slot(number: NumberWord<'_>, least: usize, live: &[bool; SLOTS]) -> Option<usize>
     ensures few { IfSome result (λ slot. slot < SLOTS) }
     ensures value { IsLiveSlot live.now least number.entry.bytes.now result }
 {

@@ -20,7 +20,7 @@ use crate::text::line::{GripWords, LineForm, PieceWords, PlaceWords, SlotWords};
 use crate::text::numbers::{index, range, slot, tray};
 use crate::text::set::piece_set;
 use crate::text::words::NumberWord;
-use burr_code::limits::{MOST_GUARDS, MOST_OPERANDS};
+use burr_code::limits::{MOST_GUARDS, MOST_OPERANDS, SLOTS};
 use burr_container::{Frame, Place, PlanForm};
 use std::alloc::Global;
 use std::marker::Model;
@@ -65,7 +65,7 @@ impl Grip {
 #[derive(Drop)]
 pub struct Conditions {
     grip: Grip,
-    slots: [Option<(i16, i16)>; 8],
+    slots: [Option<(i16, i16)>; SLOTS],
     guards: Vec<PlanForm>,
     stack: Vec<PlanForm>,
 }
@@ -93,7 +93,7 @@ impl Conditions {
     {
         Conditions {
             grip,
-            slots: [None; 8],
+            slots: [None; SLOTS],
             guards: Vec::new(alloc),
             stack: Vec::new(alloc),
         }
@@ -186,7 +186,7 @@ impl Conditions {
 }
 
 /// The slot of a line, with its range, where it stands above all live slots.
-fn slot_above(slots: &[Option<(i16, i16)>; 8], words: SlotWords<'_>) -> Option<(u8, (i16, i16))>
+fn slot_above(slots: &[Option<(i16, i16)>; SLOTS], words: SlotWords<'_>) -> Option<(u8, (i16, i16))>
     ensures few { IfSome result (λ found. found.0 < SLOTS) }
     ensures value { IsSlotAbove slots.now (slot_words words.entry) result }
 {
@@ -200,7 +200,7 @@ fn slot_above(slots: &[Option<(i16, i16)>; 8], words: SlotWords<'_>) -> Option<(
 pub fn add_form(
     forms: &mut Vec<PlanForm>,
     most: usize,
-    live: &[bool; 8],
+    live: &[bool; SLOTS],
     words: FormWord<'_>,
     line: usize,
 ) -> Result<(), AsmFault>
@@ -218,7 +218,7 @@ pub fn add_form(
 }
 
 /// The form of these words over these live slots.
-fn form_over(live: &[bool; 8], words: FormWord<'_>, line: usize) -> Result<PlanForm, AsmFault>
+fn form_over(live: &[bool; SLOTS], words: FormWord<'_>, line: usize) -> Result<PlanForm, AsmFault>
     ensures { MatchResult result
         (λ form. (is_form_over live.now words.entry.bytes.now ≡ true)
         × (form ≡ form_in words.entry.bytes.now))
@@ -231,7 +231,7 @@ fn form_over(live: &[bool; 8], words: FormWord<'_>, line: usize) -> Result<PlanF
 }
 
 /// Which slots are live.
-fn live_slots(slots: &[Option<(i16, i16)>; 8]) -> [bool; 8]
+fn live_slots(slots: &[Option<(i16, i16)>; SLOTS]) -> [bool; SLOTS]
     ensures { result ≡ live_slots slots.now }
 {
     let [a, b, c, d, e, f, g, h] = *slots;
@@ -276,7 +276,7 @@ pub fn add_piece(frame: &mut Frame, words: PieceWords<'_>, line: usize) -> Resul
 
 /// The place that words say, where its numbers are in their ranges and its forms are over these
 /// live slots.
-fn place(words: PlaceWords<'_>, live: &[bool; 8]) -> Option<Place>
+fn place(words: PlaceWords<'_>, live: &[bool; SLOTS]) -> Option<Place>
     ensures { MatchOption result (is_spot live.now (place_words words.entry) ≡ false) (λ place.
         (is_spot live.now (place_words words.entry) ≡ true)
         × (placement_of place ≡ place_in (place_words words.entry))) }
@@ -303,7 +303,7 @@ fn is_next(word: NumberWord<'_>, count: usize) -> bool
 /// Adds the place of one more piece, which has to be the next.
 pub fn add_place(
     places: &mut Vec<Place>,
-    live: &[bool; 8],
+    live: &[bool; SLOTS],
     words: PieceWords<'_>,
     line: usize,
 ) -> Result<(), AsmFault>

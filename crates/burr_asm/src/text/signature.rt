@@ -3,6 +3,7 @@ ghost use Rattle.burr_code.specs.declared.limits.TheConstants.{MOST_PARAMETERS};
 ghost use Rattle.burr_container.specs.Rules.Plans.{exit_symbols};
 
 use crate::text::front::Version;
+use burr_code::limits::SLOTS;
 
 /// What a procedure takes and gives, and the version of its plan: what its exit frame may say.
 #[derive(Clone, Copy)]
@@ -18,11 +19,11 @@ pub struct Signature {
 
 impl Signature {
     /// Which symbols the forms of the exit frame may have: the parameters, and then the results.
-    pub fn symbols(self) -> [bool; 8]
+    pub fn symbols(self) -> [bool; SLOTS]
         ensures { result ≡ exit_symbols self.parameters self.results }
     {
         let count = usize::from(self.parameters) + usize::from(self.results);
-        let mut symbols = [false; 8];
+        let mut symbols = [false; SLOTS];
         symbols[..count].fill(true);
         symbols
     }

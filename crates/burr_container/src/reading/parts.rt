@@ -307,7 +307,7 @@ fn ranges(count: u8, cursor: &mut Cursor<'_>) -> Result<[(i16, i16); 2], Contain
 /// The guards of an exit frame over these symbols, in version 2 alone.
 fn exit_guards<'a>(
     layout: Layout,
-    live: [bool; 8],
+    live: [bool; SLOTS],
     cursor: &mut Cursor<'a>,
 ) -> Result<FormList<'a>, ContainerFault>
     ensures live { IfOk result (λ ok. ok.live ≡ live) }
@@ -326,11 +326,11 @@ fn exit_guards<'a>(
 }
 
 /// Which slots are live, and their ranges.
-fn slots(cursor: &mut Cursor<'_>) -> Result<[Option<(i16, i16)>; 8], ContainerFault>
+fn slots(cursor: &mut Cursor<'_>) -> Result<[Option<(i16, i16)>; SLOTS], ContainerFault>
     ensures { Reads slots_part cursor.old cursor.new result }
 {
     let mask = cursor.byte()?;
-    let mut slots = [None; 8];
+    let mut slots = [None; SLOTS];
     let mut bits = mask;
     for v in 0..SLOTS {
         if bits % 2 == 1 {
@@ -344,7 +344,7 @@ fn slots(cursor: &mut Cursor<'_>) -> Result<[Option<(i16, i16)>; 8], ContainerFa
 
 /// Forms over these live slots, with their count, at most this, in front of them.
 fn forms<'a>(
-    live: [bool; 8],
+    live: [bool; SLOTS],
     most: usize,
     cursor: &mut Cursor<'a>,
 ) -> Result<FormList<'a>, ContainerFault>
@@ -358,7 +358,7 @@ fn forms<'a>(
 }
 
 /// A form over these live slots.
-fn form<'a>(live: [bool; 8], cursor: &mut Cursor<'a>) -> Result<FormList<'a>, ContainerFault>
+fn form<'a>(live: [bool; SLOTS], cursor: &mut Cursor<'a>) -> Result<FormList<'a>, ContainerFault>
     ensures live { IfOk result (λ ok. (ok.live ≡ live) × (ok.count ≡ 1)) }
     ensures reads { ReadsInPlace form_in_list (form_part live) cursor.old cursor.new result }
 {
@@ -370,7 +370,7 @@ fn form<'a>(live: [bool; 8], cursor: &mut Cursor<'a>) -> Result<FormList<'a>, Co
 /// The places of the pieces, by forms over these live slots.
 fn places<'a>(
     layout: Layout,
-    live: [bool; 8],
+    live: [bool; SLOTS],
     cursor: &mut Cursor<'a>,
 ) -> Result<PlaceList<'a>, ContainerFault>
     ensures live { IfOk result (λ ok. (ok.live ≡ live) × (ok.count ≡ layout.pieces)) }
@@ -386,7 +386,7 @@ fn places<'a>(
 }
 
 /// Goes over the place of a piece, by forms over these live slots.
-fn place(live: &[bool; 8], cursor: &mut Cursor<'_>) -> Result<(), ContainerFault>
+fn place(live: &[bool; SLOTS], cursor: &mut Cursor<'_>) -> Result<(), ContainerFault>
     ensures over { OnOk result (IsAfterPlace live.now cursor.old.rest.now cursor.new.rest.now) }
     ensures reads { GoesOver (place_part live.now) cursor.old cursor.new result }
 {
