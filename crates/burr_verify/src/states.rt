@@ -26,19 +26,18 @@ pub fn state_before(procedure: ProcedureRef<'_, '_>, pc: u16) -> Option<State>
         (s : AbstractState)
         → ComesTo homes plan procedure.entry.number here pc s → result ≡ Some s) }
 {
-    let mut falling = None;
+    let mut state = None;
     let mut at = 0;
     while at < usize::from(pc) {
         let Some((instruction, size)) = fetch(procedure.code(), at) else {
             return None;
         };
-        let Some(before) = entered(procedure, at, falling) else {
-            return None;
-        };
-        falling = fallen_out(before, &instruction, procedure);
+        enter(procedure, at, &mut state);
+        go_over(&mut state, &instruction, procedure);
         at += size;
     }
-    entered(procedure, usize::from(pc), falling)
+    enter(procedure, usize::from(pc), &mut state);
+    state
 }
 
 /// The state that falls out of the instruction at a place of a procedure's code, where the pass goes
@@ -53,43 +52,41 @@ pub fn state_after(procedure: ProcedureRef<'_, '_>, pc: u16) -> Option<State>
     let Some((instruction, _size)) = fetch(procedure.code(), usize::from(pc)) else {
         return None;
     };
-    let Some(before) = state_before(procedure, pc) else {
-        return None;
-    };
-    fallen_out(before, &instruction, procedure)
+    let mut state = state_before(procedure, pc);
+    go_over(&mut state, &instruction, procedure);
+    state
 }
 
-/// The state before the instruction at a place into which a state falls, if one does: that of the
-/// frame there, or else what falls in.
-fn entered(procedure: ProcedureRef<'_, '_>, at: usize, falling: Option<State>) -> Option<State>
+/// Leaves the state in which the pass comes to the instruction at a place into which this one falls,
+/// if one does: that of the frame there, or else this one.
+fn enter(procedure: ProcedureRef<'_, '_>, at: usize, state: &mut Option<State>)
     requires { at < 2 ^ 16 }
     ensures { OfFramedProcedure procedure.entry (λ plan here. (s : AbstractState)
-        → Enters here at falling s → result ≡ Some s) }
+        → Enters here at state.old s → state.new ≡ Some s) }
 {
     // The plan is within the format, so that one frame at most stands at a place.
     a_container_has_a_plan(procedure.container());
     match label_within(procedure, at, at + 1) {
-        Some(label) => Some(State::of(&procedure.frame(label))),
-        None => falling,
+        Some(label) => *state = Some(State::of(&procedure.frame(label))),
+        None => {}
     }
 }
 
-/// The state that falls out of an instruction, if one does, where its rule holds.
-fn fallen_out(
-    mut state: State,
-    instruction: &Instr<'_>,
-    procedure: ProcedureRef<'_, '_>,
-) -> Option<State>
+/// Leaves the state that falls out of an instruction, if one does, where its rule holds of this one.
+fn go_over(state: &mut Option<State>, instruction: &Instr<'_>, procedure: ProcedureRef<'_, '_>)
     requires { IsInRange (meaning instruction.now) }
     ensures { OfFramedProcedure procedure.entry (λ plan here. (homes : List (List Cell))
-        (verdict : Verdict) (out : Option AbstractState)
-        → Transfer homes plan procedure.entry.number here state (meaning instruction.now)
-        verdict
-        → FallsOut verdict out → result ≡ out) }
+        (s : AbstractState) (verdict : Verdict) (out : Option AbstractState)
+        → state.old ≡ Some s
+        → Transfer homes plan procedure.entry.number here s (meaning instruction.now) verdict
+        → FallsOut verdict out → state.new ≡ out) }
 {
-    match transfer_freely(&mut state, instruction, procedure) {
-        Ok(Successor::FallsThrough) => Some(state),
-        Ok(Successor::None) | Err(_) => None,
+    let Some(before) = state else {
+        return;
+    };
+    match transfer_freely(before, instruction, procedure) {
+        Ok(Successor::FallsThrough) => {}
+        Ok(Successor::None) | Err(_) => *state = None,
     }
 }
 

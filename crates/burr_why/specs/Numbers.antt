@@ -1,5 +1,5 @@
 -- What holds of a verifier's state at a point: numbers in place of its forms.
-use Rattle.std.specs.Prelude.{◌≡◌, ◌<◌, ℕ, List, None, get_or, map, option_map, reverse}
+use Rattle.std.specs.Prelude.{◌≡◌, ◌<◌, ℕ, None, get_or, map, option_map, reverse}
 use Rattle.burr_voxels.specs.declared.cell.Cell.{Cell}
 use Rattle.burr_voxels.specs.Grid.{at}
 use Rattle.burr_code.specs.Places.{at_position}

@@ -158,20 +158,15 @@ impl PointState {
             let parameter = self.slots.get(v).copied().flatten();
             let _ = values.try_push(parameter.unwrap_or(0));
         }
-        for result in &self.arguments(exit.result_count()) {
-            let _ = values.try_push(*result);
-        }
+        let _ = values.try_extend_from_slice(&self.arguments(exit.result_count()));
         point_of(&values)
     }
 
     /// The arguments of a procedure with this many parameters: the topmost operands.
     pub fn arguments(&self, parameters: u8) -> ArrayVec<i64, MOST_SYMBOLS> {
-        let count = self.operands.len();
-        let below = count.saturating_sub(usize::from(parameters));
+        let below = self.operands.len().saturating_sub(usize::from(parameters));
         let mut arguments = ArrayVec::new();
-        for n in below..count {
-            let _ = arguments.try_push(self.operands[n]);
-        }
+        let _ = arguments.try_extend_from_slice(&self.operands[below..]);
         arguments
     }
 }

@@ -32,19 +32,26 @@ impl Reasons<'_, '_> {
             Rule::V27 => self.add_malformed_frame(refusal),
             Rule::V28 => self.add_small_budget(),
             Rule::V25 => self.add_wide_frame(refusal),
-            rule => self.add_at_site(rule, refusal),
+            _ => self.add_at_site(refusal),
         }
     }
 
     /// Says why a place of the code breaks a rule.
-    fn add_at_site(&mut self, rule: Rule, refusal: &Refusal) {
+    #[inline(never)]
+    fn add_at_site(&mut self, refusal: &Refusal) {
         let site = Site::of(&self.plan, refusal);
+        self.add_broken_rule(refusal, &site);
+    }
+
+    /// Says what was compared there.
+    #[inline(never)]
+    fn add_broken_rule(&mut self, refusal: &Refusal, site: &Site) {
         self.add_item(site.code_item(usize::from(site.pc)));
-        self.add_surroundings(&site);
-        match rule {
-            Rule::V2 | Rule::V3 | Rule::V4 | Rule::V5 => self.add_bad_code(rule, &site),
-            Rule::V15 | Rule::V16 => self.add_meeting(refusal.pieces, &site),
-            _ => self.add_bad_instruction(rule, &site),
+        self.add_surroundings(site);
+        match refusal.rule {
+            rule @ (Rule::V2 | Rule::V3 | Rule::V4 | Rule::V5) => self.add_bad_code(rule, site),
+            Rule::V15 | Rule::V16 => self.add_meeting(refusal.pieces, site),
+            rule => self.add_bad_instruction(rule, site),
         }
     }
 

@@ -6,7 +6,7 @@ use burr_code::Instr;
 use burr_code::limits::{MOST_STATE_GUARDS, SLOTS};
 use burr_container::FrameRef;
 use burr_forms::limits::{MOST_FORM_NUMBER, MOST_POINTS};
-use burr_frames::{Rule, State};
+use burr_frames::Rule;
 use burr_lines::{FramePart, PlanItem};
 use burr_verify::Refusal;
 
@@ -83,7 +83,7 @@ impl Reasons<'_, '_> {
     pub(super) fn add_wide_frame(&mut self, refusal: &Refusal) {
         let procedure = usize::from(refusal.proc);
         let Some((label, points)) = self.wide_label(procedure, usize::from(refusal.pc)) else {
-            return self.add_at_site(refusal.rule, refusal);
+            return self.add_at_site(refusal);
         };
         self.add_item(PlanItem::Label { procedure, label });
         self.add_points(points);
@@ -135,9 +135,11 @@ impl Reasons<'_, '_> {
 /// How many points the ranges of a frame have together, guards not counted.
 fn points(frame: &FrameRef<'_>) -> u64 {
     let mut points: u64 = 1;
-    for (low, high) in State::of(frame).ranges() {
-        let numbers = u64::from(high.abs_diff(*low)).saturating_add(1);
-        points = points.saturating_mul(numbers);
+    for v in 0..SLOTS as u8 {
+        if let Some((low, high)) = frame.slot(v) {
+            let numbers = u64::from(high.abs_diff(low)).saturating_add(1);
+            points = points.saturating_mul(numbers);
+        }
     }
     points
 }

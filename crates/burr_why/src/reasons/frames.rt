@@ -116,13 +116,13 @@ impl<'a> Reasons<'a, '_> {
         left: Option<i64>,
     ) -> Option<Differences<'a>> {
         let (frame, assembly) = (self.plan.frame(procedure, label)?, self.plan.assembly);
-        let found = Differences::of_frame(self.alloc, assembly, state, &frame, left);
-        Some(found)
+        Some(Differences::of_frame(self.alloc, assembly, state, &frame, left))
     }
 
     /// Says what differs from the frame of a label that control comes to.
     fn add_arrival(&mut self, site: &Site, label: usize, after: &PointState) {
-        self.add_missed_name(site.label_item(label));
+        let name = Shown(self.lines.name_of(site.label_item(label)));
+        self.note(format_args!("what holds after it is not what the frame of {name} says"));
         let is_cost = self.add_differences_of_label(site.procedure, label, after, Some(after.cost));
         match site.label {
             Some(last) if last != label && is_cost => {
@@ -149,12 +149,6 @@ impl<'a> Reasons<'a, '_> {
         differences.has_cost()
     }
 
-    /// Notes the label whose frame is not met.
-    fn add_missed_name(&mut self, label: PlanItem) {
-        let name = Shown(self.lines.name_of(label));
-        self.note(format_args!("what holds after it is not what the frame of {name} says"));
-    }
-
     /// Names the lines of a frame that tell something else, each with what differs.
     fn add_differences(&mut self, frame: PlanFrame, differences: &Differences<'_>) {
         self.report.lose_unless(differences.is_whole);
@@ -166,14 +160,10 @@ impl<'a> Reasons<'a, '_> {
             }
             self.note(&difference.note);
         }
-        self.add_untold(differences.found.len().saturating_sub(MOST_TOLD));
-    }
-
-    /// Says how many differences are not told, where there are any.
-    fn add_untold(&mut self, count: usize) {
-        if count != 0 {
+        let untold = differences.found.len().saturating_sub(MOST_TOLD);
+        if untold != 0 {
             self.report
-                .add_words(format_args!("and {count} more of this frame\n"));
+                .add_words(format_args!("and {untold} more of this frame\n"));
         }
     }
 

@@ -15,6 +15,7 @@ use burr_verify::Refusal;
 
 impl Reasons<'_, '_> {
     /// Says what is wrong with a frame by itself, or with main's first frame at the start.
+    #[inline(never)]
     pub(super) fn add_malformed_frame(&mut self, refusal: &Refusal) {
         let procedure = usize::from(refusal.proc);
         let pc = usize::from(refusal.pc);

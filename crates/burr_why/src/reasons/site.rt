@@ -3,7 +3,6 @@
 use super::Reasons;
 use crate::origins::{Origin, Origins};
 use crate::point_state::PointState;
-use arrayvec::ArrayVec;
 use burr_code::Instr;
 use burr_forms::Point;
 use burr_lines::{FramePart, PlanItem, PlanText, Shown};
@@ -30,30 +29,41 @@ pub struct Site {
 }
 
 impl Site {
-    /// The place of a refusal.
+    /// The place of a refusal, and what holds there.
     pub fn of(plan: &PlanText<'_, '_>, refusal: &Refusal) -> Site {
+        let mut site = Site::new(plan, refusal);
+        site.before = site.state_before(plan);
+        site.after = site.state_after(plan);
+        site
+    }
+
+    /// The place of a refusal.
+    #[inline(never)]
+    fn new(plan: &PlanText<'_, '_>, refusal: &Refusal) -> Site {
         let procedure = usize::from(refusal.proc);
         let pc = usize::from(refusal.pc);
         let label = plan.label_before(procedure, pc);
-        let mut site = Site {
+        let mut point = Point::new();
+        if let Some(numbers) = &refusal.point {
+            let _ = point.try_extend_from_slice(numbers);
+        }
+        Site {
             procedure,
             pc: refusal.pc,
             end: plan.end_of_instruction(procedure, pc),
             label,
-            point: point_of(refusal),
+            point,
             before: PointState::new(),
             after: PointState::new(),
             origins: match label {
                 Some(label) => Origins::since(plan, procedure, label, pc),
                 None => Origins::new(),
             },
-        };
-        site.before = site.state_before(plan);
-        site.after = site.state_after(plan);
-        site
+        }
     }
 
     /// What holds before the instruction, at the point; nothing where the verifier does not come to it.
+    #[inline(never)]
     pub fn state_before(&self, plan: &PlanText<'_, '_>) -> PointState {
         if let Some(procedure) = plan.procedure(self.procedure) {
             if let Some(state) = state_before(procedure, self.pc) {
@@ -63,12 +73,17 @@ impl Site {
         PointState::new()
     }
 
+    /// What falls out of the instruction, at the point; none where nothing does.
+    #[inline(never)]
+    fn fallen_out(&self, plan: &PlanText<'_, '_>) -> Option<PointState> {
+        let procedure = plan.procedure(self.procedure)?;
+        Some(PointState::at(state_after(procedure, self.pc).as_ref()?, &self.point))
+    }
+
     /// What holds after it, or what it makes of the places of the pieces and of the cost.
     pub fn state_after(&self, plan: &PlanText<'_, '_>) -> PointState {
-        if let Some(procedure) = plan.procedure(self.procedure) {
-            if let Some(state) = state_after(procedure, self.pc) {
-                return PointState::at(&state, &self.point);
-            }
+        if let Some(state) = self.fallen_out(plan) {
+            return state;
         }
         let mut state = self.state_before(plan);
         state.pay();
@@ -98,17 +113,6 @@ impl Site {
             pc,
         }
     }
-}
-
-/// The point that a refusal names; nothing where it names none.
-fn point_of(refusal: &Refusal) -> Point {
-    let mut numbers = ArrayVec::new();
-    if let Some(point) = &refusal.point {
-        for number in point {
-            let _ = numbers.try_push(*number);
-        }
-    }
-    numbers
 }
 
 /// Where an open number comes from, for people.

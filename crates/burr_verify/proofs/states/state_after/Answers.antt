@@ -1,11 +1,9 @@
 -- The pass that comes to the place goes over the instruction that stands there.
-use Rattle.std.proofs.Common.{◌∙◌, ℕ, List, sym, subst}
-use Rattle.std.proofs.lemmas.Option.{none-some, same_Some}
+use Rattle.std.proofs.Common.{ℕ, List, subst}
 use Rattle.burr_code.specs.Instruction.{Instruction, StandsAt}
 use Rattle.burr_code.specs.Meaning.{meaning, NoneStandsAt}
 use Rattle.burr_code.proofs.Common.Reading.{one_stands_at}
 use Rattle.burr_frames.specs.Rules.FramedPlans.{framed_plan}
-use Rattle.burr_frames.specs.Rules.States.{AbstractState}
 use Rattle.burr_frames.specs.Rules.Transfer.{Transfer}
 use Rattle.burr_verify.proofs.Stages.{code_read}
 use Rattle.burr_verify.proofs.states.state_after.Goals as goal
@@ -16,10 +14,6 @@ returns-in_default c = λ p here kept at homes out goes.
     let none = subst (λ (bytes : List ℕ). NoneStandsAt bytes c.from.result) code c.in_default.ensures.stands in
     absurd (subst (λ (n : ℕ). NoneStandsAt here.code n) c.from.ensures none goes.1 goes.4))
 
-pub returns-in_default-state_before : goal.returns-in_default-state_before
-returns-in_default-state_before c = λ p here kept at homes out goes.
-    (absurd (none-some goes.0 (sym c.in_default-state_before.is ∙ c.state_before.ensures p here kept at homes goes.0 goes.3)))
-
 pub returns : goal.returns
 returns c = λ p here kept at homes out goes.
     (let code = code_read c.args.procedure.container.now c.args.procedure.number c.code.result.now c.code.ensures.plan p here kept at in
@@ -27,7 +21,5 @@ returns c = λ p here kept at homes out goes.
     let read = subst (λ (bytes : List ℕ). StandsAt bytes c.from.result i) code c.in-Some.ensures.stands.0 in
     let stands = subst (λ (n : ℕ). StandsAt here.code n i) c.from.ensures read in
     let same = one_stands_at here.code c.args.pc goes.1 i goes.4 stands in
-    let before = same_Some _ _ (sym c.in-Some-state_before.is ∙ c.state_before.ensures p here kept at homes goes.0 goes.3) in
     let rule = subst (λ (j : Instruction). Transfer homes (framed_plan p) c.args.procedure.number here goes.0 j goes.2) same goes.5 in
-    c.fallen_out.ensures p here kept at homes goes.2 out
-    (subst (λ (s : AbstractState). Transfer homes (framed_plan p) c.args.procedure.number here s i goes.2) (sym before) rule) goes.6)
+    c.go_over.ensures p here kept at homes goes.0 goes.2 out (c.state_before-state.ensures p here kept at homes goes.0 goes.3) rule goes.6)

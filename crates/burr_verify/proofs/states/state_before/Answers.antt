@@ -1,11 +1,9 @@
 -- What is left of the pass goes on, instruction by instruction, to the place.
 use Rattle.std.proofs.Common.{◌+◌, ◌∙◌, ℕ, List, Option, arith, sym, subst}
-use Rattle.std.proofs.lemmas.Option.{none-some, same_Some}
 use Rattle.burr_code.specs.Instruction.{StandsAt}
 use Rattle.burr_code.specs.Meaning.{meaning, NoneStandsAt}
 use Rattle.burr_frames.specs.Rules.FramedPlans.{framed_plan}
 use Rattle.burr_frames.specs.Rules.States.{AbstractState}
-use Rattle.burr_frames.specs.Rules.Transfer.{Transfer}
 use Rattle.burr_verify.specs.Rules.Fronts.{PassesTo}
 use Rattle.burr_verify.specs.Rules.WellFramed.{Enters}
 use Rattle.burr_verify.proofs.Stages.{code_read}
@@ -21,11 +19,10 @@ loop-at-preserved c = λ p here kept at homes rows out passes.
     let left = c.loop-at.invariant p here kept at homes rows out passes in
     let i = c.in-Some.instruction in
     let stands = subst (λ (bytes : List ℕ). StandsAt bytes c.loop-at.at (meaning i)) code c.in-Some.ensures.stands.0 in
-    let on = goes_on homes (framed_plan p) c.args.procedure.number here c.loop-at.at c.loop-at.falling left.0 c.args.pc out i
+    let on = goes_on homes (framed_plan p) c.args.procedure.number here c.loop-at.at c.loop-at.state left.0 c.args.pc out i
     (omega (arith, c.loop-at-test.true, c.from.ensures)) stands left.1 in
-    let before = same_Some _ _ (sym c.in-Some-entered.is ∙ c.entered.ensures p here kept at on.state on.enters) in
-    let rule = subst (λ (s : AbstractState). Transfer homes (framed_plan p) c.args.procedure.number here s (meaning i) on.verdict) (sym before) on.rule in
-    let next = c.fallen_out-falling.ensures p here kept at homes on.verdict on.next rule on.falls in
+    let before = c.enter.ensures p here kept at on.state on.enters in
+    let next = c.go_over.ensures p here kept at homes on.state on.verdict on.next before on.rule on.falls in
     let size = c.in-Some.ensures.stands.1 in (
       on.rows,
       subst (λ (o : Option AbstractState). PassesTo homes (framed_plan p) c.args.procedure.number here (c.loop-at.at + c.in-Some.size) o on.rows c.args.pc out) (sym next)
@@ -36,23 +33,14 @@ pub returns-in_default : goal.returns-in_default
 returns-in_default c = λ p here kept at homes s comes.
     (let code = code_read c.args.procedure.container.now c.args.procedure.number c.code.result.now c.code.ensures.plan p here kept at in
     let left = c.loop-at.invariant p here kept at homes comes.0 comes.1 comes.2 in
-    absurd (stands_there homes (framed_plan p) c.args.procedure.number here c.loop-at.at c.loop-at.falling left.0 c.args.pc comes.1
+    absurd (stands_there homes (framed_plan p) c.args.procedure.number here c.loop-at.at c.loop-at.state left.0 c.args.pc comes.1
     (omega (arith, c.loop-at-test.true, c.from.ensures)) left.1 (subst (λ (bytes : List ℕ). NoneStandsAt bytes c.loop-at.at) code c.in_default.ensures.stands)))
-
-pub returns-in_default-entered : goal.returns-in_default-entered
-returns-in_default-entered c = λ p here kept at homes s comes.
-    (let code = code_read c.args.procedure.container.now c.args.procedure.number c.code.result.now c.code.ensures.plan p here kept at in
-    let left = c.loop-at.invariant p here kept at homes comes.0 comes.1 comes.2 in
-    let stands = subst (λ (bytes : List ℕ). StandsAt bytes c.loop-at.at (meaning c.in-Some.instruction)) code c.in-Some.ensures.stands.0 in
-    let on = goes_on homes (framed_plan p) c.args.procedure.number here c.loop-at.at c.loop-at.falling left.0 c.args.pc comes.1 c.in-Some.instruction
-    (omega (arith, c.loop-at-test.true, c.from.ensures)) stands left.1 in
-    absurd (none-some on.state (sym c.in_default-entered.is ∙ c.entered.ensures p here kept at on.state on.enters)))
 
 pub returns : goal.returns
 returns c = λ p here kept at homes s comes.
     (let left = c.loop-at.invariant p here kept at homes comes.0 comes.1 comes.2 in
-    let come = has_come homes (framed_plan p) c.args.procedure.number here c.loop-at.at c.loop-at.falling left.0 c.args.pc comes.1
+    let come = has_come homes (framed_plan p) c.args.procedure.number here c.loop-at.at c.loop-at.state left.0 c.args.pc comes.1
     (omega (arith, c.loop-at-test.false, c.from.ensures)) left.1 in
-    c.entered-2.ensures p here kept at s
-    (subst (λ (n : ℕ). Enters here n c.loop-at.falling s) (sym c.from-2.ensures)
+    c.enter-2.ensures p here kept at s
+    (subst (λ (n : ℕ). Enters here n c.loop-at.state s) (sym c.from-2.ensures)
     (subst (λ (o : Option AbstractState). Enters here c.args.pc o s) (sym come.1) comes.3)))

@@ -12,7 +12,7 @@ abbrev pub invariant-loop-at : goal.invariant-loop-at
 invariant-loop-at l =
     OfFramedProcedure l.procedure (λ plan here. (homes : List (List Cell)) (rows : List Annotated) (out : Option AbstractState)
     → PassesTo homes plan l.procedure.number here 0 None rows l.pc out
-    → (left : List Annotated) × PassesTo homes plan l.procedure.number here l.at l.falling left l.pc out)
+    → (left : List Annotated) × PassesTo homes plan l.procedure.number here l.at l.state left l.pc out)
 
 abbrev pub decreases-loop-at : goal.decreases-loop-at
 decreases-loop-at l = l.pc - l.at

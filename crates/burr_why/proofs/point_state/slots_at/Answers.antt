@@ -1,5 +1,5 @@
 -- One more slot is taken at the point.
-use Rattle.std.proofs.Common.{◌≡◌, ℕ, ℤ, ◌∙◌, sym, subst, get_or, None, Option, arith}
+use Rattle.std.proofs.Common.{◌≡◌, ℕ, ◌∙◌, sym, subst, get_or, None, arith}
 use Rattle.std.specs.Prelude.{option_map, slice_set}
 use Rattle.std.proofs.lemmas.List.{length-set}
 use Rattle.burr_forms.specs.Rules.Forms.{value}
