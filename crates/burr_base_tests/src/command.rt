@@ -78,7 +78,7 @@ fn job_name(job: &Job<'_>) -> &'static str {
         Job::List { places, .. } => { if *places { "list --places" } else { "list" } }
         Job::Upgrade { .. } => "upgrade",
         Job::Check { .. } => "check",
-        Job::Judge => "judge",
+        Job::Judge { null } => { if *null { "judge --null" } else { "judge" } }
         Job::Run { .. } => "run",
         Job::Try { .. } => "try",
         Job::Step { .. } => "step",
@@ -114,7 +114,7 @@ fn job_files<'a>(job: &Job<'a>) -> [&'a str; 3] {
             sheet,
             out,
         } => [assembly, sheet, out],
-        Job::Judge | Job::Explain { .. } => ["", "", ""],
+        Job::Judge { .. } | Job::Explain { .. } => ["", "", ""],
     }
 }
 
@@ -288,9 +288,10 @@ $burr check --help
 $burr judge --help;burr judge -h;burr help judge
 >Says whether plans are accepted, pair by pair
 >
->Usage: burr judge
+>Usage: burr judge [OPTIONS]
 >
 >Options:
+>      --null  Reads names that each end by a byte 0, as those of `find -print0`
 >  -h, --help  Print help
 >
 >Pairs of files are read from standard input, one a line: an assembly text and a
@@ -298,9 +299,10 @@ $burr judge --help;burr judge -h;burr help judge
 >`asm` and `check`, and answered before the next line is read: by its number, the
 >status, and what would be printed, as `1 0 accepted cost 14 budget 14 looks 6`
 >or `2 1 refused P2 line 9`. A file that can't be read is `3 3 cannot read`, and
->a line that is no such pair `4 1 refused pair`. No name is printed.
+>a line that is no such pair `4 1 refused pair`. No name is printed. An assembly
+>that the pair before names too is not read again.
 >
->The status is the greatest of those of the lines: 0 where all are accepted.
+>The status is the greatest of those of the pairs: 0 where all are accepted.
 >
 >Example: printf 'examples/cup.assembly\\texamples/cup.plan\\n' | ./burr judge
 $burr run --help;burr run -h;burr help run
@@ -597,13 +599,13 @@ $burr check assembly plan 2
 $burr judge list
 !error: unexpected argument 'list' found
 !
-!Usage: burr judge
+!Usage: burr judge [OPTIONS]
 !
 !For more information, try '--help'.
 $burr judge -x
 !error: unexpected argument '-x' found
 !
-!Usage: burr judge
+!Usage: burr judge [OPTIONS]
 !
 !For more information, try '--help'.
 $burr explain
@@ -642,6 +644,8 @@ $burr check a -dash
 =check a -dash
 $burr judge;burr judge --
 =judge
+$burr judge --null
+=judge --null
 $burr run a b
 =run a b
 $burr try a b

@@ -39,6 +39,13 @@ after 2 steps proc 0 pc 10=after
 move=move
 1 t0 A -x 0 out=move
 12 t31 A,B +z 3=move
+1 0 accepted cost 14 budget 14 looks 6=accepted
+12 1 refused V16 proc 0 pc 5 pieces A B=refused V16
+3 1 REFUSED p2 line 9=refused P2
+4 1 refused pair=refused pair
+5 1 1 t0 A -x 0 out=move
+5 1 1 1 refused pair=move
+1 0=move
 ";
 
 /// Each refusal of an assembly, a container, a plan text and a plan.
@@ -153,6 +160,9 @@ S5=nothing
 18=nothing
 -1=nothing
 -1 t0 A=nothing
+3 3 cannot read=nothing
+4 4 no memory=nothing
+1 0 =nothing
 1a t0 A=nothing
 trap=nothing
 trap3=nothing

@@ -127,12 +127,16 @@ plan, a container or a plan text, with a tab between them. Each is judged as by
 `asm` and `check`, and answered before the next line is read: by its number, the
 status, and what would be printed, as `1 0 accepted cost 14 budget 14 looks 6`
 or `2 1 refused P2 line 9`. A file that can't be read is `3 3 cannot read`, and
-a line that is no such pair `4 1 refused pair`. No name is printed.
+a line that is no such pair `4 1 refused pair`. No name is printed. An assembly
+that the pair before names too is not read again.
 
-The status is the greatest of those of the lines: 0 where all are accepted.
+The status is the greatest of those of the pairs: 0 where all are accepted.
 
 Example: printf 'examples/cup.assembly\\texamples/cup.plan\\n' | ./burr judge",
-        arguments: &[],
+        arguments: &[Argument::Flag(
+            "null",
+            "Reads names that each end by a byte 0, as those of `find -print0`",
+        )],
     },
     Syntax {
         kind: Kind::Run,

@@ -32,8 +32,11 @@ pub enum Job<'a> {
         assembly: &'a str,
         plan: &'a str,
     },
-    /// Says the same of each pair of files that standard input names.
-    Judge,
+    /// Says the same of each pair of files that standard input names, a pair a line, or with a byte
+    /// 0 after each name.
+    Judge {
+        null: bool,
+    },
     /// Runs a plan, where it is accepted, with the answers of standard input.
     Run {
         assembly: &'a str,
@@ -170,7 +173,9 @@ fn job_with<'a>(kind: Kind, words: &ArgMatches<'a>, line: String) -> Option<Job<
         }),
         Kind::Upgrade => plan.zip(out).map(|(plan, out)| Job::Upgrade { plan, out }),
         Kind::Check => of_plan.map(|(assembly, plan)| Job::Check { assembly, plan }),
-        Kind::Judge => Some(Job::Judge),
+        Kind::Judge => Some(Job::Judge {
+            null: words.get_flag("null"),
+        }),
         Kind::Run => of_plan.map(|(assembly, plan)| Job::Run { assembly, plan }),
         Kind::Try => of_plan.map(|(assembly, plan)| Job::Try { assembly, plan }),
         Kind::Step => of_plan.map(|(assembly, plan)| Job::Step { assembly, plan }),

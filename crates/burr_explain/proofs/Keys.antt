@@ -1,5 +1,5 @@
 -- The key of a line: where it is cut, in which case, and that there is exactly one.
-use Rattle.std.proofs.Common.{◌≡◌, ◌≢◌, ◌⊎◌, ℕ, zero, suc, ◌≤◌, List, [], ◌∷◌, codes, All, Contains, refl, sym, ap, ◌∙◌, subst, inl, inr, arith}
+use Rattle.std.proofs.Common.{◌≡◌, ◌≢◌, ◌⊎◌, ℕ, zero, suc, ◌≤◌, List, [], ◌∷◌, codes, All, Bor, Contains, MatchOption, None, Option, Some, refl, sym, ap, ◌∙◌, subst, inl, inr, arith}
 use Rattle.std.specs.Char.{to_ascii_lowercase}
 use Rattle.std.proofs.lemmas.List.{map-append}
 use Rattle.std.proofs.lemmas.List.Elements.{All-nil, All-cons, All-head, All-tail}
@@ -7,7 +7,7 @@ use Rattle.std.proofs.lemmas.Map.Made.{Contains-tail}
 use Rattle.burr_text.specs.Words.{IsCutAt}
 use Rattle.burr_text.proofs.Common.Cuts.{cut, lacks, contains_cut}
 use Rattle.burr_text.proofs.Common.Decisions.{Decided, decided_and, decided_or, decided_not, decide_same, decide_at_most, decide_same_bytes, decide_empty, decide_all}
-use Rattle.burr_explain.specs.Asked.{lower_case, IsDigits, IsLead, IsFirstWord, IsKeyOfCut, IsKeyOfLower, EachLineHasOneKey}
+use Rattle.burr_explain.specs.Asked.{lower_case, IsAfterDigits, IsDigits, IsLead, IsFirstWord, IsKeyOfCut, IsKeyOfLower, IsKeyOfPrinted, IsSaid, EachLineHasOneKey}
 
 -- a digit
 abbrev IsDigit : ℕ → Type 0
@@ -97,7 +97,7 @@ moved word rest other more key same is =
     subst (λ (w : List ℕ). IsKeyOfCut w rest key) (sym same.0) (subst (λ (r : List ℕ). IsKeyOfCut other r key) (sym same.1) is)
 
 -- a line has no two keys
-pub one_key : (line a b : List ℕ) → IsKeyOfLower line a → IsKeyOfLower line b → b ≡ a
+one_key : (line a b : List ℕ) → IsKeyOfLower line a → IsKeyOfLower line b → b ≡ a
 one_key line a b (inl (word, rest, is, key)) (inl (other, more, also, second)) =
     one_key_of_cut word rest a b key (moved word rest other more b (same_cut line word other rest more is also) second)
 one_key line a b (inl (word, rest, is, key)) (inr (none, same)) = absurd (none (cut_has_blank line word rest is))
@@ -152,8 +152,74 @@ some_key line = by_cut (cut_or_whole line)
     by_cut (inl (word, rest, is)) = let (key, of_cut) = some_key_of_cut word rest in (key, inl (word, rest, is, of_cut))
     by_cut (inr none) = (line, inr (none, refl))
 
--- exactly one
+-- Lines of `judge`
+
+one_after : (line a b : List ℕ) → IsAfterDigits line a → IsAfterDigits line b → a ≡ b
+one_after line a b (word, is, digits) (other, also, these) = (same_cut line word other a b is also).1
+
+-- a line says one thing
+one_said : (line a b : List ℕ) → IsSaid line a → IsSaid line b → a ≡ b
+one_said line a b (rest, is, more) (other, also, others) =
+    one_after rest a b more (subst (λ (r : List ℕ). IsAfterDigits r b) (one_after line other rest also is) others)
+
+pub one_printed_key : (line a b : List ℕ) → IsKeyOfPrinted line a → IsKeyOfPrinted line b → b ≡ a
+one_printed_key line a b (inl (said, is, key)) (inl (other, also, second)) =
+    one_key said a b key (subst (λ (s : List ℕ). IsKeyOfLower s b) (one_said line other said also is) second)
+one_printed_key line a b (inl (said, is, key)) (inr (none, second)) = absurd (none said is)
+one_printed_key line a b (inr (none, key)) (inl (other, also, second)) = absurd (none other also)
+one_printed_key line a b (inr (none, key)) (inr (also, second)) = one_key line a b key second
+
+-- the rest after digits is that of the line in lower case
+pub after_lower : (line word rest : List ℕ) → IsCutAt 32 line word rest → IsDigits word → IsAfterDigits (lower_case line) (lower_case rest)
+after_lower line word rest is digits = (lower_case word, cut_lower line word rest is, digits_lower word digits)
+
+pub no_rest : (line : List ℕ) → ¬ Contains line 32 → (rest : List ℕ) → ¬ IsAfterDigits (lower_case line) rest
+no_rest line none rest (word, is, digits) = none (contains_lower line (cut_has_blank (lower_case line) word rest is))
+
+pub not_after : (line word rest : List ℕ) → IsCutAt 32 line word rest → ¬ IsDigits word → (other : List ℕ) → ¬ IsAfterDigits (lower_case line) other
+not_after line word rest is none other (first, also, digits) =
+    none (digits_back word (subst IsDigits (same_cut (lower_case line) first (lower_case word) other (lower_case rest) also (cut_lower line word rest is)).0 digits))
+
+-- what follows digits after digits is said
+pub said_after : (line rest : List ℕ) (r : Option (Bor (List ℕ))) → IsAfterDigits line rest
+    → MatchOption r ((said : List ℕ) → ¬ IsAfterDigits rest said) (λ said. IsAfterDigits rest (lower_case said.now))
+    → MatchOption r ((said : List ℕ) → ¬ IsSaid line said) (λ said. IsSaid line (lower_case said.now))
+said_after line rest None is none =
+    λ said (other, also, more). none said (subst (λ (r : List ℕ). IsAfterDigits r said) (one_after line other rest also is) more)
+said_after line rest (Some said) is more = (rest, is, more)
+
+-- the rest of a line after digits, or that it has no digits in front
+abbrev Rest : List ℕ → Type 0
+Rest line = ((rest : List ℕ) × IsAfterDigits line rest) ⊎ ((rest : List ℕ) → ¬ IsAfterDigits line rest)
+
+decide_after : (line : List ℕ) → Rest line
+decide_after line = by_cut (cut_or_whole line)
+  where
+    by_word : (word rest : List ℕ) → IsCutAt 32 line word rest → Decided (IsDigits word) → Rest line
+    by_word word rest is (inl digits) = inl (rest, (word, is, digits))
+    by_word word rest is (inr none) = inr (λ other (first, also, digits). none (subst IsDigits (same_cut line first word other rest also is).0 digits))
+
+    by_cut : Cut line ⊎ (¬ Contains line 32) → Rest line
+    by_cut (inl (word, rest, is)) = by_word word rest is (decide_digits word)
+    by_cut (inr none) = inr (λ other (first, also, digits). none (cut_has_blank line first other also))
+
+some_printed_key : (line : List ℕ) → (key : List ℕ) × IsKeyOfPrinted line key
+some_printed_key line = by_rest (decide_after line)
+  where
+    by_itself : ((said : List ℕ) → ¬ IsSaid line said) → (key : List ℕ) × IsKeyOfPrinted line key
+    by_itself none = let (key, is) = some_key line in (key, inr (none, is))
+
+    by_more : (rest : List ℕ) → IsAfterDigits line rest → Rest rest → (key : List ℕ) × IsKeyOfPrinted line key
+    by_more rest is (inl (said, more)) = let (key, of) = some_key said in (key, inl (said, (rest, is, more), of))
+    by_more rest is (inr none) =
+        by_itself (λ said (other, also, more). none said (subst (λ (r : List ℕ). IsAfterDigits r said) (one_after line other rest also is) more))
+
+    by_rest : Rest line → (key : List ℕ) × IsKeyOfPrinted line key
+    by_rest (inl (rest, is)) = by_more rest is (decide_after rest)
+    by_rest (inr none) = by_itself (λ said (rest, is, more). none rest is)
+
+-- a line has exactly one key
 pub each_line_has_one_key : EachLineHasOneKey
 each_line_has_one_key line =
-    let (key, is) = some_key (lower_case line) in
-    (key, is, λ other also. one_key (lower_case line) key other is also)
+    let (key, is) = some_printed_key (lower_case line) in
+    (key, is, λ other also. one_printed_key (lower_case line) key other is also)

@@ -31,15 +31,30 @@ IsKeyOfCut word rest key =
     (IsLead word × IsFirstWord rest key) ⊎ ((IsDigits word × (key ≡ codes "move"))
     ⊎ ((¬ IsLead word) × (¬ IsDigits word) × (key ≡ word)))
 
--- the key of a line in lower case: that of its two parts, or a line without a blank itself
+-- the key of a line in lower case, but one of `judge`: that of its two parts, or a line without a
+-- blank itself
 abbrev pub IsKeyOfLower : List ℕ → List ℕ → Type 0
 IsKeyOfLower line key =
     ((word rest : List ℕ) × IsCutAt 32 line word rest × IsKeyOfCut word rest key)
     ⊎ ((¬ Contains line 32) × (key ≡ line))
 
+-- the rest of a line after a first word of digits
+abbrev pub IsAfterDigits : List ℕ → List ℕ → Type 0
+IsAfterDigits line rest = (word : List ℕ) × IsCutAt 32 line word rest × IsDigits word
+
+-- what `judge` says of a pair: the rest of its line after the number and the status
+abbrev pub IsSaid : List ℕ → List ℕ → Type 0
+IsSaid line said = (rest : List ℕ) × IsAfterDigits line rest × IsAfterDigits rest said
+
+-- the key of a line in lower case: that of what `judge` says, or its own
+abbrev pub IsKeyOfPrinted : List ℕ → List ℕ → Type 0
+IsKeyOfPrinted line key =
+    ((said : List ℕ) × IsSaid line said × IsKeyOfLower said key)
+    ⊎ (((said : List ℕ) → ¬ IsSaid line said) × IsKeyOfLower line key)
+
 -- the key of a line, in lower case
 abbrev pub IsKeyOf : List ℕ → List ℕ → Type 0
-IsKeyOf line = IsKeyOfLower (lower_case line)
+IsKeyOf line = IsKeyOfPrinted (lower_case line)
 
 -- each line has one key and no other
 abbrev pub EachLineHasOneKey : Type 0

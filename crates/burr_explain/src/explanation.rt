@@ -2,7 +2,7 @@
 
 ghost use Rattle.std.specs.Prelude.{◌≡◌, ◌↔◌, IsTrue, All, Contains, List, MatchOption, ℕ};
 ghost use Rattle.burr_io.specs.Sink.{Puts};
-ghost use Rattle.burr_explain.specs.Asked.{IsAskedBy, lower_case, IsDigits, IsFirstWord, IsKeyOf, IsKeyOfCut, IsLead, keys_among, known_keys};
+ghost use Rattle.burr_explain.specs.Asked.{IsAfterDigits, IsAskedBy, lower_case, IsDigits, IsFirstWord, IsKeyOf, IsKeyOfCut, IsKeyOfLower, IsLead, IsSaid, keys_among, known_keys};
 ghost use Rattle.burr_explain.specs.Layout.{explanation_text, heading, paragraph, paragraph_if_any};
 
 use crate::{assembly, container, output, plan_text, rules, stepper, traps};
@@ -57,8 +57,38 @@ fn is_same(word: &str, key: &[u8]) -> bool
 // What of a line asks for its explanation.
 
 /// The key of a line, in its own case: the word that says what is to be explained.
-fn key_of(line: &[u8]) -> &[u8]
+fn key_of_printed(line: &[u8]) -> &[u8]
     ensures { IsKeyOf line.now (lower_case result.now) }
+{
+    match said_of(line) {
+        Some(said) => key_of(said),
+        None => key_of(line),
+    }
+}
+
+/// What follows the number and the status of a line of `judge`.
+fn said_of(line: &[u8]) -> Option<&[u8]>
+    ensures { MatchOption result ((said : List ℕ) → ¬ IsSaid (lower_case line.now) said)
+        (λ said. IsSaid (lower_case line.now) (lower_case said.now)) }
+{
+    after_digits(after_digits(line)?)
+}
+
+/// What follows a first word of digits.
+fn after_digits(line: &[u8]) -> Option<&[u8]>
+    ensures { MatchOption result ((rest : List ℕ) → ¬ IsAfterDigits (lower_case line.now) rest)
+        (λ rest. IsAfterDigits (lower_case line.now) (lower_case rest.now)) }
+{
+    let (word, rest) = cut_at(line, b' ')?;
+    if is_digits(word) {
+        return Some(rest);
+    }
+    None
+}
+
+/// The key of a line that is not of `judge`.
+fn key_of(line: &[u8]) -> &[u8]
+    ensures { IsKeyOfLower (lower_case line.now) (lower_case result.now) }
 {
     match cut_at(line, b' ') {
         Some((word, rest)) => key_of_cut(word, rest),
@@ -107,12 +137,13 @@ fn is_digits(word: &[u8]) -> bool
 
 /// The explanation that a word or a whole line asks for, as burr prints it, in any case: a
 /// refusal's own word, as `A4`, `V15` or `input`, a trap's number or name, as `3` or `NotFree`, the
-/// first word of another line, as `waiting` or `after`, or `move`. None for every other.
+/// first word of another line, as `waiting` or `after`, or `move`; of a line of `judge` what it
+/// says of a pair. None for every other.
 pub fn explanation_of(line: &[u8]) -> Option<&'static Explanation>
     ensures { (key : List ℕ) → IsKeyOf line.now key → MatchOption result
         (¬ Contains known_keys key) (λ e. Contains known_keys key × IsAskedBy key e.now) }
 {
-    explanation_under(key_of(line))
+    explanation_under(key_of_printed(line))
 }
 
 /// The explanation that a key asks for.

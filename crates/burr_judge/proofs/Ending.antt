@@ -1,5 +1,5 @@
 -- How what is done with a plan ends: steps from one stage to the next, and ways out.
-use Rattle.std.proofs.Common.{◌≡◌, List, ℕ, ℤ, refl, subst, inl, inr}
+use Rattle.std.proofs.Common.{◌≡◌, ◌⊎◌, List, ℕ, ℤ, refl, subst, inl, inr}
 use Rattle.std.specs.Prelude.{Result, IfOk, IfErr}
 use Rattle.std.specs.Result.{IsErrAnd}
 use Rattle.std.proofs.lemmas.Result.{err_from_is_err_and}
@@ -22,9 +22,9 @@ use Rattle.burr_judge.specs.Faults.{line_of, output_failed}
 use Rattle.burr_judge.specs.Statuses.{status_of}
 use Rattle.burr_judge.specs.declared.status.Status.{Status}
 use Rattle.burr_judge.specs.declared.ladder.Given.{Given}
-use Rattle.burr_judge.specs.Ladder.{PlanJudged, PlanTried, LadderComes, WantsMemory}
+use Rattle.burr_judge.specs.Ladder.{GivenComes, PlanJudged, PlanTried, LadderComes, WantsMemory}
 use Rattle.burr_judge.specs.PlanEnds.{Ends, EndsOn, PutsFrontOfEnd, FailsToEnd, IsRefusal, VerdictEnds, CheckEnds, RunEnds, TryEnds, AnswersEnd, SafeEnds, BenchEnds, SheetEnds, GivenEnds, TextEnds}
-use Rattle.burr_judge.proofs.Common.Comes.{ends_among, memory_ends, text_told, verdict_among}
+use Rattle.burr_judge.proofs.Common.Comes.{ends_among, given_told, memory_ends, text_told, verdict_among}
 use Rattle.burr_judge.proofs.Common.Stages.{AreAmong}
 
 -- a failed write, with what was to be printed
@@ -58,7 +58,17 @@ bench_among kept a text b same programs output status (inr (answers, read, (outc
 
 -- What the ladder comes to, as one of the three tasks ends
 
--- where what is done with a plan ends so, the whole command does, with a plan as it is given
+-- where what is done with a plan ends so, so does what is done with it as it is given
+pub given_ends : {I S : Type 0} (first last : I) (sink : SinkView S) (before after : S) (With : ContainerView → Ends) (plan : Given) (r : Result Status Fault) (Uses : ContainerView → Type 0)
+    → ((kept : ContainerView) → Uses kept → EndsOn sink before after (With kept) r)
+    → (WantsMemory before after r × (last ≡ first)) ⊎ GivenComes (λ line. EndsOn sink before after (IsRefusal line) r × (last ≡ first)) Uses plan
+    → EndsOn sink before after (GivenEnds plan With) r
+given_ends first last sink before after With plan r Uses uses (inl want) = memory_ends sink before after (GivenEnds plan With) r want.0
+given_ends first last sink before after With plan r Uses uses (inr come) =
+    given_told (λ ends. EndsOn sink before after ends r) (λ these those among. ends_among sink before after these those r among)
+    (λ line. EndsOn sink before after (IsRefusal line) r × (last ≡ first)) Uses With plan (λ line is. is.0) (λ bytes of kept read. uses kept) come
+
+-- and the whole command, with an assembly's text
 pub text_ends : {I S : Type 0} (first last : I) (sink : SinkView S) (before after : S) (With : ContainerView → Assembly → Ends) (text : List ℕ) (plan : Given) (r : Result Status Fault) (Uses : ContainerView → Assembly → Type 0)
     → ((kept : ContainerView) (a : Assembly) → Uses kept a → EndsOn sink before after (With kept a) r)
     → LadderComes (WantsMemory before after r × (last ≡ first)) (λ line. EndsOn sink before after (IsRefusal line) r × (last ≡ first)) Uses text plan

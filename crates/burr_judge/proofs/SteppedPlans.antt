@@ -27,6 +27,7 @@ use Rattle.burr_judge.specs.Views.Dialogues.{EndsDialogue, BreaksDialogue}
 use Rattle.burr_judge.specs.declared.fault.Fault.{Fault}
 use Rattle.burr_judge.specs.declared.ladder.Given.{Given}
 use Rattle.burr_judge.specs.declared.ladder.Given.TheVariants.{Container, Text}
+use Rattle.burr_judge.specs.declared.lines.LineEnd.TheVariants.{LineFeed}
 use Rattle.burr_judge.specs.declared.status.Status.{Status}
 use Rattle.burr_judge.specs.declared.status.Status.TheVariants.{Done}
 use Rattle.burr_judge.specs.DriveEnds.{LedEnds, LeavesWith, LedBreaks, DriveBytesEnd, DriveTextEnds, DriveBytesBreak, DriveTextBreaks, FailsToBegin, ready_text}
@@ -47,7 +48,7 @@ put_whole sink before after text none nothing took =
 
 -- a dialogue has ended, and nothing is held back
 pub dialogue_ends : {R S : Type 0} (source : SourceView R) (first last : R) (sink : SinkView S) (before after : Lines S) (j : Judged) (old new : Stepping) → before.held ≡ [] → after.held ≡ []
-    → IsFresh j old → EndsDialogue StepAnswers old (streams source first last sink before.sink after.sink) new
+    → IsFresh j old → EndsDialogue LineFeed StepAnswers old (streams source first last sink before.sink after.sink) new
     → PutsEnd (lines_view sink) before after (DialogueEnds (left_by source first last) j) Done
 dialogue_ends source first last sink before after j old new none nothing fresh (text, dialogue, took) =
     (text, (refl, (old, new, fresh, dialogue)), put_whole sink before after text none nothing took)
@@ -102,7 +103,7 @@ text_led first last sink before after With Broken text bytes r =
 -- the dialogue has ended, and nothing is held back
 pub led_ends : {R S : Type 0} (source : SourceView R) (first last : R) (sink : SinkView S) (before mid after : Lines S) (text bytes : List ℕ) (j : Judged)
     (old new : Driving) (status : Status) → before.held ≡ [] → after.held ≡ [] → IsReady j old → Takes sink before.sink mid.sink (ready_text text bytes)
-    → EndsDialogue DriveAnswers old (streams source first last sink mid.sink after.sink) new → LeavesWith new status
+    → EndsDialogue LineFeed DriveAnswers old (streams source first last sink mid.sink after.sink) new → LeavesWith new status
     → PutsEnd (lines_view sink) before after (LedEnds (left_by source first last) text bytes j) status
 led_ends source first last sink before mid after text bytes j old new status none nothing ready began (said, dialogue, took) leaves =
     (ready_text text bytes ++ said, (old, new, said, ready, dialogue, refl, leaves), put_whole sink before after (ready_text text bytes ++ said) none nothing both)
@@ -126,7 +127,7 @@ begin_fails source first last sink before after text bytes j AreEnds fault r err
 pub led_breaks : {R S : Type 0} (source : SourceView R) (first last : R) (sink : SinkView S) (before mid after : Lines S) (text bytes : List ℕ) (j : Judged) (AreEnds : Ends)
     (old new : Driving) (fault : BenchFault) (r : Result Status Fault) → IsErrAnd r (λ e. (line_of e ≡ complaint_of fault) × (status_of_fault e ≡ status_of_complaint fault))
     → IsReady j old → Takes sink before.sink mid.sink (ready_text text bytes)
-    → BreaksDialogue DriveAnswers AsksNone old (streams source first last sink mid.sink after.sink) fault new
+    → BreaksDialogue LineFeed DriveAnswers AsksNone old (streams source first last sink mid.sink after.sink) fault new
     → Ending (lines_view sink) before after AreEnds (LedBreaks (streams source first last sink before.sink after.sink) text bytes j) r
 led_breaks source first last sink before mid after text bytes j AreEnds old new fault r err ready began breaks =
     let p = err_from_is_err_and r err in rw p.1 (tt, inr (inr (sink.taken mid.sink, began, (fault, p.2.0, (old, new, ready, breaks)))))

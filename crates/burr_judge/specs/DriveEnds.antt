@@ -19,6 +19,7 @@ use Rattle.burr_judge.specs.Views.Dialogues.{IsDialogue, BreaksDialogue}
 use Rattle.burr_judge.specs.Views.DriveLines.{DriveAnswers, AsksNone}
 use Rattle.burr_judge.specs.declared.ladder.Given.{Given}
 use Rattle.burr_judge.specs.declared.ladder.Given.TheVariants as given
+use Rattle.burr_judge.specs.declared.lines.LineEnd.TheVariants.{LineFeed}
 use Rattle.burr_judge.specs.declared.status.Status.{Status}
 use Rattle.burr_judge.specs.declared.status.Status.TheVariants.{Done, Waiting}
 use Rattle.burr_judge.specs.Faults.{complaint_of, output_failed}
@@ -47,7 +48,7 @@ ReadyEnds text bytes output status = (output ≡ ready_text text bytes) × (stat
 abbrev pub LedEnds : Left → List ℕ → List ℕ → Judged → Ends
 LedEnds left text bytes j output status =
     (old new : Driving) × (said : List ℕ) × IsReady j old
-    × IsDialogue DriveAnswers old left.old left.new said new
+    × IsDialogue LineFeed DriveAnswers old left.old left.new said new
     × (output ≡ ready_text text bytes ++ said) × LeavesWith new status
 
 -- the plan is refused; or it is accepted, and led
@@ -81,7 +82,7 @@ LedBreaks s text bytes j line =
     ⊎ ((taken : Option (List ℕ)) × Appends s.taken_old taken (ready_text text bytes)
     × ((fault : BenchFault) × (line ≡ complaint_of fault)
     × ((old new : Driving) × IsReady j old
-    × BreaksDialogue DriveAnswers AsksNone old (since taken s) fault new)))
+    × BreaksDialogue LineFeed DriveAnswers AsksNone old (since taken s) fault new)))
 
 -- the plan is accepted, and the drive breaks off
 abbrev pub DriveBreaks : Streams → List ℕ → List ℕ → ContainerView → Assembly → List ℕ → Type 0

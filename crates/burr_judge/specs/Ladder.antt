@@ -22,9 +22,16 @@ use Rattle.burr_runs.specs.Rules.Verdicts.{IsPassedBy, IsRefusedBy, plan_refusal
 use Rattle.burr_judge.specs.declared.fault.Fault.{Fault}
 use Rattle.burr_judge.specs.declared.ladder.Given.{Given}
 use Rattle.burr_judge.specs.declared.ladder.Given.TheVariants as given
+use Rattle.burr_judge.specs.declared.ladder.Tables.{Tables}
+use Rattle.burr_judge.specs.declared.ladder.Tables.TheVariants as tables
 use Rattle.burr_judge.specs.declared.status.Status.{Status}
 use Rattle.burr_judge.specs.Faults.{line_of}
 use Rattle.burr_judge.specs.Refusals.{plan_text_refusal}
+
+-- whose tables are there, or are to be built
+abbrev pub assembly_of : {B : Type 0} → (B → Assembly) → Tables B → Assembly
+assembly_of subject (tables.There b) = subject b.now
+assembly_of subject (tables.Of assembly) = assembly.now
 
 -- memory was refused, and the sink left alone
 abbrev pub WantsMemory : {W : Type 0} → W → W → Result Status Fault → Type 0

@@ -10,6 +10,7 @@ use Rattle.burr_runs.specs.declared.fault.BenchFault.{BenchFault}
 use Rattle.burr_runs.specs.Views.BenchText.{Streams}
 use Rattle.burr_judge.specs.Views.Commanding.{StepAnswers, IsAnswerLine}
 use Rattle.burr_judge.specs.Views.Dialogues.{IsDialogue, BreaksDialogue}
+use Rattle.burr_judge.specs.declared.lines.LineEnd.TheVariants.{LineFeed}
 use Rattle.burr_judge.specs.declared.status.Status.TheVariants.{Done}
 use Rattle.burr_judge.specs.Faults.{complaint_of}
 use Rattle.burr_judge.specs.Ladder.{IsRead}
@@ -34,7 +35,7 @@ abbrev pub DialogueEnds : Left → Judged → Ends
 DialogueEnds left j output status =
     (status ≡ Done)
     × ((old new : Stepping) × IsFresh j old
-    × IsDialogue StepAnswers old left.old left.new output new)
+    × IsDialogue LineFeed StepAnswers old left.old left.new output new)
 
 -- the plan is refused; or it is accepted, and the commands are answered
 abbrev pub StepEnds : Left → ContainerView → Assembly → Ends
@@ -56,7 +57,7 @@ abbrev pub DialogueBreaks : Streams → Judged → List ℕ → Type 0
 DialogueBreaks s j line =
     (fault : BenchFault) × (line ≡ complaint_of fault)
     × ((old new : Stepping) × IsFresh j old
-    × BreaksDialogue StepAnswers IsAnswerLine old s fault new)
+    × BreaksDialogue LineFeed StepAnswers IsAnswerLine old s fault new)
 
 -- the plan is accepted, and the dialogue breaks off
 abbrev pub StepBreaks : Streams → ContainerView → Assembly → List ℕ → Type 0

@@ -5,11 +5,11 @@ ghost use Rattle.std.specs.Io.KnownBytes.{Keeps};
 ghost use Rattle.burr_runs.specs.Views.BenchText.{streams};
 ghost use Rattle.burr_judge.specs.Views.Dialogues.{EndsDialogue, BreaksDialogue};
 ghost use Rattle.burr_judge.specs.Views.Dialogues.{HandsAnswer, FailsToHandAnswer, HandsLast};
-ghost use Rattle.burr_judge.specs.Views.Dialogues.{TakesByte, GivesByte};
+ghost use Rattle.burr_judge.specs.Views.Dialogues.{TakesByte, FailsAtByte, GivesByte};
 ghost use Rattle.burr_judge.specs.declared.dialogue.TheConstants.{KEPT};
 
 use crate::commands::StepFault;
-use arrayvec::ArrayVec;
+use crate::lines::{LineEnd, OpenLine};
 use burr_io::{IoFailed, Sink, Source, WholeLines};
 use burr_runs::BenchFault;
 
@@ -70,22 +70,23 @@ impl From<StepFault> for BenchFault {
 /// comes only of a line that was read and has an answer, and then the last command counts as taken or
 /// refused as it would without the fault. `TooLong` comes after 2^64 - 1 bytes.
 pub fn answer_commands<C: Commanded, R: Source, W: Sink, const N: usize>(
+    end: LineEnd,
     commanded: &mut C,
     source: &mut R,
     sink: &mut WholeLines<W, N>,
 ) -> Result<(), BenchFault>
     requires fresh { sink.old.held ≡ [] }
-    ensures ok { OnOk result (EndsDialogue C.answers commanded.old
+    ensures ok { OnOk result (EndsDialogue end C.answers commanded.old
         (streams R.Source source.old source.new W.Sink sink.old.sink sink.new.sink) commanded.new) }
     ensures held { OnOk result (sink.new.held ≡ []) }
-    ensures err { IfErr result (λ fault. BreaksDialogue C.answers C.wants commanded.old
+    ensures err { IfErr result (λ fault. BreaksDialogue end C.answers C.wants commanded.old
         (streams R.Source source.old source.new W.Sink sink.old.sink sink.new.sink)
         fault commanded.new) }
 {
-    let mut line: ArrayVec<u8, KEPT> = ArrayVec::new();
+    let mut line = OpenLine::new(end);
     for _ in 0..u64::MAX {
         let Some(byte) = next_byte(source)? else {
-            return answer_last(line.as_slice(), commanded, sink);
+            return answer_last(line.bytes(), commanded, sink);
         };
         if !take_command_byte(byte, &mut line, commanded, sink)? {
             return Ok(());
@@ -108,36 +109,32 @@ fn next_byte<R: Source>(source: &mut R) -> Result<Option<u8>, IoFailed>
     Ok(Some(buffer[0]))
 }
 
-/// Takes one more byte of commands: one of a line that goes on, which is kept in `line`, or the line
-/// feed that ends that line. Then the line is answered, and when this returns the sink below has taken
-/// the whole answer. False for a line after which none is to come. `answer_commands` reads a byte and
-/// gives it to this call, in turn, so that each answer is handed on before a byte of the next line is
-/// read.
+/// Takes one more byte of commands: one of a line that goes on, which is kept in `line`, or the one
+/// that ends that line. Then the line is answered, and when this returns the sink below has taken
+/// the whole answer. False for a line after which none is to come. `answer_commands` reads a byte
+/// and gives it to this call, in turn, so that each answer is handed on before a byte of the next
+/// line is read.
 ///
-/// `line` is empty where a line begins. `Write` comes only where a line ends that has an answer, and
-/// `Memory` only where a line ends for whose answer memory is asked.
+/// Nothing is kept in `line` where a line begins. `Write` comes only where a line ends that has an
+/// answer, and `Memory` only where a line ends for whose answer memory is asked.
 pub fn take_command_byte<C: Commanded, W: Sink, const N: usize>(
     byte: u8,
-    line: &mut ArrayVec<u8, KEPT>,
+    line: &mut OpenLine,
     commanded: &mut C,
     sink: &mut WholeLines<W, N>,
 ) -> Result<bool, BenchFault>
     requires fresh { sink.old.held ≡ [] }
-    ensures ok { IfOk result (λ goes_on. TakesByte C.answers KEPT byte line.old.items line.new.items
+    ensures ok { IfOk result (λ goes_on. TakesByte C.answers KEPT byte line.old line.new
         W.Sink sink.old sink.new commanded.old goes_on commanded.new) }
     ensures held { OnOk result (sink.new.held ≡ []) }
-    ensures err { IfErr result (λ fault. (byte ≡ 10) × ((whole : List ℕ)
-        → line.old.items ≡ take KEPT whole → FailsToHandAnswer C.answers C.wants W.Sink sink.old
-        sink.new commanded.old whole fault commanded.new)) }
-    ensures kept { OnErr result (line.new.items ≡ line.old.items) }
+    ensures err { IfErr result (λ fault. FailsAtByte C.answers C.wants KEPT byte line.old
+        W.Sink sink.old sink.new commanded.old fault commanded.new) }
+    ensures kept { OnErr result (line.new ≡ line.old) }
 {
-    if byte != b'\n' {
-        if !line.is_full() {
-            line.push(byte);
-        }
+    if line.take(byte) {
         return Ok(true);
     }
-    let goes_on = answer_line(line.as_slice(), commanded, sink)?;
+    let goes_on = answer_line(line.bytes(), commanded, sink)?;
     line.clear();
     Ok(goes_on)
 }

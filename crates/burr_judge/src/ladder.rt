@@ -1,7 +1,7 @@
 //! From bytes to an assembly, to a plan with the tables of its assembly, and to what is done with them.
 
 ghost use Rattle.std.specs.Prelude.{◌≡◌, ◌⊎◌};
-ghost use Rattle.burr_judge.specs.Ladder.{BytesCome, GivenComes, TextComes, WantsMemory};
+ghost use Rattle.burr_judge.specs.Ladder.{BytesCome, GivenComes, TextComes, WantsMemory, assembly_of};
 
 use crate::fault::Fault;
 use crate::refused::Refused;
@@ -142,16 +142,24 @@ impl<'x, R: Refuse<W>, I, W, U: PlanUse<R, I, W>> AssemblyUse<R, I, W> for OfPla
         input: &mut I,
         sink: &mut W,
     ) -> Result<Status, Fault<'a>> {
-        use_given(alloc, refuser, &self.work, assembly, self.plan, input, sink)
+        let tables: Tables<'_, RowTables<'_>> = Tables::Of(assembly);
+        use_given(alloc, refuser, &self.work, tables, self.plan, input, sink)
     }
 }
 
+/// The tables of an assembly, or the assembly whose tables are still to be built.
+#[derive(Clone, Copy)]
+pub enum Tables<'x, B> {
+    There(&'x B),
+    Of(&'x Assembly),
+}
+
 /// Uses a plan for an assembly, as it is given.
-pub fn use_given<'a, 'x, R: Refuse<W>, I, W, U: PlanUse<R, I, W>>(
+pub fn use_given<'a, 'x, B: Blocking, R: Refuse<W>, I, W, U: PlanUse<R, I, W>>(
     alloc: Global,
     refuser: &R,
     work: &U,
-    assembly: &'x Assembly,
+    tables: Tables<'x, B>,
     plan: Given<'_>,
     input: &mut I,
     sink: &mut W,
@@ -159,15 +167,15 @@ pub fn use_given<'a, 'x, R: Refuse<W>, I, W, U: PlanUse<R, I, W>>(
     requires { U.can sink.old }
     ensures { (WantsMemory sink.old sink.new result × (input.new ≡ input.old)) ⊎ GivenComes
         (λ line. R.refuses refuser.now sink.old line result sink.new × (input.new ≡ input.old))
-        (λ kept. U.uses work.now refuser.now input.old sink.old kept assembly.entry.now result
-        input.new sink.new) plan.entry }
+        (λ kept. U.uses work.now refuser.now input.old sink.old kept
+        (assembly_of B.subject tables.entry) result input.new sink.new) plan.entry }
 {
     match plan {
         Given::Container(bytes) => {
-            use_container(alloc, refuser, work, assembly, bytes, input, sink)
+            use_container(alloc, refuser, work, tables, bytes, input, sink)
         }
         Given::Text(text) => match assemble(alloc, text) {
-            Ok(bytes) => use_container(alloc, refuser, work, assembly, &bytes, input, sink),
+            Ok(bytes) => use_container(alloc, refuser, work, tables, &bytes, input, sink),
             Err(AsmFault::Memory) => Err(Fault::Memory),
             Err(fault) => refuser.refuse(alloc, &Refused::PlanText(fault), sink),
         },
@@ -176,11 +184,11 @@ pub fn use_given<'a, 'x, R: Refuse<W>, I, W, U: PlanUse<R, I, W>>(
 
 /// Uses the plan of a container's bytes for an assembly.
 #[inline(never)]
-fn use_container<'a, 'x, R: Refuse<W>, I, W, U: PlanUse<R, I, W>>(
+fn use_container<'a, 'x, B: Blocking, R: Refuse<W>, I, W, U: PlanUse<R, I, W>>(
     alloc: Global,
     refuser: &R,
     work: &U,
-    assembly: &'x Assembly,
+    tables: Tables<'x, B>,
     bytes: &'x [u8],
     input: &mut I,
     sink: &mut W,
@@ -188,8 +196,8 @@ fn use_container<'a, 'x, R: Refuse<W>, I, W, U: PlanUse<R, I, W>>(
     requires { U.can sink.old }
     ensures { (WantsMemory sink.old sink.new result × (input.new ≡ input.old)) ⊎ BytesCome
         (λ line. R.refuses refuser.now sink.old line result sink.new × (input.new ≡ input.old))
-        (λ kept. U.uses work.now refuser.now input.old sink.old kept assembly.entry.now result
-        input.new sink.new) bytes.entry.now }
+        (λ kept. U.uses work.now refuser.now input.old sink.old kept
+        (assembly_of B.subject tables.entry) result input.new sink.new) bytes.entry.now }
 {
     // a container takes 19 KiB of the stack, so it is lent where it was read
     let parsed = Container::parse(bytes);
@@ -197,8 +205,13 @@ fn use_container<'a, 'x, R: Refuse<W>, I, W, U: PlanUse<R, I, W>>(
         Ok(container) => container,
         Err(fault) => return refuser.refuse(alloc, &Refused::Container(*fault), sink),
     };
-    let tables = RowTables::build(alloc, assembly)?;
-    work.use_plan(alloc, refuser, container, &tables, input, sink)
+    match tables {
+        Tables::There(tables) => work.use_plan(alloc, refuser, container, tables, input, sink),
+        Tables::Of(assembly) => {
+            let tables = RowTables::build(alloc, assembly)?;
+            work.use_plan(alloc, refuser, container, &tables, input, sink)
+        }
+    }
 }
 
 /// What is done with an accepted plan, on a sink and an input that is used for nothing else.

@@ -7,7 +7,8 @@
 //!   text, a container and answers, and gives the status that goes with it.
 //! - `check_text` puts exactly what `check` prints of an assembly's text and a plan, which is a
 //!   container or a plan text, and gives its status; of a plan text that is refused it is what
-//!   `asm` prints.
+//!   `asm` prints. A `ReadText` is a text that was read once: its `check` puts the same, as often as
+//!   it is asked. `check_given` does so of an assembly's tables.
 //! - `put_refusal` puts exactly the line that refuses a text, a container, a plan, a plan text or
 //!   answers, as docs/FORMATS.md has these lines. `put_fault` puts exactly the line of a fault, and
 //!   the status is the one that goes with it.
@@ -17,7 +18,8 @@
 //!   as it was.
 //!
 //! Lines of commands are taken by whatever is `Commanded`, a stepper or a drive. A drive takes no
-//! memory; a stepper does for the line of an answer alone.
+//! memory; a stepper does for the line of an answer alone. A line ends by a line feed, or by its
+//! second byte 0 (`LineEnd`).
 //!
 //! - `command` puts exactly what a line of commands comes to, and leaves the stepper where that
 //!   says.
@@ -47,8 +49,9 @@
 //!   `KeptDrive` or a `KeptStepper` of it is there, before its first move or step. `open_drive`
 //!   also tells that the run is ready, and asks for a sink that holds nothing back. Both take
 //!   memory.
-//! - `judge_text`, `check_text` and these four tell a fault for three reasons alone: at `Write` the sink failed in
-//!   what there is to print; at `Memory` nothing was printed; or the dialogue broke off.
+//! - `judge_text`, `check_text` and `check_given`, and these four tell a fault for three reasons
+//!   alone: at `Write` the sink failed in what there is to print; at `Memory` nothing was printed; or
+//!   the dialogue broke off.
 //! - `command` of a `KeptStepper` promises what that of a stepper does. `KeptStepper::new` takes
 //!   memory, and answers `AllocError` where that is refused.
 //! - Whatever lines a drive of an accepted plan is given, what is put for them tells of the moves
@@ -63,6 +66,8 @@ mod fault;
 mod kept_stepper;
 mod ladder;
 mod laws;
+mod lines;
+mod read_text;
 mod refused;
 mod refuser;
 mod status;
@@ -73,12 +78,15 @@ pub use dialogue::{Commanded, KEPT, answer_commands, take_command_byte};
 pub use fault::{Fault, put_fault};
 pub use kept_stepper::KeptStepper;
 pub use ladder::{
-    AcceptedUse, AssemblyUse, Given, IfAccepted, OfPlan, PlanUse, use_given, use_text,
+    AcceptedUse, AssemblyUse, Given, IfAccepted, OfPlan, PlanUse, Tables, use_given, use_text,
 };
 pub use laws::a_dialogue_tells_of_its_run;
+pub use lines::{LineEnd, OpenLine};
+pub use read_text::ReadText;
 pub use refused::{Refused, put_refusal, refuse};
 pub use refuser::{Plainly, Refuse};
 pub use status::Status;
 pub use tasks::{
-    Check, Run, Task, Try, check_text, drive_text, judge_text, open_drive, open_stepper, step_text,
+    Check, Run, Task, Try, check_given, check_text, drive_text, judge_text, open_drive,
+    open_stepper, step_text,
 };

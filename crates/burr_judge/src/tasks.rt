@@ -2,7 +2,7 @@
 //! of commands, step by step or move by move.
 
 ghost use Rattle.burr_state.specs.Views.Benches.{IsAtStart};
-ghost use Rattle.burr_judge.specs.PlanEnds.{AnswersEnd, BenchEnds, CheckTextEnds, EndsOn, PlanEnds, Ending, never};
+ghost use Rattle.burr_judge.specs.PlanEnds.{AnswersEnd, BenchEnds, CheckEnds, CheckTextEnds, EndsOn, GivenEnds, PlanEnds, Ending, never};
 ghost use Rattle.std.specs.Prelude.{◌≡◌, ◌++◌, [], IfErr, IfOk, OnOk, string_bytes};
 ghost use Rattle.burr_io.specs.WholeLines.{lines_view};
 ghost use Rattle.hex.specs.Hex.{encode_lower};
@@ -19,7 +19,10 @@ ghost use Rattle.burr_judge.specs.StepEnds.{StepTextEnds, StepTextBreaks, left_b
 use crate::dialogue::answer_commands;
 use crate::fault::Fault;
 use crate::kept_stepper::KeptStepper;
-use crate::ladder::{AcceptedUse, AssemblyUse, Given, IfAccepted, OfPlan, PlanUse, use_text};
+use crate::ladder::{
+    AcceptedUse, AssemblyUse, Given, IfAccepted, OfPlan, PlanUse, Tables, use_given, use_text,
+};
+use crate::lines::LineEnd;
 use crate::refused::{Refused, refuse};
 use crate::refuser::{Plainly, Refuse};
 use crate::status::Status;
@@ -89,6 +92,28 @@ pub fn check_text<'a, W: Sink>(
 {
     let work = IfAccepted(Check);
     use_text(alloc, &Plainly, &OfPlan { plan, work }, text, &mut (), sink)
+}
+
+/// Judges a plan, as it is given, for the assembly of these tables, and puts the same.
+pub fn check_given<'a, B: Blocking, W: Sink>(
+    alloc: Global,
+    tables: &B,
+    plan: Given<'_>,
+    sink: &mut W,
+) -> Result<Status, Fault<'a>>
+    ensures { EndsOn W.Sink sink.old sink.new
+        (GivenEnds plan.entry (λ kept. CheckEnds kept (B.subject tables.now))) result }
+{
+    let work = IfAccepted(Check);
+    use_given(
+        alloc,
+        &Plainly,
+        &work,
+        Tables::There(tables),
+        plan,
+        &mut (),
+        sink,
+    )
 }
 
 /// Puts that the plan is accepted.
@@ -262,7 +287,7 @@ impl<R: Source, W: Sink, const N: usize> AcceptedUse<R, WholeLines<W, N>> for St
         sink: &mut WholeLines<W, N>,
     ) -> Result<Status, Fault<'a>> {
         let mut stepper = Stepper::new(alloc, accepted)?;
-        answer_commands(&mut stepper, source, sink)?;
+        answer_commands(LineEnd::LineFeed, &mut stepper, source, sink)?;
         Ok(Status::Done)
     }
 }
@@ -379,7 +404,7 @@ impl<'x, R: Source, W: Sink, const N: usize> AcceptedUse<R, WholeLines<W, N>> fo
     ) -> Result<Status, Fault<'a>> {
         let mut drive = Drive::new(accepted);
         put_ready(alloc, self.text, self.bytes, sink)?;
-        answer_commands(&mut drive, source, sink)?;
+        answer_commands(LineEnd::LineFeed, &mut drive, source, sink)?;
         Ok(status_after(&drive))
     }
 }

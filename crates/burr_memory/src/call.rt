@@ -1,6 +1,6 @@
 //! The calls that take memory.
 use crate::kit::Kit;
-use crate::{assemblies, inputs, plans, stepping};
+use crate::{assemblies, inputs, judging, plans, stepping};
 use std::alloc::AllocError;
 
 /// A call that takes memory.
@@ -25,10 +25,13 @@ pub enum Call {
     KeepStepper,
     Answer,
     Command,
+    CheckText,
+    CheckGiven,
+    ReadText,
 }
 
 /// All of them, by their names.
-pub const CALLS: [(&str, Call); 19] = [
+pub const CALLS: [(&str, Call); 22] = [
     ("Assembly::read", Call::ReadAssembly),
     ("Assembly::write", Call::WriteAssembly),
     ("CellTables::build", Call::BuildCellTables),
@@ -48,6 +51,9 @@ pub const CALLS: [(&str, Call); 19] = [
     ("KeptStepper::new", Call::KeepStepper),
     ("Stepper::answer", Call::Answer),
     ("command", Call::Command),
+    ("check_text", Call::CheckText),
+    ("check_given", Call::CheckGiven),
+    ("ReadText::new", Call::ReadText),
 ];
 
 impl Call {
@@ -73,6 +79,9 @@ impl Call {
             Call::KeepStepper => stepping::stepper_is_kept(kit),
             Call::Answer => stepping::answer_is_taken(kit),
             Call::Command => stepping::command_is_taken(kit),
+            Call::CheckText => judging::text_is_checked(kit),
+            Call::CheckGiven => judging::plan_is_checked(kit),
+            Call::ReadText => judging::plans_are_checked(kit),
         }
     }
 }

@@ -6,6 +6,7 @@
 mod assemblies;
 mod call;
 mod inputs;
+mod judging;
 mod kit;
 mod plans;
 mod stepping;

@@ -8,7 +8,7 @@ use burr_runs::upgrade;
 use std::alloc::AllocError;
 
 /// The text of the plan, as it is listed.
-const TEXT: &[u8] = b"\
+pub const TEXT: &[u8] = b"\
 plan2 cup 2 18
 proc p0 0 0
 label L0

@@ -19,15 +19,15 @@ use Rattle.burr_program.specs.Judging.{TellsJudged}
 
 -- Pairs
 
--- a line is cut at its first tab in one way, so where the names before and after it are no pair it has none
-pub unless_pair : (line a p : List ℕ) → IsCutAt 9 line a p → ¬ ArePair line a p → ¬ IsPair line
-unless_pair line a p first none (b, q, is) =
-    let same : (b ≡ a) × (q ≡ p) = cut 9 b a q p (lacks 9 b is.cut.first) (lacks 9 a first.first) (sym is.cut.parts ∙ first.parts) in
-    none (subst (λ (x : List ℕ). ArePair line x p) same.0 (subst (λ (y : List ℕ). ArePair line b y) same.1 is))
+-- a line is cut in one way, so where the names before and after it are no pair it has none
+pub unless_pair : (between : ℕ) (line a p : List ℕ) → IsCutAt between line a p → ¬ ArePair between line a p → ¬ IsPair between line
+unless_pair between line a p first none (b, q, is) =
+    let same : (b ≡ a) × (q ≡ p) = cut between b a q p (lacks between b is.cut.first) (lacks between a first.first) (sym is.cut.parts ∙ first.parts) in
+    none (subst (λ (x : List ℕ). ArePair between line x p) same.0 (subst (λ (y : List ℕ). ArePair between line b y) same.1 is))
 
--- no tab, no pair
-pub unless_cut : (line : List ℕ) → ¬ Contains line 9 → ¬ IsPair line
-unless_cut line none (a, p, is) = none (subst (λ (l : List ℕ). Contains l 9) (sym is.cut.parts) (contains_cut 9 a p))
+-- where it can't be cut it is no pair
+pub unless_cut : (between : ℕ) (line : List ℕ) → ¬ Contains line between → ¬ IsPair between line
+unless_cut between line none (a, p, is) = none (subst (λ (l : List ℕ). Contains l between) (sym is.cut.parts) (contains_cut between a p))
 
 -- bytes that are not read are no text
 pub unread : {E : Type 0} (bytes : List ℕ) (r : Result (Bor (List ℕ)) E) (Q : E → Type 0) → None ≡ result_ok r
@@ -45,26 +45,26 @@ judged_so old new bytes status first last (output, is, took) =
 
 -- No more of a line matters than the bytes that are kept
 
-kept_pair : (line : List ℕ) → IsPair (take KEPT line) → IsPair line
-kept_pair line (a, p, is) =
+kept_pair : (between : ℕ) (line : List ℕ) → IsPair between (take KEPT line) → IsPair between line
+kept_pair between line (a, p, is) =
     let within : length line ≤ KEPT = omega (arith, is.short, length-take KEPT line) in
-    subst IsPair (take_all KEPT line within) (a, p, is)
+    subst (IsPair between) (take_all KEPT line within) (a, p, is)
 
-front_pair : (line : List ℕ) → IsPair line → IsPair (take KEPT line)
-front_pair line (a, p, is) =
+front_pair : (between : ℕ) (line : List ℕ) → IsPair between line → IsPair between (take KEPT line)
+front_pair between line (a, p, is) =
     let within : length line ≤ KEPT = omega (arith, is.short) in
-    subst IsPair (sym (take_all KEPT line within)) (a, p, is)
+    subst (IsPair between) (sym (take_all KEPT line within)) (a, p, is)
 
-of_front : (line said : List ℕ) (status : Status) → LineEnds (take KEPT line) said status → LineEnds line said status
-of_front line said status (inl (none, output, is)) = inl (λ pair. none (front_pair line pair), output, is)
-of_front line said status (inr (pair, comes)) = inr (kept_pair line pair, comes)
+of_front : (between : ℕ) (line said : List ℕ) (status : Status) → LineEnds between (take KEPT line) said status → LineEnds between line said status
+of_front between line said status (inl (none, output, is)) = inl (λ pair. none (front_pair between line pair), output, is)
+of_front between line said status (inr (pair, comes)) = inr (kept_pair between line pair, comes)
 
 pub tells_by_front : (tally : Tally) → TellsByFront KEPT AnswersPair AsksNothing tally
 tells_by_front tally = record {
   answers = λ line text goes_on new is. record {
     said = is.said;
     status = is.status;
-    ends = of_front line is.said is.status is.ends;
+    ends = of_front tally.separator line is.said is.status is.ends;
     text_is = is.text_is;
     new_is = is.new_is;
     more = is.more;
@@ -91,12 +91,12 @@ pub record Told {S : Type 0} (sink : SinkView S) (before after : S) (old : Tally
   pub err : IfErr r (λ fault. FailsInAnswer AnswersPair AsksNothing sink before after old line fault new)
   pub quit : IfOk r (λ goes_on. goes_on ≡ false → after ≡ before)
 
-answers_so : (old : Tally) (line said : List ℕ) (status : Status) (new : Tally) (goes_on : Bool) → LineEnds line said status → new ≡ tallied old status → goes_on ≡ true
+answers_so : (old : Tally) (line said : List ℕ) (status : Status) (new : Tally) (goes_on : Bool) → LineEnds old.separator line said status → new ≡ tallied old status → goes_on ≡ true
     → AnswersPair old line (judged_line new.count status said) goes_on new
 answers_so old line said status new goes_on ends is more =
     record { said = said; status = status; ends = ends; text_is = refl; new_is = is; more = more }
 
-pub told : {S : Type 0} (sink : SinkView S) (before after : S) (old : Tally) (line said : List ℕ) (status : Status) (new : Tally) (r : Result Bool StepFault) → LineEnds line said status
+pub told : {S : Type 0} (sink : SinkView S) (before after : S) (old : Tally) (line said : List ℕ) (status : Status) (new : Tally) (r : Result Bool StepFault) → LineEnds old.separator line said status
     → TellsJudged sink before after old status said r new → Told sink before after old line new r
 told sink before after old line said status new (Ok goes_on) ends (is, more, takes) = record {
   ok = (judged_line new.count status said, answers_so old line said status new goes_on ends is more, takes, λ m. some_line new.count status said);

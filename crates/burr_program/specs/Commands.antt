@@ -13,6 +13,7 @@ use Rattle.burr_runs.specs.Views.ReadWhole.{IsWholeInput}
 use Rattle.burr_command.specs.declared.job.Job.{Job}
 use Rattle.burr_command.specs.declared.job.Job.TheVariants as jobs
 use Rattle.burr_judge.specs.declared.fault.Fault.{Fault}
+use Rattle.burr_judge.specs.declared.lines.LineEnd.TheVariants.{LineFeed, SecondNul}
 use Rattle.burr_judge.specs.declared.status.Status.{Status}
 use Rattle.burr_judge.specs.declared.status.Status.TheVariants.{Done, Refused}
 use Rattle.burr_judge.specs.declared.tasks.Task.{Task}
@@ -157,14 +158,16 @@ PlanSheetCommand output status =
     ((drawing sheet text : List ℕ) × MakesPlanOf drawing sheet text × MakesFile output status)
     ⊎ SomeRefusal output status
 
--- each of them
+-- each of them; the names of a list have a tab between them and a line feed after them, or a byte 0
+-- after each
 abbrev pub JobEnds : Left → Job → Ends
 JobEnds left (jobs.Cells assembly) = CellsCommand
 JobEnds left (jobs.Assemble text out) = AsmCommand
 JobEnds left (jobs.List plan places) = ListCommand places
 JobEnds left (jobs.Upgrade plan out) = UpgradeCommand
 JobEnds left (jobs.Check assembly plan) = CheckCommand
-JobEnds left jobs.Judge = JudgeCommand left
+JobEnds left (jobs.Judge false) = JudgeCommand LineFeed 9 left
+JobEnds left (jobs.Judge true) = JudgeCommand SecondNul 0 left
 JobEnds left (jobs.Run assembly plan) = AnsweredCommand Run left
 JobEnds left (jobs.Try assembly plan) = AnsweredCommand Try left
 JobEnds left (jobs.Step assembly plan) = StepCommand left
@@ -177,7 +180,8 @@ JobEnds left (jobs.Explain line) = ExplainEnds (string_bytes line)
 
 -- where it breaks off: dialogues alone
 abbrev pub JobBreaks : Streams → Job → List ℕ → Type 0
-JobBreaks s jobs.Judge = JudgeCommandBreaks s
+JobBreaks s (jobs.Judge false) = JudgeCommandBreaks LineFeed 9 s
+JobBreaks s (jobs.Judge true) = JudgeCommandBreaks SecondNul 0 s
 JobBreaks s (jobs.Step assembly plan) = StepCommandBreaks s
 JobBreaks s (jobs.Drive assembly plan) = DriveCommandBreaks s
 JobBreaks s job = never

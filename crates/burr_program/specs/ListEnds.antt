@@ -6,6 +6,7 @@ use Rattle.burr_runs.specs.declared.fault.BenchFault.{BenchFault}
 use Rattle.burr_runs.specs.Views.BenchText.{Streams}
 use Rattle.burr_judge.specs.declared.dialogue.TheConstants.{KEPT}
 use Rattle.burr_judge.specs.declared.ladder.Given.{Given}
+use Rattle.burr_judge.specs.declared.lines.LineEnd.{LineEnd}
 use Rattle.burr_judge.specs.declared.status.Status.{Status}
 use Rattle.burr_judge.specs.declared.status.Status.TheVariants.{Done, Refused, Failed, Memory}
 use Rattle.burr_judge.specs.Faults.{complaint_of}
@@ -15,10 +16,10 @@ use Rattle.burr_judge.specs.Statuses.{code_of}
 use Rattle.burr_judge.specs.StepEnds.{Left}
 use Rattle.burr_judge.specs.Views.Dialogues.{IsDialogue, BreaksDialogue}
 
--- two names with a tab between them, neither empty, in a line that is short enough
-pub record ArePair (line assembly plan : List ℕ) : Type 0 where
-  pub cut : IsCutAt 9 line assembly plan
-  pub one_tab : ¬ Contains plan 9
+-- two names with this byte between them, neither empty, in a line that is short enough
+pub record ArePair (between : ℕ) (line assembly plan : List ℕ) : Type 0 where
+  pub cut : IsCutAt between line assembly plan
+  pub two_names : ¬ Contains plan between
   pub assembly_named : assembly ≢ []
   pub plan_named : plan ≢ []
   pub assembly_is_text : IsUtf8 assembly
@@ -26,8 +27,8 @@ pub record ArePair (line assembly plan : List ℕ) : Type 0 where
   pub short : length line < KEPT
 
 -- the line names an assembly and a plan
-abbrev pub IsPair : List ℕ → Type 0
-IsPair line = (assembly plan : List ℕ) × ArePair line assembly plan
+abbrev pub IsPair : ℕ → List ℕ → Type 0
+IsPair between line = (assembly plan : List ℕ) × ArePair between line assembly plan
 
 -- what `check` prints, for some bytes of the two files, with its status
 abbrev pub PairEnds : Ends
@@ -36,15 +37,17 @@ PairEnds output status =
 
 -- what is said of a line, and with which status: it is no pair; or its plan is judged; or a file can't
 -- be read; or memory was refused
-abbrev pub LineEnds : List ℕ → Ends
-LineEnds line output status =
-    ((¬ IsPair line) × (output ≡ codes "refused pair\n") × (status ≡ Refused))
-    ⊎ (IsPair line × (PairEnds output status
+abbrev pub LineEnds : ℕ → List ℕ → Ends
+LineEnds between line output status =
+    ((¬ IsPair between line) × (output ≡ codes "refused pair\n") × (status ≡ Refused))
+    ⊎ (IsPair between line × (PairEnds output status
     ⊎ ((output ≡ codes "cannot read\n") × (status ≡ Failed))
     ⊎ ((output ≡ codes "no memory\n") × (status ≡ Memory))))
 
--- how many lines were judged, as far as 64 bits count, and the worst status among theirs
+-- what stands between two names, how many lines were judged, as far as 64 bits count, and the worst
+-- status among theirs
 pub record Tally : Type 0 where
+  pub separator : ℕ
   pub count : ℕ
   pub worst : Status
 
@@ -55,6 +58,7 @@ worse a b = if nat_lt (code_of a) (code_of b) then b else a
 -- one line more, with this status
 abbrev pub tallied : Tally → Status → Tally
 tallied old status = record {
+  separator = old.separator;
   count = min (old.count + 1) (2 ^ 64 - 1);
   worst = worse old.worst status;
 }
@@ -68,7 +72,7 @@ judged_line number status said =
 pub record AnswersPair (old : Tally) (line text : List ℕ) (goes_on : Bool) (new : Tally) : Type 0 where
   pub said : List ℕ
   pub status : Status
-  pub ends : LineEnds line said status
+  pub ends : LineEnds old.separator line said status
   pub text_is : text ≡ judged_line new.count status said
   pub new_is : new ≡ tallied old status
   pub more : goes_on ≡ true
@@ -78,17 +82,18 @@ abbrev pub AsksNothing : Tally → List ℕ → Type 0
 AsksNothing tally line = ⊥
 
 -- nothing was judged
-abbrev pub none_judged : Tally
-none_judged = record { count = 0; worst = Done }
+abbrev pub none_judged : ℕ → Tally
+none_judged separator = record { separator = separator; count = 0; worst = Done }
 
 -- `judge`: each line that the source gave is answered, and the status is the worst of theirs
-abbrev pub JudgeCommand : Left → Ends
-JudgeCommand left output status =
-    (new : Tally) × IsDialogue AnswersPair none_judged left.old left.new output new
+abbrev pub JudgeCommand : LineEnd → ℕ → Left → Ends
+JudgeCommand end separator left output status =
+    (new : Tally)
+    × IsDialogue end AnswersPair (none_judged separator) left.old left.new output new
     × (status ≡ new.worst)
 
 -- and where it breaks off
-abbrev pub JudgeCommandBreaks : Streams → List ℕ → Type 0
-JudgeCommandBreaks s line =
-    (fault : BenchFault) × (line ≡ complaint_of fault)
-    × ((new : Tally) × BreaksDialogue AnswersPair AsksNothing none_judged s fault new)
+abbrev pub JudgeCommandBreaks : LineEnd → ℕ → Streams → List ℕ → Type 0
+JudgeCommandBreaks end separator s line =
+    (fault : BenchFault) × (line ≡ complaint_of fault) × ((new : Tally)
+    × BreaksDialogue end AnswersPair AsksNothing (none_judged separator) s fault new)

@@ -25,7 +25,7 @@ ghost use Rattle.burr_program.specs.Commands.{JobEnds, JobBreaks, EndsOnFiles};
 use asm::assemble_file;
 use burr_command::Job;
 use burr_io::{Sink, Source, WholeLines};
-use burr_judge::{Fault, Status, Task};
+use burr_judge::{Fault, LineEnd, Status, Task};
 use cells::cells_file;
 use check::check_files;
 use drive::drive_files;
@@ -61,7 +61,12 @@ pub fn put_job<'a, F: Files + AllocGlobal, R: Source, W: Sink, const N: usize>(
         Job::List { plan, places } => list_file(files, plan, *places, sink),
         Job::Upgrade { plan, out } => upgrade_file(files, plan, out, sink),
         Job::Check { assembly, plan } => check_files(files, assembly, plan, sink),
-        Job::Judge => judge_list(files, source, sink),
+        Job::Judge { null } => {
+            if *null {
+                return judge_list(files, LineEnd::SecondNul, 0, source, sink);
+            }
+            judge_list(files, LineEnd::LineFeed, b'\t', source, sink)
+        }
         Job::Run { assembly, plan } => { run_files(files, Task::Run, assembly, plan, source, sink) }
         Job::Try { assembly, plan } => { run_files(files, Task::Try, assembly, plan, source, sink) }
         Job::Step { assembly, plan } => step_files(files, assembly, plan, source, sink),

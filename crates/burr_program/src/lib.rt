@@ -12,8 +12,9 @@
 //!   with status 0. What is wrong with the words is told on standard error, with status 2, and
 //!   standard output takes nothing. Where the arguments can't be had the status is 4 or 2.
 //! - Where a job is done, standard output takes what it prints, the status is 0, 1 or 5, or of
-//!   `judge` the greatest of its lines, and nothing is told on standard error. Else a fault is told there by its line: `cannot read NAME`
-//!   or `cannot write NAME` with status 3, `no memory` with 4, a fault of the command line with 2.
+//!   `judge` the greatest of its lines, and nothing is told on standard error. Else a fault is told
+//!   there by its line: `cannot read NAME` or `cannot write NAME` with status 3, `no memory` with 4,
+//!   a fault of the command line with 2.
 //!   Standard output then took nothing, or it failed and took a front of what the job prints.
 //! - Where `judge`, `step` or `drive` tells `cannot read -` or `no memory`, standard output may
 //!   have taken the answers before it broke off.
@@ -27,7 +28,8 @@
 //!   (`judge_list`): exactly what `check_text` of burr_judge prints of some bytes of the two files;
 //!   or `cannot read`, or `no memory`; or `refused pair` exactly where the line is no pair of names.
 //!   Each is handed on before a byte of the next line is read. After a fault these are the lines of
-//!   the pairs that were read, and at `Write` a front of them.
+//!   the pairs that were read, and at `Write` a front of them. With `--null` a line is two names,
+//!   each with a byte 0 after it.
 //! - For `cells` it is the lines of the home cells of the text's assembly, or the text's refusal.
 //!   For `list` it is the listing, or the container's refusal.
 //! - For `asm` and `upgrade` it is the refusal, or nothing where a file is made. The bytes that are
@@ -48,7 +50,7 @@
 //!
 //! # Tested only
 //! - No contract says what arguments ask for, or that the bytes above are those of the files named
-//!   (`read_file`).
+//!   (`read_file`), or from what file `judge` keeps what it read (`read_once`).
 //! - A file is replaced whole (`write_file`), and OUT is not the file that is read
 //!   (`are_one_file`).
 //! - No contract says what `why` and `trace` print below that beginning, what is printed where

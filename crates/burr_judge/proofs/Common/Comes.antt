@@ -50,7 +50,7 @@ abbrev pub AreBytesOf : Given → List ℕ → Type 0
 AreBytesOf (Container lent) bytes = bytes ≡ lent.now
 AreBytesOf (Text text) bytes = IsAssembled text.now bytes
 
-given_told : (Told : Ends → Type 0) → Goes Told → (Refuses : List ℕ → Type 0) (Uses : ContainerView → Type 0) (With : ContainerView → Ends) (plan : Given)
+pub given_told : (Told : Ends → Type 0) → Goes Told → (Refuses : List ℕ → Type 0) (Uses : ContainerView → Type 0) (With : ContainerView → Ends) (plan : Given)
     → ((line : List ℕ) → Refuses line → Told (IsRefusal line)) → ((bytes : List ℕ) → AreBytesOf plan bytes → (kept : ContainerView) → IsRead bytes kept → Uses kept → Told (With kept))
     → GivenComes Refuses Uses plan → Told (GivenEnds plan With)
 given_told Told goes Refuses Uses With (Container bytes) refuses uses come = bytes_told Told goes Refuses Uses With bytes.now refuses (uses bytes.now refl) come

@@ -1,9 +1,8 @@
 -- A dialogue under way: what was read, which lines of it are answered, and how what is told them
 -- stands. A line is answered by a text, after which more lines are taken or not; for the answers to
 -- some lines memory is wanted.
-use Rattle.std.specs.Prelude.{◌≡◌, ◌≢◌, ◌⊎◌, ◌^◌, ◌-◌, ℕ, List, [], ◌∷◌, ◌++◌, length, take, Bool, true, Option, MatchOption}
+use Rattle.std.specs.Prelude.{◌≡◌, ◌≢◌, ◌⊎◌, ◌+◌, ◌-◌, ◌^◌, ◌<◌, ℕ, List, [], ◌∷◌, ◌++◌, length, take, Bool, true, Option, MatchOption}
 use Rattle.std.specs.Io.KnownBytes.{Appends, Consumes, IsAtEnd}
-use Rattle.burr_text.specs.Lines.{IsUnended}
 use Rattle.burr_io.specs.Sink.{SinkView, Takes, FailsWithin, HoldsFront}
 use Rattle.burr_io.specs.WholeLines.{Lines}
 use Rattle.burr_runs.specs.declared.fault.BenchFault.{BenchFault}
@@ -11,7 +10,9 @@ use Rattle.burr_runs.specs.declared.fault.BenchFault.TheVariants as faults
 use Rattle.burr_runs.specs.Views.BenchText.{Streams}
 use Rattle.burr_judge.specs.declared.commands.StepFault.{StepFault}
 use Rattle.burr_judge.specs.declared.commands.StepFault.TheVariants as steps
-use Rattle.burr_judge.specs.Rules.Dialogue.{Dialogue, lines_bytes, IsInputOf, IsReadOf}
+use Rattle.burr_judge.specs.declared.lines.LineEnd.{LineEnd}
+use Rattle.burr_judge.specs.declared.lines.OpenLine.{OpenLine}
+use Rattle.burr_judge.specs.Rules.Dialogue.{Dialogue, AreLines, IsInputOf, IsReadOf, IsUnended, end_byte, end_count, ends_in}
 
 -- how lines are answered
 abbrev pub Answering : Type 0 → Type 1
@@ -79,16 +80,39 @@ HandsLast Answers sink before after old line new =
     ((line ≡ []) × (after ≡ before) × (new ≡ old))
     ⊎ ((line ≢ []) × ((goes_on : Bool) × HandsAnswer Answers sink before after old line goes_on new))
 
--- one more byte: it belongs to a line that goes on, and the first `most` bytes of that are kept;
--- or it ends a line, which is answered, whatever line it is whose first bytes were kept
-abbrev pub TakesByte : {Told S : Type 0} → Answering Told → ℕ → ℕ → List ℕ → List ℕ → SinkView S
+-- what is kept of a line that goes so far: its first `most` bytes, and when it ends
+pub record IsSoFar (end : LineEnd) (most : ℕ) (kept : OpenLine) (line : List ℕ) : Type 0 where
+  pub ends_so : kept.end ≡ end
+  pub first : kept.bytes.items ≡ take most line
+  pub left : ends_in end line + kept.left ≡ end_count end
+  pub unended : 0 < kept.left
+
+-- the byte ends the line
+abbrev pub IsEnded : LineEnd → List ℕ → ℕ → Type 0
+IsEnded end line byte = (byte ≡ end_byte end) × (ends_in end line + 1 ≡ end_count end)
+
+-- One more byte of a line: that goes on, and so much more is kept of it; or it has ended, and is
+-- answered, and another one begins.
+abbrev pub TakesByteOf : {Told S : Type 0} → LineEnd → List ℕ → Answering Told → ℕ → ℕ → OpenLine
+    → SinkView S → Lines S → Lines S → Told → Bool → Told → Type 0
+TakesByteOf end line Answers most byte kept sink before after old goes_on new =
+    (IsSoFar end most kept (line ++ byte ∷ []) × (goes_on ≡ true) × (after ≡ before) × (new ≡ old))
+    ⊎ (IsEnded end line byte × IsSoFar end most kept []
+    × HandsAnswer Answers sink before after old line goes_on new)
+
+-- whichever line this was kept of
+abbrev pub TakesByte : {Told S : Type 0} → Answering Told → ℕ → ℕ → OpenLine → OpenLine → SinkView S
     → Lines S → Lines S → Told → Bool → Told → Type 0
 TakesByte Answers most byte kept kept_after sink before after old goes_on new =
-    ((byte ≢ 10) × (kept_after ≡ take most (kept ++ byte ∷ [])) × (goes_on ≡ true)
-    × (after ≡ before) × (new ≡ old))
-    ⊎ ((byte ≡ 10) × (kept_after ≡ [])
-    × ((line : List ℕ) → kept ≡ take most line
-    → HandsAnswer Answers sink before after old line goes_on new))
+    (end : LineEnd) (line : List ℕ) → IsSoFar end most kept line
+    → TakesByteOf end line Answers most byte kept_after sink before after old goes_on new
+
+-- the byte ends the line, and its answer could not be handed on
+abbrev pub FailsAtByte : {Told S : Type 0} → Answering Told → Wanting Told → ℕ → ℕ → OpenLine
+    → SinkView S → Lines S → Lines S → Told → BenchFault → Told → Type 0
+FailsAtByte Answers Wants most byte kept sink before after old fault new =
+    (end : LineEnd) (line : List ℕ) → IsSoFar end most kept line
+    → IsEnded end line byte × FailsToHandAnswer Answers Wants sink before after old line fault new
 
 -- the next byte of a source, or its end
 abbrev pub GivesByte : Option (List ℕ) → Option (List ℕ) → Option ℕ → Type 0
@@ -103,7 +127,6 @@ pub record HasAnsweredLast {Told : Type 0} (Answers : Answering Told) (old : Tol
   pub front : List (List ℕ)
   pub line : List ℕ
   pub cut : lines ≡ front ++ line ∷ []
-  pub unended : IsUnended line
   pub before : List ℕ
   pub mid : Told
   pub dialogue : Dialogue Answers old front before true mid
@@ -115,65 +138,67 @@ pub record HasAnsweredLast {Told : Type 0} (Answers : Answering Told) (old : Tol
 
 -- lines that were read are answered, the sink took the answers, and more lines are taken; after them
 -- bytes were read of a line that is not answered
-pub record HasAnsweredUpTo {Told : Type 0} (Answers : Answering Told) (old : Told) (s : Streams)
-    (rest : List ℕ) (new : Told) : Type 0 where
+pub record HasAnsweredUpTo {Told : Type 0} (end : LineEnd) (Answers : Answering Told) (old : Told)
+    (s : Streams) (rest : List ℕ) (new : Told) : Type 0 where
+  pub bytes : List ℕ
   pub lines : List (List ℕ)
+  pub are : AreLines end bytes lines
   pub text : List ℕ
-  pub read : Consumes s.left_old s.left_new (lines_bytes lines ++ rest)
+  pub read : Consumes s.left_old s.left_new (bytes ++ rest)
   pub dialogue : Dialogue Answers old lines text true new
   pub took : Appends s.taken_old s.taken_new text
 
 -- how a dialogue stands after `read` bytes: the lines that have ended are answered, and of the line
 -- that has not ended the first `most` bytes are kept
-pub record IsConversing {Told : Type 0} (Answers : Answering Told) (most read : ℕ) (old : Told)
-    (s : Streams) (kept : List ℕ) (now : Told) : Type 0 where
+pub record IsConversing {Told : Type 0} (end : LineEnd) (Answers : Answering Told) (most read : ℕ)
+    (old : Told) (s : Streams) (kept : OpenLine) (now : Told) : Type 0 where
   pub rest : List ℕ
-  pub up_to : HasAnsweredUpTo Answers old s rest now
-  pub unended : IsUnended rest
-  pub kept_is : kept ≡ take most rest
-  pub count : length (lines_bytes up_to.lines ++ rest) ≡ read
+  pub up_to : HasAnsweredUpTo end Answers old s rest now
+  pub so_far : IsSoFar end most kept rest
+  pub count : length (up_to.bytes ++ rest) ≡ read
 
 -- the lines that a source gave, up to one after which none is taken or to its end, are answered by
 -- this text
-abbrev pub IsDialogue : {Told : Type 0} → Answering Told → Told → Option (List ℕ) → Option (List ℕ)
-    → List ℕ → Told → Type 0
-IsDialogue Answers old left_old left_new text new =
+abbrev pub IsDialogue : {Told : Type 0} → LineEnd → Answering Told → Told → Option (List ℕ)
+    → Option (List ℕ) → List ℕ → Told → Type 0
+IsDialogue end Answers old left_old left_new text new =
     (read : List ℕ) × (lines : List (List ℕ)) × (goes_on : Bool)
-    × Consumes left_old left_new read × IsReadOf read lines goes_on (IsAtEnd left_new)
+    × Consumes left_old left_new read × IsReadOf end read lines goes_on (IsAtEnd left_new)
     × Dialogue Answers old lines text goes_on new
 
 -- The lines of an input are answered, up to one after which none is taken or to its end, and the sink
 -- took the answers.
-abbrev pub EndsDialogue : {Told : Type 0} → Answering Told → Told → Streams → Told → Type 0
-EndsDialogue Answers old s new =
-    (text : List ℕ) × IsDialogue Answers old s.left_old s.left_new text new
+abbrev pub EndsDialogue : {Told : Type 0} → LineEnd → Answering Told → Told → Streams → Told → Type 0
+EndsDialogue end Answers old s new =
+    (text : List ℕ) × IsDialogue end Answers old s.left_old s.left_new text new
     × Appends s.taken_old s.taken_new text
 
 -- The sink failed in the answer to the last line that was read, which has some text, and holds a
 -- front of the answers.
-abbrev pub FailsInDialogue : {Told : Type 0} → Answering Told → Told → Streams → Told → Type 0
-FailsInDialogue Answers old s new =
+abbrev pub FailsInDialogue : {Told : Type 0} → LineEnd → Answering Told → Told → Streams → Told
+    → Type 0
+FailsInDialogue end Answers old s new =
     (read : List ℕ) × (lines : List (List ℕ)) × (text : List ℕ)
-    × Consumes s.left_old s.left_new read × IsInputOf read lines
+    × Consumes s.left_old s.left_new read × IsInputOf end read lines
     × HasAnsweredLast Answers old lines text new
     × HoldsFront s.taken_old s.taken_new text × (s.write_failed ≡ true)
 
 -- these bytes are a line that was read, with its end, or without it where no byte is left
-abbrev pub IsLineRead : List ℕ → List ℕ → Option (List ℕ) → Type 0
-IsLineRead line bytes left =
-    (bytes ≡ line ++ 10 ∷ []) ⊎ ((bytes ≡ line) × (line ≢ []) × IsAtEnd left)
+abbrev pub IsLineRead : LineEnd → List ℕ → List ℕ → Option (List ℕ) → Type 0
+IsLineRead end line bytes left =
+    (bytes ≡ line ++ end_byte end ∷ []) ⊎ ((bytes ≡ line) × (line ≢ []) × IsAtEnd left)
 
 -- Why a dialogue breaks off: the source failed within a line, or gave more bytes than are counted;
 -- memory was refused for an answer, to the last line that was read; or the sink failed. The lines
 -- before are answered.
-abbrev pub BreaksDialogue : {Told : Type 0} → Answering Told → Wanting Told → Told → Streams
+abbrev pub BreaksDialogue : {Told : Type 0} → LineEnd → Answering Told → Wanting Told → Told → Streams
     → BenchFault → Told → Type 0
-BreaksDialogue Answers Wants old s faults.Read new =
-    (rest : List ℕ) × IsUnended rest × HasAnsweredUpTo Answers old s rest new
+BreaksDialogue end Answers Wants old s faults.Read new =
+    (rest : List ℕ) × IsUnended end rest × HasAnsweredUpTo end Answers old s rest new
     × (s.read_failed ≡ true)
-BreaksDialogue Answers Wants old s faults.TooLong new =
-    (kept : List ℕ) × (most : ℕ) × IsConversing Answers most (2 ^ 64 - 1) old s kept new
-BreaksDialogue Answers Wants old s faults.Memory new =
-    (line rest : List ℕ) × Wants new line × IsLineRead line rest s.left_new
-    × HasAnsweredUpTo Answers old s rest new
-BreaksDialogue Answers Wants old s faults.Write new = FailsInDialogue Answers old s new
+BreaksDialogue end Answers Wants old s faults.TooLong new =
+    (kept : OpenLine) × (most : ℕ) × IsConversing end Answers most (2 ^ 64 - 1) old s kept new
+BreaksDialogue end Answers Wants old s faults.Memory new =
+    (line rest : List ℕ) × Wants new line × IsLineRead end line rest s.left_new
+    × HasAnsweredUpTo end Answers old s rest new
+BreaksDialogue end Answers Wants old s faults.Write new = FailsInDialogue end Answers old s new

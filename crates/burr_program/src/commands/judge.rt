@@ -1,43 +1,49 @@
 //! Lists of plans, judged pair by pair.
 
-ghost use Rattle.std.specs.Prelude.{◌≡◌, [], MatchOption, MatchResult};
+ghost use Rattle.std.specs.Prelude.{◌≡◌, [], MatchOption};
 ghost use Rattle.burr_io.specs.Sink.{Puts};
 ghost use Rattle.burr_io.specs.WholeLines.{lines_view};
 ghost use Rattle.burr_runs.specs.Views.BenchText.{streams};
 ghost use Rattle.burr_judge.specs.PlanEnds.{never};
 ghost use Rattle.burr_judge.specs.StepEnds.{left_by};
 ghost use Rattle.burr_program.specs.Commands.{EndsOnFiles};
-ghost use Rattle.burr_program.specs.ListEnds.{IsPair, JudgeCommand, JudgeCommandBreaks, PairEnds, judged_line, worse as worse_of};
-ghost use Rattle.burr_program.specs.Judging.{IsUnjudged, TellsJudged};
+ghost use Rattle.burr_program.specs.ListEnds.{IsPair, JudgeCommand, JudgeCommandBreaks, LineEnds, PairEnds, judged_line, worse as worse_of};
+ghost use Rattle.burr_program.specs.Judging.{TellsJudged, bytes_of};
 
 use crate::files::read_file;
 use burr_io::{Kept, Sink, Source, WholeLines, WriteFault, put_all, put_number};
-use burr_judge::{Commanded, Fault, Given, KEPT, Status, StepFault, answer_commands, check_text};
+use burr_judge::{
+    Commanded, Fault, Given, KEPT, LineEnd, ReadText, Status, StepFault, answer_commands,
+};
 use burr_text::cut_at;
 use std::marker::Model;
 use std::rt::Files;
 
-/// Judges the plans of the source's list: each line names an assembly's text and a plan, a container or
-/// a plan text, with a tab between them, and is answered by its number, a status and what `check` would
-/// print, which is handed on before the next line is read. The status is the worst of theirs.
+/// Judges the plans of the source's list: each line names an assembly's text and a plan, a container
+/// or a plan text, with a byte between them, and is answered by its number, a status and what `check`
+/// would print, which is handed on before the next line is read. The status is the worst of theirs.
 #[inline(never)]
 pub fn judge_list<'a, F: Files + AllocGlobal, R: Source, W: Sink, const N: usize>(
     files: &F,
+    end: LineEnd,
+    separator: u8,
     source: &mut R,
     sink: &mut WholeLines<W, N>,
 ) -> Result<Status, Fault<'a>>
     requires fresh { sink.old.held ≡ [] }
     ensures { EndsOnFiles (lines_view W.Sink) sink.old sink.new
-        (JudgeCommand (left_by R.Source source.old source.new))
-        (JudgeCommandBreaks (streams R.Source source.old source.new W.Sink sink.old.sink sink.new.sink))
-        result }
+        (JudgeCommand end separator (left_by R.Source source.old source.new))
+        (JudgeCommandBreaks end separator
+        (streams R.Source source.old source.new W.Sink sink.old.sink sink.new.sink)) result }
 {
     let mut judge = ListJudge {
         files,
+        separator,
+        known: None,
         count: 0,
         worst: Status::Done,
     };
-    answer_commands(&mut judge, source, sink)?;
+    answer_commands(end, &mut judge, source, sink)?;
     Ok(judge.worst)
 }
 
@@ -45,6 +51,10 @@ pub fn judge_list<'a, F: Files + AllocGlobal, R: Source, W: Sink, const N: usize
 #[derive(Drop)]
 struct ListJudge<'f, F: Files + AllocGlobal> {
     files: &'f F,
+    /// What stands between the names of a pair.
+    separator: u8,
+    /// The assembly of the line before.
+    known: Option<Known>,
     count: u64,
     worst: Status,
 }
@@ -54,7 +64,11 @@ impl<'f, F: Files + AllocGlobal> Model for ListJudge<'f, F> {
 
     ghost Value = { Tally };
 
-    ghost view = { λ judge. record { count = judge.count; worst = judge.worst } };
+    ghost view = { λ judge. record {
+      separator = judge.separator;
+      count = judge.count;
+      worst = judge.worst;
+    } };
 }
 
 impl<'f, F: Files + AllocGlobal> Commanded for ListJudge<'f, F> {
@@ -67,12 +81,8 @@ impl<'f, F: Files + AllocGlobal> Commanded for ListJudge<'f, F> {
     fn lines_are_short(&self) {}
 
     fn command<W: Sink>(&mut self, line: &[u8], sink: &mut W) -> Result<bool, StepFault> {
-        match judge_line(self.files, line) {
-            Ok((status, said)) => self.tell(status, &said, sink),
-            Err(Unjudged::NoPair) => self.tell(Status::Refused, b"refused pair\n", sink),
-            Err(Unjudged::Unread) => self.tell(Status::Failed, b"cannot read\n", sink),
-            Err(Unjudged::Memory) => self.tell(Status::Memory, b"no memory\n", sink),
-        }
+        let (status, said) = judge_line(self.files, self.separator, &mut self.known, line);
+        self.tell(status, said.bytes(), sink)
     }
 }
 
@@ -93,54 +103,108 @@ impl<'f, F: Files + AllocGlobal> ListJudge<'f, F> {
     }
 }
 
-/// Why nothing is judged of a line: it is no pair of names, or a file can't be read, or memory was
-/// refused.
-#[derive(Clone, Copy, Debug)]
-enum Unjudged {
-    NoPair,
-    Unread,
-    Memory,
+/// What is said of a line.
+#[derive(Drop)]
+enum Said {
+    Printed(Vec<u8>),
+    Instead(&'static [u8]),
 }
 
-/// What `check` prints of the files that a line names, and its status.
-fn judge_line<F: Files + AllocGlobal>(files: &F, line: &[u8]) -> Result<(Status, Vec<u8>), Unjudged>
-    ensures { MatchResult result (λ judged. IsPair line.now × PairEnds judged.1.items judged.0)
-        (IsUnjudged line.now) }
-{
-    let Some((assembly, plan)) = pair_of(line) else {
-        return Err(Unjudged::NoPair);
-    };
-    let mut said = Kept::new(files.alloc());
-    match judge_pair(files, assembly, plan, &mut said) {
-        Ok(status) => Ok((status, said.into_bytes())),
-        Err(Fault::Read(_)) => Err(Unjudged::Unread),
-        Err(_) => Err(Unjudged::Memory),
+impl Said {
+    fn bytes(&self) -> &[u8]
+        ensures { result.now ≡ bytes_of self.now }
+    {
+        match self {
+            Said::Printed(bytes) => bytes,
+            Said::Instead(words) => words,
+        }
     }
 }
 
-/// Puts what `check` prints of an assembly's text and a plan.
+/// What is said of a line, and with which status: what `check` prints of the files that it names,
+/// or that there is no pair, that a file can't be read, or that memory was refused.
+fn judge_line<F: Files + AllocGlobal>(
+    files: &F,
+    separator: u8,
+    known: &mut Option<Known>,
+    line: &[u8],
+) -> (Status, Said)
+    ensures { LineEnds separator line.now (bytes_of result.1) result.0 }
+{
+    let Some((assembly, plan)) = pair_of(separator, line) else {
+        return (Status::Refused, Said::Instead(b"refused pair\n"));
+    };
+    let mut said = Kept::new(files.alloc());
+    match judge_pair(files, known, assembly, plan, &mut said) {
+        Ok(status) => (status, Said::Printed(said.into_bytes())),
+        Err(Fault::Read(_)) => (Status::Failed, Said::Instead(b"cannot read\n")),
+        Err(_) => (Status::Memory, Said::Instead(b"no memory\n")),
+    }
+}
+
+/// Puts what `check` prints of an assembly's text and a plan. The assembly is kept.
 fn judge_pair<'a, F: Files + AllocGlobal, W: Sink>(
     files: &F,
+    known: &mut Option<Known>,
     assembly: &'a str,
     plan: &'a str,
     sink: &mut W,
 ) -> Result<Status, Fault<'a>>
     ensures { EndsOnFiles W.Sink sink.old sink.new PairEnds never result }
 {
-    let text = read_file(files, assembly)?;
-    let bytes = read_file(files, plan)?;
-    check_text(files.alloc(), &text, Given::of(&bytes), sink)
+    let kept = read_once(files, known.take(), assembly)?;
+    let judged = kept.judge(files, plan, sink);
+    *known = Some(kept);
+    judged
+}
+
+/// An assembly by the name of its file.
+#[derive(Drop)]
+struct Known {
+    name: Vec<u8>,
+    text: ReadText,
+}
+
+impl Known {
+    /// Puts what `check` prints of a plan.
+    fn judge<'a, F: Files + AllocGlobal, W: Sink>(
+        &self,
+        files: &F,
+        plan: &'a str,
+        sink: &mut W,
+    ) -> Result<Status, Fault<'a>>
+        ensures { EndsOnFiles W.Sink sink.old sink.new PairEnds never result }
+    {
+        let bytes = read_file(files, plan)?;
+        self.text.check(files.alloc(), Given::of(&bytes), sink)
+    }
+}
+
+/// The assembly of a file: the one that is known, where it has this name, or else the file is read.
+fn read_once<'a, F: Files + AllocGlobal>(
+    files: &F,
+    known: Option<Known>,
+    name: &'a str,
+) -> Result<Known, Fault<'a>> {
+    if let Some(kept) = known {
+        if kept.name.as_slice() == name.as_bytes() {
+            return Ok(kept);
+        }
+    }
+    let text = ReadText::new(files.alloc(), read_file(files, name)?)?;
+    let name = Vec::from_slice(files.alloc(), name.as_bytes())?;
+    Ok(Known { name, text })
 }
 
 /// The names of the assembly and the plan of a line.
-fn pair_of(line: &[u8]) -> Option<(&str, &str)>
-    ensures { MatchOption result (¬ IsPair line.now) (λ _. IsPair line.now) }
+fn pair_of(separator: u8, line: &[u8]) -> Option<(&str, &str)>
+    ensures { MatchOption result (¬ IsPair separator line.now) (λ _. IsPair separator line.now) }
 {
     if KEPT <= line.len() {
         return None;
     }
-    let (assembly, plan) = cut_at(line, b'\t')?;
-    if assembly.is_empty() || plan.is_empty() || plan.contains(&b'\t') {
+    let (assembly, plan) = cut_at(line, separator)?;
+    if assembly.is_empty() || plan.is_empty() || plan.contains(&separator) {
         return None;
     }
     Some((str::from_utf8(assembly).ok()?, str::from_utf8(plan).ok()?))

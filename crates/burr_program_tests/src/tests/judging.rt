@@ -176,11 +176,51 @@ $burr judge
 ?3
 ";
 
+/// Assemblies that are named again, next to each other and not: accepted, refused, and one that
+/// can't be read; the same plan for another assembly in between.
+const AGAIN: &str = "\
+<duo\tduo.plan
+<duo\tduo.bpln
+<duo\tjudged.through
+<duo\tring.plan
+<ring\tduo.plan
+<ring\tring.plan
+<duo\tring.plan
+<duo\tnone
+<duo\tduo.plan
+<judged.crowd\tduo.plan
+<judged.crowd\tjudged.wrong
+<judged.crowd\tnone
+<none\tduo.plan
+<none\tduo.plan
+<duo
+<duo\tduo.plan
+$burr judge
+>1 0 accepted cost 3 budget 3 looks 1
+>2 0 accepted cost 3 budget 3 looks 1
+>3 1 refused V16 proc 0 pc 5 pieces A B
+>4 1 refused V1 proc 0 pc 0
+>5 1 refused V1 proc 0 pc 0
+>6 0 accepted cost 11 budget 11 looks 4
+>7 1 refused V1 proc 0 pc 0
+>8 3 cannot read
+>9 0 accepted cost 3 budget 3 looks 1
+>10 1 refused A8 line 7 A B
+>11 1 refused A8 line 7 A B
+>12 3 cannot read
+>13 3 cannot read
+>14 3 cannot read
+>15 1 refused pair
+>16 0 accepted cost 3 budget 3 looks 1
+?3
+";
+
 #[test]
 fn judges_pair_by_pair(rt: HostRuntime) {
     assert_examples(&rt, LIFT);
     assert_transcript(&rt, ACCEPTED);
     assert_transcript(&rt, REFUSED);
+    assert_transcript(&rt, AGAIN);
     assert_transcript(&rt, NO_PAIRS);
     assert_transcript(&rt, UNREAD);
     assert_transcript(&rt, NAMED);
@@ -222,6 +262,143 @@ fn judges_names_of_any_bytes(rt: HostRuntime) {
     };
     let end = end_with(&rt, "burr judge", bytes);
     assert_case(&rt, end.output.text(), end.is(3, OF_BYTES, ""));
+}
+
+/// How a list of names ends, each with a byte 0 after it.
+fn end_of_names<T: Abort + Files + AllocGlobal>(rt: &T, names: &str) -> End {
+    end_of(rt, "burr judge --null", names)
+}
+
+/// Names with tabs, line feeds and blanks, and one that is a line of a list; empty names; names of
+/// files that are not there; and the same pair after all of them.
+const NAMES: &str = "duo\0duo.plan\0judged\tof\ntwo\0judged\nplan \0cup\0cup.bpln\0ring\0duo.plan\0\
+duo\tduo.plan\0duo.plan\0duo\0none\n\0 duo\0duo.plan\0\0duo.plan\0duo\0\0\0\0duo\0duo.plan\0";
+
+const OF_NAMES: &str = "\
+1 0 accepted cost 3 budget 3 looks 1
+2 0 accepted cost 3 budget 3 looks 1
+3 0 accepted cost 14 budget 14 looks 6
+4 1 refused V1 proc 0 pc 0
+5 3 cannot read
+6 3 cannot read
+7 3 cannot read
+8 1 refused pair
+9 1 refused pair
+10 1 refused pair
+11 0 accepted cost 3 budget 3 looks 1
+";
+
+/// Names, and how they are answered, with the status: the last name may lack its end, and a name
+/// that has no other one is answered too.
+const ENDS: &[(&str, &str, u8)] = &[
+    ("", "", 0),
+    (
+        "duo\0duo.plan\0",
+        "1 0 accepted cost 3 budget 3 looks 1\n",
+        0,
+    ),
+    ("duo\0duo.plan", "1 0 accepted cost 3 budget 3 looks 1\n", 0),
+    ("duo\0", "1 1 refused pair\n", 1),
+    ("duo\tduo.plan\n", "1 1 refused pair\n", 1),
+    ("\0", "1 1 refused pair\n", 1),
+    ("\0\0", "1 1 refused pair\n", 1),
+    ("\0\0\0", "1 1 refused pair\n2 1 refused pair\n", 1),
+    (
+        "duo\0duo.plan\0duo.plan",
+        "1 0 accepted cost 3 budget 3 looks 1\n2 1 refused pair\n",
+        1,
+    ),
+    (
+        "duo\0duo.plan\0duo.plan\0",
+        "1 0 accepted cost 3 budget 3 looks 1\n2 1 refused pair\n",
+        1,
+    ),
+    (
+        "duo.plan\0duo\0duo\0duo.plan",
+        "1 1 refused A1 line 1\n2 0 accepted cost 3 budget 3 looks 1\n",
+        1,
+    ),
+];
+
+/// Writes the assembly and the plan of two cubes under names that no line of a list can have.
+fn write_odd_names<T: Abort + Files + AllocGlobal>(rt: &T) {
+    assert_examples(rt, "");
+    for (name, odd) in [("duo", "judged\tof\ntwo"), ("duo.plan", "judged\nplan ")] {
+        let text = fs::read(rt, name).expect(rt, "an example");
+        assert!(rt; fs::write(rt, odd, &text).is_ok());
+    }
+}
+
+#[test]
+fn judges_pairs_of_names(rt: HostRuntime) {
+    write_odd_names(&rt);
+    let end = end_of_names(&rt, NAMES);
+    assert_case(&rt, end.output.text(), end.is(3, OF_NAMES, ""));
+    for (names, told, status) in ENDS {
+        let end = end_of_names(&rt, names);
+        assert_case(&rt, end.output.text(), end.is(*status, told, ""));
+    }
+    let left: &[u8] = b"duo\0duo\xfe.plan\0\xff\0duo.plan\0duo\0duo.plan";
+    let calls = usize::MAX;
+    let end = end_with(&rt, "burr judge --null", Drips { left, calls });
+    let told = "1 1 refused pair\n2 1 refused pair\n3 0 accepted cost 3 budget 3 looks 1\n";
+    assert_case(&rt, end.output.text(), end.is(1, told, ""));
+}
+
+/// Two names of a pair have at most 8,190 bytes; the next pair is no part of one that is longer,
+/// wherever its names end.
+#[test]
+fn judges_pairs_of_up_to_8191_bytes(rt: HostRuntime) {
+    assert_examples(&rt, "");
+    let next = "2 0 accepted cost 3 budget 3 looks 1\n";
+    for (assembly, plan, told) in LENGTHS {
+        let assembly = long_path(&rt, "duo", *assembly);
+        let plan = long_path(&rt, "duo.plan", *plan);
+        let pair = format!(in rt.alloc(); "{assembly}\0{plan}").expect(&rt, "memory");
+        let names = format!(in rt.alloc(); "{pair}\0duo\0duo.plan\0").expect(&rt, "memory");
+        let both = format!(in rt.alloc(); "{told}{next}").expect(&rt, "memory");
+        let end = end_of_names(&rt, &names);
+        assert_case(&rt, &both, end.output.text() == both.as_str());
+        let last = end_of_names(&rt, &pair);
+        assert_case(&rt, told, last.output.text() == *told);
+    }
+}
+
+/// The first lines of a text.
+fn first_lines(text: &str, count: usize) -> &str {
+    let mut size = 0usize;
+    for line in text.lines().take(count) {
+        size = size.saturating_add(line.len()).saturating_add(1);
+    }
+    text.get(..size).unwrap_or(text)
+}
+
+/// Where standard input fails, the pairs before are answered.
+#[test]
+fn answers_the_pairs_before_its_source_fails(rt: HostRuntime) {
+    write_odd_names(&rt);
+    for calls in 0..=NAMES.len() {
+        let left = NAMES.as_bytes();
+        let end = end_with(&rt, "burr judge --null", Drips { left, calls });
+        let given = NAMES.get(..calls).unwrap_or(NAMES);
+        let pairs = given.bytes().filter(|byte| *byte == 0).count() / 2;
+        let told = first_lines(OF_NAMES, pairs);
+        assert_case(&rt, given, end.is(3, told, "cannot read -\n"));
+    }
+}
+
+/// Where standard output fails, it has a front of the answers to pairs.
+#[test]
+fn writes_a_front_of_the_answers_to_pairs(rt: HostRuntime) {
+    write_odd_names(&rt);
+    let words = words_of(&rt, "burr judge --null");
+    for room in 0..OF_NAMES.len() {
+        let mut end = End::new();
+        end.output.room = room;
+        end.call(&rt, &words, Drips::of(NAMES));
+        let front = OF_NAMES.get(..room).unwrap_or(OF_NAMES);
+        assert_case(&rt, front, end.is(3, front, "cannot write -\n"));
+    }
 }
 
 /// A path to a file that has this many bytes: `.`, slashes, and the file's name.

@@ -258,16 +258,16 @@ fn tells_a_want_of_memory_between_commands(rt: HostRuntime) {
 }
 
 /// A list: memory is taken before its second line, and given back before the third one.
-const LISTED: &str = "duo\tduo.plan\ncup\tcup.plan\nduo\tduo.bpln\n";
+const LISTED: &str = "duo\tduo.plan\nduo\tduo.bpln\ncup\tcup.plan\n";
 
-const LAST_TWO: &str = "cup\tcup.plan\nduo\tduo.bpln\n";
+const LAST_TWO: &str = "duo\tduo.bpln\ncup\tcup.plan\n";
 
-const LAST: &str = "duo\tduo.bpln\n";
+const LAST: &str = "cup\tcup.plan\n";
 
 const TOLD: &str = "\
 1 0 accepted cost 3 budget 3 looks 1
 2 4 no memory
-3 0 accepted cost 3 budget 3 looks 1
+3 0 accepted cost 14 budget 14 looks 6
 ";
 
 /// A line without memory is answered so, and the next one is judged with the memory that there is then.

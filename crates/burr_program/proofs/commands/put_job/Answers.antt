@@ -20,8 +20,11 @@ returns-in-Upgrade g c = rw c.in-Upgrade.is c.upgrade_file.ensures
 pub returns-in-Check : goal.returns-in-Check
 returns-in-Check g c = rw c.in-Check.is c.check_files.ensures
 
-pub returns-in-Judge : goal.returns-in-Judge
-returns-in-Judge g c = rw c.in-Judge.is c.judge_list.ensures
+pub returns-then-null : goal.returns-then-null
+returns-then-null g c = rw (c.in-Judge.is, c.if-null.true) c.judge_list.ensures
+
+pub returns-else-null : goal.returns-else-null
+returns-else-null g c = rw (c.in-Judge.is, c.if-null.false) c.judge_list-in-Judge.ensures
 
 pub returns-in-Run : goal.returns-in-Run
 returns-in-Run g c = rw c.in-Run.is c.run_files.ensures
