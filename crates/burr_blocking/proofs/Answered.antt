@@ -1,6 +1,7 @@
 -- What the pair that is kept of two classes answers about two pieces of them.
-use Rattle.std.proofs.Common.{◌≡◌, ◌↔◌, ◌∙◌, ℕ, ◌<◌, ◌≤◌, Bool, true, false, List, length, get_or, refl, sym, ap, subst, inl, inr, arith}
+use Rattle.std.proofs.Common.{◌≡◌, ◌↔◌, ◌∙◌, ℕ, ◌<◌, ◌≤◌, Bool, true, false, List, Vec, length, get_or, refl, sym, ap, subst, inl, inr, arith}
 use Rattle.std.specs.Prelude.{ℤ, ◌≢◌, ◌⊎◌, ◌+ℤ◌, ◌-ℤ◌, IsTrue}
+use Rattle.std.specs.declared.alloc.Global.{Global}
 use Rattle.std.proofs.lemmas.Int.{ints}
 use Rattle.std.proofs.lemmas.List.{length-map}
 use Rattle.burr_voxels.specs.declared.cell.Cell.{Cell}
@@ -17,7 +18,7 @@ use Rattle.burr_blocking.specs.Rules.Pairs.{IsBlocked, IsFreeFrom}
 use Rattle.burr_blocking.specs.Views.Classes.{AreClasses, IsOfClass}
 use Rattle.burr_blocking.specs.Views.Overlaps.{HasNoneAhead}
 use Rattle.burr_blocking.specs.Views.Translates.{displacement_of, representative_at}
-use Rattle.burr_blocking.specs.Views.Triangles.{IsTriangle, AreClassPairs, IsPairOf, AreOfClasses, IsPairOfPieces, IsTurnedBy, turned_by, way_of}
+use Rattle.burr_blocking.specs.Views.Triangles.{IsTriangle, AreClassPairs, AreRows, IsPairOf, IsPairOfTwo, IsRowOf, AreOfClasses, IsPairOfPieces, IsTurnedBy, turned_by, way_of}
 use Rattle.burr_blocking.proofs.Classed.{pair_kept}
 use Rattle.burr_blocking.proofs.Triangles.{one_read, tells_blocked, tells_free, tells_blocked_back, tells_free_back, tells_pieces_blocked, tells_pieces_free}
 
@@ -82,6 +83,27 @@ module _ {P : Type 0} (Overlaps : P → Cell → Type 0) where
       let told = tells_free_back (representative_at homes rs s.class) (representative_at homes rs t.class) (Overlaps pair) way back direction turned r back_is opposite (pair_read homes c kept q p t s row pair whole (λ (e : q ≡ p). a.two (sym e)) a.second a.first a.to a.from le row_is pair_is) test in
       tells_pieces_free (home_at homes p) (home_at homes q) (representative_at homes rs s.class) (representative_at homes rs t.class) s.displacement t.displacement d way direction r one.translate other.translate way_is told
 
+-- The pair of two pieces is read of a row
+
+module _ {P : Type 0} (Overlaps : P → Cell → Type 0) (a now : Assembly) (same : a ≡ now) (c : Classes) (kept : List (ClassPairs P)) (rows : List (Vec ClassPair Global)) (whole : IsTriangle Overlaps (homes_of a) c kept × AreRows c rows) (p q n m : ℕ) (n_is : n ≡ p) (m_is : m ≡ q) (first : p < length now.pieces) (second : q < length now.pieces) where
+  at_home : (k : ℕ) → k < length now.pieces → k < length (homes_of a)
+  at_home k lt = has_home a k (subst (λ (x : Assembly). k < length x.pieces) (sym same) lt)
+
+  pub row_there : n < length rows
+  row_there = let lt = at_home p first in omega (arith, lt, n_is, whole.1.count, whole.0.pieces.count)
+
+  module _ (row : Vec ClassPair Global) (row_is : row ≡ get_or rows n row) where
+    of_row : IsRowOf c p row.items
+    of_row = one_read (λ (k : ℕ) (r : Vec ClassPair Global). IsRowOf c k r.items) rows p n row whole.1.each (let lt = row_there in omega (arith, lt, n_is)) n_is row_is
+
+    pub in_row : m < length row.items
+    in_row = let lt = at_home q second in let many = of_row.count in omega (arith, lt, m_is, many, whole.0.pieces.count)
+
+    pub pair_of_row : (pair : ClassPair) → pair ≡ get_or row.items m pair → p ≢ q → IsPairOfPieces (homes_of a) c pair p q
+    pair_of_row pair is two =
+        let read = one_read (IsPairOfTwo c p) row.items q m pair of_row.each (let lt = in_row in omega (arith, lt, m_is)) m_is is in
+        (read.0, read.1, record { two = two; first = at_home p first; second = at_home q second; from = read.2; to = read.3 }, read.4)
+
 -- The displacement that a pair is asked about
 
 shifted_on : (a b d : ℤ) → ((a -ℤ b) +ℤ d) ≡ ((a +ℤ d) -ℤ b)
@@ -98,6 +120,17 @@ module _ (pair : ClassPair) (s t : Translate) (d way : Cell) (shift : pair.shift
       ∙ ap (turned_by turned) (shifted_between s.displacement t.displacement d)
 
 module _ {P : Type 0} (Overlaps : P → Cell → Type 0) (homes : List (List Cell)) (c : Classes) (kept : List (ClassPairs P)) (whole : IsTriangle Overlaps homes c kept) (pair : ClassPair) (p q : ℕ) where
+  -- the later class has a row
+  pub later_kept : IsPairOfPieces homes c pair p q → pair.later < length kept
+  later_kept (s, t, of, by) = by_order by.classes
+    where
+      by_order : ((pair.is_turned ≡ false) × (pair.earlier ≡ s.class) × (pair.later ≡ t.class))
+          ⊎ ((pair.is_turned ≡ true) × (pair.earlier ≡ t.class) × (pair.later ≡ s.class)) → pair.later < length kept
+      by_order (inl (straight, earlier, later)) =
+          let of_class = class_read homes c q t whole.pieces of.second of.to in omega (arith, later, of_class.class, whole.count)
+      by_order (inr (turned, earlier, later)) =
+          let of_class = class_read homes c p s whole.pieces of.first of.from in omega (arith, later, of_class.class, whole.count)
+
   module _ (row : ClassPairs P) (row_is : row ≡ get_or kept pair.later row) where
     row_at : (u : ℕ) → pair.later ≡ u → row ≡ get_or kept u row
     row_at u e = row_is ∙ ap (λ (k : ℕ). get_or kept k row) e

@@ -10,10 +10,11 @@ ghost use Rattle.burr_blocking.specs.Views.Overlaps.{AreOverlapsOf, HasNoneAhead
 
 use crate::blocking::Blocking;
 use crate::extent::Extent;
-use crate::triangle::{ClassPair, Held, Triangle};
+use crate::triangle::{Held, Triangle};
 use burr_assembly::Assembly;
 use burr_voxels::{Cell, Direction};
 use std::alloc::{AllocError, Global};
+use std::marker::Model;
 
 /// The queries of pieces, answered by tables: one for each two pieces, with one truth value for
 /// each displacement at which they may overlap. Pieces whose cells differ by a displacement alone
@@ -24,10 +25,18 @@ pub struct CellTables<'a> {
     tables: Triangle<'a, PairTable>,
 }
 
+impl<'a> Model for CellTables<'a> {
+    ghost use Rattle.burr_assembly.specs.Rules.Text.{Assembly as AssemblyOf};
+
+    ghost Value = { AssemblyOf };
+
+    ghost view = { λ t. t.tables };
+}
+
 impl<'a> CellTables<'a> {
     /// The tables of an assembly's pieces.
     pub fn build(alloc: Global, assembly: &'a Assembly) -> Result<CellTables<'a>, AllocError>
-        ensures { IfOk result (λ t. t.tables.assembly ≡ assembly.entry.now) }
+        ensures { IfOk result (λ t. t ≡ assembly.entry.now) }
     {
         let tables = Triangle::build(alloc, Held::Lent(assembly))?;
         Ok(CellTables { tables })
@@ -35,27 +44,18 @@ impl<'a> CellTables<'a> {
 }
 
 impl<'a> Blocking for CellTables<'a> {
-    ghost use Rattle.burr_assembly.specs.Rules.Homes.{homes_of};
-    ghost use Rattle.burr_blocking.specs.Views.Triangles.{IsPairOfPieces};
-
-    ghost subject = { λ t. t.tables.assembly };
-
-    ghost IsPairOf = { λ t. IsPairOfPieces (homes_of t.tables.assembly) t.tables.classes };
+    ghost subject = { λ t. t };
 
     fn assembly(&self) -> &Assembly {
         self.tables.assembly()
     }
 
-    fn pair(&self, piece: u8, other: u8) -> ClassPair {
-        self.tables.pair(piece, other)
+    fn blocked(&self, piece: u8, other: u8, displacement: Cell) -> bool {
+        self.tables.blocked(piece, other, displacement)
     }
 
-    fn blocked_pair(&self, pair: &ClassPair, displacement: Cell) -> bool {
-        self.tables.blocked_pair(pair, displacement)
-    }
-
-    fn free_pair(&self, pair: &ClassPair, displacement: Cell, direction: Direction) -> bool {
-        self.tables.free_pair(pair, displacement, direction)
+    fn free(&self, piece: u8, other: u8, displacement: Cell, direction: Direction) -> bool {
+        self.tables.free(piece, other, displacement, direction)
     }
 }
 

@@ -8,8 +8,6 @@
 //!   - `free(p, q, d, direction)` says whether p, at d plus k units along the direction, overlaps q
 //!     for no whole k of at least 1.
 //!   - `clears` says whether the two keep clear as a `Query` asks.
-//!   - `pair` finds once what answers of two pieces, and `blocked_pair`, `free_pair` and `clears_pair`
-//!     then answer as these three do.
 //! - `PlainCells` compares cells, `CellTables` reads tables, and `RowTables` reads rows of bits.
 //!   `CellTables::build`, `RowTables::build` and `RowTables::owning` answer for the assembly that
 //!   they were given; they take memory, and answer `AllocError` where that is refused.
@@ -17,8 +15,8 @@
 //!   contract. The same holds of `RowTables`, which keep a row of bits in place of each row of
 //!   values.
 //! - Each question that is put to a `Looks` has the answer of what it was made over, and adds 1 to
-//!   its count; of a `Prepared` pair it is the same. It asks what that asks for, and a count below
-//!   2^62. It hands out nothing that could be asked beside it.
+//!   its count. It asks what that asks for, and a count below 2^62. It hands out nothing that could
+//!   be asked beside it.
 //!
 //! # Tested only
 //! - A `Looks` asks what it was made over once for each count.
@@ -34,7 +32,6 @@ mod triangle;
 
 pub use blocking::{Blocking, Query};
 pub use cell_tables::CellTables;
-pub use looks::{Looks, Prepared};
+pub use looks::Looks;
 pub use plain_cells::PlainCells;
 pub use row_tables::RowTables;
-pub use triangle::ClassPair;

@@ -2,10 +2,9 @@ ghost use Rattle.std.specs.Prelude.{◌≡◌, ◌≢◌, ◌↔◌, ◌<◌, �
 ghost use Rattle.burr_voxels.specs.Near.{IsWithin};
 ghost use Rattle.burr_assembly.specs.Rules.Homes.{homes_of, home_at};
 ghost use Rattle.burr_blocking.specs.Rules.Pairs.{IsBlocked, IsFreeFrom, Clears};
-ghost use Rattle.burr_blocking.specs.Rules.Counted.{counted, with_more, prepared};
+ghost use Rattle.burr_blocking.specs.Rules.Counted.{counted, with_more};
 
 use crate::blocking::{Blocking, Query};
-use crate::triangle::ClassPair;
 use burr_assembly::Assembly;
 use burr_voxels::{Cell, Direction};
 use std::marker::Model;
@@ -80,79 +79,19 @@ impl<'a, B: Blocking> Looks<'a, B> {
         self.blocking.free(piece, other, displacement, direction)
     }
 
-    /// Two of the assembly's pieces, which differ, prepared for queries about them. It is no look.
-    pub fn prepare(&self, piece: u8, other: u8) -> Prepared<'a, B>
-        requires piece { piece < length self.now.assembly.pieces }
-        requires other { other < length self.now.assembly.pieces }
+    /// Whether a piece, displaced against another one at home, keeps clear of it as a query asks,
+    /// as `Blocking::clears`; the same conditions. It is one look.
+    pub fn clears(&mut self, query: Query, piece: u8, other: u8, displacement: Cell) -> bool
+        requires piece { piece < length self.old.assembly.pieces }
+        requires other { other < length self.old.assembly.pieces }
         requires two { piece ≢ other }
-        ensures { result ≡ prepared self.now.assembly piece other }
-    {
-        Prepared {
-            blocking: self.blocking,
-            pair: self.blocking.pair(piece, other),
-            piece,
-            other,
-        }
-    }
-
-    /// Whether the first piece of a prepared pair, displaced against the other at home, keeps clear
-    /// of it as a query asks, as `Blocking::clears_pair`. It is one look. The pair is of this assembly;
-    /// the other conditions are those of `blocked`.
-    pub fn clears(&mut self, query: Query, pair: &Prepared<'a, B>, displacement: Cell) -> bool
-        requires of { pair.now.assembly ≡ self.old.assembly }
         requires near { IsWithin 512 displacement }
         requires room { self.old.count < 2 ^ 62 }
-        ensures answer { IsTrue result
-            ↔ Clears query (home_at (homes_of self.old.assembly) pair.now.piece)
-            (home_at (homes_of self.old.assembly) pair.now.other) displacement }
+        ensures answer { IsTrue result ↔ Clears query (home_at (homes_of self.old.assembly) piece)
+            (home_at (homes_of self.old.assembly) other) displacement }
         ensures counted { self.new ≡ with_more 1 self.old }
     {
         self.count += 1;
-        pair.clears(query, displacement)
-    }
-}
-
-/// Two pieces of an assembly, the one displaced against the other, and what answers of them. It is
-/// asked through a `Looks` alone.
-#[derive(Drop)]
-pub struct Prepared<'a, B: Blocking> {
-    blocking: &'a B,
-    pair: ClassPair,
-    piece: u8,
-    other: u8,
-}
-
-impl<'a, B: Blocking> Model for Prepared<'a, B> {
-    ghost use Rattle.burr_blocking.specs.Rules.Counted.{PreparedPair, prepared};
-
-    ghost Value = { PreparedPair };
-
-    ghost view = { λ pair. prepared (B.subject pair.blocking.now) pair.piece pair.other };
-
-    ghost invariant = { λ pair. B.IsPairOf pair.blocking.now pair.pair pair.piece pair.other };
-}
-
-impl<'a, B: Blocking> Prepared<'a, B> {
-    /// The piece that is displaced.
-    pub fn piece(&self) -> u8
-        ensures { result ≡ self.now.piece }
-    {
-        self.piece
-    }
-
-    /// The piece at home.
-    pub fn other(&self) -> u8
-        ensures { result ≡ self.now.other }
-    {
-        self.other
-    }
-
-    /// Whether the one keeps clear of the other as a query asks.
-    fn clears(&self, query: Query, displacement: Cell) -> bool
-        requires { IsWithin 512 displacement }
-        ensures { IsTrue result ↔ Clears query (home_at (homes_of self.now.assembly) self.now.piece)
-            (home_at (homes_of self.now.assembly) self.now.other) displacement }
-    {
-        self.blocking.clears_pair(query, &self.pair, displacement)
+        self.blocking.clears(query, piece, other, displacement)
     }
 }

@@ -4,7 +4,6 @@ ghost use Rattle.burr_voxels.specs.Near.{IsWithin};
 ghost use Rattle.burr_assembly.specs.Rules.Homes.{homes_of, home_at};
 
 use crate::blocking::Blocking;
-use crate::triangle::ClassPair;
 use burr_assembly::Assembly;
 use burr_voxels::{Cell, Direction, meets, overlap_at};
 use std::marker::Model;
@@ -43,37 +42,17 @@ impl<'a> PlainCells<'a> {
 }
 
 impl<'a> Blocking for PlainCells<'a> {
-    ghost use Rattle.burr_blocking.specs.Rules.Pairs.{ArePieces};
-
     ghost subject = { λ p. p };
-
-    ghost IsPairOf = { λ a pair p q. ArePieces a p q × (p ≡ pair.piece) × (q ≡ pair.other) };
 
     fn assembly(&self) -> &Assembly {
         self.assembly
     }
 
-    fn pair(&self, piece: u8, other: u8) -> ClassPair {
-        ClassPair {
-            piece,
-            other,
-            earlier: 0,
-            later: 0,
-            shift: Cell::ORIGIN,
-            is_turned: false,
-        }
+    fn blocked(&self, piece: u8, other: u8, displacement: Cell) -> bool {
+        overlap_at(self.home(piece), displacement, self.home(other))
     }
 
-    fn blocked_pair(&self, pair: &ClassPair, displacement: Cell) -> bool {
-        overlap_at(self.home(pair.piece), displacement, self.home(pair.other))
-    }
-
-    fn free_pair(&self, pair: &ClassPair, displacement: Cell, direction: Direction) -> bool {
-        !meets(
-            self.home(pair.piece),
-            displacement,
-            self.home(pair.other),
-            direction,
-        )
+    fn free(&self, piece: u8, other: u8, displacement: Cell, direction: Direction) -> bool {
+        !meets(self.home(piece), displacement, self.home(other), direction)
     }
 }

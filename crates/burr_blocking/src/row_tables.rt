@@ -12,10 +12,11 @@ ghost use Rattle.burr_blocking.specs.Views.PairBits.{AreBitsFrom, AreShort, HasB
 use crate::blocking::Blocking;
 use crate::cell_tables::PairAnswers;
 use crate::extent::Extent;
-use crate::triangle::{ClassPair, Held, Triangle};
+use crate::triangle::{Held, Triangle};
 use burr_assembly::Assembly;
 use burr_voxels::{Cell, Direction};
 use std::alloc::{AllocError, Global};
+use std::marker::Model;
 use std::simd::prelude::*;
 
 /// The queries of pieces, answered by rows of bits: for each two pieces one bit for each
@@ -28,10 +29,18 @@ pub struct RowTables<'a> {
     tables: Triangle<'a, PairRows>,
 }
 
+impl<'a> Model for RowTables<'a> {
+    ghost use Rattle.burr_assembly.specs.Rules.Text.{Assembly as AssemblyOf};
+
+    ghost Value = { AssemblyOf };
+
+    ghost view = { λ t. t.tables };
+}
+
 impl<'a> RowTables<'a> {
     /// The rows of an assembly's pieces.
     pub fn build(alloc: Global, assembly: &'a Assembly) -> Result<RowTables<'a>, AllocError>
-        ensures { IfOk result (λ t. t.tables.assembly ≡ assembly.entry.now) }
+        ensures { IfOk result (λ t. t ≡ assembly.entry.now) }
     {
         let tables = Triangle::build(alloc, Held::Lent(assembly))?;
         Ok(RowTables { tables })
@@ -39,7 +48,7 @@ impl<'a> RowTables<'a> {
 
     /// The rows of the pieces of an assembly, which they keep.
     pub fn owning(alloc: Global, assembly: Assembly) -> Result<RowTables<'static>, AllocError>
-        ensures { IfOk result (λ t. t.tables.assembly ≡ assembly) }
+        ensures { IfOk result (λ t. t ≡ assembly) }
     {
         let tables = Triangle::build(alloc, Held::Owned(assembly))?;
         Ok(RowTables { tables })
@@ -47,27 +56,18 @@ impl<'a> RowTables<'a> {
 }
 
 impl<'a> Blocking for RowTables<'a> {
-    ghost use Rattle.burr_assembly.specs.Rules.Homes.{homes_of};
-    ghost use Rattle.burr_blocking.specs.Views.Triangles.{IsPairOfPieces};
-
-    ghost subject = { λ t. t.tables.assembly };
-
-    ghost IsPairOf = { λ t. IsPairOfPieces (homes_of t.tables.assembly) t.tables.classes };
+    ghost subject = { λ t. t };
 
     fn assembly(&self) -> &Assembly {
         self.tables.assembly()
     }
 
-    fn pair(&self, piece: u8, other: u8) -> ClassPair {
-        self.tables.pair(piece, other)
+    fn blocked(&self, piece: u8, other: u8, displacement: Cell) -> bool {
+        self.tables.blocked(piece, other, displacement)
     }
 
-    fn blocked_pair(&self, pair: &ClassPair, displacement: Cell) -> bool {
-        self.tables.blocked_pair(pair, displacement)
-    }
-
-    fn free_pair(&self, pair: &ClassPair, displacement: Cell, direction: Direction) -> bool {
-        self.tables.free_pair(pair, displacement, direction)
+    fn free(&self, piece: u8, other: u8, displacement: Cell, direction: Direction) -> bool {
+        self.tables.free(piece, other, displacement, direction)
     }
 }
 

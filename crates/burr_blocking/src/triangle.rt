@@ -11,8 +11,7 @@ ghost use Rattle.burr_blocking.specs.declared.triangle.translate.Translate.{Tran
 
 use crate::blocking::Blocking;
 use crate::cell_tables::PairAnswers;
-pub use crate::triangle::translate::ClassPair;
-use crate::triangle::translate::{Translate, displacement_between};
+use crate::triangle::translate::{ClassPair, Translate, displacement_between};
 use burr_assembly::Assembly;
 use burr_voxels::{Cell, Direction};
 use std::alloc::{AllocError, Global};
@@ -27,77 +26,58 @@ pub struct Triangle<'a, P: PairAnswers> {
     assembly: Held<'a>,
     classes: Classes,
     pairs: Vec<ClassPairs<P>>,
+    /// For each piece a row with the pairs of its class and those of all pieces, found once: a query
+    /// reads them.
+    rows: Vec<Vec<ClassPair>>,
 }
 
 impl<'a, P: PairAnswers> Model for Triangle<'a, P> {
+    ghost use Rattle.burr_assembly.specs.Rules.Text.{Assembly as AssemblyOf};
     ghost use Rattle.burr_assembly.specs.Rules.Homes.{homes_of};
-    ghost use Rattle.burr_blocking.specs.Views.Triangles.{Classed, IsTriangle, held};
+    ghost use Rattle.burr_blocking.specs.Views.Triangles.{AreRows, IsTriangle, held};
 
-    ghost Value = { Classed };
+    ghost Value = { AssemblyOf };
 
-    ghost view = { λ t. record { assembly = held t.assembly; classes = t.classes } };
+    ghost view = { λ t. held t.assembly };
 
     ghost invariant = { λ t.
-        IsTriangle P.Overlaps (homes_of (held t.assembly)) t.classes t.pairs.items };
+        IsTriangle P.Overlaps (homes_of (held t.assembly)) t.classes t.pairs.items
+        × AreRows t.classes t.rows.items };
 }
 
 impl<'a, P: PairAnswers> Triangle<'a, P> {
     /// The pairs of the classes of an assembly's pieces.
     pub fn build(alloc: Global, assembly: Held<'a>) -> Result<Triangle<'a, P>, AllocError>
-        ensures { IfOk result (λ t. t.assembly ≡ held assembly.entry) }
+        ensures { IfOk result (λ t. t ≡ held assembly.entry) }
     {
         let classes = Classes::build(alloc, assembly.lent())?;
         let pairs = pairs_of(alloc, assembly.lent(), &classes)?;
+        let rows = classes.rows(alloc)?;
         Ok(Triangle {
             assembly,
             classes,
             pairs,
+            rows,
         })
     }
 }
 
 impl<'a, P: PairAnswers> Blocking for Triangle<'a, P> {
-    ghost use Rattle.burr_blocking.specs.Views.Triangles.{IsPairOfPieces};
-
-    ghost subject = { λ t. t.assembly };
-
-    ghost IsPairOf = { λ t. IsPairOfPieces (homes_of t.assembly) t.classes };
+    ghost subject = { λ t. t };
 
     fn assembly(&self) -> &Assembly {
         self.assembly.lent()
     }
 
-    fn pair(&self, piece: u8, other: u8) -> ClassPair {
-        let from = self.classes.translate(piece);
-        let to = self.classes.translate(other);
-        let shift = from.displacement - to.displacement;
-        if to.class < from.class {
-            return ClassPair {
-                piece,
-                other,
-                earlier: to.class,
-                later: from.class,
-                shift,
-                is_turned: true,
-            };
-        }
-        ClassPair {
-            piece,
-            other,
-            earlier: from.class,
-            later: to.class,
-            shift,
-            is_turned: false,
-        }
-    }
-
-    fn blocked_pair(&self, pair: &ClassPair, displacement: Cell) -> bool {
+    fn blocked(&self, piece: u8, other: u8, displacement: Cell) -> bool {
+        let pair = &self.rows[usize::from(piece)][usize::from(other)];
         self.pairs[pair.later]
             .pair(pair.earlier)
             .blocked(pair.way(displacement))
     }
 
-    fn free_pair(&self, pair: &ClassPair, displacement: Cell, direction: Direction) -> bool {
+    fn free(&self, piece: u8, other: u8, displacement: Cell, direction: Direction) -> bool {
+        let pair = &self.rows[usize::from(piece)][usize::from(other)];
         self.pairs[pair.later]
             .pair(pair.earlier)
             .free(pair.way(displacement), pair.direction(direction))
@@ -196,6 +176,7 @@ pub struct Classes {
 impl Classes {
     ghost use Rattle.burr_blocking.specs.Views.Translates.{representative_at};
     ghost use Rattle.burr_blocking.specs.Views.Classes.{AreClasses, AreFirstClasses, HasSeveral, IsAnother, IsPairCount, IsOfClass};
+    ghost use Rattle.burr_blocking.specs.Views.Triangles.{AreRows, IsRowOf, IsPairOfTwo};
 
     /// The classes of an assembly's pieces.
     pub fn build(alloc: Global, assembly: &Assembly) -> Result<Classes, AllocError>
@@ -296,12 +277,54 @@ impl Classes {
         assembly.cells(self.representatives[class])
     }
 
-    /// A piece by its class.
-    pub fn translate(&self, piece: u8) -> Translate
-        requires { piece < length self.now.translates.items }
-        ensures { result ≡ slice_index_or self.now.translates.items piece result }
+    /// For each piece a row with the pairs of its class and those of all pieces, in their order.
+    pub fn rows(&self, alloc: Global) -> Result<Vec<Vec<ClassPair>>, AllocError>
+        ensures { IfOk result (λ rows. AreRows self.now rows.items) }
     {
-        self.translates[usize::from(piece)]
+        let count = self.translates.len();
+        let mut rows = Vec::with_capacity(alloc, count)?;
+        for piece in 0..count {
+            rows.push(self.row(alloc, piece)?)?;
+        }
+        Ok(rows)
+    }
+
+    /// The pairs of a piece's class and those of all pieces.
+    fn row(&self, alloc: Global, piece: usize) -> Result<Vec<ClassPair>, AllocError>
+        requires { piece < length self.now.translates.items }
+        ensures { IfOk result (λ row. IsRowOf self.now piece row.items) }
+    {
+        let count = self.translates.len();
+        let mut row = Vec::with_capacity(alloc, count)?;
+        for other in 0..count {
+            row.push(self.pair(piece, other))?;
+        }
+        Ok(row)
+    }
+
+    /// The pair of the classes of two pieces.
+    fn pair(&self, piece: usize, other: usize) -> ClassPair
+        requires piece { piece < length self.now.translates.items }
+        requires other { other < length self.now.translates.items }
+        ensures { IsPairOfTwo self.now piece other result }
+    {
+        let from = self.translates[piece];
+        let to = self.translates[other];
+        let shift = from.displacement - to.displacement;
+        if to.class < from.class {
+            return ClassPair {
+                earlier: to.class,
+                later: from.class,
+                shift,
+                is_turned: true,
+            };
+        }
+        ClassPair {
+            earlier: from.class,
+            later: to.class,
+            shift,
+            is_turned: false,
+        }
     }
 
     /// How many pairs are kept of a class: with each class before it, and with itself where it has

@@ -16,11 +16,12 @@ use Rattle.burr_blocking.specs.Rules.Pairs.{Clears}
 use Rattle.burr_blocking.proofs.Common.Displaced.{free_of_difference, difference_of_free, blocked_of_overlap, overlap_of_blocked}
 use Rattle.burr_forms.specs.Rules.Forms.{Point, values}
 use Rattle.burr_container.specs.Rules.Plans.{FormCell}
+use Rattle.burr_frames.specs.declared.clearing.TrayPair.{TrayPair}
 use Rattle.burr_frames.specs.Rules.States.{cell_at}
 use Rattle.burr_frames.specs.Rules.SpaceRules.{PairAt, IsApartBy}
 use Rattle.burr_frames.specs.Rules.Looks.{pieces_in, gripped_in, left_in, grip_pairs}
 use Rattle.burr_frames.specs.Rules.Verdicts.{IsFirstPair}
-use Rattle.burr_frames.specs.Views.Clearing.{TrayPair, IsPairClear, FirstPairOf, number_in, cell_of, offsets_in, pair_in, tray_pairs}
+use Rattle.burr_frames.specs.Views.Clearing.{IsPairClear, FirstPairOf, number_in, cell_of, offsets_in, pair_in, tray_pairs}
 use Rattle.burr_frames.proofs.BenchOffsets.{stands_at}
 use Rattle.burr_frames.proofs.Common.Until.{EachIs}
 use Rattle.burr_frames.proofs.Each.{each_of_all, all_of_each, each_true, each_map, each_unmap, each_same}
@@ -39,33 +40,33 @@ apart_where_clear queries.Overlap a b ps qs clear = λ overlap. clear (blocked_o
 apart_where_clear (queries.Exit direction) a b ps qs clear = free_of_difference a b ps qs direction clear
 
 -- there is no first pair that is not clear where all are
-pub first_none : (query : Query) (numbers : List ℤ) (pairs : List TrayPair) (found : Option (ℕ × ℕ))
-    → FirstPairOf query numbers pairs found → (found ≡ None) ↔ All (IsPairClear query numbers) pairs
-first_none query numbers [] found h = ((λ none. All-nil (IsPairClear query numbers)), (λ all. h))
-first_none query numbers (pair ∷ pairs) found (inl (fails, e)) = (
+pub first_none : (assembly : Assembly) (query : Query) (numbers : List ℤ) (pairs : List TrayPair) (found : Option (ℕ × ℕ))
+    → FirstPairOf assembly query numbers pairs found → (found ≡ None) ↔ All (IsPairClear assembly query numbers) pairs
+first_none assembly query numbers [] found h = ((λ none. All-nil (IsPairClear assembly query numbers)), (λ all. h))
+first_none assembly query numbers (pair ∷ pairs) found (inl (fails, e)) = (
   (λ none. absurd (none-some _ (sym none ∙ e))),
-  (λ all. absurd (fails (All-head (IsPairClear query numbers) pair pairs all))),
+  (λ all. absurd (fails (All-head (IsPairClear assembly query numbers) pair pairs all))),
 )
-first_none query numbers (pair ∷ pairs) found (inr (is, rest)) =
-    let none_left = first_none query numbers pairs found rest in (
-      (λ none. All-cons (IsPairClear query numbers) pair pairs is (none_left.0 none)),
-      (λ all. none_left.1 (All-tail (IsPairClear query numbers) pair pairs all)),
+first_none assembly query numbers (pair ∷ pairs) found (inr (is, rest)) =
+    let none_left = first_none assembly query numbers pairs found rest in (
+      (λ none. All-cons (IsPairClear assembly query numbers) pair pairs is (none_left.0 none)),
+      (λ all. none_left.1 (All-tail (IsPairClear assembly query numbers) pair pairs all)),
     )
 
 -- the first pair that is not clear, by another condition on its pieces
-first_like : (query : Query) (numbers : List ℤ) (f : ℕ → ℕ → TrayPair) (P : ℕ → ℕ → Type 0) (pairs : List (ℕ × ℕ))
+first_like : (assembly : Assembly) (query : Query) (numbers : List ℤ) (f : ℕ → ℕ → TrayPair) (P : ℕ → ℕ → Type 0) (pairs : List (ℕ × ℕ))
     (found : Option (ℕ × ℕ))
-    → ((p q : ℕ) → ((f p q).pieces.piece ≡ p) × ((f p q).pieces.other ≡ q))
-    → EachIs (λ pair. IsPairClear query numbers (f pair.0 pair.1) ↔ P pair.0 pair.1) pairs
-    → FirstPairOf query numbers (map (λ pair. f pair.0 pair.1) pairs) found → FirstOf P pairs found
-first_like query numbers f P [] found named same h = h
-first_like query numbers f P ((p, q) ∷ pairs) found named same (inl (fails, e)) =
+    → ((p q : ℕ) → ((f p q).piece ≡ p) × ((f p q).other ≡ q))
+    → EachIs (λ pair. IsPairClear assembly query numbers (f pair.0 pair.1) ↔ P pair.0 pair.1) pairs
+    → FirstPairOf assembly query numbers (map (λ pair. f pair.0 pair.1) pairs) found → FirstOf P pairs found
+first_like assembly query numbers f P [] found named same h = h
+first_like assembly query numbers f P ((p, q) ∷ pairs) found named same (inl (fails, e)) =
     inl (
       (λ good. fails (same.0.1 good)),
-      e ∙ ap (λ (r : ℕ). Some (r, (f p q).pieces.other)) (named p q).0 ∙ ap (λ (t : ℕ). Some (p, t)) (named p q).1,
+      e ∙ ap (λ (r : ℕ). Some (r, (f p q).other)) (named p q).0 ∙ ap (λ (t : ℕ). Some (p, t)) (named p q).1,
     )
-first_like query numbers f P ((p, q) ∷ pairs) found named same (inr (is, rest)) =
-    inr (same.0.0 is, first_like query numbers f P pairs found named same.1 rest)
+first_like assembly query numbers f P ((p, q) ∷ pairs) found named same (inr (is, rest)) =
+    inr (same.0.0 is, first_like assembly query numbers f P pairs found named same.1 rest)
 
 module _ (query : Query) (assembly : Assembly) (places : List (Placement FormCell)) (tray grip : ℕ) (point : Point) where
   abbrev homes : List (List Cell)
@@ -84,7 +85,7 @@ module _ (query : Query) (assembly : Assembly) (places : List (Placement FormCel
   abbrev ClearFor : ℕ → ℕ → Cell → Cell → Type 0
   ClearFor p q a b = Clears query (home_at homes p) (home_at homes q) (minus a b)
 
-  good_of_clear : (p q : ℕ) → IsPairClear query numbers (pair_in assembly tray homed p q) → Good p q
+  good_of_clear : (p q : ℕ) → IsPairClear assembly query numbers (pair_in tray homed p q) → Good p q
   good_of_clear p q clear p_home q_home c d gripped out home home_q lies lies_q =
       let a = cell_at point c in
       let b = cell_at point d in
@@ -100,7 +101,7 @@ module _ (query : Query) (assembly : Assembly) (places : List (Placement FormCel
 
   clear_of_good : (p q : ℕ) (c d : FormCell) → p < length homes → q < length homes → LiesAt places p tray c
       → LiesAt places q tray d → IsInSet grip p → (¬ IsInSet grip q) → Good p q
-      → IsPairClear query numbers (pair_in assembly tray homed p q)
+      → IsPairClear assembly query numbers (pair_in tray homed p q)
   clear_of_good p q c d below below_q lies lies_q gripped out good =
       let a = cell_at point c in
       let b = cell_at point d in
@@ -112,10 +113,10 @@ module _ (query : Query) (assembly : Assembly) (places : List (Placement FormCel
       (good (home_at homes p) (home_at homes q) c d gripped out (slice_get-get_or homes p [] below)
       (slice_get-get_or homes q [] below_q) lies lies_q)))
 
-  pub same_pairs : EachIs (λ pair. IsPairClear query numbers (pair_in assembly tray homed pair.0 pair.1) ↔ Good pair.0 pair.1)
+  pub same_pairs : EachIs (λ pair. IsPairClear assembly query numbers (pair_in tray homed pair.0 pair.1) ↔ Good pair.0 pair.1)
       (grip_pairs tray grip homed)
   same_pairs =
-      each_grip_pair (λ p q. IsPairClear query numbers (pair_in assembly tray homed p q) ↔ Good p q) tray grip
+      each_grip_pair (λ p q. IsPairClear assembly query numbers (pair_in tray homed p q) ↔ Good p q) tray grip
       (length homes) places
       (λ p q c d below below_q lies lies_q gripped out.
       (good_of_clear p q, clear_of_good p q c d below below_q lies lies_q gripped out))
@@ -124,33 +125,33 @@ module _ (query : Query) (assembly : Assembly) (places : List (Placement FormCel
   pairs = grip_pairs tray grip homed
 
   abbrev made : ℕ × ℕ → TrayPair
-  made pair = pair_in assembly tray homed pair.0 pair.1
+  made pair = pair_in tray homed pair.0 pair.1
 
   -- those of the search are clear where each is good
-  pub clear_where_good : All (IsPairClear query numbers) (tray_pairs assembly tray grip homed)
+  pub clear_where_good : All (IsPairClear assembly query numbers) (tray_pairs tray grip homed)
       ↔ EachIs (λ pair. Good pair.0 pair.1) pairs
   clear_where_good =
-      let same = each_same (λ pair. IsPairClear query numbers (made pair)) (λ pair. Good pair.0 pair.1) pairs same_pairs in (
-        (λ all. same.0 (each_unmap made (IsPairClear query numbers) pairs
-            (each_of_all (IsPairClear query numbers) (map made pairs) all))),
-        (λ good. all_of_each (IsPairClear query numbers) (map made pairs)
-            (each_map made (IsPairClear query numbers) pairs (same.1 good))),
+      let same = each_same (λ pair. IsPairClear assembly query numbers (made pair)) (λ pair. Good pair.0 pair.1) pairs same_pairs in (
+        (λ all. same.0 (each_unmap made (IsPairClear assembly query numbers) pairs
+            (each_of_all (IsPairClear assembly query numbers) (map made pairs) all))),
+        (λ good. all_of_each (IsPairClear assembly query numbers) (map made pairs)
+            (each_map made (IsPairClear assembly query numbers) pairs (same.1 good))),
       )
 
   -- all pairs are good where those of the search are clear
-  pub all_good : All (IsPairClear query numbers) (tray_pairs assembly tray grip homed) → (p q : ℕ) → Good p q
+  pub all_good : All (IsPairClear assembly query numbers) (tray_pairs tray grip homed) → (p q : ℕ) → Good p q
   all_good all p q p_home q_home c d gripped out home home_q lies lies_q =
       of_grip_pair Good tray grip (length homes) places (clear_where_good.0 all) p q c d
       (slice_get_within homes p p_home home) (slice_get_within homes q q_home home_q) lies lies_q gripped out
       p_home q_home c d gripped out home home_q lies lies_q
 
-  pub all_clear : ((p q : ℕ) → Good p q) → All (IsPairClear query numbers) (tray_pairs assembly tray grip homed)
+  pub all_clear : ((p q : ℕ) → Good p q) → All (IsPairClear assembly query numbers) (tray_pairs tray grip homed)
   all_clear good =
       clear_where_good.1 (each_true (λ (pair : ℕ × ℕ). Good pair.0 pair.1) (grip_pairs tray grip homed)
       (λ pair. good pair.0 pair.1))
 
   -- the first pair of the search that is not clear is the first that is not good
-  pub first_bad : (p q : ℕ) → FirstPairOf query numbers (tray_pairs assembly tray grip homed) (Some (p, q))
+  pub first_bad : (p q : ℕ) → FirstPairOf assembly query numbers (tray_pairs tray grip homed) (Some (p, q))
       → IsFirstPair Good p q
   first_bad p q first = (rows.0, earlier)
     where
@@ -161,7 +162,7 @@ module _ (query : Query) (assembly : Assembly) (places : List (Placement FormCel
           first_in_rows Good 0 0 (gripped_in grip (pieces_in tray 0 homed)) (left_in grip (pieces_in tray 0 homed)) p q
           (rising_filter _ 0 (pieces_in tray 0 homed) (rising_pieces tray 0 homed))
           (rising_filter _ 0 (pieces_in tray 0 homed) (rising_pieces tray 0 homed))
-          (first_like query numbers (pair_in assembly tray homed) Good (grip_pairs tray grip homed) (Some (p, q))
+          (first_like assembly query numbers (pair_in tray homed) Good (grip_pairs tray grip homed) (Some (p, q))
           (λ r t. (refl, refl)) same_pairs first)
 
       earlier : (r t : ℕ) → Earlier r t p q → Good r t

@@ -26,8 +26,9 @@ use Rattle.burr_frames.proofs.MoveVerdicts.{Searched, search_of, AllAreClear}
 use Rattle.burr_frames.proofs.SearchedPairs.{pairs_searched, searched_same}
 
 -- the looks of a search at a point
-abbrev pub LooksOf : Query → Searched → Point → ℕ → Type 0
-LooksOf query h = looks_at_values (λ numbers. until_one_fails (IsPairClear query numbers) h.pairs) h.forms
+abbrev pub LooksOf : Assembly → Query → Searched → Point → ℕ → Type 0
+LooksOf assembly query h =
+    looks_at_values (λ numbers. until_one_fails (IsPairClear assembly query numbers) h.pairs) h.forms
 
 -- at each point, a search looks at the pairs at which the rule looks
 module _ (assembly : Assembly) (s : AbstractState) (places : List (Placement FormCell)) (query : Query) where
@@ -37,7 +38,7 @@ module _ (assembly : Assembly) (s : AbstractState) (places : List (Placement For
   abbrev Good : Look → Type 0
   Good = IsGoodLook (homes_of assembly) s places query
 
-  holds_here : (point : Point) → AllAreClear query (search_of assembly s places) point
+  holds_here : (point : Point) → AllAreClear assembly query (search_of assembly s places) point
       ↔ EachIs Good (map (look_of point) pairs)
   holds_here point =
       let same = clear_where_good query assembly places s.tray s.grip point in (
@@ -45,27 +46,27 @@ module _ (assembly : Assembly) (s : AbstractState) (places : List (Placement For
         (λ each. same.1 (each_unmap (look_of point) Good pairs each)),
       )
 
-  looks_here : (point : Point) (n : ℕ) → LooksOf query (search_of assembly s places) point n
+  looks_here : (point : Point) (n : ℕ) → LooksOf assembly query (search_of assembly s places) point n
       → until_one_fails Good (map (look_of point) pairs) n
   looks_here point n =
       until_like
-      (λ (pair : ℕ × ℕ). pair_in assembly s.tray (take (length (homes_of assembly)) places) pair.0 pair.1) (look_of point)
-      (IsPairClear query (values point (offsets_in s.tray places))) Good pairs n
+      (λ (pair : ℕ × ℕ). pair_in s.tray (take (length (homes_of assembly)) places) pair.0 pair.1) (look_of point)
+      (IsPairClear assembly query (values point (offsets_in s.tray places))) Good pairs n
       (same_pairs query assembly places s.tray s.grip point)
 
   pub looks_of_search : (h : Searched) (looks : ℕ) → h ≡ search_of assembly s places
       → Everywhere s (OnBenchAt places s.tray)
-      → searched (AllAreClear query h) (LooksOf query h) (points_of h.region.ranges h.region.guards) looks
+      → searched (AllAreClear assembly query h) (LooksOf assembly query h) (points_of h.region.ranges h.region.guards) looks
       → clearing_looks (homes_of assembly) s places query looks
   looks_of_search h looks is on made =
       inr (
         on,
         pairs_searched (λ point. map (look_of point) pairs) Good (points_of s.ranges s.guards) looks
-            (searched_same (AllAreClear query (search_of assembly s places))
-            (λ point. EachIs Good (map (look_of point) pairs)) (LooksOf query (search_of assembly s places))
+            (searched_same (AllAreClear assembly query (search_of assembly s places))
+            (λ point. EachIs Good (map (look_of point) pairs)) (LooksOf assembly query (search_of assembly s places))
             (λ point. until_one_fails Good (map (look_of point) pairs)) (points_of s.ranges s.guards) looks
             (each_true _ (points_of s.ranges s.guards) (λ point. (holds_here point, looks_here point)))
-            (subst (λ (h : Searched). searched (AllAreClear query h) (LooksOf query h)
+            (subst (λ (h : Searched). searched (AllAreClear assembly query h) (LooksOf assembly query h)
             (points_of h.region.ranges h.region.guards) looks) is made)),
       )
 

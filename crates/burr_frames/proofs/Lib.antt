@@ -27,13 +27,13 @@ pub mod Operands
 pub mod PairsLeft
 pub mod Paying
 pub mod PlaceTests
-pub mod PreparedPairs
-pub mod PreparedRows
 pub mod Reaches
 pub mod Rooms
 pub mod SearchedPairs
 pub mod SmallPlaces
 pub mod TopTwo
+pub mod TrayPairs
+pub mod TrayRows
 pub mod WholeLooks
 pub mod WideValues
 pub mod WorkedLooks

@@ -12,9 +12,10 @@ use Rattle.burr_forms.specs.Rules.Forms.{Form, Point, values, IsNear, AllNear}
 use Rattle.burr_forms.specs.Rules.Points.{IsRange, AreRanges, InBox}
 use Rattle.burr_forms.specs.Rules.Conditions.{Region, at_values, Throughout, FailsFirstAt}
 use Rattle.burr_container.specs.Rules.Plans.{FormCell}
+use Rattle.burr_frames.specs.declared.clearing.TrayPair.{TrayPair}
 use Rattle.burr_frames.specs.declared.rule.Rule.{Rule}
 use Rattle.burr_frames.specs.declared.rule.Rule.TheVariants as rules
-use Rattle.burr_frames.specs.Views.Clearing.{TrayPair, IsPairClear, FirstPairOf, held, offsets_in, tray_pairs}
+use Rattle.burr_frames.specs.Views.Clearing.{IsPairClear, FirstPairOf, offsets_in, tray_pairs}
 use Rattle.burr_frames.specs.Views.Moving.{break_of_pieces}
 use Rattle.burr_frames.specs.Rules.SpaceRules.{IsApartBy}
 use Rattle.burr_frames.specs.Views.Ranges.{AllInReach}
@@ -24,7 +25,7 @@ use Rattle.burr_frames.specs.Rules.Verdicts.{Broken, Verdict, Breaks, NoSuccesso
 use Rattle.burr_frames.proofs.BenchOffsets.{reach_of_on_bench, on_bench_of_reach}
 use Rattle.burr_frames.proofs.Comparisons.{near_in_range}
 use Rattle.burr_frames.proofs.Clearances.{first_none, all_good, all_clear, first_bad}
-use Rattle.burr_frames.proofs.PreparedPairs.{homed_pairs, pairs_held}
+use Rattle.burr_frames.proofs.TrayPairs.{homed_pairs, pairs_homed}
 
 -- On the bench
 
@@ -83,20 +84,19 @@ search_of assembly s places = record {
 }
 
 pub is_search : (assembly lent : Assembly) (s a : AbstractState) (places : List (Placement FormCell))
-    (slots : List (Option TrayPair)) (many pieces : ℕ) (h : Searched) → h.region ≡ region_of a
-    → h.forms ≡ offsets_in a.tray places → h.pairs ≡ held slots
-    → slots ≡ map Some (tray_pairs assembly a.tray a.grip (take many places)) → pieces ≡ length lent.pieces
-    → lent ≡ assembly → many ≡ min (length places) pieces → a ≡ s → h ≡ search_of assembly s places
-is_search assembly lent s a places slots many pieces h region forms pairs are count same homed here =
+    (many pieces : ℕ) (h : Searched) → h.region ≡ region_of a → h.forms ≡ offsets_in a.tray places
+    → h.pairs ≡ tray_pairs a.tray a.grip (take many places) → pieces ≡ length lent.pieces → lent ≡ assembly
+    → many ≡ min (length places) pieces → a ≡ s → h ≡ search_of assembly s places
+is_search assembly lent s a places many pieces h region forms pairs count same homed here =
     (λ i. record { region = region i; forms = forms i; pairs = all i })
     ∙ ap (λ (b : AbstractState). search_of assembly b places) here
   where
     all : h.pairs ≡ homed_pairs assembly a.tray a.grip places
-    all = pairs ∙ pairs_held assembly lent a.tray a.grip places slots many pieces are count same homed
+    all = pairs ∙ pairs_homed assembly lent a.tray a.grip places many pieces count same homed
 
 -- each pair of the search is clear at this point
-abbrev pub AllAreClear : Query → Searched → Point → Type 0
-AllAreClear query h = at_values (λ numbers. All (IsPairClear query numbers) h.pairs) h.forms
+abbrev pub AllAreClear : Assembly → Query → Searched → Point → Type 0
+AllAreClear assembly query h = at_values (λ numbers. All (IsPairClear assembly query numbers) h.pairs) h.forms
 
 -- what is said of the verdict
 abbrev pub Says : List (List Cell) → AbstractState → List (Placement FormCell) → Query → Rule → Verdict → Type 0
@@ -107,26 +107,26 @@ Says homes s places query rule verdict =
 module _ (assembly : Assembly) (s : AbstractState) (places : List (Placement FormCell)) (query : Query) (rule : Rule)
     (h : Searched) (is : h ≡ search_of assembly s places) (on : Everywhere s (OnBenchAt places s.tray)) where
   -- no pair is in each other's way
-  pub none_in_way : Throughout h.region (AllAreClear query h)
+  pub none_in_way : Throughout h.region (AllAreClear assembly query h)
       → Says (homes_of assembly) s places query rule NoSuccessor
   none_in_way =
-      subst (λ (h : Searched). Throughout h.region (AllAreClear query h)
+      subst (λ (h : Searched). Throughout h.region (AllAreClear assembly query h)
       → Says (homes_of assembly) s places query rule NoSuccessor) (sym is)
       (λ all. inr (on, inr ((λ point at. all_good query assembly places s.tray s.grip point (all point at)), refl)))
 
   -- a pair is in each other's way
   pub first_in_way : (point : Point) (pieces : Option (ℕ × ℕ)) (broken : Broken)
-      → FailsFirstAt h.region (AllAreClear query h) point → FirstPairOf query (values point h.forms) h.pairs pieces
+      → FailsFirstAt h.region (AllAreClear assembly query h) point → FirstPairOf assembly query (values point h.forms) h.pairs pieces
       → broken ≡ break_of_pieces rule pieces point → Says (homes_of assembly) s places query rule (Breaks broken)
   first_in_way point pieces broken first found e =
       by_pair pieces
-      (subst (λ (h : Searched). FailsFirstAt h.region (AllAreClear query h) point) is first)
-      (subst (λ (h : Searched). FirstPairOf query (values point h.forms) h.pairs pieces) is found) e
+      (subst (λ (h : Searched). FailsFirstAt h.region (AllAreClear assembly query h) point) is first)
+      (subst (λ (h : Searched). FirstPairOf assembly query (values point h.forms) h.pairs pieces) is found) e
     where
-      by_pair : (pieces : Option (ℕ × ℕ)) → IsFirstFailing s (AllAreClear query (search_of assembly s places)) point
-          → FirstPairOf query (values point (offsets_in s.tray places)) (search_of assembly s places).pairs pieces
+      by_pair : (pieces : Option (ℕ × ℕ)) → IsFirstFailing s (AllAreClear assembly query (search_of assembly s places)) point
+          → FirstPairOf assembly query (values point (offsets_in s.tray places)) (search_of assembly s places).pairs pieces
           → broken ≡ break_of_pieces rule pieces point → Says (homes_of assembly) s places query rule (Breaks broken)
-      by_pair None first found e = absurd (first.fails ((first_none query _ _ None found).0 refl))
+      by_pair None first found e = absurd (first.fails ((first_none assembly query _ _ None found).0 refl))
       by_pair (Some (p, q)) first found e =
           let failing : IsFirstFailing s (λ (x : Point). (r t : ℕ)
           → PairAt (IsApartBy query) (homes_of assembly) places s.tray s.grip x r t) point = record {

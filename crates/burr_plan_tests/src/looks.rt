@@ -1,7 +1,7 @@
 //! How often a check looks at two pieces, as it says, and as its tables are asked.
 use crate::verdicts::words_of;
 use burr_assembly::Assembly;
-use burr_blocking::{Blocking, ClassPair, Looks};
+use burr_blocking::{Blocking, Looks};
 use burr_container::Container;
 use burr_verify::verify_counted;
 use burr_voxels::{Cell, Direction};
@@ -26,24 +26,18 @@ impl<B: Blocking> Watched<'_, B> {
 impl<'a, B: Blocking> Blocking for Watched<'a, B> {
     ghost subject = { λ w. B.subject w.tables.now };
 
-    ghost IsPairOf = { λ w. B.IsPairOf w.tables.now };
-
     fn assembly(&self) -> &Assembly {
         self.tables.assembly()
     }
 
-    fn pair(&self, piece: u8, other: u8) -> ClassPair {
-        self.tables.pair(piece, other)
+    fn blocked(&self, piece: u8, other: u8, displacement: Cell) -> bool {
+        self.note();
+        self.tables.blocked(piece, other, displacement)
     }
 
-    fn blocked_pair(&self, pair: &ClassPair, displacement: Cell) -> bool {
+    fn free(&self, piece: u8, other: u8, displacement: Cell, direction: Direction) -> bool {
         self.note();
-        self.tables.blocked_pair(pair, displacement)
-    }
-
-    fn free_pair(&self, pair: &ClassPair, displacement: Cell, direction: Direction) -> bool {
-        self.note();
-        self.tables.free_pair(pair, displacement, direction)
+        self.tables.free(piece, other, displacement, direction)
     }
 }
 

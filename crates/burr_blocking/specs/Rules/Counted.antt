@@ -16,12 +16,3 @@ with_more n looks = record looks { count = looks.count + n }
 -- a number of looks was made for which `AreLooks` holds, and nothing else changed
 abbrev pub HasCounted : (ℕ → Type 0) → Counted → Counted → Type 0
 HasCounted AreLooks old new = (n : ℕ) × AreLooks n × (new ≡ with_more n old)
-
--- two pieces of an assembly, prepared for queries: the one that is displaced, and the other
-pub record PreparedPair : Type 0 where
-  pub assembly : Assembly
-  pub piece : ℕ
-  pub other : ℕ
-
-abbrev pub prepared : Assembly → ℕ → ℕ → PreparedPair
-prepared assembly piece other = record { assembly = assembly; piece = piece; other = other }

@@ -1,10 +1,9 @@
 -- Queries of two pieces, one displaced against the other: this project's own.
-use Rattle.std.specs.Prelude.{ℕ, ◌≤◌, ◌<◌, ◌≢◌, pos, List, length}
+use Rattle.std.specs.Prelude.{ℕ, ◌≤◌, pos, List}
 use Rattle.burr_voxels.specs.declared.cell.Cell.{Cell}
 use Rattle.burr_voxels.specs.declared.direction.Direction.{Direction}
 use Rattle.burr_voxels.specs.Grid.{plus, along, shifted}
 use Rattle.burr_voxels.specs.CellSets.{Overlap}
-use Rattle.burr_assembly.specs.Rules.Text.{Assembly}
 use Rattle.burr_blocking.specs.declared.blocking.Query.{Query}
 use Rattle.burr_blocking.specs.declared.blocking.Query.TheVariants as queries
 
@@ -22,9 +21,3 @@ IsFreeFrom ps qs d direction =
 abbrev pub Clears : Query → List Cell → List Cell → Cell → Type 0
 Clears queries.Overlap ps qs d = ¬ IsBlocked ps qs d
 Clears (queries.Exit direction) ps qs d = IsFreeFrom ps qs d direction
-
--- two different pieces of an assembly
-pub record ArePieces (a : Assembly) (p q : ℕ) : Type 0 where
-  pub first : p < length a.pieces
-  pub second : q < length a.pieces
-  pub two : p ≢ q

@@ -1,6 +1,7 @@
 -- The pairs of the classes of an assembly's pieces: for each class, what is kept of the
 -- representative of each one before it against its own.
-use Rattle.std.specs.Prelude.{◌≡◌, ◌≢◌, ◌⊎◌, ℕ, ℤ, ◌<◌, ◌≤◌, Bool, true, false, List, length, slice_index_or}
+use Rattle.std.specs.Prelude.{◌≡◌, ◌≢◌, ◌⊎◌, ℕ, ℤ, ◌<◌, ◌≤◌, Bool, true, false, List, Vec, length, slice_index_or}
+use Rattle.std.specs.declared.alloc.Global.{Global}
 use Rattle.burr_voxels.specs.declared.cell.Cell.{Cell}
 use Rattle.burr_voxels.specs.declared.direction.Direction.{Direction}
 use Rattle.burr_voxels.specs.Grid.{along, plus, minus, origin}
@@ -49,11 +50,6 @@ abbrev pub held : Held → Assembly
 held (Lent assembly) = assembly.now
 held (Owned assembly) = assembly
 
--- an assembly, and its pieces in classes
-pub record Classed : Type 0 where
-  pub assembly : Assembly
-  pub classes : Classes
-
 -- A pair of pieces, by that of their classes
 
 -- two different pieces, each as a translate of the representative of its class
@@ -74,6 +70,22 @@ pub record IsPairOfClasses (pair : ClassPair) (s t : Translate) : Type 0 where
       ⊎ ((pair.is_turned ≡ true) × (pair.earlier ≡ t.class) × (pair.later ≡ s.class))
 
 -- the pair is that of the classes of pieces p and q
+abbrev pub IsPairOfTwo : Classes → ℕ → ℕ → ClassPair → Type 0
+IsPairOfTwo c p q pair = (s t : Translate) × (s ≡ slice_index_or c.translates.items p s)
+    × (t ≡ slice_index_or c.translates.items q t) × IsPairOfClasses pair s t
+
+-- the pairs of piece p's class and those of all pieces
+pub record IsRowOf (c : Classes) (p : ℕ) (row : List ClassPair) : Type 0 where
+  pub count : length row ≡ length c.translates.items
+  pub each : (q : ℕ) (d : ClassPair) → q < length row → IsPairOfTwo c p q (slice_index_or row q d)
+
+-- such a row for each piece
+pub record AreRows (c : Classes) (rows : List (Vec ClassPair Global)) : Type 0 where
+  pub count : length rows ≡ length c.translates.items
+  pub each : (p : ℕ) (d : Vec ClassPair Global) → p < length rows
+      → IsRowOf c p (slice_index_or rows p d).items
+
+-- the pair is that of the classes of two different pieces
 abbrev pub IsPairOfPieces : List (List Cell) → Classes → ClassPair → ℕ → ℕ → Type 0
 IsPairOfPieces homes classes pair p q =
     (s t : Translate) × AreOfClasses homes classes p q s t × IsPairOfClasses pair s t

@@ -30,11 +30,9 @@ impl Translate {
     }
 }
 
-/// Two pieces, and the pair that is kept of their classes.
+/// Two pieces by the pair that is kept of their classes.
 #[derive(Clone, Copy, Debug)]
 pub struct ClassPair {
-    pub piece: u8,
-    pub other: u8,
     pub earlier: usize,
     pub later: usize,
     /// What the first representative is displaced by where the first piece is displaced by nothing.

@@ -1,6 +1,6 @@
--- Pairs of a gripped piece and a piece that is left in its tray, prepared for a search, and whether
--- they are clear where the offsets of the tray's pieces have certain values.
-use Rattle.std.specs.Prelude.{◌≡◌, ◌≤◌, ℕ, ◌*◌, ◌+◌, ℤ, pos, List, [], ◌∷◌, map, filter, filter_map, take, Option, Some, None, slice_index_or}
+-- Pairs of a gripped piece and a piece that is left in its tray, and whether they are clear where the
+-- offsets of the tray's pieces have certain values.
+use Rattle.std.specs.Prelude.{◌≡◌, ◌≢◌, ◌≤◌, ◌<◌, ℕ, ◌*◌, ◌+◌, ℤ, pos, List, [], ◌∷◌, length, map, filter, take, Option, Some, None, slice_index_or}
 use Rattle.burr_text.specs.Checks.{needs}
 use Rattle.burr_voxels.specs.declared.cell.Cell.{Cell}
 use Rattle.burr_voxels.specs.Grid.{at, minus}
@@ -10,9 +10,9 @@ use Rattle.burr_assembly.specs.Rules.Text.{Assembly}
 use Rattle.burr_assembly.specs.Rules.Homes.{homes_of, home_at}
 use Rattle.burr_blocking.specs.declared.blocking.Query.{Query}
 use Rattle.burr_blocking.specs.Rules.Pairs.{Clears}
-use Rattle.burr_blocking.specs.Rules.Counted.{PreparedPair, prepared}
 use Rattle.burr_forms.specs.Rules.Forms.{Form}
 use Rattle.burr_container.specs.Rules.Plans.{FormCell}
+use Rattle.burr_frames.specs.declared.clearing.TrayPair.{TrayPair}
 use Rattle.burr_frames.specs.Rules.Looks.{grip_pairs}
 use Rattle.burr_frames.specs.Views.Comparing.{offset_forms}
 
@@ -24,29 +24,19 @@ offsets_in tray places = offset_forms (filter (is_in tray) places)
 abbrev pub number_in : ℕ → List (Placement FormCell) → ℕ → ℕ
 number_in tray places p = count_in tray (take p places)
 
--- two pieces of a tray, prepared, and the numbers of the two among the pieces of the tray
-pub record TrayPair : Type 0 where
-  pub pieces : PreparedPair
-  pub number : ℕ
-  pub other_number : ℕ
-
-abbrev pub tray_pair : PreparedPair → ℕ → ℕ → TrayPair
-tray_pair pieces number other_number =
-    record { pieces = pieces; number = number; other_number = other_number }
-
--- pieces p and q of the tray as such a pair
-abbrev pub pair_in : Assembly → ℕ → List (Placement FormCell) → ℕ → ℕ → TrayPair
-pair_in assembly tray places p q =
-    tray_pair (prepared assembly p q) (number_in tray places p) (number_in tray places q)
+-- pieces p and q of the tray, and their numbers among its pieces
+abbrev pub pair_in : ℕ → List (Placement FormCell) → ℕ → ℕ → TrayPair
+pair_in tray places p q = record {
+  piece = p;
+  other = q;
+  number = number_in tray places p;
+  other_number = number_in tray places q;
+}
 
 -- each gripped piece of the tray with each piece of it that is not gripped, in order
-abbrev pub tray_pairs : Assembly → ℕ → ℕ → List (Placement FormCell) → List TrayPair
-tray_pairs assembly tray grip places =
-    map (λ pair. pair_in assembly tray places pair.0 pair.1) (grip_pairs tray grip places)
-
--- the pairs that stand in a list with room for more
-abbrev pub held : List (Option TrayPair) → List TrayPair
-held slots = filter_map (λ slot. slot) slots
+abbrev pub tray_pairs : ℕ → ℕ → List (Placement FormCell) → List TrayPair
+tray_pairs tray grip places =
+    map (λ pair. pair_in tray places pair.0 pair.1) (grip_pairs tray grip places)
 
 -- of values that stand three by three, those with this number
 abbrev pub cell_of : List ℤ → ℕ → Cell
@@ -60,21 +50,23 @@ displacement_in values pair =
     minus (cell_of values pair.number) (cell_of values pair.other_number)
 
 -- so displaced, the first piece keeps clear of the second
-abbrev pub IsPairClear : Query → List ℤ → TrayPair → Type 0
-IsPairClear query values pair =
-    Clears query (home_at (homes_of pair.pieces.assembly) pair.pieces.piece)
-    (home_at (homes_of pair.pieces.assembly) pair.pieces.other) (displacement_in values pair)
+abbrev pub IsPairClear : Assembly → Query → List ℤ → TrayPair → Type 0
+IsPairClear assembly query values pair =
+    Clears query (home_at (homes_of assembly) pair.piece) (home_at (homes_of assembly) pair.other)
+    (displacement_in values pair)
 
 -- the pieces of the first pair that is not clear; None where each is
-abbrev pub FirstPairOf : Query → List ℤ → List TrayPair → Option (ℕ × ℕ) → Type 0
-FirstPairOf query values [] found = found ≡ None
-FirstPairOf query values (pair ∷ pairs) found =
-    needs (IsPairClear query values pair) (Some (pair.pieces.piece, pair.pieces.other))
-    (FirstPairOf query values pairs) found
+abbrev pub FirstPairOf : Assembly → Query → List ℤ → List TrayPair → Option (ℕ × ℕ) → Type 0
+FirstPairOf assembly query values [] found = found ≡ None
+FirstPairOf assembly query values (pair ∷ pairs) found =
+    needs (IsPairClear assembly query values pair) (Some (pair.piece, pair.other))
+    (FirstPairOf assembly query values pairs) found
 
--- the pair is of this assembly, and its offsets stand among a given number of values
+-- the pair is of two pieces of this assembly, and its offsets stand among a given number of values
 pub record IsAskable (assembly : Assembly) (values : ℕ) (pair : TrayPair) : Type 0 where
-  pub own : pair.pieces.assembly ≡ assembly
+  pub first : pair.piece < length assembly.pieces
+  pub second : pair.other < length assembly.pieces
+  pub two : pair.piece ≢ pair.other
   pub inside : 3 * pair.number + 3 ≤ values
   pub other_inside : 3 * pair.other_number + 3 ≤ values
 

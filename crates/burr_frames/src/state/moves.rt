@@ -13,7 +13,7 @@ ghost use Rattle.burr_frames.specs.Views.Moving.{ClearOrBreaks, HasRest, free_as
 ghost use Rattle.burr_frames.specs.Views.Clearing.{offsets_in};
 
 use crate::breaking::Break;
-use crate::clearing::{Clearing, prepare_pairs};
+use crate::clearing::{Clearing, put_pairs};
 use crate::forms::{moved, offset_forms};
 use crate::rule::Rule;
 use crate::state::meeting::append;
@@ -85,6 +85,7 @@ impl State {
 
     /// What `step` comes to where nothing is in the way: the grip goes one unit along a direction,
     /// and no look is made.
+    #[inline(never)]
     pub fn step_freely(&mut self, direction: Direction) -> Result<(), Break>
         ensures verdict { free_step self.old direction (next_verdict self.new result) }
         ensures kept { IfErr result (λ _. self.new ≡ self.old) }
@@ -133,6 +134,7 @@ impl State {
 
     /// What `aside` comes to where nothing is in the way: the grip goes out to a tray, and no look is
     /// made.
+    #[inline(never)]
     pub fn aside_freely(&mut self, there: u8) -> Result<(), Break>
         ensures verdict { free_aside self.old there (next_verdict self.new result) }
         ensures kept { IfErr result (λ _. self.new ≡ self.old) }
@@ -171,7 +173,7 @@ impl State {
             .len()
             .min(usize::from(looks.assembly().piece_count()));
         let mut pairs = ArrayVec::new();
-        prepare_pairs(looks, self.tray, self.grip, &places[..homed], &mut pairs);
+        put_pairs(self.tray, self.grip, &places[..homed], &mut pairs);
         let mut clearing = Clearing {
             forms: offsets.as_slice(),
             pairs: pairs.as_slice(),

@@ -1,9 +1,8 @@
 use Rattle.std.proofs.Common.{drop}
-use Rattle.burr_frames.specs.Views.Clearing.{held}
 use Rattle.burr_frames.proofs.PairsLeft.{PairsLeft}
 use Rattle.burr_frames.proofs.clearing.first_pair.Given as goal
 
 -- the pairs so far are clear and were looked at
-abbrev pub invariant-loop-slot : goal.invariant-loop-slot
-invariant-loop-slot g l =
-    PairsLeft l.query l.values (held l.pairs) (held (drop l.slot-index l.pairs)) l.initial.looks l.looks
+abbrev pub invariant-loop-pair : goal.invariant-loop-pair
+invariant-loop-pair g l =
+    PairsLeft l.initial.looks.assembly l.query l.values l.pairs (drop l.pair-index l.pairs) l.initial.looks l.looks

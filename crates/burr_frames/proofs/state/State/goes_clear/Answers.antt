@@ -7,13 +7,14 @@ use Rattle.burr_blocking.proofs.Common.Counts.{none_more}
 use Rattle.burr_forms.specs.Rules.Forms.{Form}
 use Rattle.burr_forms.specs.Rules.Points.{box_size}
 use Rattle.burr_forms.specs.Views.Rising.{count_in}
-use Rattle.burr_frames.specs.Views.Clearing.{Asked, TrayPair, IsAskable, held}
+use Rattle.burr_frames.specs.declared.clearing.TrayPair.{TrayPair}
+use Rattle.burr_frames.specs.Views.Clearing.{Asked, IsAskable}
 use Rattle.burr_frames.specs.Rules.States.{AbstractState}
 use Rattle.burr_frames.specs.Rules.Verdicts.{Breaks}
 use Rattle.burr_frames.proofs.Common.Sizes.{count-le}
 use Rattle.burr_frames.proofs.GripLooks.{no_looks_off_bench, looks_of_search, counted_more}
 use Rattle.burr_frames.proofs.MoveVerdicts.{on_bench_of_forms, off_bench_of_forms, Searched, is_search, none_in_way, first_in_way}
-use Rattle.burr_frames.proofs.PreparedPairs.{homed_pairs, pairs_held, all_askable, few_pairs}
+use Rattle.burr_frames.proofs.TrayPairs.{homed_pairs, pairs_homed, all_askable, few_pairs}
 use Rattle.burr_frames.proofs.state.State.goes_clear.Goals as goal
 
 -- a search over at most 4,096 points has room to count
@@ -55,9 +56,9 @@ invariant_of-clearing g c =
     let assembly = c.args.looks.now.assembly in
     let places = c.args.places.now in
     let forms = c.as_slice-2.ensures.value ∙ c.offsets_in-offsets.ensures.offsets in
-    let pairs = pairs_held assembly c.assembly.result.now s.tray s.grip places c.as_slice-3.result.now c.min-homed.result
-    c.from.result (c.as_slice-3.ensures.value ∙ c.prepare_pairs.ensures) (c.from.ensures ∙ c.piece_count.ensures.count) c.assembly.ensures
-    (c.min-homed.ensures) in
+    let pairs = c.as_slice-3.ensures.value ∙ c.put_pairs.ensures
+    ∙ pairs_homed assembly c.assembly.result.now s.tray s.grip places c.min-homed.result c.from.result
+    (c.from.ensures ∙ c.piece_count.ensures.count) c.assembly.ensures (c.min-homed.ensures) in
     record {
       askable = subst (All (IsAskable assembly (length c.as_slice-2.result.now))) (sym pairs)
           (subst (λ (fs : List Form). All (IsAskable assembly (length fs)) (homed_pairs assembly s.tray s.grip places)) (sym forms)
@@ -73,12 +74,12 @@ returns-in-None g c =
     let searched : Searched = record {
       region = record { ranges = c.as_slice-4.result.now; guards = c.as_slice-5.result.now };
       forms = c.as_slice-2.result.now;
-      pairs = held c.as_slice-3.result.now;
+      pairs = c.as_slice-3.result.now;
     } in
-    let is = is_search assembly c.assembly.result.now s _ places c.as_slice-3.result.now c.min-homed.result c.from.result
+    let is = is_search assembly c.assembly.result.now s _ places c.min-homed.result c.from.result
     searched (λ i. record { ranges = c.as_slice-4.ensures.value i; guards = c.as_slice-5.ensures.value i })
-    (c.as_slice-2.ensures.value ∙ c.offsets_in-offsets.ensures.offsets) refl
-    (c.as_slice-3.ensures.value ∙ c.prepare_pairs.ensures) (c.from.ensures ∙ c.piece_count.ensures.count) c.assembly.ensures c.min-homed.ensures
+    (c.as_slice-2.ensures.value ∙ c.offsets_in-offsets.ensures.offsets)
+    (c.as_slice-3.ensures.value ∙ c.put_pairs.ensures) (c.from.ensures ∙ c.piece_count.ensures.count) c.assembly.ensures c.min-homed.ensures
     c.self.view_is in
     let on = on_bench_of_forms s _ places c.as_slice.result.now c.self.view_is
     (c.as_slice.ensures.value ∙ c.offsets_in-offsets.ensures.offsets) c.in_ok-stays_within.ensures in
@@ -100,12 +101,12 @@ returns-in-Some g c =
     let searched : Searched = record {
       region = record { ranges = c.as_slice-4.result.now; guards = c.as_slice-5.result.now };
       forms = c.as_slice-2.result.now;
-      pairs = held c.as_slice-3.result.now;
+      pairs = c.as_slice-3.result.now;
     } in
-    let is = is_search assembly c.assembly.result.now s _ places c.as_slice-3.result.now c.min-homed.result c.from.result
+    let is = is_search assembly c.assembly.result.now s _ places c.min-homed.result c.from.result
     searched (λ i. record { ranges = c.as_slice-4.ensures.value i; guards = c.as_slice-5.ensures.value i })
-    (c.as_slice-2.ensures.value ∙ c.offsets_in-offsets.ensures.offsets) refl
-    (c.as_slice-3.ensures.value ∙ c.prepare_pairs.ensures) (c.from.ensures ∙ c.piece_count.ensures.count) c.assembly.ensures c.min-homed.ensures
+    (c.as_slice-2.ensures.value ∙ c.offsets_in-offsets.ensures.offsets)
+    (c.as_slice-3.ensures.value ∙ c.put_pairs.ensures) (c.from.ensures ∙ c.piece_count.ensures.count) c.assembly.ensures c.min-homed.ensures
     c.self.view_is in
     let on = on_bench_of_forms s _ places c.as_slice.result.now c.self.view_is
     (c.as_slice.ensures.value ∙ c.offsets_in-offsets.ensures.offsets) c.in_ok-stays_within.ensures in

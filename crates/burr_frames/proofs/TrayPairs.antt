@@ -1,36 +1,31 @@
--- The pairs that are prepared can be asked about, and are not too many.
-use Rattle.std.proofs.Common.{◌≡◌, ◌∙◌, ℕ, ◌≤◌, List, [], length, take, Option, Some, refl, sym, ap, subst, arith}
+-- The pairs of a tray can be asked about, and are not too many.
+use Rattle.std.proofs.Common.{◌≡◌, ◌∙◌, ℕ, ◌≤◌, List, [], length, take, sym, ap, subst, arith}
 use Rattle.std.specs.Prelude.{All, map, min}
 use Rattle.std.proofs.lemmas.List.{take_min, length-take, length-map}
+use Rattle.burr_code.specs.PieceSets.{IsInSet}
 use Rattle.burr_code.specs.declared.placement.Placement.{Placement}
 use Rattle.burr_assembly.specs.Rules.Text.{Assembly}
 use Rattle.burr_assembly.specs.Rules.Homes.{homes_of, home_of}
 use Rattle.burr_container.specs.Rules.Plans.{FormCell}
 use Rattle.burr_frames.specs.Rules.Looks.{grip_pairs}
-use Rattle.burr_frames.specs.Views.Clearing.{TrayPair, held, offsets_in, pair_in, tray_pairs, IsAskable}
+use Rattle.burr_frames.specs.declared.clearing.TrayPair.{TrayPair}
+use Rattle.burr_frames.specs.Views.Clearing.{offsets_in, pair_in, tray_pairs, IsAskable}
 use Rattle.burr_frames.proofs.BenchOffsets.{stands_at}
 use Rattle.burr_frames.proofs.Common.Sizes.{grip-pairs-le}
 use Rattle.burr_frames.proofs.Each.{all_of_each, each_map}
 use Rattle.burr_frames.proofs.GripPairs.{each_grip_pair}
-use Rattle.burr_frames.proofs.PreparedRows.{held_all}
 
 -- 32 pieces make 256 pairs at most
-few_of_tray : (assembly : Assembly) (tray grip : ℕ) (places : List (Placement FormCell)) → length places ≤ 32
-    → length (tray_pairs assembly tray grip places) ≤ 256
-few_of_tray assembly tray grip places few =
+pub few_of_tray : (tray grip : ℕ) (places : List (Placement FormCell)) → length places ≤ 32
+    → length (tray_pairs tray grip places) ≤ 256
+few_of_tray tray grip places few =
     subst (λ (n : ℕ). n ≤ 256)
-    (sym (length-map (grip_pairs tray grip places) (λ (pair : ℕ × ℕ). pair_in assembly tray places pair.0 pair.1)))
+    (sym (length-map (grip_pairs tray grip places) (λ (pair : ℕ × ℕ). pair_in tray places pair.0 pair.1)))
     (grip-pairs-le tray grip places few)
-
-pub few_slots : (assembly : Assembly) (tray grip : ℕ) (places : List (Placement FormCell)) → length places ≤ 32
-    → length (map Some (tray_pairs assembly tray grip places)) ≤ 256
-few_slots assembly tray grip places few =
-    subst (λ (n : ℕ). n ≤ 256) (sym (length-map (tray_pairs assembly tray grip places) Some))
-    (few_of_tray assembly tray grip places few)
 
 -- of the places of the pieces that have a home
 abbrev pub homed_pairs : Assembly → ℕ → ℕ → List (Placement FormCell) → List TrayPair
-homed_pairs assembly tray grip places = tray_pairs assembly tray grip (take (length (homes_of assembly)) places)
+homed_pairs assembly tray grip places = tray_pairs tray grip (take (length (homes_of assembly)) places)
 
 homed_places : (assembly : Assembly) (places : List (Placement FormCell)) (many pieces : ℕ) → pieces ≡ length assembly.pieces
     → many ≡ min (length places) pieces → take many places ≡ take (length (homes_of assembly)) places
@@ -40,13 +35,12 @@ homed_places assembly places many pieces count e =
     same : many ≡ min (length (homes_of assembly)) (length places)
     same = let homes = length-map assembly.pieces (home_of assembly.shapes) in omega (arith, count, e, homes)
 
--- what stands in the list is these pairs
-pub pairs_held : (assembly lent : Assembly) (tray grip : ℕ) (places : List (Placement FormCell)) (slots : List (Option TrayPair))
-    (many pieces : ℕ) → slots ≡ map Some (tray_pairs assembly tray grip (take many places)) → pieces ≡ length lent.pieces
-    → lent ≡ assembly → many ≡ min (length places) pieces → held slots ≡ homed_pairs assembly tray grip places
-pairs_held assembly lent tray grip places slots many pieces are count same homed =
-    ap held are ∙ held_all (tray_pairs assembly tray grip (take many places))
-    ∙ ap (tray_pairs assembly tray grip)
+-- those of as many pieces as have one are these pairs
+pub pairs_homed : (assembly lent : Assembly) (tray grip : ℕ) (places : List (Placement FormCell)) (many pieces : ℕ)
+    → pieces ≡ length lent.pieces → lent ≡ assembly → many ≡ min (length places) pieces
+    → tray_pairs tray grip (take many places) ≡ homed_pairs assembly tray grip places
+pairs_homed assembly lent tray grip places many pieces count same homed =
+    ap (tray_pairs tray grip)
     (homed_places assembly places many pieces (count ∙ ap (λ (a : Assembly). length a.pieces) same) homed)
 
 module _ (assembly : Assembly) (tray grip : ℕ) (places : List (Placement FormCell)) where
@@ -59,10 +53,12 @@ module _ (assembly : Assembly) (tray grip : ℕ) (places : List (Placement FormC
   pub all_askable : All IsAsked (homed_pairs assembly tray grip places)
   all_askable =
       all_of_each IsAsked (homed_pairs assembly tray grip places)
-      (each_map (λ (pair : ℕ × ℕ). pair_in assembly tray homed pair.0 pair.1) IsAsked (grip_pairs tray grip homed)
-      (each_grip_pair (λ p q. IsAsked (pair_in assembly tray homed p q)) tray grip (length (homes_of assembly)) places
+      (each_map (λ (pair : ℕ × ℕ). pair_in tray homed pair.0 pair.1) IsAsked (grip_pairs tray grip homed)
+      (each_grip_pair (λ p q. IsAsked (pair_in tray homed p q)) tray grip (length (homes_of assembly)) places
       (λ p q c d below below_q lies lies_q gripped out. record {
-        own = refl;
+        first = let pieces = length-map assembly.pieces (home_of assembly.shapes) in omega (arith, below, pieces);
+        second = let pieces = length-map assembly.pieces (home_of assembly.shapes) in omega (arith, below_q, pieces);
+        two = λ (e : p ≡ q). out (subst (IsInSet grip) e gripped);
         inside = (stands_at (length (homes_of assembly)) places tray p c [] below lies).1;
         other_inside = (stands_at (length (homes_of assembly)) places tray q d [] below_q lies_q).1;
       })))
@@ -70,4 +66,4 @@ module _ (assembly : Assembly) (tray grip : ℕ) (places : List (Placement FormC
   pub few_pairs : length places ≤ 32 → length (homed_pairs assembly tray grip places) ≤ 256
   few_pairs few =
       let taken = length-take (length (homes_of assembly)) places in
-      few_of_tray assembly tray grip homed (omega (arith, few, taken))
+      few_of_tray tray grip homed (omega (arith, few, taken))

@@ -1,21 +1,15 @@
--- The pieces of a tray one by one, and the pairs that are prepared of them.
-use Rattle.std.proofs.Common.{◌≡◌, ◌∙◌, ℕ, suc, ◌+◌, ◌<◌, ◌≤◌, List, [], ◌∷◌, ◌++◌, length, take, drop, Bool, true, false, Option, Some, refl, sym, ap, arith, append_assoc, slice_index_or, add-one}
+-- The pieces of a tray one by one, and the pairs that are made of them.
+use Rattle.std.proofs.Common.{◌≡◌, ◌∙◌, ℕ, suc, ◌+◌, ◌<◌, ◌≤◌, List, [], ◌∷◌, ◌++◌, length, take, drop, Bool, true, false, refl, sym, ap, arith, append_assoc, slice_index_or, add-one}
 use Rattle.std.specs.Prelude.{map, not, if◌then◌else◌}
 use Rattle.std.proofs.lemmas.List.{drop_more, take_more, length-take, length-append, length-map}
 use Rattle.burr_code.specs.PieceSets.{IsInSet}
 use Rattle.burr_code.specs.declared.placement.Placement.{Placement}
 use Rattle.burr_code.specs.Places.{is_in, count_in}
 use Rattle.burr_code.proofs.Common.PieceSets.{not_left_out, left_out}
-use Rattle.burr_assembly.specs.Rules.Text.{Assembly}
-use Rattle.burr_blocking.specs.Rules.Counted.{PreparedPair, prepared}
+use Rattle.burr_frames.specs.declared.clearing.TrayPair.{TrayPair}
 use Rattle.burr_container.specs.Rules.Plans.{FormCell}
 use Rattle.burr_frames.specs.Rules.Looks.{pieces_in, gripped_in, left_in, pairs_of}
-use Rattle.burr_frames.specs.Views.Clearing.{TrayPair, tray_pair, pair_in, held, number_in}
-
--- the pairs that stand in a list without a gap
-pub held_all : (pairs : List TrayPair) → held (map Some pairs) ≡ pairs
-held_all [] = refl
-held_all (pair ∷ pairs) = ap (λ (xs : List TrayPair). pair ∷ xs) (held_all pairs)
+use Rattle.burr_frames.specs.Views.Clearing.{pair_in, number_in}
 
 count-le : (tray : ℕ) (places : List (Placement FormCell)) → count_in tray places ≤ length places
 count-le tray [] = omega arith
@@ -129,17 +123,16 @@ gripped_past grip k pieces out =
     ap (λ (b : Bool). if not b then k ∷ gripped_in grip pieces else gripped_in grip pieces) (left_out grip k out)
 
 -- the pairs of gripped pieces, the first one's row first
-abbrev pub slots_of : (ℕ → ℕ → TrayPair) → List ℕ → List ℕ → List (Option TrayPair)
-slots_of f ps qs = map Some (map (λ (pair : ℕ × ℕ). f pair.0 pair.1) (pairs_of ps qs))
+abbrev pub rows_of : (ℕ → ℕ → TrayPair) → List ℕ → List ℕ → List TrayPair
+rows_of f ps qs = map (λ (pair : ℕ × ℕ). f pair.0 pair.1) (pairs_of ps qs)
 
-pub row_first : (f : ℕ → ℕ → TrayPair) (p : ℕ) (ps qs : List ℕ)
-    → slots_of f (p ∷ ps) qs ≡ map (λ q. Some (f p q)) qs ++ slots_of f ps qs
+pub row_first : (f : ℕ → ℕ → TrayPair) (p : ℕ) (ps qs : List ℕ) → rows_of f (p ∷ ps) qs ≡ map (f p) qs ++ rows_of f ps qs
 row_first f p ps qs = rows qs
   where
-    rows : (xs : List ℕ) → map Some (map (λ (pair : ℕ × ℕ). f pair.0 pair.1) (map (λ q. (p, q)) xs ++ pairs_of ps qs))
-        ≡ map (λ q. Some (f p q)) xs ++ slots_of f ps qs
+    rows : (xs : List ℕ) → map (λ (pair : ℕ × ℕ). f pair.0 pair.1) (map (λ q. (p, q)) xs ++ pairs_of ps qs)
+        ≡ map (f p) xs ++ rows_of f ps qs
     rows [] = refl
-    rows (q ∷ xs) = ap (λ (rest : List (Option TrayPair)). Some (f p q) ∷ rest) (rows xs)
+    rows (q ∷ xs) = ap (λ (rest : List TrayPair). f p q ∷ rest) (rows xs)
 
 -- there is room for a row
 pub whole_room : {S : Type 0} (old : List S) (f : ℕ → S) (qs : List ℕ) → length old + length qs ≤ 256
@@ -149,8 +142,7 @@ whole_room old f qs room =
     let row = length-map qs f in
     omega (arith, room, both, row)
 
--- a pair that is prepared so
-pub pair_is : (assembly : Assembly) (tray : ℕ) (places : List (Placement FormCell)) (p q : ℕ) (pieces : PreparedPair) (n m : ℕ)
-    → pieces ≡ prepared assembly p q → n ≡ number_in tray places p → m ≡ number_in tray places q
-    → tray_pair pieces n m ≡ pair_in assembly tray places p q
-pair_is assembly tray places p q pieces n m e f g i = tray_pair (e i) (f i) (g i)
+-- a pair that is made so
+pub pair_is : (tray : ℕ) (places : List (Placement FormCell)) (p q : ℕ) (pair : TrayPair) → pair.piece ≡ p → pair.other ≡ q
+    → pair.number ≡ number_in tray places p → pair.other_number ≡ number_in tray places q → pair ≡ pair_in tray places p q
+pair_is tray places p q pair e f g h i = record { piece = e i; other = f i; number = g i; other_number = h i }

@@ -1,17 +1,18 @@
 -- One piece more: in another tray, gripped too, or left in the tray.
-use Rattle.std.proofs.Common.{◌∙◌, ◌+◌, ℕ, List, [], ◌∷◌, ◌++◌, Some, refl, sym, ap, arith}
+use Rattle.std.proofs.Common.{◌∙◌, ◌+◌, ℕ, List, [], ◌∷◌, ◌++◌, refl, sym, ap, arith}
 use Rattle.std.specs.Prelude.{map}
 use Rattle.std.proofs.lemmas.List.{append-nil}
 use Rattle.burr_text.proofs.Common.Tests.{yes_of, no_of}
 use Rattle.burr_frames.specs.Rules.Looks.{left_in, pieces_in}
-use Rattle.burr_frames.specs.Views.Clearing.{TrayPair, number_in, pair_in}
-use Rattle.burr_frames.proofs.PreparedRows.{number-le, one_counted, none_counted, step_past, step_here, step_room, left_first, left_past, whole_room, pair_is}
-use Rattle.burr_frames.proofs.clearing.prepare_row.Goals.{then-not-is_in_set, else-not-is_in_set}
-use Rattle.burr_frames.proofs.clearing.prepare_row.Goals as goal
+use Rattle.burr_frames.specs.declared.clearing.TrayPair.{TrayPair}
+use Rattle.burr_frames.specs.Views.Clearing.{number_in, pair_in}
+use Rattle.burr_frames.proofs.TrayRows.{number-le, one_counted, none_counted, step_past, step_here, step_room, left_first, left_past, whole_room, pair_is}
+use Rattle.burr_frames.proofs.clearing.put_row.Goals.{then-not-is_in_set, else-not-is_in_set}
+use Rattle.burr_frames.proofs.clearing.put_row.Goals as goal
 
 pub loop-other-preserved-then-not-is_in : goal.loop-other-preserved-then-not-is_in
-loop-other-preserved-then-not-is_in g c =
-    let f = λ (other : ℕ). Some (pair_in c.args.looks.now.assembly c.args.tray c.args.places.now c.args.piece other) in
+loop-other-preserved-then-not-is_in c =
+    let f = pair_in c.args.tray c.args.places.now c.args.piece in
     record {
       pairs = step_past (λ (ps : List ℕ). map f (left_in c.args.grip ps)) c.args.tray c.loop-other.other c.args.places.now
           c.index-places-other.result c.loop-other-test.true c.index-places-other.is c.loop-other.pairs.items _
@@ -22,19 +23,19 @@ loop-other-preserved-then-not-is_in g c =
     }
 
 pub overflow_cast-number : goal.overflow_cast-number
-overflow_cast-number g c =
+overflow_cast-number c =
     let few = number-le c.args.tray c.args.places.now c.from.result c.requires.few in
     omega (arith, few, c.count_in_tray-number.ensures)
 
 pub overflow_add-other_number : goal.overflow_add-other_number
-overflow_add-other_number g c =
+overflow_add-other_number c =
     let few = number-le c.args.tray c.args.places.now c.loop-other.other c.requires.few in
     omega (arith, few, c.loop-other.invariant.number)
 
 -- the list fits in memory, and has room
 pub push-requires : goal.push-requires
-push-requires g c =
-    let f = λ (other : ℕ). Some (pair_in c.args.looks.now.assembly c.args.tray c.args.places.now c.args.piece other) in
+push-requires c =
+    let f = pair_in c.args.tray c.args.places.now c.args.piece in
     let k = c.loop-other.other in
     let room = step_room (λ (ps : List ℕ). map f (left_in c.args.grip ps)) c.args.tray k c.args.places.now
     c.index-places-other.result c.loop-other-test.true c.index-places-other.is c.loop-other.pairs.items _
@@ -44,10 +45,10 @@ push-requires g c =
     (omega arith, omega (arith, room))
 
 pub loop-other-preserved : goal.loop-other-preserved
-loop-other-preserved g c =
+loop-other-preserved c =
     let k = c.loop-other.other in
     let places = c.args.places.now in
-    let f = λ (other : ℕ). Some (pair_in c.args.looks.now.assembly c.args.tray places c.args.piece other) in
+    let f = pair_in c.args.tray places c.args.piece in
     let step = step_here (λ (ps : List ℕ). map f (left_in c.args.grip ps)) c.args.tray k places c.index-places-other.result
     c.loop-other-test.true c.index-places-other.is c.loop-other.pairs.items _ c.loop-other.invariant.pairs
     c.if-not-is_in.ensures in
@@ -60,9 +61,8 @@ loop-other-preserved g c =
         pairs = step (f k ∷ []) (ap (map f) (left_first c.args.grip k _ (no_of w.if-not-is_in_set.ensures)))
             c.if-not-is_in_set.pairs.items
             ((λ i. (w.pairs-is i).items) ∙ w.push.ensures.items
-            ∙ ap (λ (pair : TrayPair). c.loop-other.pairs.items ++ Some pair ∷ [])
-            (pair_is c.args.looks.now.assembly c.args.tray places c.args.piece k w.prepare.result
-            c.count_in_tray-number.result c.loop-other.other_number w.prepare.ensures number c.loop-other.invariant.number));
+            ∙ ap (λ (pair : TrayPair). c.loop-other.pairs.items ++ pair ∷ [])
+            (pair_is c.args.tray places c.args.piece k _ refl refl number c.loop-other.invariant.number));
         number = counted;
       }
       | else-not-is_in_set w ↦ record {

@@ -1,4 +1,0 @@
-use Rattle.burr_blocking.proofs.blocking.Blocking.free.Goals as goal
-
-pub returns : goal.returns
-returns g c = c.free_pair.ensures c.args.piece c.args.other c.pair.ensures
