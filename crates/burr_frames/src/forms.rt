@@ -13,6 +13,7 @@ ghost use Rattle.burr_frames.specs.Views.Ranges.{IsInReach, AllInReach, LiesWith
 
 use arrayvec::ArrayVec;
 use burr_code::Placement;
+use burr_code::limits::SLOTS;
 use burr_container::FormOffset;
 use burr_forms::limits::MOST_FORM_NUMBER;
 use burr_forms::{Condition, Form, FormTooLarge};
@@ -72,7 +73,7 @@ pub fn moved(
 /// ±2^40, the caller's condition.
 pub fn substituted(
     place: &Placement<FormOffset>,
-    forms: &[Form; 8],
+    forms: &[Form; SLOTS],
 ) -> Result<Placement<FormOffset>, FormTooLarge>
     requires small { AllSmallPlaces (place.now ∷ []) }
     requires forms_small { AllSmallForms forms.now }

@@ -38,7 +38,7 @@ use std::marker::Model;
 #[derive(Drop)]
 pub struct State {
     /// Of each symbol, both ends in it.
-    ranges: ArrayVec<(i32, i32), 8>,
+    ranges: ArrayVec<(i32, i32), SLOTS>,
     /// Forms that are negative at no point.
     guards: ArrayVec<Form, MOST_STATE_GUARDS>,
     /// None where nothing is known of a slot's value.
@@ -137,7 +137,7 @@ impl State {
         State {
             ranges: ArrayVec::new(),
             guards: ArrayVec::new(),
-            slots: [None; 8],
+            slots: [None; SLOTS],
             operands: ArrayVec::new(),
             places: home_places(pieces),
             tray: 0,
@@ -196,7 +196,7 @@ impl State {
 }
 
 /// The ranges of the live slots.
-fn ranges(frame: &FrameRef<'_>) -> ArrayVec<(i32, i32), 8>
+fn ranges(frame: &FrameRef<'_>) -> ArrayVec<(i32, i32), SLOTS>
     ensures ranges { result.items ≡ live_ranges (frame_of frame.now).slots }
     ensures are { AreRanges result.items }
 {
@@ -211,11 +211,11 @@ fn ranges(frame: &FrameRef<'_>) -> ArrayVec<(i32, i32), 8>
 }
 
 /// Of each live slot its symbol.
-fn slots(frame: &FrameRef<'_>) -> [Option<Form>; 8]
+fn slots(frame: &FrameRef<'_>) -> [Option<Form>; SLOTS]
     ensures slots { result ≡ numbered 0 (frame_of frame.now).slots }
     ensures small { All IsSmallSlot result }
 {
-    let mut slots = [None; 8];
+    let mut slots = [None; SLOTS];
     let mut count = 0;
     for v in 0..8 {
         if frame.slot(v).is_none() {
@@ -233,13 +233,13 @@ pub(super) fn symbol(number: usize) -> Form
     ensures symbol { result ≡ symbol_of number }
     ensures small { IsSmallForm result }
 {
-    let mut coefs = [0; 8];
+    let mut coefs = [0; SLOTS];
     coefs[number] = 1;
     Form { constant: 0, coefs }
 }
 
 /// The guards over symbols.
-fn guards(frame: &FrameRef<'_>) -> ArrayVec<Form, 8>
+fn guards(frame: &FrameRef<'_>) -> ArrayVec<Form, MOST_STATE_GUARDS>
     ensures guards { result.items
         ≡ map (over_symbols (live_slots frame.now.slots)) (frame_of frame.now).guards }
     ensures small { AllSmallForms result.items }
@@ -252,7 +252,7 @@ fn guards(frame: &FrameRef<'_>) -> ArrayVec<Form, 8>
 }
 
 /// The operands over symbols, the bottom first.
-fn operands(frame: &FrameRef<'_>) -> ArrayVec<Form, 8>
+fn operands(frame: &FrameRef<'_>) -> ArrayVec<Form, MOST_OPERANDS>
     ensures operands { result.items
         ≡ map (over_symbols (live_slots frame.now.slots)) (frame_of frame.now).stack }
     ensures small { AllSmallForms result.items }
@@ -316,10 +316,10 @@ pub(super) fn extend<T: Copy + Default, const N: usize>(list: &mut ArrayVec<T, N
 }
 
 /// The same forms.
-pub(super) fn copied_slots(from: &[Option<Form>; 8]) -> [Option<Form>; 8]
+pub(super) fn copied_slots(from: &[Option<Form>; SLOTS]) -> [Option<Form>; SLOTS]
     ensures { result ≡ from.now }
 {
-    let mut to = [None; 8];
+    let mut to = [None; SLOTS];
     for v in 0..8 {
         to[v] = from[v];
     }

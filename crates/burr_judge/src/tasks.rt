@@ -390,8 +390,8 @@ impl<'x, R: Source, W: Sink, const N: usize> AcceptedUse<R, WholeLines<W, N>> fo
     ghost uses = { λ it first before j _ r last after.
         Ending (lines_view W.Sink) before after
         (LedEnds (left_by R.Source first last) it.text.now it.bytes.now j)
-        (LedBreaks (streams R.Source first last W.Sink before.sink after.sink) it.text.now it.bytes.now
-        j) r };
+        (LedBreaks (streams R.Source first last W.Sink before.sink after.sink) it.text.now
+        it.bytes.now j) r };
 
     #[inline(never)]
     fn use_accepted<'a, B: Blocking>(
@@ -529,7 +529,8 @@ fn put_ready<'a, W: Sink, const N: usize>(
     sink: &mut WholeLines<W, N>,
 ) -> Result<(), Fault<'a>>
     requires fresh { sink.old.held ≡ [] }
-    ensures ok { OnOk result (Takes W.Sink sink.old.sink sink.new.sink (ready_text text.now bytes.now)
+    ensures ok { OnOk result
+        (Takes W.Sink sink.old.sink sink.new.sink (ready_text text.now bytes.now)
         × (sink.new.held ≡ [])) }
     ensures err { IfErr result (λ fault. FailsToBegin W.Sink sink.old sink.new
         (ready_text text.now bytes.now) (line_of fault)) }

@@ -292,7 +292,8 @@ fn give_answer<'a, 'r, R: Runner<'r>>(
         (Asks low high) }
     ensures is { AnswerIs (R.benched runner.old) answers.entry.now low high (R.benched runner.new)
         result }
-    ensures stands { TurnStands (R.benched runner.old) answers.entry.now (R.benched runner.new) result }
+    ensures stands { TurnStands (R.benched runner.old) answers.entry.now (R.benched runner.new)
+        result }
 {
     let Some((answer, left)) = answers.split_first() else {
         return ControlFlow::Break(Closing::Waiting(low, high));

@@ -175,7 +175,8 @@ impl PointState {
 fn slots_at(state: &State, symbols: &Point) -> [Option<i64>; SLOTS]
     requires near { AllNear symbols.now.items }
     ensures { (v : ℕ) → v < 8
-        → get_or result v None ≡ option_map (value symbols.now.items) (get_or state.now.slots v None) }
+        → get_or result v None
+        ≡ option_map (value symbols.now.items) (get_or state.now.slots v None) }
 {
     let mut slots = [None; SLOTS];
     for v in 0..SLOTS as u8 {

@@ -23,7 +23,7 @@ use crate::state::meeting::Miss;
 use crate::state::{MOST_PIECES, State, copied_slots, extend, symbol};
 use arrayvec::ArrayVec;
 use burr_code::Placement;
-use burr_code::limits::{MOST_GUARDS, MOST_OPERANDS, MOST_RESULTS, MOST_STATE_GUARDS};
+use burr_code::limits::{MOST_GUARDS, MOST_OPERANDS, MOST_RESULTS, MOST_STATE_GUARDS, SLOTS};
 use burr_container::{ExitRef, FormOffset, FrameRef, ProcedureRef};
 use burr_forms::{Form, FormTooLarge};
 use std::marker::Model;
@@ -79,7 +79,11 @@ impl State {
     /// The forms in the slots that are live in an entry frame, where the state in which a callee
     /// begins with these arguments meets it.
     #[inline(never)]
-    fn met_with(&self, arguments: &[Form], entry: &FrameRef<'_>) -> Result<ArrayVec<Form, 8>, Miss>
+    fn met_with(
+        &self,
+        arguments: &[Form],
+        entry: &FrameRef<'_>,
+    ) -> Result<ArrayVec<Form, SLOTS>, Miss>
         requires few { length arguments.now ≤ 8 }
         requires small { AllSmallForms arguments.now }
         ensures { AgreesOrMisses (called_with (reverse arguments.now) self.now)
@@ -120,7 +124,7 @@ impl State {
     }
 
     /// The topmost `count` operands, the top last; None where there are fewer.
-    pub(super) fn top_many(&self, count: usize) -> Option<ArrayVec<Form, 8>>
+    pub(super) fn top_many(&self, count: usize) -> Option<ArrayVec<Form, MOST_OPERANDS>>
         ensures operands { GivesTopmost count self.now.operands result }
         ensures few { length self.now.operands ≤ 8 }
     {
@@ -163,7 +167,7 @@ impl State {
 }
 
 /// The same forms.
-fn taken(forms: &[Form]) -> ArrayVec<Form, 8>
+fn taken(forms: &[Form]) -> ArrayVec<Form, MOST_OPERANDS>
     requires { length forms.now ≤ 8 }
     ensures { result.items ≡ forms.now }
 {
@@ -173,13 +177,13 @@ fn taken(forms: &[Form]) -> ArrayVec<Form, 8>
 }
 
 /// The slots in which a callee begins with these arguments.
-fn argument_slots(arguments: &[Form]) -> [Option<Form>; 8]
+fn argument_slots(arguments: &[Form]) -> [Option<Form>; SLOTS]
     requires few { length arguments.now ≤ 8 }
     requires small { AllSmallForms arguments.now }
     ensures slots { result ≡ slots_of (reverse arguments.now) }
     ensures small { All IsSmallSlot result }
 {
-    let mut slots = [None; 8];
+    let mut slots = [None; SLOTS];
     for v in 0..arguments.len() {
         slots[v] = Some(arguments[v]);
     }
@@ -230,7 +234,7 @@ impl State {
 
     /// The ranges of the symbols and of an exit frame's results, where they are eight at most and
     /// have no more than 4,096 points.
-    fn ranges_after(&self, exit: &Exit) -> Option<ArrayVec<(i32, i32), 8>>
+    fn ranges_after(&self, exit: &Exit) -> Option<ArrayVec<(i32, i32), SLOTS>>
         ensures { GivesRanges (self.now.ranges ++ exit.now.results) result }
     {
         if 8 < self.ranges.len() + exit.results.len() {
@@ -244,7 +248,7 @@ impl State {
     }
 
     /// The operands, the top last, with these results in place of the topmost `gone`.
-    fn operands_after(&self, gone: usize, results: &[Form]) -> ArrayVec<Form, 8>
+    fn operands_after(&self, gone: usize, results: &[Form]) -> ArrayVec<Form, MOST_OPERANDS>
         requires there { gone ≤ length self.now.operands }
         requires room { length (drop gone self.now.operands) + length results.now ≤ 8 }
         requires small { AllSmallForms results.now }
@@ -258,7 +262,7 @@ impl State {
 }
 
 /// The forms of `count` symbols, from symbol `first` on.
-fn symbols_from(first: usize, count: usize) -> ArrayVec<Form, 8>
+fn symbols_from(first: usize, count: usize) -> ArrayVec<Form, SLOTS>
     requires { first + count ≤ 8 }
     ensures symbols { result.items ≡ symbols_from first count }
     ensures many { length result.items ≡ count }
@@ -272,7 +276,7 @@ fn symbols_from(first: usize, count: usize) -> ArrayVec<Form, 8>
 }
 
 /// These elements, one list after the other.
-pub(super) fn joined<T: Copy + Default>(first: &[T], second: &[T]) -> ArrayVec<T, 8>
+pub(super) fn joined<T: Copy + Default>(first: &[T], second: &[T]) -> ArrayVec<T, SLOTS>
     requires { length first.now + length second.now ≤ 8 }
     ensures { result.items ≡ first.now ++ second.now }
 {
@@ -324,7 +328,7 @@ fn guards_with(
 }
 
 /// Forms for eight symbols, zeros after.
-pub(super) fn padded(forms: &[Form]) -> [Form; 8]
+pub(super) fn padded(forms: &[Form]) -> [Form; SLOTS]
     requires few { length forms.now ≤ 8 }
     requires small { AllSmallForms forms.now }
     ensures padded { result ≡ forms.now ++ replicate (8 - length forms.now) (number (pos 0)) }
@@ -332,9 +336,9 @@ pub(super) fn padded(forms: &[Form]) -> [Form; 8]
 {
     let zero = Form {
         constant: 0,
-        coefs: [0; 8],
+        coefs: [0; SLOTS],
     };
-    let mut padded = [zero; 8];
+    let mut padded = [zero; SLOTS];
     for symbol in 0..forms.len() {
         padded[symbol] = forms[symbol];
     }
@@ -452,7 +456,7 @@ impl State {
     }
 
     /// The forms in the first slots; None where one of them is not known.
-    pub(super) fn first_forms(&self, count: u8) -> Option<ArrayVec<Form, 8>>
+    pub(super) fn first_forms(&self, count: u8) -> Option<ArrayVec<Form, SLOTS>>
         ensures { GivesFirstForms count self.now.slots result }
     {
         let mut forms = ArrayVec::new();

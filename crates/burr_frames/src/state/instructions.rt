@@ -19,7 +19,7 @@ use crate::forms::raised_by;
 use crate::rule::Rule;
 use crate::state::meeting::arrives;
 use crate::state::{State, copied, symbol};
-use burr_code::limits::MOST_NUMBER;
+use burr_code::limits::{MOST_NUMBER, SLOTS};
 use burr_code::{Labels, are_all_apart};
 use burr_container::{FrameRef, ProcedureRef};
 use burr_forms::Form;
@@ -185,7 +185,7 @@ pub(super) fn number_form(number: i16) -> Form
 {
     Form {
         constant: i64::from(number),
-        coefs: [0; 8],
+        coefs: [0; SLOTS],
     }
 }
 

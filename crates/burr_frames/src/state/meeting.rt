@@ -23,6 +23,7 @@ use crate::state::calls::{Exit, joined};
 use crate::state::{State, extend};
 use arrayvec::ArrayVec;
 use burr_code::Placement;
+use burr_code::limits::SLOTS;
 use burr_container::{ExitRef, FormOffset, FrameRef};
 use burr_forms::{Condition, Form, Point, first_failing};
 use thiserror::Error;
@@ -76,7 +77,7 @@ impl State {
     }
 
     /// The forms in the slots that are live in a frame, where the state meets it.
-    pub(super) fn met(&self, frame: &FrameRef<'_>) -> Result<ArrayVec<Form, 8>, Miss>
+    pub(super) fn met(&self, frame: &FrameRef<'_>) -> Result<ArrayVec<Form, SLOTS>, Miss>
         ensures { AgreesOrMisses self.now (framed (frame_of frame.now)) [] [] result }
     {
         self.agreed(frame, &State::of(frame), &[], &[])
@@ -91,7 +92,7 @@ impl State {
         there: &State,
         upper: &[Form],
         least: &[Form],
-    ) -> Result<ArrayVec<Form, 8>, Miss>
+    ) -> Result<ArrayVec<Form, SLOTS>, Miss>
         requires there { there.now ≡ state_of (framed (frame_of frame.now)) }
         requires rows { length upper.now ≡ length least.now }
         requires one { length least.now ≤ 1 }
@@ -262,7 +263,7 @@ fn are_values(forms: &[Form], symbols: &[i64], numbers: &[i64]) -> bool
 // at points.
 impl State {
     /// The forms in the slots that are live in a frame; None where one of them is not known.
-    pub(super) fn live_forms(&self, frame: &FrameRef<'_>) -> Option<ArrayVec<Form, 8>>
+    pub(super) fn live_forms(&self, frame: &FrameRef<'_>) -> Option<ArrayVec<Form, SLOTS>>
         ensures { GivesLiveForms (frame_of frame.now).slots self.now.slots result }
     {
         live_forms(&self.slots, frame)
@@ -295,7 +296,7 @@ impl State {
 }
 
 /// The forms in the slots that are live in a frame; None where one of them is not known.
-fn live_forms(slots: &[Option<Form>; 8], frame: &FrameRef<'_>) -> Option<ArrayVec<Form, 8>>
+fn live_forms(slots: &[Option<Form>; SLOTS], frame: &FrameRef<'_>) -> Option<ArrayVec<Form, SLOTS>>
     requires { All IsSmallSlot slots.now }
     ensures { GivesLiveForms (frame_of frame.now).slots slots.now result }
 {
@@ -313,7 +314,7 @@ fn live_forms(slots: &[Option<Form>; 8], frame: &FrameRef<'_>) -> Option<ArrayVe
 }
 
 /// The form in slot v.
-fn form_of(slots: &[Option<Form>; 8], v: u8) -> Option<Form>
+fn form_of(slots: &[Option<Form>; SLOTS], v: u8) -> Option<Form>
     requires { v < 8 }
     ensures { slice_get slots.now v ≡ Some result }
 {
