@@ -1,6 +1,6 @@
 -- The lines of home cells, one after the other.
-use Rattle.std.proofs.Common.{◌≡◌, ℕ, zero, suc, ◌+◌, ◌<◌, ◌≤◌, List, [], ◌∷◌, ◌++◌, length, map, drop, arith, refl, sym, ap, ◌∙◌, append_assoc, append-nil}
-use Rattle.std.specs.Prelude.{Some, None, IfSome, slice_get}
+use Rattle.std.proofs.Common.{◌≡◌, ℕ, zero, suc, ◌<◌, List, [], ◌∷◌, ◌++◌, length, map, drop, arith, sym, ap, ◌∙◌, append_assoc}
+use Rattle.std.specs.Prelude.{Some, IfSome, slice_get}
 use Rattle.std.specs.List.{flat_map}
 use Rattle.burr_voxels.specs.declared.cell.Cell.{Cell}
 use Rattle.burr_assembly.specs.Rules.Text.{Piece}

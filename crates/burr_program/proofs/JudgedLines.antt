@@ -20,14 +20,14 @@ use Rattle.burr_program.specs.Judging.{TellsJudged}
 -- Pairs
 
 -- a line is cut in one way, so where the names before and after it are no pair it has none
-pub unless_pair : (between : ℕ) (line a p : List ℕ) → IsCutAt between line a p → ¬ ArePair between line a p → ¬ IsPair between line
-unless_pair between line a p first none (b, q, is) =
-    let same : (b ≡ a) × (q ≡ p) = cut between b a q p (lacks between b is.cut.first) (lacks between a first.first) (sym is.cut.parts ∙ first.parts) in
-    none (subst (λ (x : List ℕ). ArePair between line x p) same.0 (subst (λ (y : List ℕ). ArePair between line b y) same.1 is))
+pub unless_pair : (separator : ℕ) (line a p : List ℕ) → IsCutAt separator line a p → ¬ ArePair separator line a p → ¬ IsPair separator line
+unless_pair separator line a p first none (b, q, is) =
+    let same : (b ≡ a) × (q ≡ p) = cut separator b a q p (lacks separator b is.cut.first) (lacks separator a first.first) (sym is.cut.parts ∙ first.parts) in
+    none (subst (λ (x : List ℕ). ArePair separator line x p) same.0 (subst (λ (y : List ℕ). ArePair separator line b y) same.1 is))
 
 -- where it can't be cut it is no pair
-pub unless_cut : (between : ℕ) (line : List ℕ) → ¬ Contains line between → ¬ IsPair between line
-unless_cut between line none (a, p, is) = none (subst (λ (l : List ℕ). Contains l between) (sym is.cut.parts) (contains_cut between a p))
+pub unless_cut : (separator : ℕ) (line : List ℕ) → ¬ Contains line separator → ¬ IsPair separator line
+unless_cut separator line none (a, p, is) = none (subst (λ (l : List ℕ). Contains l separator) (sym is.cut.parts) (contains_cut separator a p))
 
 -- bytes that are not read are no text
 pub unread : {E : Type 0} (bytes : List ℕ) (r : Result (Bor (List ℕ)) E) (Q : E → Type 0) → None ≡ result_ok r
@@ -45,19 +45,19 @@ judged_so old new bytes status first last (output, is, took) =
 
 -- No more of a line matters than the bytes that are kept
 
-kept_pair : (between : ℕ) (line : List ℕ) → IsPair between (take KEPT line) → IsPair between line
-kept_pair between line (a, p, is) =
+kept_pair : (separator : ℕ) (line : List ℕ) → IsPair separator (take KEPT line) → IsPair separator line
+kept_pair separator line (a, p, is) =
     let within : length line ≤ KEPT = omega (arith, is.short, length-take KEPT line) in
-    subst (IsPair between) (take_all KEPT line within) (a, p, is)
+    subst (IsPair separator) (take_all KEPT line within) (a, p, is)
 
-front_pair : (between : ℕ) (line : List ℕ) → IsPair between line → IsPair between (take KEPT line)
-front_pair between line (a, p, is) =
+front_pair : (separator : ℕ) (line : List ℕ) → IsPair separator line → IsPair separator (take KEPT line)
+front_pair separator line (a, p, is) =
     let within : length line ≤ KEPT = omega (arith, is.short) in
-    subst (IsPair between) (sym (take_all KEPT line within)) (a, p, is)
+    subst (IsPair separator) (sym (take_all KEPT line within)) (a, p, is)
 
-of_front : (between : ℕ) (line said : List ℕ) (status : Status) → LineEnds between (take KEPT line) said status → LineEnds between line said status
-of_front between line said status (inl (none, output, is)) = inl (λ pair. none (front_pair between line pair), output, is)
-of_front between line said status (inr (pair, comes)) = inr (kept_pair between line pair, comes)
+of_front : (separator : ℕ) (line said : List ℕ) (status : Status) → LineEnds separator (take KEPT line) said status → LineEnds separator line said status
+of_front separator line said status (inl (none, output, is)) = inl (λ pair. none (front_pair separator line pair), output, is)
+of_front separator line said status (inr (pair, comes)) = inr (kept_pair separator line pair, comes)
 
 pub tells_by_front : (tally : Tally) → TellsByFront KEPT AnswersPair AsksNothing tally
 tells_by_front tally = record {

@@ -17,9 +17,9 @@ use Rattle.burr_judge.specs.StepEnds.{Left}
 use Rattle.burr_judge.specs.Views.Dialogues.{IsDialogue, BreaksDialogue}
 
 -- two names with this byte between them, neither empty, in a line that is short enough
-pub record ArePair (between : ℕ) (line assembly plan : List ℕ) : Type 0 where
-  pub cut : IsCutAt between line assembly plan
-  pub two_names : ¬ Contains plan between
+pub record ArePair (separator : ℕ) (line assembly plan : List ℕ) : Type 0 where
+  pub cut : IsCutAt separator line assembly plan
+  pub two_names : ¬ Contains plan separator
   pub assembly_named : assembly ≢ []
   pub plan_named : plan ≢ []
   pub assembly_is_text : IsUtf8 assembly
@@ -28,7 +28,7 @@ pub record ArePair (between : ℕ) (line assembly plan : List ℕ) : Type 0 wher
 
 -- the line names an assembly and a plan
 abbrev pub IsPair : ℕ → List ℕ → Type 0
-IsPair between line = (assembly plan : List ℕ) × ArePair between line assembly plan
+IsPair separator line = (assembly plan : List ℕ) × ArePair separator line assembly plan
 
 -- what `check` prints, for some bytes of the two files, with its status
 abbrev pub PairEnds : Ends
@@ -38,9 +38,9 @@ PairEnds output status =
 -- what is said of a line, and with which status: it is no pair; or its plan is judged; or a file can't
 -- be read; or memory was refused
 abbrev pub LineEnds : ℕ → List ℕ → Ends
-LineEnds between line output status =
-    ((¬ IsPair between line) × (output ≡ codes "refused pair\n") × (status ≡ Refused))
-    ⊎ (IsPair between line × (PairEnds output status
+LineEnds separator line output status =
+    ((¬ IsPair separator line) × (output ≡ codes "refused pair\n") × (status ≡ Refused))
+    ⊎ (IsPair separator line × (PairEnds output status
     ⊎ ((output ≡ codes "cannot read\n") × (status ≡ Failed))
     ⊎ ((output ≡ codes "no memory\n") × (status ≡ Memory))))
 

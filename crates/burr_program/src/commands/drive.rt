@@ -23,8 +23,8 @@ pub fn drive_files<'a, F: Files + AllocGlobal, R: Source, W: Sink, const N: usiz
     requires fresh { sink.old.held ≡ [] }
     ensures { EndsOnFiles (lines_view W.Sink) sink.old sink.new
         (DriveCommand (left_by R.Source source.old source.new))
-        (DriveCommandBreaks (streams R.Source source.old source.new W.Sink sink.old.sink sink.new.sink))
-        result }
+        (DriveCommandBreaks
+        (streams R.Source source.old source.new W.Sink sink.old.sink sink.new.sink)) result }
 {
     let text = read_file(files, assembly)?;
     let plan = read_file(files, plan)?;

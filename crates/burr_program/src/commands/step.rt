@@ -23,8 +23,8 @@ pub fn step_files<'a, F: Files + AllocGlobal, R: Source, W: Sink, const N: usize
     requires fresh { sink.old.held ≡ [] }
     ensures { EndsOnFiles (lines_view W.Sink) sink.old sink.new
         (StepCommand (left_by R.Source source.old source.new))
-        (StepCommandBreaks (streams R.Source source.old source.new W.Sink sink.old.sink sink.new.sink))
-        result }
+        (StepCommandBreaks
+        (streams R.Source source.old source.new W.Sink sink.old.sink sink.new.sink)) result }
 {
     let text = read_file(files, assembly)?;
     let container = read_file(files, plan)?;
