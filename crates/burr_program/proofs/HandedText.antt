@@ -13,7 +13,7 @@ use Rattle.burr_runs.specs.Views.BenchText.{streams, Succeeds, Fails}
 use Rattle.burr_program.specs.Ends.{took, TakesText, FailsInOutput, HasNoOutcome}
 
 -- a front of a front is one of the whole
-front_more : (old new : Option (List ℕ)) (front rest text : List ℕ) → text ≡ front ++ rest → HoldsFront old new front → HoldsFront old new text
+pub front_more : (old new : Option (List ℕ)) (front rest text : List ℕ) → text ≡ front ++ rest → HoldsFront old new front → HoldsFront old new text
 front_more None new front rest text parts holds = tt
 front_more (Some x) None front rest text parts holds = holds
 front_more (Some x) (Some y) front rest text parts (more, same) =

@@ -2,6 +2,7 @@ mod CellLines
 mod Ending
 mod ExplainLaws
 mod HandedText
+mod HowFar
 mod JudgedLines
 mod Making
 mod Noted

@@ -1,5 +1,5 @@
 -- How what is made for a file ends: from what it is told of an assembly to what is told of its text.
-use Rattle.std.proofs.Common.{◌≡◌, ◌⊎◌, List, Vec, ℕ, ◌∙◌, refl, sym, subst, inl, inr, arith}
+use Rattle.std.proofs.Common.{◌≡◌, ◌⊎◌, List, Vec, ℕ, ◌∙◌, refl, sym, ap, subst, inl, inr, arith}
 use Rattle.std.specs.Prelude.{Option, Some, None, Result, Ok, Err, IfOk, IfErr}
 use Rattle.std.specs.Result.{IsErrAnd}
 use Rattle.std.specs.declared.alloc.Global.{Global}
@@ -51,15 +51,18 @@ notes_done sink before after notes (Ok status) (same, put) = ((notes, rw same (i
 notes_done sink before after notes (Err fault) (line, within) = (tt, inl (line, (notes, Done, inl (omega arith), within)))
 
 -- From where a plan is used, or refused, to what is told of what is made.
-pub done_made : {S T : Type 0} (sink : SinkView S) (first last : Option T) (before after : S) (IsSuch : T → Type 0) (text : List ℕ) (plan : Given) (r : Result Status Fault)
-    → LadderComes (WantsMemory before after r × (last ≡ first)) (λ line. EndsOn sink before after DoneEnds r × (last ≡ first)) (λ kept a. Makes sink first before DoneEnds IsSuch last after r) text plan
-    → Makes sink first before DoneEnds IsSuch last after r
-done_made sink first last before after IsSuch text plan r come =
-    text_told (λ ends. Makes sink first before DoneEnds IsSuch last after r) (λ these those among told. told)
-    (WantsMemory before after r × (last ≡ first)) (λ line. EndsOn sink before after DoneEnds r × (last ≡ first)) (λ kept a. Makes sink first before DoneEnds IsSuch last after r) (λ kept a. DoneEnds) text plan
-    (λ ends want. makes_nothing sink first last before after DoneEnds IsSuch r want.1 (memory_ends sink before after DoneEnds r want.0))
-    (λ line is. makes_nothing sink first last before after DoneEnds IsSuch r is.1 is.0)
+pub done_made : {S T I : Type 0} (sink : SinkView S) (made_of : I → Option T) (first last : I) (before after : S) (IsSuch : T → Type 0) (text : List ℕ) (plan : Given) (r : Result Status Fault)
+    → LadderComes (WantsMemory before after r × (last ≡ first)) (λ line. EndsOn sink before after DoneEnds r × (last ≡ first)) (λ kept a. Makes sink (made_of first) before DoneEnds IsSuch (made_of last) after r) text plan
+    → Makes sink (made_of first) before DoneEnds IsSuch (made_of last) after r
+done_made {S} {T} {I} sink made_of first last before after IsSuch text plan r come =
+    text_told (λ ends. Comes) (λ these those among told. told)
+    (WantsMemory before after r × (last ≡ first)) (λ line. EndsOn sink before after DoneEnds r × (last ≡ first)) (λ kept a. Comes) (λ kept a. DoneEnds) text plan
+    (λ ends want. makes_nothing sink (made_of first) (made_of last) before after DoneEnds IsSuch r (ap made_of want.1) (memory_ends sink before after DoneEnds r want.0))
+    (λ line is. makes_nothing sink (made_of first) (made_of last) before after DoneEnds IsSuch r (ap made_of is.1) is.0)
     (λ a read bytes of kept was makes. makes) come
+  where
+    Comes : Type 0
+    Comes = Makes sink (made_of first) before DoneEnds IsSuch (made_of last) after r
 
 -- from an assembly's text
 pub text_made : {S T : Type 0} (sink : SinkView S) (first last : Option T) (before after : S) (AreEnds : Ends) (IsSuch : Assembly → T → Type 0) (text : List ℕ) (r : Result Status Fault)

@@ -1,8 +1,10 @@
 -- How the program ends: its status, and what it tells on standard error.
-use Rattle.std.specs.Prelude.{◌≡◌, ◌⊎◌, ℕ, List, Bool, Option, true}
+use Rattle.std.specs.Prelude.{◌≡◌, ◌⊎◌, ◌*◌, ℕ, zero, suc, List, [], ◌∷◌, ◌++◌, codes, decimal, Bool, Option, true}
 use Rattle.std.specs.Io.KnownBytes.{Appends}
+use Rattle.burr_text.specs.Words.{text_line}
 use Rattle.burr_io.specs.Sink.{HoldsFront, SinkView}
 use Rattle.burr_command.specs.declared.job.Job.{Job}
+use Rattle.burr_command.specs.declared.job.Job.TheVariants as jobs
 use Rattle.burr_runs.specs.declared.outcome.Outcome.{Outcome}
 use Rattle.burr_runs.specs.declared.fault.BenchFault.{BenchFault}
 use Rattle.burr_runs.specs.declared.fault.BenchFault.TheVariants.{Read, TooLong, Write, Memory}
@@ -45,6 +47,10 @@ FailsInText t text = HoldsFront t.old t.new text × (t.failed ≡ true)
 abbrev pub TakesText : Taken → List ℕ → Type 0
 TakesText t text = Appends t.old t.new text ⊎ FailsInText t text
 
+-- it took a text, or it failed in it; and of no text it took nothing
+abbrev pub TakesAny : Taken → List ℕ → Type 0
+TakesAny t text = TakesText t text × (text ≡ [] → TakesNothing t)
+
 -- Without words
 
 -- The run on the streams had an outcome, which the status tells, and standard error took nothing.
@@ -80,16 +86,30 @@ IsRun streams complaints status =
 
 -- With words
 
--- A fault is told: its line, with the status that goes with it.
-abbrev pub TellsFault : Taken → ℕ → Fault → Type 0
-TellsFault complaints status fault =
-    (status ≡ code_of (status_of_fault fault)) × TakesText complaints (line_of fault)
+-- the line that tells how many runs were made
+abbrev pub runs_line : ℕ → List ℕ
+runs_line count = text_line (codes "frames:" ∷ decimal count ∷ codes "runs" ∷ [])
 
--- standard output took what is printed where it ends so, with this status, and nothing is told
-abbrev pub Prints : Ends → Taken → Taken → ℕ → Type 0
-Prints AreEnds sink complaints status =
+-- these lines, after this many hundreds of runs
+abbrev pub runs_lines : ℕ → List ℕ
+runs_lines zero = []
+runs_lines (suc hundreds) = runs_lines hundreds ++ runs_line (suc hundreds * 100)
+
+-- what a job tells on standard error on its way: nothing, but of `frames` how many runs were made
+abbrev pub IsHowFar : Job → List ℕ → Type 0
+IsHowFar (jobs.Frames assembly text out) told = (hundreds : ℕ) × (told ≡ runs_lines hundreds)
+IsHowFar job told = told ≡ []
+
+-- A fault is told after a text: its line, with the status that goes with it.
+abbrev pub TellsFault : Taken → List ℕ → ℕ → Fault → Type 0
+TellsFault complaints told status fault =
+    (status ≡ code_of (status_of_fault fault)) × TakesText complaints (told ++ line_of fault)
+
+-- standard output took what is printed where it ends so, with this status, and a text is told
+abbrev pub Prints : Ends → Taken → Taken → List ℕ → ℕ → Type 0
+Prints AreEnds sink complaints told status =
     (output : List ℕ) × (ended : Status) × AreEnds output ended
-    × Appends sink.old sink.new output × (status ≡ code_of ended) × TakesNothing complaints
+    × Appends sink.old sink.new output × (status ≡ code_of ended) × TakesAny complaints told
 
 -- standard output failed in what is printed where it ends so
 abbrev pub FailsToPrint : Ends → Taken → Type 0
@@ -107,11 +127,12 @@ StopsJob job s line =
     ((line ≡ output_failed) × FailsToPrint (JobEnds (left_of s) job) (sink_of s))
     ⊎ TakesNothing (sink_of s) ⊎ JobBreaks s job line
 
--- a job was done, or stopped with a fault, which is told
+-- a job was done, or stopped with a fault, which is told; and before that, how far it was
 abbrev pub DoesJob : Streams → Taken → ℕ → Job → Type 0
 DoesJob s complaints status job =
-    Prints (JobEnds (left_of s) job) (sink_of s) complaints status
-    ⊎ ((fault : Fault) × TellsFault complaints status fault × StopsJob job s (line_of fault))
+    (told : List ℕ) × IsHowFar job told
+    × (Prints (JobEnds (left_of s) job) (sink_of s) complaints told status
+    ⊎ ((fault : Fault) × TellsFault complaints told status fault × StopsJob job s (line_of fault)))
 
 -- some text, for help and the version
 abbrev pub IsHelp : Ends
@@ -120,10 +141,10 @@ IsHelp output status = status ≡ Done
 -- help or the version was printed; or what is wrong with the words was told; or a fault
 abbrev pub Replies : Taken → Taken → ℕ → Type 0
 Replies sink complaints status =
-    Prints IsHelp sink complaints status
+    Prints IsHelp sink complaints [] status
     ⊎ ((status ≡ code_of CommandLine) × TakesNothing sink
     × ((text : List ℕ) × TakesText complaints text))
-    ⊎ ((fault : Fault) × TellsFault complaints status fault
+    ⊎ ((fault : Fault) × TellsFault complaints [] status fault
     × (FailsToPrint IsHelp sink ⊎ TakesNothing sink))
 
 -- The words were answered: by a reply, or by a job that was done.

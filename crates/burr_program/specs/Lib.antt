@@ -4,7 +4,9 @@ pub mod Commands
 pub mod Ends
 pub mod ExplainEnds
 pub mod ExplainLaws
+pub mod Filling
 pub mod HandedOn
+pub mod HowFar
 pub mod Judging
 pub mod ListEnds
 pub mod MakingEnds

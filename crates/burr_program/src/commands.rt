@@ -21,6 +21,7 @@ ghost use Rattle.burr_io.specs.WholeLines.{lines_view};
 ghost use Rattle.burr_runs.specs.Views.BenchText.{streams};
 ghost use Rattle.burr_judge.specs.StepEnds.{left_by};
 ghost use Rattle.burr_program.specs.Commands.{JobEnds, JobBreaks, EndsOnFiles};
+ghost use Rattle.burr_program.specs.HowFar.{TellsHowFar};
 
 use asm::assemble_file;
 use burr_command::Job;
@@ -42,18 +43,29 @@ use upgrade::upgrade_file;
 use why::why_files;
 
 /// Does a command's job, and puts what there is to print; `judge`, `step` and `drive` hand on each
-/// answer by themselves.
-pub fn put_job<'a, F: Files + AllocGlobal, R: Source, W: Sink, const N: usize>(
+/// answer by themselves, and `frames` tells the complaints how far it is.
+pub fn put_job<
+    'a,
+    F: Files + AllocGlobal,
+    R: Source,
+    W: Sink,
+    E: Sink,
+    const N: usize,
+    const M: usize,
+>(
     files: &F,
     job: &'a Job<'_>,
     source: &mut R,
     sink: &mut WholeLines<W, N>,
+    complaints: &mut WholeLines<E, M>,
 ) -> Result<Status, Fault<'a>>
     requires fresh { sink.old.held ≡ [] }
-    ensures { EndsOnFiles (lines_view W.Sink) sink.old sink.new
+    requires told { complaints.old.held ≡ [] }
+    ensures ends { EndsOnFiles (lines_view W.Sink) sink.old sink.new
         (JobEnds (left_by R.Source source.old source.new) job.entry.now)
         (JobBreaks (streams R.Source source.old source.new W.Sink sink.old.sink sink.new.sink)
         job.entry.now) result }
+    ensures told { TellsHowFar E.Sink job.entry.now complaints.old complaints.new }
 {
     match job {
         Job::Cells { assembly } => cells_file(files, assembly, sink),
@@ -77,7 +89,7 @@ pub fn put_job<'a, F: Files + AllocGlobal, R: Source, W: Sink, const N: usize>(
             assembly,
             text,
             out,
-        } => frames_file(files, assembly, text, out, sink),
+        } => frames_file(files, assembly, text, out, sink, complaints),
         Job::PlanSheet {
             assembly,
             sheet,

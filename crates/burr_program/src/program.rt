@@ -10,6 +10,7 @@ ghost use Rattle.burr_judge.specs.StepEnds.{left_by};
 ghost use Rattle.burr_program.specs.Commands.{EndingBelow, JobEnds, JobBreaks};
 ghost use Rattle.burr_program.specs.Ends.{DoesJob, FailsInText, IsEnd, IsRun, Replies, TakesText, TellsFault, took_by};
 ghost use Rattle.burr_program.specs.HandedOn.{HandsOnDone};
+ghost use Rattle.burr_program.specs.HowFar.{IsReady, Tells, TellsHowFar};
 
 use crate::commands::put_job;
 use burr_command::{Job, Reply, Request, request_of};
@@ -80,35 +81,40 @@ fn work<F: Files + AllocGlobal, R: Source, W: Sink, E: Sink, const N: usize, con
         (streams R.Source source.old source.new W.Sink sink.old.sink sink.new.sink)
         (took_by E.Sink complaints.old.sink complaints.new.sink) (code_of result) job.now }
 {
-    match do_job(files, job, source, sink) {
+    match do_job(files, job, source, sink, complaints) {
         Ok(status) => status,
         Err(fault) => end_by(&fault, complaints),
     }
 }
 
 /// Does a command's job, and hands on all that there is to print.
-fn do_job<'a, F: Files + AllocGlobal, R: Source, W: Sink, const N: usize>(
+fn do_job<'a, F: Files + AllocGlobal, R: Source, W: Sink, E: Sink, const N: usize, const M: usize>(
     files: &F,
     job: &'a Job<'_>,
     source: &mut R,
     sink: &mut WholeLines<W, N>,
+    complaints: &mut WholeLines<E, M>,
 ) -> Result<Status, Fault<'a>>
     requires fresh { sink.old.held ≡ [] }
-    ensures { EndingBelow W.Sink sink.old.sink sink.new.sink
+    requires told { complaints.old.held ≡ [] }
+    ensures ends { EndingBelow W.Sink sink.old.sink sink.new.sink
         (JobEnds (left_by R.Source source.old source.new) job.entry.now)
         (JobBreaks (streams R.Source source.old source.new W.Sink sink.old.sink sink.new.sink)
         job.entry.now) result }
+    ensures told { TellsHowFar E.Sink job.entry.now complaints.old complaints.new }
 {
-    let done = put_job(files, job, source, sink);
+    let done = put_job(files, job, source, sink, complaints);
     hand_on(done, sink)
 }
 
-/// Puts the line of standard error for a fault, and hands it on.
+/// Puts the line of standard error for a fault, and hands it on, unless that has failed.
 fn complain_of<E: Sink, const N: usize>(fault: &Fault<'_>, complaints: &mut WholeLines<E, N>)
-    requires told { complaints.old.held ≡ [] }
-    ensures { TakesText (took_by E.Sink complaints.old.sink complaints.new.sink)
-        (line_of fault.now) }
+    requires ready { IsReady E.Sink complaints.old }
+    ensures { Tells E.Sink complaints.old complaints.new (line_of fault.now) }
 {
+    if complaints.failed() {
+        return;
+    }
     let _ = put_fault(fault, complaints);
     let _ = complaints.flush();
 }
@@ -207,10 +213,9 @@ fn run<R: Source, W: Sink, E: Sink, const N: usize, const M: usize>(
 
 /// Tells a fault, and gives the status to end with.
 fn end_by<E: Sink, const N: usize>(fault: &Fault<'_>, complaints: &mut WholeLines<E, N>) -> Status
-    requires told { complaints.old.held ≡ [] }
+    requires ready { IsReady E.Sink complaints.old }
     ensures status { result ≡ status_of_fault fault.now }
-    ensures told { TakesText (took_by E.Sink complaints.old.sink complaints.new.sink)
-        (line_of fault.now) }
+    ensures told { Tells E.Sink complaints.old complaints.new (line_of fault.now) }
 {
     complain_of(fault, complaints);
     fault.status()

@@ -444,6 +444,49 @@ $burr why ring w.plan
 ?0
 ";
 
+/// Texts whose runs are told of by hundreds: with 221 answers to a question, all or up to one whose run
+/// is stopped.
+const MANY_RUNS: &str = "\
+<plan cup 2 auto
+<proc main 0
+<label start
+<auto
+<grip 0
+<ask 0 220
+<store 0
+<label L
+<auto
+<down 0 L
+<aside +z 1
+<halt
+=q.plan
+$burr frames cup q.plan w.plan
+!frames: 100 runs
+!frames: 200 runs
+?0
+$burr why cup w.plan
+>accepted cost 226 budget 226 looks 1
+?0
+$burr frames cup q.plan none/w.plan
+!frames: 100 runs
+!frames: 200 runs
+!cannot write none/w.plan
+?3
+@q.plan
+/2 auto/2 126
+=r.plan
+$burr frames cup r.plan v.plan
+!frames: 100 runs
+>1 t0 A +z 0 out
+>levels 1
+>stopped after 126 steps
+>    answers: 121
+?1
+$burr why cup v.plan
+!cannot read v.plan
+?3
+";
+
 /// Three cubes in a row.
 const ROW: &str = "\
 <assembly row
@@ -541,6 +584,19 @@ fn makes_plans_of_sheets_and_fills_in_frames(rt: HostRuntime) {
     assert_examples(&rt, SHEETS);
     assert_transcript(&rt, FRAMES);
     assert_examples(&rt, QUESTIONS);
+}
+
+#[test]
+fn tells_how_many_runs_were_made(rt: HostRuntime) {
+    assert_examples(&rt, MANY_RUNS);
+    let words = words_of(&rt, "burr frames cup q.plan u.plan");
+    for told in ["", "fra", "frames: 100 runs\n", "frames: 100 runs\nf"] {
+        let mut end = End::new();
+        end.complaint.room = told.len();
+        end.call(&rt, &words, Drips::of(""));
+        assert!(rt; end.is(0, "", told));
+        assert!(rt; are_alike(&rt, "u.plan", "w.plan"));
+    }
 }
 
 #[test]

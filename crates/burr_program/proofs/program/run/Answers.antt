@@ -14,7 +14,7 @@ returns-in-Err-flush g c =
             c.requires.fresh c.in-Ok.ensures.ok c.in-Err-flush.ensures.puts.err,
         ap code_of (c.end_by.ensures.status ∙ c.from-in-Err-flush.ensures.1),
         subst (λ (line : List ℕ). TakesText (took (g.E.Sink.taken c.args.complaints.now.sink) (g.E.Sink.taken c.end_by.new.complaints.sink)
-            (g.E.Sink.has_failed c.end_by.new.complaints.sink)) line) c.from-in-Err-flush.ensures.0 c.end_by.ensures.told,
+            (g.E.Sink.has_failed c.end_by.new.complaints.sink)) line) c.from-in-Err-flush.ensures.0 c.end_by.ensures.told.takes,
       ),
     )
 
@@ -27,7 +27,7 @@ returns-in-Err g c =
             c.in-Err.ensures.err c.in-Err.ensures.untouched,
         ap code_of (c.end_by-in-Err.ensures.status ∙ c.from-in-Err.ensures.1),
         subst (λ (line : List ℕ). TakesText (took (g.E.Sink.taken c.args.complaints.now.sink) (g.E.Sink.taken c.end_by-in-Err.new.complaints.sink)
-            (g.E.Sink.has_failed c.end_by-in-Err.new.complaints.sink)) line) c.from-in-Err.ensures.0 c.end_by-in-Err.ensures.told,
+            (g.E.Sink.has_failed c.end_by-in-Err.new.complaints.sink)) line) c.from-in-Err.ensures.0 c.end_by-in-Err.ensures.told.takes,
       ),
     )
 

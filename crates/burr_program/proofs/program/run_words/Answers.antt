@@ -14,4 +14,4 @@ pub returns-in-Ok-Job-clause-end : goal.returns-in-Ok-Job-clause-end
 returns-in-Ok-Job-clause-end g c = λ more. rw c.code-in-Ok-Job.ensures (inr (_, c.work.ensures))
 
 pub returns-in-Err-clause-end : goal.returns-in-Err-clause-end
-returns-in-Err-clause-end g c = λ more. rw c.code-in-Err.ensures (inl (inr (inr (Memory, (ap code_of c.end_by.ensures.status, c.end_by.ensures.told), inr refl))))
+returns-in-Err-clause-end g c = λ more. rw c.code-in-Err.ensures (inl (inr (inr (Memory, (ap code_of c.end_by.ensures.status, c.end_by.ensures.told.takes), inr refl))))
