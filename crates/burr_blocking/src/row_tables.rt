@@ -266,6 +266,8 @@ impl PairAnswers for PairRows {
             )
     }
 
+    // a function of its own, so that `blocked` stays small where it is put into a loop over looks
+    #[inline(never)]
     fn free(&self, displacement: Cell, direction: Direction) -> bool {
         match direction {
             Direction::PlusX => self.is_clear_plus_x(displacement),

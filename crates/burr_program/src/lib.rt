@@ -16,8 +16,8 @@
 //!   there by its line: `cannot read NAME` or `cannot write NAME` with status 3, `no memory` with 4,
 //!   a fault of the command line with 2.
 //!   Standard output then took nothing, or it failed and took a front of what the job prints.
-//! - On its way `frames` alone tells something on standard error: after a hundred runs
-//!   `frames: 100 runs`, after two hundred `frames: 200 runs` too, and so on.
+//! - On its way `frames` alone tells something on standard error: some of the lines
+//!   `frames: 100 runs`, `frames: 200 runs` and so on, each once and in their order.
 //! - Where `judge`, `step` or `drive` tells `cannot read -` or `no memory`, standard output may
 //!   have taken the answers before it broke off.
 //!
