@@ -16,16 +16,15 @@ use Rattle.burr_blocking.specs.Rules.Pairs.{Clears}
 use Rattle.burr_blocking.proofs.Common.Displaced.{free_of_difference, difference_of_free, blocked_of_overlap, overlap_of_blocked}
 use Rattle.burr_forms.specs.Rules.Forms.{Point, values}
 use Rattle.burr_container.specs.Rules.Plans.{FormCell}
-use Rattle.burr_frames.specs.declared.clearing.TrayPair.{TrayPair}
 use Rattle.burr_frames.specs.Rules.States.{cell_at}
 use Rattle.burr_frames.specs.Rules.SpaceRules.{PairAt, IsApartBy}
 use Rattle.burr_frames.specs.Rules.Looks.{pieces_in, gripped_in, left_in, grip_pairs}
 use Rattle.burr_frames.specs.Rules.Verdicts.{IsFirstPair}
-use Rattle.burr_frames.specs.Views.Clearing.{IsPairClear, FirstPairOf, number_in, cell_of, offsets_in, pair_in, tray_pairs}
+use Rattle.burr_frames.specs.Views.Clearing.{TrayPair, IsPairClear, FirstPairOf, number_in, cell_of, offsets_in}
 use Rattle.burr_frames.proofs.BenchOffsets.{stands_at}
 use Rattle.burr_frames.proofs.Common.Until.{EachIs}
 use Rattle.burr_frames.proofs.Each.{each_of_all, all_of_each, each_true, each_map, each_unmap, each_same}
-use Rattle.burr_frames.proofs.GripPairs.{each_grip_pair, of_grip_pair, of_rows, FirstOf, Earlier, first_in_rows, rising_pieces, rising_filter}
+use Rattle.burr_frames.proofs.GripPairs.{pair_in, tray_pairs, each_grip_pair, of_grip_pair, of_rows, FirstOf, Earlier, first_in_rows, rising_pieces, rising_filter}
 
 -- Two groups of cells at offsets
 
@@ -56,14 +55,14 @@ first_none assembly query numbers (pair ∷ pairs) found (inr (is, rest)) =
 -- the first pair that is not clear, by another condition on its pieces
 first_like : (assembly : Assembly) (query : Query) (numbers : List ℤ) (f : ℕ → ℕ → TrayPair) (P : ℕ → ℕ → Type 0) (pairs : List (ℕ × ℕ))
     (found : Option (ℕ × ℕ))
-    → ((p q : ℕ) → ((f p q).piece ≡ p) × ((f p q).other ≡ q))
+    → ((p q : ℕ) → ((f p q).0.piece ≡ p) × ((f p q).1.piece ≡ q))
     → EachIs (λ pair. IsPairClear assembly query numbers (f pair.0 pair.1) ↔ P pair.0 pair.1) pairs
     → FirstPairOf assembly query numbers (map (λ pair. f pair.0 pair.1) pairs) found → FirstOf P pairs found
 first_like assembly query numbers f P [] found named same h = h
 first_like assembly query numbers f P ((p, q) ∷ pairs) found named same (inl (fails, e)) =
     inl (
       (λ good. fails (same.0.1 good)),
-      e ∙ ap (λ (r : ℕ). Some (r, (f p q).other)) (named p q).0 ∙ ap (λ (t : ℕ). Some (p, t)) (named p q).1,
+      e ∙ ap (λ (r : ℕ). Some (r, (f p q).1.piece)) (named p q).0 ∙ ap (λ (t : ℕ). Some (p, t)) (named p q).1,
     )
 first_like assembly query numbers f P ((p, q) ∷ pairs) found named same (inr (is, rest)) =
     inr (same.0.0 is, first_like assembly query numbers f P pairs found named same.1 rest)

@@ -15,13 +15,14 @@ use Rattle.burr_container.specs.Rules.Plans.{FormCell}
 use Rattle.burr_forms.specs.Views.Counting.{searched, looks_at_values}
 use Rattle.burr_forms.specs.Rules.Forms.{Point, values}
 use Rattle.burr_forms.specs.Rules.Points.{points_of}
-use Rattle.burr_frames.specs.Views.Clearing.{IsPairClear, offsets_in, pair_in}
+use Rattle.burr_frames.specs.Views.Clearing.{IsPairClear, offsets_in}
 use Rattle.burr_frames.specs.Rules.Looks.{until_one_fails, Look, look_of, grip_pairs, IsGoodLook, clearing_looks, step_looks, aside_looks}
 use Rattle.burr_frames.specs.Rules.SpaceRules.{OnBenchAt, moved, AllSmallPlaces}
 use Rattle.burr_frames.specs.Rules.States.{AbstractState, Everywhere, IsFirstFailing}
 use Rattle.burr_frames.proofs.Clearances.{clear_where_good, same_pairs}
 use Rattle.burr_frames.proofs.Common.Until.{EachIs, until_like}
 use Rattle.burr_frames.proofs.Each.{each_true, each_map, each_unmap}
+use Rattle.burr_frames.proofs.GripPairs.{pair_in}
 use Rattle.burr_frames.proofs.MoveVerdicts.{Searched, search_of, AllAreClear}
 use Rattle.burr_frames.proofs.SearchedPairs.{pairs_searched, searched_same}
 

@@ -1,5 +1,5 @@
 -- The pairs of a grip: what is so of each of them, and the first that is not so.
-use Rattle.std.proofs.Common.{◌≡◌, ◌⊎◌, ℕ, zero, suc, ◌+◌, ◌<◌, ◌≤◌, List, [], ◌∷◌, ◌++◌, take, Bool, true, false, Option, Some, None, refl, sym, ap, subst, arith, inl, inr}
+use Rattle.std.proofs.Common.{◌≡◌, ◌⊎◌, ℕ, zero, suc, ◌+◌, ◌<◌, ◌≤◌, List, [], ◌∷◌, ◌++◌, ◌∙◌, take, Bool, true, false, Option, Some, None, refl, sym, ap, subst, arith, inl, inr}
 use Rattle.std.specs.Prelude.{map, filter, not, if◌then◌else◌}
 use Rattle.std.proofs.lemmas.Option.{none-some, same_Some, some_pair_parts}
 use Rattle.burr_text.specs.Checks.{needs}
@@ -10,6 +10,8 @@ use Rattle.burr_code.specs.Places.{LiesAt, is_in}
 use Rattle.burr_code.proofs.Common.PieceSets.{not_left_out, left_out, in_set, not_in_set}
 use Rattle.burr_container.specs.Rules.Plans.{FormCell}
 use Rattle.burr_frames.specs.Rules.Looks.{pieces_in, gripped_in, left_in, pairs_of, grip_pairs}
+use Rattle.burr_frames.specs.declared.clearing.TrayPiece.{TrayPiece}
+use Rattle.burr_frames.specs.Views.Clearing.{TrayPair, piece_in, gripped_pieces, left_pieces}
 use Rattle.burr_frames.proofs.BenchOffsets.{in_tray, is_here}
 use Rattle.burr_frames.proofs.Common.Until.{EachIs}
 use Rattle.burr_frames.proofs.Each.{each_true, each_weaker, each_unmap, each_filter, of_filter, each_pair, each_of_pairs}
@@ -22,7 +24,7 @@ none_here k = omega arith
 one_on : (k p : ℕ) → suc k + p ≡ k + suc p
 one_on k p = omega arith
 
-zero_first : (p : ℕ) → 0 + p ≡ p
+pub zero_first : (p : ℕ) → 0 + p ≡ p
 zero_first p = omega arith
 
 -- of these pieces, and of piece k before them if it is in the tray
@@ -30,7 +32,7 @@ abbrev FirstBy : (ℕ → Type 0) → ℕ → List ℕ → Bool → Type 0
 FirstBy Q k pieces here = EachIs Q (if here then k ∷ pieces else pieces)
 
 -- of the first n places, the first is that of piece k
-each_piece : (Q : ℕ → Type 0) (tray n k : ℕ) (places : List (Placement FormCell))
+pub each_piece : (Q : ℕ → Type 0) (tray n k : ℕ) (places : List (Placement FormCell))
     → ((p : ℕ) (c : FormCell) → p < n → LiesAt places p tray c → Q (k + p)) → EachIs Q (pieces_in tray k (take n places))
 each_piece Q tray zero k places h = tt
 each_piece Q tray (suc n) k [] h = tt
@@ -85,15 +87,14 @@ module _ (Q : ℕ → ℕ → Type 0) (tray grip n : ℕ) (places : List (Placem
   abbrev pieces : List ℕ
   pieces = pieces_in tray 0 (take n places)
 
-  pub each_grip_pair : OfEach → EachPair
-  each_grip_pair h =
-      each_pair Q (gripped_in grip pieces) (left_in grip pieces)
-      (each_filter (λ p. not (is_left_out grip p)) (λ p. EachIs (λ q. Q p q) (left_in grip pieces)) pieces
+  pub each_row : OfEach → EachIs (λ p. EachIs (λ q. Q p q) (left_in grip pieces)) (gripped_in grip pieces)
+  each_row h =
+      each_filter (λ p. not (is_left_out grip p)) (λ p. EachIs (λ q. Q p q) (left_in grip pieces)) pieces
       (each_piece (λ p. not (is_left_out grip p) ≡ true → EachIs (λ q. Q p q) (left_in grip pieces)) tray n 0 places
       (λ p c below lies gripped.
       each_filter (is_left_out grip) (λ q. Q (0 + p) q) pieces
       (each_piece (λ q. is_left_out grip q ≡ true → Q (0 + p) q) tray n 0 places
-      (λ q d below_q lies_q out. at p q c d below below_q lies lies_q gripped out)))))
+      (λ q d below_q lies_q out. at p q c d below below_q lies lies_q gripped out))))
     where
       at : (p q : ℕ) (c d : FormCell) → p < n → q < n → LiesAt places p tray c → LiesAt places q tray d
           → not (is_left_out grip (0 + p)) ≡ true → is_left_out grip (0 + q) ≡ true → Q (0 + p) (0 + q)
@@ -103,6 +104,9 @@ module _ (Q : ℕ → ℕ → Type 0) (tray grip n : ℕ) (places : List (Placem
           (h p q c d below below_q lies lies_q
           (in_set grip p (not_false _ (subst (λ (k : ℕ). not (is_left_out grip k) ≡ true) (zero_first p) gripped)))
           (not_in_set grip q (subst (λ (k : ℕ). is_left_out grip k ≡ true) (zero_first q) out))))
+
+  pub each_grip_pair : OfEach → EachPair
+  each_grip_pair h = each_pair Q (gripped_in grip pieces) (left_in grip pieces) (each_row h)
 
   -- from the rows of the gripped pieces
   pub of_rows : EachIs (λ p. EachIs (λ q. Q p q) (left_in grip pieces)) (gripped_in grip pieces) → OfEach
@@ -238,3 +242,34 @@ module _ (P : ℕ → ℕ → Type 0) where
               after.1,
             ),
           )
+
+-- The pairs as a search is handed them
+
+abbrev row_with : {A : Type 0} → A → List A → List (A × A)
+row_with p qs = map (λ q. (p, q)) qs
+
+abbrev both : {A B : Type 0} → (A → B) → A × A → B × B
+both f pair = (f pair.0, f pair.1)
+
+pairs-map : {A B : Type 0} (f : A → B) (ps qs : List A) → pairs_of (map f ps) (map f qs) ≡ map (both f) (pairs_of ps qs)
+pairs-map f [] qs = refl
+pairs-map {A} {B} f (p ∷ ps) qs =
+    ap (λ (rest : List (B × B)). row_with (f p) (map f qs) ++ rest) (pairs-map f ps qs) ∙ row qs
+  where
+    row : (xs : List A) → row_with (f p) (map f xs) ++ map (both f) (pairs_of ps qs)
+        ≡ map (both f) (row_with p xs ++ pairs_of ps qs)
+    row [] = refl
+    row (x ∷ xs) = ap (λ (rest : List (B × B)). both f (p, x) ∷ rest) (row xs)
+
+abbrev pub pair_in : ℕ → List (Placement FormCell) → ℕ → ℕ → TrayPair
+pair_in tray places p q = (piece_in tray places p, piece_in tray places q)
+
+abbrev pub tray_pairs : ℕ → ℕ → List (Placement FormCell) → List TrayPair
+tray_pairs tray grip places = map (λ (pair : ℕ × ℕ). pair_in tray places pair.0 pair.1) (grip_pairs tray grip places)
+
+pub pairs_are : (tray grip : ℕ) (places : List (Placement FormCell)) (gripped left : List TrayPiece)
+    → gripped ≡ gripped_pieces tray grip places → left ≡ left_pieces tray grip places
+    → pairs_of gripped left ≡ tray_pairs tray grip places
+pairs_are tray grip places gripped left e f =
+    (λ i. pairs_of (e i) (f i))
+    ∙ pairs-map (piece_in tray places) (gripped_in grip (pieces_in tray 0 places)) (left_in grip (pieces_in tray 0 places))

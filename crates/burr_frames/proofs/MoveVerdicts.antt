@@ -1,7 +1,7 @@
 -- What the searches for a piece off the bench, and for a pair in each other's way, say of the
 -- verdict.
 use Rattle.std.proofs.Common.{◌≡◌, ◌∙◌, ℕ, ℤ, List, [], ◌∷◌, length, Option, Some, None, inl, inr, refl, sym, subst, ap}
-use Rattle.std.specs.Prelude.{All, map, take, min}
+use Rattle.std.specs.Prelude.{All, take, min}
 use Rattle.std.proofs.lemmas.List.Elements.{All-nil, All-cons, All-head, All-tail}
 use Rattle.burr_voxels.specs.declared.cell.Cell.{Cell}
 use Rattle.burr_code.specs.declared.placement.Placement.{Placement}
@@ -12,10 +12,9 @@ use Rattle.burr_forms.specs.Rules.Forms.{Form, Point, values, IsNear, AllNear}
 use Rattle.burr_forms.specs.Rules.Points.{IsRange, AreRanges, InBox}
 use Rattle.burr_forms.specs.Rules.Conditions.{Region, at_values, Throughout, FailsFirstAt}
 use Rattle.burr_container.specs.Rules.Plans.{FormCell}
-use Rattle.burr_frames.specs.declared.clearing.TrayPair.{TrayPair}
 use Rattle.burr_frames.specs.declared.rule.Rule.{Rule}
 use Rattle.burr_frames.specs.declared.rule.Rule.TheVariants as rules
-use Rattle.burr_frames.specs.Views.Clearing.{IsPairClear, FirstPairOf, offsets_in, tray_pairs}
+use Rattle.burr_frames.specs.Views.Clearing.{TrayPair, IsPairClear, FirstPairOf, offsets_in}
 use Rattle.burr_frames.specs.Views.Moving.{break_of_pieces}
 use Rattle.burr_frames.specs.Rules.SpaceRules.{IsApartBy}
 use Rattle.burr_frames.specs.Views.Ranges.{AllInReach}
@@ -25,7 +24,8 @@ use Rattle.burr_frames.specs.Rules.Verdicts.{Broken, Verdict, Breaks, NoSuccesso
 use Rattle.burr_frames.proofs.BenchOffsets.{reach_of_on_bench, on_bench_of_reach}
 use Rattle.burr_frames.proofs.Comparisons.{near_in_range}
 use Rattle.burr_frames.proofs.Clearances.{first_none, all_good, all_clear, first_bad}
-use Rattle.burr_frames.proofs.TrayPairs.{homed_pairs, pairs_homed}
+use Rattle.burr_frames.proofs.GripPairs.{tray_pairs}
+use Rattle.burr_frames.proofs.TrayPairs.{homed_pairs, homed_places}
 
 -- On the bench
 
@@ -92,7 +92,7 @@ is_search assembly lent s a places many pieces h region forms pairs count same h
     ∙ ap (λ (b : AbstractState). search_of assembly b places) here
   where
     all : h.pairs ≡ homed_pairs assembly a.tray a.grip places
-    all = pairs ∙ pairs_homed assembly lent a.tray a.grip places many pieces count same homed
+    all = pairs ∙ ap (tray_pairs a.tray a.grip) (homed_places assembly lent places many pieces count same homed)
 
 -- each pair of the search is clear at this point
 abbrev pub AllAreClear : Assembly → Query → Searched → Point → Type 0

@@ -1,15 +1,15 @@
--- The pieces of a tray one by one, and the pairs that are made of them.
-use Rattle.std.proofs.Common.{◌≡◌, ◌∙◌, ℕ, suc, ◌+◌, ◌<◌, ◌≤◌, List, [], ◌∷◌, ◌++◌, length, take, drop, Bool, true, false, refl, sym, ap, arith, append_assoc, slice_index_or, add-one}
-use Rattle.std.specs.Prelude.{map, not, if◌then◌else◌}
-use Rattle.std.proofs.lemmas.List.{drop_more, take_more, length-take, length-append, length-map}
+-- The pieces of a tray one by one.
+use Rattle.std.proofs.Common.{◌≡◌, ◌∙◌, ℕ, suc, ◌+◌, ◌<◌, ◌≤◌, List, [], ◌∷◌, ◌++◌, length, take, drop, Bool, true, false, sym, ap, arith, append_assoc, slice_index_or, add-one}
+use Rattle.std.specs.Prelude.{not, if◌then◌else◌}
+use Rattle.std.proofs.lemmas.List.{drop_more, take_more, length-take, length-append}
 use Rattle.burr_code.specs.PieceSets.{IsInSet}
 use Rattle.burr_code.specs.declared.placement.Placement.{Placement}
 use Rattle.burr_code.specs.Places.{is_in, count_in}
 use Rattle.burr_code.proofs.Common.PieceSets.{not_left_out, left_out}
-use Rattle.burr_frames.specs.declared.clearing.TrayPair.{TrayPair}
+use Rattle.burr_frames.specs.declared.clearing.TrayPiece.{TrayPiece}
 use Rattle.burr_container.specs.Rules.Plans.{FormCell}
-use Rattle.burr_frames.specs.Rules.Looks.{pieces_in, gripped_in, left_in, pairs_of}
-use Rattle.burr_frames.specs.Views.Clearing.{pair_in, number_in}
+use Rattle.burr_frames.specs.Rules.Looks.{pieces_in, gripped_in, left_in}
+use Rattle.burr_frames.specs.Views.Clearing.{piece_in, number_in}
 
 count-le : (tray : ℕ) (places : List (Placement FormCell)) → count_in tray places ≤ length places
 count-le tray [] = omega arith
@@ -97,7 +97,7 @@ module _ {S : Type 0} (F : List ℕ → List S) (tray k : ℕ) (places : List (P
     step_here new pushed =
         ap (λ (xs : List S). xs ++ F later) pushed ∙ append_assoc items row (F later) ∙ both
 
-    pub step_room : length whole ≤ 256 → length items + length row ≤ 256
+    pub step_room : length whole ≤ 32 → length items + length row ≤ 32
     step_room few =
         let all = ap (length {A = S}) both in
         let front = length-append items (row ++ F later) in
@@ -122,27 +122,7 @@ pub gripped_past : (grip k : ℕ) (pieces : List ℕ) → (¬ IsInSet grip k) �
 gripped_past grip k pieces out =
     ap (λ (b : Bool). if not b then k ∷ gripped_in grip pieces else gripped_in grip pieces) (left_out grip k out)
 
--- the pairs of gripped pieces, the first one's row first
-abbrev pub rows_of : (ℕ → ℕ → TrayPair) → List ℕ → List ℕ → List TrayPair
-rows_of f ps qs = map (λ (pair : ℕ × ℕ). f pair.0 pair.1) (pairs_of ps qs)
-
-pub row_first : (f : ℕ → ℕ → TrayPair) (p : ℕ) (ps qs : List ℕ) → rows_of f (p ∷ ps) qs ≡ map (f p) qs ++ rows_of f ps qs
-row_first f p ps qs = rows qs
-  where
-    rows : (xs : List ℕ) → map (λ (pair : ℕ × ℕ). f pair.0 pair.1) (map (λ q. (p, q)) xs ++ pairs_of ps qs)
-        ≡ map (f p) xs ++ rows_of f ps qs
-    rows [] = refl
-    rows (q ∷ xs) = ap (λ (rest : List TrayPair). f p q ∷ rest) (rows xs)
-
--- there is room for a row
-pub whole_room : {S : Type 0} (old : List S) (f : ℕ → S) (qs : List ℕ) → length old + length qs ≤ 256
-    → length (old ++ map f qs) ≤ 256
-whole_room old f qs room =
-    let both = length-append old (map f qs) in
-    let row = length-map qs f in
-    omega (arith, room, both, row)
-
--- a pair that is made so
-pub pair_is : (tray : ℕ) (places : List (Placement FormCell)) (p q : ℕ) (pair : TrayPair) → pair.piece ≡ p → pair.other ≡ q
-    → pair.number ≡ number_in tray places p → pair.other_number ≡ number_in tray places q → pair ≡ pair_in tray places p q
-pair_is tray places p q pair e f g h i = record { piece = e i; other = f i; number = g i; other_number = h i }
+-- a piece that is made so
+pub piece_is : (tray : ℕ) (places : List (Placement FormCell)) (p : ℕ) (piece : TrayPiece) → piece.piece ≡ p
+    → piece.number ≡ number_in tray places p → piece ≡ piece_in tray places p
+piece_is tray places p piece e f i = record { piece = e i; number = f i }

@@ -46,7 +46,7 @@ abbrev pub left_in : ℕ → List ℕ → List ℕ
 left_in grip pieces = filter (is_left_out grip) pieces
 
 -- each of the first with each of the second, in order
-abbrev pub pairs_of : List ℕ → List ℕ → List (ℕ × ℕ)
+abbrev pub pairs_of : {A : Type 0} → List A → List A → List (A × A)
 pairs_of ps qs = flat_map (λ p. map (λ q. (p, q)) qs) ps
 
 -- each gripped piece of the tray with each piece of it that is not gripped

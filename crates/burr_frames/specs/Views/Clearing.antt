@@ -1,6 +1,6 @@
 -- Pairs of a gripped piece and a piece that is left in its tray, and whether they are clear where the
 -- offsets of the tray's pieces have certain values.
-use Rattle.std.specs.Prelude.{◌≡◌, ◌≢◌, ◌≤◌, ◌<◌, ℕ, ◌*◌, ◌+◌, ℤ, pos, List, [], ◌∷◌, length, map, filter, take, Option, Some, None, slice_index_or}
+use Rattle.std.specs.Prelude.{◌≡◌, ◌≢◌, ◌≤◌, ◌<◌, ℕ, ◌*◌, ◌+◌, ℤ, pos, List, [], ◌∷◌, length, map, filter, take, All, Option, Some, None, slice_index_or}
 use Rattle.burr_text.specs.Checks.{needs}
 use Rattle.burr_voxels.specs.declared.cell.Cell.{Cell}
 use Rattle.burr_voxels.specs.Grid.{at, minus}
@@ -12,8 +12,8 @@ use Rattle.burr_blocking.specs.declared.blocking.Query.{Query}
 use Rattle.burr_blocking.specs.Rules.Pairs.{Clears}
 use Rattle.burr_forms.specs.Rules.Forms.{Form}
 use Rattle.burr_container.specs.Rules.Plans.{FormCell}
-use Rattle.burr_frames.specs.declared.clearing.TrayPair.{TrayPair}
-use Rattle.burr_frames.specs.Rules.Looks.{grip_pairs}
+use Rattle.burr_frames.specs.declared.clearing.TrayPiece.{TrayPiece}
+use Rattle.burr_frames.specs.Rules.Looks.{pieces_in, gripped_in, left_in}
 use Rattle.burr_frames.specs.Views.Comparing.{offset_forms}
 
 -- the forms of the offsets of the tray's pieces, in order, three for each
@@ -24,19 +24,24 @@ offsets_in tray places = offset_forms (filter (is_in tray) places)
 abbrev pub number_in : ℕ → List (Placement FormCell) → ℕ → ℕ
 number_in tray places p = count_in tray (take p places)
 
--- pieces p and q of the tray, and their numbers among its pieces
-abbrev pub pair_in : ℕ → List (Placement FormCell) → ℕ → ℕ → TrayPair
-pair_in tray places p q = record {
-  piece = p;
-  other = q;
-  number = number_in tray places p;
-  other_number = number_in tray places q;
-}
+-- piece p of the tray, with its number
+abbrev pub piece_in : ℕ → List (Placement FormCell) → ℕ → TrayPiece
+piece_in tray places p = record { piece = p; number = number_in tray places p }
 
--- each gripped piece of the tray with each piece of it that is not gripped, in order
-abbrev pub tray_pairs : ℕ → ℕ → List (Placement FormCell) → List TrayPair
-tray_pairs tray grip places =
-    map (λ pair. pair_in tray places pair.0 pair.1) (grip_pairs tray grip places)
+-- the pieces of the tray that are gripped, and those that are not, in order
+abbrev pub gripped_pieces : ℕ → ℕ → List (Placement FormCell) → List TrayPiece
+gripped_pieces tray grip places =
+    map (piece_in tray places) (gripped_in grip (pieces_in tray 0 places))
+
+abbrev pub left_pieces : ℕ → ℕ → List (Placement FormCell) → List TrayPiece
+left_pieces tray grip places = map (piece_in tray places) (left_in grip (pieces_in tray 0 places))
+
+abbrev pub TrayPair : Type 0
+TrayPair = TrayPiece × TrayPiece
+
+-- a piece with each of others, in order
+abbrev pub row_of : TrayPiece → List TrayPiece → List TrayPair
+row_of piece others = map (λ other. (piece, other)) others
 
 -- of values that stand three by three, those with this number
 abbrev pub cell_of : List ℤ → ℕ → Cell
@@ -47,28 +52,29 @@ cell_of values n =
 -- what the first piece is displaced by against the second where the offsets have these values
 abbrev pub displacement_in : List ℤ → TrayPair → Cell
 displacement_in values pair =
-    minus (cell_of values pair.number) (cell_of values pair.other_number)
+    minus (cell_of values pair.0.number) (cell_of values pair.1.number)
 
 -- so displaced, the first piece keeps clear of the second
 abbrev pub IsPairClear : Assembly → Query → List ℤ → TrayPair → Type 0
 IsPairClear assembly query values pair =
-    Clears query (home_at (homes_of assembly) pair.piece) (home_at (homes_of assembly) pair.other)
-    (displacement_in values pair)
+    Clears query (home_at (homes_of assembly) pair.0.piece)
+    (home_at (homes_of assembly) pair.1.piece) (displacement_in values pair)
 
 -- the pieces of the first pair that is not clear; None where each is
 abbrev pub FirstPairOf : Assembly → Query → List ℤ → List TrayPair → Option (ℕ × ℕ) → Type 0
 FirstPairOf assembly query values [] found = found ≡ None
 FirstPairOf assembly query values (pair ∷ pairs) found =
-    needs (IsPairClear assembly query values pair) (Some (pair.piece, pair.other))
+    needs (IsPairClear assembly query values pair) (Some (pair.0.piece, pair.1.piece))
     (FirstPairOf assembly query values pairs) found
 
--- the pair is of two pieces of this assembly, and its offsets stand among a given number of values
-pub record IsAskable (assembly : Assembly) (values : ℕ) (pair : TrayPair) : Type 0 where
-  pub first : pair.piece < length assembly.pieces
-  pub second : pair.other < length assembly.pieces
-  pub two : pair.piece ≢ pair.other
-  pub inside : 3 * pair.number + 3 ≤ values
-  pub other_inside : 3 * pair.other_number + 3 ≤ values
+-- it is a piece of this assembly, and its offset stands among a given number of values
+pub record HasOffset (assembly : Assembly) (values : ℕ) (piece : TrayPiece) : Type 0 where
+  pub known : piece.piece < length assembly.pieces
+  pub inside : 3 * piece.number + 3 ≤ values
+
+-- it is another piece than each of these
+abbrev pub IsNoneOf : List TrayPiece → TrayPiece → Type 0
+IsNoneOf others piece = All (λ other. piece.piece ≢ other.piece) others
 
 -- what a search is about: the pairs, the forms of the offsets, and the query; and the reference
 -- that counts, by its ghost name, with its assembly

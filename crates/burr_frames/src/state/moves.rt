@@ -13,7 +13,7 @@ ghost use Rattle.burr_frames.specs.Views.Moving.{ClearOrBreaks, HasRest, free_as
 ghost use Rattle.burr_frames.specs.Views.Clearing.{offsets_in};
 
 use crate::breaking::Break;
-use crate::clearing::{Clearing, put_pairs};
+use crate::clearing::{Clearing, put_pieces};
 use crate::forms::{moved, offset_forms};
 use crate::rule::Rule;
 use crate::state::meeting::append;
@@ -172,11 +172,19 @@ impl State {
         let homed = places
             .len()
             .min(usize::from(looks.assembly().piece_count()));
-        let mut pairs = ArrayVec::new();
-        put_pairs(self.tray, self.grip, &places[..homed], &mut pairs);
+        let mut gripped = ArrayVec::new();
+        let mut left = ArrayVec::new();
+        put_pieces(
+            self.tray,
+            self.grip,
+            &places[..homed],
+            &mut gripped,
+            &mut left,
+        );
         let mut clearing = Clearing {
             forms: offsets.as_slice(),
-            pairs: pairs.as_slice(),
+            gripped: gripped.as_slice(),
+            left: left.as_slice(),
             query,
             looks,
             found: None,

@@ -599,6 +599,32 @@ fn tells_how_many_runs_were_made(rt: HostRuntime) {
     }
 }
 
+/// Eleven questions have 177,147 lists of answers. Standard error has room for some of the lines.
+#[test]
+fn makes_no_more_than_40000_runs(rt: HostRuntime) {
+    assert_examples(&rt, "");
+    let questions = "ask -1 1\ndrop\n"
+        .repeat(rt.alloc(), 11)
+        .expect(&rt, "memory");
+    let text = format!(in rt.alloc();
+        "plan cup 2 auto\nproc main 0\nlabel start\nauto\n{questions}grip 0\naside +z 1\nhalt\n"
+    ).expect(&rt, "memory");
+    assert!(rt; fs::write(&rt, "q.plan", &text).is_ok());
+    let mut told = String::new(rt.alloc());
+    for hundreds in 1..400 {
+        assert!(rt; writeln!(told, "frames: {hundreds}00 runs").is_ok());
+    }
+    let end = end_of(&rt, "burr frames cup q.plan w.plan", "");
+    let told = told.get(..MOST).unwrap_or("");
+    assert!(rt;
+        end.is(
+            0,
+            "not all answers were tried: 40000 runs are the most\n",
+            told
+        )
+    );
+}
+
 #[test]
 fn says_what_is_wrong_with_a_line_of_a_sheet(rt: HostRuntime) {
     assert_examples(&rt, "");

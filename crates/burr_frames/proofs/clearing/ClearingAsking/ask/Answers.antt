@@ -3,6 +3,7 @@ use Rattle.std.proofs.Common.{◌≡◌, ◌↔◌, ℕ, Bool, true, false, Opti
 use Rattle.std.specs.Prelude.{is_some, not}
 use Rattle.std.proofs.lemmas.Option.{none-some}
 use Rattle.burr_text.proofs.Common.Tests.{yes_iff, no_iff}
+use Rattle.burr_frames.specs.Rules.Looks.{pairs_of}
 use Rattle.burr_frames.proofs.Clearances.{first_none}
 use Rattle.burr_frames.proofs.clearing.ClearingAsking.ask.Goals as goal
 
@@ -16,5 +17,5 @@ told_none false None e same = cc
 pub returns-clause-told : goal.returns-clause-told
 returns-clause-told g c =
     told_none c.is_none.result c.first_pair-self.result c.is_none.ensures
-    (first_none c.args.self.now.looks.now.assembly c.args.self.now.query c.args.values.now c.args.self.now.pairs.now c.first_pair-self.result
+    (first_none c.args.self.now.looks.now.assembly c.args.self.now.query c.args.values.now (pairs_of c.args.self.now.gripped.now c.args.self.now.left.now) c.first_pair-self.result
     c.first_pair-self.ensures.found)

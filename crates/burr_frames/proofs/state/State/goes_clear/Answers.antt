@@ -1,5 +1,5 @@
 -- A piece off the bench, a pair in each other's way, and neither.
-use Rattle.std.proofs.Common.{rules, ◌≡◌, ◌≤◌, ◌+◌, ◌*◌, ◌^◌, ℕ, ℤ, List, ◌∙◌, length, inl, refl, sym, subst, ap, arith}
+use Rattle.std.proofs.Common.{rules, ◌≡◌, ◌≤◌, ◌+◌, ◌*◌, ◌^◌, ℕ, ℤ, List, ◌∙◌, length, take, inl, refl, sym, subst, ap, arith}
 use Rattle.std.specs.Prelude.{All}
 use Rattle.std.proofs.lemmas.Result.{err_from_is_err_and}
 use Rattle.burr_assembly.specs.Rules.Homes.{homes_of}
@@ -7,14 +7,16 @@ use Rattle.burr_blocking.proofs.Common.Counts.{none_more}
 use Rattle.burr_forms.specs.Rules.Forms.{Form}
 use Rattle.burr_forms.specs.Rules.Points.{box_size}
 use Rattle.burr_forms.specs.Views.Rising.{count_in}
-use Rattle.burr_frames.specs.declared.clearing.TrayPair.{TrayPair}
-use Rattle.burr_frames.specs.Views.Clearing.{Asked, IsAskable}
+use Rattle.burr_frames.specs.declared.clearing.TrayPiece.{TrayPiece}
+use Rattle.burr_frames.specs.Views.Clearing.{Asked, HasOffset, IsNoneOf, gripped_pieces, left_pieces}
+use Rattle.burr_frames.specs.Rules.Looks.{pairs_of}
 use Rattle.burr_frames.specs.Rules.States.{AbstractState}
 use Rattle.burr_frames.specs.Rules.Verdicts.{Breaks}
 use Rattle.burr_frames.proofs.Common.Sizes.{count-le}
+use Rattle.burr_frames.proofs.GripPairs.{pairs_are}
 use Rattle.burr_frames.proofs.GripLooks.{no_looks_off_bench, looks_of_search, counted_more}
 use Rattle.burr_frames.proofs.MoveVerdicts.{on_bench_of_forms, off_bench_of_forms, Searched, is_search, none_in_way, first_in_way}
-use Rattle.burr_frames.proofs.TrayPairs.{homed_pairs, pairs_homed, all_askable, few_pairs}
+use Rattle.burr_frames.proofs.TrayPairs.{homed_places, gripped_known, left_known, none_of_left, few_pieces}
 use Rattle.burr_frames.proofs.state.State.goes_clear.Goals as goal
 
 -- a search over at most 4,096 points has room to count
@@ -46,9 +48,9 @@ returns-in_err-stays_within-clause-counted g c =
 
 pub first_refused-requires-clause-room : goal.first_refused-requires-clause-room
 first_refused-requires-clause-room g c =
-    let same : c.as_slice-4.result.now ≡ c.args.self.now.ranges =
-    c.as_slice-4.ensures.value ∙ ap (λ (a : AbstractState). a.ranges) c.self.view_is in
-    has_room c.args.looks.now.count c.as_slice-4.result.now c.requires.room (subst (λ (rs : List (ℤ × ℤ)). box_size rs ≤ 4096) (sym same) c.requires.points)
+    let same : c.as_slice-5.result.now ≡ c.args.self.now.ranges =
+    c.as_slice-5.ensures.value ∙ ap (λ (a : AbstractState). a.ranges) c.self.view_is in
+    has_room c.args.looks.now.count c.as_slice-5.result.now c.requires.room (subst (λ (rs : List (ℤ × ℤ)). box_size rs ≤ 4096) (sym same) c.requires.points)
 
 pub invariant_of-clearing : goal.invariant_of-clearing
 invariant_of-clearing g c =
@@ -56,14 +58,22 @@ invariant_of-clearing g c =
     let assembly = c.args.looks.now.assembly in
     let places = c.args.places.now in
     let forms = c.as_slice-2.ensures.value ∙ c.offsets_in-offsets.ensures.offsets in
-    let pairs = c.as_slice-3.ensures.value ∙ c.put_pairs.ensures
-    ∙ pairs_homed assembly c.assembly.result.now s.tray s.grip places c.min-homed.result c.from.result
+    let homed = homed_places assembly c.assembly.result.now places c.min-homed.result c.from.result
     (c.from.ensures ∙ c.piece_count.ensures.count) c.assembly.ensures (c.min-homed.ensures) in
+    let gripped = c.as_slice-3.ensures.value ∙ c.put_pieces.ensures.gripped ∙ ap (gripped_pieces s.tray s.grip) homed in
+    let left = c.as_slice-4.ensures.value ∙ c.put_pieces.ensures.left ∙ ap (left_pieces s.tray s.grip) homed in
+    let known = λ (pieces : List TrayPiece). subst (λ (fs : List Form). All (HasOffset assembly (length fs)) pieces) (sym forms) in
     record {
-      askable = subst (All (IsAskable assembly (length c.as_slice-2.result.now))) (sym pairs)
-          (subst (λ (fs : List Form). All (IsAskable assembly (length fs)) (homed_pairs assembly s.tray s.grip places)) (sym forms)
-          (all_askable assembly s.tray s.grip places));
-      few = subst (λ (ps : List TrayPair). length ps ≤ 256) (sym pairs) (few_pairs assembly s.tray s.grip places c.requires.few);
+      gripped_known = subst (All (HasOffset assembly (length c.as_slice-2.result.now))) (sym gripped)
+          (known _ (gripped_known assembly s.tray s.grip places));
+      left_known = subst (All (HasOffset assembly (length c.as_slice-2.result.now))) (sym left)
+          (known _ (left_known assembly s.tray s.grip places));
+      others = subst (All (IsNoneOf c.as_slice-4.result.now)) (sym gripped)
+          (subst (λ (ps : List TrayPiece). All (IsNoneOf ps) (gripped_pieces s.tray s.grip (take (length (homes_of assembly)) places))) (sym left)
+          (none_of_left assembly s.tray s.grip places));
+      few = subst (λ (ps : List TrayPiece). length ps + length c.as_slice-4.result.now ≤ 32) (sym gripped)
+          (subst (λ (ps : List TrayPiece). length (gripped_pieces s.tray s.grip (take (length (homes_of assembly)) places)) + length ps ≤ 32) (sym left)
+          (few_pieces assembly s.tray s.grip places c.requires.few));
     }
 
 pub returns-in-None : goal.returns-in-None
@@ -72,14 +82,15 @@ returns-in-None g c =
     let s = c.args.self.now in
     let places = c.args.places.now in
     let searched : Searched = record {
-      region = record { ranges = c.as_slice-4.result.now; guards = c.as_slice-5.result.now };
+      region = record { ranges = c.as_slice-5.result.now; guards = c.as_slice-6.result.now };
       forms = c.as_slice-2.result.now;
-      pairs = c.as_slice-3.result.now;
+      pairs = pairs_of c.as_slice-3.result.now c.as_slice-4.result.now;
     } in
     let is = is_search assembly c.assembly.result.now s _ places c.min-homed.result c.from.result
-    searched (λ i. record { ranges = c.as_slice-4.ensures.value i; guards = c.as_slice-5.ensures.value i })
+    searched (λ i. record { ranges = c.as_slice-5.ensures.value i; guards = c.as_slice-6.ensures.value i })
     (c.as_slice-2.ensures.value ∙ c.offsets_in-offsets.ensures.offsets)
-    (c.as_slice-3.ensures.value ∙ c.put_pairs.ensures) (c.from.ensures ∙ c.piece_count.ensures.count) c.assembly.ensures c.min-homed.ensures
+    (pairs_are c.self.inside.tray c.self.inside.grip (take c.min-homed.result places) _ _ (c.as_slice-3.ensures.value ∙ c.put_pieces.ensures.gripped)
+    (c.as_slice-4.ensures.value ∙ c.put_pieces.ensures.left)) (c.from.ensures ∙ c.piece_count.ensures.count) c.assembly.ensures c.min-homed.ensures
     c.self.view_is in
     let on = on_bench_of_forms s _ places c.as_slice.result.now c.self.view_is
     (c.as_slice.ensures.value ∙ c.offsets_in-offsets.ensures.offsets) c.in_ok-stays_within.ensures in
@@ -99,14 +110,15 @@ returns-in-Some g c =
     let s = c.args.self.now in
     let places = c.args.places.now in
     let searched : Searched = record {
-      region = record { ranges = c.as_slice-4.result.now; guards = c.as_slice-5.result.now };
+      region = record { ranges = c.as_slice-5.result.now; guards = c.as_slice-6.result.now };
       forms = c.as_slice-2.result.now;
-      pairs = c.as_slice-3.result.now;
+      pairs = pairs_of c.as_slice-3.result.now c.as_slice-4.result.now;
     } in
     let is = is_search assembly c.assembly.result.now s _ places c.min-homed.result c.from.result
-    searched (λ i. record { ranges = c.as_slice-4.ensures.value i; guards = c.as_slice-5.ensures.value i })
+    searched (λ i. record { ranges = c.as_slice-5.ensures.value i; guards = c.as_slice-6.ensures.value i })
     (c.as_slice-2.ensures.value ∙ c.offsets_in-offsets.ensures.offsets)
-    (c.as_slice-3.ensures.value ∙ c.put_pairs.ensures) (c.from.ensures ∙ c.piece_count.ensures.count) c.assembly.ensures c.min-homed.ensures
+    (pairs_are c.self.inside.tray c.self.inside.grip (take c.min-homed.result places) _ _ (c.as_slice-3.ensures.value ∙ c.put_pieces.ensures.gripped)
+    (c.as_slice-4.ensures.value ∙ c.put_pieces.ensures.left)) (c.from.ensures ∙ c.piece_count.ensures.count) c.assembly.ensures c.min-homed.ensures
     c.self.view_is in
     let on = on_bench_of_forms s _ places c.as_slice.result.now c.self.view_is
     (c.as_slice.ensures.value ∙ c.offsets_in-offsets.ensures.offsets) c.in_ok-stays_within.ensures in
