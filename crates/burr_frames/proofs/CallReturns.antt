@@ -29,14 +29,14 @@ meeting_exit_on s exit count parameters results below v known enough h =
 -- there are fewer operands than results
 pub ret_few : (here : FramedProcedure) (s : AbstractState) (exit : FramedExit) (parameters : List Form) → here.exit ≡ Some exit
     → first_forms here.parameters s.slots ≡ Some parameters → top_many here.results s.operands ≡ None
-    → ret_rule here s (Breaks (plain_break rules.V6))
+    → ret_rule here s (Breaks (plain_break rules.MissingOperand))
 ret_few here s exit parameters there known few =
-    inr (exit, there, inr (parameters, known, inl (few, ap Breaks (λ i. plain_break rules.V6))))
+    inr (exit, there, inr (parameters, known, inl (few, ap Breaks (λ i. plain_break rules.MissingOperand))))
 
 -- a parameter is not known
 pub ret_unknown : (here : FramedProcedure) (s : AbstractState) (exit : FramedExit) → here.exit ≡ Some exit
-    → first_forms here.parameters s.slots ≡ None → ret_rule here s (Breaks (plain_break rules.V22))
-ret_unknown here s exit there none = inr (exit, there, inl (none, ap Breaks (λ i. plain_break rules.V22)))
+    → first_forms here.parameters s.slots ≡ None → ret_rule here s (Breaks (plain_break rules.ExitMissed))
+ret_unknown here s exit there none = inr (exit, there, inl (none, ap Breaks (λ i. plain_break rules.ExitMissed)))
 
 -- all are there, and what follows where a step is paid for
 pub ret_on : (here : FramedProcedure) (s : AbstractState) (exit : FramedExit) (parameters results below : List Form) (v : Verdict)

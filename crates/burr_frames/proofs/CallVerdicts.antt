@@ -58,13 +58,13 @@ paid_call s after cost left new room small paid e =
 -- the entry frame is asked for with arguments, the last of them first, and what follows by them
 abbrev AtEntry : AbstractState → ℕ → Frame → FramedExit → List Form → Verdict → List Form → Type 0
 AtEntry s count entry exit turned v arguments =
-    meeting (called_with turned s) entry rules.V20
+    meeting (called_with turned s) entry rules.EntryMissed
     (λ live. paying_call s (after_call s arguments (drop count s.operands) exit) (substituted live entry.cost)) v
 
 pub calling_on : (s : AbstractState) (count : ℕ) (entry : Frame) (exit : FramedExit) (arguments : List Form) (v : Verdict)
     → length (drop count s.operands) + length exit.results ≤ 8 → length arguments ≡ count
     → top_many count s.operands ≡ Some (reverse arguments, drop count s.operands)
-    → meeting (called_with (reverse arguments) s) entry rules.V20
+    → meeting (called_with (reverse arguments) s) entry rules.EntryMissed
     (λ live. PaysCall s arguments exit (substituted live entry.cost)) v
     → calling s count (length exit.results) entry exit v
 calling_on s count entry exit arguments v room many found h =

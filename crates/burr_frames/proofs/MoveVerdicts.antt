@@ -101,7 +101,7 @@ AllAreClear assembly query h = at_values (λ numbers. All (IsPairClear assembly 
 -- what is said of the verdict
 abbrev pub Says : List (List Cell) → AbstractState → List (Placement FormCell) → Query → Rule → Verdict → Type 0
 Says homes s places query rule verdict =
-    everywhere s (OnBenchAt places s.tray) rules.V18
+    everywhere s (OnBenchAt places s.tray) rules.OffBench
     (everywhere_of_pairs s (PairAt (IsApartBy query) homes places s.tray s.grip) rule no_successor) verdict
 
 module _ (assembly : Assembly) (s : AbstractState) (places : List (Placement FormCell)) (query : Query) (rule : Rule)

@@ -6,62 +6,62 @@ use std::fmt;
 /// A rule that a plan has to keep. Each variant says what is found where the rule is broken.
 #[derive(Clone, Copy, Debug, PartialEq, Eq)]
 pub enum Rule {
-    /// The plan is for another assembly: its name or its number of pieces differs.
-    V1,
-    /// No instruction stands at this position.
-    V2,
-    /// A label stands inside an instruction.
-    V3,
-    /// A frame is missing: nothing goes on to here, and no label stands here.
-    V4,
-    /// The procedure goes on after its last instruction.
-    V5,
-    /// The instruction takes more operands than there are.
-    V6,
-    /// The stack is full, and there would be one operand more.
-    V7,
-    /// Nothing is known of the slot's value.
-    V8,
-    /// The slot that would be written is a parameter.
-    V9,
-    /// The procedure has no such label.
-    V10,
-    /// The counter may be below zero.
-    V11,
-    /// A number may be out of its range.
-    V12,
-    /// A piece that would be gripped is not in the current tray.
-    V13,
-    /// The grip is empty, or `aside` would take the whole tray.
-    V14,
-    /// Two pieces of the tray may collide.
-    V15,
-    /// The gripped pieces may not be free along the direction.
-    V16,
-    /// The tray that `aside` names is in use.
-    V17,
-    /// A piece may leave the bench.
-    V18,
-    /// A call of no procedure, or of one that does not come later than its caller.
-    V19,
-    /// The callee's entry frame is not met.
-    V20,
-    /// The label's frame is not met.
-    V21,
-    /// The exit frame is not met, or `ret` or `halt` stands in the wrong procedure.
-    V22,
-    /// `halt` with a piece that is not apart.
-    V23,
-    /// The cost that is left is below what is needed.
-    V24,
-    /// There are too many symbols, guards or points.
-    V25,
-    /// A form's numbers are too large.
-    V26,
-    /// A frame is malformed, or the start does not meet main's.
-    V27,
-    /// The budget is below main's cost.
-    V28,
+    /// V1: the plan is for another assembly: its name or its number of pieces differs.
+    OtherAssembly,
+    /// V2: no instruction stands at this position.
+    BadCode,
+    /// V3: a label stands inside an instruction.
+    BadLabel,
+    /// V4: a frame is missing: nothing goes on to here, and no label stands here.
+    MissingFrame,
+    /// V5: the procedure goes on after its last instruction.
+    UnendedCode,
+    /// V6: the instruction takes more operands than there are.
+    MissingOperand,
+    /// V7: the stack is full, and there would be one operand more.
+    StackFull,
+    /// V8: nothing is known of the slot's value.
+    EmptySlot,
+    /// V9: the slot that would be written is a parameter.
+    ParamWritten,
+    /// V10: the procedure has no such label.
+    BadJump,
+    /// V11: the counter may be below zero.
+    BadCount,
+    /// V12: a number may be out of its range.
+    NumberRange,
+    /// V13: a piece that would be gripped is not in the current tray.
+    GripOff,
+    /// V14: the grip is empty, or `aside` would take the whole tray.
+    BadGroup,
+    /// V15: two pieces of the tray may collide.
+    Collision,
+    /// V16: the gripped pieces may not be free along the direction.
+    NotFree,
+    /// V17: the tray that `aside` names is in use.
+    TrayInUse,
+    /// V18: a piece may leave the bench.
+    OffBench,
+    /// V19: a call of no procedure, or of one that does not come later than its caller.
+    BadCall,
+    /// V20: the callee's entry frame is not met.
+    EntryMissed,
+    /// V21: the label's frame is not met.
+    FrameMissed,
+    /// V22: the exit frame is not met, or `ret` or `halt` stands in the wrong procedure.
+    ExitMissed,
+    /// V23: `halt` with a piece that is not apart.
+    NotApart,
+    /// V24: the cost that is left is below what is needed.
+    CostTooLow,
+    /// V25: there are too many symbols, guards or points.
+    StateTooLarge,
+    /// V26: a form's numbers are too large.
+    FormTooLarge,
+    /// V27: a frame is malformed, or the start does not meet main's.
+    BadFrame,
+    /// V28: the budget is below main's cost.
+    BudgetTooLow,
 }
 
 impl Rule {
@@ -70,34 +70,34 @@ impl Rule {
         ensures { result ≡ rule_number self }
     {
         match self {
-            Rule::V1 => 1,
-            Rule::V2 => 2,
-            Rule::V3 => 3,
-            Rule::V4 => 4,
-            Rule::V5 => 5,
-            Rule::V6 => 6,
-            Rule::V7 => 7,
-            Rule::V8 => 8,
-            Rule::V9 => 9,
-            Rule::V10 => 10,
-            Rule::V11 => 11,
-            Rule::V12 => 12,
-            Rule::V13 => 13,
-            Rule::V14 => 14,
-            Rule::V15 => 15,
-            Rule::V16 => 16,
-            Rule::V17 => 17,
-            Rule::V18 => 18,
-            Rule::V19 => 19,
-            Rule::V20 => 20,
-            Rule::V21 => 21,
-            Rule::V22 => 22,
-            Rule::V23 => 23,
-            Rule::V24 => 24,
-            Rule::V25 => 25,
-            Rule::V26 => 26,
-            Rule::V27 => 27,
-            Rule::V28 => 28,
+            Rule::OtherAssembly => 1,
+            Rule::BadCode => 2,
+            Rule::BadLabel => 3,
+            Rule::MissingFrame => 4,
+            Rule::UnendedCode => 5,
+            Rule::MissingOperand => 6,
+            Rule::StackFull => 7,
+            Rule::EmptySlot => 8,
+            Rule::ParamWritten => 9,
+            Rule::BadJump => 10,
+            Rule::BadCount => 11,
+            Rule::NumberRange => 12,
+            Rule::GripOff => 13,
+            Rule::BadGroup => 14,
+            Rule::Collision => 15,
+            Rule::NotFree => 16,
+            Rule::TrayInUse => 17,
+            Rule::OffBench => 18,
+            Rule::BadCall => 19,
+            Rule::EntryMissed => 20,
+            Rule::FrameMissed => 21,
+            Rule::ExitMissed => 22,
+            Rule::NotApart => 23,
+            Rule::CostTooLow => 24,
+            Rule::StateTooLarge => 25,
+            Rule::FormTooLarge => 26,
+            Rule::BadFrame => 27,
+            Rule::BudgetTooLow => 28,
         }
     }
 }

@@ -448,9 +448,9 @@ impl State {
         ensures { Pays self.now result }
     {
         let Ok(cost) = raised_by(&self.cost, -1) else {
-            return Err(Break::plain(Rule::V26));
+            return Err(Break::plain(Rule::FormTooLarge));
         };
-        self.never_negative(&cost, Rule::V24)?;
+        self.never_negative(&cost, Rule::CostTooLow)?;
         Ok(cost)
     }
 }

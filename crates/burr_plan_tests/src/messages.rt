@@ -114,14 +114,14 @@ fn messages(alloc: Global) -> Result<String, AllocError> {
 /// refused by it.
 fn add_judgements(lines: &mut String) -> Result<(), AllocError> {
     let broken = Break {
-        rule: Rule::V15,
+        rule: Rule::Collision,
         pieces: Some((0, 1)),
         point: None,
     };
     let refusal = Refusal {
         proc: 0,
         pc: 24,
-        rule: Rule::V15,
+        rule: Rule::Collision,
         pieces: Some((0, 1)),
         point: None,
     };

@@ -6,7 +6,7 @@ use Rattle.std.specs.Fmt.{digits}
 use Rattle.std.specs.List.{list_any}
 use Rattle.std.specs.Prelude.{Contains, nat_eq}
 use Rattle.burr_explain.specs.Known.{known_words}
-use Rattle.burr_frames.specs.declared.rule.Rule.TheVariants.{V1, V2, V3, V4, V5, V6, V7, V8, V9, V10, V11, V12, V13, V14, V15, V16, V17, V18, V19, V20, V21, V22, V23, V24, V25, V26, V27, V28}
+use Rattle.burr_frames.specs.declared.rule.Rule.TheVariants.{OtherAssembly, BadCode, BadLabel, MissingFrame, UnendedCode, MissingOperand, StackFull, EmptySlot, ParamWritten, BadJump, BadCount, NumberRange, GripOff, BadGroup, Collision, NotFree, TrayInUse, OffBench, BadCall, EntryMissed, FrameMissed, ExitMissed, NotApart, CostTooLow, StateTooLarge, FormTooLarge, BadFrame, BudgetTooLow}
 use Rattle.burr_state.specs.declared.effect.Trap.TheVariants.{Collision, GripOff, NotFree, BadGroup, TrayInUse, MissingOperand, StackFull, EmptySlot, BadJump, BadCode, BadCall, BadCount, NumberRange, OffBench, NotApart, Misplaced, ParamWritten}
 use Rattle.burr_program.specs.ExplainLaws.{EachRuleIsExplained, EachTrapIsExplained}
 
@@ -16,34 +16,34 @@ is_known word = Contains-from_any (λ x y. (bytes_decides x y).0) word known_wor
 
 pub rules_are_explained : EachRuleIsExplained
 unfolding digits
-rules_are_explained V1 = is_known _ refl
-rules_are_explained V2 = is_known _ refl
-rules_are_explained V3 = is_known _ refl
-rules_are_explained V4 = is_known _ refl
-rules_are_explained V5 = is_known _ refl
-rules_are_explained V6 = is_known _ refl
-rules_are_explained V7 = is_known _ refl
-rules_are_explained V8 = is_known _ refl
-rules_are_explained V9 = is_known _ refl
-rules_are_explained V10 = is_known _ refl
-rules_are_explained V11 = is_known _ refl
-rules_are_explained V12 = is_known _ refl
-rules_are_explained V13 = is_known _ refl
-rules_are_explained V14 = is_known _ refl
-rules_are_explained V15 = is_known _ refl
-rules_are_explained V16 = is_known _ refl
-rules_are_explained V17 = is_known _ refl
-rules_are_explained V18 = is_known _ refl
-rules_are_explained V19 = is_known _ refl
-rules_are_explained V20 = is_known _ refl
-rules_are_explained V21 = is_known _ refl
-rules_are_explained V22 = is_known _ refl
-rules_are_explained V23 = is_known _ refl
-rules_are_explained V24 = is_known _ refl
-rules_are_explained V25 = is_known _ refl
-rules_are_explained V26 = is_known _ refl
-rules_are_explained V27 = is_known _ refl
-rules_are_explained V28 = is_known _ refl
+rules_are_explained OtherAssembly = is_known _ refl
+rules_are_explained BadCode = is_known _ refl
+rules_are_explained BadLabel = is_known _ refl
+rules_are_explained MissingFrame = is_known _ refl
+rules_are_explained UnendedCode = is_known _ refl
+rules_are_explained MissingOperand = is_known _ refl
+rules_are_explained StackFull = is_known _ refl
+rules_are_explained EmptySlot = is_known _ refl
+rules_are_explained ParamWritten = is_known _ refl
+rules_are_explained BadJump = is_known _ refl
+rules_are_explained BadCount = is_known _ refl
+rules_are_explained NumberRange = is_known _ refl
+rules_are_explained GripOff = is_known _ refl
+rules_are_explained BadGroup = is_known _ refl
+rules_are_explained Collision = is_known _ refl
+rules_are_explained NotFree = is_known _ refl
+rules_are_explained TrayInUse = is_known _ refl
+rules_are_explained OffBench = is_known _ refl
+rules_are_explained BadCall = is_known _ refl
+rules_are_explained EntryMissed = is_known _ refl
+rules_are_explained FrameMissed = is_known _ refl
+rules_are_explained ExitMissed = is_known _ refl
+rules_are_explained NotApart = is_known _ refl
+rules_are_explained CostTooLow = is_known _ refl
+rules_are_explained StateTooLarge = is_known _ refl
+rules_are_explained FormTooLarge = is_known _ refl
+rules_are_explained BadFrame = is_known _ refl
+rules_are_explained BudgetTooLow = is_known _ refl
 
 pub traps_are_explained : EachTrapIsExplained
 unfolding digits

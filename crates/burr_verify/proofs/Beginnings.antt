@@ -97,7 +97,7 @@ lacks_entry (l ∷ labels) none = absurd (omega (arith, none))
 
 pub start_lacks_entry : (homes : List (List Cell)) (p : Plan) → 1 ≤ length p.procedures
     → ((q : PlanProcedure) → slice_get p.procedures 0 ≡ Some q → length q.labels ≡ 0)
-    → judging_start homes (framed_plan p) nothing (Refuses (failed_check (plain_refusal 0 0 rules.V27)))
+    → judging_start homes (framed_plan p) nothing (Refuses (failed_check (plain_refusal 0 0 rules.BadFrame)))
 start_lacks_entry homes p some labels =
     let here = here_at p 0 (omega (arith, some)) in
     let q = procedure_here p 0 here.0 here.1 in
@@ -105,13 +105,13 @@ start_lacks_entry homes p some labels =
 
 pub start_misses : (homes : List (List Cell)) (plan : FramedPlan) (f : Frame) → HasEntry plan f
     → (¬ Meets (start_state homes) f)
-    → judging_start homes plan nothing (Refuses (failed_check (plain_refusal 0 0 rules.V27)))
+    → judging_start homes plan nothing (Refuses (failed_check (plain_refusal 0 0 rules.BadFrame)))
 start_misses homes plan f entry misses =
     inr (entry.main, entry.is_main, inr (f, entry.is_entry, inl (misses, refl)))
 
 pub start_too_dear : (homes : List (List Cell)) (plan : FramedPlan) (f : Frame) → HasEntry plan f
     → Meets (start_state homes) f → (¬ (value [] f.cost ≤ℤ pos plan.budget))
-    → judging_start homes plan nothing (Refuses (failed_check (plain_refusal 0 0 rules.V28)))
+    → judging_start homes plan nothing (Refuses (failed_check (plain_refusal 0 0 rules.BudgetTooLow)))
 start_too_dear homes plan f entry meets dear =
     inr (entry.main, entry.is_main, inr (f, entry.is_entry, inr (meets, inl (dear, refl))))
 

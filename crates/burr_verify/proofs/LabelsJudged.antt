@@ -140,16 +140,16 @@ pub no_exit_passes : (n : ℕ) (exit : Option FramedExit) → exit ≡ None → 
 no_exit_passes n exit e = subst (λ (x : Option FramedExit). judging_exit n x passes Passed) (sym e) refl
 
 pub exit_refused : (n : ℕ) (exit : Option FramedExit) (f : FramedExit) (r : FailedCheck) → exit ≡ Some f → ¬ IsFormedExit f
-    → Refuses r ≡ refused n 0 rules.V27 → judging_exit n exit nothing (Refuses r)
+    → Refuses r ≡ refused n 0 rules.BadFrame → judging_exit n exit nothing (Refuses r)
 exit_refused n exit f r e unformed is =
     subst (λ (x : Option FramedExit). judging_exit n x nothing (Refuses r)) (sym e) (inl (unformed, is))
 
 pub label_unformed : (n parameters k : ℕ) (label : ℕ × Frame) (r : FailedCheck) → ¬ IsFormedAt k parameters label.1
-    → Refuses r ≡ refused n label.0 rules.V27 → judging_label n parameters k label nothing (Refuses r)
+    → Refuses r ≡ refused n label.0 rules.BadFrame → judging_label n parameters k label nothing (Refuses r)
 label_unformed n parameters k label r unformed is = inl (unformed, is)
 
 pub label_without_room : (n parameters k : ℕ) (label : ℕ × Frame) (r : FailedCheck) → IsFormedAt k parameters label.1
-    → ¬ HasRoomForPoints label.1 → Refuses r ≡ refused n label.0 rules.V25
+    → ¬ HasRoomForPoints label.1 → Refuses r ≡ refused n label.0 rules.StateTooLarge
     → judging_label n parameters k label nothing (Refuses r)
 label_without_room n parameters k label r formed none is = inr (formed, inl (none, is))
 

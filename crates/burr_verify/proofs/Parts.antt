@@ -44,7 +44,7 @@ for_homes : (p : Plan) (a : Assembly) → FitsAssembly p a → (p.name ≡ a.nam
 for_homes p a fits = (fits.0, fits.1 ∙ sym (as_many_homes a))
 
 pub fits_refused : (p : Plan) (a : Assembly) (r : Refusal) (looks : ℕ) → looks ≡ 0 → (¬ FitsAssembly p a)
-    → r ≡ plain_refusal 0 0 rules.V1 → LookedFor p a (Refuses (failed_check r)) looks
+    → r ≡ plain_refusal 0 0 rules.OtherAssembly → LookedFor p a (Refuses (failed_check r)) looks
 fits_refused p a r looks none other is =
     inl (
       inl (

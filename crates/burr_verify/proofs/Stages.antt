@@ -56,7 +56,7 @@ frame_read kept i n f reads p here is at x standing =
 -- Before a place
 
 pub missed : (s : AbstractState) (f : Frame) (o : Option Point) → arriving s f no_successor (missed_at o)
-    → arriving s f no_successor (Breaks (missed_break rules.V21 o))
+    → arriving s f no_successor (Breaks (missed_break rules.FrameMissed o))
 missed s f None h = h
 missed s f (Some point) h = h
 
@@ -88,11 +88,11 @@ told_broken r told n pc b same e = same ∙ ap (λ (k : ℕ). broken k pc b) e
 
 pub enters_misses : (homes : List (List Cell)) (plan : FramedPlan) (n : ℕ) (here : FramedProcedure) (last pc : ℕ) (f : Frame)
     (t : AbstractState) (o : Option Point) (r : Refusal) → pc ≢ length here.code → IsLabelled here pc f
-    → arriving t f no_successor (missed_at o) → Refuses (failed_check r) ≡ broken n last (missed_break rules.V21 o)
+    → arriving t f no_successor (missed_at o) → Refuses (failed_check r) ≡ broken n last (missed_break rules.FrameMissed o)
     → LooksStop homes plan n here (BeforeInstruction last pc (Some t)) r 0
 enters_misses homes plan n here last pc f t o r more labelled miss same =
     stops_by homes plan n here (BeforeInstruction last pc (Some t)) r _ 0 same
-    (misses last pc t f (missed_break rules.V21 o) more labelled (missed t f o miss), refl)
+    (misses last pc t f (missed_break rules.FrameMissed o) more labelled (missed t f o miss), refl)
 
 -- At a place
 
@@ -181,7 +181,7 @@ well_ended homes plan n here last pc falling same is =
 
 pub fallen_off : (homes : List (List Cell)) (plan : FramedPlan) (n : ℕ) (here : FramedProcedure) (last pc : ℕ)
     (falling : Option AbstractState) (s : AbstractState) (r : Refusal) → falling ≡ Some s → pc ≡ length here.code
-    → r ≡ plain_refusal n last rules.V5 → LooksStop homes plan n here (BeforeInstruction last pc falling) r 0
+    → r ≡ plain_refusal n last rules.UnendedCode → LooksStop homes plan n here (BeforeInstruction last pc falling) r 0
 fallen_off homes plan n here last pc falling s r same is told =
     subst (λ (o : Option AbstractState). LooksStop homes plan n here (BeforeInstruction last pc o) r 0) (sym same)
     (stops_by homes plan n here (BeforeInstruction last pc (Some s)) r _ 0 (ap (λ q. Refuses (failed_check q)) told)

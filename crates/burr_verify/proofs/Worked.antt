@@ -83,7 +83,7 @@ halt_passes =
 
 -- and with cost 0 the cost is too low, at the one point there is.
 halt_refused : Pass [] (plan (pos 0)) 0 (main (pos 0) [] (0x00 ∷ [])) pass_start
-    (broken 0 0 (record { rule = rules.V24; pieces = None; point = Some [] }))
+    (broken 0 0 (record { rule = rules.CostTooLow; pieces = None; point = Some [] }))
 halt_refused =
     resumes 0 0 (frame (pos 0)) _ (λ e. one_zero e) (0, refl)
     (breaks 0 (state_of (frame (pos 0))) Halt _ (halts []) (none_inside (pos 0) (0x00 ∷ []))
@@ -118,7 +118,7 @@ halt_refused =
 
 -- A label inside the first instruction: its bytes make an instruction too, and yet it is refused.
 label_inside : Pass [] (plan (pos 1)) 0 (main (pos 1) ((1, frame (pos 1)) ∷ [])
-    (0x10 ∷ 0x00 ∷ 0x00 ∷ 0x00 ∷ 0x01 ∷ 0x00 ∷ [])) pass_start (refused 0 0 rules.V3)
+    (0x10 ∷ 0x00 ∷ 0x00 ∷ 0x00 ∷ 0x01 ∷ 0x00 ∷ [])) pass_start (refused 0 0 rules.BadLabel)
 label_inside =
     resumes 0 0 (frame (pos 1)) _ (λ e. six_zero e) (0, refl)
     (hides 0 (state_of (frame (pos 1))) (Grip 1)

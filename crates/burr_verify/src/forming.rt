@@ -47,7 +47,7 @@ fn judge_exit(procedure: ProcedureRef<'_, '_>) -> Result<(), Refusal>
             if is_formed_exit(&exit) {
                 return Ok(());
             }
-            Err(Refusal::plain(procedure.number(), 0, Rule::V27))
+            Err(Refusal::plain(procedure.number(), 0, Rule::BadFrame))
         }
     }
 }
@@ -64,10 +64,10 @@ fn judge_frame(procedure: ProcedureRef<'_, '_>, label: usize) -> Result<(), Refu
     let place = procedure.label(label);
     let number = procedure.number();
     if !is_formed_at(&frame, procedure.params(), label) {
-        return Err(Refusal::plain(number, place, Rule::V27));
+        return Err(Refusal::plain(number, place, Rule::BadFrame));
     }
     if !State::of(&frame).has_room_for_points() {
-        return Err(Refusal::plain(number, place, Rule::V25));
+        return Err(Refusal::plain(number, place, Rule::StateTooLarge));
     }
     Ok(())
 }

@@ -109,14 +109,14 @@ fn judge_start(container: &Container<'_>, pieces: u8) -> Result<(), Refusal>
     a_container_has_a_plan(container);
     let main = container.procedure(0);
     if main.label_count() == 0 {
-        return Err(Refusal::plain(0, 0, Rule::V27));
+        return Err(Refusal::plain(0, 0, Rule::BadFrame));
     }
     let entry = main.frame(0);
     if meets_entry(&State::at_home(pieces), &entry).is_err() {
-        return Err(Refusal::plain(0, 0, Rule::V27));
+        return Err(Refusal::plain(0, 0, Rule::BadFrame));
     }
     if i64::from(container.header().budget) < entry.cost().constant {
-        return Err(Refusal::plain(0, 0, Rule::V28));
+        return Err(Refusal::plain(0, 0, Rule::BudgetTooLow));
     }
     Ok(())
 }

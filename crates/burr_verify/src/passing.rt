@@ -51,7 +51,7 @@ pub fn judge_code<B: Blocking>(
     }
     match state {
         None => Ok(()),
-        Some(_) => Err(Refusal::plain(procedure.number(), last as u16, Rule::V5)),
+        Some(_) => Err(Refusal::plain(procedure.number(), last as u16, Rule::UnendedCode)),
     }
 }
 
@@ -80,7 +80,7 @@ fn enter(
 {
     let label = label_within(procedure, pc, pc + 1);
     match (label, &*state) {
-        (None, None) => Err(Refusal::plain(procedure.number(), pc as u16, Rule::V4)),
+        (None, None) => Err(Refusal::plain(procedure.number(), pc as u16, Rule::MissingFrame)),
         (None, Some(_)) => Ok(()),
         (Some(label), None) => {
             *state = Some(State::of(&procedure.frame(label)));
@@ -131,10 +131,10 @@ fn judge_at<B: Blocking>(
     ensures same { looks.new.assembly ≡ looks.old.assembly }
 {
     let Some((instruction, size)) = fetch(procedure.code(), pc) else {
-        return Err(Refusal::plain(procedure.number(), pc as u16, Rule::V2));
+        return Err(Refusal::plain(procedure.number(), pc as u16, Rule::BadCode));
     };
     if label_within(procedure, pc + 1, pc + size).is_some() {
-        return Err(Refusal::plain(procedure.number(), pc as u16, Rule::V3));
+        return Err(Refusal::plain(procedure.number(), pc as u16, Rule::BadLabel));
     }
     let Some(before) = state else {
         unreachable!();

@@ -60,12 +60,12 @@ impl Refusal {
     /// The refusal of a state that does not arrive at a label's frame.
     pub(crate) fn missed(proc: u8, pc: u16, miss: Miss) -> Refusal
         ensures { Refuses (failed_check result) ≡ broken_in proc pc
-            (missed_break rules.V21 (option_map (λ point. point.items) miss.point)) }
+            (missed_break rules.FrameMissed (option_map (λ point. point.items) miss.point)) }
     {
         Refusal {
             proc,
             pc,
-            rule: Rule::V21,
+            rule: Rule::FrameMissed,
             pieces: None,
             point: miss.point,
         }
@@ -87,6 +87,6 @@ pub fn fits_assembly(container: &Container<'_>, assembly: &Assembly) -> Result<(
     if header.name == assembly.name().as_bytes() && header.pieces == assembly.piece_count() {
         Ok(())
     } else {
-        Err(Refusal::plain(0, 0, Rule::V1))
+        Err(Refusal::plain(0, 0, Rule::OtherAssembly))
     }
 }

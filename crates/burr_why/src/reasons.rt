@@ -28,10 +28,10 @@ impl Reasons<'_, '_> {
     /// Says why this refusal was made.
     fn add(&mut self, refusal: &Refusal) {
         match refusal.rule {
-            Rule::V1 => self.add_other_assembly(),
-            Rule::V27 => self.add_malformed_frame(refusal),
-            Rule::V28 => self.add_small_budget(),
-            Rule::V25 => self.add_wide_frame(refusal),
+            Rule::OtherAssembly => self.add_other_assembly(),
+            Rule::BadFrame => self.add_malformed_frame(refusal),
+            Rule::BudgetTooLow => self.add_small_budget(),
+            Rule::StateTooLarge => self.add_wide_frame(refusal),
             _ => self.add_at_site(refusal),
         }
     }
@@ -49,8 +49,8 @@ impl Reasons<'_, '_> {
         self.add_item(site.code_item(usize::from(site.pc)));
         self.add_surroundings(site);
         match refusal.rule {
-            rule @ (Rule::V2 | Rule::V3 | Rule::V4 | Rule::V5) => self.add_bad_code(rule, site),
-            Rule::V15 | Rule::V16 => self.add_meeting(refusal.pieces, site),
+            rule @ (Rule::BadCode | Rule::BadLabel | Rule::MissingFrame | Rule::UnendedCode) => self.add_bad_code(rule, site),
+            Rule::Collision | Rule::NotFree => self.add_meeting(refusal.pieces, site),
             rule => self.add_bad_instruction(rule, site),
         }
     }
@@ -61,17 +61,17 @@ impl Reasons<'_, '_> {
             return;
         };
         match rule {
-            Rule::V6 | Rule::V7 | Rule::V8 | Rule::V9 | Rule::V11 | Rule::V12 => {
+            Rule::MissingOperand | Rule::StackFull | Rule::EmptySlot | Rule::ParamWritten | Rule::BadCount | Rule::NumberRange => {
                 self.add_bad_number(rule, &instruction, site)
             }
-            Rule::V13 | Rule::V14 | Rule::V17 | Rule::V18 => {
+            Rule::GripOff | Rule::BadGroup | Rule::TrayInUse | Rule::OffBench => {
                 self.add_bad_grip(rule, &instruction, site)
             }
-            Rule::V10 | Rule::V19 | Rule::V23 => self.add_bad_control(rule, &instruction, site),
-            Rule::V20 | Rule::V21 | Rule::V22 => self.add_missed_frame(rule, &instruction, site),
-            Rule::V24 | Rule::V25 | Rule::V26 => self.add_bad_cost(rule, &instruction, site),
-            Rule::V1 | Rule::V2 | Rule::V3 | Rule::V4 | Rule::V5 => {}
-            Rule::V15 | Rule::V16 | Rule::V27 | Rule::V28 => {}
+            Rule::BadJump | Rule::BadCall | Rule::NotApart => self.add_bad_control(rule, &instruction, site),
+            Rule::EntryMissed | Rule::FrameMissed | Rule::ExitMissed => self.add_missed_frame(rule, &instruction, site),
+            Rule::CostTooLow | Rule::StateTooLarge | Rule::FormTooLarge => self.add_bad_cost(rule, &instruction, site),
+            Rule::OtherAssembly | Rule::BadCode | Rule::BadLabel | Rule::MissingFrame | Rule::UnendedCode => {}
+            Rule::Collision | Rule::NotFree | Rule::BadFrame | Rule::BudgetTooLow => {}
         }
     }
 

@@ -52,8 +52,8 @@ held_of_pairs s h (inr p) = p
 
 -- a step is paid for
 pub paid : (s : AbstractState) {Q : Type 0} {v : Verdict} → IsFine v
-    → needs (IsSmallForm (one_less s.cost)) (plainly rules.V26)
-    (everywhere s (λ point. pos 0 ≤ℤ value point (one_less s.cost)) rules.V24 (λ _. Q)) v
+    → needs (IsSmallForm (one_less s.cost)) (plainly rules.FormTooLarge)
+    (everywhere s (λ point. pos 0 ≤ℤ value point (one_less s.cost)) rules.CostTooLow (λ _. Q)) v
     → Everywhere s (λ point. pos 0 ≤ℤ value point (one_less s.cost)) × Q
 paid s fine p = held_everywhere s fine (held fine p).1
 

@@ -20,12 +20,12 @@ use Rattle.burr_frames.specs.Rules.SpaceRules.{AllSmallPlaces}
 
 abbrev pub halt_rule : ℕ → AbstractState → Rest
 halt_rule n s =
-    needs (n ≡ 0) (plainly rules.V22)
-    (needs (AllApart s.places) (plainly rules.V23) (paying s λ paid. no_successor))
+    needs (n ≡ 0) (plainly rules.ExitMissed)
+    (needs (AllApart s.places) (plainly rules.NotApart) (paying s λ paid. no_successor))
 
 abbrev pub jump_rule : FramedProcedure → AbstractState → ℕ → Rest
 jump_rule here s label =
-    finds (slice_get here.labels label) (plainly rules.V10) λ to.
+    finds (slice_get here.labels label) (plainly rules.BadJump) λ to.
     paying s λ paid. arriving paid to.1 no_successor
 
 -- a guard more
@@ -44,18 +44,18 @@ counted_out f s = guarded (times (neg_ℤ (pos 1)) f) s
 -- what follows, of the state that has paid.
 abbrev pub lowering : AbstractState → Form → (AbstractState → Rest) → Rest
 lowering s f rest =
-    needs (IsSmallForm (one_less f)) (plainly rules.V26)
-    (everywhere s (λ point. pos 0 ≤ℤ value point f) rules.V11
-    (needs (length s.guards < 8) (plainly rules.V25) (paying s rest)))
+    needs (IsSmallForm (one_less f)) (plainly rules.FormTooLarge)
+    (everywhere s (λ point. pos 0 ≤ℤ value point f) rules.BadCount
+    (needs (length s.guards < 8) (plainly rules.StateTooLarge) (paying s rest)))
 
 -- The checks of `down` in their order, up to its cost, and then what follows: of the counter's form,
 -- the state that has paid, and the label's frame.
 abbrev pub counting_down : FramedProcedure → AbstractState → ℕ → ℕ
     → (Form → AbstractState → Frame → Rest) → Rest
 counting_down here s v label rest =
-    finds (slice_get here.labels label) (plainly rules.V10) λ to.
-    needs (here.parameters ≤ v) (plainly rules.V9)
-    (finds (get_or s.slots v None) (plainly rules.V8) λ f.
+    finds (slice_get here.labels label) (plainly rules.BadJump) λ to.
+    needs (here.parameters ≤ v) (plainly rules.ParamWritten)
+    (finds (get_or s.slots v None) (plainly rules.EmptySlot) λ f.
     lowering s f λ paid. rest f paid to.1)
 
 -- where `down` goes on at its label, a second state
@@ -135,28 +135,28 @@ left_of cost callee_cost = minus_form (one_less cost) callee_cost
 -- the step and the callee's cost are paid, and control falls out after the call
 abbrev pub paying_call : AbstractState → AbstractState → Form → Rest
 paying_call s after callee_cost =
-    needs (HasRoomForSymbols after) (plainly rules.V25)
-    (needs (AllSmallPlaces after.places × AllSmallForms after.guards) (plainly rules.V26)
+    needs (HasRoomForSymbols after) (plainly rules.StateTooLarge)
+    (needs (AllSmallPlaces after.places × AllSmallForms after.guards) (plainly rules.FormTooLarge)
     (needs
     (IsSmallForm callee_cost × IsSmallForm (one_less s.cost)
     × IsSmallForm (left_of s.cost callee_cost))
-    (plainly rules.V26)
-    (everywhere s (λ point. pos 0 ≤ℤ value point (left_of s.cost callee_cost)) rules.V24
+    (plainly rules.FormTooLarge)
+    (everywhere s (λ point. pos 0 ≤ℤ value point (left_of s.cost callee_cost)) rules.CostTooLow
     (falls_through (record after { cost = left_of s.cost callee_cost })))))
 
 -- a call of a procedure with this many parameters and results, its entry frame and its exit frame
 abbrev pub calling : AbstractState → ℕ → ℕ → Frame → FramedExit → Rest
 calling s parameters results entry exit =
-    finds (top_many parameters s.operands) (plainly rules.V6) λ found.
-    needs (length found.1 + results ≤ 8) (plainly rules.V7)
-    (meeting (called_with found.0 s) entry rules.V20 λ arguments.
+    finds (top_many parameters s.operands) (plainly rules.MissingOperand) λ found.
+    needs (length found.1 + results ≤ 8) (plainly rules.StackFull)
+    (meeting (called_with found.0 s) entry rules.EntryMissed λ arguments.
     paying_call s (after_call s (reverse found.0) found.1 exit) (substituted arguments entry.cost))
 
 abbrev pub call_rule : FramedPlan → ℕ → AbstractState → ℕ → Rest
 call_rule plan n s callee =
-    finds (callee_of plan.procedures n callee) (plainly rules.V19) λ there.
-    finds there.exit (plainly rules.V19) λ exit.
-    finds (entry_of there) (plainly rules.V20) λ entry.
+    finds (callee_of plan.procedures n callee) (plainly rules.BadCall) λ there.
+    finds there.exit (plainly rules.BadCall) λ exit.
+    finds (entry_of there) (plainly rules.EntryMissed) λ entry.
     calling s there.parameters there.results entry exit
 
 -- tray, grip, and where each piece is, agree with an exit frame, without regard to points
@@ -175,9 +175,9 @@ MeetsExitAt s exit parameters results point =
 
 abbrev pub ret_rule : FramedProcedure → AbstractState → Rest
 ret_rule here s =
-    finds here.exit (plainly rules.V22) λ exit.
-    finds (first_forms here.parameters s.slots) (plainly rules.V22) λ parameters.
-    finds (top_many here.results s.operands) (plainly rules.V6) λ found.
+    finds here.exit (plainly rules.ExitMissed) λ exit.
+    finds (first_forms here.parameters s.slots) (plainly rules.ExitMissed) λ parameters.
+    finds (top_many here.results s.operands) (plainly rules.MissingOperand) λ found.
     paying s λ paid.
-    needs (IsAlikeExit s exit) (plainly rules.V22)
-    (everywhere s (MeetsExitAt s exit parameters (reverse found.0)) rules.V22 no_successor)
+    needs (IsAlikeExit s exit) (plainly rules.ExitMissed)
+    (everywhere s (MeetsExitAt s exit parameters (reverse found.0)) rules.ExitMissed no_successor)

@@ -23,34 +23,34 @@ paid_with s operands = paying s λ paid. falls_through (with_operands operands p
 
 abbrev pub push_rule : AbstractState → ℤ → Rest
 push_rule s x =
-    needs (length s.operands < 8) (plainly rules.V7) (paid_with s (number x ∷ s.operands))
+    needs (length s.operands < 8) (plainly rules.StackFull) (paid_with s (number x ∷ s.operands))
 
 abbrev pub load_rule : AbstractState → ℕ → Rest
 load_rule s v =
-    finds (get_or s.slots v None) (plainly rules.V8) λ f.
-    needs (length s.operands < 8) (plainly rules.V7) (paid_with s (f ∷ s.operands))
+    finds (get_or s.slots v None) (plainly rules.EmptySlot) λ f.
+    needs (length s.operands < 8) (plainly rules.StackFull) (paid_with s (f ∷ s.operands))
 
 abbrev pub store_rule : FramedProcedure → AbstractState → ℕ → Rest
 store_rule here s v =
-    needs (here.parameters ≤ v) (plainly rules.V9)
-    (finds (top s.operands) (plainly rules.V6) λ found.
+    needs (here.parameters ≤ v) (plainly rules.ParamWritten)
+    (finds (top s.operands) (plainly rules.MissingOperand) λ found.
     paying s λ paid. falls_through (with_slot v found.0 found.1 paid))
 
 -- the form is small, and its value is a number at every point
 abbrev pub result_rule : AbstractState → Form → List Form → Rest
 result_rule s f below =
-    needs (IsSmallForm f) (plainly rules.V26)
-    (everywhere s (λ point. IsInNumberRange (value point f)) rules.V12 (paid_with s (f ∷ below)))
+    needs (IsSmallForm f) (plainly rules.FormTooLarge)
+    (everywhere s (λ point. IsInNumberRange (value point f)) rules.NumberRange (paid_with s (f ∷ below)))
 
 abbrev pub add_rule : AbstractState → Rest
 add_rule s =
-    finds (top_two s.operands) (plainly rules.V6) λ found.
+    finds (top_two s.operands) (plainly rules.MissingOperand) λ found.
     result_rule s (plus_form found.1 found.0) found.2
 
 abbrev pub sub_rule : AbstractState → Rest
 sub_rule s =
-    finds (top_two s.operands) (plainly rules.V6) λ found.
+    finds (top_two s.operands) (plainly rules.MissingOperand) λ found.
     result_rule s (minus_form found.1 found.0) found.2
 
 abbrev pub drop_rule : AbstractState → Rest
-drop_rule s = finds (top s.operands) (plainly rules.V6) λ found. paid_with s found.1
+drop_rule s = finds (top s.operands) (plainly rules.MissingOperand) λ found. paid_with s found.1

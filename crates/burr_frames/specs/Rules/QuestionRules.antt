@@ -20,11 +20,11 @@ asked low high s =
 
 abbrev pub ask_rule : AbstractState → ℤ → ℤ → Rest
 ask_rule s low high =
-    needs (length s.operands < 8) (plainly rules.V7)
-    (needs (HasRoomForSymbols (with_symbol low high s)) (plainly rules.V25)
+    needs (length s.operands < 8) (plainly rules.StackFull)
+    (needs (HasRoomForSymbols (with_symbol low high s)) (plainly rules.StateTooLarge)
     (paying s λ paid. falls_through (asked low high paid)))
 
 abbrev pub pick_rule : FramedProcedure → AbstractState → List ℕ → Rest
 pick_rule here s labels =
-    finds (labelled here.labels labels) (plainly rules.V10) λ to.
+    finds (labelled here.labels labels) (plainly rules.BadJump) λ to.
     paying s λ paid. arriving_at_all paid to no_successor

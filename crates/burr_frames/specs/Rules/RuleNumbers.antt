@@ -1,37 +1,37 @@
 -- The numbers and names of the rules.
 use Rattle.std.specs.Prelude.{ℕ, List, ◌++◌, codes, decimal}
 use Rattle.burr_frames.specs.declared.rule.Rule.{Rule}
-use Rattle.burr_frames.specs.declared.rule.Rule.TheVariants.{V1, V2, V3, V4, V5, V6, V7, V8, V9, V10, V11, V12, V13, V14, V15, V16, V17, V18, V19, V20, V21, V22, V23, V24, V25, V26, V27, V28}
+use Rattle.burr_frames.specs.declared.rule.Rule.TheVariants.{OtherAssembly, BadCode, BadLabel, MissingFrame, UnendedCode, MissingOperand, StackFull, EmptySlot, ParamWritten, BadJump, BadCount, NumberRange, GripOff, BadGroup, Collision, NotFree, TrayInUse, OffBench, BadCall, EntryMissed, FrameMissed, ExitMissed, NotApart, CostTooLow, StateTooLarge, FormTooLarge, BadFrame, BudgetTooLow}
 
 abbrev pub rule_number : Rule → ℕ
-rule_number V1 = 1
-rule_number V2 = 2
-rule_number V3 = 3
-rule_number V4 = 4
-rule_number V5 = 5
-rule_number V6 = 6
-rule_number V7 = 7
-rule_number V8 = 8
-rule_number V9 = 9
-rule_number V10 = 10
-rule_number V11 = 11
-rule_number V12 = 12
-rule_number V13 = 13
-rule_number V14 = 14
-rule_number V15 = 15
-rule_number V16 = 16
-rule_number V17 = 17
-rule_number V18 = 18
-rule_number V19 = 19
-rule_number V20 = 20
-rule_number V21 = 21
-rule_number V22 = 22
-rule_number V23 = 23
-rule_number V24 = 24
-rule_number V25 = 25
-rule_number V26 = 26
-rule_number V27 = 27
-rule_number V28 = 28
+rule_number OtherAssembly = 1
+rule_number BadCode = 2
+rule_number BadLabel = 3
+rule_number MissingFrame = 4
+rule_number UnendedCode = 5
+rule_number MissingOperand = 6
+rule_number StackFull = 7
+rule_number EmptySlot = 8
+rule_number ParamWritten = 9
+rule_number BadJump = 10
+rule_number BadCount = 11
+rule_number NumberRange = 12
+rule_number GripOff = 13
+rule_number BadGroup = 14
+rule_number Collision = 15
+rule_number NotFree = 16
+rule_number TrayInUse = 17
+rule_number OffBench = 18
+rule_number BadCall = 19
+rule_number EntryMissed = 20
+rule_number FrameMissed = 21
+rule_number ExitMissed = 22
+rule_number NotApart = 23
+rule_number CostTooLow = 24
+rule_number StateTooLarge = 25
+rule_number FormTooLarge = 26
+rule_number BadFrame = 27
+rule_number BudgetTooLow = 28
 
 -- the letter V and the number
 abbrev pub rule_name : Rule → List ℕ

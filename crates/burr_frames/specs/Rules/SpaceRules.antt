@@ -54,7 +54,7 @@ AllSmallPlaces (On tray c ∷ places) =
 
 abbrev pub grip_rule : AbstractState → ℕ → Rest
 grip_rule s group =
-    needs (AllLieIn s.places s.tray group) (plainly rules.V13)
+    needs (AllLieIn s.places s.tray group) (plainly rules.GripOff)
     (paying s λ paid. falls_through (record paid { grip = group }))
 
 -- the grip and the rest of its tray do not overlap
@@ -64,14 +64,14 @@ DoesNotOverlap a b = ¬ Overlap a b
 -- `step`, with the places after it
 abbrev pub step_to : List (List Cell) → AbstractState → List (Placement FormCell) → Rest
 step_to homes s places =
-    needs (AllSmallPlaces places) (plainly rules.V26)
-    (everywhere s (OnBenchAt places s.tray) rules.V18
-    (everywhere_of_pairs s (PairAt DoesNotOverlap homes places s.tray s.grip) rules.V15
+    needs (AllSmallPlaces places) (plainly rules.FormTooLarge)
+    (everywhere s (OnBenchAt places s.tray) rules.OffBench
+    (everywhere_of_pairs s (PairAt DoesNotOverlap homes places s.tray s.grip) rules.Collision
     (paying s λ paid. falls_through (record paid { places = places }))))
 
 abbrev pub step_rule : List (List Cell) → AbstractState → Direction → Rest
 step_rule homes s direction =
-    needs (s.grip ≢ 0) (plainly rules.V14) (step_to homes s (moved s.grip direction s.places))
+    needs (s.grip ≢ 0) (plainly rules.BadGroup) (step_to homes s (moved s.grip direction s.places))
 
 -- one group of cells goes out along the direction past the other
 abbrev pub GoesFree : Direction → List Cell → List Cell → Type 0
@@ -79,10 +79,10 @@ GoesFree direction a b = IsFree a b direction
 
 abbrev pub aside_rule : List (List Cell) → AbstractState → Direction → ℕ → Rest
 aside_rule homes s direction tray =
-    needs (IsPartOfTray s.grip s.places s.tray) (plainly rules.V14)
-    (needs (IsEmptyTray s.places tray) (plainly rules.V17)
-    (everywhere s (OnBenchAt s.places s.tray) rules.V18
-    (everywhere_of_pairs s (PairAt (GoesFree direction) homes s.places s.tray s.grip) rules.V16
+    needs (IsPartOfTray s.grip s.places s.tray) (plainly rules.BadGroup)
+    (needs (IsEmptyTray s.places tray) (plainly rules.TrayInUse)
+    (everywhere s (OnBenchAt s.places s.tray) rules.OffBench
+    (everywhere_of_pairs s (PairAt (GoesFree direction) homes s.places s.tray s.grip) rules.NotFree
     (paying s λ paid.
     falls_through (record paid { places = aside_places s.grip s.tray tray s.places; grip = 0 })))))
 

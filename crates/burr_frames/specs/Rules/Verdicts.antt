@@ -66,8 +66,8 @@ everywhere_of_pairs s P rule rest verdict =
 -- One step is paid for: the cost is one less, and negative at no point.
 abbrev pub paying : AbstractState → (AbstractState → Rest) → Rest
 paying s rest =
-    needs (IsSmallForm (one_less s.cost)) (plainly rules.V26)
-    (everywhere s (λ point. pos 0 ≤ℤ value point (one_less s.cost)) rules.V24
+    needs (IsSmallForm (one_less s.cost)) (plainly rules.FormTooLarge)
+    (everywhere s (λ point. pos 0 ≤ℤ value point (one_less s.cost)) rules.CostTooLow
     (rest (record s { cost = one_less s.cost })))
 
 -- Frames
@@ -88,9 +88,9 @@ AgreesAtCost s f forms point =
 -- The state arrives at a frame, its cost included.
 abbrev pub arriving : AbstractState → Frame → Rest → Rest
 arriving s f rest =
-    finds (live_forms f.slots s.slots) (plainly rules.V21) λ forms.
-    needs (IsAlike s (state_of f)) (plainly rules.V21)
-    (everywhere s (AgreesAtCost s f forms) rules.V21 rest)
+    finds (live_forms f.slots s.slots) (plainly rules.FrameMissed) λ forms.
+    needs (IsAlike s (state_of f)) (plainly rules.FrameMissed)
+    (everywhere s (AgreesAtCost s f forms) rules.FrameMissed rest)
 
 -- the state arrives at each of these frames
 abbrev pub arriving_at_all : AbstractState → List (ℕ × Frame) → Rest → Rest

@@ -14,8 +14,8 @@ use Rattle.burr_frames.specs.Views.Comparing.{NoneBelow}
 
 -- a miss at this point, or without regard to points
 abbrev pub missed_at : Option Point → Verdict
-missed_at None = plainly rules.V21
-missed_at (Some point) = at_point rules.V21 point
+missed_at None = plainly rules.FrameMissed
+missed_at (Some point) = at_point rules.FrameMissed point
 
 abbrev pub arrival_verdict : {A : Type 0} → Result A Miss → Verdict
 arrival_verdict (Ok _) = NoSuccessor

@@ -53,10 +53,10 @@ HoldsOrBreaks s P rule result =
 -- the step can't be paid for, and the break says why
 abbrev pub CannotPay : AbstractState → Break → Type 0
 CannotPay s b =
-    ((¬ IsSmallForm (one_less s.cost)) × (broken_of b ≡ plain_break rules.V26))
+    ((¬ IsSmallForm (one_less s.cost)) × (broken_of b ≡ plain_break rules.FormTooLarge))
     ⊎ (IsSmallForm (one_less s.cost) × (point : Point)
     × IsFirstFailing s (λ x. pos 0 ≤ℤ value x (one_less s.cost)) point
-    × (broken_of b ≡ break_at rules.V24 point))
+    × (broken_of b ≡ break_at rules.CostTooLow point))
 
 -- the cost after one step, which is paid for
 pub record IsPaid (s : AbstractState) (cost : Form) : Type 0 where
@@ -67,13 +67,13 @@ pub record IsPaid (s : AbstractState) (cost : Form) : Type 0 where
 abbrev pub Pays : AbstractState → Result Form Break → Type 0
 Pays s result = MatchResult result (IsPaid s) (CannotPay s)
 
--- the form in slot v; or the rule that is broken: V9 at a parameter, V8 where the slot has no form
+-- the form in slot v; or the rule that is broken: the slot is a parameter, or has no form
 abbrev pub FindsCounter : FramedProcedure → AbstractState → ℕ → Result Form Break → Type 0
 FindsCounter here s v result =
     MatchResult result
     (λ f. (here.parameters ≤ v) × (get_or s.slots v None ≡ Some f))
-    (λ b. ((¬ (here.parameters ≤ v)) × (broken_of b ≡ plain_break rules.V9))
-    ⊎ ((here.parameters ≤ v) × (get_or s.slots v None ≡ None) × (broken_of b ≡ plain_break rules.V8)))
+    (λ b. ((¬ (here.parameters ≤ v)) × (broken_of b ≡ plain_break rules.ParamWritten))
+    ⊎ ((here.parameters ≤ v) × (get_or s.slots v None ≡ None) × (broken_of b ≡ plain_break rules.EmptySlot)))
 
 -- The state arrives at a frame, or does not; nothing is said of what follows.
 abbrev pub ArrivesOrBreaks : AbstractState → FrameRef → Result ⊤ Break → Type 0

@@ -31,10 +31,10 @@ pub record IsPaidBeside (s : AbstractState) (callee_cost cost : Form) : Type 0 w
 -- they can't be paid for, and the break says why
 abbrev pub CannotPayBeside : AbstractState → Form → Break → Type 0
 CannotPayBeside s callee_cost b =
-    ((¬ IsSmallPrice s callee_cost) × (broken_of b ≡ plain_break rules.V26))
+    ((¬ IsSmallPrice s callee_cost) × (broken_of b ≡ plain_break rules.FormTooLarge))
     ⊎ (IsSmallPrice s callee_cost × (point : Point)
     × IsFirstFailing s (λ x. pos 0 ≤ℤ value x (left_of s.cost callee_cost)) point
-    × (broken_of b ≡ break_at rules.V24 point))
+    × (broken_of b ≡ break_at rules.CostTooLow point))
 
 abbrev pub PaysBeside : AbstractState → Form → Result Form Break → Type 0
 PaysBeside s callee_cost result =
@@ -65,8 +65,8 @@ IsSmallAfter after = AllSmallPlaces after.places × AllSmallForms after.guards
 -- there is no state after the call, and the break says why
 abbrev pub CannotGoAfter : AbstractState → Break → Type 0
 CannotGoAfter after b =
-    ((¬ HasRoomForSymbols after) × (broken_of b ≡ plain_break rules.V25))
-    ⊎ (HasRoomForSymbols after × (¬ IsSmallAfter after) × (broken_of b ≡ plain_break rules.V26))
+    ((¬ HasRoomForSymbols after) × (broken_of b ≡ plain_break rules.StateTooLarge))
+    ⊎ (HasRoomForSymbols after × (¬ IsSmallAfter after) × (broken_of b ≡ plain_break rules.FormTooLarge))
 
 -- the state after a call, which has room for its symbols, places and guards small; or how not
 abbrev pub GivesAfter : AbstractState → Result AbstractState Break → Type 0

@@ -27,12 +27,12 @@ framed_ref kept = framed_exit kept.places.live (exit_frame_of kept)
 -- the state meets an exit frame with these forms for its parameters and its results
 abbrev pub meeting_exit_with : AbstractState → FramedExit → List Form → List Form → Rest
 meeting_exit_with s exit parameters results =
-    needs (IsAlikeExit s exit) (plainly rules.V22)
-    (everywhere s (MeetsExitAt s exit parameters results) rules.V22 no_successor)
+    needs (IsAlikeExit s exit) (plainly rules.ExitMissed)
+    (everywhere s (MeetsExitAt s exit parameters results) rules.ExitMissed no_successor)
 
 -- The state meets an exit frame over this many parameters: the topmost operands are the results.
 abbrev pub meeting_exit : ℕ → AbstractState → FramedExit → Rest
 meeting_exit parameters s exit =
-    finds (first_forms parameters s.slots) (plainly rules.V22) λ forms.
-    finds (top_many (length exit.results) s.operands) (plainly rules.V22) λ found.
+    finds (first_forms parameters s.slots) (plainly rules.ExitMissed) λ forms.
+    finds (top_many (length exit.results) s.operands) (plainly rules.ExitMissed) λ found.
     meeting_exit_with s exit forms (reverse found.0)

@@ -24,7 +24,7 @@ use Rattle.burr_frames.specs.Rules.Verdicts.{falls_through, no_successor, paying
 abbrev pub ClearOrBreaks : List (List Cell) → AbstractState → List (Placement FormCell) → Query
     → Rule → Result ⊤ Break → Type 0
 ClearOrBreaks homes s places query rule result =
-    everywhere s (OnBenchAt places s.tray) rules.V18
+    everywhere s (OnBenchAt places s.tray) rules.OffBench
     (everywhere_of_pairs s (PairAt (IsApartBy query) homes places s.tray s.grip) rule no_successor)
     (last_verdict result)
 
@@ -39,7 +39,7 @@ HasRest s = (p : ℕ) × LiesIn s.places p s.tray × (¬ IsInSet s.grip p)
 -- what `step` comes to where nothing is in the way
 abbrev pub free_step : AbstractState → Direction → Rest
 free_step s direction =
-    needs (AllSmallPlaces (moved s.grip direction s.places)) (plainly rules.V26)
+    needs (AllSmallPlaces (moved s.grip direction s.places)) (plainly rules.FormTooLarge)
     (paying s λ paid. falls_through (record paid { places = moved s.grip direction s.places }))
 
 -- what `aside` comes to where nothing is in the way

@@ -41,16 +41,16 @@ impl State {
         ensures kept { IfErr result (λ _. self.new ≡ self.old) }
     {
         if callee <= procedure.number() {
-            return Err(Break::plain(Rule::V19));
+            return Err(Break::plain(Rule::BadCall));
         }
         let Some(called) = procedure.sibling(callee) else {
-            return Err(Break::plain(Rule::V19));
+            return Err(Break::plain(Rule::BadCall));
         };
         let Some(exit) = called.exit() else {
-            return Err(Break::plain(Rule::V19));
+            return Err(Break::plain(Rule::BadCall));
         };
         let Some(entry) = frame_at(called, 0) else {
-            return Err(Break::plain(Rule::V20));
+            return Err(Break::plain(Rule::EntryMissed));
         };
         self.calls(called.params(), &entry, &Exit::of(&exit))
     }
@@ -64,14 +64,14 @@ impl State {
     {
         let count = usize::from(count);
         let Some(arguments) = self.top_many(count) else {
-            return Err(Break::plain(Rule::V6));
+            return Err(Break::plain(Rule::MissingOperand));
         };
         if MOST_OPERANDS < self.operands.len() - count + exit.results.len() {
-            return Err(Break::plain(Rule::V7));
+            return Err(Break::plain(Rule::StackFull));
         }
         let live = match self.met_with(arguments.as_slice(), entry) {
             Ok(live) => live,
-            Err(miss) => return Err(Break::missed(Rule::V20, miss)),
+            Err(miss) => return Err(Break::missed(Rule::EntryMissed, miss)),
         };
         self.pays_for(arguments.as_slice(), exit, &entry.cost(), live.as_slice())
     }
@@ -153,15 +153,15 @@ impl State {
         ensures { PaysBeside self.now (substituted arguments.now cost.now) result }
     {
         let Ok(callee_cost) = cost.substitute(&padded(arguments)) else {
-            return Err(Break::plain(Rule::V26));
+            return Err(Break::plain(Rule::FormTooLarge));
         };
         let Ok(less) = raised_by(&self.cost, -1) else {
-            return Err(Break::plain(Rule::V26));
+            return Err(Break::plain(Rule::FormTooLarge));
         };
         let Ok(left) = less.sub(&callee_cost) else {
-            return Err(Break::plain(Rule::V26));
+            return Err(Break::plain(Rule::FormTooLarge));
         };
-        self.never_negative(&left, Rule::V24)?;
+        self.never_negative(&left, Rule::CostTooLow)?;
         Ok(left)
     }
 }
@@ -207,18 +207,18 @@ impl State {
             (drop (length arguments.now) self.now.operands) exit.now) result }
     {
         let Some(ranges) = self.ranges_after(exit) else {
-            return Err(Break::plain(Rule::V25));
+            return Err(Break::plain(Rule::StateTooLarge));
         };
         if MOST_STATE_GUARDS < self.guards.len() + exit.guards.len() {
-            return Err(Break::plain(Rule::V25));
+            return Err(Break::plain(Rule::StateTooLarge));
         }
         let results = symbols_from(self.ranges.len(), exit.results.len());
         let symbols = joined(arguments, results.as_slice());
         let Ok(places) = places_with(exit.places.as_slice(), symbols.as_slice()) else {
-            return Err(Break::plain(Rule::V26));
+            return Err(Break::plain(Rule::FormTooLarge));
         };
         let Ok(guards) = guards_with(exit.guards.as_slice(), symbols.as_slice()) else {
-            return Err(Break::plain(Rule::V26));
+            return Err(Break::plain(Rule::FormTooLarge));
         };
         Ok(State {
             ranges,
@@ -439,19 +439,19 @@ impl State {
             ret_rule here self.now (last_verdict result)) }
     {
         let Some(exit) = procedure.exit() else {
-            return Err(Break::plain(Rule::V22));
+            return Err(Break::plain(Rule::ExitMissed));
         };
         let Some(parameters) = self.first_forms(exit.parameters()) else {
-            return Err(Break::plain(Rule::V22));
+            return Err(Break::plain(Rule::ExitMissed));
         };
         let exit = Exit::of(&exit);
         let Some(results) = self.top_many(exit.results.len()) else {
-            return Err(Break::plain(Rule::V6));
+            return Err(Break::plain(Rule::MissingOperand));
         };
         self.paid()?;
         match self.meets_exit_with(&exit, parameters.as_slice(), results.as_slice()) {
             Ok(()) => Ok(()),
-            Err(miss) => Err(Break::missed(Rule::V22, miss)),
+            Err(miss) => Err(Break::missed(Rule::ExitMissed, miss)),
         }
     }
 

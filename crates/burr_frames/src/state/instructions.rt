@@ -33,7 +33,7 @@ impl State {
         ensures kept { IfErr result (λ _. self.new ≡ self.old) }
     {
         if self.is_full() {
-            return Err(Break::plain(Rule::V7));
+            return Err(Break::plain(Rule::StackFull));
         }
         let cost = self.paid()?;
         self.set_cost(cost);
@@ -48,10 +48,10 @@ impl State {
         ensures kept { IfErr result (λ _. self.new ≡ self.old) }
     {
         let Some(form) = self.form_in(v) else {
-            return Err(Break::plain(Rule::V8));
+            return Err(Break::plain(Rule::EmptySlot));
         };
         if self.is_full() {
-            return Err(Break::plain(Rule::V7));
+            return Err(Break::plain(Rule::StackFull));
         }
         let cost = self.paid()?;
         self.set_cost(cost);
@@ -65,10 +65,10 @@ impl State {
         ensures kept { IfErr result (λ _. self.new ≡ self.old) }
     {
         let Some((upper, lower)) = self.two_topmost() else {
-            return Err(Break::plain(Rule::V6));
+            return Err(Break::plain(Rule::MissingOperand));
         };
         let Ok(sum) = lower.add(&upper) else {
-            return Err(Break::plain(Rule::V26));
+            return Err(Break::plain(Rule::FormTooLarge));
         };
         self.put_result(sum)
     }
@@ -79,10 +79,10 @@ impl State {
         ensures kept { IfErr result (λ _. self.new ≡ self.old) }
     {
         let Some((upper, lower)) = self.two_topmost() else {
-            return Err(Break::plain(Rule::V6));
+            return Err(Break::plain(Rule::MissingOperand));
         };
         let Ok(difference) = lower.sub(&upper) else {
-            return Err(Break::plain(Rule::V26));
+            return Err(Break::plain(Rule::FormTooLarge));
         };
         self.put_result(difference)
     }
@@ -95,7 +95,7 @@ impl State {
             (next_verdict self.new result) }
         ensures kept { IfErr result (λ _. self.new ≡ self.old) }
     {
-        self.stays_within(&[form], MOST_NUMBER, Rule::V12)?;
+        self.stays_within(&[form], MOST_NUMBER, Rule::NumberRange)?;
         let cost = self.paid()?;
         self.set_cost(cost);
         self.take_off();
@@ -110,7 +110,7 @@ impl State {
         ensures kept { IfErr result (λ _. self.new ≡ self.old) }
     {
         if self.topmost().is_none() {
-            return Err(Break::plain(Rule::V6));
+            return Err(Break::plain(Rule::MissingOperand));
         }
         let cost = self.paid()?;
         self.set_cost(cost);
@@ -127,10 +127,10 @@ impl State {
         ensures kept { IfErr result (λ _. self.new ≡ self.old) }
     {
         if v < procedure.params() {
-            return Err(Break::plain(Rule::V9));
+            return Err(Break::plain(Rule::ParamWritten));
         }
         let Some(form) = self.topmost() else {
-            return Err(Break::plain(Rule::V6));
+            return Err(Break::plain(Rule::MissingOperand));
         };
         let cost = self.paid()?;
         self.set_cost(cost);
@@ -196,10 +196,10 @@ impl State {
         ensures { halt_rule procedure.entry.number self.now (last_verdict result) }
     {
         if procedure.number() != 0 {
-            return Err(Break::plain(Rule::V22));
+            return Err(Break::plain(Rule::ExitMissed));
         }
         if !self.are_all_apart() {
-            return Err(Break::plain(Rule::V23));
+            return Err(Break::plain(Rule::NotApart));
         }
         self.paid()?;
         Ok(())
@@ -212,7 +212,7 @@ impl State {
             jump_rule here self.now label (last_verdict result)) }
     {
         let Some(frame) = frame_at(procedure, label) else {
-            return Err(Break::plain(Rule::V10));
+            return Err(Break::plain(Rule::BadJump));
         };
         let cost = self.paid()?;
         let mut paid = self.copied();
@@ -230,7 +230,7 @@ impl State {
         ensures kept { IfErr result (λ _. self.new ≡ self.old) }
     {
         let Some(frame) = frame_at(procedure, label) else {
-            return Err(Break::plain(Rule::V10));
+            return Err(Break::plain(Rule::BadJump));
         };
         let count = self.counter(procedure, v)?;
         let branch = self.lowered(v, &count)?;
@@ -249,7 +249,7 @@ impl State {
             branch_rule here self.now v label (branch_verdict result)) }
     {
         let Some(_frame) = frame_at(procedure, label) else {
-            return Err(Break::plain(Rule::V10));
+            return Err(Break::plain(Rule::BadJump));
         };
         let count = self.counter(procedure, v)?;
         self.lowered(v, &count)
@@ -263,10 +263,10 @@ impl State {
         ensures small { IfOk result IsSmallForm }
     {
         if slot < procedure.params() {
-            return Err(Break::plain(Rule::V9));
+            return Err(Break::plain(Rule::ParamWritten));
         }
         let Some(count) = self.form_in(slot) else {
-            return Err(Break::plain(Rule::V8));
+            return Err(Break::plain(Rule::EmptySlot));
         };
         Ok(count)
     }
@@ -281,11 +281,11 @@ impl State {
             (λ paid. falls_through (counted_down v count.now paid)) (branch_verdict result) }
     {
         let Ok(less) = raised_by(count, -1) else {
-            return Err(Break::plain(Rule::V26));
+            return Err(Break::plain(Rule::FormTooLarge));
         };
-        self.never_negative(count, Rule::V11)?;
+        self.never_negative(count, Rule::BadCount)?;
         if self.guards_are_full() {
-            return Err(Break::plain(Rule::V25));
+            return Err(Break::plain(Rule::StateTooLarge));
         }
         let cost = self.paid()?;
         let mut branch = self.copied();
@@ -301,7 +301,7 @@ impl State {
     {
         match arrives(self, frame) {
             Ok(()) => Ok(()),
-            Err(miss) => Err(Break::missed(Rule::V21, miss)),
+            Err(miss) => Err(Break::missed(Rule::FrameMissed, miss)),
         }
     }
 
@@ -339,10 +339,10 @@ impl State {
         ensures kept { IfErr result (λ _. self.new ≡ self.old) }
     {
         if self.is_full() {
-            return Err(Break::plain(Rule::V7));
+            return Err(Break::plain(Rule::StackFull));
         }
         if !self.has_room_for_symbol(low, high) {
-            return Err(Break::plain(Rule::V25));
+            return Err(Break::plain(Rule::StateTooLarge));
         }
         let cost = self.paid()?;
         self.set_cost(cost);
@@ -357,7 +357,7 @@ impl State {
             pick_rule here self.now labels.now (last_verdict result)) }
     {
         if !has_labels(procedure, labels) {
-            return Err(Break::plain(Rule::V10));
+            return Err(Break::plain(Rule::BadJump));
         }
         let cost = self.paid()?;
         let mut paid = self.copied();
@@ -381,7 +381,7 @@ impl State {
                 unreachable!();
             };
             let Some(frame) = frame_at(procedure, label) else {
-                return Err(Break::plain(Rule::V10));
+                return Err(Break::plain(Rule::BadJump));
             };
             self.arrives_or_breaks(&frame)?;
         }

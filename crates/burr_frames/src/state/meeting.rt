@@ -56,8 +56,8 @@ pub fn arrives(state: &State, frame: &FrameRef<'_>) -> Result<(), Miss>
 /// values of those slots lie in the frame's ranges and its guards hold of them; and the operands
 /// and the offsets have the values of the frame's forms there.
 pub fn meets_entry(state: &State, frame: &FrameRef<'_>) -> Result<(), Miss>
-    ensures { meeting state.now (framed (frame_of frame.now)) rules.V20 (λ _. no_successor)
-        (miss_verdict rules.V20 result) }
+    ensures { meeting state.now (framed (frame_of frame.now)) rules.EntryMissed (λ _. no_successor)
+        (miss_verdict rules.EntryMissed result) }
 {
     state.met(frame)?;
     Ok(())
@@ -410,7 +410,7 @@ fn append_offsets(forms: &mut ArrayVec<Form, 120>, places: &[Placement<FormOffse
 /// the parameters have the values of those slots and the results theirs.
 pub fn meets_exit(state: &State, exit: &ExitRef<'_>) -> Result<(), Miss>
     ensures { meeting_exit (parameters_of exit.now) state.now (framed_ref exit.now)
-        (miss_verdict rules.V22 result) }
+        (miss_verdict rules.ExitMissed result) }
 {
     let Some(forms) = state.first_forms(exit.parameters()) else {
         return Err(Miss { point: None });
@@ -436,7 +436,7 @@ impl State {
         requires small { AllSmallForms parameters.now }
         requires results_small { AllSmallForms results.now }
         ensures { meeting_exit_with self.now exit.now parameters.now results.now
-            (miss_verdict rules.V22 result) }
+            (miss_verdict rules.ExitMissed result) }
     {
         if !self.is_alike_exit(exit) {
             return Err(Miss { point: None });

@@ -33,7 +33,7 @@ impl State {
         ensures kept { IfErr result (λ _. self.new ≡ self.old) }
     {
         if !self.all_lie_here(group) {
-            return Err(Break::plain(Rule::V13));
+            return Err(Break::plain(Rule::GripOff));
         }
         let cost = self.paid()?;
         self.set_cost(cost);
@@ -71,12 +71,12 @@ impl State {
             looks.old looks.new }
     {
         if self.grip == 0 {
-            return Err(Break::plain(Rule::V14));
+            return Err(Break::plain(Rule::BadGroup));
         }
         let Ok(places) = self.moved(direction) else {
-            return Err(Break::plain(Rule::V26));
+            return Err(Break::plain(Rule::FormTooLarge));
         };
-        self.goes_clear(places.as_slice(), looks, Query::Overlap, Rule::V15)?;
+        self.goes_clear(places.as_slice(), looks, Query::Overlap, Rule::Collision)?;
         let cost = self.paid()?;
         self.set_cost(cost);
         self.set_places(places);
@@ -91,7 +91,7 @@ impl State {
         ensures kept { IfErr result (λ _. self.new ≡ self.old) }
     {
         let Ok(there) = self.moved(direction) else {
-            return Err(Break::plain(Rule::V26));
+            return Err(Break::plain(Rule::FormTooLarge));
         };
         let cost = self.paid()?;
         self.set_cost(cost);
@@ -119,13 +119,13 @@ impl State {
             looks.old looks.new }
     {
         if !self.is_part_gripped() {
-            return Err(Break::plain(Rule::V14));
+            return Err(Break::plain(Rule::BadGroup));
         }
         if !self.is_empty(tray) {
-            return Err(Break::plain(Rule::V17));
+            return Err(Break::plain(Rule::TrayInUse));
         }
         let query = Query::Exit(direction);
-        self.goes_clear(self.places.as_slice(), looks, query, Rule::V16)?;
+        self.goes_clear(self.places.as_slice(), looks, query, Rule::NotFree)?;
         let cost = self.paid()?;
         self.set_cost(cost);
         self.go_aside(tray);
@@ -168,7 +168,7 @@ impl State {
     {
         the_points_are_given();
         let offsets = offsets_in(self.tray, places);
-        self.stays_within(offsets.as_slice(), MOST_OFFSET, Rule::V18)?;
+        self.stays_within(offsets.as_slice(), MOST_OFFSET, Rule::OffBench)?;
         let homed = places
             .len()
             .min(usize::from(looks.assembly().piece_count()));

@@ -39,9 +39,9 @@ pub record IsFront (homes : List (List Cell)) (plan : FramedPlan) (n : ℕ) (her
 -- does not arrive
 abbrev pub FailsBetween : ℕ → FramedProcedure → ℕ → ℕ → Option AbstractState → FailedCheck → Type 0
 FailsBetween n here last pc None r =
-    (pc ≢ length here.code) × HasNoLabel here pc × (Refuses r ≡ refused n pc rules.V4)
+    (pc ≢ length here.code) × HasNoLabel here pc × (Refuses r ≡ refused n pc rules.MissingFrame)
 FailsBetween n here last pc (Some s) r =
-    ((pc ≡ length here.code) × (Refuses r ≡ refused n last rules.V5))
+    ((pc ≡ length here.code) × (Refuses r ≡ refused n last rules.UnendedCode))
     ⊎ ((f : Frame) × (b : Broken) × (pc ≢ length here.code) × IsLabelled here pc f
     × arriving s f no_successor (Breaks b) × (Refuses r ≡ broken n last b))
 
@@ -50,9 +50,9 @@ FailsBetween n here last pc (Some s) r =
 abbrev pub FailsAt : List (List Cell) → FramedPlan → ℕ → FramedProcedure → ℕ → AbstractState
     → FailedCheck → Type 0
 FailsAt homes plan n here pc s r =
-    (((i : Instruction) → ¬ StandsAt here.code pc i) × (Refuses r ≡ refused n pc rules.V2))
+    (((i : Instruction) → ¬ StandsAt here.code pc i) × (Refuses r ≡ refused n pc rules.BadCode))
     ⊎ (((i : Instruction) × StandsAt here.code pc i × Hides here pc i
-    × (Refuses r ≡ refused n pc rules.V3))
+    × (Refuses r ≡ refused n pc rules.BadLabel))
     ⊎ ((i : Instruction) × (b : Broken) × StandsAt here.code pc i × (¬ Hides here pc i)
     × Transfer homes plan n here s i (Breaks b) × (Refuses r ≡ broken n pc b)))
 

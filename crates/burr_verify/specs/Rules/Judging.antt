@@ -31,8 +31,8 @@ HasRoomForPoints f = box_size (live_ranges f.slots) ≤ MOST_POINTS
 abbrev pub judging_labels : ℕ → ℕ → List (ℕ × Frame) → Rest → Rest
 judging_labels n parameters [] rest = rest
 judging_labels n parameters (label ∷ labels) rest =
-    needs (IsFormed parameters label.1) (refused n label.0 rules.V27)
-    (needs (HasRoomForPoints label.1) (refused n label.0 rules.V25)
+    needs (IsFormed parameters label.1) (refused n label.0 rules.BadFrame)
+    (needs (HasRoomForPoints label.1) (refused n label.0 rules.StateTooLarge)
     (judging_labels n parameters labels rest))
 
 -- the same where the first is the entry frame
@@ -40,14 +40,14 @@ abbrev pub judging_entry : ℕ → ℕ → List (ℕ × Frame) → Rest → Rest
 judging_entry n parameters [] rest = rest
 judging_entry n parameters (label ∷ labels) rest =
     needs (IsFormed parameters label.1
-    × IsFormedEntry parameters label.1) (refused n label.0 rules.V27)
-    (needs (HasRoomForPoints label.1) (refused n label.0 rules.V25)
+    × IsFormedEntry parameters label.1) (refused n label.0 rules.BadFrame)
+    (needs (HasRoomForPoints label.1) (refused n label.0 rules.StateTooLarge)
     (judging_labels n parameters labels rest))
 
 -- an exit frame, if there is one
 abbrev pub judging_exit : ℕ → Option FramedExit → Rest → Rest
 judging_exit n None rest = rest
-judging_exit n (Some f) rest = needs (IsFormedExit f) (refused n 0 rules.V27) rest
+judging_exit n (Some f) rest = needs (IsFormedExit f) (refused n 0 rules.BadFrame) rest
 
 -- the frames of these procedures, numbered from n
 abbrev pub judging_frames : ℕ → List FramedProcedure → Rest → Rest
@@ -60,10 +60,10 @@ judging_frames n (here ∷ procedures) rest =
 -- the start against main's entry frame
 abbrev pub judging_start : List (List Cell) → FramedPlan → Rest → Rest
 judging_start homes plan rest =
-    finds (slice_get plan.procedures 0) (refused 0 0 rules.V27) λ main.
-    finds (entry_of main) (refused 0 0 rules.V27) λ f.
-    needs (Meets (start_state homes) f) (refused 0 0 rules.V27)
-    (needs (value [] f.cost ≤ℤ pos plan.budget) (refused 0 0 rules.V28)
+    finds (slice_get plan.procedures 0) (refused 0 0 rules.BadFrame) λ main.
+    finds (entry_of main) (refused 0 0 rules.BadFrame) λ f.
+    needs (Meets (start_state homes) f) (refused 0 0 rules.BadFrame)
+    (needs (value [] f.cost ≤ℤ pos plan.budget) (refused 0 0 rules.BudgetTooLow)
     rest)
 
 -- what follows a judgement: the rest, or the refusal
@@ -84,7 +84,7 @@ passes answer = answer ≡ Passed
 -- what is judged before the code: the name and the count, the frames, the start
 abbrev pub judging_before : List ℕ → List (List Cell) → FramedPlan → Rest → Rest
 judging_before name homes plan rest =
-    needs ((plan.name ≡ name) × (plan.pieces ≡ length homes)) (refused 0 0 rules.V1)
+    needs ((plan.name ≡ name) × (plan.pieces ≡ length homes)) (refused 0 0 rules.OtherAssembly)
     (judging_frames 0 plan.procedures
     (judging_start homes plan
     rest))

@@ -59,10 +59,10 @@ pub data Pass (homes : List (List Cell)) (plan : FramedPlan) (n : ℕ) (here : F
       → Pass homes plan n here (BeforeInstruction last pc None) Passed
   -- The code ends with a state left: control falls off the end.
   falls_off : (last pc : ℕ) (s : AbstractState) → pc ≡ length here.code
-      → Pass homes plan n here (BeforeInstruction last pc (Some s)) (refused n last rules.V5)
+      → Pass homes plan n here (BeforeInstruction last pc (Some s)) (refused n last rules.UnendedCode)
   -- No state falls in and no label stands here: a frame is missing.
   lacks_frame : (last pc : ℕ) → pc ≢ length here.code → HasNoLabel here pc
-      → Pass homes plan n here (BeforeInstruction last pc None) (refused n pc rules.V4)
+      → Pass homes plan n here (BeforeInstruction last pc None) (refused n pc rules.MissingFrame)
   -- No state falls in: the frame's goes on.
   resumes : (last pc : ℕ) (f : Frame) (j : Judgement) → pc ≢ length here.code → IsLabelled here pc f
       → Pass homes plan n here (AtInstruction pc (state_of f)) j
@@ -85,10 +85,10 @@ pub data Pass (homes : List (List Cell)) (plan : FramedPlan) (n : ℕ) (here : F
       → Pass homes plan n here (BeforeInstruction last pc (Some s)) j
   -- No instruction stands here.
   lacks_instruction : (pc : ℕ) (s : AbstractState) → ((i : Instruction) → ¬ StandsAt here.code pc i)
-      → Pass homes plan n here (AtInstruction pc s) (refused n pc rules.V2)
+      → Pass homes plan n here (AtInstruction pc s) (refused n pc rules.BadCode)
   -- A label stands strictly inside the instruction.
   hides : (pc : ℕ) (s : AbstractState) (i : Instruction) → StandsAt here.code pc i → Hides here pc i
-      → Pass homes plan n here (AtInstruction pc s) (refused n pc rules.V3)
+      → Pass homes plan n here (AtInstruction pc s) (refused n pc rules.BadLabel)
   -- The instruction's rule is broken.
   breaks : (pc : ℕ) (s : AbstractState) (i : Instruction) (b : Broken) → StandsAt here.code pc i
       → (¬ Hides here pc i)

@@ -26,5 +26,5 @@ IsFormedAt (suc k) parameters f = IsFormed parameters f
 -- the frame of label k of procedure n: well formed, and then its box
 abbrev pub judging_label : ℕ → ℕ → ℕ → ℕ × Frame → Rest → Rest
 judging_label n parameters k label rest =
-    needs (IsFormedAt k parameters label.1) (refused n label.0 rules.V27)
-    (needs (HasRoomForPoints label.1) (refused n label.0 rules.V25) rest)
+    needs (IsFormedAt k parameters label.1) (refused n label.0 rules.BadFrame)
+    (needs (HasRoomForPoints label.1) (refused n label.0 rules.StateTooLarge) rest)

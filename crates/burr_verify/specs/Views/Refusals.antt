@@ -11,4 +11,4 @@ plain_refusal proc pc rule =
 
 -- of a plan for another assembly
 abbrev pub another_assembly : Refusal
-another_assembly = plain_refusal 0 0 rules.V1
+another_assembly = plain_refusal 0 0 rules.OtherAssembly

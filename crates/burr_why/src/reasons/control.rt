@@ -10,8 +10,8 @@ impl Reasons<'_, '_> {
     /// Says where control can't go.
     pub(super) fn add_bad_control(&mut self, rule: Rule, instruction: &Instr<'_>, site: &Site) {
         match (rule, instruction) {
-            (Rule::V19, Instr::Call(callee)) => self.add_bad_callee(usize::from(*callee), site),
-            (Rule::V23, _) => self.add_pieces_together(site),
+            (Rule::BadCall, Instr::Call(callee)) => self.add_bad_callee(usize::from(*callee), site),
+            (Rule::NotApart, _) => self.add_pieces_together(site),
             _ => self.note("the procedure has no label of this number"),
         }
     }
@@ -44,9 +44,9 @@ impl Reasons<'_, '_> {
     /// Says what is wrong with the code itself.
     pub(super) fn add_bad_code(&mut self, rule: Rule, site: &Site) {
         let fault = match rule {
-            Rule::V2 => "no instruction begins with these bytes",
-            Rule::V3 => return self.add_label_inside(site),
-            Rule::V4 => {
+            Rule::BadCode => "no instruction begins with these bytes",
+            Rule::BadLabel => return self.add_label_inside(site),
+            Rule::MissingFrame => {
                 "nothing goes on to here: a label with its frame has to stand before, or nothing"
             }
             _ => "the code ends here, and this instruction goes on after it",

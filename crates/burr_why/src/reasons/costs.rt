@@ -20,8 +20,8 @@ impl Reasons<'_, '_> {
     /// Says what is left and needed, or what is too much.
     pub(super) fn add_bad_cost(&mut self, rule: Rule, instruction: &Instr<'_>, site: &Site) {
         match rule {
-            Rule::V24 => self.add_want_of_cost(instruction, site),
-            Rule::V26 => self.note(LARGE_FORM_NUMBER),
+            Rule::CostTooLow => self.add_want_of_cost(instruction, site),
+            Rule::FormTooLarge => self.note(LARGE_FORM_NUMBER),
             _ => self.add_too_many(instruction, site),
         }
     }

@@ -10,9 +10,9 @@ impl Reasons<'_, '_> {
     /// Says which number is missing, too many, not known or too large.
     pub(super) fn add_bad_number(&mut self, rule: Rule, instruction: &Instr<'_>, site: &Site) {
         match rule {
-            Rule::V6 => self.add_missing_operand(self.operands_needed(instruction), site),
-            Rule::V7 => self.add_full_stack(site),
-            Rule::V12 => self.add_large_number(instruction, site),
+            Rule::MissingOperand => self.add_missing_operand(self.operands_needed(instruction), site),
+            Rule::StackFull => self.add_full_stack(site),
+            Rule::NumberRange => self.add_large_number(instruction, site),
             _ => {
                 if let Some(slot) = slot_of(instruction) {
                     self.add_bad_slot(rule, slot, site);
@@ -45,8 +45,8 @@ impl Reasons<'_, '_> {
     /// Says what is wrong with a slot.
     fn add_bad_slot(&mut self, rule: Rule, slot: u8, site: &Site) {
         match rule {
-            Rule::V8 => self.add_unknown_slot(slot, site),
-            Rule::V9 => self.add_parameter(slot, site),
+            Rule::EmptySlot => self.add_unknown_slot(slot, site),
+            Rule::ParamWritten => self.add_parameter(slot, site),
             _ => self.add_negative_counter(slot, site),
         }
     }

@@ -15,11 +15,11 @@ impl Reasons<'_, '_> {
     /// Says which pieces can't be gripped or moved so.
     pub(super) fn add_bad_grip(&mut self, rule: Rule, instruction: &Instr<'_>, site: &Site) {
         match (rule, instruction) {
-            (Rule::V13, Instr::Grip(set)) => self.add_pieces_elsewhere(*set, site),
-            (Rule::V14, _) => self.add_wrong_grip(site),
-            (Rule::V17, Instr::Aside(_, tray)) => self.add_full_tray(*tray, site),
-            (Rule::V18, Instr::Step(_)) => self.add_far_pieces(site, &site.after),
-            (Rule::V18, _) => self.add_far_pieces(site, &site.before),
+            (Rule::GripOff, Instr::Grip(set)) => self.add_pieces_elsewhere(*set, site),
+            (Rule::BadGroup, _) => self.add_wrong_grip(site),
+            (Rule::TrayInUse, Instr::Aside(_, tray)) => self.add_full_tray(*tray, site),
+            (Rule::OffBench, Instr::Step(_)) => self.add_far_pieces(site, &site.after),
+            (Rule::OffBench, _) => self.add_far_pieces(site, &site.before),
             _ => {}
         }
     }

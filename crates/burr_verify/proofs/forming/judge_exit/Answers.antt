@@ -28,4 +28,4 @@ returns-else-is_formed_exit c p here is at =
     exit_refused c.args.procedure.number here.exit (framed_ref c.in-Some.exit) (failed_check c.plain.result)
     (exit_here p.pieces found.0 here c.in-Some.exit found.2 (c.in-Some.ensures p found.0 is found.1))
     (no_of c.if-is_formed_exit.ensures)
-    (plainly_refused c.plain.result c.number.result 0 c.args.procedure.number 0 rules.V27 c.plain.ensures c.number.ensures.number refl)
+    (plainly_refused c.plain.result c.number.result 0 c.args.procedure.number 0 rules.BadFrame c.plain.ensures c.number.ensures.number refl)

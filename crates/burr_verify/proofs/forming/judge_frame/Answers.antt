@@ -17,7 +17,7 @@ returns-then-not-is_formed_at c p here is at label standing =
     label_unformed c.args.procedure.number here.parameters c.args.label label (failed_check c.plain.result)
     (no_of (formed_there c.args.label c.params.result here.parameters (framed (frame_of c.frame-frame.result)) label.1 false
     (sym (parameters_read c.args.procedure c.params.result c.params.ensures.plan p here is at)) read.1 c.if-not-is_formed_at.ensures))
-    (plainly_refused c.plain.result c.number-number.result c.label-place.result c.args.procedure.number label.0 rules.V27
+    (plainly_refused c.plain.result c.number-number.result c.label-place.result c.args.procedure.number label.0 rules.BadFrame
     c.plain.ensures c.number-number.ensures.number read.0)
 
 pub returns-then-not-has_room_for_points : goal.returns-then-not-has_room_for_points
@@ -28,7 +28,7 @@ returns-then-not-has_room_for_points c p here is at label standing =
     (yes_of (formed_there c.args.label c.params.result here.parameters (framed (frame_of c.frame-frame.result)) label.1 true
     (sym (parameters_read c.args.procedure c.params.result c.params.ensures.plan p here is at)) read.1 c.if-not-is_formed_at.ensures))
     (no_of (room_there c.of.result (framed (frame_of c.frame-frame.result)) label.1 false c.of.ensures read.1 c.if-not-has_room_for_points.ensures))
-    (plainly_refused c.plain-then-not-has_room_for_points.result c.number-number.result c.label-place.result c.args.procedure.number label.0 rules.V25
+    (plainly_refused c.plain-then-not-has_room_for_points.result c.number-number.result c.label-place.result c.args.procedure.number label.0 rules.StateTooLarge
     c.plain-then-not-has_room_for_points.ensures c.number-number.ensures.number read.0)
 
 pub returns : goal.returns

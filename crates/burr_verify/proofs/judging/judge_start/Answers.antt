@@ -38,7 +38,7 @@ returns-then-is_err c =
     (λ q e. (let some = c.label_count.ensures.plan p q (lent_is kept 0 main p lent is) (lent_at p.procedures kept 0 main q lent e) in omega (arith, c.if-label_count-eq0.false, some)))
     (λ q e l at. c.frame-entry.ensures.plan p q (lent_is kept 0 main p lent is) (lent_at p.procedures kept 0 main q lent e) l at) in
     let misses =
-    misses_where_err c.at_home.result (framed f) numbers.V20 c.meets_entry.result c.meets_entry.ensures
+    misses_where_err c.at_home.result (framed f) numbers.EntryMissed c.meets_entry.result c.meets_entry.ensures
     (sym c.is_err.ensures.value ∙ c.if-is_err.true) in
     subst (λ (r : Refusal). judging_start homes (framed_plan p) nothing (Refuses (failed_check r))) (sym c.plain-then-is_err.ensures)
     (start_misses homes (framed_plan p) (framed f) entry
@@ -56,7 +56,7 @@ returns-then-from-cost c =
     (λ q e. (let some = c.label_count.ensures.plan p q (lent_is kept 0 main p lent is) (lent_at p.procedures kept 0 main q lent e) in omega (arith, c.if-label_count-eq0.false, some)))
     (λ q e l at. c.frame-entry.ensures.plan p q (lent_is kept 0 main p lent is) (lent_at p.procedures kept 0 main q lent e) l at) in
     let meets =
-    meets_where_ok c.at_home.result (framed f) numbers.V20 c.meets_entry.result c.meets_entry.ensures
+    meets_where_ok c.at_home.result (framed f) numbers.EntryMissed c.meets_entry.result c.meets_entry.ensures
     (sym c.is_err.ensures.value ∙ c.if-is_err.false) in
     let at_home : Meets (start_state homes) (framed f) =
     subst (λ (s : AbstractState). Meets s (framed f)) (c.at_home.ensures homes many) meets in
@@ -83,7 +83,7 @@ returns c =
     (λ q e. (let some = c.label_count.ensures.plan p q (lent_is kept 0 main p lent is) (lent_at p.procedures kept 0 main q lent e) in omega (arith, c.if-label_count-eq0.false, some)))
     (λ q e l at. c.frame-entry.ensures.plan p q (lent_is kept 0 main p lent is) (lent_at p.procedures kept 0 main q lent e) l at) in
     let meets =
-    meets_where_ok c.at_home.result (framed f) numbers.V20 c.meets_entry.result c.meets_entry.ensures
+    meets_where_ok c.at_home.result (framed f) numbers.EntryMissed c.meets_entry.result c.meets_entry.ensures
     (sym c.is_err.ensures.value ∙ c.if-is_err.false) in
     let at_home : Meets (start_state homes) (framed f) =
     subst (λ (s : AbstractState). Meets s (framed f)) (c.at_home.ensures homes many) meets in

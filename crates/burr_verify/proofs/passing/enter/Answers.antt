@@ -18,7 +18,7 @@ pub returns-in-None-None-clause-passes : goal.returns-in-None-None-clause-passes
 returns-in-None-None-clause-passes c = λ homes p here kept at more.
     (let bare = no_label here c.args.pc (none_found here c.args.pc (c.args.pc + 1) c.label_within-label.result c.in-None-None.is-0 (c.label_within-label.ensures.found p here kept at)) in
     stops_from homes (framed_plan p) c.args.procedure.number here c.args.last c.args.pc c.args.state.now _ c.plain.result c.in-None-None.is-1
-    (stops_by homes (framed_plan p) c.args.procedure.number here _ c.plain.result _ 0 (plainly_refused c.plain.result c.number.result c.args.pc c.args.procedure.number c.args.pc rules.V4 c.plain.ensures c.number.ensures.number refl)
+    (stops_by homes (framed_plan p) c.args.procedure.number here _ c.plain.result _ 0 (plainly_refused c.plain.result c.number.result c.args.pc c.args.procedure.number c.args.pc rules.MissingFrame c.plain.ensures c.number.ensures.number refl)
     (lacks_frame c.args.last c.args.pc more bare, refl)))
 
 pub returns-in-None-Some-clause-passes : goal.returns-in-None-Some-clause-passes
@@ -60,7 +60,7 @@ returns-in-Err-clause-passes c = λ homes p here kept at more.
     let read = frame_read c.args.procedure.container.now c.args.procedure.number c.in-Some-Some.label c.frame-in-Some-Some.result c.frame-in-Some-Some.ensures.plan p here kept at l.0 l.1 in
     let missed = subst (λ (f : Frame). arriving c.in-Some-Some.before f no_successor (missed_at (option_map (λ point. point.items) c.in-Err.miss.point))) read c.in-Err.ensures.verdict in
     stops_from homes (framed_plan p) c.args.procedure.number here c.args.last c.args.pc c.args.state.now _ c.missed.result c.in-Some-Some.is-1
-    (enters_misses homes (framed_plan p) c.args.procedure.number here c.args.last c.args.pc l.0.1 c.in-Some-Some.before _ c.missed.result more labelled missed (told_broken c.missed.result c.number-in-Err.result c.args.procedure.number c.args.last (missed_break rules.V21 (option_map (λ point. point.items) c.in-Err.miss.point)) c.missed.ensures c.number-in-Err.ensures.number)))
+    (enters_misses homes (framed_plan p) c.args.procedure.number here c.args.last c.args.pc l.0.1 c.in-Some-Some.before _ c.missed.result more labelled missed (told_broken c.missed.result c.number-in-Err.result c.args.procedure.number c.args.last (missed_break rules.FrameMissed (option_map (λ point. point.items) c.in-Err.miss.point)) c.missed.ensures c.number-in-Err.ensures.number)))
 
 pub returns-in-Some-None-clause-room : goal.returns-in-Some-None-clause-room
 returns-in-Some-None-clause-room c =

@@ -50,7 +50,7 @@ pub returns-in_default-clause-passes : goal.returns-in_default-clause-passes
 returns-in_default-clause-passes g c = λ s is p here kept at.
     (let code = code_read c.args.procedure.container.now c.args.procedure.number c.code.result.now c.code.ensures.plan p here kept at in (
       0,
-      stops_by (homes_of c.args.looks.now.assembly) (framed_plan p) c.args.procedure.number here _ c.plain.result _ 0 (plainly_refused c.plain.result c.number.result c.args.pc c.args.procedure.number c.args.pc rules.V2 c.plain.ensures c.number.ensures.number refl)
+      stops_by (homes_of c.args.looks.now.assembly) (framed_plan p) c.args.procedure.number here _ c.plain.result _ 0 (plainly_refused c.plain.result c.number.result c.args.pc c.args.procedure.number c.args.pc rules.BadCode c.plain.ensures c.number.ensures.number refl)
           (lacks_instruction c.args.pc s (subst (λ (bytes : List ℕ). NoneStandsAt bytes c.args.pc) code c.in_default.ensures.stands), refl),
       none_more c.args.looks.now,
     ))
@@ -61,7 +61,7 @@ returns-then-is_some-clause-passes g c = λ s is p here kept at.
     let l = one_found here (c.args.pc + 1) (c.args.pc + c.in-Some.size) found.0 c.label_within.result found.1 (c.label_within.ensures.found p here kept at) in
     let stands = subst (λ (bytes : List ℕ). StandsAt bytes c.args.pc (meaning c.in-Some.instruction)) (code_read c.args.procedure.container.now c.args.procedure.number c.code.result.now c.code.ensures.plan p here kept at) c.in-Some.ensures.stands.0 in (
       0,
-      stops_by (homes_of c.args.looks.now.assembly) (framed_plan p) c.args.procedure.number here _ c.plain-then-is_some.result _ 0 (plainly_refused c.plain-then-is_some.result c.number-then-is_some.result c.args.pc c.args.procedure.number c.args.pc rules.V3 c.plain-then-is_some.ensures c.number-then-is_some.ensures.number refl) (
+      stops_by (homes_of c.args.looks.now.assembly) (framed_plan p) c.args.procedure.number here _ c.plain-then-is_some.result _ 0 (plainly_refused c.plain-then-is_some.result c.number-then-is_some.result c.args.pc c.args.procedure.number c.args.pc rules.BadLabel c.plain-then-is_some.ensures c.number-then-is_some.ensures.number refl) (
         hides c.args.pc s (meaning c.in-Some.instruction) stands
             (hides_one here c.args.pc c.in-Some.size found.0 (meaning c.in-Some.instruction) l.0 c.in-Some.ensures.stands.1 l.1 l.2 l.3),
         refl,

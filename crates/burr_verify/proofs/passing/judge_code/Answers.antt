@@ -117,7 +117,7 @@ returns-in-Some-clause-passed g c = λ p here kept at.
     ends_by homes (framed_plan p) c.args.procedure.number here pass_start _ _ c.args.looks.now c.loop-pc.looks c.loop-pc.looks so_far.0
     (by_none homes (framed_plan p) c.args.procedure.number here _ _ c.loop-pc.looks
     (fallen_off homes (framed_plan p) c.args.procedure.number here c.loop-pc.last c.loop-pc.pc c.loop-pc.state c.in-Some.field-0 c.plain.result c.in-Some.is
-    (at_end c.code-size.result.now here.code c.loop-pc.pc code (omega (arith, c.loop-pc-test.false)) so_far.1) (c.plain.ensures ∙ ap (λ (k : ℕ). plain_refusal k c.loop-pc.last rules.V5) c.number.ensures.number))))
+    (at_end c.code-size.result.now here.code c.loop-pc.pc code (omega (arith, c.loop-pc-test.false)) so_far.1) (c.plain.ensures ∙ ap (λ (k : ℕ). plain_refusal k c.loop-pc.last rules.UnendedCode) c.number.ensures.number))))
 
 pub returns-in-None-clause-few : goal.returns-in-None-clause-few
 returns-in-None-clause-few g c =

@@ -30,9 +30,9 @@ returns-in_err-goes_clear-clause-verdict g c =
       yes_of c.if-not-is_part_gripped.ensures,
       inr (
         yes_of c.if-not-is_empty.ensures,
-        clear_breaks s (OnBenchAt s.places s.tray) (PairAt (GoesFree c.args.direction) homes s.places s.tray s.grip) rules.V18 rules.V16
+        clear_breaks s (OnBenchAt s.places s.tray) (PairAt (GoesFree c.args.direction) homes s.places s.tray s.grip) rules.OffBench rules.NotFree
             (paying s λ paid. falls_through (with_grip 0 (with_places new paid))) (broken_of broken)
-            (subst (λ (places : List (Placement FormCell)). Says homes s places (queries.Exit c.args.direction) rules.V16 (Breaks (broken_of broken)))
+            (subst (λ (places : List (Placement FormCell)). Says homes s places (queries.Exit c.args.direction) rules.NotFree (Breaks (broken_of broken)))
             (c.as_slice.ensures.value ∙ ap (λ (a : AbstractState). a.places) c.self.view_is) c.in_err-goes_clear.ensures.verdict),
       ),
     ))
@@ -49,9 +49,9 @@ returns-in_err-cost-clause-verdict g c =
       yes_of c.if-not-is_part_gripped.ensures,
       inr (
         yes_of c.if-not-is_empty.ensures,
-        clear_on s (OnBenchAt s.places s.tray) (PairAt (GoesFree c.args.direction) homes s.places s.tray s.grip) rules.V18 rules.V16
+        clear_on s (OnBenchAt s.places s.tray) (PairAt (GoesFree c.args.direction) homes s.places s.tray s.grip) rules.OffBench rules.NotFree
             (paying s λ paid. falls_through (with_grip 0 (with_places new paid))) (Breaks (broken_of broken))
-            (subst (λ (places : List (Placement FormCell)). Says homes s places (queries.Exit c.args.direction) rules.V16 NoSuccessor)
+            (subst (λ (places : List (Placement FormCell)). Says homes s places (queries.Exit c.args.direction) rules.NotFree NoSuccessor)
             (c.as_slice.ensures.value ∙ ap (λ (a : AbstractState). a.places) c.self.view_is) c.in_ok-goes_clear.ensures.verdict)
             (paying_breaks s broken (λ paid. falls_through (with_grip 0 (with_places new paid))) c.in_err-cost.ensures),
       ),
@@ -70,9 +70,9 @@ returns-clause-verdict g c =
       yes_of c.if-not-is_part_gripped.ensures,
       inr (
         yes_of c.if-not-is_empty.ensures,
-        clear_on s (OnBenchAt s.places s.tray) (PairAt (GoesFree c.args.direction) homes s.places s.tray s.grip) rules.V18 rules.V16
+        clear_on s (OnBenchAt s.places s.tray) (PairAt (GoesFree c.args.direction) homes s.places s.tray s.grip) rules.OffBench rules.NotFree
             (paying s λ paid. falls_through (with_grip 0 (with_places new paid))) (FallsThrough c.go_aside.new.self)
-            (subst (λ (places : List (Placement FormCell)). Says homes s places (queries.Exit c.args.direction) rules.V16 NoSuccessor)
+            (subst (λ (places : List (Placement FormCell)). Says homes s places (queries.Exit c.args.direction) rules.NotFree NoSuccessor)
             (c.as_slice.ensures.value ∙ ap (λ (a : AbstractState). a.places) c.self.view_is) c.in_ok-goes_clear.ensures.verdict)
             (paying_on s cost (λ paid. falls_through (with_grip 0 (with_places new paid))) (FallsThrough c.go_aside.new.self) c.in_ok-cost.ensures (ap FallsThrough changed)),
       ),

@@ -36,12 +36,12 @@ returns-in-Err-clause-verdict c =
     let called : begun ≡ called_with (reverse arguments) s =
     ap (λ (xs : List Form). called_with (reverse xs) s) c.as_slice.ensures.value in
     let missed =
-    meeting_breaks begun entry rules.V20 (λ live. PaysCall s arguments exit (substituted live entry.cost))
+    meeting_breaks begun entry rules.EntryMissed (λ live. PaysCall s arguments exit (substituted live entry.cost))
     (option_map (λ point. point.items) c.in-Err.miss.point) c.in-Err.ensures in
     subst (λ (n : ℕ). calling s n (length exit.results) entry exit (Breaks (broken_of c.missed.result))) c.from-count.ensures
     (calling_on s count entry exit arguments (Breaks (broken_of c.missed.result)) room c.in-Some.ensures.operands.1 c.in-Some.ensures.operands.0
-    (subst (λ (b : AbstractState). meeting b entry rules.V20 (λ live. PaysCall s arguments exit (substituted live entry.cost)) (Breaks (broken_of c.missed.result))) called
-    (subst (λ b. meeting begun entry rules.V20 (λ live. PaysCall s arguments exit (substituted live entry.cost)) (Breaks b)) (sym c.missed.ensures) missed)))
+    (subst (λ (b : AbstractState). meeting b entry rules.EntryMissed (λ live. PaysCall s arguments exit (substituted live entry.cost)) (Breaks (broken_of c.missed.result))) called
+    (subst (λ b. meeting begun entry rules.EntryMissed (λ live. PaysCall s arguments exit (substituted live entry.cost)) (Breaks b)) (sym c.missed.ensures) missed)))
 
 pub returns-clause-verdict : goal.returns-clause-verdict
 returns-clause-verdict c =
@@ -65,8 +65,8 @@ returns-clause-verdict c =
     ((λ i. substituted (c.as_slice-3.ensures.value i) (c.cost.ensures.cost i))) c.pays_for.ensures.verdict) in
     subst (λ (n : ℕ). calling s n (length exit.results) entry exit v) c.from-count.ensures
     (calling_on s count entry exit arguments v room c.in-Some.ensures.operands.1 c.in-Some.ensures.operands.0
-    (subst (λ (b : AbstractState). meeting b entry rules.V20 (λ live. PaysCall s arguments exit (substituted live entry.cost)) v) called
-    (meeting_on begun entry rules.V20 (λ live. PaysCall s arguments exit (substituted live entry.cost)) c.in-Ok.live.items v c.in-Ok.ensures.0 paid)))
+    (subst (λ (b : AbstractState). meeting b entry rules.EntryMissed (λ live. PaysCall s arguments exit (substituted live entry.cost)) v) called
+    (meeting_on begun entry rules.EntryMissed (λ live. PaysCall s arguments exit (substituted live entry.cost)) c.in-Ok.live.items v c.in-Ok.ensures.0 paid)))
 
 pub returns-then-len-count-gt-MOST_OPERANDS-clause-verdict : goal.returns-then-len-count-gt-MOST_OPERANDS-clause-verdict
 returns-then-len-count-gt-MOST_OPERANDS-clause-verdict c =

@@ -28,9 +28,9 @@ returns-in_err-goes_clear-clause-verdict g c =
       some,
       inr (
         subst AllSmallPlaces c.in-Ok.ensures.0 c.in-Ok.ensures.1,
-        clear_breaks s (OnBenchAt new s.tray) (PairAt DoesNotOverlap homes new s.tray s.grip) rules_of.V18 rules_of.V15
+        clear_breaks s (OnBenchAt new s.tray) (PairAt DoesNotOverlap homes new s.tray s.grip) rules_of.OffBench rules_of.Collision
             (paying s λ paid. falls_through (with_places new paid)) (broken_of broken)
-            (subst (λ (places : List (Placement FormCell)). Says homes s places queries.Overlap rules_of.V15 (Breaks (broken_of broken)))
+            (subst (λ (places : List (Placement FormCell)). Says homes s places queries.Overlap rules_of.Collision (Breaks (broken_of broken)))
             (c.as_slice.ensures.value ∙ c.in-Ok.ensures.0) c.in_err-goes_clear.ensures.verdict),
       ),
     ))
@@ -48,9 +48,9 @@ returns-in_err-cost-clause-verdict g c =
       some,
       inr (
         subst AllSmallPlaces c.in-Ok.ensures.0 c.in-Ok.ensures.1,
-        clear_on s (OnBenchAt new s.tray) (PairAt DoesNotOverlap homes new s.tray s.grip) rules_of.V18 rules_of.V15
+        clear_on s (OnBenchAt new s.tray) (PairAt DoesNotOverlap homes new s.tray s.grip) rules_of.OffBench rules_of.Collision
             (paying s λ paid. falls_through (with_places new paid)) (Breaks (broken_of broken))
-            (subst (λ (places : List (Placement FormCell)). Says homes s places queries.Overlap rules_of.V15 NoSuccessor)
+            (subst (λ (places : List (Placement FormCell)). Says homes s places queries.Overlap rules_of.Collision NoSuccessor)
             (c.as_slice.ensures.value ∙ c.in-Ok.ensures.0) c.in_ok-goes_clear.ensures.verdict)
             (paying_breaks s broken (λ paid. falls_through (with_places new paid)) c.in_err-cost.ensures),
       ),
@@ -70,9 +70,9 @@ returns-clause-verdict g c =
       some,
       inr (
         subst AllSmallPlaces c.in-Ok.ensures.0 c.in-Ok.ensures.1,
-        clear_on s (OnBenchAt new s.tray) (PairAt DoesNotOverlap homes new s.tray s.grip) rules_of.V18 rules_of.V15
+        clear_on s (OnBenchAt new s.tray) (PairAt DoesNotOverlap homes new s.tray s.grip) rules_of.OffBench rules_of.Collision
             (paying s λ paid. falls_through (with_places new paid)) (FallsThrough c.set_places.new.self)
-            (subst (λ (places : List (Placement FormCell)). Says homes s places queries.Overlap rules_of.V15 NoSuccessor)
+            (subst (λ (places : List (Placement FormCell)). Says homes s places queries.Overlap rules_of.Collision NoSuccessor)
             (c.as_slice.ensures.value ∙ c.in-Ok.ensures.0) c.in_ok-goes_clear.ensures.verdict)
             (paying_on s cost (λ paid. falls_through (with_places new paid)) (FallsThrough c.set_places.new.self) c.in_ok-cost.ensures (ap FallsThrough changed)),
       ),

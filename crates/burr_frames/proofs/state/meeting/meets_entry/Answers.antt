@@ -12,9 +12,9 @@ pub returns-in_err-met : goal.returns-in_err-met
 returns-in_err-met c =
     let f = framed (frame_of c.args.frame.now) in
     let failed = err_from_is_err_and c.from_residual.result c.from_residual.ensures.1 in
-    rw (failed.1, failed.2) (meeting_breaks c.args.state.now f rules.V20 (λ _. no_successor) _ c.in_err-met.ensures)
+    rw (failed.1, failed.2) (meeting_breaks c.args.state.now f rules.EntryMissed (λ _. no_successor) _ c.in_err-met.ensures)
 
 pub returns : goal.returns
 returns c =
     let f = framed (frame_of c.args.frame.now) in
-    meeting_on c.args.state.now f rules.V20 (λ _. no_successor) c.in_ok-met.field-0.items NoSuccessor c.in_ok-met.ensures.0 refl
+    meeting_on c.args.state.now f rules.EntryMissed (λ _. no_successor) c.in_ok-met.field-0.items NoSuccessor c.in_ok-met.ensures.0 refl

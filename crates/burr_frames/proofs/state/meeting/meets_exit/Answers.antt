@@ -18,7 +18,7 @@ pub returns : goal.returns
 returns c =
     let s = c.args.state.now in
     let exit = framed_ref c.args.exit.now in
-    let v = miss_verdict rules.V22 c.meets_exit_with.result in
+    let v = miss_verdict rules.ExitMissed c.meets_exit_with.result in
     let forms = c.in-Some.forms.items in
     let results = c.in-Some-top_many.results.items in
     let many : c.len.result ≡ length exit.results = c.len.ensures.value ∙ ap results_of (c.exit.view_is ∙ c.of-exit.ensures.exit) in
