@@ -1,4 +1,5 @@
 pub mod Common
 pub mod LabelLists
 pub mod Operands
+pub mod PlaceTests
 mod WorkedRows

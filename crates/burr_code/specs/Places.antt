@@ -74,6 +74,10 @@ aside_places group here there places =
 abbrev pub IsPartOfTray : {Position : Type 0} → ℕ → List (Placement Position) → ℕ → Type 0
 IsPartOfTray group places tray = (group ≢ 0) × (p : ℕ) × LiesIn places p tray × (¬ IsInSet group p)
 
+-- a piece of the tray is not in the group
+abbrev pub HasRest : {Position : Type 0} → List (Placement Position) → ℕ → ℕ → Type 0
+HasRest places tray group = (p : ℕ) × LiesIn places p tray × (¬ IsInSet group p)
+
 -- no piece lies in the tray
 abbrev pub IsEmptyTray : {Position : Type 0} → List (Placement Position) → ℕ → Type 0
 IsEmptyTray places tray = (p : ℕ) → ¬ LiesIn places p tray

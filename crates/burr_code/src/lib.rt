@@ -13,8 +13,9 @@
 //! - `is_in_set` says exactly which pieces are in a set. It asks for a piece below 32.
 //! - The readers of a `Placement` give its tray and its position, for any position. After `move_to`
 //!   a place that is not apart is in the tray.
-//! - `are_all_apart`, `is_empty_tray` and `count_in_tray` say of many places exactly what the
-//!   definition of places says.
+//! - `lies_in`, `all_lie_in`, `is_part_of_tray`, `are_all_apart`, `is_empty_tray` and
+//!   `count_in_tray` say of many places exactly what the definition of places says;
+//!   `is_part_of_tray` asks for at most 32 places.
 //! - `take_aside` does what the definition says: the group is in the other tray, and a piece that
 //!   is then alone in one of the two trays is apart. It asks for at most 32 places.
 #![tactic(auto)]
@@ -33,5 +34,6 @@ pub use instr::Instr;
 pub use labels::Labels;
 pub use laws::{instructions_are_read_back, instructions_are_unique, the_limits_are_these};
 pub use placement::{
-    Placement, are_all_apart, count_in_tray, is_empty_tray, is_in_set, take_aside,
+    Placement, all_lie_in, are_all_apart, count_in_tray, is_empty_tray, is_in_set, is_part_of_tray,
+    lies_in, take_aside,
 };

@@ -1,6 +1,8 @@
 ghost use Rattle.std.specs.Prelude.{◌≡◌, ◌≤◌, ◌↔◌, length, IsTrue, ◌<◌};
-ghost use Rattle.burr_code.specs.Places.{AllApart, IsEmptyTray, count_in, aside_places, parted, parted_in, changed, to_tray};
+ghost use Rattle.burr_code.specs.Places.{LiesIn, AllLieIn, AllApart, IsPartOfTray, HasRest, IsEmptyTray, count_in, aside_places, parted, parted_in, changed, to_tray};
 ghost use Rattle.burr_code.specs.PieceSets.{IsInSet};
+
+use crate::limits::MOST_PIECES;
 
 /// Where a piece is: apart from all others, or in a tray, at a position.
 #[derive(Clone, Copy, Debug, PartialEq, Eq)]
@@ -76,6 +78,49 @@ impl<P> Default for Placement<P> {
     fn default() -> Placement<P> {
         Placement::Apart
     }
+}
+
+/// Whether a piece lies in a tray.
+pub fn lies_in<P>(places: &[Placement<P>], piece: u8, tray: u8) -> bool
+    ensures { IsTrue result ↔ LiesIn places.now piece tray }
+{
+    match places.get(usize::from(piece)) {
+        Some(place) => place.is_in(tray),
+        None => false,
+    }
+}
+
+/// Whether each piece of a set lies in a tray.
+pub fn all_lie_in<P>(places: &[Placement<P>], tray: u8, set: u32) -> bool
+    ensures { IsTrue result ↔ AllLieIn places.now tray set }
+{
+    for piece in 0..MOST_PIECES as u8 {
+        if is_in_set(set, piece) && !lies_in(places, piece, tray) {
+            return false;
+        }
+    }
+    true
+}
+
+/// Whether a group has a piece, and not all that lie in a tray.
+pub fn is_part_of_tray<P>(group: u32, places: &[Placement<P>], tray: u8) -> bool
+    requires { length places.now ≤ 32 }
+    ensures { IsTrue result ↔ IsPartOfTray group places.now tray }
+{
+    group != 0 && has_rest(places, tray, group)
+}
+
+/// Whether a piece of a tray is not in a group.
+fn has_rest<P>(places: &[Placement<P>], tray: u8, group: u32) -> bool
+    requires { length places.now ≤ 32 }
+    ensures { IsTrue result ↔ HasRest places.now tray group }
+{
+    for piece in 0..places.len() as u8 {
+        if lies_in(places, piece, tray) && !is_in_set(group, piece) {
+            return true;
+        }
+    }
+    false
 }
 
 /// Whether all pieces are apart.

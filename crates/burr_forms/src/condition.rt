@@ -6,6 +6,7 @@ ghost use Rattle.burr_forms.specs.Views.Searching.{AllBounded, IsAfter, IsHere, 
 ghost use Rattle.burr_forms.specs.Rules.Points.{AreRanges};
 
 use crate::form::Form;
+use crate::limits::MOST_SYMBOLS;
 use crate::points::{FormValues, Point};
 use crate::searching::{Sweep, bring, first_refused};
 use arrayvec::ArrayVec;
@@ -213,7 +214,11 @@ pub fn first_failing<C: Condition>(
 }
 
 /// The ranges; of one whose symbol no guard and no form has, the lowest number alone.
-fn narrowed(ranges: &[(i32, i32)], guards: &[Form], forms: &[Form]) -> ArrayVec<(i32, i32), 8>
+fn narrowed(
+    ranges: &[(i32, i32)],
+    guards: &[Form],
+    forms: &[Form],
+) -> ArrayVec<(i32, i32), MOST_SYMBOLS>
     requires few { length ranges.now ≤ 8 }
     ensures { AreNarrowRanges (λ k. AllLack k guards.now × AllLack k forms.now)
         ranges.now result.items }

@@ -4,7 +4,7 @@ ghost use Rattle.burr_forms.specs.Views.Results.{IsFormOf};
 ghost use Rattle.burr_forms.specs.Rules.Points.{AreRanges};
 ghost use Rattle.burr_forms.specs.Views.Bounds.{IsLeastIn, IsGreatestIn, end_at, corner};
 
-use crate::limits::MOST_FORM_NUMBER;
+use crate::limits::{MOST_FORM_NUMBER, MOST_SYMBOLS};
 use crate::points::Point;
 use crate::wide::Wide;
 use arrayvec::ArrayVec;
@@ -16,7 +16,7 @@ use thiserror::Error;
 #[derive(Clone, Copy, Debug, Default, PartialEq, Eq)]
 pub struct Form {
     pub constant: i64,
-    pub coefs: [i64; 8],
+    pub coefs: [i64; MOST_SYMBOLS],
 }
 
 impl Model for Form {
@@ -37,7 +37,7 @@ pub struct FormTooLarge;
 impl Form {
     /// Its value where the symbols have these values, each within ±32,767. Its own numbers lie
     /// within ±2^40; both are the caller's condition.
-    pub fn eval(&self, point: &[i32; 8]) -> i64
+    pub fn eval(&self, point: &[i32; MOST_SYMBOLS]) -> i64
         requires small { IsSmallForm self.now }
         requires near { AllNear point.now }
         ensures { result ≡ value point.now self.now }
@@ -85,13 +85,13 @@ impl Form {
 
     /// The form with an argument in place of each symbol. The numbers of all lie within ±2^40, the
     /// caller's condition; sums on the way may be larger.
-    pub fn substitute(&self, arguments: &[Form; 8]) -> Result<Form, FormTooLarge>
+    pub fn substitute(&self, arguments: &[Form; MOST_SYMBOLS]) -> Result<Form, FormTooLarge>
         requires small { IsSmallForm self.now }
         requires arguments_small { AllSmallForms arguments.now }
         ensures { IsFormOf result (substituted arguments.now self.now) }
     {
         let mut sum = Wide::of_number(self.constant);
-        for symbol in 0..8 {
+        for symbol in 0..MOST_SYMBOLS {
             sum.add_times(self.coefs[symbol], &arguments[symbol]);
         }
         sum.form()
@@ -139,7 +139,7 @@ impl Form {
 }
 
 /// The point of a box at which the sum of the multiples of these numbers is greatest, or least.
-fn corner(coefs: &[i64; 8], ranges: &[(i32, i32)], is_greatest: bool) -> Point
+fn corner(coefs: &[i64; MOST_SYMBOLS], ranges: &[(i32, i32)], is_greatest: bool) -> Point
     requires { length ranges.now ≤ 8 }
     ensures { result.items ≡ corner is_greatest coefs.now ranges.now }
 {

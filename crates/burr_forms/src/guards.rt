@@ -3,13 +3,14 @@ ghost use Rattle.burr_forms.specs.Rules.Forms.{AllSmallForms, AllNear};
 ghost use Rattle.burr_forms.specs.Rules.Points.{guards_hold, AreGuards};
 
 use crate::form::{Form, is_small};
+use crate::limits::{MOST_BOX_GUARDS, MOST_SYMBOLS};
 use arrayvec::ArrayVec;
 use std::marker::Model;
 
 /// At most eight forms; none of them may be negative.
 #[derive(Clone, Debug, Drop)]
 pub struct Guards {
-    forms: ArrayVec<Form, 8>,
+    forms: ArrayVec<Form, MOST_BOX_GUARDS>,
 }
 
 impl Model for Guards {
@@ -29,7 +30,7 @@ impl Guards {
         ensures { MatchOption result (¬ AreGuards forms.now) (λ given.
             AreGuards forms.now × (given ≡ forms.now)) }
     {
-        if 8 < forms.len() || !forms.iter().all(|form| is_small(form)) {
+        if MOST_BOX_GUARDS < forms.len() || !forms.iter().all(|form| is_small(form)) {
             return None;
         }
         let mut guards = ArrayVec::new();
@@ -41,7 +42,7 @@ impl Guards {
 
     /// Whether no guard is negative at a point. The caller's condition: each number of the point
     /// lies within ±32,767.
-    pub fn hold(&self, point: &[i32; 8]) -> bool
+    pub fn hold(&self, point: &[i32; MOST_SYMBOLS]) -> bool
         requires { AllNear point.now }
         ensures { result ≡ guards_hold self.now point.now }
     {

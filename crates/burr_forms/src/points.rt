@@ -7,6 +7,7 @@ ghost use Rattle.burr_forms.specs.Views.Searching.{steps_of, AllBounded, sums, I
 
 use crate::form::Form;
 use crate::guards::Guards;
+use crate::limits::{MOST_FORMS, MOST_SYMBOLS};
 use crate::ranges::Box8;
 use arrayvec::ArrayVec;
 use std::marker::Model;
@@ -17,7 +18,7 @@ use std::marker::Model;
 pub struct Points<'a> {
     ranges: &'a Box8,
     guards: &'a Guards,
-    point: [i32; 8],
+    point: [i32; MOST_SYMBOLS],
     ended: bool,
 }
 
@@ -49,13 +50,13 @@ impl<'a> Points<'a> {
 }
 
 impl<'a> Iterator for Points<'a> {
-    type Item = [i32; 8];
+    type Item = [i32; MOST_SYMBOLS];
 
     ghost next_gives = { YieldsFirst (λ points. points) };
 
     ghost remaining = { item_count (λ points. points) };
 
-    fn next(&mut self) -> Option<[i32; 8]> {
+    fn next(&mut self) -> Option<[i32; MOST_SYMBOLS]> {
         while !self.ended {
             let point = self.point;
             self.ended = !advance(self.ranges.ranges(), &mut self.point);
@@ -68,11 +69,11 @@ impl<'a> Iterator for Points<'a> {
 }
 
 /// Values of the symbols, in their order.
-pub type Point = ArrayVec<i32, 8>;
+pub type Point = ArrayVec<i32, MOST_SYMBOLS>;
 
 /// A number for each of some forms. There is room for all of a state: its slots and operands, eight
 /// of each, three for each of 32 pieces, and its cost.
-pub type FormValues = ArrayVec<i64, 120>;
+pub type FormValues = ArrayVec<i64, MOST_FORMS>;
 
 /// The lowest point of a box: the lowest number of each range.
 pub fn lowest_point(ranges: &[(i32, i32)]) -> Point
@@ -123,11 +124,11 @@ pub fn steps_along(forms: &[Form], symbol: usize) -> FormValues
 }
 
 /// The lowest point of a box: the lowest number of each range.
-fn lowest(ranges: &[(i32, i32); 8]) -> [i32; 8]
+fn lowest(ranges: &[(i32, i32); MOST_SYMBOLS]) -> [i32; MOST_SYMBOLS]
     ensures { result ≡ lows ranges.now }
 {
-    let mut point = [0; 8];
-    for symbol in 0..8 {
+    let mut point = [0; MOST_SYMBOLS];
+    for symbol in 0..MOST_SYMBOLS {
         point[symbol] = ranges[symbol].0;
     }
     point

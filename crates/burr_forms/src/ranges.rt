@@ -1,13 +1,13 @@
 ghost use Rattle.std.specs.Prelude.{◌≡◌, ◌↔◌, IsTrue, MatchOption};
 ghost use Rattle.burr_forms.specs.Rules.Points.{AreRanges, IsRange, IsBox, padded};
 
-use crate::limits::MOST_SYMBOL_VALUE;
+use crate::limits::{MOST_SYMBOL_VALUE, MOST_SYMBOLS};
 use std::marker::Model;
 
 /// Ranges of at most eight symbols, both ends in them; a symbol that isn't there has 0 alone.
 #[derive(Clone, Copy, Debug, PartialEq, Eq)]
 pub struct Box8 {
-    ranges: [(i32, i32); 8],
+    ranges: [(i32, i32); MOST_SYMBOLS],
 }
 
 impl Model for Box8 {
@@ -30,10 +30,10 @@ impl Box8 {
         ensures { MatchOption result (¬ IsBox ranges.now) (λ given.
             IsBox ranges.now × (given ≡ padded ranges.now)) }
     {
-        if 8 < ranges.len() {
+        if MOST_SYMBOLS < ranges.len() {
             return None;
         }
-        let mut eight = [(0, 0); 8];
+        let mut eight = [(0, 0); MOST_SYMBOLS];
         for symbol in 0..ranges.len() {
             if !is_range(ranges[symbol]) {
                 return None;
@@ -44,7 +44,7 @@ impl Box8 {
     }
 
     /// The eight ranges.
-    pub fn ranges(&self) -> &[(i32, i32); 8]
+    pub fn ranges(&self) -> &[(i32, i32); MOST_SYMBOLS]
         ensures ranges { result.now ≡ self.now }
         ensures are { AreRanges result.now }
     {

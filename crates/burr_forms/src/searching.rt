@@ -8,6 +8,7 @@ ghost use Rattle.burr_forms.specs.Views.Searching.{HoldAlike, IsAfter, IsNegativ
 
 use crate::condition::{Asking, passes};
 use crate::form::Form;
+use crate::limits::MOST_BOX_GUARDS;
 use crate::points::{
     FormValues, Point, advance_point, carry, evaluate, lowest_point, raise_last, steps_along,
 };
@@ -78,7 +79,7 @@ pub fn first_refused<C: Asking>(
 fn cutting_guards<'a>(
     ranges: &[(i32, i32)],
     guards: &'a [Form],
-    room: &'a mut ArrayVec<Form, 8>,
+    room: &'a mut ArrayVec<Form, MOST_BOX_GUARDS>,
 ) -> &'a [Form]
     requires few { length ranges.now ≤ 8 }
     requires ranges { AreRanges ranges.now }
@@ -87,7 +88,7 @@ fn cutting_guards<'a>(
     ensures small { AllSmallForms result.now }
     ensures fewer { length result.now ≤ length guards.now }
 {
-    if 8 < guards.len() {
+    if MOST_BOX_GUARDS < guards.len() {
         return guards;
     }
     room.clear();

@@ -4,14 +4,14 @@ ghost use Rattle.burr_forms.specs.Views.Results.{IsFormOf};
 ghost use Rattle.burr_forms.specs.Views.Wides.{AllWithin, IsWideForm};
 
 use crate::form::{Form, FormTooLarge};
-use crate::limits::MOST_FORM_NUMBER;
+use crate::limits::{MOST_FORM_NUMBER, MOST_SYMBOLS};
 use std::marker::Model;
 
 /// A form under way, whose numbers may be larger than a form's.
 #[derive(Clone, Copy, Debug)]
 pub struct Wide {
     constant: i128,
-    coefs: [i128; 8],
+    coefs: [i128; MOST_SYMBOLS],
 }
 
 impl Model for Wide {
@@ -31,7 +31,7 @@ impl Wide {
     {
         Wide {
             constant: i128::from(constant),
-            coefs: [0; 8],
+            coefs: [0; MOST_SYMBOLS],
         }
     }
 
@@ -66,24 +66,24 @@ impl Wide {
 }
 
 /// Adds to each number `factor` times the one at its place in `others`.
-fn add_multiples(numbers: &mut [i128; 8], factor: i64, others: &[i64; 8])
+fn add_multiples(numbers: &mut [i128; MOST_SYMBOLS], factor: i64, others: &[i64; MOST_SYMBOLS])
     requires wide { AllWithin (2 ^ 100) numbers.old }
     requires factor { IsSmall factor }
     ensures { numbers.new ≡ sum_of numbers.old (map (λ c. factor *ℤ c) others.now) }
 {
     let factor = i128::from(factor);
-    for symbol in 0..8 {
+    for symbol in 0..MOST_SYMBOLS {
         numbers[symbol] += factor * i128::from(others[symbol]);
     }
 }
 
 /// The numbers, if each is small.
-fn small_numbers(numbers: &[i128; 8]) -> Result<[i64; 8], FormTooLarge>
+fn small_numbers(numbers: &[i128; MOST_SYMBOLS]) -> Result<[i64; MOST_SYMBOLS], FormTooLarge>
     ensures { MatchResult result (λ given. (given ≡ numbers.now) × AllSmall numbers.now)
         (λ _. ¬ AllSmall numbers.now) }
 {
-    let mut given = [0; 8];
-    for symbol in 0..8 {
+    let mut given = [0; MOST_SYMBOLS];
+    for symbol in 0..MOST_SYMBOLS {
         given[symbol] = small(numbers[symbol])?;
     }
     Ok(given)

@@ -26,7 +26,6 @@ pub mod OnePlace
 pub mod Operands
 pub mod PairsLeft
 pub mod Paying
-pub mod PlaceTests
 pub mod Reaches
 pub mod Rooms
 pub mod SearchedPairs

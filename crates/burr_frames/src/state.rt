@@ -201,7 +201,7 @@ fn ranges(frame: &FrameRef<'_>) -> ArrayVec<(i32, i32), SLOTS>
     ensures are { AreRanges result.items }
 {
     let mut ranges = ArrayVec::new();
-    for v in 0..8 {
+    for v in 0..SLOTS as u8 {
         let Some((low, high)) = frame.slot(v) else {
             continue;
         };
@@ -217,7 +217,7 @@ fn slots(frame: &FrameRef<'_>) -> [Option<Form>; SLOTS]
 {
     let mut slots = [None; SLOTS];
     let mut count = 0;
-    for v in 0..8 {
+    for v in 0..SLOTS as u8 {
         if frame.slot(v).is_none() {
             continue;
         }
@@ -320,7 +320,7 @@ pub(super) fn copied_slots(from: &[Option<Form>; SLOTS]) -> [Option<Form>; SLOTS
     ensures { result ≡ from.now }
 {
     let mut to = [None; SLOTS];
-    for v in 0..8 {
+    for v in 0..SLOTS {
         to[v] = from[v];
     }
     to

@@ -5,8 +5,8 @@ mod undoing;
 ghost use Rattle.std.specs.Prelude.{◌≡◌, ◌≤◌, ◌<◌, ◌+◌, length, IfSome, Some, slice_get, ◌↔◌, IsTrue};
 ghost use Rattle.burr_voxels.specs.Near.{IsWithin};
 ghost use Rattle.burr_code.specs.declared.limits.TheConstants.{MOST_OFFSET, MOST_CODE};
-ghost use Rattle.burr_code.specs.Places.{LiesIn, AllLieIn, AllApart, IsPartOfTray, IsEmptyTray};
-ghost use Rattle.burr_state.specs.Views.StateViews.{at_start, IsOffsetHere, HasRest, StaysOnBench, PieceStaysOnBench, after, moved_grip, gone_aside};
+ghost use Rattle.burr_code.specs.Places.{AllLieIn, AllApart, IsPartOfTray, IsEmptyTray};
+ghost use Rattle.burr_state.specs.Views.StateViews.{at_start, IsOffsetHere, StaysOnBench, PieceStaysOnBench, after, moved_grip, gone_aside};
 ghost use Rattle.burr_state.specs.Views.Offsets.{AreNear, PositionHolds};
 ghost use Rattle.burr_state.specs.declared.effect.Mode.TheVariants.{Trapped};
 
@@ -15,7 +15,9 @@ use crate::effect::{Mode, Trap};
 use crate::shifting::{home, is_on_bench, one_unit_on, shift_group};
 use arrayvec::ArrayVec;
 use burr_code::limits::{MOST_PIECES, MOST_PROCEDURES};
-use burr_code::{Placement, are_all_apart, is_empty_tray, is_in_set, take_aside};
+use burr_code::{
+    Placement, all_lie_in, are_all_apart, is_empty_tray, is_in_set, is_part_of_tray, take_aside,
+};
 use burr_voxels::{Cell, Direction};
 use std::marker::Model;
 
@@ -160,42 +162,18 @@ impl BenchState {
 }
 
 impl BenchState {
-    /// Whether a piece lies in the current tray.
-    pub fn lies_here(&self, piece: u8) -> bool
-        ensures { IsTrue result ↔ LiesIn self.now.places piece self.now.tray }
-    {
-        self.offset_here(piece).is_some()
-    }
-
     /// Whether each piece of a set lies in the current tray.
     pub fn all_lie_here(&self, set: u32) -> bool
         ensures { IsTrue result ↔ AllLieIn self.now.places self.now.tray set }
     {
-        for piece in 0..32 {
-            if is_in_set(set, piece) && !self.lies_here(piece) {
-                return false;
-            }
-        }
-        true
+        all_lie_in(self.places.as_slice(), self.tray, set)
     }
 
     /// Whether the grip has a piece, and not all of the current tray.
     pub fn is_part_gripped(&self) -> bool
         ensures { IsTrue result ↔ IsPartOfTray self.now.grip self.now.places self.now.tray }
     {
-        self.grip() != 0 && self.leaves_some()
-    }
-
-    /// Whether the current tray has a piece that is not gripped.
-    fn leaves_some(&self) -> bool
-        ensures { IsTrue result ↔ HasRest self.now }
-    {
-        for piece in 0..self.piece_count() {
-            if self.lies_here(piece) && !is_in_set(self.grip(), piece) {
-                return true;
-            }
-        }
-        false
+        is_part_of_tray(self.grip, self.places.as_slice(), self.tray)
     }
 
     /// Whether each piece of the current tray is on the bench after one unit of the grip along a

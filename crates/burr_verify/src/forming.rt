@@ -17,7 +17,7 @@ ghost use Rattle.burr_verify.specs.Rules.WellFramed.{IsFormed, IsFormedEntry, Is
 use crate::refusal::Refusal;
 use arrayvec::ArrayVec;
 use burr_code::is_in_set;
-use burr_code::limits::MOST_PIECES;
+use burr_code::limits::{MOST_PIECES, SLOTS};
 use burr_container::{ExitRef, FrameRef, ProcedureRef};
 use burr_forms::Form;
 use burr_frames::{Rule, State};
@@ -123,7 +123,7 @@ fn are_live(frame: &FrameRef<'_>, end: u8) -> bool
 fn none_live_from(frame: &FrameRef<'_>, from: u8) -> bool
     ensures { IsTrue result ↔ ((v : ℕ) → from ≤ v → ¬ IsLive (frame_of frame.now).slots v) }
 {
-    for v in 0..8 {
+    for v in 0..SLOTS as u8 {
         if is_live(frame, v) && from <= v {
             return false;
         }

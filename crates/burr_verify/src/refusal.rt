@@ -8,9 +8,9 @@ ghost use Rattle.burr_verify.specs.Views.Judgements.{failed_check};
 ghost use Rattle.burr_verify.specs.Rules.Fitting.{FitsAssembly};
 ghost use Rattle.burr_frames.specs.declared.rule.Rule.TheVariants as rules;
 
-use arrayvec::ArrayVec;
 use burr_assembly::Assembly;
 use burr_container::Container;
+use burr_forms::Point;
 use burr_frames::{Break, Miss, Rule};
 use thiserror::Error;
 
@@ -27,7 +27,7 @@ pub struct Refusal {
     /// Of V15 and V16, the two pieces.
     pub pieces: Option<(u8, u8)>,
     /// Of a rule that is tested at points, the first one at which it fails.
-    pub point: Option<ArrayVec<i32, 8>>,
+    pub point: Option<Point>,
 }
 
 impl Refusal {

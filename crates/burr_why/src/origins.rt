@@ -1,9 +1,9 @@
 //! Where the numbers of a state come from.
 
-use crate::point_state::MOST_SYMBOLS;
 use arrayvec::ArrayVec;
 use burr_code::Instr;
 use burr_code::limits::{MOST_CODE, SLOTS};
+use burr_forms::limits::MOST_SYMBOLS;
 use burr_lines::PlanText;
 
 /// Where an open number comes from: a live slot of the frame, the answer of an instruction, or a

@@ -13,12 +13,10 @@ use arrayvec::ArrayVec;
 use burr_code::limits::{MOST_OPERANDS, MOST_PIECES, SLOTS};
 use burr_code::{Placement, is_in_set};
 use burr_container::{ExitRef, FormOffset, FrameRef};
+use burr_forms::limits::MOST_SYMBOLS;
 use burr_forms::{Form, Point};
 use burr_frames::State;
 use burr_voxels::Direction;
-
-/// At most this many numbers are open: a form is over no more symbols.
-pub const MOST_SYMBOLS: usize = 8;
 
 /// What holds at a place of the code, at one point: numbers in place of the verifier's forms.
 #[derive(Drop)]

@@ -49,7 +49,8 @@ impl Reasons<'_, '_> {
         self.add_item(site.code_item(usize::from(site.pc)));
         self.add_surroundings(site);
         match refusal.rule {
-            rule @ (Rule::BadCode | Rule::BadLabel | Rule::MissingFrame | Rule::UnendedCode) => self.add_bad_code(rule, site),
+            rule @ (Rule::BadCode | Rule::BadLabel | Rule::MissingFrame | Rule::UnendedCode) =>
+                self.add_bad_code(rule, site),
             Rule::Collision | Rule::NotFree => self.add_meeting(refusal.pieces, site),
             rule => self.add_bad_instruction(rule, site),
         }
@@ -61,16 +62,35 @@ impl Reasons<'_, '_> {
             return;
         };
         match rule {
-            Rule::MissingOperand | Rule::StackFull | Rule::EmptySlot | Rule::ParamWritten | Rule::BadCount | Rule::NumberRange => {
-                self.add_bad_number(rule, &instruction, site)
-            }
+            Rule::MissingOperand
+            | Rule::StackFull
+            | Rule::EmptySlot
+            | Rule::ParamWritten
+            | Rule::BadCount
+            | Rule::NumberRange => { self.add_bad_number(rule, &instruction, site) }
             Rule::GripOff | Rule::BadGroup | Rule::TrayInUse | Rule::OffBench => {
                 self.add_bad_grip(rule, &instruction, site)
             }
-            Rule::BadJump | Rule::BadCall | Rule::NotApart => self.add_bad_control(rule, &instruction, site),
-            Rule::EntryMissed | Rule::FrameMissed | Rule::ExitMissed => self.add_missed_frame(rule, &instruction, site),
-            Rule::CostTooLow | Rule::StateTooLarge | Rule::FormTooLarge => self.add_bad_cost(rule, &instruction, site),
-            Rule::OtherAssembly | Rule::BadCode | Rule::BadLabel | Rule::MissingFrame | Rule::UnendedCode => {}
+            Rule::BadJump | Rule::BadCall | Rule::NotApart => self.add_bad_control(
+                rule,
+                &instruction,
+                site,
+            ),
+            Rule::EntryMissed | Rule::FrameMissed | Rule::ExitMissed => self.add_missed_frame(
+                rule,
+                &instruction,
+                site,
+            ),
+            Rule::CostTooLow | Rule::StateTooLarge | Rule::FormTooLarge => self.add_bad_cost(
+                rule,
+                &instruction,
+                site,
+            ),
+            Rule::OtherAssembly
+            | Rule::BadCode
+            | Rule::BadLabel
+            | Rule::MissingFrame
+            | Rule::UnendedCode => {}
             Rule::Collision | Rule::NotFree | Rule::BadFrame | Rule::BudgetTooLow => {}
         }
     }

@@ -32,10 +32,6 @@ ClearOrBreaks homes s places query rule result =
 abbrev pub break_of_pieces : Rule → Option (ℕ × ℕ) → Point → Broken
 break_of_pieces rule pieces point = record { rule = rule; pieces = pieces; point = Some point }
 
--- a piece of the current tray is not gripped
-abbrev pub HasRest : AbstractState → Type 0
-HasRest s = (p : ℕ) × LiesIn s.places p s.tray × (¬ IsInSet s.grip p)
-
 -- what `step` comes to where nothing is in the way
 abbrev pub free_step : AbstractState → Direction → Rest
 free_step s direction =

@@ -23,7 +23,7 @@ use burr_code::limits::{MOST_NUMBER, SLOTS};
 use burr_code::{Labels, are_all_apart};
 use burr_container::{FrameRef, ProcedureRef};
 use burr_forms::Form;
-use burr_forms::limits::MOST_POINTS;
+use burr_forms::limits::{MOST_POINTS, MOST_SYMBOLS};
 
 // The rules of the instructions that change numbers.
 impl State {
@@ -320,7 +320,7 @@ fn negated(form: &Form) -> Form
     ensures small { IsSmallForm result }
 {
     let mut coefs = form.coefs;
-    for symbol in 0..8 {
+    for symbol in 0..MOST_SYMBOLS {
         coefs[symbol] = -form.coefs[symbol];
     }
     Form {

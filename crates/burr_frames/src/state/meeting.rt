@@ -25,6 +25,7 @@ use arrayvec::ArrayVec;
 use burr_code::Placement;
 use burr_code::limits::SLOTS;
 use burr_container::{ExitRef, FormOffset, FrameRef};
+use burr_forms::limits::MOST_FORMS;
 use burr_forms::{Condition, Form, Point, first_failing};
 use thiserror::Error;
 
@@ -301,7 +302,7 @@ fn live_forms(slots: &[Option<Form>; SLOTS], frame: &FrameRef<'_>) -> Option<Arr
     ensures { GivesLiveForms (frame_of frame.now).slots slots.now result }
 {
     let mut forms = ArrayVec::new();
-    for v in 0..8 {
+    for v in 0..SLOTS as u8 {
         if frame.slot(v).is_none() {
             continue;
         }
@@ -339,7 +340,7 @@ fn are_in_same_trays(places: &[Placement<FormOffset>], others: &[Placement<FormO
 impl State {
     /// Forms of the state to be compared: those of symbols, others, and those of the operands, the
     /// bottom first, and of the offsets, piece by piece.
-    pub(super) fn compared(&self, symbols: &[Form], others: &[Form]) -> ArrayVec<Form, 120>
+    pub(super) fn compared(&self, symbols: &[Form], others: &[Form]) -> ArrayVec<Form, MOST_FORMS>
         requires few { length symbols.now ≤ 8 }
         requires other { length others.now ≤ 1 }
         requires small { AllSmallForms symbols.now }
@@ -361,7 +362,7 @@ impl State {
 pub(super) fn with_offsets(
     symbols: &[Form],
     places: &[Placement<FormOffset>],
-) -> ArrayVec<Form, 120>
+) -> ArrayVec<Form, MOST_FORMS>
     requires few { length symbols.now ≤ 8 }
     requires pieces { length places.now ≤ 32 }
     requires small { AllSmallForms symbols.now }
@@ -376,7 +377,7 @@ pub(super) fn with_offsets(
 }
 
 /// Puts forms after others. There is room, the caller's condition.
-pub(super) fn append(forms: &mut ArrayVec<Form, 120>, more: &[Form])
+pub(super) fn append(forms: &mut ArrayVec<Form, MOST_FORMS>, more: &[Form])
     requires room { length forms.old.items + length more.now ≤ 120 }
     requires small { AllSmallForms forms.old.items }
     requires more_small { AllSmallForms more.now }
@@ -387,7 +388,7 @@ pub(super) fn append(forms: &mut ArrayVec<Form, 120>, more: &[Form])
 }
 
 /// Puts the forms of offsets after others. There is room, the caller's condition.
-fn append_offsets(forms: &mut ArrayVec<Form, 120>, places: &[Placement<FormOffset>])
+fn append_offsets(forms: &mut ArrayVec<Form, MOST_FORMS>, places: &[Placement<FormOffset>])
     requires room { length forms.old.items + 3 * length places.now ≤ 120 }
     requires small { AllSmallForms forms.old.items }
     requires places_small { AllSmallPlaces places.now }

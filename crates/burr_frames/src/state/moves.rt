@@ -1,7 +1,7 @@
 //! The rules of the instructions that grip and move pieces.
 
 ghost use Rattle.std.specs.Prelude.{◌≡◌, ◌≤◌, ◌^◌, ◌↔◌, IsTrue, IfErr, MatchResult, length, ◌<◌, ◌∷◌, []};
-ghost use Rattle.burr_code.specs.Places.{LiesIn, AllLieIn, IsPartOfTray, IsEmptyTray, aside_places, changed, at_position};
+ghost use Rattle.burr_code.specs.Places.{AllLieIn, IsPartOfTray, IsEmptyTray, aside_places, changed, at_position};
 ghost use Rattle.burr_assembly.specs.Rules.Homes.{homes_of};
 ghost use Rattle.burr_blocking.specs.Rules.Counted.{HasCounted};
 ghost use Rattle.burr_forms.specs.Rules.Forms.{AllSmallForms};
@@ -9,7 +9,7 @@ ghost use Rattle.burr_frames.specs.Views.Changes.{with_grip, with_places};
 ghost use Rattle.burr_frames.specs.Rules.SpaceRules.{grip_rule, step_rule, aside_rule, tray_rule, moved, AllSmallPlaces, moved_forms};
 ghost use Rattle.burr_frames.specs.Views.Breaks.{next_verdict};
 ghost use Rattle.burr_frames.specs.Rules.Looks.{HasRoom, step_looks, aside_looks, clearing_looks};
-ghost use Rattle.burr_frames.specs.Views.Moving.{ClearOrBreaks, HasRest, free_aside, free_step};
+ghost use Rattle.burr_frames.specs.Views.Moving.{ClearOrBreaks, free_aside, free_step};
 ghost use Rattle.burr_frames.specs.Views.Clearing.{offsets_in};
 
 use crate::breaking::Break;
@@ -21,8 +21,9 @@ use crate::state::{MOST_PIECES, State};
 use arrayvec::ArrayVec;
 use burr_blocking::{Blocking, Looks, Query};
 use burr_code::limits::MOST_OFFSET;
-use burr_code::{Placement, is_empty_tray, is_in_set, take_aside};
+use burr_code::{Placement, all_lie_in, is_empty_tray, is_in_set, is_part_of_tray, take_aside};
 use burr_container::FormOffset;
+use burr_forms::limits::MOST_FORMS;
 use burr_forms::{Form, FormTooLarge, first_refused, the_points_are_given};
 use burr_voxels::Direction;
 
@@ -229,41 +230,14 @@ impl State {
     fn all_lie_here(&self, set: u32) -> bool
         ensures { IsTrue result ↔ AllLieIn self.now.places self.now.tray set }
     {
-        for piece in 0..32 {
-            if is_in_set(set, piece) && !self.lies_here(piece) {
-                return false;
-            }
-        }
-        true
-    }
-
-    /// Whether a piece lies in the current tray.
-    fn lies_here(&self, piece: u8) -> bool
-        ensures { IsTrue result ↔ LiesIn self.now.places piece self.now.tray }
-    {
-        match self.places.get(usize::from(piece)) {
-            Some(place) => place.is_in(self.tray),
-            None => false,
-        }
+        all_lie_in(self.places.as_slice(), self.tray, set)
     }
 
     /// Whether the grip has a piece, and not all of the current tray.
     fn is_part_gripped(&self) -> bool
         ensures { IsTrue result ↔ IsPartOfTray self.now.grip self.now.places self.now.tray }
     {
-        self.grip != 0 && self.leaves_some()
-    }
-
-    /// Whether the current tray has a piece that is not gripped.
-    fn leaves_some(&self) -> bool
-        ensures { IsTrue result ↔ HasRest self.now }
-    {
-        for piece in 0..self.places.len() as u8 {
-            if self.lies_here(piece) && !is_in_set(self.grip, piece) {
-                return true;
-            }
-        }
-        false
+        is_part_of_tray(self.grip, self.places.as_slice(), self.tray)
     }
 
     /// Whether no piece lies in a tray.
@@ -321,7 +295,7 @@ fn moved_place(
 
 /// The forms of the offsets of a tray's pieces, in order, three for each. The numbers of all forms
 /// lie within ±2^40, the caller's condition.
-fn offsets_in(tray: u8, places: &[Placement<FormOffset>]) -> ArrayVec<Form, 120>
+fn offsets_in(tray: u8, places: &[Placement<FormOffset>]) -> ArrayVec<Form, MOST_FORMS>
     requires few { length places.now ≤ 32 }
     requires small { AllSmallPlaces places.now }
     ensures offsets { result.items ≡ offsets_in tray places.now }

@@ -1,6 +1,5 @@
 pub mod Callers
 pub mod Calls
-pub mod Conditions
 pub mod Near
 pub mod Questions
 pub mod Steps

@@ -72,10 +72,6 @@ abbrev pub IsOffsetHere : BenchState → ℕ → Option Cell → Type 0
 IsOffsetHere s p found =
     MatchOption found (¬ LiesIn s.places p s.tray) (λ offset. LiesAt s.places p s.tray offset)
 
--- the current tray has a piece that is not gripped
-abbrev pub HasRest : BenchState → Type 0
-HasRest s = (p : ℕ) × LiesIn s.places p s.tray × (¬ IsInSet s.grip p)
-
 -- the step of an `aside` of `size` bytes to this tray
 abbrev pub gone_aside : ℕ → ℕ → BenchState → BenchState
 gone_aside tray size s = record (after size s) {

@@ -1,11 +1,11 @@
 //! Costs, and what is too much to be judged.
 
 use super::{Reasons, Site};
-use crate::point_state::{MOST_SYMBOLS, point_of};
+use crate::point_state::point_of;
 use burr_code::Instr;
 use burr_code::limits::{MOST_STATE_GUARDS, SLOTS};
 use burr_container::FrameRef;
-use burr_forms::limits::{MOST_FORM_NUMBER, MOST_POINTS};
+use burr_forms::limits::{MOST_FORM_NUMBER, MOST_POINTS, MOST_SYMBOLS};
 use burr_frames::Rule;
 use burr_lines::{FramePart, PlanItem};
 use burr_verify::Refusal;

@@ -21,7 +21,10 @@ impl<'a> Reasons<'a, '_> {
     /// Says what differs from the frame that is not met.
     pub(super) fn add_missed_frame(&mut self, rule: Rule, instruction: &Instr<'_>, site: &Site) {
         match (rule, instruction) {
-            (Rule::EntryMissed, Instr::Call(callee)) => self.add_missed_entry(usize::from(*callee), site),
+            (Rule::EntryMissed, Instr::Call(callee)) => self.add_missed_entry(
+                usize::from(*callee),
+                site,
+            ),
             (Rule::ExitMissed, Instr::Ret) => self.add_missed_exit(site),
             (Rule::ExitMissed, _) => self.add_wrong_end(site),
             _ => self.add_missed_label(instruction, site),

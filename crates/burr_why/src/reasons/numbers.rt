@@ -10,7 +10,10 @@ impl Reasons<'_, '_> {
     /// Says which number is missing, too many, not known or too large.
     pub(super) fn add_bad_number(&mut self, rule: Rule, instruction: &Instr<'_>, site: &Site) {
         match rule {
-            Rule::MissingOperand => self.add_missing_operand(self.operands_needed(instruction), site),
+            Rule::MissingOperand => self.add_missing_operand(
+                self.operands_needed(instruction),
+                site,
+            ),
             Rule::StackFull => self.add_full_stack(site),
             Rule::NumberRange => self.add_large_number(instruction, site),
             _ => {

@@ -1,12 +1,13 @@
 -- What the tests of places come to.
-use Rattle.std.proofs.Common.{◌≡◌, ◌↔◌, ◌≤◌, ◌==◌, ℕ, List, length, Some, slice_get, sym, ap, ◌∙◌, arith, IsTrue}
+use Rattle.std.proofs.Common.{◌≡◌, ◌↔◌, ◌<◌, ◌≤◌, ◌==◌, ℕ, List, length, Some, slice_get, sym, ap, ◌∙◌, arith, IsTrue}
 use Rattle.std.proofs.lemmas.Bool.Decides.{nat_tests}
 use Rattle.std.proofs.lemmas.Option.{same_Some, slice_get_within}
 use Rattle.burr_text.proofs.Common.Tests.{no_iff}
+use Rattle.burr_code.specs.PieceSets.{IsInSet}
 use Rattle.burr_code.specs.declared.placement.Placement.{Placement}
 use Rattle.burr_code.specs.declared.placement.Placement.TheVariants.{Apart, On}
-use Rattle.burr_code.specs.Places.{LiesIn, is_in}
-use Rattle.burr_code.proofs.Common.Conditions.{apart-on, same_tray}
+use Rattle.burr_code.specs.Places.{LiesIn, HasRest, is_in}
+use Rattle.burr_code.proofs.Common.Conditions.{apart-on, same_tray, lies_within}
 
 -- One piece
 
@@ -29,3 +30,12 @@ pub lies_nowhere : {Position : Type 0} (places : List (Placement Position)) (p t
 lies_nowhere places p tray far lies =
     let inside = slice_get_within places p (On tray lies.0) lies.1 in
     absurd (omega (arith, far, inside))
+
+-- All pieces
+
+-- each piece of the tray is in the group where each below the number of places is
+pub none_left : {Position : Type 0} (places : List (Placement Position)) (tray group n : ℕ) → length places ≤ n
+    → ((p : ℕ) → p < n → LiesIn places p tray → ¬ (¬ IsInSet group p)) → ¬ HasRest places tray group
+none_left places tray group n all each (p, lies, rest) =
+    let within = lies_within places p tray lies in
+    each p (omega (arith, within, all)) lies rest
