@@ -17,14 +17,13 @@
 //!   fault at each place where the rules set faults apart.
 #![tactic(auto)]
 
-mod assembling;
 mod fault;
 mod laws;
 mod source_maps;
 mod text;
 
-pub use assembling::assemble;
 pub use burr_plantext::{list, list_with_places};
 pub use fault::AsmFault;
 pub use laws::a_listing_assembles_to_its_container;
 pub use source_maps::{PlanPart, source_map};
+pub use text::assemble;

@@ -8,20 +8,20 @@ mod names;
 mod numbers;
 mod outline;
 mod procedure;
-mod set;
 mod signature;
-mod slot;
 mod stage;
 mod statement;
 mod words;
 
-ghost use Rattle.std.specs.Prelude.{◌≡◌};
+ghost use Rattle.std.specs.Prelude.{◌≡◌, MatchResult};
 ghost use Rattle.burr_asm.specs.Views.Reading.{ReadsPlan};
 ghost use Rattle.burr_asm.specs.declared.text.front.Front.TheVariants.{AwaitsPlan};
+ghost use Rattle.burr_asm.specs.Rules.Assembling.{IsAssembled, IsTextFault};
 
 use crate::fault::AsmFault;
 use crate::text::front::Front;
-use burr_container::Plan;
+use burr_container::{Plan, write};
+use burr_plantext::{a_judged_text_is_of_its_source, a_text_stands_for_a_plan_within_the_format};
 use burr_text::cut_at;
 pub use code::CodeLine;
 pub use line::LineForm;
@@ -52,4 +52,17 @@ fn read_lines<'a>(alloc: Global, front: &mut Front<'a>, text: &'a [u8]) -> Resul
         line += 1;
     }
     front.finish(alloc, line)
+}
+
+/// The container of the plan that a text stands for; or the text's first fault, exactly where it
+/// stands for no plan; or `Memory` where a request for memory was refused.
+pub fn assemble(alloc: Global, text: &[u8]) -> Result<Vec<u8>, AsmFault>
+    ensures { MatchResult result
+        (λ bytes. IsAssembled text.now bytes.items)
+        (IsTextFault text.now) }
+{
+    let plan = read_plan(alloc, text)?;
+    a_judged_text_is_of_its_source();
+    a_text_stands_for_a_plan_within_the_format();
+    Ok(write(alloc, &plan)?)
 }

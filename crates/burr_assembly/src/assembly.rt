@@ -8,8 +8,7 @@ ghost use Rattle.burr_assembly.specs.Views.HomedPieces.{pieces_of, AreAtHome};
 ghost use Rattle.burr_assembly.specs.Views.ReaderViews.{IsDue};
 
 use crate::fault::AssemblyFault;
-use crate::piece::Piece;
-use crate::shape::DrawnShape;
+use crate::piece::{DrawnShape, Piece};
 use crate::text::{read_text, write_text};
 use burr_text::Name;
 use burr_voxels::Cell;

@@ -34,7 +34,6 @@ mod fault;
 mod laws;
 mod occupancy;
 mod piece;
-mod shape;
 mod text;
 
 pub use assembly::Assembly;

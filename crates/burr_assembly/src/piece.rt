@@ -1,11 +1,11 @@
-ghost use Rattle.std.specs.Prelude.{◌≡◌, IfOk};
+ghost use Rattle.std.specs.Prelude.{◌≡◌, IfOk, ◌≤◌, ◌<◌, ◌++◌, ◌∷◌, [], length, OnOk, vec_len};
 ghost use Rattle.std.specs.List.{All};
 ghost use Rattle.burr_voxels.specs.Near.{IsWithin};
-ghost use Rattle.burr_assembly.specs.Rules.Text.{home_cells as homes_of};
+ghost use Rattle.burr_assembly.specs.Rules.Text.{home_cells as homes_of, drawn_cells, drawn_sides, row_cells, layer_cells};
 ghost use Rattle.burr_assembly.specs.Views.HomedPieces.{turn_of, homed_piece};
 
 use burr_text::Name;
-use burr_voxels::{Cell, Orientation};
+use burr_voxels::{Cell, Cells, Orientation, Shape};
 use std::alloc::{AllocError, Global};
 use std::marker::Model;
 
@@ -103,4 +103,189 @@ pub fn home_cells(
         homes.push(orientation.turn(*cell) + position)?;
     }
     Ok(homes)
+}
+
+/// A shape with its name, as it is drawn and as its cells.
+#[derive(Debug, Drop)]
+pub struct DrawnShape {
+    name: Name,
+    layers: Vec<Layer>,
+    shape: Shape,
+}
+
+impl Model for DrawnShape {
+    ghost use Rattle.std.specs.Prelude.{◌≡◌};
+    ghost use Rattle.std.specs.List.{All};
+    ghost use Rattle.burr_voxels.specs.Near.{IsWithin};
+    ghost use Rattle.burr_assembly.specs.Rules.Text.{Drawing, drawn_cells, drawn_sides};
+
+    ghost Value = { Drawing };
+
+    ghost view = { λ s. record { name = s.name; layers = s.layers.items } };
+
+    ghost invariant = { λ s.
+        (s.shape.sides ≡ drawn_sides s.layers.items)
+        × (s.shape.cells ≡ drawn_cells s.layers.items)
+        × All (IsWithin 15) s.shape.cells };
+}
+
+impl DrawnShape {
+    /// The shape that these layers draw; `shape` has the sides and the cells of the drawing.
+    pub fn new(name: Name, layers: Vec<Layer>, shape: Shape) -> DrawnShape
+        requires sides { shape.sides ≡ drawn_sides layers.items }
+        requires cells { shape.cells ≡ drawn_cells layers.items }
+        requires near { All (IsWithin 15) shape.cells }
+        ensures { result ≡ record { name = name; layers = layers.items } }
+    {
+        DrawnShape {
+            name,
+            layers,
+            shape,
+        }
+    }
+
+    pub fn name(&self) -> &Name
+        ensures { result.now ≡ self.now.name }
+    {
+        &self.name
+    }
+
+    pub fn layers(&self) -> &[Layer]
+        ensures { result.now ≡ self.now.layers }
+    {
+        self.layers.as_slice()
+    }
+
+    pub fn cells(&self) -> &[Cell]
+        ensures cells { result.now ≡ drawn_cells self.now.layers }
+        ensures near { All (IsWithin 15) result.now }
+    {
+        self.shape.cells.as_slice()
+    }
+}
+
+/// The longest side of a shape's box.
+pub const SIDE: usize = 16;
+
+/// The mark of a cell in a drawing; a `.` marks a place without a cell.
+const CELL: u8 = b'#';
+
+/// A row of a drawing, x rising: at most 16 marks, `#` or `.`.
+#[derive(Debug, Drop)]
+pub struct Row {
+    marks: Vec<u8>,
+}
+
+impl Model for Row {
+    ghost use Rattle.std.specs.Prelude.{◌≤◌, List, ℕ, vec_len};
+
+    ghost Value = { List ℕ };
+
+    ghost view = { λ r. r.marks.items };
+
+    ghost invariant = { λ r. vec_len r.marks ≤ 16 };
+}
+
+impl Row {
+    pub fn new(marks: Vec<u8>) -> Row
+        requires { vec_len marks ≤ SIDE }
+        ensures { result ≡ marks.items }
+    {
+        Row { marks }
+    }
+
+    pub fn marks(&self) -> &[u8]
+        ensures marks { result.now ≡ self.now }
+        ensures narrow { length result.now ≤ SIDE }
+    {
+        self.marks.as_slice()
+    }
+}
+
+/// A layer of a drawing: at most 16 rows, y rising.
+#[derive(Debug, Drop)]
+pub struct Layer {
+    rows: Vec<Row>,
+}
+
+impl Model for Layer {
+    ghost use Rattle.std.specs.Prelude.{◌≤◌, List, ℕ, vec_len};
+
+    ghost Value = { List (List ℕ) };
+
+    ghost view = { λ l. l.rows.items };
+
+    ghost invariant = { λ l. vec_len l.rows ≤ 16 };
+}
+
+impl Layer {
+    /// A layer without rows.
+    pub fn new(alloc: Global) -> Layer
+        ensures { result ≡ [] }
+    {
+        Layer {
+            rows: Vec::new(alloc),
+        }
+    }
+
+    pub fn rows(&self) -> &[Row]
+        ensures rows { result.now ≡ self.now }
+        ensures shallow { length result.now ≤ SIDE }
+    {
+        self.rows.as_slice()
+    }
+
+    /// Adds a row after the others.
+    pub fn push(&mut self, row: Row) -> Result<(), AllocError>
+        requires { length self.old < SIDE }
+        ensures { OnOk result (self.new ≡ self.old ++ row ∷ []) }
+    {
+        self.rows.push(row)?;
+        Ok(())
+    }
+}
+
+/// Adds the cells of a row of a drawing.
+fn add_row_cells(cells: &mut Vec<Cell>, marks: &[u8], y: usize, z: usize) -> Result<(), AllocError>
+    requires narrow { length marks.now ≤ SIDE }
+    requires y { y < SIDE }
+    requires z { z < SIDE }
+    requires near { All (IsWithin 15) cells.old.items }
+    ensures cells { OnOk result (cells.new.items ≡ cells.old.items ++ row_cells 0 y z marks.now) }
+    ensures near { OnOk result (All (IsWithin 15) cells.new.items) }
+{
+    for (x, mark) in marks.iter().enumerate() {
+        if *mark == CELL {
+            let (x, y, z) = (x as i32, y as i32, z as i32);
+            cells.push(Cell { x, y, z })?;
+        }
+    }
+    Ok(())
+}
+
+/// Adds the cells of a layer of a drawing.
+fn add_layer_cells(cells: &mut Vec<Cell>, rows: &[Row], z: usize) -> Result<(), AllocError>
+    requires shallow { length rows.now ≤ SIDE }
+    requires z { z < SIDE }
+    requires near { All (IsWithin 15) cells.old.items }
+    ensures cells { OnOk result (cells.new.items ≡ cells.old.items ++ layer_cells 0 z rows.now) }
+    ensures near { OnOk result (All (IsWithin 15) cells.new.items) }
+{
+    for (y, row) in rows.iter().enumerate() {
+        add_row_cells(cells, row.marks(), y, z)?;
+    }
+    Ok(())
+}
+
+/// The cells of a drawing: layers upwards, in each its rows, in each x rising.
+pub fn cells_of(alloc: Global, layers: &[Layer]) -> Result<Vec<Cell>, AllocError>
+    requires { length layers.now ≤ SIDE }
+    ensures cells { IfOk result (λ cells. cells.items ≡ drawn_cells layers.now) }
+    ensures near { IfOk result (λ cells. All (IsWithin 15) cells.items) }
+{
+    let mut cells = Vec::new(alloc);
+    for (z, layer) in layers.iter().enumerate() {
+        add_layer_cells(&mut cells, layer.rows(), z)?;
+    }
+    Ok(cells)
 }

@@ -16,8 +16,9 @@
 //!
 //! `unlike` stands in an answer where what was read is not written, spelled or assembled again as
 //! it was, and `Memory` where a request for memory was refused.
+
 use crate::container::two_cubes;
-use crate::inputs::number_of;
+use crate::tables::number_of;
 use burr_asm::{AsmFault, assemble, list, list_with_places};
 use burr_assembly::{Assembly, piece_name};
 use burr_code::{Labels, encode, fetch};

@@ -1,9 +1,9 @@
 //! Texts and containers that are damaged at each of their places in turn.
+
 use crate::answers::answer_to;
 use crate::asm::{ANSWERED_LIFT, CUP as CUP_TEXT, DUO as DUO_TEXT, LIFT, RING as RING_TEXT};
-use crate::inputs::{input_of, number_of, text_of};
-use burr_testing::assemblies::{CUP, DUO, RING};
-use burr_testing::plans::{DUO_PLAN, RESULT_PLAN, RING_PLAN};
+use crate::tables::{input_of, number_of, text_of};
+use burr_testing::plans::{CUP, DUO, DUO_PLAN, RESULT_PLAN, RING, RING_PLAN};
 use std::alloc::{AllocError, Global};
 use std::process::Abort;
 

@@ -25,8 +25,6 @@ mod explain;
 #[cfg(test)]
 mod forms;
 #[cfg(test)]
-mod inputs;
-#[cfg(test)]
 mod io;
 #[cfg(test)]
 mod memory;

@@ -1,14 +1,14 @@
 //! What a want of memory gives.
+
 use crate::answers::{answer, answer_to, is_written};
 use crate::asm::{ANSWERED_LIFT, LIFT, LISTED_DUO, RING, RING_PLACES};
 use crate::container::two_cubes;
-use crate::inputs::input_of;
+use crate::tables::input_of;
 use burr_asm::{AsmFault, assemble, list};
 use burr_assembly::{Assembly, AssemblyFault};
 use burr_code::{encode, fetch};
 use burr_container::{Container, Plan};
-use burr_testing::assemblies::DUO;
-use burr_testing::plans::{DUO_PLAN, RING_PLAN};
+use burr_testing::plans::{DUO, DUO_PLAN, RING_PLAN};
 use burr_testing::{Outcome, Trial, outcomes_in_want};
 use std::alloc::{AllocError, Global};
 use std::process::Abort;

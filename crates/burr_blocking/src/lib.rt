@@ -25,13 +25,9 @@
 mod blocking;
 mod cell_tables;
 mod extent;
-mod looks;
-mod plain_cells;
 mod row_tables;
 mod triangle;
 
-pub use blocking::{Blocking, Query};
-pub use cell_tables::CellTables;
-pub use looks::Looks;
-pub use plain_cells::PlainCells;
+pub use blocking::{Blocking, Looks, Query};
+pub use cell_tables::{CellTables, PlainCells};
 pub use row_tables::RowTables;

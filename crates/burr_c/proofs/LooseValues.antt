@@ -16,7 +16,7 @@ use denote.Struct.Owning.{shape}
 use Rattle.core.proofs.atomic.Steps.{Ptr-Good}
 use Rattle.std_alloc.proofs.ResultValues.{and_tt}
 use Rattle.burr_c.specs.Keeps.{owns_block}
-use Rattle.burr_c.specs.contracts.loose.Loose as loose
+use Rattle.burr_c.specs.contracts.handle.Loose as loose
 
 -- the struct that lies in the machine for the pointer p
 abbrev pub word : Ptr → Val

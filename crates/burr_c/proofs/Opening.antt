@@ -2,7 +2,7 @@
 use Rattle.std.proofs.Common.{◌≡◌, ◌∙◌, List, ℕ, None, Some, ap, inl, inr}
 use Rattle.std.specs.Prelude.{Option}
 use Rattle.burr_verify.specs.Rules.Accepting.{Judged}
-use Rattle.burr_judge.specs.declared.status.Status.{Status}
+use Rattle.burr_judge.specs.declared.refused.Status.{Status}
 use Rattle.burr_judge.specs.OpenEnds.{Beginnings, Opens}
 use Rattle.burr_c.specs.declared.handle.KeptRun.{KeptRun}
 

@@ -5,7 +5,7 @@ use Rattle.std.specs.Io.KnownBytes.{Appends}
 use Rattle.burr_c.specs.declared.printed.CallFault.{CallFault}
 use Rattle.burr_c.specs.declared.printed.CallFault.TheVariants.{TooLong, Memory}
 use Rattle.burr_c.specs.declared.printed.Printed.{Printed}
-use Rattle.burr_judge.specs.declared.status.Status.{Status}
+use Rattle.burr_judge.specs.declared.refused.Status.{Status}
 use Rattle.burr_c.specs.Calls.{Call, Gives, Returns}
 use Rattle.burr_io.specs.Sink.{SinkView, Takes}
 use Rattle.burr_io.specs.Source.{SourceView}

@@ -10,10 +10,10 @@ use Rattle.burr_step.specs.Views.Driving.{Driving, IsReady, MovesOn, Goes, Arriv
 use Rattle.burr_judge.specs.OpenEnds.{Beginnings, IsOpened}
 use Rattle.burr_c.specs.declared.handle.KeptRun.{KeptRun}
 use Rattle.burr_c.specs.declared.handle.KeptRun.TheVariants.{Drive, Stepper}
-use Rattle.burr_c.specs.declared.told.Came.{Came}
-use Rattle.burr_c.specs.declared.told.Came.TheVariants.{Done, Refused, Waiting, Ended, Closed}
-use Rattle.burr_c.specs.declared.told.ToldMove.{ToldMove}
-use Rattle.burr_c.specs.declared.told.ToldHalt.{ToldHalt}
+use Rattle.burr_c.specs.declared.drive.Came.{Came}
+use Rattle.burr_c.specs.declared.drive.Came.TheVariants.{Done, Refused, Waiting, Ended, Closed}
+use Rattle.burr_c.specs.declared.drive.ToldMove.{ToldMove}
+use Rattle.burr_c.specs.declared.drive.ToldHalt.{ToldHalt}
 
 -- the tray to which a group goes out; or -1 where it stays in its tray
 abbrev pub told_out : Option ℕ → ℤ

@@ -1,12 +1,12 @@
 -- What the calls of a stepper that a program in C keeps come to.
 use Rattle.std.specs.Prelude.{◌≡◌, ◌⊎◌, ℕ, List, [], Bool, Option, None, Some}
 use Rattle.burr_step.specs.Views.Stepping.{Stepping, IsFresh}
-use Rattle.burr_judge.specs.declared.status.Status.TheVariants as statuses
+use Rattle.burr_judge.specs.declared.refused.Status.TheVariants as statuses
 use Rattle.burr_judge.specs.OpenEnds.{Beginnings}
 use Rattle.burr_judge.specs.Views.Commanding.{IsAnswerLine, StepAnswers}
 use Rattle.burr_c.specs.declared.handle.KeptRun.{KeptRun}
 use Rattle.burr_c.specs.declared.handle.KeptRun.TheVariants.{Drive, Stepper}
-use Rattle.burr_c.specs.declared.told.Came.TheVariants.{Closed}
+use Rattle.burr_c.specs.declared.drive.Came.TheVariants.{Closed}
 use Rattle.burr_c.specs.Calls.{Call, Gives}
 use Rattle.burr_c.specs.DriveCalls.{code_of}
 

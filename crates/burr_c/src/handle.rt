@@ -3,9 +3,8 @@
 ghost use Rattle.std.specs.Prelude.{◌≡◌, Option, None, Some, MatchOption};
 ghost use Rattle.burr_c.specs.declared.handle.KeptRun.{KeptRun as KeptRunOf};
 ghost use Rattle.burr_c.specs.Boxed.{C};
-ghost use Rattle.burr_c.specs.Keeps.{keeps};
+ghost use Rattle.burr_c.specs.Keeps.{keeps, owns_block};
 
-use crate::loose::Loose;
 use burr_judge::KeptStepper;
 use burr_step::KeptDrive;
 use std::alloc::Global;
@@ -84,4 +83,27 @@ pub enum KeptRun {
     Drive(KeptDrive),
     /// It is gone through step by step.
     Stepper(KeptStepper),
+}
+
+// A box as its pointer, so that a handle can keep the pointer.
+
+/// What a box owns, by its pointer: the value there, and the right to free the block.
+pub struct Loose<T> {
+    pub at: *mut T,
+    pub ghost value: { T },
+}
+
+impl<T> Model for Loose<T> {
+    ghost also_owns = { λ l. owns_block T.row l.at l.value };
+}
+
+impl<T: Drop> Loose<T> {
+    /// The box, by its pointer. Proved by hand.
+    pub fn of(whole: Box<T>) -> Loose<T>
+        ensures { result.value ≡ whole.value }
+    {
+        Loose {
+            at: Box::into_raw(whole),
+        }
+    }
 }

@@ -40,12 +40,10 @@
 
 mod drive;
 mod handle;
-mod loose;
 mod printed;
 mod stepper;
 #[cfg(test)]
 mod tests;
-mod told;
 
 ghost use Rattle.std.specs.Prelude.{[]};
 ghost use Rattle.burr_judge.specs.declared.tasks.Task.TheVariants.{Check, Run, Try};

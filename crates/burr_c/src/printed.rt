@@ -7,7 +7,7 @@ ghost use Rattle.burr_c.specs.Calls.{IsTooLong, IsEitherTooLong, IsAnyTooLong, c
 ghost use Rattle.burr_step.specs.Views.Driving.{IsReady};
 ghost use Rattle.burr_judge.specs.DriveEnds.{ReadyEnds};
 ghost use Rattle.burr_judge.specs.OpenEnds.{NothingEnds, OpenEnds, Opens};
-ghost use Rattle.burr_judge.specs.declared.status.Status.TheVariants.{Done};
+ghost use Rattle.burr_judge.specs.declared.refused.Status.TheVariants.{Done};
 ghost use Rattle.burr_step.specs.Views.Stepping.{IsFresh};
 ghost use Rattle.burr_c.specs.StepCalls.{AnswersWith, LosesAnswer};
 ghost use Rattle.burr_judge.specs.PlanEnds.{IsRefusal, PlanEnds};

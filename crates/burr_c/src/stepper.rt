@@ -8,9 +8,9 @@ ghost use Rattle.burr_c.specs.Calls.{IsEitherTooLong, Returns, call};
 ghost use Rattle.burr_c.specs.DriveCalls.{OpensAs};
 ghost use Rattle.burr_c.specs.StepCalls.{CommandComes, StepperBegins};
 
+use crate::drive::Came;
 use crate::handle::{Handle, KeptRun};
 use crate::printed::{CallFault, Printed, give, print_answer, print_opening};
-use crate::told::Came;
 use std::alloc::Global;
 
 /// Opens a stepper of the container `plan`, where it is accepted, and prints nothing; or prints a

@@ -1,10 +1,11 @@
 //! What each export gives, where that is long.
+
 use crate::drive::{
-    burr_drive_answer, burr_drive_close, burr_drive_goto, burr_drive_next, burr_drive_open,
+    ToldHalt, ToldMove, burr_drive_answer, burr_drive_close, burr_drive_goto, burr_drive_next,
+    burr_drive_open,
 };
 use crate::handle::Handle;
 use crate::stepper::{burr_step_command, burr_step_open};
-use crate::told::{ToldHalt, ToldMove};
 use crate::{burr_assemble, burr_check, burr_run, burr_step_through, burr_try};
 use std::alloc::{AllocError, Global};
 use std::process::Abort;

@@ -20,7 +20,6 @@
 //!   is then alone in one of the two trays is apart. It asks for at most 32 places.
 #![tactic(auto)]
 
-mod encoding;
 mod fetching;
 mod instr;
 mod labels;
@@ -28,9 +27,8 @@ mod laws;
 pub mod limits;
 mod placement;
 
-pub use encoding::encode;
 pub use fetching::fetch;
-pub use instr::Instr;
+pub use instr::{Instr, encode};
 pub use labels::Labels;
 pub use laws::{instructions_are_read_back, instructions_are_unique, the_limits_are_these};
 pub use placement::{

@@ -13,7 +13,6 @@
 #![tactic(auto)]
 
 mod command;
-mod help;
 mod job;
 
 pub use job::{Job, Reply, Request, request_of};

@@ -8,9 +8,8 @@ ghost use Rattle.burr_container.specs.Views.InPlace.{AreFor, IsProcedure, IsExit
 ghost use Rattle.burr_container.specs.Views.Containers.{ReadsContainer, IsContainer, HasPlan, IsHeader, HasLabel, OfProcedure, OfLabel};
 ghost use Rattle.burr_container.specs.Views.Lent.{IsLent};
 
-use crate::exit_ref::ExitRef;
 use crate::fault::ContainerFault;
-use crate::frame_ref::FrameRef;
+use crate::frame_ref::{ExitRef, FrameRef};
 use crate::layout::Layout;
 use crate::procedure_ref::{ProcedureRef, StoredProcedure};
 use crate::reading::{Cursor, count_within, header, main_procedure, other_procedure};

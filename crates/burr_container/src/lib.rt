@@ -31,7 +31,6 @@
 #![tactic(auto)]
 
 mod container;
-mod exit_ref;
 mod fault;
 mod fitting;
 mod frame_ref;
@@ -44,15 +43,13 @@ mod plan;
 mod procedure_ref;
 mod reading;
 mod restoring;
-mod versions;
 mod writing;
 
 pub use container::{Container, Header};
-pub use exit_ref::ExitRef;
 pub use fault::ContainerFault;
-pub use frame_ref::{FormOffset, FrameRef};
+pub use frame_ref::{ExitRef, FormOffset, FrameRef};
 pub use laws::{a_container_is_of_one_plan, containers_are_unique, upgrading_adds_nothing};
 pub use plan::{ExitFrame, Frame, Place, Plan, PlanForm, Procedure};
 pub use procedure_ref::ProcedureRef;
-pub use versions::upgrade;
+pub use restoring::upgrade;
 pub use writing::write;

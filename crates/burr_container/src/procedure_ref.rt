@@ -2,8 +2,7 @@ ghost use Rattle.std.specs.Prelude.{◌<◌, length, ◌≡◌, ◌≤◌, slice
 ghost use Rattle.burr_code.specs.declared.limits.TheConstants.{MOST_CODE, MOST_PARAMETERS, MOST_PROCEDURES};
 
 use crate::container::Container;
-use crate::exit_ref::ExitRef;
-use crate::frame_ref::FrameRef;
+use crate::frame_ref::{ExitRef, FrameRef};
 use crate::label_table::LabelTable;
 
 /// A procedure that a container has, lent by it.

@@ -1,21 +1,22 @@
 //! Owned plans, restored from containers that are read in place.
 
-ghost use Rattle.std.specs.Prelude.{◌≡◌, ◌≤◌, ◌*◌, length, IfOk, ◌+◌, ◌<◌, drop, slice_index};
-ghost use Rattle.burr_container.specs.Rules.Spelling.{form_size as size_of_form};
+ghost use Rattle.std.specs.Prelude.{◌≡◌, ◌≤◌, ◌*◌, length, IfOk, ◌+◌, ◌<◌, drop, slice_index, IsTrue};
+ghost use Rattle.burr_container.specs.Rules.Spelling.{form_size as size_of_form, plan_bytes};
 ghost use Rattle.burr_container.specs.Views.Decoding.{live_count as count_of_live, coefs_in, form_in, place_rest, place_in};
 ghost use Rattle.burr_container.specs.Views.Refs.{forms_of, places_of, frame_of, exit_frame_of};
 ghost use Rattle.burr_container.specs.Views.OwnedPlaces.{placement_of, placements_of};
-ghost use Rattle.burr_container.specs.Rules.Plans.{Plan as PlanOf};
+ghost use Rattle.burr_container.specs.Rules.Plans.{Plan as PlanOf, upgraded};
 ghost use Rattle.burr_container.specs.Views.Containers.{HasPlan, IsContainer};
 ghost use Rattle.burr_container.specs.Views.Lent.{OfLent};
+ghost use Rattle.burr_container.specs.Rules.Fitting.{is_fitting};
 
 use crate::container::Container;
-use crate::exit_ref::ExitRef;
-use crate::frame_ref::FrameRef;
+use crate::frame_ref::{ExitRef, FrameRef};
 use crate::list_readers::{after, after_place};
 use crate::lists::{FormList, PlaceList, form_size};
 use crate::plan::{ExitFrame, Frame, Place, Plan, PlanForm, Procedure};
 use crate::procedure_ref::ProcedureRef;
+use crate::writing::write;
 use burr_code::limits::SLOTS;
 use byteorder::{BigEndian, ByteOrder};
 use std::alloc::{AllocError, Global};
@@ -211,4 +212,18 @@ fn labels(alloc: Global, procedure: &ProcedureRef<'_, '_>) -> Result<Vec<(u16, F
         labels.push((procedure.label(n), frame))?;
     }
     Ok(labels)
+}
+
+// Plans of version 1 in version 2: a container read back into a plan, and written anew.
+
+/// The container of version 2 of the same plan: each procedure has no results and each exit frame
+/// no guards where the container is one of version 1; of one of version 2 its own bytes.
+pub fn upgrade(alloc: Global, container: &Container<'_>) -> Result<Vec<u8>, AllocError>
+    ensures bytes { IfOk result (λ bytes. (p : PlanOf) → IsContainer container.now p
+        → bytes.items ≡ plan_bytes (upgraded p)) }
+    ensures fits { (p : PlanOf) → IsContainer container.now p → IsTrue (is_fitting (upgraded p)) }
+{
+    let mut plan = Plan::of(alloc, container)?;
+    plan.version = 2;
+    write(alloc, &plan)
 }

@@ -33,18 +33,13 @@
 
 mod condition;
 mod form;
-mod guards;
 mod laws;
 pub mod limits;
 mod points;
-mod ranges;
 mod searching;
-mod wide;
 
 pub use condition::{Asking, Condition, NotNegative, first_failing};
 pub use form::{Form, FormTooLarge};
-pub use guards::Guards;
 pub use laws::{the_limits_are_these, the_points_are_given};
-pub use points::{FormValues, Point, Points};
-pub use ranges::Box8;
+pub use points::{Box8, FormValues, Guards, Point, Points};
 pub use searching::first_refused;

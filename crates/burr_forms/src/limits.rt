@@ -1,4 +1,4 @@
-//! The limits of forms, of the boxes of their symbols and of what is asked of their points.
+//! The limits of forms, of the boxes of their symbols, and of conditions on their points.
 
 /// A number of a form is at most this, either way.
 pub const MOST_FORM_NUMBER: i64 = 1 << 40;

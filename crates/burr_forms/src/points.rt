@@ -1,14 +1,12 @@
-ghost use Rattle.std.specs.Prelude.{◌≡◌, ◌≤◌, ◌<◌, Some, None, length, MatchBool};
+ghost use Rattle.std.specs.Prelude.{◌≡◌, ◌≤◌, ◌<◌, Some, None, length, MatchBool, MatchOption, ◌↔◌, IsTrue};
 ghost use Rattle.std.specs.Iterator.{YieldsFirst, item_count};
-ghost use Rattle.burr_forms.specs.Rules.Points.{points_of};
+ghost use Rattle.burr_forms.specs.Rules.Points.{points_of, guards_hold, AreGuards, AreRanges, IsRange, IsBox, padded};
 ghost use Rattle.burr_forms.specs.Rules.Forms.{values, AllSmallForms, AllNear};
 ghost use Rattle.burr_forms.specs.Views.Rising.{following, lows};
 ghost use Rattle.burr_forms.specs.Views.Searching.{steps_of, AllBounded, sums, IsRaised, IsAtEnd};
 
-use crate::form::Form;
-use crate::guards::Guards;
-use crate::limits::{MOST_FORMS, MOST_SYMBOLS};
-use crate::ranges::Box8;
+use crate::form::{Form, is_small};
+use crate::limits::{MOST_BOX_GUARDS, MOST_FORMS, MOST_SYMBOL_VALUE, MOST_SYMBOLS};
 use arrayvec::ArrayVec;
 use std::marker::Model;
 
@@ -197,4 +195,103 @@ pub fn carry(row: &mut FormValues, steps: &FormValues)
     ensures { row.new.items ≡ sums row.old.items steps.now.items }
 {
     add(row.as_mut_slice(), steps.as_slice());
+}
+
+/// At most eight forms; none of them may be negative.
+#[derive(Clone, Debug, Drop)]
+pub struct Guards {
+    forms: ArrayVec<Form, MOST_BOX_GUARDS>,
+}
+
+impl Model for Guards {
+    ghost use Rattle.std.specs.Prelude.{List};
+    ghost use Rattle.burr_forms.specs.Rules.Forms.{Form, AllSmallForms};
+
+    ghost Value = { List Form };
+
+    ghost view = { λ g. g.forms.items };
+
+    ghost invariant = { λ g. AllSmallForms g.forms.items };
+}
+
+impl Guards {
+    /// These guards. None where there are more than eight, or a number of one lies outside ±2^40.
+    pub fn new(forms: &[Form]) -> Option<Guards>
+        ensures { MatchOption result (¬ AreGuards forms.now) (λ given.
+            AreGuards forms.now × (given ≡ forms.now)) }
+    {
+        if MOST_BOX_GUARDS < forms.len() || !forms.iter().all(|form| is_small(form)) {
+            return None;
+        }
+        let mut guards = ArrayVec::new();
+        for form in forms {
+            guards.push(*form);
+        }
+        Some(Guards { forms: guards })
+    }
+
+    /// Whether no guard is negative at a point. The caller's condition: each number of the point
+    /// lies within ±32,767.
+    pub fn hold(&self, point: &[i32; MOST_SYMBOLS]) -> bool
+        requires { AllNear point.now }
+        ensures { result ≡ guards_hold self.now point.now }
+    {
+        self.forms.iter().all(|guard| guard.eval(point) >= 0)
+    }
+}
+
+/// Ranges of at most eight symbols, both ends in them; a symbol that isn't there has 0 alone.
+#[derive(Clone, Copy, Debug, PartialEq, Eq)]
+pub struct Box8 {
+    ranges: [(i32, i32); MOST_SYMBOLS],
+}
+
+impl Model for Box8 {
+    ghost use Rattle.std.specs.Prelude.{List, ℤ};
+    ghost use Rattle.burr_forms.specs.Rules.Points.{AreRanges};
+
+    ghost Value = { List (ℤ × ℤ) };
+
+    ghost view = { λ b. b.ranges };
+
+    ghost inverse = { λ ranges. record { ranges = ranges } };
+
+    ghost invariant = { λ b. AreRanges b.ranges };
+}
+
+impl Box8 {
+    /// The box of these ranges, each from its lowest number to its highest. None where there are
+    /// more than eight, one holds no number, or one ends outside ±32,767.
+    pub fn new(ranges: &[(i32, i32)]) -> Option<Box8>
+        ensures { MatchOption result (¬ IsBox ranges.now) (λ given.
+            IsBox ranges.now × (given ≡ padded ranges.now)) }
+    {
+        if MOST_SYMBOLS < ranges.len() {
+            return None;
+        }
+        let mut eight = [(0, 0); MOST_SYMBOLS];
+        for symbol in 0..ranges.len() {
+            if !is_range(ranges[symbol]) {
+                return None;
+            }
+            eight[symbol] = ranges[symbol];
+        }
+        Some(Box8 { ranges: eight })
+    }
+
+    /// The eight ranges.
+    pub fn ranges(&self) -> &[(i32, i32); MOST_SYMBOLS]
+        ensures ranges { result.now ≡ self.now }
+        ensures are { AreRanges result.now }
+    {
+        &self.ranges
+    }
+}
+
+/// Whether a range holds a number, and numbers within ±32,767 alone.
+fn is_range(range: (i32, i32)) -> bool
+    ensures { IsTrue result ↔ IsRange range }
+{
+    let most = i32::from(MOST_SYMBOL_VALUE);
+    range.0 <= range.1 && -most <= range.0 && range.1 <= most
 }

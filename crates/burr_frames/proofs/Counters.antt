@@ -3,7 +3,7 @@ use Rattle.std.proofs.Common.{◌≡◌, ap, subst, inl, inr}
 use Rattle.std.specs.Prelude.{ℕ, ◌<◌, length, slice_get, Some, Ok, Err}
 use Rattle.burr_forms.specs.Rules.Forms.{Form, one_less}
 use Rattle.burr_container.specs.Rules.Plans.{Frame}
-use Rattle.burr_frames.specs.declared.breaking.Break.{Break}
+use Rattle.burr_frames.specs.declared.rule.Break.{Break}
 use Rattle.burr_frames.specs.Rules.FramedPlans.{FramedProcedure}
 use Rattle.burr_frames.specs.Rules.States.{AbstractState}
 use Rattle.burr_frames.specs.Rules.Verdicts.{Broken, Verdict, Breaks, FallsThrough, NoSuccessor, Rest, falls_through, arriving}

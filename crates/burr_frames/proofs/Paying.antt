@@ -4,7 +4,7 @@ use Rattle.std.specs.Prelude.{pos, ◌≤ℤ◌}
 use Rattle.std.proofs.lemmas.List.Elements.{All-nil, All-cons, All-head}
 use Rattle.burr_forms.specs.Rules.Forms.{Form, Point, value, IsSmallForm}
 use Rattle.burr_forms.specs.Rules.Conditions.{Region, at_values, NoneNegative, Throughout, FailsFirstAt}
-use Rattle.burr_frames.specs.declared.breaking.Break.{Break}
+use Rattle.burr_frames.specs.declared.rule.Break.{Break}
 use Rattle.burr_frames.specs.Rules.States.{AbstractState}
 use Rattle.burr_frames.specs.Rules.Verdicts.{Verdict, Breaks, Rest, paying}
 use Rattle.burr_frames.specs.Views.Breaks.{broken_of, IsPaid, CannotPay}

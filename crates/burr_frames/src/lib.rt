@@ -34,14 +34,12 @@
 //!     operands than results.
 #![tactic(auto)]
 
-mod breaking;
 mod clearing;
 mod forms;
 mod laws;
 mod rule;
 mod state;
 
-pub use breaking::Break;
 pub use laws::{a_rule_has_so_many_looks, an_instruction_has_one_verdict};
-pub use rule::Rule;
+pub use rule::{Break, Rule};
 pub use state::{Miss, State, arrives, meets_entry, meets_exit};

@@ -21,9 +21,8 @@ ghost use Rattle.burr_frames.specs.Rules.ControlRules.{guarded};
 ghost use Rattle.burr_frames.specs.Views.Ranges.{AllInReach};
 ghost use Rattle.burr_frames.specs.Views.Breaks.{HoldsOrBreaks, Pays};
 
-use crate::breaking::Break;
 use crate::forms::{Within, lie_within, placed, raised_by};
-use crate::rule::Rule;
+use crate::rule::{Break, Rule};
 use crate::state::instructions::number_form;
 use arrayvec::ArrayVec;
 use burr_code::Placement;

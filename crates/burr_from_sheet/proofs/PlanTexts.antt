@@ -6,7 +6,7 @@ use Rattle.burr_container.specs.Rules.Plans.{Plan}
 use Rattle.burr_container.specs.Views.Containers.{ContainerView, IsContainer}
 use Rattle.burr_container.specs.Laws.PlanBytes.{ContainerOfOnePlan}
 use Rattle.burr_plantext.specs.Rules.Listing.{IsListing}
-use Rattle.burr_runs.specs.declared.outcome.Outcome.TheVariants.{Apart}
+use Rattle.burr_runs.specs.declared.text_runs.Outcome.TheVariants.{Apart}
 use Rattle.burr_runs.specs.Rules.Headline.{IsSafeSheetOf}
 use Rattle.burr_verify.specs.Rules.Accepting.{Judged, judged, IsAccepted}
 use Rattle.burr_from_sheet.specs.Drafts.{RunsAs}

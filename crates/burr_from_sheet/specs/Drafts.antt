@@ -3,12 +3,12 @@ use Rattle.std.specs.Prelude.{◌≡◌, ◌≢◌, ◌<◌, ◌++◌, List, ℕ
 use Rattle.burr_code.specs.declared.limits.TheConstants.{TRAYS}
 use Rattle.burr_container.specs.Rules.Plans.{Plan}
 use Rattle.burr_container.specs.Views.Containers.{IsContainer}
-use Rattle.burr_runs.specs.declared.outcome.Outcome.TheVariants.{Apart}
+use Rattle.burr_runs.specs.declared.text_runs.Outcome.TheVariants.{Apart}
 use Rattle.burr_runs.specs.Rules.Headline.{IsSafeSheetOf}
 use Rattle.burr_state.specs.declared.effect.Motion.{Motion}
 use Rattle.burr_verify.specs.Rules.Accepting.{Judged}
-use Rattle.burr_from_sheet.specs.declared.fault.SheetFault.{SheetFault}
-use Rattle.burr_from_sheet.specs.declared.fault.SheetFault.TheVariants.{Line, TooLong, Refused, Differs, Memory}
+use Rattle.burr_from_sheet.specs.declared.check.SheetFault.{SheetFault}
+use Rattle.burr_from_sheet.specs.declared.check.SheetFault.TheVariants.{Line, TooLong, Refused, Differs, Memory}
 
 -- the group of a motion may be gripped, and its tray is one of the bench
 pub record MayBeMade (m : Motion) : Type 0 where

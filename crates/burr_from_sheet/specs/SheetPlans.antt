@@ -8,13 +8,13 @@ use Rattle.burr_container.specs.Rules.Plans.{Plan}
 use Rattle.burr_container.specs.Rules.Fitting.{is_fitting}
 use Rattle.burr_frames.specs.Rules.FramedPlans.{framed_plan}
 use Rattle.burr_plantext.specs.Rules.Listing.{IsListing}
-use Rattle.burr_runs.specs.declared.outcome.Outcome.TheVariants.{Apart}
+use Rattle.burr_runs.specs.declared.text_runs.Outcome.TheVariants.{Apart}
 use Rattle.burr_runs.specs.Rules.Headline.{IsSafeSheetOf}
 use Rattle.burr_sheet.specs.Rules.Expanding.{AreLinesOf}
 use Rattle.burr_state.specs.declared.effect.Motion.{Motion}
 use Rattle.burr_verify.specs.Rules.WellFramed.{IsWellFramed}
-use Rattle.burr_from_sheet.specs.declared.fault.SheetFault.{SheetFault}
-use Rattle.burr_from_sheet.specs.declared.fault.SheetFault.TheVariants.{Line, TooLong, Refused, Differs, Memory}
+use Rattle.burr_from_sheet.specs.declared.check.SheetFault.{SheetFault}
+use Rattle.burr_from_sheet.specs.declared.check.SheetFault.TheVariants.{Line, TooLong, Refused, Differs, Memory}
 
 -- What of a text stands before its first line that begins `levels `; the text begins a line, or
 -- stands within one.

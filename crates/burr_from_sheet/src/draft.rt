@@ -6,7 +6,7 @@ ghost use Rattle.burr_code.specs.Instruction.{IsInRange};
 ghost use Rattle.burr_code.specs.Meaning.{meaning};
 ghost use Rattle.burr_from_sheet.specs.Drafts.{IsOfDraft, MayBeMade};
 
-use crate::fault::SheetFault;
+use crate::check::SheetFault;
 use crate::situation::Situation;
 use burr_assembly::Assembly;
 use burr_code::limits::{MOST_CODE, MOST_PROCEDURES, TRAYS};

@@ -23,13 +23,10 @@
 
 mod check;
 mod draft;
-mod fault;
 mod laws;
 mod lines;
-mod move_words;
 mod situation;
 
-pub use check::plan_of_sheet;
-pub use fault::{RefusedDraft, SheetFault};
+pub use check::{RefusedDraft, SheetFault, plan_of_sheet};
 pub use laws::move_lines_stand_before_levels;
 pub use lines::LineFault;

@@ -33,18 +33,12 @@
 //!   contract counts calls.
 #![tactic(auto)]
 
-mod kept;
-mod puts;
 mod reading;
 mod sink;
-mod source;
 mod whole_lines;
 mod writing;
 
-pub use kept::Kept;
-pub use puts::{put_all, put_number, put_words};
-pub use reading::Reading;
+pub use reading::{Reading, Source};
 pub use sink::{IoFailed, Sink, WriteFault};
-pub use source::Source;
 pub use whole_lines::{WholeLines, last_line_end};
-pub use writing::Writing;
+pub use writing::{Kept, Writing, put_all, put_number, put_words};

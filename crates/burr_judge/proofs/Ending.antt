@@ -20,7 +20,7 @@ use Rattle.burr_runs.specs.Rules.Verdicts.{plan_refusal}
 use Rattle.burr_judge.specs.declared.fault.Fault.{Fault}
 use Rattle.burr_judge.specs.Faults.{line_of, output_failed}
 use Rattle.burr_judge.specs.Statuses.{status_of}
-use Rattle.burr_judge.specs.declared.status.Status.{Status}
+use Rattle.burr_judge.specs.declared.refused.Status.{Status}
 use Rattle.burr_judge.specs.declared.ladder.Given.{Given}
 use Rattle.burr_judge.specs.Ladder.{GivenComes, PlanJudged, PlanTried, LadderComes, WantsMemory}
 use Rattle.burr_judge.specs.PlanEnds.{Ends, EndsOn, PutsFrontOfEnd, FailsToEnd, IsRefusal, VerdictEnds, CheckEnds, RunEnds, TryEnds, AnswersEnd, SafeEnds, BenchEnds, SheetEnds, GivenEnds, TextEnds}

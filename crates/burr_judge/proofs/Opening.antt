@@ -10,8 +10,8 @@ use Rattle.burr_runs.specs.Rules.Refusals.{assembly_refusal, container_refusal}
 use Rattle.burr_runs.specs.Rules.Verdicts.{plan_refusal}
 use Rattle.burr_judge.specs.declared.fault.Fault.{Fault}
 use Rattle.burr_judge.specs.declared.ladder.Given.TheVariants.{Container}
-use Rattle.burr_judge.specs.declared.status.Status.{Status}
-use Rattle.burr_judge.specs.declared.status.Status.TheVariants.{Done}
+use Rattle.burr_judge.specs.declared.refused.Status.{Status}
+use Rattle.burr_judge.specs.declared.refused.Status.TheVariants.{Done}
 use Rattle.burr_judge.specs.Ladder.{IsRead, PlanJudged, LadderComes, WantsMemory}
 use Rattle.burr_judge.specs.OpenEnds.{Beginnings, IsKeptRun, OpenBreaks, OpenEnds, Opens, OpensOn}
 use Rattle.burr_judge.specs.PlanEnds.{Ends, EndsOn, Ending, IsRefusal}

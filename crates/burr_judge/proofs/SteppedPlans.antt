@@ -17,7 +17,7 @@ use Rattle.burr_container.specs.Views.Containers.{ContainerView}
 use Rattle.burr_verify.specs.Rules.Accepting.{Judged, judged, IsAccepted}
 use Rattle.burr_step.specs.Views.Driving.{Driving, IsReady}
 use Rattle.burr_step.specs.Views.Stepping.{Stepping, IsFresh}
-use Rattle.burr_runs.specs.declared.fault.BenchFault.{BenchFault}
+use Rattle.burr_runs.specs.declared.input.BenchFault.{BenchFault}
 use Rattle.burr_runs.specs.Rules.Refusals.{assembly_refusal}
 use Rattle.burr_runs.specs.Rules.Verdicts.{plan_refusal}
 use Rattle.burr_runs.specs.Views.BenchText.{Streams, streams}
@@ -27,9 +27,9 @@ use Rattle.burr_judge.specs.Views.Dialogues.{EndsDialogue, BreaksDialogue}
 use Rattle.burr_judge.specs.declared.fault.Fault.{Fault}
 use Rattle.burr_judge.specs.declared.ladder.Given.{Given}
 use Rattle.burr_judge.specs.declared.ladder.Given.TheVariants.{Container, Text}
-use Rattle.burr_judge.specs.declared.lines.LineEnd.TheVariants.{LineFeed}
-use Rattle.burr_judge.specs.declared.status.Status.{Status}
-use Rattle.burr_judge.specs.declared.status.Status.TheVariants.{Done}
+use Rattle.burr_judge.specs.declared.dialogue.LineEnd.TheVariants.{LineFeed}
+use Rattle.burr_judge.specs.declared.refused.Status.{Status}
+use Rattle.burr_judge.specs.declared.refused.Status.TheVariants.{Done}
 use Rattle.burr_judge.specs.DriveEnds.{LedEnds, LeavesWith, LedBreaks, DriveBytesEnd, DriveTextEnds, DriveBytesBreak, DriveTextBreaks, FailsToBegin, ready_text}
 use Rattle.burr_judge.specs.Faults.{complaint_of, line_of, status_of_complaint, status_of_fault}
 use Rattle.burr_judge.specs.Ladder.{IsRead, PlanJudged, LadderComes, TextComes, WantsMemory}

@@ -13,15 +13,15 @@ use Rattle.burr_verify.specs.Rules.Accepting.{Judged, judged, IsAccepted}
 use Rattle.burr_state.specs.Views.Benches.{setup_of}
 use Rattle.burr_step.specs.Rules.Stepper.{IsAsking}
 use Rattle.burr_step.specs.Views.Driving.{Driving, IsReady}
-use Rattle.burr_runs.specs.declared.fault.BenchFault.{BenchFault}
+use Rattle.burr_runs.specs.declared.input.BenchFault.{BenchFault}
 use Rattle.burr_runs.specs.Views.BenchText.{Streams}
 use Rattle.burr_judge.specs.Views.Dialogues.{IsDialogue, BreaksDialogue}
 use Rattle.burr_judge.specs.Views.DriveLines.{DriveAnswers, AsksNone}
 use Rattle.burr_judge.specs.declared.ladder.Given.{Given}
 use Rattle.burr_judge.specs.declared.ladder.Given.TheVariants as given
-use Rattle.burr_judge.specs.declared.lines.LineEnd.TheVariants.{LineFeed}
-use Rattle.burr_judge.specs.declared.status.Status.{Status}
-use Rattle.burr_judge.specs.declared.status.Status.TheVariants.{Done, Waiting}
+use Rattle.burr_judge.specs.declared.dialogue.LineEnd.TheVariants.{LineFeed}
+use Rattle.burr_judge.specs.declared.refused.Status.{Status}
+use Rattle.burr_judge.specs.declared.refused.Status.TheVariants.{Done, Waiting}
 use Rattle.burr_judge.specs.Faults.{complaint_of, output_failed}
 use Rattle.burr_asm.specs.Rules.Assembling.{IsAssembled}
 use Rattle.burr_judge.specs.Ladder.{IsRead}

@@ -24,7 +24,7 @@ use Rattle.burr_judge.specs.declared.ladder.Given.{Given}
 use Rattle.burr_judge.specs.declared.ladder.Given.TheVariants as given
 use Rattle.burr_judge.specs.declared.ladder.Tables.{Tables}
 use Rattle.burr_judge.specs.declared.ladder.Tables.TheVariants as tables
-use Rattle.burr_judge.specs.declared.status.Status.{Status}
+use Rattle.burr_judge.specs.declared.refused.Status.{Status}
 use Rattle.burr_judge.specs.Faults.{line_of}
 use Rattle.burr_judge.specs.Refusals.{plan_text_refusal}
 

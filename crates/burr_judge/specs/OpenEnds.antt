@@ -5,8 +5,8 @@ use Rattle.burr_assembly.specs.Rules.Text.{Assembly, IsText}
 use Rattle.burr_container.specs.Views.Containers.{ContainerView}
 use Rattle.burr_verify.specs.Rules.Accepting.{Judged, judged, IsAccepted}
 use Rattle.burr_judge.specs.declared.fault.Fault.{Fault}
-use Rattle.burr_judge.specs.declared.status.Status.{Status}
-use Rattle.burr_judge.specs.declared.status.Status.TheVariants.{Done, Refused}
+use Rattle.burr_judge.specs.declared.refused.Status.{Status}
+use Rattle.burr_judge.specs.declared.refused.Status.TheVariants.{Done, Refused}
 use Rattle.burr_judge.specs.Ladder.{IsRead}
 use Rattle.burr_judge.specs.PlanEnds.{Ends, Ending, RefusedEnds, ContainerEnds, TextEnds}
 

@@ -7,9 +7,9 @@ use Rattle.burr_container.specs.Views.Containers.{ContainerView, IsContainer}
 use Rattle.burr_verify.specs.Rules.Accepting.{Judged, judged, IsAccepted, MainCosts}
 use Rattle.burr_state.specs.Views.Benches.{Benched}
 use Rattle.burr_state.specs.Views.Programs.{plan_program}
-use Rattle.burr_runs.specs.declared.outcome.Outcome.{Outcome}
-use Rattle.burr_runs.specs.declared.answers.AnswersFault.{AnswersFault}
-use Rattle.burr_runs.specs.declared.answers.AnswersFault.TheVariants.{Line, Memory}
+use Rattle.burr_runs.specs.declared.text_runs.Outcome.{Outcome}
+use Rattle.burr_runs.specs.declared.input.AnswersFault.{AnswersFault}
+use Rattle.burr_runs.specs.declared.input.AnswersFault.TheVariants.{Line, Memory}
 use Rattle.burr_runs.specs.Rules.Answers.{answers_text, IsAnswersFault}
 use Rattle.burr_runs.specs.Rules.Headline.{IsSafeSheetOf}
 use Rattle.burr_runs.specs.Rules.Output.{IsSheetOf}
@@ -17,8 +17,8 @@ use Rattle.burr_runs.specs.Rules.Refusals.{answers_refusal}
 use Rattle.burr_runs.specs.Rules.Verdicts.{IsVerdictLine, accepted_line}
 use Rattle.burr_judge.specs.declared.fault.Fault.{Fault}
 use Rattle.burr_judge.specs.declared.ladder.Given.{Given}
-use Rattle.burr_judge.specs.declared.status.Status.{Status}
-use Rattle.burr_judge.specs.declared.status.Status.TheVariants.{Done, Refused}
+use Rattle.burr_judge.specs.declared.refused.Status.{Status}
+use Rattle.burr_judge.specs.declared.refused.Status.TheVariants.{Done, Refused}
 use Rattle.burr_judge.specs.declared.tasks.Task.{Task}
 use Rattle.burr_judge.specs.declared.tasks.Task.TheVariants.{Check, Run, Try}
 use Rattle.burr_judge.specs.Faults.{line_of, output_failed}

@@ -6,12 +6,12 @@ use Rattle.burr_assembly.specs.Rules.Text.{Assembly, IsText}
 use Rattle.burr_container.specs.Views.Containers.{ContainerView}
 use Rattle.burr_verify.specs.Rules.Accepting.{Judged, judged, IsAccepted}
 use Rattle.burr_step.specs.Views.Stepping.{Stepping, IsFresh}
-use Rattle.burr_runs.specs.declared.fault.BenchFault.{BenchFault}
+use Rattle.burr_runs.specs.declared.input.BenchFault.{BenchFault}
 use Rattle.burr_runs.specs.Views.BenchText.{Streams}
 use Rattle.burr_judge.specs.Views.Commanding.{StepAnswers, IsAnswerLine}
 use Rattle.burr_judge.specs.Views.Dialogues.{IsDialogue, BreaksDialogue}
-use Rattle.burr_judge.specs.declared.lines.LineEnd.TheVariants.{LineFeed}
-use Rattle.burr_judge.specs.declared.status.Status.TheVariants.{Done}
+use Rattle.burr_judge.specs.declared.dialogue.LineEnd.TheVariants.{LineFeed}
+use Rattle.burr_judge.specs.declared.refused.Status.TheVariants.{Done}
 use Rattle.burr_judge.specs.Faults.{complaint_of}
 use Rattle.burr_judge.specs.Ladder.{IsRead}
 use Rattle.burr_judge.specs.PlanEnds.{Ends, RefusedEnds, ContainerEnds, TextEnds}

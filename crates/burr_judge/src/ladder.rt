@@ -1,18 +1,21 @@
 //! From bytes to an assembly, to a plan with the tables of its assembly, and to what is done with them.
 
-ghost use Rattle.std.specs.Prelude.{◌≡◌, ◌⊎◌};
+ghost use Rattle.std.specs.Prelude.{◌≡◌, ◌⊎◌, IfOk};
 ghost use Rattle.burr_judge.specs.Ladder.{BytesCome, GivenComes, TextComes, WantsMemory, assembly_of};
+ghost use Rattle.burr_judge.specs.PlanEnds.{CheckTextEnds, EndsOn};
 
 use crate::fault::Fault;
-use crate::refused::Refused;
+use crate::refused::{Refused, Status};
 use crate::refuser::Refuse;
-use crate::status::Status;
+use crate::tasks::{check_given, check_text};
 use burr_asm::{AsmFault, assemble};
 use burr_assembly::{Assembly, AssemblyFault};
 use burr_blocking::{Blocking, RowTables};
 use burr_container::Container;
+use burr_io::Sink;
 use burr_verify::{Accepted, accept_counted};
-use std::alloc::Global;
+use std::alloc::{AllocError, Global};
+use std::marker::Model;
 
 /// What is done with an assembly, on a sink and an input that is used for nothing else; a refuser tells
 /// what is refused on the way.
@@ -20,7 +23,7 @@ pub trait AssemblyUse<R, I, W> {
     ghost use Rattle.std.specs.Prelude.{Result};
     ghost use Rattle.burr_assembly.specs.Rules.Text.{Assembly};
     ghost use Rattle.burr_judge.specs.declared.fault.Fault.{Fault};
-    ghost use Rattle.burr_judge.specs.declared.status.Status.{Status};
+    ghost use Rattle.burr_judge.specs.declared.refused.Status.{Status};
 
     /// The sinks on which it may be done.
     ghost can: { W → Type 0 };
@@ -48,7 +51,7 @@ pub trait PlanUse<R, I, W> {
     ghost use Rattle.burr_assembly.specs.Rules.Text.{Assembly};
     ghost use Rattle.burr_container.specs.Views.Containers.{ContainerView, HasPlan};
     ghost use Rattle.burr_judge.specs.declared.fault.Fault.{Fault};
-    ghost use Rattle.burr_judge.specs.declared.status.Status.{Status};
+    ghost use Rattle.burr_judge.specs.declared.refused.Status.{Status};
 
     /// The sinks on which it may be done.
     ghost can: { W → Type 0 };
@@ -219,7 +222,7 @@ pub trait AcceptedUse<I, W> {
     ghost use Rattle.std.specs.Prelude.{ℕ, Result};
     ghost use Rattle.burr_verify.specs.Rules.Accepting.{Judged};
     ghost use Rattle.burr_judge.specs.declared.fault.Fault.{Fault};
-    ghost use Rattle.burr_judge.specs.declared.status.Status.{Status};
+    ghost use Rattle.burr_judge.specs.declared.refused.Status.{Status};
 
     /// The sinks on which it may be done.
     ghost can: { W → Type 0 };
@@ -276,6 +279,61 @@ impl<R: Refuse<W>, I, W, U: AcceptedUse<I, W>> PlanUse<R, I, W> for IfAccepted<U
                 };
                 refuser.refuse(alloc, &refused, sink)
             }
+        }
+    }
+}
+
+/// An assembly's text that is read once for many plans: its tables are kept.
+#[derive(Drop)]
+pub struct ReadText {
+    text: Vec<u8>,
+    /// The tables of its assembly; nothing where the text is refused.
+    tables: Option<RowTables<'static>>,
+}
+
+impl Model for ReadText {
+    ghost use Rattle.std.specs.Prelude.{ℕ, List};
+    ghost use Rattle.std.specs.Option.{ForSome};
+    ghost use Rattle.burr_assembly.specs.Rules.Text.{IsText};
+
+    ghost Value = { List ℕ };
+
+    ghost view = { λ it. it.text.items };
+
+    ghost invariant = { λ it. ForSome it.tables (λ t.
+        IsText it.text.items (⟦<RowTables<'static> as Blocking>⟧.subject t)) };
+}
+
+impl ReadText {
+    /// Reads an assembly's text, whether it is refused or not.
+    pub fn new(alloc: Global, text: Vec<u8>) -> Result<ReadText, AllocError>
+        ensures { IfOk result (λ it. it ≡ text.items) }
+    {
+        match Assembly::read(alloc, &text) {
+            Ok(assembly) => {
+                let tables = RowTables::owning(alloc, assembly)?;
+                Ok(ReadText {
+                    text,
+                    tables: Some(tables),
+                })
+            }
+            Err(AssemblyFault::Memory) => Err(AllocError),
+            Err(_) => Ok(ReadText { text, tables: None }),
+        }
+    }
+
+    /// Judges a plan for the text's assembly, as `check_text` does.
+    pub fn check<'a, W: Sink>(
+        &self,
+        alloc: Global,
+        plan: Given<'_>,
+        sink: &mut W,
+    ) -> Result<Status, Fault<'a>>
+        ensures { EndsOn W.Sink sink.old sink.new (CheckTextEnds self.now plan.entry) result }
+    {
+        match &self.tables {
+            Some(tables) => check_given(alloc, tables, plan, sink),
+            None => check_text(alloc, &self.text, plan, sink),
         }
     }
 }

@@ -63,29 +63,22 @@ mod commands;
 mod dialogue;
 mod drive;
 mod fault;
-mod kept_stepper;
 mod ladder;
 mod laws;
-mod lines;
-mod read_text;
 mod refused;
 mod refuser;
-mod status;
 mod tasks;
 
-pub use commands::StepFault;
-pub use dialogue::{Commanded, KEPT, answer_commands, take_command_byte};
+pub use commands::{KeptStepper, StepFault};
+pub use dialogue::{Commanded, KEPT, LineEnd, OpenLine, answer_commands, take_command_byte};
 pub use fault::{Fault, put_fault};
-pub use kept_stepper::KeptStepper;
 pub use ladder::{
-    AcceptedUse, AssemblyUse, Given, IfAccepted, OfPlan, PlanUse, Tables, use_given, use_text,
+    AcceptedUse, AssemblyUse, Given, IfAccepted, OfPlan, PlanUse, ReadText, Tables, use_given,
+    use_text,
 };
 pub use laws::a_dialogue_tells_of_its_run;
-pub use lines::{LineEnd, OpenLine};
-pub use read_text::ReadText;
-pub use refused::{Refused, put_refusal, refuse};
+pub use refused::{Refused, Status, put_refusal, refuse};
 pub use refuser::{Plainly, Refuse};
-pub use status::Status;
 pub use tasks::{
     Check, Run, Task, Try, check_given, check_text, drive_text, judge_text, open_drive,
     open_stepper, step_text,

@@ -1,8 +1,7 @@
 //! What is done where something is refused.
 
 use crate::fault::Fault;
-use crate::refused::{Refused, refuse};
-use crate::status::Status;
+use crate::refused::{Refused, Status, refuse};
 use burr_io::Sink;
 use std::alloc::Global;
 
@@ -11,7 +10,7 @@ pub trait Refuse<W> {
     ghost use Rattle.std.specs.Prelude.{ℕ, List, Result};
     ghost use Rattle.burr_judge.specs.Refusals.{refusal_line};
     ghost use Rattle.burr_judge.specs.declared.fault.Fault.{Fault};
-    ghost use Rattle.burr_judge.specs.declared.status.Status.{Status};
+    ghost use Rattle.burr_judge.specs.declared.refused.Status.{Status};
 
     /// What a refusal by this line comes to.
     ghost refuses: { Self → W → List ℕ → Result Status Fault → W → Type 0 };

@@ -16,16 +16,14 @@ ghost use Rattle.burr_step.specs.Views.Driving.{IsReady};
 ghost use Rattle.burr_step.specs.Views.Stepping.{IsFresh};
 ghost use Rattle.burr_judge.specs.StepEnds.{StepTextEnds, StepTextBreaks, left_by};
 
-use crate::dialogue::answer_commands;
+use crate::commands::KeptStepper;
+use crate::dialogue::{LineEnd, answer_commands};
 use crate::fault::Fault;
-use crate::kept_stepper::KeptStepper;
 use crate::ladder::{
     AcceptedUse, AssemblyUse, Given, IfAccepted, OfPlan, PlanUse, Tables, use_given, use_text,
 };
-use crate::lines::LineEnd;
-use crate::refused::{Refused, refuse};
+use crate::refused::{Refused, Status, refuse};
 use crate::refuser::{Plainly, Refuse};
-use crate::status::Status;
 use burr_asm::{AsmFault, assemble};
 use burr_assembly::Assembly;
 use burr_bench::Checked;

@@ -15,8 +15,6 @@
 
 mod lines;
 mod plan_text;
-mod report;
 
 pub use lines::{FramePart, Line, PlanItem, PlanLines, numbered_line};
-pub use plan_text::{PlanText, piece_name};
-pub use report::{Report, Shown};
+pub use plan_text::{PlanText, Report, Shown, piece_name};

@@ -3,16 +3,10 @@
 //! `scripts/refuse-memory` refuses each of them in turn.
 #![tactic(auto)]
 
-mod assemblies;
 mod call;
 mod inputs;
-mod judging;
-mod kit;
-mod plans;
-mod stepping;
 
-use crate::call::CALLS;
-use crate::kit::Kit;
+use crate::call::{CALLS, Kit};
 use burr_testing::bytes_of;
 use burr_testing::plans::RESULT_PLAN;
 use std::alloc::AllocError;

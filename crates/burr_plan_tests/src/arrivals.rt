@@ -1,4 +1,5 @@
 //! States of frames, and whether they come to what other frames say.
+
 use crate::calls::container_of;
 use crate::puts::plan_of;
 use crate::tables::Table;
@@ -79,3 +80,58 @@ fn counted(rt: &impl Abort, container: &Container<'_>) -> State {
     assert!(rt; state.load(0).is_ok());
     state
 }
+
+// States of frames, and whether they come to what other frames say.
+
+/// Each case begins with the way in which a state comes, with the edits of the plan that it is of,
+/// and after `; ` those of the plan to whose frame it comes.
+pub const STATES: &str = "\
+ring | ring
+# Of the loop that moves the rod up.
+label: none; none | arrives
+# a cost of `4+1v0`, here or there
+label: none; 00000004 0002 > 00000004 0001 | arrives
+label: 00000004 0002 > 00000004 0001; none | misses at [1]
+# the range, a guard `-1+1v0` and the rod at z `2-2v0`
+label: none; 0000 0002 00 00 > 0000 0001 00 00 | misses at [2]
+label: none; 0000 0002 00 00 > 0000 0002 01 ffffffff 0001 00 | misses at [0]
+label: none; 00000002 ffff > 00000002 fffe | misses at [1]
+# another tray, another grip, another slot, an operand
+label: none; 000a 00 00000001 > 000a 01 00000001 | misses
+label: none; 000a 00 00000001 > 000a 00 00000002 | misses
+label: none; 00000001 01 0000 > 00000001 02 0000 | misses
+label: none; 0000 0002 00 00 > 0000 0002 00 01 00000000 0000 | misses
+# the guard -1 leaves no point, at which a cost, a place or a range could be wrong
+label: 0000 0002 00 00 > 0000 0002 01 ffffffff 0000 00; 00000004 0002 > 00000009 0002 | arrives
+label: 0000 0002 00 00 > 0000 0002 01 ffffffff 0000 00; 00000002 ffff > 00000009 ffff | arrives
+label: 0000 0002 00 00 > 0000 0002 01 ffffffff 0000 00; 0000 0002 00 00 > 0005 0006 00 00 | arrives
+label: 0000 0002 00 00 > 0000 0002 01 ffffffff 0000 00; \
+000a 00 00000001 > 000a 00 00000002 | misses
+# the counter `-1+1v0` with that guard, the cost `2+1v0` and the rod at z `3-1v0`, as after a turn
+store: 0000 0002 00 00 00000004 0002 > 0000 0002 01 ffffffff 0001 01 ffffffff 0001 00000003 0001, \
+00000002 ffff > 00000003 ffff; 00000004 0002 > 00000004 0001 | misses at [1]
+store: 0000 0002 00 00 00000004 0002 > 0000 0002 01 ffffffff 0001 01 ffffffff 0001 00000003 0001, \
+00000002 ffff > 00000003 ffff; 00000004 0002 > 00000003 0001 | arrives
+
+cup | lift
+# Of the procedure that lifts the dot, where it is entered.
+entry: none; none | arrives
+# no cost is asked
+entry: 00000002 0000 > 00000000 0000; none | arrives
+# a number more, the dot at z `0+2v0`
+entry: 0000 0003 00 00 > 0000 0004 00 00; none | misses at [4]
+entry: 00000000 0001 00 00000000 > 00000000 0002 00 00000000; none | misses at [1]
+# another grip, another slot
+entry: 0000 00 00000001 01 > 0000 00 00000002 01; none | misses
+entry: none; 00000001 01 0000 0003 > 00000001 02 0000 0003 | misses
+
+cup | result
+# Of the procedure that lifts the dot and gives back how far.
+exit: none; none | arrives
+# the range of the result, a guard `1-1v0`, the dot at z `0`
+exit: none; 00 01 00 00000001 0000 0002 > 00 01 00 00000001 0000 0001 | misses at [2, 0]
+exit: none; 0000 0002 00 00 > 0000 0002 01 00000001 ffff 00 | misses at [2, 0]
+exit: none; 0000 0002 00 00 > 0000 0002 01 00000002 ffff 00 | arrives
+exit: none; 00000000 0000 00000000 0001 > 00000000 0000 00000000 0000 | misses at [1, 0]
+# another grip
+exit: none; 00 01 00 00000001 0000 0002 > 00 01 00 00000002 0000 0002 | misses";

@@ -1,5 +1,6 @@
 //! Calls whose contracts no test needs: here they end, and tests are proved sooner.
-use crate::texts::lines_of;
+
+use crate::tables::lines_of;
 use burr_assembly::Assembly;
 use burr_blocking::{CellTables, PlainCells, RowTables};
 use burr_container::Container;

@@ -1,26 +1,18 @@
 //! The tests that go over tables of cases.
-mod bare;
-mod codes;
-mod dialogues;
-mod edits;
-mod looks;
-mod motions;
-mod runs;
-mod scripts;
-mod states;
 
-use crate::cases::bare::{APART, FULL, LEVELS, MORE};
-use crate::cases::codes::CODES;
+mod codes;
+mod edits;
+mod runs;
+
+use crate::arrivals::STATES;
+use crate::cases::codes::{APART, CODES, FULL, LEVELS, MORE};
 use crate::cases::edits::EDITS;
-use crate::cases::looks::LOOKS;
-use crate::cases::motions::MOTIONS;
 use crate::cases::runs::{
-    ANSWERS, BOTH, CHECKS, FITS, LIFT_CHECKS, LIFT_RUNS, REFUSED, RUNS, SIZES, TRIED, UPGRADES,
+    ANSWERS, BOTH, CHECKS, FITS, LIFT_CHECKS, LIFT_RUNS, MOTIONS, REFUSED, RUNS, SIZES, TRIED,
+    UPGRADES,
 };
-use crate::cases::states::STATES;
+use crate::looks::LOOKS;
 use crate::tables::{How, Kind, assert_tables};
-pub use dialogues::{DIALOGUES, DRIVES, WANTING};
-pub use scripts::SCRIPTS;
 
 #[test]
 fn reads_answers(rt: HostRuntime) {

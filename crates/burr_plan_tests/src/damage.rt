@@ -1,12 +1,12 @@
 //! Containers that are damaged at each of their places in turn.
+
 use crate::calls::{assembly_of, rows_of};
 use crate::plans::CUP_PLAN;
 use crate::puts::put_run;
-use crate::texts::bytes_of;
+use crate::tables::bytes_of;
 use burr_blocking::RowTables;
 use burr_container::{Container, ContainerFault};
-use burr_testing::assemblies::DUO;
-use burr_testing::plans::DUO_PLAN;
+use burr_testing::plans::{DUO, DUO_PLAN};
 use std::alloc::Global;
 use std::process::Abort;
 

@@ -1,9 +1,9 @@
 //! A drive by lines of commands: what is put for each, also where sinks fail.
+
 use crate::calls::{assembly_of, container_of, rows_of};
-use crate::cases::DRIVES;
 use crate::puts::plan_of;
-use crate::tables::{How, Kind, table_of};
-use crate::texts::lines_of;
+use crate::stepper::DRIVES;
+use crate::tables::{How, Kind, lines_of, table_of};
 use burr_blocking::RowTables;
 use burr_io::Writing;
 use burr_judge::{Commanded, KeptStepper, StepFault};

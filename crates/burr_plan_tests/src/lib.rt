@@ -5,8 +5,6 @@
 #[cfg(test)]
 mod arrivals;
 #[cfg(test)]
-mod assemblies;
-#[cfg(test)]
 mod bench;
 #[cfg(test)]
 mod calls;
@@ -19,25 +17,15 @@ mod drive;
 #[cfg(test)]
 mod looks;
 #[cfg(test)]
-mod machine;
-#[cfg(test)]
-mod messages;
-#[cfg(test)]
 mod plans;
 #[cfg(test)]
 mod puts;
-#[cfg(test)]
-mod sheet;
 #[cfg(test)]
 mod sources;
 #[cfg(test)]
 mod stepper;
 #[cfg(test)]
 mod tables;
-#[cfg(test)]
-mod texts;
-#[cfg(test)]
-mod upgrades;
 #[cfg(test)]
 mod verdicts;
 #[cfg(test)]

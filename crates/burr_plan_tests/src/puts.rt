@@ -1,16 +1,20 @@
 //! What is put by the bench and by checks and runs of plans, and how that ends, in a word.
+
 use crate::calls::{assembly_of, container_of, rows_of, upgraded};
 use crate::sources::input_of;
-use crate::tables::{How, Kind, Table};
-use crate::texts::{bytes_of, edited, lines_of};
+use crate::tables::{How, Kind, Table, bytes_of, edited, lines_of};
 use crate::want::memory_taken;
-use burr_bench::Checked;
+use burr_assembly::Assembly;
+use burr_bench::{Checked, Motion};
 use burr_blocking::{Blocking, RowTables};
 use burr_container::Container;
 use burr_io::{Reading, Writing};
 use burr_runs::{BenchFault, Outcome, bench_text, check, read_answers, run_plan, try_plan};
+use burr_sheet::{Closing, Sheet};
 use burr_testing::Narrow;
+use burr_testing::plans::DUO;
 use burr_verify::{Accepted, accept, verify};
+use burr_voxels::Direction;
 use std::alloc::Global;
 use std::io::{Cursor, ErrorKind, Read, Write};
 use std::process::Abort;
@@ -277,4 +281,27 @@ fn puts_in_place(
     verify(container, rows).is_err() == (end == "refused")
         && word == end
         && room.get(..count) == Some(text.as_bytes())
+}
+
+// A sheet that a sink has failed.
+
+#[test]
+fn stays_failed(rt: HostRuntime) {
+    assert_stays_failed(&rt, rt.alloc(), &assembly_of(&rt, rt.alloc(), DUO));
+}
+
+/// Asserts that a sheet that a sink has failed puts nothing into another one.
+fn assert_stays_failed(rt: &impl Abort, alloc: Global, duo: &Assembly) {
+    let mut sheet = Sheet::new(duo);
+    let away = Motion {
+        group: 1,
+        tray: 0,
+        dir: Direction::MinusX,
+        out: true,
+    };
+    let mut narrow = Narrow::new(alloc, 3, None);
+    assert!(rt; sheet.motion(away, &mut Writing::new(&mut narrow)).is_err());
+    let mut written = Vec::new(alloc);
+    let closed = sheet.close(Closing::Apart, 1, &mut Writing::new(&mut written));
+    assert!(rt; closed.is_err() && written.is_empty());
 }

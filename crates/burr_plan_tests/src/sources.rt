@@ -1,7 +1,7 @@
 //! Sources that give a byte a call, that fail, and that give too much.
+
 use crate::puts::put_bare;
-use crate::tables::Table;
-use crate::texts::{edited, lines_of};
+use crate::tables::{Table, edited, lines_of};
 use burr_io::Reading;
 use burr_runs::{BenchFault, read_whole};
 use burr_testing::Portions;

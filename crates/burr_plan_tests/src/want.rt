@@ -1,10 +1,10 @@
 //! What comes of calls while memory is wanting.
+
 use crate::calls::{assembly_of, rows_of};
 use crate::plans::CUP_PLAN;
 use crate::puts::put_bare;
 use crate::sources::input_of;
-use crate::tables::Table;
-use crate::texts::bytes_of;
+use crate::tables::{Table, bytes_of};
 use crate::ways::{Question, answer};
 use burr_assembly::Assembly;
 use burr_blocking::{Blocking, CellTables, RowTables};
@@ -12,8 +12,7 @@ use burr_container::Container;
 use burr_runs::{AnswersFault, read_answers, upgrade};
 use burr_sheet::expand;
 use burr_step::Stepper;
-use burr_testing::assemblies::{CUP, DUO};
-use burr_testing::plans::RESULT_PLAN;
+use burr_testing::plans::{CUP, DUO, RESULT_PLAN};
 use burr_testing::{MemoryHog, Outcome, Portions, Trial, outcomes_in_want};
 use burr_verify::accept;
 use std::alloc::{AllocError, Global};

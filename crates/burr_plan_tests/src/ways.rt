@@ -1,12 +1,13 @@
 //! Answers of how pieces meet.
+
 ghost use Rattle.std.specs.Prelude.{IfSome};
 ghost use Rattle.burr_voxels.specs.Near.{IsWithin};
 
-use crate::assemblies::{COMBS, RODS, ROWS, STAIRS, TWINS};
 use crate::calls::{assembly_of, cells_of, rows_of, tables_of};
+use crate::plans::{COMBS, RODS, ROWS, STAIRS, TWINS};
 use burr_assembly::Assembly;
 use burr_blocking::{Blocking, CellTables, PlainCells, RowTables};
-use burr_testing::assemblies::{CUP, DUO, RING};
+use burr_testing::plans::{CUP, DUO, RING};
 use burr_voxels::{Cell, Direction};
 use std::alloc::Global;
 use std::process::Abort;

@@ -7,7 +7,7 @@ use Rattle.std.proofs.lemmas.Option.{same_Some, none-some}
 use Rattle.burr_code.specs.declared.limits.TheConstants.{MOST_PROCEDURES, MOST_LABELS, SLOTS, MOST_GUARDS, MOST_OPERANDS}
 use Rattle.burr_container.specs.Rules.Plans.{Frame, ExitFrame, PlanProcedure, Plan, live_slots, exit_symbols}
 use Rattle.burr_container.specs.Rules.Fitting.{is_fitting, are_procedures, is_procedure, are_parameters, are_results, is_exit, is_exit_frame, is_exit_rest, most_exit_guards, are_labels, is_code, rise_from, is_frame, is_frame_rest, is_tray, is_set_of, are_slots, is_range, are_forms, is_form, are_places, is_place, are_ranges}
-use Rattle.burr_container.specs.declared.exit_ref.ExitRef.{ExitRef}
+use Rattle.burr_container.specs.declared.frame_ref.ExitRef.{ExitRef}
 use Rattle.burr_container.specs.Views.Refs.{exit_frame_of}
 use Rattle.burr_container.specs.Views.InPlace.{AreFor, IsProcedure, IsExit, IsExitFrame}
 use Rattle.burr_container.specs.Views.Containers.{ContainerView, IsContainer, HasPlan, OfProcedure}

@@ -6,8 +6,7 @@ ghost use Rattle.burr_plantext.specs.Rules.Written.{slot_numbers};
 ghost use Rattle.burr_plantext.specs.Views.Parts.{range_text, results_text, guards_text, places_text, exit_text};
 ghost use Rattle.burr_plantext.specs.Views.Symbols.{AreSymbols, AreOver, ArePlacesOver, IsOverFirst};
 
-use crate::frames::add_form_line;
-use crate::lines::{add_grip, add_piece, add_range};
+use crate::frames::{add_form_line, add_grip, add_piece, add_range};
 use burr_code::limits::SLOTS;
 use burr_container::ExitRef;
 use std::alloc::AllocError;

@@ -32,9 +32,7 @@
 mod code;
 mod exits;
 mod frames;
-mod instructions;
 mod laws;
-mod lines;
 mod listing;
 mod numbers;
 

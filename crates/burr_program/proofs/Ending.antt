@@ -12,7 +12,7 @@ use Rattle.burr_io.proofs.Common.Lines.{went, failed_late, failed_early}
 use Rattle.burr_runs.specs.Views.BenchText.{streams}
 use Rattle.burr_command.specs.declared.job.Job.{Job}
 use Rattle.burr_judge.specs.declared.fault.Fault.{Fault}
-use Rattle.burr_judge.specs.declared.status.Status.{Status}
+use Rattle.burr_judge.specs.declared.refused.Status.{Status}
 use Rattle.burr_judge.specs.Faults.{line_of, output_failed}
 use Rattle.burr_judge.specs.PlanEnds.{Ends, PutsEnd, HoldsFrontOfEnd, EndsOn, Ending, never}
 use Rattle.burr_judge.specs.StepEnds.{left_by}

@@ -6,9 +6,9 @@ use Rattle.burr_io.specs.Sink.{SinkView, Takes, FailsWithin, HoldsFront, Puts}
 use Rattle.burr_io.specs.Source.{SourceView}
 use Rattle.burr_io.specs.WholeLines.{Lines, lines_view}
 use Rattle.burr_io.proofs.Common.Lines.{went, failed_late, failed_early}
-use Rattle.burr_runs.specs.declared.outcome.Outcome.{Outcome}
-use Rattle.burr_runs.specs.declared.fault.BenchFault.{BenchFault}
-use Rattle.burr_runs.specs.declared.fault.BenchFault.TheVariants.{Read, TooLong, Write, Memory}
+use Rattle.burr_runs.specs.declared.text_runs.Outcome.{Outcome}
+use Rattle.burr_runs.specs.declared.input.BenchFault.{BenchFault}
+use Rattle.burr_runs.specs.declared.input.BenchFault.TheVariants.{Read, TooLong, Write, Memory}
 use Rattle.burr_runs.specs.Views.BenchText.{streams, Succeeds, Fails}
 use Rattle.burr_program.specs.Ends.{took, TakesText, FailsInOutput, HasNoOutcome}
 

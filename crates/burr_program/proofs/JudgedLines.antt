@@ -12,7 +12,7 @@ use Rattle.burr_text.proofs.Common.Cuts.{cut, lacks, contains_cut}
 use Rattle.burr_io.specs.Sink.{SinkView}
 use Rattle.burr_judge.specs.declared.commands.StepFault.{StepFault}
 use Rattle.burr_judge.specs.declared.dialogue.TheConstants.{KEPT}
-use Rattle.burr_judge.specs.declared.status.Status.{Status}
+use Rattle.burr_judge.specs.declared.refused.Status.{Status}
 use Rattle.burr_judge.specs.Views.Dialogues.{PutsAnswer, FailsInAnswer, TellsByFront}
 use Rattle.burr_program.specs.ListEnds.{ArePair, IsPair, LineEnds, PairEnds, Tally, AnswersPair, AsksNothing, tallied, judged_line}
 use Rattle.burr_program.specs.Judging.{TellsJudged}

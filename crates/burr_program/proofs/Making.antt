@@ -8,8 +8,8 @@ use Rattle.burr_io.specs.Sink.{SinkView}
 use Rattle.burr_assembly.specs.Rules.Text.{Assembly, IsText}
 use Rattle.burr_runs.specs.Rules.Refusals.{assembly_refusal}
 use Rattle.burr_judge.specs.declared.fault.Fault.{Fault}
-use Rattle.burr_judge.specs.declared.status.Status.{Status}
-use Rattle.burr_judge.specs.declared.status.Status.TheVariants.{Done, Refused}
+use Rattle.burr_judge.specs.declared.refused.Status.{Status}
+use Rattle.burr_judge.specs.declared.refused.Status.TheVariants.{Done, Refused}
 use Rattle.burr_judge.specs.declared.ladder.Given.{Given}
 use Rattle.burr_judge.specs.Faults.{line_of}
 use Rattle.burr_judge.specs.Ladder.{LadderComes, TextComes, WantsMemory}

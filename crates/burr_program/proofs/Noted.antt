@@ -15,7 +15,7 @@ use Rattle.burr_verify.specs.Views.Refusals.{another_assembly}
 use Rattle.burr_runs.specs.Rules.Verdicts.{plan_refusal}
 use Rattle.burr_judge.specs.declared.fault.Fault.{Fault}
 use Rattle.burr_judge.specs.declared.ladder.Given.TheVariants.{Text}
-use Rattle.burr_judge.specs.declared.status.Status.{Status}
+use Rattle.burr_judge.specs.declared.refused.Status.{Status}
 use Rattle.burr_judge.specs.declared.tasks.Task.{Task}
 use Rattle.burr_judge.specs.Faults.{line_of, output_failed}
 use Rattle.burr_judge.specs.Ladder.{PlanJudged, PlanTried, LadderComes, WantsMemory}

@@ -13,9 +13,9 @@ use Rattle.burr_runs.specs.Views.ReadWhole.{IsWholeInput}
 use Rattle.burr_command.specs.declared.job.Job.{Job}
 use Rattle.burr_command.specs.declared.job.Job.TheVariants as jobs
 use Rattle.burr_judge.specs.declared.fault.Fault.{Fault}
-use Rattle.burr_judge.specs.declared.lines.LineEnd.TheVariants.{LineFeed, SecondNul}
-use Rattle.burr_judge.specs.declared.status.Status.{Status}
-use Rattle.burr_judge.specs.declared.status.Status.TheVariants.{Done, Refused}
+use Rattle.burr_judge.specs.declared.dialogue.LineEnd.TheVariants.{LineFeed, SecondNul}
+use Rattle.burr_judge.specs.declared.refused.Status.{Status}
+use Rattle.burr_judge.specs.declared.refused.Status.TheVariants.{Done, Refused}
 use Rattle.burr_judge.specs.declared.tasks.Task.{Task}
 use Rattle.burr_judge.specs.declared.tasks.Task.TheVariants.{Check, Run, Try}
 use Rattle.burr_judge.specs.Faults.{line_of, output_failed}

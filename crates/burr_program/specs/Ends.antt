@@ -5,15 +5,15 @@ use Rattle.burr_text.specs.Words.{text_line}
 use Rattle.burr_io.specs.Sink.{HoldsFront, SinkView}
 use Rattle.burr_command.specs.declared.job.Job.{Job}
 use Rattle.burr_command.specs.declared.job.Job.TheVariants as jobs
-use Rattle.burr_runs.specs.declared.outcome.Outcome.{Outcome}
-use Rattle.burr_runs.specs.declared.fault.BenchFault.{BenchFault}
-use Rattle.burr_runs.specs.declared.fault.BenchFault.TheVariants.{Read, TooLong, Write, Memory}
+use Rattle.burr_runs.specs.declared.text_runs.Outcome.{Outcome}
+use Rattle.burr_runs.specs.declared.input.BenchFault.{BenchFault}
+use Rattle.burr_runs.specs.declared.input.BenchFault.TheVariants.{Read, TooLong, Write, Memory}
 use Rattle.burr_runs.specs.Views.ReadWhole.{IsWholeInput}
 use Rattle.burr_runs.specs.Rules.Output.{IsOutput}
 use Rattle.burr_runs.specs.Views.BenchText.{Streams, Succeeds, Fails}
 use Rattle.burr_judge.specs.declared.fault.Fault.{Fault}
-use Rattle.burr_judge.specs.declared.status.Status.{Status}
-use Rattle.burr_judge.specs.declared.status.Status.TheVariants.{Done, CommandLine}
+use Rattle.burr_judge.specs.declared.refused.Status.{Status}
+use Rattle.burr_judge.specs.declared.refused.Status.TheVariants.{Done, CommandLine}
 use Rattle.burr_judge.specs.Faults.{complaint_of, status_of_complaint, line_of, status_of_fault, output_failed}
 use Rattle.burr_judge.specs.Statuses.{code_of, status_of}
 use Rattle.burr_judge.specs.PlanEnds.{Ends}

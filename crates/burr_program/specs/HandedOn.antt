@@ -4,7 +4,7 @@ use Rattle.burr_io.specs.Sink.{SinkView, Takes, FailsWithin}
 use Rattle.burr_io.specs.WholeLines.{Lines}
 use Rattle.burr_judge.specs.declared.fault.Fault.{Fault}
 use Rattle.burr_judge.specs.Faults.{line_of, output_failed}
-use Rattle.burr_judge.specs.declared.status.Status.{Status}
+use Rattle.burr_judge.specs.declared.refused.Status.{Status}
 
 -- Of what was done with a status all was handed on, or the sink below failed in it; after a fault
 -- the sink is left alone.

@@ -2,13 +2,13 @@
 use Rattle.std.specs.Prelude.{◌≡◌, ◌≢◌, ◌⊎◌, ◌<◌, ◌+◌, ◌-◌, ◌^◌, ℕ, List, [], ◌++◌, length, Bool, true, Contains, codes, decimal, min, nat_lt, if◌then◌else◌}
 use Rattle.std.specs.Str.{IsUtf8}
 use Rattle.burr_text.specs.Words.{IsCutAt}
-use Rattle.burr_runs.specs.declared.fault.BenchFault.{BenchFault}
+use Rattle.burr_runs.specs.declared.input.BenchFault.{BenchFault}
 use Rattle.burr_runs.specs.Views.BenchText.{Streams}
 use Rattle.burr_judge.specs.declared.dialogue.TheConstants.{KEPT}
 use Rattle.burr_judge.specs.declared.ladder.Given.{Given}
-use Rattle.burr_judge.specs.declared.lines.LineEnd.{LineEnd}
-use Rattle.burr_judge.specs.declared.status.Status.{Status}
-use Rattle.burr_judge.specs.declared.status.Status.TheVariants.{Done, Refused, Failed, Memory}
+use Rattle.burr_judge.specs.declared.dialogue.LineEnd.{LineEnd}
+use Rattle.burr_judge.specs.declared.refused.Status.{Status}
+use Rattle.burr_judge.specs.declared.refused.Status.TheVariants.{Done, Refused, Failed, Memory}
 use Rattle.burr_judge.specs.Faults.{complaint_of}
 use Rattle.burr_judge.specs.Ladder.{IsGivenBy}
 use Rattle.burr_judge.specs.PlanEnds.{Ends, CheckTextEnds}

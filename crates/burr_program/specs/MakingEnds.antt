@@ -4,8 +4,8 @@ use Rattle.burr_io.specs.Sink.{SinkView}
 use Rattle.burr_assembly.specs.Rules.Text.{Assembly, IsText}
 use Rattle.burr_from_sheet.specs.SheetPlans.{IsPlanOfSheet}
 use Rattle.burr_judge.specs.declared.fault.Fault.{Fault}
-use Rattle.burr_judge.specs.declared.status.Status.{Status}
-use Rattle.burr_judge.specs.declared.status.Status.TheVariants.{Done}
+use Rattle.burr_judge.specs.declared.refused.Status.{Status}
+use Rattle.burr_judge.specs.declared.refused.Status.TheVariants.{Done}
 use Rattle.burr_judge.specs.Faults.{line_of}
 use Rattle.burr_judge.specs.PlanEnds.{Ends, PutsEnd, FailsToEnd}
 

@@ -66,7 +66,6 @@ mod files;
 mod laws;
 mod notes;
 mod program;
-mod reasons;
 
 pub use laws::each_rule_and_trap_is_explained;
 pub use program::{end_without_words, run_words};

@@ -1,7 +1,7 @@
 //! What the program does with its words and its streams, and the status that it ends with.
 
 ghost use Rattle.std.specs.Prelude.{◌≡◌, ◌≢◌, ◌≤◌, ◌<◌, [], codes, length, IfOk, OnOk, OnErr};
-ghost use Rattle.burr_runs.specs.declared.fault.BenchFault.TheVariants.{Memory};
+ghost use Rattle.burr_runs.specs.declared.input.BenchFault.TheVariants.{Memory};
 ghost use Rattle.burr_io.specs.Sink.{Takes};
 ghost use Rattle.burr_runs.specs.Views.BenchText.{streams};
 ghost use Rattle.burr_judge.specs.Faults.{complaint_of, line_of, status_of_fault};

@@ -21,9 +21,7 @@ mod stepping;
 mod streams;
 mod trace;
 mod transcript;
-mod traps;
 mod why;
-mod words;
 
 /// The most bytes of a file, and of standard input.
 const LIMIT: usize = 16_777_216;

@@ -18,7 +18,7 @@ use Rattle.burr_state.specs.Rules.Step.{NextIs, CallIn, Called}
 use Rattle.burr_state.specs.Rules.Run.{IsGoing}
 use Rattle.burr_state.specs.Rules.Calls.{Calls, begun, went, answered, ClosesAt}
 use Rattle.burr_state.specs.Views.Benches.{Benched, setup_of, IsSameRun}
-use Rattle.burr_runs.specs.declared.outcome.Outcome.{Outcome}
+use Rattle.burr_runs.specs.declared.text_runs.Outcome.{Outcome}
 use Rattle.burr_runs.specs.Rules.Output.{outcome_of}
 use Rattle.burr_runs.specs.Views.AfterRuns.{HasComeOn, IsAtRunEnd, IsInRun, closed_state}
 use Rattle.burr_runs.proofs.StepByStep.{same_run_on}

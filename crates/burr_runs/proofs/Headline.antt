@@ -27,7 +27,7 @@ use Rattle.burr_bench.specs.Soundness.SafeRuns.{IsSafeRun, ClosesWell}
 use Rattle.burr_bench.specs.Soundness.Laws.{VerifierIsSound}
 use Rattle.burr_state.specs.Laws.SpaceLaws.{HomesAreDisjoint}
 use Rattle.burr_bench.proofs.Common.FramedSetup.{same_setup}
-use Rattle.burr_runs.specs.declared.outcome.Outcome.{Outcome}
+use Rattle.burr_runs.specs.declared.text_runs.Outcome.{Outcome}
 use Rattle.burr_runs.specs.Rules.Headline.{setup_for, IsSafeSheetOf, EndsWell, PutsSafely, FailsSafely}
 use Rattle.burr_runs.specs.Views.Running.{PutsSheet, FailsInSheet}
 use Rattle.burr_runs.specs.Rules.Output.{outcome_of, IsSheetOf}

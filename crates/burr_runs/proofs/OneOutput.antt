@@ -4,7 +4,7 @@ use Rattle.burr_voxels.specs.declared.cell.Cell.{Cell}
 use Rattle.burr_assembly.specs.Rules.Text.{Assembly}
 use Rattle.burr_assembly.specs.Views.Drawings.{AreDistinct}
 use Rattle.burr_assembly.proofs.Common.TextLaws.{one_assembly, no_fault_of_assembly, one_fault}
-use Rattle.burr_runs.specs.declared.outcome.Outcome.{Outcome}
+use Rattle.burr_runs.specs.declared.text_runs.Outcome.{Outcome}
 use Rattle.burr_state.specs.Rules.Bench.{start}
 use Rattle.burr_state.specs.Rules.Run.{Run}
 use Rattle.burr_sheet.specs.Rules.SheetText.{sheet}

@@ -5,8 +5,8 @@ use Rattle.burr_assembly.specs.Rules.Text.{Assembly, IsText}
 use Rattle.burr_assembly.specs.Rules.Faults.{FirstFault}
 use Rattle.burr_assembly.proofs.Common.TextLaws.{fault_or_assembly}
 use Rattle.burr_text.proofs.Common.Decisions.{Decided}
-use Rattle.burr_runs.specs.declared.outcome.Outcome.{Outcome}
-use Rattle.burr_runs.specs.declared.outcome.Outcome.TheVariants.{Refused}
+use Rattle.burr_runs.specs.declared.text_runs.Outcome.{Outcome}
+use Rattle.burr_runs.specs.declared.text_runs.Outcome.TheVariants.{Refused}
 use Rattle.burr_state.specs.Rules.Bench.{Setup, start}
 use Rattle.burr_assembly.specs.Rules.Homes.{homes_of}
 use Rattle.burr_state.specs.Laws.RunLaws.{IsUnderWay}

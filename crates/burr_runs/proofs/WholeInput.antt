@@ -9,10 +9,10 @@ use Rattle.burr_io.specs.Sink.{TakesFront}
 use Rattle.burr_assembly.specs.declared.fault.AssemblyFault.{AssemblyFault}
 use Rattle.burr_assembly.specs.Rules.Text.{Assembly, IsAssembly}
 use Rattle.burr_assembly.specs.Rules.Faults.{FirstFault}
-use Rattle.burr_runs.specs.declared.outcome.Outcome.{Outcome}
-use Rattle.burr_runs.specs.declared.outcome.Outcome.TheVariants.{Refused}
-use Rattle.burr_runs.specs.declared.fault.BenchFault.{BenchFault}
-use Rattle.burr_runs.specs.declared.fault.BenchFault.TheVariants.{Read, TooLong, Write, Memory}
+use Rattle.burr_runs.specs.declared.text_runs.Outcome.{Outcome}
+use Rattle.burr_runs.specs.declared.text_runs.Outcome.TheVariants.{Refused}
+use Rattle.burr_runs.specs.declared.input.BenchFault.{BenchFault}
+use Rattle.burr_runs.specs.declared.input.BenchFault.TheVariants.{Read, TooLong, Write, Memory}
 use Rattle.burr_state.specs.declared.effect.Motion.{Motion}
 use Rattle.burr_state.specs.Rules.Bench.{Program, running, start}
 use Rattle.burr_assembly.specs.Rules.Homes.{homes_of}

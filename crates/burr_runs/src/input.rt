@@ -5,12 +5,14 @@ ghost use Rattle.std.specs.List.{list_all};
 ghost use Rattle.burr_text.specs.Lines.{IsLines};
 ghost use Rattle.burr_runs.specs.Rules.Input.{IsCodeLine, IsInput, is_hex_digit};
 ghost use Rattle.burr_runs.specs.Views.ReadWhole.{IsWholeInput, ReadFails};
+ghost use Rattle.burr_runs.specs.Rules.Answers.{answer_line, answers_text, BeginsWithNone, IsAnswersFault};
 
-use crate::fault::BenchFault;
 use burr_code::limits::MOST_CODE;
-use burr_io::{Source, last_line_end};
+use burr_io::{IoFailed, Source, WriteFault, last_line_end};
+use burr_text::{cut_at, integer};
 use hex::FromHexError;
-use std::alloc::{AllocError, Global};
+use std::alloc::{AllocError, AllocFailed, Global};
+use thiserror::Error;
 
 /// The text of an input, and the code of its last line; None where the input isn't of this form.
 pub fn parse_input<'a>(
@@ -99,4 +101,123 @@ pub fn read_whole<R: Source>(alloc: Global, source: &mut R) -> Result<Vec<u8>, B
         bytes.extend_from_slice(&buffer[..count])?;
     }
     Err(BenchFault::TooLong)
+}
+
+// The operator's answers.
+
+/// Why answers can't be read.
+#[derive(Clone, Copy, Debug, PartialEq, Eq, Error)]
+pub enum AnswersFault {
+    /// The first faulty line, counted from 1.
+    #[error("line {0} is no answer")]
+    Line(usize),
+    #[error("no memory")]
+    Memory,
+}
+
+impl From<AllocError> for AnswersFault {
+    ghost use Rattle.std.specs.Prelude.{◌≡◌};
+    ghost use Rattle.burr_runs.specs.declared.input.AnswersFault.TheVariants.{Memory};
+
+    ghost from_gives = { λ _ e. e ≡ Memory };
+
+    fn from(_e: AllocError) -> AnswersFault {
+        AnswersFault::Memory
+    }
+}
+
+impl<T: Drop> From<AllocFailed<T>> for AnswersFault {
+    ghost use Rattle.std.specs.Prelude.{◌≡◌};
+    ghost use Rattle.burr_runs.specs.declared.input.AnswersFault.TheVariants.{Memory};
+
+    ghost from_gives = { λ _ e. e ≡ Memory };
+
+    fn from(_e: AllocFailed<T>) -> AnswersFault {
+        AnswersFault::Memory
+    }
+}
+
+/// The answers of a text: one number of 32 bits on each line, each line ended by a line feed. An
+/// empty text has no answers. The fault names the first line that is not an answer, or is `Memory`
+/// where a request for memory was refused.
+pub fn read_answers(alloc: Global, text: &[u8]) -> Result<Vec<i32>, AnswersFault>
+    ensures ok { IfOk result (λ answers. text.now ≡ answers_text answers.items) }
+    ensures err { IfErr result (IsAnswersFault text.now) }
+{
+    let mut answers = Vec::new(alloc);
+    let mut rest = text;
+    while !rest.is_empty() {
+        let Some((answer, after)) = first_answer(rest) else {
+            return Err(AnswersFault::Line(answers.len() + 1));
+        };
+        answers.push(answer)?;
+        rest = after;
+    }
+    Ok(answers)
+}
+
+/// The answer that the first line of a text is, and what stands after the line.
+fn first_answer(text: &[u8]) -> Option<(i32, &[u8])>
+    ensures { MatchOption result (BeginsWithNone text.now) (λ found.
+        text.now ≡ answer_line found.0 ++ found.1.now) }
+{
+    let (line, after) = cut_at(text, b'\n')?;
+    Some((integer(line)?, after))
+}
+
+/// Why an input has no outcome.
+#[derive(Clone, Copy, Debug, PartialEq, Eq, Error)]
+pub enum BenchFault {
+    #[error("the input cannot be read")]
+    Read,
+    #[error("the input has more than 16777216 bytes")]
+    TooLong,
+    #[error("the output cannot be written")]
+    Write,
+    #[error("no memory")]
+    Memory,
+}
+
+impl From<IoFailed> for BenchFault {
+    ghost use Rattle.std.specs.Prelude.{◌≡◌};
+    ghost use Rattle.burr_runs.specs.declared.input.BenchFault.TheVariants.{Read};
+
+    ghost from_gives = { λ _ e. e ≡ Read };
+
+    fn from(_e: IoFailed) -> BenchFault {
+        BenchFault::Read
+    }
+}
+
+impl From<WriteFault> for BenchFault {
+    ghost use Rattle.std.specs.Prelude.{◌≡◌};
+    ghost use Rattle.burr_runs.specs.declared.input.BenchFault.TheVariants.{Write};
+
+    ghost from_gives = { λ _ e. e ≡ Write };
+
+    fn from(_e: WriteFault) -> BenchFault {
+        BenchFault::Write
+    }
+}
+
+impl From<AllocError> for BenchFault {
+    ghost use Rattle.std.specs.Prelude.{◌≡◌};
+    ghost use Rattle.burr_runs.specs.declared.input.BenchFault.TheVariants.{Memory};
+
+    ghost from_gives = { λ _ e. e ≡ Memory };
+
+    fn from(_e: AllocError) -> BenchFault {
+        BenchFault::Memory
+    }
+}
+
+impl<T: Drop> From<AllocFailed<T>> for BenchFault {
+    ghost use Rattle.std.specs.Prelude.{◌≡◌};
+    ghost use Rattle.burr_runs.specs.declared.input.BenchFault.TheVariants.{Memory};
+
+    ghost from_gives = { λ _ e. e ≡ Memory };
+
+    fn from(_e: AllocFailed<T>) -> BenchFault {
+        BenchFault::Memory
+    }
 }

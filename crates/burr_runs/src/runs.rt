@@ -11,7 +11,7 @@ ghost use Rattle.burr_state.specs.Rules.Step.{Called, NextIs};
 ghost use Rattle.burr_state.specs.Views.Work.{work};
 ghost use Rattle.burr_state.specs.Rules.Next.{Asks};
 
-use crate::outcome::Outcome;
+use crate::text_runs::Outcome;
 use burr_assembly::Assembly;
 use burr_bench::{Bench, Checked, Closing, Machine, Progress, Trap};
 use burr_blocking::Blocking;

@@ -1,18 +1,16 @@
 ghost use Rattle.std.specs.Prelude.{◌≡◌, ◌≢◌, ◌≤◌, length, IfErr, IfOk, codes, OnErr};
 ghost use Rattle.burr_io.specs.Sink.{Puts};
 ghost use Rattle.burr_code.specs.declared.limits.TheConstants.{MOST_CODE};
-ghost use Rattle.burr_runs.specs.declared.outcome.Outcome.TheVariants.{Refused};
-ghost use Rattle.burr_runs.specs.declared.fault.BenchFault.TheVariants.{Write};
+ghost use Rattle.burr_runs.specs.declared.text_runs.Outcome.TheVariants.{Refused};
+ghost use Rattle.burr_runs.specs.declared.input.BenchFault.TheVariants.{Write};
 ghost use Rattle.burr_runs.specs.Rules.Refusals.{assembly_refusal};
 ghost use Rattle.burr_runs.specs.Rules.Output.{IsOutput, IsTextOutput};
 ghost use Rattle.burr_runs.specs.Views.BenchText.{PutsOutput, OutputFails, streams, Succeeds, Fails};
 ghost use Rattle.burr_runs.specs.Rules.Headline.{PutsSafely, FailsSafely, EndsWell};
 ghost use Rattle.burr_runs.specs.Rules.Verdicts.{PutsVerdict, FailsInVerdict};
 
-use crate::fault::BenchFault;
-use crate::input::{parse_input, read_whole};
+use crate::input::{BenchFault, parse_input, read_whole};
 use crate::lines::{put_accepted, put_assembly_refusal, put_plan_refusal};
-use crate::outcome::Outcome;
 use crate::runs::{run, run_bare};
 use burr_assembly::{Assembly, AssemblyFault};
 use burr_bench::{Machine, a_well_framed_plan_runs_safely};
@@ -152,4 +150,19 @@ pub fn check<B: Blocking, W: Sink>(
             Ok(false)
         }
     }
+}
+
+/// How a run ended, or that none was made.
+#[derive(Clone, Copy, Debug, PartialEq, Eq)]
+pub enum Outcome {
+    /// All pieces are apart.
+    Apart,
+    /// The run waits for an answer, and none is left.
+    Waiting,
+    /// An instruction could not be carried out.
+    Trapped,
+    /// The budget was used up.
+    Stopped,
+    /// What was given is refused.
+    Refused,
 }

@@ -20,10 +20,10 @@ ghost use Rattle.burr_state.specs.Views.Benches.{Answered};
 ghost use Rattle.burr_state.specs.Rules.Undo.{laid_over, IsRecordOf};
 ghost use Rattle.burr_state.specs.Views.Records.{IsWorkState};
 
+use crate::activation::Suspended;
 use crate::effect::{Effect, Mode, Motion, Trap};
 use crate::program::Program;
 use crate::state::BenchState;
-use crate::suspended::Suspended;
 use crate::undo::Undo;
 use burr_code::{Instr, Placement, fetch};
 use burr_container::Container;

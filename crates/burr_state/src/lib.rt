@@ -60,11 +60,10 @@ mod bench;
 mod effect;
 mod laws;
 mod program;
-mod shifting;
 mod state;
-mod suspended;
 mod undo;
 
+pub use activation::Suspended;
 pub use bench::Bench;
 pub use effect::{Closing, Effect, Mode, Motion, Progress, Trap};
 pub use laws::{
@@ -75,6 +74,5 @@ pub use laws::{
     records_go_back,
 };
 pub use program::{OwnedProgram, Program};
-pub use shifting::one_unit_on;
-pub use suspended::Suspended;
+pub use state::one_unit_on;
 pub use undo::Undo;

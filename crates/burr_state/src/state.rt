@@ -2,19 +2,21 @@ mod control;
 mod instructions;
 mod undoing;
 
-ghost use Rattle.std.specs.Prelude.{◌≡◌, ◌≤◌, ◌<◌, ◌+◌, length, IfSome, Some, slice_get, ◌↔◌, IsTrue};
+ghost use Rattle.std.specs.Prelude.{◌≡◌, ◌≤◌, ◌<◌, ◌+◌, length, IfSome, Some, slice_get, ◌↔◌, IsTrue, pos};
 ghost use Rattle.burr_voxels.specs.Near.{IsWithin};
-ghost use Rattle.burr_code.specs.declared.limits.TheConstants.{MOST_OFFSET, MOST_CODE};
-ghost use Rattle.burr_code.specs.Places.{AllLieIn, AllApart, IsPartOfTray, IsEmptyTray};
+ghost use Rattle.burr_code.specs.declared.limits.TheConstants.{MOST_OFFSET, MOST_CODE, MOST_PIECES};
+ghost use Rattle.burr_code.specs.Places.{AllLieIn, AllApart, IsPartOfTray, IsEmptyTray, at_position};
 ghost use Rattle.burr_state.specs.Views.StateViews.{at_start, IsOffsetHere, StaysOnBench, PieceStaysOnBench, after, moved_grip, gone_aside};
 ghost use Rattle.burr_state.specs.Views.Offsets.{AreNear, PositionHolds};
 ghost use Rattle.burr_state.specs.declared.effect.Mode.TheVariants.{Trapped};
+ghost use Rattle.burr_code.specs.declared.placement.Placement.TheVariants.{On};
+ghost use Rattle.burr_voxels.specs.Grid.{along, plus, origin};
+ghost use Rattle.burr_state.specs.Rules.Space.{moved_places};
 
 use crate::activation::Activation;
 use crate::effect::{Mode, Trap};
-use crate::shifting::{home, is_on_bench, one_unit_on, shift_group};
 use arrayvec::ArrayVec;
-use burr_code::limits::{MOST_PIECES, MOST_PROCEDURES};
+use burr_code::limits::{MOST_OFFSET, MOST_PIECES, MOST_PROCEDURES};
 use burr_code::{
     Placement, all_lie_in, are_all_apart, is_empty_tray, is_in_set, is_part_of_tray, take_aside,
 };
@@ -251,5 +253,77 @@ impl BenchState {
     {
         self.running.go_to(self.running.pc() + size);
         self.steps = self.steps.saturating_add(1);
+    }
+}
+
+/// The place of a piece at home in a tray.
+pub fn home(tray: u8) -> Placement<Cell>
+    ensures { result ≡ On tray origin }
+{
+    Placement::On {
+        tray,
+        position: Cell::ORIGIN,
+    }
+}
+
+/// The place one unit along a direction, of a piece that lies within 256 of home; a piece that is
+/// apart stays so.
+pub fn shifted(place: Placement<Cell>, direction: Direction) -> Placement<Cell>
+    requires { PositionHolds (IsWithin MOST_OFFSET) place }
+    ensures { result ≡ at_position (λ offset. plus offset (along direction (pos 1))) place }
+{
+    match place {
+        Placement::Apart => Placement::Apart,
+        Placement::On { tray, position } => Placement::On {
+            tray,
+            position: one_unit_on(position, direction),
+        },
+    }
+}
+
+/// One unit along a direction from an offset on the bench.
+pub fn one_unit_on(offset: Cell, direction: Direction) -> Cell
+    requires { IsWithin MOST_OFFSET offset }
+    ensures { result ≡ plus offset (along direction (pos 1)) }
+{
+    offset + direction.unit()
+}
+
+/// Whether an offset is on the bench: within 256 a coordinate.
+pub fn is_on_bench(offset: Cell) -> bool
+    ensures { IsTrue result ↔ IsWithin MOST_OFFSET offset }
+{
+    let most = i32::from(MOST_OFFSET);
+    if offset.x < -most || most < offset.x {
+        return false;
+    }
+    if offset.y < -most || most < offset.y {
+        return false;
+    }
+    -most <= offset.z && offset.z <= most
+}
+
+/// The same places.
+pub fn copied_places(places: &[Placement<Cell>]) -> ArrayVec<Placement<Cell>, MOST_PIECES>
+    requires { length places.now ≤ MOST_PIECES }
+    ensures { result.items ≡ places.now }
+{
+    let mut copied = ArrayVec::new();
+    for place in places {
+        copied.push(*place);
+    }
+    copied
+}
+
+/// Moves the pieces of a group that aren't apart one unit along a direction.
+pub fn shift_group(places: &mut [Placement<Cell>], group: u32, direction: Direction)
+    requires few { length places.old ≤ 32 }
+    requires near { AreNear places.old }
+    ensures { places.new ≡ moved_places group direction places.old }
+{
+    for (piece, place) in places.iter_mut().enumerate() {
+        if is_in_set(group, piece as u8) {
+            *place = shifted(*place, direction);
+        }
     }
 }

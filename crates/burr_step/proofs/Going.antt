@@ -13,8 +13,8 @@ use Rattle.burr_state.specs.Views.Benches.{Benched, setup_of, IsSameRun}
 use Rattle.burr_state.proofs.Common.Calls.{tells}
 use Rattle.burr_state.proofs.Common.StepCalls.{runs_where_went, next_where_went, next_is_one, goes-asks}
 use Rattle.burr_bench.specs.Recorded.{MadeStep}
-use Rattle.burr_step.specs.declared.refusal.StepRefusal.{StepRefusal as CodeRefusal}
-use Rattle.burr_step.specs.declared.refusal.StepRefusal.TheVariants as code
+use Rattle.burr_step.specs.declared.stepper.StepRefusal.{StepRefusal as CodeRefusal}
+use Rattle.burr_step.specs.declared.stepper.StepRefusal.TheVariants as code
 use Rattle.burr_step.specs.Rules.Stepper.{History, history, IsAsking, IsHalted, Goes, GoesUntil, there, farther, Forward, StepRefusal, S1, S2, StepOutcome, Taken, Refused, Follows, farther_by, going, going_until, Commanding}
 use Rattle.burr_step.specs.Views.Stepping.{Stepping, stepping, IsDone, IsRefused, CameTo, NeedsNoMemory, commanding, IsUpTo, IsThere, StopsFor}
 use Rattle.burr_step.specs.declared.stepper.Stop.{Stop}

@@ -56,7 +56,6 @@ mod drive;
 mod kept_drive;
 mod laws;
 mod records;
-mod refusal;
 mod state_text;
 mod stepper;
 
@@ -68,5 +67,4 @@ pub use laws::{
     lines_of_commands_are_short, moves_are_joined_motions, moves_are_those_of_the_run,
     moves_go_on_with_more_answers, undoing_is_going_back,
 };
-pub use refusal::StepRefusal;
-pub use stepper::{Paused, Stepper};
+pub use stepper::{Paused, StepRefusal, Stepper};

@@ -10,15 +10,15 @@ ghost use Rattle.burr_step.specs.Rules.StepTexts.{show_text};
 ghost use Rattle.burr_step.specs.Rules.Stepper.{Answer, Forward, Over, Until, going, going_until, Back};
 
 use crate::records::Records;
-use crate::refusal::StepRefusal;
 use crate::state_text::put_state;
 use burr_assembly::Assembly;
 use burr_bench::{Machine, OwnedProgram, Program, Suspended, an_accepted_bench_never_traps};
 use burr_blocking::Blocking;
 use burr_io::{Sink, WriteFault};
 use burr_verify::{Accepted, a_fitting_plan_is_from_a_container};
-use std::alloc::{AllocError, Global};
+use std::alloc::{AllocError, AllocFailed, Global};
 use std::marker::Model;
+use thiserror::Error;
 
 /// A run of an accepted plan, step by step: it goes forwards by commands, and back by records of
 /// its last 256 steps, or by running again with the answers that are kept.
@@ -377,5 +377,42 @@ fn next_answer(machine: &Machine<'_>, answers: &[i32], taken: usize) -> (Option<
             None => (None, taken),
         },
         None => (None, taken),
+    }
+}
+
+/// Why a command of a stepper is refused; then nothing has changed.
+#[derive(Clone, Copy, Debug, PartialEq, Eq, Error)]
+pub enum StepRefusal {
+    #[error("S1: the run has ended")]
+    S1,
+    #[error("S2: the run waits for an answer")]
+    S2,
+    #[error("S3: no question stands that the answer fits")]
+    S3,
+    #[error("S4: there are not so many steps to go back")]
+    S4,
+    #[error("no memory")]
+    Memory,
+}
+
+impl From<AllocError> for StepRefusal {
+    ghost use Rattle.std.specs.Prelude.{◌≡◌};
+    ghost use Rattle.burr_step.specs.declared.stepper.StepRefusal.TheVariants.{Memory};
+
+    ghost from_gives = { λ _ e. e ≡ Memory };
+
+    fn from(_e: AllocError) -> StepRefusal {
+        StepRefusal::Memory
+    }
+}
+
+impl<T: Drop> From<AllocFailed<T>> for StepRefusal {
+    ghost use Rattle.std.specs.Prelude.{◌≡◌};
+    ghost use Rattle.burr_step.specs.declared.stepper.StepRefusal.TheVariants.{Memory};
+
+    ghost from_gives = { λ _ e. e ≡ Memory };
+
+    fn from(_e: AllocFailed<T>) -> StepRefusal {
+        StepRefusal::Memory
     }
 }

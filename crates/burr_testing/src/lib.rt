@@ -3,12 +3,9 @@
 //! may not end its process.
 #![tactic(auto)]
 
-pub mod assemblies;
 mod memory;
 pub mod plans;
 mod streams;
-mod texts;
 
 pub use memory::{MemoryHog, Outcome, Outcomes, Trial, outcomes_in_want};
-pub use streams::{Narrow, Portions};
-pub use texts::bytes_of;
+pub use streams::{Narrow, Portions, bytes_of};

@@ -1,4 +1,5 @@
 //! Streams that give and take little a call, and fail.
+
 use std::alloc::Global;
 use std::io::{self, ErrorKind, Read, Write};
 
@@ -109,4 +110,14 @@ impl Write for Narrow {
     fn flush(&mut self) -> io::Result<()> {
         Ok(())
     }
+}
+
+// Bytes as texts write them.
+
+/// The bytes that hexadecimal digits name, between which blanks and line ends may stand; None where
+/// they name none, or memory is wanting.
+pub fn bytes_of(alloc: Global, digits: &str) -> Option<Vec<u8>> {
+    let lines = digits.replace(alloc, " ", "").ok()?;
+    let digits = lines.replace(alloc, "\n", "").ok()?;
+    hex::decode(alloc, digits).ok()
 }

@@ -12,9 +12,7 @@
 #![tactic(auto)]
 
 mod name;
-mod numbers;
 mod words;
 
 pub use name::{Name, is_name};
-pub use numbers::{integer, is_number};
-pub use words::{cut_at, is_word};
+pub use words::{cut_at, integer, is_number, is_word};

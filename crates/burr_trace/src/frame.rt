@@ -1,7 +1,7 @@
 //! The frame that all visits of a place agree with.
 
 use crate::fit::{Fit, FittedForm, Point, SlotList, range_of, slot_choices};
-use crate::snapshot::Snapshot;
+use crate::trace::Snapshot;
 use arrayvec::ArrayVec;
 use burr_code::is_in_set;
 use burr_code::limits::{MOST_GUARDS, MOST_OPERANDS, MOST_PIECES, SLOTS};

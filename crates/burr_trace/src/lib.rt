@@ -19,16 +19,13 @@
 mod arrivals;
 mod fit;
 mod frame;
-mod labels;
 mod needs;
 mod questions;
 mod sightings;
-mod snapshot;
 mod trace;
 mod unframed;
 
-pub use arrivals::Arrivals;
-pub use labels::Labels;
+pub use arrivals::{Arrivals, Labels};
 pub use questions::{MOST_RUNS, Question, Questions};
 pub use sightings::Sightings;
 pub use trace::trace_of;

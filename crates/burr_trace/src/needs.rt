@@ -1,7 +1,7 @@
 //! The slots that the labels of a plan text need: what is read from there on, and what frames have.
 
+use crate::arrivals::Labels;
 use crate::fit::SlotList;
-use crate::labels::Labels;
 use burr_code::Instr;
 use burr_code::limits::{MOST_CODE, SLOTS};
 use std::alloc::{AllocError, Global};

@@ -1,11 +1,10 @@
 //! What was seen of a plan text over all its runs, and the frames that all of it agrees with.
 
-use crate::arrivals::Arrivals;
+use crate::arrivals::{Arrivals, Labels};
 use crate::fit::SlotList;
 use crate::frame::{Frame, Visit};
-use crate::labels::Labels;
 use crate::needs::Needs;
-use crate::snapshot::Snapshot;
+use crate::trace::Snapshot;
 use burr_code::limits::SLOTS;
 use std::alloc::{AllocError, Global};
 use std::collections::BTreeMap;

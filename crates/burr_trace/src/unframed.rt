@@ -4,8 +4,8 @@ ghost use Rattle.std.specs.Prelude.{◌≡◌, ◌++◌, Contains, codes, IfOk};
 ghost use Rattle.burr_trace.specs.FilledTexts.{IsFilledIn};
 ghost use Rattle.burr_trace.specs.Parts.{AddsFor, Grows, IsOneLine, own_bytes};
 
+use crate::arrivals::Labels;
 use crate::frame::Frame;
-use crate::labels::Labels;
 use crate::needs::Needs;
 use crate::sightings::Sightings;
 use burr_asm::{PlanPart, source_map};

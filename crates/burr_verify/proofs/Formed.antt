@@ -9,7 +9,7 @@ use Rattle.burr_code.specs.Places.{AllLieIn, tray_of}
 use Rattle.burr_forms.specs.Rules.Points.{box_size}
 use Rattle.burr_container.specs.declared.frame_ref.FrameRef.{FrameRef}
 use Rattle.burr_container.specs.Views.Containers.{ContainerView, IsContainer, OfProcedure, OfLabel}
-use Rattle.burr_container.specs.declared.exit_ref.ExitRef.{ExitRef}
+use Rattle.burr_container.specs.declared.frame_ref.ExitRef.{ExitRef}
 use Rattle.burr_container.specs.Rules.Plans.{FormCell, Range, Frame, PlanProcedure, Plan, live_slots, over_symbols}
 use Rattle.burr_container.specs.Views.InPlace.{IsExit}
 use Rattle.burr_container.specs.Views.Refs.{frame_of}

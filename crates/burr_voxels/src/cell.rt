@@ -1,6 +1,11 @@
-ghost use Rattle.std.specs.Prelude.{◌≡◌, ◌↔◌, IsTrue};
+ghost use Rattle.std.specs.Prelude.{◌≡◌, ◌↔◌, IsTrue, ◌∷◌, [], Contains};
+ghost use Rattle.std.specs.List.{All};
+ghost use Rattle.burr_voxels.specs.Grid.{shifted};
+ghost use Rattle.burr_voxels.specs.Near.{IsWithin};
+ghost use Rattle.burr_voxels.specs.CellSets.{IsAheadOfSome, Overlap};
 
 use crate::direction::Direction;
+use std::marker::Model;
 use std::ops::{Add, Sub};
 
 /// A cell of the cubic grid, named by the whole coordinates of its centre; also the way from one
@@ -75,4 +80,97 @@ impl Sub for Cell {
             z: self.z - other.z,
         }
     }
+}
+
+/// A list of cells, in its order.
+#[derive(Debug, Drop)]
+pub struct Cells {
+    cells: Vec<Cell>,
+}
+
+impl Model for Cells {
+    ghost use Rattle.std.specs.Prelude.{List};
+    ghost use Rattle.burr_voxels.specs.declared.cell.Cell.{Cell};
+
+    ghost Value = { List Cell };
+
+    ghost view = { λ c. c.cells.items };
+}
+
+impl Cells {
+    /// These cells. Takes no memory.
+    pub fn new(cells: Vec<Cell>) -> Cells
+        ensures { result ≡ cells.items }
+    {
+        Cells { cells }
+    }
+
+    /// The cells, in their order.
+    pub fn as_slice(&self) -> &[Cell]
+        ensures { result.now ≡ self.now }
+    {
+        self.cells.as_slice()
+    }
+
+    /// The list that was given.
+    pub fn into_vec(self) -> Vec<Cell>
+        ensures { result.items ≡ self }
+    {
+        self.cells
+    }
+}
+
+/// A shape: the sides of its box, and its cells in the order in which they are drawn, layers
+/// upwards, in each its rows, in each x rising.
+#[derive(Debug, Drop)]
+pub struct Shape {
+    pub sides: Cell,
+    pub cells: Cells,
+}
+
+/// Whether one of the cells, displaced, has one of the others ahead of it along a direction.
+pub fn meets(cells: &[Cell], displacement: Cell, others: &[Cell], direction: Direction) -> bool
+    requires cells { All (IsWithin 79) cells.now }
+    requires displacement { IsWithin 512 displacement }
+    ensures { IsTrue result ↔ IsAheadOfSome (shifted displacement cells.now) others.now direction }
+{
+    for cell in cells {
+        if is_met(*cell + displacement, others, direction) {
+            return true;
+        }
+    }
+    false
+}
+
+/// Whether one of the cells lies ahead of a cell along a direction.
+fn is_met(from: Cell, cells: &[Cell], direction: Direction) -> bool
+    ensures { IsTrue result ↔ IsAheadOfSome (from ∷ []) cells.now direction }
+{
+    for cell in cells {
+        if cell.is_ahead_of(from, direction) {
+            return true;
+        }
+    }
+    false
+}
+
+/// Whether one of the cells, displaced, is one of the others.
+pub fn overlap_at(cells: &[Cell], displacement: Cell, others: &[Cell]) -> bool
+    requires cells { All (IsWithin 79) cells.now }
+    requires displacement { IsWithin 512 displacement }
+    ensures { IsTrue result ↔ Overlap (shifted displacement cells.now) others.now }
+{
+    for cell in cells {
+        if has_cell(others, *cell + displacement) {
+            return true;
+        }
+    }
+    false
+}
+
+/// Whether a cell is in the list.
+fn has_cell(cells: &[Cell], cell: Cell) -> bool
+    ensures { IsTrue result ↔ Contains cells.now cell }
+{
+    cells.contains(&cell)
 }

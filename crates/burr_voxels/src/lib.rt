@@ -16,15 +16,9 @@
 #![tactic(auto)]
 
 mod cell;
-mod cells;
 mod direction;
 mod laws;
-mod meeting;
-mod orientation;
 
-pub use cell::Cell;
-pub use cells::{Cells, Shape};
-pub use direction::Direction;
+pub use cell::{Cell, Cells, Shape, meets, overlap_at};
+pub use direction::{Direction, Orientation};
 pub use laws::a_group_that_overlaps_is_not_free;
-pub use meeting::{meets, overlap_at};
-pub use orientation::Orientation;

@@ -2,8 +2,7 @@
 
 ghost use Rattle.burr_forms.specs.Rules.Forms.{AllNear};
 
-use crate::group::{Group, Whereabouts};
-use crate::offset::Offset;
+use crate::offset::{Group, Offset, Whereabouts};
 use crate::point_state::PointState;
 use burr_assembly::Assembly;
 use burr_code::Placement;

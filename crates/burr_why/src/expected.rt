@@ -2,14 +2,13 @@
 
 mod before;
 mod grammar;
-mod guess;
 mod names;
 
 use before::{Before, Due};
 use burr_lines::{Line, Report, Shown, numbered_line};
 use burr_text::integer;
 use grammar::{LINES, LineForm};
-use guess::{Nearest, mended};
+use names::{Nearest, mended};
 use std::alloc::{AllocError, Global};
 
 /// What no line of the grammar has between two line feeds, and what is said of it.

@@ -15,10 +15,8 @@
 
 mod differences;
 mod expected;
-mod group;
 mod meeting;
 mod offset;
-mod origins;
 mod point_state;
 mod reasons;
 

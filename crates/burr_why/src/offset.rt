@@ -1,4 +1,4 @@
-//! How far from home pieces lie.
+//! Pieces by their names, and how far from home they lie.
 
 ghost use Rattle.std.specs.Prelude.{◌≡◌, ◌≤◌, length};
 ghost use Rattle.burr_forms.specs.Rules.Forms.{AllNear, IsSmallForm};
@@ -6,8 +6,9 @@ ghost use Rattle.burr_frames.specs.Rules.States.{cell_at};
 ghost use Rattle.burr_why.specs.Numbers.{cell_of};
 
 use arrayvec::ArrayVec;
-use burr_code::Placement;
+use burr_assembly::Assembly;
 use burr_code::limits::MOST_PIECES;
+use burr_code::{Placement, is_in_set};
 use burr_container::{ExitRef, FormOffset};
 use burr_forms::Point;
 use burr_voxels::Direction;
@@ -81,4 +82,43 @@ pub fn exit_places(exit: &ExitRef<'_>, symbols: &Point) -> ArrayVec<Placement<Of
         let _ = places.try_push(place);
     }
     places
+}
+
+// Pieces by their names.
+
+/// Some of an assembly's pieces: bit p is piece p.
+#[derive(Clone, Copy, Drop)]
+pub struct Group<'a> {
+    pub assembly: &'a Assembly,
+    pub set: u32,
+}
+
+impl fmt::Display for Group<'_> {
+    fn fmt<W: fmt::Write>(&self, f: &mut fmt::Formatter<W>) -> fmt::Result {
+        if self.set == 0 {
+            return write!(f, "nothing");
+        }
+        let mut separator = "";
+        for piece in 0..self.assembly.piece_count() {
+            if is_in_set(self.set, piece) {
+                let name = self.assembly.piece_name(piece);
+                write!(f, "{separator}{name}")?;
+                separator = ", ";
+            }
+        }
+        Ok(())
+    }
+}
+
+/// Where a piece is, without regard to how far from home: apart, or in a tray.
+#[derive(Clone, Copy, PartialEq, Drop)]
+pub struct Whereabouts(pub Option<u8>);
+
+impl fmt::Display for Whereabouts {
+    fn fmt<W: fmt::Write>(&self, f: &mut fmt::Formatter<W>) -> fmt::Result {
+        match self.0 {
+            None => write!(f, "apart"),
+            Some(tray) => write!(f, "in tray {tray}"),
+        }
+    }
 }

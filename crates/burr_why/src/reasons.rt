@@ -1,9 +1,7 @@
 //! What is said of each rule that refuses a plan.
 
-mod control;
 mod costs;
 mod frames;
-mod malformed;
 mod numbers;
 mod site;
 mod space;

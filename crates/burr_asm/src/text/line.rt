@@ -14,8 +14,7 @@ ghost use Rattle.burr_asm.specs.declared.text.line.Keyword.{Keyword as KeywordOf
 use crate::text::code::{CodeLine, PlainLine};
 use crate::text::form::FormWord;
 use crate::text::front::Version;
-use crate::text::set::SetWord;
-use crate::text::words::{NumberWord, cut_name, name};
+use crate::text::words::{NumberWord, SetWord, cut_name, name};
 use burr_text::cut_at;
 
 /// A line of a plan text by its form alone: its numbers, sets and forms are not judged yet, its

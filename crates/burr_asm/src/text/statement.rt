@@ -13,7 +13,7 @@ ghost use Rattle.burr_code.specs.Instruction as instruction;
 use crate::fault::AsmFault;
 use crate::text::code::{CodeLine, Plain};
 use crate::text::names::{Names, OfferWords};
-use crate::text::slot::Slot;
+use crate::text::words::Slot;
 use burr_code::{Instr, Labels, encode};
 use burr_text::cut_at;
 use std::alloc::Global;

@@ -2,7 +2,7 @@
 use Rattle.std.specs.Prelude.{◌≡◌, ℕ, ◌<◌, min, Bool, List, [], ◌∷◌, map, length, slice_index_or, All, MatchOption, Option, Some, None, if◌then◌else◌}
 use Rattle.std.specs.List.{list_any}
 use Rattle.burr_voxels.specs.declared.cell.Cell.{Cell}
-use Rattle.burr_voxels.specs.declared.orientation.Orientation.{Orientation}
+use Rattle.burr_voxels.specs.declared.direction.Orientation.{Orientation}
 use Rattle.burr_voxels.specs.contracts.cell.CellPartialEq.TheImpl as cell_eq
 use Rattle.burr_voxels.specs.CellSets.{Overlap}
 use Rattle.burr_assembly.specs.Rules.Text.{Drawing, Turn, Piece, HasCells}

@@ -5,7 +5,7 @@ ghost use Rattle.burr_assembly.specs.Rules.Faults.{IsFinishedLayer, IsRow, Shape
 ghost use Rattle.burr_assembly.specs.Views.ReaderViews.{sketched, SketchGives, IsDue};
 
 use crate::fault::AssemblyFault;
-use crate::shape::{DrawnShape, Layer, Row, SIDE, cells_of};
+use crate::piece::{DrawnShape, Layer, Row, SIDE, cells_of};
 use burr_text::Name;
 use burr_voxels::{Cell, Cells, Shape};
 use std::alloc::Global;

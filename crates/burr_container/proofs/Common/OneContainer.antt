@@ -1,7 +1,7 @@
 -- For crates above: a container is that of one plan at most, and where it has a plan it is that of a fitting one.
 use Rattle.std.proofs.Common.{◌≡◌, ℕ, ◌≤◌, true, IsTrue, nat_le, Option, Some, None, List, [], ◌∷◌, refl, sym, ap, ◌∙◌, subst, leb-true}
 use Rattle.std.proofs.lemmas.Bool.{and_parts}
-use Rattle.burr_container.specs.declared.exit_ref.ExitRef.{ExitRef}
+use Rattle.burr_container.specs.declared.frame_ref.ExitRef.{ExitRef}
 use Rattle.burr_container.specs.declared.procedure_ref.StoredProcedure.{StoredProcedure}
 use Rattle.burr_container.specs.Rules.Plans.{Plan, PlanProcedure, ExitFrame, Frame}
 use Rattle.burr_container.specs.Rules.Fitting.{is_fitting}

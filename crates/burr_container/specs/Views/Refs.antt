@@ -8,7 +8,7 @@ use Rattle.burr_container.specs.declared.reading.cursor.Cursor.{Cursor}
 use Rattle.burr_container.specs.declared.lists.FormList.{FormList}
 use Rattle.burr_container.specs.declared.lists.PlaceList.{PlaceList}
 use Rattle.burr_container.specs.declared.frame_ref.FrameRef.{FrameRef}
-use Rattle.burr_container.specs.declared.exit_ref.ExitRef.{ExitRef}
+use Rattle.burr_container.specs.declared.frame_ref.ExitRef.{ExitRef}
 use Rattle.burr_container.specs.Rules.Plans.{FormCell, Frame, ExitFrame}
 use Rattle.burr_container.specs.Views.Decoding.{forms_in, form_in, places_in}
 use Rattle.burr_container.specs.Rules.Faults.{Part}

@@ -10,9 +10,8 @@ ghost use Rattle.burr_container.specs.Rules.Plans.{exit_symbols as first_ones};
 ghost use Rattle.burr_container.specs.Views.Decoding.{IsAfterPlace};
 
 use crate::container::Header;
-use crate::exit_ref::ExitRef;
 use crate::fault::ContainerFault;
-use crate::frame_ref::FrameRef;
+use crate::frame_ref::{ExitRef, FrameRef};
 use crate::label_table::LabelTable;
 use crate::layout::Layout;
 use crate::lists::{FormList, PlaceList, exit_symbols, form_size, live_slots};

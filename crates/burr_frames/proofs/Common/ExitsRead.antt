@@ -1,7 +1,7 @@
 -- For crates above: exit frames that are read in place are the plan's.
 use Rattle.std.proofs.Common.{◌≡◌, ℕ, ◌∙◌, Option, Some, None, length, refl, sym, ap}
 use Rattle.std.specs.Prelude.{option_map}
-use Rattle.burr_container.specs.declared.exit_ref.ExitRef.{ExitRef}
+use Rattle.burr_container.specs.declared.frame_ref.ExitRef.{ExitRef}
 use Rattle.burr_container.specs.Rules.Plans.{ExitFrame, exit_symbols}
 use Rattle.burr_container.specs.Views.InPlace.{IsExit}
 use Rattle.burr_container.specs.Views.Refs.{parameters_of}

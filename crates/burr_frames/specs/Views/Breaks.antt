@@ -6,7 +6,7 @@ use Rattle.burr_container.specs.Views.Refs.{frame_of}
 use Rattle.burr_frames.specs.Rules.FramedPlans.{FramedProcedure, framed}
 use Rattle.burr_frames.specs.declared.rule.Rule.{Rule}
 use Rattle.burr_frames.specs.declared.rule.Rule.TheVariants as rules
-use Rattle.burr_frames.specs.declared.breaking.Break.{Break}
+use Rattle.burr_frames.specs.declared.rule.Break.{Break}
 use Rattle.burr_frames.specs.Rules.States.{AbstractState, Everywhere, IsFirstFailing}
 use Rattle.burr_frames.specs.Rules.Verdicts.{Broken, Verdict, Breaks, FallsThrough, NoSuccessor, arriving, no_successor}
 

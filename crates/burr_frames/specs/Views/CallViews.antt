@@ -8,7 +8,7 @@ use Rattle.burr_forms.specs.Rules.Points.{AreRanges, box_size}
 use Rattle.burr_forms.specs.declared.form.FormTooLarge.{FormTooLarge}
 use Rattle.burr_container.specs.Rules.Plans.{Range}
 use Rattle.burr_frames.specs.declared.rule.Rule.TheVariants as rules
-use Rattle.burr_frames.specs.declared.breaking.Break.{Break}
+use Rattle.burr_frames.specs.declared.rule.Break.{Break}
 use Rattle.burr_frames.specs.Rules.States.{AbstractState, Everywhere, IsFirstFailing}
 use Rattle.burr_frames.specs.Views.Breaks.{broken_of, plain_break, break_at}
 use Rattle.burr_frames.specs.Rules.SpaceRules.{AllSmallPlaces}

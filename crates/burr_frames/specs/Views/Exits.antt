@@ -3,7 +3,7 @@ use Rattle.std.specs.Prelude.{⊤, ℕ, List, length, reverse, Result, Ok, Err, 
 use Rattle.burr_text.specs.Checks.{needs, finds}
 use Rattle.burr_code.specs.Stacks.{top_many}
 use Rattle.burr_forms.specs.Rules.Forms.{Form}
-use Rattle.burr_container.specs.declared.exit_ref.ExitRef.{ExitRef}
+use Rattle.burr_container.specs.declared.frame_ref.ExitRef.{ExitRef}
 use Rattle.burr_container.specs.Views.Refs.{exit_frame_of}
 use Rattle.burr_frames.specs.declared.rule.Rule.{Rule}
 use Rattle.burr_frames.specs.declared.rule.Rule.TheVariants as rules

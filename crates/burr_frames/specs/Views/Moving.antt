@@ -10,7 +10,7 @@ use Rattle.burr_code.specs.Places.{LiesIn, aside_places}
 use Rattle.burr_blocking.specs.declared.blocking.Query.{Query}
 use Rattle.burr_container.specs.Rules.Plans.{FormCell}
 use Rattle.burr_forms.specs.Rules.Forms.{Point}
-use Rattle.burr_frames.specs.declared.breaking.Break.{Break}
+use Rattle.burr_frames.specs.declared.rule.Break.{Break}
 use Rattle.burr_frames.specs.declared.rule.Rule.{Rule}
 use Rattle.burr_frames.specs.declared.rule.Rule.TheVariants as rules
 use Rattle.burr_frames.specs.Views.Breaks.{last_verdict}

@@ -15,9 +15,8 @@ ghost use Rattle.burr_frames.specs.Views.Here.{OfFramedProcedure};
 ghost use Rattle.burr_frames.specs.Rules.SpaceRules.{AllSmallPlaces};
 ghost use Rattle.burr_frames.specs.Views.Exits.{framed_ref};
 
-use crate::breaking::Break;
 use crate::forms::{placed, raised_by, substituted};
-use crate::rule::Rule;
+use crate::rule::{Break, Rule};
 use crate::state::instructions::{frame_at, has_room};
 use crate::state::meeting::Miss;
 use crate::state::{MOST_PIECES, State, copied_slots, extend, symbol};

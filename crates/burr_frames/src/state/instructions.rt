@@ -14,9 +14,8 @@ ghost use Rattle.burr_frames.specs.Rules.ControlRules.{halt_rule, jump_rule, dow
 ghost use Rattle.burr_frames.specs.Rules.Verdicts.{falls_through, arriving_at_all, no_successor};
 ghost use Rattle.burr_frames.specs.Rules.QuestionRules.{ask_rule, pick_rule, with_symbol, asked};
 
-use crate::breaking::Break;
 use crate::forms::raised_by;
-use crate::rule::Rule;
+use crate::rule::{Break, Rule};
 use crate::state::meeting::arrives;
 use crate::state::{State, copied, symbol};
 use burr_code::limits::{MOST_NUMBER, SLOTS};

@@ -12,10 +12,9 @@ ghost use Rattle.burr_frames.specs.Rules.Looks.{HasRoom, step_looks, aside_looks
 ghost use Rattle.burr_frames.specs.Views.Moving.{ClearOrBreaks, free_aside, free_step};
 ghost use Rattle.burr_frames.specs.Views.Clearing.{offsets_in};
 
-use crate::breaking::Break;
 use crate::clearing::{Clearing, put_pieces};
 use crate::forms::{moved, offset_forms};
-use crate::rule::Rule;
+use crate::rule::{Break, Rule};
 use crate::state::meeting::append;
 use crate::state::{MOST_PIECES, State};
 use arrayvec::ArrayVec;

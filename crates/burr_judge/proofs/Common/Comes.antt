@@ -11,7 +11,7 @@ use Rattle.burr_verify.specs.Rules.Accepting.{judged, IsAccepted}
 use Rattle.burr_runs.specs.Rules.Refusals.{assembly_refusal, container_refusal}
 use Rattle.burr_runs.specs.Rules.Verdicts.{IsPassedBy}
 use Rattle.burr_judge.specs.declared.fault.Fault.{Fault}
-use Rattle.burr_judge.specs.declared.status.Status.{Status}
+use Rattle.burr_judge.specs.declared.refused.Status.{Status}
 use Rattle.burr_judge.specs.declared.ladder.Given.{Given}
 use Rattle.burr_judge.specs.declared.ladder.Given.TheVariants.{Container, Text}
 use Rattle.burr_judge.specs.Ladder.{BytesCome, GivenComes, LadderComes, IsRead, WantsMemory}

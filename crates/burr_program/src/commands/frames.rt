@@ -9,8 +9,7 @@ ghost use Rattle.burr_program.specs.MakingEnds.{Makes};
 ghost use Rattle.burr_trace.specs.FilledTexts.{IsFilledIn};
 
 use crate::files::{Content, keep_sources, read_text, write_file};
-use crate::notes::{Noting, add_notes, put_kept, refuse_with_notes};
-use crate::reasons::{reason_of_fault, with_meaning};
+use crate::notes::{Noting, add_notes, put_kept, reason_of_fault, refuse_with_notes, with_meaning};
 use burr_asm::AsmFault;
 use burr_blocking::Blocking;
 use burr_container::Container;

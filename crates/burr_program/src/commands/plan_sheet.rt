@@ -2,8 +2,7 @@ ghost use Rattle.burr_judge.specs.PlanEnds.{EndsOn, never};
 ghost use Rattle.burr_program.specs.Commands.{PlanSheetCommand, SomeRefusal, EndsOnFiles};
 
 use crate::files::{Content, keep_sources, read_text, write_file};
-use crate::notes::{Named, Noting, refuse_line, refuse_with_notes};
-use crate::reasons::reason_of_refused_plan;
+use crate::notes::{Named, Noting, reason_of_refused_plan, refuse_line, refuse_with_notes};
 use burr_assembly::Assembly;
 use burr_blocking::RowTables;
 use burr_container::Container;

@@ -1,6 +1,6 @@
 -- What holds of all inputs and what is written for them.
 use Rattle.std.specs.Prelude.{◌≡◌, ℕ, List}
-use Rattle.burr_runs.specs.declared.outcome.Outcome.{Outcome}
+use Rattle.burr_runs.specs.declared.text_runs.Outcome.{Outcome}
 use Rattle.burr_runs.specs.Rules.Input.{IsInput}
 use Rattle.burr_runs.specs.Rules.Output.{IsOutput}
 

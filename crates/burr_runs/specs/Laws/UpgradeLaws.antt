@@ -12,7 +12,7 @@ use Rattle.burr_state.specs.declared.effect.Motion.{Motion}
 use Rattle.burr_state.specs.Rules.Bench.{start}
 use Rattle.burr_state.specs.Rules.Run.{Run}
 use Rattle.burr_container.specs.Rules.Plans.{upgraded}
-use Rattle.burr_runs.specs.declared.outcome.Outcome.{Outcome}
+use Rattle.burr_runs.specs.declared.text_runs.Outcome.{Outcome}
 use Rattle.burr_runs.specs.Rules.Headline.{setup_for, IsSafeSheetOf}
 
 -- Whatever the assembly, the judgement of the upgraded plan is that of the plan: accepted, or refused

@@ -2,8 +2,8 @@
 use Rattle.std.specs.Prelude.{◌≡◌, ◌≢◌, ◌+◌, ℕ, ℤ, List, [], ◌∷◌, ◌++◌, length, flat_map, All, FitsSigned}
 use Rattle.std.specs.Int.{w32}
 use Rattle.std.specs.Fmt.{signed_decimal}
-use Rattle.burr_runs.specs.declared.answers.AnswersFault.{AnswersFault}
-use Rattle.burr_runs.specs.declared.answers.AnswersFault.TheVariants.{Line, Memory}
+use Rattle.burr_runs.specs.declared.input.AnswersFault.{AnswersFault}
+use Rattle.burr_runs.specs.declared.input.AnswersFault.TheVariants.{Line, Memory}
 
 -- the line of an answer
 abbrev pub answer_line : ℤ → List ℕ

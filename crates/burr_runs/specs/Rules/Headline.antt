@@ -13,8 +13,8 @@ use Rattle.burr_state.specs.Rules.Run.{Run}
 use Rattle.burr_bench.specs.Soundness.SafeRuns.{IsSafeRun}
 use Rattle.burr_sheet.specs.Rules.SheetText.{sheet}
 use Rattle.burr_verify.specs.Rules.Accepting.{Judged}
-use Rattle.burr_runs.specs.declared.outcome.Outcome.{Outcome}
-use Rattle.burr_runs.specs.declared.outcome.Outcome.TheVariants as outcomes
+use Rattle.burr_runs.specs.declared.text_runs.Outcome.{Outcome}
+use Rattle.burr_runs.specs.declared.text_runs.Outcome.TheVariants as outcomes
 use Rattle.burr_runs.specs.Rules.Output.{outcome_of}
 
 -- the bench that runs a plan on an assembly

@@ -11,8 +11,8 @@ use Rattle.burr_state.specs.declared.effect.Closing.TheVariants as closings
 use Rattle.burr_state.specs.Rules.Bench.{Program, bare_program, running, start}
 use Rattle.burr_state.specs.Rules.Run.{Run}
 use Rattle.burr_sheet.specs.Rules.SheetText.{sheet}
-use Rattle.burr_runs.specs.declared.outcome.Outcome.{Outcome}
-use Rattle.burr_runs.specs.declared.outcome.Outcome.TheVariants as outcomes
+use Rattle.burr_runs.specs.declared.text_runs.Outcome.{Outcome}
+use Rattle.burr_runs.specs.declared.text_runs.Outcome.TheVariants as outcomes
 use Rattle.burr_runs.specs.Rules.Input.{IsInput}
 use Rattle.burr_runs.specs.Rules.Refusals.{assembly_refusal}
 

@@ -8,7 +8,7 @@ use Rattle.burr_state.specs.declared.effect.Closing.TheVariants as closings
 use Rattle.burr_state.specs.Rules.Bench.{BenchState}
 use Rattle.burr_state.specs.Rules.Calls.{Calls, ClosesAt}
 use Rattle.burr_state.specs.Views.Benches.{Benched, setup_of, IsSameRun}
-use Rattle.burr_runs.specs.declared.outcome.Outcome.{Outcome}
+use Rattle.burr_runs.specs.declared.text_runs.Outcome.{Outcome}
 use Rattle.std.specs.declared.ops.ControlFlow.{ControlFlow}
 use Rattle.std.specs.declared.ops.ControlFlow.TheVariants as turns
 use Rattle.burr_runs.specs.Rules.Output.{outcome_of}

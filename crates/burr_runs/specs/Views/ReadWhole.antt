@@ -1,8 +1,8 @@
 -- What reading a source to its end gives.
 use Rattle.std.specs.Prelude.{◌≡◌, ℕ, ◌≤◌, ◌<◌, List, length, Bool, true, false, Option}
 use Rattle.std.specs.Io.KnownBytes.{Consumes, IsAtEnd}
-use Rattle.burr_runs.specs.declared.fault.BenchFault.{BenchFault}
-use Rattle.burr_runs.specs.declared.fault.BenchFault.TheVariants.{Read, TooLong, Write, Memory}
+use Rattle.burr_runs.specs.declared.input.BenchFault.{BenchFault}
+use Rattle.burr_runs.specs.declared.input.BenchFault.TheVariants.{Read, TooLong, Write, Memory}
 
 -- the source gave these bytes, no more than an input may have; no call failed, and nothing is left
 pub record IsWholeInput (old new : Option (List ℕ)) (failed : Bool) (bytes : List ℕ) : Type 0 where

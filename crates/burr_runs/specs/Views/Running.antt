@@ -5,7 +5,7 @@ use Rattle.burr_io.specs.Sink.{SinkView, Takes, FailsWithin}
 use Rattle.burr_assembly.specs.Rules.Text.{Assembly}
 use Rattle.burr_state.specs.declared.effect.Mode.TheVariants.{Running, Ended}
 use Rattle.burr_state.specs.declared.effect.Motion.{Motion}
-use Rattle.burr_runs.specs.declared.outcome.Outcome.{Outcome}
+use Rattle.burr_runs.specs.declared.text_runs.Outcome.{Outcome}
 use Rattle.burr_state.specs.Rules.Bench.{Program}
 use Rattle.burr_state.specs.Rules.Run.{Run}
 use Rattle.burr_state.specs.declared.effect.Closing.{Closing}

@@ -10,8 +10,7 @@ ghost use Rattle.burr_state.specs.Views.StateViews.{IsOrderly};
 
 use crate::activation::Activation;
 use crate::effect::Mode;
-use crate::shifting::copied_places;
-use crate::state::BenchState;
+use crate::state::{BenchState, copied_places};
 use crate::undo::{Change, Undo};
 use arrayvec::ArrayVec;
 use burr_code::Instr;

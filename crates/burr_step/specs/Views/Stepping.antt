@@ -14,8 +14,8 @@ use Rattle.burr_bench.specs.Safe.{IsResumable}
 use Rattle.burr_bench.specs.Soundness.Machine.{IsSafeBench}
 use Rattle.burr_bench.specs.Recorded.{TakesBack, MadeStep, gone_back}
 use Rattle.burr_step.specs.declared.records.TheConstants.{MOST_RECORDS}
-use Rattle.burr_step.specs.declared.refusal.StepRefusal.{StepRefusal as CodeRefusal}
-use Rattle.burr_step.specs.declared.refusal.StepRefusal.TheVariants as code
+use Rattle.burr_step.specs.declared.stepper.StepRefusal.{StepRefusal as CodeRefusal}
+use Rattle.burr_step.specs.declared.stepper.StepRefusal.TheVariants as code
 use Rattle.burr_step.specs.declared.stepper.Stop.{Stop}
 use Rattle.burr_step.specs.declared.stepper.Stop.TheVariants as stops
 use Rattle.burr_step.specs.Rules.Stepper.{Leads, History, history, IsStateOf, IsKept, IsAsking, IsHalted, GoesUntil, farther_by, depth_of, StepCommand, StepRefusal, S1, S2, S3, S4, Taken, Refused, Follows, Commanding}

@@ -5,7 +5,7 @@ use Rattle.burr_frames.specs.Rules.FramedPlans.{FramedProcedure}
 use Rattle.burr_frames.specs.Rules.States.{AbstractState}
 use Rattle.burr_frames.specs.Views.Breaks.{broken_of}
 use Rattle.burr_frames.specs.Rules.Verdicts.{Verdict, Breaks, FallsThrough, NoSuccessor}
-use Rattle.burr_frames.specs.declared.breaking.Break.{Break}
+use Rattle.burr_frames.specs.declared.rule.Break.{Break}
 use Rattle.burr_verify.specs.declared.refusal.Refusal.{Refusal}
 use Rattle.burr_verify.specs.declared.transfer.Successor.{Successor}
 use Rattle.burr_verify.specs.declared.transfer.Successor.TheVariants as successors

@@ -3,7 +3,7 @@ use Rattle.std.proofs.Common.{◌≡◌, ◌≢◌, ℕ, List, ◌++◌, take, d
 use Rattle.std.proofs.lemmas.List.{take-append-drop}
 use Rattle.burr_voxels.specs.declared.direction.Direction.{Direction}
 use Rattle.burr_voxels.specs.declared.direction.Direction.TheVariants.{PlusX, MinusX, PlusY, MinusY, PlusZ, MinusZ}
-use Rattle.burr_voxels.specs.declared.orientation.Orientation.{Orientation}
+use Rattle.burr_voxels.specs.declared.direction.Orientation.{Orientation}
 use Rattle.burr_voxels.specs.Grid.{name_of}
 use Rattle.burr_voxels.specs.Turns.{axes_name, IsRotation}
 

@@ -1,8 +1,7 @@
 //! The place at which a rule is broken, with all that is around it.
 
 use super::Reasons;
-use crate::origins::{Origin, Origins};
-use crate::point_state::PointState;
+use crate::point_state::{Origin, Origins, PointState};
 use burr_code::Instr;
 use burr_forms::Point;
 use burr_lines::{FramePart, PlanItem, PlanText, Shown};

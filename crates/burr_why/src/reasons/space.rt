@@ -1,9 +1,8 @@
 //! Pieces: which are gripped, where they lie, and which are in each other's way.
 
 use super::{Reasons, Site};
-use crate::group::{Group, Whereabouts};
 use crate::meeting::{Displaced, Meeting, common_cell, first_meeting};
-use crate::offset::Offset;
+use crate::offset::{Group, Offset, Whereabouts};
 use crate::point_state::PointState;
 use burr_code::limits::{MOST_OFFSET, MOST_PIECES};
 use burr_code::{Instr, is_in_set};

@@ -6,8 +6,8 @@ use Rattle.burr_step.specs.Views.Stepping.{Stepping}
 use Rattle.burr_c.specs.DriveCalls.{AnswerComes, answered, code_of}
 use Rattle.burr_c.specs.declared.handle.KeptRun.{KeptRun}
 use Rattle.burr_c.specs.declared.handle.KeptRun.TheVariants.{Drive, Stepper}
-use Rattle.burr_c.specs.declared.told.Came.{Came}
-use Rattle.burr_c.specs.declared.told.Came.TheVariants.{Closed}
+use Rattle.burr_c.specs.declared.drive.Came.{Came}
+use Rattle.burr_c.specs.declared.drive.Came.TheVariants.{Closed}
 use Rattle.burr_c.proofs.drive.burr_drive_answer.Goals as goal
 use Rattle.burr_c.proofs.drive.burr_drive_answer.Goals.{in-Drive+then-answer, in-Drive+else-answer, in-Stepper}
 

@@ -2,14 +2,14 @@ use Rattle.std.proofs.Common.{◌≡◌, ◌∙◌, Box, Global, List, Some, [],
 use Rattle.std.specs.Prelude.{Option, Result, Ok, Err, IfOk, IfErr}
 use Rattle.burr_step.specs.Views.Driving.{Driving}
 use Rattle.burr_step.specs.Views.Stepping.{Stepping}
-use Rattle.burr_judge.specs.declared.status.Status.{Status}
-use Rattle.burr_judge.specs.declared.status.Status.TheVariants.{Done}
+use Rattle.burr_judge.specs.declared.refused.Status.{Status}
+use Rattle.burr_judge.specs.declared.refused.Status.TheVariants.{Done}
 use Rattle.burr_c.specs.declared.handle.KeptRun.{KeptRun}
 use Rattle.burr_c.specs.declared.handle.KeptRun.TheVariants.{Drive, Stepper}
 use Rattle.burr_c.specs.declared.printed.CallFault.{CallFault}
 use Rattle.burr_c.specs.declared.printed.CallFault.TheVariants.{Memory}
 use Rattle.burr_c.specs.declared.printed.Printed.{Printed}
-use Rattle.burr_c.specs.declared.told.Came.TheVariants.{Closed}
+use Rattle.burr_c.specs.declared.drive.Came.TheVariants.{Closed}
 use Rattle.burr_c.specs.Calls.{Call, Gives, call}
 use Rattle.burr_c.specs.DriveCalls.{code_of}
 use Rattle.burr_c.specs.Statuses.{status_of_fault}

@@ -1,5 +1,5 @@
 use Rattle.std.proofs.Common.{inl, inr, ap, refl}
-use Rattle.burr_judge.specs.declared.status.Status.TheVariants.{Done}
+use Rattle.burr_judge.specs.declared.refused.Status.TheVariants.{Done}
 use Rattle.burr_judge.specs.Statuses.{code_of}
 use Rattle.burr_program.proofs.program.give.Goals as goal
 

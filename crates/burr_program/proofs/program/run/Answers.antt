@@ -1,5 +1,5 @@
 use Rattle.std.proofs.Common.{List, ℕ, inl, inr, refl, ap, subst, ◌∙◌}
-use Rattle.burr_runs.specs.declared.fault.BenchFault.TheVariants.{Write}
+use Rattle.burr_runs.specs.declared.input.BenchFault.TheVariants.{Write}
 use Rattle.burr_program.specs.Ends.{took, TakesText}
 use Rattle.burr_judge.specs.Statuses.{code_of}
 use Rattle.burr_program.proofs.HandedText.{output_handed, output_failed_late, no_outcome}

@@ -3,7 +3,7 @@ use Rattle.std.specs.Prelude.{ℤ, List, ℕ}
 use Rattle.burr_assembly.specs.Rules.Text.{Assembly}
 use Rattle.burr_container.specs.Rules.Plans.{Plan}
 use Rattle.burr_container.specs.Rules.Plans.{upgraded}
-use Rattle.burr_runs.specs.declared.outcome.Outcome.{Outcome}
+use Rattle.burr_runs.specs.declared.text_runs.Outcome.{Outcome}
 use Rattle.burr_runs.specs.Rules.Headline.{IsSafeSheetOf}
 use Rattle.burr_runs.proofs.laws.an_upgraded_plan_runs_as_before.Goals as goal
 

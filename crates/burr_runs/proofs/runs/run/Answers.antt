@@ -4,7 +4,7 @@ use Rattle.burr_assembly.specs.Rules.Text.{Assembly}
 use Rattle.burr_assembly.specs.Rules.Homes.{names_of}
 use Rattle.burr_io.specs.Sink.{FailsWithin}
 use Rattle.burr_sheet.specs.Views.SheetUnderWay.{UnderWay, blank, still}
-use Rattle.burr_runs.specs.declared.outcome.Outcome.{Outcome}
+use Rattle.burr_runs.specs.declared.text_runs.Outcome.{Outcome}
 use Rattle.burr_runs.specs.Rules.Output.{outcome_of}
 use Rattle.burr_runs.specs.Views.Running.{FailsInRun, ClosesPart, PutsSheet, run_state}
 use Rattle.burr_runs.specs.Views.AfterRuns.{IsAtRunEnd}

@@ -9,7 +9,7 @@ use Rattle.burr_blocking.proofs.Common.Counts.{none_more}
 use Rattle.burr_code.specs.Instruction.{Instruction, StandsAt}
 use Rattle.burr_code.specs.Meaning.{meaning, NoneStandsAt}
 use Rattle.burr_frames.specs.Views.Breaks.{broken_of}
-use Rattle.burr_frames.specs.declared.breaking.Break.{Break}
+use Rattle.burr_frames.specs.declared.rule.Break.{Break}
 use Rattle.burr_frames.specs.declared.rule.Rule.TheVariants as rules
 use Rattle.burr_frames.specs.Rules.FramedPlans.{FramedPlan, FramedProcedure, framed_plan}
 use Rattle.burr_frames.specs.Rules.Looks.{HasRoom, RuleLooks}

@@ -17,7 +17,7 @@ use Rattle.std.proofs.raw_atomic.Walks.{proved}
 use Rattle.burr_c.proofs.Boxed.{C-laws}
 use Rattle.burr_c.proofs.LooseValues.{Loose, word, word_fits, opens_loose}
 use Rattle.burr_c.proofs.HandleValues.{pair, pair_fits, makes_handle}
-use Rattle.burr_c.proofs.loose.Loose.TheLaws.{lowers}
+use Rattle.burr_c.proofs.handle.Loose.TheLaws.{lowers}
 use Rattle.burr_c.specs.Boxed.{C}
 use Rattle.burr_c.specs.contracts.handle.Handle.of_loose as f
 use Rattle.burr_c.proofs.handle.Handle.of_loose.Statement.{statement}
