@@ -3,6 +3,7 @@ pub mod Decided
 pub mod ExitsRead
 pub mod FineVerdicts
 pub mod FirstPoints
+pub mod FormValues
 pub mod Heres
 pub mod Room
 pub mod RuleLooks

@@ -29,6 +29,7 @@ pub mod Paying
 pub mod Reaches
 pub mod Rooms
 pub mod SearchedPairs
+pub mod Settled
 pub mod SmallPlaces
 pub mod TopTwo
 pub mod TrayPairs

@@ -94,16 +94,16 @@ counted_on ranges i count d are inside e =
     ∙ sym (ap (λ (left : List Range). count * box_size left) (drop_more ranges i d inside)) ∙ e
 
 -- the product with all ranges is the box's size
-pub all_counted : (ranges : List Range) (i count : ℕ) → length ranges ≤ i → count * box_size (drop i ranges) ≡ box_size ranges
-    → count ≤ 4096 → box_size ranges ≤ 4096
-all_counted ranges i count past e room =
+pub all_counted : (most : ℕ) (ranges : List Range) (i count : ℕ) → length ranges ≤ i → count * box_size (drop i ranges) ≡ box_size ranges
+    → count ≤ most → box_size ranges ≤ most
+all_counted most ranges i count past e room =
     let whole : count * 1 ≡ box_size ranges = sym (ap (λ (left : List Range). count * box_size left) (drop_all i ranges past)) ∙ e in
     omega (arith, whole, room)
 
 -- too many so far are too many
-pub too_many : (ranges rest : List Range) (count : ℕ) → 4096 < count → count * box_size rest ≡ box_size ranges
-    → ¬ (box_size ranges ≤ 4096)
-too_many ranges rest count over e few =
+pub too_many : (most : ℕ) (ranges rest : List Range) (count : ℕ) → most < count → count * box_size rest ≡ box_size ranges
+    → ¬ (box_size ranges ≤ most)
+too_many most ranges rest count over e few =
     let more = mul-le count 1 count (box_size rest) (omega arith) (some_point rest) in
     omega (arith, more, e, over, few)
 

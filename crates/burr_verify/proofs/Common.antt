@@ -1,4 +1,3 @@
 pub mod CallRule
 pub mod Costs
-pub mod FormValues
 pub mod FromContainers

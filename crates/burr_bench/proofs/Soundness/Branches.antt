@@ -26,7 +26,7 @@ use Rattle.burr_bench.proofs.Soundness.StepOutcomes.{FallsOn, SentOn, Parameters
 use Rattle.burr_bench.specs.Soundness.Invariant.{IsGood}
 use Rattle.burr_frames.proofs.Common.FineVerdicts.{IsFine, held, found, held_everywhere, paid}
 use Rattle.burr_bench.proofs.Soundness.Failing.{goes_past, goes_with}
-use Rattle.burr_verify.proofs.Common.FormValues.{value_raised, value_negated}
+use Rattle.burr_frames.proofs.Common.FormValues.{value_raised, value_negated}
 use Rattle.burr_bench.proofs.Soundness.Operands.{is_paid, new_slot, apart_from}
 use Rattle.burr_bench.proofs.Soundness.Arrival.{stands_at_frame}
 use Rattle.burr_bench.proofs.Soundness.Mapped.{map_at}

@@ -23,7 +23,7 @@ use Rattle.burr_bench.proofs.Soundness.StepOutcomes.{FallsOn, IsPaid}
 use Rattle.burr_bench.specs.Soundness.Invariant.{IsGood}
 use Rattle.burr_frames.proofs.Common.FineVerdicts.{IsFine, held, found, held_everywhere, paid}
 use Rattle.burr_bench.proofs.Soundness.Failing.{goes_past, goes_with}
-use Rattle.burr_verify.proofs.Common.FormValues.{value_number, value_raised, value_plus, value_minus}
+use Rattle.burr_frames.proofs.Common.FormValues.{value_number, value_raised, value_plus, value_minus}
 
 pub is_paid : (s t : AbstractState) (point : Point) → IsPoint s point
     → ((q : Point) → IsPoint s q → pos 0 ≤ℤ value q (one_less s.cost)) → t.cost ≡ one_less s.cost

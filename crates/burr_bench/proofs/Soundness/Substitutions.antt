@@ -11,7 +11,7 @@ use Rattle.burr_forms.specs.Rules.Points.{GuardsHold}
 use Rattle.burr_container.specs.Rules.Plans.{FormCell}
 use Rattle.burr_frames.specs.Rules.States.{cell_at, places_at}
 use Rattle.burr_frames.specs.Rules.ControlRules.{substituted_cell, substituted_places, symbols_from}
-use Rattle.burr_verify.proofs.Common.FormValues.{value_substituted}
+use Rattle.burr_frames.proofs.Common.FormValues.{value_substituted}
 use Rattle.burr_bench.proofs.Soundness.Values.{value_symbol}
 
 pub places_substituted : (arguments : List Form) (places : List (Placement FormCell))

@@ -33,7 +33,7 @@ use Rattle.burr_bench.proofs.Soundness.StepOutcomes.{FallsOn}
 use Rattle.burr_bench.specs.Soundness.Invariant.{IsGood}
 use Rattle.burr_frames.proofs.Common.FineVerdicts.{IsFine, held, held_everywhere, held_of_pairs, paid}
 use Rattle.burr_bench.proofs.Soundness.Failing.{goes_past}
-use Rattle.burr_verify.proofs.Common.FormValues.{value_raised}
+use Rattle.burr_frames.proofs.Common.FormValues.{value_raised}
 use Rattle.burr_bench.proofs.Soundness.Operands.{is_paid}
 use Rattle.burr_blocking.proofs.Common.Displaced.{overlap_before}
 use Rattle.burr_state.proofs.Common.Trays.Shifts.{IsShifted, lay_before_shift, lies_after_shift, count_in-shift}

@@ -5,7 +5,7 @@ use Rattle.std.proofs.lemmas.Int.{ints}
 use Rattle.std.proofs.Math.IntN.{suc_ℤ-*ℤ, zero-*ℤ}
 use Rattle.burr_forms.specs.Rules.Forms.{Form, Point, dot, value, symbol}
 use Rattle.burr_frames.specs.Views.Over.{AllZero, ZeroFrom}
-use Rattle.burr_verify.proofs.Common.FormValues.{dot_zeros}
+use Rattle.burr_frames.proofs.Common.FormValues.{dot_zeros}
 
 -- a form's value where its coefficients for the symbols after are 0
 

@@ -17,13 +17,14 @@ ghost use Rattle.burr_frames.specs.Views.Exits.{framed_ref};
 
 use crate::forms::{placed, raised_by, substituted};
 use crate::rule::{Break, Rule};
-use crate::state::instructions::{frame_at, has_room};
+use crate::state::instructions::{frame_at, has_at_most};
 use crate::state::meeting::Miss;
 use crate::state::{MOST_PIECES, State, copied_slots, extend, symbol};
 use arrayvec::ArrayVec;
 use burr_code::Placement;
 use burr_code::limits::{MOST_GUARDS, MOST_OPERANDS, MOST_RESULTS, MOST_STATE_GUARDS, SLOTS};
 use burr_container::{ExitRef, FormOffset, FrameRef, ProcedureRef};
+use burr_forms::limits::MOST_POINTS;
 use burr_forms::{Form, FormTooLarge};
 use std::marker::Model;
 
@@ -240,7 +241,7 @@ impl State {
             return None;
         }
         let ranges = joined(self.ranges.as_slice(), exit.results.as_slice());
-        if !has_room(ranges.as_slice()) {
+        if !has_at_most(ranges.as_slice(), MOST_POINTS) {
             return None;
         }
         Some(ranges)

@@ -398,7 +398,7 @@ impl State {
         }
         let mut ranges = copied(&self.ranges);
         ranges.push((i32::from(low), i32::from(high)));
-        has_room(ranges.as_slice())
+        has_at_most(ranges.as_slice(), MOST_POINTS)
     }
 
     /// A law of each state: it has no more guards than there is room for.
@@ -412,7 +412,7 @@ impl State {
     pub fn has_room_for_points(&self) -> bool
         ensures { IsTrue result ↔ (box_size self.now.ranges ≤ MOST_POINTS) }
     {
-        has_room(self.ranges.as_slice())
+        has_at_most(self.ranges.as_slice(), MOST_POINTS)
     }
 
     /// A symbol of this range more, which is the topmost operand. There is room, the caller's
@@ -429,16 +429,18 @@ impl State {
     }
 }
 
-/// Whether a box has no more than 4,096 points.
-pub(super) fn has_room(ranges: &[(i32, i32)]) -> bool
-    requires { AreRanges ranges.now }
-    ensures { IsTrue result ↔ (box_size ranges.now ≤ MOST_POINTS) }
+/// Whether a box has at most this many points, 1 to 4,096.
+pub(super) fn has_at_most(ranges: &[(i32, i32)], most: u32) -> bool
+    requires ranges { AreRanges ranges.now }
+    requires some { 1 ≤ most }
+    requires few { most ≤ MOST_POINTS }
+    ensures { IsTrue result ↔ (box_size ranges.now ≤ most) }
 {
     let mut count: u32 = 1;
     for symbol in 0..ranges.len() {
         let (low, high) = ranges[symbol];
         count *= (high - low) as u32 + 1;
-        if MOST_POINTS < count {
+        if most < count {
             return false;
         }
     }

@@ -2,7 +2,8 @@
 
 ghost use Rattle.std.specs.Prelude.{◌≡◌, ◌≤◌, [], IfOk, MatchOption, length, ◌+◌, ◌↔◌, IsTrue, ◌<◌, ◌++◌, ◌*◌, Some, slice_get, map, reverse, All};
 ghost use Rattle.burr_code.specs.Places.{tray_of};
-ghost use Rattle.burr_forms.specs.Rules.Forms.{AllSmallForms, values as values_of};
+ghost use Rattle.burr_forms.specs.Rules.Forms.{IsSmallForm, AllSmallForms, substituted, values as values_of};
+ghost use Rattle.burr_forms.specs.Rules.Conditions.{region, at_values, Throughout, FailsFirstAt};
 ghost use Rattle.burr_forms.specs.Rules.Points.{AreRanges, InBox, GuardsHold};
 ghost use Rattle.burr_forms.specs.Views.Searching.{AllBounded};
 ghost use Rattle.burr_container.specs.Views.Refs.{frame_of, parameters_of};
@@ -12,14 +13,15 @@ ghost use Rattle.burr_frames.specs.Rules.States.{Everywhere, IsFirstFailing, sta
 ghost use Rattle.burr_frames.specs.Rules.Arrival.{IsAlike};
 ghost use Rattle.burr_frames.specs.Views.ArrivalViews.{arrival_verdict, AgreesAbove, AgreesOrMisses};
 ghost use Rattle.burr_frames.specs.Views.Exits.{miss_verdict, framed_ref, meeting_exit, meeting_exit_with};
-ghost use Rattle.burr_frames.specs.Views.Comparing.{NoneBelow, offset_forms};
+ghost use Rattle.burr_frames.specs.Views.Comparing.{NoneBelow, LeavesOutSettled, offset_forms};
 ghost use Rattle.burr_frames.specs.Rules.ControlRules.{IsAlikeExit, MeetsExitAt};
 ghost use Rattle.burr_frames.specs.Rules.SpaceRules.{AllSmallPlaces};
 ghost use Rattle.burr_frames.specs.Views.StateViews.{IsSmallSlot, GivesLiveForms};
 ghost use Rattle.burr_frames.specs.declared.rule.Rule.TheVariants as rules;
 
 use crate::forms::{offset_forms, wide_value};
-use crate::state::calls::{Exit, joined};
+use crate::state::calls::{Exit, joined, padded};
+use crate::state::instructions::has_at_most;
 use crate::state::{State, extend};
 use arrayvec::ArrayVec;
 use burr_code::Placement;
@@ -28,6 +30,9 @@ use burr_container::{ExitRef, FormOffset, FrameRef};
 use burr_forms::limits::MOST_FORMS;
 use burr_forms::{Condition, Form, Point, first_failing};
 use thiserror::Error;
+
+/// To settle a form takes as long as to compare it at about this many points.
+const FEW_POINTS: u32 = 16;
 
 /// Why a state does not agree with what a frame says.
 #[derive(Debug, PartialEq, Eq, Drop, Error)]
@@ -147,7 +152,7 @@ impl State {
             least,
             same: met.as_slice(),
         };
-        first_failing(self.ranges.as_slice(), self.guards.as_slice(), &agreement)
+        agreement.first_missed(self.ranges.as_slice(), self.guards.as_slice())
     }
 }
 
@@ -199,6 +204,108 @@ impl<'a> Condition for Agreement<'a> {
             && guards_hold(self.guards, symbols)
             && none_below(self.least, symbols, least)
             && are_values(self.same, symbols, same)
+    }
+}
+
+impl Agreement<'_> {
+    ghost use Rattle.burr_frames.specs.Views.Comparing.{IsMetBy};
+    ghost use Rattle.burr_frames.specs.Views.Targets.{target_of};
+
+    /// The first point of a box, under guards, at which the agreement fails, as `first_failing`
+    /// gives it.
+    fn first_missed(&self, ranges: &[(i32, i32)], guards: &[Form]) -> Option<Point>
+        requires few { length ranges.now ≤ 8 }
+        requires few_guards { length guards.now ≤ 120 }
+        requires few_forms { length self.now.forms.now ≤ 120 }
+        requires ranges { AreRanges ranges.now }
+        requires guards { AllSmallForms guards.now }
+        requires forms { AllSmallForms self.now.forms.now }
+        ensures { MatchOption result
+            (Throughout (region ranges.now guards.now)
+            (at_values (IsMetBy (target_of self.now)) self.now.forms.now))
+            (λ point. FailsFirstAt (region ranges.now guards.now)
+            (at_values (IsMetBy (target_of self.now)) self.now.forms.now) point.items) }
+    {
+        if has_at_most(ranges, FEW_POINTS) {
+            first_failing(ranges, guards, self)
+        } else {
+            self.first_unsettled_missed(ranges, guards)
+        }
+    }
+
+    /// The same, where what is the same as a form is not compared at each point. It stands apart, so
+    /// that its lists take no room in a box of few points.
+    #[inline(never)]
+    fn first_unsettled_missed(&self, ranges: &[(i32, i32)], guards: &[Form]) -> Option<Point>
+        requires few { length ranges.now ≤ 8 }
+        requires few_guards { length guards.now ≤ 120 }
+        requires few_forms { length self.now.forms.now ≤ 120 }
+        requires ranges { AreRanges ranges.now }
+        requires guards { AllSmallForms guards.now }
+        requires forms { AllSmallForms self.now.forms.now }
+        ensures { MatchOption result
+            (Throughout (region ranges.now guards.now)
+            (at_values (IsMetBy (target_of self.now)) self.now.forms.now))
+            (λ point. FailsFirstAt (region ranges.now guards.now)
+            (at_values (IsMetBy (target_of self.now)) self.now.forms.now) point.items) }
+    {
+        let (symbols, _) = self.forms.split_at(self.free + self.ranges.len());
+        let (front, others) = self.forms.split_at(symbols.len() + self.least.len());
+        let (forms, same) = unsettled(symbols, front, others, self.same);
+        let rest = Agreement {
+            forms: forms.as_slice(),
+            free: self.free,
+            ranges: self.ranges,
+            guards: self.guards,
+            least: self.least,
+            same: same.as_slice(),
+        };
+        first_failing(ranges, guards, &rest)
+    }
+}
+
+/// Forms that are compared at points, and those that they are compared with, pair by pair: a pair is
+/// left out where the second is the first as soon as the forms of the symbols stand in it. In front
+/// of the first ones stand others, which are compared with none.
+fn unsettled(
+    symbols: &[Form],
+    front: &[Form],
+    forms: &[Form],
+    same: &[Form],
+) -> (ArrayVec<Form, MOST_FORMS>, ArrayVec<Form, MOST_FORMS>)
+    requires few { length symbols.now ≤ 8 }
+    requires room { length front.now + length forms.now ≤ 120 }
+    requires pairs { length forms.now ≡ length same.now }
+    requires small { AllSmallForms symbols.now }
+    requires front_small { AllSmallForms front.now }
+    requires forms_small { AllSmallForms forms.now }
+    requires same_small { AllSmallForms same.now }
+    ensures left { LeavesOutSettled symbols.now front.now forms.now same.now result.0.items result.1.items }
+    ensures small { AllSmallForms result.0.items × AllSmallForms result.1.items }
+{
+    let arguments = padded(symbols);
+    let mut left = ArrayVec::new();
+    append(&mut left, front);
+    let mut others = ArrayVec::new();
+    for pair in 0..forms.len() {
+        if !is_substituted(&forms[pair], &same[pair], &arguments) {
+            left.push(forms[pair]);
+            others.push(same[pair]);
+        }
+    }
+    (left, others)
+}
+
+/// Whether a form is another one with arguments in place of its symbols.
+fn is_substituted(form: &Form, other: &Form, arguments: &[Form; SLOTS]) -> bool
+    requires small { IsSmallForm form.now }
+    requires other_small { IsSmallForm other.now }
+    requires arguments_small { AllSmallForms arguments.now }
+    ensures { IsTrue result ↔ (substituted arguments.now other.now ≡ form.now) }
+{
+    match other.substitute(arguments) {
+        Ok(found) => found == *form,
+        Err(_) => false,
     }
 }
 
@@ -473,6 +580,6 @@ impl State {
             least: &[],
             same: same.as_slice(),
         };
-        first_failing(self.ranges.as_slice(), self.guards.as_slice(), &agreement)
+        agreement.first_missed(self.ranges.as_slice(), self.guards.as_slice())
     }
 }

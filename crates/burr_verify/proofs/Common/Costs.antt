@@ -18,7 +18,7 @@ use Rattle.burr_frames.proofs.Common.Built.{transfer_is_built}
 use Rattle.burr_verify.specs.Rules.WellFramed.{Annotated, after, FallsOut, IsCutFrom, IsCut}
 use Rattle.burr_verify.proofs.Common.CallRule.{call_holds}
 use Rattle.burr_frames.proofs.Common.FineVerdicts.{IsFine}
-use Rattle.burr_verify.proofs.Common.FormValues.{value_raised, value_minus, value_substituted}
+use Rattle.burr_frames.proofs.Common.FormValues.{value_raised, value_minus, value_substituted}
 use Rattle.burr_verify.proofs.Common.FromContainers.{first_label}
 
 -- each procedure of the plan has a cut

@@ -67,5 +67,5 @@ returns c =
       target = record { free = 0; ranges = ranges i; guards = guards i; least = least; same = same i };
       asked = asked i;
     } in
-    disagreement s t upper least c.args.forms.now c.requires.alike c.requires.many c.requires.rows c.first_failing.result
-    (subst (FailsAsHanded c.first_failing.result) handed c.first_failing.ensures)
+    disagreement s t upper least c.args.forms.now c.requires.alike c.requires.many c.requires.rows c.first_missed.result
+    (subst (FailsAsHanded c.first_missed.result) handed c.first_missed.ensures)

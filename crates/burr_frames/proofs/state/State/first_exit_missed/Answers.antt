@@ -76,8 +76,8 @@ returns c =
       target = record { free = length parameters; ranges = ranges i; guards = guards i; least = []; same = same i };
       asked = asked i;
     } in
-    exit_difference s exit parameters results c.requires.many c.requires.alike.2 c.first_failing.result
-    (subst (FailsAsHanded c.first_failing.result) handed c.first_failing.ensures)
+    exit_difference s exit parameters results c.requires.many c.requires.alike.2 c.first_missed.result
+    (subst (FailsAsHanded c.first_missed.result) handed c.first_missed.ensures)
 
 -- What the calls ask for
 
@@ -92,11 +92,11 @@ with_offsets-compared-requires-clause-places_small c = subst AllSmallPlaces (sym
 pub with_offsets-same-requires-clause-places_small : goal.with_offsets-same-requires-clause-places_small
 with_offsets-same-requires-clause-places_small c = subst AllSmallPlaces (sym c.as_slice-3.ensures.value) c.exit.invariant.places
 
-pub first_failing-requires-clause-forms : goal.first_failing-requires-clause-forms
-first_failing-requires-clause-forms c = subst AllSmallForms (sym c.as_slice-4.ensures.value) c.with_offsets-compared.ensures.small
+pub first_missed-requires-clause-forms : goal.first_missed-requires-clause-forms
+first_missed-requires-clause-forms c = subst AllSmallForms (sym c.as_slice-4.ensures.value) c.with_offsets-compared.ensures.small
 
-pub first_failing-requires-clause-ranges : goal.first_failing-requires-clause-ranges
-first_failing-requires-clause-ranges c = subst AreRanges (sym c.as_slice-8.ensures.value) c.self.invariant.ranges
+pub first_missed-requires-clause-ranges : goal.first_missed-requires-clause-ranges
+first_missed-requires-clause-ranges c = subst AreRanges (sym c.as_slice-8.ensures.value) c.self.invariant.ranges
 
-pub first_failing-requires-clause-guards : goal.first_failing-requires-clause-guards
-first_failing-requires-clause-guards c = subst AllSmallForms (sym c.as_slice-9.ensures.value) c.self.invariant.guards
+pub first_missed-requires-clause-guards : goal.first_missed-requires-clause-guards
+first_missed-requires-clause-guards c = subst AllSmallForms (sym c.as_slice-9.ensures.value) c.self.invariant.guards

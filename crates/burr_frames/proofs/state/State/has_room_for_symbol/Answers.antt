@@ -6,8 +6,8 @@ use Rattle.burr_frames.specs.Rules.States.{AbstractState}
 use Rattle.burr_frames.proofs.Rooms.{handed_range, one_range_more}
 use Rattle.burr_frames.proofs.state.State.has_room_for_symbol.Goals as goal
 
-pub has_room-requires : goal.has_room-requires
-has_room-requires c =
+pub has_at_most-requires-clause-ranges : goal.has_at_most-requires-clause-ranges
+has_at_most-requires-clause-ranges c =
     let old = c.self.inside.ranges.items in
     let put = handed_range c.args.low c.args.high c.from.result c.from-2.result c.requires c.from.ensures c.from-2.ensures in
     let ranges : c.push.new.self.items ≡ old ++ (c.args.low, c.args.high) ∷ [] =
@@ -24,6 +24,6 @@ returns c =
     let now : c.as_slice.result.now ≡ s.ranges ++ range ∷ [] =
     c.as_slice.ensures.value ∙ c.push.ensures.items ∙ (λ i. (c.copied-ranges.ensures ∙ same) i ++ put i ∷ []) in
     let few : length (s.ranges ++ range ∷ []) ≤ 8 = omega (arith, c.as_slice.ensures.fits, ap (length {A = Range}) now) in (
-      λ room. (few, c.guards_are_few.ensures, subst (λ (ranges : List Range). box_size ranges ≤ 4096) now (c.has_room.ensures.0 room)),
-      λ room. c.has_room.ensures.1 (subst (λ (ranges : List Range). box_size ranges ≤ 4096) (sym now) room.2),
+      λ room. (few, c.guards_are_few.ensures, subst (λ (ranges : List Range). box_size ranges ≤ 4096) now (c.has_at_most.ensures.0 room)),
+      λ room. c.has_at_most.ensures.1 (subst (λ (ranges : List Range). box_size ranges ≤ 4096) (sym now) room.2),
     )

@@ -39,19 +39,19 @@ joined-ranges-requires c =
       ap (length {A = Range}) c.as_slice-2.ensures.value,
     )
 
-pub has_room-requires : goal.has_room-requires
-has_room-requires c =
+pub has_at_most-requires-clause-ranges : goal.has_at_most-requires-clause-ranges
+has_at_most-requires-clause-ranges c =
     subst AreRanges (sym (c.as_slice-3.ensures.value ∙ c.joined-ranges.ensures))
     (All-append IsRange c.as_slice.result.now c.as_slice-2.result.now
     (subst AreRanges (sym c.as_slice.ensures.value) c.self.invariant.ranges)
     (subst AreRanges (sym c.as_slice-2.ensures.value) c.exit.invariant.results))
 
-pub returns-then-not-has_room : goal.returns-then-not-has_room
-returns-then-not-has_room c =
+pub returns-then-not-has_at_most : goal.returns-then-not-has_at_most
+returns-then-not-has_at_most c =
     let s = c.args.self.now in
     let exit = c.args.exit.now in
     let whole : c.as_slice-3.result.now ≡ s.ranges ++ exit.results =
     c.as_slice-3.ensures.value ∙ c.joined-ranges.ensures
     ∙ (λ i. (c.as_slice.ensures.value ∙ ap ranges_in c.self.view_is) i ++ (c.as_slice-2.ensures.value ∙ ap results_in c.exit.view_is) i) in
-    let over = no_of c.if-not-has_room.ensures in
+    let over = no_of c.if-not-has_at_most.ensures in
     λ few. over (subst (λ (ranges : List Range). box_size ranges ≤ 4096) (sym whole) few.1)

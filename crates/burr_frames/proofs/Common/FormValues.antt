@@ -1,7 +1,8 @@
 -- For crates above too: values of forms that are made of others.
-use Rattle.std.proofs.Common.{◌≡◌, ℕ, zero, suc, List, [], ◌∷◌, refl, sym, ap, ◌∙◌, arith}
+use Rattle.std.proofs.Common.{◌≡◌, ℕ, zero, suc, List, [], ◌∷◌, ◌++◌, refl, sym, ap, ◌∙◌, arith}
 use Rattle.std.specs.Prelude.{ℤ, pos, negsuc, neg_ℤ, ◌+ℤ◌, ◌-ℤ◌, ◌*ℤ◌, map, replicate}
 use Rattle.std.proofs.lemmas.Int.{ints}
+use Rattle.std.proofs.lemmas.List.{map-append}
 use Rattle.std.proofs.Math.IntN.{suc_ℤ, pred_ℤ, suc_ℤ-*ℤ, pred_ℤ-*ℤ, zero-*ℤ, *ℤ_comm, *ℤ-zero}
 use Rattle.burr_forms.specs.Rules.Forms.{Form, Point, dot, value, values, number, sum_of, plus_form, times, minus_form, raised, combined, substituted}
 
@@ -170,3 +171,30 @@ value_substituted arguments f point =
     let r = value_raised f.constant (combined f.coefs arguments) point in
     let c = value_combined f.coefs arguments point in
     omega (arith, ints)
+
+-- symbols that stand for 0 count nothing
+
+dot_nothing : (coefs : List ℤ) → dot coefs [] ≡ pos 0
+dot_nothing [] = refl
+dot_nothing (c ∷ coefs) = refl
+
+dot_filled : (coefs : List ℤ) (point : Point) (n : ℕ) → dot coefs (point ++ replicate n (pos 0)) ≡ dot coefs point
+dot_filled [] point n = refl
+dot_filled (c ∷ coefs) [] zero = refl
+dot_filled (c ∷ coefs) [] (suc n) =
+    let rest = dot_filled coefs [] n ∙ dot_nothing coefs in let none = *ℤ-zero c in omega (arith, ints)
+dot_filled (c ∷ coefs) (x ∷ point) n = ap (λ z. (c *ℤ x) +ℤ z) (dot_filled coefs point n)
+
+values_zeros : (n : ℕ) (point : Point) → values point (replicate n (number (pos 0))) ≡ replicate n (pos 0)
+values_zeros zero point = refl
+values_zeros (suc n) point = λ i. value_number (pos 0) point i ∷ values_zeros n point i
+
+-- the value of a form where its symbols stand for forms, zeros after
+pub value_filled : (symbols : List Form) (n : ℕ) (f : Form) (point : Point)
+    → value point (substituted (symbols ++ replicate n (number (pos 0))) f) ≡ value (values point symbols) f
+value_filled symbols n f point =
+    let zeros = replicate n (number (pos 0)) in
+    value_substituted (symbols ++ zeros) f point
+    ∙ ap (λ (x : Point). value x f) (map-append (value point) symbols zeros
+    ∙ ap (λ (x : Point). values point symbols ++ x) (values_zeros n point))
+    ∙ ap (λ z. f.constant +ℤ z) (dot_filled f.coefs (values point symbols) n)
