@@ -38,11 +38,11 @@ none_below_push (a ∷ xs) (b ∷ ys) x y n l = (n.0, none_below_push xs ys x y 
 -- number k is not below, and none of those before it
 pub none_below_more : (point : Point) (forms : List Form) (numbers : List ℤ) (k : ℕ) (f : Form) (v : ℤ) → k < length forms
     → length numbers ≡ length forms → f ≡ slice_index_or forms k f → v ≡ value point f
-    → int_lt (slice_index_or numbers k (pos 0)) v ≡ false → NoneBelow (values point (take k forms)) (take k numbers)
+    → v ≤ℤ slice_index_or numbers k (pos 0) → NoneBelow (values point (take k forms)) (take k numbers)
     → NoneBelow (values point (take (k + 1) forms)) (take (k + 1) numbers)
-none_below_more point forms numbers k f v l same e is not_less none =
+none_below_more point forms numbers k f v l same e is above none =
     let number : ℤ = slice_index_or numbers k (pos 0) in
-    let after = none_below_push (values point (take k forms)) (take k numbers) v number none (omega (arith, ints, not_less)) in
+    let after = none_below_push (values point (take k forms)) (take k numbers) v number none above in
     let fronts : values point (take (k + 1) forms) ≡ values point (take k forms) ++ v ∷ [] =
     map_more (value point) forms k f l ∙ ap (λ w. values point (take k forms) ++ w ∷ []) (ap (value point) (sym e) ∙ sym is) in
     subst (λ (xs : List ℤ). NoneBelow xs (take (k + 1) numbers)) (sym fronts)

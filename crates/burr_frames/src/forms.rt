@@ -1,12 +1,13 @@
-ghost use Rattle.std.specs.Prelude.{◌≡◌, ◌≤◌, ◌∷◌, [], MatchResult, ◌↔◌, IsTrue, length, All};
+ghost use Rattle.std.specs.Prelude.{◌≡◌, ◌≤◌, ◌∷◌, [], MatchResult, ◌↔◌, IsTrue, length, All, pos, ◌≤ℤ◌};
 ghost use Rattle.std.specs.Int.RustNames.{unsigned_abs};
 ghost use Rattle.burr_code.specs.Places.{at_position};
-ghost use Rattle.burr_forms.specs.Rules.Forms.{raised, IsSmallForm, AllSmallForms, value};
+ghost use Rattle.burr_forms.specs.Rules.Forms.{Point, number as form_of_number, raised, IsSmallForm, AllSmallForms, value, values};
+ghost use Rattle.burr_forms.specs.Rules.Conditions.{region, Throughout};
 ghost use Rattle.burr_forms.specs.Views.Results.{IsFormOf};
-ghost use Rattle.burr_forms.specs.Rules.Points.{AreRanges};
+ghost use Rattle.burr_forms.specs.Rules.Points.{AreRanges, InRange, InBox, GuardsHold};
 ghost use Rattle.burr_forms.specs.Views.Searching.{AllBounded};
 ghost use Rattle.burr_container.specs.Views.Refs.{placement_view};
-ghost use Rattle.burr_frames.specs.Views.Comparing.{offset_forms};
+ghost use Rattle.burr_frames.specs.Views.Comparing.{NoneBelow, offset_forms};
 ghost use Rattle.burr_frames.specs.Rules.ControlRules.{substituted_cell};
 ghost use Rattle.burr_frames.specs.Rules.SpaceRules.{moved_forms, AllSmallPlaces};
 ghost use Rattle.burr_frames.specs.Views.Ranges.{IsInReach, AllInReach, LiesWithin};
@@ -154,6 +155,17 @@ fn is_in_reach(number: i64, reach: u16) -> bool
     -reach <= number && number <= reach
 }
 
+/// The form of a number.
+pub fn number_form(number: i32) -> Form
+    ensures form { result ≡ form_of_number number }
+    ensures small { IsSmallForm result }
+{
+    Form {
+        constant: i64::from(number),
+        coefs: [0; SLOTS],
+    }
+}
+
 /// The value of a form where the first symbols, eight at most, have these values, each within
 /// ±2^59, and the others count nothing. The form's own numbers lie within ±2^40; all is the
 /// caller's condition.
@@ -184,4 +196,131 @@ pub fn raised_by(form: &Form, number: i64) -> Result<Form, FormTooLarge>
         constant,
         coefs: form.coefs,
     })
+}
+
+// What forms show of all points at once.
+
+/// The points of a box at which no guard is negative.
+#[derive(Drop)]
+pub struct Region<'a> {
+    pub ranges: &'a [(i32, i32)],
+    pub guards: &'a [Form],
+    ghost few: { length ranges.now ≤ 8 },
+    ghost are: { AreRanges ranges.now },
+    ghost guards_small: { AllSmallForms guards.now },
+}
+
+impl Region<'_> {
+    /// Whether a form is shown to be negative at no point: its least value in the whole box is not
+    /// negative, or it is nowhere in the box below a guard.
+    pub fn shows_not_negative(&self, form: &Form) -> bool
+        requires { IsSmallForm form.now }
+        ensures { IsTrue result → Throughout (region self.now.ranges.now self.now.guards.now)
+            (λ point. pos 0 ≤ℤ value point form.now) }
+    {
+        if form.least_in(self.ranges) >= 0 {
+            return true;
+        }
+        for guard in self.guards {
+            if is_above(self.ranges, form, guard) {
+                return true;
+            }
+        }
+        false
+    }
+
+    /// Whether a form is shown to be below another one at no point.
+    fn shows_above(&self, form: &Form, other: &Form) -> bool
+        requires small { IsSmallForm form.now }
+        requires other_small { IsSmallForm other.now }
+        ensures { IsTrue result → Throughout (region self.now.ranges.now self.now.guards.now)
+            (λ point. value point other.now ≤ℤ value point form.now) }
+    {
+        match form.sub(other) {
+            Ok(gap) => self.shows_not_negative(&gap),
+            Err(_) => false,
+        }
+    }
+
+    /// Whether a form is shown to stay within a range.
+    fn shows_within(&self, form: &Form, range: (i32, i32)) -> bool
+        requires { IsSmallForm form.now }
+        ensures { IsTrue result → Throughout (region self.now.ranges.now self.now.guards.now)
+            (λ point. InRange range (value point form.now)) }
+    {
+        let (low, high) = range;
+        self.shows_above(form, &number_form(low)) && self.shows_above(&number_form(high), form)
+    }
+
+    /// Whether each of some forms is shown to stay within its range.
+    pub fn keeps_within(&self, forms: &[Form], ranges: &[(i32, i32)]) -> bool
+        requires places { length forms.now ≡ length ranges.now }
+        requires small { AllSmallForms forms.now }
+        ensures { IsTrue result → Throughout (region self.now.ranges.now self.now.guards.now)
+            (λ point. InBox ranges.now (values point forms.now)) }
+    {
+        for place in 0..forms.len() {
+            if !self.shows_within(&forms[place], ranges[place]) {
+                return false;
+            }
+        }
+        true
+    }
+
+    /// Whether guards, with arguments in place of their symbols, are shown to be negative at no
+    /// point.
+    pub fn keeps_guards(&self, guards: &[Form], arguments: &[Form; SLOTS]) -> bool
+        requires small { AllSmallForms guards.now }
+        requires arguments_small { AllSmallForms arguments.now }
+        ensures { IsTrue result → Throughout (region self.now.ranges.now self.now.guards.now)
+            (λ point. GuardsHold guards.now (values point arguments.now)) }
+    {
+        for guard in guards {
+            let Ok(form) = guard.substitute(arguments) else {
+                return false;
+            };
+            if !self.shows_not_negative(&form) {
+                return false;
+            }
+        }
+        true
+    }
+
+    /// Whether forms are shown to be below others, with arguments in place of the symbols of these,
+    /// at no point, one by one.
+    pub fn keeps_above(&self, forms: &[Form], least: &[Form], arguments: &[Form; SLOTS]) -> bool
+        requires places { length forms.now ≡ length least.now }
+        requires small { AllSmallForms forms.now }
+        requires least_small { AllSmallForms least.now }
+        requires arguments_small { AllSmallForms arguments.now }
+        ensures { IsTrue result → Throughout (region self.now.ranges.now self.now.guards.now)
+            (λ point. NoneBelow (values (values point arguments.now) least.now)
+            (values point forms.now)) }
+    {
+        for place in 0..forms.len() {
+            let Ok(other) = least[place].substitute(arguments) else {
+                return false;
+            };
+            if !self.shows_above(&forms[place], &other) {
+                return false;
+            }
+        }
+        true
+    }
+}
+
+/// Whether a form is nowhere in a box below another one, guards not counted; false also where their
+/// difference is too large for a form.
+fn is_above(ranges: &[(i32, i32)], form: &Form, other: &Form) -> bool
+    requires few { length ranges.now ≤ 8 }
+    requires ranges { AreRanges ranges.now }
+    requires small { IsSmallForm form.now }
+    requires other_small { IsSmallForm other.now }
+    ensures { IsTrue result → (point : Point) → InBox ranges.now point
+        → value point other.now ≤ℤ value point form.now }
+{
+    match form.sub(other) {
+        Ok(gap) => gap.least_in(ranges) >= 0,
+        Err(_) => false,
+    }
 }

@@ -21,9 +21,8 @@ ghost use Rattle.burr_frames.specs.Rules.ControlRules.{guarded};
 ghost use Rattle.burr_frames.specs.Views.Ranges.{AllInReach};
 ghost use Rattle.burr_frames.specs.Views.Breaks.{HoldsOrBreaks, Pays};
 
-use crate::forms::{Within, lie_within, placed, raised_by};
+use crate::forms::{Region, Within, lie_within, number_form, placed, raised_by};
 use crate::rule::{Break, Rule};
-use crate::state::instructions::number_form;
 use arrayvec::ArrayVec;
 use burr_code::Placement;
 use burr_code::limits::{MOST_OPERANDS, MOST_PIECES, MOST_STATE_GUARDS, SLOTS};
@@ -410,14 +409,16 @@ impl State {
         requires { IsSmallForm form.now }
         ensures { HoldsOrBreaks self.now (λ point. pos 0 ≤ℤ value point form.now) rule result }
     {
-        let ranges = self.ranges.as_slice();
-        // where its least value in the whole box tells, no point is looked at
-        if form.least_in(ranges) >= 0 {
+        let here = Region {
+            ranges: self.ranges.as_slice(),
+            guards: self.guards.as_slice(),
+        };
+        if here.shows_not_negative(form) {
             return Ok(());
         }
         let forms = [*form];
         let condition = NotNegative { forms: &forms };
-        match first_failing(ranges, self.guards.as_slice(), &condition) {
+        match first_failing(here.ranges, here.guards, &condition) {
             None => Ok(()),
             Some(point) => Err(Break::at(rule, point)),
         }

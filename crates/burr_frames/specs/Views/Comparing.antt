@@ -1,9 +1,9 @@
 -- Values of a state's forms beside those of the forms of a frame or an exit frame, where its
 -- symbols have the values that come first.
-use Rattle.std.specs.Prelude.{◌≡◌, ◌↔◌, ◌≤◌, ◌+◌, ◌++◌, ℕ, ℤ, ◌≤ℤ◌, List, [], ◌∷◌, length, take, drop}
+use Rattle.std.specs.Prelude.{◌≡◌, ◌+◌, ℕ, ℤ, ◌≤ℤ◌, List, [], ◌∷◌, length, take, drop}
 use Rattle.burr_code.specs.declared.placement.Placement.{Placement}
 use Rattle.burr_code.specs.declared.placement.Placement.TheVariants.{Apart, On}
-use Rattle.burr_forms.specs.Rules.Forms.{Form, Point, values}
+use Rattle.burr_forms.specs.Rules.Forms.{Form, values}
 use Rattle.burr_forms.specs.Rules.Points.{InBox, GuardsHold}
 use Rattle.burr_container.specs.Rules.Plans.{FormCell, Range}
 
@@ -48,15 +48,3 @@ IsMetBy t numbers =
     IsMetAt t (take (symbols_of t) numbers)
     (take (length t.least) (drop (symbols_of t) numbers))
     (drop (length t.least) (drop (symbols_of t) numbers))
-
--- What is left of forms that are compared at points with others, pair by pair, where the others are
--- over symbols that stand for forms: at each point the pairs that are left say as much as all did.
--- The forms in front, which are compared with none, are as they were.
-pub record LeavesOutSettled (symbols front forms same first second : List Form) : Type 0 where
-  pub kept : List Form
-  pub is : first ≡ front ++ kept
-  pub pairs : length kept ≡ length second
-  pub fewer : length kept ≤ length forms
-  pub says : (point : Point)
-      → (values (values point symbols) same ≡ values point forms)
-      ↔ (values (values point symbols) second ≡ values point kept)

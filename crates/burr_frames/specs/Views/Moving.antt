@@ -4,9 +4,8 @@ use Rattle.std.specs.Prelude.{⊤, ℕ, List, Option, Some, Result}
 use Rattle.burr_text.specs.Checks.{needs}
 use Rattle.burr_voxels.specs.declared.cell.Cell.{Cell}
 use Rattle.burr_voxels.specs.declared.direction.Direction.{Direction}
-use Rattle.burr_code.specs.PieceSets.{IsInSet}
 use Rattle.burr_code.specs.declared.placement.Placement.{Placement}
-use Rattle.burr_code.specs.Places.{LiesIn, aside_places}
+use Rattle.burr_code.specs.Places.{aside_places}
 use Rattle.burr_blocking.specs.declared.blocking.Query.{Query}
 use Rattle.burr_container.specs.Rules.Plans.{FormCell}
 use Rattle.burr_forms.specs.Rules.Forms.{Point}

@@ -14,7 +14,7 @@ ghost use Rattle.burr_frames.specs.Rules.ControlRules.{halt_rule, jump_rule, dow
 ghost use Rattle.burr_frames.specs.Rules.Verdicts.{falls_through, arriving_at_all, no_successor};
 ghost use Rattle.burr_frames.specs.Rules.QuestionRules.{ask_rule, pick_rule, with_symbol, asked};
 
-use crate::forms::raised_by;
+use crate::forms::{number_form, raised_by};
 use crate::rule::{Break, Rule};
 use crate::state::meeting::arrives;
 use crate::state::{State, copied, symbol};
@@ -36,7 +36,7 @@ impl State {
         }
         let cost = self.paid()?;
         self.set_cost(cost);
-        self.put(number_form(number));
+        self.put(number_form(i32::from(number)));
         Ok(())
     }
 
@@ -174,17 +174,6 @@ impl State {
         ensures small { IfSome result IsSmallForm }
     {
         self.slots[usize::from(v)]
-    }
-}
-
-/// The form of a number.
-pub(super) fn number_form(number: i16) -> Form
-    ensures form { result ≡ form_of_number number }
-    ensures small { IsSmallForm result }
-{
-    Form {
-        constant: i64::from(number),
-        coefs: [0; SLOTS],
     }
 }
 

@@ -13,13 +13,13 @@ ghost use Rattle.burr_frames.specs.Rules.States.{Everywhere, IsFirstFailing, sta
 ghost use Rattle.burr_frames.specs.Rules.Arrival.{IsAlike};
 ghost use Rattle.burr_frames.specs.Views.ArrivalViews.{arrival_verdict, AgreesAbove, AgreesOrMisses};
 ghost use Rattle.burr_frames.specs.Views.Exits.{miss_verdict, framed_ref, meeting_exit, meeting_exit_with};
-ghost use Rattle.burr_frames.specs.Views.Comparing.{NoneBelow, LeavesOutSettled, offset_forms};
+ghost use Rattle.burr_frames.specs.Views.Comparing.{NoneBelow, offset_forms};
 ghost use Rattle.burr_frames.specs.Rules.ControlRules.{IsAlikeExit, MeetsExitAt};
 ghost use Rattle.burr_frames.specs.Rules.SpaceRules.{AllSmallPlaces};
 ghost use Rattle.burr_frames.specs.Views.StateViews.{IsSmallSlot, GivesLiveForms};
 ghost use Rattle.burr_frames.specs.declared.rule.Rule.TheVariants as rules;
 
-use crate::forms::{offset_forms, wide_value};
+use crate::forms::{Region, offset_forms, wide_value};
 use crate::state::calls::{Exit, joined, padded};
 use crate::state::instructions::has_at_most;
 use crate::state::{State, extend};
@@ -226,74 +226,46 @@ impl Agreement<'_> {
             (λ point. FailsFirstAt (region ranges.now guards.now)
             (at_values (IsMetBy (target_of self.now)) self.now.forms.now) point.items) }
     {
-        if has_at_most(ranges, FEW_POINTS) {
+        let here = Region { ranges, guards };
+        if has_at_most(ranges, FEW_POINTS) || !self.is_settled(&here) {
             first_failing(ranges, guards, self)
         } else {
-            self.first_unsettled_missed(ranges, guards)
+            None
         }
     }
 
-    /// The same, where what is the same as a form is not compared at each point. It stands apart, so
-    /// that its lists take no room in a box of few points.
+    /// Whether forms alone show that the agreement holds at each point of a region.
     #[inline(never)]
-    fn first_unsettled_missed(&self, ranges: &[(i32, i32)], guards: &[Form]) -> Option<Point>
-        requires few { length ranges.now ≤ 8 }
-        requires few_guards { length guards.now ≤ 120 }
-        requires few_forms { length self.now.forms.now ≤ 120 }
-        requires ranges { AreRanges ranges.now }
-        requires guards { AllSmallForms guards.now }
-        requires forms { AllSmallForms self.now.forms.now }
-        ensures { MatchOption result
-            (Throughout (region ranges.now guards.now)
-            (at_values (IsMetBy (target_of self.now)) self.now.forms.now))
-            (λ point. FailsFirstAt (region ranges.now guards.now)
-            (at_values (IsMetBy (target_of self.now)) self.now.forms.now) point.items) }
+    fn is_settled(&self, here: &Region<'_>) -> bool
+        requires { AllSmallForms self.now.forms.now }
+        ensures { IsTrue result → Throughout (region here.now.ranges.now here.now.guards.now)
+            (at_values (IsMetBy (target_of self.now)) self.now.forms.now) }
     {
-        let (symbols, _) = self.forms.split_at(self.free + self.ranges.len());
-        let (front, others) = self.forms.split_at(symbols.len() + self.least.len());
-        let (forms, same) = unsettled(symbols, front, others, self.same);
-        let rest = Agreement {
-            forms: forms.as_slice(),
-            free: self.free,
-            ranges: self.ranges,
-            guards: self.guards,
-            least: self.least,
-            same: same.as_slice(),
-        };
-        first_failing(ranges, guards, &rest)
+        let (symbols, others) = self.forms.split_at(self.free + self.ranges.len());
+        let (_, ranged) = symbols.split_at(self.free);
+        let (upper, equal) = others.split_at(self.least.len());
+        let arguments = padded(symbols);
+        are_substituted(equal, self.same, &arguments)
+            && here.keeps_within(ranged, self.ranges)
+            && here.keeps_guards(self.guards, &arguments)
+            && here.keeps_above(upper, self.least, &arguments)
     }
 }
 
-/// Forms that are compared at points, and those that they are compared with, pair by pair: a pair is
-/// left out where the second is the first as soon as the forms of the symbols stand in it. In front
-/// of the first ones stand others, which are compared with none.
-fn unsettled(
-    symbols: &[Form],
-    front: &[Form],
-    forms: &[Form],
-    same: &[Form],
-) -> (ArrayVec<Form, MOST_FORMS>, ArrayVec<Form, MOST_FORMS>)
-    requires few { length symbols.now ≤ 8 }
-    requires room { length front.now + length forms.now ≤ 120 }
-    requires pairs { length forms.now ≡ length same.now }
-    requires small { AllSmallForms symbols.now }
-    requires front_small { AllSmallForms front.now }
-    requires forms_small { AllSmallForms forms.now }
-    requires same_small { AllSmallForms same.now }
-    ensures left { LeavesOutSettled symbols.now front.now forms.now same.now result.0.items result.1.items }
-    ensures small { AllSmallForms result.0.items × AllSmallForms result.1.items }
+/// Whether forms are others with arguments in place of their symbols, one by one.
+fn are_substituted(forms: &[Form], others: &[Form], arguments: &[Form; SLOTS]) -> bool
+    requires pairs { length forms.now ≡ length others.now }
+    requires small { AllSmallForms forms.now }
+    requires others_small { AllSmallForms others.now }
+    requires arguments_small { AllSmallForms arguments.now }
+    ensures { IsTrue result → map (substituted arguments.now) others.now ≡ forms.now }
 {
-    let arguments = padded(symbols);
-    let mut left = ArrayVec::new();
-    append(&mut left, front);
-    let mut others = ArrayVec::new();
-    for pair in 0..forms.len() {
-        if !is_substituted(&forms[pair], &same[pair], &arguments) {
-            left.push(forms[pair]);
-            others.push(same[pair]);
+    for place in 0..forms.len() {
+        if !is_substituted(&forms[place], &others[place], arguments) {
+            return false;
         }
     }
-    (left, others)
+    true
 }
 
 /// Whether a form is another one with arguments in place of its symbols.
