@@ -5,7 +5,7 @@ use Rattle.std.specs.Borrow.{Bor}
 use Rattle.std.specs.Int.{bit_at}
 use Rattle.std.proofs.lemmas.Bool.{and_parts, cases_lt}
 use Rattle.std.proofs.lemmas.Bool.Decides.{nat_tests}
-use Rattle.std.proofs.lemmas.List.{length-map, length-drop, get_or-map, get_or-drop, get_or_default, drop_all}
+use Rattle.std.proofs.lemmas.List.{length-map, length-drop, get_or-map, get_or-drop, get_or_default, drop_all, length-append}
 use Rattle.std.proofs.lemmas.List.Elements.{All-nil, All-head, All-tail, All-cons, All-drop, All-map}
 use Rattle.std.proofs.lemmas.Nat.{and_or_self, and_or_apart, pow_apart, pow_below, pow_pos, or_lt}
 use Rattle.std.proofs.lemmas.Nat.Bits.{and_pow, bit_at-lt, same_from_bits_below}
@@ -18,6 +18,7 @@ use Rattle.burr_assembly.specs.Rules.Text.{Assembly, IsAssembly, IsPiece, Piece}
 use Rattle.burr_assembly.specs.Rules.Homes.{names_of}
 use Rattle.burr_sheet.specs.Rules.SheetText.{names_from}
 use Rattle.burr_sheet.specs.Views.MotionLines.{IsNamesText, IsFirstName, group_text}
+use Rattle.burr_sheet.specs.Views.SheetUnderWay.{spaced_names}
 use Rattle.burr_sheet.proofs.LineWords.{names_from-at}
 
 -- Names
@@ -174,6 +175,36 @@ same_names (n ∷ k ∷ ns) (m ∷ l ∷ ms) p q some also e =
     let parts = cut 44 n m (join_with_byte 44 (k ∷ ns)) (join_with_byte 44 (l ∷ ms)) p.0 q.0 e in
     let after = same_names (k ∷ ns) (l ∷ ms) p.1 q.1 (some_list k ns) (some_list l ms) parts.1 in
     λ i. parts.0 i ∷ after i
+
+-- The room that names take
+
+-- a comma after each leaves room
+short_joined : (names : List (List ℕ)) → All IsName names → length (join_with_byte 44 names) ≤ length names * 33
+short_joined [] each = omega arith
+short_joined (name ∷ []) each = let short = (All-head IsName name [] each).short in omega arith
+short_joined (name ∷ next ∷ names) each =
+    let short = (All-head IsName name (next ∷ names) each).short in
+    let after = short_joined (next ∷ names) (All-tail IsName name (next ∷ names) each) in
+    omega (arith, length-append name (44 ∷ join_with_byte 44 (next ∷ names)))
+
+-- a group has no more names than there are
+fewer_by : (test : Bool) (name : List ℕ) (xs ys : List (List ℕ)) → length xs ≤ length ys → length (if test then xs else (name ∷ xs)) ≤ suc (length ys)
+fewer_by true name xs ys few = omega arith
+fewer_by false name xs ys few = omega arith
+
+few_from : (p group : ℕ) (names : List (List ℕ)) → length (names_from p group names) ≤ length names
+few_from p group [] = omega arith
+few_from p group (name ∷ names) = fewer_by (is_left_out group p) name _ names (few_from (suc p) group names)
+
+-- there is room for each part of the names of a group
+pub has_room : (names : List (List ℕ)) (group : ℕ) (text part more : List ℕ) → AreNames names → text ++ (part ++ more) ≡ spaced_names names group → length text + length part ≤ 1058
+has_room names group text part more are is =
+    let ours : List (List ℕ) = names_from 0 group names in
+    let short = short_joined ours (each_from IsName 0 group names are.each) in
+    let fewer = few_from 0 group names in
+    let few = are.few in
+    let same : length (text ++ (part ++ more)) ≡ length (spaced_names names group) = ap length is in
+    omega (arith, length-append text (part ++ more), length-append part more, length-append (join_with_byte 44 ours) (32 ∷ []))
 
 -- groups whose names are written alike are one
 pub one_group : (names : List (List ℕ)) (g h : ℕ) → AreNames names → g ≢ 0 → h ≢ 0 → g < 2 ^ length names → h < 2 ^ length names → group_text names g ≡ group_text names h → g ≡ h

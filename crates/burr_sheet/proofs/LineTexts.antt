@@ -73,7 +73,7 @@ words_are_plain names l are = record {
 }
 
 regroup : (n tray names direction ending after : List ℕ)
-    → (n ++ (codes " t" ++ (tray ++ (codes " " ++ (names ++ (codes " " ++ ((direction ++ 32 ∷ ending) ++ 10 ∷ []))))))) ++ after
+    → (n ++ (codes " t" ++ (tray ++ ((32 ∷ (names ++ 32 ∷ [])) ++ ((direction ++ 32 ∷ ending) ++ 10 ∷ []))))) ++ after
     ≡ n ++ (codes " t" ++ (tray ++ 32 ∷ (names ++ 32 ∷ (direction ++ 32 ∷ (ending ++ 10 ∷ after)))))
 regroup n tray names direction ending after = simp append_assoc
 

@@ -1,12 +1,12 @@
 -- What the words of a sheet's lines come to.
 use Rattle.std.proofs.Common.{◌≡◌, ℕ, zero, suc, ◌+◌, ◌<◌, if◌then◌else◌, IfSome, List, [], ◌∷◌, ◌++◌, length, get_or, slice_get, drop, map, codes, decimal, sym, arith, add-one, drop-cons, append_assoc}
 use Rattle.std.proofs.lemmas.List.{length-map}
-use Rattle.std.specs.List.{join_with_byte}
 use Rattle.burr_code.specs.PieceSets.{IsInSet, is_left_out}
 use Rattle.burr_code.proofs.Common.PieceSets.{not_left_out, left_out}
 use Rattle.burr_assembly.specs.Rules.Text.{Piece}
 use Rattle.burr_voxels.specs.Grid.{name_of}
 use Rattle.burr_sheet.specs.Rules.SheetText.{MoveLine, levels_word, names_from, out_word, move_line}
+use Rattle.burr_sheet.specs.Views.SheetUnderWay.{spaced_names}
 use Rattle.burr_text.specs.Words.{text_line}
 use Rattle.burr_io.proofs.Common.Puts.{joined, joined-join}
 
@@ -43,12 +43,12 @@ module _ (pieces : List Piece) (p group : ℕ) (inside : p < length pieces) wher
 
 -- the words of a line, one after another
 spaced : (number tray names word : List ℕ) (words : List (List ℕ))
-    → text_line (number ∷ (codes "t" ++ tray) ∷ names ∷ word ∷ words) ≡ number ++ (codes " t" ++ (tray ++ (codes " " ++ (names ++ (codes " " ++ text_line (word ∷ words))))))
+    → text_line (number ∷ (codes "t" ++ tray) ∷ names ∷ word ∷ words) ≡ number ++ (codes " t" ++ (tray ++ ((32 ∷ (names ++ 32 ∷ [])) ++ text_line (word ∷ words))))
 spaced number tray names word words = simp append_assoc
 
 -- a line as it is put
 pub move_line-parts : (names : List (List ℕ)) (n : ℕ) (l : MoveLine)
     → move_line names n l
     ≡ decimal n
-    ++ (codes " t" ++ (decimal l.tray ++ (codes " " ++ (join_with_byte 44 (names_from 0 l.group names) ++ (codes " " ++ text_line (name_of l.direction ∷ decimal l.units ∷ out_word l.out))))))
+    ++ (codes " t" ++ (decimal l.tray ++ (spaced_names names l.group ++ text_line (name_of l.direction ∷ decimal l.units ∷ out_word l.out))))
 move_line-parts names n l = spaced (decimal n) (decimal l.tray) _ (name_of l.direction) (decimal l.units ∷ out_word l.out)

@@ -1,9 +1,10 @@
-ghost use Rattle.std.specs.Prelude.{◌≡◌, ◌+◌, ◌<◌, ◌≤◌, [], true, false, Some, length, IfOk, OnOk, OnErr, ◌==◌, ◌∷◌, decimal};
+ghost use Rattle.std.specs.Prelude.{◌≡◌, ◌+◌, ◌<◌, ◌≤◌, [], true, false, Some, length, IfOk, OnOk, OnErr, ◌==◌, ◌∷◌, decimal, ◌++◌};
+ghost use Rattle.arrayvec.specs.ArrayVec.{array_vec_len};
 ghost use Rattle.burr_io.specs.Sink.{Puts};
 ghost use Rattle.burr_code.specs.declared.limits.TheConstants.{MOST_BUDGET};
 ghost use Rattle.burr_assembly.specs.Rules.Homes.{names_of};
 ghost use Rattle.burr_sheet.specs.Rules.SheetText.{alone, move_line, names_from, out_word, closing_line, levels_line, is_one};
-ghost use Rattle.burr_sheet.specs.Views.SheetUnderWay.{blank, still, outs_of, growing_text, move_line_of, KeepsCounts, OnUnfailed, PutsBefore, PutsMotion, FailsInMotion, StaysUnfailed};
+ghost use Rattle.burr_sheet.specs.Views.SheetUnderWay.{blank, spaced_names, still, outs_of, growing_text, move_line_of, KeepsCounts, OnUnfailed, PutsBefore, PutsMotion, FailsInMotion, StaysUnfailed};
 ghost use Rattle.std.specs.List.{join_with_byte};
 ghost use Rattle.burr_voxels.specs.Grid.{name_of};
 ghost use Rattle.burr_text.specs.Words.{text_line};
@@ -22,11 +23,17 @@ use std::marker::Model;
 /// The most outs of a run: each makes one group of pieces two.
 const MOST_OUTS: usize = MOST_PIECES - 1;
 
-/// The sheet of a run, written as its motions come. It keeps nothing but the growing line and
-/// counts.
+/// The longest name of a piece, in bytes.
+const LONGEST_NAME: usize = 32;
+
+/// The most bytes of a group's names, a comma after each, and of a blank at either end.
+const MOST_NAME_BYTES: usize = MOST_PIECES * (LONGEST_NAME + 1) + 2;
+
+/// The sheet of a run, written as its motions come. It keeps nothing but the growing line, counts,
+/// and the names of the last line's group.
 #[derive(Debug, Drop)]
 pub struct Sheet<'a> {
-    assembly: &'a Assembly,
+    names: KeptNames<'a>,
     /// The line that the next motion may go on.
     growing: Option<GrowingLine>,
     /// How many lines are closed.
@@ -59,7 +66,7 @@ impl<'a> Sheet<'a> {
         ensures { result ≡ blank (names_of assembly.now) }
     {
         Sheet {
-            assembly,
+            names: KeptNames::new(assembly),
             growing: None,
             lines: 0,
             level: 0,
@@ -105,7 +112,7 @@ impl<'a> Sheet<'a> {
     {
         let line = self.line_for(motion, sink)?;
         if motion.out {
-            put_line(self.assembly, self.lines + 1, line, true, sink)?;
+            put_line(&mut self.names, self.lines + 1, line, true, sink)?;
             self.levels.push(self.level + 1);
             self.growing = None;
             self.lines += 1;
@@ -133,7 +140,7 @@ impl<'a> Sheet<'a> {
         if line.is_of(motion) {
             return Ok(line);
         }
-        put_line(self.assembly, self.lines + 1, line, false, sink)?;
+        put_line(&mut self.names, self.lines + 1, line, false, sink)?;
         self.growing = None;
         self.lines += 1;
         self.level += 1;
@@ -143,7 +150,7 @@ impl<'a> Sheet<'a> {
     /// Closes the sheet: puts the growing line, the levels and how the run closed; nothing, and
     /// `WriteFault`, where it has failed.
     pub fn close<W: Sink>(
-        self,
+        mut self,
         closing: Closing,
         steps: u64,
         sink: &mut W,
@@ -161,11 +168,12 @@ impl<'a> Sheet<'a> {
     }
 
     /// Puts the growing line, if there is one.
-    fn put_growing<W: Sink>(&self, sink: &mut W) -> Result<(), WriteFault>
-        ensures { Puts W.Sink sink.old sink.new (growing_text self.now) result }
+    fn put_growing<W: Sink>(&mut self, sink: &mut W) -> Result<(), WriteFault>
+        ensures levels { self.new.levels ≡ self.old.levels }
+        ensures puts { Puts W.Sink sink.old sink.new (growing_text self.old) result }
     {
         match self.growing {
-            Some(line) => put_line(self.assembly, self.lines + 1, line, false, sink),
+            Some(line) => put_line(&mut self.names, self.lines + 1, line, false, sink),
             None => Ok(()),
         }
     }
@@ -221,23 +229,98 @@ impl GrowingLine {
     }
 }
 
+/// The names of a group's pieces between two blanks, kept as a text: a run goes to and fro with one
+/// group over many lines.
+#[derive(Debug, Drop)]
+pub struct KeptNames<'a> {
+    assembly: &'a Assembly,
+    /// The group whose names the text has.
+    group: u32,
+    text: ArrayVec<u8, MOST_NAME_BYTES>,
+}
+
+impl<'a> Model for KeptNames<'a> {
+    ghost use Rattle.std.specs.Prelude.{◌≡◌, List, ℕ};
+    ghost use Rattle.burr_assembly.specs.Rules.Homes.{names_of};
+    ghost use Rattle.burr_sheet.specs.Views.SheetUnderWay.{spaced_names};
+
+    ghost Value = { List (List ℕ) };
+
+    ghost view = { λ n. names_of n.assembly.now };
+
+    ghost invariant = { λ n. n.text.items ≡ spaced_names (names_of n.assembly.now) n.group };
+}
+
+impl<'a> KeptNames<'a> {
+    /// The names of no pieces.
+    pub fn new(assembly: &'a Assembly) -> KeptNames<'a>
+        ensures { result ≡ names_of assembly.now }
+    {
+        let mut text = ArrayVec::new();
+        write_names(assembly, 0, &mut text);
+        KeptNames {
+            assembly,
+            group: 0,
+            text,
+        }
+    }
+
+    /// Puts the names of a group, as ` A,B `.
+    pub fn put<W: Sink>(&mut self, group: u32, sink: &mut W) -> Result<(), WriteFault>
+        ensures names { self.new ≡ self.old }
+        ensures puts { Puts W.Sink sink.old sink.new (spaced_names self.old group) result }
+    {
+        if self.group != group {
+            write_names(self.assembly, group, &mut self.text);
+            self.group = group;
+        }
+        put_all(self.text.as_slice(), sink)
+    }
+}
+
+/// Writes the names of a group in place of a text, as ` A,B `.
+fn write_names(assembly: &Assembly, group: u32, text: &mut ArrayVec<u8, MOST_NAME_BYTES>)
+    ensures { text.new.items ≡ spaced_names (names_of assembly.now) group }
+{
+    text.clear();
+    text.push(b' ');
+    let pieces = assembly.piece_count();
+    let mut separator: &[u8] = b"";
+    for piece in 0..pieces {
+        if is_in_set(group, piece) {
+            let name = assembly.piece_name(piece).as_bytes();
+            add(text, separator);
+            add(text, name);
+            separator = b",";
+        }
+    }
+    text.push(b' ');
+}
+
+/// Adds bytes for which the text has room.
+fn add(text: &mut ArrayVec<u8, MOST_NAME_BYTES>, bytes: &[u8])
+    requires { array_vec_len text.old + length bytes.now ≤ MOST_NAME_BYTES }
+    ensures { text.new.items ≡ text.old.items ++ bytes.now }
+{
+    let _has_room = text.try_extend_from_slice(bytes);
+}
+
 /// Puts a line with its number, as `1 t0 A,B -x 2`, or `1 t0 A,B -x 2 out`.
 pub fn put_line<W: Sink>(
-    assembly: &Assembly,
+    names: &mut KeptNames<'_>,
     number: u32,
     line: GrowingLine,
     out: bool,
     sink: &mut W,
 ) -> Result<(), WriteFault>
-    ensures { Puts W.Sink sink.old sink.new
-        (move_line (names_of assembly.now) number (move_line_of line out)) result }
+    ensures names { names.new ≡ names.old }
+    ensures puts { Puts W.Sink sink.old sink.new
+        (move_line names.old number (move_line_of line out)) result }
 {
     put_number(number, sink)?;
     put_all(b" t", sink)?;
     put_number(line.tray, sink)?;
-    put_all(b" ", sink)?;
-    put_names(assembly, line.group, sink)?;
-    put_all(b" ", sink)?;
+    names.put(line.group, sink)?;
     put_steps(line.direction, line.units, out, sink)
 }
 

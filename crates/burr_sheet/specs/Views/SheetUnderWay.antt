@@ -1,11 +1,16 @@
 -- A sheet under way: its motions come one at a time, and what they close is written at once.
 use Rattle.std.specs.Prelude.{◌≡◌, ◌≢◌, ℕ, ◌+◌, ◌≤◌, List, [], ◌∷◌, ◌++◌, Bool, true, false, Option, Some, None, MatchOption, if◌then◌else◌}
+use Rattle.std.specs.List.{join_with_byte}
 use Rattle.burr_io.specs.Sink.{SinkView, Takes, FailsWithin}
 use Rattle.burr_code.specs.declared.limits.TheConstants.{MOST_BUDGET}
 use Rattle.burr_state.specs.declared.effect.Motion.{Motion}
 use Rattle.burr_state.specs.declared.effect.Closing.{Closing}
 use Rattle.burr_sheet.specs.declared.sheet.GrowingLine.{GrowingLine}
-use Rattle.burr_sheet.specs.Rules.SheetText.{MoveLine, is_one, with_motion, longest_lines, levels_from, move_lines, levels_line, closing_line}
+use Rattle.burr_sheet.specs.Rules.SheetText.{MoveLine, is_one, with_motion, longest_lines, names_from, levels_from, move_lines, levels_line, closing_line}
+
+-- the names of a group between two blanks, as they stand in its lines
+abbrev pub spaced_names : List (List ℕ) → ℕ → List ℕ
+spaced_names names group = 32 ∷ (join_with_byte 44 (names_from 0 group names) ++ 32 ∷ [])
 
 -- how far a sheet is
 pub record UnderWay : Type 0 where

@@ -1,6 +1,5 @@
 -- How far a sheet is, by its fields.
 use Rattle.std.specs.Prelude.{Option, Some, None, false}
-use Rattle.burr_assembly.specs.Rules.Homes.{names_of}
 use Rattle.burr_sheet.specs.declared.sheet.GrowingLine.{GrowingLine}
 use Rattle.burr_sheet.specs.declared.sheet.Sheet.TheInside.{Inside}
 use Rattle.burr_sheet.specs.Rules.SheetText.{MoveLine}
@@ -14,7 +13,7 @@ growing_of (Some l) = Some (move_line_of l false)
 -- what the fields of the code's sheet tell
 abbrev pub under_way : Inside → UnderWay
 under_way s = record {
-  names = names_of s.assembly.now;
+  names = s.names;
   growing = growing_of s.growing;
   lines = s.lines;
   level = s.level;

@@ -3,39 +3,26 @@ use Rattle.burr_sheet.specs.Views.SheetUnderWay.{move_line_of}
 use Rattle.burr_sheet.proofs.LineWords.{move_line-parts}
 use Rattle.burr_sheet.proofs.sheet.put_line.Goals as goal
 
-pub returns-in_err-put_number : goal.returns-in_err-put_number
-returns-in_err-put_number g c = rw (move_line-parts _ _ (move_line_of c.args.line c.args.out)) (Puts-fails _ c.in_err-put_number.ensures c.from_residual.ensures.0)
+pub returns-in_err-put_number-clause-puts : goal.returns-in_err-put_number-clause-puts
+returns-in_err-put_number-clause-puts g c = rw (move_line-parts _ _ (move_line_of c.args.line c.args.out)) (Puts-fails _ c.in_err-put_number.ensures c.from_residual.ensures.0)
 
-pub returns-in_err-put_all : goal.returns-in_err-put_all
-returns-in_err-put_all g c =
+pub returns-in_err-put_all-clause-puts : goal.returns-in_err-put_all-clause-puts
+returns-in_err-put_all-clause-puts g c =
     rw (move_line-parts _ _ (move_line_of c.args.line c.args.out))
     (Puts-more c.in_ok-put_number.ensures (Puts-fails _ c.in_err-put_all.ensures.puts c.from_residual-in_err-put_all.ensures.0))
 
-pub returns-in_err-put_number-2 : goal.returns-in_err-put_number-2
-returns-in_err-put_number-2 g c =
+pub returns-in_err-put_number-2-clause-puts : goal.returns-in_err-put_number-2-clause-puts
+returns-in_err-put_number-2-clause-puts g c =
     rw (move_line-parts _ _ (move_line_of c.args.line c.args.out))
     (Puts-more c.in_ok-put_number.ensures (Puts-more c.in_ok-put_all.ensures.puts (Puts-fails _ c.in_err-put_number-2.ensures c.from_residual-in_err-put_number-2.ensures.0)))
 
-pub returns-in_err-put_all-2 : goal.returns-in_err-put_all-2
-returns-in_err-put_all-2 g c =
+pub returns-in_err-put-clause-puts : goal.returns-in_err-put-clause-puts
+returns-in_err-put-clause-puts g c =
     rw (move_line-parts _ _ (move_line_of c.args.line c.args.out))
     (Puts-more c.in_ok-put_number.ensures (Puts-more c.in_ok-put_all.ensures.puts (Puts-more c.in_ok-put_number-2.ensures
-    (Puts-fails _ c.in_err-put_all-2.ensures.puts c.from_residual-in_err-put_all-2.ensures.0))))
+    (Puts-fails _ c.in_err-put.ensures.puts c.from_residual-in_err-put.ensures.0))))
 
-pub returns-in_err-put_names : goal.returns-in_err-put_names
-returns-in_err-put_names g c =
+pub returns-clause-puts : goal.returns-clause-puts
+returns-clause-puts g c =
     rw (move_line-parts _ _ (move_line_of c.args.line c.args.out))
-    (Puts-more c.in_ok-put_number.ensures (Puts-more c.in_ok-put_all.ensures.puts (Puts-more c.in_ok-put_number-2.ensures (Puts-more c.in_ok-put_all-2.ensures.puts
-    (Puts-fails _ c.in_err-put_names.ensures c.from_residual-in_err-put_names.ensures.0)))))
-
-pub returns-in_err-put_all-3 : goal.returns-in_err-put_all-3
-returns-in_err-put_all-3 g c =
-    rw (move_line-parts _ _ (move_line_of c.args.line c.args.out))
-    (Puts-more c.in_ok-put_number.ensures (Puts-more c.in_ok-put_all.ensures.puts (Puts-more c.in_ok-put_number-2.ensures (Puts-more c.in_ok-put_all-2.ensures.puts
-    (Puts-more c.in_ok-put_names.ensures (Puts-fails _ c.in_err-put_all-3.ensures.puts c.from_residual-in_err-put_all-3.ensures.0))))))
-
-pub returns : goal.returns
-returns g c =
-    rw (move_line-parts _ _ (move_line_of c.args.line c.args.out))
-    (Puts-more c.in_ok-put_number.ensures (Puts-more c.in_ok-put_all.ensures.puts (Puts-more c.in_ok-put_number-2.ensures (Puts-more c.in_ok-put_all-2.ensures.puts
-    (Puts-more c.in_ok-put_names.ensures (Puts-more c.in_ok-put_all-3.ensures.puts c.put_steps.ensures))))))
+    (Puts-more c.in_ok-put_number.ensures (Puts-more c.in_ok-put_all.ensures.puts (Puts-more c.in_ok-put_number-2.ensures (Puts-more c.in_ok-put.ensures.puts c.put_steps.ensures))))
