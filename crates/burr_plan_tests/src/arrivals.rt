@@ -112,6 +112,24 @@ store: 0000 0002 00 00 00000004 0002 > 0000 0002 01 ffffffff 0001 01 ffffffff 00
 00000002 ffff > 00000003 ffff; 00000004 0002 > 00000004 0001 | misses at [1]
 store: 0000 0002 00 00 00000004 0002 > 0000 0002 01 ffffffff 0001 01 ffffffff 0001 00000003 0001, \
 00000002 ffff > 00000003 ffff; 00000004 0002 > 00000003 0001 | arrives
+# At 4,096 points: with the guard `-1+1v0` at both, here or there
+label: 0000 0002 00 00 > 0000 0fff 01 ffffffff 0001 00; \
+0000 0002 00 00 > 0000 0fff 01 ffffffff 0001 00 | arrives
+label: 0000 0002 00 00 > 0000 0fff 01 ffffffff 0001 00; 0000 0002 00 00 > 0000 0fff 00 00 | arrives
+label: 0000 0002 00 00 > 0000 0fff 00 00; \
+0000 0002 00 00 > 0000 0fff 01 ffffffff 0001 00 | misses at [0]
+# the ranges 1 to 4,095 and 0 to 4,094; a cost of `4+3v0`; the rod at z `2-2v0`
+label: 0000 0002 00 00 > 0000 0fff 01 ffffffff 0001 00; 0000 0002 00 00 > 0001 0fff 00 00 | arrives
+label: 0000 0002 00 00 > 0000 0fff 00 00; 0000 0002 00 00 > 0000 0ffe 00 00 | misses at [4095]
+label: 0000 0002 00 00 > 0000 0fff 00 00; \
+0000 0002 00 00 > 0000 0fff 00 00, 00000004 0002 > 00000004 0003 | misses at [1]
+label: 0000 0002 00 00 > 0000 0fff 00 00; \
+0000 0002 00 00 > 0000 0fff 00 00, 00000002 ffff > 00000002 fffe | misses at [1]
+# the counter `-1+1v0` with that guard, the cost `2+1v0` and the rod at z `3-1v0`; without the guard
+store: 0000 0002 00 00 00000004 0002 > 0000 0fff 01 ffffffff 0001 01 ffffffff 0001 00000003 0001, \
+00000002 ffff > 00000003 ffff; 0000 0002 00 00 00000004 0002 > 0000 0fff 00 00 00000003 0001 | arrives
+store: 0000 0002 00 00 00000004 0002 > 0000 0fff 00 01 ffffffff 0001 00000003 0001, \
+00000002 ffff > 00000003 ffff; 0000 0002 00 00 00000004 0002 > 0000 0fff 00 00 00000003 0001 | misses at [0]
 
 cup | lift
 # Of the procedure that lifts the dot, where it is entered.
