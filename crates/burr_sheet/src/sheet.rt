@@ -16,15 +16,13 @@ use burr_code::is_in_set;
 use burr_code::limits::MOST_PIECES;
 use burr_io::{Sink, WriteFault, put_all, put_number, put_words};
 use burr_state::{Closing, Motion, Trap};
+use burr_text::LONGEST_NAME;
 use burr_voxels::Direction;
 use itoa::Buffer;
 use std::marker::Model;
 
 /// The most outs of a run: each makes one group of pieces two.
 const MOST_OUTS: usize = MOST_PIECES - 1;
-
-/// The longest name of a piece, in bytes.
-const LONGEST_NAME: usize = 32;
 
 /// The most bytes of a group's names, a comma after each, and of a blank at either end.
 const MOST_NAME_BYTES: usize = MOST_PIECES * (LONGEST_NAME + 1) + 2;

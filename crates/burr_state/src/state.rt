@@ -331,7 +331,7 @@ pub fn shift_group(places: &mut [Placement<Cell>], group: u32, direction: Direct
     }
 }
 
-/// Takes the lowest piece out of a set that has one.
+/// Takes a piece out of a set that has one.
 fn take_lowest(set: &mut u32) -> u8
     requires { set.old ≢ 0 }
     ensures taken { IsInSet set.old result }

@@ -14,5 +14,5 @@
 mod name;
 mod words;
 
-pub use name::{Name, is_name};
+pub use name::{LONGEST_NAME, Name, is_name};
 pub use words::{cut_at, integer, is_number, is_word};

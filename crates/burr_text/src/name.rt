@@ -6,7 +6,7 @@ use std::alloc::{AllocError, Global};
 use std::marker::Model;
 
 /// The longest name, in bytes.
-const LONGEST: usize = 32;
+pub const LONGEST_NAME: usize = 32;
 
 /// The name of an assembly, a shape or a piece: 1 to 32 letters, digits, `_` and `-`, a letter
 /// first.
@@ -49,7 +49,7 @@ pub fn is_name(bytes: &[u8]) -> bool
     ensures { IsTrue result ↔ IsName bytes.now }
 {
     match bytes {
-        [first, ..] => is_letter(*first) && bytes.len() <= LONGEST && are_name_bytes(bytes),
+        [first, ..] => is_letter(*first) && bytes.len() <= LONGEST_NAME && are_name_bytes(bytes),
         [] => false,
     }
 }
