@@ -86,22 +86,11 @@ counted_more old new n same more =
 
 -- Of the whole rule, after its own checks
 
-pub step_looks_on : (homes : List (List Cell)) (s : AbstractState) (direction : Direction)
-    (places : List (Placement FormCell)) (old new : Counted) → s.grip ≢ 0
-    → places ≡ moved s.grip direction s.places → AllSmallPlaces places
-    → HasCounted (clearing_looks homes s places queries.Overlap) old new
+pub step_looks_on : (homes : List (List Cell)) (s : AbstractState) (direction : Direction) (old new : Counted)
+    → s.grip ≢ 0 → AllSmallPlaces (moved s.grip direction s.places)
+    → HasCounted (clearing_looks homes s (moved s.grip direction s.places) queries.Overlap) old new
     → HasCounted (step_looks homes s direction) old new
-step_looks_on homes s direction places old new some is small (n, looks, more) = (
-  n,
-  inr (
-    some,
-    inr (
-      subst AllSmallPlaces is small,
-      subst (λ (to : List (Placement FormCell)). clearing_looks homes s to queries.Overlap n) is looks,
-    ),
-  ),
-  more,
-)
+step_looks_on homes s direction old new some small (n, looks, more) = (n, inr (some, inr (small, looks)), more)
 
 pub step_looks_none : (homes : List (List Cell)) (s : AbstractState) (direction : Direction) (looks : Counted)
     → s.grip ≡ 0 → HasCounted (step_looks homes s direction) looks looks
@@ -112,22 +101,11 @@ pub step_looks_large : (homes : List (List Cell)) (s : AbstractState) (direction
     → HasCounted (step_looks homes s direction) looks looks
 step_looks_large homes s direction looks some large = (0, inr (some, inl (large, refl)), none_more looks)
 
-pub aside_looks_on : (homes : List (List Cell)) (s : AbstractState) (direction : Direction) (tray : ℕ)
-    (places : List (Placement FormCell)) (old new : Counted) → IsPartOfTray s.grip s.places s.tray
-    → IsEmptyTray s.places tray → places ≡ s.places
-    → HasCounted (clearing_looks homes s places (queries.Exit direction)) old new
+pub aside_looks_on : (homes : List (List Cell)) (s : AbstractState) (direction : Direction) (tray : ℕ) (old new : Counted)
+    → IsPartOfTray s.grip s.places s.tray → IsEmptyTray s.places tray
+    → HasCounted (clearing_looks homes s s.places (queries.Exit direction)) old new
     → HasCounted (aside_looks homes s direction tray) old new
-aside_looks_on homes s direction tray places old new part empty is (n, looks, more) = (
-  n,
-  inr (
-    part,
-    inr (
-      empty,
-      subst (λ (to : List (Placement FormCell)). clearing_looks homes s to (queries.Exit direction) n) is looks,
-    ),
-  ),
-  more,
-)
+aside_looks_on homes s direction tray old new part empty (n, looks, more) = (n, inr (part, inr (empty, looks)), more)
 
 pub aside_looks_whole : (homes : List (List Cell)) (s : AbstractState) (direction : Direction) (tray : ℕ)
     (looks : Counted) → (¬ IsPartOfTray s.grip s.places s.tray)

@@ -18,7 +18,7 @@ pub mod GripPairs
 pub mod LiveForms
 pub mod Meetings
 pub mod MoveVerdicts
-pub mod MovedPlaces
+pub mod ShiftedPlaces
 pub mod Negatives
 pub mod Numbering
 pub mod Offsets

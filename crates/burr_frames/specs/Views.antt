@@ -9,5 +9,6 @@ pub mod Here
 pub mod Moving
 pub mod Over
 pub mod Ranges
+pub mod Shown
 pub mod StateViews
 pub mod Targets

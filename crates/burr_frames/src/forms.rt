@@ -1,18 +1,18 @@
-ghost use Rattle.std.specs.Prelude.{◌≡◌, ◌≤◌, ◌∷◌, [], MatchResult, ◌↔◌, IsTrue, length, All, pos, ◌≤ℤ◌};
+ghost use Rattle.std.specs.Prelude.{◌≡◌, ◌≤◌, ◌∷◌, [], MatchResult, ◌↔◌, IsTrue, length, All};
+ghost use Rattle.std.specs.List.{AllZip};
 ghost use Rattle.std.specs.Int.RustNames.{unsigned_abs};
 ghost use Rattle.burr_code.specs.Places.{at_position};
-ghost use Rattle.burr_forms.specs.Rules.Forms.{Point, number as form_of_number, raised, IsSmallForm, AllSmallForms, value, values};
-ghost use Rattle.burr_forms.specs.Rules.Conditions.{region, Throughout};
+ghost use Rattle.burr_forms.specs.Rules.Forms.{number as form_of_number, raised, one_less, IsSmallForm, AllSmallForms, value};
+ghost use Rattle.burr_forms.specs.Rules.Conditions.{region};
 ghost use Rattle.burr_forms.specs.Views.Results.{IsFormOf};
-ghost use Rattle.burr_forms.specs.Rules.Points.{AreRanges, InRange, InBox, GuardsHold};
+ghost use Rattle.burr_forms.specs.Rules.Points.{AreRanges};
 ghost use Rattle.burr_forms.specs.Views.Searching.{AllBounded};
 ghost use Rattle.burr_container.specs.Views.Refs.{placement_view};
-ghost use Rattle.burr_frames.specs.Views.Comparing.{NoneBelow, offset_forms};
 ghost use Rattle.burr_frames.specs.Rules.ControlRules.{substituted_cell};
 ghost use Rattle.burr_frames.specs.Rules.SpaceRules.{moved_forms, AllSmallPlaces};
 ghost use Rattle.burr_frames.specs.Views.Ranges.{IsInReach, AllInReach, LiesWithin};
+ghost use Rattle.burr_frames.specs.Views.Shown.{IsNowhereNegative, IsAboveBy, ShowsNotNegative, ShowsAbove, ShowsWithin, ShowsGuards, ShowsNoneBelow};
 
-use arrayvec::ArrayVec;
 use burr_code::Placement;
 use burr_code::limits::SLOTS;
 use burr_container::FormOffset;
@@ -20,8 +20,7 @@ use burr_forms::limits::MOST_FORM_NUMBER;
 use burr_forms::{Condition, Form, FormTooLarge};
 use burr_voxels::Direction;
 
-// Where pieces are by forms: how a place is told, the forms of its offset, and places that are
-// moved or get other symbols.
+// Where pieces are by forms: how a place is told, and places that are shifted or get other symbols.
 
 /// Where a piece is by its tray and its offset; apart where none are given.
 pub fn placed(place: Option<(u8, Form, Form, Form)>) -> Placement<FormOffset>
@@ -36,38 +35,33 @@ pub fn placed(place: Option<(u8, Form, Form, Form)>) -> Placement<FormOffset>
     }
 }
 
-/// The three forms of the offset; none where the piece is apart.
-pub fn offset_forms(place: &Placement<FormOffset>) -> ArrayVec<Form, 3>
-    ensures { result.items ≡ offset_forms (place.now ∷ []) }
-{
-    match *place {
-        Placement::Apart => ArrayVec::new(),
-        Placement::On { position, .. } => ArrayVec::from([position.x, position.y, position.z]),
-    }
-}
-
-/// The place one unit along a direction; a piece that is apart stays so. The forms' numbers lie
-/// within ±2^40, the caller's condition.
-pub fn moved(
-    place: &Placement<FormOffset>,
-    direction: Direction,
-) -> Result<Placement<FormOffset>, FormTooLarge>
+/// Whether the numbers of a place's forms lie within ±2^40 one unit along a direction, as they do
+/// where it is, the caller's condition.
+pub fn can_shift(place: &Placement<FormOffset>, direction: Direction) -> bool
     requires { AllSmallPlaces (place.now ∷ []) }
-    ensures { MatchResult result
-        (λ new. (new ≡ at_position (moved_forms direction) place.now)
-        × AllSmallPlaces (new ∷ []))
-        (λ _. ¬ AllSmallPlaces (at_position (moved_forms direction) place.now ∷ [])) }
+    ensures { IsTrue result ↔ AllSmallPlaces (at_position (moved_forms direction) place.now ∷ []) }
 {
-    let Placement::On { tray, position } = *place else {
-        return Ok(Placement::Apart);
+    let Placement::On { position, .. } = place else {
+        return true;
     };
     let unit = direction.unit();
-    let position = FormOffset {
-        x: one_along(&position.x, unit.x)?,
-        y: one_along(&position.y, unit.y)?,
-        z: one_along(&position.z, unit.z)?,
-    };
-    Ok(Placement::On { tray, position })
+    can_raise(&position.x, unit.x)
+        && can_raise(&position.y, unit.y)
+        && can_raise(&position.z, unit.z)
+}
+
+/// Shifts a place one unit along a direction; a piece that is apart stays so. The forms' numbers lie
+/// within ±2^40 then, the caller's condition.
+pub fn shift(place: &mut Placement<FormOffset>, direction: Direction)
+    requires { AllSmallPlaces (at_position (moved_forms direction) place.old ∷ []) }
+    ensures { place.new ≡ at_position (moved_forms direction) place.old }
+{
+    if let Placement::On { position, .. } = place {
+        let unit = direction.unit();
+        raise(&mut position.x, unit.x);
+        raise(&mut position.y, unit.y);
+        raise(&mut position.z, unit.z);
+    }
 }
 
 /// The same place with a form in place of each symbol. The numbers of all forms lie within
@@ -92,15 +86,6 @@ pub fn substituted(
         z: position.z.substitute(forms)?,
     };
     Ok(Placement::On { tray, position })
-}
-
-/// A form whose constant is higher by this component of a unit vector.
-fn one_along(form: &Form, step: i32) -> Result<Form, FormTooLarge>
-    requires small { IsSmallForm form.now }
-    requires one { unsigned_abs step ≤ 1 }
-    ensures { IsFormOf result (raised step form.now) }
-{
-    raised_by(form, i64::from(step))
 }
 
 /// The condition that no value of some forms is farther than this from 0.
@@ -182,18 +167,35 @@ pub fn wide_value(form: &Form, symbols: &[i64]) -> i128
     sum
 }
 
-/// A form whose constant is so much higher, one at most, either way.
-pub fn raised_by(form: &Form, number: i64) -> Result<Form, FormTooLarge>
+/// Whether a form's numbers lie within ±2^40 where its constant is so much higher, one at most,
+/// either way.
+fn can_raise(form: &Form, number: i32) -> bool
     requires small { IsSmallForm form.now }
     requires one { unsigned_abs number ≤ 1 }
-    ensures { IsFormOf result (raised number form.now) }
+    ensures { IsTrue result ↔ IsSmallForm (raised number form.now) }
 {
-    let constant = form.constant + number;
-    if constant < -MOST_FORM_NUMBER || MOST_FORM_NUMBER < constant {
+    let constant = form.constant + i64::from(number);
+    -MOST_FORM_NUMBER <= constant && constant <= MOST_FORM_NUMBER
+}
+
+/// Raises a form's constant by so much. Its numbers lie within ±2^40 then, the caller's condition.
+fn raise(form: &mut Form, number: i32)
+    requires { IsSmallForm (raised number form.old) }
+    ensures { form.new ≡ raised number form.old }
+{
+    form.constant += i64::from(number);
+}
+
+/// A form whose constant is one lower.
+pub fn one_less(form: &Form) -> Result<Form, FormTooLarge>
+    requires small { IsSmallForm form.now }
+    ensures { IsFormOf result (one_less form.now) }
+{
+    if form.constant == -MOST_FORM_NUMBER {
         return Err(FormTooLarge);
     }
     Ok(Form {
-        constant,
+        constant: form.constant - 1,
         coefs: form.coefs,
     })
 }
@@ -215,8 +217,8 @@ impl Region<'_> {
     /// negative, or it is nowhere in the box below a guard.
     pub fn shows_not_negative(&self, form: &Form) -> bool
         requires { IsSmallForm form.now }
-        ensures { IsTrue result → Throughout (region self.now.ranges.now self.now.guards.now)
-            (λ point. pos 0 ≤ℤ value point form.now) }
+        ensures { IsTrue result
+            ↔ ShowsNotNegative (region self.now.ranges.now self.now.guards.now) form.now }
     {
         if form.least_in(self.ranges) >= 0 {
             return true;
@@ -229,12 +231,13 @@ impl Region<'_> {
         false
     }
 
-    /// Whether a form is shown to be below another one at no point.
+    /// Whether a form is shown to be below another one at no point; false also where their
+    /// difference is too large for a form.
     fn shows_above(&self, form: &Form, other: &Form) -> bool
         requires small { IsSmallForm form.now }
         requires other_small { IsSmallForm other.now }
-        ensures { IsTrue result → Throughout (region self.now.ranges.now self.now.guards.now)
-            (λ point. value point other.now ≤ℤ value point form.now) }
+        ensures { IsTrue result
+            ↔ ShowsAbove (region self.now.ranges.now self.now.guards.now) form.now other.now }
     {
         match form.sub(other) {
             Ok(gap) => self.shows_not_negative(&gap),
@@ -245,8 +248,8 @@ impl Region<'_> {
     /// Whether a form is shown to stay within a range.
     fn shows_within(&self, form: &Form, range: (i32, i32)) -> bool
         requires { IsSmallForm form.now }
-        ensures { IsTrue result → Throughout (region self.now.ranges.now self.now.guards.now)
-            (λ point. InRange range (value point form.now)) }
+        ensures { IsTrue result
+            ↔ ShowsWithin (region self.now.ranges.now self.now.guards.now) form.now range }
     {
         let (low, high) = range;
         self.shows_above(form, &number_form(low)) && self.shows_above(&number_form(high), form)
@@ -256,8 +259,9 @@ impl Region<'_> {
     pub fn keeps_within(&self, forms: &[Form], ranges: &[(i32, i32)]) -> bool
         requires places { length forms.now ≡ length ranges.now }
         requires small { AllSmallForms forms.now }
-        ensures { IsTrue result → Throughout (region self.now.ranges.now self.now.guards.now)
-            (λ point. InBox ranges.now (values point forms.now)) }
+        ensures { IsTrue result
+            ↔ AllZip (ShowsWithin (region self.now.ranges.now self.now.guards.now))
+            forms.now ranges.now }
     {
         for place in 0..forms.len() {
             if !self.shows_within(&forms[place], ranges[place]) {
@@ -268,12 +272,13 @@ impl Region<'_> {
     }
 
     /// Whether guards, with arguments in place of their symbols, are shown to be negative at no
-    /// point.
+    /// point; false also where one is too large for a form then.
     pub fn keeps_guards(&self, guards: &[Form], arguments: &[Form; SLOTS]) -> bool
         requires small { AllSmallForms guards.now }
         requires arguments_small { AllSmallForms arguments.now }
-        ensures { IsTrue result → Throughout (region self.now.ranges.now self.now.guards.now)
-            (λ point. GuardsHold guards.now (values point arguments.now)) }
+        ensures { IsTrue result
+            ↔ ShowsGuards (region self.now.ranges.now self.now.guards.now)
+            arguments.now guards.now }
     {
         for guard in guards {
             let Ok(form) = guard.substitute(arguments) else {
@@ -287,15 +292,16 @@ impl Region<'_> {
     }
 
     /// Whether forms are shown to be below others, with arguments in place of the symbols of these,
-    /// at no point, one by one.
+    /// at no point, one by one; false also where one of the others or a difference is too large for
+    /// a form.
     pub fn keeps_above(&self, forms: &[Form], least: &[Form], arguments: &[Form; SLOTS]) -> bool
         requires places { length forms.now ≡ length least.now }
         requires small { AllSmallForms forms.now }
         requires least_small { AllSmallForms least.now }
         requires arguments_small { AllSmallForms arguments.now }
-        ensures { IsTrue result → Throughout (region self.now.ranges.now self.now.guards.now)
-            (λ point. NoneBelow (values (values point arguments.now) least.now)
-            (values point forms.now)) }
+        ensures { IsTrue result
+            ↔ ShowsNoneBelow (region self.now.ranges.now self.now.guards.now)
+            arguments.now least.now forms.now }
     {
         for place in 0..forms.len() {
             let Ok(other) = least[place].substitute(arguments) else {
@@ -316,8 +322,7 @@ fn is_above(ranges: &[(i32, i32)], form: &Form, other: &Form) -> bool
     requires ranges { AreRanges ranges.now }
     requires small { IsSmallForm form.now }
     requires other_small { IsSmallForm other.now }
-    ensures { IsTrue result → (point : Point) → InBox ranges.now point
-        → value point other.now ≤ℤ value point form.now }
+    ensures { IsTrue result ↔ IsAboveBy (IsNowhereNegative ranges.now) form.now other.now }
 {
     match form.sub(other) {
         Ok(gap) => gap.least_in(ranges) >= 0,

@@ -16,12 +16,12 @@ ghost use Rattle.burr_frames.specs.Rules.Starts.{start_state, home_position};
 ghost use Rattle.burr_frames.specs.Rules.FramedPlans.{framed};
 ghost use Rattle.burr_frames.specs.Rules.States.{state_of, live_ranges, numbered};
 ghost use Rattle.burr_frames.specs.Views.StateViews.{IsSmallSlot};
-ghost use Rattle.burr_frames.specs.Views.Changes.{at_cost, with_operand, without_top, with_form, with_grip, in_tray, with_places};
+ghost use Rattle.burr_frames.specs.Views.Changes.{at_cost, with_operand, without_top, with_form, with_grip, in_tray};
 ghost use Rattle.burr_frames.specs.Rules.ControlRules.{guarded};
 ghost use Rattle.burr_frames.specs.Views.Ranges.{AllInReach};
 ghost use Rattle.burr_frames.specs.Views.Breaks.{HoldsOrBreaks, Pays};
 
-use crate::forms::{Region, Within, lie_within, number_form, placed, raised_by};
+use crate::forms::{Region, Within, lie_within, number_form, one_less, placed};
 use crate::rule::{Break, Rule};
 use arrayvec::ArrayVec;
 use burr_code::Placement;
@@ -392,14 +392,6 @@ impl State {
     {
         self.guards.is_full()
     }
-
-    /// The pieces lie so.
-    pub(super) fn set_places(&mut self, places: ArrayVec<Placement<FormOffset>, MOST_PIECES>)
-        requires { AllSmallPlaces places.items }
-        ensures { self.new ≡ with_places places.items self.old }
-    {
-        self.places = places;
-    }
 }
 
 // Conditions at every point of a state, and what a step costs.
@@ -447,7 +439,7 @@ impl State {
     pub(super) fn paid(&self) -> Result<Form, Break>
         ensures { Pays self.now result }
     {
-        let Ok(cost) = raised_by(&self.cost, -1) else {
+        let Ok(cost) = one_less(&self.cost) else {
             return Err(Break::plain(Rule::FormTooLarge));
         };
         self.never_negative(&cost, Rule::CostTooLow)?;

@@ -2,7 +2,6 @@
 use Rattle.std.proofs.Common.{◌≡◌, ℕ, zero, suc, List, [], ◌∷◌, ◌++◌, refl, sym, ap, ◌∙◌, arith}
 use Rattle.std.specs.Prelude.{ℤ, pos, negsuc, neg_ℤ, ◌+ℤ◌, ◌-ℤ◌, ◌*ℤ◌, map, replicate}
 use Rattle.std.proofs.lemmas.Int.{ints}
-use Rattle.std.proofs.lemmas.List.{map-append}
 use Rattle.std.proofs.Math.IntN.{suc_ℤ, pred_ℤ, suc_ℤ-*ℤ, pred_ℤ-*ℤ, zero-*ℤ, *ℤ_comm, *ℤ-zero}
 use Rattle.burr_forms.specs.Rules.Forms.{Form, Point, dot, value, values, number, sum_of, plus_form, times, minus_form, raised, combined, substituted}
 
@@ -174,27 +173,19 @@ value_substituted arguments f point =
 
 -- symbols that stand for 0 count nothing
 
-dot_nothing : (coefs : List ℤ) → dot coefs [] ≡ pos 0
-dot_nothing [] = refl
-dot_nothing (c ∷ coefs) = refl
+combined_zeros : (coefs : List ℤ) (n : ℕ) → combined coefs (replicate n (number (pos 0))) ≡ number (pos 0)
+combined_zeros [] n = refl
+combined_zeros (c ∷ coefs) zero = refl
+combined_zeros (c ∷ coefs) (suc n) =
+    ap (plus_form (times c (number (pos 0)))) (combined_zeros coefs n)
+    ∙ ap (λ (z : ℤ). plus_form (record { constant = z; coefs = replicate 8 z }) (number (pos 0))) (*ℤ-zero c)
 
-dot_filled : (coefs : List ℤ) (point : Point) (n : ℕ) → dot coefs (point ++ replicate n (pos 0)) ≡ dot coefs point
-dot_filled [] point n = refl
-dot_filled (c ∷ coefs) [] zero = refl
-dot_filled (c ∷ coefs) [] (suc n) =
-    let rest = dot_filled coefs [] n ∙ dot_nothing coefs in let none = *ℤ-zero c in omega (arith, ints)
-dot_filled (c ∷ coefs) (x ∷ point) n = ap (λ z. (c *ℤ x) +ℤ z) (dot_filled coefs point n)
+combined_filled : (coefs : List ℤ) (symbols : List Form) (n : ℕ)
+    → combined coefs (symbols ++ replicate n (number (pos 0))) ≡ combined coefs symbols
+combined_filled [] symbols n = refl
+combined_filled (c ∷ coefs) [] n = combined_zeros (c ∷ coefs) n
+combined_filled (c ∷ coefs) (a ∷ symbols) n = ap (plus_form (times c a)) (combined_filled coefs symbols n)
 
-values_zeros : (n : ℕ) (point : Point) → values point (replicate n (number (pos 0))) ≡ replicate n (pos 0)
-values_zeros zero point = refl
-values_zeros (suc n) point = λ i. value_number (pos 0) point i ∷ values_zeros n point i
-
--- the value of a form where its symbols stand for forms, zeros after
-pub value_filled : (symbols : List Form) (n : ℕ) (f : Form) (point : Point)
-    → value point (substituted (symbols ++ replicate n (number (pos 0))) f) ≡ value (values point symbols) f
-value_filled symbols n f point =
-    let zeros = replicate n (number (pos 0)) in
-    value_substituted (symbols ++ zeros) f point
-    ∙ ap (λ (x : Point). value x f) (map-append (value point) symbols zeros
-    ∙ ap (λ (x : Point). values point symbols ++ x) (values_zeros n point))
-    ∙ ap (λ z. f.constant +ℤ z) (dot_filled f.coefs (values point symbols) n)
+-- forms in place of the first symbols, and zeros in place of others
+pub substituted_filled : (symbols : List Form) (n : ℕ) → substituted (symbols ++ replicate n (number (pos 0))) ≡ substituted symbols
+substituted_filled symbols n = λ i f. raised f.constant (combined_filled f.coefs symbols n i)

@@ -15,7 +15,7 @@ ghost use Rattle.burr_frames.specs.Views.Here.{OfFramedProcedure};
 ghost use Rattle.burr_frames.specs.Rules.SpaceRules.{AllSmallPlaces};
 ghost use Rattle.burr_frames.specs.Views.Exits.{framed_ref};
 
-use crate::forms::{placed, raised_by, substituted};
+use crate::forms::{one_less, placed, substituted};
 use crate::rule::{Break, Rule};
 use crate::state::instructions::{frame_at, has_at_most};
 use crate::state::meeting::Miss;
@@ -155,7 +155,7 @@ impl State {
         let Ok(callee_cost) = cost.substitute(&padded(arguments)) else {
             return Err(Break::plain(Rule::FormTooLarge));
         };
-        let Ok(less) = raised_by(&self.cost, -1) else {
+        let Ok(less) = one_less(&self.cost) else {
             return Err(Break::plain(Rule::FormTooLarge));
         };
         let Ok(left) = less.sub(&callee_cost) else {

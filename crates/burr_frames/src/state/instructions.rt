@@ -14,7 +14,7 @@ ghost use Rattle.burr_frames.specs.Rules.ControlRules.{halt_rule, jump_rule, dow
 ghost use Rattle.burr_frames.specs.Rules.Verdicts.{falls_through, arriving_at_all, no_successor};
 ghost use Rattle.burr_frames.specs.Rules.QuestionRules.{ask_rule, pick_rule, with_symbol, asked};
 
-use crate::forms::{number_form, raised_by};
+use crate::forms::{number_form, one_less};
 use crate::rule::{Break, Rule};
 use crate::state::meeting::arrives;
 use crate::state::{State, copied, symbol};
@@ -268,7 +268,7 @@ impl State {
         ensures { lowering self.now count.now
             (λ paid. falls_through (counted_down v count.now paid)) (branch_verdict result) }
     {
-        let Ok(less) = raised_by(count, -1) else {
+        let Ok(less) = one_less(count) else {
             return Err(Break::plain(Rule::FormTooLarge));
         };
         self.never_negative(count, Rule::BadCount)?;

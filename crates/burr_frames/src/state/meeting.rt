@@ -1,6 +1,6 @@
 //! A state's agreement with what a frame says: arrival at a frame, and meeting one that is entered.
 
-ghost use Rattle.std.specs.Prelude.{◌≡◌, ◌≤◌, [], IfOk, MatchOption, length, ◌+◌, ◌↔◌, IsTrue, ◌<◌, ◌++◌, ◌*◌, Some, slice_get, map, reverse, All};
+ghost use Rattle.std.specs.Prelude.{◌≡◌, ◌≤◌, [], IfOk, MatchOption, length, ◌+◌, ◌↔◌, IsTrue, ◌<◌, ◌++◌, ◌∷◌, ◌*◌, Some, slice_get, map, reverse, All};
 ghost use Rattle.burr_code.specs.Places.{tray_of};
 ghost use Rattle.burr_forms.specs.Rules.Forms.{IsSmallForm, AllSmallForms, substituted, values as values_of};
 ghost use Rattle.burr_forms.specs.Rules.Conditions.{region, at_values, Throughout, FailsFirstAt};
@@ -19,7 +19,7 @@ ghost use Rattle.burr_frames.specs.Rules.SpaceRules.{AllSmallPlaces};
 ghost use Rattle.burr_frames.specs.Views.StateViews.{IsSmallSlot, GivesLiveForms};
 ghost use Rattle.burr_frames.specs.declared.rule.Rule.TheVariants as rules;
 
-use crate::forms::{Region, offset_forms, wide_value};
+use crate::forms::{Region, wide_value};
 use crate::state::calls::{Exit, joined, padded};
 use crate::state::instructions::has_at_most;
 use crate::state::{State, extend};
@@ -209,6 +209,7 @@ impl<'a> Condition for Agreement<'a> {
 
 impl Agreement<'_> {
     ghost use Rattle.burr_frames.specs.Views.Comparing.{IsMetBy};
+    ghost use Rattle.burr_frames.specs.Views.Shown.{ShowsMetBy};
     ghost use Rattle.burr_frames.specs.Views.Targets.{target_of};
 
     /// The first point of a box, under guards, at which the agreement fails, as `first_failing`
@@ -238,8 +239,12 @@ impl Agreement<'_> {
     #[inline(never)]
     fn is_settled(&self, here: &Region<'_>) -> bool
         requires { AllSmallForms self.now.forms.now }
-        ensures { IsTrue result → Throughout (region here.now.ranges.now here.now.guards.now)
+        ensures sound { IsTrue result
+            → Throughout (region here.now.ranges.now here.now.guards.now)
             (at_values (IsMetBy (target_of self.now)) self.now.forms.now) }
+        ensures exact { IsTrue result
+            ↔ ShowsMetBy (region here.now.ranges.now here.now.guards.now)
+            (target_of self.now) self.now.forms.now }
     {
         let (symbols, others) = self.forms.split_at(self.free + self.ranges.len());
         let (_, ranged) = symbols.split_at(self.free);
@@ -258,7 +263,7 @@ fn are_substituted(forms: &[Form], others: &[Form], arguments: &[Form; SLOTS]) -
     requires small { AllSmallForms forms.now }
     requires others_small { AllSmallForms others.now }
     requires arguments_small { AllSmallForms arguments.now }
-    ensures { IsTrue result → map (substituted arguments.now) others.now ≡ forms.now }
+    ensures { IsTrue result ↔ (map (substituted arguments.now) others.now ≡ forms.now) }
 {
     for place in 0..forms.len() {
         if !is_substituted(&forms[place], &others[place], arguments) {
@@ -456,7 +461,7 @@ pub(super) fn with_offsets(
 }
 
 /// Puts forms after others. There is room, the caller's condition.
-pub(super) fn append(forms: &mut ArrayVec<Form, MOST_FORMS>, more: &[Form])
+fn append(forms: &mut ArrayVec<Form, MOST_FORMS>, more: &[Form])
     requires room { length forms.old.items + length more.now ≤ 120 }
     requires small { AllSmallForms forms.old.items }
     requires more_small { AllSmallForms more.now }
@@ -466,7 +471,7 @@ pub(super) fn append(forms: &mut ArrayVec<Form, MOST_FORMS>, more: &[Form])
     extend(forms, more);
 }
 
-/// Puts the forms of offsets after others. There is room, the caller's condition.
+/// Puts the forms of offsets after others, piece by piece. There is room, the caller's condition.
 fn append_offsets(forms: &mut ArrayVec<Form, MOST_FORMS>, places: &[Placement<FormOffset>])
     requires room { length forms.old.items + 3 * length places.now ≤ 120 }
     requires small { AllSmallForms forms.old.items }
@@ -475,8 +480,21 @@ fn append_offsets(forms: &mut ArrayVec<Form, MOST_FORMS>, places: &[Placement<Fo
     ensures small { AllSmallForms forms.new.items }
 {
     for piece in 0..places.len() {
-        let offset = offset_forms(&places[piece]);
-        append(forms, offset.as_slice());
+        append_offset(forms, &places[piece]);
+    }
+}
+
+/// Puts the three forms of an offset after others, and none where the piece is apart. There is room,
+/// the caller's condition.
+pub(super) fn append_offset(forms: &mut ArrayVec<Form, MOST_FORMS>, place: &Placement<FormOffset>)
+    requires room { length forms.old.items + 3 ≤ 120 }
+    requires small { AllSmallForms forms.old.items }
+    requires place_small { AllSmallPlaces (place.now ∷ []) }
+    ensures forms { forms.new.items ≡ forms.old.items ++ offset_forms (place.now ∷ []) }
+    ensures small { AllSmallForms forms.new.items }
+{
+    if let Placement::On { position, .. } = place {
+        append(forms, &[position.x, position.y, position.z]);
     }
 }
 

@@ -1,29 +1,29 @@
 //! The rules of the instructions that grip and move pieces.
 
-ghost use Rattle.std.specs.Prelude.{◌≡◌, ◌≤◌, ◌^◌, ◌↔◌, IsTrue, IfErr, MatchResult, length, ◌<◌, ◌∷◌, []};
-ghost use Rattle.burr_code.specs.Places.{AllLieIn, IsPartOfTray, IsEmptyTray, aside_places, changed, at_position};
+ghost use Rattle.std.specs.Prelude.{◌≡◌, ◌≤◌, ◌^◌, ◌↔◌, IsTrue, IfErr, length, []};
+ghost use Rattle.burr_code.specs.Places.{AllLieIn, IsPartOfTray, IsEmptyTray, aside_places};
 ghost use Rattle.burr_assembly.specs.Rules.Homes.{homes_of};
 ghost use Rattle.burr_blocking.specs.Rules.Counted.{HasCounted};
 ghost use Rattle.burr_forms.specs.Rules.Forms.{AllSmallForms};
 ghost use Rattle.burr_frames.specs.Views.Changes.{with_grip, with_places};
-ghost use Rattle.burr_frames.specs.Rules.SpaceRules.{grip_rule, step_rule, aside_rule, tray_rule, moved, AllSmallPlaces, moved_forms};
+ghost use Rattle.burr_frames.specs.Rules.SpaceRules.{grip_rule, step_rule, aside_rule, tray_rule, moved, AllSmallPlaces};
 ghost use Rattle.burr_frames.specs.Views.Breaks.{next_verdict};
 ghost use Rattle.burr_frames.specs.Rules.Looks.{HasRoom, step_looks, aside_looks, clearing_looks};
 ghost use Rattle.burr_frames.specs.Views.Moving.{ClearOrBreaks, free_aside, free_step};
 ghost use Rattle.burr_frames.specs.Views.Clearing.{offsets_in};
 
 use crate::clearing::{Clearing, put_pieces};
-use crate::forms::{moved, offset_forms};
+use crate::forms::{can_shift, shift};
 use crate::rule::{Break, Rule};
-use crate::state::meeting::append;
-use crate::state::{MOST_PIECES, State};
+use crate::state::State;
+use crate::state::meeting::append_offset;
 use arrayvec::ArrayVec;
 use burr_blocking::{Blocking, Looks, Query};
 use burr_code::limits::MOST_OFFSET;
 use burr_code::{Placement, all_lie_in, is_empty_tray, is_in_set, is_part_of_tray, take_aside};
 use burr_container::FormOffset;
 use burr_forms::limits::MOST_FORMS;
-use burr_forms::{Form, FormTooLarge, first_refused, the_points_are_given};
+use burr_forms::{Form, first_refused, the_points_are_given};
 use burr_voxels::Direction;
 
 impl State {
@@ -73,14 +73,21 @@ impl State {
         if self.grip == 0 {
             return Err(Break::plain(Rule::BadGroup));
         }
-        let Ok(places) = self.moved(direction) else {
+        if !self.can_shift(direction) {
             return Err(Break::plain(Rule::FormTooLarge));
-        };
-        self.goes_clear(places.as_slice(), looks, Query::Overlap, Rule::Collision)?;
-        let cost = self.paid()?;
-        self.set_cost(cost);
-        self.set_places(places);
-        Ok(())
+        }
+        self.shift(direction);
+        let clear = self.goes_clear(looks, Query::Overlap, Rule::Collision);
+        match clear.and(self.paid()) {
+            Ok(cost) => {
+                self.set_cost(cost);
+                Ok(())
+            }
+            Err(broken) => {
+                self.shift(direction.opposite());
+                Err(broken)
+            }
+        }
     }
 
     /// What `step` comes to where nothing is in the way: the grip goes one unit along a direction,
@@ -90,12 +97,12 @@ impl State {
         ensures verdict { free_step self.old direction (next_verdict self.new result) }
         ensures kept { IfErr result (λ _. self.new ≡ self.old) }
     {
-        let Ok(there) = self.moved(direction) else {
+        if !self.can_shift(direction) {
             return Err(Break::plain(Rule::FormTooLarge));
-        };
+        }
         let cost = self.paid()?;
         self.set_cost(cost);
-        self.set_places(there);
+        self.shift(direction);
         Ok(())
     }
 
@@ -124,8 +131,7 @@ impl State {
         if !self.is_empty(tray) {
             return Err(Break::plain(Rule::TrayInUse));
         }
-        let query = Query::Exit(direction);
-        self.goes_clear(self.places.as_slice(), looks, query, Rule::NotFree)?;
+        self.goes_clear(looks, Query::Exit(direction), Rule::NotFree)?;
         let cost = self.paid()?;
         self.set_cost(cost);
         self.go_aside(tray);
@@ -145,29 +151,27 @@ impl State {
         Ok(())
     }
 
-    /// That where the pieces lie at these places each of the tray is on the bench, and no gripped
-    /// piece is in the way of one left in the tray; else a rule is broken at the first point where
-    /// that does not hold, and this one there for the first pair. There are at most 32 places, and
-    /// the numbers of all forms lie within ±2^40; the caller's conditions, with those of `step`.
+    /// That each piece of the tray is on the bench, and no gripped piece is in the way of one left in
+    /// the tray; else a rule is broken at the first point where that does not hold, and this one
+    /// there for the first pair. The caller's conditions are those of `step`.
     fn goes_clear<B: Blocking>(
         &self,
-        places: &[Placement<FormOffset>],
         looks: &mut Looks<'_, B>,
         query: Query,
         rule: Rule,
     ) -> Result<(), Break>
-        requires few { length places.now ≤ 32 }
-        requires small { AllSmallPlaces places.now }
         requires points { HasRoom self.now }
         requires room { looks.old.count ≤ 2 ^ 40 }
-        ensures verdict { ClearOrBreaks (homes_of looks.old.assembly) self.now places.now query
+        ensures verdict { ClearOrBreaks (homes_of looks.old.assembly) self.now self.now.places query
             rule result }
         ensures counted { HasCounted
-            (clearing_looks (homes_of looks.old.assembly) self.now places.now query)
+            (clearing_looks (homes_of looks.old.assembly) self.now self.now.places query)
             looks.old looks.new }
     {
         the_points_are_given();
-        let offsets = offsets_in(self.tray, places);
+        let places = self.places.as_slice();
+        let mut offsets = ArrayVec::new();
+        put_offsets(self.tray, places, &mut offsets);
         self.stays_within(offsets.as_slice(), MOST_OFFSET, Rule::OffBench)?;
         let homed = places
             .len()
@@ -203,17 +207,19 @@ impl State {
         }
     }
 
-    /// The places where the grip has gone one unit along a direction.
-    fn moved(
-        &self,
-        direction: Direction,
-    ) -> Result<ArrayVec<Placement<FormOffset>, MOST_PIECES>, FormTooLarge>
-        ensures { MatchResult result
-            (λ places. (places.items ≡ moved self.now.grip direction self.now.places)
-            × AllSmallPlaces places.items)
-            (λ _. ¬ AllSmallPlaces (moved self.now.grip direction self.now.places)) }
+    /// Whether no form is too large once the grip has gone one unit along a direction.
+    fn can_shift(&self, direction: Direction) -> bool
+        ensures { IsTrue result ↔ AllSmallPlaces (moved self.now.grip direction self.now.places) }
     {
-        moved_places(self.places.as_slice(), self.grip, direction)
+        can_shift_group(self.places.as_slice(), self.grip, direction)
+    }
+
+    /// The grip goes one unit along a direction. No form is too large then, the caller's condition.
+    fn shift(&mut self, direction: Direction)
+        requires { AllSmallPlaces (moved self.old.grip direction self.old.places) }
+        ensures { self.new ≡ with_places (moved self.old.grip direction self.old.places) self.old }
+    {
+        shift_group(self.places.as_mut_slice(), self.grip, direction);
     }
 
     /// The grip goes to an empty tray; a piece that is alone in a tray then is apart.
@@ -247,67 +253,49 @@ impl State {
     }
 }
 
-// Where pieces lie: a group moved, and the forms of their offsets.
+// Where pieces lie: a group that is shifted, and the forms of offsets.
 
-/// The places where a group has gone one unit along a direction. The numbers of all forms lie
-/// within ±2^40, the caller's condition.
-pub(super) fn moved_places(
-    places: &[Placement<FormOffset>],
-    group: u32,
-    direction: Direction,
-) -> Result<ArrayVec<Placement<FormOffset>, MOST_PIECES>, FormTooLarge>
+/// Whether no form is too large once a group has gone one unit along a direction. The numbers of all
+/// forms lie within ±2^40, the caller's condition.
+fn can_shift_group(places: &[Placement<FormOffset>], group: u32, direction: Direction) -> bool
     requires few { length places.now ≤ 32 }
     requires small { AllSmallPlaces places.now }
-    ensures { MatchResult result
-        (λ new. (new.items ≡ moved group direction places.now) × AllSmallPlaces new.items)
-        (λ _. ¬ AllSmallPlaces (moved group direction places.now)) }
+    ensures { IsTrue result ↔ AllSmallPlaces (moved group direction places.now) }
 {
-    let mut new = ArrayVec::new();
-    for piece in 0..places.len() {
-        new.push(moved_place(&places[piece], group, piece as u8, direction)?);
-    }
-    Ok(new)
-}
-
-/// The place of a piece, one unit along a direction if it is of the group.
-fn moved_place(
-    place: &Placement<FormOffset>,
-    group: u32,
-    piece: u8,
-    direction: Direction,
-) -> Result<Placement<FormOffset>, FormTooLarge>
-    requires piece { piece < 32 }
-    requires small { AllSmallPlaces (place.now ∷ []) }
-    ensures { MatchResult result
-        (λ new. (new ∷ []
-        ≡ changed (at_position (moved_forms direction)) group piece (place.now ∷ []))
-        × AllSmallPlaces (new ∷ []))
-        (λ _. ¬ AllSmallPlaces
-        (changed (at_position (moved_forms direction)) group piece (place.now ∷ []))) }
-{
-    if is_in_set(group, piece) {
-        moved(place, direction)
-    } else {
-        Ok(*place)
-    }
-}
-
-/// The forms of the offsets of a tray's pieces, in order, three for each. The numbers of all forms
-/// lie within ±2^40, the caller's condition.
-fn offsets_in(tray: u8, places: &[Placement<FormOffset>]) -> ArrayVec<Form, MOST_FORMS>
-    requires few { length places.now ≤ 32 }
-    requires small { AllSmallPlaces places.now }
-    ensures offsets { result.items ≡ offsets_in tray places.now }
-    ensures small { AllSmallForms result.items }
-{
-    let mut offsets = ArrayVec::new();
-    for piece in 0..places.len() {
-        let place = &places[piece];
-        if !place.is_in(tray) {
-            continue;
+    for (piece, place) in places.iter().enumerate() {
+        if is_in_set(group, piece as u8) && !can_shift(place, direction) {
+            return false;
         }
-        let offset = offset_forms(place);
-        append(&mut offsets, offset.as_slice());
     }
-    offsets
+    true
+}
+
+/// Shifts the pieces of a group one unit along a direction. No form is too large then, the caller's
+/// condition.
+fn shift_group(places: &mut [Placement<FormOffset>], group: u32, direction: Direction)
+    requires few { length places.old ≤ 32 }
+    requires small { AllSmallPlaces (moved group direction places.old) }
+    ensures { places.new ≡ moved group direction places.old }
+{
+    for (piece, place) in places.iter_mut().enumerate() {
+        if is_in_set(group, piece as u8) {
+            shift(place, direction);
+        }
+    }
+}
+
+/// Puts the forms of the offsets of a tray's pieces into an empty list, in order, three for each. The
+/// numbers of all forms lie within ±2^40, the caller's condition.
+fn put_offsets(tray: u8, places: &[Placement<FormOffset>], offsets: &mut ArrayVec<Form, MOST_FORMS>)
+    requires few { length places.now ≤ 32 }
+    requires small { AllSmallPlaces places.now }
+    requires empty { offsets.old.items ≡ [] }
+    ensures offsets { offsets.new.items ≡ offsets_in tray places.now }
+    ensures small { AllSmallForms offsets.new.items }
+{
+    for place in places {
+        if place.is_in(tray) {
+            append_offset(offsets, place);
+        }
+    }
 }

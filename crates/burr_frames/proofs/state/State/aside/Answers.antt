@@ -1,20 +1,17 @@
 -- A piece off the bench or in another's way, a step that can't be paid for, and one that is made.
-use Rattle.std.proofs.Common.{◌≡◌, ◌∙◌, List, ap, subst, inr}
+use Rattle.std.proofs.Common.{◌≡◌, ◌∙◌, ap, inr}
 use Rattle.std.proofs.lemmas.Result.{err_from_is_err_and}
 use Rattle.burr_text.proofs.Common.Tests.{yes_of, no_of}
-use Rattle.burr_code.specs.declared.placement.Placement.{Placement}
 use Rattle.burr_code.specs.Places.{aside_places}
 use Rattle.burr_assembly.specs.Rules.Homes.{homes_of}
-use Rattle.burr_blocking.specs.declared.blocking.Query.TheVariants as queries
-use Rattle.burr_container.specs.Rules.Plans.{FormCell}
 use Rattle.burr_frames.specs.declared.rule.Rule.TheVariants as rules
 use Rattle.burr_frames.specs.Views.Breaks.{broken_of}
 use Rattle.burr_frames.specs.Views.Changes.{at_cost, with_grip, with_places}
 use Rattle.burr_frames.specs.Rules.SpaceRules.{OnBenchAt, PairAt, GoesFree}
 use Rattle.burr_frames.specs.Rules.States.{AbstractState}
-use Rattle.burr_frames.specs.Rules.Verdicts.{Breaks, FallsThrough, NoSuccessor, falls_through, paying}
+use Rattle.burr_frames.specs.Rules.Verdicts.{Breaks, FallsThrough, falls_through, paying}
 use Rattle.burr_frames.proofs.GripLooks.{aside_looks_on, aside_looks_whole, aside_looks_in_use}
-use Rattle.burr_frames.proofs.MoveVerdicts.{Says, clear_on, clear_breaks}
+use Rattle.burr_frames.proofs.MoveVerdicts.{clear_on, clear_breaks}
 use Rattle.burr_frames.proofs.Paying.{paying_on, paying_breaks}
 use Rattle.burr_frames.proofs.state.State.aside.Goals as goal
 
@@ -32,8 +29,7 @@ returns-in_err-goes_clear-clause-verdict g c =
         yes_of c.if-not-is_empty.ensures,
         clear_breaks s (OnBenchAt s.places s.tray) (PairAt (GoesFree c.args.direction) homes s.places s.tray s.grip) rules.OffBench rules.NotFree
             (paying s λ paid. falls_through (with_grip 0 (with_places new paid))) (broken_of broken)
-            (subst (λ (places : List (Placement FormCell)). Says homes s places (queries.Exit c.args.direction) rules.NotFree (Breaks (broken_of broken)))
-            (c.as_slice.ensures.value ∙ ap (λ (a : AbstractState). a.places) c.self.view_is) c.in_err-goes_clear.ensures.verdict),
+            c.in_err-goes_clear.ensures.verdict,
       ),
     ))
 
@@ -51,8 +47,7 @@ returns-in_err-cost-clause-verdict g c =
         yes_of c.if-not-is_empty.ensures,
         clear_on s (OnBenchAt s.places s.tray) (PairAt (GoesFree c.args.direction) homes s.places s.tray s.grip) rules.OffBench rules.NotFree
             (paying s λ paid. falls_through (with_grip 0 (with_places new paid))) (Breaks (broken_of broken))
-            (subst (λ (places : List (Placement FormCell)). Says homes s places (queries.Exit c.args.direction) rules.NotFree NoSuccessor)
-            (c.as_slice.ensures.value ∙ ap (λ (a : AbstractState). a.places) c.self.view_is) c.in_ok-goes_clear.ensures.verdict)
+            c.in_ok-goes_clear.ensures.verdict
             (paying_breaks s broken (λ paid. falls_through (with_grip 0 (with_places new paid))) c.in_err-cost.ensures),
       ),
     ))
@@ -72,8 +67,7 @@ returns-clause-verdict g c =
         yes_of c.if-not-is_empty.ensures,
         clear_on s (OnBenchAt s.places s.tray) (PairAt (GoesFree c.args.direction) homes s.places s.tray s.grip) rules.OffBench rules.NotFree
             (paying s λ paid. falls_through (with_grip 0 (with_places new paid))) (FallsThrough c.go_aside.new.self)
-            (subst (λ (places : List (Placement FormCell)). Says homes s places (queries.Exit c.args.direction) rules.NotFree NoSuccessor)
-            (c.as_slice.ensures.value ∙ ap (λ (a : AbstractState). a.places) c.self.view_is) c.in_ok-goes_clear.ensures.verdict)
+            c.in_ok-goes_clear.ensures.verdict
             (paying_on s cost (λ paid. falls_through (with_grip 0 (with_places new paid))) (FallsThrough c.go_aside.new.self) c.in_ok-cost.ensures (ap FallsThrough changed)),
       ),
     )
@@ -90,18 +84,18 @@ returns-then-not-is_empty-clause-counted g c =
 
 pub returns-in_err-goes_clear-clause-counted : goal.returns-in_err-goes_clear-clause-counted
 returns-in_err-goes_clear-clause-counted g c =
-    aside_looks_on (homes_of c.args.looks.now.assembly) c.args.self.now c.args.direction c.args.tray c.as_slice.result.now c.args.looks.now
+    aside_looks_on (homes_of c.args.looks.now.assembly) c.args.self.now c.args.direction c.args.tray c.args.looks.now
     c.goes_clear.new.looks (yes_of c.if-not-is_part_gripped.ensures) (yes_of c.if-not-is_empty.ensures)
-    (c.as_slice.ensures.value ∙ ap (λ (a : AbstractState). a.places) c.self.view_is) c.in_err-goes_clear.ensures.counted
+    c.in_err-goes_clear.ensures.counted
 
 pub returns-in_err-cost-clause-counted : goal.returns-in_err-cost-clause-counted
 returns-in_err-cost-clause-counted g c =
-    aside_looks_on (homes_of c.args.looks.now.assembly) c.args.self.now c.args.direction c.args.tray c.as_slice.result.now c.args.looks.now
+    aside_looks_on (homes_of c.args.looks.now.assembly) c.args.self.now c.args.direction c.args.tray c.args.looks.now
     c.goes_clear.new.looks (yes_of c.if-not-is_part_gripped.ensures) (yes_of c.if-not-is_empty.ensures)
-    (c.as_slice.ensures.value ∙ ap (λ (a : AbstractState). a.places) c.self.view_is) c.in_ok-goes_clear.ensures.counted
+    c.in_ok-goes_clear.ensures.counted
 
 pub returns-clause-counted : goal.returns-clause-counted
 returns-clause-counted g c =
-    aside_looks_on (homes_of c.args.looks.now.assembly) c.args.self.now c.args.direction c.args.tray c.as_slice.result.now c.args.looks.now
+    aside_looks_on (homes_of c.args.looks.now.assembly) c.args.self.now c.args.direction c.args.tray c.args.looks.now
     c.goes_clear.new.looks (yes_of c.if-not-is_part_gripped.ensures) (yes_of c.if-not-is_empty.ensures)
-    (c.as_slice.ensures.value ∙ ap (λ (a : AbstractState). a.places) c.self.view_is) c.in_ok-goes_clear.ensures.counted
+    c.in_ok-goes_clear.ensures.counted

@@ -6,6 +6,7 @@ use Rattle.burr_forms.specs.Rules.Forms.{Form, Point, value}
 use Rattle.burr_forms.specs.Rules.Conditions.{Region, region, Throughout, FailsFirstAt}
 use Rattle.burr_frames.specs.Rules.States.{AbstractState, region_of}
 use Rattle.burr_frames.proofs.Paying.{never_negative, first_negative}
+use Rattle.burr_frames.proofs.Settled.{shown_not_negative}
 use Rattle.burr_frames.proofs.state.State.never_negative.Goals as goal
 
 whole : (s t : AbstractState) (ranges : List (ℤ × ℤ)) (guards : List Form) → ranges ≡ t.ranges → guards ≡ t.guards → t ≡ s
@@ -19,7 +20,7 @@ pub returns-then-shows_not_negative : goal.returns-then-shows_not_negative
 returns-then-shows_not_negative c =
     subst (λ (r : Region). Throughout r (λ (point : Point). pos 0 ≤ℤ value point c.args.form.now))
     (whole c.args.self.now _ _ _ c.as_slice.ensures.value c.as_slice-2.ensures.value c.self.view_is)
-    (c.if-shows_not_negative.ensures refl)
+    (shown_not_negative (region c.as_slice.result.now c.as_slice-2.result.now) c.args.form.now (c.if-shows_not_negative.ensures.0 refl))
 
 pub returns-in-None : goal.returns-in-None
 returns-in-None c =

@@ -16,19 +16,19 @@ returns-in_default c =
     ap (λ fs. substituted fs c.args.cost.now) c.padded.ensures.padded ∙ substituted_padded arguments (8 - length arguments) c.args.cost.now in
     inl (λ small. c.in_default.ensures (subst IsSmallForm (sym price) small.callee), c.plain.ensures)
 
-pub returns-in_default-raised_by : goal.returns-in_default-raised_by
-returns-in_default-raised_by c =
+pub returns-in_default-one_less : goal.returns-in_default-one_less
+returns-in_default-one_less c =
     let cost : c.self.inside.cost ≡ c.args.self.now.cost = ap (λ (a : AbstractState). a.cost) c.self.view_is in
-    inl (λ small. c.in_default-raised_by.ensures (subst (λ (f : Form). IsSmallForm (one_less f)) (sym cost) small.less), c.plain-in_default-raised_by.ensures)
+    inl (λ small. c.in_default-one_less.ensures (subst (λ (f : Form). IsSmallForm (one_less f)) (sym cost) small.less), c.plain-in_default-one_less.ensures)
 
 pub returns-in_default-sub : goal.returns-in_default-sub
 returns-in_default-sub c =
     let arguments = c.args.arguments.now in
     let price : c.in-Ok.callee_cost ≡ substituted arguments c.args.cost.now =
     c.in-Ok.ensures.0 ∙ ap (λ fs. substituted fs c.args.cost.now) c.padded.ensures.padded ∙ substituted_padded arguments (8 - length arguments) c.args.cost.now in
-    let less : c.in-Ok-raised_by.less ≡ one_less c.args.self.now.cost =
-    c.in-Ok-raised_by.ensures.0 ∙ ap one_less (ap (λ (a : AbstractState). a.cost) c.self.view_is) in
-    let rest : minus_form c.in-Ok-raised_by.less c.in-Ok.callee_cost ≡ left_of c.args.self.now.cost (substituted arguments c.args.cost.now) =
+    let less : c.in-Ok-one_less.less ≡ one_less c.args.self.now.cost =
+    c.in-Ok-one_less.ensures.0 ∙ ap one_less (ap (λ (a : AbstractState). a.cost) c.self.view_is) in
+    let rest : minus_form c.in-Ok-one_less.less c.in-Ok.callee_cost ≡ left_of c.args.self.now.cost (substituted arguments c.args.cost.now) =
     λ i. minus_form (less i) (price i) in
     inl (λ small. c.in_default-sub.ensures (subst IsSmallForm (sym rest) small.rest), c.plain-in_default-sub.ensures)
 
@@ -38,14 +38,14 @@ returns-in_err-never_negative c =
     let arguments = c.args.arguments.now in
     let price : c.in-Ok.callee_cost ≡ substituted arguments c.args.cost.now =
     c.in-Ok.ensures.0 ∙ ap (λ fs. substituted fs c.args.cost.now) c.padded.ensures.padded ∙ substituted_padded arguments (8 - length arguments) c.args.cost.now in
-    let less : c.in-Ok-raised_by.less ≡ one_less s.cost =
-    c.in-Ok-raised_by.ensures.0 ∙ ap one_less (ap (λ (a : AbstractState). a.cost) c.self.view_is) in
+    let less : c.in-Ok-one_less.less ≡ one_less s.cost =
+    c.in-Ok-one_less.ensures.0 ∙ ap one_less (ap (λ (a : AbstractState). a.cost) c.self.view_is) in
     let rest : c.in-Ok-sub.left ≡ left_of s.cost (substituted arguments c.args.cost.now) =
     c.in-Ok-sub.ensures.0 ∙ (λ i. minus_form (less i) (price i)) in
     let failing = c.in_err-never_negative.ensures in
     let small : IsSmallPrice s (substituted arguments c.args.cost.now) = record {
       callee = subst IsSmallForm price (subst IsSmallForm (sym c.in-Ok.ensures.0) c.in-Ok.ensures.1);
-      less = subst IsSmallForm less (subst IsSmallForm (sym c.in-Ok-raised_by.ensures.0) c.in-Ok-raised_by.ensures.1);
+      less = subst IsSmallForm less (subst IsSmallForm (sym c.in-Ok-one_less.ensures.0) c.in-Ok-one_less.ensures.1);
       rest = subst IsSmallForm rest (subst IsSmallForm (sym c.in-Ok-sub.ensures.0) c.in-Ok-sub.ensures.1);
     } in
     let p = err_from_is_err_and c.from_residual.result c.from_residual.ensures.1 in
@@ -58,15 +58,15 @@ returns c =
     let arguments = c.args.arguments.now in
     let price : c.in-Ok.callee_cost ≡ substituted arguments c.args.cost.now =
     c.in-Ok.ensures.0 ∙ ap (λ fs. substituted fs c.args.cost.now) c.padded.ensures.padded ∙ substituted_padded arguments (8 - length arguments) c.args.cost.now in
-    let less : c.in-Ok-raised_by.less ≡ one_less s.cost =
-    c.in-Ok-raised_by.ensures.0 ∙ ap one_less (ap (λ (a : AbstractState). a.cost) c.self.view_is) in
+    let less : c.in-Ok-one_less.less ≡ one_less s.cost =
+    c.in-Ok-one_less.ensures.0 ∙ ap one_less (ap (λ (a : AbstractState). a.cost) c.self.view_is) in
     let rest : c.in-Ok-sub.left ≡ left_of s.cost (substituted arguments c.args.cost.now) =
     c.in-Ok-sub.ensures.0 ∙ (λ i. minus_form (less i) (price i)) in
     record {
       is = rest;
       small = record {
         callee = subst IsSmallForm price (subst IsSmallForm (sym c.in-Ok.ensures.0) c.in-Ok.ensures.1);
-        less = subst IsSmallForm less (subst IsSmallForm (sym c.in-Ok-raised_by.ensures.0) c.in-Ok-raised_by.ensures.1);
+        less = subst IsSmallForm less (subst IsSmallForm (sym c.in-Ok-one_less.ensures.0) c.in-Ok-one_less.ensures.1);
         rest = subst IsSmallForm rest (subst IsSmallForm (sym c.in-Ok-sub.ensures.0) c.in-Ok-sub.ensures.1);
       };
       enough = subst (λ (f : Form). Everywhere s (λ (point : Point). pos 0 ≤ℤ value point f)) rest c.in_ok-never_negative.ensures;
