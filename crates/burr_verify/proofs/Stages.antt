@@ -25,7 +25,7 @@ use Rattle.burr_verify.specs.Rules.WellFramed.{IsLabelled, HasNoLabel}
 use Rattle.burr_verify.specs.Views.LookViews.{LooksOn, LooksStop}
 use Rattle.burr_verify.specs.Rules.Pass.{Judgement, Passed, Refuses, Stage, BeforeInstruction, AtInstruction, Hides, broken, misses, ends, falls_off}
 use Rattle.burr_verify.specs.Rules.PassLooks.{LookedPass}
-use Rattle.burr_verify.specs.Views.Judgements.{IsLabelWithin, failed_check}
+use Rattle.burr_verify.specs.Views.Judgements.{ArrivesIfAny, IsLabelWithin, failed_check}
 use Rattle.burr_frames.proofs.Common.Heres.{procedure_here, label_here, element_at, as_many_labels}
 use Rattle.burr_verify.proofs.LookedOn.{looks_resumed, looks_arrived, looks_fallen, looks_left}
 use Rattle.burr_verify.proofs.OnePass.{arrives_where_leaves}
@@ -60,17 +60,15 @@ pub missed : (s : AbstractState) (f : Frame) (o : Option Point) → arriving s f
 missed s f None h = h
 missed s f (Some point) h = h
 
-pub enters_resumes : (homes : List (List Cell)) (plan : FramedPlan) (n : ℕ) (here : FramedProcedure) (last pc : ℕ) (f : Frame)
-    (s : AbstractState) → pc ≢ length here.code → IsLabelled here pc f → s ≡ state_of f
-    → LooksOn homes plan n here (BeforeInstruction last pc None) (AtInstruction pc s) 0
-enters_resumes homes plan n here last pc f s more labelled same =
+-- what falls in, if a state does, arrives at the frame, and the frame's state goes on
+pub enters_label : (homes : List (List Cell)) (plan : FramedPlan) (n : ℕ) (here : FramedProcedure) (last pc : ℕ) (f : Frame)
+    (falling : Option AbstractState) (s : AbstractState) → pc ≢ length here.code → IsLabelled here pc f
+    → ArrivesIfAny falling f NoSuccessor → s ≡ state_of f
+    → LooksOn homes plan n here (BeforeInstruction last pc falling) (AtInstruction pc s) 0
+enters_label homes plan n here last pc f None s more labelled arrived same =
     subst (λ (t : AbstractState). LooksOn homes plan n here (BeforeInstruction last pc None) (AtInstruction pc t) 0) (sym same)
     (looks_resumed homes plan n here last pc f more labelled)
-
-pub enters_arrives : (homes : List (List Cell)) (plan : FramedPlan) (n : ℕ) (here : FramedProcedure) (last pc : ℕ) (f : Frame)
-    (t s : AbstractState) → pc ≢ length here.code → IsLabelled here pc f → arriving t f no_successor NoSuccessor → s ≡ state_of f
-    → LooksOn homes plan n here (BeforeInstruction last pc (Some t)) (AtInstruction pc s) 0
-enters_arrives homes plan n here last pc f t s more labelled arrived same =
+enters_label homes plan n here last pc f (Some t) s more labelled arrived same =
     subst (λ (u : AbstractState). LooksOn homes plan n here (BeforeInstruction last pc (Some t)) (AtInstruction pc u) 0) (sym same)
     (looks_arrived homes plan n here last pc t f more labelled (arrives_where_leaves t f arrived))
 
@@ -86,11 +84,14 @@ pub told_broken : (r : Refusal) (told n pc : ℕ) (b : Broken) → Refuses (fail
     → Refuses (failed_check r) ≡ broken n pc b
 told_broken r told n pc b same e = same ∙ ap (λ (k : ℕ). broken k pc b) e
 
-pub enters_misses : (homes : List (List Cell)) (plan : FramedPlan) (n : ℕ) (here : FramedProcedure) (last pc : ℕ) (f : Frame)
-    (t : AbstractState) (o : Option Point) (r : Refusal) → pc ≢ length here.code → IsLabelled here pc f
-    → arriving t f no_successor (missed_at o) → Refuses (failed_check r) ≡ broken n last (missed_break rules.FrameMissed o)
-    → LooksStop homes plan n here (BeforeInstruction last pc (Some t)) r 0
-enters_misses homes plan n here last pc f t o r more labelled miss same =
+-- it does not arrive
+pub misses_label : (homes : List (List Cell)) (plan : FramedPlan) (n : ℕ) (here : FramedProcedure) (last pc : ℕ) (f : Frame)
+    (falling : Option AbstractState) (o : Option Point) (r : Refusal) → pc ≢ length here.code → IsLabelled here pc f
+    → ArrivesIfAny falling f (missed_at o) → Refuses (failed_check r) ≡ broken n last (missed_break rules.FrameMissed o)
+    → LooksStop homes plan n here (BeforeInstruction last pc falling) r 0
+misses_label homes plan n here last pc f None None r more labelled miss same = cc
+misses_label homes plan n here last pc f None (Some point) r more labelled miss same = cc
+misses_label homes plan n here last pc f (Some t) o r more labelled miss same =
     stops_by homes plan n here (BeforeInstruction last pc (Some t)) r _ 0 same
     (misses last pc t f (missed_break rules.FrameMissed o) more labelled (missed t f o miss), refl)
 
@@ -156,13 +157,13 @@ code_read kept i code reads p here is at =
     let found = procedure_here p i here at in
     reads p found.0 is found.1 ∙ sym (ap (λ (h : FramedProcedure). h.code) found.2)
 
-pub none_where : (o : Option ℕ) → false ≡ is_some o → o ≡ None
+pub none_where : {A : Type 0} (o : Option A) → false ≡ is_some o → o ≡ None
 none_where None e = refl
-none_where (Some n) e = absurd (false≢true e)
+none_where (Some x) e = absurd (false≢true e)
 
-pub some_where : (o : Option ℕ) → true ≡ is_some o → (n : ℕ) × (o ≡ Some n)
+pub some_where : {A : Type 0} (o : Option A) → true ≡ is_some o → (x : A) × (o ≡ Some x)
 some_where None e = absurd (false≢true (sym e))
-some_where (Some n) e = (n, refl)
+some_where (Some x) e = (x, refl)
 
 -- Where the code ends
 

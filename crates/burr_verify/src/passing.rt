@@ -6,11 +6,14 @@ ghost use Rattle.burr_blocking.specs.Rules.Counted.{HasCounted};
 ghost use Rattle.burr_code.specs.declared.limits.TheConstants.{MOST_CODE};
 ghost use Rattle.burr_voxels.specs.declared.cell.Cell.{Cell};
 ghost use Rattle.burr_frames.specs.Views.Here.{OfFramedProcedure};
-ghost use Rattle.burr_frames.specs.Rules.States.{AbstractState};
+ghost use Rattle.burr_container.specs.Views.Refs.{frame_of};
+ghost use Rattle.burr_frames.specs.Rules.FramedPlans.{framed};
+ghost use Rattle.burr_frames.specs.Rules.States.{AbstractState, state_of};
+ghost use Rattle.burr_frames.specs.Views.ArrivalViews.{arrival_verdict};
 ghost use Rattle.burr_verify.specs.Views.LookViews.{LooksOn, LooksInto, LooksStop, HasRoomBefore, HasRoomyFrames};
 ghost use Rattle.burr_verify.specs.Rules.Pass.{BeforeInstruction, AtInstruction, pass_start};
 ghost use Rattle.burr_verify.specs.Rules.PassLooks.{LookedPass};
-ghost use Rattle.burr_verify.specs.Views.Judgements.{judgement_of};
+ghost use Rattle.burr_verify.specs.Views.Judgements.{judgement_of, ArrivesIfAny};
 
 use crate::laws::an_assembly_has_few_pieces;
 use crate::refusal::Refusal;
@@ -18,8 +21,8 @@ use crate::states::label_within;
 use crate::transfer::{Successor, transfer};
 use burr_blocking::{Blocking, Looks};
 use burr_code::fetch;
-use burr_container::ProcedureRef;
-use burr_frames::{Rule, State};
+use burr_container::{FrameRef, ProcedureRef};
+use burr_frames::{Miss, Rule, State};
 
 /// Judges a procedure's code in one pass from its first byte, with one state at a time. The boxes
 /// of its frames have at most 4,096 points, and the count of looks leaves room for 2^32 more, as
@@ -78,24 +81,30 @@ fn enter(
     ensures there { IfOk result (λ _. IsSome state.new) }
     ensures room { IfOk result (λ _. HasRoomBefore state.new) }
 {
-    let label = label_within(procedure, pc, pc + 1);
-    match (label, &*state) {
-        (None, None) => Err(Refusal::plain(procedure.number(), pc as u16, Rule::MissingFrame)),
-        (None, Some(_)) => Ok(()),
-        (Some(label), None) => {
-            *state = Some(State::of(&procedure.frame(label)));
-            Ok(())
-        }
-        (Some(label), Some(before)) => {
-            match before.arrive(&procedure.frame(label)) {
-                Ok(there) => {
-                    *state = Some(there);
-                    Ok(())
-                }
-                Err(miss) => Err(Refusal::missed(procedure.number(), last as u16, miss)),
-            }
-        }
+    match label_within(procedure, pc, pc + 1) {
+        None if state.is_some() => Ok(()),
+        None => Err(Refusal::plain(procedure.number(), pc as u16, Rule::MissingFrame)),
+        Some(label) => match enter_frame(&procedure.frame(label), state) {
+            Ok(()) => Ok(()),
+            Err(miss) => Err(Refusal::missed(procedure.number(), last as u16, miss)),
+        },
     }
+}
+
+/// Takes the state that falls in, if one does, to that of a frame, at which it arrives. On its own,
+/// since the states that it holds are made room for, and few instructions stand at a label.
+#[inline(never)]
+fn enter_frame(frame: &FrameRef<'_>, state: &mut Option<State>) -> Result<(), Miss>
+    ensures verdict { ArrivesIfAny state.old (framed (frame_of frame.now))
+        (arrival_verdict result) }
+    ensures there { IfOk result (λ _. state.new ≡ Some (state_of (framed (frame_of frame.now)))) }
+{
+    let there = match state {
+        None => State::of(frame),
+        Some(before) => before.arrive(frame)?,
+    };
+    *state = Some(there);
+    Ok(())
 }
 
 /// Judges the instruction at pc in this state: the place after it. The state is then the one that

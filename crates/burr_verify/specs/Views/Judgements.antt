@@ -1,10 +1,10 @@
 -- What the code's answers say of a judgement.
-use Rattle.std.specs.Prelude.{◌≡◌, ⊤, ℕ, Option, Some, Result, Ok, Err, MatchResult, MatchOption, ◌↔◌, ◌<◌, ◌≤◌, slice_get, option_map}
+use Rattle.std.specs.Prelude.{◌≡◌, ⊤, ℕ, Option, Some, None, Result, Ok, Err, MatchResult, MatchOption, ◌↔◌, ◌<◌, ◌≤◌, slice_get, option_map}
 use Rattle.burr_container.specs.Rules.Plans.{Frame}
 use Rattle.burr_frames.specs.Rules.FramedPlans.{FramedProcedure}
 use Rattle.burr_frames.specs.Rules.States.{AbstractState}
 use Rattle.burr_frames.specs.Views.Breaks.{broken_of}
-use Rattle.burr_frames.specs.Rules.Verdicts.{Verdict, Breaks, FallsThrough, NoSuccessor}
+use Rattle.burr_frames.specs.Rules.Verdicts.{Verdict, Breaks, FallsThrough, NoSuccessor, arriving, no_successor}
 use Rattle.burr_frames.specs.declared.rule.Break.{Break}
 use Rattle.burr_verify.specs.declared.refusal.Refusal.{Refusal}
 use Rattle.burr_verify.specs.declared.transfer.Successor.{Successor}
@@ -48,6 +48,11 @@ abbrev pub PartFrom : (Rest → Rest) → (Rest → Rest) → Type 0
 PartFrom later part =
     (later passes Passed → part passes Passed)
     × ((r : FailedCheck) → later nothing (Refuses r) → part nothing (Refuses r))
+
+-- The state that falls in, if one does, arrives at the frame, or this verdict says where it does not.
+abbrev pub ArrivesIfAny : Option AbstractState → Frame → Verdict → Type 0
+ArrivesIfAny None f verdict = verdict ≡ NoSuccessor
+ArrivesIfAny (Some s) f verdict = arriving s f no_successor verdict
 
 -- the labels that stand before this place are those with numbers below n
 abbrev pub AreBefore : FramedProcedure → ℕ → ℕ → Type 0

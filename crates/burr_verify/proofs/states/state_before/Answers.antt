@@ -1,5 +1,5 @@
 -- What is left of the pass goes on, instruction by instruction, to the place.
-use Rattle.std.proofs.Common.{◌+◌, ◌∙◌, ℕ, List, Option, arith, sym, subst}
+use Rattle.std.proofs.Common.{◌+◌, ℕ, List, Option, arith, sym, subst}
 use Rattle.burr_code.specs.Instruction.{StandsAt}
 use Rattle.burr_code.specs.Meaning.{meaning, NoneStandsAt}
 use Rattle.burr_frames.specs.Rules.FramedPlans.{framed_plan}
