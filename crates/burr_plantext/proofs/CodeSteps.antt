@@ -33,25 +33,10 @@ one_size s = ap (λ (bytes : List ℕ). length bytes) (append-nil (statement_byt
 
 bytes_size : (i : Instruction)
     → length (statement_bytes [] [] (instruction_listed i)) ≡ length (spelled i)
-bytes_size code.Halt = refl
-bytes_size (code.Push n) = refl
-bytes_size (code.Load slot) = refl
-bytes_size (code.Store slot) = refl
-bytes_size code.Add = refl
-bytes_size code.Sub = refl
-bytes_size code.Drop = refl
-bytes_size (code.Grip set) = refl
-bytes_size (code.Step direction) = refl
-bytes_size (code.Aside direction tray) = refl
-bytes_size (code.Tray tray) = refl
-bytes_size (code.Jump label) = refl
-bytes_size (code.Down slot label) = refl
-bytes_size (code.Ask low high) = refl
 bytes_size (code.Pick labels) =
     ap (λ (ns : List ℕ). suc (suc (length (label_bytes ns)))) (two_maps _ _ labels)
     ∙ ap (λ (n : ℕ). suc (suc n)) (label_sizes _ labels)
-bytes_size (code.Call callee) = refl
-bytes_size code.Ret = refl
+bytes_size _ = refl
 
 pub instruction_size : (i : Instruction) → code_size (instruction_listed i ∷ []) ≡ length (spelled i)
 instruction_size i = one_size (instruction_listed i) ∙ bytes_size i
@@ -102,22 +87,7 @@ found_first labels procedures bytes instr size passes found stands long told e =
 
 some_bytes : (i : Instruction) → 0 < length (spelled i)
 some_bytes code.Halt = omega arith
-some_bytes (code.Push n) = omega arith
-some_bytes (code.Load slot) = omega arith
-some_bytes (code.Store slot) = omega arith
-some_bytes code.Add = omega arith
-some_bytes code.Sub = omega arith
-some_bytes code.Drop = omega arith
-some_bytes (code.Grip set) = omega arith
-some_bytes (code.Step direction) = omega arith
-some_bytes (code.Aside direction tray) = omega arith
-some_bytes (code.Tray tray) = omega arith
-some_bytes (code.Jump label) = omega arith
-some_bytes (code.Down slot label) = omega arith
-some_bytes (code.Ask low high) = omega arith
-some_bytes (code.Pick labels) = omega arith
-some_bytes (code.Call callee) = omega arith
-some_bytes code.Ret = omega arith
+some_bytes _ = omega arith
 
 pub instruction_added : (labels procedures : ℕ) (bytes old new : List ℕ) (size : ℕ)
     (i : Instruction) → MayBeListed labels procedures i → Begins bytes i

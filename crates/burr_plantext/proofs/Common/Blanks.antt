@@ -1,7 +1,7 @@
 -- For the code: words of numbers, names and sets have no blank, so one that is all of some bytes is
 -- their only word.
 use Rattle.std.proofs.Common.{◌≡◌, ◌≢◌, ℕ, ◌==◌, List, [], ◌∷◌, length, drop, Bool, true, false, IsTrue, refl, sym, ap, subst, ◌∙◌, arith, eqb-true}
-use Rattle.std.specs.Prelude.{◌&&◌, ◌||◌, codes, nat_le, slice_index, slice_index_or, Option, Some, None, if◌then◌else◌}
+use Rattle.std.specs.Prelude.{◌&&◌, codes, nat_le, slice_index, slice_index_or, if◌then◌else◌}
 use Rattle.std.specs.List.{list_all}
 use Rattle.std.specs.Str.{bytes_eq}
 use Rattle.std.specs.Str.Parse.{starts_with_minus}
@@ -10,7 +10,7 @@ use Rattle.std.proofs.lemmas.Slice.Eq.{bytes_eq-Decides}
 use Rattle.burr_text.specs.Names.{is_letter, is_digit, is_name_byte}
 use Rattle.burr_text.proofs.Common.Cuts.{Lacks}
 use Rattle.burr_container.specs.Rules.Fitting.{is_name_text}
-use Rattle.burr_plantext.specs.Rules.Written.{pieces, parted, in_first, is_count, is_natural, is_number, is_set, set_numbers}
+use Rattle.burr_plantext.specs.Rules.Written.{pieces, parted, in_first, is_count, is_natural, is_number, is_set}
 use Rattle.burr_plantext.specs.Rules.Operands.{given, one}
 use Rattle.burr_plantext.specs.Rules.Texts.{words_of}
 use Rattle.burr_plantext.proofs.Common.Cuts.{some_pieces}

@@ -191,15 +191,7 @@ coefficients_back slot v (negsuc n ∷ coefs) small few =
 -- eight coefficients are those of the eight slots
 eight : (coefs : List ℤ) → length coefs ≡ 8 → map (coefficient_from 0 coefs) slot_numbers ≡ coefs
 eight (a ∷ b ∷ c ∷ d ∷ e ∷ f ∷ g ∷ h ∷ []) few = refl
-eight (a ∷ b ∷ c ∷ d ∷ e ∷ f ∷ g ∷ h ∷ i ∷ more) few = absurd (omega arith)
-eight (a ∷ b ∷ c ∷ d ∷ e ∷ f ∷ g ∷ []) few = absurd (omega arith)
-eight (a ∷ b ∷ c ∷ d ∷ e ∷ f ∷ []) few = absurd (omega arith)
-eight (a ∷ b ∷ c ∷ d ∷ e ∷ []) few = absurd (omega arith)
-eight (a ∷ b ∷ c ∷ d ∷ []) few = absurd (omega arith)
-eight (a ∷ b ∷ c ∷ []) few = absurd (omega arith)
-eight (a ∷ b ∷ []) few = absurd (omega arith)
-eight (a ∷ []) few = absurd (omega arith)
-eight [] few = absurd (omega arith)
+eight _ few = absurd (omega arith)
 
 map_same : {A : Type 0} (f g : A → ℤ) → ((x : A) → f x ≡ g x) → (xs : List A) → map f xs ≡ map g xs
 map_same f g e [] = refl

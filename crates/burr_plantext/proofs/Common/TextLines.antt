@@ -1,5 +1,5 @@
 -- For the code: where the next line of a text is, and its number.
-use Rattle.std.proofs.Common.{◌≡◌, ℕ, suc, ◌==◌, List, [], ◌∷◌, ◌++◌, length, map, Bool, true, false, Contains, refl, sym, ap, ◌∙◌}
+use Rattle.std.proofs.Common.{◌≡◌, ℕ, suc, List, [], ◌∷◌, ◌++◌, length, map, Contains, refl, sym, ap, ◌∙◌}
 use Rattle.std.specs.Prelude.{if◌then◌else◌, slice_index_or}
 use Rattle.burr_text.specs.Words.{IsCutAt}
 use Rattle.burr_plantext.specs.Rules.Texts.{LineRead, is_skipped, ended_line, last_line, numbered_from}

@@ -72,13 +72,9 @@ module _ (labels procedures : ℕ) (few_labels : labels ≤ 256) (few_procedures
   labels_length (n ∷ ns) f g = ap (λ (k : ℕ). suc (suc k)) (labels_length ns f g)
 
   line_of_instruction : (i : Instruction) → IsInRange i → IsTrue (has_names labels procedures i) → IsLineOf (instruction_listed i) (spelled i)
-  line_of_instruction code.Halt h k = record { spells = refl; size = refl; in_range = refl; known = refl }
   line_of_instruction (code.Push n) h k = record { spells = ap (λ (n : ℤ). spelled (code.Push n)) (end_back n (end_test n h)); size = refl; in_range = end_right n (end_test n h); known = refl }
   line_of_instruction (code.Load slot) h k = record { spells = ap (λ (n : ℕ). spelled (code.Load n)) (natural_back slot (omega arith)); size = refl; in_range = below_decimal 8 slot h (omega arith); known = refl }
   line_of_instruction (code.Store slot) h k = record { spells = ap (λ (n : ℕ). spelled (code.Store n)) (natural_back slot (omega arith)); size = refl; in_range = below_decimal 8 slot h (omega arith); known = refl }
-  line_of_instruction code.Add h k = record { spells = refl; size = refl; in_range = refl; known = refl }
-  line_of_instruction code.Sub h k = record { spells = refl; size = refl; in_range = refl; known = refl }
-  line_of_instruction code.Drop h k = record { spells = refl; size = refl; in_range = refl; known = refl }
   line_of_instruction (code.Grip set) h k = record {
     spells = ap (λ (n : ℕ). spelled (code.Grip n)) (set_back set h.1);
     size = refl;
@@ -86,7 +82,6 @@ module _ (labels procedures : ℕ) (few_labels : labels ≤ 256) (few_procedures
         (some_numbers (set_numbers (set_word set)) (λ e. h.0 (sym (set_back set h.1) ∙ e))) (set_rises set 32 h.1);
     known = refl;
   }
-  line_of_instruction (code.Step direction) h k = record { spells = refl; size = refl; in_range = refl; known = refl }
   line_of_instruction (code.Aside direction tray) h k = record { spells = ap (λ (n : ℕ). spelled (code.Aside direction n)) (natural_back tray (omega arith)); size = refl; in_range = below_decimal 32 tray h (omega arith); known = refl }
   line_of_instruction (code.Tray tray) h k = record { spells = ap (λ (n : ℕ). spelled (code.Tray n)) (natural_back tray (omega arith)); size = refl; in_range = below_decimal 32 tray h (omega arith); known = refl }
   line_of_instruction (code.Jump label) h k = record { spells = ap (λ (n : ℕ). spelled (code.Jump n)) (label_back label k); size = refl; in_range = refl; known = ap not (label_known label k) }
@@ -116,7 +111,7 @@ module _ (labels procedures : ℕ) (few_labels : labels ≤ 256) (few_procedures
     in_range = refl;
     known = ap not (known_back 112 procedures 0 callee (omega arith) (let l = ltb-true callee procedures k in omega arith));
   }
-  line_of_instruction code.Ret h k = record { spells = refl; size = refl; in_range = refl; known = refl }
+  line_of_instruction _ h k = record { spells = refl; size = refl; in_range = refl; known = refl }
 
   -- the first line of listed code, and its bytes
   first_line : (bytes : List ℕ) (s : Statement) (rest : List ℕ) → IsListedAs labels procedures bytes s rest ⊎ IsListedRaw labels procedures bytes s rest

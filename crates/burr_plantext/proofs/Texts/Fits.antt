@@ -99,15 +99,7 @@ eight_coefficients : (live : List Bool) (c : ℕ → ℤ) → length live ≡ 8 
 eight_coefficients (a ∷ b ∷ d ∷ e ∷ f ∷ g ∷ h ∷ i ∷ []) c few each =
     and_from (is_coefficient a (c 0)) _ (each 0) (and_from (is_coefficient b (c 1)) _ (each 1) (and_from (is_coefficient d (c 2)) _ (each 2) (and_from (is_coefficient e (c 3)) _ (each 3)
     (and_from (is_coefficient f (c 4)) _ (each 4) (and_from (is_coefficient g (c 5)) _ (each 5) (and_from (is_coefficient h (c 6)) _ (each 6) (and_from (is_coefficient i (c 7)) true (each 7) refl)))))))
-eight_coefficients (a ∷ b ∷ d ∷ e ∷ f ∷ g ∷ h ∷ i ∷ j ∷ more) c few each = absurd (omega arith)
-eight_coefficients (a ∷ b ∷ d ∷ e ∷ f ∷ g ∷ h ∷ []) c few each = absurd (omega arith)
-eight_coefficients (a ∷ b ∷ d ∷ e ∷ f ∷ g ∷ []) c few each = absurd (omega arith)
-eight_coefficients (a ∷ b ∷ d ∷ e ∷ f ∷ []) c few each = absurd (omega arith)
-eight_coefficients (a ∷ b ∷ d ∷ e ∷ []) c few each = absurd (omega arith)
-eight_coefficients (a ∷ b ∷ d ∷ []) c few each = absurd (omega arith)
-eight_coefficients (a ∷ b ∷ []) c few each = absurd (omega arith)
-eight_coefficients (a ∷ []) c few each = absurd (omega arith)
-eight_coefficients [] c few each = absurd (omega arith)
+eight_coefficients _ c few each = absurd (omega arith)
 
 pub form_fits : (live : List Bool) (w : List ℕ) → length live ≡ 8 → IsTrue (is_form_over live w) → IsTrue (fitting.is_form live (form_in w))
 form_fits live w eight h =

@@ -7,7 +7,7 @@ use Rattle.std.specs.Int.{w16, cast_unsigned}
 use Rattle.std.proofs.lemmas.Bool.{and_from, and_parts}
 use Rattle.std.proofs.lemmas.Grind.{flat_map-append}
 use Rattle.burr_voxels.specs.declared.direction.Direction.{Direction}
-use Rattle.burr_voxels.specs.declared.direction.Direction.TheVariants.{PlusX, MinusX, PlusY, MinusY, PlusZ, MinusZ}
+use Rattle.burr_voxels.specs.declared.direction.Direction.TheVariants.{PlusX}
 use Rattle.burr_voxels.specs.Grid as grid
 use Rattle.burr_code.specs.Instruction as code
 use Rattle.burr_code.specs.Instruction.{signed_word, label_bytes, spelled}
@@ -34,24 +34,8 @@ label_sizes f g (n ∷ names) = ap (λ (k : ℕ). suc (suc k)) (label_sizes f g 
 
 module _ (labels procedures : List (List ℕ)) where
   size_same : (s : Statement) → length (statement_bytes labels procedures s) ≡ length (statement_bytes [] [] s)
-  size_same said.Halt = refl
-  size_same (said.Push n) = refl
-  size_same (said.Load v) = refl
-  size_same (said.Store v) = refl
-  size_same said.Add = refl
-  size_same said.Sub = refl
-  size_same said.Drop = refl
-  size_same (said.Grip set) = refl
-  size_same (said.Step d) = refl
-  size_same (said.Aside d t) = refl
-  size_same (said.Tray t) = refl
-  size_same (said.Jump l) = refl
-  size_same (said.Down v l) = refl
-  size_same (said.Ask a b) = refl
   size_same (said.Pick names) = ap (λ (n : ℕ). suc (suc n)) (label_sizes (number_of labels) (number_of []) names)
-  size_same (said.Call q) = refl
-  size_same said.Ret = refl
-  size_same (said.Byte b) = refl
+  size_same _ = refl
 
   pub code_length : (code : List Statement) → length (code_bytes labels procedures code) ≡ code_size code
   code_length [] = refl
@@ -61,23 +45,7 @@ module _ (labels procedures : List (List ℕ)) where
 
 some_size : (s : Statement) → 0 < length (statement_bytes [] [] s)
 some_size said.Halt = omega arith
-some_size (said.Push n) = omega arith
-some_size (said.Load v) = omega arith
-some_size (said.Store v) = omega arith
-some_size said.Add = omega arith
-some_size said.Sub = omega arith
-some_size said.Drop = omega arith
-some_size (said.Grip set) = omega arith
-some_size (said.Step d) = omega arith
-some_size (said.Aside d t) = omega arith
-some_size (said.Tray t) = omega arith
-some_size (said.Jump l) = omega arith
-some_size (said.Down v l) = omega arith
-some_size (said.Ask a b) = omega arith
-some_size (said.Pick names) = omega arith
-some_size (said.Call q) = omega arith
-some_size said.Ret = omega arith
-some_size (said.Byte b) = omega arith
+some_size _ = omega arith
 
 some_code : (code : List Statement) → IsTrue (not (is_empty code)) → 0 < code_size code
 some_code [] h = grind arith
@@ -122,11 +90,7 @@ number_few (first ∷ names) name = by (bytes_eq first name) (number_few names n
 
 direction_byte : (d : Direction) → grid.number_of d < 256
 direction_byte PlusX = omega arith
-direction_byte MinusX = omega arith
-direction_byte PlusY = omega arith
-direction_byte MinusY = omega arith
-direction_byte PlusZ = omega arith
-direction_byte MinusZ = omega arith
+direction_byte _ = omega arith
 
 length_map : (f : List ℕ → ℕ) (names : List (List ℕ)) → length (map f names) ≡ length names
 length_map f [] = refl
@@ -134,13 +98,9 @@ length_map f (n ∷ names) = ap suc (length_map f names)
 
 module _ (labels procedures : List (List ℕ)) (few : length procedures ≤ 16) where
   statement_fits : (s : Statement) → IsTrue (is_in_range s) → IsTrue (is_said s) → IsTrue (are_bytes (statement_bytes labels procedures s))
-  statement_fits said.Halt h k = refl
   statement_fits (said.Push n) h k = word_bytes (number_in n)
   statement_fits (said.Load v) h k = one_byte (natural_in v) (let b = below 8 v h in omega arith)
   statement_fits (said.Store v) h k = one_byte (natural_in v) (let b = below 8 v h in omega arith)
-  statement_fits said.Add h k = refl
-  statement_fits said.Sub h k = refl
-  statement_fits said.Drop h k = refl
   statement_fits (said.Grip set) h k = grip_bytes (set_in set)
   statement_fits (said.Step d) h k = one_byte (grid.number_of d) (direction_byte d)
   statement_fits (said.Aside d t) h k = and_from (nat_lt (grid.number_of d) 256) _ (lt-ltb (grid.number_of d) 256 (direction_byte d)) (one_byte (natural_in t) (let b = below 32 t h in omega arith))
@@ -152,8 +112,8 @@ module _ (labels procedures : List (List ℕ)) (few : length procedures ≤ 16) 
       let size = length_map (number_of labels) names in
       and_from (nat_lt (length (map (number_of labels) names)) 256) _ (lt-ltb (length (map (number_of labels) names)) 256 (let b = leb-true (length names) 8 k in omega (arith, size, b))) (labels_bytes (number_of labels) names)
   statement_fits (said.Call q) h k = one_byte (number_of procedures q) (let n = number_few procedures q in omega arith)
-  statement_fits said.Ret h k = refl
   statement_fits (said.Byte b) h k = one_byte b (ltb-true b 256 k)
+  statement_fits _ h k = refl
 
   pub code_fits : (code : List Statement) → IsTrue (list_all is_in_range code) → IsTrue (list_all is_said code) → IsTrue (are_bytes (code_bytes labels procedures code))
   code_fits [] h k = refl

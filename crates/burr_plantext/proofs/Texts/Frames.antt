@@ -141,15 +141,7 @@ slot_back k v (Some r ∷ slots) few h =
 
 eight : (slots : List (Option Range)) → length slots ≡ 8 → map (slot_from 0 slots) slot_numbers ≡ slots
 eight (a ∷ b ∷ c ∷ d ∷ e ∷ f ∷ g ∷ h ∷ []) few = refl
-eight (a ∷ b ∷ c ∷ d ∷ e ∷ f ∷ g ∷ h ∷ i ∷ more) few = absurd (omega arith)
-eight (a ∷ b ∷ c ∷ d ∷ e ∷ f ∷ g ∷ []) few = absurd (omega arith)
-eight (a ∷ b ∷ c ∷ d ∷ e ∷ f ∷ []) few = absurd (omega arith)
-eight (a ∷ b ∷ c ∷ d ∷ e ∷ []) few = absurd (omega arith)
-eight (a ∷ b ∷ c ∷ d ∷ []) few = absurd (omega arith)
-eight (a ∷ b ∷ c ∷ []) few = absurd (omega arith)
-eight (a ∷ b ∷ []) few = absurd (omega arith)
-eight (a ∷ []) few = absurd (omega arith)
-eight [] few = absurd (omega arith)
+eight _ few = absurd (omega arith)
 
 map_same : {A B : Type 0} (f g : A → B) → ((x : A) → f x ≡ g x) → (xs : List A) → map f xs ≡ map g xs
 map_same f g e [] = refl

@@ -7,7 +7,7 @@ use Rattle.std.proofs.lemmas.Bool.{and_from, and_parts}
 use borrow.Author.Tests.{lt-leb}
 use Rattle.burr_text.specs.Names.{is_digit}
 use Rattle.burr_voxels.specs.declared.direction.Direction.{Direction}
-use Rattle.burr_voxels.specs.declared.direction.Direction.TheVariants.{PlusX, MinusX, PlusY, MinusY, PlusZ, MinusZ}
+use Rattle.burr_voxels.specs.declared.direction.Direction.TheVariants.{PlusX}
 use Rattle.burr_voxels.specs.Grid.{name_of}
 use Rattle.burr_code.specs.Instruction as code
 use Rattle.burr_code.specs.Instruction.{Instruction, IsInRange, IsInNumberRange}
@@ -74,19 +74,11 @@ not_skipped b w (next ∷ words) e = e
 
 direction_back : (d : Direction) → direction_of (name_of d) ≡ Some d
 direction_back PlusX = refl
-direction_back MinusX = refl
-direction_back PlusY = refl
-direction_back MinusY = refl
-direction_back PlusZ = refl
-direction_back MinusZ = refl
+direction_back _ = refl
 
 direction_visible : (d : Direction) → IsTrue (is_visible (name_of d))
 direction_visible PlusX = refl
-direction_visible MinusX = refl
-direction_visible PlusY = refl
-direction_visible MinusY = refl
-direction_visible PlusZ = refl
-direction_visible MinusZ = refl
+direction_visible _ = refl
 
 or_right : (a b : Bool) → IsTrue b → IsTrue (a || b)
 or_right true b h = refl
@@ -156,13 +148,9 @@ names_few (code.Pick labels) = list_all (λ label. nat_lt label 256) labels
 names_few i = true
 
 pub instruction_formed : (i : Instruction) → IsInRange i → IsTrue (names_few i) → IsFormed (CodeLine (instruction_listed i))
-instruction_formed code.Halt h k = record { reads = refl; visible = refl; not_skipped = refl }
 instruction_formed (code.Push n) h k = let w = end_word n (end_test n h) in record { reads = ap code_line (one_is is_number said.Push (signed_decimal n) w.is); visible = visible_one (signed_decimal n) w.visible; not_skipped = refl }
 instruction_formed (code.Load slot) h k = let w = number_word slot (omega arith) in record { reads = ap code_line (one_is is_number said.Load (decimal slot) w.is); visible = visible_one (decimal slot) w.visible; not_skipped = refl }
 instruction_formed (code.Store slot) h k = let w = number_word slot (omega arith) in record { reads = ap code_line (one_is is_number said.Store (decimal slot) w.is); visible = visible_one (decimal slot) w.visible; not_skipped = refl }
-instruction_formed code.Add h k = record { reads = refl; visible = refl; not_skipped = refl }
-instruction_formed code.Sub h k = record { reads = refl; visible = refl; not_skipped = refl }
-instruction_formed code.Drop h k = record { reads = refl; visible = refl; not_skipped = refl }
 instruction_formed (code.Grip set) h k = let w = set_of_form set in record { reads = ap code_line (one_is is_set said.Grip (set_word set) w.is); visible = visible_one (set_word set) w.visible; not_skipped = refl }
 instruction_formed (code.Step d) h k = record {
   reads = ap (λ (o : Option Direction). code_line (along o (λ d. alone (said.Step d)) [])) (direction_back d);
@@ -197,7 +185,7 @@ instruction_formed (code.Pick labels) h k =
       not_skipped = not_skipped 112 (codes "ick") ws refl;
     }
 instruction_formed (code.Call callee) h k = let w = callee_of_form callee (omega arith) in record { reads = ap code_line (one_is is_name_text said.Call (procedure_name callee) w.is); visible = visible_one (procedure_name callee) w.visible; not_skipped = refl }
-instruction_formed code.Ret h k = record { reads = refl; visible = refl; not_skipped = refl }
+instruction_formed _ h k = record { reads = refl; visible = refl; not_skipped = refl }
 
 -- Lines with numbers, sets and forms
 

@@ -17,22 +17,7 @@ nil_cons b r e = cc
 -- each instruction has a byte
 no_first : (i : Instruction) (r : List ℕ) → [] ≡ spelled i ++ r → ⊥
 no_first code.Halt r e = nil_cons _ _ e
-no_first (code.Push n) r e = nil_cons _ _ e
-no_first (code.Load v) r e = nil_cons _ _ e
-no_first (code.Store v) r e = nil_cons _ _ e
-no_first code.Add r e = nil_cons _ _ e
-no_first code.Sub r e = nil_cons _ _ e
-no_first code.Drop r e = nil_cons _ _ e
-no_first (code.Grip s) r e = nil_cons _ _ e
-no_first (code.Step d) r e = nil_cons _ _ e
-no_first (code.Aside d t) r e = nil_cons _ _ e
-no_first (code.Tray t) r e = nil_cons _ _ e
-no_first (code.Jump l) r e = nil_cons _ _ e
-no_first (code.Down v l) r e = nil_cons _ _ e
-no_first (code.Ask a b) r e = nil_cons _ _ e
-no_first (code.Pick ls) r e = nil_cons _ _ e
-no_first (code.Call c) r e = nil_cons _ _ e
-no_first code.Ret r e = nil_cons _ _ e
+no_first _ r e = nil_cons _ _ e
 
 -- One
 

@@ -103,14 +103,11 @@ hex_small b h = by (is_digit b) refl h
     by false e k = let high = leb-true b 102 (and_parts (nat_le 97 b) (nat_le b 102) k).1 in omega arith
 
 raw_gives : Gives is_said bytes_line
-raw_gives [] x e = cc
 raw_gives (w ∷ v ∷ words) x e = cc
-raw_gives ([] ∷ []) x e = cc
-raw_gives ((h ∷ []) ∷ []) x e = cc
 raw_gives ((h ∷ l ∷ []) ∷ []) x e =
     given_gives is_said (is_hex_digit h && is_hex_digit l) (said.Byte (16 * hex_value h + hex_value l)) x e
     (λ k. let both = and_parts (is_hex_digit h) (is_hex_digit l) k in let high = hex_small h both.0 in let low = hex_small l both.1 in lt-ltb (16 * hex_value h + hex_value l) 256 (omega arith))
-raw_gives ((h ∷ l ∷ m ∷ more) ∷ []) x e = cc
+raw_gives _ x e = cc
 
 offer_gives : Gives is_said offer
 offer_gives labels x e =
@@ -120,7 +117,7 @@ offer_gives labels x e =
 
 code_gives : AllGive is_said code_words
 code_gives = (
-  alone_gives is_said said.Halt refl,
+  alone_gives is_said _ refl,
   (
     one_gives is_said is_number said.Push (λ w h. refl),
     (
@@ -128,11 +125,11 @@ code_gives = (
       (
         one_gives is_said is_number said.Store (λ w h. refl),
         (
-          alone_gives is_said said.Add refl,
+          alone_gives is_said _ refl,
           (
-            alone_gives is_said said.Sub refl,
+            alone_gives is_said _ refl,
             (
-              alone_gives is_said said.Drop refl,
+              alone_gives is_said _ refl,
               (
                 one_gives is_said is_set said.Grip (λ w h. refl),
                 (
@@ -145,7 +142,7 @@ code_gives = (
                         one_gives is_said is_name_text said.Jump (λ w h. refl),
                         (
                           two_gives is_said is_number is_name_text said.Down (λ v w h. refl),
-                          (two_gives is_said is_number is_number said.Ask (λ v w h. refl), (offer_gives, (one_gives is_said is_name_text said.Call (λ w h. refl), (alone_gives is_said said.Ret refl, (raw_gives, tt))))),
+                          (two_gives is_said is_number is_number said.Ask (λ v w h. refl), (offer_gives, (one_gives is_said is_name_text said.Call (λ w h. refl), (alone_gives is_said _ refl, (raw_gives, tt))))),
                         ),
                       ),
                     ),
@@ -163,20 +160,14 @@ code_gives = (
 -- Lines
 
 procedure_gives : Gives is_fine procedure_line
-procedure_gives [] x e = cc
-procedure_gives (n ∷ []) x e = cc
 procedure_gives (n ∷ p ∷ []) x e = given_gives is_fine (is_name_text n && is_number p) (head_line n p None) x e (λ k. refl)
 procedure_gives (n ∷ p ∷ r ∷ []) x e = given_gives is_fine (is_name_text n && is_number p && is_number r) (head_line n p (Some r)) x e (λ k. refl)
-procedure_gives (n ∷ p ∷ r ∷ s ∷ words) x e = cc
+procedure_gives _ x e = cc
 
 piece_gives : Gives is_fine piece_line
-piece_gives [] x e = cc
-piece_gives (p ∷ []) x e = cc
 piece_gives (p ∷ w ∷ []) x e = given_gives is_fine (is_number p && bytes_eq w (codes "apart")) (at_line p Apart) x e (λ k. refl)
-piece_gives (p ∷ t ∷ a ∷ []) x e = cc
-piece_gives (p ∷ t ∷ a ∷ b ∷ []) x e = cc
 piece_gives (p ∷ t ∷ a ∷ b ∷ c ∷ []) x e = given_gives is_fine (is_number p && is_number t && is_form a && is_form b && is_form c) (at_line p (On t a b c)) x e (λ k. refl)
-piece_gives (p ∷ t ∷ a ∷ b ∷ c ∷ d ∷ words) x e = cc
+piece_gives _ x e = cc
 
 title_gives : (version : ℕ) → IsTrue ((version == 1) || (version == 2)) → Gives is_fine (title_line version)
 title_gives version h =

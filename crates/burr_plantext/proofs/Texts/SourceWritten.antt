@@ -145,23 +145,10 @@ all_below_few (n ∷ ns) m few h =
     and_from (nat_lt n 256) (list_all (λ n. nat_lt n 256) ns) (below_few n m few parts.0) (all_below_few ns m few parts.1)
 
 few_names : (labels procedures : ℕ) (i : Instruction) → labels ≤ 256 → IsTrue (has_names labels procedures i) → IsTrue (names_few i)
-few_names labels procedures code.Halt few h = refl
-few_names labels procedures (code.Push n) few h = refl
-few_names labels procedures (code.Load slot) few h = refl
-few_names labels procedures (code.Store slot) few h = refl
-few_names labels procedures code.Add few h = refl
-few_names labels procedures code.Sub few h = refl
-few_names labels procedures code.Drop few h = refl
-few_names labels procedures (code.Grip set) few h = refl
-few_names labels procedures (code.Step d) few h = refl
-few_names labels procedures (code.Aside d tray) few h = refl
-few_names labels procedures (code.Tray tray) few h = refl
 few_names labels procedures (code.Jump label) few h = below_few label labels few h
 few_names labels procedures (code.Down slot label) few h = below_few label labels few h
-few_names labels procedures (code.Ask low high) few h = refl
 few_names labels procedures (code.Pick offered) few h = all_below_few offered labels few h
-few_names labels procedures (code.Call callee) few h = refl
-few_names labels procedures code.Ret few h = refl
+few_names labels procedures _ few h = refl
 
 module _ (labels procedures : ℕ) (few : labels ≤ 256) where
   code_formed : (code : List Statement) (bytes : List ℕ) → AreBytes bytes → IsCodeListed labels procedures bytes code → AllFormed (map CodeLine code)

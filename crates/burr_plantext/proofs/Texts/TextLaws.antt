@@ -53,10 +53,6 @@ one_fault text kind other line next a b =
 
 numbers_from : (n : ℕ) (ps : List (List ℕ)) (place last : ℕ) → 1 ≤ n → 1 ≤ last → n + length ps ≤ suc last
     → (1 ≤ slice_index_or (map (λ (l : ℕ × LineRead). l.0) (numbered_from n ps)) place last) × (slice_index_or (map (λ (l : ℕ × LineRead). l.0) (numbered_from n ps)) place last ≤ last)
-numbers_from n [] place last low some high = (some, omega arith)
-numbers_from n ([] ∷ []) place last low some high = (some, omega arith)
-numbers_from n ((b ∷ line) ∷ []) zero last low some high = (low, omega arith)
-numbers_from n ((b ∷ line) ∷ []) (suc place) last low some high = (some, omega arith)
 numbers_from n (line ∷ next ∷ more) place last low some high =
     by (is_skipped line) place (λ place. numbers_from (suc n) (next ∷ more) place last (omega arith) some (omega arith))
   where
@@ -67,6 +63,8 @@ numbers_from n (line ∷ next ∷ more) place last low some high =
     by true place h = h place
     by false zero h = (low, omega arith)
     by false (suc place) h = h place
+numbers_from n ((b ∷ line) ∷ []) zero last low some high = (low, omega arith)
+numbers_from n _ place last low some high = (some, omega arith)
 
 some_piece : (c : ℕ) (bytes : List ℕ) → 1 ≤ length (pieces c bytes)
 some_piece c [] = omega arith

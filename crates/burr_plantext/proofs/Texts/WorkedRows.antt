@@ -1,8 +1,7 @@
 -- Worked rows of the definitions: texts with their plans and their faults, and a listing.
-use Rattle.std.proofs.Common.{◌≡◌, ℕ, List, [], ◌∷◌, ◌++◌, codes, refl, pos, neg_ℤ, ℤ, inl, inr, replicate, map, flat_map, suc, ◌+◌, ◌^◌, IsTrue, arith, ◌==◌, false}
+use Rattle.std.proofs.Common.{◌≡◌, ℕ, List, [], ◌∷◌, ◌++◌, codes, refl, pos, neg_ℤ, ℤ, inl, inr, replicate, map, flat_map, suc, ◌+◌, ◌^◌, IsTrue, arith}
 use Rattle.std.specs.Prelude.{Option, Some, None, Result, Ok, Err}
 use Rattle.std.specs.Fmt.{digits}
-use Rattle.std.proofs.lemmas.Bool.Decides.{nat_tests}
 use Rattle.burr_text.proofs.Common.Cuts.{same_head, same_tail}
 use Rattle.burr_code.specs.Instruction as code
 use Rattle.burr_code.specs.Instruction.{Instruction, Begins, spelled}
@@ -301,50 +300,17 @@ duo = record {
 abbrev duo_text : List ℕ
 duo_text = codes "plan duo 2 3\nproc p0 0\nlabel L0\nframe 0 -\ncost 3\nat 0 0 0 0 0\nat 1 0 0 0 0\nbyte 10\nlabel L1\nframe 0 -\ncost 3\nat 0 0 0 0 0\nat 1 0 0 0 0\nhalt\nhalt\nhalt\npush 4609\nbyte 01\nhalt\n"
 
-differ : (a b : ℕ) (r s : List ℕ) → (a == b) ≡ false → a ∷ r ≡ b ∷ s → ⊥
-differ a b r s other e = grind (arith, same_head a b r s e, nat_tests)
-
 too_short : (a b c : ℕ) (s : List ℕ) → a ∷ [] ≡ b ∷ c ∷ s → ⊥
 too_short a b c s e = cc
 
 -- no instruction is so short
 short_grip : (i : Instruction) → MayBeListed 2 1 i → ¬ Begins (16 ∷ []) i
-short_grip code.Halt may (rest, e) = differ 16 0 _ _ refl e
-short_grip (code.Push n) may (rest, e) = differ 16 1 _ _ refl e
-short_grip (code.Load v) may (rest, e) = differ 16 2 _ _ refl e
-short_grip (code.Store v) may (rest, e) = differ 16 3 _ _ refl e
-short_grip code.Add may (rest, e) = differ 16 4 _ _ refl e
-short_grip code.Sub may (rest, e) = differ 16 5 _ _ refl e
-short_grip code.Drop may (rest, e) = differ 16 6 _ _ refl e
 short_grip (code.Grip s) may (rest, e) = too_short 16 16 _ _ e
-short_grip (code.Step d) may (rest, e) = differ 16 17 _ _ refl e
-short_grip (code.Aside d t) may (rest, e) = differ 16 18 _ _ refl e
-short_grip (code.Tray t) may (rest, e) = differ 16 19 _ _ refl e
-short_grip (code.Jump l) may (rest, e) = differ 16 32 _ _ refl e
-short_grip (code.Down v l) may (rest, e) = differ 16 33 _ _ refl e
-short_grip (code.Ask a b) may (rest, e) = differ 16 34 _ _ refl e
-short_grip (code.Pick ls) may (rest, e) = differ 16 35 _ _ refl e
-short_grip (code.Call q) may (rest, e) = differ 16 36 _ _ refl e
-short_grip code.Ret may (rest, e) = differ 16 37 _ _ refl e
+short_grip _ may (rest, e) = omega (arith, same_head _ _ _ _ e)
 
 short_push : (i : Instruction) → MayBeListed 2 1 i → ¬ Begins (1 ∷ 0 ∷ []) i
-short_push code.Halt may (rest, e) = differ 1 0 _ _ refl e
 short_push (code.Push n) may (rest, e) = too_short 0 _ _ _ (same_tail 1 1 _ _ e)
-short_push (code.Load v) may (rest, e) = differ 1 2 _ _ refl e
-short_push (code.Store v) may (rest, e) = differ 1 3 _ _ refl e
-short_push code.Add may (rest, e) = differ 1 4 _ _ refl e
-short_push code.Sub may (rest, e) = differ 1 5 _ _ refl e
-short_push code.Drop may (rest, e) = differ 1 6 _ _ refl e
-short_push (code.Grip s) may (rest, e) = differ 1 16 _ _ refl e
-short_push (code.Step d) may (rest, e) = differ 1 17 _ _ refl e
-short_push (code.Aside d t) may (rest, e) = differ 1 18 _ _ refl e
-short_push (code.Tray t) may (rest, e) = differ 1 19 _ _ refl e
-short_push (code.Jump l) may (rest, e) = differ 1 32 _ _ refl e
-short_push (code.Down v l) may (rest, e) = differ 1 33 _ _ refl e
-short_push (code.Ask a b) may (rest, e) = differ 1 34 _ _ refl e
-short_push (code.Pick ls) may (rest, e) = differ 1 35 _ _ refl e
-short_push (code.Call q) may (rest, e) = differ 1 36 _ _ refl e
-short_push code.Ret may (rest, e) = differ 1 37 _ _ refl e
+short_push _ may (rest, e) = omega (arith, same_head _ _ _ _ e)
 
 abbrev first_block : Block
 first_block = record { label = label_name 0; frame = frame_listed (start 3); code = Byte 16 ∷ [] }

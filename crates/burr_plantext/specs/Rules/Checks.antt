@@ -5,7 +5,7 @@ use Rattle.std.specs.Str.{bytes_eq}
 use Rattle.burr_code.specs.declared.limits.TheConstants.{TRAYS, SLOTS, MOST_OPERANDS, MOST_CODE, MOST_LABELS, MOST_PROCEDURES, MOST_BUDGET, MOST_PARAMETERS, MOST_GUARDS}
 use Rattle.burr_container.specs.Rules.Plans.{live_slots, exit_symbols}
 use Rattle.burr_plantext.specs.Rules.Written.{natural_in, is_within, is_below, is_operand, are_ends, set_numbers, are_members, is_form_over}
-use Rattle.burr_plantext.specs.Rules.Statements.{Statement, Halt, Push, Load, Store, Add, Sub, Drop, Grip, Step, Aside, Tray, Jump, Down, Ask, Pick, Call, Ret, Byte}
+use Rattle.burr_plantext.specs.Rules.Statements.{Statement, Push, Load, Store, Grip, Aside, Tray, Jump, Down, Ask, Pick, Call}
 use Rattle.burr_plantext.specs.Rules.Lines.{PlanWords, ProcedureWords, GripWords, RangeWords, SlotWords, PlaceWords, Apart, On, PieceWords}
 use Rattle.burr_plantext.specs.Rules.Sources.{ExitSource, Conditions, Block, ProcedureSource}
 use Rattle.burr_plantext.specs.Rules.Meaning.{code_size, slots_in, label_names, procedure_names, result_count, block_code}
@@ -135,26 +135,17 @@ exit_piece_check h e p =
 
 -- Code
 
--- the numbers and sets of a line of code are in their ranges
+-- the numbers and sets of a line of code, if it has any, are in their ranges
 abbrev pub is_in_range : Statement → Bool
-is_in_range Halt = true
 is_in_range (Push number) = is_operand number
 is_in_range (Load slot) = is_below SLOTS slot
 is_in_range (Store slot) = is_below SLOTS slot
-is_in_range Add = true
-is_in_range Sub = true
-is_in_range Drop = true
 is_in_range (Grip set) = not (is_empty (set_numbers set)) && are_members 0 32 (set_numbers set)
-is_in_range (Step direction) = true
 is_in_range (Aside direction tray) = is_below TRAYS tray
 is_in_range (Tray tray) = is_below TRAYS tray
-is_in_range (Jump label) = true
 is_in_range (Down slot label) = is_below SLOTS slot
 is_in_range (Ask low high) = are_ends low high
-is_in_range (Pick labels) = true
-is_in_range (Call procedure) = true
-is_in_range Ret = true
-is_in_range (Byte byte) = true
+is_in_range statement = true
 
 -- a line of code after blocks and other code of its own block
 abbrev pub statement_check : List Block → List Statement → Statement → Option FaultKind

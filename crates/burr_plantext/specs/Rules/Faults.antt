@@ -209,15 +209,12 @@ with_line place (Within u stage) line = within place u stage line
 
 -- the end of the text after a line of a procedure
 abbrev pub end_within : ℕ → OpenProcedure → Stage → Result PlanSource PlacedFault
-end_within place u AwaitsExit = Err (P1, place)
-end_within place u (InExit e) = Err (P1, place)
 end_within place u (AwaitsLabel exit) = Err (P5, place)
 end_within place u (AwaitsFrame exit blocks label) = Err (P5, place)
-end_within place u (InFrame exit blocks label c) = Err (P1, place)
-end_within place u (InPieces exit blocks label f) = Err (P1, place)
 end_within place u (InCode exit blocks b) =
     needing (has_code b) (at_label place b)
     (Ok (record { title = u.title; procedures = ended_with u exit blocks b }))
+end_within place u stage = Err (P1, place)
 
 -- The source, where the text ends after this beginning, or the fault of the end.
 abbrev pub at_end : ℕ → Beginning → Result PlanSource PlacedFault
