@@ -37,19 +37,12 @@ all_there n most few = by (nat_lt n most) refl
 
 swapped : (x y z : Bool) → (x && y && z) ≡ (x && z && y)
 swapped true true true = refl
-swapped true true false = refl
 swapped true false true = refl
-swapped true false false = refl
-swapped false true true = refl
-swapped false true false = refl
-swapped false false true = refl
-swapped false false false = refl
+swapped _ _ _ = refl
 
 none : (a b : Bool) → (a && b && false) ≡ false
 none true true = refl
-none true false = refl
-none false true = refl
-none false false = refl
+none _ _ = refl
 
 module _ (x : Exit) (version : ℕ) (h : ProcedureWords) (e : ExitSource) (is : IsExitFor x version h e) where
   -- results are still due

@@ -149,30 +149,15 @@ length-filled coefs (term ∷ terms) =
 -- eight coefficients are those of the eight slots
 eight_coefs : (coefs : List ℤ) → length coefs ≡ 8 → coefs ≡ map (λ slot. get_or coefs slot (pos 0)) slot_numbers
 eight_coefs (a ∷ b ∷ c ∷ d ∷ e ∷ f ∷ g ∷ h ∷ []) few = refl
-eight_coefs (a ∷ b ∷ c ∷ d ∷ e ∷ f ∷ g ∷ h ∷ i ∷ more) few = absurd (omega arith)
-eight_coefs (a ∷ b ∷ c ∷ d ∷ e ∷ f ∷ g ∷ []) few = absurd (omega arith)
-eight_coefs (a ∷ b ∷ c ∷ d ∷ e ∷ f ∷ []) few = absurd (omega arith)
-eight_coefs (a ∷ b ∷ c ∷ d ∷ e ∷ []) few = absurd (omega arith)
-eight_coefs (a ∷ b ∷ c ∷ d ∷ []) few = absurd (omega arith)
-eight_coefs (a ∷ b ∷ c ∷ []) few = absurd (omega arith)
-eight_coefs (a ∷ b ∷ []) few = absurd (omega arith)
-eight_coefs (a ∷ []) few = absurd (omega arith)
-eight_coefs [] few = absurd (omega arith)
+eight_coefs _ few = absurd (omega arith)
 
 map_same : (f g : ℕ → ℤ) → ((x : ℕ) → f x ≡ g x) → (xs : List ℕ) → map f xs ≡ map g xs
 map_same f g e [] = refl
 map_same f g e (x ∷ xs) = λ i. e x i ∷ map_same f g e xs i
 
 zero_at : (slot : ℕ) → get_or zeros slot (pos 0) ≡ pos 0
-zero_at zero = refl
-zero_at (suc zero) = refl
-zero_at (suc (suc zero)) = refl
-zero_at (suc (suc (suc zero))) = refl
-zero_at (suc (suc (suc (suc zero)))) = refl
-zero_at (suc (suc (suc (suc (suc zero))))) = refl
-zero_at (suc (suc (suc (suc (suc (suc zero)))))) = refl
-zero_at (suc (suc (suc (suc (suc (suc (suc zero))))))) = refl
 zero_at (suc (suc (suc (suc (suc (suc (suc (suc n)))))))) = get_or_past zeros (suc (suc (suc (suc (suc (suc (suc (suc n)))))))) (pos 0) (omega arith)
+zero_at _ = refl
 
 -- the coefficients of terms whose slots rise
 pub filled_form : (live : List Bool) (terms : List (List ℕ)) → length live ≡ 8 → are_terms live 0 terms ≡ true → filled zeros terms ≡ map (λ slot. coefficient_of slot terms) slot_numbers

@@ -62,9 +62,7 @@ module _ (live : List Bool) (old : List Place) (before : List PieceWords) (piece
 
 guarded : (b e x y : Bool) → (b ≡ true → x ≡ y) → (b && e && x) ≡ (b && e && y)
 guarded true true x y h = h refl
-guarded true false x y h = refl
-guarded false true x y h = refl
-guarded false false x y h = refl
+guarded _ _ x y h = refl
 
 module _ (parts : ConditionParts) (c : Conditions) (h : AreFor parts c) where
   same_guards : is_empty parts.guards ≡ is_empty c.guards

@@ -2,7 +2,7 @@
 use Rattle.std.proofs.Common.{◌≡◌, ℕ, ◌+◌, ◌<◌, ◌==◌, true, false, not, List, [], ◌∷◌, ◌++◌, length, sym, ap, ◌∙◌, arith}
 use Rattle.std.proofs.lemmas.List.{length-append}
 use Rattle.std.proofs.lemmas.Grind.{flat_map-append}
-use Rattle.burr_plantext.specs.Rules.Statements.{Statement, Halt, Push, Load, Store, Add, Sub, Drop, Grip, Step, Aside, Tray, Jump, Down, Ask, Pick, Call, Ret, Byte}
+use Rattle.burr_plantext.specs.Rules.Statements.{Statement, Halt}
 use Rattle.burr_plantext.specs.Rules.Sources.{Block}
 use Rattle.burr_plantext.specs.Rules.Meaning.{statement_bytes, code_bytes, code_size, block_code, labels_in}
 use Rattle.burr_plantext.specs.Rules.Checks.{is_empty, has_code}
@@ -11,23 +11,7 @@ use Rattle.burr_asm.specs.Views.Routines.{RoutineParts, ends_at, ends_with_label
 -- a line of code has some bytes
 pub some_bytes : (s : Statement) → 0 < length (statement_bytes [] [] s)
 some_bytes Halt = omega arith
-some_bytes (Push number) = omega arith
-some_bytes (Load slot) = omega arith
-some_bytes (Store slot) = omega arith
-some_bytes Add = omega arith
-some_bytes Sub = omega arith
-some_bytes Drop = omega arith
-some_bytes (Grip set) = omega arith
-some_bytes (Step direction) = omega arith
-some_bytes (Aside direction tray) = omega arith
-some_bytes (Tray tray) = omega arith
-some_bytes (Jump label) = omega arith
-some_bytes (Down slot label) = omega arith
-some_bytes (Ask low high) = omega arith
-some_bytes (Pick names) = omega arith
-some_bytes (Call procedure) = omega arith
-some_bytes Ret = omega arith
-some_bytes (Byte byte) = omega arith
+some_bytes _ = omega arith
 
 -- two pieces of code have the bytes of both
 pub size_both : (xs ys : List Statement) → code_size (xs ++ ys) ≡ code_size xs + code_size ys

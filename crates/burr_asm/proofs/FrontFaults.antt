@@ -74,12 +74,7 @@ unread_fault f word n m e = λ number place b at is. (
 broken_within : (place : ℕ) (u : OpenProcedure) (t : faults.Stage)
     → within place u t Broken ≡ Err (P1, place)
 broken_within place u faults.AwaitsExit = refl
-broken_within place u (faults.InExit e) = refl
-broken_within place u (faults.AwaitsLabel exit) = refl
-broken_within place u (faults.AwaitsFrame exit blocks label) = refl
-broken_within place u (faults.InFrame exit blocks label c) = refl
-broken_within place u (faults.InPieces exit blocks label f) = refl
-broken_within place u (faults.InCode exit blocks b) = refl
+broken_within place u _ = refl
 
 broken_given : (place : ℕ) (b : Beginning) → with_line place b Broken ≡ Err (P1, place)
 broken_given place Blank = refl

@@ -106,31 +106,15 @@ line_of_keyword keyword operands = by keyword
     whole (Some line) = refl
 
     by : (keyword : Keyword) → line_of (word_of keyword ∷ operands) ≡ keyword_line keyword operands
-    by (key.Plan One) = whole (keyword_line (key.Plan One) operands)
-    by (key.Plan Two) = whole (keyword_line (key.Plan Two) operands)
-    by (key.Part part.Procedure) = whole (keyword_line (key.Part part.Procedure) operands)
-    by (key.Part part.Exit) = whole (keyword_line (key.Part part.Exit) operands)
-    by (key.Part part.Label) = whole (keyword_line (key.Part part.Label) operands)
-    by (key.Part part.Frame) = whole (keyword_line (key.Part part.Frame) operands)
-    by (key.Frame frame.Slot) = whole (keyword_line (key.Frame frame.Slot) operands)
-    by (key.Frame frame.Result) = whole (keyword_line (key.Frame frame.Result) operands)
-    by (key.Frame frame.At) = whole (keyword_line (key.Frame frame.At) operands)
-    by (key.Form form.Guard) = whole (keyword_line (key.Form form.Guard) operands)
-    by (key.Form form.Stack) = whole (keyword_line (key.Form form.Stack) operands)
-    by (key.Form form.Cost) = whole (keyword_line (key.Form form.Cost) operands)
     by (key.Code code.Jump) = refl
-    by (key.Code code.Down) = refl
-    by (key.Code code.Pick) = refl
-    by (key.Code code.Call) = refl
-    by (key.Code code.Byte) = refl
+    by (key.Code _) = refl
     by (key.Plain (plain.Number number.Push)) = refl
-    by (key.Plain (plain.Number number.Load)) = refl
-    by (key.Plain (plain.Number number.Store)) = refl
-    by (key.Plain (plain.Number number.Tray)) = refl
-    by (key.Plain plain.Ask) = refl
-    by (key.Plain plain.Grip) = refl
-    by (key.Plain plain.Step) = refl
-    by (key.Plain plain.Aside) = refl
+    by (key.Plain _) = refl
+    by (key.Plan One) = whole (keyword_line (key.Plan One) operands)
+    by (key.Part part.Procedure) = whole (keyword_line (key.Part part.Procedure) operands)
+    by (key.Frame frame.Slot) = whole (keyword_line (key.Frame frame.Slot) operands)
+    by (key.Form form.Guard) = whole (keyword_line (key.Form form.Guard) operands)
+    by keyword = whole (keyword_line keyword operands)
 
 -- all keywords, in the order in which the code asks for them
 abbrev pub keywords : List (List ℕ)
@@ -173,30 +157,12 @@ no_keyword word items n same all none keyword e =
 
     among : (keyword : Keyword) → list_all (λ (text : List ℕ). not (bytes_eq (word_of keyword) text)) keywords ≡ false
     among (key.Plan One) = refl
-    among (key.Plan Two) = refl
     among (key.Part part.Procedure) = refl
-    among (key.Part part.Exit) = refl
-    among (key.Part part.Label) = refl
-    among (key.Part part.Frame) = refl
     among (key.Frame frame.Slot) = refl
-    among (key.Frame frame.Result) = refl
-    among (key.Frame frame.At) = refl
     among (key.Form form.Guard) = refl
-    among (key.Form form.Stack) = refl
-    among (key.Form form.Cost) = refl
     among (key.Code code.Jump) = refl
-    among (key.Code code.Down) = refl
-    among (key.Code code.Pick) = refl
-    among (key.Code code.Call) = refl
-    among (key.Code code.Byte) = refl
     among (key.Plain (plain.Number number.Push)) = refl
-    among (key.Plain (plain.Number number.Load)) = refl
-    among (key.Plain (plain.Number number.Store)) = refl
-    among (key.Plain (plain.Number number.Tray)) = refl
-    among (key.Plain plain.Ask) = refl
-    among (key.Plain plain.Grip) = refl
-    among (key.Plain plain.Step) = refl
-    among (key.Plain plain.Aside) = refl
+    among _ = refl
 
 -- A line of one word is a line of code.
 pub line_alone : (word : List ℕ) → line_of (word ∷ []) ≡ code_line (code_of word [])

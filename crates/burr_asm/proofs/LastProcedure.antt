@@ -11,7 +11,7 @@ use Rattle.burr_plantext.specs.Rules.Faults.{Beginning, Blank, Titled, Within, O
 use Rattle.burr_asm.specs.declared.fault.AsmFault.{AsmFault}
 use Rattle.burr_asm.specs.declared.fault.AsmFault.TheVariants as fault
 use Rattle.burr_asm.specs.declared.text.stage.Stage.{Stage}
-use Rattle.burr_asm.specs.declared.text.stage.Stage.TheVariants.{AwaitsExit, InExit, AwaitsLabel, AwaitsFrame, InFrame, AwaitsPieces, InCode}
+use Rattle.burr_asm.specs.declared.text.stage.Stage.TheVariants.{InCode}
 use Rattle.burr_asm.specs.declared.text.front.Front.{Front}
 use Rattle.burr_asm.specs.declared.text.front.Front.TheVariants.{AwaitsPlan, AwaitsMain, InProcedure}
 use Rattle.burr_asm.specs.declared.text.front.UnderWay.{UnderWay}
@@ -26,25 +26,18 @@ use Rattle.burr_asm.proofs.FrontHeads.{outline_ended}
 
 -- a procedure is under way
 abbrev pub has_procedure : Front → Bool
-has_procedure AwaitsPlan = false
-has_procedure (AwaitsMain o) = false
 has_procedure (InProcedure w) = true
+has_procedure _ = false
 
 pub no_procedure : (f : Front) → ((w : UnderWay) → f ≡ InProcedure w → ⊥) → has_procedure f ≡ false
-no_procedure AwaitsPlan other = refl
-no_procedure (AwaitsMain o) other = refl
 no_procedure (InProcedure w) other = absurd (other w refl)
+no_procedure _ other = refl
 
 -- after a frame the code and the rules are there both
 pub after_frame : (number : ℕ → ℕ) (place : ℕ) (u : OpenProcedure) (r : RoutineParts) (stage : Stage) (exit : Option ExitSource) (blocks : List Block) (b : Block)
     → IsStage number place (start_of u) u.title.version r u.head stage (faults.InCode exit blocks b) → AfterFrame number place (start_of u) u.title.version r u.head exit blocks b
-after_frame number place u r AwaitsExit exit blocks b h = absurd h
-after_frame number place u r (InExit x) exit blocks b h = absurd h
-after_frame number place u r AwaitsLabel exit blocks b h = absurd h
-after_frame number place u r AwaitsFrame exit blocks b h = absurd h
-after_frame number place u r (InFrame c) exit blocks b h = absurd h
-after_frame number place u r (AwaitsPieces f) exit blocks b h = absurd h
 after_frame number place u r InCode exit blocks b h = h
+after_frame number place u r _ exit blocks b h = absurd h
 
 -- what comes of the end of a text, where it gives a source
 abbrev then_named : Result PlanSource PlacedFault → Result PlanSource PlacedFault
@@ -122,12 +115,9 @@ module _ (number : ℕ → ℕ) (place n : ℕ) (f : Front) (o : OutlineParts) (
 -- The text may not end before its first procedure.
 pub ends_before : (number : ℕ → ℕ) (place n : ℕ) (f : Front) (b : Beginning) → has_procedure f ≡ false → n ≡ number place → IsFront number place f b → IsFaultOf number (ending place b) (fault.P1 n)
 ends_before number place n AwaitsPlan Blank none is h = inr ((P1, place), refl, ap fault.P1 is)
-ends_before number place n AwaitsPlan (Titled title) none is h = absurd h
-ends_before number place n AwaitsPlan (Within u t) none is h = absurd h
-ends_before number place n (AwaitsMain o) Blank none is h = absurd h
 ends_before number place n (AwaitsMain o) (Titled title) none is h = inr ((P1, place), refl, ap fault.P1 is)
-ends_before number place n (AwaitsMain o) (Within u t) none is h = absurd h
 ends_before number place n (InProcedure w) b none is h = absurd (never none)
   where
     never : true ≡ false → ⊥
     never e = cc
+ends_before number place n _ _ none is h = absurd h

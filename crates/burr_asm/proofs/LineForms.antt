@@ -29,11 +29,7 @@ use Rattle.burr_asm.proofs.Keywords.{by_keys, nothing_said, unlike}
 
 direction_back : (d : Direction) → direction_of (name_of d) ≡ Some d
 direction_back PlusX = refl
-direction_back MinusX = refl
-direction_back PlusY = refl
-direction_back MinusY = refl
-direction_back PlusZ = refl
-direction_back MinusZ = refl
+direction_back _ = refl
 
 pub direction_named : (d : Direction) (word : List ℕ) → name_of d ≡ word → direction_of word ≡ Some d
 direction_named d word e = subst (λ (w : List ℕ). direction_of w ≡ Some d) e (direction_back d)
@@ -313,8 +309,6 @@ numbers_line name words = None
 
 -- no name with a word after it
 pub procedure_none : (words : List (List ℕ)) → cut_word is_name_text words ≡ None → procedure_line words ≡ None
-procedure_none [] e = refl
-procedure_none (name ∷ []) e = refl
 procedure_none (name ∷ parameters ∷ []) e = by (is_name_text name) e
   where
     by : (t : Bool) → first_if t name (parameters ∷ []) ≡ None → given (t && is_number parameters) (head_line name parameters None) ≡ None
@@ -325,7 +319,7 @@ procedure_none (name ∷ parameters ∷ results ∷ []) e = by (is_name_text nam
     by : (t : Bool) → first_if t name (parameters ∷ results ∷ []) ≡ None → given (t && is_number parameters && is_number results) (head_line name parameters (Some results)) ≡ None
     by true e = no_cut (name, parameters ∷ results ∷ []) (sym e)
     by false e = refl
-procedure_none (name ∷ parameters ∷ results ∷ other ∷ words) e = refl
+procedure_none _ e = refl
 
 pub procedure_named : (words : List (List ℕ)) (name : List ℕ) (rest : List (List ℕ)) → cut_word is_name_text words ≡ Some (name, rest) → procedure_line words ≡ numbers_line name rest
 procedure_named words name rest e =
@@ -348,14 +342,12 @@ numbers_both name words parameters rest e =
     by next (other ∷ more) is = refl
 
 pub numbers_one : (name : List ℕ) (words : List (List ℕ)) → cut_word is_number words ≡ None → numbers_line name words ≡ one is_number (λ parameters. head_line name parameters None) words
-numbers_one name [] e = refl
-numbers_one name (word ∷ []) e = refl
 numbers_one name (word ∷ next ∷ []) e = by (is_number word) e
   where
     by : (t : Bool) → first_if t word (next ∷ []) ≡ None → given (t && is_number next) (head_line name word (Some next)) ≡ None
     by true e = no_cut (word, next ∷ []) (sym e)
     by false e = refl
-numbers_one name (word ∷ next ∷ other ∷ words) e = refl
+numbers_one name _ e = refl
 
 -- Places
 
@@ -445,30 +437,23 @@ place_none bytes differs e =
     no_tray tray x y z false e = refl
 
     by : (words : List (List ℕ)) → one is_apart (λ w. w) words ≡ None → cut_word is_number words ≡ None → place_line words ≡ None
-    by [] none e = refl
     by (word ∷ []) none e = not_apart word (is_apart word) none
-    by (tray ∷ x ∷ []) none e = refl
-    by (tray ∷ x ∷ y ∷ []) none e = refl
     by (tray ∷ x ∷ y ∷ z ∷ []) none e = no_tray tray x y z (is_number tray) e
-    by (tray ∷ x ∷ y ∷ z ∷ other ∷ more) none e = refl
+    by _ none e = refl
 
 -- no number with a word after it
 pub piece_none : (words : List (List ℕ)) → cut_word is_number words ≡ None → piece_line words ≡ None
-piece_none [] e = refl
-piece_none (piece ∷ []) e = refl
 piece_none (piece ∷ word ∷ []) e = by (is_number piece) e
   where
     by : (t : Bool) → first_if t piece (word ∷ []) ≡ None → given (t && bytes_eq word (codes "apart")) (at_line piece Apart) ≡ None
     by true e = no_cut (piece, word ∷ []) (sym e)
     by false e = refl
-piece_none (piece ∷ tray ∷ x ∷ []) e = refl
-piece_none (piece ∷ tray ∷ x ∷ y ∷ []) e = refl
 piece_none (piece ∷ tray ∷ x ∷ y ∷ z ∷ []) e = by (is_number piece) e
   where
     by : (t : Bool) → first_if t piece (tray ∷ x ∷ y ∷ z ∷ []) ≡ None → given (t && is_number tray && is_form x && is_form y && is_form z) (at_line piece (On tray x y z)) ≡ None
     by true e = no_cut (piece, tray ∷ x ∷ y ∷ z ∷ []) (sym e)
     by false e = refl
-piece_none (piece ∷ tray ∷ x ∷ y ∷ z ∷ other ∷ words) e = refl
+piece_none _ e = refl
 
 -- a piece's number, and its place
 pub piece_cut : (words : List (List ℕ)) (piece : List ℕ) (rest : List (List ℕ)) → cut_word is_number words ≡ Some (piece, rest) → piece_line words ≡ mapped (at_line piece) (place_line rest)
@@ -480,12 +465,10 @@ piece_cut words piece rest e =
     by next [] is =
         ap (λ (t : Bool). given (t && bytes_eq next (codes "apart")) (at_line piece Apart)) is
         ∙ given_mapped (at_line piece) (bytes_eq next (codes "apart")) Apart
-    by next (x ∷ []) is = refl
-    by next (x ∷ y ∷ []) is = refl
     by next (x ∷ y ∷ z ∷ []) is =
         ap (λ (t : Bool). given (t && is_number next && is_form x && is_form y && is_form z) (at_line piece (On next x y z))) is
         ∙ given_mapped (at_line piece) (is_number next && is_form x && is_form y && is_form z) (On next x y z)
-    by next (x ∷ y ∷ z ∷ other ∷ more) is = refl
+    by next _ is = refl
 
 -- Lines whose words are read by a function of their own
 

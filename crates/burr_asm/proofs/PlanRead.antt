@@ -3,7 +3,7 @@ use Rattle.std.proofs.Common.{◌≡◌, ℕ, suc, ◌+◌, List, [], ◌∷◌,
 use Rattle.std.specs.Prelude.{Option, Some, None}
 use Rattle.std.specs.List.{flat_map}
 use Rattle.burr_plantext.specs.Rules.Statements.{Statement}
-use Rattle.burr_plantext.specs.Rules.Lines.{Line, PlanLine, ProcLine, ExitLine, ResultLine, LabelLine, FrameLine, SlotLine, GuardLine, StackLine, CostLine, AtLine, CodeLine, RangeWords, SlotWords, PieceWords}
+use Rattle.burr_plantext.specs.Rules.Lines.{Line, ResultLine, SlotLine, GuardLine, StackLine, CostLine, AtLine, CodeLine, RangeWords, SlotWords, PieceWords}
 use Rattle.burr_plantext.specs.Rules.Sources.{ExitSource, Conditions, FrameSource, Block, ProcedureSource, some_exit_lines, frame_lines, condition_lines, block_lines, procedure_lines}
 use Rattle.burr_plantext.specs.Rules.Meaning.{code_bytes, block_code, label_names, procedure_in}
 use Rattle.burr_asm.specs.declared.text.statement.Statement.{Statement as CodedStatement}
@@ -23,34 +23,14 @@ statements_among (line ∷ lines) = statements_among lines
 
 words_among : (number : ℕ → ℕ) (start : ℕ) (lines : List Line) → words_of_code (code_lines number start lines) ≡ statements_among lines
 words_among number start [] = refl
-words_among number start (PlanLine title ∷ lines) = words_among number (suc start) lines
-words_among number start (ProcLine head ∷ lines) = words_among number (suc start) lines
-words_among number start (ExitLine grip ∷ lines) = words_among number (suc start) lines
-words_among number start (ResultLine ends ∷ lines) = words_among number (suc start) lines
-words_among number start (LabelLine name ∷ lines) = words_among number (suc start) lines
-words_among number start (FrameLine grip ∷ lines) = words_among number (suc start) lines
-words_among number start (SlotLine slot ∷ lines) = words_among number (suc start) lines
-words_among number start (GuardLine form ∷ lines) = words_among number (suc start) lines
-words_among number start (StackLine form ∷ lines) = words_among number (suc start) lines
-words_among number start (CostLine form ∷ lines) = words_among number (suc start) lines
-words_among number start (AtLine piece ∷ lines) = words_among number (suc start) lines
 words_among number start (CodeLine s ∷ lines) = ap (λ (ss : List Statement). s ∷ ss) (words_among number (suc start) lines)
+words_among number start (_ ∷ lines) = words_among number (suc start) lines
 
 -- lines, one list after the other
 both : (xs ys : List Line) → statements_among (xs ++ ys) ≡ statements_among xs ++ statements_among ys
 both [] ys = refl
-both (PlanLine title ∷ lines) ys = both lines ys
-both (ProcLine head ∷ lines) ys = both lines ys
-both (ExitLine grip ∷ lines) ys = both lines ys
-both (ResultLine ends ∷ lines) ys = both lines ys
-both (LabelLine name ∷ lines) ys = both lines ys
-both (FrameLine grip ∷ lines) ys = both lines ys
-both (SlotLine slot ∷ lines) ys = both lines ys
-both (GuardLine form ∷ lines) ys = both lines ys
-both (StackLine form ∷ lines) ys = both lines ys
-both (CostLine form ∷ lines) ys = both lines ys
-both (AtLine piece ∷ lines) ys = both lines ys
 both (CodeLine s ∷ lines) ys = ap (λ (ss : List Statement). s ∷ ss) (both lines ys)
+both (_ ∷ lines) ys = both lines ys
 
 none_in_slots : (xs : List SlotWords) → statements_among (map SlotLine xs) ≡ []
 none_in_slots [] = refl

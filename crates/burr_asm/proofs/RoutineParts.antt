@@ -13,11 +13,9 @@ none_is x e = search rules
 
 -- a label whose number is the last tells whether the labels end there
 last_is : (size i : ℕ) (labels : List (ℕ × Frame)) (label : ℕ × Frame) → suc i ≡ length labels → Some label ≡ slice_get labels i → nat_eq label.0 size ≡ ends_at size labels
-last_is size i [] label e is = absurd (omega (arith, e))
 last_is size zero (first ∷ []) label e is = ap (λ (l : ℕ × Frame). nat_eq l.0 size) (some_same label first is)
-last_is size (suc i) (first ∷ []) label e is = absurd (omega (arith, e))
-last_is size zero (first ∷ next ∷ labels) label e is = absurd (omega (arith, e))
 last_is size (suc i) (first ∷ next ∷ labels) label e is = last_is size i (next ∷ labels) label (omega (arith, e)) is
+last_is size _ _ label e is = absurd (omega (arith, e))
 
 -- and so does the last of some labels, as the code reads it
 pub last_ends : (size count : ℕ) (labels all : List (ℕ × Frame)) (label : ℕ × Frame) → all ≡ labels → count ≡ size → Some label ≡ slice_get all (length all - 1) → nat_eq label.0 count ≡ ends_at size labels

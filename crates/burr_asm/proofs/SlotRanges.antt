@@ -30,9 +30,8 @@ is_one_of a (k ∷ ks) = (a == k) || is_one_of a ks
 
 swapped_tests : (x y z : Bool) → (x && (y && z)) ≡ (y && (x && z))
 swapped_tests true true z = refl
-swapped_tests true false z = refl
 swapped_tests false true z = refl
-swapped_tests false false z = refl
+swapped_tests _ _ z = refl
 
 none_at_first : (ks : List ℕ) → list_all is_none (map (slot_in []) ks) ≡ true
 none_at_first [] = refl
@@ -89,9 +88,7 @@ none_from n slots l few =
 
 tests_apart : {A : Type 0} (x y z : A) (p q : Bool) → (p ≡ true → q ≡ true → ⊥) → (if p then x else (if q then y else z)) ≡ (if q then y else (if p then x else z))
 tests_apart x y z true true h = absurd (h refl refl)
-tests_apart x y z true false h = refl
-tests_apart x y z false true h = refl
-tests_apart x y z false false h = refl
+tests_apart x y z _ _ h = refl
 
 -- the last slot, where it is above all others
 last_slot : (slots : List SlotWords) (s : SlotWords) (v : ℕ) → list_all (is_under (natural_in s.slot)) slots ≡ true
@@ -106,15 +103,8 @@ last_slot (t ∷ slots) s v h =
 
 -- one of eight is put
 put_one : {A : Type 0} (f : ℕ → A) (x : A) (n : ℕ) → n < 8 → map (λ (v : ℕ). if n == v then x else f v) slot_numbers ≡ slice_set (map f slot_numbers) n x
-put_one f x zero l = refl
-put_one f x (suc zero) l = refl
-put_one f x (suc (suc zero)) l = refl
-put_one f x (suc (suc (suc zero))) l = refl
-put_one f x (suc (suc (suc (suc zero)))) l = refl
-put_one f x (suc (suc (suc (suc (suc zero))))) l = refl
-put_one f x (suc (suc (suc (suc (suc (suc zero)))))) l = refl
-put_one f x (suc (suc (suc (suc (suc (suc (suc zero))))))) l = refl
 put_one f x (suc (suc (suc (suc (suc (suc (suc (suc n)))))))) l = absurd (omega arith)
+put_one f x _ l = refl
 
 -- The ranges with a slot above all live ones are those that were there, with its own put in its place.
 pub slot_put : (slots : List SlotWords) (s : SlotWords) → natural_in s.slot < 8 → list_all (is_under (natural_in s.slot)) slots ≡ true

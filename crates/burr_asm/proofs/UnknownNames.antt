@@ -2,7 +2,7 @@
 use Rattle.std.proofs.Common.{◌≡◌, ℕ, suc, ◌+◌, List, [], ◌∷◌, ◌++◌, length, map, Bool, true, false, refl, sym, ap, ◌∙◌, arith}
 use Rattle.std.specs.Prelude.{Option, Some, None, if◌then◌else◌}
 use Rattle.std.specs.List.{flat_map}
-use Rattle.burr_plantext.specs.Rules.Lines.{Line, PlanLine, ProcLine, ExitLine, ResultLine, LabelLine, FrameLine, SlotLine, GuardLine, StackLine, CostLine, AtLine, CodeLine}
+use Rattle.burr_plantext.specs.Rules.Lines.{Line, CodeLine}
 use Rattle.burr_plantext.specs.Rules.Sources.{ProcedureSource, procedure_lines}
 use Rattle.burr_plantext.specs.Rules.Meaning.{label_names}
 use Rattle.burr_plantext.specs.Rules.Right.{has_unknown_name, unknown_in, first_true, one_later}
@@ -27,17 +27,6 @@ module _ (number : ℕ → ℕ) (labels procedures : List (List ℕ)) where
       → first_unknown labels procedures code ≡ placed number start (first_true (map (has_unknown_name labels procedures) lines))
   first_among [] [] start h = refl
   first_among [] (s ∷ code) start h = absurd h
-  first_among (PlanLine title ∷ lines) code start h = first_among lines code (suc start) h ∙ placed_later number start _
-  first_among (ProcLine head ∷ lines) code start h = first_among lines code (suc start) h ∙ placed_later number start _
-  first_among (ExitLine grip ∷ lines) code start h = first_among lines code (suc start) h ∙ placed_later number start _
-  first_among (ResultLine ends ∷ lines) code start h = first_among lines code (suc start) h ∙ placed_later number start _
-  first_among (LabelLine name ∷ lines) code start h = first_among lines code (suc start) h ∙ placed_later number start _
-  first_among (FrameLine grip ∷ lines) code start h = first_among lines code (suc start) h ∙ placed_later number start _
-  first_among (SlotLine slot ∷ lines) code start h = first_among lines code (suc start) h ∙ placed_later number start _
-  first_among (GuardLine form ∷ lines) code start h = first_among lines code (suc start) h ∙ placed_later number start _
-  first_among (StackLine form ∷ lines) code start h = first_among lines code (suc start) h ∙ placed_later number start _
-  first_among (CostLine form ∷ lines) code start h = first_among lines code (suc start) h ∙ placed_later number start _
-  first_among (AtLine piece ∷ lines) code start h = first_among lines code (suc start) h ∙ placed_later number start _
   first_among (CodeLine s ∷ lines) [] start h = absurd h
   first_among (CodeLine s ∷ lines) (c ∷ code) start (line, coded, more) =
       by (has_unknown_name labels procedures (CodeLine s)) (has_unknown labels procedures c.1) (coded.unknown labels procedures) (first_among lines code (suc start) more)
@@ -49,6 +38,7 @@ module _ (number : ℕ → ℕ) (labels procedures : List (List ℕ)) where
           → (if u then Some c.0 else first_unknown labels procedures code) ≡ placed number start (first_true (t ∷ map (has_unknown_name labels procedures) lines))
       by true u e next = ap (λ (t : Bool). if t then Some c.0 else first_unknown labels procedures code) e ∙ ap (λ (n : ℕ). Some n) line ∙ ap (λ (n : ℕ). Some (number n)) (omega arith)
       by false u e next = ap (λ (t : Bool). if t then Some c.0 else first_unknown labels procedures code) e ∙ next ∙ placed_later number start rest
+  first_among (_ ∷ lines) code start h = first_among lines code (suc start) h ∙ placed_later number start _
 
 -- the first among two lists, one after the other
 abbrev pub first_or : Option ℕ → ℕ → Option ℕ → Option ℕ

@@ -2,7 +2,7 @@
 use Rattle.std.specs.Prelude.{◌≡◌, ℕ, suc, ◌+◌, ◌-◌, List, [], ◌∷◌, ◌++◌, length, Option, None, IsTrue}
 use Rattle.std.specs.List.{flat_map, list_all}
 use Rattle.burr_plantext.specs.Rules.Statements.{Statement}
-use Rattle.burr_plantext.specs.Rules.Lines.{Line, ProcedureWords, PlanLine, ProcLine, ExitLine, ResultLine, LabelLine, FrameLine, SlotLine, GuardLine, StackLine, CostLine, AtLine, CodeLine}
+use Rattle.burr_plantext.specs.Rules.Lines.{Line, ProcedureWords, ProcLine, CodeLine}
 use Rattle.burr_plantext.specs.Rules.Sources.{ExitSource, Block, ProcedureSource, some_exit_lines, exit_lines, condition_lines, frame_lines, block_lines, procedure_lines}
 use Rattle.burr_plantext.specs.Rules.Meaning.{some_exit_in, labels_in, label_names, code_size, block_code, frame_in}
 use Rattle.burr_plantext.specs.Rules.Checks.{has_code}
@@ -20,27 +20,16 @@ use Rattle.burr_asm.specs.Views.Routines.{RoutineParts}
 -- The lines of code among lines, each with its number; the first of all the lines stands at this place.
 abbrev pub code_lines : (ℕ → ℕ) → ℕ → List Line → List (ℕ × Statement)
 code_lines number place [] = []
-code_lines number place (PlanLine title ∷ lines) = code_lines number (suc place) lines
-code_lines number place (ProcLine head ∷ lines) = code_lines number (suc place) lines
-code_lines number place (ExitLine grip ∷ lines) = code_lines number (suc place) lines
-code_lines number place (ResultLine ends ∷ lines) = code_lines number (suc place) lines
-code_lines number place (LabelLine name ∷ lines) = code_lines number (suc place) lines
-code_lines number place (FrameLine grip ∷ lines) = code_lines number (suc place) lines
-code_lines number place (SlotLine slot ∷ lines) = code_lines number (suc place) lines
-code_lines number place (GuardLine form ∷ lines) = code_lines number (suc place) lines
-code_lines number place (StackLine form ∷ lines) = code_lines number (suc place) lines
-code_lines number place (CostLine form ∷ lines) = code_lines number (suc place) lines
-code_lines number place (AtLine piece ∷ lines) = code_lines number (suc place) lines
 code_lines number place (CodeLine s ∷ lines) =
     (number place, s) ∷ code_lines number (suc place) lines
+code_lines number place (_ ∷ lines) = code_lines number (suc place) lines
 
 -- the statements stand for these lines of code, one by one
 abbrev pub AreCoded : List (ℕ × CodedStatement) → List (ℕ × Statement) → Type 0
 AreCoded [] [] = Unit {0}
-AreCoded [] (line ∷ lines) = ⊥
-AreCoded (s ∷ code) [] = ⊥
 AreCoded (s ∷ code) (line ∷ lines) =
     (s.0 ≡ line.0) × IsCoded s.1 line.1 × AreCoded code lines
+AreCoded _ _ = ⊥
 
 -- Procedures
 
@@ -65,11 +54,10 @@ IsEnded number start version r p =
 -- the same of procedures that have ended; the first begins at this place
 abbrev pub AreEnded : (ℕ → ℕ) → ℕ → ℕ → List RoutineParts → List ProcedureSource → Type 0
 AreEnded number start version [] [] = Unit {0}
-AreEnded number start version [] (p ∷ ps) = ⊥
-AreEnded number start version (r ∷ rs) [] = ⊥
 AreEnded number start version (r ∷ rs) (p ∷ ps) =
     IsEnded number start version r p
     × AreEnded number (start + length (procedure_lines p)) version rs ps
+AreEnded number start version _ _ = ⊥
 
 -- Stages
 

@@ -8,7 +8,7 @@ use Rattle.burr_plantext.specs.Rules.Faults as faults
 use Rattle.burr_plantext.specs.Rules.Faults.{OpenProcedure, PlacedFault, end_within}
 use Rattle.burr_asm.specs.declared.fault.AsmFault.{AsmFault}
 use Rattle.burr_asm.specs.declared.text.stage.Stage.{Stage}
-use Rattle.burr_asm.specs.declared.text.stage.Stage.TheVariants.{AwaitsExit, InExit, AwaitsLabel, AwaitsFrame, InFrame, AwaitsPieces, InCode}
+use Rattle.burr_asm.specs.declared.text.stage.Stage.TheVariants.{AwaitsLabel, AwaitsFrame}
 use Rattle.burr_asm.specs.Rules.Faults.{fault_at}
 use Rattle.burr_asm.specs.Views.Routines.{RoutineParts}
 use Rattle.burr_asm.specs.Views.Beginnings.{IsStage}
@@ -16,13 +16,9 @@ use Rattle.burr_asm.specs.Views.Fronts.{IsNextStage, within_one, start_of}
 
 -- a line with this first word shows that a label or a frame is missing
 abbrev pub misses_part : Stage → List ℕ → Bool
-misses_part AwaitsExit word = false
-misses_part (InExit exit) word = false
 misses_part AwaitsLabel word = not (bytes_eq word (codes "label"))
 misses_part AwaitsFrame word = not (bytes_eq word (codes "frame"))
-misses_part (InFrame c) word = false
-misses_part (AwaitsPieces f) word = false
-misses_part InCode word = false
+misses_part _ word = false
 
 -- the code's stage of an open procedure stands for that of the rules
 abbrev pub IsStageOf : (ℕ → ℕ) → ℕ → OpenProcedure → RoutineParts → Stage → faults.Stage → Type 0
