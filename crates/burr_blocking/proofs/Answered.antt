@@ -12,13 +12,13 @@ use Rattle.burr_assembly.specs.Rules.Text.{Assembly}
 use Rattle.burr_assembly.specs.Rules.Homes.{home_at, home_of, homes_of}
 use Rattle.burr_blocking.specs.declared.triangle.translate.Translate.{Translate}
 use Rattle.burr_blocking.specs.declared.triangle.Classes.{Classes}
-use Rattle.burr_blocking.specs.declared.triangle.translate.ClassPair.{ClassPair}
+use Rattle.burr_blocking.specs.declared.triangle.translate.Pair.{Pair}
 use Rattle.burr_blocking.specs.declared.triangle.ClassPairs.{ClassPairs}
 use Rattle.burr_blocking.specs.Rules.Pairs.{IsBlocked, IsFreeFrom}
 use Rattle.burr_blocking.specs.Views.Classes.{AreClasses, IsOfClass}
 use Rattle.burr_blocking.specs.Views.Overlaps.{HasNoneAhead}
 use Rattle.burr_blocking.specs.Views.Translates.{displacement_of, representative_at}
-use Rattle.burr_blocking.specs.Views.Triangles.{IsTriangle, AreClassPairs, AreRows, IsPairOf, IsPairOfTwo, IsRowOf, AreOfClasses, IsPairOfPieces, IsTurnedBy, turned_by, way_of}
+use Rattle.burr_blocking.specs.Views.Triangles.{IsTriangle, AreClassPairs, AreRows, IsPairOf, IsPairOfTwo, IsRowOf, AreOfClasses, IsPairOfPieces, ClassedAssembly, IsPairIn, IsTurnedBy, turned_by, way_of}
 use Rattle.burr_blocking.proofs.Classed.{pair_kept}
 use Rattle.burr_blocking.proofs.Triangles.{one_read, tells_blocked, tells_free, tells_blocked_back, tells_free_back, tells_pieces_blocked, tells_pieces_free}
 
@@ -85,23 +85,24 @@ module _ {P : Type 0} (Overlaps : P → Cell → Type 0) where
 
 -- The pair of two pieces is read of a row
 
-module _ {P : Type 0} (Overlaps : P → Cell → Type 0) (a now : Assembly) (same : a ≡ now) (c : Classes) (kept : List (ClassPairs P)) (rows : List (Vec ClassPair Global)) (whole : IsTriangle Overlaps (homes_of a) c kept × AreRows c rows) (p q n m : ℕ) (n_is : n ≡ p) (m_is : m ≡ q) (first : p < length now.pieces) (second : q < length now.pieces) where
-  at_home : (k : ℕ) → k < length now.pieces → k < length (homes_of a)
-  at_home k lt = has_home a k (subst (λ (x : Assembly). k < length x.pieces) (sym same) lt)
+module _ {P : Type 0} (Overlaps : P → Cell → Type 0) (a : Assembly) (c : Classes) (kept : List (ClassPairs P)) (rows : List (Vec Pair Global)) (now : ClassedAssembly) (same : record { assembly = a; classes = c } ≡ now) (whole : IsTriangle Overlaps (homes_of a) c kept × AreRows c rows) (p q n m : ℕ) (n_is : n ≡ p) (m_is : m ≡ q) (first : p < length now.assembly.pieces) (second : q < length now.assembly.pieces) where
+  at_home : (k : ℕ) → k < length now.assembly.pieces → k < length (homes_of a)
+  at_home k lt = has_home a k (subst (λ (t : ClassedAssembly). k < length t.assembly.pieces) (sym same) lt)
 
-  pub row_there : n < length rows
+  row_there : n < length rows
   row_there = let lt = at_home p first in omega (arith, lt, n_is, whole.1.count, whole.0.pieces.count)
 
-  module _ (row : Vec ClassPair Global) (row_is : row ≡ get_or rows n row) where
+  module _ (row : Vec Pair Global) (row_is : row ≡ get_or rows n row) where
     of_row : IsRowOf c p row.items
-    of_row = one_read (λ (k : ℕ) (r : Vec ClassPair Global). IsRowOf c k r.items) rows p n row whole.1.each (let lt = row_there in omega (arith, lt, n_is)) n_is row_is
+    of_row = one_read (λ (k : ℕ) (r : Vec Pair Global). IsRowOf c k r.items) rows p n row whole.1.each (let lt = row_there in omega (arith, lt, n_is)) n_is row_is
 
-    pub in_row : m < length row.items
+    in_row : m < length row.items
     in_row = let lt = at_home q second in let many = of_row.count in omega (arith, lt, m_is, many, whole.0.pieces.count)
 
-    pub pair_of_row : (pair : ClassPair) → pair ≡ get_or row.items m pair → p ≢ q → IsPairOfPieces (homes_of a) c pair p q
+    pub pair_of_row : (pair : Pair) → pair ≡ get_or row.items m pair → p ≢ q → IsPairIn now p q pair
     pair_of_row pair is two =
         let read = one_read (IsPairOfTwo c p) row.items q m pair of_row.each (let lt = in_row in omega (arith, lt, m_is)) m_is is in
+        subst (λ (t : ClassedAssembly). IsPairIn t p q pair) same
         (read.0, read.1, record { two = two; first = at_home p first; second = at_home q second; from = read.2; to = read.3 }, read.4)
 
 -- The displacement that a pair is asked about
@@ -112,25 +113,14 @@ shifted_on a b d = omega (arith, ints)
 shifted_between : (a b d : Cell) → plus (minus a b) d ≡ displacement_of a b d
 shifted_between a b d = same_cell _ _ (shifted_on a.x b.x d.x) (shifted_on a.y b.y d.y) (shifted_on a.z b.z d.z)
 
-module _ (pair : ClassPair) (s t : Translate) (d way : Cell) (shift : pair.shift ≡ minus s.displacement t.displacement) (is : way ≡ way_of pair d) where
+module _ (pair : Pair) (s t : Translate) (d way : Cell) (shift : pair.shift ≡ minus s.displacement t.displacement) (is : way ≡ way_of pair d) where
   way_on : (turned : Bool) → pair.is_turned ≡ turned → way ≡ turned_by turned (displacement_of s.displacement t.displacement d)
   way_on turned e =
       is ∙ ap (λ (b : Bool). turned_by b (plus pair.shift d)) e
       ∙ ap (λ (x : Cell). turned_by turned (plus x d)) shift
       ∙ ap (turned_by turned) (shifted_between s.displacement t.displacement d)
 
-module _ {P : Type 0} (Overlaps : P → Cell → Type 0) (homes : List (List Cell)) (c : Classes) (kept : List (ClassPairs P)) (whole : IsTriangle Overlaps homes c kept) (pair : ClassPair) (p q : ℕ) where
-  -- the later class has a row
-  pub later_kept : IsPairOfPieces homes c pair p q → pair.later < length kept
-  later_kept (s, t, of, by) = by_order by.classes
-    where
-      by_order : ((pair.is_turned ≡ false) × (pair.earlier ≡ s.class) × (pair.later ≡ t.class))
-          ⊎ ((pair.is_turned ≡ true) × (pair.earlier ≡ t.class) × (pair.later ≡ s.class)) → pair.later < length kept
-      by_order (inl (straight, earlier, later)) =
-          let of_class = class_read homes c q t whole.pieces of.second of.to in omega (arith, later, of_class.class, whole.count)
-      by_order (inr (turned, earlier, later)) =
-          let of_class = class_read homes c p s whole.pieces of.first of.from in omega (arith, later, of_class.class, whole.count)
-
+module _ {P : Type 0} (Overlaps : P → Cell → Type 0) (homes : List (List Cell)) (c : Classes) (kept : List (ClassPairs P)) (whole : IsTriangle Overlaps homes c kept) (pair : Pair) (p q : ℕ) where
   module _ (row : ClassPairs P) (row_is : row ≡ get_or kept pair.later row) where
     row_at : (u : ℕ) → pair.later ≡ u → row ≡ get_or kept u row
     row_at u e = row_is ∙ ap (λ (k : ℕ). get_or kept k row) e

@@ -10,3 +10,4 @@ pub mod Shifts
 pub mod Joins
 pub mod Sets
 pub mod Made
+pub mod Offsets

@@ -103,18 +103,11 @@ bits_more e old new corner tos i row column x lt row_is column_is sets so_far =
 pub bits_all : (e : Extent) (rows : List ℕ) (corner : Cell) (tos : List Cell) (i : ℕ) → length tos ≤ i → AreBitsFrom e rows corner (take i tos) → AreBitsFrom e rows corner tos
 bits_all e rows corner tos i le so_far = subst (AreBitsFrom e rows corner) (take_all i tos le) so_far
 
--- no cells
-pub bits_none : (e : Extent) (m : ℕ) (corner : Cell) → AreBitsFrom e (replicate m 0) corner []
-bits_none e m corner n k = (λ h. absurd (none_set m n k h), λ r. absurd (let lt = r.1.1 in omega arith))
-
 -- The rows of two pieces
 
 -- set is a bit for each displacement from one of these cells to one of the others
 abbrev pub AreMade : Extent → List ℕ → List Cell → List Cell → Type 0
 AreMade e rows ps qs = (n k : ℕ) → HasBitAt rows n k ↔ ((from : Cell) × (to : Cell) × Contains ps from × Contains qs to × (n ≡ row_of e (minus to from)) × (k ≡ column_of e (minus to from)))
-
-pub made_none : (e : Extent) (m : ℕ) (qs : List Cell) → AreMade e (replicate m 0) [] qs
-made_none e m qs n k = (λ h. absurd (none_set m n k h), λ r. absurd (let lt = r.2.1 in omega arith))
 
 -- one cell more
 pub made_more : (e hull other : Extent) (old source : List ℕ) (ps qs : List Cell) (i first columns : ℕ) (x : Cell) → IsBoxOf e hull other ps qs → i < length ps → first ≡ row_of e (minus other.least (get_or ps i x)) → columns ≡ column_of e (minus other.least (get_or ps i x)) → first + length source ≤ length old → AreBitsFrom e source hull.greatest qs → AreMade e old (take i ps) qs → AreMade e (joined_from (or_shifted columns) first old source) (take (i + 1) ps) qs

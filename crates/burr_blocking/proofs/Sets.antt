@@ -114,12 +114,6 @@ minus_x_clear e rows from row end r short is at_row told = (
 same_x : (from : Cell) (direction : Direction) (k : ℤ) → (along direction k).x ≡ pos 0 → (plus from (along direction k)).x ≡ from.x
 same_x from direction k none = ap (λ (t : ℤ). from.x +ℤ t) none ∙ flat from.x
 
--- where x lies outside the box, no displacement ahead is in the set
-pub across_outside : (e : Extent) (rows : List ℕ) (from : Cell) (direction : Direction) → ((k : ℤ) → (along direction k).x ≡ pos 0) → ¬ ((e.least.x ≤ℤ from.x) × (from.x ≤ℤ e.greatest.x)) → HasNoneAhead (IsSet e rows) from direction
-across_outside e rows from direction across out k least set =
-    let same = same_x from direction (pos k) (across (pos k)) in
-    out (subst (λ (t : ℤ). e.least.x ≤ℤ t) same set.inside.x_from, subst (λ (t : ℤ). t ≤ℤ e.greatest.x) same set.inside.x_to)
-
 -- the bits of the rows ahead
 pub record AreAhead (e : Extent) (rows : List ℕ) (from : Cell) (direction : Direction) (row : ℕ) : Type 0 where
   pub has : (n : ℕ) → HasBit row n → (k : ℕ) × (1 ≤ k) × HasBitIn e rows (plus from (along direction (pos k))) n

@@ -7,8 +7,7 @@ use Rattle.std.proofs.lemmas.Bool.Decides.{Decides-and, Decides-int_eq}
 use Rattle.std.proofs.lemmas.List.{take_more, map-append, get_or-map}
 use Rattle.burr_voxels.specs.declared.cell.Cell.{Cell}
 use Rattle.burr_voxels.specs.declared.direction.Direction.{Direction}
-use Rattle.burr_voxels.specs.Grid.{plus, minus, along, origin, shifted, FitsCell}
-use Rattle.burr_voxels.specs.Near.{IsWithin}
+use Rattle.burr_voxels.specs.Grid.{plus, minus, along, origin, shifted}
 use Rattle.burr_voxels.specs.CellSets.{Overlap}
 use Rattle.burr_voxels.proofs.Common.Ahead.{same_cell}
 use Rattle.burr_blocking.specs.Rules.Pairs.{IsBlocked, IsFreeFrom}
@@ -94,20 +93,3 @@ translate_more from to i d e f lt lt_to is so_far =
     take_more to i f lt_to ∙ ap (λ (cs : List Cell). cs ++ get_or to i f ∷ []) so_far ∙ ap (λ (c : Cell). shifted d (take i from) ++ c ∷ []) here ∙ sym (ap (shifted d) (take_more from i e lt) ∙ map-append (λ (c : Cell). plus c d) (take i from) (get_or from i e ∷ []))
 
 -- Distances
-
-pub between_near : (s t d : Cell) → IsWithin 158 s → IsWithin 158 t → IsWithin 512 d → IsWithin 828 (displacement_of s t d)
-between_near s t d a b c = record {
-  x_above = omega (arith, ints, a.x_above, b.x_below, c.x_above);
-  x_below = omega (arith, ints, a.x_below, b.x_above, c.x_below);
-  y_above = omega (arith, ints, a.y_above, b.y_below, c.y_above);
-  y_below = omega (arith, ints, a.y_below, b.y_above, c.y_below);
-  z_above = omega (arith, ints, a.z_above, b.z_below, c.z_above);
-  z_below = omega (arith, ints, a.z_below, b.z_above, c.z_below);
-}
-
-pub fits_near : (c : Cell) → IsWithin 1016 c → FitsCell c
-fits_near c near = record {
-  x = omega (arith, ints, near.x_above, near.x_below);
-  y = omega (arith, ints, near.y_above, near.y_below);
-  z = omega (arith, ints, near.z_above, near.z_below);
-}

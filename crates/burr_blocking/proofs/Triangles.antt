@@ -8,8 +8,7 @@ use native.Mathlib.Decide.{ℕ_discrete}
 use Rattle.burr_voxels.specs.declared.cell.Cell.{Cell}
 use Rattle.burr_voxels.specs.declared.direction.Direction.{Direction}
 use Rattle.burr_voxels.specs.Grid.{plus, minus, along, origin}
-use Rattle.burr_assembly.specs.Rules.Text.{Assembly}
-use Rattle.burr_assembly.specs.Rules.Homes.{HasHome, home_at, homes_of}
+use Rattle.burr_assembly.specs.Rules.Homes.{HasHome, home_at}
 use Rattle.burr_blocking.specs.Rules.Pairs.{IsBlocked, IsFreeFrom}
 use Rattle.burr_blocking.specs.Views.Overlaps.{AreOverlapsOf, HasNoneAhead}
 use Rattle.burr_blocking.specs.Views.Translates.{IsTranslate, displacement_of, representative_at}
@@ -86,8 +85,3 @@ pub tells_pieces_free : (ps qs ms ns : List Cell) (s t d way : Cell) (direction 
 tells_pieces_free ps qs ms ns s t d way direction r ps_are qs_are is told =
     let same = free_translates ms ns s t d direction in
     rw (ps_are, qs_are) (λ yes. same.1 (subst (λ (c : Cell). IsFreeFrom ms ns c direction) is (told.0 yes)), λ free. told.1 (subst (λ (c : Cell). IsFreeFrom ms ns c direction) (sym is) (same.0 free)))
-
--- What a triangle answers is answered by what holds it
-
-pub tells_free_too : (a b : Assembly) (p q : ℕ) (d : Cell) (direction : Direction) (r : Bool) → a ≡ b → IsTrue r ↔ IsFreeFrom (home_at (homes_of a) p) (home_at (homes_of a) q) d direction → IsTrue r ↔ IsFreeFrom (home_at (homes_of b) p) (home_at (homes_of b) q) d direction
-tells_free_too a b p q d direction r same told = subst (λ (c : Assembly). IsTrue r ↔ IsFreeFrom (home_at (homes_of c) p) (home_at (homes_of c) q) d direction) same told

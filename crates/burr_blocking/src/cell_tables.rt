@@ -10,6 +10,7 @@ ghost use Rattle.burr_blocking.specs.Views.Overlaps.{AreOverlapsOf, HasNoneAhead
 
 use crate::blocking::Blocking;
 use crate::extent::Extent;
+use crate::triangle::translate::Pair;
 use crate::triangle::{Held, Triangle};
 use burr_assembly::Assembly;
 use burr_voxels::{Cell, Direction, meets, overlap_at};
@@ -25,18 +26,11 @@ pub struct CellTables<'a> {
     tables: Triangle<'a, PairTable>,
 }
 
-impl<'a> Model for CellTables<'a> {
-    ghost use Rattle.burr_assembly.specs.Rules.Text.{Assembly as AssemblyOf};
-
-    ghost Value = { AssemblyOf };
-
-    ghost view = { λ t. t.tables };
-}
-
 impl<'a> CellTables<'a> {
     /// The tables of an assembly's pieces.
     pub fn build(alloc: Global, assembly: &'a Assembly) -> Result<CellTables<'a>, AllocError>
-        ensures { IfOk result (λ t. t ≡ assembly.entry.now) }
+        ensures { IfOk result (λ t.
+            ⟦<CellTables<'a> as Blocking>⟧.subject t ≡ assembly.entry.now) }
     {
         let tables = Triangle::build(alloc, Held::Lent(assembly))?;
         Ok(CellTables { tables })
@@ -44,18 +38,26 @@ impl<'a> CellTables<'a> {
 }
 
 impl<'a> Blocking for CellTables<'a> {
-    ghost subject = { λ t. t };
+    ghost use Rattle.burr_blocking.specs.Views.Triangles.{IsPairIn};
+
+    ghost subject = { λ t. t.tables.assembly };
+
+    ghost IsPair = { λ t. IsPairIn t.tables };
 
     fn assembly(&self) -> &Assembly {
         self.tables.assembly()
     }
 
-    fn blocked(&self, piece: u8, other: u8, displacement: Cell) -> bool {
-        self.tables.blocked(piece, other, displacement)
+    fn pair(&self, piece: u8, other: u8) -> Pair {
+        self.tables.pair(piece, other)
     }
 
-    fn free(&self, piece: u8, other: u8, displacement: Cell, direction: Direction) -> bool {
-        self.tables.free(piece, other, displacement, direction)
+    fn pair_blocked(&self, pair: &Pair, displacement: Cell) -> bool {
+        self.tables.pair_blocked(pair, displacement)
+    }
+
+    fn pair_free(&self, pair: &Pair, displacement: Cell, direction: Direction) -> bool {
+        self.tables.pair_free(pair, displacement, direction)
     }
 }
 
@@ -179,27 +181,46 @@ impl<'a> PlainCells<'a> {
     }
 
     /// The home cells of a piece.
-    fn home(&self, piece: u8) -> &[Cell]
-        requires { piece < length self.now.pieces }
+    fn home(&self, piece: usize) -> &[Cell]
+        requires known { piece < length self.now.pieces }
+        requires small { piece < 256 }
         ensures home { result.now ≡ home_at (homes_of self.now) piece }
         ensures near { All (IsWithin 79) result.now }
     {
-        self.assembly.cells(piece)
+        self.assembly.cells(piece as u8)
     }
 }
 
 impl<'a> Blocking for PlainCells<'a> {
-    ghost subject = { λ p. p };
+    ghost subject = { λ a. a };
+
+    ghost IsPair = { λ a p q pair. (pair.earlier ≡ p) × (p < length a.pieces) × (p < 256)
+        × (pair.later ≡ q) × (q < length a.pieces) × (q < 256) };
 
     fn assembly(&self) -> &Assembly {
         self.assembly
     }
 
-    fn blocked(&self, piece: u8, other: u8, displacement: Cell) -> bool {
-        overlap_at(self.home(piece), displacement, self.home(other))
+    fn pair(&self, piece: u8, other: u8) -> Pair {
+        Pair {
+            earlier: usize::from(piece),
+            later: usize::from(other),
+            shift: Cell::ORIGIN,
+            is_turned: false,
+            sign: 1,
+        }
     }
 
-    fn free(&self, piece: u8, other: u8, displacement: Cell, direction: Direction) -> bool {
-        !meets(self.home(piece), displacement, self.home(other), direction)
+    fn pair_blocked(&self, pair: &Pair, displacement: Cell) -> bool {
+        overlap_at(self.home(pair.earlier), displacement, self.home(pair.later))
+    }
+
+    fn pair_free(&self, pair: &Pair, displacement: Cell, direction: Direction) -> bool {
+        !meets(
+            self.home(pair.earlier),
+            displacement,
+            self.home(pair.later),
+            direction,
+        )
     }
 }

@@ -5,7 +5,7 @@ ghost use Rattle.burr_voxels.specs.declared.cell.Cell.{Cell as CellOf};
 ghost use Rattle.burr_voxels.specs.Grid.{minus, plus, along, origin};
 ghost use Rattle.burr_voxels.specs.Near.{IsWithin};
 ghost use Rattle.burr_assembly.specs.Rules.Homes.{DiameterAtMost};
-ghost use Rattle.burr_blocking.specs.Views.Corners.{AreCorners, lower_of, upper_of, units_of};
+ghost use Rattle.burr_blocking.specs.Views.Corners.{AreCorners, IsOffset, lower_of, upper_of, units_of};
 
 use burr_voxels::{Cell, Direction};
 
@@ -20,7 +20,7 @@ pub struct Extent {
 }
 
 impl Extent {
-    ghost use Rattle.burr_blocking.specs.Views.Boxes.{IsInBox, IsInRows, wide_of, deep_of, high_of, size_of, row_count_of, place_of, row_of, column_of};
+    ghost use Rattle.burr_blocking.specs.Views.Boxes.{AreOffsets, IsInBox, IsInRows, wide_of, deep_of, high_of, size_of, row_count_of, place_of, row_of, column_of};
 
     /// The least box round cells; no two of them differ by more than 15 in any coordinate. Where
     /// there are no cells, it is the box of the origin alone.
@@ -60,7 +60,7 @@ impl Extent {
     }
 
     /// How many there are along x, 1 to 31.
-    fn wide(self) -> usize
+    pub fn wide(self) -> usize
         ensures count { result ≡ wide_of self }
         ensures few { result ≤ 31 }
     {
@@ -68,7 +68,7 @@ impl Extent {
     }
 
     /// How many there are along y, 1 to 31.
-    fn deep(self) -> usize
+    pub fn deep(self) -> usize
         ensures count { result ≡ deep_of self }
         ensures few { result ≤ 31 }
     {
@@ -76,7 +76,7 @@ impl Extent {
     }
 
     /// How many there are along z, 1 to 31.
-    fn high(self) -> usize
+    pub fn high(self) -> usize
         ensures count { result ≡ high_of self }
         ensures few { result ≤ 31 }
     {
@@ -204,6 +204,17 @@ impl Extent {
         (x, y, z)
     }
 
+    /// How far a displacement lies from the least corner, along x, y and z; 1,000 or more along an
+    /// axis on which it lies below it.
+    pub fn units_from(self, displacement: Cell) -> (u32, u32, u32)
+        ensures { AreOffsets self displacement result.0 result.1 result.2 }
+    {
+        let x = offset(displacement.x, self.least.x);
+        let y = offset(displacement.y, self.least.y);
+        let z = offset(displacement.z, self.least.z);
+        (x, y, z)
+    }
+
     /// The first and the last number of units, at least 1, that can take a displacement into the
     /// box along a direction, as far as the coordinate on that axis tells. Both are 1 where there
     /// is no such number.
@@ -267,6 +278,15 @@ fn gap(from: i32, to: i32) -> usize
     ensures { result ≡ int_gap from to }
 {
     (to - from) as usize
+}
+
+/// How far a number lies above a least one; 1,000 or more where it lies below it.
+fn offset(number: i32, least: i32) -> u32
+    requires from { neg_ℤ (pos 158) ≤ℤ least }
+    requires to { least ≤ℤ pos 158 }
+    ensures { IsOffset least number result }
+{
+    number.cast_unsigned().wrapping_sub(least.cast_unsigned())
 }
 
 /// Whether a number is one of those from one to another, these two among them.

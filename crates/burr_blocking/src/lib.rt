@@ -8,6 +8,8 @@
 //!   - `free(p, q, d, direction)` says whether p, at d plus k units along the direction, overlaps q
 //!     for no whole k of at least 1.
 //!   - `clears` says whether the two keep clear as a `Query` asks.
+//!   - `pair` finds once what queries of two pieces read; `pair_blocked` and `pair_free` ask by it,
+//!     with the answers of `blocked` and `free`.
 //! - `PlainCells` compares cells, `CellTables` reads tables, and `RowTables` reads rows of bits.
 //!   `CellTables::build`, `RowTables::build` and `RowTables::owning` answer for the assembly that
 //!   they were given; they take memory, and answer `AllocError` where that is refused.
@@ -16,7 +18,8 @@
 //!   values.
 //! - Each question that is put to a `Looks` has the answer of what it was made over, and adds 1 to
 //!   its count. It asks what that asks for, and a count below 2^62. It hands out nothing that could
-//!   be asked beside it.
+//!   be asked beside it: a `PreparedPair` answers a `Looks` alone.
+//! - To prepare a pair is no look; each question of it is one.
 //!
 //! # Tested only
 //! - A `Looks` asks what it was made over once for each count.
@@ -28,6 +31,7 @@ mod extent;
 mod row_tables;
 mod triangle;
 
-pub use blocking::{Blocking, Looks, Query};
+pub use blocking::{Blocking, Looks, PreparedPair, Query};
 pub use cell_tables::{CellTables, PlainCells};
 pub use row_tables::RowTables;
+pub use triangle::translate::Pair;

@@ -5,18 +5,18 @@ ghost use Rattle.burr_voxels.specs.declared.direction.Direction.TheVariants.{Plu
 ghost use Rattle.burr_voxels.specs.Grid.{along, minus, plus};
 ghost use Rattle.burr_voxels.specs.Near.{IsWithin};
 ghost use Rattle.burr_blocking.specs.Views.Bits.{AreNext, IsNext, HasBit, SetsBit, or_both, joined_from};
-ghost use Rattle.burr_blocking.specs.Views.Boxes.{IsInBox, row_of, column_of, row_count_of};
+ghost use Rattle.burr_blocking.specs.Views.Boxes.{IsInBox, wide_of, deep_of, high_of, row_of, column_of, row_count_of};
 ghost use Rattle.burr_blocking.specs.Views.Overlaps.{HasNoneAhead};
 ghost use Rattle.burr_blocking.specs.Views.PairBits.{AreBitsFrom, AreShort, HasBitIn, IsInRowOf, IsSet};
 
 use crate::blocking::Blocking;
 use crate::cell_tables::PairAnswers;
 use crate::extent::Extent;
+use crate::triangle::translate::Pair;
 use crate::triangle::{Held, Triangle};
 use burr_assembly::Assembly;
 use burr_voxels::{Cell, Direction};
 use std::alloc::{AllocError, Global};
-use std::marker::Model;
 use std::simd::prelude::*;
 
 /// The queries of pieces, answered by rows of bits: for each two pieces one bit for each
@@ -29,18 +29,11 @@ pub struct RowTables<'a> {
     tables: Triangle<'a, PairRows>,
 }
 
-impl<'a> Model for RowTables<'a> {
-    ghost use Rattle.burr_assembly.specs.Rules.Text.{Assembly as AssemblyOf};
-
-    ghost Value = { AssemblyOf };
-
-    ghost view = { λ t. t.tables };
-}
-
 impl<'a> RowTables<'a> {
     /// The rows of an assembly's pieces.
     pub fn build(alloc: Global, assembly: &'a Assembly) -> Result<RowTables<'a>, AllocError>
-        ensures { IfOk result (λ t. t ≡ assembly.entry.now) }
+        ensures { IfOk result (λ t.
+            ⟦<RowTables<'a> as Blocking>⟧.subject t ≡ assembly.entry.now) }
     {
         let tables = Triangle::build(alloc, Held::Lent(assembly))?;
         Ok(RowTables { tables })
@@ -48,7 +41,8 @@ impl<'a> RowTables<'a> {
 
     /// The rows of the pieces of an assembly, which they keep.
     pub fn owning(alloc: Global, assembly: Assembly) -> Result<RowTables<'static>, AllocError>
-        ensures { IfOk result (λ t. t ≡ assembly) }
+        ensures { IfOk result (λ t.
+            ⟦<RowTables<'static> as Blocking>⟧.subject t ≡ assembly) }
     {
         let tables = Triangle::build(alloc, Held::Owned(assembly))?;
         Ok(RowTables { tables })
@@ -56,18 +50,26 @@ impl<'a> RowTables<'a> {
 }
 
 impl<'a> Blocking for RowTables<'a> {
-    ghost subject = { λ t. t };
+    ghost use Rattle.burr_blocking.specs.Views.Triangles.{IsPairIn};
+
+    ghost subject = { λ t. t.tables.assembly };
+
+    ghost IsPair = { λ t. IsPairIn t.tables };
 
     fn assembly(&self) -> &Assembly {
         self.tables.assembly()
     }
 
-    fn blocked(&self, piece: u8, other: u8, displacement: Cell) -> bool {
-        self.tables.blocked(piece, other, displacement)
+    fn pair(&self, piece: u8, other: u8) -> Pair {
+        self.tables.pair(piece, other)
     }
 
-    fn free(&self, piece: u8, other: u8, displacement: Cell, direction: Direction) -> bool {
-        self.tables.free(piece, other, displacement, direction)
+    fn pair_blocked(&self, pair: &Pair, displacement: Cell) -> bool {
+        self.tables.pair_blocked(pair, displacement)
+    }
+
+    fn pair_free(&self, pair: &Pair, displacement: Cell, direction: Direction) -> bool {
+        self.tables.pair_free(pair, displacement, direction)
     }
 }
 
@@ -222,7 +224,12 @@ fn find_next(next: &mut [usize], rows: &[u32])
 #[derive(Debug, Drop)]
 pub struct PairRows {
     extent: Extent,
+    // the sides of the box, found once: a query reads them
+    wide: u32,
+    deep: u32,
+    high: u32,
     rows: Vec<u32>,
+    ghost sides: { (wide ≡ wide_of extent) × (deep ≡ deep_of extent) × (high ≡ high_of extent) },
     ghost whole: { vec_len rows ≡ row_count_of extent },
     ghost short: { AreShort extent rows.items },
 }
@@ -255,15 +262,22 @@ impl PairAnswers for PairRows {
             );
             i = also + 1;
         }
-        Ok(PairRows { extent, rows })
+        Ok(PairRows {
+            extent,
+            wide: extent.wide() as u32,
+            deep: extent.deep() as u32,
+            high: extent.high() as u32,
+            rows,
+        })
     }
 
     fn blocked(&self, displacement: Cell) -> bool {
-        self.extent.contains(displacement)
-            && has_bit(
-                self.rows[self.extent.row(displacement)],
-                self.extent.column(displacement),
-            )
+        let (x, y, z) = self.extent.units_from(displacement);
+        if self.holds(x, y, z) {
+            has_bit(self.rows[(z * self.deep + y) as usize], x)
+        } else {
+            false
+        }
     }
 
     // a function of its own, so that `blocked` stays small where it is put into a loop over looks
@@ -281,6 +295,14 @@ impl PairAnswers for PairRows {
 }
 
 impl PairRows {
+    /// Whether what lies as far as this from the least corner, along x, y and z, is in the box.
+    fn holds(&self, x: u32, y: u32, z: u32) -> bool
+        ensures { IsTrue result
+            ↔ ((x < self.now.wide) × (y < self.now.deep) × (z < self.now.high)) }
+    {
+        x < self.wide && y < self.deep && z < self.high
+    }
+
     /// The row in which a displacement lies, before, in or after the box; an empty one where it
     /// lies in none.
     fn row_at(&self, displacement: Cell) -> u32

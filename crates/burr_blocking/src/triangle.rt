@@ -1,4 +1,4 @@
-mod translate;
+pub mod translate;
 
 ghost use Rattle.std.specs.Prelude.{◌≡◌, length, vec_len, IfOk, ◌<◌, slice_index_or, ◌↔◌, ◌+◌, ◌++◌, ◌∷◌, [], IsTrue, MatchOption};
 ghost use Rattle.std.specs.List.{All};
@@ -11,7 +11,7 @@ ghost use Rattle.burr_blocking.specs.declared.triangle.translate.Translate.{Tran
 
 use crate::blocking::Blocking;
 use crate::cell_tables::PairAnswers;
-use crate::triangle::translate::{ClassPair, Translate, displacement_between};
+use crate::triangle::translate::{Pair, Translate, displacement_between};
 use burr_assembly::Assembly;
 use burr_voxels::{Cell, Direction};
 use std::alloc::{AllocError, Global};
@@ -28,17 +28,16 @@ pub struct Triangle<'a, P: PairAnswers> {
     pairs: Vec<ClassPairs<P>>,
     /// For each piece a row with the pairs of its class and those of all pieces, found once: a query
     /// reads them.
-    rows: Vec<Vec<ClassPair>>,
+    rows: Vec<Vec<Pair>>,
 }
 
 impl<'a, P: PairAnswers> Model for Triangle<'a, P> {
-    ghost use Rattle.burr_assembly.specs.Rules.Text.{Assembly as AssemblyOf};
     ghost use Rattle.burr_assembly.specs.Rules.Homes.{homes_of};
-    ghost use Rattle.burr_blocking.specs.Views.Triangles.{AreRows, IsTriangle, held};
+    ghost use Rattle.burr_blocking.specs.Views.Triangles.{AreRows, ClassedAssembly, IsTriangle, held};
 
-    ghost Value = { AssemblyOf };
+    ghost Value = { ClassedAssembly };
 
-    ghost view = { λ t. held t.assembly };
+    ghost view = { λ t. record { assembly = held t.assembly; classes = t.classes } };
 
     ghost invariant = { λ t.
         IsTriangle P.Overlaps (homes_of (held t.assembly)) t.classes t.pairs.items
@@ -48,7 +47,7 @@ impl<'a, P: PairAnswers> Model for Triangle<'a, P> {
 impl<'a, P: PairAnswers> Triangle<'a, P> {
     /// The pairs of the classes of an assembly's pieces.
     pub fn build(alloc: Global, assembly: Held<'a>) -> Result<Triangle<'a, P>, AllocError>
-        ensures { IfOk result (λ t. t ≡ held assembly.entry) }
+        ensures { IfOk result (λ t. t.assembly ≡ held assembly.entry) }
     {
         let classes = Classes::build(alloc, assembly.lent())?;
         let pairs = pairs_of(alloc, assembly.lent(), &classes)?;
@@ -63,21 +62,27 @@ impl<'a, P: PairAnswers> Triangle<'a, P> {
 }
 
 impl<'a, P: PairAnswers> Blocking for Triangle<'a, P> {
-    ghost subject = { λ t. t };
+    ghost use Rattle.burr_blocking.specs.Views.Triangles.{IsPairIn};
+
+    ghost subject = { λ t. t.assembly };
+
+    ghost IsPair = { IsPairIn };
 
     fn assembly(&self) -> &Assembly {
         self.assembly.lent()
     }
 
-    fn blocked(&self, piece: u8, other: u8, displacement: Cell) -> bool {
-        let pair = &self.rows[usize::from(piece)][usize::from(other)];
+    fn pair(&self, piece: u8, other: u8) -> Pair {
+        self.rows[usize::from(piece)][usize::from(other)]
+    }
+
+    fn pair_blocked(&self, pair: &Pair, displacement: Cell) -> bool {
         self.pairs[pair.later]
             .pair(pair.earlier)
             .blocked(pair.way(displacement))
     }
 
-    fn free(&self, piece: u8, other: u8, displacement: Cell, direction: Direction) -> bool {
-        let pair = &self.rows[usize::from(piece)][usize::from(other)];
+    fn pair_free(&self, pair: &Pair, displacement: Cell, direction: Direction) -> bool {
         self.pairs[pair.later]
             .pair(pair.earlier)
             .free(pair.way(displacement), pair.direction(direction))
@@ -278,7 +283,7 @@ impl Classes {
     }
 
     /// For each piece a row with the pairs of its class and those of all pieces, in their order.
-    pub fn rows(&self, alloc: Global) -> Result<Vec<Vec<ClassPair>>, AllocError>
+    pub fn rows(&self, alloc: Global) -> Result<Vec<Vec<Pair>>, AllocError>
         ensures { IfOk result (λ rows. AreRows self.now rows.items) }
     {
         let count = self.translates.len();
@@ -290,7 +295,7 @@ impl Classes {
     }
 
     /// The pairs of a piece's class and those of all pieces.
-    fn row(&self, alloc: Global, piece: usize) -> Result<Vec<ClassPair>, AllocError>
+    fn row(&self, alloc: Global, piece: usize) -> Result<Vec<Pair>, AllocError>
         requires { piece < length self.now.translates.items }
         ensures { IfOk result (λ row. IsRowOf self.now piece row.items) }
     {
@@ -303,7 +308,7 @@ impl Classes {
     }
 
     /// The pair of the classes of two pieces.
-    fn pair(&self, piece: usize, other: usize) -> ClassPair
+    fn pair(&self, piece: usize, other: usize) -> Pair
         requires piece { piece < length self.now.translates.items }
         requires other { other < length self.now.translates.items }
         ensures { IsPairOfTwo self.now piece other result }
@@ -312,18 +317,20 @@ impl Classes {
         let to = self.translates[other];
         let shift = from.displacement - to.displacement;
         if to.class < from.class {
-            return ClassPair {
+            return Pair {
                 earlier: to.class,
                 later: from.class,
                 shift,
                 is_turned: true,
+                sign: -1,
             };
         }
-        ClassPair {
+        Pair {
             earlier: from.class,
             later: to.class,
             shift,
             is_turned: false,
+            sign: 1,
         }
     }
 

@@ -2,7 +2,7 @@
 
 use crate::verdicts::words_of;
 use burr_assembly::Assembly;
-use burr_blocking::{Blocking, Looks};
+use burr_blocking::{Blocking, Looks, Pair};
 use burr_container::Container;
 use burr_verify::verify_counted;
 use burr_voxels::{Cell, Direction};
@@ -27,18 +27,24 @@ impl<B: Blocking> Watched<'_, B> {
 impl<'a, B: Blocking> Blocking for Watched<'a, B> {
     ghost subject = { λ w. B.subject w.tables.now };
 
+    ghost IsPair = { λ w. B.IsPair w.tables.now };
+
     fn assembly(&self) -> &Assembly {
         self.tables.assembly()
     }
 
-    fn blocked(&self, piece: u8, other: u8, displacement: Cell) -> bool {
-        self.note();
-        self.tables.blocked(piece, other, displacement)
+    fn pair(&self, piece: u8, other: u8) -> Pair {
+        self.tables.pair(piece, other)
     }
 
-    fn free(&self, piece: u8, other: u8, displacement: Cell, direction: Direction) -> bool {
+    fn pair_blocked(&self, pair: &Pair, displacement: Cell) -> bool {
         self.note();
-        self.tables.free(piece, other, displacement, direction)
+        self.tables.pair_blocked(pair, displacement)
+    }
+
+    fn pair_free(&self, pair: &Pair, displacement: Cell, direction: Direction) -> bool {
+        self.note();
+        self.tables.pair_free(pair, displacement, direction)
     }
 }
 

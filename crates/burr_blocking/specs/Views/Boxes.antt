@@ -3,7 +3,7 @@ use Rattle.std.specs.Prelude.{ℕ, ◌+◌, ◌*◌, ◌≤ℤ◌}
 use Rattle.std.specs.Int.{int_gap}
 use Rattle.burr_voxels.specs.declared.cell.Cell.{Cell}
 use Rattle.burr_blocking.specs.declared.extent.Extent.{Extent}
-use Rattle.burr_blocking.specs.Views.Corners.{IsBetween}
+use Rattle.burr_blocking.specs.Views.Corners.{IsBetween, IsOffset}
 
 -- the displacement lies in the box
 abbrev pub IsInBox : Extent → Cell → Type 0
@@ -27,6 +27,12 @@ size_of e = wide_of e * (deep_of e * high_of e)
 abbrev pub place_of : Extent → Cell → ℕ
 place_of e d = (int_gap e.least.z d.z * deep_of e + int_gap e.least.y d.y) * wide_of e
     + int_gap e.least.x d.x
+
+-- how far a displacement lies from the least corner of the box, along each axis
+pub record AreOffsets (e : Extent) (d : Cell) (x y z : ℕ) : Type 0 where
+  pub along_x : IsOffset e.least.x d.x x
+  pub along_y : IsOffset e.least.y d.y y
+  pub along_z : IsOffset e.least.z d.z z
 
 -- the displacement lies in a row of the box, or before or after one
 pub record IsInRows (e : Extent) (d : Cell) : Type 0 where

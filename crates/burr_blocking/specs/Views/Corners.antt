@@ -1,6 +1,6 @@
 -- Two corners of a box of cells, each coordinate of the first at most that of the second.
-use Rattle.std.specs.Prelude.{ℕ, ℤ, pos, neg_ℤ, ◌+ℤ◌, ◌≤ℤ◌}
-use Rattle.std.specs.Int.{int_min, int_max}
+use Rattle.std.specs.Prelude.{◌≡◌, ◌<◌, ℕ, ℤ, pos, neg_ℤ, ◌+ℤ◌, ◌≤ℤ◌}
+use Rattle.std.specs.Int.{int_gap, int_min, int_max}
 use Rattle.burr_voxels.specs.declared.cell.Cell.{Cell}
 use Rattle.burr_voxels.specs.declared.direction.Direction.{Direction}
 use Rattle.burr_voxels.specs.declared.direction.Direction.TheVariants.{PlusX, MinusX, PlusY, MinusY, PlusZ, MinusZ}
@@ -23,6 +23,11 @@ pub record AreCorners (n : ℕ) (least greatest : Cell) : Type 0 where
   pub y_near : greatest.y ≤ℤ (least.y +ℤ pos n)
   pub z_rises : least.z ≤ℤ greatest.z
   pub z_near : greatest.z ≤ℤ (least.z +ℤ pos n)
+
+-- how far a number lies above a least one, which is near 0; 1,000 or more where it lies below it
+pub record IsOffset (least number : ℤ) (n : ℕ) : Type 0 where
+  pub above : least ≤ℤ number → n ≡ int_gap least number
+  pub below : n < 1000 → least ≤ℤ number
 
 -- the lesser of the two, each coordinate by itself
 abbrev pub lower_of : Cell → Cell → Cell

@@ -1,5 +1,5 @@
 -- Cells that are those of another piece displaced, and the displacement of two such pieces.
-use Rattle.std.specs.Prelude.{◌≡◌, ℕ, List, slice_index_or}
+use Rattle.std.specs.Prelude.{◌≡◌, ℕ, ℤ, pos, neg_ℤ, Bool, true, false, List, slice_index_or}
 use Rattle.burr_voxels.specs.declared.cell.Cell.{Cell}
 use Rattle.burr_voxels.specs.Grid.{plus, minus, shifted}
 use Rattle.burr_assembly.specs.Rules.Homes.{home_at}
@@ -17,3 +17,8 @@ displacement_of a b d = minus (plus a d) b
 abbrev pub representative_at : List (List Cell) → List ℕ → ℕ → List Cell
 representative_at homes representatives class =
     home_at homes (slice_index_or representatives class 0)
+
+-- -1 where a pair is turned round, else 1
+abbrev pub sign_of : Bool → ℤ
+sign_of false = pos 1
+sign_of true = neg_ℤ (pos 1)

@@ -6,7 +6,8 @@ use Rattle.burr_voxels.specs.declared.cell.Cell.{Cell}
 use Rattle.burr_voxels.specs.declared.direction.Direction.{Direction}
 use Rattle.burr_voxels.specs.Grid.{along, plus, minus, origin}
 use Rattle.burr_assembly.specs.Rules.Text.{Assembly}
-use Rattle.burr_blocking.specs.declared.triangle.translate.ClassPair.{ClassPair}
+use Rattle.burr_assembly.specs.Rules.Homes.{homes_of}
+use Rattle.burr_blocking.specs.declared.triangle.translate.Pair.{Pair}
 use Rattle.burr_blocking.specs.declared.triangle.Held.{Held}
 use Rattle.burr_blocking.specs.declared.triangle.Held.TheVariants.{Lent, Owned}
 use Rattle.burr_blocking.specs.declared.triangle.translate.Translate.{Translate}
@@ -62,7 +63,7 @@ pub record AreOfClasses (homes : List (List Cell)) (classes : Classes) (p q : �
   pub to : t ≡ slice_index_or classes.translates.items q t
 
 -- the classes of two pieces as they come, or turned round where the second one's is the earlier
-pub record IsPairOfClasses (pair : ClassPair) (s t : Translate) : Type 0 where
+pub record IsPairOfClasses (pair : Pair) (s t : Translate) : Type 0 where
   pub order : pair.earlier ≤ pair.later
   pub shift : pair.shift ≡ minus s.displacement t.displacement
   pub classes :
@@ -70,25 +71,34 @@ pub record IsPairOfClasses (pair : ClassPair) (s t : Translate) : Type 0 where
       ⊎ ((pair.is_turned ≡ true) × (pair.earlier ≡ t.class) × (pair.later ≡ s.class))
 
 -- the pair is that of the classes of pieces p and q
-abbrev pub IsPairOfTwo : Classes → ℕ → ℕ → ClassPair → Type 0
+abbrev pub IsPairOfTwo : Classes → ℕ → ℕ → Pair → Type 0
 IsPairOfTwo c p q pair = (s t : Translate) × (s ≡ slice_index_or c.translates.items p s)
     × (t ≡ slice_index_or c.translates.items q t) × IsPairOfClasses pair s t
 
 -- the pairs of piece p's class and those of all pieces
-pub record IsRowOf (c : Classes) (p : ℕ) (row : List ClassPair) : Type 0 where
+pub record IsRowOf (c : Classes) (p : ℕ) (row : List Pair) : Type 0 where
   pub count : length row ≡ length c.translates.items
-  pub each : (q : ℕ) (d : ClassPair) → q < length row → IsPairOfTwo c p q (slice_index_or row q d)
+  pub each : (q : ℕ) (d : Pair) → q < length row → IsPairOfTwo c p q (slice_index_or row q d)
 
 -- such a row for each piece
-pub record AreRows (c : Classes) (rows : List (Vec ClassPair Global)) : Type 0 where
+pub record AreRows (c : Classes) (rows : List (Vec Pair Global)) : Type 0 where
   pub count : length rows ≡ length c.translates.items
-  pub each : (p : ℕ) (d : Vec ClassPair Global) → p < length rows
+  pub each : (p : ℕ) (d : Vec Pair Global) → p < length rows
       → IsRowOf c p (slice_index_or rows p d).items
 
 -- the pair is that of the classes of two different pieces
-abbrev pub IsPairOfPieces : List (List Cell) → Classes → ClassPair → ℕ → ℕ → Type 0
+abbrev pub IsPairOfPieces : List (List Cell) → Classes → Pair → ℕ → ℕ → Type 0
 IsPairOfPieces homes classes pair p q =
     (s t : Translate) × AreOfClasses homes classes p q s t × IsPairOfClasses pair s t
+
+-- an assembly with the classes of its pieces
+pub record ClassedAssembly : Type 0 where
+  pub assembly : Assembly
+  pub classes : Classes
+
+-- the pair is that of the classes of pieces p and q of the assembly
+abbrev pub IsPairIn : ClassedAssembly → ℕ → ℕ → Pair → Type 0
+IsPairIn t p q pair = IsPairOfPieces (homes_of t.assembly) t.classes pair p q
 
 -- a displacement as it is, or turned round
 abbrev pub turned_by : Bool → Cell → Cell
@@ -96,7 +106,7 @@ turned_by false d = d
 turned_by true d = minus origin d
 
 -- the displacement of the earlier class's representative where the first piece has this one
-abbrev pub way_of : ClassPair → Cell → Cell
+abbrev pub way_of : Pair → Cell → Cell
 way_of pair d = turned_by pair.is_turned (plus pair.shift d)
 
 -- a direction as it is, or turned round

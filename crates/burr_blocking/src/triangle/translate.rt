@@ -1,9 +1,9 @@
-ghost use Rattle.std.specs.Prelude.{◌≡◌, IfSome, MatchOption};
+ghost use Rattle.std.specs.Prelude.{◌≡◌, ◌⊎◌, ◌≤ℤ◌, ◌*ℤ◌, IfSome, MatchOption, neg_ℤ, pos};
 ghost use Rattle.std.specs.List.{All};
 ghost use Rattle.burr_voxels.specs.declared.cell.Cell.{Cell as CellOf};
 ghost use Rattle.burr_voxels.specs.Grid.{origin};
 ghost use Rattle.burr_voxels.specs.Near.{IsWithin};
-ghost use Rattle.burr_blocking.specs.Views.Translates.{IsTranslate};
+ghost use Rattle.burr_blocking.specs.Views.Translates.{IsTranslate, sign_of};
 
 use crate::extent::first_of;
 use burr_voxels::{Cell, Direction};
@@ -30,19 +30,23 @@ impl Translate {
     }
 }
 
-/// Two pieces by the pair that is kept of their classes.
+/// What is found once of two pieces, so that queries of them are answered at once: the numbers under
+/// which something is kept of them, those of their classes or their own, and how it is asked.
 #[derive(Clone, Copy, Debug)]
-pub struct ClassPair {
+pub struct Pair {
     pub earlier: usize,
     pub later: usize,
     /// What the first representative is displaced by where the first piece is displaced by nothing.
     pub shift: Cell,
     /// The first piece is of the later class.
     pub is_turned: bool,
+    /// -1 where it is, else 1: a product takes the place of a choice in each look.
+    pub sign: i32,
     ghost near: { IsWithin 316 shift },
+    ghost signed: { sign ≡ sign_of is_turned },
 }
 
-impl ClassPair {
+impl Pair {
     ghost use Rattle.burr_blocking.specs.Views.Triangles.{IsTurnedBy, way_of};
 
     /// The displacement of the representative of the earlier class where the first piece has this
@@ -53,10 +57,10 @@ impl ClassPair {
         ensures near { IsWithin 828 result }
     {
         let way = self.shift + displacement;
-        if self.is_turned {
-            Cell::ORIGIN - way
-        } else {
-            way
+        Cell {
+            x: signed(way.x, self.sign),
+            y: signed(way.y, self.sign),
+            z: signed(way.z, self.sign),
         }
     }
 
@@ -70,6 +74,16 @@ impl ClassPair {
             direction
         }
     }
+}
+
+/// A number as it is, or turned round, by a sign of 1 or -1.
+fn signed(number: i32, sign: i32) -> i32
+    requires sign { (sign ≡ pos 1) ⊎ (sign ≡ neg_ℤ (pos 1)) }
+    requires from { neg_ℤ (pos 828) ≤ℤ number }
+    requires to { number ≤ℤ pos 828 }
+    ensures { result ≡ number *ℤ sign }
+{
+    number * sign
 }
 
 /// By how much the first cells have to be displaced to be the second ones, in their order; `None`

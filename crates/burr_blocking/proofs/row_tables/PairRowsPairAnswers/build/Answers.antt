@@ -160,6 +160,7 @@ invariant_of-result c =
     let qs = c.args.others.now in
     let box = is_box_of e hull other ps qs c.displacements_to-extent.ensures.corner c.displacements_to-extent.ensures.holds c.around-hull.ensures.small c.around-other_hull.ensures.small c.around-hull.ensures.holds c.around-other_hull.ensures.holds in
     record {
+      sides = (c.wide.ensures.count, c.deep.ensures.count, c.high.ensures.count);
       whole = c.loop-i.invariant.1;
       short = made_short e hull other c.loop-i.rows.items ps qs box (made_all e c.loop-i.rows.items ps qs c.loop-i.i (omega (arith, c.loop-i-test.false)) c.loop-i.invariant.2);
     }

@@ -12,11 +12,11 @@ shift_within s t shift is =
 
 pub invariant_of-result : goal.invariant_of-result
 invariant_of-result c =
-    record { near = shift_within c.index-from.result.now c.index-to.result.now c.sub-shift.result c.sub-shift.ensures }
+    record { near = shift_within c.index-from.result.now c.index-to.result.now c.sub-shift.result c.sub-shift.ensures; signed = refl }
 
 pub invariant_of-result-2 : goal.invariant_of-result-2
 invariant_of-result-2 c =
-    record { near = shift_within c.index-from.result.now c.index-to.result.now c.sub-shift.result c.sub-shift.ensures }
+    record { near = shift_within c.index-from.result.now c.index-to.result.now c.sub-shift.result c.sub-shift.ensures; signed = refl }
 
 pub returns-then-to-from : goal.returns-then-to-from
 returns-then-to-from c = (

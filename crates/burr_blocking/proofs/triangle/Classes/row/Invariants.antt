@@ -1,5 +1,5 @@
 use Rattle.std.proofs.Common.{◌≡◌, ◌<◌, ℕ, length, get_or, vec_len}
-use Rattle.burr_blocking.specs.declared.triangle.translate.ClassPair.{ClassPair}
+use Rattle.burr_blocking.specs.declared.triangle.translate.Pair.{Pair}
 use Rattle.burr_blocking.specs.Views.Triangles.{IsPairOfTwo}
 use Rattle.burr_blocking.proofs.triangle.Classes.row.Given as goal
 
@@ -7,4 +7,4 @@ use Rattle.burr_blocking.proofs.triangle.Classes.row.Given as goal
 abbrev pub invariant-loop-other : goal.invariant-loop-other
 invariant-loop-other l =
     (vec_len l.row ≡ l.other)
-    × ((q : ℕ) (d : ClassPair) → q < length l.row.items → IsPairOfTwo l.fn.self l.fn.piece q (get_or l.row.items q d))
+    × ((q : ℕ) (d : Pair) → q < length l.row.items → IsPairOfTwo l.fn.self l.fn.piece q (get_or l.row.items q d))
