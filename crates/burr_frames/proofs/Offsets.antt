@@ -1,15 +1,14 @@
 -- The forms of offsets, piece by piece.
-use Rattle.std.proofs.Common.{◌≡◌, ℕ, zero, suc, ◌+◌, ◌<◌, ◌≤◌, List, [], ◌∷◌, ◌++◌, length, take, Bool, true, false, refl, sym, ap, subst, ◌∙◌, arith, slice_index_or}
+use Rattle.std.proofs.Common.{◌≡◌, ℕ, ◌+◌, ◌<◌, ◌≤◌, List, [], ◌∷◌, ◌++◌, length, take, Bool, true, false, refl, sym, ap, subst, ◌∙◌, arith, slice_index_or}
 use Rattle.std.specs.Prelude.{reverse, filter, if◌then◌else◌}
 use Rattle.std.proofs.lemmas.List.{take_more, reverse-reverse, append-nil}
-use Rattle.std.proofs.lemmas.List.Elements.{All-nil, All-cons, filter_more}
+use Rattle.std.proofs.lemmas.List.Elements.{filter_more}
 use Rattle.std.proofs.lemmas.List.Sorted.{All-permutation, IsPermutation-reverse}
 use Rattle.burr_code.specs.declared.placement.Placement.{Placement}
 use Rattle.burr_code.specs.declared.placement.Placement.TheVariants.{Apart, On}
 use Rattle.burr_code.specs.Places.{is_in}
 use Rattle.burr_forms.specs.Rules.Forms.{Form, IsSmallForm, AllSmallForms}
 use Rattle.burr_container.specs.Rules.Plans.{FormCell}
-use Rattle.burr_frames.specs.Rules.SpaceRules.{AllSmallPlaces}
 use Rattle.burr_frames.specs.Views.Clearing.{offsets_in}
 use Rattle.burr_frames.specs.Views.Comparing.{offset_forms}
 
@@ -26,17 +25,6 @@ pub offsets_more : (places : List (Placement FormCell)) (p : ℕ) (place : Place
 offsets_more places p place l e =
     ap offset_forms (take_more places p place l ∙ ap (λ (x : Placement FormCell). take p places ++ x ∷ []) (sym e))
     ∙ offsets_push (take p places) place
-
--- the forms of a piece's offset are small, and three at most
-pub small_offset_at : (places : List (Placement FormCell)) (p : ℕ) (d : Placement FormCell) → AllSmallPlaces places
-    → p < length places → AllSmallForms (offset_forms (slice_index_or places p d ∷ []))
-small_offset_at [] p d s l = absurd (omega (arith, l))
-small_offset_at (Apart ∷ places) zero d s l = All-nil IsSmallForm
-small_offset_at (Apart ∷ places) (suc p) d s l = small_offset_at places p d s (omega (arith, l))
-small_offset_at (On tray c ∷ places) zero d s l =
-    All-cons IsSmallForm c.x (c.y ∷ c.z ∷ []) s.0
-    (All-cons IsSmallForm c.y (c.z ∷ []) s.1 (All-cons IsSmallForm c.z [] s.2 (All-nil IsSmallForm)))
-small_offset_at (On tray c ∷ places) (suc p) d s l = small_offset_at places p d s.3 (omega (arith, l))
 
 pub three_at_most : (place : Placement FormCell) → length (offset_forms (place ∷ [])) ≤ 3
 three_at_most Apart = omega arith

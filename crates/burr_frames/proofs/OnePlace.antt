@@ -1,9 +1,8 @@
 -- A place one unit along a direction.
-use Rattle.std.proofs.Common.{◌≡◌, ◌≤◌, ℕ, ℤ, [], ◌∷◌, subst, arith}
+use Rattle.std.proofs.Common.{◌≡◌, ◌≤◌, ℕ, ℤ, [], ◌∷◌, arith}
 use Rattle.std.specs.Prelude.{pos, neg_ℤ, ◌↔◌}
 use Rattle.std.specs.Int.RustNames.{unsigned_abs}
 use Rattle.burr_voxels.specs.declared.direction.Direction.{Direction}
-use Rattle.burr_voxels.specs.declared.direction.Direction.TheVariants.{PlusX, MinusX, PlusY, MinusY, PlusZ, MinusZ}
 use Rattle.burr_voxels.specs.Grid.{along}
 use Rattle.burr_code.specs.declared.placement.Placement.{Placement}
 use Rattle.burr_code.specs.declared.placement.Placement.TheVariants.{On}
@@ -20,31 +19,11 @@ pub small_shifted : (direction : Direction) (x y z : ℤ) (tray : ℕ) (cell : F
 small_shifted direction x y z tray cell place e_x e_y e_z is =
     rw (e_x, e_y, e_z, is) (λ each. (each.0, each.1, each.2, tt), λ all. (all.0, all.1, all.2))
 
--- the forms of a small place
-pub small_offset : (place : Placement FormCell) (tray : ℕ) (cell : FormCell) → place ≡ On tray cell → AllSmallPlaces (place ∷ [])
-    → IsSmallForm cell.x × IsSmallForm cell.y × IsSmallForm cell.z
-small_offset place tray cell is small =
-    let all = subst (λ (p : Placement FormCell). AllSmallPlaces (p ∷ [])) is small in
-    (all.0, all.1, all.2)
-
 abbrev pub IsOneAtMost : ℤ → Type 0
 IsOneAtMost n = unsigned_abs n ≤ 1
-
-no_step : IsOneAtMost (pos 0)
-no_step = omega arith
 
 one_on : IsOneAtMost (pos 1)
 one_on = omega arith
 
 one_back : IsOneAtMost (neg_ℤ (pos 1))
 one_back = omega arith
-
--- a unit vector's components
-pub unit_steps : (direction : Direction)
-    → IsOneAtMost (along direction (pos 1)).x × IsOneAtMost (along direction (pos 1)).y × IsOneAtMost (along direction (pos 1)).z
-unit_steps PlusX = (one_on, no_step, no_step)
-unit_steps MinusX = (one_back, no_step, no_step)
-unit_steps PlusY = (no_step, one_on, no_step)
-unit_steps MinusY = (no_step, one_back, no_step)
-unit_steps PlusZ = (no_step, no_step, one_on)
-unit_steps MinusZ = (no_step, no_step, one_back)

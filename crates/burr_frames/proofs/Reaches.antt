@@ -1,5 +1,5 @@
 -- Numbers within so much from 0.
-use Rattle.std.proofs.Common.{◌≡◌, ℕ, ℤ, List, [], ◌∷◌, drop, refl, sym, subst, arith}
+use Rattle.std.proofs.Common.{◌≡◌, ℕ, ℤ, List, [], ◌∷◌, drop, refl, arith}
 use Rattle.std.specs.Prelude.{All}
 use Rattle.std.proofs.lemmas.Int.{ints}
 use Rattle.std.proofs.lemmas.List.Elements.{All-nil, All-cons, All-head, All-map, All-weaker}
@@ -39,12 +39,6 @@ lies_within ranges f reach least greatest l g low high point inside =
     let over = low.0 in
     let under = high.1 in
     (omega (arith, ints), omega (arith, ints))
-
-pub least_in_reach : (ranges : List (ℤ × ℤ)) (f : Form) (reach : ℕ) (least : ℤ) → IsLeastIn ranges f least → LiesWithin ranges reach f → IsInReach reach least
-least_in_reach ranges f reach least l within = subst (IsInReach reach) (sym l.met.2) (within l.met.0 l.met.1)
-
-pub greatest_in_reach : (ranges : List (ℤ × ℤ)) (f : Form) (reach : ℕ) (greatest : ℤ) → IsGreatestIn ranges f greatest → LiesWithin ranges reach f → IsInReach reach greatest
-greatest_in_reach ranges f reach greatest g within = subst (IsInReach reach) (sym g.met.2) (within g.met.0 g.met.1)
 
 -- forms that lie within so much in the whole box do so at each point of a region
 pub throughout_within : (r : Region) (forms : List Form) (reach : ℕ) → All (LiesWithin r.ranges reach) forms

@@ -149,11 +149,11 @@ fn offset_of(values: &[i64], number: u8) -> Cell
     ensures value { result ≡ cell_of values.now number }
     ensures near { IsWithin MOST_OFFSET result }
 {
-    let first = 3 * usize::from(number);
+    let offset = &values[3 * usize::from(number)..];
     Cell {
-        x: values[first] as i32,
-        y: values[first + 1] as i32,
-        z: values[first + 2] as i32,
+        x: offset[0] as i32,
+        y: offset[1] as i32,
+        z: offset[2] as i32,
     }
 }
 
