@@ -13,7 +13,7 @@ use Rattle.burr_state.specs.Views.Benches.{Benched, setup_of, IsSameRun}
 use Rattle.burr_state.proofs.Common.StepCalls.{taken_where_answered}
 use Rattle.burr_state.proofs.Common.Undo.{runs_where_stepped}
 use Rattle.burr_bench.specs.Recorded.{MadeStep}
-use Rattle.burr_step.specs.Rules.Stepper.{history, Answer, S1, S3, Taken}
+use Rattle.burr_step.specs.Rules.Stepper.{history, Answer, S3, Taken}
 use Rattle.burr_step.specs.Views.Stepping.{Stepping, stepping, IsDone, IsRefused, commanding}
 use Rattle.burr_step.proofs.UnderWay.{IsFurther, MadeOne}
 
@@ -38,9 +38,6 @@ unfit_in setup s new answer told (Trapped trap) on call still = absurd (ok-err t
   where
     ok-err : (told : Progress) (trap : Trap) → ◌≡◌ {A = Result Progress Trap} (Ok told) (Err trap) → ⊥
     ok-err told trap e = cc
-
-pub answer_ended : (s : Stepping) (answer : ℤ) → s.bench.state.mode ≡ Ended → IsRefused s (commanding s (Answer answer)) S1 s
-answer_ended s answer ended = record { comes = inl ((λ on. on ended), refl); same = refl }
 
 pub answer_unfit : (s new : Stepping) (answer : ℤ) (left : BenchState) (told : Progress) → s.bench.state.mode ≢ Ended
     → Called (setup_of s.bench) s.bench.state (Some answer) (Ok told) left → (¬ MadeStep told) → new ≡ s

@@ -3,7 +3,7 @@ use Rattle.std.proofs.Common.{◌≡◌, ◌≢◌, ◌↔◌, ℕ, zero, suc, �
 use Rattle.std.specs.Prelude.{min, slice_get}
 use Rattle.std.specs.Int.{bit_at, bit_not}
 use Rattle.std.proofs.lemmas.Nat.{bit_set_by_shift}
-use Rattle.std.proofs.lemmas.Nat.Bits.{bit_at-lt, bit_at-zero, bit_at_above, bit_at_and, bit_at_not, bit_at_set_other, bit_at_set_same, same_from_bits, shr_and_one}
+use Rattle.std.proofs.lemmas.Nat.Bits.{bit_at-lt, bit_at_above, bit_at_and, bit_at_not, bit_at_set_other, bit_at_set_same, same_from_bits, shr_and_one}
 use Rattle.std.proofs.lemmas.Option.{same_Some, slice_get_past}
 use Rattle.burr_text.proofs.Common.Decisions.{Decided, decide_at_most, decide_same}
 use Rattle.burr_voxels.specs.declared.cell.Cell.{Cell}
@@ -48,12 +48,6 @@ same_apart before now a b p q = same_from_bits a b λ i. same_bit a b i ((λ is.
 -- of the pieces below one, exactly these are apart
 abbrev pub AreApartBelow : List (Placement Cell) → ℕ → ℕ → Type 0
 AreApartBelow places piece set = (p : ℕ) → IsInSet set p ↔ (LiesApart places p × (p < piece))
-
-pub none_apart : (places : List (Placement Cell)) → AreApartBelow places 0 0
-none_apart places p = ((λ is. absurd (one_of_zero (sym (bit_at-zero p) ∙ bit_in 0 p is))), λ below. absurd (omega (arith, below.1)))
-  where
-    one_of_zero : ◌≡◌ {A = ℕ} 0 1 → ⊥
-    one_of_zero e = absurd (omega (arith, e))
 
 pub one_apart : (places : List (Placement Cell)) (piece set : ℕ) → piece < 32 → LiesApart places piece → AreApartBelow places piece set
     → AreApartBelow places (piece + 1) (bit_or set (1 * 2 ^ piece % 2 ^ 32))

@@ -1,12 +1,12 @@
 -- Each activation of a run of an accepted plan has eight slots.
-use Rattle.std.proofs.Common.{◌≡◌, ℕ, zero, suc, ◌-◌, ◌≤◌, ◌&&◌, ℤ, List, [], ◌∷◌, length, map, replicate, Bool, true, false, IsTrue, Option, Some, None, refl, sym, ap, subst, ◌∙◌, arith, inl, inr}
-use Rattle.std.specs.Prelude.{min, nat_le, nat_lt, reverse, set, slice_get, if◌then◌else◌}
+use Rattle.std.proofs.Common.{◌≡◌, ℕ, zero, suc, ◌-◌, ◌≤◌, ◌&&◌, ℤ, List, [], ◌∷◌, length, map, replicate, Bool, true, false, IsTrue, Option, Some, None, refl, sym, ap, subst, ◌∙◌, arith}
+use Rattle.std.specs.Prelude.{min, nat_le, nat_lt, reverse, slice_get, if◌then◌else◌}
 use Rattle.std.specs.List.{list_all}
 use Rattle.std.proofs.Math.ListN.{length-take}
 use Rattle.std.proofs.lemmas.Bool.{and_parts, leb-true}
-use Rattle.std.proofs.lemmas.List.{length-append, length-map, length-replicate, length-reverse, length-set}
+use Rattle.std.proofs.lemmas.List.{length-append, length-map, length-replicate, length-reverse}
 use Rattle.std.proofs.lemmas.Option.{none-some, same_Some}
-use Rattle.burr_code.specs.Instruction.{Instruction, Halt, Push, Load, Store, Add, Sub, Drop, Grip, Step, Aside, Tray, Jump, Down, Ask, Pick, Call, Ret}
+use Rattle.burr_code.specs.Instruction.{Instruction, Ask, Pick}
 use Rattle.burr_code.specs.Labels.{callee_of, argument_slots}
 use Rattle.burr_code.specs.Stacks.{top, top_many, split_at}
 use Rattle.burr_code.specs.declared.limits.TheConstants.{MOST_PROCEDURES}
@@ -14,17 +14,12 @@ use Rattle.burr_container.specs.Rules.Fitting.{is_procedure, are_procedures, are
 use Rattle.burr_container.specs.Rules.Plans.{PlanProcedure}
 use Rattle.burr_container.proofs.Common.Containers.{plan_fits}
 use Rattle.burr_container.proofs.Common.Procedures.{procedure_fits}
-use Rattle.burr_state.specs.declared.effect.Motion.{Motion}
-use Rattle.burr_state.specs.declared.effect.Trap.{Trap}
 use Rattle.burr_state.specs.Rules.Bench.{Activation, BenchState, BenchProcedure, Program, Setup, start}
-use Rattle.burr_state.specs.Rules.Next.{Next, Goes, Asks, Traps}
 use Rattle.burr_state.specs.Rules.Questions.{Takes}
-use Rattle.burr_state.specs.Rules.Step.{Executes, NextIs}
 use Rattle.burr_state.specs.Rules.Undo.{Undo}
 use Rattle.burr_state.specs.Views.Benches.{Benched, setup_of, in_state}
 use Rattle.burr_state.specs.Views.Programs.{bench_procedure}
-use Rattle.burr_state.proofs.Common.Built.{at_either}
-use Rattle.burr_state.proofs.Common.Outcomes.{TrapsOr, past_check, past_search, comes}
+use Rattle.burr_state.proofs.Common.Built.{Activates, keeps, calls, returns, next_went}
 use Rattle.burr_state.proofs.Common.StepCalls.{next_where_went, taken_where_answered}
 use Rattle.burr_bench.specs.Soundness.Machine.{IsSafeBench}
 use Rattle.burr_step.specs.Rules.Stepper.{Leads, stays, goes, takes}
@@ -120,89 +115,40 @@ callee_there procedures here callee there is = by_test (nat_lt here callee) is
 
 -- Steps
 
-abbrev EightNext : Next → Type 0
-EightNext (Goes new motion) = HaveEight new
-EightNext (Asks low high) = Unit {0}
-EightNext (Traps trap) = Unit {0}
-
--- the slots of the same activations
-kept : (s new : BenchState) → HaveEight s → length new.running.slots ≡ length s.running.slots → new.callers ≡ s.callers → HaveEight new
-kept s new have slots callers =
-    record { running = slots ∙ have.running; callers = subst AllHaveEight (sym callers) have.callers }
-
-module _ (setup : Setup) (few : HaveFew setup.procedures) (here : BenchProcedure) (s : BenchState) (have : HaveEight s) where
+module _ (setup : Setup) (few : HaveFew setup.procedures) where
   -- the arguments of a callee are no more than eight
-  few_arguments : (callee : ℕ) (there : BenchProcedure) (found : List ℤ × List ℤ)
-      → callee_of setup.procedures s.running.procedure callee ≡ Some there
-      → top_many there.parameters s.running.operands ≡ Some found → length found.0 ≤ 8
-  few_arguments callee there found is has =
-      let small = few callee there (callee_there setup.procedures s.running.procedure callee there is) in
-      let taken = many_are there.parameters s.running.operands found has in
+  few_arguments : (running callee : ℕ) (there : BenchProcedure) (operands : List ℤ) (found : List ℤ × List ℤ)
+      → callee_of setup.procedures running callee ≡ Some there → top_many there.parameters operands ≡ Some found → length found.0 ≤ 8
+  few_arguments running callee there operands found is has =
+      let small = few callee there (callee_there setup.procedures running callee there is) in
+      let taken = many_are there.parameters operands found has in
       omega (arith, small, taken)
 
-  callers_are : (up : Activation × List Activation) → top s.callers ≡ Some up → (length up.0.slots ≡ 8) × AllHaveEight up.1
-  callers_are up is = subst AllHaveEight (top_is s.callers up is) have.callers
+  by_activations : (s new : BenchState) → HaveEight s → Activates setup s new → HaveEight new
+  by_activations s new have (keeps slots callers) =
+      record { running = slots ∙ have.running; callers = subst AllHaveEight (sym callers) have.callers }
+  by_activations s new have (calls callee there found caller is has slots same callers) = record {
+    running = ap length slots ∙ arguments_eight found.0 (few_arguments s.running.procedure callee there s.running.operands found is has);
+    callers = subst AllHaveEight (sym callers) (ap length same ∙ have.running, have.callers);
+  }
+  by_activations s new have (returns up is slots callers) =
+      let below = subst AllHaveEight (top_is s.callers up is) have.callers in
+      record { running = ap length slots ∙ below.0; callers = subst AllHaveEight (sym callers) below.1 }
 
-  by_rule : (i : Instruction) (next : Next) → Executes setup here s i next → TrapsOr EightNext next
-  by_rule Halt next rule = past_check rule λ main apart. past_check apart λ all gone. comes gone (kept s _ have refl refl)
-  by_rule (Push n) next rule = past_check rule λ room gone. comes gone (kept s _ have refl refl)
-  by_rule (Load v) next rule = past_search rule λ x is room. past_check room λ some gone. comes gone (kept s _ have refl refl)
-  by_rule (Store v) next rule =
-      past_check rule λ may top. past_search top λ x is gone. comes gone (kept s _ have (length-set s.running.slots v _) refl)
-  by_rule Add next rule = past_search rule λ x is number. past_check number λ small gone. comes gone (kept s _ have refl refl)
-  by_rule Sub next rule = past_search rule λ x is number. past_check number λ small gone. comes gone (kept s _ have refl refl)
-  by_rule Drop next rule = past_search rule λ x is gone. comes gone (kept s _ have refl refl)
-  by_rule (Grip set) next rule = past_check rule λ lie gone. comes gone (kept s _ have refl refl)
-  by_rule (Step direction) next rule =
-      past_check rule λ some on_bench. past_check on_bench λ all apart. past_check apart λ none gone.
-      comes gone (kept s _ have refl refl)
-  by_rule (Aside direction tray) next rule =
-      past_check rule λ part empty. past_check empty λ none free. past_check free λ way gone.
-      comes gone (kept s _ have refl refl)
-  by_rule (Tray tray) next rule = comes rule (kept s _ have refl refl)
-  by_rule (Jump label) next rule = past_search rule λ to is gone. comes gone (kept s _ have refl refl)
-  by_rule (Down v label) next rule =
-      past_search rule λ to is writable. past_check writable λ may full. past_search full λ x has count.
-      past_check count λ some gone.
-      comes gone (at_either HaveEight x _ _ (kept s _ have refl refl) (kept s _ have (length-set s.running.slots v _) refl))
-  by_rule (Ask low high) next rule = past_check rule λ room asked. comes asked tt
-  by_rule (Pick labels) next rule = past_search rule λ found is asked. comes asked tt
-  by_rule (Call callee) next rule =
-      past_search rule λ there is arguments. past_search arguments λ found has room. past_check room λ small gone.
-      comes gone (record {
-        running = arguments_eight found.0 (few_arguments callee there found is has);
-        callers = (have.running, have.callers);
-      })
-  by_rule Ret next rule =
-      past_search rule λ up is results. past_search results λ found has gone.
-      comes gone (record { running = (callers_are up is).0; callers = (callers_are up is).1 })
-
-  by_answer : (i : Instruction) (answer : ℤ) (new : BenchState) → Takes here s i answer new → HaveEight new
-  by_answer (Ask low high) answer new is = subst HaveEight (sym is) (kept s _ have refl refl)
-  by_answer (Pick labels) answer new taken = subst HaveEight (sym taken.6) (kept s _ have refl refl)
-  by_answer i answer new taken = absurd taken
-
-  gone : (i : Instruction) (new : BenchState) (motion : Option Motion) → Executes setup here s i (Goes new motion) → HaveEight new
-  gone i new motion rule = elim (by_rule i (Goes new motion) rule).cases [
-    | inl trapped ↦ absurd (goes-traps new motion trapped.0 trapped.1)
-    | inr so ↦ so
-  ]
-    where
-      goes-traps : (new : BenchState) (motion : Option Motion) (trap : Trap) → Goes new motion ≡ Traps trap → ⊥
-      goes-traps new motion trap e = cc
-
-module _ (setup : Setup) (few : HaveFew setup.procedures) where
-  by_next : (s new : BenchState) (motion : Option Motion) → HaveEight s → NextIs setup s (Goes new motion) → HaveEight new
-  by_next s new motion have (inl at) = gone setup few at.0 s have at.1 new motion at.3
-  by_next s new motion have (inr none) = subst EightNext (sym none.1) tt
+  by_answer : (here : BenchProcedure) (s : BenchState) (have : HaveEight s) (i : Instruction) (answer : ℤ) (new : BenchState)
+      → Takes here s i answer new → HaveEight new
+  by_answer here s have (Ask low high) answer new is = subst HaveEight (sym is) (record { running = have.running; callers = have.callers })
+  by_answer here s have (Pick labels) answer new taken = subst HaveEight (sym taken.6) (record { running = have.running; callers = have.callers })
+  by_answer here s have i answer new taken = absurd taken
 
   along : (s last : BenchState) (steps : ℕ) (answers : List ℤ) → Leads setup s steps answers last → HaveEight s → HaveEight last
   along _ _ _ _ (stays s) have = have
   along _ _ _ _ (goes s new last motion steps answers called rest) have =
-      along new last steps answers rest (by_next s new motion have (next_where_went setup s new motion called))
+      let n = next_went setup s new motion (next_where_went setup s new motion called) in
+      along new last steps answers rest (by_activations s new have n.went.activates)
   along _ _ _ _ (takes s new last answer steps answers called rest) have =
       let taken = taken_where_answered setup s new answer called in
-      along new last steps answers rest (by_answer setup few taken.0 s have taken.1 answer new taken.7)
+      along new last steps answers rest (by_answer taken.0 s have taken.1 answer new taken.7)
 
 -- a run under way has eight slots
 pub has_eight : (s : Stepping) (undos : List Undo) → IsUnderWay s undos → length s.bench.state.running.slots ≡ 8

@@ -69,9 +69,6 @@ label_found setup procedure label (Some position) some is at = ((λ yes. (positi
 
 -- Forward
 
-pub forward_ended : (s : Stepping) → s.bench.state.mode ≡ Ended → IsRefused s (commanding s Forward) S1 s
-forward_ended s ended = record { comes = inl ((λ on. on ended), refl); same = refl }
-
 pub forward_asks : (s new : Stepping) → s.bench.state.mode ≢ Ended → IsAsking (setup_of s.bench) s.bench.state → new ≡ s
     → IsRefused s (commanding s Forward) S2 new
 forward_asks s new on asking same = record { comes = inr (on, inl ((λ none. none asking), refl)); same = same }

@@ -202,9 +202,6 @@ ends_out first old l motion tray now mid new so_far on one out aside =
     true-false : true ≡ false → ⊥
     true-false e = cc
 
-pub counts_out : (l : GrowingLine) (tray : ℕ) → 0 < motion_count (ended l (Some tray))
-counts_out l tray = omega arith
-
 -- What was seen to stand next
 
 -- a motion that stands next

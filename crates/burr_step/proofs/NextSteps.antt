@@ -25,7 +25,8 @@ use Rattle.burr_bench.specs.Soundness.Machine.{IsSafeBench}
 use Rattle.burr_bench.proofs.Common.Machine.{budgeted, call_is_safe, counted, some_safe_call}
 use Rattle.burr_step.specs.Rules.Moves.{Rests, MovesNext}
 use Rattle.burr_step.specs.Rules.Stepper.{IsHalted}
-use Rattle.burr_step.proofs.Ahead.{motion_by, AsksBy, tells_at, went_at}
+use Rattle.burr_state.proofs.Common.Built.{motion_by, AsksBy}
+use Rattle.burr_step.proofs.Ahead.{tells_at, went_at}
 
 running-ended : Running ≡ Ended → ⊥
 running-ended e = cc
@@ -42,13 +43,6 @@ some_none m e = cc
 pub ended_still : (setup : Setup) (s new : BenchState) (motion : Option Motion) → s.mode ≡ Ended
     → Called setup s None (Ok (progress.Went motion)) new → ⊥
 ended_still setup s new motion ended called = running-ended (sym (runs_where_went setup s new motion s.mode refl called) ∙ ended)
-
-pub asks_rest : (setup : Setup) (s : BenchState) (here : BenchProcedure) (i : Instruction) → IsAt setup s here i → AsksBy i → Rests setup s
-asks_rest setup s here i at asks new called = (went_at setup s new here i None at called).1 asks
-
-pub motion_rests : (setup : Setup) (s : BenchState) (here : BenchProcedure) (i : Instruction) (motion : Motion) → IsAt setup s here i
-    → motion_by s i ≡ Some motion → Rests setup s
-motion_rests setup s here i motion at moves new called = none_some motion ((went_at setup s new here i None at called).0 ∙ moves)
 
 -- no motion stands next at an instruction that makes none
 pub never_moves : (setup : Setup) (s : BenchState) (here : BenchProcedure) (i : Instruction) → IsAt setup s here i → motion_by s i ≡ None

@@ -11,7 +11,7 @@ use Rattle.burr_voxels.specs.declared.cell.Cell.{Cell}
 use Rattle.burr_voxels.specs.declared.direction.Direction.{Direction}
 use Rattle.burr_voxels.specs.Grid.{plus, along}
 use Rattle.burr_code.specs.PieceSets.{IsInSet}
-use Rattle.burr_code.specs.Instruction.{Instruction, Halt, Push, Load, Store, Add, Sub, Drop, Grip, Step, Aside, Tray, Jump, Down, Ask, Pick, Call, Ret, IsInRange}
+use Rattle.burr_code.specs.Instruction.{Instruction, Ask, Pick, IsInRange}
 use Rattle.burr_code.specs.declared.placement.Placement.{Placement}
 use Rattle.burr_code.specs.Places.{LiesAt, LiesIn, aside_places}
 use Rattle.burr_code.proofs.Common.Conditions.{lies_within}
@@ -24,19 +24,18 @@ use Rattle.burr_state.specs.declared.effect.Closing.{Closing}
 use Rattle.burr_state.specs.declared.effect.Progress.TheVariants as progress
 use Rattle.burr_state.specs.Rules.Bench.{BenchState, BenchProcedure, Setup, start}
 use Rattle.burr_state.specs.Rules.Motions.{IsMotionOf}
-use Rattle.burr_state.specs.Rules.Next.{Next, Goes, Asks, Traps}
+use Rattle.burr_state.specs.Rules.Next.{Goes}
 use Rattle.burr_state.specs.Rules.Questions.{Takes}
 use Rattle.burr_state.specs.Rules.Space.{motion_of, moved_places}
-use Rattle.burr_state.specs.Rules.Step.{Executes, NextIs, CallIn}
+use Rattle.burr_state.specs.Rules.Step.{NextIs, CallIn}
 use Rattle.burr_state.specs.Rules.Run.{Run, ends, stops, traps, waits, passes, takes, goes}
 use Rattle.burr_state.specs.Laws.RunLaws.{IsUnderWay}
 use Rattle.burr_state.specs.Laws.SpaceLaws.{IsGripHere, StepsTo}
 use Rattle.burr_state.specs.Laws.MotionLaws.{IsInTrays, TraysAreFew, MotionsAreOfPieces, MotionsAreWithinBudget}
 use Rattle.burr_state.proofs.Common.CallLaws.{step_where_taken}
 use Rattle.burr_state.proofs.Common.Calls.{tells}
-use Rattle.burr_state.proofs.Common.Built.{at_either}
+use Rattle.burr_state.proofs.Common.Built.{motion_by, Moves, lies, grips, moves, parts, chooses, next_went}
 use Rattle.burr_state.proofs.Common.Leading.{leads_from}
-use Rattle.burr_state.proofs.Common.Outcomes.{TrapsOr, past_check, past_search, comes}
 use Rattle.burr_state.proofs.Common.Pieces.{grip_stays}
 use Rattle.burr_state.proofs.Common.Reached.{IsKept, home_places, kept_by_calls, lies_at_start}
 use Rattle.burr_state.proofs.Common.SomeRun.{counted_step, under_way_on}
@@ -74,16 +73,11 @@ record GoesInTrays (pieces : ℕ) (s new : BenchState) (motion : Option Motion) 
   pub as_many : length new.places ≡ length s.places
   pub moves : MotionFits pieces motion
 
-abbrev NextInTrays : ℕ → BenchState → Next → Type 0
-NextInTrays pieces s (Goes new motion) = GoesInTrays pieces s new motion
-NextInTrays pieces s (Asks low high) = Unit {0}
-NextInTrays pieces s (Traps trap) = Unit {0}
-
 -- all stays where it is
-stays : {pieces : ℕ} {s new : BenchState} → IsInTrays s → new.places ≡ s.places → new.tray ≡ s.tray → GoesInTrays pieces s new None
+stays : {pieces : ℕ} {s new : BenchState} → IsInTrays s → new.places ≡ s.places → new.tray < 32 → GoesInTrays pieces s new None
 stays few places tray = record {
   trays = record {
-    current = subst (λ t. t < 32) (sym tray) few.current;
+    current = tray;
     pieces = λ p t lies. few.pieces p t (subst (λ (ps : List (Placement Cell)). LiesIn ps p t) places lies);
   };
   as_many = ap length places;
@@ -128,28 +122,19 @@ module _ (setup : Setup) (here : BenchProcedure) (s : BenchState) (few : IsInTra
       by_place p t offset (inl gone) = subst (λ u. u < 32) (sym gone.1) small
       by_place p t offset (inr still) = few.pieces p t (offset, still.1)
 
-  goes_by_rule : (i : Instruction) (next : Next) → IsInRange i → Executes setup here s i next → TrapsOr (NextInTrays (length setup.homes) s) next
-  goes_by_rule Halt next small rule = past_check rule λ main apart. past_check apart λ all gone. comes gone (stays few refl refl)
-  goes_by_rule (Push n) next small rule = past_check rule λ room gone. comes gone (stays few refl refl)
-  goes_by_rule (Load v) next small rule = past_search rule λ x is room. past_check room λ some gone. comes gone (stays few refl refl)
-  goes_by_rule (Store v) next small rule = past_check rule λ may top. past_search top λ x is gone. comes gone (stays few refl refl)
-  goes_by_rule Add next small rule = past_search rule λ x is number. past_check number λ fits gone. comes gone (stays few refl refl)
-  goes_by_rule Sub next small rule = past_search rule λ x is number. past_check number λ fits gone. comes gone (stays few refl refl)
-  goes_by_rule Drop next small rule = past_search rule λ x is gone. comes gone (stays few refl refl)
-  goes_by_rule (Grip set) next small rule = past_check rule λ lie gone. comes gone (stays few refl refl)
-  goes_by_rule (Step direction) next small rule =
-      past_check rule λ some on_bench. past_check on_bench λ all apart. past_check apart λ none gone. comes gone (unit _ direction some refl refl)
-  goes_by_rule (Aside direction tray) next small rule =
-      past_check rule λ part empty. past_check empty λ none free. past_check free λ way gone. comes gone (aside _ direction tray small part.0 refl refl)
-  goes_by_rule (Tray tray) next small rule = comes rule (record { trays = record { current = small; pieces = few.pieces }; as_many = refl; moves = tt })
-  goes_by_rule (Jump label) next small rule = past_search rule λ to is gone. comes gone (stays few refl refl)
-  goes_by_rule (Down v label) next small rule =
-      past_search rule λ to is writable. past_check writable λ may full. past_search full λ x has count. past_check count λ some gone.
-      comes gone (at_either (λ (new : BenchState). GoesInTrays (length setup.homes) s new None) x _ _ (stays few refl refl) (stays few refl refl))
-  goes_by_rule (Ask low high) next small rule = past_check rule λ room asked. comes asked tt
-  goes_by_rule (Pick labels) next small rule = past_search rule λ to is asked. comes asked tt
-  goes_by_rule (Call callee) next small rule = past_search rule λ there is arguments. past_search arguments λ found has room. past_check room λ fits gone. comes gone (stays few refl refl)
-  goes_by_rule Ret next small rule = past_search rule λ up is results. past_search results λ found has gone. comes gone (stays few refl refl)
+  goes_by : (i : Instruction) (new : BenchState) (motion : Option Motion) → IsInRange i → motion ≡ motion_by s i → Moves setup s new i
+      → GoesInTrays (length setup.homes) s new motion
+  goes_by i new motion small is moved = subst (GoesInTrays (length setup.homes) s new) (sym is) (by_moves moved)
+    where
+      same_tray : new.tray ≡ s.tray → new.tray < 32
+      same_tray tray = subst (λ t. t < 32) (sym tray) few.current
+
+      by_moves : Moves setup s new i → GoesInTrays (length setup.homes) s new (motion_by s i)
+      by_moves (lies none places tray grip) = rw none (stays few places (same_tray tray))
+      by_moves (grips none places tray lie) = rw none (stays few places (same_tray tray))
+      by_moves (moves direction unit_is some places tray grip apart) = rw unit_is (unit new direction some places tray)
+      by_moves (parts direction there aside_is some range places tray grip empty) = rw aside_is (aside new direction there (range small) some places tray)
+      by_moves (chooses none range places grip) = rw none (stays few places (range small))
 
 -- What holds along a run
 
@@ -161,16 +146,14 @@ record IsFit (setup : Setup) (s : BenchState) : Type 0 where
 
 -- what stands next keeps the trays, and its motion is one of the pieces
 goes_fit : (setup : Setup) (s new : BenchState) (motion : Option Motion) → IsFit setup s → NextIs setup s (Goes new motion) → GoesInTrays (length setup.homes) s new motion
-goes_fit setup s new motion fit (inl at) = elim (goes_by_rule setup at.0 s fit.trays fit.gripped fit.as_many at.1 (Goes new motion) at.2.1.in_range at.3).cases [
-  | inl trapped ↦ subst (NextInTrays (length setup.homes) s) (sym trapped.1) tt
-  | inr gone ↦ gone
-]
-goes_fit setup s new motion fit (inr none) = subst (NextInTrays (length setup.homes) s) (sym none.1) tt
+goes_fit setup s new motion fit next =
+    let n = next_went setup s new motion next in
+    goes_by setup n.here s fit.trays fit.gripped fit.as_many n.i new motion n.at.1.in_range n.went.motion_is n.went.moves
 
 -- an answer moves no piece
 taken_fit : (setup : Setup) (here : BenchProcedure) (s : BenchState) (i : Instruction) (answer : ℤ) (new : BenchState) → IsFit setup s → Takes here s i answer new → GoesInTrays (length setup.homes) s new None
-taken_fit setup here s (Ask low high) answer new fit is = subst (λ (t : BenchState). GoesInTrays (length setup.homes) s t None) (sym is) (stays fit.trays refl refl)
-taken_fit setup here s (Pick labels) answer new fit taken = subst (λ (t : BenchState). GoesInTrays (length setup.homes) s t None) (sym taken.6) (stays fit.trays refl refl)
+taken_fit setup here s (Ask low high) answer new fit is = subst (λ (t : BenchState). GoesInTrays (length setup.homes) s t None) (sym is) (stays fit.trays refl fit.trays.current)
+taken_fit setup here s (Pick labels) answer new fit taken = subst (λ (t : BenchState). GoesInTrays (length setup.homes) s t None) (sym taken.6) (stays fit.trays refl fit.trays.current)
 taken_fit setup here s i answer new fit taken = absurd taken
 
 fit_after : {motion : Option Motion} (setup : Setup) (s new : BenchState) → StepsTo setup s new → IsFit setup s → GoesInTrays (length setup.homes) s new motion → IsFit setup new

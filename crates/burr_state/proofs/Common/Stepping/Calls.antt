@@ -1,16 +1,15 @@
 -- Callers with room for the results that they wait for, through calls and returns.
-use Rattle.std.proofs.Common.{◌≡◌, ◌≤◌, ◌+◌, ◌∙◌, ℕ, List, [], ◌∷◌, length, take, drop, refl, sym, ap, subst, arith, inl, inr, Some, None, ℤ}
+use Rattle.std.proofs.Common.{◌≡◌, ◌≤◌, ◌+◌, ◌∙◌, ℕ, List, [], ◌∷◌, length, take, drop, sym, ap, subst, arith, inl, inr, Some, None}
 use Rattle.std.specs.Prelude.{IfSome, Option, Result, Ok, Err, OnOk, slice_get}
 use Rattle.std.proofs.lemmas.Option.{slice_get_within}
 use Rattle.burr_code.specs.Instruction.{Call}
 use Rattle.burr_code.specs.Labels.{callee_of}
-use Rattle.burr_code.specs.Stacks.{top, top_many}
 use Rattle.burr_state.specs.declared.effect.Effect.{Effect}
 use Rattle.burr_state.specs.declared.effect.Trap.{Trap}
 use Rattle.burr_state.specs.declared.effect.Trap.TheVariants as traps
 use Rattle.burr_state.specs.Rules.Bench.{Activation, BenchProcedure, BenchState, Setup}
 use Rattle.burr_state.specs.Rules.Next.{Goes, Traps, stepped}
-use Rattle.burr_state.specs.Rules.Control.{called, calling, returned, returning}
+use Rattle.burr_state.specs.Rules.Control.{called, calling}
 use Rattle.burr_state.specs.Views.Programs.{HasRoomFor, HasRoomAfter, FitsProgram}
 use Rattle.burr_state.specs.Views.Effects.{StaysWithin, CallerHasRoom, CallerGoesOn, KeepsUnlessGoes, IsCalledFor, CannotBeCalled}
 use Rattle.burr_state.specs.Views.StateViews.{IsCallChain}
@@ -93,19 +92,3 @@ called_on setup s new callee there begun left found is e =
       callers = record (is.caller i) { pc = s.running.pc + 2 } ∷ s.callers;
     })) in
     inr (there, found, inr ((take m ops, drop m ops), is.enough, inr (room, ap (λ (t : BenchState). Goes t None) same)))
-
--- Returns
-
--- a procedure with too few operands for its results
-pub cannot_return : (here : BenchProcedure) (s : BenchState) (caller : Activation) (callers : List Activation)
-    → s.callers ≡ caller ∷ callers → top_many here.results s.running.operands ≡ None
-    → returning here s (Traps traps.MissingOperand)
-cannot_return here s caller callers waits none = inr ((caller, callers), ap top waits, inl (none, refl))
-
--- one with enough
-pub returned_on : (here : BenchProcedure) (s new : BenchState) (caller : Activation) (callers : List Activation)
-    (results below : List ℤ) → s.callers ≡ caller ∷ callers
-    → top_many here.results s.running.operands ≡ Some (results, below) → new ≡ returned results caller callers s
-    → returning here s (Goes new None)
-returned_on here s new caller callers results below waits enough e =
-    inr ((caller, callers), ap top waits, inr ((results, below), enough, ap (λ (t : BenchState). Goes t None) e))

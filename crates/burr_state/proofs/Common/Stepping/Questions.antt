@@ -1,7 +1,7 @@
 -- Which instructions ask, and which answers they take.
 use Rattle.std.proofs.Common.{◌≡◌, ◌<◌, ◌⊎◌, ℕ, ℤ, pos, ◌-ℤ◌, List, length, inl, inr, refl, subst, arith, Bool, true, false, Some, None, Result, Ok, Err}
 use Rattle.burr_text.proofs.Common.Decisions.{Decided, decide_below}
-use Rattle.burr_code.specs.Instruction.{Instruction, Ask, Pick}
+use Rattle.burr_code.specs.Instruction.{Ask, Pick}
 use Rattle.burr_code.specs.Labels.{labelled}
 use Rattle.burr_code.proofs.Common.Labels.{picked}
 use Rattle.burr_state.specs.declared.effect.Effect.{Effect}
@@ -13,26 +13,15 @@ use Rattle.burr_state.specs.Rules.Bench.{BenchProcedure, BenchState, Setup}
 use Rattle.burr_state.specs.Rules.Next.{Next, Goes, Asks, Traps}
 use Rattle.burr_state.specs.Rules.Numbers.{HasRoom}
 use Rattle.burr_state.specs.Rules.Questions.{Fits}
-use Rattle.burr_state.specs.Rules.Step.{Executes, IsAt, NextIs, IsUnfit, IsQuestionOf}
+use Rattle.burr_state.specs.Rules.Step.{IsAt, NextIs, IsUnfit, IsQuestionOf}
 use Rattle.burr_state.specs.Views.Effects.{next_of, question_in, TakesNumber, TakesLabel, IsPicked}
 use Rattle.burr_state.specs.Views.Benches.{Answered}
 use Rattle.std.proofs.lemmas.Int.{ints}
 use Rattle.std.proofs.lemmas.Option.{slice_get_within}
 use Rattle.burr_state.proofs.Uniqueness.OneStep.{one_next}
-use Rattle.burr_code.proofs.Common.Checked.{FailsOr, fails_or_ends}
-use Rattle.burr_state.proofs.Common.Built.{AsksNothing, EndsSo, answer_number, executes_is_built}
+use Rattle.burr_state.proofs.Common.Built.{answer_number}
 use Rattle.burr_state.proofs.Offers.{labelled_all, all_labelled, none_or_some}
-use Rattle.burr_state.proofs.Common.Existence.Executions.{some_execution}
 use Rattle.burr_state.proofs.Common.Existence.SomeCall.{IsQuestion, unfit_elsewhere, unfit_there}
-
--- an instruction that stands before a question asks
-asks_there : (setup : Setup) (here : BenchProcedure) (s : BenchState) (i : Instruction) (next : Next) → FailsOr Traps (EndsSo setup here s i) next → IsQuestion next → ¬ AsksNothing i
-asks_there setup here s i (Goes new motion) is asks = absurd asks
-asks_there setup here s i (Asks low high) is asks = elim is.cases [ inl trapped ↦ absurd (subst IsQuestion trapped.1 asks) | inr so ↦ so.0 ]
-asks_there setup here s i (Traps trap) is asks = absurd asks
-
-no_question : (setup : Setup) (here : BenchProcedure) (s : BenchState) (i : Instruction) (next : Next) → AsksNothing i → Executes setup here s i next → ¬ IsQuestion next
-no_question setup here s i next still rule asks = asks_there setup here s i next (fails_or_ends (executes_is_built setup here s i) next rule) asks still
 
 -- where no question stands next, the run waits for none
 waits_for_none : (setup : Setup) (s : BenchState) (next : Next) → NextIs setup s next → ¬ IsQuestion next → IsQuestionOf setup s None
@@ -43,16 +32,6 @@ pub waits_for : (setup : Setup) (s new : BenchState) (outcome : Result Effect Tr
 waits_for setup s new (Ok (effects.Goes motion)) runs is = waits_for_none setup s (Goes new motion) is (λ asks. asks)
 waits_for setup s new (Ok (effects.Asks low high)) runs is = (runs, is)
 waits_for setup s new (Err trap) runs is = waits_for_none setup s (Traps trap) is (λ asks. asks)
-
--- where such an instruction stands, no answer fits
-pub unfit_at : (setup : Setup) (here : BenchProcedure) (s : BenchState) (i : Instruction) (answer : ℤ) → AsksNothing i → IsAt setup s here i → IsUnfit setup s answer
-unfit_at setup here s i answer still at =
-    let next = some_execution setup here s i in
-    unfit_elsewhere setup s next.0 answer (inl (here, i, at, next.1)) (no_question setup here s i next.0 still next.1)
-
--- where none stands, none does
-pub unfit_nowhere : (setup : Setup) (s : BenchState) (answer : ℤ) → ((here : BenchProcedure) (i : Instruction) → ¬ IsAt setup s here i) → IsUnfit setup s answer
-unfit_nowhere setup s answer none = unfit_elsewhere setup s (Traps traps.BadCode) answer (inr (none, refl)) (λ asks. asks)
 
 -- an answer to `ask`
 pub number_answered : (setup : Setup) (here : BenchProcedure) (s new : BenchState) (low high answer : ℤ) (taken : Bool) → IsAt setup s here (Ask low high) → TakesNumber s low high answer taken new → Answered setup s answer taken new
