@@ -9,14 +9,14 @@ use Rattle.burr_assembly.specs.Rules.Text.{Assembly, IsText}
 use Rattle.burr_runs.specs.Rules.Refusals.{assembly_refusal}
 use Rattle.burr_judge.specs.declared.fault.Fault.{Fault}
 use Rattle.burr_judge.specs.declared.refused.Status.{Status}
-use Rattle.burr_judge.specs.declared.refused.Status.TheVariants.{Done, Refused}
+use Rattle.burr_judge.specs.declared.refused.Status.TheVariants.{Done}
 use Rattle.burr_judge.specs.declared.ladder.Given.{Given}
 use Rattle.burr_judge.specs.Faults.{line_of}
 use Rattle.burr_judge.specs.Ladder.{LadderComes, TextComes, WantsMemory}
 use Rattle.burr_judge.specs.PlanEnds.{Ends, EndsOn, FailsToEnd, IsRefusal, PutsEnd, never}
 use Rattle.burr_judge.proofs.Common.Stages.{AreAmong}
 use Rattle.burr_judge.proofs.Common.Comes.{ends_among, memory_ends, text_told}
-use Rattle.burr_program.specs.AddedNotes.{AddsNotes, PutsKept}
+use Rattle.burr_program.specs.AddedNotes.{AddsNotes}
 use Rattle.burr_program.specs.Commands.{DoneEnds, PlanSheetCommand, SomeRefusal, EndsOnFiles, StopsOnFiles}
 use Rattle.burr_program.specs.MakingEnds.{Makes, MakesOrPuts, MakesPlanOf}
 use Rattle.burr_program.specs.NotedEnds.{Begins}
@@ -39,11 +39,6 @@ noted_refused line output status (first, more, parts, (same, is)) = is
 
 pub refused_ends : {S : Type 0} (sink : SinkView S) (before after : S) (line : List ℕ) (r : Result Status Fault) → EndsOn sink before after (Begins (IsRefusal line)) r → EndsOn sink before after SomeRefusal r
 refused_ends sink before after line r = ends_among sink before after (Begins (IsRefusal line)) SomeRefusal r (noted_refused line)
-
--- what was kept of what is refused is put, with notes
-pub kept_done : {S : Type 0} (sink : SinkView S) (before after : S) (text : List ℕ) (r : Result Status Fault) → PutsKept sink before after text (Ok Refused) r → EndsOn sink before after DoneEnds r
-kept_done sink before after text (Ok status) (same, put) = ((text, rw same (inl (omega arith)), put), tt)
-kept_done sink before after text (Err fault) (line, within) = (tt, inl (line, (text, Refused, inl (omega arith), within)))
 
 -- notes alone are put where something was done
 pub notes_done : {S : Type 0} (sink : SinkView S) (before after : S) (notes : List ℕ) (r : Result Status Fault) → AddsNotes sink before after notes (Ok Done) r → EndsOn sink before after DoneEnds r

@@ -2,7 +2,6 @@
 use Rattle.std.proofs.Common.{◌≡◌, ◌≢◌, ℕ, ℤ, ◌+◌, List, [], ◌∷◌, ◌++◌, length, All, FitsSigned, w32, refl, sym, ap, ◌∙◌, append_assoc, append-nil}
 use Rattle.std.specs.Fmt.{signed_decimal}
 use Rattle.std.proofs.lemmas.List.Elements.{All-head, All-tail}
-use Rattle.std.proofs.lemmas.Grind.{flat_map-append}
 use Rattle.burr_text.proofs.Common.Cuts.{cut}
 use Rattle.burr_text.proofs.Common.Integers.{same_integer}
 use Rattle.burr_text.proofs.Common.Unended.{lacks_signed_decimal}
@@ -21,12 +20,6 @@ same_line y z r s fy fz e =
 -- the lines of answers, the first by itself
 first_apart : (answer : ℤ) (answers : List ℤ) (rest : List ℕ) → answers_text (answer ∷ answers) ++ rest ≡ answer_line answer ++ (answers_text answers ++ rest)
 first_apart answer answers rest = append_assoc (answer_line answer) (answers_text answers) rest
-
--- one more answer, after others
-pub one_more_answer : (answers : List ℤ) (answer : ℤ) (rest : List ℕ) → answers_text answers ++ (answer_line answer ++ rest) ≡ answers_text (answers ++ answer ∷ []) ++ rest
-one_more_answer answers answer rest =
-    sym (append_assoc (answers_text answers) (answer_line answer) rest)
-    ∙ ap (λ (text : List ℕ). text ++ rest) (ap (λ (line : List ℕ). answers_text answers ++ line) (sym (append-nil (answer_line answer))) ∙ sym (flat_map-append answer_line answers (answer ∷ [])))
 
 -- the first of answers
 first_of : (x : ℤ) (xs : List ℤ) → All (FitsSigned w32) (x ∷ xs) → FitsSigned w32 x

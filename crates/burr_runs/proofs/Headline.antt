@@ -13,7 +13,6 @@ use Rattle.burr_frames.specs.Rules.FramedPlans.{framed_plan}
 use Rattle.burr_io.specs.Sink.{SinkView}
 use Rattle.burr_io.specs.declared.sink.WriteFault.{WriteFault}
 use Rattle.burr_verify.specs.Rules.Accepting.{Judged, IsAccepted}
-use Rattle.burr_verify.specs.Rules.Fitting.{FitsAssembly}
 use Rattle.burr_verify.specs.Laws.VerifyLaws.{FittingIsFromContainer}
 use Rattle.burr_verify.specs.Rules.WellFramed.{IsWellFramed}
 use Rattle.burr_state.specs.declared.effect.Closing.{Closing}
@@ -121,8 +120,3 @@ pub each_ends_well : {S : Type 0} (sink : SinkView S) (before after : S) (j : Ju
     → IfOk result (PutsSafely sink before after j answers) → IfOk result EndsWell
 each_ends_well sink before after j answers (Ok outcome) puts = ends_well j.assembly puts.0 answers puts.2 outcome puts.3
 each_ends_well sink before after j answers (Err e) puts = tt
-
--- an accepted plan is for its assembly
-pub fits_accepted : (j : Judged) (accepted : IsAccepted j) → FitsAssembly accepted.plan j.assembly
-fits_accepted j accepted =
-    (accepted.framed.same_name, accepted.framed.same_count ∙ length-map j.assembly.pieces (home_of j.assembly.shapes))

@@ -176,17 +176,6 @@ in_step_motion b new u more motion step same (under, counted) on (motions, level
   unfailed = unfailed;
 }
 
--- at the start they are in step
-pub in_step_at_start : (b : Benched) (u : UnderWay) → IsAtStart b → b.program.budget ≤ 1000000 → u ≡ blank (names_of b.assembly) → IsInStep b u
-in_step_at_start b u at_start few sheet = record {
-  mode = inl (ap (λ (s : BenchState). s.mode) at_start.state);
-  within = let none = ap (λ (s : BenchState). s.steps) at_start.state in omega (arith, none);
-  few = few;
-  motions = let none = ap (λ (v : UnderWay). v.motions) sheet in omega (arith, none);
-  outs = rw sheet (sym at_start.parts);
-  unfailed = ap (λ (v : UnderWay). v.failed) sheet;
-}
-
 -- a step is one less to take
 pub one_step_less : (b new : Benched) (answers left : List ℤ) (u more : UnderWay) → b.state.steps ≤ b.program.budget → b.state.steps ≢ b.program.budget → IsSameRun b new → new.state.steps ≡ b.state.steps + 1 → length left ≤ length answers
     → left_to_take (run_state new left more) < left_to_take (run_state b answers u)

@@ -3,8 +3,8 @@ use Rattle.std.proofs.Common.{◌≡◌, ◌≢◌, ◌≤◌, List, ◌++◌, l
 use Rattle.std.specs.Prelude.{Option, Result, Ok, Err, Bool, IfOk, IfErr, codes}
 use Rattle.std.specs.Result.{IsErrAnd}
 use Rattle.std.proofs.lemmas.Result.{err_from_is_err_and}
-use Rattle.std.specs.Io.KnownBytes.{Consumes, Keeps}
-use Rattle.std.proofs.KnownBytes.{Consumes-kept, Consumes-trans}
+use Rattle.std.specs.Io.KnownBytes.{Consumes}
+use Rattle.std.proofs.KnownBytes.{Consumes-trans}
 use Rattle.burr_io.specs.Sink.{TakesFront}
 use Rattle.burr_assembly.specs.declared.fault.AssemblyFault.{AssemblyFault}
 use Rattle.burr_assembly.specs.Rules.Text.{Assembly, IsAssembly}
@@ -76,12 +76,6 @@ pub no_outcome : {A E : Type 0} (P : A → Type 0) (Q : E → Type 0) (r : Resul
 no_outcome P Q r err = let p = err_from_is_err_and r err in rw p.1 tt
 
 -- The source was not read to its end
-
--- a call of it failed
-pub pull_fails : {A : Type 0} (old mid new : Option (List ℕ)) (failed : Bool) (bytes : List ℕ) (r : Result A BenchFault) → IsErrAnd r (λ e. e ≡ Read)
-    → Consumes old mid bytes → length bytes ≤ 16777216 → Keeps mid new → failed ≡ true → IfErr r (λ fault. ReadFails old new failed fault)
-pull_fails old mid new failed bytes r err gave short kept broke =
-    let p = err_from_is_err_and r err in rw (p.1, p.2) (broke, (bytes, short, Consumes-kept old mid new bytes gave kept))
 
 -- memory was refused for what it gave last
 pub keeping_fails : {A : Type 0} (old mid new : Option (List ℕ)) (failed : Bool) (bytes more : List ℕ) (r : Result A BenchFault) → IsErrAnd r (λ e. e ≡ Memory)

@@ -89,16 +89,6 @@ joins_none : (last : Option MotionLine) → joins_last last [] ≡ false
 joins_none None = refl
 joins_none (Some k) = refl
 
--- at the head of the text
-pub expands_head : (names : List (List ℕ)) (text : List ℕ) → Expands names text [] None 1 text
-expands_head names text = record {
-  each = All-nil (IsMotionOf (length names));
-  few = omega arith;
-  numbered = omega arith;
-  goes = λ more still. still.text;
-  comes = λ all lines. (all, refl, record { apart = refl; text = lines.lines });
-}
-
 module _ (names : List (List ℕ)) (text : List ℕ) (motions : List Motion) (last : Option MotionLine) (number : ℕ) (rest : List ℕ) (expands : Expands names text motions last number rest) where
   -- at its end
   pub expands_end : rest ≡ [] → AreLinesOf names text motions

@@ -18,7 +18,7 @@ use Rattle.burr_frames.specs.Views.Over.{AllZero, ZeroFrom, IsWellScoped, AllOve
 use Rattle.burr_frames.specs.Rules.FramedPlans.{FramedExit, FramedProcedure, framed, framed_exit, framed_label, framed_procedure, framed_plan}
 use Rattle.burr_verify.specs.Rules.Pass.{IsLaidOut}
 use Rattle.burr_verify.specs.Rules.WellFramed.{IsLabelled}
-use Rattle.burr_verify.specs.Views.FromContainers.{IsFromContainer, HasPlaces, AllHavePlaces, HasProcedures}
+use Rattle.burr_verify.specs.Views.FromContainers.{IsFromContainer, HasPlaces, HasProcedures}
 
 -- Parts of tests
 
@@ -348,12 +348,6 @@ fitting_is_from_container p fits = record {
       (λ q t. no_exit p.version p.pieces q.parameters q.results q.exit t.exit);
   budget = small p.budget (fitting_budget p fits);
 }
-
--- Its frames have a place for each piece.
-pub fitting_places : (p : Plan) → IsTrue (is_fitting p) → AllHavePlaces (framed_plan p)
-fitting_places p fits n here e =
-    told_all p (λ (x : FramedProcedure). HasPlaces p.pieces x) fits n here e
-    (λ q t. places_at p.version p.pieces (is_first n) q t)
 
 -- It has 1 to 16 procedures, each with a label, and all but main with an exit frame.
 pub fitting_procedures : (p : Plan) → IsTrue (is_fitting p) → HasProcedures (framed_plan p)

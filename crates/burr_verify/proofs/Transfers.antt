@@ -13,7 +13,7 @@ use Rattle.burr_frames.specs.Rules.FramedPlans.{FramedProcedure, FramedPlan}
 use Rattle.burr_frames.specs.Rules.Looks.{RuleLooks}
 use Rattle.burr_frames.specs.Rules.States.{AbstractState, state_of}
 use Rattle.burr_frames.specs.Rules.Transfer.{Transfer}
-use Rattle.burr_frames.specs.Rules.Verdicts.{Verdict, Breaks, FallsThrough, NoSuccessor}
+use Rattle.burr_frames.specs.Rules.Verdicts.{Verdict, Breaks}
 use Rattle.burr_frames.proofs.Common.FineVerdicts.{IsFine}
 use Rattle.burr_verify.specs.Rules.Fronts.{PassesTo}
 use Rattle.burr_verify.specs.Rules.WellFramed.{Annotated, after, IsLabelled, HasNoLabel, Enters, FallsOut}
@@ -45,16 +45,6 @@ no_look homes s i none = refl
 pub fine : (v : Verdict) → NamesNoRule v → IsFine v
 fine (Breaks b) none = absurd none
 fine v none = tt
-
-pub falls_fine : (v : Verdict) (out : Option AbstractState) → FallsOut v out → NamesNoRule v
-falls_fine (Breaks b) out falls = absurd falls
-falls_fine v out falls = tt
-
-pub falls_same : (v : Verdict) (s : AbstractState) (out : Option AbstractState) → v ≡ FallsThrough s → FallsOut v out → Some s ≡ out
-falls_same v s out is falls = sym (subst (λ (w : Verdict). FallsOut w out) is falls)
-
-pub falls_none : (v : Verdict) (out : Option AbstractState) → v ≡ NoSuccessor → FallsOut v out → None ≡ out
-falls_none v out is falls = sym (subst (λ (w : Verdict). FallsOut w out) is falls)
 
 -- What falls in
 

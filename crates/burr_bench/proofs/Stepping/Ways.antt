@@ -40,10 +40,6 @@ passes_present test query homes places tray p from q there lies tells = (
   λ passes. tells.1 (passes there lies),
 )
 
--- a piece that is not here has nobody in its way
-pub absent_passes : (way : Way) (homes : List (List Cell)) (places : List (Placement Cell)) (tray group p : ℕ) → (¬ LiesIn places p tray) → PassesRest way homes places tray group p
-absent_passes way homes places tray group p none offset lies q rest = absurd (none (offset, lies))
-
 -- a piece passes the rest where it passes each piece that may lie here
 pub passes_of_each : (way : Way) (homes : List (List Cell)) (places : List (Placement Cell)) (tray group n p : ℕ) (offset : Cell) → LiesAt places p tray offset → length places ≤ n
     → ((q : ℕ) → q < n → (¬ IsInSet group q) → PassesPiece (query_of way) homes places tray p (setting_out way offset) q) → PassesRest way homes places tray group p
