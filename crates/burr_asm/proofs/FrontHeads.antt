@@ -1,6 +1,6 @@
 -- The line with which a procedure begins or another one ends: what the code has then, as the rules
 -- have it.
-use Rattle.std.proofs.Common.{◌≡◌, ℕ, suc, ◌+◌, Bool, not, Option, None, List, [], ◌∷◌, ◌++◌, length, refl, sym, ap, ◌∙◌, subst, arith}
+use Rattle.std.proofs.Common.{◌≡◌, ℕ, ◌+◌, Bool, not, Option, None, List, [], ◌∷◌, ◌++◌, length, refl, sym, ap, ◌∙◌, subst, arith}
 use Rattle.std.specs.Prelude.{if◌then◌else◌, ◌&&◌, nat_lt}
 use Rattle.std.specs.List.{flat_map}
 use Rattle.std.proofs.lemmas.List.{length-append, length-map, map-append}
@@ -16,15 +16,6 @@ use Rattle.burr_asm.specs.Views.Exits.{IsSignature}
 use Rattle.burr_asm.specs.Views.Routines.{RoutineParts, OutlineParts, begun, head_refusal, titled_outline, with_name, with_routine}
 use Rattle.burr_asm.specs.Views.Beginnings.{AreEnded, IsEnded, BeforeLabels}
 use Rattle.burr_asm.specs.Views.Fronts.{IsOutline}
-
--- The code has as many procedures that have ended as the rules.
-pub ended_length : (number : ℕ → ℕ) (start version : ℕ) (rs : List RoutineParts)
-    (ps : List ProcedureSource) → AreEnded number start version rs ps → length rs ≡ length ps
-ended_length number start version [] [] are = refl
-ended_length number start version [] (p ∷ ps) are = absurd are
-ended_length number start version (r ∷ rs) [] are = absurd are
-ended_length number start version (r ∷ rs) (p ∷ ps) are =
-    ap suc (ended_length number (start + length (procedure_lines p)) version rs ps are.1)
 
 ended_empty : (number : ℕ → ℕ) (start version : ℕ) (rs : List RoutineParts)
     (ps : List ProcedureSource) → AreEnded number start version rs ps → is_empty rs ≡ is_empty ps

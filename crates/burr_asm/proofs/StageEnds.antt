@@ -1,15 +1,14 @@
 -- What the code makes of the end of the text is what the rules say.
-use Rattle.std.proofs.Common.{◌≡◌, ◌⊎◌, inl, inr, ℕ, List, Option, refl, sym, ap, subst}
+use Rattle.std.proofs.Common.{◌≡◌, ◌⊎◌, inl, inr, ℕ, refl, sym, ap, subst}
 use Rattle.std.specs.Prelude.{Err}
 use Rattle.burr_container.specs.Rules.Plans.{Frame}
-use Rattle.burr_plantext.specs.Rules.Sources.{ExitSource, Block}
 use Rattle.burr_plantext.specs.Rules.Checks.{FaultKind, P1, P5}
 use Rattle.burr_plantext.specs.Rules.Faults as rules
 use Rattle.burr_plantext.specs.Rules.Faults.{OpenProcedure, Beginning, Within, PlacedFault, LineResult, judged, piece_count, end_within}
 use Rattle.burr_asm.specs.declared.fault.AsmFault.TheVariants as fault
 use Rattle.burr_asm.specs.declared.text.exit.Exit.{Exit}
 use Rattle.burr_asm.specs.declared.text.stage.Stage.{Stage}
-use Rattle.burr_asm.specs.declared.text.stage.Stage.TheVariants.{AwaitsExit, InExit, AwaitsLabel, AwaitsFrame, InFrame, AwaitsPieces, InCode}
+use Rattle.burr_asm.specs.declared.text.stage.Stage.TheVariants.{AwaitsExit, InExit, AwaitsLabel, AwaitsFrame, InFrame, AwaitsPieces}
 use Rattle.burr_asm.specs.Rules.Faults.{fault_at}
 use Rattle.burr_asm.specs.Views.Frames.{ConditionParts}
 use Rattle.burr_asm.specs.Views.Routines.{RoutineParts}
@@ -78,11 +77,3 @@ ends_before_part stage n (inl e) =
     subst (λ (s : Stage). EndsEarly P5 n s) (sym e) (ends_before_label n)
 ends_before_part stage n (inr e) =
     subst (λ (s : Stage). EndsEarly P5 n s) (sym e) (ends_before_frame n)
-
--- after a frame the text may end
-pub ends_in_code : (number : ℕ → ℕ) (place : ℕ) (u : OpenProcedure) (r : RoutineParts)
-    (t : rules.Stage) → IsStageOf number place u r InCode t
-    → (exit : Option ExitSource) × (blocks : List Block) × (b : Block)
-    × (t ≡ rules.InCode exit blocks b)
-ends_in_code number place u r (rules.InCode exit blocks b) is = (exit, blocks, b, refl)
-ends_in_code number place u r t is = absurd is

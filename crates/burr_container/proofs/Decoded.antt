@@ -74,26 +74,7 @@ after_form live f r fits =
     ap (λ (n : ℕ). drop n (form_bytes live f ++ r)) (sym (form_length live f fits))
     ∙ drop-append_seam (form_bytes live f) r
 
-pub forms_decoded : (live : List Bool) (fs : List Form) (r : List ℕ)
-    → IsTrue (list_all (is_form live) fs)
-    → forms_in live (length fs) (flat_map (form_bytes live) fs ++ r) ≡ fs
-forms_decoded live [] r fits = refl
-forms_decoded live (f ∷ fs) r fits =
-    let both = and_parts (is_form live f) (list_all (is_form live) fs) fits in
-    let rest = flat_map (form_bytes live) fs ++ r in
-    let apart : flat_map (form_bytes live) (f ∷ fs) ++ r ≡ form_bytes live f ++ rest =
-    append_assoc (form_bytes live f) (flat_map (form_bytes live) fs) r in
-    let first = ap (form_in live) apart ∙ form_decoded live f rest both.0 in
-    let more =
-    ap (λ (b : List ℕ). forms_in live (length fs) (drop (form_size live) b)) apart
-    ∙ ap (forms_in live (length fs)) (after_form live f rest both.0)
-    ∙ forms_decoded live fs r both.1 in
-    λ i. first i ∷ more i
-
 -- Places
-
-abbrev pub forms_of_cell : FormCell → List Form
-forms_of_cell at = at.x ∷ at.y ∷ at.z ∷ []
 
 apart_cell : (x y z r : List ℕ) → (x ++ y ++ z) ++ r ≡ x ++ (y ++ (z ++ r))
 apart_cell x y z r = simp append_assoc

@@ -138,9 +138,6 @@ pub record HasCome (begin : Cursor) (i : ℕ) (cursor : Cursor) : Type 0 where
   pub cut : IsCut begin.at begin.rest.now front cursor.at cursor.rest.now
   pub short : length front ≤ i * 2254
 
-pub came_begin : (begin : Cursor) → HasCome begin 0 begin
-came_begin begin = record { front = []; cut = record { parts = refl; moved = omega arith }; short = omega arith }
-
 pub came_on : (is_so : ℕ → Bool) (pieces : ℕ) → pieces ≤ 32 → (begin : Cursor) (i : ℕ) (cursor next : Cursor)
     (l : ℕ × Frame) → HasCome begin i cursor → IsAt (label is_so pieces) cursor l next
     → HasCome begin (i + 1) next

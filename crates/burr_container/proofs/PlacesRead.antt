@@ -7,7 +7,7 @@ use Rattle.burr_container.specs.Rules.Plans.{FormCell}
 use Rattle.burr_container.specs.Rules.Faults.{place}
 use Rattle.burr_container.specs.Views.Decoding.{places_stand, IsAfterPlace}
 use Rattle.burr_container.specs.Views.Reading.{IsAt}
-use Rattle.burr_container.proofs.EachWalk.{IsEachWalk, each_begins, each_goes_on}
+use Rattle.burr_container.proofs.EachWalk.{IsEachWalk, each_goes_on}
 use Rattle.burr_container.proofs.PlaceWalk.{stands_before}
 
 -- where the others stand, all stand; and the first i are read
@@ -29,13 +29,4 @@ places_go_on live pieces i begin cursor next p small read over here =
           (subst (λ (n : ℕ). IsTrue (places_stand live n cursor.rest.now)) more
           (stands_before live left cursor.rest.now next.rest.now over others));
       walk = each_goes_on (place live) pieces begin i cursor next p small read.walk here;
-    }
-
-pub places_begin : (live : List Bool) (pieces : ℕ) (begin : Cursor)
-    → ArePlacesRead live pieces begin 0 begin
-places_begin live pieces begin =
-    let all : pieces - 0 ≡ pieces = omega arith in
-    record {
-      stand = λ others. subst (λ (n : ℕ). IsTrue (places_stand live n begin.rest.now)) all others;
-      walk = each_begins (place live) pieces begin;
     }

@@ -1,7 +1,7 @@
 -- Forms and places that are restored one by one from their bytes.
-use Rattle.std.proofs.Common.{◌≡◌, ℕ, suc, ◌+◌, ◌-◌, ◌*◌, ◌<◌, ◌≤◌, List, [], ◌∷◌, ◌++◌, length, length-drop, drop, set, Some, ℤ, pos, refl, sym, ap, subst, ◌∙◌, arith, append_assoc}
+use Rattle.std.proofs.Common.{◌≡◌, ℕ, suc, ◌+◌, ◌-◌, ◌*◌, ◌<◌, ◌≤◌, List, [], ◌∷◌, ◌++◌, length, length-drop, drop, set, Some, ℤ, pos, sym, ap, subst, ◌∙◌, arith, append_assoc}
 use Rattle.std.specs.Prelude.{replicate, slice_get, slice_index, Bool, true, false, IsTrue}
-use Rattle.std.proofs.lemmas.List.{append-nil, drop_all, length_push, set-append_right}
+use Rattle.std.proofs.lemmas.List.{append-nil, length_push, set-append_right}
 use Rattle.burr_code.specs.declared.placement.Placement.{Placement}
 use Rattle.burr_forms.specs.Rules.Forms.{Form}
 use Rattle.burr_container.specs.Rules.Plans.{FormCell}
@@ -20,10 +20,6 @@ pub record IsFilled (live : List Bool) (bytes : List ℕ) (v : ℕ) (coefs : Lis
     pub parts : coefs ≡ front ++ replicate (8 - v) (pos 0)
     pub is : front ++ coefs_in (drop v live) rest ≡ coefs_in live bytes
     pub room : 2 * live_count (drop v live) ≤ length rest
-
-pub none_filled : (live : List Bool) (bytes : List ℕ) → 2 * live_count live ≤ length bytes
-    → IsFilled live bytes 0 (replicate 8 (pos 0)) bytes
-none_filled live bytes room = record { front = []; many = refl; parts = refl; is = refl; room = room }
 
 one_more : (v : ℕ) → v < 8 → 8 - v ≡ suc (8 - (v + 1))
 one_more v l = omega (arith, l)
@@ -64,12 +60,6 @@ given live bytes v coefs rest next number l e is to n =
   where
     same_less : (k : ℕ) → k - k ≡ 0
     same_less k = omega arith
-
-pub all_filled : (live : List Bool) (bytes : List ℕ) (v : ℕ) (coefs : List ℤ) (rest : List ℕ) → v ≡ 8 → length live ≡ 8
-    → IsFilled live bytes v coefs rest → coefs ≡ coefs_in live bytes
-all_filled live bytes v coefs rest e l n =
-    n.parts ∙ ap (λ (k : ℕ). n.front ++ replicate (8 - k) (pos 0)) e
-    ∙ ap (λ (ls : List Bool). n.front ++ coefs_in ls rest) (sym (drop_all v live (omega (arith, e, l)))) ∙ n.is
 
 -- Lists
 

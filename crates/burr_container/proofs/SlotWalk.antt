@@ -64,16 +64,6 @@ pub record IsSlotWalk (begin : Cursor) (mask v left : ℕ) (slots : List (Option
   pub others : drop v slots ≡ replicate (8 - v) None
   pub size : length slots ≡ 8
 
-pub walk_begins : (begin : Cursor) (mask : ℕ)
-    → IsSlotWalk begin mask 0 mask (replicate 8 None) begin
-walk_begins begin mask = record {
-  fails = λ fault fails. fails;
-  stands = λ more r here. here;
-  after = refl;
-  others = refl;
-  size = refl;
-}
-
 module _ (begin cursor : Cursor) (mask v left : ℕ) (slots : List (Option Range)) (small : v < 8)
     (walk : IsSlotWalk begin mask v left slots cursor) where
   abbrev after_v : ℕ

@@ -1,7 +1,7 @@
 -- What the format bounds is within its bounds in each container.
-use Rattle.std.proofs.Common.{◌≡◌, ◌≤◌, ℕ, zero, suc, Bool, true, false, Some, List, [], ◌∷◌, length, refl, sym, subst, ◌∙◌, arith, nat_le, ◌&&◌, slice_get}
+use Rattle.std.proofs.Common.{◌≡◌, ◌≤◌, ℕ, zero, suc, Bool, true, false, Some, List, [], ◌∷◌, length, refl, sym, subst, ◌∙◌, nat_le, ◌&&◌, slice_get}
 use Rattle.std.specs.List.{list_all}
-use Rattle.std.proofs.lemmas.Bool.{and_parts, leb-true, false≢true}
+use Rattle.std.proofs.lemmas.Bool.{and_parts, leb-true}
 use Rattle.std.proofs.lemmas.Option.{none-some, same_Some}
 use Rattle.burr_code.specs.declared.limits.TheConstants.{MOST_CODE}
 use Rattle.burr_container.specs.declared.procedure_ref.StoredProcedure.{StoredProcedure}
@@ -47,15 +47,6 @@ pub code_short : (kept : ContainerView) (i : ℕ) (r : StoredProcedure) → HasP
 code_short kept i r (p, fits, is) at =
     let q = for_there (IsProcedure p.pieces) kept.procedures p.procedures i r is.procedures at in
     subst (λ (bytes : List ℕ). length bytes ≤ MOST_CODE) (sym q.2.code) (each_code p.version p.pieces p.procedures i q.0 (plan_fits p fits).procedures q.1)
-
--- a container has a procedure
-pub some_procedure : (kept : ContainerView) → HasPlan kept → 1 ≤ length kept.procedures
-some_procedure kept (p, fits, is) = at_least_one kept.procedures p.procedures is.procedures (plan_fits p fits).procedures
-  where
-    at_least_one : (rs : List StoredProcedure) (qs : List PlanProcedure) → AreFor (IsProcedure p.pieces) rs qs → are_procedures p.version p.pieces qs ≡ true → 1 ≤ length rs
-    at_least_one rs [] are fits = absurd (false≢true fits)
-    at_least_one [] (q ∷ qs) are fits = absurd are
-    at_least_one (r ∷ rs) (q ∷ qs) are fits = omega arith
 
 -- the labels of a procedure are kept for a plan with the number of pieces that the header tells
 pub labels_of_plan : (kept : ContainerView) (i : ℕ) (r : StoredProcedure) → HasPlan kept → slice_get kept.procedures i ≡ Some r → r.labels.layout.pieces ≡ kept.header.pieces

@@ -3,8 +3,7 @@ use Rattle.std.proofs.Common.{◌≡◌, ℕ, zero, suc, ◌+◌, ◌-◌, ◌�
 use Rattle.std.specs.Prelude.{ℤ, pos, replicate}
 use Rattle.std.proofs.lemmas.Int.{ints}
 use Rattle.std.proofs.lemmas.List.{take_all}
-use Rattle.std.proofs.lemmas.List.Elements.{All-append, All-replicate}
-use Rattle.burr_forms.specs.Rules.Points.{IsRange, AreRanges, padded}
+use Rattle.burr_forms.specs.Rules.Points.{IsRange, padded}
 
 -- the first i ranges, and after them ranges of 0 alone, n in all
 abbrev pub padded_to : ℕ → ℕ → List (ℤ × ℤ) → List (ℤ × ℤ)
@@ -37,7 +36,3 @@ all_put i ranges now l m is =
 
 zero_alone : IsRange (pos 0, pos 0)
 zero_alone = record { rising = omega (arith, ints); low = omega (arith, ints); high = omega (arith, ints) }
-
--- padded ranges hold numbers of a code, as the ranges do
-pub padded_are : (ranges : List (ℤ × ℤ)) → AreRanges ranges → AreRanges (padded ranges)
-padded_are ranges are = All-append IsRange ranges _ are (All-replicate IsRange (8 - length ranges) (pos 0, pos 0) zero_alone)

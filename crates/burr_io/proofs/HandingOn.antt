@@ -1,9 +1,9 @@
 -- What is handed on of bytes that were held back.
-use Rattle.std.proofs.Common.{◌≡◌, ◌≢◌, ◌<◌, ◌≤◌, ℕ, ◌+◌, ◌-◌, true, false, List, [], ◌∷◌, ◌++◌, length, get_or, take, drop, Ok, Err, Result, OnOk, OnErr, arith, ap, sym, subst, ◌∙◌, inr, take-append-drop}
+use Rattle.std.proofs.Common.{◌≡◌, ◌≢◌, ◌<◌, ◌≤◌, ℕ, ◌+◌, ◌-◌, false, List, [], ◌∷◌, ◌++◌, length, get_or, take, drop, Ok, Err, Result, OnOk, OnErr, arith, ap, sym, subst, ◌∙◌, inr, take-append-drop}
 use Rattle.std.proofs.Math.Seq.{take-add, take-append_seam, drop-length}
 use Rattle.std.proofs.lemmas.List.{get_or_default, get_or-drop, length-drop, length-take, length-take-le, drop-drop, take_more, append-nil}
-use Rattle.std.proofs.KnownBytes.{Appends-trans, Appends-kept}
-use Rattle.std.specs.Io.KnownBytes.{Appends, Keeps}
+use Rattle.std.proofs.KnownBytes.{Appends-trans}
+use Rattle.std.specs.Io.KnownBytes.{Appends}
 use Rattle.burr_io.specs.Sink.{SinkView, TakesFront, Puts}
 use Rattle.burr_io.specs.WholeLines.{HandsOn, HandsOnFront, HandsOnLess, HandsOnWhole, IsCutAtLines, GoesOf}
 
@@ -38,18 +38,6 @@ HandsOn-turn {sink = sink} {old = old} {mid = mid} {new = new} count left n held
     let sum : (count - left) + n ≡ count - (left - n) = omega arith in
     let took_whole = subst (Appends (sink.taken mid) (sink.taken new)) (take-take n left mid_held fits less) took in
     (omega arith, subst (λ k. HandsOn sink old new k held next) sum (HandsOn-more (count - left) n held mid_held next hands took_whole goes rest))
-
--- where the sink fails, fewer went
-pub HandsOn-less : {S : Type 0} {sink : SinkView S} {old mid new : S} (count left : ℕ) (held mid_held : List ℕ)
-    → left ≤ count → 0 < left → HandsOn sink old mid (count - left) held mid_held → Keeps (sink.taken mid) (sink.taken new) → sink.has_failed new ≡ true
-    → HandsOnLess sink old new count held mid_held
-HandsOn-less count left held mid_held inside some hands kept fails = record {
-  fewer = count - left;
-  less = omega arith;
-  takes = Appends-kept _ _ _ (take (count - left) held) hands.takes kept;
-  keeps = hands.keeps;
-  fails = fails;
-}
 
 -- what went is a front
 pub TakesFront-less : {S : Type 0} {sink : SinkView S} {old new : S} {count : ℕ} {held new_held : List ℕ}

@@ -64,14 +64,6 @@ block_size code labels n next l rise e here =
     (ap (λ (k : ℕ). drop k labels) (sym e)) in
     size_by code l.0 (drop next labels) both.0 both.1
 
-pub block_within : (code : List ℕ) (labels : List (ℕ × Frame)) (n next : ℕ) (l : ℕ × Frame)
-    → IsTrue (rise_from 0 (length code) labels) → next ≡ suc n → slice_get labels n ≡ Some l
-    → l.0 + length (code_after code l.0 (drop next labels)) ≤ length code
-block_within code labels n next l rise e here =
-    let both = begin_by (length code) labels n l rise here (drop next labels)
-    (ap (λ (k : ℕ). drop k labels) (sym e)) in
-    let size = block_size code labels n next l rise e here in omega (arith, size, both.1)
-
 -- The block of a label of a container's plan
 
 pub begin_some : (end : ℕ) (labels : List (ℕ × Frame)) (n : ℕ) (l : ℕ × Frame)

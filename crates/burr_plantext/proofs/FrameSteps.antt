@@ -168,14 +168,6 @@ result_left results n next range e here =
     ∙ ap (λ (t : List ℕ). (codes "result" ++ 32 ∷ t) ++ results_text (drop next results))
     (append_assoc (signed_decimal range.0) (32 ∷ signed_decimal range.1) (10 ∷ []))
 
-pub slot_spelled : (slot : ℕ) (range : Range)
-    → slot_text slot (Some range) ≡ codes "slot" ++ (32 ∷ (decimal slot ++ range_text range))
-slot_spelled slot range =
-    ap (λ (t : List ℕ). codes "slot" ++ 32 ∷ t)
-    (append_assoc (decimal slot) (32 ∷ (signed_decimal range.0 ++ 32 ∷ signed_decimal range.1)) (10 ∷ [])
-    ∙ ap (λ (t : List ℕ). decimal slot ++ 32 ∷ t)
-    (append_assoc (signed_decimal range.0) (32 ∷ signed_decimal range.1) (10 ∷ [])))
-
 -- Frames
 
 pub two_texts : (a b : List Line) → text_of (a ++ b) ≡ text_of a ++ text_of b

@@ -1,32 +1,10 @@
 -- Cells near the origin, and their sums.
-use Rattle.std.proofs.Common.{ℕ, ◌+◌, ◌<◌, ◌≤◌, ◌^◌, arith, FitsSigned, w32}
+use Rattle.std.proofs.Common.{ℕ, ◌<◌, ◌≤◌, ◌^◌, arith, FitsSigned, w32}
 use Rattle.std.specs.Prelude.{ℤ, pos, negsuc, neg_ℤ, ◌≤ℤ◌}
 use Rattle.std.proofs.lemmas.Int.{ints}
 use Rattle.burr_voxels.specs.declared.cell.Cell.{Cell}
-use Rattle.burr_voxels.specs.Grid.{plus, FitsCell}
+use Rattle.burr_voxels.specs.Grid.{FitsCell}
 use Rattle.burr_voxels.specs.Near.{IsWithin}
-
--- what lies within a distance lies within a greater one
-pub IsWithin_more : (m n : ℕ) (c : Cell) → IsWithin m c → m ≤ n → IsWithin n c
-IsWithin_more m n c h le = record {
-  x_above = omega (arith, ints);
-  x_below = omega (arith, ints);
-  y_above = omega (arith, ints);
-  y_below = omega (arith, ints);
-  z_above = omega (arith, ints);
-  z_below = omega (arith, ints);
-}
-
--- the distances add up
-pub IsWithin_plus : (m n : ℕ) (a b : Cell) → IsWithin m a → IsWithin n b → IsWithin (m + n) (plus a b)
-IsWithin_plus m n a b p q = record {
-  x_above = omega (arith, ints);
-  x_below = omega (arith, ints);
-  y_above = omega (arith, ints);
-  y_below = omega (arith, ints);
-  z_above = omega (arith, ints);
-  z_below = omega (arith, ints);
-}
 
 -- a number within a bound that fits
 fits_within : (n : ℕ) (a : ℤ) → neg_ℤ (pos n) ≤ℤ a → a ≤ℤ pos n → n < 2 ^ 31 → FitsSigned w32 a

@@ -1,5 +1,5 @@
 -- For crates above: sets of pieces: both spellings of what is in them, and which pieces can be.
-use Rattle.std.proofs.Common.{◌≡◌, ◌≢◌, ℕ, zero, suc, ◌*◌, ◌/◌, ◌%◌, ◌^◌, ◌<◌, ◌≤◌, Bool, true, false, IsTrue, ◌↔◌, bit_and, refl, ap, ◌∙◌, arith}
+use Rattle.std.proofs.Common.{◌≡◌, ◌≢◌, ℕ, zero, suc, ◌*◌, ◌/◌, ◌%◌, ◌^◌, ◌<◌, ◌≤◌, true, false, bit_and, ap, ◌∙◌, arith}
 use Rattle.std.specs.Prelude.{not}
 use Rattle.std.proofs.lemmas.Bool.Decides.{nat_tests}
 use Rattle.std.proofs.lemmas.Nat.{bit_set_by_shift}
@@ -27,14 +27,6 @@ in_set set p e = grind (arith, nat_tests)
 -- a piece that is left out is not in the set
 pub not_in_set : (set p : ℕ) → is_left_out set p ≡ true → ¬ IsInSet set p
 not_in_set set p e = grind (arith, nat_tests)
-
--- a test for the set says the opposite
-pub left_out_by_test : (r : Bool) (set p : ℕ) → (IsTrue r ↔ IsInSet set p) → is_left_out set p ≡ not r
-left_out_by_test true set p tells = not_left_out set p (tells.0 refl)
-left_out_by_test false set p tells = left_out set p (λ bit. absurd (false_is_true (tells.1 bit)))
-  where
-    false_is_true : ¬ (false ≡ true)
-    false_is_true e = grind arith
 
 -- The pieces of a set
 

@@ -1,6 +1,5 @@
 -- For crates above: forms and places are spelled in one way over the same live slots.
-use Rattle.std.proofs.Common.{◌≡◌, ℕ, ◌<◌, ◌&&◌, ℤ, pos, Bool, true, false, IsTrue, List, [], ◌∷◌, ◌++◌, length, flat_map, refl, sym, ◌∙◌, arith, eqb-true, ltb-true}
-use Rattle.std.specs.List.{list_all}
+use Rattle.std.proofs.Common.{◌≡◌, ℕ, ◌<◌, ◌&&◌, ℤ, pos, Bool, true, false, IsTrue, List, [], ◌∷◌, ◌++◌, flat_map, refl, sym, ◌∙◌, arith, ltb-true}
 use Rattle.std.proofs.lemmas.Bool.{and_parts, false≢true}
 use Rattle.std.proofs.lemmas.Int.{ints}
 use Rattle.burr_text.proofs.Common.Cuts.{same_head, same_tail}
@@ -8,9 +7,9 @@ use Rattle.burr_code.specs.Instruction.{signed_word}
 use Rattle.burr_code.specs.declared.placement.Placement.TheVariants.{Apart, On}
 use Rattle.burr_forms.specs.Rules.Forms.{Form}
 use Rattle.burr_container.specs.Rules.Plans.{FormCell, of_live}
-use Rattle.burr_container.specs.Rules.Spelling.{form_bytes, forms_bytes, place_bytes, places_bytes}
-use Rattle.burr_container.specs.Rules.Fitting.{is_between, are_coefficients, is_form, are_forms, is_tray, is_place, are_places}
-use Rattle.burr_container.proofs.Common.Spelled.{OneSpelling, apart_three, between, one_word, one_long, one_list}
+use Rattle.burr_container.specs.Rules.Spelling.{form_bytes, place_bytes}
+use Rattle.burr_container.specs.Rules.Fitting.{is_between, are_coefficients, is_form, is_tray, is_place}
+use Rattle.burr_container.proofs.Common.Spelled.{OneSpelling, apart_three, between, one_word, one_long}
 
 pub zero_only : (n : ℤ) → IsTrue (is_between (pos 0) (pos 0) n) → n ≡ pos 0
 zero_only n test = let both = between (pos 0) (pos 0) n test in omega (arith, ints, both.0, both.1)
@@ -49,18 +48,6 @@ one_form live a b r s first second e =
     (flat_map signed_word (of_live live b.coefs) ++ s) here.0 also.0 e in
     let coefs = one_coefficients live a.coefs b.coefs r s here.1 also.1 constant.1 in
     (λ i. record { constant = constant.0 i; coefs = coefs.0 i }, coefs.1)
-
--- as many forms
-pub one_forms_of : (live : List Bool) (xs ys : List Form) (r s : List ℕ) → length xs ≡ length ys
-    → IsTrue (list_all (is_form live) xs) → IsTrue (list_all (is_form live) ys)
-    → flat_map (form_bytes live) xs ++ r ≡ flat_map (form_bytes live) ys ++ s → (xs ≡ ys) × (r ≡ s)
-one_forms_of live = one_list (form_bytes live) (is_form live) (one_form live)
-
--- forms after their count
-pub one_forms : (most : ℕ) (live : List Bool) → OneSpelling (forms_bytes live) (are_forms most live)
-one_forms most live xs ys r s first second e =
-    one_forms_of live xs ys r s (same_head _ _ _ _ e) (and_parts _ _ first).1
-    (and_parts _ _ second).1 (same_tail _ _ _ _ e)
 
 pub tray_small : (tray : ℕ) → IsTrue (is_tray tray) → tray < 32
 tray_small tray test = ltb-true tray 32 test
@@ -103,12 +90,3 @@ one_place live (On tray at) (On other there) r s first second e =
     b.2 x.1 in
     let z = one_form live at.z there.z r s a.3 b.3 y.1 in
     (λ i. On (same i) (record { x = x.0 i; y = y.0 i; z = z.0 i }), z.1)
-
--- a place for each piece
-pub one_places : (pieces : ℕ) (live : List Bool)
-    → OneSpelling (places_bytes live) (are_places pieces live)
-one_places pieces live xs ys r s first second e =
-    let here = and_parts _ _ first in
-    let also = and_parts _ _ second in
-    one_list (place_bytes live) (is_place live) (one_place live) xs ys r s
-    (eqb-true _ _ here.0 ∙ sym (eqb-true _ _ also.0)) here.1 also.1 e

@@ -21,12 +21,6 @@ handed_all (Some x) (Some y) held took = took
 pub handed_text : (old mid new : Option (List ℕ)) (held text : List ℕ) → Appends old (append_known mid held) text → Appends mid new held → Appends old new text
 handed_text old mid new held text put took = Appends-kept old (append_known mid held) new text put (handed_all mid new held took)
 
--- of what was put a front was taken, since the rest is still held back
-pub held_front : (old mid : Option (List ℕ)) (held text : List ℕ) → Appends old (append_known mid held) text → HoldsFront old mid text
-held_front None mid held text put = tt
-held_front (Some x) None held text put = put
-held_front (Some x) (Some y) held text put = (held, sym put)
-
 -- and where no more than a front of a text was put
 pub front_front : (old mid : Option (List ℕ)) (held text : List ℕ) → TakesFront old (append_known mid held) text → HoldsFront old mid text
 front_front None mid held text put = tt

@@ -1,6 +1,6 @@
 -- For the code: what `parse` tells of a word that is a number.
 use Rattle.std.proofs.Common.{◌≡◌, ℕ, zero, suc, ◌^◌, ◌<◌, List, [], ◌∷◌, drop, cond, Bool, true, false, not, IsTrue, ℤ, FitsSigned, refl, sym, ap, subst, ◌∙◌, arith, ltb-true, lt-ltb, leb-true, eqb-true}
-use Rattle.std.specs.Prelude.{◌&&◌, ◌||◌, nat_le, nat_lt, codes, Some, None, Result, Ok, Err, MatchOption, MatchResult}
+use Rattle.std.specs.Prelude.{◌&&◌, ◌||◌, nat_le, nat_lt, codes, Some, Result, Ok, Err, MatchOption, MatchResult}
 use Rattle.std.specs.List.{list_all}
 use Rattle.std.specs.Result.{result_ok}
 use Rattle.std.specs.Str.{bytes_eq, IsUtf8, IsAscii}
@@ -135,11 +135,6 @@ number_utf8 w h =
     or_cases (is_natural w) (starts_with_minus w && is_count (drop 1 w)) (IsUtf8 w)
     (λ e. IsUtf8-from_ascii w (IsAscii-from_digits w (natural_numeral w e).1))
     (λ e. let parts = and_parts (starts_with_minus w) (is_count (drop 1 w)) e in IsUtf8-from_ascii w (minus_ascii w parts.0 (IsAscii-from_digits (drop 1 w) (count_numeral (drop 1 w) parts.1).1))) h
-
--- bytes that are text are read as text
-pub unless_utf8 : {E X : Type 0} (number : List ℕ) (r : Result (Bor (List ℕ)) E) (Q : E → Type 0) → IsUtf8 number → None ≡ result_ok r → MatchResult r (λ s. (s.now ≡ number) × IsUtf8 number) (λ e. ¬ IsUtf8 number × Q e) → X
-unless_utf8 number (Ok s) Q is none h = absurd (none-some s none)
-unless_utf8 number (Err f) Q is none h = absurd (h.0 is)
 
 -- and what is read of the text of bytes is read of them
 pub of_text : {E F : Type 0} (k : ℕ) (number : List ℕ) (r : Result (Bor (List ℕ)) E) (Q : E → Type 0) (text : Bor (List ℕ)) (read : Result ℕ F)

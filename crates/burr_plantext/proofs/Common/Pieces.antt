@@ -1,14 +1,13 @@
 -- What is joined by separators is cut at them again.
-use Rattle.std.proofs.Common.{◌≡◌, ◌≢◌, ℕ, suc, ◌<◌, ◌^◌, List, [], ◌∷◌, ◌++◌, Bool, true, false, IsTrue, refl, ap, ◌∙◌, arith, eq-eqb}
+use Rattle.std.proofs.Common.{◌≡◌, ◌≢◌, ℕ, ◌<◌, ◌^◌, List, [], ◌∷◌, ◌++◌, Bool, true, false, IsTrue, refl, ap, ◌∙◌, eq-eqb}
 use Rattle.std.specs.List.{list_all, join_with_byte}
-use Rattle.std.specs.Fmt.{decimal, signed_decimal}
+use Rattle.std.specs.Fmt.{decimal}
 use Rattle.std.proofs.lemmas.Bool.{and_parts}
 use borrow.Author.Tests.{ne_eqb}
 use Rattle.burr_text.specs.Names.{is_digit}
 use Rattle.burr_text.proofs.Common.Cuts.{Lacks}
 use Rattle.burr_plantext.specs.Rules.Written.{pieces, parted, in_first}
-use Rattle.burr_plantext.proofs.Common.Numbers.{decimal_digits, IsSmall}
-use Rattle.std.specs.Prelude.{ℤ, pos, negsuc}
+use Rattle.burr_plantext.proofs.Common.Numbers.{decimal_digits}
 
 -- a list without separators is one piece
 pub one_piece : (c : ℕ) (a : List ℕ) → Lacks c a → pieces c a ≡ a ∷ []
@@ -47,10 +46,6 @@ digits_lack c (b ∷ w) non all =
 
 pub decimal_lacks : (c n : ℕ) → IsNoDigit c → n < 2 ^ 64 → Lacks c (decimal n)
 decimal_lacks c n non small = digits_lack c (decimal n) non (decimal_digits n small)
-
-pub signed_lacks : (c : ℕ) (z : ℤ) → IsNoDigit c → 45 ≢ c → IsSmall z → Lacks c (signed_decimal z)
-signed_lacks c (pos n) non other small = decimal_lacks c n non (omega arith)
-signed_lacks c (negsuc n) non other small = (other, decimal_lacks c (suc n) non (omega arith))
 
 pub lacks_both : (c : ℕ) (a b : List ℕ) → Lacks c a → Lacks c b → Lacks c (a ++ b)
 lacks_both c [] b p q = q

@@ -10,9 +10,6 @@ use Rattle.burr_plantext.specs.Rules.Meaning.{number_of}
 use Rattle.burr_plantext.specs.Rules.Checks.{is_known}
 use Rattle.burr_plantext.proofs.Common.Pieces.{not_both}
 
-pub eq_same : (s : List ℕ) → bytes_eq s s ≡ true
-eq_same s = (bytes_eq-Decides s s).1 refl
-
 eq_other_by : (t : Bool) (s r : List ℕ) → Decides t (s ≡ r) → s ≢ r → t ≡ false
 eq_other_by true s r d h = absurd (h (d.0 refl))
 eq_other_by false s r d h = refl

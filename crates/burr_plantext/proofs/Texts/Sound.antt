@@ -51,10 +51,6 @@ unless_none : (t : Bool) (k : FaultKind) (more : Option FaultKind) → IsTrue (i
 unless_none true k more e = (refl, e)
 unless_none false k more e = grind arith
 
-empty_is : {A : Type 0} (xs : List A) → IsTrue (is_empty xs) → xs ≡ []
-empty_is [] e = refl
-empty_is (x ∷ xs) e = grind arith
-
 err_ok : {A : Type 0} {f : PlacedFault} {a : A} → ◌≡◌ {A = Result A PlacedFault} (Err f) (Ok a) → ⊥
 err_ok e = cc
 
@@ -141,9 +137,6 @@ by_check : (b : Beginning) (line : LineRead) (p : ℕ) (check : Option FaultKind
 by_check b line p check next c e f = let h = judged_ok p check next c e in subst (λ (d : Beginning). Stepped b line d) h.1 (f h.0)
 
 -- The lines of each stage
-
-label_line : (a b : List Line) (l : Line) → a ++ (b ++ l ∷ []) ≡ (a ++ b) ++ l ∷ []
-label_line a b l = simp append_assoc
 
 deeper : (a b c d : List Line) (l : Line) → d ≡ c ++ l ∷ [] → a ++ (b ++ d) ≡ (a ++ (b ++ c)) ++ l ∷ []
 deeper a b c d l e = rw e (simp append_assoc)
