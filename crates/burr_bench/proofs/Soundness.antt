@@ -12,7 +12,6 @@ pub mod Landing
 pub mod Mapped
 pub mod Operands
 pub mod Others
-pub mod Overs
 pub mod Returns
 pub mod Runs
 pub mod Sound

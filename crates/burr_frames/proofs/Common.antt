@@ -5,10 +5,12 @@ pub mod FineVerdicts
 pub mod FirstPoints
 pub mod FormValues
 pub mod Heres
+pub mod Over
 pub mod Room
 pub mod RuleLooks
 pub mod Search
 pub mod Sizes
 pub mod SomeVerdict
+pub mod Tidy
 pub mod Unique
 pub mod Until

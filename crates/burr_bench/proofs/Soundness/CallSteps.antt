@@ -1,24 +1,21 @@
 -- A call: the callee stands for its entry frame, and the caller waits.
 use Rattle.std.proofs.Common.{◌≡◌, ℕ, zero, suc, ◌+◌, ◌-◌, ◌^◌, ◌<◌, ◌≤◌, List, [], ◌∷◌, ◌++◌, length, Option, Some, None, Bool, true, false, refl, sym, subst, ap, ◌∙◌, arith, length-append, append-nil}
-use Rattle.std.specs.Prelude.{ℤ, pos, ◌+ℤ◌, ◌-ℤ◌, ◌≤ℤ◌, min, map, take, drop, reverse, replicate, slice_get, get_or, nat_le, nat_lt, if◌then◌else◌}
+use Rattle.std.specs.Prelude.{ℤ, pos, ◌+ℤ◌, ◌-ℤ◌, ◌≤ℤ◌, min, map, take, reverse, replicate, slice_get, get_or, nat_le, nat_lt, if◌then◌else◌}
 use Rattle.std.specs.Option.{option_map}
 use Rattle.std.proofs.lemmas.Int.{ints}
 use Rattle.std.proofs.lemmas.List.{length-map, map-append, length-reverse}
 use Rattle.std.proofs.Math.ListN.{get_or-map}
 use Rattle.std.proofs.lemmas.Option.{none-some, same_Some}
-use mathlib.Core.List.{reverse_aux}
 use Rattle.std.proofs.lemmas.List.Elements.{All-append}
 use Rattle.burr_voxels.specs.declared.cell.Cell.{Cell}
 use Rattle.burr_code.specs.Instruction.{Call, spelled}
 use Rattle.burr_code.specs.Stacks.{top_many, split_at}
 use Rattle.burr_code.specs.Labels.{callee_of, argument_slots}
-use Rattle.burr_code.proofs.Common.Labels.{with_first_is}
 use Rattle.burr_forms.specs.Rules.Forms.{Form, Point, value, values, one_less, minus_form, substituted}
 use Rattle.burr_forms.specs.Rules.Points.{GuardsHold}
 use Rattle.burr_container.specs.Rules.Plans.{Frame}
 use Rattle.burr_frames.specs.Rules.FramedPlans.{FramedExit, FramedProcedure, FramedPlan}
 use Rattle.burr_frames.specs.Rules.States.{AbstractState, state_of, places_at}
-use Rattle.burr_frames.specs.Rules.Arrival.{live_forms}
 use Rattle.burr_frames.specs.Rules.Verdicts.{Verdict, FallsThrough}
 use Rattle.burr_frames.specs.Rules.Transfer.{Transfer}
 use Rattle.burr_frames.specs.Rules.ControlRules.{called_with, entry_of, symbols_from, after_call}
@@ -33,6 +30,7 @@ use Rattle.burr_bench.specs.Soundness.Invariant.{IsGood, HasParameters, IsAdmitt
 use Rattle.burr_verify.proofs.Common.CallRule.{call_holds}
 use Rattle.burr_verify.proofs.Common.Costs.{cost_after}
 use Rattle.burr_frames.proofs.Common.FineVerdicts.{IsFine}
+use Rattle.burr_frames.proofs.Common.Over.{arguments_over}
 use Rattle.burr_bench.proofs.Soundness.Failing.{goes_past, goes_with}
 use Rattle.burr_bench.proofs.Soundness.Values.{value_more}
 use Rattle.burr_bench.proofs.Soundness.Arrival.{stands_at_frame}
@@ -110,63 +108,12 @@ first_slots [] rest v h = absurd (omega arith)
 first_slots (y ∷ ys) rest zero h = refl
 first_slots (y ∷ ys) rest (suc v) h = first_slots ys rest v (omega arith)
 
--- Forms over the symbols of the caller
-
-pub over_take : (n k : ℕ) (fs : List Form) → AllOver n fs → AllOver n (take k fs)
-over_take n zero fs h = tt
-over_take n (suc k) [] h = tt
-over_take n (suc k) (f ∷ fs) h = (h.0, over_take n k fs h.1)
-
-pub over_drop : (n k : ℕ) (fs : List Form) → AllOver n fs → AllOver n (drop k fs)
-over_drop n zero fs h = h
-over_drop n (suc k) [] h = tt
-over_drop n (suc k) (f ∷ fs) h = over_drop n k fs h.1
-
-pub over_reverse : (n : ℕ) (fs onto : List Form) → AllOver n fs → AllOver n onto
-    → AllOver n (reverse_aux fs onto)
-over_reverse n [] onto h k = k
-over_reverse n (f ∷ fs) onto h k = over_reverse n fs (f ∷ onto) h.1 (h.0, k)
-
-pub over_slots : (n k : ℕ) (fs : List Form) → AllOver n fs → (v : ℕ) (f : Form)
-    → get_or (map Some fs ++ replicate k None) v None ≡ Some f → IsWellScoped n f
-over_slots n zero [] h v f e = absurd (none-some _ e)
-over_slots n (suc k) [] h zero f e = absurd (none-some _ e)
-over_slots n (suc k) [] h (suc v) f e = over_slots n k [] h v f e
-over_slots n k (g ∷ fs) h zero f e = subst (λ (x : Form). IsWellScoped n x) (same_Some _ _ e) h.0
-over_slots n k (g ∷ fs) h (suc v) f e = over_slots n k fs h.1 v f e
-
-pub over_live : (n : ℕ) (ranges : List (Option (ℤ × ℤ))) (slots : List (Option Form))
-    (forms : List Form) → live_forms ranges slots ≡ Some forms
-    → ((v : ℕ) (f : Form) → get_or slots v None ≡ Some f → IsWellScoped n f) → AllOver n forms
-over_live n [] slots forms e h = subst (λ (fs : List Form). AllOver n fs) (same_Some _ _ e) tt
-over_live n (None ∷ ranges) [] forms e h = over_live n ranges [] forms e h
-over_live n (None ∷ ranges) (slot ∷ slots) forms e h =
-    over_live n ranges slots forms e (λ v f is. h (suc v) f is)
-over_live n (Some range ∷ ranges) [] forms e h = absurd (none-some _ e)
-over_live n (Some range ∷ ranges) (slot ∷ slots) forms e h =
-    let f = with_first_is slot (live_forms ranges slots) forms e in
-    subst (λ (fs : List Form). AllOver n fs) f.4 (
-      h 0 f.0 f.2,
-      over_live n ranges slots f.1 f.3 (λ v g is. h (suc v) g is),
-    )
-
-pub split_over : (n k : ℕ) (fs : List Form) (x : List Form × List Form) → AllOver n fs
-    → top_many k fs ≡ Some x → AllOver n x.0 × AllOver n x.1
-split_over n k fs x h = by_test (nat_le k (length fs))
-  where
-    by_test : (c : Bool) → (if c then Some (split_at k fs) else None) ≡ Some x → AllOver n x.0
-        × AllOver n x.1
-    by_test true e =
-        subst (λ (p : List Form × List Form). AllOver n p.0 × AllOver n p.1) (same_Some _ _ e)
-        (over_take n k fs h, over_drop n k fs h)
-    by_test false e = absurd (none-some _ e)
+-- What the caller stands for when it is returned to
 
 more_guards : (guards more : List Form) (point : Point) → GuardsHold guards point
     → GuardsHold more point → GuardsHold (guards ++ more) point
 more_guards guards more point h k =
     All-append (λ (f : Form). pos 0 ≤ℤ value point f) guards more h k
-
--- What the caller stands for when it is returned to
 
 symbols_only : (n : ℕ) (point results : Point) → length point ≡ n → (r : ℕ) → length results ≡ r
     → values (point ++ results) (symbols_from n r) ≡ results
@@ -319,14 +266,8 @@ sound_call homes plan n here q s point b v next limits tidy same good fine t st 
     let bench_room : length below + c.there.results ≤ 8 =
     subst (λ k. k + c.there.results ≤ 8) (sym (length-map c.below (value point))) c.room in
     let over =
-    split_over (length s.ranges) c.there.parameters s.operands (c.arguments, c.below) tidy.operands
-    c.taken in
-    let over_args : AllOver (length s.ranges) (reverse c.arguments) =
-    over_reverse (length s.ranges) c.arguments [] over.0 tt in
-    let over_forms : AllOver (length s.ranges) c.meets.forms =
-    over_live (length s.ranges) c.entry.slots (argument_slots c.arguments) c.meets.forms
-    c.meets.known
-    (over_slots (length s.ranges) (8 - length c.arguments) (reverse c.arguments) over_args) in
+    arguments_over (length s.ranges) c.there.parameters s.operands (c.arguments, c.below) c.entry.slots
+    c.meets.forms tidy.operands c.taken c.meets.known in
     let m : length point ≡ length s.ranges = box_length s.ranges point is.0 in
     let ps : values point (reverse c.arguments) ≡ reverse vs =
     map_reverse (value point) c.arguments in
@@ -388,10 +329,10 @@ sound_call homes plan n here q s point b v next limits tidy same good fine t st 
       below = below;
       returns =
           λ results admitted. returns_as s point b c.exit (reverse c.arguments) c.below after_cost
-          (caller_of b q below) results tidy st over_args over.1
+          (caller_of b q below) results tidy st over.0 over.1
           (λ more. cost_more s.cost c.meets.forms c.entry.cost
           (length s.ranges) point more m tidy.cost
-          over_forms) refl refl admitted;
+          over.2) refl refl admitted;
       tray = refl;
       grip = refl;
       slots_kept = refl;

@@ -70,11 +70,10 @@ comes_next homes plan ok tidy b safe next (inl n) =
     subst (λ i. Executes (framed_setup plan homes) (bench_part safe.here) b i next) (sym is)
     (subst (λ p. Executes (framed_setup plan homes) p b n.1 next) (sym same) n.3) in
     comes homes plan ok b.running.procedure safe.here safe.parameters safe.waiting_cost
-    safe.row.instruction safe.row.state safe.point b j.verdict next safe.here_is safe.callers
-    safe.parameters_are
+    safe.row.state safe.point b j.verdict next safe.here_is safe.callers safe.parameters_are
     (tidy b.running.procedure safe.here safe.rows safe.here_is safe.cut safe.k safe.row safe.row_is)
-    j.stands_at.in_range refl safe.good (fine_falls j.verdict j.out j.falls_through) j.transfer safe.stands
-    rule
+    refl safe.good (fine_falls j.verdict j.out j.falls_through) safe.stands
+    safe.row.instruction j.stands_at.in_range j.transfer rule
 comes_next homes plan ok tidy b safe next (inr n) =
     absurd (n.0 (bench_part safe.here) safe.row.instruction (
       map_at bench_part plan.procedures b.running.procedure safe.here safe.here_is,

@@ -5,12 +5,14 @@ use Rattle.std.proofs.lemmas.Option.{none-some}
 use Rattle.burr_voxels.specs.declared.cell.Cell.{Cell}
 use Rattle.burr_code.specs.Instruction.{Instruction, Halt, Push, Load, Store, Add, Sub, Drop, Grip, Step, Aside, Tray, Jump, Down, Ask, Pick, Call, Ret, IsInRange, spelled}
 use Rattle.burr_forms.specs.Rules.Forms.{Point}
+use Rattle.burr_container.specs.Rules.Plans.{Frame}
 use Rattle.burr_frames.specs.Rules.FramedPlans.{FramedProcedure, FramedPlan}
 use Rattle.burr_frames.specs.Rules.States.{AbstractState}
 use Rattle.burr_frames.specs.Rules.Verdicts.{Verdict}
 use Rattle.burr_frames.specs.Rules.Transfer.{Transfer}
 use Rattle.burr_frames.specs.Views.Over.{IsTidy}
-use Rattle.burr_state.specs.Rules.Bench.{BenchState, Activation}
+use Rattle.burr_verify.specs.Rules.WellFramed.{IsLabelled}
+use Rattle.burr_state.specs.Rules.Bench.{BenchState, Setup, Activation}
 use Rattle.burr_state.specs.Rules.Next.{Next, Asks}
 use Rattle.burr_state.specs.Rules.Step.{Executes}
 use Rattle.burr_bench.specs.Soundness.Framing.{bench_part, framed_setup, HasFraming}
@@ -47,95 +49,64 @@ pub data Comes (homes : List (List Cell)) (plan : FramedPlan) (n : ℕ) (here : 
       })
       → Comes homes plan n here parameters cost i s point b v next
 
--- the caller of a procedure with an exit frame
-has_caller : (homes : List (List Cell)) (plan : FramedPlan) → HasFraming homes plan
-    → (n : ℕ) (here : FramedProcedure) (parameters : List ℤ) (callers : List Activation) (cost : ℤ)
-    → slice_get plan.procedures n ≡ Some here → AllWait homes plan n here parameters callers cost
-    → ¬ (here.exit ≡ None) → (a : Activation) × (rest : List Activation) × (callers ≡ a ∷ rest)
-    × AllWait homes plan n here parameters (a ∷ rest) cost
-has_caller homes plan ok n here parameters [] cost is w exit =
-    absurd (exit (ok.main here (ap (λ k. slice_get plan.procedures k) (sym w.0) ∙ is)))
-has_caller homes plan ok n here parameters (a ∷ callers) cost is w exit = (a, callers, refl, w)
+module _ (homes : List (List Cell)) (plan : FramedPlan) (ok : HasFraming homes plan) (n : ℕ) (here : FramedProcedure)
+    (parameters : List ℤ) (cost : ℤ) (s : AbstractState) (point : Point) (b : BenchState) (v : Verdict) (next : Next)
+    (is : slice_get plan.procedures n ≡ Some here) (waits : AllWait homes plan n here parameters b.callers cost)
+    (own : HasParameters here parameters b.running.slots) (tidy : IsTidy s) (same : b.running.procedure ≡ n)
+    (good : IsGood homes b.places b.tray b.grip) (fine : IsFine v) (st : Stands s point b) where
+  abbrev setup : Setup
+  setup = framed_setup plan homes
 
-pub comes : (homes : List (List Cell)) (plan : FramedPlan) → HasFraming homes plan
-    → (n : ℕ) (here : FramedProcedure) (parameters : List ℤ) (cost : ℤ) (i : Instruction)
-    (s : AbstractState) (point : Point) (b : BenchState) (v : Verdict) (next : Next)
-    → slice_get plan.procedures n ≡ Some here → AllWait homes plan n here parameters b.callers cost
-    → HasParameters here parameters b.running.slots → IsTidy s → IsInRange i
-    → b.running.procedure ≡ n
-    → IsGood homes b.places b.tray b.grip → IsFine v → Transfer homes plan n here s i v
-    → Stands s point b → Executes (framed_setup plan homes) (bench_part here) b i next
-    → Comes homes plan n here parameters cost i s point b v next
-comes homes plan ok n here ps cost Halt s point b v next is w own tidy range same good fine t st
-    rule =
-    ends (sound_halt homes plan n here s point b v next same fine t st rule)
-comes homes plan ok n here ps cost (Push x) s point b v next is w own tidy range same good fine t st
-    rule =
-    falls_through (sound_push homes plan n here (framed_setup plan homes) x s point b v next good fine
-    t st rule)
-comes homes plan ok n here ps cost (Load k) s point b v next is w own tidy range same good fine t st
-    rule =
-    falls_through (sound_load homes plan n here (framed_setup plan homes) k s point b v next good fine t st
-    rule)
-comes homes plan ok n here ps cost (Store k) s point b v next is w own tidy range same good fine t
-    st rule =
-    falls_through (sound_store homes plan n here (framed_setup plan homes) k s point b v next
-    (subst (λ m. k < m) (sym tidy.eight) range) good fine t st rule)
-comes homes plan ok n here ps cost Add s point b v next is w own tidy range same good fine t st
-    rule =
-    falls_through (sound_add homes plan n here (framed_setup plan homes) s point b v next good fine t st
-    rule)
-comes homes plan ok n here ps cost Sub s point b v next is w own tidy range same good fine t st
-    rule =
-    falls_through (sound_sub homes plan n here (framed_setup plan homes) s point b v next good fine t st
-    rule)
-comes homes plan ok n here ps cost Drop s point b v next is w own tidy range same good fine t st
-    rule =
-    falls_through (sound_drop homes plan n here (framed_setup plan homes) s point b v next good fine t st
-    rule)
-comes homes plan ok n here ps cost (Grip group) s point b v next is w own tidy range same good fine
-    t st rule =
-    falls_through (sound_grip homes plan n here group s point b v next good fine t st rule)
-comes homes plan ok n here ps cost (Step direction) s point b v next is w own tidy range same good
-    fine t st rule =
-    falls_through (sound_step homes plan n here direction s point b v next good fine t st rule)
-comes homes plan ok n here ps cost (Aside direction tray) s point b v next is w own tidy range same
-    good fine t st rule =
-    falls_through (sound_aside homes plan n here direction tray s point b v next good fine t st rule)
-comes homes plan ok n here ps cost (Tray tray) s point b v next is w own tidy range same good fine t
-    st rule =
-    falls_through (sound_tray homes plan n here tray s point b v next good fine t st rule)
-comes homes plan ok n here ps cost (Jump label) s point b v next is w own tidy range same good fine
-    t st rule =
-    sent (sound_jump homes plan n here label s point b v next (λ pc f l. ok.eight n here is pc f l
-    ∙ sym tidy.eight) good fine t st rule)
-comes homes plan ok n here ps cost (Down k label) s point b v next is w own tidy range same good
-    fine t st rule =
-    elim (sound_down homes plan n here k label s point b v next (λ pc f l. ok.eight n here is pc f l
-    ∙ sym tidy.eight) (subst (λ m. k < m) (sym tidy.eight) range.0) good fine t st rule) [
-      | inl
-          h ↦ falls_through h
-      | inr h ↦ sent h
-    ]
-comes homes plan ok n here ps cost (Ask low high) s point b v next is w own tidy range same good
-    fine t st rule =
-    asks low high (sound_ask homes plan n here low high s point b v next tidy good fine t st rule).0
-comes homes plan ok n here ps cost (Pick labels) s point b v next is w own tidy range same good fine
-    t st rule =
-    let a =
-    (sound_pick homes plan n here labels s point b v next (λ pc f l. ok.eight n here is pc f l
-    ∙ sym tidy.eight) good fine t st rule).0 in asks a.0 a.1 a.2
-comes homes plan ok n here ps cost (Call q) s point b v next is w own tidy range same good fine t st
-    rule =
-    calls q (sound_call homes plan n here q s point b v next
-    (λ there entry at first. let e = ok.entry q there entry at first in (
-      e.1,
-      ok.eight q there at 0 entry e.0,
-    )) tidy same good fine t st rule) refl refl
-comes homes plan ok n here ps cost Ret s point b v next is w own tidy range same good fine t st
-    rule =
-    let exit = found fine t in
-    let up =
-    has_caller homes plan ok n here ps b.callers cost is w (λ e. none-some _ (sym e ∙ exit.1)) in
-    returns up.0 up.1 up.3
-    (sound_ret homes plan n here ps s point b v next up.0 up.1 up.2 up.3.1 own good fine t st rule)
+  as_many : (pc : ℕ) (f : Frame) → IsLabelled here pc f → length f.slots ≡ length s.slots
+  as_many pc f labelled = ok.eight n here is pc f labelled ∙ sym tidy.eight
+
+  has_slot : (k : ℕ) → k < 8 → k < length s.slots
+  has_slot k small = subst (λ m. k < m) (sym tidy.eight) small
+
+  -- the caller of a procedure with an exit frame
+  has_caller : (callers : List Activation) → AllWait homes plan n here parameters callers cost → ¬ (here.exit ≡ None)
+      → (a : Activation) × (rest : List Activation) × (callers ≡ a ∷ rest)
+      × AllWait homes plan n here parameters (a ∷ rest) cost
+  has_caller [] w exit = absurd (exit (ok.main here (ap (λ k. slice_get plan.procedures k) (sym w.0) ∙ is)))
+  has_caller (a ∷ rest) w exit = (a, rest, refl, w)
+
+  pub comes : (i : Instruction) → IsInRange i → Transfer homes plan n here s i v
+      → Executes setup (bench_part here) b i next → Comes homes plan n here parameters cost i s point b v next
+  comes Halt range t rule = ends (sound_halt homes plan n here s point b v next same fine t st rule)
+  comes (Push x) range t rule =
+      falls_through (sound_push homes plan n here setup x s point b v next good fine t st rule)
+  comes (Load k) range t rule =
+      falls_through (sound_load homes plan n here setup k s point b v next good fine t st rule)
+  comes (Store k) range t rule =
+      falls_through (sound_store homes plan n here setup k s point b v next (has_slot k range) good fine t st rule)
+  comes Add range t rule = falls_through (sound_add homes plan n here setup s point b v next good fine t st rule)
+  comes Sub range t rule = falls_through (sound_sub homes plan n here setup s point b v next good fine t st rule)
+  comes Drop range t rule = falls_through (sound_drop homes plan n here setup s point b v next good fine t st rule)
+  comes (Grip group) range t rule =
+      falls_through (sound_grip homes plan n here group s point b v next good fine t st rule)
+  comes (Step direction) range t rule =
+      falls_through (sound_step homes plan n here direction s point b v next good fine t st rule)
+  comes (Aside direction tray) range t rule =
+      falls_through (sound_aside homes plan n here direction tray s point b v next good fine t st rule)
+  comes (Tray tray) range t rule =
+      falls_through (sound_tray homes plan n here tray s point b v next good fine t st rule)
+  comes (Jump label) range t rule =
+      sent (sound_jump homes plan n here label s point b v next as_many good fine t st rule)
+  comes (Down k label) range t rule =
+      elim (sound_down homes plan n here k label s point b v next as_many (has_slot k range.0) good fine t st rule) [
+        | inl falls ↦ falls_through falls
+        | inr arrives ↦ sent arrives
+      ]
+  comes (Ask low high) range t rule =
+      asks low high (sound_ask homes plan n here low high s point b v next tidy good fine t st rule).0
+  comes (Pick labels) range t rule =
+      let a = (sound_pick homes plan n here labels s point b v next as_many good fine t st rule).0 in asks a.0 a.1 a.2
+  comes (Call q) range t rule =
+      calls q (sound_call homes plan n here q s point b v next
+      (λ there entry at first. let e = ok.entry q there entry at first in (e.1, ok.eight q there at 0 entry e.0))
+      tidy same good fine t st rule) refl refl
+  comes Ret range t rule =
+      let exit = found fine t in
+      let up = has_caller b.callers waits (λ e. none-some _ (sym e ∙ exit.1)) in
+      returns up.0 up.1 up.3
+      (sound_ret homes plan n here parameters s point b v next up.0 up.1 up.2 up.3.1 own good fine t st rule)

@@ -32,7 +32,7 @@ use Rattle.burr_verify.specs.Views.FromContainers.{IsFromContainer}
 use Rattle.burr_state.specs.Laws.SpaceLaws.{AreDisjoint}
 use Rattle.burr_bench.specs.Soundness.Laws.{RunsSafely, HasRuns}
 use Rattle.burr_state.proofs.Common.TwoCubes.{homes}
-use Rattle.burr_bench.proofs.Soundness.Overs.{over_number}
+use Rattle.burr_frames.proofs.Common.Over.{over_number}
 use Rattle.burr_bench.proofs.Soundness.Sound.{verifier_is_sound, accepted_has_runs}
 
 -- The plan: grip A, aside -x 1, halt

@@ -1,6 +1,6 @@
 -- For crates above: each rule is built of checks in their order, all of them decided, and of ends.
-use Rattle.std.proofs.Common.{◌≡◌, ◌⊎◌, ℕ, ◌+◌, List, [], ◌∷◌, length, refl, sym, ap, subst, ◌∙◌, inl, inr}
-use Rattle.std.specs.Prelude.{pos, ◌≤ℤ◌, ◌++◌, map, reverse}
+use Rattle.std.proofs.Common.{◌≡◌, ◌⊎◌, ℕ, ◌+◌, List, [], ◌∷◌, length, Some, refl, sym, ap, subst, ◌∙◌, inl, inr}
+use Rattle.std.specs.Prelude.{pos, neg_ℤ, ◌≤ℤ◌, ◌++◌, map, reverse}
 use Rattle.burr_text.proofs.Common.Decisions.{Decided, decided_and, decided_and_three, decided_not, decide_same, decide_below, decide_at_most}
 use Rattle.burr_voxels.specs.declared.cell.Cell.{Cell}
 use Rattle.burr_voxels.proofs.Common.Decided.{decide_overlap, decide_free}
@@ -15,12 +15,15 @@ use Rattle.burr_container.specs.Rules.Plans.{FormCell, Frame}
 use Rattle.burr_frames.specs.declared.rule.Rule.{Rule}
 use Rattle.burr_frames.specs.Rules.FramedPlans.{FramedExit, FramedProcedure, FramedPlan}
 use Rattle.burr_frames.specs.Rules.States.{AbstractState, Everywhere, IsFirstFailing, state_of, places_at}
+use Rattle.burr_frames.specs.Rules.Arrival.{live_forms}
 use Rattle.burr_frames.specs.Rules.Looks.{HasRoom}
 use Rattle.burr_frames.specs.Rules.Verdicts.{Verdict, at_point, at_pair, Breaks, FallsThrough, NoSuccessor, Rest, everywhere, everywhere_of_pairs, falls_through, no_successor, paying, meeting, arriving, arriving_at_all, IsFirstPair}
 use Rattle.burr_frames.specs.Rules.SpaceRules.{moved, PairAt, DoesNotOverlap, GoesFree}
 use Rattle.burr_frames.specs.Rules.ControlRules.{after_call, paying_call, left_of, MeetsExitAt}
 use Rattle.burr_frames.specs.Rules.QuestionRules.{with_symbol}
 use Rattle.burr_frames.specs.Rules.Transfer.{Transfer}
+use Rattle.burr_frames.proofs.Common.Over.{over_number, over_plus, over_minus, over_times, top_over, top_two_over, moved_over, aside_over}
+use Rattle.burr_frames.proofs.Common.Tidy.{Keeps, new_operands, new_places, new_slot, new_guard, new_symbol, new_results}
 use Rattle.burr_frames.proofs.Common.Search.{decide_in_box, decide_guards, first_failing, first_pair}
 use Rattle.burr_code.proofs.Common.Checked.{HasOne, IsBuilt, checked, looked_up, needed, ends}
 use Rattle.burr_frames.proofs.Common.FirstPoints.{one_first_point, one_first_pair}
@@ -104,10 +107,11 @@ built_paid s f =
     at_points s (λ point. decide_le (pos 0) (value point (one_less s.cost))) f
 
 built_meeting : {Ends : Verdict → Type 0} (s : AbstractState) (f : Frame) {rule : Rule} {rest : List Form → Rest}
-    → ((forms : List Form) → IsBuilt Breaks Ends (rest forms)) → IsBuilt Breaks Ends (meeting s f rule rest)
+    → ((forms : List Form) → live_forms f.slots s.slots ≡ Some forms → IsBuilt Breaks Ends (rest forms))
+    → IsBuilt Breaks Ends (meeting s f rule rest)
 built_meeting s f each =
     looked_up λ forms is. needed (decide_alike s (state_of f)) λ alike.
-    at_points s (λ point. decide_agrees s point (state_of f) (values point forms)) λ agrees. each forms
+    at_points s (λ point. decide_agrees s point (state_of f) (values point forms)) λ agrees. each forms is
 
 pub built_arriving : {Ends : Verdict → Type 0} (s : AbstractState) (f : Frame) {rest : Rest} → IsBuilt Breaks Ends rest
     → IsBuilt Breaks Ends (arriving s f rest)
@@ -155,11 +159,11 @@ built_paid_call s after callee_cost f =
 
 -- The rules
 
--- The state that falls out has room where the one before has.
-abbrev pub KeepsRoom : AbstractState → Verdict → Type 0
-KeepsRoom s (Breaks b) = Unit {0}
-KeepsRoom s (FallsThrough t) = HasRoom s → HasRoom t
-KeepsRoom s NoSuccessor = Unit {0}
+-- what falls out keeps what the state before has
+abbrev pub KeepsAll : AbstractState → Verdict → Type 0
+KeepsAll s (Breaks b) = Unit {0}
+KeepsAll s (FallsThrough t) = Keeps s t
+KeepsAll s NoSuccessor = Unit {0}
 
 -- a step is paid for; of a call, it and what the callee costs
 abbrev pub IsPaid : AbstractState → Instruction → Type 0
@@ -168,56 +172,61 @@ IsPaid s i = PaysOne s
 
 -- Each rule is built, and this is so where it doesn't break.
 pub transfer_is_built : (homes : List (List Cell)) (plan : FramedPlan) (n : ℕ) (here : FramedProcedure) (s : AbstractState)
-    (i : Instruction) → IsBuilt Breaks (λ v. KeepsRoom s v × IsPaid s i) (Transfer homes plan n here s i)
+    (i : Instruction) → IsBuilt Breaks (λ v. KeepsAll s v × IsPaid s i) (Transfer homes plan n here s i)
 transfer_is_built homes plan n here s Halt =
     needed (decide_same n 0) λ main. needed (decide_all_apart s.places) λ apart. built_paid s λ paid. ends (tt, paid)
 transfer_is_built homes plan n here s (Push x) =
-    needed (decide_below (length s.operands) 8) λ c. built_paid s λ paid. ends ((λ room. room), paid)
+    needed (decide_below (length s.operands) 8) λ c. built_paid s λ paid.
+    ends (new_operands λ tidy. (over_number _ x, tidy.operands), paid)
 transfer_is_built homes plan n here s (Load v) =
-    looked_up λ f is. needed (decide_below (length s.operands) 8) λ c. built_paid s λ paid. ends ((λ room. room), paid)
+    looked_up λ f is. needed (decide_below (length s.operands) 8) λ c. built_paid s λ paid.
+    ends (new_operands λ tidy. (tidy.slots v f is, tidy.operands), paid)
 transfer_is_built homes plan n here s (Store v) =
-    needed (decide_at_most here.parameters v) λ c. looked_up λ found is. built_paid s λ paid. ends ((λ room. room), paid)
+    needed (decide_at_most here.parameters v) λ c. looked_up λ found is. built_paid s λ paid.
+    ends (new_slot v found is, paid)
 transfer_is_built homes plan n here s Add =
     looked_up λ found is. needed (decide_small_form (plus_form found.1 found.0)) λ c.
-    at_points s (λ point. decide_value_number (plus_form found.1 found.0) point) λ numbers.
-    built_paid s λ paid. ends ((λ room. room), paid)
+    at_points s (λ point. decide_value_number (plus_form found.1 found.0) point) λ numbers. built_paid s λ paid.
+    ends (new_operands λ tidy. top_two_over _ plus_form (over_plus _) s.operands found is tidy.operands, paid)
 transfer_is_built homes plan n here s Sub =
     looked_up λ found is. needed (decide_small_form (minus_form found.1 found.0)) λ c.
-    at_points s (λ point. decide_value_number (minus_form found.1 found.0) point) λ numbers.
-    built_paid s λ paid. ends ((λ room. room), paid)
+    at_points s (λ point. decide_value_number (minus_form found.1 found.0) point) λ numbers. built_paid s λ paid.
+    ends (new_operands λ tidy. top_two_over _ minus_form (over_minus _) s.operands found is tidy.operands, paid)
 transfer_is_built homes plan n here s Drop =
-    looked_up λ found is. built_paid s λ paid. ends ((λ room. room), paid)
+    looked_up λ found is. built_paid s λ paid.
+    ends (new_operands λ tidy. (top_over _ s.operands found is tidy.operands).1, paid)
 transfer_is_built homes plan n here s (Grip group) =
-    needed (decide_all_lie s.places s.tray group) λ c. built_paid s λ paid. ends ((λ room. room), paid)
+    needed (decide_all_lie s.places s.tray group) λ c. built_paid s λ paid. ends (new_places λ tidy. tidy.places, paid)
 transfer_is_built homes plan n here s (Step direction) =
     needed (decided_not (decide_same s.grip 0)) λ c.
     needed (decide_small_places (moved s.grip direction s.places)) λ small.
     at_points s (λ point. decide_on_bench (moved s.grip direction s.places) s.tray point) λ on.
     built_pairs DoesNotOverlap (λ a b. decided_not (decide_overlap a b)) homes (moved s.grip direction s.places) s
-    (built_paid s λ paid. ends ((λ room. room), paid))
+    (built_paid s λ paid. ends (new_places λ tidy. moved_over _ s.grip direction s.places tidy.places, paid))
 transfer_is_built homes plan n here s (Aside direction tray) =
     needed (decide_part_of_tray s.grip s.places s.tray) λ c. needed (decide_empty_tray s.places tray) λ empty.
     at_points s (λ point. decide_on_bench s.places s.tray point) λ on.
     built_pairs (GoesFree direction) (λ a b. decide_free a b direction) homes s.places s
-    (built_paid s λ paid. ends ((λ room. room), paid))
-transfer_is_built homes plan n here s (Tray tray) = built_paid s λ paid. ends ((λ room. room), paid)
+    (built_paid s λ paid. ends (new_places λ tidy. aside_over _ s.grip s.tray tray s.places tidy.places, paid))
+transfer_is_built homes plan n here s (Tray tray) =
+    built_paid s λ paid. ends (new_places λ tidy. tidy.places, paid)
 transfer_is_built homes plan n here s (Jump label) =
     looked_up λ to is. built_paid s λ paid. built_arriving _ to.1 (ends (tt, paid))
 transfer_is_built homes plan n here s (Down v label) =
     looked_up λ to is. needed (decide_at_most here.parameters v) λ c. looked_up λ f is.
     needed (decide_small_form (one_less f)) λ small. at_points s (λ point. decide_le (pos 0) (value point f)) λ count.
     needed (decide_below (length s.guards) 8) λ guards. built_paid s λ paid.
-    built_arriving _ to.1 (ends ((λ room. room), paid))
+    built_arriving _ to.1 (ends (new_guard _ λ tidy. over_times _ (neg_ℤ (pos 1)) f (tidy.slots v f is), paid))
 transfer_is_built homes plan n here s (Ask low high) =
     needed (decide_below (length s.operands) 8) λ c. needed (decide_room (with_symbol low high s)) λ room.
-    built_paid s λ paid. ends ((λ before. room.2), paid)
+    built_paid s λ paid. ends (new_symbol low high room.2, paid)
 transfer_is_built homes plan n here s (Pick labels) =
     looked_up λ to is. built_paid s λ paid. built_arriving_at_all _ to (ends (tt, paid))
 transfer_is_built homes plan n here s (Call callee) =
     looked_up λ there at. looked_up λ exit has. looked_up λ entry first. looked_up λ found taken.
-    needed (decide_at_most (length found.1 + there.results) 8) λ c. built_meeting _ entry λ arguments.
+    needed (decide_at_most (length found.1 + there.results) 8) λ c. built_meeting _ entry λ arguments known.
     built_paid_call s (after_call s (reverse found.0) found.1 exit) (substituted arguments entry.cost)
-    λ room. ends ((λ before. room), tt)
+    λ room. ends (new_results there.parameters entry exit taken known room, tt)
 transfer_is_built homes plan n here s Ret =
     looked_up λ exit has. looked_up λ parameters known. looked_up λ found taken. built_paid s λ paid.
     needed (decided_and_three (decide_same s.tray exit.tray) (decide_same s.grip exit.grip)

@@ -1,15 +1,20 @@
--- What is made of forms over the first symbols is over them.
+-- For crates above too: what is made of forms over the first symbols is over them.
 use Rattle.std.proofs.Common.{◌≡◌, ℕ, zero, suc, ◌+◌, ◌-◌, ◌^◌, ◌≤◌, List, [], ◌∷◌, ◌++◌, length, Option, Some, None, Bool, true, false, refl, subst, ap, ◌∙◌, arith}
-use Rattle.std.specs.Prelude.{ℤ, pos, neg_ℤ, ◌+ℤ◌, ◌*ℤ◌, map, replicate, get_or, if◌then◌else◌, ◌==◌, bit_and}
+use Rattle.std.specs.Prelude.{ℤ, pos, neg_ℤ, ◌+ℤ◌, ◌*ℤ◌, map, take, drop, reverse, replicate, set, get_or, nat_le, if◌then◌else◌, ◌==◌, bit_and}
 use Rattle.std.proofs.lemmas.Int.{ints}
 use Rattle.std.proofs.lemmas.Option.{none-some, same_Some}
 use Rattle.std.proofs.Math.IntN.{*ℤ-zero}
+use mathlib.Core.List.{reverse_aux}
 use Rattle.burr_voxels.specs.declared.direction.Direction.{Direction}
 use Rattle.burr_code.specs.declared.placement.Placement.{Placement}
 use Rattle.burr_code.specs.declared.placement.Placement.TheVariants.{Apart, On}
 use Rattle.burr_code.specs.Places.{at_position, changed, to_tray, is_in, count_in, parted, parted_in, aside_places}
+use Rattle.burr_code.specs.Stacks.{top, top_two, top_many, split_at}
+use Rattle.burr_code.specs.Labels.{argument_slots}
+use Rattle.burr_code.proofs.Common.Labels.{with_first_is}
 use Rattle.burr_forms.specs.Rules.Forms.{Form, number, symbol, sum_of, plus_form, times, minus_form, combined, substituted}
 use Rattle.burr_container.specs.Rules.Plans.{FormCell}
+use Rattle.burr_frames.specs.Rules.Arrival.{live_forms}
 use Rattle.burr_frames.specs.Rules.States.{live_ranges, numbered}
 use Rattle.burr_frames.specs.Rules.SpaceRules.{moved_forms, moved}
 use Rattle.burr_frames.specs.Rules.ControlRules.{substituted_places, symbols_from}
@@ -108,7 +113,95 @@ all_symbols n (suc r) m le = (
   all_symbols (suc n) r m (omega arith),
 )
 
--- Slots of a frame
+over_take : (n k : ℕ) (fs : List Form) → AllOver n fs → AllOver n (take k fs)
+over_take n zero fs h = tt
+over_take n (suc k) [] h = tt
+over_take n (suc k) (f ∷ fs) h = (h.0, over_take n k fs h.1)
+
+over_drop : (n k : ℕ) (fs : List Form) → AllOver n fs → AllOver n (drop k fs)
+over_drop n zero fs h = h
+over_drop n (suc k) [] h = tt
+over_drop n (suc k) (f ∷ fs) h = over_drop n k fs h.1
+
+pub over_reverse : (n : ℕ) (fs onto : List Form) → AllOver n fs → AllOver n onto
+    → AllOver n (reverse_aux fs onto)
+over_reverse n [] onto h k = k
+over_reverse n (f ∷ fs) onto h k = over_reverse n fs (f ∷ onto) h.1 (h.0, k)
+
+split_over : (n k : ℕ) (fs : List Form) (x : List Form × List Form) → AllOver n fs
+    → top_many k fs ≡ Some x → AllOver n x.0 × AllOver n x.1
+split_over n k fs x h = by_test (nat_le k (length fs))
+  where
+    by_test : (c : Bool) → (if c then Some (split_at k fs) else None) ≡ Some x → AllOver n x.0
+        × AllOver n x.1
+    by_test true e =
+        subst (λ (p : List Form × List Form). AllOver n p.0 × AllOver n p.1) (same_Some _ _ e)
+        (over_take n k fs h, over_drop n k fs h)
+    by_test false e = absurd (none-some _ e)
+
+pub top_over : (n : ℕ) (forms : List Form) (x : Form × List Form) → top forms ≡ Some x → AllOver n forms
+    → IsWellScoped n x.0 × AllOver n x.1
+top_over n [] x e h = absurd (none-some _ e)
+top_over n (f ∷ forms) x e h =
+    subst (λ (y : Form × List Form). IsWellScoped n y.0 × AllOver n y.1) (same_Some _ _ e) h
+
+-- what is made of the two topmost takes their place
+pub top_two_over : (n : ℕ) (make : Form → Form → Form)
+    → ((f g : Form) → IsWellScoped n f → IsWellScoped n g → IsWellScoped n (make f g))
+    → (forms : List Form) (x : Form × Form × List Form) → top_two forms ≡ Some x → AllOver n forms
+    → AllOver n (make x.1 x.0 ∷ x.2)
+top_two_over n make over [] x e h = absurd (none-some _ e)
+top_two_over n make over (f ∷ []) x e h = absurd (none-some _ e)
+top_two_over n make over (f ∷ g ∷ forms) x e h =
+    subst (λ (y : Form × Form × List Form). AllOver n (make y.1 y.0 ∷ y.2)) (same_Some _ _ e)
+    (over g f h.1.0 h.0, h.1.1)
+
+-- Slots
+
+over_slots : (n k : ℕ) (fs : List Form) → AllOver n fs → (v : ℕ) (f : Form)
+    → get_or (map Some fs ++ replicate k None) v None ≡ Some f → IsWellScoped n f
+over_slots n zero [] h v f e = absurd (none-some _ e)
+over_slots n (suc k) [] h zero f e = absurd (none-some _ e)
+over_slots n (suc k) [] h (suc v) f e = over_slots n k [] h v f e
+over_slots n k (g ∷ fs) h zero f e = subst (λ (x : Form). IsWellScoped n x) (same_Some _ _ e) h.0
+over_slots n k (g ∷ fs) h (suc v) f e = over_slots n k fs h.1 v f e
+
+over_live : (n : ℕ) (ranges : List (Option (ℤ × ℤ))) (slots : List (Option Form))
+    (forms : List Form) → live_forms ranges slots ≡ Some forms
+    → ((v : ℕ) (f : Form) → get_or slots v None ≡ Some f → IsWellScoped n f) → AllOver n forms
+over_live n [] slots forms e h = subst (λ (fs : List Form). AllOver n fs) (same_Some _ _ e) tt
+over_live n (None ∷ ranges) [] forms e h = over_live n ranges [] forms e h
+over_live n (None ∷ ranges) (slot ∷ slots) forms e h =
+    over_live n ranges slots forms e (λ v f is. h (suc v) f is)
+over_live n (Some range ∷ ranges) [] forms e h = absurd (none-some _ e)
+over_live n (Some range ∷ ranges) (slot ∷ slots) forms e h =
+    let f = with_first_is slot (live_forms ranges slots) forms e in
+    subst (λ (fs : List Form). AllOver n fs) f.4 (
+      h 0 f.0 f.2,
+      over_live n ranges slots f.1 f.3 (λ v g is. h (suc v) g is),
+    )
+
+-- of a call, its arguments, what is below them, and the forms in the callee's live slots
+pub arguments_over : (n k : ℕ) (operands : List Form) (found : List Form × List Form)
+    (ranges : List (Option (ℤ × ℤ))) (forms : List Form) → AllOver n operands
+    → top_many k operands ≡ Some found → live_forms ranges (argument_slots found.0) ≡ Some forms
+    → AllOver n (reverse found.0) × AllOver n found.1 × AllOver n forms
+arguments_over n k operands found ranges forms over taken known =
+    let split = split_over n k operands found over taken in
+    let turned : AllOver n (reverse found.0) = over_reverse n found.0 [] split.0 tt in
+    let slots = over_slots n (8 - length found.0) (reverse found.0) turned in
+    (turned, split.1, over_live n ranges (argument_slots found.0) forms known slots)
+
+pub set_over : (n : ℕ) (slots : List (Option Form)) (v : ℕ) (f : Form) → IsWellScoped n f
+    → ((k : ℕ) (g : Form) → get_or slots k None ≡ Some g → IsWellScoped n g) → (k : ℕ) (g : Form)
+    → get_or (set slots v (Some f)) k None ≡ Some g → IsWellScoped n g
+set_over n [] v f h all k g e = absurd (none-some _ e)
+set_over n (slot ∷ slots) zero f h all zero g e =
+    subst (λ (x : Form). IsWellScoped n x) (same_Some _ _ e) h
+set_over n (slot ∷ slots) zero f h all (suc k) g e = all (suc k) g e
+set_over n (slot ∷ slots) (suc v) f h all zero g e = all 0 g e
+set_over n (slot ∷ slots) (suc v) f h all (suc k) g e =
+    set_over n slots v f h (λ j x is. all (suc j) x is) k g e
 
 pub numbered_over : (j m : ℕ) (slots : List (Option (ℤ × ℤ))) → j + length (live_ranges slots) ≤ m
     → (k : ℕ) (f : Form) → get_or (numbered j slots) k None ≡ Some f → IsWellScoped m f
