@@ -17,6 +17,7 @@ mod OnePass
 mod Parts
 mod PassCuts
 mod PassLooks
+mod PointNumbers
 mod SomePass
 mod Stages
 mod Trays

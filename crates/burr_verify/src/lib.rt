@@ -21,6 +21,8 @@
 //! - `state_before` gives the state in which the pass over the code comes to an instruction, and
 //!   `state_after` the one that falls out of it where its rule holds. Both do so without a look;
 //!   where a rule is broken before, they may give any.
+//! - `PointState::at` gives the numbers of a state at a point: what the state's forms come to there
+//!   (`AreNumbersAt`).
 //!
 //! Laws of the definitions, for whatever pieces, and for every plan whose labels stand at rising
 //! places of its codes, as those of a container do (`a_fitting_plan_is_from_a_container`):
@@ -37,6 +39,7 @@ mod forming;
 mod judging;
 mod laws;
 mod passing;
+mod point_state;
 mod refusal;
 mod states;
 mod transfer;
@@ -47,5 +50,6 @@ pub use laws::{
     a_fitting_plan_is_from_a_container, a_pass_has_one_judgement, a_pass_has_so_many_looks,
     a_plan_has_so_many_looks, a_plan_is_judged_in_one_way,
 };
+pub use point_state::{Offset, PointState, point_of};
 pub use refusal::{Refusal, fits_assembly};
 pub use states::{state_after, state_before};

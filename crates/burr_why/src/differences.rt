@@ -2,14 +2,17 @@
 
 ghost use Rattle.burr_forms.specs.Rules.Forms.{AllNear};
 
-use crate::offset::{Group, Offset, Whereabouts};
-use crate::point_state::PointState;
+use crate::pieces::{Group, Whereabouts};
+use arrayvec::ArrayVec;
 use burr_assembly::Assembly;
 use burr_code::Placement;
 use burr_code::limits::{MOST_OPERANDS, MOST_PIECES, SLOTS};
 use burr_container::{ExitRef, FrameRef};
 use burr_forms::Point;
+use burr_forms::limits::MOST_SYMBOLS;
+use burr_frames::State;
 use burr_lines::{FramePart, piece_name};
+use burr_verify::{Offset, PointState, point_of};
 use std::alloc::{AllocError, Global};
 use std::fmt;
 
@@ -53,7 +56,7 @@ impl<'a> Differences<'a> {
         frame: &FrameRef<'_>,
         left: Option<i64>,
     ) -> Differences<'a> {
-        let wanted = state.framed(frame);
+        let wanted = PointState::at(&State::of(frame), &live_values(state, frame));
         let mut differences = Differences::new(alloc, assembly);
         differences.compare_head(state, &wanted);
         differences.compare_operand_count(state, &wanted);
@@ -76,14 +79,13 @@ impl<'a> Differences<'a> {
         state: &PointState,
         exit: &ExitRef<'_>,
     ) -> Differences<'a> {
-        let symbols = state.exit_values(exit);
-        let wanted = PointState::at_exit(exit, &symbols);
+        let wanted = PointState::at_exit(exit, &exit_values(state, exit));
         let mut differences = Differences::new(alloc, assembly);
         differences.compare_head(state, &wanted);
         differences.compare_trays(state, &wanted);
         if differences.found.is_empty() {
-            differences.compare_results(exit, &symbols);
-            differences.compare_exit_guards(exit, &symbols);
+            differences.compare_results(exit, &wanted.symbols);
+            differences.compare_exit_guards(exit, &wanted.symbols);
             differences.compare_offsets(state, &wanted);
         }
         differences
@@ -223,7 +225,7 @@ impl<'a> Differences<'a> {
 
     /// The guards of a frame.
     fn compare_guards(&mut self, state: &PointState, frame: &FrameRef<'_>) {
-        let symbols = state.live_values(frame);
+        let symbols = live_values(state, frame);
         for n in 0..frame.guard_count() {
             self.compare_guard(n as u8, frame.guard(n).value_at(&symbols));
         }
@@ -295,4 +297,29 @@ impl<'a> Differences<'a> {
             _ => {}
         }
     }
+}
+
+/// What is in the slots that are live in a frame; 0 where it is not known.
+fn live_values(state: &PointState, frame: &FrameRef<'_>) -> Point
+    ensures near { AllNear result.items }
+{
+    let mut values: ArrayVec<i64, MOST_SYMBOLS> = ArrayVec::new();
+    for v in 0..SLOTS as u8 {
+        if frame.slot(v).is_some() {
+            let _ = values.try_push(state.slots[usize::from(v)].unwrap_or(0));
+        }
+    }
+    point_of(&values)
+}
+
+/// The values of an exit frame's symbols: the parameters, 0 where one is not known, and the topmost
+/// operands as results.
+fn exit_values(state: &PointState, exit: &ExitRef<'_>) -> ArrayVec<i64, MOST_SYMBOLS> {
+    let mut values = ArrayVec::new();
+    for v in 0..usize::from(exit.parameters()) {
+        let parameter = state.slots.get(v).copied().flatten();
+        let _ = values.try_push(parameter.unwrap_or(0));
+    }
+    let _ = values.try_extend_from_slice(&state.arguments(exit.result_count()));
+    values
 }

@@ -4,20 +4,18 @@
 //!
 //! # Promised
 //! - `reason_of_refusal`, `reason_of_line` and `expectation_of_line`, its public calls, take memory,
-//!   and answer `AllocError` where that is refused.
-//! - The numbers of a state of the verifier at a point, which are compared, are what the state's
-//!   forms come to there (`PointState::at`, `AreNumbersAt`). The states are those that
-//!   `state_before` and `state_after` of burr_verify give, or those of a frame.
+//!   and answer `AllocError` where that is refused. Beyond that only their safety is proved.
 //!
 //! # Tested only
-//! - No contract says which lines it names of a refused plan, or what it says of them.
+//! - No contract says which lines it names of a refused plan, or what it says of them. The numbers
+//!   that it compares are those that `PointState::at` of burr_verify gives, of the states that
+//!   `state_before` and `state_after` give, or of those of a frame.
 #![tactic(auto)]
 
 mod differences;
 mod expected;
 mod meeting;
-mod offset;
-mod point_state;
+mod pieces;
 mod reasons;
 
 pub use burr_lines::PlanText;

@@ -1,6 +1,6 @@
 //! The cells at which two pieces meet.
 
-use crate::offset::Offset;
+use burr_verify::Offset;
 use burr_voxels::{Cell, Direction};
 
 /// Where a piece meets another one: the cell, and after how many units along the direction.
@@ -98,10 +98,10 @@ fn units_between(from: Offset, to: Offset, direction: Direction) -> Option<i64> 
 }
 
 /// Where a cell of a piece lies that is so far from home.
-fn lies_at(cell: &Cell, offset: Offset) -> Offset {
-    offset.plus(Offset {
-        x: i64::from(cell.x),
-        y: i64::from(cell.y),
-        z: i64::from(cell.z),
-    })
+pub fn lies_at(cell: &Cell, offset: Offset) -> Offset {
+    Offset {
+        x: offset.x.saturating_add(i64::from(cell.x)),
+        y: offset.y.saturating_add(i64::from(cell.y)),
+        z: offset.z.saturating_add(i64::from(cell.z)),
+    }
 }

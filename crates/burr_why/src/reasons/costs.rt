@@ -1,14 +1,13 @@
 //! Costs, and what is too much to be judged.
 
 use super::{Reasons, Site};
-use crate::point_state::point_of;
 use burr_code::Instr;
 use burr_code::limits::{MOST_STATE_GUARDS, SLOTS};
 use burr_container::FrameRef;
 use burr_forms::limits::{MOST_FORM_NUMBER, MOST_POINTS, MOST_SYMBOLS};
 use burr_frames::Rule;
 use burr_lines::{FramePart, PlanItem};
-use burr_verify::Refusal;
+use burr_verify::{Refusal, point_of};
 
 /// What is said of a number of a form beyond the most, which stands here with commas.
 const LARGE_FORM_NUMBER: &str = "a form here has a number beyond 1,099,511,627,776";

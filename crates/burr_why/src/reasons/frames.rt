@@ -2,15 +2,13 @@
 
 use super::{Reasons, Site};
 use crate::differences::Differences;
-use crate::offset::{Offset, Whereabouts};
-use crate::point_state::PointState;
+use crate::pieces::Whereabouts;
 use burr_code::limits::{MOST_PIECES, SLOTS};
 use burr_code::{Instr, Labels, Placement, count_in_tray, is_in_set};
 use burr_container::FrameRef;
-use burr_forms::Point;
 use burr_frames::{Rule, State};
 use burr_lines::{FramePart, PlanItem, Shown, piece_name};
-use burr_verify::Refusal;
+use burr_verify::{Offset, PointState, Refusal};
 
 /// How many differences are told.
 const MOST_TOLD: usize = 12;
@@ -36,11 +34,15 @@ impl<'a> Reasons<'a, '_> {
         }
     }
 
-    /// What differs from the first frame of a procedure that is called.
+    /// What differs from the first frame of a procedure that is called, with the arguments in its slots.
     fn add_missed_entry(&mut self, callee: usize, site: &Site) {
         self.add_point(site, &site.before);
         let mut state = site.state_before(&self.plan);
-        state.enter(self.plan.parameters(callee));
+        let arguments = state.arguments(self.plan.parameters(callee));
+        for v in 0..SLOTS {
+            state.slots[v] = arguments.get(v).copied();
+        }
+        state.operands.clear();
         self.add_differences_of_label(callee, 0, &state, None);
     }
 
@@ -78,7 +80,9 @@ impl<'a> Reasons<'a, '_> {
     /// The same of the label of a `down`, or where nothing differs there of the next one.
     fn add_count_down(&mut self, site: &Site, slot: u8, label: usize) {
         let mut branch = site.state_after(&self.plan);
-        branch.count_down(slot);
+        if let Some(Some(number)) = branch.slots.get_mut(usize::from(slot)) {
+            *number = number.saturating_sub(1);
+        }
         if self.differs(site, label, &branch) {
             return self.add_arrival(site, label, &branch);
         }
@@ -206,7 +210,7 @@ impl Reasons<'_, '_> {
     /// Says what is wrong with an exit frame.
     fn add_malformed_exit(&mut self, procedure: usize) {
         if let Some(exit) = self.plan.exit(procedure) {
-            let state = PointState::at_exit(&exit, &Point::new());
+            let state = PointState::at_exit(&exit, &[]);
             self.add_malformed_places(PlanFrame::Exit { procedure }, &state);
         }
     }

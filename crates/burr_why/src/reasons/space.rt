@@ -2,12 +2,12 @@
 
 use super::{Reasons, Site};
 use crate::meeting::{Displaced, Meeting, common_cell, first_meeting};
-use crate::offset::{Group, Offset, Whereabouts};
-use crate::point_state::PointState;
+use crate::pieces::{Group, Whereabouts};
 use burr_code::limits::{MOST_OFFSET, MOST_PIECES};
 use burr_code::{Instr, is_in_set};
 use burr_frames::Rule;
 use burr_lines::{FramePart, PlanItem, Shown, piece_name};
+use burr_verify::{Offset, PointState};
 use burr_voxels::Direction;
 
 impl Reasons<'_, '_> {

@@ -5,8 +5,8 @@ use Rattle.burr_voxels.specs.Grid.{at}
 use Rattle.burr_code.specs.Places.{at_position}
 use Rattle.burr_forms.specs.Rules.Forms.{Point, value, values}
 use Rattle.burr_frames.specs.Rules.States.{AbstractState, places_at}
-use Rattle.burr_why.specs.declared.offset.Offset.{Offset}
-use Rattle.burr_why.specs.declared.point_state.PointState.{PointState}
+use Rattle.burr_verify.specs.declared.point_state.Offset.{Offset}
+use Rattle.burr_verify.specs.declared.point_state.PointState.{PointState}
 
 -- the cell that is this far from home
 abbrev pub cell_of : Offset → Cell

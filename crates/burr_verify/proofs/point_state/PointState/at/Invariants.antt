@@ -1,6 +1,6 @@
 use Rattle.std.proofs.Common.{◌≡◌, length, take}
 use Rattle.burr_forms.specs.Rules.Forms.{AllNear}
-use Rattle.burr_why.proofs.point_state.PointState.at.Given as goal
+use Rattle.burr_verify.proofs.point_state.PointState.at.Given as goal
 
 -- the first symbols have their numbers, those of the point where it has as many
 abbrev pub invariant-loop-n : goal.invariant-loop-n

@@ -1,7 +1,7 @@
 use Rattle.std.proofs.Common.{◌≡◌, ◌<◌, ℕ, length, get_or, None}
 use Rattle.std.specs.Prelude.{option_map}
 use Rattle.burr_forms.specs.Rules.Forms.{value}
-use Rattle.burr_why.proofs.point_state.slots_at.Given as goal
+use Rattle.burr_verify.proofs.point_state.slots_at.Given as goal
 
 -- the first slots are taken at the point
 abbrev pub invariant-loop-v : goal.invariant-loop-v

@@ -1,6 +1,6 @@
 use Rattle.std.proofs.Common.{◌≡◌, take}
 use Rattle.burr_forms.specs.Rules.Forms.{values}
-use Rattle.burr_why.proofs.point_state.operands_at.Given as goal
+use Rattle.burr_verify.proofs.point_state.operands_at.Given as goal
 
 -- the first forms are taken at the point
 abbrev pub invariant-loop-form : goal.invariant-loop-form

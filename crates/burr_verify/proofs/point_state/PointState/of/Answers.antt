@@ -7,8 +7,8 @@ use Rattle.burr_code.specs.declared.placement.Placement.{Placement}
 use Rattle.burr_container.specs.Rules.Plans.{FormCell}
 use Rattle.burr_forms.specs.Rules.Forms.{Form, Point, value, values}
 use Rattle.burr_frames.specs.Rules.States.{places_at}
-use Rattle.burr_why.proofs.PointNumbers.{reverse_values}
-use Rattle.burr_why.proofs.point_state.PointState.of.Goals as goal
+use Rattle.burr_verify.proofs.PointNumbers.{reverse_values}
+use Rattle.burr_verify.proofs.point_state.PointState.of.Goals as goal
 
 pub returns : goal.returns
 returns c =

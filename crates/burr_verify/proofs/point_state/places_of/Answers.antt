@@ -2,8 +2,8 @@ use Rattle.std.proofs.Common.{[], ◌∷◌, sym, subst}
 use Rattle.burr_code.specs.declared.placement.Placement.{Placement}
 use Rattle.burr_container.specs.Rules.Plans.{FormCell}
 use Rattle.burr_frames.specs.Rules.SpaceRules.{AllSmallPlaces}
-use Rattle.burr_why.proofs.PointNumbers.{small_place_at}
-use Rattle.burr_why.proofs.point_state.places_of.Goals as goal
+use Rattle.burr_verify.proofs.PointNumbers.{small_place_at}
+use Rattle.burr_verify.proofs.point_state.places_of.Goals as goal
 
 pub place_at-requires-clause-small : goal.place_at-requires-clause-small
 place_at-requires-clause-small c =

@@ -3,8 +3,8 @@ use Rattle.std.proofs.Common.{◌≡◌, ℕ, ◌∙◌, sym, subst, get_or, Non
 use Rattle.std.specs.Prelude.{option_map, slice_set}
 use Rattle.std.proofs.lemmas.List.{length-set}
 use Rattle.burr_forms.specs.Rules.Forms.{value}
-use Rattle.burr_why.proofs.PointNumbers.{one_more}
-use Rattle.burr_why.proofs.point_state.slots_at.Goals as goal
+use Rattle.burr_verify.proofs.PointNumbers.{one_more}
+use Rattle.burr_verify.proofs.point_state.slots_at.Goals as goal
 
 pub loop-v-preserved : goal.loop-v-preserved
 loop-v-preserved c =
