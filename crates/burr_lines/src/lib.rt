@@ -1,20 +1,24 @@
 //! The lines of a plan text, by what each says, the plan's parts by the numbers that the text gives
-//! them, and texts that tell of lines.
+//! them, texts that tell of lines, and texts that have something in place of `auto`.
 //!
 //! # Promised
-//! - Nothing is promised beyond safety. Lines are looked up in `source_map` of burr_asm.
-//!   `PlanLines::of` and `with`, and `Report::into_text`, take memory, and answer `AllocError`
-//!   where that is refused.
+//! - `Unframed::of` takes a plan text as it is. What its `with` and `with_blanks` give is that text,
+//!   but any lines may stand in place of a line that ends by the word `auto` (`IsFilledIn`).
+//! - Beyond that it promises nothing but safety. Lines are looked up in `source_map` of burr_asm.
+//!   Memory is taken by `PlanLines::of` and `with`, by `Report::into_text`, and by `of`, `with`,
+//!   `with_blanks` and `parts_of` of `Unframed`; they answer `AllocError` where it is refused.
 //!
 //! # Tested only
-//! - No contract says which row of a frame a part of it is, so no must-fail edit stands in the
-//!   gate.
-//! - Nor does one say what a line says (`PlanLines`, `numbered_line`), what a plan has at a place
-//!   of its code (`PlanText`), or what is added to a text (`Shown`, `Report`).
+//! - No contract says which row of a frame a part of it is.
+//! - Nor does one say what a line says (`PlanLines`, `numbered_line`), where frames are due and which
+//!   say nothing (`Unframed`), what a plan has at a place of its code (`PlanText`), or what is added
+//!   to a text (`Shown`, `Report`).
 #![tactic(auto)]
 
 mod lines;
 mod plan_text;
+mod unframed;
 
 pub use lines::{FramePart, Line, PlanItem, PlanLines, numbered_line};
 pub use plan_text::{PlanText, Report, Shown, piece_name};
+pub use unframed::{Due, Part, Unframed};

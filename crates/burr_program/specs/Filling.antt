@@ -1,6 +1,6 @@
 -- What runs of a plan text that is filled in come to.
 use Rattle.std.specs.Prelude.{ℕ, List, ⊤}
-use Rattle.burr_trace.specs.FilledTexts.{IsFilledIn}
+use Rattle.burr_lines.specs.FilledTexts.{IsFilledIn}
 use Rattle.burr_program.specs.declared.commands.frames.Step.{Step}
 use Rattle.burr_program.specs.declared.commands.frames.Step.TheVariants as steps
 

@@ -12,7 +12,7 @@ use burr_container::Container;
 use burr_explain::explanation_of;
 use burr_io::{Sink, put_all};
 use burr_judge::{Fault, Refuse, Refused, Status, refuse};
-use burr_trace::Unframed;
+use burr_lines::Unframed;
 use burr_verify::Refusal;
 use burr_why::{PlanText, expectation_of_line, reason_of_line, reason_of_refusal};
 use std::alloc::{AllocError, Global};

@@ -1,11 +1,15 @@
-//! What was seen of a plan text over all its runs, and the frames that all of it agrees with.
+//! What was seen of a plan text over all its runs, and the text with frames that all of it agrees with.
+
+ghost use Rattle.std.specs.Prelude.{IfOk};
+ghost use Rattle.burr_lines.specs.FilledTexts.{IsFilledIn};
 
 use crate::arrivals::{Arrivals, Labels};
 use crate::fit::SlotList;
 use crate::frame::{Frame, Visit};
 use crate::needs::Needs;
 use crate::trace::Snapshot;
-use burr_code::limits::SLOTS;
+use burr_code::limits::{MOST_BUDGET, SLOTS};
+use burr_lines::{Due, Line, Part, Report, Unframed};
 use std::alloc::{AllocError, Global};
 use std::collections::BTreeMap;
 
@@ -77,6 +81,57 @@ impl Sightings {
         Ok(())
     }
 
+    /// The text with frames in place of `auto` that all of this agrees with, where there are any.
+    pub fn fill(
+        &self,
+        unframed: &Unframed<'_>,
+        labels: &Labels<'_, '_>,
+    ) -> Result<Filled, AllocError>
+        ensures { IfOk result (λ filled. IsFilledIn unframed.now filled.text.items) }
+    {
+        let parts = unframed.parts();
+        let needs = self.needs(parts, labels)?;
+        let finding = Finding {
+            sightings: self,
+            parts,
+            labels,
+            needs: &needs,
+        };
+        let mut fills = Vec::new(self.alloc);
+        let mut left = Left {
+            first: None,
+            notes: Report::new(self.alloc),
+        };
+        for (n, part) in parts.iter().enumerate() {
+            fills.push(finding.lines_for(n.saturating_add(1), part, &mut left)?)?;
+        }
+        Ok(Filled {
+            text: unframed.with(&fills)?,
+            left: left.first,
+            notes: left.notes.into_text()?,
+        })
+    }
+
+    /// The slots that each label needs: those that are read, those of the frames that the text has, and
+    /// those of forms.
+    fn needs(&self, parts: &[Part<'_>], labels: &Labels<'_, '_>) -> Result<Needs, AllocError> {
+        let mut needs = Needs::of(self.alloc, labels)?;
+        let count = labels.as_slice().len();
+        for number in 0..count {
+            if !is_due(number, parts) {
+                needs.add_those_of_frame(number, labels);
+            }
+        }
+        needs.spread();
+        for number in 0..count {
+            if is_due(number, parts) {
+                self.add_needs_of_forms(number, &mut needs)?;
+            }
+        }
+        needs.spread();
+        Ok(needs)
+    }
+
     /// The visits of a label.
     pub fn visits(&self, label: usize) -> Result<Vec<Visit<'_>>, AllocError> {
         match self.at_labels.get(label) {
@@ -126,6 +181,135 @@ impl Sightings {
         }
         Ok(())
     }
+}
+
+/// A plan text that was filled in.
+#[derive(Drop)]
+pub struct Filled {
+    pub text: Vec<u8>,
+    /// The first line with an `auto` that stays; none where all are filled in.
+    pub left: Option<usize>,
+    /// Each line with one, and why it stays.
+    pub notes: String,
+}
+
+/// What is told of the lines with an `auto` that stays.
+#[derive(Drop)]
+struct Left {
+    /// The number of the first one.
+    first: Option<usize>,
+    notes: Report,
+}
+
+/// What a text is filled in from.
+#[derive(Clone, Copy)]
+struct Finding<'x, 'a, 'c> {
+    sightings: &'x Sightings,
+    parts: &'x [Part<'a>],
+    labels: &'x Labels<'a, 'c>,
+    needs: &'x Needs,
+}
+
+impl Finding<'_, '_, '_> {
+    /// The lines in place of the one of this number; none where it stays, and why an `auto` does is told.
+    fn lines_for(
+        &self,
+        number: usize,
+        part: &Part<'_>,
+        left: &mut Left,
+    ) -> Result<Option<String>, AllocError> {
+        let mut lines = Report::new(self.sightings.alloc);
+        let lack = match part.due {
+            None => return Ok(None),
+            Some(Due::Budget) => self.add_budget(part, &mut lines)?,
+            Some(Due::Exit { procedure, .. }) => self.add_exit(procedure, &mut lines)?,
+            Some(Due::Label(label)) => self.add_frame(label, &mut lines)?,
+        };
+        let lines = lines.into_text()?;
+        let Some(why) = lack else {
+            return Ok(Some(lines));
+        };
+        let plan = self.labels.plan;
+        let line = Line {
+            number,
+            bytes: part.line,
+        };
+        left.first = left.first.or(Some(number));
+        left.notes.add_line(plan.file, &line);
+        left.notes.add_note(why);
+        left.notes.add_words(&lines);
+        Ok(None)
+    }
+
+    /// Adds the first line with a budget: the cost of the plan's first frame. Gives why `auto` stays.
+    fn add_budget(
+        &self,
+        part: &Part<'_>,
+        lines: &mut Report,
+    ) -> Result<Option<&'static str>, AllocError> {
+        let cost = self.cost_at_start()?;
+        if cost < 1 || i64::from(MOST_BUDGET) < cost {
+            return Ok(Some("no run tells of a budget"));
+        }
+        part.add_with_budget(cost, lines);
+        Ok(None)
+    }
+
+    /// The cost of the plan's first frame; 0 where none is known.
+    fn cost_at_start(&self) -> Result<i64, AllocError> {
+        if is_due(0, self.parts) {
+            return Ok(match self.sightings.frame(0, self.needs)? {
+                Some(frame) => frame.cost_at_start(),
+                None => 0,
+            });
+        }
+        Ok(match self.labels.plan.frame(0, 0) {
+            Some(frame) => frame.cost().constant,
+            None => 0,
+        })
+    }
+
+    /// Adds the exit frame of a procedure, as far as it is found. Gives why `auto` stays.
+    fn add_exit(
+        &self,
+        procedure: usize,
+        lines: &mut Report,
+    ) -> Result<Option<&'static str>, AllocError> {
+        let plan = self.labels.plan;
+        let has_guards = plan.container.header().version == 2;
+        let frame = self.sightings.exit(procedure, has_guards)?;
+        if let Some(frame) = &frame {
+            frame.add_exit_to(lines, usize::from(plan.parameters(procedure)));
+        }
+        Ok(lack_of(&frame))
+    }
+
+    /// Adds the frame of a label, as far as it is found. Gives why `auto` stays.
+    fn add_frame(
+        &self,
+        label: usize,
+        lines: &mut Report,
+    ) -> Result<Option<&'static str>, AllocError> {
+        let frame = self.sightings.frame(label, self.needs)?;
+        if let Some(frame) = &frame {
+            frame.add_to(lines);
+        }
+        Ok(lack_of(&frame))
+    }
+}
+
+/// Why a frame is not put in place of `auto`; none where it is whole.
+fn lack_of(frame: &Option<Frame>) -> Option<&'static str> {
+    match frame {
+        None => Some("no run comes here"),
+        Some(frame) if frame.is_whole() => None,
+        Some(_) => Some("no frame agrees with all that the runs come here with:"),
+    }
+}
+
+/// Whether `auto` stands in place of the frame of a label.
+fn is_due(label: usize, parts: &[Part<'_>]) -> bool {
+    parts.iter().any(|part| matches!(part.due, Some(Due::Label(other)) if other == label))
 }
 
 /// This many places at which nothing was seen.

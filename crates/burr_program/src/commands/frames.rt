@@ -6,7 +6,7 @@ ghost use Rattle.burr_program.specs.Ends.{runs_line};
 ghost use Rattle.burr_program.specs.Filling.{IsStepOf};
 ghost use Rattle.burr_program.specs.HowFar.{IsReady, Tells, TellsRuns};
 ghost use Rattle.burr_program.specs.MakingEnds.{Makes};
-ghost use Rattle.burr_trace.specs.FilledTexts.{IsFilledIn};
+ghost use Rattle.burr_lines.specs.FilledTexts.{IsFilledIn};
 
 use crate::files::{Content, keep_sources, read_text, write_file};
 use crate::notes::{Noting, add_notes, put_kept, reason_of_fault, refuse_with_notes, with_meaning};
@@ -15,7 +15,8 @@ use burr_blocking::Blocking;
 use burr_container::Container;
 use burr_io::{Kept, Sink, WholeLines, put_words};
 use burr_judge::{Fault, Given, OfPlan, PlanUse, Refuse, Refused, Status, Try, use_text};
-use burr_trace::{Arrivals, Filled, Labels, MOST_RUNS, Questions, Sightings, Unframed};
+use burr_lines::Unframed;
+use burr_trace::{Arrivals, Filled, Labels, MOST_RUNS, Questions, Sightings};
 use itoa::Buffer;
 use std::alloc::{AllocError, Global};
 use std::rt::Files;
@@ -159,7 +160,7 @@ fn tell_left<'a, W: Sink>(filled: Filled, sink: &mut W) -> Result<Status, Fault<
 struct Framed<'x>(&'x [u8]);
 
 impl<'x> Content for Framed<'x> {
-    ghost use Rattle.burr_trace.specs.FilledTexts.{IsFilledIn};
+    ghost use Rattle.burr_lines.specs.FilledTexts.{IsFilledIn};
 
     ghost holds = { λ it bytes. IsFilledIn it.0.now bytes };
 }
@@ -303,7 +304,7 @@ impl<'x, 't, R, W: Sink> PlanUse<R, Progress, W> for Filling<'x, 't> {
                 Ok(Status::Done)
             }
             Runs::Done(gaps) => {
-                let mut filled = self.unframed.fill(plan.file, &labels, &sightings)?;
+                let mut filled = sightings.fill(self.unframed, &labels)?;
                 filled.notes.push_str(gaps)?;
                 progress.step = Some(Step::Text(filled));
                 Ok(Status::Done)

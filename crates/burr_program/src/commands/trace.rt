@@ -4,7 +4,7 @@ ghost use Rattle.burr_judge.specs.PlanEnds.{EndsOn, never};
 ghost use Rattle.burr_judge.specs.StepEnds.{left_by};
 ghost use Rattle.burr_program.specs.Commands.{TraceCommand, EndsOnFiles};
 ghost use Rattle.burr_program.specs.NotedEnds.{NotedEnds};
-ghost use Rattle.burr_trace.specs.FilledTexts.{IsFilledIn};
+ghost use Rattle.burr_lines.specs.FilledTexts.{IsFilledIn};
 
 use crate::files::read_text;
 use crate::notes::{Noting, put_kept};
@@ -13,8 +13,9 @@ use burr_blocking::Blocking;
 use burr_container::Container;
 use burr_io::{Kept, Sink, Source};
 use burr_judge::{Fault, Given, OfPlan, PlanUse, Status, Try, use_text};
+use burr_lines::Unframed;
 use burr_runs::read_whole;
-use burr_trace::{Arrivals, Labels, Unframed, trace_of};
+use burr_trace::{Arrivals, Labels, trace_of};
 use std::alloc::Global;
 use std::rt::Files;
 

@@ -1,6 +1,6 @@
 use Rattle.std.proofs.Common.{arith, ◌≡◌, ◌+◌, ℕ, List, Some, zero, refl, ap, sym, subst, ◌∙◌}
 use Rattle.std.specs.Prelude.{Option}
-use Rattle.burr_trace.specs.FilledTexts.{IsFilledIn}
+use Rattle.burr_lines.specs.FilledTexts.{IsFilledIn}
 use Rattle.burr_program.specs.declared.commands.frames.Step.{Step}
 use Rattle.burr_program.specs.declared.commands.frames.Step.TheVariants.{MoreRuns, Text}
 use Rattle.burr_program.specs.Commands.{DoneEnds}

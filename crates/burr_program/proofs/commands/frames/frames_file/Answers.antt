@@ -1,7 +1,7 @@
 use Rattle.std.proofs.Common.{refl, subst, zero}
 use Rattle.std.specs.Prelude.{Option}
-use Rattle.burr_trace.specs.declared.unframed.Filled.{Filled}
-use Rattle.burr_trace.specs.FilledTexts.{IsFilledIn}
+use Rattle.burr_trace.specs.declared.sightings.Filled.{Filled}
+use Rattle.burr_lines.specs.FilledTexts.{IsFilledIn}
 use Rattle.burr_program.specs.Commands.{DoneEnds}
 use Rattle.burr_program.specs.MakingEnds.{MakesOrPuts}
 use Rattle.burr_program.proofs.HowFar.{tells_nothing}

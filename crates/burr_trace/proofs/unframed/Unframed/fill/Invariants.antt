@@ -1,7 +1,0 @@
-use Rattle.std.proofs.Common.{◌≡◌, drop}
-use Rattle.burr_trace.proofs.FilledTexts.{GoesOn}
-use Rattle.burr_trace.proofs.unframed.Unframed.fill.Given as goal
-
--- whatever comes of the parts that are left
-abbrev pub invariant-loop-n : goal.invariant-loop-n
-invariant-loop-n l = GoesOn l.self (drop l.n l.self-inside.parts.items) l.self-inside.rest.now l.draft.text.items
