@@ -1,23 +1,13 @@
 -- A procedure ends with a label where its last block has no code.
-use Rattle.std.proofs.Common.{◌≡◌, ℕ, ◌+◌, ◌<◌, ◌==◌, true, false, not, List, [], ◌∷◌, ◌++◌, length, sym, ap, ◌∙◌, arith}
+use Rattle.std.proofs.Common.{◌≡◌, ℕ, ◌+◌, ◌<◌, ◌==◌, true, false, not, List, [], ◌∷◌, ◌++◌, sym, ap, ◌∙◌, arith}
 use Rattle.std.proofs.lemmas.List.{length-append}
 use Rattle.std.proofs.lemmas.Grind.{flat_map-append}
-use Rattle.burr_plantext.specs.Rules.Statements.{Statement, Halt}
+use Rattle.burr_plantext.specs.Rules.Statements.{Statement}
 use Rattle.burr_plantext.specs.Rules.Sources.{Block}
 use Rattle.burr_plantext.specs.Rules.Meaning.{statement_bytes, code_bytes, code_size, block_code, labels_in}
 use Rattle.burr_plantext.specs.Rules.Checks.{is_empty, has_code}
+use Rattle.burr_plantext.proofs.Common.CodeSizes.{size_both, some_size}
 use Rattle.burr_asm.specs.Views.Routines.{RoutineParts, ends_at, ends_with_label}
-
--- a line of code has some bytes
-pub some_bytes : (s : Statement) → 0 < length (statement_bytes [] [] s)
-some_bytes Halt = omega arith
-some_bytes _ = omega arith
-
--- two pieces of code have the bytes of both
-pub size_both : (xs ys : List Statement) → code_size (xs ++ ys) ≡ code_size xs + code_size ys
-size_both xs ys =
-    ap length (flat_map-append (statement_bytes [] []) xs ys)
-    ∙ length-append (code_bytes [] [] xs) (code_bytes [] [] ys)
 
 -- where the last of the labels stands
 last_stands : (size position : ℕ) (blocks : List Block) (b : Block)
@@ -49,7 +39,7 @@ code_after : (n more : ℕ) (code : List Statement) → more ≡ n + code_size c
 code_after n more [] e = same_size n more e
 code_after n more (s ∷ code) e =
     let long = length-append (statement_bytes [] [] s) (code_bytes [] [] code) in
-    let some = some_bytes s in
+    let some = some_size s in
     let more_than : 0 < code_size (s ∷ code) = omega (arith, long, some) in
     less_size n (code_size (s ∷ code)) more more_than e
 

@@ -15,7 +15,7 @@ use Rattle.burr_asm.specs.declared.source_maps.PlanPart.{PlanPart}
 use Rattle.burr_asm.specs.declared.source_maps.Cursor.{Cursor}
 use Rattle.burr_asm.specs.Rules.SourceMaps.{rows, code_parts, blocks_parts, procedure_parts, procedures_parts, IsSourceMap}
 use Rattle.burr_asm.specs.Views.SourceMaps.{at_start, row_part, with_row, next_part, part_read}
-use Rattle.burr_asm.proofs.FrontBlocks.{size_both}
+use Rattle.burr_plantext.proofs.Common.CodeSizes.{size_both}
 use Rattle.burr_asm.proofs.StageLabels.{size_more}
 use Rattle.burr_asm.proofs.PartLines.{if_taken, and_on, walk}
 

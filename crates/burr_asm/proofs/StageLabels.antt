@@ -13,11 +13,11 @@ use Rattle.burr_plantext.specs.Rules.Statements.{Statement}
 use Rattle.burr_plantext.specs.Rules.Sources.{Block, FrameSource}
 use Rattle.burr_plantext.specs.Rules.Meaning.{statement_bytes, code_size, block_code, frame_in, labels_in, label_names}
 use Rattle.burr_plantext.specs.Rules.Checks.{P2, P4, unless, is_empty, is_known, has_code, label_check}
+use Rattle.burr_plantext.proofs.Common.CodeSizes.{size_both, some_size}
 use Rattle.burr_asm.specs.declared.text.statement.Statement.{Statement as CodedStatement}
 use Rattle.burr_asm.specs.Views.Coded.{IsCoded, coded_size}
 use Rattle.burr_asm.specs.Views.Routines.{RoutineParts, ends_at, ends_with_label, label_refusal}
 use Rattle.burr_asm.proofs.StagePlaces.{bare_block, with_code}
-use Rattle.burr_asm.proofs.FrontBlocks.{size_both, some_bytes}
 
 -- Sizes of code
 
@@ -60,7 +60,7 @@ size_bare blocks label f =
 some_code : (s : Statement) (code : List Statement) → 0 < code_size (s ∷ code)
 some_code s code =
     let sum = length-append (statement_bytes [] [] s) (flat_map (statement_bytes [] []) code) in
-    let some = some_bytes s in
+    let some = some_size s in
     omega (arith, sum, some)
 
 -- code of no bytes is no code

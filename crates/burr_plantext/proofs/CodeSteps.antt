@@ -3,18 +3,21 @@ use Rattle.std.proofs.Common.{◌≡◌, ℕ, zero, suc, ◌+◌, ◌-◌, ◌==
 use Rattle.std.proofs.Math.Seq.{drop-append_seam}
 use Rattle.std.proofs.lemmas.Bool.{false≢true}
 use Rattle.std.specs.Bool.{then_some}
+use Rattle.std.specs.Prelude.{None, if◌then◌else◌}
 use Rattle.burr_code.specs.declared.instr.Instr.{Instr}
 use Rattle.burr_code.specs.Instruction as code
 use Rattle.burr_code.specs.Instruction.{Instruction, StandsAt, Begins, spelled, label_bytes}
 use Rattle.burr_code.specs.Meaning.{meaning}
 use Rattle.burr_code.proofs.Common.Reading.{one_begins}
-use Rattle.burr_plantext.specs.Rules.Statements.{Statement, Byte}
+use Rattle.burr_plantext.specs.Rules.Operands.{by_word}
+use Rattle.burr_plantext.specs.Rules.Statements.{Statement, Byte, bares, bare_words, code_of}
 use Rattle.burr_plantext.specs.Rules.Lines.{CodeLine}
 use Rattle.burr_plantext.specs.Rules.Meaning.{statement_bytes, code_bytes, code_size}
 use Rattle.burr_plantext.specs.Rules.Listing.{MayBeListed, IsCodeListed, instruction_listed, has_names}
 use Rattle.burr_plantext.specs.Rules.Writing.{line_text}
 use Rattle.burr_plantext.specs.Rules.ListedPlaces.{comment_at, code_text}
 use Rattle.burr_plantext.specs.Views.Listings.{IsFirst, IsLineAdded, IsCodeAdded}
+use Rattle.burr_plantext.proofs.Common.CodeSizes.{some_bytes}
 
 -- How many bytes a line of code stands for
 
@@ -61,6 +64,16 @@ listed_size labels procedures bytes (s ∷ code) (rest, inr (none, b, e, is), mo
     ∙ (λ j. code_size (is j ∷ []) + listed_size labels procedures rest code more j)
     ∙ one ∙ ap (λ (all : List ℕ). length all) (sym e)
 
+-- Instructions without operands
+
+either : (t : Bool) → ◌≡◌ {A = Option Statement} (if t then None else None) None
+either true = refl
+either false = refl
+
+-- a word alone says what it says of these, or nothing
+pub code_alone : (word : List ℕ) → code_of word [] ≡ by_word word (bare_words bares) []
+code_alone word = simp either refl
+
 -- The instruction with which code begins
 
 first_by : (labels procedures : ℕ) (bytes : List ℕ) (instr : Instr) (size : ℕ) (passes : Bool)
@@ -84,10 +97,6 @@ found_first labels procedures bytes instr size passes found stands long told e =
     (first_by labels procedures bytes instr size passes stands long told)
 
 -- The line of an instruction, or of a byte
-
-some_bytes : (i : Instruction) → 0 < length (spelled i)
-some_bytes code.Halt = omega arith
-some_bytes _ = omega arith
 
 pub instruction_added : (labels procedures : ℕ) (bytes old new : List ℕ) (size : ℕ)
     (i : Instruction) → MayBeListed labels procedures i → Begins bytes i

@@ -1,4 +1,5 @@
 pub mod Blanks
+pub mod CodeSizes
 pub mod Cuts
 pub mod FormCuts
 pub mod Forms

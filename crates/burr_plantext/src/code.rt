@@ -1,7 +1,8 @@
 //! The labels and the code of a procedure, added to a text.
 
-ghost use Rattle.std.specs.Prelude.{◌≡◌, ◌<◌, ◌≤◌, ◌+◌, ◌-◌, ◌∷◌, ◌++◌, ℕ, length, take, drop, slice_get, OnOk, IfOk, Some, None, if◌then◌else◌, nat_lt, map, codes};
+ghost use Rattle.std.specs.Prelude.{◌≡◌, ◌<◌, ◌≤◌, ◌+◌, ◌-◌, [], ◌∷◌, ◌++◌, ℕ, length, take, drop, slice_get, OnOk, IfOk, IfSome, MatchOption, Some, None, if◌then◌else◌, nat_lt, map, codes};
 ghost use Rattle.std.specs.List.{list_all, join_with_byte};
+ghost use Rattle.burr_code.specs.Instruction.{IsInRange, spelled};
 ghost use Rattle.burr_code.specs.Meaning.{meaning};
 ghost use Rattle.burr_code.specs.declared.limits.TheConstants.{MOST_CODE};
 ghost use Rattle.burr_container.specs.Rules.Plans.{Frame};
@@ -14,7 +15,7 @@ ghost use Rattle.burr_plantext.specs.Views.Listings.{begin_of, IsFirst, IsLineAd
 ghost use Rattle.burr_plantext.specs.Rules.ListedPlaces.{comment_at};
 ghost use Rattle.std.specs.Fmt.{decimal, signed_decimal};
 ghost use Rattle.burr_voxels.specs.Grid.{name_of};
-ghost use Rattle.burr_plantext.specs.Rules.Statements.{Byte};
+ghost use Rattle.burr_plantext.specs.Rules.Statements.{Alone, Byte, bare_of, bares, code_of};
 
 use crate::frames::add_frame;
 use crate::numbers::{add_label_name, add_procedure_name, add_set, add_word, end_line};
@@ -259,13 +260,9 @@ fn add_words(text: &mut Vec<u8>, instr: &Instr<'_>) -> Result<(), AllocError>
         ++ join_with_byte 32 (statement_words (instruction_listed (meaning instr.now)))) }
 {
     match instr {
-        Instr::Halt => text.extend_from_slice(b"halt"),
         Instr::Push(number) => add_numbered(text, b"push", *number),
         Instr::Load(slot) => add_numbered(text, b"load", *slot),
         Instr::Store(slot) => add_numbered(text, b"store", *slot),
-        Instr::Add => text.extend_from_slice(b"add"),
-        Instr::Sub => text.extend_from_slice(b"sub"),
-        Instr::Drop => text.extend_from_slice(b"drop"),
         Instr::Grip(set) => add_grip(text, *set),
         Instr::Step(direction) => add_directed(text, b"step ", *direction),
         Instr::Aside(direction, tray) => add_aside(text, *direction, *tray),
@@ -275,7 +272,38 @@ fn add_words(text: &mut Vec<u8>, instr: &Instr<'_>) -> Result<(), AllocError>
         Instr::Ask(low, high) => add_ask(text, *low, *high),
         Instr::Pick(labels) => add_pick(text, labels),
         Instr::Call(procedure) => add_call(text, *procedure),
-        Instr::Ret => text.extend_from_slice(b"ret"),
+        _ => text.extend_from_slice(bare_word(instr)),
+    }
+}
+
+/// The word of an instruction without operands; of another one no byte.
+fn bare_word(instr: &Instr<'_>) -> &'static [u8]
+    ensures { result.now ≡ (bare_of bares (meaning instr.now)).word }
+{
+    match instr {
+        Instr::Halt => b"halt",
+        Instr::Add => b"add",
+        Instr::Sub => b"sub",
+        Instr::Drop => b"drop",
+        Instr::Ret => b"ret",
+        _ => b"",
+    }
+}
+
+/// The instruction without operands that has this word.
+pub fn bare_instr(word: &[u8]) -> Option<Instr<'static>>
+    ensures range { IfSome result (λ instr. IsInRange (meaning instr)) }
+    ensures short { IfSome result (λ instr. length (spelled (meaning instr)) ≡ 1) }
+    ensures value { MatchOption result (code_of word.now [] ≡ None) (λ instr.
+        code_of word.now [] ≡ Some (Alone (bare_of bares (meaning instr)))) }
+{
+    match word {
+        b"halt" => Some(Instr::Halt),
+        b"add" => Some(Instr::Add),
+        b"sub" => Some(Instr::Sub),
+        b"drop" => Some(Instr::Drop),
+        b"ret" => Some(Instr::Ret),
+        _ => None,
     }
 }
 

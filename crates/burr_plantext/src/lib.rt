@@ -24,6 +24,8 @@
 //!   tells its procedure and its position. Comments are lines that are skipped, so it has the
 //!   listing's lines.
 //!
+//! `bare_instr` gives the instruction that a word alone is, exactly where the definitions have one.
+//!
 //! # Tested only
 //! - That the definitions say what is meant is tested by worked rows that are computed: the texts
 //!   of three plans, their code bytes, 46 faults, and a label within an instruction.
@@ -36,6 +38,7 @@ mod laws;
 mod listing;
 mod numbers;
 
+pub use code::bare_instr;
 pub use laws::{
     a_judged_text_is_of_its_source, a_listing_stands_for_its_plan, a_plan_has_one_listing,
     a_text_has_a_fault_or_a_plan, a_text_has_one_plan, a_text_stands_for_a_plan_within_the_format,

@@ -1,9 +1,10 @@
 -- The words of lines that the code's values are.
 use Rattle.std.specs.Prelude.{ℕ, List, Option, Some, None}
 use Rattle.burr_plantext.specs.Rules.Texts.{words_of}
-use Rattle.burr_plantext.specs.Rules.Statements.{Statement, Halt, Push, Load, Store, Add, Sub, Drop, Grip, Step, Aside, Tray, Jump, Down, Ask, Pick, Call, Ret, Byte}
+use Rattle.burr_plantext.specs.Rules.Statements.{Statement, Push, Load, Store, Grip, Step, Aside, Tray, Jump, Down, Ask, Pick, Call, Byte}
 use Rattle.burr_plantext.specs.Rules.Lines.{Line, PlanLine, ProcLine, ExitLine, ResultLine, LabelLine, FrameLine, SlotLine, GuardLine, StackLine, CostLine, AtLine, CodeLine, PlanWords, ProcedureWords, GripWords, RangeWords, SlotWords, PlaceWords, Apart, On, PieceWords}
 use Rattle.burr_asm.specs.Views.Versions.{number_of_version}
+use Rattle.burr_asm.specs.Views.Words.{line_alone}
 use Rattle.burr_asm.specs.declared.text.words.NumberWord.{NumberWord}
 use Rattle.burr_asm.specs.declared.text.line.NumberKeyword.{NumberKeyword}
 use Rattle.burr_asm.specs.declared.text.line.NumberKeyword.TheVariants as number
@@ -33,16 +34,12 @@ number_words number.Tray = Tray
 
 -- the line of an instruction that names nothing
 abbrev pub plain_words : PlainLine → Statement
-plain_words plain.Halt = Halt
+plain_words (plain.Bare word) = line_alone word.bytes.now
 plain_words (plain.Number keyword number) = number_words keyword number.bytes.now
-plain_words plain.Add = Add
-plain_words plain.Sub = Sub
-plain_words plain.Drop = Drop
 plain_words (plain.Grip set) = Grip set.bytes.now
 plain_words (plain.Step direction) = Step direction
 plain_words (plain.Aside direction tray) = Aside direction tray.bytes.now
 plain_words (plain.Ask low high) = Ask low.bytes.now high.bytes.now
-plain_words plain.Ret = Ret
 
 -- a line of code
 abbrev pub code_words : CodeParts → Statement

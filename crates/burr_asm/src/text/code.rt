@@ -17,7 +17,7 @@ use crate::text::line::{CodeKeyword, NumberKeyword, PlainKeyword};
 use crate::text::names::OfferWords;
 use crate::text::numbers::{operand, range, slot, tray};
 use crate::text::statement::{Scope, Statement};
-use crate::text::words::{NumberWord, SetWord, gripped_set, name};
+use crate::text::words::{BareWord, NumberWord, SetWord, gripped_set, name};
 use burr_code::limits::MOST_CODE;
 use burr_code::{Instr, encode};
 use burr_text::cut_at;
@@ -155,11 +155,8 @@ fn instr<'a>(line: PlainLine<'a>) -> Option<Instr<'a>>
         × IsPlain (meaning instr) (plain_words line.entry)) }
 {
     match line {
-        PlainLine::Halt => Some(Instr::Halt),
+        PlainLine::Bare(word) => Some(word.instr()),
         PlainLine::Number(keyword, word) => with_number(keyword, word),
-        PlainLine::Add => Some(Instr::Add),
-        PlainLine::Sub => Some(Instr::Sub),
-        PlainLine::Drop => Some(Instr::Drop),
         PlainLine::Grip(set) => Some(Instr::Grip(gripped_set(set)?)),
         PlainLine::Step(direction) => Some(Instr::Step(direction)),
         PlainLine::Aside(direction, word) => Some(Instr::Aside(direction, tray(word)?)),
@@ -167,7 +164,6 @@ fn instr<'a>(line: PlainLine<'a>) -> Option<Instr<'a>>
             let (low, high) = range(low, high)?;
             Some(Instr::Ask(low, high))
         }
-        PlainLine::Ret => Some(Instr::Ret),
     }
 }
 
@@ -191,16 +187,10 @@ fn with_number<'a>(keyword: NumberKeyword, word: NumberWord<'a>) -> Option<Instr
 /// A line of an instruction that names no label and no procedure, by its form alone.
 #[derive(Clone, Copy)]
 pub enum PlainLine<'a> {
-    /// `halt`
-    Halt,
+    /// An instruction without operands.
+    Bare(BareWord<'a>),
     /// `push NUMBER`, `load SLOT`, `store SLOT` or `tray TRAY`
     Number(NumberKeyword, NumberWord<'a>),
-    /// `add`
-    Add,
-    /// `sub`
-    Sub,
-    /// `drop`
-    Drop,
     /// `grip SET`
     Grip(SetWord<'a>),
     /// `step DIRECTION`
@@ -209,33 +199,9 @@ pub enum PlainLine<'a> {
     Aside(Direction, NumberWord<'a>),
     /// `ask LOW HIGH`
     Ask(NumberWord<'a>, NumberWord<'a>),
-    /// `ret`
-    Ret,
 }
 
-/// All instructions without operands, as they are written.
-const ALONE: [(&[u8], PlainLine<'static>); 5] = [
-    (b"halt", PlainLine::Halt),
-    (b"add", PlainLine::Add),
-    (b"sub", PlainLine::Sub),
-    (b"drop", PlainLine::Drop),
-    (b"ret", PlainLine::Ret),
-];
-
 impl PlainLine<'_> {
-    /// The line that is this one word; None where it is of no form.
-    pub fn of_word(word: &[u8]) -> Option<PlainLine<'_>>
-        ensures { MatchOption result (code_of word.now [] ≡ None) (λ line.
-            code_of word.now [] ≡ Some (plain_words line)) }
-    {
-        for (text, line) in &ALONE {
-            if word == *text {
-                return Some(*line);
-            }
-        }
-        None
-    }
-
     /// The line that begins with a keyword, and what stands after the blank; None where it is of no
     /// form.
     pub fn with_operands(keyword: PlainKeyword, words: &[u8]) -> Option<PlainLine<'_>>
@@ -284,7 +250,7 @@ impl CodeLine<'_> {
         ensures { MatchOption result (code_of word.now [] ≡ None) (λ line.
             code_of word.now [] ≡ Some (code_words line)) }
     {
-        Some(CodeLine::Plain(PlainLine::of_word(word)?))
+        Some(CodeLine::Plain(PlainLine::Bare(BareWord::parse(word)?)))
     }
 
     /// The line that begins with a keyword, and what stands after the blank; None where it is of no

@@ -1,13 +1,20 @@
-ghost use Rattle.std.specs.Prelude.{◌≡◌, MatchOption, None, Some, IsTrue, true, false, ◌<◌, ◌≤◌, ◌≢◌, IfSome};
+ghost use Rattle.std.specs.Prelude.{◌≡◌, [], length, MatchOption, None, Some, IsTrue, true, false, ◌<◌, ◌≤◌, ◌≢◌, IfSome};
 ghost use Rattle.burr_container.specs.Rules.Fitting.{is_name_text};
+ghost use Rattle.burr_code.specs.Instruction.{IsInRange, spelled};
+ghost use Rattle.burr_code.specs.Meaning.{meaning};
+ghost use Rattle.burr_plantext.specs.Rules.Checks.{is_in_range};
+ghost use Rattle.burr_plantext.specs.Rules.Statements.{code_of};
 ghost use Rattle.burr_plantext.specs.Rules.Texts.{first_word, is_skipped, words_of};
 ghost use Rattle.burr_plantext.specs.Rules.Written.{is_number, is_below, natural_in, is_set, pieces};
-ghost use Rattle.burr_asm.specs.Views.Words.{cut_word};
+ghost use Rattle.burr_asm.specs.Views.Words.{cut_word, line_alone};
+ghost use Rattle.burr_asm.specs.Views.Plain.{IsPlain};
 ghost use Rattle.burr_code.specs.declared.limits.TheConstants.{SLOTS};
 ghost use Rattle.std.specs.List.{list_all};
 ghost use Rattle.burr_asm.specs.Views.Sets.{IsGripped, IsMember, IsSetBelow};
 
 use crate::text::numbers::{byte, slot};
+use burr_code::Instr;
+use burr_plantext::bare_instr;
 use burr_text::{cut_at, is_name, is_number};
 
 /// A number as it is written: `0`, or digits whose first isn't `0`, perhaps after a `-`.
@@ -54,6 +61,34 @@ impl<'a> NumberWord<'a> {
         ensures number { IsTrue (is_number self.entry.bytes.now) }
     {
         str::from_utf8(self.bytes).unwrap()
+    }
+}
+
+/// An instruction without operands, by its word.
+#[derive(Clone, Copy)]
+pub struct BareWord<'a> {
+    bytes: &'a [u8],
+    ghost known: { code_of bytes.now [] ≡ Some (line_alone bytes.now) },
+}
+
+impl<'a> BareWord<'a> {
+    /// The instruction whose line is this one word.
+    pub fn parse(bytes: &'a [u8]) -> Option<BareWord<'a>>
+        ensures { MatchOption result (code_of bytes.now [] ≡ None) (λ word.
+            code_of bytes.now [] ≡ Some (line_alone word.bytes.now)) }
+    {
+        bare_instr(bytes)?;
+        Some(BareWord { bytes })
+    }
+
+    /// The instruction.
+    pub fn instr(self) -> Instr<'static>
+        ensures range { IsInRange (meaning result) }
+        ensures short { length (spelled (meaning result)) ≡ 1 }
+        ensures value { (is_in_range (line_alone self.entry.bytes.now) ≡ true)
+            × IsPlain (meaning result) (line_alone self.entry.bytes.now) }
+    {
+        bare_instr(self.bytes).unwrap()
     }
 }
 

@@ -17,7 +17,8 @@ use Rattle.burr_container.specs.Rules.Fitting.{rise_from}
 use Rattle.burr_plantext.specs.Rules.Listing.{label_name, frame_listed, code_after, AreBlocksListed}
 use Rattle.burr_plantext.proofs.Texts.Frames.{passes, frame_right, frame_back}
 use Rattle.burr_plantext.proofs.Texts.Names.{names_from, names_last, unknown_after}
-use Rattle.burr_plantext.proofs.Texts.CodeListed.{IsCodeOf, code_listed, size_both, statements_right, names, callees}
+use Rattle.burr_plantext.proofs.Common.CodeSizes.{size_both}
+use Rattle.burr_plantext.proofs.Texts.CodeListed.{IsCodeOf, code_listed, statements_right, names, callees}
 
 list_all_both : {A : Type 0} (is_so : A → Bool) (xs ys : List A) → IsTrue (list_all is_so xs) → IsTrue (list_all is_so ys) → IsTrue (list_all is_so (xs ++ ys))
 list_all_both is_so [] ys p q = q

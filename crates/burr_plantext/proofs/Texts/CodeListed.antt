@@ -4,7 +4,6 @@ use Rattle.std.specs.Prelude.{◌&&◌, is_none, nat_le, nat_lt, int_le, None}
 use Rattle.std.specs.List.{list_all}
 use Rattle.std.proofs.lemmas.Bool.{and_from, and_parts}
 use Rattle.std.proofs.lemmas.Int.{ints}
-use Rattle.std.proofs.lemmas.Grind.{flat_map-append}
 use Rattle.burr_code.specs.Instruction as code
 use Rattle.burr_code.specs.Instruction.{Instruction, IsInRange, IsInNumberRange, spelled, label_bytes}
 use Rattle.burr_code.specs.declared.limits.TheConstants.{MOST_CODE}
@@ -16,6 +15,7 @@ use Rattle.burr_plantext.specs.Rules.Checks.{P3, P4, unless, is_empty, is_in_ran
 use Rattle.burr_plantext.specs.Rules.Right.{each_after}
 use Rattle.burr_container.specs.Rules.Fitting as fitting
 use Rattle.burr_plantext.specs.Rules.Listing.{procedure_name, label_name, set_word, instruction_listed, has_names, IsListedAs, IsListedRaw, IsCodeListed}
+use Rattle.burr_plantext.proofs.Common.CodeSizes.{size_both}
 use Rattle.burr_plantext.proofs.Common.Numbers.{natural_back}
 use Rattle.burr_plantext.proofs.Texts.Sets.{below_decimal, set_back, set_rises}
 use Rattle.burr_plantext.proofs.Texts.Frames.{passes, end_back, end_right, ends_right}
@@ -141,9 +141,6 @@ module _ (labels procedures : ℕ) (few_labels : labels ≤ 256) (few_procedures
       }
 
 -- Sizes
-
-pub size_both : (a b : List Statement) → code_size (a ++ b) ≡ code_size a + code_size b
-size_both a b = ap (λ (s : List ℕ). length s) (flat_map-append (statement_bytes [] []) a b) ∙ length-append (code_bytes [] [] a) (code_bytes [] [] b)
 
 -- code within the limit is right line by line
 pub statements_right : (blocks : List Block) (code before : List Statement) → IsTrue (list_all is_in_range code)

@@ -22,7 +22,7 @@ use Rattle.burr_plantext.specs.Rules.Checks.{P2, P3, P4, unless, is_empty, is_kn
 use Rattle.burr_plantext.specs.Rules.Right.{each_after, all_right, is_frame, is_block}
 use Rattle.burr_container.specs.Rules.Fitting as fitting
 use Rattle.burr_container.specs.Rules.Fitting.{rise_from}
-use Rattle.burr_plantext.proofs.Texts.CodeListed.{size_both}
+use Rattle.burr_plantext.proofs.Common.CodeSizes.{size_both, some_size}
 use Rattle.burr_plantext.proofs.Texts.Said.{is_said}
 use Rattle.burr_plantext.proofs.Texts.Fits.{unless_none, each_all, few_all, below, frame_fits}
 
@@ -42,10 +42,6 @@ module _ (labels procedures : List (List ℕ)) where
   code_length (s ∷ code) =
       length-append (statement_bytes labels procedures s) (code_bytes labels procedures code)
       ∙ (λ i. size_same s i + code_length code i) ∙ sym (length-append (statement_bytes [] [] s) (code_bytes [] [] code))
-
-some_size : (s : Statement) → 0 < length (statement_bytes [] [] s)
-some_size said.Halt = omega arith
-some_size _ = omega arith
 
 some_code : (code : List Statement) → IsTrue (not (is_empty code)) → 0 < code_size code
 some_code [] h = grind arith
@@ -98,6 +94,7 @@ length_map f (n ∷ names) = ap suc (length_map f names)
 
 module _ (labels procedures : List (List ℕ)) (few : length procedures ≤ 16) where
   statement_fits : (s : Statement) → IsTrue (is_in_range s) → IsTrue (is_said s) → IsTrue (are_bytes (statement_bytes labels procedures s))
+  statement_fits (said.Alone bare) h k = k
   statement_fits (said.Push n) h k = word_bytes (number_in n)
   statement_fits (said.Load v) h k = one_byte (natural_in v) (let b = below 8 v h in omega arith)
   statement_fits (said.Store v) h k = one_byte (natural_in v) (let b = below 8 v h in omega arith)
@@ -113,7 +110,6 @@ module _ (labels procedures : List (List ℕ)) (few : length procedures ≤ 16) 
       and_from (nat_lt (length (map (number_of labels) names)) 256) _ (lt-ltb (length (map (number_of labels) names)) 256 (let b = leb-true (length names) 8 k in omega (arith, size, b))) (labels_bytes (number_of labels) names)
   statement_fits (said.Call q) h k = one_byte (number_of procedures q) (let n = number_few procedures q in omega arith)
   statement_fits (said.Byte b) h k = one_byte b (ltb-true b 256 k)
-  statement_fits _ h k = refl
 
   pub code_fits : (code : List Statement) → IsTrue (list_all is_in_range code) → IsTrue (list_all is_said code) → IsTrue (are_bytes (code_bytes labels procedures code))
   code_fits [] h k = refl

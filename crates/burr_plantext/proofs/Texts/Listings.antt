@@ -1,14 +1,14 @@
 -- Each plan has a listing, and no other.
-use Rattle.std.proofs.Common.{◌≡◌, ℕ, zero, suc, ◌<◌, ◌≤◌, ◌⊎◌, inl, inr, List, [], ◌∷◌, ◌++◌, length, Bool, true, false, IsTrue, refl, sym, ap, subst, ◌∙◌, arith, length-append}
+use Rattle.std.proofs.Common.{◌≡◌, ℕ, zero, suc, ◌≤◌, ◌⊎◌, inl, inr, List, [], ◌∷◌, ◌++◌, length, Bool, true, false, IsTrue, refl, sym, ap, subst, ◌∙◌, arith, length-append}
 use Rattle.std.proofs.lemmas.List.{append_cancel_left}
 use Rattle.burr_text.proofs.Common.Cuts.{same_head, same_tail}
-use Rattle.burr_code.specs.Instruction as code
 use Rattle.burr_code.specs.Instruction.{Instruction, IsInRange, Begins, StandsAt, spelled}
 use Rattle.burr_code.proofs.Common.Reading.{one_begins, stands_or_none}
 use Rattle.burr_container.specs.Rules.Plans.{Frame, PlanProcedure, Plan}
 use Rattle.burr_plantext.specs.Rules.Statements.{Statement, Byte}
 use Rattle.burr_plantext.specs.Rules.Sources.{Block, ProcedureSource, PlanSource, source_lines}
 use Rattle.burr_plantext.specs.Rules.Writing.{text_of}
+use Rattle.burr_plantext.proofs.Common.CodeSizes.{some_bytes}
 use Rattle.burr_plantext.specs.Rules.Listing.{label_name, frame_listed, exit_listed, instruction_listed, has_names, MayBeListed, IsListedAs, IsListedRaw, IsCodeListed, code_after, AreBlocksListed, head_of, title_of, AreProceduresListed, IsListed, IsListing}
 
 nil_cons : (b : ℕ) (r : List ℕ) → [] ≡ b ∷ r → ⊥
@@ -16,8 +16,7 @@ nil_cons b r e = cc
 
 -- each instruction has a byte
 no_first : (i : Instruction) (r : List ℕ) → [] ≡ spelled i ++ r → ⊥
-no_first code.Halt r e = nil_cons _ _ e
-no_first _ r e = nil_cons _ _ e
+no_first i r e = let some = some_bytes i in omega (arith, some, ap (λ (all : List ℕ). length all) e, length-append (spelled i) r)
 
 -- One
 
@@ -86,16 +85,6 @@ one_listing plan a b (s, h, e) (t, k, f) = e ∙ ap (λ (s : PlanSource). text_o
 
 -- Some
 
-spelled_some : (i : Instruction) → 0 < length (spelled i)
-spelled_some i = by (spelled i) refl
-  where
-    by : (bytes : List ℕ) → spelled i ≡ bytes → 0 < length bytes
-    by [] e = absurd (no_first i [] (sym (append_nothing (spelled i) e)))
-      where
-        append_nothing : (s : List ℕ) → s ≡ [] → s ++ [] ≡ []
-        append_nothing s e = ap (λ (x : List ℕ). x ++ []) e
-    by (b ∷ bytes) e = omega arith
-
 module _ (labels procedures : ℕ) where
   abbrev SomeCode : List ℕ → Type 0
   SomeCode bytes = (code : List Statement) × IsCodeListed labels procedures bytes code
@@ -123,7 +112,7 @@ module _ (labels procedures : ℕ) where
       by (inl (i, stands)) other more =
           let rest = stands.begins.0 in
           let size = ap (λ (s : List ℕ). length s) stands.begins.1 in
-          let some = spelled_some i in
+          let some = some_bytes i in
           by_names (has_names labels procedures i) b bytes i rest refl stands.in_range stands.begins.1 (more rest (omega (arith, size, some, length-append (spelled i) rest))) other
       by (inr none) other more = raw_first b bytes (λ i may begins. none i (record { in_range = may.in_range; begins = begins })) other
 

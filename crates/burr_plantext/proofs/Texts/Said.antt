@@ -1,4 +1,5 @@
--- What the form of a line tells of it: the plan's line has a name, `pick` few labels, and a raw byte is one.
+-- What the form of a line tells of it: the plan's line has a name, `pick` few labels, and a raw byte and an
+-- instruction without operands are bytes.
 use Rattle.std.proofs.Common.{◌≡◌, ℕ, suc, ◌+◌, ◌*◌, ◌-◌, ◌≤◌, ◌==◌, List, [], ◌∷◌, ◌++◌, length, map, Bool, true, false, IsTrue, refl, subst, arith, codes, lt-ltb, leb-true}
 use Rattle.std.specs.Prelude.{◌&&◌, ◌||◌, nat_le, nat_lt, Option, Some, None, if◌then◌else◌, slice_index_or}
 use Rattle.std.specs.List.{list_all}
@@ -6,11 +7,12 @@ use Rattle.std.specs.Str.{bytes_eq}
 use Rattle.std.proofs.lemmas.Bool.{and_from, and_parts}
 use Rattle.burr_text.specs.Names.{is_digit}
 use Rattle.burr_voxels.specs.declared.direction.Direction.{Direction}
+use Rattle.burr_code.specs.Instruction.{spelled}
 use Rattle.burr_container.specs.Rules.Fitting.{is_name_text}
 use Rattle.burr_plantext.specs.Rules.Written.{pieces, is_number, is_set, is_form}
 use Rattle.burr_plantext.specs.Rules.Operands.{given, alone, one, two, three, by_word, along, directed, direction_of}
 use Rattle.burr_plantext.specs.Rules.Statements as said
-use Rattle.burr_plantext.specs.Rules.Statements.{Statement, is_hex_digit, hex_value, raw_byte, bytes_line, offer, code_words, code_of}
+use Rattle.burr_plantext.specs.Rules.Statements.{Bare, Statement, bares, is_hex_digit, hex_value, raw_byte, bytes_line, offer, operand_words, bare_words, code_words, code_of}
 use Rattle.burr_plantext.specs.Rules.Lines.{Apart, On, Line, PlanLine, ExitLine, ResultLine, LabelLine, FrameLine, SlotLine, GuardLine, StackLine, CostLine, CodeLine, title_line, head_line, procedure_line, at_line, piece_line, line_words, code_line, or_else, line_of}
 use Rattle.burr_plantext.specs.Rules.Texts.{LineRead, Reads, Unread, Broken, is_skipped, read_if, ended_line, unended_line, numbered_from, lines_read}
 
@@ -18,6 +20,7 @@ use Rattle.burr_plantext.specs.Rules.Texts.{LineRead, Reads, Unread, Broken, is_
 abbrev pub is_said : Statement → Bool
 is_said (said.Pick labels) = nat_le (length labels) 8
 is_said (said.Byte b) = nat_lt b 256
+is_said (said.Alone bare) = list_all (λ b. nat_lt b 256) (spelled bare.instruction)
 is_said s = true
 
 -- what the form of a line tells
@@ -115,47 +118,31 @@ offer_gives labels x e =
     let few = nat_le (length labels) 8 in
     given_gives is_said (count && few && list_all is_name_text labels) (said.Pick labels) x e (λ k. (and_parts count few (and_parts (count && few) (list_all is_name_text labels) k).0).1)
 
+bares_give : (some : List Bare) (more : List (List ℕ × (List (List ℕ) → Option Statement))) → IsTrue (list_all (λ (bare : Bare). is_said (said.Alone bare)) some)
+    → AllGive is_said more → AllGive is_said (bare_words some ++ more)
+bares_give [] more h k = k
+bares_give (bare ∷ some) more h k =
+    let parts = and_parts (is_said (said.Alone bare)) (list_all (λ (bare : Bare). is_said (said.Alone bare)) some) h in
+    (alone_gives is_said (said.Alone bare) parts.0, bares_give some more parts.1 k)
+
+step_gives : Gives is_said (directed (λ d. alone (said.Step d)))
+step_gives = directed_gives is_said (λ d. alone (said.Step d)) (λ d. alone_gives is_said (said.Step d) refl)
+
+aside_gives : Gives is_said (directed (λ d. one is_number (said.Aside d)))
+aside_gives = directed_gives is_said (λ d. one is_number (said.Aside d)) (λ d. one_gives is_said is_number (said.Aside d) (λ w h. refl))
+
+-- one operand, and nothing is told of it
+plain_gives : (p : List ℕ → Bool) (f : List ℕ → Statement) → ((w : List ℕ) → IsTrue (is_said (f w))) → Gives is_said (one p f)
+plain_gives p f h = one_gives is_said p f (λ w k. h w)
+
 code_gives : AllGive is_said code_words
-code_gives = (
-  alone_gives is_said _ refl,
-  (
-    one_gives is_said is_number said.Push (λ w h. refl),
-    (
-      one_gives is_said is_number said.Load (λ w h. refl),
-      (
-        one_gives is_said is_number said.Store (λ w h. refl),
-        (
-          alone_gives is_said _ refl,
-          (
-            alone_gives is_said _ refl,
-            (
-              alone_gives is_said _ refl,
-              (
-                one_gives is_said is_set said.Grip (λ w h. refl),
-                (
-                  directed_gives is_said (λ d. alone (said.Step d)) (λ d. alone_gives is_said (said.Step d) refl),
-                  (
-                    directed_gives is_said (λ d. one is_number (said.Aside d)) (λ d. one_gives is_said is_number (said.Aside d) (λ w h. refl)),
-                    (
-                      one_gives is_said is_number said.Tray (λ w h. refl),
-                      (
-                        one_gives is_said is_name_text said.Jump (λ w h. refl),
-                        (
-                          two_gives is_said is_number is_name_text said.Down (λ v w h. refl),
-                          (two_gives is_said is_number is_number said.Ask (λ v w h. refl), (offer_gives, (one_gives is_said is_name_text said.Call (λ w h. refl), (alone_gives is_said _ refl, (raw_gives, tt))))),
-                        ),
-                      ),
-                    ),
-                  ),
-                ),
-              ),
-            ),
-          ),
-        ),
-      ),
-    ),
-  ),
-)
+code_gives =
+    let number = plain_gives is_number in
+    let name = plain_gives is_name_text in
+    let ask = two_gives is_said is_number is_number said.Ask (λ v w h. refl) in
+    let down = two_gives is_said is_number is_name_text said.Down (λ v w h. refl) in
+    bares_give bares operand_words refl
+    (number said.Push (λ w. refl), (number said.Load (λ w. refl), (number said.Store (λ w. refl), (plain_gives is_set said.Grip (λ w. refl), (step_gives, (aside_gives, (number said.Tray (λ w. refl), (name said.Jump (λ w. refl), (down, (ask, (offer_gives, (name said.Call (λ w. refl), (raw_gives, tt)))))))))))))
 
 -- Lines
 

@@ -10,7 +10,7 @@ use Rattle.burr_code.specs.declared.placement.Placement.{Placement}
 use Rattle.burr_code.specs.declared.placement.Placement.TheVariants.{On}
 use Rattle.burr_forms.specs.Rules.Forms.{Form}
 use Rattle.burr_container.specs.Rules.Plans.{Range, FormCell, Frame, PlanProcedure, Plan}
-use Rattle.burr_plantext.specs.Rules.Statements.{Statement, Halt, Push, Byte}
+use Rattle.burr_plantext.specs.Rules.Statements.{Statement, Push, Byte}
 use Rattle.burr_plantext.specs.Rules.Lines.{ProcedureWords}
 use Rattle.burr_plantext.specs.Rules.Sources.{Block, ProcedureSource, PlanSource}
 use Rattle.burr_plantext.specs.Rules.Meaning.{plan_of}
@@ -315,8 +315,11 @@ short_push _ may (rest, e) = omega (arith, same_head _ _ _ _ e)
 abbrev first_block : Block
 first_block = record { label = label_name 0; frame = frame_listed (start 3); code = Byte 16 ∷ [] }
 
+abbrev halt : Statement
+halt = instruction_listed code.Halt
+
 abbrev second_block : Block
-second_block = record { label = label_name 1; frame = frame_listed (start 3); code = Halt ∷ Halt ∷ Halt ∷ Push (codes "4609") ∷ Byte 1 ∷ Halt ∷ [] }
+second_block = record { label = label_name 1; frame = frame_listed (start 3); code = halt ∷ halt ∷ halt ∷ Push (codes "4609") ∷ Byte 1 ∷ halt ∷ [] }
 
 abbrev duo_source : PlanSource
 duo_source = record {
@@ -411,7 +414,7 @@ abbrev codes_of : ProcedureSource → List (List Statement)
 codes_of p = map (λ (b : Block). b.code) p.blocks
 
 all_code : map codes_of (source_in all_text).procedures
-    ≡ ((map instruction_listed all_instructions ++ (Byte 255 ∷ Byte 15 ∷ [])) ∷ (Push (codes "-32767") ∷ Halt ∷ []) ∷ [])
+    ≡ ((map instruction_listed all_instructions ++ (Byte 255 ∷ Byte 15 ∷ [])) ∷ (Push (codes "-32767") ∷ halt ∷ []) ∷ [])
     ∷ ((instruction_listed code.Ret ∷ []) ∷ []) ∷ []
 unfolding digits
 all_code = refl

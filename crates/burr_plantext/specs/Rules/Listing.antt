@@ -9,7 +9,7 @@ use Rattle.burr_code.specs.declared.placement.Placement.TheVariants as places
 use Rattle.burr_code.specs.declared.placement.Placement.{Placement}
 use Rattle.burr_forms.specs.Rules.Forms.{Form}
 use Rattle.burr_container.specs.Rules.Plans.{FormCell, Range, Frame, ExitFrame, PlanProcedure, Plan}
-use Rattle.burr_plantext.specs.Rules.Statements.{Statement, Halt, Push, Load, Store, Add, Sub, Drop, Grip, Step, Aside, Tray, Jump, Down, Ask, Pick, Call, Ret, Byte}
+use Rattle.burr_plantext.specs.Rules.Statements.{Statement, Alone, Push, Load, Store, Grip, Step, Aside, Tray, Jump, Down, Ask, Pick, Call, Byte, bares, bare_of}
 use Rattle.burr_plantext.specs.Rules.Lines.{PlanWords, ProcedureWords, GripWords, RangeWords, SlotWords, PlaceWords, Apart, On, PieceWords}
 use Rattle.burr_plantext.specs.Rules.Sources.{ExitSource, FrameSource, Block, ProcedureSource, PlanSource, source_lines}
 use Rattle.burr_plantext.specs.Rules.Writing.{text_of}
@@ -108,13 +108,9 @@ exit_listed (Some f) = Some (record {
 
 -- the words of an instruction
 abbrev pub instruction_listed : Instruction → Statement
-instruction_listed code.Halt = Halt
 instruction_listed (code.Push n) = Push (signed_decimal n)
 instruction_listed (code.Load slot) = Load (decimal slot)
 instruction_listed (code.Store slot) = Store (decimal slot)
-instruction_listed code.Add = Add
-instruction_listed code.Sub = Sub
-instruction_listed code.Drop = Drop
 instruction_listed (code.Grip set) = Grip (set_word set)
 instruction_listed (code.Step direction) = Step direction
 instruction_listed (code.Aside direction tray) = Aside direction (decimal tray)
@@ -124,7 +120,7 @@ instruction_listed (code.Down slot label) = Down (decimal slot) (label_name labe
 instruction_listed (code.Ask low high) = Ask (signed_decimal low) (signed_decimal high)
 instruction_listed (code.Pick labels) = Pick (map label_name labels)
 instruction_listed (code.Call callee) = Call (procedure_name callee)
-instruction_listed code.Ret = Ret
+instruction_listed i = Alone (bare_of bares i)
 
 -- all that the instruction names are there, where there are this many labels and procedures
 abbrev pub has_names : ℕ → ℕ → Instruction → Bool

@@ -8,7 +8,7 @@ use Rattle.burr_code.specs.declared.placement.Placement.TheVariants as places
 use Rattle.burr_code.specs.declared.placement.Placement.{Placement}
 use Rattle.burr_container.specs.Rules.Plans.{FormCell, Range, Frame, ExitFrame, PlanProcedure, Plan}
 use Rattle.burr_plantext.specs.Rules.Written.{natural_in, number_in, set_in, form_in, slot_numbers}
-use Rattle.burr_plantext.specs.Rules.Statements.{Statement, Halt, Push, Load, Store, Add, Sub, Drop, Grip, Step, Aside, Tray, Jump, Down, Ask, Pick, Call, Ret, Byte}
+use Rattle.burr_plantext.specs.Rules.Statements.{Statement, Alone, Push, Load, Store, Grip, Step, Aside, Tray, Jump, Down, Ask, Pick, Call, Byte}
 use Rattle.burr_plantext.specs.Rules.Lines.{RangeWords, SlotWords, PlaceWords, Apart, On, PieceWords}
 use Rattle.burr_plantext.specs.Rules.Sources.{ExitSource, FrameSource, Block, ProcedureSource, PlanSource}
 
@@ -21,13 +21,10 @@ number_of (first ∷ names) name = if bytes_eq first name then 0 else suc (numbe
 
 -- the bytes of a line of code, where labels and procedures have these names
 abbrev pub statement_bytes : List (List ℕ) → List (List ℕ) → Statement → List ℕ
-statement_bytes labels procedures Halt = spelled code.Halt
+statement_bytes labels procedures (Alone bare) = spelled bare.instruction
 statement_bytes labels procedures (Push number) = spelled (code.Push (number_in number))
 statement_bytes labels procedures (Load slot) = spelled (code.Load (natural_in slot))
 statement_bytes labels procedures (Store slot) = spelled (code.Store (natural_in slot))
-statement_bytes labels procedures Add = spelled code.Add
-statement_bytes labels procedures Sub = spelled code.Sub
-statement_bytes labels procedures Drop = spelled code.Drop
 statement_bytes labels procedures (Grip set) = spelled (code.Grip (set_in set))
 statement_bytes labels procedures (Step direction) = spelled (code.Step direction)
 statement_bytes labels procedures (Aside direction tray) =
@@ -41,7 +38,6 @@ statement_bytes labels procedures (Ask low high) =
 statement_bytes labels procedures (Pick names) = spelled (code.Pick (map (number_of labels) names))
 statement_bytes labels procedures (Call procedure) =
     spelled (code.Call (number_of procedures procedure))
-statement_bytes labels procedures Ret = spelled code.Ret
 statement_bytes labels procedures (Byte byte) = byte ∷ []
 
 -- the bytes of code

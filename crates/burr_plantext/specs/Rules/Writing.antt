@@ -3,7 +3,7 @@ use Rattle.std.specs.Prelude.{ℕ, ◌+◌, ◌/◌, ◌%◌, List, [], ◌∷�
 use Rattle.std.specs.List.{flat_map}
 use Rattle.burr_text.specs.Words.{text_line}
 use Rattle.burr_voxels.specs.Grid.{name_of}
-use Rattle.burr_plantext.specs.Rules.Statements.{Statement, Halt, Push, Load, Store, Add, Sub, Drop, Grip, Step, Aside, Tray, Jump, Down, Ask, Pick, Call, Ret, Byte}
+use Rattle.burr_plantext.specs.Rules.Statements.{Statement, Alone, Push, Load, Store, Grip, Step, Aside, Tray, Jump, Down, Ask, Pick, Call, Byte}
 use Rattle.burr_plantext.specs.Rules.Lines.{PlaceWords, Apart, On, Line, PlanLine, ProcLine, ExitLine, ResultLine, LabelLine, FrameLine, SlotLine, GuardLine, StackLine, CostLine, AtLine, CodeLine}
 
 -- a lower case digit of base 16
@@ -16,13 +16,10 @@ hex_word byte = hex_digit (byte / 16) ∷ hex_digit (byte % 16) ∷ []
 
 -- the words of a line of code
 abbrev pub statement_words : Statement → List (List ℕ)
-statement_words Halt = codes "halt" ∷ []
+statement_words (Alone bare) = bare.word ∷ []
 statement_words (Push number) = codes "push" ∷ number ∷ []
 statement_words (Load slot) = codes "load" ∷ slot ∷ []
 statement_words (Store slot) = codes "store" ∷ slot ∷ []
-statement_words Add = codes "add" ∷ []
-statement_words Sub = codes "sub" ∷ []
-statement_words Drop = codes "drop" ∷ []
 statement_words (Grip set) = codes "grip" ∷ set ∷ []
 statement_words (Step direction) = codes "step" ∷ name_of direction ∷ []
 statement_words (Aside direction tray) = codes "aside" ∷ name_of direction ∷ tray ∷ []
@@ -32,7 +29,6 @@ statement_words (Down slot label) = codes "down" ∷ slot ∷ label ∷ []
 statement_words (Ask low high) = codes "ask" ∷ low ∷ high ∷ []
 statement_words (Pick labels) = codes "pick" ∷ labels
 statement_words (Call procedure) = codes "call" ∷ procedure ∷ []
-statement_words Ret = codes "ret" ∷ []
 statement_words (Byte byte) = codes "byte" ∷ hex_word byte ∷ []
 
 -- the word with which the plan's line begins
