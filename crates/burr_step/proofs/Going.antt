@@ -110,11 +110,8 @@ refused_halted setup h s r (inr (on, inr (none, p))) = absurd (refused-taken p.2
 
 pub forward_halted : (s new : Stepping) (refusal : CodeRefusal) → CameTo {Done = Unit {0}} s (commanding s Forward) (Err refusal) new
     → NeedsNoMemory {Done = Unit {0}} (Err refusal) → IsHalted (setup_of s.bench) s.bench.state × (new ≡ s)
-forward_halted s new code.S1 came free = (refused_halted _ s.history s.bench.state _ came.comes, came.same)
-forward_halted s new code.S2 came free = (refused_halted _ s.history s.bench.state _ came.comes, came.same)
-forward_halted s new code.S3 came free = (refused_halted _ s.history s.bench.state _ came.comes, came.same)
-forward_halted s new code.S4 came free = (refused_halted _ s.history s.bench.state _ came.comes, came.same)
 forward_halted s new code.Memory came free = absurd free
+forward_halted s new _ came free = (refused_halted _ s.history s.bench.state _ came.comes, came.same)
 
 one_first : (n : ℕ) → 1 + n ≡ suc n
 one_first n = omega arith
@@ -198,11 +195,8 @@ module _ (IsSo : BenchState → Type 0) where
       by_refusal : (refusal : CodeRefusal) → CameTo {Done = Unit {0}} old (commanding old Forward) (Err refusal) new
           → NeedsNoMemory {Done = Unit {0}} (Err refusal)
           → CameTo {Done = Unit {0}} old (going (setup_of old.bench) old.bench.state (going_until (setup_of old.bench) old.history old.bench.state IsSo)) (Err refusal) new
-      by_refusal code.S1 came free = record { comes = by_comes _ came.comes; same = came.same }
-      by_refusal code.S2 came free = record { comes = by_comes _ came.comes; same = came.same }
-      by_refusal code.S3 came free = record { comes = by_comes _ came.comes; same = came.same }
-      by_refusal code.S4 came free = record { comes = by_comes _ came.comes; same = came.same }
       by_refusal code.Memory came free = absurd free
+      by_refusal _ came free = record { comes = by_comes _ came.comes; same = came.same }
 
 -- What a command comes to, said in another way
 
@@ -214,12 +208,8 @@ going_so setup s Rest Other so o (inr (on, inr (none, rest))) = inr (on, inr (no
 
 pub came_so : {Done : Type 0} (old new : Stepping) (Comes Other : Follows) → ((o : StepOutcome) → Comes o → Other o)
     → (result : Result Done CodeRefusal) → CameTo old Comes result new → CameTo old Other result new
-came_so old new Comes Other so (Ok done) came = record { comes = so _ came.comes; same = came.same }
-came_so old new Comes Other so (Err code.S1) came = record { comes = so _ came.comes; same = came.same }
-came_so old new Comes Other so (Err code.S2) came = record { comes = so _ came.comes; same = came.same }
-came_so old new Comes Other so (Err code.S3) came = record { comes = so _ came.comes; same = came.same }
-came_so old new Comes Other so (Err code.S4) came = record { comes = so _ came.comes; same = came.same }
 came_so old new Comes Other so (Err code.Memory) came = came
+came_so old new Comes Other so _ came = record { comes = so _ came.comes; same = came.same }
 
 -- Where a run is not there, and goes on, it does not stop
 pub not_there : (old now new : Stepping) (stop : Stop) → IsUpTo (StopsFor (setup_of old.bench) stop) old now

@@ -93,10 +93,7 @@ unasked_by i ask pick asks = absurd asks
 
 told_none : Progress → Bool
 told_none (progress.Went None) = true
-told_none (progress.Went (Some motion)) = false
-told_none (progress.Asks low high) = false
-told_none progress.Again = false
-told_none progress.Ended = false
+told_none _ = false
 
 told_of : Result Progress Trap → Progress → Progress
 told_of (Ok told) other = told
@@ -122,10 +119,7 @@ goes_none setup s new told called on = by (told_none told) refl
 
     is_none : (told : Progress) → told_none told ≡ true → told ≡ progress.Went None
     is_none (progress.Went None) e = refl
-    is_none (progress.Went (Some motion)) e = cc
-    is_none (progress.Asks low high) e = cc
-    is_none progress.Again e = cc
-    is_none progress.Ended e = cc
+    is_none _ e = cc
 
     by : (test : Bool) → told_none told ≡ test → Called setup s None (Ok (progress.Went None)) new
     by true is = subst (λ (t : Progress). Called setup s None (Ok t) new) (is_none told is) called
