@@ -324,7 +324,7 @@ impl<B: Blocking> Checked<'_, B> {
 }
 
 /// A way for the grip to go: one unit along a direction, or all the way out along it.
-#[derive(Clone, Copy, Debug, PartialEq, Eq)]
+#[derive(Clone, Copy)]
 pub enum Way {
     Unit(Direction),
     Out(Direction),

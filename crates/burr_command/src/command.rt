@@ -300,7 +300,7 @@ Examples: ./burr explain A8
 /// The command line: the commands, help and the version.
 pub fn command<'a>(alloc: Global) -> Result<Command<'a>, AllocError> {
     let mut command = without_commands(alloc);
-    for syntax in COMMANDS {
+    for syntax in commands() {
         command = command.subcommand(syntax.command(alloc)?)?;
     }
     Ok(command)
@@ -308,10 +308,15 @@ pub fn command<'a>(alloc: Global) -> Result<Command<'a>, AllocError> {
 
 /// The kind of the command of this name; None where there is no such command.
 pub fn kind_of(name: &str) -> Option<Kind> {
-    COMMANDS
+    commands()
         .iter()
         .find(|syntax| syntax.name == name)
         .map(|syntax| syntax.kind)
+}
+
+/// The commands with their words: each mention of the table itself is proved anew.
+fn commands() -> &'static [Syntax] {
+    COMMANDS
 }
 
 /// The command line without its commands.

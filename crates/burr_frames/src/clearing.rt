@@ -17,7 +17,7 @@ use burr_forms::{Asking, Form};
 use burr_voxels::Cell;
 
 /// A piece of a tray, and its number among the pieces of the tray.
-#[derive(Clone, Copy, Debug, Default)]
+#[derive(Clone, Copy, Default)]
 pub struct TrayPiece {
     pub piece: u8,
     pub number: u8,

@@ -188,7 +188,7 @@ fn calls_of(alloc: Global, parts: &[DraftedProcedure]) -> Result<DraftedCode, Al
 // The code of a procedure of a draft.
 
 /// The code of a procedure, and what each of its instructions is for.
-#[derive(Debug, Drop)]
+#[derive(Drop)]
 pub struct DraftedCode {
     bytes: Vec<u8>,
     /// One for each instruction, in their order.
@@ -196,7 +196,7 @@ pub struct DraftedCode {
 }
 
 /// What an instruction is for.
-#[derive(Clone, Copy, Debug)]
+#[derive(Clone, Copy)]
 struct Purpose {
     /// Where the instruction stands in the code.
     position: usize,

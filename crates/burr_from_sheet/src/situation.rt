@@ -10,7 +10,7 @@ use burr_voxels::{Cell, Direction};
 use std::alloc::{AllocError, Global};
 
 /// What holds at a place of a draft: the current tray, the grip, and where each piece is.
-#[derive(Clone, Copy, Debug)]
+#[derive(Clone, Copy)]
 pub struct Situation {
     /// How many pieces there are.
     pieces: u8,

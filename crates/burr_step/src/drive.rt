@@ -86,7 +86,7 @@ pub enum Halt {
 }
 
 /// Where a drive stands, and nothing of what it leads.
-#[derive(Debug, Drop)]
+#[derive(Drop)]
 pub(crate) struct Standing {
     run: Suspended,
     moves: u32,

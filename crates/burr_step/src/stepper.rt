@@ -272,7 +272,7 @@ impl Model for Paused {
 }
 
 /// Where several steps stop, if the run does not halt before.
-#[derive(Clone, Copy, Debug)]
+#[derive(Clone, Copy)]
 pub enum Stop {
     /// There are no more activations than these.
     Depth(usize),

@@ -20,7 +20,7 @@ use burr_container::ProcedureRef;
 use burr_frames::{Break, State};
 
 /// How control leaves an instruction: it falls out of it with a state, or no state is left after.
-#[derive(Clone, Copy, Debug, PartialEq, Eq)]
+#[derive(Clone, Copy)]
 pub enum Successor {
     FallsThrough,
     None,
