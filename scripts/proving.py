@@ -21,7 +21,7 @@ SECONDS = {
     "burr_state": 305, "burr_why": 475, "burr_blocking": 260, "burr_judge": 330, "burr_runs": 235, "burr": 230,
     "burr_command": 200, "burr_verify": 185, "burr_forms": 185, "burr_step": 160,
     "burr_bench": 185, "burr_sheet": 155, "burr_code": 145, "burr_from_sheet": 145,
-    "burr_explain": 115, "burr_lines": 115, "burr_io": 110, "burr_voxels": 90, "burr_text": 60, "burr_plantext": 220,
+    "burr_explain": 115, "burr_lines": 150, "burr_io": 110, "burr_voxels": 90, "burr_text": 60, "burr_plantext": 220,
 }
 SECONDS_A_LINE = 0.2
 
