@@ -12,7 +12,7 @@ use std::marker::Model;
 pub const MOST_PIECES: usize = 32;
 
 /// At most 32 pieces, numbered from 0, and of each cell the first of them that has it.
-#[derive(Debug, Drop)]
+#[derive(Drop)]
 pub struct Occupancy {
     pieces: Vec<Piece>,
     owners: HashMap<Cell, u8>,

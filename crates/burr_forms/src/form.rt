@@ -162,7 +162,7 @@ fn end_at(coef: i64, range: (i32, i32), is_greatest: bool) -> i32
 }
 
 /// A form under way, whose numbers may be larger than a form's.
-#[derive(Clone, Copy, Debug)]
+#[derive(Clone, Copy)]
 pub struct Wide {
     constant: i128,
     coefs: [i128; MOST_SYMBOLS],

@@ -21,7 +21,7 @@ use std::alloc::Global;
 pub type Parts = (Name, Vec<DrawnShape>, Vec<Piece>);
 
 /// What the lines so far have been.
-#[derive(Debug, Drop)]
+#[derive(Drop)]
 pub enum Beginning {
     /// No line yet.
     Blank,
@@ -222,7 +222,7 @@ fn with_piece(
 const MOST_SHAPES: usize = 32;
 
 /// What stands before the pieces: the assembly's name and its shapes.
-#[derive(Debug, Drop)]
+#[derive(Drop)]
 pub struct Header {
     pub name: Name,
     pub shapes: Vec<DrawnShape>,

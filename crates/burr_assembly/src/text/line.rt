@@ -10,7 +10,7 @@ use burr_voxels::Cell;
 
 /// A line of an assembly text by its form alone: its words are not judged yet, and whether it may
 /// stand where it stands isn't either.
-#[derive(Clone, Copy, Debug)]
+#[derive(Clone, Copy)]
 pub enum TextLine<'a> {
     /// `assembly NAME`
     Assembly(&'a [u8]),
@@ -27,7 +27,7 @@ pub enum TextLine<'a> {
 }
 
 /// The words of a piece's line.
-#[derive(Clone, Copy, Debug)]
+#[derive(Clone, Copy)]
 pub struct PieceLine<'a> {
     pub name: &'a [u8],
     pub shape: &'a [u8],

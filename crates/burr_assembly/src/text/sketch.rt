@@ -16,7 +16,7 @@ const MOST_CELLS: usize = 512;
 
 /// A shape that has not ended: the layers that are finished, fewer than 16 and none without rows,
 /// and the layer that has begun after them.
-#[derive(Debug, Drop)]
+#[derive(Drop)]
 pub struct Sketch {
     name: Name,
     layers: Vec<Layer>,
