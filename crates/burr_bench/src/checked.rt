@@ -107,14 +107,14 @@ impl<'a, B: Blocking> Checked<'a, B> {
     pub fn steps(&self) -> u64
         ensures { result ≡ self.now.state.steps }
     {
-        self.bench.steps()
+        self.bench.state().steps()
     }
 
     /// Whether `halt` was made.
     pub fn ended(&self) -> bool
         ensures { IsTrue result ↔ (self.now.state.mode ≡ Ended) }
     {
-        self.bench.mode() == Mode::Ended
+        self.bench.state().mode() == Mode::Ended
     }
 
     /// The most steps that a run of it makes.
@@ -140,42 +140,42 @@ impl<'a, B: Blocking> Checked<'a, B> {
         ensures place { slice_get self.now.state.places piece ≡ Some result }
         ensures near { PositionHolds (IsWithin MOST_OFFSET) result }
     {
-        self.bench.place(piece)
+        self.bench.state().place(piece)
     }
 
     /// The current tray, 0 to 31.
     pub fn tray(&self) -> u8
         ensures { result ≡ self.now.state.tray }
     {
-        self.bench.tray()
+        self.bench.state().tray()
     }
 
     /// The pieces of the current tray that are gripped: bit p is piece p.
     pub fn grip(&self) -> u32
         ensures { result ≡ self.now.state.grip }
     {
-        self.bench.grip()
+        self.bench.state().grip()
     }
 
     /// The number of activations: the running one and those that wait for it.
     pub fn depth(&self) -> usize
         ensures { result ≡ length self.now.state.callers + 1 }
     {
-        self.bench.depth()
+        self.bench.state().depth()
     }
 
     /// The number of the running procedure.
     pub fn proc(&self) -> u8
         ensures { result ≡ self.now.state.running.procedure }
     {
-        self.bench.proc()
+        self.bench.state().procedure()
     }
 
     /// Where the next instruction stands in the running procedure's code.
     pub fn pc(&self) -> u16
         ensures { result ≡ self.now.state.running.pc }
     {
-        self.bench.pc()
+        self.bench.state().pc() as u16
     }
 
     /// The value of a slot of the running activation; None where it is empty. Slots are numbered
@@ -184,14 +184,14 @@ impl<'a, B: Blocking> Checked<'a, B> {
         requires { slot < SLOTS }
         ensures { result ≡ get_or self.now.state.running.slots slot None }
     {
-        self.bench.slot(slot)
+        self.bench.state().slot(slot)
     }
 
     /// The operands of the running activation, the bottom first.
     pub fn operands(&self) -> &[i32]
         ensures { result.now ≡ reverse self.now.state.running.operands }
     {
-        self.bench.operands()
+        self.bench.state().operands()
     }
 }
 
@@ -223,7 +223,7 @@ impl<B: Blocking> Checked<'_, B> {
         ensures same { IsSameRun self.old self.new }
         ensures goes_on { OnOk result (GoesOn self.old self.new (motion_in result)) }
     {
-        match (self.bench.mode(), answer) {
+        match (self.bench.state().mode(), answer) {
             (Mode::Running, None) => self.go_on(),
             (Mode::Running, Some(answer)) => Ok(self.take(answer)),
             (Mode::Ended, _) => Ok(Progress::Ended),
@@ -286,10 +286,11 @@ impl<B: Blocking> Checked<'_, B> {
         ensures same { IsSameRun self.old self.new }
         ensures goes_on { OnOk result (GoesOn self.old self.new (motion_made result)) }
     {
-        if self.bench.grip() == 0 {
+        let state = self.bench.state();
+        if state.grip() == 0 {
             return Err(Trap::BadGroup);
         }
-        if !self.bench.stays_on_bench(direction) {
+        if !state.stays_on_bench(direction) {
             return Err(Trap::OffBench);
         }
         if !self.passes(Way::Unit(direction)) {
@@ -309,10 +310,11 @@ impl<B: Blocking> Checked<'_, B> {
         ensures same { IsSameRun self.old self.new }
         ensures goes_on { OnOk result (GoesOn self.old self.new (motion_made result)) }
     {
-        if !self.bench.is_part_gripped() {
+        let state = self.bench.state();
+        if !state.is_part_gripped() {
             return Err(Trap::BadGroup);
         }
-        if !self.bench.is_empty(tray) {
+        if !state.is_empty(tray) {
             return Err(Trap::TrayInUse);
         }
         if !self.passes(Way::Out(direction)) {
@@ -410,7 +412,7 @@ impl<B: Blocking> Checked<'_, B> {
         ensures offset { IsOffsetHere self.now.state piece result }
         ensures near { IfSome result (IsWithin MOST_OFFSET) }
     {
-        self.bench.offset_here(piece)
+        self.bench.state().offset_here(piece)
     }
 
     /// The number of pieces.
@@ -419,6 +421,6 @@ impl<B: Blocking> Checked<'_, B> {
         ensures places { result ≡ length self.now.state.places }
         ensures few { result ≤ 32 }
     {
-        self.bench.piece_count()
+        self.bench.state().piece_count()
     }
 }

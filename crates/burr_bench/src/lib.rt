@@ -8,10 +8,10 @@
 //! - `start` is Ok exactly where `fits_assembly` of burr_verify is, and else gives V1. It then runs
 //!   the container's plan from its start. `bare` runs bare code, and asks for at most 4,096 bytes
 //!   of it.
-//! - `step` is the definition's call (`Called`) at each of the seventeen instructions, with an
-//!   answer or without, whatever `Blocking` answers for the pieces. Motions, traps, questions and
-//!   the end are included. It leaves the code and the assembly as they are. After a trap, 1 to 17,
-//!   the mode alone has changed; at a question without a fitting answer nothing has.
+//! - `step` is the definition's call (`Called`) at each instruction, with an answer or without,
+//!   whatever `Blocking` answers for the pieces. Motions, traps, questions and the end are included.
+//!   It leaves the code and the assembly as they are. After a trap, 1 to 17, the mode alone has
+//!   changed; at a question without a fitting answer nothing has.
 //! - After a `step` the definition lays the cells of all pieces of the tray over each other. The
 //!   code asks about pairs of a gripped piece and another one. That this decides it rests on an
 //!   invariant of `Checked`: no two pieces of a tray overlap. Offsets lie within 256, which is an

@@ -88,14 +88,14 @@ impl<'a> Machine<'a> {
     pub fn steps(&self) -> u64
         ensures { result ≡ self.now.state.steps }
     {
-        self.bench.steps()
+        self.bench.state().steps()
     }
 
     /// Whether `halt` was made.
     pub fn ended(&self) -> bool
         ensures { IsTrue result ↔ (self.now.state.mode ≡ Ended) }
     {
-        self.bench.mode() == Mode::Ended
+        self.bench.state().mode() == Mode::Ended
     }
 
     /// The question for which the run waits: the least and the greatest number that answer it; None
@@ -121,42 +121,42 @@ impl<'a> Machine<'a> {
         ensures place { slice_get self.now.state.places piece ≡ Some result }
         ensures near { PositionHolds (IsWithin MOST_OFFSET) result }
     {
-        self.bench.place(piece)
+        self.bench.state().place(piece)
     }
 
     /// The current tray, 0 to 31.
     pub fn tray(&self) -> u8
         ensures { result ≡ self.now.state.tray }
     {
-        self.bench.tray()
+        self.bench.state().tray()
     }
 
     /// The pieces of the current tray that are gripped: bit p is piece p.
     pub fn grip(&self) -> u32
         ensures { result ≡ self.now.state.grip }
     {
-        self.bench.grip()
+        self.bench.state().grip()
     }
 
     /// The number of activations: the running one and those that wait for it.
     pub fn depth(&self) -> usize
         ensures { result ≡ length self.now.state.callers + 1 }
     {
-        self.bench.depth()
+        self.bench.state().depth()
     }
 
     /// The number of the running procedure.
     pub fn proc(&self) -> u8
         ensures { result ≡ self.now.state.running.procedure }
     {
-        self.bench.proc()
+        self.bench.state().procedure()
     }
 
     /// Where the next instruction stands in the running procedure's code.
     pub fn pc(&self) -> u16
         ensures { result ≡ self.now.state.running.pc }
     {
-        self.bench.pc()
+        self.bench.state().pc() as u16
     }
 
     /// The position of a label in a procedure's code; None where there is no such procedure or
@@ -174,14 +174,14 @@ impl<'a> Machine<'a> {
         requires { slot < SLOTS }
         ensures { result ≡ get_or self.now.state.running.slots slot None }
     {
-        self.bench.slot(slot)
+        self.bench.state().slot(slot)
     }
 
     /// The operands of the running activation, the bottom first.
     pub fn operands(&self) -> &[i32]
         ensures { result.now ≡ reverse self.now.state.running.operands }
     {
-        self.bench.operands()
+        self.bench.state().operands()
     }
 }
 
@@ -195,7 +195,7 @@ impl Machine<'_> {
         ensures same { IsSameRun self.old self.new }
         ensures goes_on { GoesOn self.old self.new (motion_in (Ok result)) }
     {
-        if self.bench.mode() == Mode::Ended {
+        if self.bench.state().mode() == Mode::Ended {
             return Progress::Ended;
         }
         match answer {
@@ -298,7 +298,7 @@ impl Machine<'_> {
         ensures made { IsSome result.1 ↔ MadeStep result.0 }
         ensures goes_back { GoesBack self.old self.new result.1 }
     {
-        if self.bench.mode() == Mode::Ended {
+        if self.bench.state().mode() == Mode::Ended {
             return (Progress::Ended, None);
         }
         an_accepted_step_is_recorded();

@@ -8,16 +8,15 @@ ghost use Rattle.burr_runs.specs.Views.Running.{PutsSheet, FailsInSheet, FailsIn
 ghost use Rattle.burr_runs.specs.Views.AfterRuns.{IsAtRunEnd, IsInRun, TurnStands};
 ghost use Rattle.burr_state.specs.declared.effect.Mode.TheVariants.{Ended, Running};
 ghost use Rattle.burr_state.specs.Rules.Step.{Called, NextIs};
-ghost use Rattle.burr_state.specs.Views.Work.{work};
 ghost use Rattle.burr_state.specs.Rules.Next.{Asks};
 
 use crate::text_runs::Outcome;
 use burr_assembly::Assembly;
-use burr_bench::{Bench, Checked, Closing, Machine, Progress, Trap};
+use burr_bench::{Checked, Closing, Machine, Progress, Trap};
 use burr_blocking::Blocking;
 use burr_io::{Sink, WriteFault};
 use burr_sheet::Sheet;
-use burr_state::Mode;
+use burr_state::{BenchState, Mode};
 use std::ops::ControlFlow;
 
 /// Runs bare code on the bench, without answers, and writes the run's sheet.
@@ -106,7 +105,7 @@ pub fn run<'a, R: Runner<'a>, O: Observer, W: Sink>(
         &mut sheet,
         sink,
     )?;
-    sheet.close(closing, steps(runner), sink)?;
+    sheet.close(closing, runner.state().steps(), sink)?;
     Ok(outcome(closing))
 }
 
@@ -146,11 +145,11 @@ fn run_to_close<'a, R: Runner<'a>, O: Observer, W: Sink>(
 {
     let mut answers = answers;
     loop {
-        observer.observe(runner.bench(), answers);
-        if ended(runner) {
+        observer.observe(runner.state(), answers);
+        if runner.state().mode() == Mode::Ended {
             return Ok(Closing::Apart);
         }
-        if steps(runner) == budget {
+        if runner.state().steps() == budget {
             return Ok(Closing::Stopped);
         }
         match take_turn(runner, answers, sheet, sink)? {
@@ -163,12 +162,12 @@ fn run_to_close<'a, R: Runner<'a>, O: Observer, W: Sink>(
 /// Who looks on while a bench runs.
 pub trait Observer {
     /// Sees where the run stands, and the answers that are left: before its first turn, and after each.
-    fn observe(&mut self, bench: &Bench<'_>, answers: &[i32]);
+    fn observe(&mut self, state: &BenchState, answers: &[i32]);
 }
 
 /// Nobody looks on.
 impl Observer for () {
-    fn observe(&mut self, _bench: &Bench<'_>, _answers: &[i32]) {}
+    fn observe(&mut self, _state: &BenchState, _answers: &[i32]) {}
 }
 
 /// A bench that runs a program call by call: one that tests each move, or a machine that need not.
@@ -184,37 +183,9 @@ pub trait Runner<'a> {
         ensures goes_on { OnOk result
             (GoesOn (benched self.old) (benched self.new) (motion_in result)) };
 
-    /// The program at work.
-    fn bench(&self) -> &Bench<'a>
-        ensures { result.now ≡ work (benched self.now).program (benched self.now).state };
-}
-
-/// Whether `halt` was made.
-pub fn ended<'a, R: Runner<'a>>(runner: &R) -> bool
-    ensures { IsTrue result ↔ ((R.benched runner.now).state.mode ≡ Ended) }
-{
-    runner.bench().mode() == Mode::Ended
-}
-
-/// The steps made so far.
-pub fn steps<'a, R: Runner<'a>>(runner: &R) -> u64
-    ensures { result ≡ (R.benched runner.now).state.steps }
-{
-    runner.bench().steps()
-}
-
-/// The number of the running procedure.
-pub fn proc<'a, R: Runner<'a>>(runner: &R) -> u8
-    ensures { result ≡ (R.benched runner.now).state.running.procedure }
-{
-    runner.bench().proc()
-}
-
-/// Where the next instruction stands in the running procedure's code.
-pub fn pc<'a, R: Runner<'a>>(runner: &R) -> u16
-    ensures { result ≡ (R.benched runner.now).state.running.pc }
-{
-    runner.bench().pc()
+    /// Where the run stands.
+    fn state(&self) -> &BenchState
+        ensures { result.now ≡ (benched self.now).state };
 }
 
 impl<'a, B: Blocking> Runner<'a> for Checked<'a, B> {
@@ -224,8 +195,8 @@ impl<'a, B: Blocking> Runner<'a> for Checked<'a, B> {
         Checked::step(self, answer)
     }
 
-    fn bench(&self) -> &Bench<'a> {
-        Checked::bench(self)
+    fn state(&self) -> &BenchState {
+        self.bench().state()
     }
 }
 
@@ -236,8 +207,8 @@ impl<'a> Runner<'a> for Machine<'a> {
         Ok(Machine::step(self, answer))
     }
 
-    fn bench(&self) -> &Bench<'a> {
-        Machine::bench(self)
+    fn state(&self) -> &BenchState {
+        self.bench().state()
     }
 }
 
@@ -273,7 +244,8 @@ pub fn take_turn<'a, 'r, R: Runner<'r>, W: Sink>(
         // Neither comes of a running bench without an answer.
         Ok(Progress::Again) | Ok(Progress::Ended) => Ok(ControlFlow::Continue(answers)),
         Err(trap) => {
-            let closing = Closing::Trapped(trap, proc(runner), pc(runner));
+            let state = runner.state();
+            let closing = Closing::Trapped(trap, state.procedure(), state.pc() as u16);
             Ok(ControlFlow::Break(closing))
         }
     }

@@ -11,11 +11,11 @@
 //!
 //! The calls:
 //!
-//! - `Bench` carries out what the definition says of each instruction: fifteen with their traps,
-//!   `step` and `aside` where they may be made. It takes an answer exactly where a question is next
-//!   that the answer fits. `Checked` and `Machine` of burr_bench hand its calls on.
-//! - Its readers give their parts of the state: `question` gives the question for which a run
-//!   waits, or None where it waits for none, and `label` where a label stands.
+//! - `Bench` carries out what the definition says of each instruction, with its traps; `step` and
+//!   `aside` only where they may be made. It takes an answer exactly where a question is next that
+//!   the answer fits. `Checked` and `Machine` of burr_bench hand its calls on.
+//! - It lends its state, whose readers give their parts. `question` gives the question for which a
+//!   run waits, or None where it waits for none, and `label` where a label stands.
 //! - `record` is the record of the step that stands next, and `undo` lays a record over the state,
 //!   where that gives a state of the bench's program.
 //! - `suspend` keeps where a run stands, and nothing of what is run. `resume` is the bench of a
@@ -25,8 +25,8 @@
 //!
 //! Laws over every instruction and every run:
 //!
-//! - Each of the seventeen instructions, carried out at any state, has an effect or a trap, and one
-//!   alone (`an_instruction_has_one_effect`).
+//! - Each instruction, carried out at any state, has an effect or a trap, and one alone
+//!   (`an_instruction_has_one_effect`).
 //! - Something stands next at a state, and one thing alone; a call says one thing and leaves one
 //!   state (`a_step_has_one_result`). A call that says a step has made one, one that says a trap
 //!   changes the mode alone, and any other changes nothing (`a_call_leaves_what_it_tells`).
@@ -74,5 +74,5 @@ pub use laws::{
     records_go_back,
 };
 pub use program::{OwnedProgram, Program};
-pub use state::one_unit_on;
+pub use state::{BenchState, one_unit_on};
 pub use undo::Undo;

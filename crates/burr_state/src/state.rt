@@ -2,9 +2,9 @@ mod control;
 mod instructions;
 mod undoing;
 
-ghost use Rattle.std.specs.Prelude.{◌≡◌, ◌≢◌, ◌≤◌, ◌<◌, ◌+◌, ℕ, length, IfSome, Some, slice_get, ◌↔◌, IsTrue, pos};
+ghost use Rattle.std.specs.Prelude.{◌≡◌, ◌≢◌, ◌≤◌, ◌<◌, ◌+◌, ℕ, length, IfSome, Some, None, slice_get, get_or, reverse, ◌↔◌, IsTrue, pos};
 ghost use Rattle.burr_voxels.specs.Near.{IsWithin};
-ghost use Rattle.burr_code.specs.declared.limits.TheConstants.{MOST_OFFSET, MOST_CODE, MOST_PIECES};
+ghost use Rattle.burr_code.specs.declared.limits.TheConstants.{MOST_OFFSET, MOST_CODE, MOST_PIECES, SLOTS};
 ghost use Rattle.burr_code.specs.PieceSets.{IsInSet};
 ghost use Rattle.burr_code.specs.Places.{AllLieIn, AllApart, IsPartOfTray, IsEmptyTray, at_position};
 ghost use Rattle.burr_state.specs.Views.StateViews.{at_start, IsOffsetHere, StaysOnBench, PieceStaysOnBench, after, moved_grip, gone_aside};
@@ -59,7 +59,7 @@ impl Model for BenchState {
 
 impl BenchState {
     /// The start of a run with this many pieces: all in tray 0 at home, nothing gripped.
-    pub fn start(pieces: u8) -> BenchState
+    pub(crate) fn start(pieces: u8) -> BenchState
         requires { pieces ≤ 32 }
         ensures { result ≡ at_start pieces }
     {
@@ -78,7 +78,7 @@ impl BenchState {
         }
     }
 
-    /// Whether the run goes on.
+    /// Whether the run goes on, has ended or has met a trap.
     pub fn mode(&self) -> Mode
         ensures { result ≡ self.now.mode }
     {
@@ -92,14 +92,14 @@ impl BenchState {
         self.steps
     }
 
-    /// The current tray.
+    /// The current tray, 0 to 31.
     pub fn tray(&self) -> u8
         ensures { result ≡ self.now.tray }
     {
         self.tray
     }
 
-    /// The pieces that are gripped: bit p is piece p.
+    /// The pieces of the current tray that are gripped: bit p is piece p.
     pub fn grip(&self) -> u32
         ensures { result ≡ self.now.grip }
     {
@@ -121,7 +121,7 @@ impl BenchState {
         self.running.pc()
     }
 
-    /// The number of pieces. Each that isn't apart lies within 256 of home.
+    /// The number of pieces, at most 32. Each that isn't apart lies within 256 of home.
     pub fn piece_count(&self) -> u8
         ensures places { result ≡ length self.now.places }
         ensures few { result ≤ 32 }
@@ -137,14 +137,24 @@ impl BenchState {
         self.callers.len() + 1
     }
 
-    /// The running activation.
-    pub fn running(&self) -> &Activation
-        ensures { result.now ≡ self.now.running }
+    /// The value of a slot of the running activation; None where it is empty. Slots are numbered
+    /// from 0 to 7, the caller's condition.
+    pub fn slot(&self, slot: u8) -> Option<i32>
+        requires { slot < SLOTS }
+        ensures { result ≡ get_or self.now.running.slots slot None }
     {
-        &self.running
+        self.running.slot(slot)
     }
 
-    /// Where a piece is: in a tray within 256 of home, or apart.
+    /// The operands of the running activation, the bottom first.
+    pub fn operands(&self) -> &[i32]
+        ensures { result.now ≡ reverse self.now.running.operands }
+    {
+        self.running.operands()
+    }
+
+    /// Where a piece is: apart, or in a tray, 0 to 31, and how far from home it lies there. Its
+    /// number is below the count of pieces, the caller's condition.
     pub fn place(&self, piece: u8) -> Placement<Cell>
         requires { piece < length self.now.places }
         ensures place { slice_get self.now.places piece ≡ Some result }
@@ -219,7 +229,7 @@ impl BenchState {
 
 impl BenchState {
     /// A trap: nothing but the mode changes.
-    pub fn trap(&mut self, trap: Trap)
+    pub(crate) fn trap(&mut self, trap: Trap)
         ensures { self.new ≡ record self.old { mode = Trapped trap } }
     {
         self.mode = Mode::Trapped(trap);
@@ -227,7 +237,7 @@ impl BenchState {
 
     /// The step of a `step` of this many bytes: the grip goes one unit along a direction, and stays
     /// on the bench.
-    pub fn move_grip(&mut self, direction: Direction, size: usize)
+    pub(crate) fn move_grip(&mut self, direction: Direction, size: usize)
         requires on_bench { StaysOnBench self.old direction }
         requires within { self.old.running.pc + size ≤ MOST_CODE }
         ensures { self.new ≡ moved_grip direction size self.old }
@@ -238,7 +248,7 @@ impl BenchState {
 
     /// The step of an `aside` of `size` bytes: the grip goes to an empty tray, a piece that is then
     /// alone in one of the two trays is apart, and nothing is gripped.
-    pub fn go_aside(&mut self, tray: u8, size: usize)
+    pub(crate) fn go_aside(&mut self, tray: u8, size: usize)
         requires within { self.old.running.pc + size ≤ MOST_CODE }
         ensures { self.new ≡ gone_aside tray size self.old }
     {
@@ -248,7 +258,7 @@ impl BenchState {
     }
 
     /// Makes a step after which the run goes on `size` bytes further.
-    pub fn go_after(&mut self, size: usize)
+    pub(crate) fn go_after(&mut self, size: usize)
         requires within { self.old.running.pc + size ≤ MOST_CODE }
         ensures { self.new ≡ after size self.old }
     {

@@ -369,10 +369,10 @@ fn make_line(first: Motion, machine: &mut Machine<'_>) -> (GrowingLine, Option<u
 fn pieces_apart(machine: &Machine<'_>) -> u32
     ensures { AreApart machine.now.state result }
 {
-    let bench = machine.bench();
+    let state = machine.bench().state();
     let mut apart = 0;
-    for piece in 0..bench.piece_count() {
-        if bench.place(piece).is_apart() {
+    for piece in 0..state.piece_count() {
+        if state.place(piece).is_apart() {
             apart |= 1 << piece;
         }
     }

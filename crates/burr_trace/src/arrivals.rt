@@ -10,7 +10,7 @@ use burr_asm::PlanPart;
 use burr_code::Instr;
 use burr_lines::{Line, PlanLines, PlanText, Unframed};
 use burr_runs::Observer;
-use burr_state::{Bench, Mode};
+use burr_state::{BenchState, Mode};
 use std::alloc::{AllocError, Global};
 
 /// An arrival of a run at a label.
@@ -68,12 +68,12 @@ pub struct Stand {
 
 impl Stand {
     /// Where a bench stands with these answers left.
-    fn of(bench: &Bench<'_>, answers: &[i32]) -> Stand {
+    fn of(state: &BenchState, answers: &[i32]) -> Stand {
         Stand {
-            procedure: usize::from(bench.proc()),
-            pc: usize::from(bench.pc()),
-            has_ended: bench.mode() == Mode::Ended,
-            steps: bench.steps(),
+            procedure: usize::from(state.procedure()),
+            pc: state.pc(),
+            has_ended: state.mode() == Mode::Ended,
+            steps: state.steps(),
             left: answers.len(),
             next: answers.first().copied(),
         }
@@ -158,16 +158,16 @@ impl<'x, 'a, 'c> Arrivals<'x, 'a, 'c> {
     }
 
     /// Notes that a step has led the bench to where it stands.
-    fn note(&mut self, bench: &Bench<'_>, stand: &Stand) -> Result<(), AllocError> {
-        self.close_above(bench.depth(), stand.steps);
+    fn note(&mut self, state: &BenchState, stand: &Stand) -> Result<(), AllocError> {
+        self.close_above(state.depth(), stand.steps);
         if stand.has_ended {
             return Ok(());
         }
         if let Some(label) = self.labels.at(stand.procedure, stand.pc) {
-            self.note_arrival(label, bench, stand)?;
+            self.note_arrival(label, state, stand)?;
         }
         match self.labels.instruction_at(stand.procedure, stand.pc) {
-            Some(Instr::Ret) => self.note_return(stand.procedure, bench),
+            Some(Instr::Ret) => self.note_return(stand.procedure, state),
             _ => Ok(()),
         }
     }
@@ -176,40 +176,40 @@ impl<'x, 'a, 'c> Arrivals<'x, 'a, 'c> {
     fn note_arrival(
         &mut self,
         label: usize,
-        bench: &Bench<'_>,
+        state: &BenchState,
         stand: &Stand,
     ) -> Result<(), AllocError> {
         self.open.push(Open {
             arrival: self.arrivals.len(),
-            depth: bench.depth(),
+            depth: state.depth(),
         })?;
         self.arrivals.push(Arrival {
             label,
             steps: stand.steps,
             cost: 0,
             answer: self.answer,
-            snapshot: Snapshot::of(self.alloc, bench)?,
+            snapshot: Snapshot::of(self.alloc, state)?,
         })?;
         Ok(())
     }
 
     /// Notes that the bench is about to return from a procedure.
-    fn note_return(&mut self, procedure: usize, bench: &Bench<'_>) -> Result<(), AllocError> {
+    fn note_return(&mut self, procedure: usize, state: &BenchState) -> Result<(), AllocError> {
         let Some(returning) = self.labels.plan.procedure(procedure) else {
             return Ok(());
         };
         let (parameters, results) = (returning.params(), returning.results());
         self.returns.push(Return {
             procedure,
-            snapshot: Snapshot::at_return(self.alloc, bench, parameters, results)?,
+            snapshot: Snapshot::at_return(self.alloc, state, parameters, results)?,
         })?;
         Ok(())
     }
 }
 
 impl Observer for Arrivals<'_, '_, '_> {
-    fn observe(&mut self, bench: &Bench<'_>, answers: &[i32]) {
-        let stand = Stand::of(bench, answers);
+    fn observe(&mut self, state: &BenchState, answers: &[i32]) {
+        let stand = Stand::of(state, answers);
         let before = self.stand;
         self.stand = Some(stand);
         match before {
@@ -218,7 +218,7 @@ impl Observer for Arrivals<'_, '_, '_> {
             Some(before) if stand.left < before.left => self.answer = before.next,
             _ => {}
         }
-        if self.note(bench, &stand).is_err() {
+        if self.note(state, &stand).is_err() {
             self.is_whole = false;
         }
     }

@@ -7,7 +7,7 @@ use crate::sightings::live_slots;
 use burr_code::Placement;
 use burr_code::limits::SLOTS;
 use burr_lines::{PlanItem, Report, Shown};
-use burr_state::Bench;
+use burr_state::BenchState;
 use burr_voxels::Cell;
 use std::alloc::{AllocError, Global};
 
@@ -134,50 +134,50 @@ pub struct Snapshot {
 
 impl Snapshot {
     /// What holds where a bench stands.
-    pub fn of(alloc: Global, bench: &Bench<'_>) -> Result<Snapshot, AllocError> {
+    pub fn of(alloc: Global, state: &BenchState) -> Result<Snapshot, AllocError> {
         let mut slots = Vec::new(alloc);
         for slot in 0..SLOTS as u8 {
-            slots.push(bench.slot(slot))?;
+            slots.push(state.slot(slot))?;
         }
         let mut operands = Vec::new(alloc);
-        operands.extend_from_slice(bench.operands())?;
-        Snapshot::with(alloc, bench, slots, operands)
+        operands.extend_from_slice(state.operands())?;
+        Snapshot::with(alloc, state, slots, operands)
     }
 
     /// What holds where a bench is about to return, as an exit frame tells of it: in place of the slots
     /// stand the parameters and, after them, the results, which are the operands at the top.
     pub fn at_return(
         alloc: Global,
-        bench: &Bench<'_>,
+        state: &BenchState,
         parameters: u8,
         results: u8,
     ) -> Result<Snapshot, AllocError> {
         let mut slots = Vec::new(alloc);
         for slot in 0..parameters.min(SLOTS as u8) {
-            slots.push(bench.slot(slot))?;
+            slots.push(state.slot(slot))?;
         }
-        let operands = bench.operands();
+        let operands = state.operands();
         let below = operands.len().saturating_sub(usize::from(results));
         for operand in operands.iter().skip(below) {
             slots.push(Some(*operand))?;
         }
-        Snapshot::with(alloc, bench, slots, Vec::new(alloc))
+        Snapshot::with(alloc, state, slots, Vec::new(alloc))
     }
 
     /// What holds where a bench stands, with these slots and operands.
     fn with(
         alloc: Global,
-        bench: &Bench<'_>,
+        state: &BenchState,
         slots: Vec<Option<i32>>,
         operands: Vec<i32>,
     ) -> Result<Snapshot, AllocError> {
         let mut places = Vec::new(alloc);
-        for piece in 0..bench.piece_count() {
-            places.push(lie_of(bench.place(piece)))?;
+        for piece in 0..state.piece_count() {
+            places.push(lie_of(state.place(piece)))?;
         }
         Ok(Snapshot {
-            tray: bench.tray(),
-            grip: bench.grip(),
+            tray: state.tray(),
+            grip: state.grip(),
             slots,
             operands,
             places,

@@ -7,7 +7,6 @@ use Rattle.burr_voxels.specs.Grid.{origin, plus, along}
 use Rattle.burr_voxels.specs.Near.{IsWithin}
 use Rattle.burr_code.specs.declared.limits.TheConstants.{MOST_OFFSET}
 use Rattle.burr_code.specs.Instruction.{IsInNumberRange}
-use Rattle.burr_code.specs.PieceSets.{IsInSet}
 use Rattle.burr_code.specs.declared.placement.Placement.{Placement}
 use Rattle.burr_code.specs.declared.placement.Placement.TheVariants.{On}
 use Rattle.burr_code.specs.Places.{LiesAt, LiesIn, AllLieIn, aside_places}

@@ -17,7 +17,7 @@ use std::mem::replace;
 
 impl BenchState {
     /// `halt`: ends the run in main, where all pieces are apart; pc stays.
-    pub fn halt(&mut self) -> Result<Effect, Trap>
+    pub(crate) fn halt(&mut self) -> Result<Effect, Trap>
         ensures next { halting self.old (next_of result self.new) }
         ensures kept { KeepsUnlessGoes result self.old self.new }
         ensures no_motion { NeverMoves result }
@@ -36,7 +36,7 @@ impl BenchState {
 
     /// `jump`: goes on at a label, which stands at this position; None where there is no such
     /// label.
-    pub fn jump(&mut self, label: u16, position: Option<u16>) -> Result<Effect, Trap>
+    pub(crate) fn jump(&mut self, label: u16, position: Option<u16>) -> Result<Effect, Trap>
         ensures next { (here : BenchProcedure) → slice_get here.labels label ≡ position
             → jumping here self.old label (next_of result self.new) }
         ensures kept { KeepsUnlessGoes result self.old self.new }
@@ -53,7 +53,7 @@ impl BenchState {
     /// `down`, in a procedure with this many parameters: at 0 it goes on after it, else the slot
     /// holds one less and it goes on at a label. The position is where the label stands; None where
     /// there is no such label.
-    pub fn down(
+    pub(crate) fn down(
         &mut self,
         slot: u8,
         label: u16,
@@ -94,7 +94,12 @@ impl BenchState {
 
     /// `call`: the topmost operands become the first slots of a procedure of a higher number, the
     /// top the last of them.
-    pub fn call(&mut self, callee: u8, program: &Program<'_>, size: usize) -> Result<Effect, Trap>
+    pub(crate) fn call(
+        &mut self,
+        callee: u8,
+        program: &Program<'_>,
+        size: usize,
+    ) -> Result<Effect, Trap>
         requires within { self.old.running.pc + size ≤ MOST_CODE }
         requires size { size ≡ length (spelled (Call callee)) }
         requires fits { FitsProgram program.now.procedures self.old }
@@ -123,7 +128,7 @@ impl BenchState {
 
     /// `ret`, in a procedure with this many results: the activation ends, and its topmost operands,
     /// one for each result, come on top of those of its caller, which goes on.
-    pub fn ret(&mut self, results: u8) -> Result<Effect, Trap>
+    pub(crate) fn ret(&mut self, results: u8) -> Result<Effect, Trap>
         requires room { CallerHasRoom results self.old.callers }
         ensures next { (here : BenchProcedure) → here.results ≡ results
             → returning here self.old (next_of result self.new) }
@@ -148,7 +153,7 @@ impl BenchState {
     }
 
     /// Makes a step after which the run goes on at a position.
-    pub fn go_to(&mut self, position: u16)
+    pub(crate) fn go_to(&mut self, position: u16)
         ensures { self.new ≡ at_label position self.old.running self.old }
     {
         self.running.go_to(usize::from(position));

@@ -22,7 +22,8 @@ use burr_code::{Instr, Labels};
 impl BenchState {
     /// Carries out an instruction of this many bytes that moves no piece, in the procedure that
     /// runs; a trap changes nothing.
-    pub fn execute(
+    #[tactic(auto, using(crate::proofs::Staying::stays_put))]
+    pub(crate) fn execute(
         &mut self,
         instruction: &Instr<'_>,
         procedure: &Procedure<'_>,
@@ -78,7 +79,7 @@ impl BenchState {
 // Instructions on operands and slots.
 impl BenchState {
     /// `push`: a number comes on top of the operands.
-    pub fn push(&mut self, number: i16, size: usize) -> Result<Effect, Trap>
+    fn push(&mut self, number: i16, size: usize) -> Result<Effect, Trap>
         requires within { self.old.running.pc + size ≤ MOST_CODE }
         requires size { size ≡ length (spelled (Push number)) }
         ensures next { pushing self.old number (next_of result self.new) }
@@ -95,7 +96,7 @@ impl BenchState {
     }
 
     /// `load`: what a slot holds comes on top of the operands.
-    pub fn load(&mut self, slot: u8, size: usize) -> Result<Effect, Trap>
+    fn load(&mut self, slot: u8, size: usize) -> Result<Effect, Trap>
         requires slot { slot < SLOTS }
         requires within { self.old.running.pc + size ≤ MOST_CODE }
         requires size { size ≡ length (spelled (Load slot)) }
@@ -116,7 +117,7 @@ impl BenchState {
     }
 
     /// `store`, in a procedure with this many parameters: the top of the operands goes into a slot.
-    pub fn store(&mut self, slot: u8, parameters: u8, size: usize) -> Result<Effect, Trap>
+    fn store(&mut self, slot: u8, parameters: u8, size: usize) -> Result<Effect, Trap>
         requires slot { slot < SLOTS }
         requires within { self.old.running.pc + size ≤ MOST_CODE }
         requires size { size ≡ length (spelled (Store slot)) }
@@ -138,7 +139,7 @@ impl BenchState {
     }
 
     /// `add`: the two topmost operands are replaced by their sum.
-    pub fn add(&mut self, size: usize) -> Result<Effect, Trap>
+    fn add(&mut self, size: usize) -> Result<Effect, Trap>
         requires within { self.old.running.pc + size ≤ MOST_CODE }
         requires size { size ≡ length (spelled Add) }
         ensures next { adding self.old (next_of result self.new) }
@@ -154,7 +155,7 @@ impl BenchState {
 
     /// `sub`: the two topmost operands are replaced by their difference, the top taken from the one
     /// below.
-    pub fn sub(&mut self, size: usize) -> Result<Effect, Trap>
+    fn sub(&mut self, size: usize) -> Result<Effect, Trap>
         requires within { self.old.running.pc + size ≤ MOST_CODE }
         requires size { size ≡ length (spelled Sub) }
         ensures next { subtracting self.old (next_of result self.new) }
@@ -187,7 +188,7 @@ impl BenchState {
     }
 
     /// `drop`: the top of the operands goes.
-    pub fn drop_top(&mut self, size: usize) -> Result<Effect, Trap>
+    fn drop_top(&mut self, size: usize) -> Result<Effect, Trap>
         requires within { self.old.running.pc + size ≤ MOST_CODE }
         requires size { size ≡ length (spelled Drop) }
         ensures next { dropping self.old (next_of result self.new) }
@@ -218,7 +219,7 @@ fn in_number_range(number: i64) -> Option<i32>
 // Instructions that ask the operator, and the answers.
 impl BenchState {
     /// `ask`: asks for a number of a range.
-    pub fn ask(&self, low: i16, high: i16) -> Result<Effect, Trap>
+    pub(crate) fn ask(&self, low: i16, high: i16) -> Result<Effect, Trap>
         ensures next { asking self.now low high (next_of result self.now) }
         ensures kept { KeepsUnlessGoes result self.now self.now }
         ensures no_motion { NeverMoves result }
@@ -231,7 +232,11 @@ impl BenchState {
     }
 
     /// `pick`: asks for the number of one of the labels.
-    pub fn pick(&self, labels: &Labels<'_>, procedure: &Procedure<'_>) -> Result<Effect, Trap>
+    pub(crate) fn pick(
+        &self,
+        labels: &Labels<'_>,
+        procedure: &Procedure<'_>,
+    ) -> Result<Effect, Trap>
         ensures next { picking procedure.now labels.now (next_of result self.now) }
         ensures kept { KeepsUnlessGoes result self.now self.now }
         ensures no_motion { NeverMoves result }
@@ -245,7 +250,7 @@ impl BenchState {
 
     /// An answer to `ask`: pushed, where there is room and it fits; else nothing changes. Whether
     /// it is taken.
-    pub fn take_number(&mut self, low: i16, high: i16, answer: i32, size: usize) -> bool
+    pub(crate) fn take_number(&mut self, low: i16, high: i16, answer: i32, size: usize) -> bool
         requires within { self.old.running.pc + size ≤ MOST_CODE }
         requires size { size ≡ length (spelled (Ask low high)) }
         ensures taken { TakesNumber self.old low high answer result self.new }
@@ -261,7 +266,7 @@ impl BenchState {
 
     /// An answer to `pick`: the run goes on at the label that it numbers, where all labels are
     /// there and it fits; else nothing changes. Whether it is taken.
-    pub fn take_label(
+    pub(crate) fn take_label(
         &mut self,
         labels: &Labels<'_>,
         procedure: &Procedure<'_>,
@@ -301,7 +306,7 @@ fn picked(labels: &Labels<'_>, procedure: &Procedure<'_>, answer: i32) -> Option
 // Instructions that choose the grip and the current tray.
 impl BenchState {
     /// `grip`: the grip becomes a set of pieces of the current tray.
-    pub fn take_grip(&mut self, set: u32, size: usize) -> Result<Effect, Trap>
+    fn take_grip(&mut self, set: u32, size: usize) -> Result<Effect, Trap>
         requires within { self.old.running.pc + size ≤ MOST_CODE }
         requires size { size ≡ length (spelled (Grip set)) }
         ensures next { gripping self.old set (next_of result self.new) }
@@ -318,7 +323,7 @@ impl BenchState {
     }
 
     /// `tray`: another tray becomes the current one, and nothing is gripped.
-    pub fn choose_tray(&mut self, tray: u8, size: usize) -> Result<Effect, Trap>
+    fn choose_tray(&mut self, tray: u8, size: usize) -> Result<Effect, Trap>
         requires within { self.old.running.pc + size ≤ MOST_CODE }
         requires size { size ≡ length (spelled (Tray tray)) }
         ensures next { choosing_tray self.old tray (next_of result self.new) }

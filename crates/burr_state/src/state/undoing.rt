@@ -19,7 +19,7 @@ use std::mem::replace;
 
 impl BenchState {
     /// The record of the step that an instruction makes, in a procedure with this many results.
-    pub fn record(&self, instruction: &Instr<'_>, results: u8) -> Undo
+    pub(crate) fn record(&self, instruction: &Instr<'_>, results: u8) -> Undo
         ensures record { (here : BenchProcedure) → here.results ≡ results
             → result ≡ record_of here self.now (meaning instruction.now) }
         ensures orderly { IsOrderly self.now }
@@ -69,7 +69,7 @@ impl BenchState {
     }
 
     /// Lays a record's old values over the state: one step less, and the run goes on.
-    pub fn undo(&mut self, undo: Undo)
+    pub(crate) fn undo(&mut self, undo: Undo)
         requires orderly { IsOrderly (laid_over undo self.old) }
         requires few { length (laid_over undo self.old).callers < MOST_PROCEDURES }
         ensures { self.new ≡ laid_over undo self.old }

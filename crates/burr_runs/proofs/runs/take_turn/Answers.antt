@@ -4,6 +4,7 @@ use Rattle.std.proofs.KnownBytes.{Appends-nil}
 use Rattle.burr_state.specs.declared.effect.Motion.{Motion}
 use Rattle.burr_state.specs.declared.effect.Progress.{Progress}
 use Rattle.burr_state.specs.declared.effect.Progress.TheVariants.{Went}
+use Rattle.burr_state.specs.Rules.Bench.{BenchState}
 use Rattle.burr_state.specs.Views.Benches.{Benched, GoesOn, motion_in, setup_of}
 use Rattle.burr_state.specs.Rules.Next.{Goes}
 use Rattle.burr_state.specs.Rules.Step.{Called}
@@ -21,7 +22,7 @@ returns-in-Err-clause-ok g c =
     let b = g.R.Runner.benched c.args.runner.now in
     let new = g.R.Runner.benched c.step.new.self in
     let told = tells (setup_of b) b.state new.state (Err c.in-Err.trap) c.requires.running c.in-Err.ensures.called in
-    (trapped_run b new c.args.answers.now c.args.sheet.now c.in-Err.trap c.proc.result c.pc.result (record { running = c.requires.running; within = c.requires.within }) told.0 told.1 c.proc.ensures c.pc.ensures, refl, refl)
+    (trapped_run b new c.args.answers.now c.args.sheet.now c.in-Err.trap c.procedure.result c.pc.result (record { running = c.requires.running; within = c.requires.within }) told.0 told.1 (c.procedure.ensures ∙ ap (λ (s : BenchState). s.running.procedure) c.state-state.ensures) (c.pc.ensures.pc ∙ ap (λ (s : BenchState). s.running.pc) c.state-state.ensures), refl, refl)
 
 pub returns-in-Ok-Asks-clause-ok : goal.returns-in-Ok-Asks-clause-ok
 returns-in-Ok-Asks-clause-ok g c =
@@ -101,8 +102,8 @@ returns-in-Err-clause-stands g c =
     let b = g.R.Runner.benched c.args.runner.now in
     let new = g.R.Runner.benched c.step.new.self in
     let told = tells (setup_of b) b.state new.state (Err c.in-Err.trap) c.requires.running c.in-Err.ensures.called in
-    trapped_there b new c.args.answers.now c.in-Err.trap c.proc.result c.pc.result (record { running = c.requires.running; within = c.requires.within }) c.in-Err.ensures.same
-    c.in-Err.ensures.called told.1 c.proc.ensures c.pc.ensures
+    trapped_there b new c.args.answers.now c.in-Err.trap c.procedure.result c.pc.result (record { running = c.requires.running; within = c.requires.within }) c.in-Err.ensures.same
+    c.in-Err.ensures.called told.1 (c.procedure.ensures ∙ ap (λ (s : BenchState). s.running.procedure) c.state-state.ensures) (c.pc.ensures.pc ∙ ap (λ (s : BenchState). s.running.pc) c.state-state.ensures)
 
 pub returns-in-Ok-Asks-clause-stands : goal.returns-in-Ok-Asks-clause-stands
 returns-in-Ok-Asks-clause-stands g c =

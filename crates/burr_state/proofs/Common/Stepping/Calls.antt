@@ -6,7 +6,6 @@ use Rattle.burr_code.specs.Instruction.{Call}
 use Rattle.burr_code.specs.Labels.{callee_of}
 use Rattle.burr_state.specs.declared.effect.Effect.{Effect}
 use Rattle.burr_state.specs.declared.effect.Trap.{Trap}
-use Rattle.burr_state.specs.declared.effect.Trap.TheVariants as traps
 use Rattle.burr_state.specs.Rules.Bench.{Activation, BenchProcedure, BenchState, Setup}
 use Rattle.burr_state.specs.Rules.Next.{Goes, Traps, stepped}
 use Rattle.burr_state.specs.Rules.Control.{called, calling}

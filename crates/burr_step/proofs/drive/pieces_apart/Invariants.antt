@@ -3,4 +3,4 @@ use Rattle.burr_step.proofs.drive.pieces_apart.Given as goal
 
 -- of the pieces so far exactly these are apart
 abbrev pub invariant-loop-piece : goal.invariant-loop-piece
-invariant-loop-piece l = AreApartBelow l.bench.state.places l.piece l.apart
+invariant-loop-piece l = AreApartBelow l.state.places l.piece l.apart

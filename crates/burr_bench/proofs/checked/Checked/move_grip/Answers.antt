@@ -1,4 +1,4 @@
-use Rattle.std.proofs.Common.{◌≡◌, ◌≢◌, false, sym, subst, refl, ap, length, rules}
+use Rattle.std.proofs.Common.{◌≡◌, ◌≢◌, ◌∙◌, false, sym, subst, refl, ap, length, rules}
 use Rattle.burr_assembly.specs.Rules.Homes.{homes_of}
 use Rattle.burr_state.specs.Rules.Bench.{BenchState}
 use Rattle.burr_state.specs.Rules.Space.{NoOverlap, motion_of}
@@ -16,23 +16,23 @@ pub returns-then-not-stays_on_bench-clause-follows : goal.returns-then-not-stays
 returns-then-not-stays_on_bench-clause-follows g c here runs =
     let now = c.args.self.now in
     let some : now.state.grip ≢ 0 = search rules in
-    let off = subst (λ (b : Benched). ¬ StaysOnBench b.state c.args.direction) c.self.view_is (no_of c.if-not-stays_on_bench.ensures) in
+    let off = subst (λ (s : BenchState). ¬ StaysOnBench s c.args.direction) (c.state-state.ensures ∙ ap (λ (b : Benched). b.state) c.self.view_is) (no_of c.if-not-stays_on_bench.ensures) in
     step_off_bench (setup_of now) here now.state c.args.direction some off
 
 pub passes-requires : goal.passes-requires
-passes-requires g c = subst (λ (b : Benched). StaysOnBench b.state c.args.direction) c.self.view_is (yes_of c.if-not-stays_on_bench.ensures)
+passes-requires g c = subst (λ (s : BenchState). StaysOnBench s c.args.direction) (c.state-state.ensures ∙ ap (λ (b : Benched). b.state) c.self.view_is) (yes_of c.if-not-stays_on_bench.ensures)
 
 pub returns-then-not-passes-clause-follows : goal.returns-then-not-passes-clause-follows
 returns-then-not-passes-clause-follows g c here runs =
     let now = c.args.self.now in
     let some : now.state.grip ≢ 0 = search rules in
-    let stays = subst (λ (b : Benched). StaysOnBench b.state c.args.direction) c.self.view_is (yes_of c.if-not-stays_on_bench.ensures) in
+    let stays = subst (λ (s : BenchState). StaysOnBench s c.args.direction) (c.state-state.ensures ∙ ap (λ (b : Benched). b.state) c.self.view_is) (yes_of c.if-not-stays_on_bench.ensures) in
     let as_many = as_many_homes now.assembly now.state.places (subst (λ (b : Benched). length b.state.places ≡ length b.assembly.pieces) c.self.view_is c.self.invariant.as_many) in
     step_collides (setup_of now) here now.state c.args.direction some stays
     (λ none. no_of c.if-not-passes.ensures (passing_of_no_overlap (homes_of now.assembly) now.state.places now.state.tray now.state.grip c.args.direction as_many none))
 
 pub move_grip-motion-requires-clause-on_bench : goal.move_grip-motion-requires-clause-on_bench
-move_grip-motion-requires-clause-on_bench g c = yes_of c.if-not-stays_on_bench.ensures
+move_grip-motion-requires-clause-on_bench g c = subst (λ (s : BenchState). StaysOnBench s c.args.direction) c.state-state.ensures (yes_of c.if-not-stays_on_bench.ensures)
 
 pub invariant_of-self : goal.invariant_of-self
 invariant_of-self g c =
@@ -46,7 +46,7 @@ pub returns-clause-follows : goal.returns-clause-follows
 returns-clause-follows g c here runs =
     let now = c.args.self.now in
     let some : now.state.grip ≢ 0 = search rules in
-    let stays = subst (λ (b : Benched). StaysOnBench b.state c.args.direction) c.self.view_is (yes_of c.if-not-stays_on_bench.ensures) in
+    let stays = subst (λ (s : BenchState). StaysOnBench s c.args.direction) (c.state-state.ensures ∙ ap (λ (b : Benched). b.state) c.self.view_is) (yes_of c.if-not-stays_on_bench.ensures) in
     let apart = (subst (λ (b : Benched). NoOverlap (homes_of b.assembly) b.state.places) c.self.view_is c.self.invariant.apart) now.state.tray in
     let none = no_overlap_of_passing (homes_of now.assembly) now.state.places now.state.tray now.state.grip c.args.direction apart (yes_of c.if-not-passes.ensures) in
     let went = subst (λ (b : Benched). c.move_grip-motion.new.self.state ≡ moved_grip c.args.direction c.args.size b.state) c.self.view_is c.move_grip-motion.ensures.state in

@@ -1,56 +1,8 @@
-use Rattle.std.proofs.Common.{sym, subst, List}
-use Rattle.burr_code.specs.Places.{AllLieIn}
-use Rattle.burr_state.specs.Rules.Bench.{BenchProcedure, BenchState}
-use Rattle.burr_state.specs.Views.Effects.{StaysPut, StaysWithin, StaysFitting, PiecesStay, CallerHasRoom}
-use Rattle.burr_state.specs.Views.Programs.{FitsProgram}
-use Rattle.burr_state.proofs.Common.Stepping.Calls.{fits_within, caller_has_room, fits_returning}
+use Rattle.std.proofs.Common.{sym, subst}
+use Rattle.burr_state.specs.Views.Effects.{CallerHasRoom}
+use Rattle.burr_state.proofs.Common.Stepping.Calls.{caller_has_room, fits_returning}
+use Rattle.burr_state.proofs.Staying.{stays_within}
 use Rattle.burr_state.proofs.state.BenchState.execute.Goals as goal
-
--- where nothing was called and nothing returned, the state fits what is run
-stays_within : (procedures : List BenchProcedure) (old new : BenchState) → FitsProgram procedures old → PiecesStay old new
-    → StaysWithin old new → StaysFitting procedures old new
-stays_within procedures old new fits pieces within =
-    record { pieces = pieces; fits = fits_within procedures old new fits within }
-
--- where nothing changed, the grip still lies in the current tray
-stays_put : (procedures : List BenchProcedure) (old new : BenchState) → AllLieIn old.places old.tray old.grip → FitsProgram procedures old
-    → StaysPut old new → StaysFitting procedures old new
-stays_put procedures old new here fits stays =
-    stays_within procedures old new fits
-    (record { places = stays.places; here = rw (stays.places, stays.tray, stays.grip) here }) stays.within
-
-pub returns-in-Halt-clause-stays : goal.returns-in-Halt-clause-stays
-returns-in-Halt-clause-stays c = stays_put c.args.program.now.procedures _ _ c.each_state_is_orderly.ensures.here c.requires.fits c.halt.ensures.stays
-
-pub returns-in-Push-clause-stays : goal.returns-in-Push-clause-stays
-returns-in-Push-clause-stays c = stays_put c.args.program.now.procedures _ _ c.each_state_is_orderly.ensures.here c.requires.fits c.push.ensures.stays
-
-pub returns-in-Load-clause-stays : goal.returns-in-Load-clause-stays
-returns-in-Load-clause-stays c = stays_put c.args.program.now.procedures _ _ c.each_state_is_orderly.ensures.here c.requires.fits c.load.ensures.stays
-
-pub returns-in-Store-clause-stays : goal.returns-in-Store-clause-stays
-returns-in-Store-clause-stays c = stays_put c.args.program.now.procedures _ _ c.each_state_is_orderly.ensures.here c.requires.fits c.store.ensures.stays
-
-pub returns-in-Add-clause-stays : goal.returns-in-Add-clause-stays
-returns-in-Add-clause-stays c = stays_put c.args.program.now.procedures _ _ c.each_state_is_orderly.ensures.here c.requires.fits c.add.ensures.stays
-
-pub returns-in-Sub-clause-stays : goal.returns-in-Sub-clause-stays
-returns-in-Sub-clause-stays c = stays_put c.args.program.now.procedures _ _ c.each_state_is_orderly.ensures.here c.requires.fits c.sub.ensures.stays
-
-pub returns-in-Drop-clause-stays : goal.returns-in-Drop-clause-stays
-returns-in-Drop-clause-stays c = stays_put c.args.program.now.procedures _ _ c.each_state_is_orderly.ensures.here c.requires.fits c.drop_top.ensures.stays
-
-pub returns-in-Jump-clause-stays : goal.returns-in-Jump-clause-stays
-returns-in-Jump-clause-stays c = stays_put c.args.program.now.procedures _ _ c.each_state_is_orderly.ensures.here c.requires.fits c.jump.ensures.stays
-
-pub returns-in-Down-clause-stays : goal.returns-in-Down-clause-stays
-returns-in-Down-clause-stays c = stays_put c.args.program.now.procedures _ _ c.each_state_is_orderly.ensures.here c.requires.fits c.down.ensures.stays
-
-pub returns-in-Ask-clause-stays : goal.returns-in-Ask-clause-stays
-returns-in-Ask-clause-stays c = stays_put c.args.program.now.procedures _ _ c.each_state_is_orderly.ensures.here c.requires.fits c.ask.ensures.stays
-
-pub returns-in-Pick-clause-stays : goal.returns-in-Pick-clause-stays
-returns-in-Pick-clause-stays c = stays_put c.args.program.now.procedures _ _ c.each_state_is_orderly.ensures.here c.requires.fits c.pick.ensures.stays
 
 pub returns-in-Store-clause-next : goal.returns-in-Store-clause-next
 returns-in-Store-clause-next c homes = rw c.in-Store.is (c.store.ensures.next c.args.procedure.now (sym c.parameters.ensures))
