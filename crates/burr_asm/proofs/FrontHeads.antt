@@ -122,7 +122,7 @@ pub routine_begun : (number : ℕ → ℕ) (place start version : ℕ) (s : Sign
     → BeforeLabels number place start version (begun s) h None 1
 routine_begun number place start version s h is next = record {
   routine =
-      record { signature = is; exit_is = refl; labels = refl; size = refl; code = tt };
+      record { signature = is; exit_is = refl; labels = refl; size = refl; code = refl };
   names = refl;
   next = next;
 }

@@ -29,7 +29,7 @@ use Rattle.burr_asm.specs.Views.Fronts.{IsOutline, IsUnderWay, IsFront, IsFaultO
 use Rattle.burr_asm.specs.Views.Steps.{GivesStage, changed}
 use Rattle.burr_asm.specs.Views.FrontSteps.{BeginsMain, NextProcedure, GivesWithin, GivesFront}
 use Rattle.burr_asm.proofs.FrontHeads.{head_same, outline_titled, outline_begun, outline_ended, lines_more, routine_begun}
-use Rattle.burr_asm.proofs.FrontBlocks.{ends_with_block}
+use Rattle.burr_asm.proofs.StageLabels.{last_has_code}
 
 -- Tests
 
@@ -163,7 +163,7 @@ code_told : (number : ℕ → ℕ) (place start version : ℕ) (r : RoutineParts
     → AfterFrame number place start version r h exit blocks b
     → has_code b ≡ not (ends_with_label r)
 code_told number place start version r h exit blocks b is =
-    ends_with_block r blocks b is.routine.labels is.routine.size
+    sym (last_has_code r blocks b is.routine.labels is.routine.size)
 
 -- the plan with the procedure that ends, where the next one begins
 ended_there : (number : ℕ → ℕ) (place : ℕ) (o new : OutlineParts) (r : RoutineParts)

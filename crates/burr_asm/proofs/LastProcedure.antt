@@ -21,7 +21,7 @@ use Rattle.burr_asm.specs.Views.Beginnings.{AfterFrame, IsStage}
 use Rattle.burr_asm.specs.Views.Fronts.{IsFaultOf, IsFront, IsOutline, IsPlanOf, ending, in_procedure, names_begun, start_of}
 use Rattle.burr_asm.specs.Views.Steps.{EndsStage}
 use Rattle.burr_asm.proofs.Finishing.{resolved_is, source_of}
-use Rattle.burr_asm.proofs.FrontBlocks.{ends_with_block}
+use Rattle.burr_asm.proofs.StageLabels.{last_has_code}
 use Rattle.burr_asm.proofs.FrontHeads.{outline_ended}
 
 -- a procedure is under way
@@ -56,7 +56,7 @@ module _ (number : ℕ → ℕ) (place : ℕ) (o : OutlineParts) (r : RoutinePar
     (h : IsOutline number o u.title u.ended (names_begun u)) (k : AfterFrame number place (start_of u) u.title.version r u.head exit blocks b) where
   -- the last block has code, or the last label stands at the end
   has_code_is : (t : Bool) → ends_with_label r ≡ t → has_code b ≡ not t
-  has_code_is t e = ends_with_block r blocks b k.routine.labels k.routine.size ∙ ap not e
+  has_code_is t e = sym (last_has_code r blocks b k.routine.labels k.routine.size) ∙ ap not e
 
   -- what the rules say of the end, where the last block has code or not
   abbrev ending_if : Bool → Result PlanSource PlacedFault

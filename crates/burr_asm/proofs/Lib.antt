@@ -4,7 +4,6 @@ pub mod Finishing
 pub mod FormTerms
 pub mod FormWords
 pub mod FrameParts
-pub mod FrontBlocks
 pub mod FrontFaults
 pub mod FrontHeads
 pub mod FrontSteps

@@ -1,12 +1,12 @@
 -- The lines of a plan that is right are its parts, one after the other.
-use Rattle.std.proofs.Common.{◌≡◌, ℕ, suc, pred, ◌+◌, List, [], ◌∷◌, ◌++◌, length, map, flat_map, Option, Some, None, IsTrue, refl, ap, subst, ◌∙◌, arith}
+use Rattle.std.proofs.Common.{◌≡◌, ℕ, suc, pred, ◌+◌, List, [], ◌∷◌, ◌++◌, length, map, flat_map, Option, Some, None, IsTrue, true≢false, refl, sym, ap, subst, ◌∙◌, arith}
 use Rattle.std.specs.Prelude.{Bool, true, false, is_none, nat_le}
 use Rattle.std.proofs.lemmas.Bool.{and_from, and_parts}
 use Rattle.burr_code.specs.declared.limits.TheConstants.{MOST_CODE}
 use Rattle.burr_plantext.specs.Rules.Written.{natural_in}
 use Rattle.burr_plantext.specs.Rules.Statements.{Statement}
-use Rattle.burr_plantext.specs.Rules.Lines.{PlanWords, Line, ResultLine, SlotLine, GuardLine, StackLine, AtLine, CodeLine}
-use Rattle.burr_plantext.specs.Rules.Sources.{ExitSource, FrameSource, Block, ProcedureSource, some_exit_lines, frame_lines, block_lines, procedure_lines}
+use Rattle.burr_plantext.specs.Rules.Lines.{PlanWords, Line, PlanLine, ProcLine, LabelLine, CodeLine}
+use Rattle.burr_plantext.specs.Rules.Sources.{Block, ProcedureSource, block_lines, procedure_lines}
 use Rattle.burr_plantext.specs.Rules.Meaning.{code_size, block_code}
 use Rattle.burr_plantext.specs.Rules.Checks.{FaultKind, P3, P4, unless, is_in_range, statement_check}
 use Rattle.burr_plantext.specs.Rules.Right.{each_after, all_right, is_block, is_procedure}
@@ -17,6 +17,7 @@ use Rattle.burr_asm.specs.Rules.SourceMaps.{rows, code_parts, blocks_parts, proc
 use Rattle.burr_asm.specs.Views.SourceMaps.{at_start, row_part, with_row, next_part, part_read}
 use Rattle.burr_plantext.proofs.Common.CodeSizes.{size_both}
 use Rattle.burr_asm.proofs.StageLabels.{size_more}
+use Rattle.burr_asm.proofs.StagePlaces.{AreRows, no_rows, row_and, is_row, frame_rows, exit_rows}
 use Rattle.burr_asm.proofs.PartLines.{if_taken, and_on, walk}
 
 -- Each of the lines is one of the parts, in their order.
@@ -50,33 +51,19 @@ cursor procedures labels row pc = record { procedures = procedures; labels = lab
 
 -- The lines of a frame
 
-data AreRows : List Line → Type 0 where
-  no_rows : AreRows []
-  row_and : {line : Line} {lines : List Line} → ((k : Cursor) → next_part k line ≡ Some (with_row k)) → AreRows lines → AreRows (line ∷ lines)
-
-both : {a b : List Line} → AreRows a → AreRows b → AreRows (a ++ b)
-both no_rows h = h
-both (row_and is others) h = row_and is (both others h)
-
-each : {A : Type 0} (f : A → Line) → ((x : A) (k : Cursor) → next_part k (f x) ≡ Some (with_row k)) → (xs : List A) → AreRows (map f xs)
-each f is [] = no_rows
-each f is (x ∷ xs) = row_and (is x) (each f is xs)
-
-frame_rows : (f : FrameSource) → AreRows (frame_lines f)
-frame_rows f =
-    both (row_and (λ k. refl) (both (each SlotLine (λ x k. refl) f.conditions.slots) (both (each GuardLine (λ x k. refl) f.conditions.guards) (each StackLine (λ x k. refl) f.conditions.stack))))
-    (row_and (λ k. refl) (each AtLine (λ x k. refl) f.pieces))
-
-exit_rows : (exit : Option ExitSource) → AreRows (some_exit_lines exit)
-exit_rows None = no_rows
-exit_rows (Some e) = row_and (λ k. refl) (both (each ResultLine (λ x k. refl) e.results) (both (each GuardLine (λ x k. refl) e.guards) (each AtLine (λ x k. refl) e.pieces)))
+row_is : (line : Line) → is_row line ≡ true → (k : Cursor) → next_part k line ≡ Some (with_row k)
+row_is (PlanLine title) is k = absurd (true≢false (sym is))
+row_is (ProcLine head) is k = absurd (true≢false (sym is))
+row_is (LabelLine name) is k = absurd (true≢false (sym is))
+row_is (CodeLine s) is k = absurd (true≢false (sym is))
+row_is line is k = refl
 
 rows_walk : {lines : List Line} → AreRows lines → (procedures labels row pc : ℕ)
     → (last : ℕ) × Walks (cursor procedures labels row pc) lines (rows (row_part (pred procedures) labels) row (length lines)) (cursor procedures labels last pc)
 rows_walk no_rows procedures labels row pc = (row, ends)
-rows_walk (row_and is others) procedures labels row pc =
+rows_walk (row_and {line} is others) procedures labels row pc =
     let rest = rows_walk others procedures labels (suc row) pc in
-    (rest.0, goes (is (cursor procedures labels row pc)) rest.1)
+    (rest.0, goes (row_is line is (cursor procedures labels row pc)) rest.1)
 
 -- Code and labels
 

@@ -1,8 +1,7 @@
 -- What the code makes of a line after a frame, or of the first label, is what the rules say.
-use Rattle.std.proofs.Common.{◌≡◌, inr, ℕ, suc, ◌+◌, ◌≤◌, Bool, true, false, true≢false, List, [], ◌∷◌, ◌++◌, Option, Some, None, refl, sym, ap, subst, ◌∙◌}
+use Rattle.std.proofs.Common.{◌≡◌, inr, ℕ, suc, Bool, true, false, true≢false, List, [], ◌∷◌, ◌++◌, Option, None, refl, sym, ap, subst, ◌∙◌}
 use Rattle.std.specs.Prelude.{nat_le, Ok, Err}
 use Rattle.std.specs.Borrow.{Bor}
-use Rattle.std.proofs.lemmas.Bool.{le-leb}
 use Rattle.burr_code.specs.declared.limits.TheConstants.{MOST_CODE}
 use Rattle.burr_plantext.specs.Rules.Statements.{Statement}
 use Rattle.burr_plantext.specs.Rules.Lines.{Line, LabelLine, CodeLine}
@@ -13,13 +12,11 @@ use Rattle.burr_plantext.specs.Rules.Faults as rules
 use Rattle.burr_plantext.specs.Rules.Faults.{OpenProcedure, Beginning, Within, PlacedFault, LineResult, judged, piece_count, end_within}
 use Rattle.burr_asm.specs.declared.fault.AsmFault.{AsmFault}
 use Rattle.burr_asm.specs.declared.fault.AsmFault.TheVariants as fault
-use Rattle.burr_asm.specs.declared.text.statement.Statement.{Statement as CodedStatement}
 use Rattle.burr_asm.specs.declared.text.stage.Stage.TheVariants.{AwaitsLabel, AwaitsFrame, InCode}
 use Rattle.burr_asm.specs.declared.text.code.CodeLine.{CodeLine as CodeWords}
 use Rattle.burr_asm.specs.declared.text.line.LineForm.{LineForm}
 use Rattle.burr_asm.specs.declared.text.line.LineForm.TheVariants as form
-use Rattle.burr_asm.specs.Views.CodeParts.{with_statement}
-use Rattle.burr_asm.specs.Views.Coded.{IsCoded, coded_size}
+use Rattle.burr_asm.specs.Views.CodeParts.{code_refusal, with_statement}
 use Rattle.burr_asm.specs.Views.Faults.{IsRefusal}
 use Rattle.burr_asm.specs.Views.LineWords.{line_words}
 use Rattle.burr_asm.specs.Views.Routines.{RoutineParts, label_refusal, with_label}
@@ -32,51 +29,37 @@ use Rattle.burr_asm.proofs.StageLines.{refused_by, passes, under_label, after_co
 
 -- After a frame
 
--- a line of code with a number or a set out of its range
-pub code_out : (old new : RoutineParts) (w : Statement) (n : ℕ) → is_in_range w ≡ false
-    → GivesInAny InCode old (CodeLine w) n new (Err (fault.P3 n))
-code_out old new w n out number place u (rules.InCode exit blocks b) line at =
-    let sized = nat_le (code_size (block_code blocks) + code_size (b.code ++ w ∷ [])) MOST_CODE in
-    let check : statement_check blocks b.code w ≡ Some P3 =
-    ap (λ (t : Bool). unless t P3 (unless sized P4 None)) out in
-    refused_by number place n (statement_check blocks b.code w) (Within u (rules.InCode exit blocks (with_code b w))) (fault.P3 n) line (inr (P3, check, refl))
-code_out old new w n out number place u t line at = absurd at
+-- what the code tests of a line of code is what the rules test
+code_check : (old : RoutineParts) (blocks : List Block) (b : Block) (w : Statement)
+    → old.code.size ≡ code_size (block_code (blocks ++ b ∷ []))
+    → code_refusal old.code w ≡ statement_check blocks b.code w
+code_check old blocks b w e =
+    let sum = size_with blocks b w old.code.size e in
+    λ j. unless (is_in_range w) P3 (unless (nat_le (sum j) MOST_CODE) P4 None)
 
--- what the rules test of a line of code that is in range
-size_check : (blocks : List Block) (b : Block) (s : CodedStatement) (w : Statement) (size : ℕ)
-    → size ≡ code_size (block_code (blocks ++ b ∷ [])) → IsCoded s w → is_in_range w ≡ true
-    → unless (nat_le (size + coded_size s) MOST_CODE) P4 None ≡ statement_check blocks b.code w
-size_check blocks b s w size e coded inside =
-    let sum = size_with blocks b s w size e coded in
-    λ j. unless (sym inside j) P3 (unless (nat_le (sum j) MOST_CODE) P4 None)
-
--- a line of code for which there is no room
-pub code_refused : (old new : RoutineParts) (s : CodedStatement) (w : Statement) (n : ℕ)
-    (e : AsmFault) → is_in_range w ≡ true → IsCoded s w
-    → IsRefusal (unless (nat_le (old.code.size + coded_size s) MOST_CODE) P4 None) n e
+-- a line of code that is refused
+pub code_refused : (old new : RoutineParts) (w : Statement) (n : ℕ) (e : AsmFault)
+    → IsRefusal (code_refusal old.code w) n e
     → GivesInAny InCode old (CodeLine w) n new (Err e)
-code_refused old new s w n e inside coded fails number place u (rules.InCode exit blocks b) line at =
-    let check = size_check blocks b s w old.code.size at.routine.size coded inside in
+code_refused old new w n e fails number place u (rules.InCode exit blocks b) line at =
+    let check = code_check old blocks b w at.routine.size in
     refused_by number place n (statement_check blocks b.code w) (Within u (rules.InCode exit blocks (with_code b w))) e line
     (subst (λ (c : Option FaultKind). IsRefusal c n e) check fails)
-code_refused old new s w n e inside coded fails number place u t line at = absurd at
+code_refused old new w n e fails number place u t line at = absurd at
 
 -- a line of code
-pub code_added : (old new : RoutineParts) (s : CodedStatement) (w : Statement) (n : ℕ)
-    → is_in_range w ≡ true → IsCoded s w → old.code.size + coded_size s ≤ MOST_CODE
-    → new ≡ record old { code = with_statement old.code n s }
+pub code_added : (old new : RoutineParts) (w : Statement) (n : ℕ)
+    → code_refusal old.code w ≡ None → new ≡ record old { code = with_statement old.code n w }
     → GivesInAny InCode old (CodeLine w) n new (Ok InCode)
-code_added old new s w n inside coded room is number place u (rules.InCode exit blocks b) line at =
-    let check = size_check blocks b s w old.code.size at.routine.size coded inside in
-    let fits = le-leb (old.code.size + coded_size s) MOST_CODE room in
+code_added old new w n none is number place u (rules.InCode exit blocks b) line at =
     let passed : statement_check blocks b.code w ≡ None =
-    sym check ∙ ap (λ (t : Bool). unless t P4 None) fits in (
+    sym (code_check old blocks b w at.routine.size) ∙ none in (
       rules.InCode exit blocks (with_code b w),
       passes place (statement_check blocks b.code w) (Within u (rules.InCode exit blocks (with_code b w))) passed,
       subst (λ (r : RoutineParts). AfterFrame number (suc place) (start_of u) u.title.version r u.head exit blocks (with_code b w)) (sym is)
-          (after_code number place (start_of u) u.title.version old u.head exit blocks b n s w at line coded),
+          (after_code number place (start_of u) u.title.version old u.head exit blocks b n w at line),
     )
-code_added old new s w n inside coded room is number place u t line at = absurd at
+code_added old new w n none is number place u t line at = absurd at
 
 -- a label that is refused
 pub label_refused : (old new : RoutineParts) (name : List ℕ) (n : ℕ) (e : AsmFault)

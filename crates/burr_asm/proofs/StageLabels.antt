@@ -14,8 +14,6 @@ use Rattle.burr_plantext.specs.Rules.Sources.{Block, FrameSource}
 use Rattle.burr_plantext.specs.Rules.Meaning.{statement_bytes, code_size, block_code, frame_in, labels_in, label_names}
 use Rattle.burr_plantext.specs.Rules.Checks.{P2, P4, unless, is_empty, is_known, has_code, label_check}
 use Rattle.burr_plantext.proofs.Common.CodeSizes.{size_both, some_size}
-use Rattle.burr_asm.specs.declared.text.statement.Statement.{Statement as CodedStatement}
-use Rattle.burr_asm.specs.Views.Coded.{IsCoded, coded_size}
 use Rattle.burr_asm.specs.Views.Routines.{RoutineParts, ends_at, ends_with_label, label_refusal}
 use Rattle.burr_asm.proofs.StagePlaces.{bare_block, with_code}
 
@@ -29,27 +27,20 @@ size_more blocks b =
     ∙ size_both (block_code blocks) (b.code ++ [])
     ∙ ap (λ (code : List Statement). code_size (block_code blocks) + code_size code) (append-nil b.code)
 
--- a statement has as many bytes as its words
-coded_size_is : (s : CodedStatement) (w : Statement) → IsCoded s w → coded_size s ≡ code_size (w ∷ [])
-coded_size_is s w is =
-    ap (λ (bytes : List ℕ). length bytes) (is.bytes [] [])
-    ∙ ap (λ (bytes : List ℕ). length bytes) (sym (append-nil (statement_bytes [] [] w)))
-
 -- the size with one statement more
-pub size_with : (blocks : List Block) (b : Block) (s : CodedStatement) (w : Statement) (size : ℕ)
-    → size ≡ code_size (block_code (blocks ++ b ∷ [])) → IsCoded s w
-    → size + coded_size s ≡ code_size (block_code blocks) + code_size (b.code ++ w ∷ [])
-size_with blocks b s w size e is =
+pub size_with : (blocks : List Block) (b : Block) (w : Statement) (size : ℕ)
+    → size ≡ code_size (block_code (blocks ++ b ∷ []))
+    → size + code_size (w ∷ []) ≡ code_size (block_code blocks) + code_size (b.code ++ w ∷ [])
+size_with blocks b w size e =
     let sum = size_more blocks b in
-    let one = coded_size_is s w is in
     let both = size_both b.code (w ∷ []) in
-    omega (arith, e, sum, one, both)
+    omega (arith, e, sum, both)
 
-pub size_longer : (blocks : List Block) (b : Block) (s : CodedStatement) (w : Statement) (size : ℕ)
-    → size ≡ code_size (block_code (blocks ++ b ∷ [])) → IsCoded s w
-    → size + coded_size s ≡ code_size (block_code (blocks ++ with_code b w ∷ []))
-size_longer blocks b s w size e is =
-    size_with blocks b s w size e is ∙ sym (size_more blocks (with_code b w))
+pub size_longer : (blocks : List Block) (b : Block) (w : Statement) (size : ℕ)
+    → size ≡ code_size (block_code (blocks ++ b ∷ []))
+    → size + code_size (w ∷ []) ≡ code_size (block_code (blocks ++ with_code b w ∷ []))
+size_longer blocks b w size e =
+    size_with blocks b w size e ∙ sym (size_more blocks (with_code b w))
 
 -- a block without code yet adds nothing to the size
 pub size_bare : (blocks : List Block) (label : List ℕ) (f : FrameSource)
@@ -131,7 +122,7 @@ all_have_code blocks b full =
     ∙ sym (list_all-append has_code blocks (b ∷ []))
 
 -- the last label stands at the end of the code where its block has no code
-last_has_code : (r : RoutineParts) (blocks : List Block) (b : Block)
+pub last_has_code : (r : RoutineParts) (blocks : List Block) (b : Block)
     → r.labels ≡ labels_in 0 (blocks ++ b ∷ [])
     → r.code.size ≡ code_size (block_code (blocks ++ b ∷ []))
     → not (ends_with_label r) ≡ has_code b

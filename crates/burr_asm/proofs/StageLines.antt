@@ -13,15 +13,13 @@ use Rattle.burr_plantext.specs.Rules.Meaning.{label_names, frame_in, place_in, p
 use Rattle.burr_plantext.specs.Rules.Checks.{FaultKind, has_code, grip_check}
 use Rattle.burr_plantext.specs.Rules.Faults.{OpenProcedure, Beginning, LineResult, judged, piece_count}
 use Rattle.burr_asm.specs.declared.fault.AsmFault.{AsmFault}
-use Rattle.burr_asm.specs.declared.text.statement.Statement.{Statement as CodedStatement}
 use Rattle.burr_asm.specs.Views.CodeParts.{with_statement}
-use Rattle.burr_asm.specs.Views.Coded.{IsCoded}
 use Rattle.burr_asm.specs.Rules.Faults.{fault_at}
 use Rattle.burr_asm.specs.Views.Faults.{IsRefusal}
 use Rattle.burr_asm.specs.Views.Routines.{RoutineParts, with_label, with_frame}
 use Rattle.burr_asm.specs.Views.Beginnings.{IsRoutine, BeforeLabels, UnderLabel, AfterFrame, lines_of}
 use Rattle.burr_asm.specs.Views.Fronts.{IsFaultOf}
-use Rattle.burr_asm.proofs.StagePlaces.{bare_block, with_code, length_more, length_longer, block_length, bare_length, begun_length, coded_longer, coded_bare, coded_begun}
+use Rattle.burr_asm.proofs.StagePlaces.{bare_block, with_code, length_more, length_longer, block_length, bare_length, begun_length, begun_lacks, code_longer, code_bare}
 use Rattle.burr_asm.proofs.StageLabels.{size_longer, size_bare, labels_more, labels_longer, names_more, names_longer}
 
 -- Refusals
@@ -109,8 +107,7 @@ module _ (number : ℕ → ℕ) (place start version : ℕ) (r : RoutineParts) (
               (λ j. under.routine.labels j ++ (under.routine.size j, is j) ∷ [])
               ∙ sym (labels_more blocks (bare_block label f));
           size = under.routine.size ∙ size_bare blocks label f;
-          code =
-              coded_bare number start h exit blocks label f r.code.statements under.routine.code;
+          code = under.routine.code ∙ sym (code_bare number start h exit blocks label f);
         };
         full = under.full;
         names = under.names ∙ sym (names_more blocks (bare_block label f));
@@ -120,11 +117,11 @@ module _ (number : ℕ → ℕ) (place start version : ℕ) (r : RoutineParts) (
 
   -- a statement after a frame
   pub after_code : (exit : Option ExitSource) (blocks : List Block) (b : Block) (n : ℕ)
-      (s : CodedStatement) (w : Statement)
-      → AfterFrame number place start version r h exit blocks b → n ≡ number place → IsCoded s w
+      (w : Statement)
+      → AfterFrame number place start version r h exit blocks b → n ≡ number place
       → AfterFrame number (suc place) start version
-      (record r { code = with_statement r.code n s }) h exit blocks (with_code b w)
-  after_code exit blocks b n s w after line coded =
+      (record r { code = with_statement r.code n w }) h exit blocks (with_code b w)
+  after_code exit blocks b n w after line =
       let long = block_length b w in
       let whole = length_longer h exit blocks b w in
       let back : place - length (block_lines b)
@@ -135,9 +132,10 @@ module _ (number : ℕ → ℕ) (place start version : ℕ) (r : RoutineParts) (
           signature = after.routine.signature;
           exit_is = after.routine.exit_is;
           labels = after.routine.labels ∙ labels_longer blocks b w;
-          size = size_longer blocks b s w r.code.size after.routine.size coded;
+          size = size_longer blocks b w r.code.size after.routine.size;
           code =
-              coded_longer number start place h exit blocks b r.code.statements n s w after.next line after.routine.code coded;
+              ap (λ (code : List (ℕ × Statement)). code ++ (n, w) ∷ []) after.routine.code
+              ∙ code_longer number start place h exit blocks b n w after.next line;
         };
         full = after.full;
         names = after.names ∙ names_longer blocks b w;
@@ -169,7 +167,9 @@ module _ (number : ℕ → ℕ) (place start version : ℕ) (r : RoutineParts) (
           exit_is = ap (λ (x : ExitFrame). Some x) is;
           labels = before.routine.labels;
           size = before.routine.size;
-          code = coded_begun number start h None (Some e) r.code.statements before.routine.code;
+          code =
+              before.routine.code ∙ begun_lacks h None number start
+              ∙ sym (begun_lacks h (Some e) number start);
         };
         names = before.names;
         next = omega (arith, before.next, long, whole);

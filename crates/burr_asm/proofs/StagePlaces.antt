@@ -1,14 +1,12 @@
 -- Where the lines of a procedure stand, and which of them are lines of code.
-use Rattle.std.proofs.Common.{◌≡◌, ℕ, suc, ◌+◌, List, [], ◌∷◌, ◌++◌, length, map, Option, Some, None, refl, sym, ap, subst, ◌∙◌, arith, append-nil, append_assoc, length-append}
+use Rattle.std.proofs.Common.{◌≡◌, ℕ, suc, ◌+◌, Bool, true, false, true≢false, List, [], ◌∷◌, ◌++◌, length, map, Option, Some, None, refl, sym, ap, ◌∙◌, arith, append-nil, append_assoc, length-append}
 use Rattle.std.specs.List.{flat_map}
 use Rattle.std.proofs.lemmas.List.{map-append, length-map}
 use Rattle.std.proofs.lemmas.Grind.{flat_map-append}
 use Rattle.burr_plantext.specs.Rules.Statements.{Statement}
-use Rattle.burr_plantext.specs.Rules.Lines.{Line, ProcedureWords, RangeWords, SlotWords, PieceWords, ProcLine, ResultLine, LabelLine, SlotLine, GuardLine, StackLine, CostLine, AtLine, CodeLine}
+use Rattle.burr_plantext.specs.Rules.Lines.{Line, ProcedureWords, PlanLine, ProcLine, ResultLine, LabelLine, SlotLine, GuardLine, StackLine, CostLine, AtLine, CodeLine}
 use Rattle.burr_plantext.specs.Rules.Sources.{ExitSource, Conditions, FrameSource, Block, exit_lines, some_exit_lines, condition_lines, frame_lines, block_lines}
-use Rattle.burr_asm.specs.declared.text.statement.Statement.{Statement as CodedStatement}
-use Rattle.burr_asm.specs.Views.Coded.{IsCoded}
-use Rattle.burr_asm.specs.Views.Beginnings.{code_lines, lines_of, AreCoded}
+use Rattle.burr_asm.specs.Views.Beginnings.{code_lines, lines_of}
 
 -- Lines of code among lines
 
@@ -25,62 +23,54 @@ code_lines-append number place next (CodeLine s ∷ xs) ys e =
 code_lines-append number place next (line ∷ xs) ys e =
     code_lines-append number (suc place) next xs ys (omega (arith, e))
 
--- none of the lines is a line of code
-abbrev pub LacksCode : List Line → Type 0
-LacksCode lines = (number : ℕ → ℕ) (place : ℕ) → code_lines number place lines ≡ []
+-- a line of an exit frame, or of a label's frame
+abbrev pub is_row : Line → Bool
+is_row (PlanLine title) = false
+is_row (ProcLine head) = false
+is_row (LabelLine name) = false
+is_row (CodeLine s) = false
+is_row line = true
 
-both_lack : (xs ys : List Line) → LacksCode xs → LacksCode ys → LacksCode (xs ++ ys)
-both_lack xs ys h k number place =
-    code_lines-append number place (place + length xs) xs ys refl
-    ∙ (λ j. h number place j ++ k number (place + length xs) j)
+pub data AreRows : List Line → Type 0 where
+  no_rows : AreRows []
+  row_and : {line : Line} {lines : List Line} → is_row line ≡ true → AreRows lines → AreRows (line ∷ lines)
 
-results_lack : (rs : List RangeWords) → LacksCode (map ResultLine rs)
-results_lack [] number place = refl
-results_lack (r ∷ rs) number place = results_lack rs number (suc place)
+both_rows : {a b : List Line} → AreRows a → AreRows b → AreRows (a ++ b)
+both_rows no_rows h = h
+both_rows (row_and is others) h = row_and is (both_rows others h)
 
-slots_lack : (slots : List SlotWords) → LacksCode (map SlotLine slots)
-slots_lack [] number place = refl
-slots_lack (s ∷ slots) number place = slots_lack slots number (suc place)
+each : {A : Type 0} (f : A → Line) → ((x : A) → is_row (f x) ≡ true) → (xs : List A) → AreRows (map f xs)
+each f is [] = no_rows
+each f is (x ∷ xs) = row_and (is x) (each f is xs)
 
-guards_lack : (forms : List (List ℕ)) → LacksCode (map GuardLine forms)
-guards_lack [] number place = refl
-guards_lack (f ∷ forms) number place = guards_lack forms number (suc place)
+pub frame_rows : (f : FrameSource) → AreRows (frame_lines f)
+frame_rows f =
+    both_rows
+    (row_and refl (both_rows (each SlotLine (λ x. refl) f.conditions.slots) (both_rows (each GuardLine (λ x. refl) f.conditions.guards) (each StackLine (λ x. refl) f.conditions.stack))))
+    (row_and refl (each AtLine (λ x. refl) f.pieces))
 
-stack_lacks : (forms : List (List ℕ)) → LacksCode (map StackLine forms)
-stack_lacks [] number place = refl
-stack_lacks (f ∷ forms) number place = stack_lacks forms number (suc place)
+pub exit_rows : (exit : Option ExitSource) → AreRows (some_exit_lines exit)
+exit_rows None = no_rows
+exit_rows (Some e) =
+    row_and refl
+    (both_rows (each ResultLine (λ x. refl) e.results) (both_rows (each GuardLine (λ x. refl) e.guards) (each AtLine (λ x. refl) e.pieces)))
 
-pieces_lack : (ps : List PieceWords) → LacksCode (map AtLine ps)
-pieces_lack [] number place = refl
-pieces_lack (p ∷ ps) number place = pieces_lack ps number (suc place)
+row_lacks : (number : ℕ → ℕ) (place : ℕ) (line : Line) (lines : List Line) → is_row line ≡ true
+    → code_lines number place (line ∷ lines) ≡ code_lines number (suc place) lines
+row_lacks number place (CodeLine s) lines is = absurd (true≢false (sym is))
+row_lacks number place line lines is = refl
 
-exit_lacks : (e : ExitSource) → LacksCode (exit_lines e)
-exit_lacks e number place =
-    both_lack (map ResultLine e.results) (map GuardLine e.guards ++ map AtLine e.pieces)
-    (results_lack e.results)
-    (both_lack (map GuardLine e.guards) (map AtLine e.pieces) (guards_lack e.guards) (pieces_lack e.pieces))
-    number (suc place)
-
-some_exit_lacks : (exit : Option ExitSource) → LacksCode (some_exit_lines exit)
-some_exit_lacks None number place = refl
-some_exit_lacks (Some e) number place = exit_lacks e number place
-
-conditions_lack : (c : Conditions) → LacksCode (condition_lines c)
-conditions_lack c number place =
-    both_lack (map SlotLine c.slots) (map GuardLine c.guards ++ map StackLine c.stack)
-    (slots_lack c.slots)
-    (both_lack (map GuardLine c.guards) (map StackLine c.stack) (guards_lack c.guards) (stack_lacks c.stack))
-    number (suc place)
-
-frame_lacks : (f : FrameSource) → LacksCode (frame_lines f)
-frame_lacks f =
-    both_lack (condition_lines f.conditions) (CostLine f.cost ∷ map AtLine f.pieces)
-    (conditions_lack f.conditions) (λ number place. pieces_lack f.pieces number (suc place))
+-- none of them is a line of code
+pub rows_lack : {lines : List Line} → AreRows lines → (number : ℕ → ℕ) (place : ℕ)
+    → code_lines number place lines ≡ []
+rows_lack no_rows number place = refl
+rows_lack (row_and {line} {lines} is others) number place =
+    row_lacks number place line lines is ∙ rows_lack others number (suc place)
 
 -- a procedure before its first label has no code
-pub begun_lacks : (h : ProcedureWords) (exit : Option ExitSource) → LacksCode (lines_of h exit [])
-begun_lacks h exit number place =
-    both_lack (some_exit_lines exit) [] (some_exit_lacks exit) (λ n p. refl) number (suc place)
+pub begun_lacks : (h : ProcedureWords) (exit : Option ExitSource) (number : ℕ → ℕ) (place : ℕ)
+    → code_lines number place (lines_of h exit []) ≡ []
+begun_lacks h exit number place = rows_lack (both_rows (exit_rows exit) no_rows) number (suc place)
 
 -- Blocks
 
@@ -92,9 +82,9 @@ bare_block label f = record { label = label; frame = f; code = [] }
 abbrev pub with_code : Block → Statement → Block
 with_code b s = record b { code = b.code ++ s ∷ [] }
 
-bare_lacks : (label : List ℕ) (f : FrameSource) → LacksCode (block_lines (bare_block label f))
-bare_lacks label f number place =
-    both_lack (frame_lines f) [] (frame_lacks f) (λ n p. refl) number (suc place)
+bare_lacks : (label : List ℕ) (f : FrameSource) (number : ℕ → ℕ) (place : ℕ)
+    → code_lines number place (block_lines (bare_block label f)) ≡ []
+bare_lacks label f number place = rows_lack (both_rows (frame_rows f) no_rows) number (suc place)
 
 -- the lines of a procedure with one block more
 pub lines_more : (h : ProcedureWords) (exit : Option ExitSource) (blocks : List Block) (b : Block)
@@ -194,56 +184,28 @@ begun_length h exit = let sum = length-append (some_exit_lines exit) [] in omega
 
 -- What the code has of lines of code
 
--- one line of code more
-coded_next : (code : List (ℕ × CodedStatement)) (lines : List (ℕ × Statement)) (n : ℕ)
-    (s : CodedStatement) (w : Statement)
-    → AreCoded code lines → IsCoded s w → AreCoded (code ++ (n, s) ∷ []) (lines ++ (n, w) ∷ [])
-coded_next [] [] n s w are is = (refl, is, tt)
-coded_next [] (l ∷ lines) n s w are is = absurd are
-coded_next (x ∷ code) [] n s w are is = absurd are
-coded_next (x ∷ code) (l ∷ lines) n s w are is =
-    (are.0, are.1, coded_next code lines n s w are.2 is)
-
--- a statement after the last block's code
-pub coded_longer : (number : ℕ → ℕ) (start place : ℕ) (h : ProcedureWords) (exit : Option ExitSource)
-    (blocks : List Block) (b : Block) (code : List (ℕ × CodedStatement)) (n : ℕ)
-    (s : CodedStatement) (w : Statement)
+-- one line of code more after the last block's code
+pub code_longer : (number : ℕ → ℕ) (start place : ℕ) (h : ProcedureWords) (exit : Option ExitSource)
+    (blocks : List Block) (b : Block) (n : ℕ) (w : Statement)
     → place ≡ start + length (lines_of h exit (blocks ++ b ∷ [])) → n ≡ number place
-    → AreCoded code (code_lines number start (lines_of h exit (blocks ++ b ∷ []))) → IsCoded s w
-    → AreCoded (code ++ (n, s) ∷ [])
-    (code_lines number start (lines_of h exit (blocks ++ with_code b w ∷ [])))
-coded_longer number start place h exit blocks b code n s w next line are is =
+    → code_lines number start (lines_of h exit (blocks ++ b ∷ [])) ++ (n, w) ∷ []
+    ≡ code_lines number start (lines_of h exit (blocks ++ with_code b w ∷ []))
+code_longer number start place h exit blocks b n w next line =
     let front = lines_of h exit (blocks ++ b ∷ []) in
-    let lines : code_lines number start (lines_of h exit (blocks ++ with_code b w ∷ []))
-    ≡ code_lines number start front ++ (n, w) ∷ [] =
-    ap (λ (t : List Line). code_lines number start t) (lines_longer h exit blocks b w)
-    ∙ code_lines-append number start place front (CodeLine w ∷ []) next
-    ∙ ap (λ (k : ℕ). code_lines number start front ++ (k, w) ∷ []) (sym line) in
-    subst (λ (t : List (ℕ × Statement)). AreCoded (code ++ (n, s) ∷ []) t) (sym lines)
-    (coded_next code (code_lines number start front) n s w are is)
+    ap (λ (k : ℕ). code_lines number start front ++ (k, w) ∷ []) line
+    ∙ sym (code_lines-append number start place front (CodeLine w ∷ []) next)
+    ∙ ap (λ (t : List Line). code_lines number start t) (sym (lines_longer h exit blocks b w))
 
 -- a block without code yet adds no lines of code
-pub coded_bare : (number : ℕ → ℕ) (start : ℕ) (h : ProcedureWords) (exit : Option ExitSource)
-    (blocks : List Block) (label : List ℕ) (f : FrameSource) (code : List (ℕ × CodedStatement))
-    → AreCoded code (code_lines number start (lines_of h exit blocks))
-    → AreCoded code (code_lines number start (lines_of h exit (blocks ++ bare_block label f ∷ [])))
-coded_bare number start h exit blocks label f code are =
+pub code_bare : (number : ℕ → ℕ) (start : ℕ) (h : ProcedureWords) (exit : Option ExitSource)
+    (blocks : List Block) (label : List ℕ) (f : FrameSource)
+    → code_lines number start (lines_of h exit (blocks ++ bare_block label f ∷ []))
+    ≡ code_lines number start (lines_of h exit blocks)
+code_bare number start h exit blocks label f =
     let front = lines_of h exit blocks in
     let next = start + length front in
-    let lines : code_lines number start (lines_of h exit (blocks ++ bare_block label f ∷ []))
-    ≡ code_lines number start front =
     ap (λ (t : List Line). code_lines number start t) (lines_more h exit blocks (bare_block label f))
     ∙ code_lines-append number start next front (block_lines (bare_block label f)) refl
     ∙ ap (λ (t : List (ℕ × Statement)). code_lines number start front ++ t)
     (bare_lacks label f number next)
-    ∙ append-nil (code_lines number start front) in
-    subst (λ (t : List (ℕ × Statement)). AreCoded code t) (sym lines) are
-
--- with an exit frame or with none, a procedure before its first label has no code
-pub coded_begun : (number : ℕ → ℕ) (start : ℕ) (h : ProcedureWords) (exit other : Option ExitSource)
-    (code : List (ℕ × CodedStatement))
-    → AreCoded code (code_lines number start (lines_of h exit []))
-    → AreCoded code (code_lines number start (lines_of h other []))
-coded_begun number start h exit other code are =
-    subst (λ (t : List (ℕ × Statement)). AreCoded code t)
-    (begun_lacks h exit number start ∙ sym (begun_lacks h other number start)) are
+    ∙ append-nil (code_lines number start front)

@@ -1,5 +1,5 @@
 -- The bytes of statements: how many they are, and labels offered one by one.
-use Rattle.std.proofs.Common.{◌≡◌, ℕ, ◌+◌, ◌*◌, ◌<◌, ◌≤◌, ◌^◌, List, [], ◌∷◌, ◌++◌, length, map, Bool, true, false, Contains, refl, sym, ap, ◌∙◌, inl, inr, arith, append_assoc}
+use Rattle.std.proofs.Common.{◌≡◌, ℕ, ◌+◌, ◌*◌, ◌<◌, ◌≤◌, ◌^◌, List, [], ◌∷◌, ◌++◌, length, map, Bool, true, false, Contains, refl, sym, ap, ◌∙◌, inl, inr, arith, append_assoc, length-append}
 use Rattle.std.specs.Prelude.{Result, Ok, Err, IsErrAnd, MatchResult, ◌&&◌, not}
 use Rattle.std.specs.List.{list_all}
 use Rattle.std.proofs.lemmas.List.{length-map}
@@ -8,7 +8,8 @@ use Rattle.std.proofs.lemmas.List.Sums.{AllPass-from_list_all}
 use Rattle.std.proofs.lemmas.Bool.{ltb-true, not-true}
 use Rattle.burr_text.specs.Words.{IsCutAt}
 use Rattle.burr_code.specs.Instruction.{Pick, spelled, label_bytes, AreLabels}
-use Rattle.burr_plantext.specs.Rules.Meaning.{number_of}
+use Rattle.burr_plantext.specs.Rules.Statements as statements
+use Rattle.burr_plantext.specs.Rules.Meaning.{code_size, number_of}
 use Rattle.burr_plantext.specs.Rules.Checks.{is_known}
 use Rattle.burr_plantext.specs.Rules.Texts.{words_of}
 use Rattle.burr_plantext.proofs.Common.Cuts.{pieces_cut, pieces_uncut, all_cut, all_uncut}
@@ -21,8 +22,10 @@ two_each [] = refl
 two_each (label ∷ labels) = let more = two_each labels in omega (arith, more)
 
 -- a `pick` has two bytes, and two more for each label
-pub pick_size : (number : List ℕ → ℕ) (names : List (List ℕ)) (count : ℕ) → length names ≡ count → 2 + 2 * count ≡ length (spelled (Pick (map number names)))
-pick_size number names count e = let h = two_each (map number names) in omega (arith, h, length-map names number, e)
+pub pick_size : (names : List (List ℕ)) (count : ℕ) → length names ≡ count → 2 + 2 * count ≡ code_size (statements.Pick names ∷ [])
+pick_size names count e =
+    let numbers = map (number_of []) names in
+    omega (arith, e, two_each numbers, length-map names (number_of []), length-append (label_bytes numbers) [])
 
 module _ (labels : List (List ℕ)) where
   -- all of the names are known

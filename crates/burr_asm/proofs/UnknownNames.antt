@@ -4,12 +4,12 @@ use Rattle.std.specs.Prelude.{Option, Some, None, if◌then◌else◌}
 use Rattle.std.specs.List.{flat_map}
 use Rattle.burr_plantext.specs.Rules.Lines.{Line, CodeLine}
 use Rattle.burr_plantext.specs.Rules.Sources.{ProcedureSource, procedure_lines}
+use Rattle.burr_plantext.specs.Rules.Checks.{names_unknown}
 use Rattle.burr_plantext.specs.Rules.Meaning.{label_names}
 use Rattle.burr_plantext.specs.Rules.Right.{has_unknown_name, unknown_in, first_true, one_later}
-use Rattle.burr_asm.specs.declared.text.statement.Statement.{Statement as CodedStatement}
-use Rattle.burr_asm.specs.Views.Coded.{first_unknown, has_unknown}
+use Rattle.burr_asm.specs.Views.CodeParts.{first_unknown}
 use Rattle.burr_asm.specs.Views.Routines.{RoutineParts, line_or, unknown_among}
-use Rattle.burr_asm.specs.Views.Beginnings.{code_lines, AreCoded, AreEnded}
+use Rattle.burr_asm.specs.Views.Beginnings.{code_lines, AreEnded}
 
 -- the number of the line that is k places after the one at `start`, if there is a k
 abbrev pub placed : (ℕ → ℕ) → ℕ → Option ℕ → Option ℕ
@@ -22,23 +22,23 @@ placed_later number start (Some k) = ap (λ (n : ℕ). Some (number n)) (omega a
 
 -- a line without code has no unknown name
 module _ (number : ℕ → ℕ) (labels procedures : List (List ℕ)) where
-  -- what the code finds among statements is what the rules find among their lines
-  pub first_among : (lines : List Line) (code : List (ℕ × CodedStatement)) (start : ℕ) → AreCoded code (code_lines number start lines)
-      → first_unknown labels procedures code ≡ placed number start (first_true (map (has_unknown_name labels procedures) lines))
-  first_among [] [] start h = refl
-  first_among [] (s ∷ code) start h = absurd h
-  first_among (CodeLine s ∷ lines) [] start h = absurd h
-  first_among (CodeLine s ∷ lines) (c ∷ code) start (line, coded, more) =
-      by (has_unknown_name labels procedures (CodeLine s)) (has_unknown labels procedures c.1) (coded.unknown labels procedures) (first_among lines code (suc start) more)
+  -- what the code finds among lines of code is what the rules find among all lines
+  pub first_among : (lines : List Line) (start : ℕ)
+      → first_unknown labels procedures (code_lines number start lines) ≡ placed number start (first_true (map (has_unknown_name labels procedures) lines))
+  first_among [] start = refl
+  first_among (CodeLine s ∷ lines) start = by (names_unknown labels procedures s) (first_among lines (suc start))
     where
       rest : Option ℕ
       rest = first_true (map (has_unknown_name labels procedures) lines)
 
-      by : (t u : Bool) → u ≡ t → first_unknown labels procedures code ≡ placed number (suc start) rest
-          → (if u then Some c.0 else first_unknown labels procedures code) ≡ placed number start (first_true (t ∷ map (has_unknown_name labels procedures) lines))
-      by true u e next = ap (λ (t : Bool). if t then Some c.0 else first_unknown labels procedures code) e ∙ ap (λ (n : ℕ). Some n) line ∙ ap (λ (n : ℕ). Some (number n)) (omega arith)
-      by false u e next = ap (λ (t : Bool). if t then Some c.0 else first_unknown labels procedures code) e ∙ next ∙ placed_later number start rest
-  first_among (_ ∷ lines) code start h = first_among lines code (suc start) h ∙ placed_later number start _
+      found : Option ℕ
+      found = first_unknown labels procedures (code_lines number (suc start) lines)
+
+      by : (t : Bool) → found ≡ placed number (suc start) rest
+          → (if t then Some (number start) else found) ≡ placed number start (first_true (t ∷ map (has_unknown_name labels procedures) lines))
+      by true next = ap (λ (n : ℕ). Some (number n)) (omega arith)
+      by false next = next ∙ placed_later number start rest
+  first_among (_ ∷ lines) start = first_among lines (suc start) ∙ placed_later number start _
 
 -- the first among two lists, one after the other
 abbrev pub first_or : Option ℕ → ℕ → Option ℕ → Option ℕ
@@ -77,7 +77,7 @@ first_in_all number version procedures start [] (p ∷ ps) h = absurd h
 first_in_all number version procedures start (r ∷ rs) [] h = absurd h
 first_in_all number version procedures start (r ∷ rs) (p ∷ ps) ((routine, names), more) =
     let one : first_unknown r.names procedures r.code.statements ≡ placed number start (first_true (unknown_in procedures p)) =
-    ap (λ (labels : List (List ℕ)). first_unknown labels procedures r.code.statements) names ∙ first_among number (label_names p.blocks) procedures (procedure_lines p) r.code.statements start routine.code in
+    (λ i. first_unknown (names i) procedures (routine.code i)) ∙ first_among number (label_names p.blocks) procedures (procedure_lines p) start in
     let all = first_in_all number version procedures (start + length (procedure_lines p)) rs ps more in
     let size = length_map (has_unknown_name (label_names p.blocks) procedures) (procedure_lines p) in
     (λ i. line_or (one i) (all i))

@@ -1,6 +1,5 @@
 pub mod Beginnings
 pub mod CodeParts
-pub mod Coded
 pub mod ExitFrames
 pub mod ExitLines
 pub mod Exits

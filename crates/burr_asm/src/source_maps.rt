@@ -8,7 +8,7 @@ ghost use Rattle.burr_asm.specs.Views.LineWords.{code_words, line_words};
 ghost use Rattle.burr_asm.specs.Views.SourceMaps.{at_start, next_part, part_read, with_code};
 ghost use Rattle.burr_asm.specs.Views.SourceMaps.{with_label, with_procedure, with_row, IsWithin};
 
-use crate::text::{CodeLine, LineForm, Statement, is_skipped};
+use crate::text::{CodeLine, LineForm, is_skipped};
 use burr_code::limits::MOST_CODE;
 use burr_text::cut_at;
 use std::alloc::{AllocError, Global};
@@ -173,7 +173,7 @@ impl Cursor {
             MatchOption result (given ≡ None) (λ part. given ≡ Some (part, self.new)) }
     {
         let pc = self.pc;
-        let size = Statement::of(line)?.size();
+        let size = line.size()?;
         if size > MOST_CODE - pc {
             return None;
         }

@@ -25,7 +25,6 @@ use burr_plantext::{a_judged_text_is_of_its_source, a_text_stands_for_a_plan_wit
 use burr_text::cut_at;
 pub use code::CodeLine;
 pub use line::LineForm;
-pub use statement::Statement;
 use std::alloc::Global;
 pub use words::is_skipped;
 

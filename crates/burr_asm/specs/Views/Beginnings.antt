@@ -7,10 +7,8 @@ use Rattle.burr_plantext.specs.Rules.Sources.{ExitSource, Block, ProcedureSource
 use Rattle.burr_plantext.specs.Rules.Meaning.{some_exit_in, labels_in, label_names, code_size, block_code, frame_in}
 use Rattle.burr_plantext.specs.Rules.Checks.{has_code}
 use Rattle.burr_plantext.specs.Rules.Faults as faults
-use Rattle.burr_asm.specs.declared.text.statement.Statement.{Statement as CodedStatement}
 use Rattle.burr_asm.specs.declared.text.stage.Stage.{Stage}
 use Rattle.burr_asm.specs.declared.text.stage.Stage.TheVariants as stage
-use Rattle.burr_asm.specs.Views.Coded.{IsCoded}
 use Rattle.burr_asm.specs.Views.Exits.{IsSignature, IsExitFor}
 use Rattle.burr_asm.specs.Views.Frames.{AreFor}
 use Rattle.burr_asm.specs.Views.Routines.{RoutineParts}
@@ -23,13 +21,6 @@ code_lines number place [] = []
 code_lines number place (CodeLine s ∷ lines) =
     (number place, s) ∷ code_lines number (suc place) lines
 code_lines number place (_ ∷ lines) = code_lines number (suc place) lines
-
--- the statements stand for these lines of code, one by one
-abbrev pub AreCoded : List (ℕ × CodedStatement) → List (ℕ × Statement) → Type 0
-AreCoded [] [] = Unit {0}
-AreCoded (s ∷ code) (line ∷ lines) =
-    (s.0 ≡ line.0) × IsCoded s.1 line.1 × AreCoded code lines
-AreCoded _ _ = ⊥
 
 -- Procedures
 
@@ -44,7 +35,7 @@ pub record IsRoutine (number : ℕ → ℕ) (start version : ℕ) (r : RoutinePa
   pub exit_is : r.exit ≡ some_exit_in exit
   pub labels : r.labels ≡ labels_in 0 blocks
   pub size : r.code.size ≡ code_size (block_code blocks)
-  pub code : AreCoded r.code.statements (code_lines number start (lines_of h exit blocks))
+  pub code : r.code.statements ≡ code_lines number start (lines_of h exit blocks)
 
 -- the same of a procedure that has ended
 abbrev pub IsEnded : (ℕ → ℕ) → ℕ → ℕ → RoutineParts → ProcedureSource → Type 0

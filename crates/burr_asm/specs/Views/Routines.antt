@@ -8,8 +8,7 @@ use Rattle.burr_plantext.specs.Rules.Checks.{FaultKind, P2, P3, P4, unless, is_e
 use Rattle.burr_asm.specs.declared.fault.AsmFault.{AsmFault}
 use Rattle.burr_asm.specs.declared.fault.AsmFault.TheVariants as fault
 use Rattle.burr_asm.specs.declared.text.signature.Signature.{Signature}
-use Rattle.burr_asm.specs.Views.CodeParts.{CodeParts, no_code}
-use Rattle.burr_asm.specs.Views.Coded.{code_of_all, first_unknown}
+use Rattle.burr_asm.specs.Views.CodeParts.{CodeParts, no_code, code_of_all, first_unknown}
 
 -- Procedures
 

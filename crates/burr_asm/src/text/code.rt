@@ -1,13 +1,14 @@
-ghost use Rattle.std.specs.Prelude.{◌≡◌, ◌≤◌, ◌+◌, nat_le, MatchResult, None, false, length, true, IfOk, IfSome, MatchOption, [], Some, ◌<◌};
+ghost use Rattle.std.specs.Prelude.{◌≡◌, ◌≤◌, ◌∷◌, MatchResult, None, false, length, true, IfSome, MatchOption, [], Some, ◌<◌};
 ghost use Rattle.burr_code.specs.declared.limits.TheConstants.{MOST_CODE};
 ghost use Rattle.burr_code.specs.Instruction.{spelled, IsInRange};
 ghost use Rattle.burr_code.specs.Meaning.{meaning};
-ghost use Rattle.burr_plantext.specs.Rules.Checks.{unless, P4, is_in_range};
+ghost use Rattle.burr_plantext.specs.Rules.Checks.{is_in_range};
+ghost use Rattle.burr_plantext.specs.Rules.Meaning.{code_size};
 ghost use Rattle.burr_plantext.specs.Rules.Statements.{code_of, hex_value, is_hex_digit, raw_byte, Byte};
 ghost use Rattle.burr_plantext.specs.Rules.Texts.{words_of};
-ghost use Rattle.burr_asm.specs.Views.Coded.{code_of_all, coded_size, first_unknown};
 ghost use Rattle.burr_asm.specs.Views.Faults.{IsRefusal, IsUnknown};
-ghost use Rattle.burr_asm.specs.Views.CodeParts.{no_code, with_statement};
+ghost use Rattle.burr_asm.specs.Views.CodeParts.{code_of_all, code_refusal, first_unknown};
+ghost use Rattle.burr_asm.specs.Views.CodeParts.{no_code, numbered, with_statement};
 ghost use Rattle.burr_asm.specs.Views.LineWords.{number_words, plain_words, code_words};
 ghost use Rattle.burr_asm.specs.Views.Plain.{IsPlain};
 ghost use Rattle.burr_asm.specs.Views.Keywords.{plain_line, operands_line};
@@ -18,29 +19,28 @@ use crate::text::names::OfferWords;
 use crate::text::numbers::{operand, range, slot, tray};
 use crate::text::statement::{Scope, Statement};
 use crate::text::words::{BareWord, NumberWord, SetWord, gripped_set, name};
+use burr_code::Instr;
 use burr_code::limits::MOST_CODE;
-use burr_code::{Instr, encode};
 use burr_text::cut_at;
 use burr_voxels::Direction;
-use std::alloc::{AllocError, Global};
+use std::alloc::Global;
 use std::marker::Model;
 
-/// The code of a procedure as far as it has been read: its statements, each with its line, and how
-/// many bytes they have.
+/// The code of a procedure as far as it has been read: its statements, and how many bytes they have.
 #[derive(Drop)]
 pub struct Code<'a> {
-    statements: Vec<(usize, Statement<'a>)>,
+    statements: Vec<Statement<'a>>,
     size: usize,
 }
 
 impl<'a> Model for Code<'a> {
     ghost use Rattle.std.specs.Prelude.{◌≤◌};
     ghost use Rattle.burr_code.specs.declared.limits.TheConstants.{MOST_CODE};
-    ghost use Rattle.burr_asm.specs.Views.CodeParts.{CodeParts};
+    ghost use Rattle.burr_asm.specs.Views.CodeParts.{numbered, CodeParts};
 
     ghost Value = { CodeParts };
 
-    ghost view = { λ c. record { statements = c.statements.items; size = c.size } };
+    ghost view = { λ c. record { statements = numbered c.statements.items; size = c.size } };
 
     ghost invariant = { λ c. c.size ≤ MOST_CODE };
 }
@@ -64,21 +64,23 @@ impl<'a> Code<'a> {
         self.size as u16
     }
 
-    /// Adds one more statement, if there is room.
-    pub fn add(&mut self, statement: Statement<'a>, line: usize) -> Result<(), AsmFault>
-        ensures { MatchResult result
-            (λ _done. (self.old.size + coded_size statement.entry ≤ MOST_CODE)
-            × (self.new ≡ with_statement self.old line statement.entry))
-            (IsRefusal
-            (unless (nat_le (self.old.size + coded_size statement.entry) MOST_CODE) P4 None)
-            line) }
+    /// Adds one more line of code, if it is in range and there is room.
+    pub fn add(&mut self, code: CodeLine<'a>, line: usize) -> Result<(), AsmFault>
+        ensures { let words = code_words code.entry in
+            MatchResult result
+            (λ _done. (code_refusal self.old words ≡ None)
+            × (self.new ≡ with_statement self.old line words))
+            (IsRefusal (code_refusal self.old words) line) }
     {
-        let more = statement.size();
-        if more > MOST_CODE - self.size {
+        let size = match code.size() {
+            Some(size) => size,
+            None => return Err(AsmFault::P3 { line }),
+        };
+        if size > MOST_CODE - self.size {
             return Err(AsmFault::P4 { line });
         }
-        self.statements.push((line, statement))?;
-        self.size += more;
+        self.statements.push(Statement { line, code })?;
+        self.size += size;
         Ok(())
     }
 
@@ -91,97 +93,30 @@ impl<'a> Code<'a> {
             × (bytes.items ≡ code_of_all labels procedures self.now.statements))
             (IsUnknown (first_unknown labels procedures self.now.statements)) }
     {
-        let mut code = Vec::with_capacity(alloc, self.size)?;
-        for (line, statement) in &self.statements {
-            code.extend_from_slice(&statement.encode(alloc, scope, *line)?)?;
-        }
-        Ok(code)
+        encode_all(alloc, &self.statements, self.size, scope)
     }
 }
 
-/// An instruction whose operands are in their ranges, and that names no label and no procedure.
-#[derive(Drop)]
-pub struct Plain<'a> {
-    instr: Instr<'a>,
-}
-
-impl<'a> Model for Plain<'a> {
-    ghost use Rattle.std.specs.Prelude.{◌≤◌, length};
-    ghost use Rattle.burr_code.specs.Instruction.{spelled, Instruction, IsInRange};
-    ghost use Rattle.burr_code.specs.Meaning.{meaning};
-
-    ghost Value = { Instruction };
-
-    ghost view = { λ p. meaning p.instr };
-
-    ghost invariant = { λ p. IsInRange (meaning p.instr)
-        × (length (spelled (meaning p.instr)) ≤ 5) };
-}
-
-impl<'a> Plain<'a> {
-    /// The instruction of a line; None where a number or a set is out of its range.
-    pub fn of(line: PlainLine<'a>) -> Option<Plain<'a>>
-        ensures { MatchOption result (is_in_range (plain_words line.entry) ≡ false) (λ plain.
-            (is_in_range (plain_words line.entry) ≡ true)
-            × IsPlain plain (plain_words line.entry)) }
-    {
-        Some(Plain {
-            instr: instr(line)?,
-        })
-    }
-
-    /// How many bytes it has: 1 to 5.
-    pub fn size(&self) -> usize
-        ensures size { result ≡ length (spelled self.now) }
-        ensures few { result ≤ 5 }
-    {
-        self.instr.size()
-    }
-
-    /// Its bytes.
-    pub fn encode(&self, alloc: Global) -> Result<Vec<u8>, AllocError>
-        ensures { IfOk result (λ bytes. bytes.items ≡ spelled self.now) }
-    {
-        encode(alloc, &self.instr)
-    }
-}
-
-/// The instruction of a line; None where a number or a set is out of its range.
-fn instr<'a>(line: PlainLine<'a>) -> Option<Instr<'a>>
-    ensures range { IfSome result (λ instr. IsInRange (meaning instr)) }
-    ensures short { IfSome result (λ instr. length (spelled (meaning instr)) ≤ 5) }
-    ensures value { MatchOption result (is_in_range (plain_words line.entry) ≡ false) (λ instr.
-        (is_in_range (plain_words line.entry) ≡ true)
-        × IsPlain (meaning instr) (plain_words line.entry)) }
+/// The bytes of statements, `size` in all; else the fault of the first in which an unknown name stands.
+fn encode_all(
+    alloc: Global,
+    statements: &[Statement<'_>],
+    size: usize,
+    scope: Scope<'_, '_>,
+) -> Result<Vec<u8>, AsmFault>
+    ensures { let labels = scope.entry.labels.now in
+        let procedures = scope.entry.procedures.now in
+        let code = numbered statements.now in
+        MatchResult result
+        (λ bytes. (first_unknown labels procedures code ≡ None)
+        × (bytes.items ≡ code_of_all labels procedures code))
+        (IsUnknown (first_unknown labels procedures code)) }
 {
-    match line {
-        PlainLine::Bare(word) => Some(word.instr()),
-        PlainLine::Number(keyword, word) => with_number(keyword, word),
-        PlainLine::Grip(set) => Some(Instr::Grip(gripped_set(set)?)),
-        PlainLine::Step(direction) => Some(Instr::Step(direction)),
-        PlainLine::Aside(direction, word) => Some(Instr::Aside(direction, tray(word)?)),
-        PlainLine::Ask(low, high) => {
-            let (low, high) = range(low, high)?;
-            Some(Instr::Ask(low, high))
-        }
+    let mut code = Vec::with_capacity(alloc, size)?;
+    for statement in statements {
+        code.extend_from_slice(&statement.encode(alloc, scope)?)?;
     }
-}
-
-/// The instruction whose only operand is a number; None where the number is out of its range.
-fn with_number<'a>(keyword: NumberKeyword, word: NumberWord<'a>) -> Option<Instr<'a>>
-    ensures range { IfSome result (λ instr. IsInRange (meaning instr)) }
-    ensures short { IfSome result (λ instr. length (spelled (meaning instr)) ≤ 5) }
-    ensures value { MatchOption result
-        (is_in_range (number_words keyword word.entry.bytes.now) ≡ false) (λ instr.
-        (is_in_range (number_words keyword word.entry.bytes.now) ≡ true)
-        × IsPlain (meaning instr) (number_words keyword word.entry.bytes.now)) }
-{
-    match keyword {
-        NumberKeyword::Push => Some(Instr::Push(operand(word)?)),
-        NumberKeyword::Load => Some(Instr::Load(slot(word)?)),
-        NumberKeyword::Store => Some(Instr::Store(slot(word)?)),
-        NumberKeyword::Tray => Some(Instr::Tray(tray(word)?)),
-    }
+    Ok(code)
 }
 
 /// A line of an instruction that names no label and no procedure, by its form alone.
@@ -201,10 +136,31 @@ pub enum PlainLine<'a> {
     Ask(NumberWord<'a>, NumberWord<'a>),
 }
 
-impl PlainLine<'_> {
+impl<'a> PlainLine<'a> {
+    /// The instruction; None where a number or a set is out of its range.
+    pub fn instr(self) -> Option<Instr<'a>>
+        ensures range { IfSome result (λ instr. IsInRange (meaning instr)) }
+        ensures short { IfSome result (λ instr. length (spelled (meaning instr)) ≤ 5) }
+        ensures value { MatchOption result (is_in_range (plain_words self.entry) ≡ false) (λ instr.
+            (is_in_range (plain_words self.entry) ≡ true)
+            × IsPlain (meaning instr) (plain_words self.entry)) }
+    {
+        match self {
+            PlainLine::Bare(word) => Some(word.instr()),
+            PlainLine::Number(keyword, word) => with_number(keyword, word),
+            PlainLine::Grip(set) => Some(Instr::Grip(gripped_set(set)?)),
+            PlainLine::Step(direction) => Some(Instr::Step(direction)),
+            PlainLine::Aside(direction, word) => Some(Instr::Aside(direction, tray(word)?)),
+            PlainLine::Ask(low, high) => {
+                let (low, high) = range(low, high)?;
+                Some(Instr::Ask(low, high))
+            }
+        }
+    }
+
     /// The line that begins with a keyword, and what stands after the blank; None where it is of no
     /// form.
-    pub fn with_operands(keyword: PlainKeyword, words: &[u8]) -> Option<PlainLine<'_>>
+    pub fn with_operands(keyword: PlainKeyword, words: &'a [u8]) -> Option<PlainLine<'a>>
         ensures { MatchOption result (plain_line keyword (words_of words.now) ≡ None) (λ line.
             plain_line keyword (words_of words.now) ≡ Some (plain_words line)) }
     {
@@ -227,6 +183,23 @@ impl PlainLine<'_> {
     }
 }
 
+/// The instruction whose only operand is a number; None where the number is out of its range.
+fn with_number<'a>(keyword: NumberKeyword, word: NumberWord<'a>) -> Option<Instr<'a>>
+    ensures range { IfSome result (λ instr. IsInRange (meaning instr)) }
+    ensures short { IfSome result (λ instr. length (spelled (meaning instr)) ≤ 5) }
+    ensures value { MatchOption result
+        (is_in_range (number_words keyword word.entry.bytes.now) ≡ false) (λ instr.
+        (is_in_range (number_words keyword word.entry.bytes.now) ≡ true)
+        × IsPlain (meaning instr) (number_words keyword word.entry.bytes.now)) }
+{
+    match keyword {
+        NumberKeyword::Push => Some(Instr::Push(operand(word)?)),
+        NumberKeyword::Load => Some(Instr::Load(slot(word)?)),
+        NumberKeyword::Store => Some(Instr::Store(slot(word)?)),
+        NumberKeyword::Tray => Some(Instr::Tray(tray(word)?)),
+    }
+}
+
 /// A line of code by its form alone: an instruction's word and its operands, or one raw byte.
 #[derive(Clone, Copy)]
 pub enum CodeLine<'a> {
@@ -245,6 +218,26 @@ pub enum CodeLine<'a> {
 }
 
 impl CodeLine<'_> {
+    /// How many bytes it has: 1 to 18; None where a number or a set is out of its range.
+    pub fn size(self) -> Option<usize>
+        ensures few { IfSome result (λ size. size ≤ 18) }
+        ensures value { let words = code_words self.entry in
+            MatchOption result (is_in_range words ≡ false) (λ size.
+            (is_in_range words ≡ true) × (size ≡ code_size (words ∷ []))) }
+    {
+        match self {
+            CodeLine::Plain(line) => Some(line.instr()?.size()),
+            CodeLine::Jump(_) => Some(3),
+            CodeLine::Down(word, _) => {
+                slot(word)?;
+                Some(4)
+            }
+            CodeLine::Pick(labels) => Some(2 + 2 * labels.count),
+            CodeLine::Call(_) => Some(2),
+            CodeLine::Byte(_) => Some(1),
+        }
+    }
+
     /// The line that is this one word; None where it is of no form.
     pub fn of_word(word: &[u8]) -> Option<CodeLine<'_>>
         ensures { MatchOption result (code_of word.now [] ≡ None) (λ line.

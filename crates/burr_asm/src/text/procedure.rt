@@ -1,18 +1,15 @@
-ghost use Rattle.std.specs.Prelude.{◌≡◌, ◌+◌, ◌≤◌, nat_le, if◌then◌else◌, IfOk, None, Some};
-ghost use Rattle.std.specs.Prelude.{MatchResult};
-ghost use Rattle.burr_code.specs.declared.limits.TheConstants.{MOST_CODE};
-ghost use Rattle.burr_plantext.specs.Rules.Checks.{unless, P4};
-ghost use Rattle.burr_asm.specs.Views.CodeParts.{with_statement};
-ghost use Rattle.burr_asm.specs.Views.Coded.{code_of_all, coded_size, first_unknown};
+ghost use Rattle.std.specs.Prelude.{◌≡◌, if◌then◌else◌, IfOk, MatchResult, None, Some};
+ghost use Rattle.burr_asm.specs.Views.CodeParts.{code_of_all, code_refusal, first_unknown, with_statement};
 ghost use Rattle.burr_asm.specs.Views.Faults.{IsRefusal, IsUnknown};
+ghost use Rattle.burr_asm.specs.Views.LineWords.{code_words};
 ghost use Rattle.burr_asm.specs.Views.Routines.{begun, ends_with_label, label_refusal};
 ghost use Rattle.burr_asm.specs.Views.Routines.{procedure_of, with_frame, with_label};
 
 use crate::fault::AsmFault;
-use crate::text::code::Code;
+use crate::text::code::{Code, CodeLine};
 use crate::text::names::Names;
 use crate::text::signature::Signature;
-use crate::text::statement::{Scope, Statement};
+use crate::text::statement::Scope;
 use burr_code::limits::MOST_LABELS;
 use burr_container::{ExitFrame, Frame, Procedure};
 use std::alloc::{AllocError, Global};
@@ -110,18 +107,15 @@ impl<'a> Routine<'a> {
         Ok(())
     }
 
-    /// One more statement after its code.
-    pub fn add_statement(&mut self, statement: Statement<'a>, line: usize) -> Result<(), AsmFault>
-        ensures { MatchResult result
-            (λ _done. (self.old.code.size + coded_size statement.entry ≤ MOST_CODE)
-            × (self.new ≡ record self.old {
-              code = with_statement self.old.code line statement.entry;
-            }))
-            (IsRefusal
-            (unless (nat_le (self.old.code.size + coded_size statement.entry) MOST_CODE) P4 None)
-            line) }
+    /// One more line after its code.
+    pub fn add_code(&mut self, code: CodeLine<'a>, line: usize) -> Result<(), AsmFault>
+        ensures { let words = code_words code.entry in
+            MatchResult result
+            (λ _done. (code_refusal self.old.code words ≡ None)
+            × (self.new ≡ record self.old { code = with_statement self.old.code line words }))
+            (IsRefusal (code_refusal self.old.code words) line) }
     {
-        self.code.add(statement, line)
+        self.code.add(code, line)
     }
 
     /// Whether the last label stands at the end of the code.

@@ -14,7 +14,6 @@ use crate::text::exit::Exit;
 use crate::text::frame::{Conditions, Grip, add_piece, take_frame};
 use crate::text::line::{LineForm, PieceWords};
 use crate::text::procedure::Routine;
-use crate::text::statement::Statement;
 use crate::text::words::first_word;
 use burr_container::Frame;
 use std::alloc::Global;
@@ -263,13 +262,10 @@ fn in_code<'a>(
         (stage_after InCode result) }
 {
     match form {
-        LineForm::Code(code) => match Statement::of(code) {
-            Some(statement) => {
-                routine.add_statement(statement, line)?;
-                Ok(None)
-            }
-            None => Err(AsmFault::P3 { line }),
-        },
+        LineForm::Code(code) => {
+            routine.add_code(code, line)?;
+            Ok(None)
+        }
         LineForm::Label(name) => {
             routine.add_label(name, line)?;
             Ok(Some(Stage::AwaitsFrame))

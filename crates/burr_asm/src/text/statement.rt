@@ -1,38 +1,32 @@
-ghost use Rattle.std.specs.Prelude.{◌≡◌, ◌≤◌, ◌++◌, ◌∷◌, [], false, map, not, true, MatchOption, MatchResult};
+ghost use Rattle.std.specs.Prelude.{◌≡◌, ◌≤◌, ◌++◌, ◌∷◌, [], false, map, not, true, IsTrue, MatchResult};
 ghost use Rattle.std.specs.List.{list_all};
 ghost use Rattle.burr_code.specs.Instruction.{label_bytes, spelled};
-ghost use Rattle.burr_plantext.specs.Rules.Checks.{is_in_range, is_known};
-ghost use Rattle.burr_plantext.specs.Rules.Meaning.{number_of};
+ghost use Rattle.burr_code.specs.declared.limits.TheConstants.{SLOTS};
+ghost use Rattle.burr_plantext.specs.Rules.Checks.{is_in_range, is_known, names_unknown};
+ghost use Rattle.burr_plantext.specs.Rules.Meaning.{number_of, statement_bytes};
+ghost use Rattle.burr_plantext.specs.Rules.Written.{is_below, natural_in};
 ghost use Rattle.burr_plantext.specs.Rules.Texts.{words_of};
-ghost use Rattle.burr_asm.specs.Views.Coded.{coded_bytes, coded_size, has_unknown, IsCoded};
 ghost use Rattle.burr_asm.specs.Views.Faults.{IsUnknownAt};
 ghost use Rattle.burr_asm.specs.Views.LineWords.{code_words};
 ghost use Rattle.burr_asm.specs.Views.Names.{has_byte};
 ghost use Rattle.burr_code.specs.Instruction as instruction;
 
 use crate::fault::AsmFault;
-use crate::text::code::{CodeLine, Plain};
+use crate::text::code::CodeLine;
 use crate::text::names::{Names, OfferWords};
-use crate::text::words::Slot;
+use crate::text::numbers::slot;
+use crate::text::words::NumberWord;
 use burr_code::{Instr, Labels, encode};
 use burr_text::cut_at;
 use std::alloc::Global;
 
 /// A line of code whose numbers and sets are in their ranges. What it names is not looked for yet.
-#[derive(Drop)]
-pub enum Statement<'a> {
-    /// One raw byte.
-    Byte(u8),
-    /// An instruction that names nothing.
-    Plain(Plain<'a>),
-    /// `jump`, with a label's name.
-    Jump(&'a [u8]),
-    /// `down`, with a slot and a label's name.
-    Down(Slot, &'a [u8]),
-    /// `pick`, with the names of labels.
-    Pick(OfferWords<'a>),
-    /// `call`, with a procedure's name.
-    Call(&'a [u8]),
+#[derive(Clone, Copy)]
+pub struct Statement<'a> {
+    /// The number of the line.
+    pub line: usize,
+    pub code: CodeLine<'a>,
+    ghost in_range: { IsTrue (is_in_range (code_words code)) },
 }
 
 /// What the names in code stand for.
@@ -42,61 +36,28 @@ pub struct Scope<'n, 'a> {
     pub procedures: &'n Names<'a>,
 }
 
-impl<'a> Statement<'a> {
-    /// The statement of a line; None where a number or a set is out of its range.
-    pub fn of(line: CodeLine<'a>) -> Option<Statement<'a>>
-        ensures { MatchOption result (is_in_range (code_words line.entry) ≡ false) (λ statement.
-            (is_in_range (code_words line.entry) ≡ true)
-            × IsCoded statement (code_words line.entry)) }
-    {
-        match line {
-            CodeLine::Plain(line) => Some(Statement::Plain(Plain::of(line)?)),
-            CodeLine::Jump(label) => Some(Statement::Jump(label)),
-            CodeLine::Down(word, label) => Some(Statement::Down(Slot::of(word)?, label)),
-            CodeLine::Pick(labels) => Some(Statement::Pick(labels)),
-            CodeLine::Call(procedure) => Some(Statement::Call(procedure)),
-            CodeLine::Byte(byte) => Some(Statement::Byte(byte)),
-        }
-    }
-
-    /// How many bytes the statement has: 1 to 18.
-    pub fn size(&self) -> usize
-        ensures size { result ≡ coded_size self.now }
-        ensures some { 1 ≤ result }
-        ensures few { result ≤ 18 }
-    {
-        match self {
-            Statement::Byte(_) => 1,
-            Statement::Plain(plain) => plain.size(),
-            Statement::Jump(_) => 3,
-            Statement::Down(_, _) => 4,
-            Statement::Pick(labels) => 2 + 2 * labels.count,
-            Statement::Call(_) => 2,
-        }
-    }
-
-    /// The bytes of the statement, which stands in this line; else the line's fault, where a name
-    /// is unknown.
-    pub fn encode(
-        &self,
-        alloc: Global,
-        scope: Scope<'_, '_>,
-        line: usize,
-    ) -> Result<Vec<u8>, AsmFault>
+impl Statement<'_> {
+    /// Its bytes; else its line's fault, where a name is unknown.
+    pub fn encode(&self, alloc: Global, scope: Scope<'_, '_>) -> Result<Vec<u8>, AsmFault>
         ensures { let labels = scope.entry.labels.now in
             let procedures = scope.entry.procedures.now in
+            let words = code_words self.now.code in
             MatchResult result
-            (λ bytes. (has_unknown labels procedures self.now ≡ false)
-            × (bytes.items ≡ coded_bytes labels procedures self.now))
-            (IsUnknownAt (has_unknown labels procedures self.now) line) }
+            (λ bytes. (names_unknown labels procedures words ≡ false)
+            × (bytes.items ≡ statement_bytes labels procedures words))
+            (IsUnknownAt (names_unknown labels procedures words) self.now.line) }
     {
-        match self {
-            Statement::Byte(byte) => Ok(Vec::from_slice(alloc, &[*byte])?),
-            Statement::Plain(plain) => Ok(plain.encode(alloc)?),
-            Statement::Jump(label) => jump(alloc, scope, label, line),
-            Statement::Down(slot, label) => down(alloc, scope, *slot, label, line),
-            Statement::Pick(labels) => pick(alloc, scope.labels, *labels, line),
-            Statement::Call(procedure) => call(alloc, scope, procedure, line),
+        let line = self.line;
+        match self.code {
+            CodeLine::Plain(plain) => match plain.instr() {
+                Some(instr) => Ok(encode(alloc, &instr)?),
+                None => unreachable!(),
+            },
+            CodeLine::Jump(label) => jump(alloc, scope, label, line),
+            CodeLine::Down(slot, label) => down(alloc, scope, slot, label, line),
+            CodeLine::Pick(labels) => pick(alloc, scope.labels, labels, line),
+            CodeLine::Call(procedure) => call(alloc, scope, procedure, line),
+            CodeLine::Byte(byte) => Ok(Vec::from_slice(alloc, &[byte])?),
         }
     }
 }
@@ -126,22 +87,27 @@ fn jump(alloc: Global, scope: Scope<'_, '_>, label: &[u8], line: usize) -> Resul
     Ok(encode(alloc, &Instr::Jump(u16::from(label)))?)
 }
 
-/// The bytes of a `down` with a slot and the label of this name.
+/// The bytes of a `down` with the slot of a word and the label of this name.
 fn down(
     alloc: Global,
     scope: Scope<'_, '_>,
-    slot: Slot,
+    word: NumberWord<'_>,
     label: &[u8],
     line: usize,
 ) -> Result<Vec<u8>, AsmFault>
+    requires { is_below SLOTS word.bytes.now ≡ true }
     ensures { MatchResult result
         (λ bytes. (is_known scope.entry.labels.now label.now ≡ true)
-        × (bytes.items
-        ≡ spelled (instruction.Down slot.number (number_of scope.entry.labels.now label.now))))
+        × (bytes.items ≡ spelled
+        (instruction.Down (natural_in word.entry.bytes.now)
+        (number_of scope.entry.labels.now label.now))))
         (IsUnknownAt (not (is_known scope.entry.labels.now label.now)) line) }
 {
     let label = known(scope.labels, label, line)?;
-    Ok(encode(alloc, &Instr::Down(slot.number, u16::from(label)))?)
+    match slot(word) {
+        Some(slot) => Ok(encode(alloc, &Instr::Down(slot, u16::from(label)))?),
+        None => unreachable!(),
+    }
 }
 
 /// The bytes of a `call` of the procedure of this name.

@@ -5,14 +5,13 @@ ghost use Rattle.burr_code.specs.Meaning.{meaning};
 ghost use Rattle.burr_plantext.specs.Rules.Checks.{is_in_range};
 ghost use Rattle.burr_plantext.specs.Rules.Statements.{code_of};
 ghost use Rattle.burr_plantext.specs.Rules.Texts.{first_word, is_skipped, words_of};
-ghost use Rattle.burr_plantext.specs.Rules.Written.{is_number, is_below, natural_in, is_set, pieces};
+ghost use Rattle.burr_plantext.specs.Rules.Written.{is_number, is_set, pieces};
 ghost use Rattle.burr_asm.specs.Views.Words.{cut_word, line_alone};
 ghost use Rattle.burr_asm.specs.Views.Plain.{IsPlain};
-ghost use Rattle.burr_code.specs.declared.limits.TheConstants.{SLOTS};
 ghost use Rattle.std.specs.List.{list_all};
 ghost use Rattle.burr_asm.specs.Views.Sets.{IsGripped, IsMember, IsSetBelow};
 
-use crate::text::numbers::{byte, slot};
+use crate::text::numbers::byte;
 use burr_code::Instr;
 use burr_plantext::bare_instr;
 use burr_text::{cut_at, is_name, is_number};
@@ -124,26 +123,6 @@ pub fn cut_name(bytes: &[u8]) -> Option<(&[u8], &[u8])>
 {
     let (word, rest) = cut_at(bytes, b' ')?;
     Some((name(word)?, rest))
-}
-
-/// A slot of an activation.
-#[derive(Clone, Copy)]
-pub struct Slot {
-    pub number: u8,
-    ghost in_range: { number < SLOTS },
-}
-
-impl Slot {
-    /// The slot of a word; None where it is out of its range.
-    pub fn of(word: NumberWord<'_>) -> Option<Slot>
-        ensures { MatchOption result (is_below SLOTS word.entry.bytes.now ≡ false) (λ slot.
-            (is_below SLOTS word.entry.bytes.now ≡ true)
-            × (slot.number ≡ natural_in word.entry.bytes.now)) }
-    {
-        Some(Slot {
-            number: slot(word)?,
-        })
-    }
 }
 
 /// A set of pieces as it is written: `-`, or numbers joined by `,`.
