@@ -1,6 +1,6 @@
 -- The state after a call: whether there is room for its symbols, and whether its forms are small.
 use Rattle.std.proofs.Common.{◌≡◌, ◌<◌, ◌≤◌, ◌+◌, ◌++◌, ◌∙◌, List, length, map, ap, sym, subst, refl, arith}
-use Rattle.std.proofs.lemmas.List.{length-append, length-map}
+use Rattle.std.proofs.lemmas.List.{length-append, length-map, drop_at}
 use Rattle.std.proofs.lemmas.List.Elements.{All-append, All-drop}
 use Rattle.burr_forms.specs.Rules.Forms.{Form, IsSmallForm, AllSmallForms, substituted}
 use Rattle.burr_frames.specs.Rules.States.{AbstractState}
@@ -8,7 +8,6 @@ use Rattle.burr_frames.specs.Rules.FramedPlans.{FramedExit}
 use Rattle.burr_frames.specs.Rules.SpaceRules.{AllSmallPlaces}
 use Rattle.burr_frames.specs.Rules.ControlRules.{after_call, result_symbols, substituted_places, HasRoomForSymbols}
 use Rattle.burr_frames.specs.Views.CallViews.{AreFewRanges, IsSmallAfter}
-use Rattle.burr_frames.proofs.Agreement.{drop_front}
 
 -- forms that are two small lists, one after the other
 pub small_joined : (first second both given : List Form) → AllSmallForms first → AllSmallForms second → both ≡ first ++ second
@@ -44,7 +43,7 @@ module _ (s : AbstractState) (arguments below : List Form) (exit : FramedExit) w
   pub large_guards : (¬ AllSmallForms (map (substituted symbols) exit.guards)) → ¬ IsSmallAfter state
   large_guards large small =
       large
-      (subst AllSmallForms (drop_front s.guards (map (substituted symbols) exit.guards) (length s.guards) refl)
+      (subst AllSmallForms (drop_at s.guards (map (substituted symbols) exit.guards) (length s.guards) refl)
       (All-drop IsSmallForm (length s.guards) state.guards small.1))
 
   pub small_after : AllSmallForms s.guards → AllSmallPlaces (substituted_places symbols exit.places)

@@ -2,8 +2,7 @@
 use Rattle.std.proofs.Common.{◌≡◌, ℕ, suc, List, [], ◌∷◌, ◌++◌, length, take, drop, map, refl, sym, ap, subst, ◌∙◌, ℤ, arith}
 use Rattle.std.specs.Prelude.{reverse, Option, Some, None, MatchOption}
 use Rattle.arrayvec.specs.ArrayVec.{ArrayVec}
-use Rattle.std.proofs.lemmas.List.{length-map, length-reverse, map-append, reverse-reverse, reverse-append}
-use Rattle.std.proofs.lemmas.Option.{none-some, same_Some}
+use Rattle.std.proofs.lemmas.List.{length-map, length-reverse, map-append, reverse-reverse, reverse-append, take_at, drop_at}
 use Rattle.burr_voxels.specs.declared.cell.Cell.{Cell}
 use Rattle.burr_voxels.specs.Grid.{at}
 use Rattle.burr_code.specs.declared.placement.Placement.{Placement}
@@ -16,29 +15,13 @@ use Rattle.burr_frames.specs.Rules.States.{AbstractState, region_of, cell_at, pl
 use Rattle.burr_frames.specs.Rules.Arrival.{IsAlike}
 use Rattle.burr_frames.specs.Views.Comparing.{offset_forms, Target, symbols_of, IsMetAt, IsMetBy}
 use Rattle.burr_frames.specs.Views.ArrivalViews.{AgreesAbove}
-use Rattle.burr_code.proofs.Common.Conditions.{same_position}
-use Rattle.burr_frames.proofs.Common.Decided.{no_first, same_head, same_tail}
 
 -- Cutting
 
-take_front : {A : Type 0} (xs ys : List A) (n : ℕ) → length xs ≡ n → take n (xs ++ ys) ≡ xs
-take_front xs ys n l = subst (λ (k : ℕ). take k (xs ++ ys) ≡ xs) l (whole xs ys)
-  where
-    whole : {A : Type 0} (xs ys : List A) → take (length xs) (xs ++ ys) ≡ xs
-    whole [] ys = refl
-    whole (x ∷ xs) ys = ap (λ zs. x ∷ zs) (whole xs ys)
-
-pub drop_front : {A : Type 0} (xs ys : List A) (n : ℕ) → length xs ≡ n → drop n (xs ++ ys) ≡ ys
-drop_front xs ys n l = subst (λ (k : ℕ). drop k (xs ++ ys) ≡ ys) l (whole xs ys)
-  where
-    whole : {A : Type 0} (xs ys : List A) → drop (length xs) (xs ++ ys) ≡ ys
-    whole [] ys = refl
-    whole (x ∷ xs) ys = whole xs ys
-
 same_parts : {A : Type 0} (xs ys zs ws : List A) → length xs ≡ length zs → xs ++ ys ≡ zs ++ ws → (xs ≡ zs) × (ys ≡ ws)
 same_parts xs ys zs ws l e = (
-  sym (take_front xs ys (length zs) l) ∙ ap (take (length zs)) e ∙ take_front zs ws (length zs) refl,
-  sym (drop_front xs ys (length zs) l) ∙ ap (drop (length zs)) e ∙ drop_front zs ws (length zs) refl,
+  sym (take_at xs ys (length zs) l) ∙ ap (take (length zs)) e ∙ take_at zs ws (length zs) refl,
+  sym (drop_at xs ys (length zs) l) ∙ ap (drop (length zs)) e ∙ drop_at zs ws (length zs) refl,
 )
 
 -- Operands
@@ -63,77 +46,36 @@ reversed_operands point there xs ys e = values_reversed there ys ∙ ap reverse 
 
 -- Places
 
--- a list of trays is not empty
-no_trays : (place : Placement FormCell) (places : List (Placement FormCell)) → ¬ ([] ≡ map tray_of (place ∷ places))
-no_trays place places e = no_first (tray_of place) (map tray_of places) e
-
--- a piece that is apart is not in a tray
-not_in_tray : (t : ℕ) (xs ys : List (Option ℕ)) → ¬ (None ∷ xs ≡ Some t ∷ ys)
-not_in_tray t xs ys e = none-some t (same_head None (Some t) xs ys e)
-
 pub as_many : (xs ys : List (Placement FormCell)) → map tray_of xs ≡ map tray_of ys
     → length (offset_forms xs) ≡ length (offset_forms ys)
 as_many [] [] trays = refl
-as_many [] (y ∷ ys) trays = absurd (no_trays y ys trays)
-as_many (x ∷ xs) [] trays = absurd (no_trays x xs (sym trays))
-as_many (Apart ∷ xs) (Apart ∷ ys) trays = as_many xs ys (same_tail None None (map tray_of xs) (map tray_of ys) trays)
-as_many (Apart ∷ xs) (On t c ∷ ys) trays = absurd (not_in_tray t (map tray_of xs) (map tray_of ys) trays)
-as_many (On t c ∷ xs) (Apart ∷ ys) trays = absurd (not_in_tray t (map tray_of ys) (map tray_of xs) (sym trays))
-as_many (On t c ∷ xs) (On u d ∷ ys) trays =
-    ap (λ (n : ℕ). suc (suc (suc n))) (as_many xs ys (same_tail (Some t) (Some u) (map tray_of xs) (map tray_of ys) trays))
-
--- a piece's place, where tray and values are the same
-same_place : (point there : Point) (t u : ℕ) (c d : FormCell) → t ≡ u → value there d.x ≡ value point c.x
-    → value there d.y ≡ value point c.y → value there d.z ≡ value point c.z
-    → On t (cell_at point c) ≡ On u (cell_at there d)
-same_place point there t u c d e x y z = λ i. On (e i) (at (sym x i) (sym y i) (sym z i))
+as_many (Apart ∷ xs) (Apart ∷ ys) trays = as_many xs ys (cc)
+as_many (On t c ∷ xs) (On u d ∷ ys) trays = ap (λ (n : ℕ). suc (suc (suc n))) (as_many xs ys (cc))
+as_many xs ys trays = cc
 
 pub same_places : (point there : Point) (xs ys : List (Placement FormCell)) → map tray_of xs ≡ map tray_of ys
     → values there (offset_forms ys) ≡ values point (offset_forms xs) → places_at point xs ≡ places_at there ys
 same_places point there [] [] trays e = refl
-same_places point there [] (y ∷ ys) trays e = absurd (no_trays y ys trays)
-same_places point there (x ∷ xs) [] trays e = absurd (no_trays x xs (sym trays))
 same_places point there (Apart ∷ xs) (Apart ∷ ys) trays e =
-    ap (λ (places : List (Placement Cell)). Apart ∷ places)
-    (same_places point there xs ys (same_tail None None (map tray_of xs) (map tray_of ys) trays) e)
-same_places point there (Apart ∷ xs) (On t c ∷ ys) trays e = absurd (not_in_tray t (map tray_of xs) (map tray_of ys) trays)
-same_places point there (On t c ∷ xs) (Apart ∷ ys) trays e = absurd (not_in_tray t (map tray_of ys) (map tray_of xs) (sym trays))
+    ap (λ (places : List (Placement Cell)). Apart ∷ places) (same_places point there xs ys (cc) e)
 same_places point there (On t c ∷ xs) (On u d ∷ ys) trays e =
-    let tray = same_Some t u (same_head (Some t) (Some u) (map tray_of xs) (map tray_of ys) trays) in
-    let xs_values = values point (offset_forms xs) in
-    let ys_values = values there (offset_forms ys) in
-    let one = same_tail (value there d.x) (value point c.x) (value there d.y ∷ value there d.z ∷ ys_values)
-    (value point c.y ∷ value point c.z ∷ xs_values) e in
-    let two = same_tail (value there d.y) (value point c.y) (value there d.z ∷ ys_values) (value point c.z ∷ xs_values) one in
-    let here =
-    same_place point there t u c d tray
-    (same_head (value there d.x) (value point c.x) (value there d.y ∷ value there d.z ∷ ys_values)
-    (value point c.y ∷ value point c.z ∷ xs_values) e)
-    (same_head (value there d.y) (value point c.y) (value there d.z ∷ ys_values) (value point c.z ∷ xs_values) one)
-    (same_head (value there d.z) (value point c.z) ys_values xs_values two) in
-    let after =
-    same_places point there xs ys (same_tail (Some t) (Some u) (map tray_of xs) (map tray_of ys) trays)
-    (same_tail (value there d.z) (value point c.z) ys_values xs_values two) in
-    λ i. here i ∷ after i
+    let tray : t ≡ u = cc in
+    let x : value point c.x ≡ value there d.x = cc in
+    let y : value point c.y ≡ value there d.y = cc in
+    let z : value point c.z ≡ value there d.z = cc in
+    let after = same_places point there xs ys (cc) (cc) in
+    λ i. On (tray i) (at (x i) (y i) (z i)) ∷ after i
+same_places point there xs ys trays e = cc
 
 pub same_offsets : (point there : Point) (xs ys : List (Placement FormCell)) → map tray_of xs ≡ map tray_of ys
     → places_at point xs ≡ places_at there ys → values there (offset_forms ys) ≡ values point (offset_forms xs)
 same_offsets point there [] [] trays e = refl
-same_offsets point there [] (y ∷ ys) trays e = absurd (no_trays y ys trays)
-same_offsets point there (x ∷ xs) [] trays e = absurd (no_trays x xs (sym trays))
-same_offsets point there (Apart ∷ xs) (Apart ∷ ys) trays e =
-    same_offsets point there xs ys (same_tail None None (map tray_of xs) (map tray_of ys) trays)
-    (same_tail Apart Apart (places_at point xs) (places_at there ys) e)
-same_offsets point there (Apart ∷ xs) (On t c ∷ ys) trays e = absurd (not_in_tray t (map tray_of xs) (map tray_of ys) trays)
-same_offsets point there (On t c ∷ xs) (Apart ∷ ys) trays e = absurd (not_in_tray t (map tray_of ys) (map tray_of xs) (sym trays))
+same_offsets point there (Apart ∷ xs) (Apart ∷ ys) trays e = same_offsets point there xs ys (cc) (cc)
 same_offsets point there (On t c ∷ xs) (On u d ∷ ys) trays e =
-    let a = cell_at point c in
-    let b = cell_at there d in
-    let cell : a ≡ b = same_position t u a b (same_head (On t a) (On u b) (places_at point xs) (places_at there ys) e) in
-    let after =
-    same_offsets point there xs ys (same_tail (Some t) (Some u) (map tray_of xs) (map tray_of ys) trays)
-    (same_tail (On t a) (On u b) (places_at point xs) (places_at there ys) e) in
-    λ i. (sym cell i).x ∷ (sym cell i).y ∷ (sym cell i).z ∷ after i
+    let cell : cell_at there d ≡ cell_at point c = cc in
+    let after = same_offsets point there xs ys (cc) (cc) in
+    λ i. (cell i).x ∷ (cell i).y ∷ (cell i).z ∷ after i
+same_offsets point there xs ys trays e = cc
 
 -- The comparison
 
@@ -147,12 +89,12 @@ parts_met t symbols upper same point many rows =
     let others = values point (upper ++ same) in
     let whole = map-append (value point) symbols (upper ++ same) in
     let l = length-map symbols (value point) ∙ many in
-    let first = ap (take (symbols_of t)) whole ∙ take_front (values point symbols) others (symbols_of t) l in
+    let first = ap (take (symbols_of t)) whole ∙ take_at (values point symbols) others (symbols_of t) l in
     let others_are = map-append (value point) upper same in
-    let after = ap (drop (symbols_of t)) whole ∙ drop_front (values point symbols) others (symbols_of t) l ∙ others_are in
+    let after = ap (drop (symbols_of t)) whole ∙ drop_at (values point symbols) others (symbols_of t) l ∙ others_are in
     let m = length-map upper (value point) ∙ rows in
-    let second = ap (take (length t.least)) after ∙ take_front (values point upper) (values point same) (length t.least) m in
-    let third = ap (drop (length t.least)) after ∙ drop_front (values point upper) (values point same) (length t.least) m in
+    let second = ap (take (length t.least)) after ∙ take_at (values point upper) (values point same) (length t.least) m in
+    let third = ap (drop (length t.least)) after ∙ drop_at (values point upper) (values point same) (length t.least) m in
     λ i. IsMetAt t (first i) (second i) (third i)
 
 -- the first point of a region at which a condition fails, if there is one

@@ -1,5 +1,5 @@
 -- The forms of the offsets of a tray's pieces, three for each, and their values at a point.
-use Rattle.std.proofs.Common.{◌≡◌, ◌≢◌, ◌⊎◌, ℕ, zero, suc, ◌+◌, ◌*◌, ◌<◌, ◌≤◌, ◌==◌, if◌then◌else◌, Bool, true, false, ℤ, List, [], ◌∷◌, length, take, Some, slice_index_or, refl, sym, ap, subst, ◌∙◌, arith, inl, inr}
+use Rattle.std.proofs.Common.{◌≡◌, ◌≢◌, ◌⊎◌, ℕ, zero, suc, ◌+◌, ◌*◌, ◌<◌, ◌≤◌, ◌==◌, true, false, ℤ, List, [], ◌∷◌, length, take, Some, slice_index_or, refl, ap, ◌∙◌, arith, inl, inr}
 use Rattle.std.specs.Prelude.{pos, filter}
 use Rattle.std.proofs.lemmas.Bool.Decides.{nat_tests}
 use Rattle.std.proofs.lemmas.List.Elements.{All-nil, All-cons, All-head, All-tail}
@@ -44,29 +44,18 @@ module _ (tray : ℕ) (place : Placement FormCell) (places : List (Placement For
   pub offsets_here : (c : FormCell) → place ≡ On tray c
       → offsets_in tray (place ∷ places) ≡ c.x ∷ c.y ∷ c.z ∷ offsets_in tray places
   offsets_here c e =
-      ap (λ (here : Bool). offset_forms (if here then place ∷ filter (is_in tray) places else filter (is_in tray) places))
-      (is_here tray place c e)
-      ∙ ap (λ (x : Placement FormCell). offset_forms (x ∷ filter (is_in tray) places)) e
+      rw (is_here tray place c e) (ap (λ (x : Placement FormCell). offset_forms (x ∷ filter (is_in tray) places)) e)
 
   pub offsets_past : is_in tray place ≡ false → offsets_in tray (place ∷ places) ≡ offsets_in tray places
-  offsets_past e =
-      ap (λ (here : Bool). offset_forms (if here then place ∷ filter (is_in tray) places else filter (is_in tray) places)) e
+  offsets_past e = rw e refl
 
   number_here : (c : FormCell) (p : ℕ) → place ≡ On tray c
       → number_in tray (place ∷ places) (suc p) ≡ suc (number_in tray places p)
-  number_here c p e =
-      ap (λ (here : Bool). (if here then 1 else 0) + number_in tray places p) (is_here tray place c e) ∙ one_first _
-    where
-      one_first : (n : ℕ) → 1 + n ≡ suc n
-      one_first n = omega arith
+  number_here c p e = grind (arith, is_here tray place c e)
 
   number_past : (p : ℕ) → is_in tray place ≡ false
       → number_in tray (place ∷ places) (suc p) ≡ number_in tray places p
-  number_past p e =
-      ap (λ (here : Bool). (if here then 1 else 0) + number_in tray places p) e ∙ none_first _
-    where
-      none_first : (n : ℕ) → 0 + n ≡ n
-      none_first n = omega arith
+  number_past p e = grind (arith, e)
 
 -- On the bench
 
@@ -88,40 +77,32 @@ first_within c rest point all =
       All-tail (IsInReach 256) (value point c.z) (values point rest) after_y,
     )
 
-abbrev InReach : Point → List Form → Type 0
-InReach point forms = AllInReach 256 (values point forms)
-
 -- all values are in reach where each piece of the tray is on the bench
 pub reach_of_on_bench : (places : List (Placement FormCell)) (tray : ℕ) (point : Point) → OnBenchAt places tray point
     → AllInReach 256 (values point (offsets_in tray places))
 reach_of_on_bench [] tray point on = All-nil (IsInReach 256)
 reach_of_on_bench (place ∷ places) tray point on =
-    by_place (in_tray tray place) (reach_of_on_bench places tray point (λ p c lies. on (suc p) c lies))
-  where
-    by_place : ((c : FormCell) × (place ≡ On tray c)) ⊎ (is_in tray place ≡ false)
-        → InReach point (offsets_in tray places) → InReach point (offsets_in tray (place ∷ places))
-    by_place (inl (c, e)) rest =
-        let near = on 0 c (ap (λ (x : Placement FormCell). Some x) e) in
-        subst (InReach point) (sym (offsets_here tray place places c e))
-        (three_in_reach _ _ _ _ (near.x_above, near.x_below) (near.y_above, near.y_below) (near.z_above, near.z_below) rest)
-    by_place (inr e) rest = subst (InReach point) (sym (offsets_past tray place places e)) rest
+    let rest = reach_of_on_bench places tray point (λ p c lies. on (suc p) c lies) in
+    elim (in_tray tray place) [
+      | inl (c, e) ↦
+          let near = on 0 c (ap (λ (x : Placement FormCell). Some x) e) in
+          rw (offsets_here tray place places c e)
+          (three_in_reach _ _ _ _ (near.x_above, near.x_below) (near.y_above, near.y_below) (near.z_above, near.z_below) rest)
+      | inr e ↦ rw (offsets_past tray place places e) rest
+    ]
 
 -- each piece of the tray is on the bench where all values are in reach
 pub on_bench_of_reach : (places : List (Placement FormCell)) (tray : ℕ) (point : Point)
     → AllInReach 256 (values point (offsets_in tray places)) → OnBenchAt places tray point
 on_bench_of_reach [] tray point all p c lies = absurd (none-some (On tray c) lies)
 on_bench_of_reach (place ∷ places) tray point all zero c lies =
-    (first_within c (offsets_in tray places) point
-    (subst (InReach point) (offsets_here tray place places c (same_Some place (On tray c) lies)) all)).0
+    (first_within c (offsets_in tray places) point (rw (offsets_here tray place places c (same_Some place (On tray c) lies)) at all)).0
 on_bench_of_reach (place ∷ places) tray point all (suc p) c lies =
-    on_bench_of_reach places tray point (by_place (in_tray tray place)) p c lies
-  where
-    by_place : ((d : FormCell) × (place ≡ On tray d)) ⊎ (is_in tray place ≡ false)
-        → InReach point (offsets_in tray places)
-    by_place (inl (d, e)) =
-        (first_within d (offsets_in tray places) point
-        (subst (InReach point) (offsets_here tray place places d e) all)).1
-    by_place (inr e) = subst (InReach point) (offsets_past tray place places e) all
+    let rest : AllInReach 256 (values point (offsets_in tray places)) = elim (in_tray tray place) [
+      | inl (d, e) ↦ (first_within d (offsets_in tray places) point (rw (offsets_here tray place places d e) at all)).1
+      | inr e ↦ rw (offsets_past tray place places e) at all
+    ] in
+    on_bench_of_reach places tray point rest p c lies
 
 -- Values three by three
 
@@ -158,16 +139,10 @@ stands_at (suc n) (place ∷ places) tray zero c point below lies =
     let are = offsets_here tray place places c (same_Some place (On tray c) lies) in
     (ap (λ (forms : List Form). cell_of (values point forms) 0) are, omega (arith, ap (length {A = Form}) are))
 stands_at (suc n) (place ∷ places) tray (suc p) c point below lies =
-    by_place (in_tray tray place) (stands_at n places tray p c point (omega (arith, below)) lies)
-  where
-    by_place : ((d : FormCell) × (place ≡ On tray d)) ⊎ (is_in tray place ≡ false)
-        → StandsAt (offsets_in tray places) point (number_in tray (take n places) p) (cell_at point c)
-        → StandsAt (offsets_in tray (place ∷ places)) point (number_in tray (place ∷ take n places) (suc p)) (cell_at point c)
-    by_place (inl (d, e)) rest =
-        stands_here _ (offsets_in tray places) point _ _ (cell_at point c) d (offsets_here tray place places d e)
-        (number_here tray place (take n places) d p e) rest
-    by_place (inr e) rest =
-        subst (λ (forms : List Form). StandsAt forms point (number_in tray (place ∷ take n places) (suc p)) (cell_at point c))
-        (sym (offsets_past tray place places e))
-        (subst (λ (m : ℕ). StandsAt (offsets_in tray places) point m (cell_at point c))
-        (sym (number_past tray place (take n places) p e)) rest)
+    let rest = stands_at n places tray p c point (omega (arith, below)) lies in
+    elim (in_tray tray place) [
+      | inl (d, e) ↦
+          stands_here _ (offsets_in tray places) point _ _ (cell_at point c) d (offsets_here tray place places d e)
+          (number_here tray place (take n places) d p e) rest
+      | inr e ↦ rw (offsets_past tray place places e, number_past tray place (take n places) p e) rest
+    ]

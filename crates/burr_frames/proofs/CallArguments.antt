@@ -10,6 +10,12 @@ pub left_many : {X : Type 0} (count : ℕ) (items operands : List X) → reverse
 left_many count items operands same =
     length-drop count operands ∙ ap (λ xs. length xs - count) (sym same) ∙ ap (λ n. n - count) (length-reverse items)
 
+-- they and the results are not too many where the code says so
+pub still_room : {X : Type 0} (count : ℕ) (items operands : List X) (have given results : ℕ) → reverse items ≡ operands
+    → have ≡ length items → given ≡ results → have - count + given ≤ 8 → length (drop count operands) + results ≤ 8
+still_room count items operands have given results same all many few =
+    let left = left_many count items operands same in omega (arith, left, all, many, few)
+
 -- Lists of eight
 
 -- the first k, and after them one element as often as there is room

@@ -1,14 +1,12 @@
 -- What a return comes to, by what was found on the way.
-use Rattle.std.proofs.Common.{◌≡◌, ℕ, List, length, Some, None, ap, sym, subst, inl, inr}
+use Rattle.std.proofs.Common.{◌≡◌, ℕ, List, length, Some, sym, subst, inr}
 use Rattle.std.specs.Prelude.{reverse}
 use Rattle.std.proofs.lemmas.List.{reverse-reverse}
 use Rattle.burr_code.specs.Stacks.{top_many}
 use Rattle.burr_forms.specs.Rules.Forms.{Form}
-use Rattle.burr_frames.specs.declared.rule.Rule.TheVariants as rules
 use Rattle.burr_frames.specs.Rules.States.{AbstractState}
 use Rattle.burr_frames.specs.Rules.FramedPlans.{FramedExit, FramedProcedure}
-use Rattle.burr_frames.specs.Rules.Verdicts.{Verdict, Breaks, paying}
-use Rattle.burr_frames.specs.Views.Breaks.{plain_break}
+use Rattle.burr_frames.specs.Rules.Verdicts.{Verdict, paying}
 use Rattle.burr_frames.specs.Rules.ControlRules.{first_forms, ret_rule}
 use Rattle.burr_frames.specs.Views.Exits.{meeting_exit, meeting_exit_with}
 
@@ -25,18 +23,6 @@ pub meeting_exit_on : (s : AbstractState) (exit : FramedExit) (count : ℕ) (par
     → meeting_exit_with s exit parameters results v → meeting_exit count s exit v
 meeting_exit_on s exit count parameters results below v known enough h =
     inr (parameters, known, inr ((reverse results, below), enough, back s exit parameters results v h))
-
--- there are fewer operands than results
-pub ret_few : (here : FramedProcedure) (s : AbstractState) (exit : FramedExit) (parameters : List Form) → here.exit ≡ Some exit
-    → first_forms here.parameters s.slots ≡ Some parameters → top_many here.results s.operands ≡ None
-    → ret_rule here s (Breaks (plain_break rules.MissingOperand))
-ret_few here s exit parameters there known few =
-    inr (exit, there, inr (parameters, known, inl (few, ap Breaks (λ i. plain_break rules.MissingOperand))))
-
--- a parameter is not known
-pub ret_unknown : (here : FramedProcedure) (s : AbstractState) (exit : FramedExit) → here.exit ≡ Some exit
-    → first_forms here.parameters s.slots ≡ None → ret_rule here s (Breaks (plain_break rules.ExitMissed))
-ret_unknown here s exit there none = inr (exit, there, inl (none, ap Breaks (λ i. plain_break rules.ExitMissed)))
 
 -- all are there, and what follows where a step is paid for
 pub ret_on : (here : FramedProcedure) (s : AbstractState) (exit : FramedExit) (parameters results below : List Form) (v : Verdict)

@@ -3,7 +3,7 @@ use Rattle.std.proofs.Common.{◌≡◌, ℕ, ◌+◌, ◌≤◌, List, length, 
 use Rattle.std.specs.Prelude.{reverse}
 use Rattle.std.proofs.lemmas.List.{reverse-reverse}
 use Rattle.burr_code.specs.Stacks.{top_many}
-use Rattle.burr_forms.specs.Rules.Forms.{Form, substituted}
+use Rattle.burr_forms.specs.Rules.Forms.{Form, substituted, minus_form, one_less, IsSmallForm}
 use Rattle.burr_container.specs.Rules.Plans.{Frame}
 use Rattle.burr_frames.specs.declared.rule.Rule.TheVariants as rules
 use Rattle.burr_frames.specs.Rules.States.{AbstractState}
@@ -11,8 +11,8 @@ use Rattle.burr_frames.specs.Rules.Verdicts.{Verdict, Breaks, FallsThrough, meet
 use Rattle.burr_frames.specs.declared.rule.Break.{Break}
 use Rattle.burr_frames.specs.Views.Breaks.{broken_of}
 use Rattle.burr_frames.specs.Rules.FramedPlans.{FramedExit}
-use Rattle.burr_frames.specs.Rules.ControlRules.{calling, called_with, paying_call, after_call, HasRoomForSymbols}
-use Rattle.burr_frames.specs.Views.CallViews.{IsSmallAfter, CannotGoAfter, IsPaidBeside, CannotPayBeside}
+use Rattle.burr_frames.specs.Rules.ControlRules.{calling, called_with, left_of, paying_call, after_call, HasRoomForSymbols}
+use Rattle.burr_frames.specs.Views.CallViews.{IsSmallAfter, IsSmallPrice, CannotGoAfter, IsPaidBeside, CannotPayBeside}
 
 -- what is paid for a call with these arguments, and the state after
 abbrev pub PaysCall : AbstractState → List Form → FramedExit → Form → Verdict → Type 0
@@ -53,6 +53,16 @@ paid_call s after cost left new room small paid e =
           inr (paid.enough, ap FallsThrough (e ∙ ap (λ (c : Form). record after { cost = c }) paid.is)),
         ),
       ),
+    )
+
+-- the price by the forms of the code
+pub price_is : (s : AbstractState) (price made callee cost less left : Form) → made ≡ price → cost ≡ s.cost
+    → (callee ≡ made) × IsSmallForm made → (less ≡ one_less cost) × IsSmallForm (one_less cost)
+    → (left ≡ minus_form less callee) × IsSmallForm (minus_form less callee) → (left ≡ left_of s.cost price) × IsSmallPrice s price
+price_is s price made callee cost less left priced costs a b rest =
+    let whole : minus_form less callee ≡ left_of s.cost price = λ i. minus_form ((b.0 ∙ ap one_less costs) i) ((a.0 ∙ priced) i) in (
+      rest.0 ∙ whole,
+      record { callee = subst IsSmallForm priced a.1; less = subst IsSmallForm (ap one_less costs) b.1; rest = subst IsSmallForm whole rest.1 },
     )
 
 -- the entry frame is asked for with arguments, the last of them first, and what follows by them

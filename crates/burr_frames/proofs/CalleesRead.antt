@@ -1,7 +1,8 @@
 -- Procedures of a container that are called: what is read of them in place is the plan's.
-use Rattle.std.proofs.Common.{◌≡◌, ℕ, zero, suc, ◌<◌, ◌≤◌, Bool, true, false, nat_lt, if◌then◌else◌, Option, List, [], ◌∷◌, length, map, Some, None, refl, sym, ap, ◌∙◌, arith, slice_get, lt-ltb, le-ltb}
+use Rattle.std.proofs.Common.{◌≡◌, ℕ, ◌<◌, ◌≤◌, List, [], ◌∷◌, length, map, Some, None, refl, sym, ap, ◌∙◌, arith, slice_get, lt-ltb, le-ltb}
+use Rattle.std.specs.Prelude.{option_map}
 use Rattle.std.proofs.lemmas.List.{length-map}
-use Rattle.std.proofs.lemmas.Option.{none-some, same_Some, slice_get_past}
+use Rattle.std.proofs.lemmas.Option.{none-some, same_Some, slice_get-map, slice_get_past}
 use Rattle.burr_code.specs.Labels.{callee_of}
 use Rattle.burr_container.specs.declared.frame_ref.FrameRef.{FrameRef}
 use Rattle.burr_container.specs.declared.procedure_ref.ProcedureRef.{ProcedureRef}
@@ -12,51 +13,9 @@ use Rattle.burr_container.specs.Views.Refs.{frame_of}
 use Rattle.burr_frames.specs.Rules.FramedPlans.{FramedProcedure, framed, framed_procedure}
 use Rattle.burr_frames.specs.Rules.ControlRules.{first_frame}
 use Rattle.burr_frames.specs.Views.Here.{IsFrameFound}
-use Rattle.burr_frames.proofs.Common.Heres.{lent_is, lent_at}
+use Rattle.burr_frames.proofs.Common.Heres.{element_at, lent_is, lent_at}
 
 -- Procedures
-
--- a framed procedure is that of one of the plan's
-pub record IsFramed (procedures : List PlanProcedure) (n : ℕ) (here : FramedProcedure) : Type 0 where
-  pub procedure : PlanProcedure
-  pub at : slice_get procedures n ≡ Some procedure
-  pub is : framed_procedure procedure ≡ here
-
-pub framed_at : (procedures : List PlanProcedure) (n : ℕ) (here : FramedProcedure)
-    → slice_get (map framed_procedure procedures) n ≡ Some here → IsFramed procedures n here
-framed_at [] n here e = absurd (none-some here e)
-framed_at (p ∷ procedures) zero here e = record { procedure = p; at = refl; is = same_Some (framed_procedure p) here e }
-framed_at (p ∷ procedures) (suc n) here e =
-    let found = framed_at procedures n here e in
-    record { procedure = found.procedure; at = found.at; is = found.is }
-
--- a callee that there is, and its number
-pub record IsCallee (procedures : List PlanProcedure) (n callee : ℕ) : Type 0 where
-  pub procedure : PlanProcedure
-  pub at : slice_get procedures callee ≡ Some procedure
-  pub framed : slice_get (map framed_procedure procedures) callee ≡ Some (framed_procedure procedure)
-  pub called : callee_of (map framed_procedure procedures) n callee ≡ Some (framed_procedure procedure)
-
-one_at : (procedures : List PlanProcedure) (k : ℕ) → k < length procedures
-    → (p : PlanProcedure) × (slice_get procedures k ≡ Some p)
-    × (slice_get (map framed_procedure procedures) k ≡ Some (framed_procedure p))
-one_at [] k l = absurd (omega (arith, l))
-one_at (p ∷ procedures) zero l = (p, refl, refl)
-one_at (p ∷ procedures) (suc k) l = one_at procedures k (omega (arith, l))
-
-pub callee_at : (procedures : List PlanProcedure) (n callee : ℕ) → n < callee → callee < length procedures
-    → IsCallee procedures n callee
-callee_at procedures n callee higher l =
-    let found = one_at procedures callee l in
-    record {
-      procedure = found.0;
-      at = found.1;
-      framed = found.2;
-      called = called_higher (map framed_procedure procedures) n callee higher ∙ found.2;
-    }
-  where
-    called_higher : (all : List FramedProcedure) (n callee : ℕ) → n < callee → callee_of all n callee ≡ slice_get all callee
-    called_higher all n callee higher = rw (lt-ltb n callee higher) refl
 
 -- a procedure of no higher number is no callee, nor is one that there is not
 pub no_callee_below : (all : List FramedProcedure) (n callee : ℕ) → callee ≤ n → callee_of all n callee ≡ None
@@ -66,12 +25,7 @@ pub no_callee_past : (procedures : List PlanProcedure) (n callee : ℕ) → leng
     → callee_of (map framed_procedure procedures) n callee ≡ None
 no_callee_past procedures n callee past =
     let many = length-map procedures framed_procedure in
-    none_either (nat_lt n callee) (slice_get (map framed_procedure procedures) callee)
-    (slice_get_past (map framed_procedure procedures) callee (omega (arith, many, past)))
-  where
-    none_either : {A : Type 0} (b : Bool) (o : Option A) → o ≡ None → (if b then o else None) ≡ None
-    none_either true o none = none
-    none_either false o none = refl
+    grind (arith, slice_get_past (map framed_procedure procedures) callee (omega (arith, many, past)))
 
 -- a callee that a container lends, in the container's plan
 pub record IsLentCallee (p : Plan) (n callee : ℕ) (r : ProcedureRef) : Type 0 where
@@ -84,13 +38,15 @@ pub record IsLentCallee (p : Plan) (n callee : ℕ) (r : ProcedureRef) : Type 0 
 pub lent_callee : (p : Plan) (kept : ContainerView) (n callee : ℕ) (r : ProcedureRef) → IsContainer kept p
     → n < callee → callee < length p.procedures → IsLent kept callee r → IsLentCallee p n callee r
 lent_callee p kept n callee r is higher few lent =
-    let there = callee_at p.procedures n callee higher few in
+    let there = element_at p.procedures callee few in
+    let framed : slice_get (map framed_procedure p.procedures) callee ≡ Some (framed_procedure there.0) =
+    slice_get-map framed_procedure p.procedures callee ∙ ap (option_map framed_procedure) there.1 in
     record {
-      procedure = there.procedure;
+      procedure = there.0;
       is = lent_is kept callee r p lent is;
-      at = lent_at p.procedures kept callee r there.procedure lent there.at;
-      framed = lent_at (map framed_procedure p.procedures) kept callee r (framed_procedure there.procedure) lent there.framed;
-      called = there.called;
+      at = lent_at p.procedures kept callee r there.0 lent there.1;
+      framed = lent_at (map framed_procedure p.procedures) kept callee r (framed_procedure there.0) lent framed;
+      called = rw (lt-ltb n callee higher) framed;
     }
 
 -- Entry frames

@@ -15,10 +15,9 @@ use Rattle.burr_frames.specs.Views.Comparing.{NoneBelow}
 
 none_below_at : (xs ys : List ℤ) (k : ℕ) → NoneBelow xs ys → k < length xs
     → slice_index_or xs k (pos 0) ≤ℤ slice_index_or ys k (pos 0)
-none_below_at [] ys k n l = absurd (omega (arith, l))
-none_below_at (x ∷ xs) [] k n l = absurd n
 none_below_at (x ∷ xs) (y ∷ ys) zero n l = n.0
 none_below_at (x ∷ xs) (y ∷ ys) (suc k) n l = none_below_at xs ys k n.1 (omega (arith, l))
+none_below_at xs ys k n l = absurd (grind (arith, n, l))
 
 -- a number that is below its form's value
 pub one_below : (point : Point) (forms : List Form) (numbers : List ℤ) (k : ℕ) (f : Form) (v : ℤ) → k < length forms
@@ -31,9 +30,8 @@ one_below point forms numbers k f v l e is less none =
 
 none_below_push : (xs ys : List ℤ) (x y : ℤ) → NoneBelow xs ys → x ≤ℤ y → NoneBelow (xs ++ x ∷ []) (ys ++ y ∷ [])
 none_below_push [] [] x y n l = (l, tt)
-none_below_push [] (b ∷ ys) x y n l = absurd n
-none_below_push (a ∷ xs) [] x y n l = absurd n
 none_below_push (a ∷ xs) (b ∷ ys) x y n l = (n.0, none_below_push xs ys x y n.1 l)
+none_below_push xs ys x y n l = absurd n
 
 -- number k is not below, and none of those before it
 pub none_below_more : (point : Point) (forms : List Form) (numbers : List ℤ) (k : ℕ) (f : Form) (v : ℤ) → k < length forms
@@ -73,10 +71,9 @@ values_more point forms numbers k f v l same e is here before =
 
 in_range_at : (ranges : List (ℤ × ℤ)) (numbers : List ℤ) (k : ℕ) (d : ℤ × ℤ) → InBox ranges numbers → k < length ranges
     → InRange (slice_index_or ranges k d) (slice_index_or numbers k (pos 0))
-in_range_at [] numbers k d b l = absurd (omega (arith, l))
-in_range_at (range ∷ ranges) [] k d b l = absurd b
 in_range_at (range ∷ ranges) (x ∷ numbers) zero d b l = b.0
 in_range_at (range ∷ ranges) (x ∷ numbers) (suc k) d b l = in_range_at ranges numbers k d b.1 (omega (arith, l))
+in_range_at ranges numbers k d b l = absurd (grind (arith, b, l))
 
 -- a number that is not in its range
 pub one_outside : (ranges : List (ℤ × ℤ)) (numbers : List ℤ) (k : ℕ) (d : ℤ × ℤ) → k < length ranges

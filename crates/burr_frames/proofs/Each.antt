@@ -1,6 +1,6 @@
 -- What is so of each element of a list.
-use Rattle.std.proofs.Common.{◌≡◌, ◌↔◌, ℕ, List, [], ◌∷◌, ◌++◌, Bool, true, false, refl}
-use Rattle.std.specs.Prelude.{All, map, filter, if◌then◌else◌}
+use Rattle.std.proofs.Common.{◌≡◌, ◌↔◌, ℕ, List, [], ◌∷◌, ◌++◌, Bool, true, arith}
+use Rattle.std.specs.Prelude.{All, map, filter}
 use Rattle.std.proofs.lemmas.List.Elements.{All-nil, All-cons, All-head, All-tail}
 use Rattle.burr_frames.specs.Rules.Looks.{pairs_of}
 use Rattle.burr_frames.proofs.Common.Until.{EachIs}
@@ -25,10 +25,6 @@ pub each_append : {A : Type 0} (P : A → Type 0) (xs ys : List A) → EachIs P 
 each_append P [] ys h k = k
 each_append P (x ∷ xs) ys h k = (h.0, each_append P xs ys h.1 k)
 
-each_front : {A : Type 0} (P : A → Type 0) (xs ys : List A) → EachIs P (xs ++ ys) → EachIs P xs × EachIs P ys
-each_front P [] ys h = (tt, h)
-each_front P (x ∷ xs) ys h = let rest = each_front P xs ys h.1 in ((h.0, rest.0), rest.1)
-
 pub each_map : {A B : Type 0} (f : A → B) (P : B → Type 0) (xs : List A) → EachIs (λ x. P (f x)) xs → EachIs P (map f xs)
 each_map f P [] h = tt
 each_map f P (x ∷ xs) h = (h.0, each_map f P xs h.1)
@@ -38,31 +34,19 @@ each_unmap f P [] h = tt
 each_unmap f P (x ∷ xs) h = (h.0, each_unmap f P xs h.1)
 
 pub each_same : {A : Type 0} (P Q : A → Type 0) (xs : List A) → EachIs (λ x. P x ↔ Q x) xs → EachIs P xs ↔ EachIs Q xs
-each_same P Q [] same = ((λ h. tt), (λ h. tt))
-each_same P Q (x ∷ xs) same =
-    let rest = each_same P Q xs same.1 in
-    ((λ h. (same.0.0 h.0, rest.0 h.1)), (λ h. (same.0.1 h.0, rest.1 h.1)))
+each_same P Q [] same = grind arith
+each_same P Q (x ∷ xs) same = grind (arith, each_same P Q xs same.1, same)
 
 -- of those that pass a test
 pub each_filter : {A : Type 0} (test : A → Bool) (Q : A → Type 0) (xs : List A) → EachIs (λ x. test x ≡ true → Q x) xs
     → EachIs Q (filter test xs)
 each_filter test Q [] h = tt
-each_filter {A} test Q (x ∷ xs) h = by_test (test x) h.0 (each_filter test Q xs h.1)
-  where
-    by_test : (b : Bool) → (b ≡ true → Q x) → EachIs Q (filter test xs)
-        → EachIs Q (if b then x ∷ filter test xs else filter test xs)
-    by_test true own rest = (own refl, rest)
-    by_test false own rest = rest
+each_filter test Q (x ∷ xs) h = grind (arith, each_filter test Q xs h.1, h)
 
 pub of_filter : {A : Type 0} (test : A → Bool) (Q : A → Type 0) (xs : List A) → EachIs Q (filter test xs)
     → EachIs (λ x. test x ≡ true → Q x) xs
 of_filter test Q [] h = tt
-of_filter {A} test Q (x ∷ xs) h = let parts = by_test (test x) h in (parts.0, of_filter test Q xs parts.1)
-  where
-    by_test : (b : Bool) → EachIs Q (if b then x ∷ filter test xs else filter test xs)
-        → (b ≡ true → Q x) × EachIs Q (filter test xs)
-    by_test true all = ((λ e. all.0), all.1)
-    by_test false all = ((λ e. cc), all)
+of_filter test Q (x ∷ xs) h = grind (arith, of_filter test Q xs, h)
 
 -- of each pair of one of these and one of those
 pub each_pair : (P : ℕ → ℕ → Type 0) (ps qs : List ℕ) → EachIs (λ p. EachIs (λ q. P p q) qs) ps
@@ -75,6 +59,9 @@ each_pair P (p ∷ ps) qs h =
 pub each_of_pairs : (P : ℕ → ℕ → Type 0) (ps qs : List ℕ) → EachIs (λ pair. P pair.0 pair.1) (pairs_of ps qs)
     → EachIs (λ p. EachIs (λ q. P p q) qs) ps
 each_of_pairs P [] qs h = tt
-each_of_pairs P (p ∷ ps) qs h =
-    let parts = each_front (λ (pair : ℕ × ℕ). P pair.0 pair.1) (map (λ q. (p, q)) qs) (pairs_of ps qs) h in
-    (each_unmap (λ q. (p, q)) (λ (pair : ℕ × ℕ). P pair.0 pair.1) qs parts.0, each_of_pairs P ps qs parts.1)
+each_of_pairs P (p ∷ ps) qs h = let parts = row qs h in (parts.0, each_of_pairs P ps qs parts.1)
+  where
+    row : (xs : List ℕ) → EachIs (λ (pair : ℕ × ℕ). P pair.0 pair.1) (map (λ q. (p, q)) xs ++ pairs_of ps qs)
+        → EachIs (λ q. P p q) xs × EachIs (λ pair. P pair.0 pair.1) (pairs_of ps qs)
+    row [] h = (tt, h)
+    row (x ∷ xs) h = let rest = row xs h.1 in ((h.0, rest.0), rest.1)

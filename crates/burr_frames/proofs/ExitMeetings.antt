@@ -3,7 +3,7 @@
 use Rattle.std.proofs.Common.{◌≡◌, ℕ, ◌+◌, List, [], ◌++◌, length, drop, map, refl, sym, ap, subst, ◌∙◌, ℤ}
 use Rattle.std.specs.Prelude.{Option}
 use Rattle.arrayvec.specs.ArrayVec.{ArrayVec}
-use Rattle.std.proofs.lemmas.List.{length-map, length-append, map-append}
+use Rattle.std.proofs.lemmas.List.{length-map, length-append, map-append, drop_at}
 use Rattle.burr_code.specs.Places.{tray_of}
 use Rattle.burr_forms.specs.Rules.Forms.{Form, Point, value, values}
 use Rattle.burr_forms.specs.Rules.Points.{InBox}
@@ -12,7 +12,7 @@ use Rattle.burr_frames.specs.Rules.FramedPlans.{FramedExit}
 use Rattle.burr_frames.specs.Rules.States.{AbstractState, region_of}
 use Rattle.burr_frames.specs.Views.Comparing.{offset_forms, Target, IsMetAt, IsMetBy}
 use Rattle.burr_frames.specs.Rules.ControlRules.{MeetsExitAt}
-use Rattle.burr_frames.proofs.Agreement.{parts_met, drop_front, same_places, same_offsets, FirstFailure, failure_of_same, FailsAsHanded}
+use Rattle.burr_frames.proofs.Agreement.{parts_met, same_places, same_offsets, FirstFailure, failure_of_same, FailsAsHanded}
 
 -- the forms by which a state is compared, and the target that it is compared with: that of an exit
 -- frame over this many parameters
@@ -44,7 +44,7 @@ module _ (s : AbstractState) (exit : FramedExit) (parameters results : List Form
   results_last : (point : Point) → drop (length parameters) (at_symbols point) ≡ values point results
   results_last point =
       ap (drop (length parameters)) (map-append (value point) parameters results)
-      ∙ drop_front (values point parameters) (values point results) (length parameters) (length-map parameters (value point))
+      ∙ drop_at (values point parameters) (values point results) (length parameters) (length-map parameters (value point))
 
   parts : (point : Point)
       → IsMetBy target (values point asked) ≡ IsMetAt target (at_symbols point) [] (values point (offset_forms s.places))

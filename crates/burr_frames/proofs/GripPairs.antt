@@ -1,12 +1,13 @@
 -- The pairs of a grip: what is so of each of them, and the first that is not so.
-use Rattle.std.proofs.Common.{◌≡◌, ◌⊎◌, ℕ, zero, suc, ◌+◌, ◌<◌, ◌≤◌, List, [], ◌∷◌, ◌++◌, ◌∙◌, take, Bool, true, false, Option, Some, None, refl, sym, ap, subst, arith, inl, inr}
-use Rattle.std.specs.Prelude.{map, filter, not, if◌then◌else◌}
+use Rattle.std.proofs.Common.{◌≡◌, ◌⊎◌, ℕ, zero, suc, ◌+◌, ◌<◌, ◌≤◌, List, [], ◌∷◌, ◌++◌, ◌∙◌, take, Bool, true, Option, Some, None, refl, sym, ap, subst, arith, inl, inr}
+use Rattle.std.specs.Prelude.{map, filter, not}
+use Rattle.std.proofs.lemmas.Bool.{not-true}
 use Rattle.std.proofs.lemmas.Option.{none-some, same_Some, some_pair_parts}
 use Rattle.burr_text.specs.Checks.{needs}
 use Rattle.burr_code.specs.PieceSets.{IsInSet, is_left_out}
 use Rattle.burr_code.specs.declared.placement.Placement.{Placement}
 use Rattle.burr_code.specs.declared.placement.Placement.TheVariants.{On}
-use Rattle.burr_code.specs.Places.{LiesAt, is_in}
+use Rattle.burr_code.specs.Places.{LiesAt}
 use Rattle.burr_code.proofs.Common.PieceSets.{not_left_out, left_out, in_set, not_in_set}
 use Rattle.burr_container.specs.Rules.Plans.{FormCell}
 use Rattle.burr_frames.specs.Rules.Looks.{pieces_in, gripped_in, left_in, pairs_of, grip_pairs}
@@ -18,61 +19,44 @@ use Rattle.burr_frames.proofs.Each.{each_true, each_weaker, each_unmap, each_fil
 
 -- Each piece of a tray
 
-none_here : (k : ℕ) → k + 0 ≡ k
-none_here k = omega arith
-
-one_on : (k p : ℕ) → suc k + p ≡ k + suc p
-one_on k p = omega arith
-
-pub zero_first : (p : ℕ) → 0 + p ≡ p
-zero_first p = omega arith
-
--- of these pieces, and of piece k before them if it is in the tray
-abbrev FirstBy : (ℕ → Type 0) → ℕ → List ℕ → Bool → Type 0
-FirstBy Q k pieces here = EachIs Q (if here then k ∷ pieces else pieces)
-
 -- of the first n places, the first is that of piece k
-pub each_piece : (Q : ℕ → Type 0) (tray n k : ℕ) (places : List (Placement FormCell))
+each_from : (Q : ℕ → Type 0) (tray n k : ℕ) (places : List (Placement FormCell))
     → ((p : ℕ) (c : FormCell) → p < n → LiesAt places p tray c → Q (k + p)) → EachIs Q (pieces_in tray k (take n places))
-each_piece Q tray zero k places h = tt
-each_piece Q tray (suc n) k [] h = tt
-each_piece Q tray (suc n) k (place ∷ places) h =
-    by_place (in_tray tray place)
-    (each_piece Q tray n (suc k) places
-    (λ p c below lies. subst Q (sym (one_on k p)) (h (suc p) c (omega (arith, below)) lies)))
-  where
-    by_place : ((c : FormCell) × (place ≡ On tray c)) ⊎ (is_in tray place ≡ false)
-        → EachIs Q (pieces_in tray (suc k) (take n places))
-        → EachIs Q (pieces_in tray k (place ∷ take n places))
-    by_place (inl (c, e)) rest =
-        subst (FirstBy Q k (pieces_in tray (suc k) (take n places))) (sym (is_here tray place c e))
-        (subst Q (none_here k) (h 0 c (omega arith) (ap (λ (x : Placement FormCell). Some x) e)), rest)
-    by_place (inr e) rest = subst (FirstBy Q k (pieces_in tray (suc k) (take n places))) (sym e) rest
+each_from Q tray zero k places h = tt
+each_from Q tray (suc n) k [] h = tt
+each_from Q tray (suc n) k (place ∷ places) h =
+    let on : (p : ℕ) → k + suc p ≡ suc k + p = λ p. omega arith in
+    let none : k + 0 ≡ k = omega arith in
+    let rest = each_from Q tray n (suc k) places (λ p c below lies. subst Q (on p) (h (suc p) c (omega (arith, below)) lies)) in
+    elim (in_tray tray place) [
+      | inl (c, e) ↦ rw (is_here tray place c e) (subst Q none (h 0 c (omega arith) (ap (λ (x : Placement FormCell). Some x) e)), rest)
+      | inr e ↦ rw e rest
+    ]
 
-of_piece : (Q : ℕ → Type 0) (tray n k : ℕ) (places : List (Placement FormCell))
+of_from : (Q : ℕ → Type 0) (tray n k : ℕ) (places : List (Placement FormCell))
     → EachIs Q (pieces_in tray k (take n places)) → (p : ℕ) (c : FormCell) → p < n → LiesAt places p tray c → Q (k + p)
-of_piece Q tray zero k places all p c below lies = absurd (omega (arith, below))
-of_piece Q tray (suc n) k [] all p c below lies = absurd (none-some (On tray c) lies)
-of_piece Q tray (suc n) k (place ∷ places) all zero c below lies =
-    subst Q (sym (none_here k))
-    (subst (FirstBy Q k (pieces_in tray (suc k) (take n places))) (is_here tray place c (same_Some place (On tray c) lies)) all).0
-of_piece Q tray (suc n) k (place ∷ places) all (suc p) c below lies =
-    subst Q (one_on k p)
-    (of_piece Q tray n (suc k) places (by_test (is_in tray place) all) p c (omega (arith, below)) lies)
-  where
-    by_test : (here : Bool) → FirstBy Q k (pieces_in tray (suc k) (take n places)) here
-        → EachIs Q (pieces_in tray (suc k) (take n places))
-    by_test true each = each.1
-    by_test false each = each
+of_from Q tray zero k places all p c below lies = absurd (omega (arith, below))
+of_from Q tray (suc n) k [] all p c below lies = absurd (none-some (On tray c) lies)
+of_from Q tray (suc n) k (place ∷ places) all zero c below lies =
+    let none : k ≡ k + 0 = omega arith in
+    let here = rw (is_here tray place c (same_Some place (On tray c) lies)) at all in
+    subst Q none here.0
+of_from Q tray (suc n) k (place ∷ places) all (suc p) c below lies =
+    let on : suc k + p ≡ k + suc p = omega arith in
+    let rest : EachIs Q (pieces_in tray (suc k) (take n places)) = grind (arith, all) in
+    subst Q on (of_from Q tray n (suc k) places rest p c (omega (arith, below)) lies)
+
+module _ (Q : ℕ → Type 0) (tray n : ℕ) (places : List (Placement FormCell)) where
+  zero_first : (p : ℕ) → 0 + p ≡ p
+  zero_first p = omega arith
+
+  pub each_piece : ((p : ℕ) (c : FormCell) → p < n → LiesAt places p tray c → Q p) → EachIs Q (pieces_in tray 0 (take n places))
+  each_piece h = each_from Q tray n 0 places (λ p c below lies. subst Q (sym (zero_first p)) (h p c below lies))
+
+  of_piece : EachIs Q (pieces_in tray 0 (take n places)) → (p : ℕ) (c : FormCell) → p < n → LiesAt places p tray c → Q p
+  of_piece all p c below lies = subst Q (zero_first p) (of_from Q tray n 0 places all p c below lies)
 
 -- Each pair of a grip
-
-not_true : (b : Bool) → b ≡ false → not b ≡ true
-not_true b e = ap not e
-
-not_false : (b : Bool) → not b ≡ true → b ≡ false
-not_false true e = cc
-not_false false e = refl
 
 module _ (Q : ℕ → ℕ → Type 0) (tray grip n : ℕ) (places : List (Placement FormCell)) where
   -- what is so of each gripped piece of the first n, and each that is left
@@ -90,20 +74,12 @@ module _ (Q : ℕ → ℕ → Type 0) (tray grip n : ℕ) (places : List (Placem
   pub each_row : OfEach → EachIs (λ p. EachIs (λ q. Q p q) (left_in grip pieces)) (gripped_in grip pieces)
   each_row h =
       each_filter (λ p. not (is_left_out grip p)) (λ p. EachIs (λ q. Q p q) (left_in grip pieces)) pieces
-      (each_piece (λ p. not (is_left_out grip p) ≡ true → EachIs (λ q. Q p q) (left_in grip pieces)) tray n 0 places
+      (each_piece (λ p. not (is_left_out grip p) ≡ true → EachIs (λ q. Q p q) (left_in grip pieces)) tray n places
       (λ p c below lies gripped.
-      each_filter (is_left_out grip) (λ q. Q (0 + p) q) pieces
-      (each_piece (λ q. is_left_out grip q ≡ true → Q (0 + p) q) tray n 0 places
-      (λ q d below_q lies_q out. at p q c d below below_q lies lies_q gripped out))))
-    where
-      at : (p q : ℕ) (c d : FormCell) → p < n → q < n → LiesAt places p tray c → LiesAt places q tray d
-          → not (is_left_out grip (0 + p)) ≡ true → is_left_out grip (0 + q) ≡ true → Q (0 + p) (0 + q)
-      at p q c d below below_q lies lies_q gripped out =
-          subst (λ (k : ℕ). Q k (0 + q)) (sym (zero_first p))
-          (subst (Q p) (sym (zero_first q))
-          (h p q c d below below_q lies lies_q
-          (in_set grip p (not_false _ (subst (λ (k : ℕ). not (is_left_out grip k) ≡ true) (zero_first p) gripped)))
-          (not_in_set grip q (subst (λ (k : ℕ). is_left_out grip k ≡ true) (zero_first q) out))))
+      each_filter (is_left_out grip) (λ q. Q p q) pieces
+      (each_piece (λ q. is_left_out grip q ≡ true → Q p q) tray n places
+      (λ q d below_q lies_q out.
+      h p q c d below below_q lies lies_q (in_set grip p (not-true _ gripped)) (not_in_set grip q out)))))
 
   pub each_grip_pair : OfEach → EachPair
   each_grip_pair h = each_pair Q (gripped_in grip pieces) (left_in grip pieces) (each_row h)
@@ -111,15 +87,11 @@ module _ (Q : ℕ → ℕ → Type 0) (tray grip n : ℕ) (places : List (Placem
   -- from the rows of the gripped pieces
   pub of_rows : EachIs (λ p. EachIs (λ q. Q p q) (left_in grip pieces)) (gripped_in grip pieces) → OfEach
   of_rows rows p q c d below below_q lies lies_q gripped out =
-      let row = of_piece (λ k. not (is_left_out grip k) ≡ true → EachIs (λ j. Q k j) (left_in grip pieces)) tray n 0 places
+      let row = of_piece (λ k. not (is_left_out grip k) ≡ true → EachIs (λ j. Q k j) (left_in grip pieces)) tray n places
       (of_filter (λ k. not (is_left_out grip k)) (λ k. EachIs (λ j. Q k j) (left_in grip pieces)) pieces rows)
-      p c below lies in
-      let own = subst (λ (k : ℕ). not (is_left_out grip k) ≡ true → EachIs (λ j. Q k j) (left_in grip pieces))
-      (zero_first p) row (not_true _ (not_left_out grip p gripped)) in
-      subst (λ (k : ℕ). is_left_out grip k ≡ true → Q p k) (zero_first q)
-      (of_piece (λ j. is_left_out grip j ≡ true → Q p j) tray n 0 places
-      (of_filter (is_left_out grip) (λ j. Q p j) pieces own) q d below_q lies_q)
-      (left_out grip q out)
+      p c below lies (ap not (not_left_out grip p gripped)) in
+      of_piece (λ j. is_left_out grip j ≡ true → Q p j) tray n places
+      (of_filter (is_left_out grip) (λ j. Q p j) pieces row) q d below_q lies_q (left_out grip q out)
 
   pub of_grip_pair : EachPair → OfEach
   of_grip_pair all = of_rows (each_of_pairs Q (gripped_in grip pieces) (left_in grip pieces) all)
@@ -133,31 +105,22 @@ Rising k (x ∷ xs) = (k ≤ x) × Rising (suc x) xs
 
 rising_from : (k m : ℕ) (xs : List ℕ) → k ≤ m → Rising m xs → Rising k xs
 rising_from k m [] l h = tt
-rising_from k m (x ∷ xs) l h = let first = h.0 in (omega (arith, l, first), h.1)
+rising_from k m (x ∷ xs) l h = grind (arith, h)
 
 pub rising_pieces : (tray k : ℕ) (places : List (Placement FormCell)) → Rising k (pieces_in tray k places)
 rising_pieces tray k [] = tt
-rising_pieces tray k (place ∷ places) = by_test (is_in tray place) (rising_pieces tray (suc k) places)
-  where
-    by_test : (here : Bool) → Rising (suc k) (pieces_in tray (suc k) places)
-        → Rising k (if here then k ∷ pieces_in tray (suc k) places else pieces_in tray (suc k) places)
-    by_test true rest = (omega arith, rest)
-    by_test false rest = rising_from k (suc k) (pieces_in tray (suc k) places) (omega arith) rest
+rising_pieces tray k (place ∷ places) =
+    grind (arith, rising_pieces tray (suc k) places, rising_from k (suc k) (pieces_in tray (suc k) places))
 
 pub rising_filter : (test : ℕ → Bool) (k : ℕ) (xs : List ℕ) → Rising k xs → Rising k (filter test xs)
 rising_filter test k [] h = tt
-rising_filter test k (x ∷ xs) h = by_test (test x) (rising_filter test (suc x) xs h.1)
-  where
-    by_test : (b : Bool) → Rising (suc x) (filter test xs) → Rising k (if b then x ∷ filter test xs else filter test xs)
-    by_test true rest = (h.0, rest)
-    by_test false rest = let first = h.0 in rising_from k (suc x) (filter test xs) (omega (arith, first)) rest
+rising_filter test k (x ∷ xs) h =
+    grind (arith, rising_filter test (suc x) xs h.1, rising_from k (suc x) (filter test xs), h)
 
 each_above : (k : ℕ) (xs : List ℕ) → Rising k xs → EachIs (λ x. k ≤ x) xs
 each_above k [] h = tt
-each_above k (x ∷ xs) h = (
-  h.0,
-  each_weaker (λ y. suc x ≤ y) (λ y. k ≤ y) xs (λ y l. let first = h.0 in omega (arith, l, first)) (each_above (suc x) xs h.1),
-)
+each_above k (x ∷ xs) h =
+    (h.0, each_weaker (λ y. suc x ≤ y) (λ y. k ≤ y) xs (λ y l. grind (arith, l, h.0)) (each_above (suc x) xs h.1))
 
 -- The first pair that is not so
 
@@ -174,10 +137,7 @@ module _ (P : ℕ → ℕ → Type 0) where
       → FirstOf P xs (Some (p, q)) ⊎ (EachIs (λ pair. P pair.0 pair.1) xs × FirstOf P ys (Some (p, q)))
   in_either [] ys p q h = inr (tt, h)
   in_either (x ∷ xs) ys p q (inl h) = inl (inl h)
-  in_either (x ∷ xs) ys p q (inr h) = elim (in_either xs ys p q h.1) [
-    | inl first ↦ inl (inr (h.0, first))
-    | inr rest ↦ inr ((h.0, rest.0), rest.1)
-  ]
+  in_either (x ∷ xs) ys p q (inr h) = grind (arith, in_either xs ys p q h.1, h)
 
   -- the first of the pairs of one piece
   abbrev FirstInRow : ℕ → List ℕ → ℕ → ℕ → Type 0
@@ -185,16 +145,14 @@ module _ (P : ℕ → ℕ → Type 0) where
 
   first_in_row : (x k : ℕ) (qs : List ℕ) (p q : ℕ) → Rising k qs → FirstOf P (map (λ t. (x, t)) qs) (Some (p, q))
       → FirstInRow x qs p q
-  first_in_row x k [] p q rising h = absurd (none-some (p, q) (sym h))
+  first_in_row x k [] p q rising h = cc
   first_in_row x k (y ∷ ys) p q rising (inl (fails, e)) =
-      let same = some_pair_parts p x q y e in
-      let at_q = same.1 in (
+      let same = some_pair_parts p x q y e in (
         same.0,
-        subst (λ (t : ℕ). ¬ P x t) (sym same.1) fails,
+        grind (arith, fails, same),
         (
-          (λ l. absurd (omega (arith, l, at_q))),
-          each_weaker (λ t. suc y ≤ t) (λ t. t < q → P x t) ys (λ t above l. absurd (omega (arith, above, l, at_q)))
-              (each_above (suc y) ys rising.1),
+          grind (arith, same),
+          each_weaker (λ t. suc y ≤ t) (λ t. t < q → P x t) ys (λ t above l. grind (arith, above, same)) (each_above (suc y) ys rising.1),
         ),
       )
   first_in_row x k (y ∷ ys) p q rising (inr (is, rest)) =
@@ -207,41 +165,28 @@ module _ (P : ℕ → ℕ → Type 0) where
 
   pub first_in_rows : (j k : ℕ) (ps qs : List ℕ) (p q : ℕ) → Rising j ps → Rising k qs
       → FirstOf P (pairs_of ps qs) (Some (p, q)) → FirstInRows ps qs p q
-  first_in_rows j k [] qs p q rows row h = absurd (none-some (p, q) (sym h))
-  first_in_rows j k (x ∷ ps) qs p q rows row h =
-      by_row (in_either (map (λ t. (x, t)) qs) (pairs_of ps qs) p q h)
-      (first_in_rows (suc x) k ps qs p q rows.1 row)
-    where
-      not_later : p ≡ x → (r : ℕ) → suc x ≤ r → (t : ℕ) → Earlier r t p q → P r t
-      not_later e r above t (inl l) = absurd (omega (arith, e, above, l))
-      not_later e r above t (inr (same, l)) = absurd (omega (arith, e, above, same))
-
-      in_row : p ≡ x → (t : ℕ) → (t < q → P x t) → Earlier x t p q → P x t
-      in_row e t before (inl l) = absurd (omega (arith, e, l))
-      in_row e t before (inr (same, l)) = before l
-
-      by_row : FirstOf P (map (λ t. (x, t)) qs) (Some (p, q))
-          ⊎ (EachIs (λ (pair : ℕ × ℕ). P pair.0 pair.1) (map (λ (t : ℕ). (x, t)) qs) × FirstOf P (pairs_of ps qs) (Some (p, q)))
-          → (FirstOf P (pairs_of ps qs) (Some (p, q)) → FirstInRows ps qs p q) → FirstInRows (x ∷ ps) qs p q
-      by_row (inl first) later =
-          let own = first_in_row x k qs p q row first in (
-            subst (λ (r : ℕ). ¬ P r q) (sym own.0) own.1,
-            (
-              each_weaker (λ t. t < q → P x t) (λ t. Earlier x t p q → P x t) qs (in_row own.0) own.2,
-              each_weaker (λ r. suc x ≤ r) (λ r. EachIs (λ t. Earlier r t p q → P r t) qs) ps
-                  (λ r above. each_true (λ t. Earlier r t p q → P r t) qs (not_later own.0 r above))
-                  (each_above (suc x) ps rows.1),
-            ),
-          )
-      by_row (inr (all, rest)) later =
-          let after = later rest in (
-            after.0,
-            (
-              each_weaker (λ t. P x t) (λ t. Earlier x t p q → P x t) qs (λ t is earlier. is)
-                  (each_unmap (λ (t : ℕ). (x, t)) (λ (pair : ℕ × ℕ). P pair.0 pair.1) qs all),
-              after.1,
-            ),
-          )
+  first_in_rows j k [] qs p q rows row h = cc
+  first_in_rows j k (x ∷ ps) qs p q rows row h = elim (in_either (map (λ t. (x, t)) qs) (pairs_of ps qs) p q h) [
+    | inl first ↦
+        let own = first_in_row x k qs p q row first in (
+          subst (λ (r : ℕ). ¬ P r q) (sym own.0) own.1,
+          (
+            each_weaker (λ t. t < q → P x t) (λ t. Earlier x t p q → P x t) qs (λ t before earlier. grind (arith, before, earlier, own.0)) own.2,
+            each_weaker (λ r. suc x ≤ r) (λ r. EachIs (λ t. Earlier r t p q → P r t) qs) ps
+                (λ r above. each_true (λ t. Earlier r t p q → P r t) qs (λ t earlier. absurd (grind (arith, above, earlier, own.0))))
+                (each_above (suc x) ps rows.1),
+          ),
+        )
+    | inr (all, rest) ↦
+        let after = first_in_rows (suc x) k ps qs p q rows.1 row rest in (
+          after.0,
+          (
+            each_weaker (λ t. P x t) (λ t. Earlier x t p q → P x t) qs (λ t is earlier. is)
+                (each_unmap (λ (t : ℕ). (x, t)) (λ (pair : ℕ × ℕ). P pair.0 pair.1) qs all),
+            after.1,
+          ),
+        )
+  ]
 
 -- The pairs as a search is handed them
 

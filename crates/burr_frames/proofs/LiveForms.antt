@@ -4,6 +4,7 @@ use Rattle.std.specs.Prelude.{slice_get}
 use Rattle.std.proofs.lemmas.Option.{slice_get-get_or, none-some, same_Some}
 use Rattle.std.proofs.lemmas.List.{drop_all, append-nil}
 use Rattle.burr_code.specs.Labels.{with_first}
+use Rattle.burr_code.proofs.Common.Labels.{with_first_is}
 use Rattle.burr_forms.specs.Rules.Forms.{Form}
 use Rattle.burr_container.specs.Rules.Plans.{Range}
 use Rattle.burr_frames.specs.Rules.States.{live_ranges}
@@ -61,12 +62,6 @@ pub known_at : (v : ℕ) (known : List (Option Form)) → length known ≡ 8 →
 known_at v known eight l = (slice_index_or known v None, slice_get-get_or known v None (omega (arith, eight, l)))
 
 -- there is a form for each live slot
-one_more : (form : Option Form) (found : Option (List Form)) (forms : List Form) → with_first form found ≡ Some forms
-    → (first : Form) × (others : List Form) × (found ≡ Some others) × (forms ≡ first ∷ others)
-one_more None found forms e = absurd (none-some forms e)
-one_more (Some form) None forms e = absurd (none-some forms e)
-one_more (Some form) (Some others) forms e = (form, others, refl, sym (same_Some (form ∷ others) forms e))
-
 pub as_many_found : (slots : List (Option Range)) (known : List (Option Form)) (forms : List Form)
     → live_forms slots known ≡ Some forms → length forms ≡ length (live_ranges slots)
 as_many_found [] known forms e = ap (length {A = Form}) (sym (same_Some [] forms e))
@@ -74,5 +69,5 @@ as_many_found (None ∷ slots) [] forms e = as_many_found slots [] forms e
 as_many_found (None ∷ slots) (form ∷ known) forms e = as_many_found slots known forms e
 as_many_found (Some range ∷ slots) [] forms e = absurd (none-some forms e)
 as_many_found (Some range ∷ slots) (form ∷ known) forms e =
-    let more = one_more form (live_forms slots known) forms e in
-    ap (length {A = Form}) more.3 ∙ ap suc (as_many_found slots known more.1 more.2)
+    let more = with_first_is form (live_forms slots known) forms e in
+    sym (ap (length {A = Form}) more.4) ∙ ap suc (as_many_found slots known more.1 more.3)

@@ -1,6 +1,6 @@
 -- What the searches for a piece off the bench, and for a pair in each other's way, say of the
 -- verdict.
-use Rattle.std.proofs.Common.{◌≡◌, ◌∙◌, ℕ, ℤ, List, [], ◌∷◌, length, Option, Some, None, inl, inr, refl, sym, subst, ap}
+use Rattle.std.proofs.Common.{◌≡◌, ◌∙◌, ℕ, ℤ, List, [], ◌∷◌, length, Option, Some, None, inl, inr, refl, sym, subst, ap, arith}
 use Rattle.std.specs.Prelude.{All, take, min}
 use Rattle.std.proofs.lemmas.List.Elements.{All-nil, All-cons, All-head, All-tail}
 use Rattle.burr_voxels.specs.declared.cell.Cell.{Cell}
@@ -14,7 +14,9 @@ use Rattle.burr_forms.specs.Rules.Conditions.{Region, at_values, Throughout, Fai
 use Rattle.burr_container.specs.Rules.Plans.{FormCell}
 use Rattle.burr_frames.specs.declared.rule.Rule.{Rule}
 use Rattle.burr_frames.specs.declared.rule.Rule.TheVariants as rules
-use Rattle.burr_frames.specs.Views.Clearing.{TrayPair, IsPairClear, FirstPairOf, offsets_in}
+use Rattle.burr_frames.specs.declared.clearing.TrayPiece.{TrayPiece}
+use Rattle.burr_frames.specs.Rules.Looks.{pairs_of}
+use Rattle.burr_frames.specs.Views.Clearing.{TrayPair, IsPairClear, FirstPairOf, offsets_in, gripped_pieces, left_pieces}
 use Rattle.burr_frames.specs.Views.Moving.{break_of_pieces}
 use Rattle.burr_frames.specs.Rules.SpaceRules.{IsApartBy}
 use Rattle.burr_frames.specs.Views.Ranges.{AllInReach}
@@ -24,7 +26,7 @@ use Rattle.burr_frames.specs.Rules.Verdicts.{Broken, Verdict, Breaks, NoSuccesso
 use Rattle.burr_frames.proofs.BenchOffsets.{reach_of_on_bench, on_bench_of_reach}
 use Rattle.burr_frames.proofs.Comparisons.{near_in_range}
 use Rattle.burr_frames.proofs.Clearances.{first_none, all_good, all_clear, first_bad}
-use Rattle.burr_frames.proofs.GripPairs.{tray_pairs}
+use Rattle.burr_frames.proofs.GripPairs.{tray_pairs, pairs_are}
 use Rattle.burr_frames.proofs.TrayPairs.{homed_pairs, homed_places}
 
 -- On the bench
@@ -45,27 +47,22 @@ first_off_bench s places point first = record {
   before = λ q is before. on_bench_of_reach places s.tray q (first.before q is before);
 }
 
--- the same of the forms that the search is handed, of a state that is this one
-pub on_bench_of_forms : (s a : AbstractState) (places : List (Placement FormCell)) (forms : List Form) → a ≡ s → forms ≡ offsets_in a.tray places
-    → Everywhere s (λ point. AllInReach 256 (values point forms)) → Everywhere s (OnBenchAt places s.tray)
-on_bench_of_forms s a places forms same is all =
-    let are : forms ≡ offsets_in s.tray places = is ∙ ap (λ (b : AbstractState). offsets_in b.tray places) same in
-    on_bench_everywhere s places (subst (λ (fs : List Form). Everywhere s (λ (x : Point). AllInReach 256 (values x fs))) are all)
+-- the same of the forms that the search is handed
+pub on_bench_of_forms : (s : AbstractState) (forms : List Form) → forms ≡ offsets_in s.tray s.places
+    → Everywhere s (λ point. AllInReach 256 (values point forms)) → Everywhere s (OnBenchAt s.places s.tray)
+on_bench_of_forms s forms are all = on_bench_everywhere s s.places (rw are at all)
 
-pub off_bench_of_forms : (s a : AbstractState) (places : List (Placement FormCell)) (forms : List Form) (point : Point) → a ≡ s → forms ≡ offsets_in a.tray places
-    → IsFirstFailing s (λ x. AllInReach 256 (values x forms)) point → IsFirstFailing s (OnBenchAt places s.tray) point
-off_bench_of_forms s a places forms point same is first =
-    let are : forms ≡ offsets_in s.tray places = is ∙ ap (λ (b : AbstractState). offsets_in b.tray places) same in
-    first_off_bench s places point (subst (λ (fs : List Form). IsFirstFailing s (λ (x : Point). AllInReach 256 (values x fs)) point) are first)
+pub off_bench_of_forms : (s : AbstractState) (forms : List Form) (point : Point) → forms ≡ offsets_in s.tray s.places
+    → IsFirstFailing s (λ x. AllInReach 256 (values x forms)) point → IsFirstFailing s (OnBenchAt s.places s.tray) point
+off_bench_of_forms s forms point are first = first_off_bench s s.places point (rw are at first)
 
 -- the numbers of a point of a box are near
 pub near_inside : (ranges : List (ℤ × ℤ)) (point : Point) → AreRanges ranges → InBox ranges point → AllNear point
 near_inside [] [] are inside = All-nil IsNear
-near_inside [] (x ∷ point) are inside = absurd inside
-near_inside (range ∷ ranges) [] are inside = absurd inside
 near_inside (range ∷ ranges) (x ∷ point) are inside =
     All-cons IsNear x point (near_in_range range x (All-head IsRange range ranges are) inside.0)
     (near_inside ranges point (All-tail IsRange range ranges are) inside.1)
+near_inside ranges point are inside = absurd inside
 
 -- Pairs
 
@@ -83,16 +80,17 @@ search_of assembly s places = record {
   pairs = homed_pairs assembly s.tray s.grip places;
 }
 
-pub is_search : (assembly lent : Assembly) (s a : AbstractState) (places : List (Placement FormCell))
-    (many pieces : ℕ) (h : Searched) → h.region ≡ region_of a → h.forms ≡ offsets_in a.tray places
-    → h.pairs ≡ tray_pairs a.tray a.grip (take many places) → pieces ≡ length lent.pieces → lent ≡ assembly
-    → many ≡ min (length places) pieces → a ≡ s → h ≡ search_of assembly s places
-is_search assembly lent s a places many pieces h region forms pairs count same homed here =
-    (λ i. record { region = region i; forms = forms i; pairs = all i })
-    ∙ ap (λ (b : AbstractState). search_of assembly b places) here
-  where
-    all : h.pairs ≡ homed_pairs assembly a.tray a.grip places
-    all = pairs ∙ ap (tray_pairs a.tray a.grip) (homed_places assembly lent places many pieces count same homed)
+pub is_search : (assembly lent : Assembly) (s : AbstractState) (places : List (Placement FormCell)) (tray grip many pieces : ℕ) (r : Region)
+    (forms : List Form) (gripped left : List TrayPiece) → r ≡ region_of s → forms ≡ offsets_in tray places
+    → gripped ≡ gripped_pieces tray grip (take many places) → left ≡ left_pieces tray grip (take many places)
+    → pieces ≡ length lent.pieces → lent ≡ assembly → many ≡ min (length places) pieces
+    → tray ≡ s.tray → grip ≡ s.grip → places ≡ s.places
+    → ◌≡◌ {A = Searched} (record { region = r; forms = forms; pairs = pairs_of gripped left }) (search_of assembly s s.places)
+is_search assembly lent s places tray grip many pieces r forms gripped left region are first second count same homed t g here =
+    let pairs = pairs_are tray grip (take many places) gripped left first second
+    ∙ ap (tray_pairs tray grip) (homed_places assembly lent places many pieces count same homed) in
+    (λ i. record { region = region i; forms = are i; pairs = pairs i })
+    ∙ (λ i. record { region = region_of s; forms = offsets_in (t i) (here i); pairs = homed_pairs assembly (t i) (g i) (here i) })
 
 -- each pair of the search is clear at this point
 abbrev pub AllAreClear : Assembly → Query → Searched → Point → Type 0
@@ -141,21 +139,14 @@ module _ (assembly : Assembly) (s : AbstractState) (places : List (Placement For
 
 -- What follows
 
-no_successor-breaks : (b : Broken) → ¬ (Breaks b ≡ NoSuccessor)
-no_successor-breaks b e = cc
-
 -- nothing is broken, and what follows is said of the verdict
 pub clear_on : (s : AbstractState) (P : Point → Type 0) (Q : Point → ℕ → ℕ → Type 0) (first second : Rule) (rest : Rest) (v : Verdict)
     → everywhere s P first (everywhere_of_pairs s Q second no_successor) NoSuccessor → rest v
     → everywhere s P first (everywhere_of_pairs s Q second rest) v
-clear_on s P Q first second rest v (inl broken) h = absurd (no_successor-breaks _ (sym broken.2))
-clear_on s P Q first second rest v (inr (on, inl broken)) h = absurd (no_successor-breaks _ (sym broken.5))
-clear_on s P Q first second rest v (inr (on, inr clear)) h = inr (on, inr (clear.0, h))
+clear_on s P Q first second rest v clear h = grind (arith, clear, h)
 
 -- a rule is broken, whatever follows
 pub clear_breaks : (s : AbstractState) (P : Point → Type 0) (Q : Point → ℕ → ℕ → Type 0) (first second : Rule) (rest : Rest) (b : Broken)
     → everywhere s P first (everywhere_of_pairs s Q second no_successor) (Breaks b)
     → everywhere s P first (everywhere_of_pairs s Q second rest) (Breaks b)
-clear_breaks s P Q first second rest b (inl broken) = inl broken
-clear_breaks s P Q first second rest b (inr (on, inl broken)) = inr (on, inl broken)
-clear_breaks s P Q first second rest b (inr (on, inr clear)) = absurd (no_successor-breaks b clear.1)
+clear_breaks s P Q first second rest b breaks = grind (arith, breaks)

@@ -9,7 +9,7 @@ use Rattle.burr_container.proofs.Common.ListsRead.{drop_here}
 
 pub none_of : {A : Type 0} (o : Option A) → is_some o ≡ false → o ≡ None
 none_of None e = refl
-none_of (Some x) e = absurd (grind arith)
+none_of (Some x) e = cc
 
 pub some_of : {A : Type 0} (o : Option A) → is_some o ≡ true → (x : A) × (o ≡ Some x)
 some_of None e = absurd (grind arith)

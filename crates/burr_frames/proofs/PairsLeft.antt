@@ -31,15 +31,6 @@ Searches assembly query numbers all old new pieces =
     FirstPairOf assembly query numbers all pieces × (n : ℕ) × (n ≤ length all)
     × until_one_fails (IsPairClear assembly query numbers) all n × (new ≡ with_more n old)
 
-none_first : (n : ℕ) → n ≡ 0 + n
-none_first n = omega arith
-
-sum_moved : (a n : ℕ) → a + suc n ≡ (a + 1) + n
-sum_moved a n = omega arith
-
-sum_over : (a n m : ℕ) → a + (n + m) ≡ (a + n) + m
-sum_over a n m = omega arith
-
 module _ (assembly : Assembly) (query : Query) (numbers : List ℤ) where
   abbrev Clear : TrayPair → Type 0
   Clear = IsPairClear assembly query numbers
@@ -49,24 +40,9 @@ module _ (assembly : Assembly) (query : Query) (numbers : List ℤ) where
       → (n ≡ length row)
       × ((pieces : Option (ℕ × ℕ)) → FirstPairOf assembly query numbers left pieces → FirstPairOf assembly query numbers (row ++ left) pieces)
       × ((m : ℕ) → until_one_fails Clear left m → until_one_fails Clear (row ++ left) (n + m))
-  after_row [] left zero first made = (
-    refl,
-    (λ pieces rest. rest),
-    (λ m rest. subst (λ (k : ℕ). until_one_fails Clear left k) (none_first m) rest),
-  )
-  after_row [] left (suc n) first made = absurd made
-  after_row (pair ∷ row) left n (inl (fails, e)) made = absurd (none-some _ e)
-  after_row (pair ∷ row) left zero (inr (clear, first)) made = absurd made
-  after_row (pair ∷ row) left (suc n) (inr (clear, first)) (inl (fails, e)) = absurd (fails clear)
-  after_row (pair ∷ row) left (suc n) (inr (clear, first)) (inr (is, made)) =
-      let after = after_row row left n first made in (
-        ap suc after.0,
-        (λ pieces rest. inr (clear, after.1 pieces rest)),
-        (λ m rest. subst (λ (k : ℕ). until_one_fails Clear (pair ∷ (row ++ left)) k) (one_over n m) (inr (clear, after.2 m rest))),
-      )
-    where
-      one_over : (n m : ℕ) → suc (n + m) ≡ suc n + m
-      one_over n m = omega arith
+  after_row [] left zero first made = (refl, (λ pieces rest. rest), (λ m rest. grind (arith, rest)))
+  after_row (pair ∷ row) left (suc n) first made = grind (arith, first, made, after_row row left n)
+  after_row row left n first made = absurd made
 
   -- where one of a row is not, nothing after it counts
   in_row : (row left : List TrayPair) (n : ℕ) (pieces : ℕ × ℕ) → FirstPairOf assembly query numbers row (Some pieces)
@@ -74,11 +50,7 @@ module _ (assembly : Assembly) (query : Query) (numbers : List ℤ) where
       → FirstPairOf assembly query numbers (row ++ left) (Some pieces) × until_one_fails Clear (row ++ left) n
   in_row [] left n pieces first made = absurd (none-some pieces (sym first))
   in_row (pair ∷ row) left zero pieces first made = absurd made
-  in_row (pair ∷ row) left (suc n) pieces (inl first) (inl made) = (inl first, inl made)
-  in_row (pair ∷ row) left (suc n) pieces (inl (fails, e)) (inr (clear, made)) = absurd (fails clear)
-  in_row (pair ∷ row) left (suc n) pieces (inr (clear, first)) (inl (fails, e)) = absurd (fails clear)
-  in_row (pair ∷ row) left (suc n) pieces (inr (clear, first)) (inr (is, made)) =
-      let inside = in_row row left n pieces first made in (inr (clear, inside.0), inr (clear, inside.1))
+  in_row (pair ∷ row) left (suc n) pieces first made = grind (arith, first, made, in_row row left n pieces)
 
 module _ (assembly : Assembly) (query : Query) (numbers : List ℤ) (all : List TrayPair) where
   pub all_left : (looks : Counted) → PairsLeft assembly query numbers all all looks looks
@@ -86,7 +58,7 @@ module _ (assembly : Assembly) (query : Query) (numbers : List ℤ) (all : List 
     asked = 0;
     many = omega arith;
     found = λ pieces first. first;
-    looks = λ n made. subst (λ (m : ℕ). until_one_fails (IsPairClear assembly query numbers) all m) (none_first n) made;
+    looks = λ n made. grind (arith, made);
     counted = none_more looks;
   }
 
@@ -99,8 +71,7 @@ module _ (assembly : Assembly) (query : Query) (numbers : List ℤ) (all : List 
         asked = so_far.asked + 1;
         many = omega (arith, many);
         found = λ pieces first. so_far.found pieces (inr (clear, first));
-        looks = λ n made. subst (λ (m : ℕ). until_one_fails (IsPairClear assembly query numbers) all m)
-            (sum_moved so_far.asked n) (so_far.looks (suc n) (inr (clear, made)));
+        looks = λ n made. grind (arith, so_far.looks (suc n) (inr (clear, made)));
         counted = both_more old mid new so_far.asked 1 so_far.counted more;
       }
 
@@ -124,12 +95,9 @@ module _ (assembly : Assembly) (query : Query) (numbers : List ℤ) (all : List 
         so_far.found None refl,
         so_far.asked,
         omega (arith, many),
-        subst (λ (m : ℕ). until_one_fails (IsPairClear assembly query numbers) all m) (none_last so_far.asked) (so_far.looks 0 tt),
+        grind (arith, so_far.looks 0 tt),
         so_far.counted,
       )
-    where
-      none_last : (n : ℕ) → n + 0 ≡ n
-      none_last n = omega arith
 
   -- a row of them is clear
   pub row_clear : (row left : List TrayPair) (old mid new : Counted) → PairsLeft assembly query numbers all (row ++ left) old mid
@@ -142,8 +110,7 @@ module _ (assembly : Assembly) (query : Query) (numbers : List ℤ) (all : List 
         asked = so_far.asked + n;
         many = omega (arith, many, both, whole);
         found = λ pieces rest. so_far.found pieces (after.1 pieces rest);
-        looks = λ m rest. subst (λ (k : ℕ). until_one_fails (IsPairClear assembly query numbers) all k)
-            (sum_over so_far.asked n m) (so_far.looks (n + m) (after.2 m rest));
+        looks = λ m rest. grind (arith, so_far.looks (n + m) (after.2 m rest));
         counted = both_more old mid new so_far.asked n so_far.counted more;
       }
 

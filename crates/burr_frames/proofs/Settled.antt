@@ -1,5 +1,5 @@
 -- What forms show of all points of a region at once.
-use Rattle.std.proofs.Common.{◌≡◌, ◌↔◌, ◌∙◌, ℕ, zero, suc, ◌+◌, ◌-◌, ◌<◌, Bool, true, false, IsTrue, List, [], ◌∷◌, ◌++◌, length, take, drop, replicate, refl, sym, ap, subst, arith, inl, inr, slice_index_or, pos, ℤ, map}
+use Rattle.std.proofs.Common.{◌≡◌, ◌↔◌, ◌∙◌, ℕ, zero, suc, ◌+◌, ◌<◌, Bool, true, false, IsTrue, List, [], ◌∷◌, ◌++◌, length, take, drop, refl, sym, ap, subst, arith, inl, inr, slice_index_or, pos, ℤ, map}
 use Rattle.std.specs.Prelude.{◌&&◌, ◌≤ℤ◌, All}
 use Rattle.std.specs.Bool.{Decides}
 use Rattle.std.specs.Cmp.Lexicographic.{pointwise}
@@ -18,7 +18,7 @@ use Rattle.burr_forms.specs.Rules.Points.{InRange, InBox}
 use Rattle.burr_container.specs.Rules.Plans.{Range}
 use Rattle.burr_frames.specs.Views.Comparing.{Target, symbols_of, IsMetAt, IsMetBy, NoneBelow}
 use Rattle.burr_frames.specs.Views.Shown.{ShowsNotNegative, ShowsAbove, ShowsWithin, ShowsNoneBelow, ShowsMetBy}
-use Rattle.burr_frames.proofs.Common.FormValues.{value_number, value_minus, value_substituted, substituted_filled}
+use Rattle.burr_frames.proofs.Common.FormValues.{value_number, value_minus, value_substituted}
 
 -- forms are the same where `==` says so
 pub form_decides : (f g : Form) → Decides (int_eq f.constant g.constant && pointwise int_eq f.coefs g.coefs) (f ≡ g)
@@ -47,10 +47,9 @@ pair_at {A} {B} R xs ys k x d y e more is other each =
     subst (R x) (sym other) (subst (λ (a : A). R a (slice_index_or ys k e)) (sym is) (at xs ys k each more))
   where
     at : (xs : List A) (ys : List B) (k : ℕ) → AllZip R xs ys → k < length xs → R (slice_index_or xs k d) (slice_index_or ys k e)
-    at [] ys k each more = absurd (omega (arith, more))
-    at (x ∷ xs) [] k each more = absurd each
     at (x ∷ xs) (y ∷ ys) zero each more = each.0
     at (x ∷ xs) (y ∷ ys) (suc k) each more = at xs ys k each.1 (omega (arith, more))
+    at xs ys k each more = absurd (grind (arith, each, more))
 
 -- it holds of pair k, and of those before it
 pub pair_more : {A B : Type 0} (R : A → B → Type 0) (xs : List A) (ys : List B) (k : ℕ) (x d : A) (y e : B) → k < length xs
@@ -89,20 +88,18 @@ shown_within r f range shown point is =
 shown_in_box : (r : Region) (forms : List Form) (ranges : List Range) → AllZip (ShowsWithin r) forms ranges
     → Throughout r (λ point. InBox ranges (values point forms))
 shown_in_box r [] [] shown point is = tt
-shown_in_box r [] (range ∷ ranges) shown point is = absurd shown
-shown_in_box r (f ∷ forms) [] shown point is = absurd shown
 shown_in_box r (f ∷ forms) (range ∷ ranges) shown point is =
     (shown_within r f range shown.0 point is, shown_in_box r forms ranges shown.1 point is)
+shown_in_box r forms ranges shown point is = absurd shown
 
 shown_none_below : (r : Region) (arguments least upper : List Form) → ShowsNoneBelow r arguments least upper
     → Throughout r (λ point. NoneBelow (values (values point arguments) least) (values point upper))
 shown_none_below r arguments [] [] shown point is = tt
-shown_none_below r arguments (g ∷ least) [] shown point is = absurd shown
-shown_none_below r arguments [] (f ∷ upper) shown point is = absurd shown
 shown_none_below r arguments (g ∷ least) (f ∷ upper) shown point is = (
   subst (λ (n : ℤ). n ≤ℤ value point f) (value_substituted arguments g point) (shown_above r f (substituted arguments g) shown.0.1 point is),
   shown_none_below r arguments least upper shown.1 point is,
 )
+shown_none_below r arguments least upper shown point is = absurd shown
 
 values_substituted : (arguments forms : List Form) (point : Point)
     → values (values point arguments) forms ≡ values point (map (substituted arguments) forms)
@@ -157,10 +154,10 @@ PartsShown r t made ranged upper equal =
 pub met_by_parts : (r : Region) (t : Target) (forms symbols others ranged upper equal arguments : List Form) (shown : Bool)
     → symbols ≡ take (symbols_of t) forms → others ≡ drop (symbols_of t) forms → ranged ≡ drop t.free symbols
     → upper ≡ take (length t.least) others → equal ≡ drop (length t.least) others
-    → arguments ≡ symbols ++ replicate (8 - length symbols) (number (pos 0))
+    → substituted arguments ≡ substituted symbols
     → IsTrue shown ↔ PartsShown r t (substituted arguments) ranged upper equal → IsTrue shown ↔ ShowsMetBy r t forms
 met_by_parts r t forms symbols others ranged upper equal arguments shown first rest after above same filled tells =
-    let made = ap substituted filled ∙ substituted_filled symbols (8 - length symbols) ∙ ap substituted first in
+    let made = filled ∙ ap substituted first in
     let ranged_is = after ∙ ap (drop t.free) first in
     let upper_is = above ∙ ap (take (length t.least)) rest in
     let equal_is = same ∙ ap (drop (length t.least)) rest in

@@ -1,24 +1,23 @@
 -- Places whose forms are all small: one of them, more of them, and those after a group went aside.
-use Rattle.std.proofs.Common.{◌==◌, if◌then◌else◌, ℕ, zero, suc, ◌<◌, List, [], ◌∷◌, ◌++◌, length, slice_index_or, Some, None, Option, arith}
+use Rattle.std.proofs.Common.{◌==◌, ℕ, suc, ◌<◌, List, [], ◌∷◌, ◌++◌, length, slice_index_or, Some, None, Option, arith}
 use Rattle.std.proofs.lemmas.Bool.{cond_both}
-use Rattle.burr_code.specs.PieceSets.{is_left_out}
 use Rattle.burr_code.specs.declared.placement.Placement.{Placement}
 use Rattle.burr_code.specs.declared.placement.Placement.TheVariants.{Apart, On}
-use Rattle.burr_code.specs.Places.{changed, to_tray, is_in, count_in, parted_in, parted, aside_places}
+use Rattle.burr_code.specs.Places.{changed, to_tray, count_in, parted_in, parted, aside_places}
 use Rattle.burr_forms.specs.Rules.Forms.{Form}
 use Rattle.burr_container.specs.Rules.Plans.{FormCell}
 use Rattle.burr_container.specs.Views.Refs.{placement_view, IsSmallPlace}
 use Rattle.burr_frames.specs.Rules.SpaceRules.{AllSmallPlaces}
+use Rattle.burr_frames.specs.Rules.States.{AbstractState}
+use Rattle.burr_frames.specs.Views.StateViews.{IsSmallState}
 
 -- One and more
 
 pub small_place_at : (places : List (Placement FormCell)) (p : ℕ) (d : Placement FormCell) → AllSmallPlaces places
     → p < length places → AllSmallPlaces (slice_index_or places p d ∷ [])
-small_place_at [] p d s l = absurd (omega (arith, l))
-small_place_at (Apart ∷ places) zero d s l = tt
 small_place_at (Apart ∷ places) (suc p) d s l = small_place_at places p d s (omega (arith, l))
-small_place_at (On tray c ∷ places) zero d s l = (s.0, s.1, s.2, tt)
 small_place_at (On tray c ∷ places) (suc p) d s l = small_place_at places p d s.3 (omega (arith, l))
+small_place_at places p d s l = grind (arith, s, l)
 
 pub small_append : (xs ys : List (Placement FormCell)) → AllSmallPlaces xs → AllSmallPlaces ys → AllSmallPlaces (xs ++ ys)
 small_append [] ys s t = t
@@ -42,32 +41,16 @@ small_read (Some at) s = (s.0, s.1, s.2, tt)
 
 -- A group that went aside
 
-small_cons : (place other : Placement FormCell) (places others : List (Placement FormCell)) → AllSmallPlaces (place ∷ places)
-    → (AllSmallPlaces (place ∷ []) → AllSmallPlaces (other ∷ [])) → (AllSmallPlaces places → AllSmallPlaces others)
-    → AllSmallPlaces (other ∷ others)
-small_cons Apart Apart places others s first rest = rest s
-small_cons Apart (On t c) places others s first rest = let here = first tt in (here.0, here.1, here.2, rest s)
-small_cons (On t c) Apart places others s first rest = rest s.3
-small_cons (On t c) (On u d) places others s first rest = let here = first (s.0, s.1, s.2, tt) in (here.0, here.1, here.2, rest s.3)
-
-small_to_tray : (tray : ℕ) (place : Placement FormCell) → AllSmallPlaces (place ∷ []) → AllSmallPlaces (to_tray tray place ∷ [])
-small_to_tray tray Apart s = tt
-small_to_tray tray (On t c) s = s
-
 small_changed : (tray group p : ℕ) (places : List (Placement FormCell)) → AllSmallPlaces places
     → AllSmallPlaces (changed (to_tray tray) group p places)
 small_changed tray group p [] s = tt
-small_changed tray group p (place ∷ places) s =
-    small_cons place (if is_left_out group p then place else to_tray tray place) places (changed (to_tray tray) group (suc p) places) s
-    (λ one. cond_both (is_left_out group p) place (to_tray tray place) (λ x. AllSmallPlaces (x ∷ [])) (λ out. one) (λ bit. small_to_tray tray place one))
-    (small_changed tray group (suc p) places)
+small_changed tray group p (Apart ∷ places) s = grind (arith, small_changed tray group (suc p) places s)
+small_changed tray group p (On t c ∷ places) s = grind (arith, small_changed tray group (suc p) places s.3, s)
 
 small_parted_in : (t : ℕ) (places : List (Placement FormCell)) → AllSmallPlaces places → AllSmallPlaces (parted_in t places)
 small_parted_in t [] s = tt
-small_parted_in t (place ∷ places) s =
-    small_cons place (if is_in t place then Apart else place) places (parted_in t places) s
-    (λ one. cond_both (is_in t place) Apart place (λ x. AllSmallPlaces (x ∷ [])) (λ here. tt) (λ other. one))
-    (small_parted_in t places)
+small_parted_in t (Apart ∷ places) s = small_parted_in t places s
+small_parted_in t (On u c ∷ places) s = grind (arith, small_parted_in t places s.3, s)
 
 small_parted : (t : ℕ) (places : List (Placement FormCell)) → AllSmallPlaces places → AllSmallPlaces (parted t places)
 small_parted t places s =
@@ -78,3 +61,15 @@ pub small_aside : (group here there : ℕ) (places : List (Placement FormCell)) 
 small_aside group here there places s =
     let gone = changed (to_tray there) group 0 places in
     small_parted there (parted here gone) (small_parted here gone (small_changed there group 0 places s))
+
+-- a state with other places, its grip any
+pub small_with_places : (s : AbstractState) (places : List (Placement FormCell)) (grip : ℕ) → IsSmallState s → AllSmallPlaces places
+    → IsSmallState (record s { places = places; grip = grip })
+small_with_places s places grip was small = record {
+  ranges = was.ranges;
+  guards = was.guards;
+  slots = was.slots;
+  operands = was.operands;
+  places = small;
+  cost = was.cost;
+}

@@ -1,5 +1,5 @@
 -- The pieces of a tray can be asked about, and are not too many.
-use Rattle.std.proofs.Common.{◌≡◌, ◌≢◌, ◌∙◌, ℕ, ◌+◌, ◌<◌, ◌≤◌, List, [], Bool, true, length, take, sym, ap, subst, arith}
+use Rattle.std.proofs.Common.{◌≡◌, ◌≢◌, ◌∙◌, ℕ, ◌+◌, ◌<◌, ◌≤◌, List, [], Bool, true, length, take, ap, subst, arith}
 use Rattle.std.specs.Prelude.{All, map, filter, min, not}
 use Rattle.std.proofs.lemmas.List.{take_min, length-take, length-map}
 use Rattle.burr_code.specs.PieceSets.{IsInSet, is_left_out}
@@ -15,7 +15,7 @@ use Rattle.burr_frames.proofs.BenchOffsets.{stands_at}
 use Rattle.burr_frames.proofs.Common.Sizes.{parts-le}
 use Rattle.burr_frames.proofs.Common.Until.{EachIs}
 use Rattle.burr_frames.proofs.Each.{all_of_each, each_map, each_filter, each_weaker}
-use Rattle.burr_frames.proofs.GripPairs.{each_piece, each_row, tray_pairs, zero_first}
+use Rattle.burr_frames.proofs.GripPairs.{each_piece, each_row, tray_pairs}
 
 -- the pairs of the places of the pieces that have a home
 abbrev pub homed_pairs : Assembly → ℕ → ℕ → List (Placement FormCell) → List TrayPair
@@ -62,9 +62,8 @@ module _ (assembly : Assembly) (tray grip : ℕ) (places : List (Placement FormC
       all_of_each IsKnown (map (piece_in tray homed) (filter test pieces))
       (each_map (piece_in tray homed) IsKnown (filter test pieces)
       (each_filter test (λ p. IsKnown (piece_in tray homed p)) pieces
-      (each_piece (λ p. test p ≡ true → IsKnown (piece_in tray homed p)) tray (length (homes_of assembly)) 0 places
-      (λ p c below lies passes.
-      subst (λ (k : ℕ). IsKnown (piece_in tray homed k)) (sym (zero_first p)) (known p c below lies)))))
+      (each_piece (λ p. test p ≡ true → IsKnown (piece_in tray homed p)) tray (length (homes_of assembly)) places
+      (λ p c below lies passes. known p c below lies))))
 
   pub gripped_known : All IsKnown (gripped_pieces tray grip homed)
   gripped_known = some_known (λ p. not (is_left_out grip p))

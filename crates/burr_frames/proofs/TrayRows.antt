@@ -1,6 +1,6 @@
 -- The pieces of a tray one by one.
-use Rattle.std.proofs.Common.{◌≡◌, ◌∙◌, ℕ, suc, ◌+◌, ◌<◌, ◌≤◌, List, [], ◌∷◌, ◌++◌, length, take, drop, Bool, true, false, sym, ap, arith, append_assoc, slice_index_or, add-one}
-use Rattle.std.specs.Prelude.{not, if◌then◌else◌}
+use Rattle.std.proofs.Common.{◌≡◌, ◌∙◌, ℕ, ◌+◌, ◌<◌, ◌≤◌, List, [], ◌∷◌, ◌++◌, length, take, drop, Bool, true, false, sym, ap, arith, append_assoc, slice_index_or, add-one, refl}
+use Rattle.std.specs.Prelude.{if◌then◌else◌}
 use Rattle.std.proofs.lemmas.List.{drop_more, take_more, length-take, length-append}
 use Rattle.burr_code.specs.PieceSets.{IsInSet}
 use Rattle.burr_code.specs.declared.placement.Placement.{Placement}
@@ -13,24 +13,11 @@ use Rattle.burr_frames.specs.Views.Clearing.{piece_in, number_in}
 
 count-le : (tray : ℕ) (places : List (Placement FormCell)) → count_in tray places ≤ length places
 count-le tray [] = omega arith
-count-le tray (place ∷ places) = by_test (is_in tray place) (count-le tray places)
-  where
-    by_test : (here : Bool) → count_in tray places ≤ length places
-        → (if here then 1 else 0) + count_in tray places ≤ suc (length places)
-    by_test true rest = omega (arith, rest)
-    by_test false rest = omega (arith, rest)
+count-le tray (place ∷ places) = grind (arith, count-le tray places)
 
 count-append : (tray : ℕ) (xs ys : List (Placement FormCell)) → count_in tray (xs ++ ys) ≡ count_in tray xs + count_in tray ys
-count-append tray [] ys = none_first (count_in tray ys)
-  where
-    none_first : (n : ℕ) → n ≡ 0 + n
-    none_first n = omega arith
-count-append tray (x ∷ xs) ys =
-    ap (λ (n : ℕ). (if is_in tray x then 1 else 0) + n) (count-append tray xs ys)
-    ∙ sums (if is_in tray x then 1 else 0) (count_in tray xs) (count_in tray ys)
-  where
-    sums : (a b c : ℕ) → a + (b + c) ≡ (a + b) + c
-    sums a b c = omega arith
+count-append tray [] ys = omega arith
+count-append tray (x ∷ xs) ys = grind (arith, count-append tray xs ys)
 
 module _ (tray : ℕ) (places : List (Placement FormCell)) (k : ℕ) where
   pub number-le : length places ≤ 32 → number_in tray places k ≤ 32
@@ -107,20 +94,16 @@ module _ {S : Type 0} (F : List ℕ → List S) (tray k : ℕ) (places : List (P
 -- Of the gripped pieces, and of those that are left, one first
 
 pub left_first : (grip k : ℕ) (pieces : List ℕ) → (¬ IsInSet grip k) → left_in grip (k ∷ pieces) ≡ k ∷ left_in grip pieces
-left_first grip k pieces out =
-    ap (λ (b : Bool). if b then k ∷ left_in grip pieces else left_in grip pieces) (left_out grip k out)
+left_first grip k pieces out = rw (left_out grip k out) refl
 
 pub left_past : (grip k : ℕ) (pieces : List ℕ) → IsInSet grip k → left_in grip (k ∷ pieces) ≡ left_in grip pieces
-left_past grip k pieces bit =
-    ap (λ (b : Bool). if b then k ∷ left_in grip pieces else left_in grip pieces) (not_left_out grip k bit)
+left_past grip k pieces bit = rw (not_left_out grip k bit) refl
 
 pub gripped_first : (grip k : ℕ) (pieces : List ℕ) → IsInSet grip k → gripped_in grip (k ∷ pieces) ≡ k ∷ gripped_in grip pieces
-gripped_first grip k pieces bit =
-    ap (λ (b : Bool). if not b then k ∷ gripped_in grip pieces else gripped_in grip pieces) (not_left_out grip k bit)
+gripped_first grip k pieces bit = rw (not_left_out grip k bit) refl
 
 pub gripped_past : (grip k : ℕ) (pieces : List ℕ) → (¬ IsInSet grip k) → gripped_in grip (k ∷ pieces) ≡ gripped_in grip pieces
-gripped_past grip k pieces out =
-    ap (λ (b : Bool). if not b then k ∷ gripped_in grip pieces else gripped_in grip pieces) (left_out grip k out)
+gripped_past grip k pieces out = rw (left_out grip k out) refl
 
 -- a piece that is made so
 pub piece_is : (tray : ℕ) (places : List (Placement FormCell)) (p : ℕ) (piece : TrayPiece) → piece.piece ≡ p

@@ -56,11 +56,10 @@ alone a b e = omega (arith, ints)
 
 dot_more : (i : ℕ) (coefs : List ℤ) (point : Point) (d d' : ℤ) → i < length coefs → i < length point
     → dot coefs (take (suc i) point) ≡ (dot coefs (take i point) +ℤ (slice_index_or coefs i d *ℤ slice_index_or point i d'))
-dot_more i [] point d d' h h' = absurd (omega arith)
-dot_more i (c ∷ coefs) [] d d' h h' = absurd (omega arith)
 dot_more zero (c ∷ coefs) (x ∷ point) d d' h h' = alone (c *ℤ x) (dot coefs []) (dot_nothing coefs)
 dot_more (suc i) (c ∷ coefs) (x ∷ point) d d' h h' =
     regroup (c *ℤ x) _ (dot coefs (take i point)) _ (dot_more i coefs point d d' (omega arith) (omega arith))
+dot_more i coefs point d d' h h' = absurd (omega (arith, h, h'))
 
 value_more : (i : ℕ) (f : Form) (point : Point) (d d' : ℤ) → i < length f.coefs → i < length point
     → value (take (i + 1) point) f ≡ (value (take i point) f +ℤ (slice_index_or f.coefs i d *ℤ slice_index_or point i d'))

@@ -4,10 +4,9 @@
 //! - A `Rule` has a `number` of 1 to 28, and is printed as `V15`.
 //! - `State::of` is exactly what a frame says. `State::at_home` gives exactly the abstract state of
 //!   the start; it asks for at most 32 pieces.
-//! - The calls of the seventeen instructions are `push`, `load`, `store`, `add`, `sub`, `drop_top`,
-//!   `take_grip`, `turn_to`, `step`, `aside`, `halt`, `jump`, `down`, `ask`, `pick`, `call` and
-//!   `ret`. Each gives the verdict of its instruction's rule: the state after it, or the first
-//!   check that fails; `branch` gives the second state of `down`, at its label.
+//! - Each instruction has a call, as `push`, `sub` and `drop_top`, that gives the verdict of its rule:
+//!   the state after it, or the first check that fails; `branch` gives the second state of `down`, at
+//!   its label.
 //!   - What fails is a `Break`: the rule of the first check that fails, with the pieces and the
 //!     first point that it names. After it the state is as it was before.
 //!   - `load`, `store` and `down` ask for a slot, and `ask` for a range. `step` and `aside` ask for

@@ -8,13 +8,14 @@ ghost use Rattle.burr_voxels.specs.declared.cell.Cell.{Cell as CellOf};
 ghost use Rattle.burr_code.specs.declared.limits.TheConstants.{MOST_OPERANDS, MOST_PIECES};
 ghost use Rattle.burr_code.specs.declared.placement.Placement.TheVariants.{On};
 ghost use Rattle.burr_forms.specs.Rules.Forms.{IsSmallForm, symbol as symbol_of, AllSmallForms, value, values};
+ghost use Rattle.burr_forms.specs.Rules.Conditions.{region};
 ghost use Rattle.burr_forms.specs.Rules.Points.{AreRanges};
 ghost use Rattle.burr_container.specs.Rules.Plans.{live_slots, over_symbols, place_over_symbols};
 ghost use Rattle.burr_container.specs.Views.Refs.{frame_of};
 ghost use Rattle.burr_frames.specs.Rules.SpaceRules.{AllSmallPlaces};
 ghost use Rattle.burr_frames.specs.Rules.Starts.{start_state, home_position};
 ghost use Rattle.burr_frames.specs.Rules.FramedPlans.{framed};
-ghost use Rattle.burr_frames.specs.Rules.States.{state_of, live_ranges, numbered};
+ghost use Rattle.burr_frames.specs.Rules.States.{state_of, live_ranges, numbered, region_of};
 ghost use Rattle.burr_frames.specs.Views.StateViews.{IsSmallSlot};
 ghost use Rattle.burr_frames.specs.Views.Changes.{at_cost, with_operand, without_top, with_form, with_grip, in_tray};
 ghost use Rattle.burr_frames.specs.Rules.ControlRules.{guarded};
@@ -396,15 +397,23 @@ impl State {
 
 // Conditions at every point of a state, and what a step costs.
 impl State {
+    /// The state's points.
+    pub(super) fn region(&self) -> Region<'_>
+        ensures points { region result.ranges.now result.guards.now ≡ region_of self.now }
+        ensures few { length result.guards.now ≤ 8 }
+    {
+        Region {
+            ranges: self.ranges.as_slice(),
+            guards: self.guards.as_slice(),
+        }
+    }
+
     /// That a form is negative at no point; else the rule is broken at the first where it is.
     pub(super) fn never_negative(&self, form: &Form, rule: Rule) -> Result<(), Break>
         requires { IsSmallForm form.now }
         ensures { HoldsOrBreaks self.now (λ point. pos 0 ≤ℤ value point form.now) rule result }
     {
-        let here = Region {
-            ranges: self.ranges.as_slice(),
-            guards: self.guards.as_slice(),
-        };
+        let here = self.region();
         if here.shows_not_negative(form) {
             return Ok(());
         }
@@ -424,12 +433,12 @@ impl State {
         ensures { HoldsOrBreaks self.now (λ point. AllInReach reach (values point forms.now))
             rule result }
     {
-        let ranges = self.ranges.as_slice();
-        if lie_within(ranges, forms, reach) {
+        let here = self.region();
+        if lie_within(here.ranges, forms, reach) {
             return Ok(());
         }
         let condition = Within { forms, reach };
-        match first_failing(ranges, self.guards.as_slice(), &condition) {
+        match first_failing(here.ranges, here.guards, &condition) {
             None => Ok(()),
             Some(point) => Err(Break::at(rule, point)),
         }

@@ -47,11 +47,6 @@ at_points s {P} {rule} each f =
       cause = λ v failed. (_, failed.2);
     }) f
 
-same_pair : (rule : Rule) (x y : Point) (p q r t : ℕ) → x ≡ y → p ≡ r → q ≡ t → at_pair rule x p q ≡ at_pair rule y r t
-same_pair rule x y p q r t e f g =
-    ap (λ (point : Point). at_pair rule point p q) e ∙ ap (λ (k : ℕ). at_pair rule y k q) f
-    ∙ ap (λ (k : ℕ). at_pair rule y r k) g
-
 -- one of pairs fails so
 abbrev FailsOfPairs : AbstractState → (Point → ℕ → ℕ → Type 0) → Rule → Verdict → Type 0
 FailsOfPairs s P rule v =
@@ -63,24 +58,20 @@ one_of_pairs s P rule x y p q =
     let same : p.0 ≡ q.0 = one_first_point s (λ x. (r t : ℕ) → P x r t) p.0 q.0 p.3 q.3 in
     let first = subst (λ (point : Point). IsFirstPair (P point) p.1 p.2) same p.4 in
     let pair = one_first_pair (P q.0) p.1 p.2 q.1 q.2 first q.4 in
-    p.5 ∙ same_pair rule p.0 q.0 p.1 p.2 q.1 q.2 same pair.0 pair.1 ∙ sym q.5
+    p.5 ∙ (λ i. at_pair rule (same i) (pair.0 i) (pair.1 i)) ∙ sym q.5
 
 decide_of_pairs : (s : AbstractState) (P : Point → ℕ → ℕ → Type 0) (rule : Rule) → ((point : Point) → FirstPair (P point))
     → HasOne (FailsOfPairs s P rule) ⊎ Everywhere s (λ x. (r t : ℕ) → P x r t)
-decide_of_pairs s P rule each = by_search (first_failing s (λ x. (r t : ℕ) → P x r t) (λ x. all_pairs x (each x)))
+decide_of_pairs s P rule each = elim (first_failing s (λ x. (r t : ℕ) → P x r t) some_pair) [
+  | inl (point, first) ↦ inl (elim (each point) [
+    | inl (p, q, pair) ↦ (at_pair rule point p q, (point, p, q, first, pair, refl))
+    | inr all ↦ absurd (first.fails all)
+  ])
+  | inr all ↦ inr all
+]
   where
-    all_pairs : (x : Point) → FirstPair (P x) → Decided ((r t : ℕ) → P x r t)
-    all_pairs x (inl found) = inr (λ all. found.2.0 (all found.0 found.1))
-    all_pairs x (inr all) = inl all
-
-    by_pair : (x : Point) → IsFirstFailing s (λ x. (r t : ℕ) → P x r t) x → FirstPair (P x) → HasOne (FailsOfPairs s P rule)
-    by_pair x first (inl found) = (at_pair rule x found.0 found.1, (x, found.0, found.1, first, found.2, refl))
-    by_pair x first (inr all) = absurd (first.fails all)
-
-    by_search : ((point : Point) × IsFirstFailing s (λ x. (r t : ℕ) → P x r t) point) ⊎ Everywhere s (λ x. (r t : ℕ) → P x r t)
-        → HasOne (FailsOfPairs s P rule) ⊎ Everywhere s (λ x. (r t : ℕ) → P x r t)
-    by_search (inl found) = inl (by_pair found.0 found.1 (each found.0))
-    by_search (inr all) = inr all
+    some_pair : (x : Point) → Decided ((r t : ℕ) → P x r t)
+    some_pair x = elim (each x) [ inl found ↦ inr (λ all. found.2.0 (all found.0 found.1)) | inr all ↦ inl all ]
 
 of_pairs : {Ends : Verdict → Type 0} (s : AbstractState) {P : Point → ℕ → ℕ → Type 0} {rule : Rule} {rest : Rest}
     → ((point : Point) → FirstPair (P point)) → IsBuilt Breaks Ends rest

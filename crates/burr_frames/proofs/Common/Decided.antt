@@ -20,42 +20,28 @@ use Rattle.burr_frames.specs.Rules.States.{AbstractState, IsPoint, Everywhere, c
 use Rattle.burr_frames.specs.Rules.Arrival.{live_forms, IsAlike, Agrees, Meets}
 use Rattle.burr_frames.specs.Rules.SpaceRules.{OnBenchAt, PairAt, AllSmallPlaces}
 use Rattle.burr_frames.specs.Rules.ControlRules.{HasRoomForSymbols}
-use Rattle.burr_code.proofs.Common.Conditions.{decided_implies, decide_all_numbers, decide_of_the_one, decide_found, one_in_list, decide_lies, one_position, lies_within, apart-on, same_tray, same_position}
+use Rattle.burr_code.proofs.Common.Conditions.{decided_implies, decide_all_numbers, decide_of_the_one, decide_found, one_in_list, decide_lies, one_position, lies_within}
 use Rattle.burr_voxels.proofs.Common.Decided.{decide_same_cell}
 use Rattle.burr_frames.proofs.Common.Search.{decide_in_box, decide_guards, first_failing}
 
 -- Equal values
 
-pub no_first : {A : Type 0} (x : A) (xs : List A) → ¬ ([] ≡ x ∷ xs)
-no_first x xs e = cc
-
-pub same_head : {A : Type 0} (x y : A) (xs ys : List A) → x ∷ xs ≡ y ∷ ys → x ≡ y
-same_head x y xs ys e = cc
-
-pub same_tail : {A : Type 0} (x y : A) (xs ys : List A) → x ∷ xs ≡ y ∷ ys → xs ≡ ys
-same_tail x y xs ys e = cc
-
 pub decide_same_list : {A : Type 0} → ((a b : A) → Decided (a ≡ b)) → (xs ys : List A) → Decided (xs ≡ ys)
 decide_same_list each [] [] = inl refl
-decide_same_list each [] (y ∷ ys) = inr (no_first y ys)
-decide_same_list each (x ∷ xs) [] = inr (λ e. no_first x xs (sym e))
-decide_same_list {A = A} each (x ∷ xs) (y ∷ ys) =
-    decided_like (λ both. ap (λ (z : A). z ∷ xs) both.0 ∙ ap (λ (zs : List A). y ∷ zs) both.1)
-    (λ e. (same_head x y xs ys e, same_tail x y xs ys e)) (decided_and (each x y) (decide_same_list each xs ys))
+decide_same_list each (x ∷ xs) (y ∷ ys) =
+    decided_like (λ both. cc) (λ e. (cc, cc)) (decided_and (each x y) (decide_same_list each xs ys))
+decide_same_list each xs ys = inr (λ e. cc)
 
 pub decide_same_option : {A : Type 0} → ((a b : A) → Decided (a ≡ b)) → (o p : Option A) → Decided (o ≡ p)
 decide_same_option each None None = inl refl
-decide_same_option each None (Some y) = inr (λ e. none-some y e)
-decide_same_option each (Some x) None = inr (λ e. none-some x (sym e))
-decide_same_option each (Some x) (Some y) = decided_like (λ e. ap Some e) (λ e. same_Some x y e) (each x y)
+decide_same_option each (Some x) (Some y) = decided_like (λ e. ap Some e) (λ e. cc) (each x y)
+decide_same_option each o p = inr (λ e. cc)
 
 pub decide_same_place : (a b : Placement Cell) → Decided (a ≡ b)
 decide_same_place Apart Apart = inl refl
-decide_same_place Apart (On t x) = inr (apart-on t x)
-decide_same_place (On t x) Apart = inr (λ e. apart-on t x (sym e))
 decide_same_place (On t x) (On u y) =
-    decided_like (λ both. ap (λ (v : ℕ). On v x) both.0 ∙ ap (λ (z : Cell). On u z) both.1)
-    (λ e. (same_tray t u x y e, same_position t u x y e)) (decided_and (decide_same t u) (decide_same_cell x y))
+    decided_like (λ both. cc) (λ e. (cc, cc)) (decided_and (decide_same t u) (decide_same_cell x y))
+decide_same_place a b = inr (λ e. cc)
 
 pub decide_same_trays : (xs ys : List (Option ℕ)) → Decided (xs ≡ ys)
 decide_same_trays xs ys = decide_same_list (decide_same_option decide_same) xs ys
@@ -81,11 +67,9 @@ pub decide_small_forms : (forms : List Form) → Decided (AllSmallForms forms)
 decide_small_forms forms = decide_all IsSmallForm decide_small_form forms
 
 decided_and_four : {P Q R S : Type 0} → Decided P → Decided Q → Decided R → Decided S → Decided (P × Q × R × S)
-decided_and_four (inl p) (inl q) (inl r) (inl s) = inl (p, q, r, s)
-decided_and_four (inl p) (inl q) (inl r) (inr h) = inr (λ all. h all.3)
-decided_and_four (inl p) (inl q) (inr h) d = inr (λ all. h all.2)
-decided_and_four (inl p) (inr h) d e = inr (λ all. h all.1)
-decided_and_four (inr h) d e f = inr (λ all. h all.0)
+decided_and_four p q r s =
+    decided_like (λ all. (all.0, all.1.0, all.1.1, all.1.2)) (λ all. (all.0, (all.1, all.2, all.3)))
+    (decided_and p (decided_and_three q r s))
 
 pub decide_small_places : (places : List (Placement FormCell)) → Decided (AllSmallPlaces places)
 decide_small_places [] = inl tt
@@ -121,11 +105,7 @@ decide_on_bench places tray point =
     decide_all_numbers (λ p. (c : FormCell) → LiesAt places p tray c → IsWithin 256 (cell_at point c))
     (λ p. decide_of_the_one (LiesAt places p tray) (λ c. IsWithin 256 (cell_at point c)) (one_position places p tray)
     (decide_lies places p tray) (λ c. decide_within 256 (cell_at point c)))
-    (length places) (λ p far c lies. absurd (past places p tray c far lies))
-  where
-    past : (places : List (Placement FormCell)) (p tray : ℕ) (c : FormCell) → length places ≤ p
-        → ¬ LiesAt places p tray c
-    past places p tray c far lies = let near = lies_within places p tray (c, lies) in omega arith
+    (length places) (λ p far c lies. let near = lies_within places p tray (c, lies) in absurd (omega (arith, far, near)))
 
 -- the same condition on a pair, its parts in another order
 abbrev PairInOrder : (List Cell → List Cell → Type 0) → List (List Cell) → List (Placement FormCell)
@@ -206,24 +186,14 @@ decide_everywhere s P each =
 pub decide_meets : (s : AbstractState) (f : Frame) → Decided (Meets s f)
 decide_meets s f = by_forms (live_forms f.slots s.slots) refl
   where
-    met : (forms : List Form) → live_forms f.slots s.slots ≡ Some forms
-        → IsAlike s (state_of f) × Everywhere s (λ point. Agrees s point (state_of f) (values point forms))
-        → Meets s f
-    met forms known both = record { forms = forms; known = known; alike = both.0; agrees = both.1 }
-
-    back : (forms : List Form) → live_forms f.slots s.slots ≡ Some forms → Meets s f
-        → IsAlike s (state_of f) × Everywhere s (λ point. Agrees s point (state_of f) (values point forms))
-    back forms known m =
-        let same : m.forms ≡ forms = same_Some m.forms forms (sym m.known ∙ known) in (
-          m.alike,
-          subst (λ (fs : List Form). Everywhere s (λ point. Agrees s point (state_of f) (values point fs)))
-              same m.agrees,
-        )
+    AgreeBy : List Form → Type 0
+    AgreeBy forms = Everywhere s (λ point. Agrees s point (state_of f) (values point forms))
 
     by_forms : (found : Option (List Form)) → live_forms f.slots s.slots ≡ found → Decided (Meets s f)
     by_forms None none = inr (λ (m : Meets s f). none-some m.forms (sym none ∙ m.known))
     by_forms (Some forms) known =
-        decided_like (met forms known) (back forms known)
+        decided_like (λ both. record { forms = forms; known = known; alike = both.0; agrees = both.1 })
+        (λ (m : Meets s f). (m.alike, subst AgreeBy (same_Some m.forms forms (sym m.known ∙ known)) m.agrees))
         (decided_and (decide_alike s (state_of f))
         (decide_everywhere s (λ point. Agrees s point (state_of f) (values point forms))
         (λ point. decide_agrees s point (state_of f) (values point forms))))

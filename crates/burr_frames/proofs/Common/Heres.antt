@@ -5,6 +5,7 @@ use Rattle.std.specs.Prelude.{slice_get, option_map}
 use Rattle.std.proofs.lemmas.Option.{slice_get-map, slice_get_within, none-some, same_Some}
 use Rattle.std.proofs.lemmas.List.{length-map}
 use Rattle.burr_code.specs.Labels.{labelled, with_first}
+use Rattle.burr_code.proofs.Common.Labels.{with_first_is}
 use Rattle.burr_container.specs.declared.procedure_ref.ProcedureRef.{ProcedureRef}
 use Rattle.burr_container.specs.Rules.Plans.{Plan, PlanProcedure, Frame}
 use Rattle.burr_container.specs.Views.Containers.{ContainerView, IsContainer}
@@ -71,40 +72,34 @@ parameters_read r count reads = λ p here is at.
 
 -- Labels, where all are there
 
-parts : {A : Type 0} (first : Option A) (more : Option (List A)) (to : List A) → with_first first more ≡ Some to
-    → (x : A) × (xs : List A) × (first ≡ Some x) × (more ≡ Some xs) × (to ≡ x ∷ xs)
-parts None more to e = absurd (none-some _ e)
-parts (Some x) None to e = absurd (none-some _ e)
-parts (Some x) (Some xs) to e = (x, xs, refl, refl, sym (same_Some _ _ e))
-
 -- as many stand there as there are labels
 pub as_many_labelled : {A : Type 0} (all : List A) (labels : List ℕ) (to : List A) → labelled all labels ≡ Some to
     → length to ≡ length labels
 as_many_labelled all [] to e = sym (ap length (same_Some _ _ e))
 as_many_labelled all (label ∷ labels) to e =
-    let p = parts (slice_get all label) (labelled all labels) to e in
-    ap length p.4 ∙ ap suc (as_many_labelled all labels p.1 p.3)
+    let p = with_first_is (slice_get all label) (labelled all labels) to e in
+    sym (ap length p.4) ∙ ap suc (as_many_labelled all labels p.1 p.3)
 
 -- what stands at one label is one of all
 pub labelled_at : {A : Type 0} (all : List A) (labels : List ℕ) (to : List A) (k label : ℕ) (x : A) → labelled all labels ≡ Some to
     → slice_get labels k ≡ Some label → slice_get all label ≡ Some x → slice_get to k ≡ Some x
 labelled_at all [] to k label x e at found = absurd (none-some _ at)
 labelled_at all (first ∷ labels) to zero label x e at found =
-    let p = parts (slice_get all first) (labelled all labels) to e in
-    ap (λ xs. slice_get xs 0) p.4 ∙ sym p.2 ∙ ap (slice_get all) (same_Some _ _ at) ∙ found
+    let p = with_first_is (slice_get all first) (labelled all labels) to e in
+    ap (λ xs. slice_get xs 0) (sym p.4) ∙ sym p.2 ∙ ap (slice_get all) (same_Some _ _ at) ∙ found
 labelled_at all (first ∷ labels) to (suc k) label x e at found =
-    let p = parts (slice_get all first) (labelled all labels) to e in
-    ap (λ xs. slice_get xs (suc k)) p.4 ∙ labelled_at all labels p.1 k label x p.3 at found
+    let p = with_first_is (slice_get all first) (labelled all labels) to e in
+    ap (λ xs. slice_get xs (suc k)) (sym p.4) ∙ labelled_at all labels p.1 k label x p.3 at found
 
 -- each label is there
 pub one_of_labelled : {A : Type 0} (all : List A) (labels : List ℕ) (k label : ℕ) → IsSomeOf (labelled all labels)
     → slice_get labels k ≡ Some label → label < length all
 one_of_labelled all [] k label to e = absurd (none-some _ e)
 one_of_labelled all (first ∷ labels) zero label to e =
-    let p = parts (slice_get all first) (labelled all labels) to.0 to.1 in
+    let p = with_first_is (slice_get all first) (labelled all labels) to.0 to.1 in
     subst (λ n. n < length all) (same_Some _ _ e) (slice_get_within all first p.0 p.2)
 one_of_labelled all (first ∷ labels) (suc k) label to e =
-    let p = parts (slice_get all first) (labelled all labels) to.0 to.1 in
+    let p = with_first_is (slice_get all first) (labelled all labels) to.0 to.1 in
     one_of_labelled all labels k label (p.1, p.3) e
 
 -- all labels are there where each is

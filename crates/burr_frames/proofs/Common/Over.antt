@@ -1,6 +1,6 @@
 -- For crates above too: what is made of forms over the first symbols is over them.
-use Rattle.std.proofs.Common.{◌≡◌, ℕ, zero, suc, ◌+◌, ◌-◌, ◌^◌, ◌≤◌, List, [], ◌∷◌, ◌++◌, length, Option, Some, None, Bool, true, false, refl, subst, ap, ◌∙◌, arith}
-use Rattle.std.specs.Prelude.{ℤ, pos, neg_ℤ, ◌+ℤ◌, ◌*ℤ◌, map, take, drop, reverse, replicate, set, get_or, nat_le, if◌then◌else◌, ◌==◌, bit_and}
+use Rattle.std.proofs.Common.{◌≡◌, ℕ, zero, suc, ◌+◌, ◌-◌, ◌≤◌, List, [], ◌∷◌, ◌++◌, length, Option, Some, None, refl, subst, ap, ◌∙◌, arith}
+use Rattle.std.specs.Prelude.{ℤ, pos, neg_ℤ, ◌+ℤ◌, ◌*ℤ◌, map, take, drop, reverse, replicate, set, get_or}
 use Rattle.std.proofs.lemmas.Int.{ints}
 use Rattle.std.proofs.lemmas.Option.{none-some, same_Some}
 use Rattle.std.proofs.Math.IntN.{*ℤ-zero}
@@ -8,8 +8,8 @@ use mathlib.Core.List.{reverse_aux}
 use Rattle.burr_voxels.specs.declared.direction.Direction.{Direction}
 use Rattle.burr_code.specs.declared.placement.Placement.{Placement}
 use Rattle.burr_code.specs.declared.placement.Placement.TheVariants.{Apart, On}
-use Rattle.burr_code.specs.Places.{at_position, changed, to_tray, is_in, count_in, parted, parted_in, aside_places}
-use Rattle.burr_code.specs.Stacks.{top, top_two, top_many, split_at}
+use Rattle.burr_code.specs.Places.{at_position, changed, to_tray, parted, parted_in, aside_places}
+use Rattle.burr_code.specs.Stacks.{top, top_two, top_many}
 use Rattle.burr_code.specs.Labels.{argument_slots}
 use Rattle.burr_code.proofs.Common.Labels.{with_first_is}
 use Rattle.burr_forms.specs.Rules.Forms.{Form, number, symbol, sum_of, plus_form, times, minus_form, combined, substituted}
@@ -130,14 +130,7 @@ over_reverse n (f ∷ fs) onto h k = over_reverse n fs (f ∷ onto) h.1 (h.0, k)
 
 split_over : (n k : ℕ) (fs : List Form) (x : List Form × List Form) → AllOver n fs
     → top_many k fs ≡ Some x → AllOver n x.0 × AllOver n x.1
-split_over n k fs x h = by_test (nat_le k (length fs))
-  where
-    by_test : (c : Bool) → (if c then Some (split_at k fs) else None) ≡ Some x → AllOver n x.0
-        × AllOver n x.1
-    by_test true e =
-        subst (λ (p : List Form × List Form). AllOver n p.0 × AllOver n p.1) (same_Some _ _ e)
-        (over_take n k fs h, over_drop n k fs h)
-    by_test false e = absurd (none-some _ e)
+split_over n k fs x h e = grind (arith, e, over_take n k fs h, over_drop n k fs h)
 
 pub top_over : (n : ℕ) (forms : List Form) (x : Form × List Form) → top forms ≡ Some x → AllOver n forms
     → IsWellScoped n x.0 × AllOver n x.1
@@ -150,21 +143,19 @@ pub top_two_over : (n : ℕ) (make : Form → Form → Form)
     → ((f g : Form) → IsWellScoped n f → IsWellScoped n g → IsWellScoped n (make f g))
     → (forms : List Form) (x : Form × Form × List Form) → top_two forms ≡ Some x → AllOver n forms
     → AllOver n (make x.1 x.0 ∷ x.2)
-top_two_over n make over [] x e h = absurd (none-some _ e)
-top_two_over n make over (f ∷ []) x e h = absurd (none-some _ e)
 top_two_over n make over (f ∷ g ∷ forms) x e h =
     subst (λ (y : Form × Form × List Form). AllOver n (make y.1 y.0 ∷ y.2)) (same_Some _ _ e)
     (over g f h.1.0 h.0, h.1.1)
+top_two_over n make over forms x e h = cc
 
 -- Slots
 
 over_slots : (n k : ℕ) (fs : List Form) → AllOver n fs → (v : ℕ) (f : Form)
     → get_or (map Some fs ++ replicate k None) v None ≡ Some f → IsWellScoped n f
-over_slots n zero [] h v f e = absurd (none-some _ e)
-over_slots n (suc k) [] h zero f e = absurd (none-some _ e)
 over_slots n (suc k) [] h (suc v) f e = over_slots n k [] h v f e
 over_slots n k (g ∷ fs) h zero f e = subst (λ (x : Form). IsWellScoped n x) (same_Some _ _ e) h.0
 over_slots n k (g ∷ fs) h (suc v) f e = over_slots n k fs h.1 v f e
+over_slots n k fs h v f e = cc
 
 over_live : (n : ℕ) (ranges : List (Option (ℤ × ℤ))) (slots : List (Option Form))
     (forms : List Form) → live_forms ranges slots ≡ Some forms
@@ -205,14 +196,13 @@ set_over n (slot ∷ slots) (suc v) f h all (suc k) g e =
 
 pub numbered_over : (j m : ℕ) (slots : List (Option (ℤ × ℤ))) → j + length (live_ranges slots) ≤ m
     → (k : ℕ) (f : Form) → get_or (numbered j slots) k None ≡ Some f → IsWellScoped m f
-numbered_over j m [] le k f e = absurd (none-some _ e)
-numbered_over j m (None ∷ slots) le zero f e = absurd (none-some _ e)
 numbered_over j m (None ∷ slots) le (suc k) f e = numbered_over j m slots le k f e
 numbered_over j m (Some range ∷ slots) le zero f e =
     subst (λ (g : Form). IsWellScoped m g) (same_Some _ _ e) (over_more (suc j) m (symbol j) (omega arith)
     (over_symbol j))
 numbered_over j m (Some range ∷ slots) le (suc k) f e =
     numbered_over (suc j) m slots (omega arith) k f e
+numbered_over j m slots le k f e = cc
 
 pub numbered_length : (j : ℕ) (slots : List (Option (ℤ × ℤ))) → length (numbered j slots)
     ≡ length slots
@@ -222,72 +212,37 @@ numbered_length j (Some range ∷ slots) = ap suc (numbered_length (suc j) slots
 
 -- Places
 
-abbrev IsPlaceOver : ℕ → Placement FormCell → Type 0
-IsPlaceOver n Apart = Unit {0}
-IsPlaceOver n (On tray c) = IsWellScoped n c.x × IsWellScoped n c.y × IsWellScoped n c.z
-
-first_over : (n : ℕ) (place : Placement FormCell) (places : List (Placement FormCell))
-    → AllPlacesOver n (place ∷ places) → IsPlaceOver n place × AllPlacesOver n places
-first_over n Apart places h = (tt, h)
-first_over n (On tray c) places h = ((h.0, h.1, h.2), h.3)
-
-with_first : (n : ℕ) (place : Placement FormCell) (places : List (Placement FormCell))
-    → IsPlaceOver n place → AllPlacesOver n places → AllPlacesOver n (place ∷ places)
-with_first n Apart places h k = k
-with_first n (On tray c) places h k = (h.0, h.1, h.2, k)
-
-either_over : (n : ℕ) (b : Bool) (x y : Placement FormCell) → IsPlaceOver n x → IsPlaceOver n y
-    → IsPlaceOver n (if b then x else y)
-either_over n true x y h k = h
-either_over n false x y h k = k
-
-changed_over : (n : ℕ) (change : Placement FormCell → Placement FormCell)
-    → ((x : Placement FormCell) → IsPlaceOver n x → IsPlaceOver n (change x))
-    → (group p : ℕ) (places : List (Placement FormCell)) → AllPlacesOver n places
-    → AllPlacesOver n (changed change group p places)
-changed_over n change keeps group p [] h = tt
-changed_over n change keeps group p (x ∷ places) h =
-    let f = first_over n x places h in
-    with_first n (if bit_and group (2 ^ p) == 0 then x else change x)
-    (changed change group (suc p) places) (either_over n (bit_and group (2 ^ p) == 0) x
-    (change x) f.0 (keeps x f.0)) (changed_over n change keeps group (suc p) places f.1)
+moved_from : (n group p : ℕ) (direction : Direction) (places : List (Placement FormCell))
+    → AllPlacesOver n places → AllPlacesOver n (changed (at_position (moved_forms direction)) group p places)
+moved_from n group p direction [] h = tt
+moved_from n group p direction (Apart ∷ places) h = grind (arith, moved_from n group (suc p) direction places h)
+moved_from n group p direction (On t c ∷ places) h = grind (arith, moved_from n group (suc p) direction places h.3, h)
 
 pub moved_over : (n group : ℕ) (direction : Direction) (places : List (Placement FormCell))
     → AllPlacesOver n places → AllPlacesOver n (moved group direction places)
-moved_over n group direction places h =
-    changed_over n (at_position (moved_forms direction)) keeps group 0 places h
-  where
-    keeps : (x : Placement FormCell) → IsPlaceOver n x
-        → IsPlaceOver n (at_position (moved_forms direction) x)
-    keeps Apart h = tt
-    keeps (On tray c) h = h
+moved_over n group direction places h = moved_from n group 0 direction places h
+
+gone_over : (n there group p : ℕ) (places : List (Placement FormCell)) → AllPlacesOver n places
+    → AllPlacesOver n (changed (to_tray there) group p places)
+gone_over n there group p [] h = tt
+gone_over n there group p (Apart ∷ places) h = grind (arith, gone_over n there group (suc p) places h)
+gone_over n there group p (On t c ∷ places) h = grind (arith, gone_over n there group (suc p) places h.3, h)
 
 parted_in_over : (n tray : ℕ) (places : List (Placement FormCell)) → AllPlacesOver n places
     → AllPlacesOver n (parted_in tray places)
 parted_in_over n tray [] h = tt
-parted_in_over n tray (x ∷ places) h =
-    let f = first_over n x places h in
-    with_first n (if is_in tray x then Apart else x) (parted_in tray places)
-    (either_over n (is_in tray x) Apart x tt f.0) (parted_in_over n tray places f.1)
+parted_in_over n tray (Apart ∷ places) h = parted_in_over n tray places h
+parted_in_over n tray (On t c ∷ places) h = grind (arith, parted_in_over n tray places h.3, h)
 
 parted_over : (n tray : ℕ) (places : List (Placement FormCell)) → AllPlacesOver n places
     → AllPlacesOver n (parted tray places)
-parted_over n tray places h = by_test (count_in tray places == 1)
-  where
-    by_test : (b : Bool) → AllPlacesOver n (if b then parted_in tray places else places)
-    by_test true = parted_in_over n tray places h
-    by_test false = h
+parted_over n tray places h = grind (arith, h, parted_in_over n tray places h)
 
 pub aside_over : (n group here there : ℕ) (places : List (Placement FormCell))
     → AllPlacesOver n places → AllPlacesOver n (aside_places group here there places)
 aside_over n group here there places h =
-    parted_over n there (parted here (changed (to_tray there) group 0 places))
-    (parted_over n here (changed (to_tray there) group 0 places)
-    (changed_over n (to_tray there) keeps group 0 places h))
-  where
-    keeps : (x : Placement FormCell) → IsPlaceOver n x → IsPlaceOver n (to_tray there x)
-    keeps Apart h = tt
-    keeps (On tray c) h = h
+    let gone = changed (to_tray there) group 0 places in
+    parted_over n there (parted here gone) (parted_over n here gone (gone_over n there group 0 places h))
 
 pub places_over_more : (n m : ℕ) (places : List (Placement FormCell)) → n ≤ m
     → AllPlacesOver n places → AllPlacesOver m places

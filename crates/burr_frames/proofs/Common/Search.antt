@@ -39,6 +39,11 @@ none_of_search : (ranges : List (ℤ × ℤ)) (Q : Point → Type 0) → Search 
 none_of_search ranges Q (inl found) refuted = absurd (refuted found)
 none_of_search ranges Q (inr none) refuted = none
 
+-- what is decided holds where it can't fail
+certain : {P : Type 0} → Decided P → (¬ (¬ P)) → P
+certain (inl p) refuted = p
+certain (inr h) refuted = absurd (refuted h)
+
 -- a number in a range is so far above its lower end
 gap_is : (low x : ℤ) → low ≤ℤ x → x ≡ (low +ℤ pos (int_gap low x))
 gap_is (pos a) (pos b) h = omega (arith, ints, h)
@@ -105,44 +110,33 @@ first_of_range range ranges Q after = by_first (decide_first_below IsAt each (in
             (subst (λ (z : ℤ). z ≤ℤ range.1) e here.0.1))) here.1
 
 first_in_box : (ranges : List (ℤ × ℤ)) (Q : Point → Type 0) → ((x : Point) → Decided (Q x)) → Search ranges Q
-first_in_box [] Q each = at_end (each [])
+first_in_box [] Q each = elim (each []) [ inl q ↦ inl ([], (tt, q, none_before)) | inr refuted ↦ inr (only refuted) ]
   where
-    none_before : (q : Point) → Precedes q [] → ⊥
-    none_before [] before = before
-    none_before (x ∷ q) before = before
+    none_before : (q : Point) → InBox [] q → Precedes q [] → ¬ Q q
+    none_before [] here before = absurd before
+    none_before (x ∷ q) here before = absurd here
 
     only : (¬ Q []) → (point : Point) → InBox [] point → ¬ Q point
     only refuted [] here = refuted
     only refuted (x ∷ point) here = absurd here
-
-    at_end : Decided (Q []) → Search [] Q
-    at_end (inl q) = inl ([], (tt, q, λ p here before. absurd (none_before p before)))
-    at_end (inr refuted) = inr (only refuted)
 first_in_box (range ∷ ranges) Q each =
     first_of_range range ranges Q (λ x. first_in_box ranges (λ p. Q (x ∷ p)) (λ p. each (x ∷ p)))
 
 -- A condition that is decided at each point fails first at a point, or holds at all.
 pub first_failing : (s : AbstractState) (P : Point → Type 0) → ((point : Point) → Decided (P point))
     → ((point : Point) × IsFirstFailing s P point) ⊎ Everywhere s P
-first_failing s P each =
-    by_search (first_in_box s.ranges (λ x. GuardsHold s.guards x × (¬ P x))
-    (λ x. decided_and (decide_guards s.guards x) (decided_not (each x))))
-  where
-    holds : (x : Point) → GuardsHold s.guards x → (¬ (GuardsHold s.guards x × (¬ P x))) → P x
-    holds x guards refuted = elim (each x) [ inl p ↦ p | inr h ↦ absurd (refuted (guards, h)) ]
-
-    by_search : Search s.ranges (λ x. GuardsHold s.guards x × (¬ P x)) → ((point : Point) × IsFirstFailing s P point)
-        ⊎ Everywhere s P
-    by_search (inl (point, found)) =
-        inl (
-          point,
-          record {
-            is_point = (found.0, found.1.0);
-            fails = found.1.1;
-            before = λ q is before. holds q is.1 (found.2 q is.0 before);
-          },
-        )
-    by_search (inr none) = inr (λ point is. holds point is.1 (none point is.0))
+first_failing s P each = elim (first_in_box s.ranges (λ x. GuardsHold s.guards x × (¬ P x)) (λ x. decided_and (decide_guards s.guards x) (decided_not (each x)))) [
+  | inl (point, found) ↦
+      inl (
+        point,
+        record {
+          is_point = (found.0, found.1.0);
+          fails = found.1.1;
+          before = λ q is before. certain (each q) (λ fails. found.2 q is.0 before (is.1, fails));
+        },
+      )
+  | inr none ↦ inr (λ point is. certain (each point) (λ fails. none point is.0 (is.1, fails)))
+]
 
 -- Pairs
 
@@ -151,38 +145,32 @@ first_failing s P each =
 pub first_pair : (P : ℕ → ℕ → Type 0) → ((p q : ℕ) → Decided (P p q)) → (bound : ℕ) → ((p q : ℕ) → bound ≤ p → P p q)
     → ((p q : ℕ) → bound ≤ q → P p q)
     → ((p q : ℕ) × IsFirstPair P p q) ⊎ ((p q : ℕ) → P p q)
-first_pair P each bound past_p past_q =
-    by_row (decide_first_below (λ p. ¬ ((q : ℕ) → P p q)) (λ p. decided_not (row p)) bound)
+first_pair P each bound past_p past_q = elim (decide_first_below (λ p. ¬ ((q : ℕ) → P p q)) (λ p. decided_not (row p)) bound) [
+  | inl (p, below, fails, rows) ↦ inl (in_row p fails rows)
+  | inr none ↦ inr (λ p q. elim (decide_below p bound) [
+    | inl below ↦ certain (row p) (none p below) q
+    | inr far ↦ past_p p q (omega arith)
+  ])
+]
   where
     row : (p : ℕ) → Decided ((q : ℕ) → P p q)
     row p = decide_all_numbers (P p) (each p) bound (past_q p)
 
-    all_of : (p : ℕ) → (¬ (¬ ((q : ℕ) → P p q))) → (q : ℕ) → P p q
-    all_of p refuted = elim (row p) [ inl h ↦ h | inr h ↦ absurd (refuted h) ]
-
-    one_of : (p q : ℕ) → (¬ (¬ P p q)) → P p q
-    one_of p q refuted = elim (each p q) [ inl h ↦ h | inr h ↦ absurd (refuted h) ]
-
-    past_or_below : (p q : ℕ) → ((q : ℕ) → q < bound → ¬ (¬ P p q)) → Decided (q < bound) → P p q
-    past_or_below p q all (inl below) = one_of p q (all q below)
-    past_or_below p q all (inr far) = past_q p q (omega arith)
-
-    rows_all : ((p : ℕ) → p < bound → ¬ (¬ ((q : ℕ) → P p q))) → (p q : ℕ) → Decided (p < bound) → P p q
-    rows_all all p q (inl below) = all_of p (all p below) q
-    rows_all all p q (inr far) = past_p p q (omega arith)
-
-    in_row : (p : ℕ) → (¬ ((q : ℕ) → P p q)) → ((j : ℕ) → j < p → ¬ (¬ ((q : ℕ) → P j q)))
-        → ((q : ℕ) × (q < bound) × (¬ P p q) × ((j : ℕ) → j < q → ¬ (¬ P p j))) ⊎ ((q : ℕ) → q < bound → ¬ (¬ P p q))
-        → (p q : ℕ) × IsFirstPair P p q
-    in_row p fails rows (inl (q, below, refuted, least)) = (p, q, (refuted, earlier))
-      where
-        earlier : (r t : ℕ) → (r < p) ⊎ ((r ≡ p) × (t < q)) → P r t
-        earlier r t (inl l) = all_of r (rows r l) t
-        earlier r t (inr (e, l)) = subst (λ (k : ℕ). P k t) (sym e) (one_of p t (least t l))
-    in_row p fails rows (inr none) = absurd (fails (λ q. past_or_below p q none (decide_below q bound)))
-
-    by_row : ((p : ℕ) × (p < bound) × (¬ ((q : ℕ) → P p q)) × ((j : ℕ) → j < p → ¬ (¬ ((q : ℕ) → P j q))))
-        ⊎ ((p : ℕ) → p < bound → ¬ (¬ ((q : ℕ) → P p q))) → ((p q : ℕ) × IsFirstPair P p q) ⊎ ((p q : ℕ) → P p q)
-    by_row (inl (p, below, fails, rows)) =
-        inl (in_row p fails rows (decide_first_below (λ q. ¬ P p q) (λ q. decided_not (each p q)) bound))
-    by_row (inr none) = inr (λ p q. rows_all none p q (decide_below p bound))
+    in_row : (p : ℕ) → (¬ ((q : ℕ) → P p q)) → ((j : ℕ) → j < p → ¬ (¬ ((q : ℕ) → P j q))) → (p q : ℕ) × IsFirstPair P p q
+    in_row p fails rows = elim (decide_first_below (λ q. ¬ P p q) (λ q. decided_not (each p q)) bound) [
+      | inl (q, below, refuted, least) ↦ (
+        p,
+        q,
+        (
+          refuted,
+          λ r t earlier. elim earlier [
+            | inl l ↦ certain (row r) (rows r l) t
+            | inr (e, l) ↦ subst (λ (k : ℕ). P k t) (sym e) (certain (each p t) (least t l))
+          ],
+        ),
+      )
+      | inr none ↦ absurd (fails (λ q. elim (decide_below q bound) [
+        | inl below ↦ certain (each p q) (none q below)
+        | inr far ↦ past_q p q (omega arith)
+      ]))
+    ]

@@ -1,12 +1,12 @@
-ghost use Rattle.std.specs.Prelude.{◌≡◌, ◌+◌, ◌<◌, ◌≤◌, [], IfErr, All, length, reverse, drop, ◌-◌, ◌++◌, MatchResult, replicate, pos, map};
+ghost use Rattle.std.specs.Prelude.{◌≡◌, ◌+◌, ◌<◌, ◌≤◌, [], IfErr, All, Some, length, reverse, drop, ◌++◌, MatchResult, map};
 ghost use Rattle.burr_code.specs.Labels.{argument_slots as slots_of};
 ghost use Rattle.burr_code.specs.declared.limits.TheConstants.{MOST_GUARDS, MOST_RESULTS};
-ghost use Rattle.burr_forms.specs.Rules.Forms.{substituted, IsSmallForm, AllSmallForms, number};
+ghost use Rattle.burr_forms.specs.Rules.Forms.{substituted, IsSmallForm, AllSmallForms};
 ghost use Rattle.burr_forms.specs.Rules.Points.{AreRanges};
-ghost use Rattle.burr_container.specs.Views.Refs.{frame_of, exit_frame_of};
+ghost use Rattle.burr_container.specs.Views.Refs.{frame_of, exit_frame_of, parameters_of};
 ghost use Rattle.burr_container.specs.Rules.Plans.{over_symbols};
 ghost use Rattle.burr_frames.specs.Rules.ControlRules.{call_rule, calling, paying_call, after_call, called_with, symbols_from, substituted_places, ret_rule};
-ghost use Rattle.burr_frames.specs.Rules.FramedPlans.{framed};
+ghost use Rattle.burr_frames.specs.Rules.FramedPlans.{framed, FramedProcedure};
 ghost use Rattle.burr_frames.specs.Views.ArrivalViews.{AgreesOrMisses};
 ghost use Rattle.burr_frames.specs.Views.StateViews.{IsSmallSlot};
 ghost use Rattle.burr_frames.specs.Views.Breaks.{next_verdict, last_verdict};
@@ -331,7 +331,7 @@ fn guards_with(
 pub(super) fn padded(forms: &[Form]) -> [Form; SLOTS]
     requires few { length forms.now ≤ 8 }
     requires small { AllSmallForms forms.now }
-    ensures padded { result ≡ forms.now ++ replicate (8 - length forms.now) (number (pos 0)) }
+    ensures padded { substituted result ≡ substituted forms.now }
     ensures small { AllSmallForms result }
 {
     let zero = Form {
@@ -441,10 +441,20 @@ impl State {
         let Some(exit) = procedure.exit() else {
             return Err(Break::plain(Rule::ExitMissed));
         };
+        self.returns(&exit)
+    }
+
+    /// The same of a procedure with this exit frame.
+    fn returns(&self, exit: &ExitRef<'_>) -> Result<(), Break>
+        ensures { (here : FramedProcedure) → here.exit ≡ Some (framed_ref exit.now)
+            → here.parameters ≡ parameters_of exit.now
+            → here.results ≡ length (framed_ref exit.now).results
+            → ret_rule here self.now (last_verdict result) }
+    {
         let Some(parameters) = self.first_forms(exit.parameters()) else {
             return Err(Break::plain(Rule::ExitMissed));
         };
-        let exit = Exit::of(&exit);
+        let exit = Exit::of(exit);
         let Some(results) = self.top_many(exit.results.len()) else {
             return Err(Break::plain(Rule::MissingOperand));
         };

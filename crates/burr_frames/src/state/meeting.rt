@@ -152,7 +152,7 @@ impl State {
             least,
             same: met.as_slice(),
         };
-        agreement.first_missed(self.ranges.as_slice(), self.guards.as_slice())
+        agreement.first_missed(&self.region())
     }
 }
 
@@ -212,24 +212,19 @@ impl Agreement<'_> {
     ghost use Rattle.burr_frames.specs.Views.Shown.{ShowsMetBy};
     ghost use Rattle.burr_frames.specs.Views.Targets.{target_of};
 
-    /// The first point of a box, under guards, at which the agreement fails, as `first_failing`
-    /// gives it.
-    fn first_missed(&self, ranges: &[(i32, i32)], guards: &[Form]) -> Option<Point>
-        requires few { length ranges.now ≤ 8 }
-        requires few_guards { length guards.now ≤ 120 }
+    /// The first point of a region at which the agreement fails, as `first_failing` gives it.
+    fn first_missed(&self, here: &Region<'_>) -> Option<Point>
+        requires few_guards { length here.now.guards.now ≤ 120 }
         requires few_forms { length self.now.forms.now ≤ 120 }
-        requires ranges { AreRanges ranges.now }
-        requires guards { AllSmallForms guards.now }
         requires forms { AllSmallForms self.now.forms.now }
         ensures { MatchOption result
-            (Throughout (region ranges.now guards.now)
+            (Throughout (region here.now.ranges.now here.now.guards.now)
             (at_values (IsMetBy (target_of self.now)) self.now.forms.now))
-            (λ point. FailsFirstAt (region ranges.now guards.now)
+            (λ point. FailsFirstAt (region here.now.ranges.now here.now.guards.now)
             (at_values (IsMetBy (target_of self.now)) self.now.forms.now) point.items) }
     {
-        let here = Region { ranges, guards };
-        if has_at_most(ranges, FEW_POINTS) || !self.is_settled(&here) {
-            first_failing(ranges, guards, self)
+        if has_at_most(here.ranges, FEW_POINTS) || !self.is_settled(here) {
+            first_failing(here.ranges, here.guards, self)
         } else {
             None
         }
@@ -570,6 +565,6 @@ impl State {
             least: &[],
             same: same.as_slice(),
         };
-        agreement.first_missed(self.ranges.as_slice(), self.guards.as_slice())
+        agreement.first_missed(&self.region())
     }
 }

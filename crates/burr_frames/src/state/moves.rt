@@ -169,22 +169,17 @@ impl State {
             looks.old looks.new }
     {
         the_points_are_given();
-        let places = self.places.as_slice();
+        let places = self.places();
+        let tray = self.tray();
         let mut offsets = ArrayVec::new();
-        put_offsets(self.tray, places, &mut offsets);
+        put_offsets(tray, places, &mut offsets);
         self.stays_within(offsets.as_slice(), MOST_OFFSET, Rule::OffBench)?;
         let homed = places
             .len()
             .min(usize::from(looks.assembly().piece_count()));
         let mut gripped = ArrayVec::new();
         let mut left = ArrayVec::new();
-        put_pieces(
-            self.tray,
-            self.grip,
-            &places[..homed],
-            &mut gripped,
-            &mut left,
-        );
+        put_pieces(tray, self.grip(), &places[..homed], &mut gripped, &mut left);
         let mut clearing = Clearing {
             forms: offsets.as_slice(),
             gripped: gripped.as_slice(),
@@ -193,11 +188,8 @@ impl State {
             looks,
             found: None,
         };
-        match first_refused(
-            self.ranges.as_slice(),
-            self.guards.as_slice(),
-            &mut clearing,
-        ) {
+        let here = self.region();
+        match first_refused(here.ranges, here.guards, &mut clearing) {
             None => Ok(()),
             Some(point) => Err(Break {
                 rule,

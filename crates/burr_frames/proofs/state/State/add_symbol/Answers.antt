@@ -36,13 +36,7 @@ returns c =
     let operands : reverse c.push-2.new.self.items ≡ form ∷ reverse c.self.inside.operands.items =
     ap (reverse {A = Form}) c.push-2.ensures.items ∙ reverse-append c.self.inside.operands.items (form ∷ []) in
     let named : form ≡ symbol (length old) = c.symbol-form.ensures.symbol ∙ ap symbol c.len.ensures.value in
-    λ i. record {
+    λ i. record (view i) {
       ranges = (ranges ∙ ap (λ (a : AbstractState). a.ranges ++ (c.args.low, c.args.high) ∷ []) view) i;
-      guards = (view i).guards;
-      slots = (view i).slots;
       operands = (operands ∙ ap (λ (f : Form). f ∷ reverse c.self.inside.operands.items) named ∙ ap (λ (a : AbstractState). symbol (length a.ranges) ∷ a.operands) view) i;
-      places = (view i).places;
-      tray = (view i).tray;
-      grip = (view i).grip;
-      cost = (view i).cost;
     }

@@ -1,15 +1,15 @@
 -- An entry frame that is not met, and what follows where it is.
 use Rattle.std.proofs.Common.{◌≡◌, ◌≤◌, ◌+◌, ◌∙◌, ap, sym, subst, ℕ, List, length, drop, inl, inr, arith}
-use Rattle.std.specs.Prelude.{reverse, option_map}
+use Rattle.std.specs.Prelude.{reverse}
 use Rattle.burr_forms.specs.Rules.Forms.{Form, AllSmallForms, substituted}
 use Rattle.burr_container.specs.Views.Refs.{frame_of}
 use Rattle.burr_frames.specs.declared.rule.Rule.TheVariants as rules
 use Rattle.burr_frames.specs.Rules.States.{AbstractState}
 use Rattle.burr_frames.specs.Rules.FramedPlans.{FramedExit, framed}
-use Rattle.burr_frames.specs.Rules.Verdicts.{Verdict, Breaks, meeting}
+use Rattle.burr_frames.specs.Rules.Verdicts.{Verdict, Breaks}
 use Rattle.burr_frames.specs.Views.Breaks.{broken_of, next_verdict}
-use Rattle.burr_frames.specs.Rules.ControlRules.{called_with, calling}
-use Rattle.burr_frames.proofs.CallArguments.{left_many}
+use Rattle.burr_frames.specs.Rules.ControlRules.{calling}
+use Rattle.burr_frames.proofs.CallArguments.{left_many, still_room}
 use Rattle.burr_frames.proofs.Meetings.{meeting_on, meeting_breaks}
 use Rattle.burr_frames.proofs.CallVerdicts.{PaysCall, calling_on}
 use Rattle.burr_frames.proofs.state.State.calls.Goals as goal
@@ -27,21 +27,12 @@ returns-in-Err-clause-verdict c =
     let arguments = c.in-Some.arguments.items in
     let entry = framed (frame_of c.args.entry.now) in
     let exit = c.args.exit.now in
-    let left = left_many count c.self.inside.operands.items s.operands (ap operands_of c.self.view_is) in
-    let few = c.if-len-count-gt-MOST_OPERANDS.false in
-    let many = c.len-2.ensures.value ∙ ap results_of c.exit.view_is in
-    let all = c.len.ensures.value in
-    let room : length (drop count s.operands) + length exit.results ≤ 8 = omega (arith, left, few, many, all) in
-    let begun : AbstractState = called_with (reverse c.as_slice.result.now) s in
-    let called : begun ≡ called_with (reverse arguments) s =
-    ap (λ (xs : List Form). called_with (reverse xs) s) c.as_slice.ensures.value in
-    let missed =
-    meeting_breaks begun entry rules.EntryMissed (λ live. PaysCall s arguments exit (substituted live entry.cost))
-    (option_map (λ point. point.items) c.in-Err.miss.point) c.in-Err.ensures in
-    subst (λ (n : ℕ). calling s n (length exit.results) entry exit (Breaks (broken_of c.missed.result))) c.from-count.ensures
-    (calling_on s count entry exit arguments (Breaks (broken_of c.missed.result)) room c.in-Some.ensures.operands.1 c.in-Some.ensures.operands.0
-    (subst (λ (b : AbstractState). meeting b entry rules.EntryMissed (λ live. PaysCall s arguments exit (substituted live entry.cost)) (Breaks (broken_of c.missed.result))) called
-    (subst (λ b. meeting begun entry rules.EntryMissed (λ live. PaysCall s arguments exit (substituted live entry.cost)) (Breaks b)) (sym c.missed.ensures) missed)))
+    let room = still_room count _ s.operands _ _ _ (ap operands_of c.self.view_is) c.len.ensures.value (c.len-2.ensures.value ∙ ap results_of c.exit.view_is)
+    c.if-len-count-gt-MOST_OPERANDS.false in
+    let missed = rw c.as_slice.ensures.value at c.in-Err.ensures in
+    rw (← c.from-count.ensures, c.missed.ensures)
+    (calling_on s count entry exit arguments _ room c.in-Some.ensures.operands.1 c.in-Some.ensures.operands.0
+    (meeting_breaks _ entry rules.EntryMissed (λ live. PaysCall s arguments exit (substituted live entry.cost)) _ missed))
 
 pub returns-clause-verdict : goal.returns-clause-verdict
 returns-clause-verdict c =
@@ -51,22 +42,13 @@ returns-clause-verdict c =
     let entry = framed (frame_of c.args.entry.now) in
     let exit = c.args.exit.now in
     let v : Verdict = next_verdict c.pays_for.new.self c.pays_for.result in
-    let left = left_many count c.self.inside.operands.items s.operands (ap operands_of c.self.view_is) in
-    let few = c.if-len-count-gt-MOST_OPERANDS.false in
-    let many = c.len-2.ensures.value ∙ ap results_of c.exit.view_is in
-    let all = c.len.ensures.value in
-    let room : length (drop count s.operands) + length exit.results ≤ 8 = omega (arith, left, few, many, all) in
-    let begun : AbstractState = called_with (reverse c.as_slice.result.now) s in
-    let called : begun ≡ called_with (reverse arguments) s =
-    ap (λ (xs : List Form). called_with (reverse xs) s) c.as_slice.ensures.value in
-    let paid : PaysCall s arguments exit (substituted c.in-Ok.live.items entry.cost) v =
-    subst (λ (fs : List Form). PaysCall s fs exit (substituted c.in-Ok.live.items entry.cost) v) c.as_slice-2.ensures.value
-    (subst (λ (f : Form). PaysCall s c.as_slice-2.result.now exit f v)
-    ((λ i. substituted (c.as_slice-3.ensures.value i) (c.cost.ensures.cost i))) c.pays_for.ensures.verdict) in
-    subst (λ (n : ℕ). calling s n (length exit.results) entry exit v) c.from-count.ensures
+    let room = still_room count _ s.operands _ _ _ (ap operands_of c.self.view_is) c.len.ensures.value (c.len-2.ensures.value ∙ ap results_of c.exit.view_is)
+    c.if-len-count-gt-MOST_OPERANDS.false in
+    let met = rw c.as_slice.ensures.value at c.in-Ok.ensures.0 in
+    let paid = rw (c.as_slice-2.ensures.value, c.as_slice-3.ensures.value, c.cost.ensures.cost) at c.pays_for.ensures.verdict in
+    rw (← c.from-count.ensures)
     (calling_on s count entry exit arguments v room c.in-Some.ensures.operands.1 c.in-Some.ensures.operands.0
-    (subst (λ (b : AbstractState). meeting b entry rules.EntryMissed (λ live. PaysCall s arguments exit (substituted live entry.cost)) v) called
-    (meeting_on begun entry rules.EntryMissed (λ live. PaysCall s arguments exit (substituted live entry.cost)) c.in-Ok.live.items v c.in-Ok.ensures.0 paid)))
+    (meeting_on _ entry rules.EntryMissed (λ live. PaysCall s arguments exit (substituted live entry.cost)) c.in-Ok.live.items v met paid))
 
 pub returns-then-len-count-gt-MOST_OPERANDS-clause-verdict : goal.returns-then-len-count-gt-MOST_OPERANDS-clause-verdict
 returns-then-len-count-gt-MOST_OPERANDS-clause-verdict c =
@@ -111,9 +93,6 @@ pays_for-requires-clause-room c =
     let s = c.args.self.now in
     let count = c.from-count.result in
     let given : length c.as_slice-2.result.now ≡ count = ap (length {A = Form}) c.as_slice-2.ensures.value ∙ c.in-Some.ensures.operands.1 in
-    let left = left_many count c.self.inside.operands.items s.operands (ap operands_of c.self.view_is) in
-    let few = c.if-len-count-gt-MOST_OPERANDS.false in
-    let many = c.len-2.ensures.value ∙ ap results_of c.exit.view_is in
-    let all = c.len.ensures.value in
-    let room : length (drop count s.operands) + length c.args.exit.now.results ≤ 8 = omega (arith, left, few, many, all) in
+    let room = still_room count _ s.operands _ _ _ (ap operands_of c.self.view_is) c.len.ensures.value (c.len-2.ensures.value ∙ ap results_of c.exit.view_is)
+    c.if-len-count-gt-MOST_OPERANDS.false in
     subst (λ (n : ℕ). length (drop n s.operands) + length c.args.exit.now.results ≤ 8) (sym given) room

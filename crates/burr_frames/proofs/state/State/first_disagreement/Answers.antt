@@ -3,6 +3,7 @@ use Rattle.std.proofs.Common.{◌≡◌, ◌∙◌, ◌++◌, length, sym, ap, s
 use Rattle.std.specs.Prelude.{reverse}
 use Rattle.std.proofs.lemmas.List.{length-append, length-reverse}
 use Rattle.burr_forms.specs.Rules.Forms.{Form, AllSmallForms}
+use Rattle.burr_forms.specs.Rules.Conditions.{region}
 use Rattle.burr_forms.specs.Rules.Points.{AreRanges}
 use Rattle.burr_container.specs.Rules.Plans.{Range}
 use Rattle.burr_frames.specs.Rules.States.{AbstractState, region_of}
@@ -50,20 +51,18 @@ returns c =
     let t = c.args.there.now in
     let upper = c.args.upper.now in
     let least = c.args.least.now in
-    let s_ranges : c.as_slice-5.result.now ≡ s.ranges = c.as_slice-5.ensures.value ∙ ap (λ (a : AbstractState). a.ranges) c.self.view_is in
-    let s_guards : c.as_slice-6.result.now ≡ s.guards = c.as_slice-6.ensures.value ∙ ap (λ (a : AbstractState). a.guards) c.self.view_is in
     let ranges : c.as_slice-2.result.now ≡ t.ranges = c.as_slice-2.ensures.value ∙ ap (λ (a : AbstractState). a.ranges) c.there.view_is in
     let guards : c.as_slice-3.result.now ≡ t.guards = c.as_slice-3.ensures.value ∙ ap (λ (a : AbstractState). a.guards) c.there.view_is in
     let same : c.as_slice-4.result.now ≡ reverse t.operands ++ offset_forms t.places = c.as_slice-4.ensures.value ∙ c.compared-met.ensures.forms in
     let asked : c.as_slice.result.now ≡ asked_of s c.args.forms.now upper = c.as_slice.ensures.value ∙ c.compared-compared.ensures.forms in
     let first : Handed = record {
-      region = record { ranges = c.as_slice-5.result.now; guards = c.as_slice-6.result.now };
+      region = region c.region.result.ranges.now c.region.result.guards.now;
       target = record { free = 0; ranges = c.as_slice-2.result.now; guards = c.as_slice-3.result.now; least = least; same = c.as_slice-4.result.now };
       asked = c.as_slice.result.now;
     } in
     let second : Handed = record { region = region_of s; target = sought_in t least; asked = asked_of s c.args.forms.now upper } in
     let handed : first ≡ second = λ i. record {
-      region = record { ranges = s_ranges i; guards = s_guards i };
+      region = c.region.ensures.points i;
       target = record { free = 0; ranges = ranges i; guards = guards i; least = least; same = same i };
       asked = asked i;
     } in

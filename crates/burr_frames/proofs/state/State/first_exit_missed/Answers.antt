@@ -4,6 +4,7 @@ use Rattle.std.proofs.lemmas.List.{length-append}
 use Rattle.std.proofs.lemmas.List.Elements.{All-nil}
 use Rattle.burr_code.specs.declared.placement.Placement.{Placement}
 use Rattle.burr_forms.specs.Rules.Forms.{Form, IsSmallForm, AllSmallForms}
+use Rattle.burr_forms.specs.Rules.Conditions.{region}
 use Rattle.burr_forms.specs.Rules.Points.{AreRanges}
 use Rattle.burr_container.specs.Rules.Plans.{FormCell, Range}
 use Rattle.burr_frames.specs.Rules.FramedPlans.{FramedExit}
@@ -54,8 +55,6 @@ returns c =
     let exit = c.args.exit.now in
     let parameters = c.args.parameters.now in
     let results = c.args.results.now in
-    let s_ranges : c.as_slice-8.result.now ≡ s.ranges = c.as_slice-8.ensures.value ∙ ap (λ (a : AbstractState). a.ranges) c.self.view_is in
-    let s_guards : c.as_slice-9.result.now ≡ s.guards = c.as_slice-9.ensures.value ∙ ap (λ (a : AbstractState). a.guards) c.self.view_is in
     let ranges : c.as_slice-5.result.now ≡ exit.results = c.as_slice-5.ensures.value ∙ ap (λ (e : FramedExit). e.results) c.exit.view_is in
     let guards : c.as_slice-6.result.now ≡ exit.guards = c.as_slice-6.ensures.value ∙ ap (λ (e : FramedExit). e.guards) c.exit.view_is in
     let here : c.as_slice-2.result.now ≡ s.places = c.as_slice-2.ensures.value ∙ ap (λ (a : AbstractState). a.places) c.self.view_is in
@@ -66,13 +65,13 @@ returns c =
     let asked : c.as_slice-4.result.now ≡ asked_at_exit s parameters results =
     c.as_slice-4.ensures.value ∙ c.with_offsets-compared.ensures.forms ∙ (λ i. symbols i ++ offset_forms (here i)) in
     let first : Handed = record {
-      region = record { ranges = c.as_slice-8.result.now; guards = c.as_slice-9.result.now };
+      region = region c.region.result.ranges.now c.region.result.guards.now;
       target = record { free = length parameters; ranges = c.as_slice-5.result.now; guards = c.as_slice-6.result.now; least = []; same = c.as_slice-7.result.now };
       asked = c.as_slice-4.result.now;
     } in
     let second : Handed = record { region = region_of s; target = sought_at_exit (length parameters) exit; asked = asked_at_exit s parameters results } in
     let handed : first ≡ second = λ i. record {
-      region = record { ranges = s_ranges i; guards = s_guards i };
+      region = c.region.ensures.points i;
       target = record { free = length parameters; ranges = ranges i; guards = guards i; least = []; same = same i };
       asked = asked i;
     } in
@@ -94,9 +93,3 @@ with_offsets-same-requires-clause-places_small c = subst AllSmallPlaces (sym c.a
 
 pub first_missed-requires-clause-forms : goal.first_missed-requires-clause-forms
 first_missed-requires-clause-forms c = subst AllSmallForms (sym c.as_slice-4.ensures.value) c.with_offsets-compared.ensures.small
-
-pub first_missed-requires-clause-ranges : goal.first_missed-requires-clause-ranges
-first_missed-requires-clause-ranges c = subst AreRanges (sym c.as_slice-8.ensures.value) c.self.invariant.ranges
-
-pub first_missed-requires-clause-guards : goal.first_missed-requires-clause-guards
-first_missed-requires-clause-guards c = subst AllSmallForms (sym c.as_slice-9.ensures.value) c.self.invariant.guards

@@ -8,7 +8,7 @@ use Rattle.burr_frames.specs.Views.StateViews.{abstract_state}
 use Rattle.burr_frames.specs.Views.Changes.{with_grip, with_places}
 use Rattle.burr_frames.specs.Rules.SpaceRules.{AllSmallPlaces}
 use Rattle.burr_code.proofs.Common.Counts.{length-aside_places, refilled}
-use Rattle.burr_frames.proofs.SmallPlaces.{small_aside}
+use Rattle.burr_frames.proofs.SmallPlaces.{small_aside, small_with_places}
 use Rattle.burr_frames.proofs.state.State.go_aside.Goals as goal
 
 pub invariant_of-self : goal.invariant_of-self
@@ -18,15 +18,7 @@ invariant_of-self c =
     let new = aside_places s.grip s.tray c.args.tray old in
     let written = refilled old c.take_aside.new.places new (c.take_aside.ensures ∙ ap (aside_places s.grip s.tray c.args.tray) c.as_mut_slice.ensures.value)
     (length-aside_places s.grip s.tray c.args.tray old) in
-    let was = c.self.invariant in
-    record {
-      ranges = was.ranges;
-      guards = was.guards;
-      slots = was.slots;
-      operands = was.operands;
-      places = subst AllSmallPlaces (sym written) (small_aside s.grip s.tray c.args.tray old was.places);
-      cost = was.cost;
-    }
+    small_with_places _ _ 0 c.self.invariant (subst AllSmallPlaces (sym written) (small_aside s.grip s.tray c.args.tray old c.self.invariant.places))
 
 pub returns : goal.returns
 returns c =

@@ -8,6 +8,7 @@ use Rattle.burr_frames.specs.Rules.SpaceRules.{moved, moved_forms, AllSmallPlace
 use Rattle.burr_frames.specs.Rules.States.{AbstractState}
 use Rattle.burr_frames.specs.Views.Changes.{with_places}
 use Rattle.burr_frames.specs.Views.StateViews.{abstract_state}
+use Rattle.burr_frames.proofs.SmallPlaces.{small_with_places}
 use Rattle.burr_frames.proofs.state.State.shift.Goals as goal
 
 pub invariant_of-self : goal.invariant_of-self
@@ -18,15 +19,7 @@ invariant_of-self c =
     let written = refilled old c.shift_group.new.places new (c.shift_group.ensures ∙ ap (moved s.grip c.args.direction) c.as_mut_slice.ensures.value)
     (length-changed (at_position (moved_forms c.args.direction)) s.grip 0 old) in
     let small = subst (λ (a : AbstractState). AllSmallPlaces (moved a.grip c.args.direction a.places)) (sym c.self.view_is) c.requires in
-    let was = c.self.invariant in
-    record {
-      ranges = was.ranges;
-      guards = was.guards;
-      slots = was.slots;
-      operands = was.operands;
-      places = subst AllSmallPlaces (sym written) small;
-      cost = was.cost;
-    }
+    small_with_places _ _ s.grip c.self.invariant (subst AllSmallPlaces (sym written) small)
 
 pub returns : goal.returns
 returns c =

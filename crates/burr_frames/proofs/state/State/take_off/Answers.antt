@@ -27,14 +27,4 @@ returns-clause-left c =
     let same : reverse old ≡ c.args.self.now.operands = ap (λ (s : AbstractState). s.operands) c.self.view_is in
     let left : reverse c.truncate.new.self.items ≡ drop 1 (reverse old) =
     ap (reverse {A = Form}) (c.truncate.ensures.items ∙ ap (λ n. take (n - 1) old) c.len-left.ensures.value) ∙ taken_off old in
-    let view = c.self.view_is in
-    λ i. record {
-      ranges = (view i).ranges;
-      guards = (view i).guards;
-      slots = (view i).slots;
-      operands = (left ∙ ap (drop 1) same) i;
-      places = (view i).places;
-      tray = (view i).tray;
-      grip = (view i).grip;
-      cost = (view i).cost;
-    }
+    λ i. record (c.self.view_is i) { operands = (left ∙ ap (drop 1) same) i }

@@ -1,10 +1,9 @@
 -- A guard with too large a form ends it; else one more is there.
-use Rattle.std.proofs.Common.{◌≡◌, ◌+◌, ◌-◌, ◌∙◌, ap, sym, subst, List, [], ◌∷◌, ◌++◌, length, take, map, slice_index_or, arith}
+use Rattle.std.proofs.Common.{◌≡◌, ◌+◌, ◌∙◌, ap, sym, subst, [], ◌∷◌, ◌++◌, take, map, slice_index_or, arith}
 use Rattle.std.proofs.lemmas.List.{map_more, get_or-map, length-map}
 use Rattle.std.proofs.lemmas.List.Elements.{All-push}
 use Rattle.std.proofs.lemmas.Result.{err_from_is_err_and}
 use Rattle.burr_forms.specs.Rules.Forms.{Form, substituted, IsSmallForm, AllSmallForms}
-use Rattle.burr_frames.proofs.CallForms.{substituted_padded}
 use Rattle.burr_frames.proofs.state.calls.guards_with.Goals as goal
 
 pub returns-in_err-substitute : goal.returns-in_err-substitute
@@ -15,7 +14,7 @@ returns-in_err-substitute c =
     let guard = c.index-there-guard.result in
     let change = substituted symbols in
     let given : substituted c.padded-forms.result guard ≡ change guard =
-    ap (λ (fs : List Form). substituted fs guard) c.padded-forms.ensures.padded ∙ substituted_padded symbols (8 - length symbols) guard in
+    ap (λ (put : Form → Form). put guard) c.padded-forms.ensures.padded in
     let here : slice_index_or (map change there) k guard ≡ change guard =
     get_or-map change there k guard guard c.loop-guard-test.true ∙ ap change (sym c.index-there-guard.is) in
     let p = err_from_is_err_and c.from_residual.result c.from_residual.ensures.1 in
@@ -33,8 +32,7 @@ loop-guard-preserved c =
     let next = c.in_ok-substitute.field-0 in
     let change = substituted symbols in
     let given : next ≡ change guard =
-    c.in_ok-substitute.ensures.0 ∙ ap (λ (fs : List Form). substituted fs guard) c.padded-forms.ensures.padded
-    ∙ substituted_padded symbols (8 - length symbols) guard in
+    c.in_ok-substitute.ensures.0 ∙ ap (λ (put : Form → Form). put guard) c.padded-forms.ensures.padded in
     let items : c.push.new.self.items ≡ before ++ next ∷ [] = c.push.ensures.items in
     let more : map change (take (k + 1) there) ≡ map change (take k there) ++ change guard ∷ [] =
     map_more change there k guard c.loop-guard-test.true

@@ -1,5 +1,5 @@
 -- A place with too large a form ends it; else one more is there.
-use Rattle.std.proofs.Common.{◌≡◌, ◌+◌, ◌-◌, ◌∙◌, ap, sym, subst, List, [], ◌∷◌, ◌++◌, length, take, map, slice_index_or, arith}
+use Rattle.std.proofs.Common.{◌≡◌, ◌+◌, ◌∙◌, ap, sym, subst, [], ◌∷◌, ◌++◌, take, map, slice_index_or, arith}
 use Rattle.std.proofs.lemmas.List.{map_more, get_or-map, length-map}
 use Rattle.std.proofs.lemmas.Result.{err_from_is_err_and}
 use Rattle.burr_code.specs.declared.placement.Placement.{Placement}
@@ -8,9 +8,12 @@ use Rattle.burr_forms.specs.Rules.Forms.{Form}
 use Rattle.burr_container.specs.Rules.Plans.{FormCell}
 use Rattle.burr_frames.specs.Rules.ControlRules.{substituted_cell}
 use Rattle.burr_frames.specs.Rules.SpaceRules.{AllSmallPlaces}
-use Rattle.burr_frames.proofs.CallForms.{placed_padded}
 use Rattle.burr_frames.proofs.SmallPlaces.{small_place_at, small_append}
 use Rattle.burr_frames.proofs.state.calls.places_with.Goals as goal
+
+-- other forms in place of a cell's own
+abbrev with_forms : (Form → Form) → FormCell → FormCell
+with_forms put c = record { x = put c.x; y = put c.y; z = put c.z }
 
 pub substituted-requires-clause-small : goal.substituted-requires-clause-small
 substituted-requires-clause-small c =
@@ -25,7 +28,7 @@ returns-in_err-substituted c =
     let place = c.index-there-piece.result in
     let change = at_position (substituted_cell arguments) in
     let given : at_position (substituted_cell c.padded-forms.result) place ≡ change place =
-    ap (λ (fs : List Form). at_position (substituted_cell fs) place) c.padded-forms.ensures.padded ∙ placed_padded arguments (8 - length arguments) place in
+    ap (λ (put : Form → Form). at_position (with_forms put) place) c.padded-forms.ensures.padded in
     let here : slice_index_or (map change there) piece place ≡ change place =
     get_or-map change there piece place place c.loop-piece-test.true ∙ ap change (sym c.index-there-piece.is) in
     let p = err_from_is_err_and c.from_residual.result c.from_residual.ensures.1 in
@@ -44,8 +47,7 @@ loop-piece-preserved c =
     let next = c.in_ok-substituted.field-0 in
     let change = at_position (substituted_cell arguments) in
     let given : next ≡ change place =
-    c.in_ok-substituted.ensures.0 ∙ ap (λ (fs : List Form). at_position (substituted_cell fs) place) c.padded-forms.ensures.padded
-    ∙ placed_padded arguments (8 - length arguments) place in
+    c.in_ok-substituted.ensures.0 ∙ ap (λ (put : Form → Form). at_position (with_forms put) place) c.padded-forms.ensures.padded in
     let items : c.push.new.self.items ≡ before ++ next ∷ [] = c.push.ensures.items in
     let more : map change (take (piece + 1) there) ≡ map change (take piece there) ++ change place ∷ [] =
     map_more change there piece place c.loop-piece-test.true
