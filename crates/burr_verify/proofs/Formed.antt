@@ -3,24 +3,24 @@
 use Rattle.std.proofs.Common.{◌≡◌, ◌↔◌, ℕ, ◌<◌, ◌≤◌, Bool, false, IsTrue, Option, Some, None, List, [], ◌∷◌, length, map, refl, sym, ap, ◌∙◌, subst, arith}
 use Rattle.std.specs.Prelude.{slice_get}
 use Rattle.std.proofs.lemmas.Bool.{false≢true}
-use Rattle.std.proofs.lemmas.Option.{same_Some, slice_get_within}
+use Rattle.std.proofs.lemmas.Option.{slice_get_within}
 use Rattle.burr_code.specs.declared.placement.Placement.{Placement}
 use Rattle.burr_code.specs.Places.{AllLieIn, tray_of}
 use Rattle.burr_forms.specs.Rules.Points.{box_size}
 use Rattle.burr_container.specs.declared.frame_ref.FrameRef.{FrameRef}
-use Rattle.burr_container.specs.Views.Containers.{ContainerView, IsContainer, OfProcedure, OfLabel}
+use Rattle.burr_container.specs.Views.Containers.{ContainerView, IsContainer, OfLabel}
 use Rattle.burr_container.specs.declared.frame_ref.ExitRef.{ExitRef}
 use Rattle.burr_container.specs.Rules.Plans.{FormCell, Range, Frame, PlanProcedure, Plan, live_slots, over_symbols}
 use Rattle.burr_container.specs.Views.InPlace.{IsExit}
 use Rattle.burr_container.specs.Views.Refs.{frame_of}
 use Rattle.burr_frames.specs.Views.Exits.{framed_ref}
-use Rattle.burr_frames.specs.Rules.FramedPlans.{FramedExit, FramedProcedure, framed, framed_label, framed_procedure, framed_plan}
+use Rattle.burr_frames.specs.Rules.FramedPlans.{FramedExit, FramedProcedure, framed, framed_procedure, framed_plan}
 use Rattle.burr_frames.specs.Rules.States.{AbstractState, state_of}
 use Rattle.burr_frames.proofs.Common.ExitsRead.{no_exit, exit_there}
 use Rattle.burr_verify.specs.Views.Forming.{IsLive, IsFormedAt, OfTrays}
 use Rattle.burr_verify.specs.Rules.Judging.{HasRoomForPoints}
 use Rattle.burr_verify.specs.Rules.WellFramed.{HasNoLonePiece, IsFormedEntry, IsFormedExit}
-use Rattle.burr_frames.proofs.Common.Heres.{procedure_here, label_here, as_many_labels, element_at}
+use Rattle.burr_verify.proofs.LabelPlaces.{frame_read, place_of}
 
 -- Exit frames
 
@@ -78,28 +78,15 @@ none_live slots from eight none v above live =
 
 -- Labels
 
--- there are as many as are counted
-pub labels_counted : (kept : ContainerView) (p : Plan) (n count : ℕ) (here : FramedProcedure) → IsContainer kept p
-    → slice_get (framed_plan p).procedures n ≡ Some here → OfProcedure kept n (λ p q. count ≡ length q.labels)
-    → length here.labels ≡ count
-labels_counted kept p n count here is at counted =
-    let found = procedure_here p n here at in
-    as_many_labels found.0 here found.2 ∙ sym (counted p found.0 is found.1)
-
 -- the place and the frame that are read of a label are those that stand there
 pub label_read : (kept : ContainerView) (p : Plan) (n k : ℕ) (here : FramedProcedure) (label : ℕ × Frame) (place : ℕ)
     (frame : FrameRef) → IsContainer kept p → slice_get (framed_plan p).procedures n ≡ Some here
     → slice_get here.labels k ≡ Some label → OfLabel kept n k (λ l. place ≡ l.0)
     → OfLabel kept n k (λ l. frame_of frame ≡ l.1) → (place ≡ label.0) × (framed (frame_of frame) ≡ label.1)
-label_read kept p n k here label place frame is at standing places frames =
-    let found = procedure_here p n here at in
-    let q = found.0 in
-    let inside : k < length q.labels = subst (λ (m : ℕ). k < m) (as_many_labels q here found.2) (slice_get_within here.labels k label standing) in
-    let l = element_at q.labels k inside in
-    let same : framed_label l.0 ≡ label = same_Some _ _ (sym (label_here q here k l.0 found.2 l.1) ∙ standing) in (
-      places p q is found.1 l.0 l.1 ∙ ap (λ (x : ℕ × Frame). x.0) same,
-      ap (λ (f : Frame). framed f) (frames p q is found.1 l.0 l.1) ∙ ap (λ (x : ℕ × Frame). x.1) same,
-    )
+label_read kept p n k here label place frame is at standing places frames = (
+  sym (place_of kept n k place places p here is at label standing),
+  frame_read kept n k frame frames p here is at label standing,
+)
 
 -- what a test says of the frame that is read, it says of the one that stands there
 pub formed_there : (k few parameters : ℕ) (f there : Frame) (b : Bool) → few ≡ parameters → f ≡ there

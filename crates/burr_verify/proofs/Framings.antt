@@ -10,7 +10,7 @@ use Rattle.burr_verify.specs.declared.refusal.Refusal.{Refusal}
 use Rattle.burr_verify.specs.Rules.Judging.{Judging}
 use Rattle.burr_verify.specs.Views.Judgements.{judgement_of, failed_check}
 use Rattle.burr_verify.specs.Rules.WellFramed.{IsWellFramed}
-use Rattle.burr_verify.proofs.Before.{passed_exactly}
+use Rattle.burr_verify.proofs.VerifyLaws.{passed_exactly}
 use Rattle.burr_verify.proofs.Containers.{fitting_is_from_container}
 use Rattle.burr_container.proofs.Common.OneContainer.{fits_where_kept}
 use Rattle.burr_verify.proofs.PassCuts.{refuses-passed}

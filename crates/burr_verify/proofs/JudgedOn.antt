@@ -1,88 +1,111 @@
--- What is judged from one procedure on gives what is judged from the first.
-use Rattle.std.proofs.Common.{◌≡◌, ◌+◌, ◌<◌, ◌≤◌, ℕ, zero, suc, List, [], ◌∷◌, length, Some, refl, sym, subst, ap, arith, add-one, inl, inr}
-use Rattle.std.proofs.lemmas.List.{length-map}
+-- What is judged from one procedure or label on gives what is judged from the first.
+use Rattle.std.proofs.Common.{◌≡◌, ◌+◌, ◌<◌, ◌≤◌, ℕ, zero, suc, List, [], ◌∷◌, length, Option, Some, refl, sym, subst, ap, ◌∙◌, add-one}
+use Rattle.std.specs.Prelude.{slice_get, drop}
+use Rattle.std.proofs.lemmas.List.{drop_all, length-map}
 use Rattle.burr_container.specs.declared.procedure_ref.ProcedureRef.{ProcedureRef}
-use Rattle.burr_container.specs.Rules.Plans.{Plan}
+use Rattle.burr_container.specs.Rules.Plans.{Plan, Frame}
 use Rattle.burr_container.specs.Views.Containers.{ContainerView}
 use Rattle.burr_container.specs.Views.Lent.{IsLent}
+use Rattle.burr_frames.specs.declared.rule.Rule.{Rule}
+use Rattle.burr_frames.specs.Rules.FramedPlans.{FramedExit, FramedProcedure, framed_procedure, framed_plan}
 use Rattle.burr_frames.proofs.Common.Heres.{element_at}
-use Rattle.std.specs.Prelude.{slice_get, drop}
-use Rattle.std.proofs.lemmas.Option.{none-some, same_Some}
-use Rattle.burr_frames.specs.Rules.FramedPlans.{FramedProcedure, framed_procedure, framed_plan}
-use Rattle.burr_verify.specs.Rules.Judging.{Rest, judging_exit, judging_entry, judging_frames, passes}
-use Rattle.burr_verify.specs.Rules.Pass.{Judgement, Passed, Refuses, FailedCheck}
-use Rattle.burr_verify.specs.Rules.Judging.{nothing}
-use Rattle.burr_verify.specs.Views.Judgements.{PartFrom}
-use Rattle.burr_verify.proofs.Before.{over_exit, over_entry, carry_exit, carry_entry}
+use Rattle.burr_verify.specs.declared.refusal.Refusal.{Refusal}
+use Rattle.burr_verify.specs.Rules.Judging.{Rest, judging_labels, judging_entry, judging_exit, nothing, passes}
+use Rattle.burr_verify.specs.Rules.Pass.{Judgement, Passed, Refuses, FailedCheck, refused}
+use Rattle.burr_verify.specs.Views.Forming.{judging_label}
+use Rattle.burr_verify.specs.Views.Judgements.{PartFrom, failed_check}
+use Rattle.burr_verify.specs.Views.Refusals.{plain_refusal}
+use Rattle.burr_verify.proofs.Before.{Checks, checks_exit, one_framed, part_after, part_refuses}
+use Rattle.burr_verify.proofs.LookedOn.{drop_at}
 
-drop_at : {A : Type 0} (xs : List A) (i : ℕ) (x : A) → slice_get xs i ≡ Some x → drop i xs ≡ x ∷ drop (suc i) xs
-drop_at [] i x e = absurd (none-some x e)
-drop_at (y ∷ ys) zero x e = ap (λ z. z ∷ ys) (same_Some y x e)
-drop_at (y ∷ ys) (suc i) x e = drop_at ys i x e
+-- Of parts that are judged one after the other, `from` judges those from number k on, and `head` the first of them.
+module _ {A : Type 0} (from : ℕ → List A → Rest → Rest) (head : ℕ → A → Rest → Rest)
+    (joins : (k : ℕ) (x : A) (xs : List A) (rest : Rest) (a : Judgement) → head k x (from (suc k) xs rest) a
+    → from k (x ∷ xs) rest a)
+  where
+    pub judged_on : {P : Type 0} (xs : List A) (k : ℕ) (x : A) (part : Rest → Rest) → Checks P (head k x)
+        → slice_get xs k ≡ Some x → head k x passes Passed → PartFrom (from k (drop k xs)) part
+        → PartFrom (from (k + 1) (drop (k + 1) xs)) part
+    judged_on xs k x part checks e holds given =
+        let later = from (suc k) (drop (suc k) xs) in
+        let on : PartFrom (from k (x ∷ drop (suc k) xs)) part =
+        subst (λ (ys : List A). PartFrom (from k ys) part) (drop_at xs k x e) given in
+        subst (λ (n : ℕ). PartFrom (from n (drop n xs)) part) (sym (add-one k)) (
+          (λ well. on.0 (joins k x _ passes Passed (part_after checks holds (later passes) Passed well))),
+          (λ r well. on.1 r (joins k x _ nothing (Refuses r) (part_after checks holds (later nothing) (Refuses r) well))),
+        )
 
--- the frames of one procedure
-abbrev pub one_framed : ℕ → FramedProcedure → Rest → Rest
-one_framed n here rest = judging_exit n here.exit (judging_entry n here.parameters here.labels rest)
+    pub judged_stop : {P : Type 0} (xs : List A) (k : ℕ) (x : A) (part : Rest → Rest) (r : FailedCheck)
+        → Checks P (head k x) → slice_get xs k ≡ Some x → head k x nothing (Refuses r)
+        → PartFrom (from k (drop k xs)) part → part nothing (Refuses r)
+    judged_stop xs k x part r checks e refused given =
+        let on : PartFrom (from k (x ∷ drop (suc k) xs)) part =
+        subst (λ (ys : List A). PartFrom (from k ys) part) (drop_at xs k x e) given in
+        on.1 r (joins k x _ nothing (Refuses r)
+        (part_refuses checks (Refuses r) refused (from (suc k) (drop (suc k) xs) nothing)))
 
--- those of one that is lent, by its number
+    pub judged_end : (xs : List A) (k : ℕ) (part : Rest → Rest) → length xs ≤ k → from k [] passes Passed
+        → PartFrom (from k (drop k xs)) part → part passes Passed
+    judged_end xs k part past none given =
+        let on : PartFrom (from k []) part = subst (λ (ys : List A). PartFrom (from k ys) part) (drop_all k xs past) given in
+        on.0 none
+
+-- Procedures
+
+-- the frames of one that is lent, by its number
 pub framed_lent : (kept : ContainerView) (n : ℕ) (r : ProcedureRef) (here : FramedProcedure) (rest : Rest) (a : Judgement)
     → IsLent kept n r → one_framed r.number here rest a → one_framed n here rest a
 framed_lent kept n r here rest a lent judged = subst (λ (m : ℕ). one_framed m here rest a) lent.number judged
 
--- where its frames hold, what is said after them is said with them
-with_one : (n : ℕ) (here : FramedProcedure) (rest : Rest) (a : Judgement) → one_framed n here passes Passed
-    → rest a → one_framed n here rest a
-with_one n here rest a holds well =
-    (carry_exit n here.exit _ _ a (carry_entry n here.parameters here.labels passes rest a
-    (record { carry = λ e. well }))).carry holds
-
--- where they refuse, whatever is said after them
-refused_by_one : (n : ℕ) (here : FramedProcedure) (rest : Rest) (r : FailedCheck)
-    → one_framed n here nothing (Refuses r) → one_framed n here rest (Refuses r)
-refused_by_one n here rest r refused =
-    elim ((over_exit n here.exit _ _ _ (Refuses r) Passed ⊥ (over_entry n here.parameters here.labels nothing rest passes
-    (Refuses r) Passed ⊥ (record { split = λ h. absurd h }))).split refused) [
-      | inl judged ↦ judged
-      | inr h ↦ absurd h.1
-    ]
-
-pub frames_on : (ps : List FramedProcedure) (i : ℕ) (here : FramedProcedure) (part : Rest → Rest)
-    → slice_get ps i ≡ Some here → one_framed i here passes Passed → PartFrom (judging_frames i (drop i ps)) part
-    → PartFrom (judging_frames (i + 1) (drop (i + 1) ps)) part
-frames_on ps i here part e holds from =
-    let on : PartFrom (judging_frames i (here ∷ drop (suc i) ps)) part =
-    subst (λ (qs : List FramedProcedure). PartFrom (judging_frames i qs) part) (drop_at ps i here e) from in
-    subst (λ (n : ℕ). PartFrom (judging_frames n (drop n ps)) part) (sym (add-one i)) (
-      (λ well. on.0 (with_one i here (judging_frames (suc i) (drop (suc i) ps) passes) Passed holds well)),
-      (λ r well. on.1 r (with_one i here (judging_frames (suc i) (drop (suc i) ps) nothing) (Refuses r) holds well)),
-    )
-
-pub frames_stop : (ps : List FramedProcedure) (i : ℕ) (here : FramedProcedure) (part : Rest → Rest) (r : FailedCheck)
-    → slice_get ps i ≡ Some here → one_framed i here nothing (Refuses r) → PartFrom (judging_frames i (drop i ps)) part
-    → part nothing (Refuses r)
-frames_stop ps i here part r e refused from =
-    let on : PartFrom (judging_frames i (here ∷ drop (suc i) ps)) part =
-    subst (λ (qs : List FramedProcedure). PartFrom (judging_frames i qs) part) (drop_at ps i here e) from in
-    on.1 r (refused_by_one i here (judging_frames (suc i) (drop (suc i) ps) nothing) r refused)
+as_many : (p : Plan) → length (framed_plan p).procedures ≡ length p.procedures
+as_many p = length-map p.procedures framed_procedure
 
 -- the procedure that stands at a number of the plan
 pub here_at : (p : Plan) (i : ℕ) → i < length p.procedures
     → (here : FramedProcedure) × (slice_get (framed_plan p).procedures i ≡ Some here)
-here_at p i l = element_at (framed_plan p).procedures i (subst (λ (m : ℕ). i < m) (sym (length-map p.procedures framed_procedure)) l)
+here_at p i l = element_at (framed_plan p).procedures i (subst (λ (m : ℕ). i < m) (sym (as_many p)) l)
 
-drop_all : {A : Type 0} (xs : List A) (i : ℕ) → length xs ≤ i → drop i xs ≡ []
-drop_all [] zero l = refl
-drop_all [] (suc i) l = refl
-drop_all (x ∷ xs) zero l = absurd (omega (arith, l))
-drop_all (x ∷ xs) (suc i) l = drop_all xs i (omega (arith, l))
+pub past_all : (p : Plan) (i : ℕ) → length p.procedures ≤ i → length (framed_plan p).procedures ≤ i
+past_all p i l = subst (λ (m : ℕ). m ≤ i) (sym (as_many p)) l
 
-pub none_after : (p : Plan) (i : ℕ) → length p.procedures ≤ i → drop i (framed_plan p).procedures ≡ []
-none_after p i l =
-    drop_all (framed_plan p).procedures i (subst (λ (m : ℕ). m ≤ i) (sym (length-map p.procedures framed_procedure)) l)
+-- Labels
 
--- where none is left, all holds
-pub frames_end : (p : Plan) (i : ℕ) (part : Rest → Rest) → length p.procedures ≤ i
-    → PartFrom (judging_frames i (drop i (framed_plan p).procedures)) part → part passes Passed
-frames_end p i part l from =
-    let on : PartFrom (judging_frames i []) part =
-    subst (λ (qs : List FramedProcedure). PartFrom (judging_frames i qs) part) (none_after p i l) from in on.0 refl
+-- the frames of these labels; the first of them is label k
+abbrev pub judging_from : ℕ → ℕ → ℕ → List (ℕ × Frame) → Rest → Rest
+judging_from n parameters zero labels = judging_entry n parameters labels
+judging_from n parameters (suc k) labels = judging_labels n parameters labels
+
+pub label_joins : (n parameters k : ℕ) (label : ℕ × Frame) (labels : List (ℕ × Frame)) (rest : Rest) (a : Judgement)
+    → judging_label n parameters k label (judging_from n parameters (suc k) labels rest) a
+    → judging_from n parameters k (label ∷ labels) rest a
+label_joins n parameters zero label labels rest a judged = judged
+label_joins n parameters (suc k) label labels rest a judged = judged
+
+pub no_labels : (n parameters k : ℕ) → judging_from n parameters k [] passes Passed
+no_labels n parameters zero = refl
+no_labels n parameters (suc k) = refl
+
+-- Exit frames
+
+-- where that of a procedure holds, what its labels come to is what all frames come to
+pub after_exit : (n parameters : ℕ) (exit : Option FramedExit) (labels : List (ℕ × Frame))
+    → judging_exit n exit passes Passed
+    → PartFrom (judging_from n parameters 0 labels) (λ rest. judging_exit n exit (judging_entry n parameters labels rest))
+after_exit n parameters exit labels holds = (
+  (λ well. part_after (checks_exit n exit) holds (judging_entry n parameters labels passes) Passed well),
+  (λ r well. part_after (checks_exit n exit) holds (judging_entry n parameters labels nothing) (Refuses r) well),
+)
+
+-- that of the procedure is the one that is read
+pub exit_read : (n : ℕ) (exit read : Option FramedExit) (rest : Rest) (a : Judgement) → exit ≡ read
+    → judging_exit n read rest a → judging_exit n exit rest a
+exit_read n exit read rest a e judged = subst (λ (x : Option FramedExit). judging_exit n x rest a) (sym e) judged
+
+-- Refusals
+
+-- a refusal that names nothing but the rule and the place
+pub plainly_refused : (r : Refusal) (proc pc n at : ℕ) (rule : Rule) → r ≡ plain_refusal proc pc rule → proc ≡ n → pc ≡ at
+    → Refuses (failed_check r) ≡ refused n at rule
+plainly_refused r proc pc n at rule e f g =
+    ap (λ (x : Refusal). Refuses (failed_check x)) e ∙ ap (λ (k : ℕ). refused k pc rule) f
+    ∙ ap (λ (k : ℕ). refused n k rule) g

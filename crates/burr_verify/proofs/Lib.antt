@@ -3,20 +3,16 @@ mod Before
 mod Beginnings
 pub mod Common
 mod Containers
-mod Exact
-mod Failure
 mod FewLooks
 mod Formed
 mod Framings
 mod JudgedOn
 mod LabelPlaces
-mod LabelsJudged
 mod LookedOn
 mod Looking
 mod OnePass
 mod Parts
 mod PassCuts
-mod PassLooks
 mod PointNumbers
 mod SomePass
 mod Stages

@@ -1,31 +1,26 @@
--- A pass comes to a judgement, and so does the whole.
-use Rattle.std.proofs.Common.{◌≡◌, ◌≢◌, ℕ, zero, suc, ◌+◌, ◌<◌, ◌≤◌, ℤ, List, [], ◌∷◌, length, Option, Some, None, refl, ap, ◌∙◌, inl, inr, arith}
-use Rattle.std.specs.Prelude.{pos, slice_get, if◌then◌else◌, ◌==◌, Bool, false}
+-- A pass comes to a judgement, and what is judged of frames is decided.
+use Rattle.std.proofs.Common.{◌≡◌, ◌≢◌, ℕ, zero, suc, ◌+◌, ◌<◌, ◌≤◌, ℤ, List, [], ◌∷◌, length, Option, Some, None, refl, ap, inl, inr, arith}
+use Rattle.std.specs.Prelude.{slice_get, if◌then◌else◌, ◌==◌}
+use Rattle.std.proofs.lemmas.Bool.Decides.{nat_tests}
 use Rattle.std.proofs.lemmas.Option.{none-some, same_Some, slice_get_within}
-use Rattle.burr_text.proofs.Common.Decisions.{Decided, decided_like, decided_and, decided_and_three, decided_not, decide_same, decide_below, decide_at_most, decide_some_below, decide_same_bytes, decide_empty}
+use Rattle.burr_text.proofs.Common.Decisions.{Decided, decided_like, decided_and, decided_and_three, decided_not, decide_same, decide_below, decide_at_most, decide_some_below, decide_empty}
 use Rattle.burr_voxels.specs.declared.cell.Cell.{Cell}
 use Rattle.burr_code.specs.declared.placement.Placement.{Placement}
 use Rattle.burr_code.specs.declared.placement.Placement.TheVariants.{Apart, On}
 use Rattle.burr_code.specs.Places.{count_in}
 use Rattle.burr_code.specs.Instruction.{Instruction, spelled, StandsAt}
-use Rattle.burr_code.proofs.Common.Orders.{decide_le}
 use Rattle.burr_code.proofs.Common.Reading.{decide_stands}
-use Rattle.burr_forms.specs.Rules.Forms.{value}
-use Rattle.burr_forms.specs.Rules.Points.{box_size}
 use Rattle.burr_container.specs.Rules.Plans.{FormCell, Frame}
 use Rattle.burr_frames.specs.Rules.FramedPlans.{FramedExit, FramedProcedure, FramedPlan}
-use Rattle.burr_frames.specs.Rules.States.{AbstractState, state_of, live_ranges}
+use Rattle.burr_frames.specs.Rules.States.{AbstractState, state_of}
 use Rattle.burr_frames.specs.Rules.Verdicts.{Broken, Verdict, Breaks, FallsThrough, NoSuccessor, arriving, no_successor}
 use Rattle.burr_frames.specs.Rules.Transfer.{Transfer}
 use Rattle.burr_code.proofs.Common.Conditions.{decided_implies, decide_all_numbers, decide_all_lie}
-use Rattle.burr_frames.proofs.Common.Decided.{decide_meets}
-use Rattle.burr_code.proofs.Common.Checked.{HasOne, some_given, some_needed, some_found, some_built}
+use Rattle.burr_code.proofs.Common.Checked.{HasOne, some_built}
 use Rattle.burr_frames.proofs.Common.SomeVerdict.{some_verdict}
 use Rattle.burr_frames.proofs.Common.Built.{arriving_is_built}
-use Rattle.burr_frames.specs.Rules.Starts.{start_state}
 use Rattle.burr_verify.specs.Rules.WellFramed.{IsLabelled, IsFormed, IsFormedEntry, IsFormedExit, HasNoLonePiece}
-use Rattle.burr_verify.specs.Rules.Pass.{Judgement, Passed, Refuses, Stage, BeforeInstruction, AtInstruction, pass_start, Hides, Pass, ends, falls_off, lacks_frame, resumes, misses, arrives, goes_on, lacks_instruction, hides, breaks, falls_through, stops}
-use Rattle.burr_verify.specs.Rules.Judging.{Rest, judging_labels, judging_entry, judging_exit, judging_frames, judging_start, judging_code, go_on, passes, Judging}
+use Rattle.burr_verify.specs.Rules.Pass.{Passed, Stage, BeforeInstruction, AtInstruction, pass_start, Hides, Pass, ends, falls_off, lacks_frame, resumes, misses, arrives, goes_on, lacks_instruction, hides, breaks, falls_through, stops}
 use Rattle.burr_verify.proofs.OnePass.{arrives_where_leaves}
 use Rattle.burr_verify.proofs.PassCuts.{stands_within, spelled_some}
 
@@ -53,115 +48,93 @@ decide_hides here pc i =
 
 -- A pass
 
-abbrev SomePass : List (List Cell) → FramedPlan → ℕ → FramedProcedure → Stage → Type 0
-SomePass homes plan n here stage = (j : Judgement) × Pass homes plan n here stage j
+module _ (homes : List (List Cell)) (plan : FramedPlan) (n : ℕ) (here : FramedProcedure) where
+  abbrev SomePass : Stage → Type 0
+  SomePass stage = HasOne (Pass homes plan n here stage)
 
--- where the instruction that stands at pc leads on, the pass has a judgement
-by_verdict : (homes : List (List Cell)) (plan : FramedPlan) (n : ℕ) (here : FramedProcedure) (pc : ℕ)
-    (s : AbstractState) (i : Instruction) → StandsAt here.code pc i → (¬ Hides here pc i)
-    → (v : Verdict) → Transfer homes plan n here s i v
-    → ((falling : Option AbstractState) → SomePass homes plan n here (BeforeInstruction pc (pc + length (spelled i)) falling))
-    → SomePass homes plan n here (AtInstruction pc s)
-by_verdict homes plan n here pc s i stands bare (Breaks break) rule later = (_, breaks pc s i break stands bare rule)
-by_verdict homes plan n here pc s i stands bare (FallsThrough t) rule later =
-    let rest = later (Some t) in (rest.0, falls_through pc s t i rest.0 stands bare rule rest.1)
-by_verdict homes plan n here pc s i stands bare NoSuccessor rule later =
-    let rest = later None in (rest.0, stops pc s i rest.0 stands bare rule rest.1)
+  -- whatever falls out of an instruction of this size
+  abbrev SomeAfter : ℕ → Instruction → Type 0
+  SomeAfter pc i = (out : Option AbstractState) → SomePass (BeforeInstruction pc (pc + length (spelled i)) out)
 
-by_hidden : (homes : List (List Cell)) (plan : FramedPlan) (n : ℕ) (here : FramedProcedure) (pc : ℕ)
-    (s : AbstractState) (i : Instruction) → StandsAt here.code pc i → Decided (Hides here pc i)
-    → ((falling : Option AbstractState) → SomePass homes plan n here (BeforeInstruction pc (pc + length (spelled i)) falling))
-    → SomePass homes plan n here (AtInstruction pc s)
-by_hidden homes plan n here pc s i stands (inl hidden) later = (_, hides pc s i stands hidden)
-by_hidden homes plan n here pc s i stands (inr bare) later =
-    let v = some_verdict homes plan n here s i in by_verdict homes plan n here pc s i stands bare v.0 v.1 later
+  -- where the instruction that stands at pc leads on, the pass has a judgement
+  by_verdict : (pc : ℕ) (s : AbstractState) (i : Instruction) → StandsAt here.code pc i → (¬ Hides here pc i)
+      → (v : Verdict) → Transfer homes plan n here s i v → SomeAfter pc i → SomePass (AtInstruction pc s)
+  by_verdict pc s i stands bare (Breaks break) rule later = (_, breaks pc s i break stands bare rule)
+  by_verdict pc s i stands bare (FallsThrough t) rule later =
+      let rest = later (Some t) in (rest.0, falls_through pc s t i rest.0 stands bare rule rest.1)
+  by_verdict pc s i stands bare NoSuccessor rule later =
+      let rest = later None in (rest.0, stops pc s i rest.0 stands bare rule rest.1)
 
--- a label, or none, and a state, or none
-arrived_or_not : (homes : List (List Cell)) (plan : FramedPlan) (n : ℕ) (here : FramedProcedure) (last pc : ℕ)
-    (s : AbstractState) (f : Frame) → pc ≢ length here.code → IsLabelled here pc f → (v : Verdict)
-    → arriving s f no_successor v
-    → ((t : AbstractState) → SomePass homes plan n here (AtInstruction pc t))
-    → SomePass homes plan n here (BeforeInstruction last pc (Some s))
-arrived_or_not homes plan n here last pc s f more labelled (Breaks break) missed at =
-    (_, misses last pc s f break more labelled missed)
-arrived_or_not homes plan n here last pc s f more labelled (FallsThrough t) arrived at = absurd (never_falls s f t arrived)
-  where
-    falls_through-breaks : (t : AbstractState) (b : Broken) → ¬ (FallsThrough t ≡ Breaks b)
-    falls_through-breaks t b e = cc
+  by_hidden : (pc : ℕ) (s : AbstractState) (i : Instruction) → StandsAt here.code pc i → Decided (Hides here pc i)
+      → SomeAfter pc i → SomePass (AtInstruction pc s)
+  by_hidden pc s i stands (inl hidden) later = (_, hides pc s i stands hidden)
+  by_hidden pc s i stands (inr bare) later =
+      let v = some_verdict homes plan n here s i in by_verdict pc s i stands bare v.0 v.1 later
 
-    falls_through-no_successor : (t : AbstractState) → ¬ (FallsThrough t ≡ NoSuccessor)
-    falls_through-no_successor t e = cc
+  -- a label, or none, and a state, or none
+  arrived_or_not : (last pc : ℕ) (s : AbstractState) (f : Frame) → pc ≢ length here.code → IsLabelled here pc f
+      → (v : Verdict) → arriving s f no_successor v → ((t : AbstractState) → SomePass (AtInstruction pc t))
+      → SomePass (BeforeInstruction last pc (Some s))
+  arrived_or_not last pc s f more labelled (Breaks break) missed at = (_, misses last pc s f break more labelled missed)
+  arrived_or_not last pc s f more labelled (FallsThrough t) arrived at = absurd (never_falls arrived)
+    where
+      falls_through-breaks : (b : Broken) → ¬ (FallsThrough t ≡ Breaks b)
+      falls_through-breaks b e = cc
 
-    never_falls : (s : AbstractState) (f : Frame) (t : AbstractState) → ¬ arriving s f no_successor (FallsThrough t)
-    never_falls s f t (inl h) = falls_through-breaks t _ h.1
-    never_falls s f t (inr (forms, known, inl h)) = falls_through-breaks t _ h.1
-    never_falls s f t (inr (forms, known, inr (alike, inl h))) = falls_through-breaks t _ h.2
-    never_falls s f t (inr (forms, known, inr (alike, inr h))) = falls_through-no_successor t h.1
-arrived_or_not homes plan n here last pc s f more labelled NoSuccessor arrived at =
-    let rest = at (state_of f) in
-    (rest.0, arrives last pc s f rest.0 more labelled (arrives_where_leaves s f arrived) rest.1)
+      falls_through-no_successor : ¬ (FallsThrough t ≡ NoSuccessor)
+      falls_through-no_successor e = cc
 
-coming : (homes : List (List Cell)) (plan : FramedPlan) (n : ℕ) (here : FramedProcedure) (last pc : ℕ)
-    (falling : Option AbstractState) → pc ≢ length here.code → Decided ((f : Frame) × IsLabelled here pc f)
-    → ((t : AbstractState) → SomePass homes plan n here (AtInstruction pc t))
-    → SomePass homes plan n here (BeforeInstruction last pc falling)
-coming homes plan n here last pc None more (inr none) at =
-    (_, lacks_frame last pc more (λ f labelled. none (f, labelled)))
-coming homes plan n here last pc None more (inl found) at =
-    let rest = at (state_of found.0) in (rest.0, resumes last pc found.0 rest.0 more found.1 rest.1)
-coming homes plan n here last pc (Some s) more (inr none) at =
-    let rest = at s in (rest.0, goes_on last pc s rest.0 more (λ f labelled. none (f, labelled)) rest.1)
-coming homes plan n here last pc (Some s) more (inl found) at =
-    let v = some_built (arriving_is_built s found.0) in
-    arrived_or_not homes plan n here last pc s found.0 more found.1 v.0 v.1 at
+      never_falls : ¬ arriving s f no_successor (FallsThrough t)
+      never_falls (inl h) = falls_through-breaks _ h.1
+      never_falls (inr (forms, known, inl h)) = falls_through-breaks _ h.1
+      never_falls (inr (forms, known, inr (alike, inl h))) = falls_through-breaks _ h.2
+      never_falls (inr (forms, known, inr (alike, inr h))) = falls_through-no_successor h.1
+  arrived_or_not last pc s f more labelled NoSuccessor arrived at =
+      let rest = at (state_of f) in
+      (rest.0, arrives last pc s f rest.0 more labelled (arrives_where_leaves s f arrived) rest.1)
 
-at_end : (homes : List (List Cell)) (plan : FramedPlan) (n : ℕ) (here : FramedProcedure) (last pc : ℕ)
-    (falling : Option AbstractState) → pc ≡ length here.code → SomePass homes plan n here (BeforeInstruction last pc falling)
-at_end homes plan n here last pc None e = (Passed, ends last pc e)
-at_end homes plan n here last pc (Some s) e = (_, falls_off last pc s e)
+  coming : (last pc : ℕ) (falling : Option AbstractState) → pc ≢ length here.code
+      → Decided ((f : Frame) × IsLabelled here pc f) → ((t : AbstractState) → SomePass (AtInstruction pc t))
+      → SomePass (BeforeInstruction last pc falling)
+  coming last pc None more (inr none) at = (_, lacks_frame last pc more (λ f labelled. none (f, labelled)))
+  coming last pc None more (inl found) at =
+      let rest = at (state_of found.0) in (rest.0, resumes last pc found.0 rest.0 more found.1 rest.1)
+  coming last pc (Some s) more (inr none) at =
+      let rest = at s in (rest.0, goes_on last pc s rest.0 more (λ f labelled. none (f, labelled)) rest.1)
+  coming last pc (Some s) more (inl found) at =
+      let v = some_built (arriving_is_built s found.0) in arrived_or_not last pc s found.0 more found.1 v.0 v.1 at
 
--- where each instruction that stands at pc leads on, the pass has a judgement
-some_stage : (homes : List (List Cell)) (plan : FramedPlan) (n : ℕ) (here : FramedProcedure) (last pc : ℕ)
-    (falling : Option AbstractState)
-    → ((i : Instruction) → StandsAt here.code pc i → (out : Option AbstractState)
-    → SomePass homes plan n here (BeforeInstruction pc (pc + length (spelled i)) out))
-    → SomePass homes plan n here (BeforeInstruction last pc falling)
-some_stage homes plan n here last pc falling later = by_end (decide_same pc (length here.code))
-  where
-    instruction : (s : AbstractState) → Decided ((i : Instruction) × StandsAt here.code pc i)
-        → SomePass homes plan n here (AtInstruction pc s)
-    instruction s (inr none) = (_, lacks_instruction pc s (λ i stands. none (i, stands)))
-    instruction s (inl (i, stands)) =
-        by_hidden homes plan n here pc s i stands (decide_hides here pc i) (λ out. later i stands out)
+  at_end : (last pc : ℕ) (falling : Option AbstractState) → pc ≡ length here.code
+      → SomePass (BeforeInstruction last pc falling)
+  at_end last pc None e = (Passed, ends last pc e)
+  at_end last pc (Some s) e = (_, falls_off last pc s e)
 
-    by_end : Decided (pc ≡ length here.code) → SomePass homes plan n here (BeforeInstruction last pc falling)
-    by_end (inl e) = at_end homes plan n here last pc falling e
-    by_end (inr more) =
-        coming homes plan n here last pc falling more (decide_labelled here pc)
-        (λ s. instruction s (decide_stands here.code pc))
+  -- where each instruction that stands at pc leads on, the pass has a judgement
+  some_stage : (last pc : ℕ) (falling : Option AbstractState)
+      → ((i : Instruction) → StandsAt here.code pc i → SomeAfter pc i) → SomePass (BeforeInstruction last pc falling)
+  some_stage last pc falling later = by_end (decide_same pc (length here.code))
+    where
+      instruction : (s : AbstractState) → Decided ((i : Instruction) × StandsAt here.code pc i) → SomePass (AtInstruction pc s)
+      instruction s (inr none) = (_, lacks_instruction pc s (λ i stands. none (i, stands)))
+      instruction s (inl (i, stands)) = by_hidden pc s i stands (decide_hides here pc i) (later i stands)
 
-past_end : (pc size : ℕ) → size ≤ pc + 0 → pc < size → ⊥
-past_end pc size enough within = omega arith
+      by_end : Decided (pc ≡ length here.code) → SomePass (BeforeInstruction last pc falling)
+      by_end (inl e) = at_end last pc falling e
+      by_end (inr more) =
+          coming last pc falling more (decide_labelled here pc) (λ s. instruction s (decide_stands here.code pc))
 
-one_more : (pc size bytes fuel : ℕ) → size ≤ pc + suc fuel → 0 < bytes → size ≤ (pc + bytes) + fuel
-one_more pc size bytes fuel enough some = omega arith
+  -- by what is left of the code
+  some_from : (fuel last pc : ℕ) (falling : Option AbstractState) → length here.code ≤ pc + fuel
+      → SomePass (BeforeInstruction last pc falling)
+  some_from zero last pc falling enough =
+      some_stage last pc falling (λ i stands out. absurd (omega (arith, enough, stands_within here.code pc i stands)))
+  some_from (suc fuel) last pc falling enough =
+      some_stage last pc falling (λ i stands out. some_from fuel pc (pc + length (spelled i)) out
+      (omega (arith, enough, spelled_some i)))
 
--- by what is left of the code
-some_from : (homes : List (List Cell)) (plan : FramedPlan) (n : ℕ) (here : FramedProcedure) (fuel last pc : ℕ)
-    (falling : Option AbstractState) → length here.code ≤ pc + fuel
-    → SomePass homes plan n here (BeforeInstruction last pc falling)
-some_from homes plan n here zero last pc falling enough =
-    some_stage homes plan n here last pc falling
-    (λ i stands out. absurd (past_end pc (length here.code) enough (stands_within here.code pc i stands)))
-some_from homes plan n here (suc fuel) last pc falling enough =
-    some_stage homes plan n here last pc falling
-    (λ i stands out. some_from homes plan n here fuel pc (pc + length (spelled i)) out
-    (one_more pc (length here.code) (length (spelled i)) fuel enough (spelled_some i)))
-
--- A pass comes to a judgement.
-pub some_judgement : (homes : List (List Cell)) (plan : FramedPlan) (n : ℕ) (here : FramedProcedure)
-    → SomePass homes plan n here pass_start
-some_judgement homes plan n here = some_from homes plan n here (length here.code) 0 0 None (omega arith)
+  -- A pass comes to a judgement.
+  pub some_judgement : SomePass pass_start
+  some_judgement = some_from (length here.code) 0 0 None (omega arith)
 
 -- Frames
 
@@ -171,28 +144,19 @@ past_trays [] = 0
 past_trays (Apart ∷ places) = past_trays places
 past_trays (On tray c ∷ places) = suc tray + past_trays places
 
+one_past : (t tray rest count : ℕ) → suc t + rest ≤ tray → count ≡ 0 → (if t == tray then 1 else 0) + count ≡ 0
+one_past t tray rest count far none = grind (arith, nat_tests)
+
 none_past : (places : List (Placement FormCell)) (tray : ℕ) → past_trays places ≤ tray → count_in tray places ≡ 0
 none_past [] tray far = refl
 none_past (Apart ∷ places) tray far = let rest = none_past places tray far in omega (arith, rest)
 none_past (On t c ∷ places) tray far =
-    let rest = none_past places tray (omega (arith, far)) in
-    let differ : ¬ (t ≡ tray) = differs t tray (past_trays places) far in
-    ap (λ (b : Bool). (if b then 1 else 0) + count_in tray places) (not_same t tray differ)
-    ∙ (let r = rest in omega arith)
-  where
-    differs : (t tray rest : ℕ) → suc t + rest ≤ tray → ¬ (t ≡ tray)
-    differs t tray rest far e = omega arith
-
-    not_same : (a b : ℕ) → ¬ (a ≡ b) → (a == b) ≡ false
-    not_same a b h = grind arith
+    one_past t tray (past_trays places) (count_in tray places) far (none_past places tray (omega (arith, far)))
 
 decide_lone : (places : List (Placement FormCell)) → Decided (HasNoLonePiece places)
 decide_lone places =
     decide_all_numbers (λ tray. count_in tray places ≢ 1) (λ tray. decided_not (decide_same (count_in tray places) 1))
-    (past_trays places) (λ tray far e. none_or_one (none_past places tray far) e)
-  where
-    none_or_one : {n : ℕ} → n ≡ 0 → n ≡ 1 → ⊥
-    none_or_one e f = omega arith
+    (past_trays places) (λ tray far e. omega (arith, none_past places tray far, e))
 
 some_range : (slot : Option (Option (ℤ × ℤ))) → Decided ((range : ℤ × ℤ) × (slot ≡ Some (Some range)))
 some_range None = inr (λ found. none-some _ found.1)
@@ -206,7 +170,7 @@ HasRange f v = (range : ℤ × ℤ) × (slice_get f.slots v ≡ Some (Some range
 decide_range : (f : Frame) (v : ℕ) → Decided (HasRange f v)
 decide_range f v = some_range (slice_get f.slots v)
 
-decide_formed : (parameters : ℕ) (f : Frame) → Decided (IsFormed parameters f)
+pub decide_formed : (parameters : ℕ) (f : Frame) → Decided (IsFormed parameters f)
 decide_formed parameters f =
     decided_like (λ all. record { live = all.0; gripped = all.1; trays = all.2 })
     (λ (h : IsFormed parameters f). (h.live, h.gripped, h.trays))
@@ -218,7 +182,7 @@ decide_formed parameters f =
         (λ v. decided_implies (decide_below v parameters) (decide_range f v)) parameters
         (λ v far below. absurd (omega arith))
 
-decide_entry : (parameters : ℕ) (f : Frame) → Decided (IsFormedEntry parameters f)
+pub decide_entry : (parameters : ℕ) (f : Frame) → Decided (IsFormedEntry parameters f)
 decide_entry parameters f =
     decided_like (λ both. record { alone = λ v from range e. both.0 v from (range, e); bare = both.1 })
     (λ (h : IsFormedEntry parameters f). ((λ v from found. h.alone v from found.0 found.1), h.bare))
@@ -233,61 +197,7 @@ decide_entry parameters f =
         (λ v. decided_implies (decide_at_most parameters v) (decided_not (decide_range f v)))
         (length f.slots) (λ v far from found. past f v far found.0 found.1)
 
-decide_formed_exit : (f : FramedExit) → Decided (IsFormedExit f)
+pub decide_formed_exit : (f : FramedExit) → Decided (IsFormedExit f)
 decide_formed_exit f =
     decided_like (λ both. record { gripped = both.0; trays = both.1 }) (λ (h : IsFormedExit f). (h.gripped, h.trays))
     (decided_and (decide_all_lie f.places f.tray f.grip) (decide_lone f.places))
-
--- The whole
-
-some_labels : (n parameters : ℕ) (labels : List (ℕ × Frame)) (rest : Rest) → HasOne rest
-    → HasOne (judging_labels n parameters labels rest)
-some_labels n parameters [] rest one = one
-some_labels n parameters (label ∷ labels) rest one =
-    some_needed _ _ _ (decide_formed parameters label.1)
-    (some_needed _ _ _ (decide_at_most (box_size (live_ranges label.1.slots)) 4096)
-    (some_labels n parameters labels rest one))
-
-some_entry : (n parameters : ℕ) (labels : List (ℕ × Frame)) (rest : Rest) → HasOne rest
-    → HasOne (judging_entry n parameters labels rest)
-some_entry n parameters [] rest one = one
-some_entry n parameters (label ∷ labels) rest one =
-    some_needed _ _ _ (decided_and (decide_formed parameters label.1) (decide_entry parameters label.1))
-    (some_needed _ _ _ (decide_at_most (box_size (live_ranges label.1.slots)) 4096)
-    (some_labels n parameters labels rest one))
-
-some_exit : (n : ℕ) (exit : Option FramedExit) (rest : Rest) → HasOne rest → HasOne (judging_exit n exit rest)
-some_exit n None rest one = one
-some_exit n (Some f) rest one = some_needed _ _ _ (decide_formed_exit f) one
-
-some_frames : (n : ℕ) (procedures : List FramedProcedure) (rest : Rest) → HasOne rest
-    → HasOne (judging_frames n procedures rest)
-some_frames n [] rest one = one
-some_frames n (here ∷ procedures) rest one =
-    some_exit n here.exit _ (some_entry n here.parameters here.labels _ (some_frames (suc n) procedures rest one))
-
-some_start : (homes : List (List Cell)) (plan : FramedPlan) (rest : Rest) → HasOne rest
-    → HasOne (judging_start homes plan rest)
-some_start homes plan rest one =
-    some_found _ _ _ λ main at. some_found _ _ _ λ f first. some_needed _ _ _ (decide_meets (start_state homes) f)
-    (some_needed _ _ _ (decide_le (value [] f.cost) (pos plan.budget)) one)
-
-some_then : (j : Judgement) (rest : Rest) → HasOne rest → HasOne (go_on j rest)
-some_then Passed rest one = one
-some_then (Refuses refusal) rest one = some_given _
-
-some_code : (homes : List (List Cell)) (plan : FramedPlan) (n : ℕ) (procedures : List FramedProcedure) (rest : Rest)
-    → HasOne rest → HasOne (judging_code homes plan n procedures rest)
-some_code homes plan n [] rest one = one
-some_code homes plan n (here ∷ procedures) rest one =
-    let pass = some_judgement homes plan n here in
-    let later = some_code homes plan (suc n) procedures rest one in
-    let more = some_then pass.0 (judging_code homes plan (suc n) procedures rest) later in
-    (more.0, (pass.0, pass.1, more.1))
-
--- A plan has a judgement.
-pub some_judging : (name : List ℕ) (homes : List (List Cell)) (plan : FramedPlan) → HasOne (Judging name homes plan)
-some_judging name homes plan =
-    some_needed _ _ _ (decided_and (decide_same_bytes plan.name name) (decide_same plan.pieces (length homes)))
-    (some_frames 0 plan.procedures _ (some_start homes plan _
-    (some_code homes plan 0 plan.procedures passes (some_given Passed))))

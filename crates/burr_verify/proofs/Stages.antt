@@ -1,33 +1,27 @@
 -- How a pass goes on from one stage to another, and where it stops, each with its looks.
-use Rattle.std.proofs.Common.{◌≡◌, ◌≢◌, ℕ, ◌+◌, ◌<◌, ◌≤◌, List, length, Option, Some, None, refl, sym, subst, ap, ◌∙◌, arith}
+use Rattle.std.proofs.Common.{◌≡◌, ◌≢◌, ℕ, ◌+◌, ◌<◌, ◌≤◌, List, length, Option, Some, None, refl, sym, subst, ap, ◌∙◌, inl, inr, arith}
 use Rattle.std.specs.Prelude.{slice_get, true, false}
 use Rattle.std.specs.Option.{is_some}
 use Rattle.std.proofs.lemmas.Bool.{false≢true}
-use Rattle.std.proofs.lemmas.Option.{same_Some, slice_get_within}
 use Rattle.burr_voxels.specs.declared.cell.Cell.{Cell}
-use Rattle.burr_code.specs.Instruction.{Instruction, spelled, StandsAt}
+use Rattle.burr_code.specs.Instruction.{Instruction, spelled}
 use Rattle.burr_forms.specs.Rules.Forms.{Point}
-use Rattle.burr_container.specs.declared.frame_ref.FrameRef.{FrameRef}
 use Rattle.burr_container.specs.Rules.Plans.{Plan, Frame}
-use Rattle.burr_container.specs.Views.Refs.{frame_of}
-use Rattle.burr_container.specs.Views.Containers.{ContainerView, IsContainer, OfLabel, OfProcedure}
+use Rattle.burr_container.specs.Views.Containers.{ContainerView, IsContainer, OfProcedure}
 use Rattle.burr_frames.specs.Views.ArrivalViews.{missed_at}
 use Rattle.burr_frames.specs.Views.Breaks.{missed_break}
-use Rattle.burr_frames.specs.Rules.FramedPlans.{FramedProcedure, FramedPlan, framed, framed_label, framed_plan}
-use Rattle.burr_frames.specs.Rules.Looks.{RuleLooks}
+use Rattle.burr_frames.specs.Rules.FramedPlans.{FramedProcedure, FramedPlan, framed_plan}
 use Rattle.burr_frames.specs.Rules.States.{AbstractState, state_of}
-use Rattle.burr_frames.specs.Rules.Transfer.{Transfer}
-use Rattle.burr_frames.specs.Rules.Verdicts.{Broken, Breaks, FallsThrough, NoSuccessor, arriving, no_successor}
+use Rattle.burr_frames.specs.Rules.Verdicts.{Broken, Breaks, NoSuccessor, arriving, no_successor}
 use Rattle.burr_frames.specs.declared.rule.Rule.TheVariants as rules
 use Rattle.burr_verify.specs.declared.refusal.Refusal.{Refusal}
 use Rattle.burr_verify.specs.Views.Refusals.{plain_refusal}
-use Rattle.burr_verify.specs.Rules.WellFramed.{IsLabelled, HasNoLabel}
-use Rattle.burr_verify.specs.Views.LookViews.{LooksOn, LooksStop}
-use Rattle.burr_verify.specs.Rules.Pass.{Judgement, Passed, Refuses, Stage, BeforeInstruction, AtInstruction, Hides, broken, misses, ends, falls_off}
+use Rattle.burr_verify.specs.Rules.WellFramed.{Enters, IsLabelled, HasNoLabel}
+use Rattle.burr_verify.specs.Views.LookViews.{LooksStop}
+use Rattle.burr_verify.specs.Rules.Pass.{Judgement, Passed, Refuses, Stage, BeforeInstruction, Hides, broken, misses, ends, falls_off}
 use Rattle.burr_verify.specs.Rules.PassLooks.{LookedPass}
 use Rattle.burr_verify.specs.Views.Judgements.{ArrivesIfAny, IsLabelWithin, failed_check}
-use Rattle.burr_frames.proofs.Common.Heres.{procedure_here, label_here, element_at, as_many_labels}
-use Rattle.burr_verify.proofs.LookedOn.{looks_resumed, looks_arrived, looks_fallen, looks_left}
+use Rattle.burr_frames.proofs.Common.Heres.{procedure_here}
 use Rattle.burr_verify.proofs.OnePass.{arrives_where_leaves}
 
 -- Labels
@@ -41,18 +35,6 @@ at_label here pc n l e from before =
     let same : l.0 ≡ pc = omega (arith, from, before) in
     (n, subst (λ (m : ℕ). slice_get here.labels n ≡ Some (m, l.1)) same e)
 
--- the frame that was read is that of the label
-pub frame_read : (kept : ContainerView) (i n : ℕ) (f : FrameRef) → OfLabel kept i n (λ l. frame_of f ≡ l.1)
-    → (p : Plan) (here : FramedProcedure) → IsContainer kept p → slice_get (framed_plan p).procedures i ≡ Some here
-    → (x : ℕ × Frame) → slice_get here.labels n ≡ Some x → framed (frame_of f) ≡ x.1
-frame_read kept i n f reads p here is at x standing =
-    let found = procedure_here p i here at in
-    let q = found.0 in
-    let inside : n < length q.labels = subst (λ (m : ℕ). n < m) (as_many_labels q here found.2) (slice_get_within here.labels n x standing) in
-    let l = element_at q.labels n inside in
-    let same : x ≡ framed_label l.0 = same_Some _ _ (sym standing ∙ label_here q here n l.0 found.2 l.1) in
-    ap framed (reads p q is found.1 l.0 l.1) ∙ sym (ap (λ (y : ℕ × Frame). y.1) same)
-
 -- Before a place
 
 pub missed : (s : AbstractState) (f : Frame) (o : Option Point) → arriving s f no_successor (missed_at o)
@@ -60,17 +42,16 @@ pub missed : (s : AbstractState) (f : Frame) (o : Option Point) → arriving s f
 missed s f None h = h
 missed s f (Some point) h = h
 
--- what falls in, if a state does, arrives at the frame, and the frame's state goes on
-pub enters_label : (homes : List (List Cell)) (plan : FramedPlan) (n : ℕ) (here : FramedProcedure) (last pc : ℕ) (f : Frame)
-    (falling : Option AbstractState) (s : AbstractState) → pc ≢ length here.code → IsLabelled here pc f
-    → ArrivesIfAny falling f NoSuccessor → s ≡ state_of f
-    → LooksOn homes plan n here (BeforeInstruction last pc falling) (AtInstruction pc s) 0
-enters_label homes plan n here last pc f None s more labelled arrived same =
-    subst (λ (t : AbstractState). LooksOn homes plan n here (BeforeInstruction last pc None) (AtInstruction pc t) 0) (sym same)
-    (looks_resumed homes plan n here last pc f more labelled)
-enters_label homes plan n here last pc f (Some t) s more labelled arrived same =
-    subst (λ (u : AbstractState). LooksOn homes plan n here (BeforeInstruction last pc (Some t)) (AtInstruction pc u) 0) (sym same)
-    (looks_arrived homes plan n here last pc t f more labelled (arrives_where_leaves t f arrived))
+-- what falls in, if a state does, arrives at the frame, whose state goes on
+pub enters_label : (here : FramedProcedure) (pc : ℕ) (f : Frame) (falling : Option AbstractState) (s : AbstractState)
+    → IsLabelled here pc f → ArrivesIfAny falling f NoSuccessor → s ≡ state_of f → Enters here pc falling s
+enters_label here pc f None s labelled arrived same = (f, labelled, same)
+enters_label here pc f (Some t) s labelled arrived same = inl (f, labelled, arrives_where_leaves t f arrived, same)
+
+-- and where there is no frame it goes on itself
+pub enters_bare : (here : FramedProcedure) (pc : ℕ) (falling : Option AbstractState) (s : AbstractState) → falling ≡ Some s
+    → HasNoLabel here pc → Enters here pc falling s
+enters_bare here pc falling s same bare = subst (λ (o : Option AbstractState). Enters here pc o s) (sym same) (inr (bare, refl))
 
 -- a pass that comes to the judgement of this refusal stops by it
 pub stops_by : (homes : List (List Cell)) (plan : FramedPlan) (n : ℕ) (here : FramedProcedure) (stage : Stage) (r : Refusal)
@@ -108,30 +89,7 @@ pub hides_one : (here : FramedProcedure) (pc size n : ℕ) (i : Instruction) (l 
 hides_one here pc size n i l same e from before =
     (l.0, l.1, (n, e), omega (arith, from), omega (arith, before, same))
 
-pub judges_falls : (homes : List (List Cell)) (plan : FramedPlan) (n : ℕ) (here : FramedProcedure) (pc size : ℕ)
-    (s t : AbstractState) (i : Instruction) (looks : ℕ) → StandsAt here.code pc i → size ≡ length (spelled i)
-    → (¬ Hides here pc i) → Transfer homes plan n here s i (FallsThrough t) → RuleLooks homes s i looks
-    → LooksOn homes plan n here (AtInstruction pc s) (BeforeInstruction pc (pc + size) (Some t)) looks
-judges_falls homes plan n here pc size s t i looks stands same bare rule own =
-    subst (λ (m : ℕ). LooksOn homes plan n here (AtInstruction pc s) (BeforeInstruction pc (pc + m) (Some t)) looks) (sym same)
-    (looks_fallen homes plan n here pc s t i looks stands bare rule own)
-
-pub judges_stops : (homes : List (List Cell)) (plan : FramedPlan) (n : ℕ) (here : FramedProcedure) (pc size : ℕ)
-    (s : AbstractState) (i : Instruction) (looks : ℕ) → StandsAt here.code pc i → size ≡ length (spelled i)
-    → (¬ Hides here pc i) → Transfer homes plan n here s i NoSuccessor → RuleLooks homes s i looks
-    → LooksOn homes plan n here (AtInstruction pc s) (BeforeInstruction pc (pc + size) None) looks
-judges_stops homes plan n here pc size s i looks stands same bare rule own =
-    subst (λ (m : ℕ). LooksOn homes plan n here (AtInstruction pc s) (BeforeInstruction pc (pc + m) None) looks) (sym same)
-    (looks_left homes plan n here pc s i looks stands bare rule own)
-
 -- What falls in
-
-pub on_from : (homes : List (List Cell)) (plan : FramedPlan) (n : ℕ) (here : FramedProcedure) (last pc : ℕ)
-    (falling to : Option AbstractState) (s : AbstractState) → falling ≡ to
-    → LooksOn homes plan n here (BeforeInstruction last pc to) (AtInstruction pc s) 0
-    → LooksOn homes plan n here (BeforeInstruction last pc falling) (AtInstruction pc s) 0
-on_from homes plan n here last pc falling to s same on =
-    subst (λ (o : Option AbstractState). LooksOn homes plan n here (BeforeInstruction last pc o) (AtInstruction pc s) 0) (sym same) on
 
 pub stops_from : (homes : List (List Cell)) (plan : FramedPlan) (n : ℕ) (here : FramedProcedure) (last pc : ℕ)
     (falling to : Option AbstractState) (r : Refusal) → falling ≡ to

@@ -1,8 +1,9 @@
 -- Trays of pieces, told apart from where in them the pieces lie.
-use Rattle.std.proofs.Common.{◌≡◌, ◌<◌, ◌≤◌, ◌^◌, ◌+◌, ◌==◌, ℕ, zero, suc, Bool, false, List, [], ◌∷◌, ◌++◌, length, take, Option, Some, None, refl, sym, ap, subst, ◌∙◌, inl, inr, arith, eqb}
+use Rattle.std.proofs.Common.{◌≡◌, ◌<◌, ◌≤◌, ◌^◌, ◌+◌, ◌==◌, ℕ, zero, suc, Bool, List, [], ◌∷◌, ◌++◌, length, take, Option, Some, None, refl, sym, ap, ◌∙◌, inl, inr, arith, eqb}
 use Rattle.std.specs.Prelude.{slice_get, option_map, map, if◌then◌else◌}
 use Rattle.std.specs.List.{count_by}
 use Rattle.std.specs.Option.{option_eq}
+use Rattle.std.proofs.lemmas.Bool.Decides.{nat_tests}
 use Rattle.std.proofs.lemmas.List.{length_push, length-map, take_more, take_all}
 use Rattle.std.proofs.lemmas.List.Sums.{sum_by-cons}
 use Rattle.std.proofs.lemmas.Option.{none-some, same_Some, slice_get-map, slice_get_within, get_or_from_slice_get}
@@ -47,8 +48,8 @@ all_lie_of places tray set small each p bit = lies_of_tray places p tray (each p
 
 -- Counts
 
-not_same : (a b : ℕ) → ¬ (a ≡ b) → (a == b) ≡ false
-not_same a b h = grind arith
+one_elsewhere : (t tray count : ℕ) → ¬ (t ≡ tray) → 1 ≤ (if t == tray then 1 else 0) + count → 1 ≤ count
+one_elsewhere t tray count other some = grind (arith, nat_tests)
 
 -- where some are counted, some piece lies there
 pub some_lies : (tray : ℕ) (places : List (Placement FormCell)) → 1 ≤ count_in tray places
@@ -59,26 +60,20 @@ some_lies tray (Apart ∷ places) some =
 some_lies tray (On t c ∷ places) some = elim (ℕ_discrete t tray) [
   | yes same ↦ (0, (c, ap (λ u. Some (On u c)) same))
   | no other ↦
-      let more : 1 ≤ 0 + count_in tray places =
-      subst (λ (b : Bool). 1 ≤ (if b then 1 else 0) + count_in tray places) (not_same t tray other) some in
-      let rest = some_lies tray places (omega (arith, more)) in (suc rest.0, rest.1)
+      let rest = some_lies tray places (one_elsewhere t tray (count_in tray places) other some) in (suc rest.0, rest.1)
 ]
 
 abbrev pub is_there : ℕ → Option ℕ → Bool
 is_there tray there = option_eq eqb there (Some tray)
-
-one_more_there : (tray : ℕ) (there : Option ℕ) (trays : List (Option ℕ))
-    → count_by (is_there tray) (there ∷ trays) ≡ (if is_there tray there then 1 else 0) + count_by (is_there tray) trays
-one_more_there tray there trays = sum_by-cons (λ o. if is_there tray o then 1 else 0) there trays
 
 -- those that are in the tray
 pub counted_there : (tray : ℕ) (places : List (Placement FormCell))
     → count_by (is_there tray) (map tray_of places) ≡ count_in tray places
 counted_there tray [] = refl
 counted_there tray (Apart ∷ places) =
-    one_more_there tray None (map tray_of places) ∙ ap (λ n. 0 + n) (counted_there tray places)
+    sum_by-cons (λ o. if is_there tray o then 1 else 0) None (map tray_of places) ∙ ap (λ n. 0 + n) (counted_there tray places)
 counted_there tray (On t c ∷ places) =
-    one_more_there tray (Some t) (map tray_of places)
+    sum_by-cons (λ o. if is_there tray o then 1 else 0) (Some t) (map tray_of places)
     ∙ ap (λ n. (if t == tray then 1 else 0) + n) (counted_there tray places)
 
 -- Reading

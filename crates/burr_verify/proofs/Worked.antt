@@ -18,7 +18,7 @@ use Rattle.burr_verify.specs.Rules.WellFramed.{IsLabelled, IsFormed, IsFormedEnt
 use Rattle.burr_verify.specs.Rules.Pass.{Passed, refused, broken, pass_start, Hides, Pass, ends, resumes, hides, breaks, stops}
 use Rattle.burr_verify.specs.Rules.Judging.{Judging}
 use Rattle.burr_verify.proofs.PassCuts.{cut_of_pass}
-use Rattle.burr_verify.proofs.Exact.{passed_where_framed}
+use Rattle.burr_verify.proofs.VerifyLaws.{passed_where_framed}
 
 -- a frame that knows nothing, with this cost
 abbrev frame : ℤ → Frame

@@ -3,7 +3,7 @@ use Rattle.std.specs.Prelude.{drop}
 use Rattle.burr_frames.specs.Views.Here.{OfFramedProcedure}
 use Rattle.burr_verify.specs.Rules.Judging.{judging_exit, judging_entry}
 use Rattle.burr_verify.specs.Views.Judgements.{PartFrom}
-use Rattle.burr_verify.proofs.LabelsJudged.{judging_from}
+use Rattle.burr_verify.proofs.JudgedOn.{judging_from}
 use Rattle.burr_verify.proofs.forming.judge_frames.Given as goal
 
 abbrev pub invariant-loop-label : goal.invariant-loop-label

@@ -13,7 +13,7 @@ use Rattle.burr_verify.specs.Views.LookViews.{LooksFrom}
 use Rattle.burr_verify.specs.Rules.Pass.{Judgement, Passed, Refuses, FailedCheck, pass_start}
 use Rattle.burr_verify.specs.Rules.PassLooks.{LookedPass, looking_code}
 use Rattle.burr_verify.proofs.FewLooks.{rooms_of_frames}
-use Rattle.burr_verify.proofs.JudgedOn.{here_at, none_after}
+use Rattle.burr_verify.proofs.JudgedOn.{here_at, past_all}
 use Rattle.burr_verify.proofs.LookedOn.{code_looks_none, code_looks_on, code_looks_stop, code_looks_end}
 use Rattle.burr_verify.proofs.judging.judge_all_code.Goals as goal
 
@@ -95,5 +95,5 @@ loop-number-preserved g c = (
 pub returns-clause-looked : goal.returns-clause-looked
 returns-clause-looked g c =
     λ p is. code_looks_end (homes_of c.args.looks.now.assembly) (framed_plan p) c.loop-number.number c.loop-number.looks.count
-    (none_after p c.loop-number.number (omega (arith, c.loop-number-test.false, c.proc_count-number-end.ensures.plan p is)))
+    (past_all p c.loop-number.number (omega (arith, c.loop-number-test.false, c.proc_count-number-end.ensures.plan p is)))
     (c.loop-number.invariant.0 p is)

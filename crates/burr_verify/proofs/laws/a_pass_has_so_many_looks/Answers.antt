@@ -1,4 +1,4 @@
-use Rattle.burr_verify.proofs.PassLooks.{some_pass_looks, one_pass_looks}
+use Rattle.burr_verify.proofs.OnePass.{some_pass_looks, one_pass_looks}
 use Rattle.burr_verify.proofs.laws.a_pass_has_so_many_looks.Goals as goal
 
 pub returns : goal.returns

@@ -12,9 +12,10 @@ use Rattle.burr_frames.specs.Rules.States.{state_of}
 use Rattle.burr_verify.specs.Rules.Pass.{lacks_frame}
 use Rattle.burr_verify.specs.Views.Judgements.{ArrivesIfAny}
 use Rattle.burr_verify.specs.Views.LookViews.{HasRoomBefore}
-use Rattle.burr_verify.proofs.LabelsJudged.{plainly_refused}
-use Rattle.burr_verify.proofs.LookedOn.{looks_gone_on}
-use Rattle.burr_verify.proofs.Stages.{no_label, at_label, frame_read, enters_label, misses_label, on_from, stops_from, stops_by, none_found, one_found, told_broken, none_where, some_where}
+use Rattle.burr_verify.proofs.JudgedOn.{plainly_refused}
+use Rattle.burr_verify.proofs.LabelPlaces.{frame_read}
+use Rattle.burr_verify.proofs.LookedOn.{looks_entered}
+use Rattle.burr_verify.proofs.Stages.{no_label, at_label, enters_bare, enters_label, misses_label, stops_from, stops_by, none_found, one_found, told_broken, none_where, some_where}
 use Rattle.burr_verify.proofs.passing.enter.Goals as goal
 
 pub returns-in-None-clause-passes : goal.returns-in-None-clause-passes
@@ -23,8 +24,8 @@ returns-in-None-clause-passes c = λ homes p here kept at more.
     let falling = some_where c.args.state.now c.if-is_some.ensures in (
       falling.0,
       falling.1,
-      on_from homes (framed_plan p) c.args.procedure.number here c.args.last c.args.pc c.args.state.now _ falling.0 falling.1
-          (looks_gone_on homes (framed_plan p) c.args.procedure.number here c.args.last c.args.pc falling.0 more bare),
+      looks_entered homes (framed_plan p) c.args.procedure.number here c.args.last c.args.pc c.args.state.now falling.0 more
+          (enters_bare here c.args.pc c.args.state.now falling.0 falling.1 bare),
     ))
 
 pub returns-in-None-2-clause-passes : goal.returns-in-None-2-clause-passes
@@ -43,7 +44,8 @@ returns-in-Ok-clause-passes c = λ homes p here kept at more.
     let arrived = subst (λ (f : Frame). ArrivesIfAny c.args.state.now f NoSuccessor) read c.in-Ok.ensures.verdict in (
       state_of (framed (frame_of c.frame.result)),
       c.in-Ok.ensures.there,
-      enters_label homes (framed_plan p) c.args.procedure.number here c.args.last c.args.pc l.0.1 c.args.state.now _ more labelled arrived (ap state_of read),
+      looks_entered homes (framed_plan p) c.args.procedure.number here c.args.last c.args.pc c.args.state.now _ more
+          (enters_label here c.args.pc l.0.1 c.args.state.now _ labelled arrived (ap state_of read)),
     ))
 
 pub returns-in-Err-clause-passes : goal.returns-in-Err-clause-passes

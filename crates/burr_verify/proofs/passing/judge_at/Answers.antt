@@ -21,8 +21,9 @@ use Rattle.burr_verify.specs.declared.transfer.Successor.{Successor}
 use Rattle.burr_verify.specs.Rules.Pass.{lacks_instruction, hides, breaks}
 use Rattle.burr_verify.specs.Views.LookViews.{HasRoomBefore}
 use Rattle.burr_verify.specs.Views.Judgements.{verdict_of}
-use Rattle.burr_verify.proofs.LabelsJudged.{plainly_refused}
-use Rattle.burr_verify.proofs.Stages.{code_read, stops_by, none_found, one_found, none_where, some_where, hides_none, hides_one, judges_falls, judges_stops, told_broken}
+use Rattle.burr_verify.proofs.JudgedOn.{plainly_refused}
+use Rattle.burr_verify.proofs.LookedOn.{looks_fallen, looks_left}
+use Rattle.burr_verify.proofs.Stages.{code_read, stops_by, none_found, one_found, none_where, some_where, hides_none, hides_one, told_broken}
 use Rattle.burr_verify.proofs.passing.judge_at.Goals as goal
 
 -- what the rule of an instruction says, of the state that there was and of the result that there is
@@ -84,7 +85,7 @@ returns-in-Ok-FallsThrough-clause-passes g c = λ s is p here kept at.
     let counted = c.transfer.ensures.counted in
     let looked = subst (λ (b : AbstractState). RuleLooks homes b (meaning c.in-Some.instruction) counted.0) same counted.1 in (
       counted.0,
-      judges_falls homes (framed_plan p) c.args.procedure.number here c.args.pc c.in-Some.size s c.transfer.new.state (meaning c.in-Some.instruction) counted.0 stands c.in-Some.ensures.stands.1 bare rule looked,
+      looks_fallen homes (framed_plan p) c.args.procedure.number here c.args.pc c.in-Some.size s c.transfer.new.state (meaning c.in-Some.instruction) counted.0 stands c.in-Some.ensures.stands.1 bare rule looked,
       counted.2,
     ))
 
@@ -119,7 +120,7 @@ returns-in-Ok-None-clause-passes g c = λ s is p here kept at.
     let counted = c.transfer.ensures.counted in
     let looked = subst (λ (b : AbstractState). RuleLooks homes b (meaning c.in-Some.instruction) counted.0) same counted.1 in (
       counted.0,
-      judges_stops homes (framed_plan p) c.args.procedure.number here c.args.pc c.in-Some.size s (meaning c.in-Some.instruction) counted.0 stands c.in-Some.ensures.stands.1 bare rule looked,
+      looks_left homes (framed_plan p) c.args.procedure.number here c.args.pc c.in-Some.size s (meaning c.in-Some.instruction) counted.0 stands c.in-Some.ensures.stands.1 bare rule looked,
       counted.2,
     ))
 

@@ -2,9 +2,9 @@
 use Rattle.std.proofs.Common.{◌+◌, ◌∙◌, Some, ap, subst}
 use Rattle.burr_container.specs.Views.Containers.{HasPlan}
 use Rattle.burr_frames.specs.Rules.States.{state_of}
-use Rattle.burr_verify.proofs.LabelPlaces.{laid_out_here}
+use Rattle.burr_verify.proofs.LabelPlaces.{frame_read, laid_out_here}
 use Rattle.burr_verify.proofs.OnePass.{one_frame}
-use Rattle.burr_verify.proofs.Stages.{at_label, frame_read, no_label, none_found, one_found}
+use Rattle.burr_verify.proofs.Stages.{at_label, no_label, none_found, one_found}
 use Rattle.burr_verify.proofs.Transfers.{entered_bare, entered_labelled}
 use Rattle.burr_verify.proofs.states.enter.Goals as goal
 
