@@ -7,6 +7,7 @@ use Rattle.burr_forms.specs.Rules.Forms.{Form, Point, value, values, symbol}
 use Rattle.burr_container.specs.Rules.Plans.{Frame}
 use Rattle.burr_frames.specs.Rules.States.{AbstractState, state_of, numbered}
 use Rattle.burr_frames.specs.Rules.Arrival.{Meets, live_forms}
+use Rattle.burr_frames.proofs.Common.Over.{numbered_length}
 use Rattle.burr_state.specs.Rules.Bench.{BenchState}
 use Rattle.burr_bench.specs.Soundness.Standing.{Stands}
 use Rattle.burr_bench.proofs.Soundness.Values.{value_symbol}
@@ -62,7 +63,7 @@ stands_at_frame s f point b a as_many st =
             λ j g e. let l =
             live_values f.slots s.slots a.forms point [] 0 refl a.known j g
             e in st.running.slots_known j l.0 l.1 ∙ ap Some (sym l.2);
-        slots_as_many = st.running.slots_as_many ∙ sym as_many ∙ sym (numbered_as_many 0 f.slots);
+        slots_as_many = st.running.slots_as_many ∙ sym as_many ∙ sym (numbered_length 0 f.slots);
         operands_are = st.running.operands_are ∙ agrees.operands;
       };
       lie = record {
@@ -71,9 +72,3 @@ stands_at_frame s f point b a as_many st =
         grip = st.lie.grip ∙ a.alike.grip;
       };
     }
-  where
-    numbered_as_many : (n : ℕ) (ranges : List (Option (ℤ × ℤ))) → length (numbered n ranges)
-        ≡ length ranges
-    numbered_as_many n [] = refl
-    numbered_as_many n (None ∷ ranges) = ap suc (numbered_as_many n ranges)
-    numbered_as_many n (Some range ∷ ranges) = ap suc (numbered_as_many (suc n) ranges)

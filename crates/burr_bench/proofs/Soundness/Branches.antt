@@ -1,38 +1,40 @@
--- Instructions that send control to a label.
-use Rattle.std.proofs.Common.{◌≡◌, ℕ, zero, suc, ◌<◌, ◌⊎◌, List, [], ◌∷◌, ◌++◌, length, Some, None, refl, sym, subst, ap, ◌∙◌, arith, inl, inr}
-use Rattle.std.specs.Prelude.{ℤ, pos, negsuc, neg_ℤ, ◌-ℤ◌, ◌≤ℤ◌, set, slice_get, get_or}
+-- Instructions that send control to a label: `jump`, `down` and `pick`.
+use Rattle.std.proofs.Common.{◌≡◌, ℕ, zero, suc, ◌<◌, ◌⊎◌, List, [], ◌∷◌, ◌++◌, length, Option, Some, None, refl, sym, subst, ap, ◌∙◌, arith, inl, inr}
+use Rattle.std.specs.Prelude.{ℤ, pos, negsuc, neg_ℤ, ◌-ℤ◌, ◌≤ℤ◌, map, slice_get, get_or}
 use Rattle.std.proofs.lemmas.Int.{ints}
-use Rattle.std.proofs.lemmas.List.{length-set, get_or-set_other}
+use Rattle.std.proofs.lemmas.List.{length-set}
 use Rattle.std.proofs.lemmas.List.Elements.{All-nil, All-cons, All-append}
-use Rattle.burr_voxels.specs.declared.cell.Cell.{Cell}
-use Rattle.burr_code.specs.Instruction.{Jump, Down}
+use Rattle.std.proofs.lemmas.Option.{none-some, same_Some}
+use Rattle.burr_code.specs.Instruction.{Down, Pick}
+use Rattle.burr_code.specs.Labels.{labelled, with_first}
+use Rattle.burr_code.proofs.Common.Labels.{with_first_is}
 use Rattle.burr_forms.specs.Rules.Forms.{Form, Point, value, values, one_less, times}
 use Rattle.burr_forms.specs.Rules.Points.{GuardsHold}
 use Rattle.burr_container.specs.Rules.Plans.{Frame}
-use Rattle.burr_frames.specs.Rules.FramedPlans.{FramedProcedure, FramedPlan}
-use Rattle.burr_frames.specs.Rules.States.{AbstractState, IsPoint}
+use Rattle.burr_frames.specs.Rules.FramedPlans.{FramedProcedure}
+use Rattle.burr_frames.specs.Rules.States.{AbstractState}
 use Rattle.burr_frames.specs.Rules.Arrival.{Arrives}
-use Rattle.burr_frames.specs.Rules.Verdicts.{Verdict, arriving}
-use Rattle.burr_frames.specs.Rules.Transfer.{Transfer}
+use Rattle.burr_frames.specs.Rules.ControlRules.{jump_rule, down_rule}
+use Rattle.burr_frames.specs.Rules.QuestionRules.{pick_rule}
+use Rattle.burr_frames.specs.Rules.Verdicts.{Verdict, NoSuccessor, arriving, arriving_at_all}
 use Rattle.burr_verify.specs.Rules.WellFramed.{IsLabelled}
 use Rattle.burr_state.specs.Rules.Bench.{BenchState}
 use Rattle.burr_state.specs.Rules.Next.{Next, Goes, at_label, after}
-use Rattle.burr_state.specs.Rules.Step.{Executes}
+use Rattle.burr_state.specs.Rules.Control.{by_count, jumping, counting_down}
 use Rattle.burr_state.specs.Rules.Numbers.{with_slot}
-use Rattle.burr_state.specs.Rules.Control.{by_count}
-use Rattle.burr_bench.specs.Soundness.Framing.{bench_part, framed_setup}
-use Rattle.burr_bench.specs.Soundness.Standing.{Stands}
-use Rattle.burr_bench.proofs.Soundness.StepOutcomes.{FallsOn, SentOn, ParametersStay}
-use Rattle.burr_bench.specs.Soundness.Invariant.{IsGood}
+use Rattle.burr_state.specs.Rules.Questions.{Takes}
+use Rattle.burr_bench.specs.Soundness.Framing.{bench_part}
+use Rattle.burr_bench.specs.Soundness.Standing.{StandsFor, Stands}
+use Rattle.burr_bench.proofs.Soundness.StepOutcomes.{FallsOn, SentOn}
 use Rattle.burr_frames.proofs.Common.FineVerdicts.{IsFine, held, found, held_everywhere, paid}
 use Rattle.burr_bench.proofs.Soundness.Failing.{goes_past, goes_with}
 use Rattle.burr_frames.proofs.Common.FormValues.{value_raised, value_negated}
-use Rattle.burr_bench.proofs.Soundness.Operands.{is_paid, new_slot, apart_from}
+use Rattle.burr_bench.proofs.Soundness.Operands.{falls_on, new_slot, other_slot, pays, same_slots}
 use Rattle.burr_bench.proofs.Soundness.Arrival.{stands_at_frame}
 use Rattle.burr_bench.proofs.Soundness.Mapped.{map_at}
 
 -- a state that arrives
-pub arrived : (s : AbstractState) (f : Frame) {Q : Type 0} {v : Verdict} → IsFine v
+arrived : (s : AbstractState) (f : Frame) {Q : Type 0} {v : Verdict} → IsFine v
     → arriving s f (λ _. Q) v → Arrives s f × Q
 arrived s f fine p =
     let known = found fine p in
@@ -50,63 +52,43 @@ arrived s f fine p =
       at.1,
     )
 
--- the bench at a label at whose frame the state arrives
-pub sent_on : (homes : List (List Cell)) (here : FramedProcedure) (s t : AbstractState)
-    (point : Point) (b c : BenchState) (next : Next) (label pc : ℕ) (f : Frame)
-    → length f.slots ≡ length t.slots → slice_get here.labels label ≡ Some (pc, f) → Arrives t f
-    → Stands t point (at_label pc c.running b) → t.cost ≡ one_less s.cost
-    → IsPoint s point → ((q : Point) → IsPoint s q → pos 0 ≤ℤ value q (one_less s.cost))
-    → c.running.procedure ≡ b.running.procedure → IsGood homes b.places b.tray b.grip
-    → ParametersStay here b (at_label pc c.running b)
-    → next ≡ Goes (at_label pc c.running b) None → SentOn homes here s point b next
-sent_on homes here s t point b c next label pc f as_many at arrives st e is enough procedure good
-    kept next_is =
-    let pay = is_paid s t point is enough e in
-    record {
-      new = _;
-      next_is = next_is;
-      pc = pc;
-      frame = f;
-      labelled = (label, at);
-      there = values point arrives.meets.forms;
-      stands = stands_at_frame t f point (at_label pc c.running b) arrives.meets as_many st;
-      enough = pay.enough;
-      paid =
-          (let h : value (values point arrives.meets.forms) f.cost ≤ℤ value point
-          t.cost = arrives.cost point st.running.is_point in let o = pay.one_less in omega
-          (arith, ints));
-      at_label = refl;
-      kept = kept;
-      procedure = procedure;
-      callers = refl;
-      steps = refl;
-      mode = refl;
-      good = good;
-    }
+arrived_all : (s : AbstractState) (to : List (ℕ × Frame)) (v : Verdict) → IsFine v
+    → arriving_at_all s to (λ v. v ≡ NoSuccessor) v → (i : ℕ) (l : ℕ × Frame) → slice_get to i ≡ Some l
+    → Arrives s l.1
+arrived_all s [] v fine p i l e = absurd (none-some _ e)
+arrived_all s (first ∷ to) v fine p zero l e =
+    subst (λ (l : ℕ × Frame). Arrives s l.1) (same_Some _ _ e) (arrived s first.1 fine p).0
+arrived_all s (first ∷ to) v fine p (suc i) l e =
+    arrived_all s to v fine (arrived s first.1 fine p).1 i l e
 
-pub sound_jump : (homes : List (List Cell)) (plan : FramedPlan) (n : ℕ) (here : FramedProcedure)
-    (label : ℕ) (s : AbstractState) (point : Point) (b : BenchState) (v : Verdict) (next : Next)
-    → ((pc : ℕ) (f : Frame) → IsLabelled here pc f → length f.slots ≡ length s.slots)
-    → IsGood homes b.places b.tray b.grip → IsFine v → Transfer homes plan n here s (Jump label) v
-    → Stands s point b → Executes (framed_setup plan homes) (bench_part here) b (Jump label) next
-    → SentOn homes here s point b next
-sound_jump homes plan n here label s point b v next as_many good fine t st rule =
-    let to = found fine t in
-    let p = paid s fine to.2 in
-    let a = arrived _ to.0.1 fine p.1 in
-    let is : Stands (record s { cost = one_less s.cost }) point (at_label to.0.0 b.running b) =
-    record {
-      running = record {
-        is_point = st.running.is_point;
-        slots_known = st.running.slots_known;
-        slots_as_many = st.running.slots_as_many;
-        operands_are = st.running.operands_are;
-      };
-      lie = record { places = st.lie.places; tray = st.lie.tray; grip = st.lie.grip };
-    } in
-    sent_on homes here s _ point b b next label to.0.0 to.0.1 (as_many to.0.0 to.0.1 (label, to.1))
-    to.1 a.0 is refl st.running.is_point p.0 refl good (λ j lt. refl)
-    (goes_with (map_at (λ (l : ℕ × Frame). l.0) here.labels label to.0 to.1) rule)
+-- Labels that are all there
+
+labelled_at : (all : List (ℕ × Frame)) (labels : List ℕ) (to : List (ℕ × Frame)) (i label : ℕ)
+    → labelled all labels ≡ Some to → slice_get labels i ≡ Some label → (l : ℕ × Frame)
+    × (slice_get to i ≡ Some l) × (slice_get all label ≡ Some l)
+labelled_at all [] to i label h e = absurd (none-some _ e)
+labelled_at all (first ∷ labels) to zero label h e =
+    let f = with_first_is (slice_get all first) (labelled all labels) to h in (
+      f.0,
+      subst (λ ts. slice_get ts 0 ≡ Some f.0) f.4 refl,
+      subst (λ k. slice_get all k ≡ Some f.0) (same_Some _ _ e) f.2,
+    )
+labelled_at all (first ∷ labels) to (suc i) label h e =
+    let f = with_first_is (slice_get all first) (labelled all labels) to h in
+    let r = labelled_at all labels f.1 i label f.3 e in
+    (r.0, subst (λ ts. slice_get ts (suc i) ≡ Some r.0) f.4 r.1, r.2)
+
+pub labelled_bare : (all : List (ℕ × Frame)) (labels : List ℕ) (to : List (ℕ × Frame))
+    → labelled all labels ≡ Some to → labelled (map (λ (l : ℕ × Frame). l.0) all) labels
+    ≡ Some (map (λ (l : ℕ × Frame). l.0) to)
+labelled_bare all [] to h =
+    ap (λ (ts : List (ℕ × Frame)). Some (map (λ (l : ℕ × Frame). l.0) ts)) (same_Some _ _ h)
+labelled_bare all (first ∷ labels) to h =
+    let f = with_first_is (slice_get all first) (labelled all labels) to h in
+    ap (λ o. with_first o (labelled (map (λ (l : ℕ × Frame). l.0) all) labels))
+    (map_at (λ (l : ℕ × Frame). l.0) all first f.0 f.2)
+    ∙ ap (λ (o : Option (List ℕ)). with_first (Some f.0.0) o) (labelled_bare all labels f.1 f.3)
+    ∙ ap (λ (ts : List (ℕ × Frame)). Some (map (λ (l : ℕ × Frame). l.0) ts)) f.4
 
 one_more_guard : (guards : List Form) (g : Form) (point : Point) → GuardsHold guards point
     → pos 0 ≤ℤ value point g → GuardsHold (guards ++ g ∷ []) point
@@ -121,92 +103,90 @@ count_cases (pos zero) a b h = inl (refl, refl)
 count_cases (pos (suc n)) a b h = inr (omega (arith, ints), refl)
 count_cases (negsuc n) a b h = absurd (omega (arith, ints))
 
-pub sound_down : (homes : List (List Cell)) (plan : FramedPlan) (n : ℕ) (here : FramedProcedure)
-    (k label : ℕ) (s : AbstractState) (point : Point) (b : BenchState) (v : Verdict) (next : Next)
-    → ((pc : ℕ) (f : Frame) → IsLabelled here pc f → length f.slots ≡ length s.slots)
-    → k < length s.slots
-    → IsGood homes b.places b.tray b.grip → IsFine v → Transfer homes plan n here s (Down k label) v
-    → Stands s point b → Executes (framed_setup plan homes) (bench_part here) b (Down k label) next
-    → FallsOn homes here (Down k label) s point b v next ⊎ SentOn homes here s point b next
-sound_down homes plan n here k label s point b v next as_many within good fine t st rule =
-    let to = found fine t in
-    let param = held fine to.2 in
-    let f = found fine param.1 in
-    let small = held fine f.2 in
-    let count = held_everywhere s fine small.1 in
-    let room = held fine count.1 in
-    let p = paid s fine room.1 in
-    let a = arrived _ to.0.1 fine p.1 in
-    let is = st.running.is_point in
-    let known = st.running.slots_known k f.0 f.1 in
-    let above : pos 0 ≤ℤ value point f.0 = count.0 point is in
-    let went =
-    goes_past above
-    (goes_with known
-    (goes_past param.0 (goes_with (map_at (λ (l : ℕ × Frame). l.0) here.labels label to.0 to.1)
-    rule))) in
-    elim (count_cases (value point f.0) (after (Down k label) b.running b)
-    (at_label to.0.0 (with_slot k (value point f.0 -ℤ pos 1) b.running) b) above) [
-      | inl zero_now ↦ inl record {
-        new = _;
-        motion = _;
-        next_is = went ∙ ap (λ (x : BenchState). Goes x None) zero_now.1;
-        state = _;
-        verdict_is = a.1;
-        there = point;
-        stands = record {
-          running = record {
-            is_point = (
-              is.0,
-              one_more_guard s.guards (times (neg_ℤ (pos 1)) f.0) point is.1
-                  (let e = value_negated f.0 point in let z : value point f.0
-                  ≡ pos 0 = zero_now.0 in omega (arith, ints)),
-            );
-            slots_known = st.running.slots_known;
-            slots_as_many = st.running.slots_as_many;
-            operands_are = st.running.operands_are;
-          };
-          lie = record { places = st.lie.places; tray = st.lie.tray; grip = st.lie.grip };
-        };
-        slots_kept = refl;
-        kept = λ j lt. refl;
-        paid = is_paid s _ point is p.0 refl;
-        control = record { procedure = refl; pc = refl; callers = refl; steps = refl; mode = refl };
-        good = good;
-      }
-      | inr more ↦
-          let less : value point (one_less f.0) ≡ (value point f.0 -ℤ pos 1) =
-          (let e = value_raised (neg_ℤ (pos 1)) f.0 point in omega (arith, ints)) in
-          let at : Stands
-          (record s {
-            slots = set s.slots k (Some (one_less f.0));
-            guards = s.guards ++ one_less f.0 ∷ [];
-            cost = one_less s.cost;
-          }) point
-          (at_label to.0.0 (with_slot k (value point f.0 -ℤ pos 1) b.running) b) =
-          record {
-            running = record {
-              is_point = (
-                is.0,
-                one_more_guard s.guards (one_less f.0) point is.1
-                    (let l = less in let m : pos 1 ≤ℤ value point f.0 = more.0 in omega
-                    (arith, ints)),
-              );
-              slots_known =
-                  λ j g e. subst (λ x. get_or (set b.running.slots k (Some x)) j None ≡ Some
-                  (value point g)) less (new_slot point s.slots b.running.slots k
-                  (one_less f.0) st.running.slots_as_many within st.running.slots_known j g e);
-              slots_as_many =
-                  length-set b.running.slots k _ ∙ st.running.slots_as_many
-                  ∙ sym (length-set s.slots k _);
-              operands_are = st.running.operands_are;
-            };
-            lie = record { places = st.lie.places; tray = st.lie.tray; grip = st.lie.grip };
-          } in
-          inr (sent_on homes here s _ point b
-          (record b { running = with_slot k (value point f.0 -ℤ pos 1) b.running }) next label
-          to.0.0 to.0.1 (as_many to.0.0 to.0.1 (label, to.1) ∙ sym (length-set s.slots k _)) to.1
-          a.0 at refl is p.0 refl good (λ j lt. get_or-set_other b.running.slots k j _ None
-          (apart_from j here.parameters k lt param.0))
-          (went ∙ ap (λ (x : BenchState). Goes x None) more.1))
-    ]
+module _ (here : FramedProcedure) (s : AbstractState) (point : Point) (b : BenchState) (v : Verdict) (next : Next)
+    (fine : IsFine v) (st : Stands s point b)
+    (as_many : (pc : ℕ) (f : Frame) → IsLabelled here pc f → length f.slots ≡ length s.slots) where
+  -- the bench at a label at whose frame the state arrives
+  sent_on : (t : AbstractState) (slots : List (Option ℤ)) (label pc : ℕ) (f : Frame) → length t.slots ≡ length s.slots
+      → slice_get here.labels label ≡ Some (pc, f) → Arrives t f → StandsFor t point slots b.running.operands
+      → (t.places ≡ s.places) × (t.tray ≡ s.tray) × (t.grip ≡ s.grip) × (t.cost ≡ one_less s.cost)
+      → ((j : ℕ) → j < here.parameters → get_or slots j None ≡ get_or b.running.slots j None)
+      → next ≡ Goes (at_label pc (record b.running { slots = slots }) b) None → SentOn here s point b next
+  sent_on t slots label pc f long at arrives stands same kept next_is = (
+    pc,
+    f,
+    (label, at),
+    record {
+      new = _;
+      motion = _;
+      next_is = next_is;
+      there = values point arrives.meets.forms;
+      stands =
+          stands_at_frame t f point _ arrives.meets (as_many pc f (label, at) ∙ sym long) (record {
+            running = stands;
+            lie = record { places = rw same.0 st.lie.places; tray = rw same.1 st.lie.tray; grip = rw same.2 st.lie.grip };
+          });
+      paid = less _ _ _ _ (arrives.cost point stands.is_point) (ap (value point) same.3) (pays s.cost point);
+      control = refl;
+      kept = kept;
+    },
+  )
+    where
+      less : (a b c d : ℤ) → a ≤ℤ b → b ≡ c → c ≤ℤ d → a ≤ℤ d
+      less a b c d h e k = omega (arith, ints)
+
+  pub sound_jump : (label : ℕ) → jump_rule here s label v → jumping (bench_part here) b label next → SentOn here s point b next
+  sound_jump label t rule =
+      let to = found fine t in
+      let a = arrived _ to.0.1 fine (paid s fine to.2).1 in
+      sent_on _ _ label to.0.0 to.0.1 refl to.1 a.0 (same_slots st.running st.running.is_point.1 st.running.operands_are)
+      (refl, refl, refl, refl) (λ j below. refl)
+      (goes_with (map_at (λ (l : ℕ × Frame). l.0) here.labels label to.0 to.1) rule)
+
+  pub sound_pick : (labels : List ℕ) → pick_rule here s labels v → (x : ℤ) (new : BenchState)
+      → Takes (bench_part here) b (Pick labels) x new → next ≡ Goes new None → SentOn here s point b next
+  sound_pick labels t x new takes goes =
+      let to = found fine t in
+      let l = labelled_at here.labels labels to.0 takes.0 takes.1 to.1 takes.4 in
+      let a = arrived_all _ to.0 v fine (paid s fine to.2).1 takes.0 l.0 l.1 in
+      let at : takes.2 ≡ l.0.0 =
+      same_Some _ _ (sym takes.5 ∙ map_at (λ (l : ℕ × Frame). l.0) here.labels takes.1 l.0 l.2) in
+      sent_on _ _ takes.1 l.0.0 l.0.1 refl l.2 a (same_slots st.running st.running.is_point.1 st.running.operands_are)
+      (refl, refl, refl, refl) (λ j below. refl)
+      (goes ∙ ap (λ (y : BenchState). Goes y None) (takes.6 ∙ ap (λ k. at_label k b.running b) at))
+
+  pub sound_down : (k label : ℕ) → k < length s.slots → down_rule here s k label v
+      → counting_down (bench_part here) b k label next
+      → FallsOn here (Down k label) s point b v next ⊎ SentOn here s point b next
+  sound_down k label within t rule =
+      let to = found fine t in
+      let param = held fine to.2 in
+      let f = found fine param.1 in
+      let count = held_everywhere s fine (held fine f.2).1 in
+      let room = held fine count.1 in
+      let a = arrived _ to.0.1 fine (paid s fine room.1).1 in
+      let is = st.running.is_point in
+      let above : pos 0 ≤ℤ value point f.0 = count.0 point is in
+      let went =
+      goes_past above
+      (goes_with (st.running.slots_known k f.0 f.1)
+      (goes_past param.0 (goes_with (map_at (λ (l : ℕ × Frame). l.0) here.labels label to.0 to.1) rule))) in
+      elim (count_cases (value point f.0) (after (Down k label) b.running b)
+      (at_label to.0.0 (with_slot k (value point f.0 -ℤ pos 1) b.running) b) above) [
+        | inl zero_now ↦
+            let e = value_negated f.0 point in
+            let z : value point f.0 ≡ pos 0 = zero_now.0 in
+            inl (falls_on here s point b v next fine st (Down k label) a.1
+            (went ∙ ap (λ (x : BenchState). Goes x None) zero_now.1)
+            (one_more_guard s.guards (times (neg_ℤ (pos 1)) f.0) point is.1 (omega (arith, ints)))
+            st.running.operands_are st.lie.places st.lie.tray st.lie.grip)
+        | inr more ↦
+            let less : value point (one_less f.0) ≡ (value point f.0 -ℤ pos 1) =
+            (let e = value_raised (neg_ℤ (pos 1)) f.0 point in omega (arith, ints)) in
+            let m : pos 1 ≤ℤ value point f.0 = more.0 in
+            inr (sent_on _ _ label to.0.0 to.0.1 (length-set s.slots k _) to.1 a.0
+            (new_slot k (one_less f.0) within st.running
+            (one_more_guard s.guards (one_less f.0) point is.1 (omega (arith, ints))) st.running.operands_are)
+            (refl, refl, refl, refl) (other_slot b.running.slots _ param.0)
+            (went ∙ ap (λ (x : BenchState). Goes x None) (rw less more.1)))
+      ]

@@ -1,7 +1,8 @@
 -- Lists and places whose elements are all mapped: by forms, and by their values at a point.
 use Rattle.std.proofs.Common.{◌≡◌, ℕ, zero, suc, ◌+◌, List, [], ◌∷◌, Some, Bool, true, false, refl, sym, ap, ◌∙◌}
 use Rattle.std.specs.Prelude.{map, slice_get, if◌then◌else◌, ◌==◌}
-use Rattle.std.proofs.lemmas.Option.{none-some, same_Some}
+use Rattle.std.specs.Option.{option_map}
+use Rattle.std.proofs.lemmas.Option.{none-some, same_Some, slice_get-map}
 use Rattle.burr_code.specs.PieceSets.{is_left_out}
 use Rattle.burr_code.specs.declared.placement.Placement.{Placement}
 use Rattle.burr_code.specs.declared.placement.Placement.TheVariants.{Apart, On}
@@ -12,9 +13,7 @@ use Rattle.burr_code.proofs.Common.Conditions.{same_tray, same_position, apart-o
 
 pub map_at : {A B : Type 0} (h : A → B) (xs : List A) (k : ℕ) (x : A) → slice_get xs k ≡ Some x
     → slice_get (map h xs) k ≡ Some (h x)
-map_at h [] k x e = absurd (none-some _ e)
-map_at h (y ∷ xs) zero x e = ap (λ z. Some (h z)) (same_Some _ _ e)
-map_at h (y ∷ xs) (suc k) x e = map_at h xs k x e
+map_at h xs k x e = slice_get-map h xs k ∙ ap (option_map h) e
 
 -- what stands in a mapped list
 pub mapped_at : {A B : Type 0} (h : A → B) (xs : List A) (k : ℕ) (y : B) → slice_get (map h xs) k

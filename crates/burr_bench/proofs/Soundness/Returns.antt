@@ -1,12 +1,11 @@
 -- A return: the caller stands for its state after the call.
-use Rattle.std.proofs.Common.{◌≡◌, ℕ, zero, suc, ◌+◌, ◌-◌, ◌^◌, ◌<◌, List, [], ◌∷◌, ◌++◌, length, Option, Some, None, Bool, true, false, refl, sym, subst, ap, ◌∙◌, arith, inl, inr}
-use Rattle.std.specs.Prelude.{ℤ, pos, ◌≤ℤ◌, min, map, take, drop, reverse, replicate, slice_get, get_or, nat_le, if◌then◌else◌}
+use Rattle.std.proofs.Common.{◌≡◌, ℕ, zero, suc, ◌<◌, List, [], ◌∷◌, ◌++◌, length, Option, Some, None, Bool, true, false, refl, sym, subst, ap, ◌∙◌, arith, inl, inr}
+use Rattle.std.specs.Prelude.{ℤ, pos, ◌≤ℤ◌, map, take, drop, reverse, replicate, slice_get, get_or, nat_le, if◌then◌else◌}
 use Rattle.std.proofs.lemmas.Int.{ints}
-use Rattle.std.proofs.lemmas.List.{length-map, map-append, reverse-reverse}
+use Rattle.std.proofs.lemmas.List.{length-map, map-append, reverse-reverse, take-map, drop-map}
 use Rattle.std.proofs.lemmas.Option.{none-some, same_Some}
 use mathlib.Core.List.{reverse_aux}
 use Rattle.burr_voxels.specs.declared.cell.Cell.{Cell}
-use Rattle.burr_code.specs.Instruction.{Ret}
 use Rattle.burr_code.specs.Stacks.{top, top_many, split_at}
 use Rattle.burr_code.proofs.Common.Labels.{with_first_is}
 use Rattle.burr_forms.specs.Rules.Forms.{Form, Point, value, values, one_less}
@@ -16,15 +15,14 @@ use Rattle.burr_frames.specs.Rules.FramedPlans.{FramedExit, FramedProcedure, Fra
 use Rattle.burr_frames.specs.Rules.States.{AbstractState, places_at}
 use Rattle.burr_frames.specs.Rules.Arrival.{live_forms}
 use Rattle.burr_frames.specs.Rules.Verdicts.{Verdict}
-use Rattle.burr_frames.specs.Rules.Transfer.{Transfer}
-use Rattle.burr_frames.specs.Rules.ControlRules.{first_forms}
+use Rattle.burr_frames.specs.Rules.ControlRules.{first_forms, ret_rule}
 use Rattle.burr_verify.specs.Rules.WellFramed.{IsLabelled, Enters}
 use Rattle.burr_state.specs.Rules.Bench.{BenchState, Activation}
 use Rattle.burr_state.specs.Rules.Next.{Next, Goes}
-use Rattle.burr_state.specs.Rules.Step.{Executes}
-use Rattle.burr_bench.specs.Soundness.Framing.{bench_part, framed_setup}
-use Rattle.burr_bench.specs.Soundness.Standing.{Stands}
-use Rattle.burr_bench.specs.Soundness.Invariant.{IsGood, HasParameters, IsAdmitted, Waits}
+use Rattle.burr_state.specs.Rules.Control.{returned, returning}
+use Rattle.burr_bench.specs.Soundness.Framing.{bench_part}
+use Rattle.burr_bench.specs.Soundness.Standing.{StandsFor, Stands}
+use Rattle.burr_bench.specs.Soundness.Invariant.{HasParameters, IsAdmitted, Waits}
 use Rattle.burr_frames.proofs.Common.FineVerdicts.{IsFine, held, found, held_everywhere, paid}
 use Rattle.burr_bench.proofs.Soundness.Failing.{goes_with}
 use Rattle.burr_bench.proofs.Soundness.Arrival.{stands_at_frame}
@@ -36,55 +34,34 @@ pub record Entered (s : AbstractState) (there : Point) (t : AbstractState)
   pub stands : Stands t point b
   pub cost : value point t.cost ≤ℤ value there s.cost
 
-pub entered : (here : FramedProcedure) (pc : ℕ) (s t : AbstractState) (there : Point)
-    (b : BenchState) → ((pc : ℕ) (f : Frame) → IsLabelled here pc f
-    → length f.slots ≡ length s.slots)
+-- it is the same state
+pub same_entered : {s t : AbstractState} {there : Point} {b : BenchState} → t ≡ s → Stands s there b → Entered s there t b
+same_entered {s} {t} {there} {b} is st =
+    subst (λ (u : AbstractState). Entered s there u b) (sym is) (record { point = there; stands = st; cost = omega (arith, ints) })
+
+pub entered : (here : FramedProcedure) (pc : ℕ) (s t : AbstractState) (there : Point) (b : BenchState)
+    → ((pc : ℕ) (f : Frame) → IsLabelled here pc f → length f.slots ≡ 8) → length s.slots ≡ 8
     → Enters here pc (Some s) t → Stands s there b → Entered s there t b
-entered here pc s t there b as_many (inl l) st = record {
-  point = values there l.2.meets.forms;
-  stands =
-      subst (λ (u : AbstractState). Stands u (values there l.2.meets.forms) b) (sym l.3)
-      (stands_at_frame s l.0 there b l.2.meets (as_many pc l.0 l.1) st);
-  cost =
-      subst (λ (u : AbstractState). value (values there l.2.meets.forms) u.cost ≤ℤ value there
-      s.cost) (sym l.3) (l.2.cost there st.running.is_point);
-}
-entered here pc s t there b as_many (inr u) st = record {
-  point = there;
-  stands = subst (λ (w : AbstractState). Stands w there b) (sym u.1) st;
-  cost =
-      subst (λ (w : AbstractState). value there w.cost ≤ℤ value there s.cost) (sym u.1)
-      (omega (arith, ints));
-}
+entered here pc s t there b eight as_many (inl l) st =
+    subst (λ (u : AbstractState). Entered s there u b) (sym l.3) (record {
+      point = values there l.2.meets.forms;
+      stands = stands_at_frame s l.0 there b l.2.meets (eight pc l.0 l.1 ∙ sym as_many) st;
+      cost = l.2.cost there st.running.is_point;
+    })
+entered here pc s t there b eight as_many (inr u) st = same_entered u.1 st
 
 -- Lists
-
-pub take_map : {A B : Type 0} (h : A → B) (n : ℕ) (xs : List A) → map h (take n xs) ≡ take n
-    (map h xs)
-take_map h zero xs = refl
-take_map h (suc n) [] = refl
-take_map {B = B} h (suc n) (x ∷ xs) = ap (λ (ys : List B). h x ∷ ys) (take_map h n xs)
-
-pub drop_map : {A B : Type 0} (h : A → B) (n : ℕ) (xs : List A) → map h (drop n xs) ≡ drop n
-    (map h xs)
-drop_map h zero xs = refl
-drop_map h (suc n) [] = refl
-drop_map h (suc n) (x ∷ xs) = drop_map h n xs
 
 pub top_many_map : {A B : Type 0} (h : A → B) (n : ℕ) (xs : List A) (x : List A × List A)
     → top_many n xs ≡ Some x → top_many n (map h xs) ≡ Some (map h x.0, map h x.1)
 top_many_map {A = A} {B = B} h n xs x e =
-    by_test (nat_le n (length xs)) (nat_le n (length (map h xs)))
-    (ap (λ k. nat_le n k) (sym (length-map xs h))) e
+    rw (length-map xs h, take-map h n xs, drop-map h n xs) (by_test (nat_le n (length xs)) e)
   where
-    by_test : (c d : Bool) → c ≡ d → (if c then Some (split_at n xs) else None) ≡ Some x
-        → (if d then Some (split_at n (map h xs)) else None) ≡ Some (map h x.0, map h x.1)
-    by_test true true is e =
-        ap (λ (ys : List B). Some (ys, drop n (map h xs))) (sym (take_map h n xs))
-        ∙ ap (λ (ys : List B). Some (map h (take n xs), ys)) (sym (drop_map h n xs))
-        ∙ ap (λ (p : List A × List A). Some (map h p.0, map h p.1)) (same_Some _ _ e)
-    by_test true false is e = absurd cc
-    by_test false d is e = absurd (none-some _ e)
+    by_test : (c : Bool) → (if c then Some (split_at n xs) else None) ≡ Some x
+        → if◌then◌else◌ {A = Option (List B × List B)} c (Some (map h (take n xs), map h (drop n xs))) None
+        ≡ Some (map h x.0, map h x.1)
+    by_test true e = ap (λ (p : List A × List A). Some (map h p.0, map h p.1)) (same_Some _ _ e)
+    by_test false e = absurd (none-some _ e)
 
 reversed_map : {A B : Type 0} (h : A → B) (xs onto : List A) → map h (reverse_aux xs onto)
     ≡ reverse_aux (map h xs) (map h onto)
@@ -126,45 +103,32 @@ parameters_from (suc m) (form ∷ forms) fs point (slot ∷ slots) (p ∷ parame
 pub record ReturnsTo (homes : List (List Cell)) (plan : FramedPlan) (here : FramedProcedure)
     (parameters : List ℤ) (caller : Activation) (callers : List Activation)
     (waits : Waits homes plan here parameters caller) (b : BenchState) (next : Next) : Type 0 where
-  pub new : BenchState
-  pub next_is : next ≡ Goes new None
+  pub results : List ℤ
+  pub next_is : next ≡ Goes (returned results caller callers b) None
   pub point : Point
-  pub stands : Stands waits.state point new
+  pub stands : Stands waits.state point (returned results caller callers b)
   pub cost : value point waits.state.cost ≡ waits.cost
-  pub pc : new.running.pc ≡ caller.pc
-  pub procedure : new.running.procedure ≡ caller.procedure
-  pub slots : new.running.slots ≡ caller.slots
-  pub callers_left : new.callers ≡ callers
-  pub steps : new.steps ≡ min (b.steps + 1) (2 ^ 64 - 1)
-  pub mode : new.mode ≡ b.mode
-  pub good : IsGood homes new.places new.tray new.grip
 
-pub sound_ret : (homes : List (List Cell)) (plan : FramedPlan) (n : ℕ) (here : FramedProcedure)
+pub sound_ret : (homes : List (List Cell)) (plan : FramedPlan) (here : FramedProcedure)
     (parameters : List ℤ) (s : AbstractState) (point : Point) (b : BenchState) (v : Verdict)
     (next : Next) (caller : Activation) (callers : List Activation)
     → b.callers ≡ caller ∷ callers → (waits : Waits homes plan here parameters caller)
-    → HasParameters here parameters b.running.slots
-    → IsGood homes b.places b.tray b.grip → IsFine v → Transfer homes plan n here s Ret v
-    → Stands s point b → Executes (framed_setup plan homes) (bench_part here) b Ret next
+    → HasParameters here parameters b.running.slots → IsFine v → ret_rule here s v
+    → Stands s point b → returning (bench_part here) b next
     → ReturnsTo homes plan here parameters caller callers waits b next
-sound_ret homes plan n here parameters s point b v next caller callers up waits own good fine t st
-    rule =
+sound_ret homes plan here parameters s point b v next caller callers up waits own fine t st rule =
     let exit = found fine t in
     let fp = found fine exit.2 in
     let rs = found fine fp.2 in
-    let p = paid s fine rs.2 in
-    let alike = held fine p.1 in
+    let alike = held fine (paid s fine rs.2).1 in
     let at = held_everywhere (record s { cost = one_less s.cost }) fine alike.1 in
-    let is = st.running.is_point in
     let same : exit.0 ≡ waits.exit = same_Some _ _ (sym exit.1 ∙ waits.exit_is) in
-    let top_is : top b.callers ≡ Some (caller, callers) =
-    ap (λ (cs : List Activation). top cs) up in
     let bench : top_many here.results b.running.operands ≡ Some
     (values point rs.0.0, values point rs.0.1) =
     ap (λ xs. top_many here.results xs) st.running.operands_are
     ∙ top_many_map (value point) here.results s.operands rs.0 rs.1 in
     let results : List ℤ = values point (reverse rs.0.0) in
-    let here_at = at.0 point is in
+    let here_at = at.0 point st.running.is_point in
     let ps : values point fp.0 ≡ parameters =
     parameters_from here.parameters s.slots fp.0 point b.running.slots parameters fp.1
     st.running.slots_known own.as_many own.each in
@@ -180,16 +144,11 @@ sound_ret homes plan n here parameters s point b v next caller callers up waits 
     let operands : reverse results ≡ values point rs.0.0 =
     ap reverse (map_reverse (value point) rs.0.0) ∙ reverse-reverse (values point rs.0.0) in
     record {
-      new = _;
-      next_is = goes_with bench (goes_with top_is rule);
+      results = values point rs.0.0;
+      next_is = goes_with bench (goes_with (ap top up) rule);
       point = waits.point ++ results;
       stands = record {
-        running = record {
-          is_point = r.stands.is_point;
-          slots_known = r.stands.slots_known;
-          slots_as_many = r.stands.slots_as_many;
-          operands_are = ap (λ xs. xs ++ caller.operands) (sym operands) ∙ r.stands.operands_are;
-        };
+        running = subst (λ xs. StandsFor waits.state (waits.point ++ results) caller.slots (xs ++ caller.operands)) operands r.stands;
         lie = record {
           places =
               st.lie.places ∙ here_at.2 ∙ ap (λ q. places_at q exit.0.places) there
@@ -199,11 +158,4 @@ sound_ret homes plan n here parameters s point b v next caller callers up waits 
         };
       };
       cost = r.cost_is;
-      pc = refl;
-      procedure = refl;
-      slots = refl;
-      callers_left = refl;
-      steps = refl;
-      mode = refl;
-      good = good;
     }

@@ -1,11 +1,10 @@
 -- A run spends no more than the cost at main's entry frame: a plan whose budget is that cost is framed
 -- as well.
-use Rattle.std.proofs.Common.{◌≡◌, ◌⊎◌, ℕ, ◌≤◌, ◌<◌, ◌-◌, ◌^◌, List, [], ◌∷◌, Option, Some, None, refl, sym, subst, inl, inr, arith}
+use Rattle.std.proofs.Common.{◌≡◌, ◌⊎◌, ℕ, ◌≤◌, List, [], ◌∷◌, Option, None, sym, subst, inl, inr, arith}
 use Rattle.std.specs.Prelude.{ℤ, pos, ◌≤ℤ◌}
 use Rattle.std.proofs.lemmas.Int.{ints}
-use Rattle.std.proofs.lemmas.List.{length-map}
 use Rattle.burr_voxels.specs.declared.cell.Cell.{Cell}
-use Rattle.burr_assembly.specs.Rules.Homes.{homes_of, home_of}
+use Rattle.burr_assembly.specs.Rules.Homes.{homes_of}
 use Rattle.burr_code.specs.Instruction.{Instruction, Halt}
 use Rattle.burr_forms.specs.Rules.Forms.{value}
 use Rattle.burr_frames.specs.Rules.FramedPlans.{FramedProcedure, FramedPlan, framed_plan}
@@ -16,20 +15,18 @@ use Rattle.burr_verify.specs.Laws.VerifyLaws.{FittingIsFromContainer}
 use Rattle.burr_verify.specs.Rules.WellFramed.{Annotated, after, IsCutFrom, IsFramedProcedure, IsWellFramed}
 use Rattle.burr_verify.specs.Views.FromContainers.{IsFromContainer}
 use Rattle.burr_state.specs.Laws.SpaceLaws.{HomesAreDisjoint}
-use Rattle.burr_state.specs.declared.effect.Motion.{Motion}
 use Rattle.burr_state.specs.Rules.Bench.{BenchState, Setup, start, running}
-use Rattle.burr_state.specs.Rules.Calls.{answered, went, begun, Calls}
+use Rattle.burr_state.specs.Rules.Calls.{Calls}
 use Rattle.burr_state.specs.Views.Programs.{plan_program}
 use Rattle.burr_bench.specs.Soundness.Framing.{framed_setup}
 use Rattle.burr_bench.specs.Soundness.Invariant.{IsSafeState}
 use Rattle.burr_bench.specs.Soundness.Machine.{CostBoundsSteps}
 use Rattle.burr_bench.specs.Soundness.SafeRuns.{HasEnded}
 use Rattle.burr_bench.proofs.Common.FramedSetup.{same_setup}
-use Rattle.burr_bench.proofs.Common.Machine.{in_mode}
-use Rattle.burr_bench.proofs.Soundness.Carried.{carries}
-use Rattle.burr_bench.proofs.Soundness.Start.{has_framing, start_is_safe}
+use Rattle.burr_bench.proofs.Soundness.Runs.{along}
+use Rattle.burr_bench.proofs.Soundness.Sound.{framed_carries}
+use Rattle.burr_bench.proofs.Soundness.Start.{assembled_start}
 use Rattle.burr_bench.proofs.Soundness.StepOutcomes.{Carries}
-use Rattle.burr_bench.proofs.Soundness.TidyCuts.{states_are_tidy}
 
 -- The same plan with another budget
 
@@ -99,58 +96,31 @@ container_for plan budget less given = record {
   eight = given.eight;
   own = given.own;
   main = given.main;
-  budget = fewer budget plan.budget less given.budget;
+  budget = let few = given.budget in omega arith;
 }
-  where
-    fewer : (a b : ℕ) → a ≤ b → b < 2 ^ 64 - 1 → a < 2 ^ 64 - 1
-    fewer a b h k = omega arith
-
--- What steps carry on holds wherever calls come to.
-
-along : (setup : Setup) (budget most : ℕ) (Fact : BenchState → Type 0) (carry : Carries setup budget Fact)
-    (s last : BenchState) (answers left : List ℤ) (motions : List Motion)
-    → Fact s ⊎ HasEnded budget s → Calls setup most s answers motions last left
-    → Fact last ⊎ HasEnded budget last
-along setup budget most Fact carry s _ answers _ _ fact (begun _ _) = fact
-along setup budget most Fact carry s last answers left _ fact (went _ new _ motion _ _ rest going called calls) =
-    along setup budget most Fact carry new last answers left rest
-    (in_mode setup budget Fact carry s new None _ s.mode fact refl called).1 calls
-along setup budget most Fact carry s last _ left motions fact
-    (answered _ new _ low high answer told rest _ _ going asked called calls) =
-    along setup budget most Fact carry new last rest left motions
-    (in_mode setup budget Fact carry s new (Some answer) _ s.mode fact refl called).1 calls
 
 at_most : (budget : ℕ) (setup : Setup) (Fact : BenchState → Type 0) (s : BenchState)
     → Carries setup budget Fact → Fact s ⊎ HasEnded budget s → s.steps ≤ budget
-at_most budget setup Fact s carry (inl fact) = fewer s.steps budget (carry.running s fact).1
-  where
-    fewer : (a b : ℕ) → a < b → a ≤ b
-    fewer a b h = omega arith
+at_most budget setup Fact s carry (inl fact) = let few = (carry.running s fact).1 in omega arith
 at_most budget setup Fact s carry (inr ended) = ended.within
 
 pub cost_bounds_steps : FittingIsFromContainer → HomesAreDisjoint → CostBoundsSteps
 cost_bounds_steps from_container disjoint j a cost s costs (most, answers, left, motions, calls) =
     let homes = homes_of j.assembly in
-    let name = j.assembly.name in
     let framed = a.framed in
     let is = costs a.plan framed.start.main framed.start.frame a.is_container framed.start.is_main
     framed.start.is_entry in
     let plan : FramedPlan = with_budget (framed_plan a.plan) cost in
     let given : IsFromContainer plan =
     container_for (framed_plan a.plan) cost is.1 (from_container a.plan a.fits) in
-    let well : IsWellFramed name homes plan =
-    framed_for name homes (framed_plan a.plan) cost framed (spends _ _ is.0) in
-    let carry = carries homes plan (has_framing name homes plan given well)
-    (states_are_tidy homes plan given) in
+    let well : IsWellFramed j.assembly.name homes plan =
+    framed_for j.assembly.name homes (framed_plan a.plan) cost framed (spends _ _ is.0) in
+    let carry = framed_carries j.assembly.name homes plan given well in
     let setup : Setup = framed_setup plan homes in
     let same : running homes (plan_program a.plan) ≡ setup = sym (same_setup a.plan homes) in
-    let two =
-    subst (λ (n : ℕ). 2 ≤ n) (sym (length-map j.assembly.pieces (home_of j.assembly.shapes)))
-    a.is_assembly.pieces.0 in
-    let begins = start_is_safe name homes plan given well (disjoint j.assembly a.is_assembly).0 two in
     at_most cost setup (IsSafeState homes plan) s carry
-    (along setup cost most (IsSafeState homes plan) carry (start setup) s answers left motions
-    (inl begins)
+    (along setup cost (IsSafeState homes plan) carry most (start setup) s answers left motions
+    (inl (assembled_start disjoint j.assembly a.is_assembly plan given well))
     (subst (λ (t : Setup). Calls t most (start t) answers motions s left) same calls))
   where
     spends : (x : ℤ) (cost : ℕ) → x ≡ pos cost → x ≤ℤ pos cost

@@ -2,24 +2,27 @@
 use Rattle.std.proofs.Common.{◌≡◌, ℕ, zero, suc, ◌<◌, ◌≤◌, List, [], ◌∷◌, length, Option, Some, None, refl, sym, subst, ap, arith}
 use Rattle.std.specs.Prelude.{ℤ, pos, ◌+ℤ◌, ◌≤ℤ◌, map, replicate, get_or, slice_get}
 use Rattle.std.proofs.lemmas.Int.{ints}
+use Rattle.std.proofs.lemmas.List.{length-map}
 use Rattle.std.proofs.lemmas.List.Elements.{All-nil}
 use Rattle.std.proofs.lemmas.Option.{none-some, same_Some}
 use Rattle.burr_voxels.specs.declared.cell.Cell.{Cell}
 use Rattle.burr_voxels.specs.Grid.{origin}
+use Rattle.burr_assembly.specs.Rules.Homes.{homes_of, home_of}
+use Rattle.burr_assembly.specs.Rules.Text.{Assembly, IsAssembly}
 use Rattle.burr_code.specs.declared.placement.Placement.{Placement}
 use Rattle.burr_code.specs.declared.placement.Placement.TheVariants.{On}
 use Rattle.burr_forms.specs.Rules.Forms.{Form, value, values}
 use Rattle.burr_container.specs.Rules.Plans.{Range, Frame}
 use Rattle.burr_frames.specs.Rules.FramedPlans.{FramedPlan}
-use Rattle.burr_frames.specs.Rules.States.{AbstractState, places_at}
+use Rattle.burr_frames.specs.Rules.States.{places_at}
 use Rattle.burr_frames.specs.Rules.Arrival.{live_forms}
 use Rattle.burr_frames.specs.Rules.Starts.{home_position, start_state}
 use Rattle.burr_verify.specs.Rules.WellFramed.{IsWellFramed}
 use Rattle.burr_verify.specs.Views.FromContainers.{IsFromContainer}
 use Rattle.burr_verify.proofs.Common.FromContainers.{entry_stands}
-use Rattle.burr_state.specs.Rules.Bench.{BenchState, Setup, start}
+use Rattle.burr_state.specs.Rules.Bench.{Setup, start}
 use Rattle.burr_state.specs.Rules.Calls.{begun}
-use Rattle.burr_state.specs.Laws.SpaceLaws.{AreDisjoint, IsReached}
+use Rattle.burr_state.specs.Laws.SpaceLaws.{AreDisjoint, HomesAreDisjoint, IsReached}
 use Rattle.burr_bench.specs.Soundness.Framing.{framed_setup, HasFraming}
 use Rattle.burr_bench.specs.Soundness.Standing.{Stands}
 use Rattle.burr_bench.specs.Soundness.Invariant.{IsGood, IsSafeState}
@@ -40,18 +43,15 @@ has_framing name homes plan given framed = record {
 
 -- The pieces
 
-reached_at_start : (setup : Setup) → IsReached setup (start setup)
-reached_at_start setup = (0, [], [], [], begun (start setup) [])
-
 good_at_start : (setup : Setup) → AreDisjoint setup.homes → 2 ≤ length setup.homes
     → IsGood setup.homes (start setup).places 0 0
-good_at_start setup disjoint two = record {
-  no_overlap = pieces_never_overlap setup (start setup) disjoint (reached_at_start setup);
-  gripped = grip_is_here setup (start setup) (reached_at_start setup);
-  no_lone =
-      no_piece_is_lone setup (start setup) (λ one. omega (arith, two, one))
-      (reached_at_start setup);
-}
+good_at_start setup disjoint two =
+    let reached : IsReached setup (start setup) = (0, [], [], [], begun (start setup) []) in
+    record {
+      no_overlap = pieces_never_overlap setup (start setup) disjoint reached;
+      gripped = grip_is_here setup (start setup) reached;
+      no_lone = no_piece_is_lone setup (start setup) (λ one. omega (arith, two, one)) reached;
+    }
 
 -- The start stands for its state
 
@@ -102,9 +102,6 @@ no_parameters zero f forms e live = refl
 no_parameters (suc m) f forms e live =
     let first = live 0 (omega arith) in absurd (first_not_live f.slots 8 forms first.0 e first.1)
 
-none_below : (v m : ℕ) → 0 ≡ m → v < m → ⊥
-none_below v m e lt = omega arith
-
 nothing_waits : (a : ℤ) (l : ℤ) → a ≤ℤ l → ((a +ℤ pos 0) +ℤ pos 0) ≤ℤ l
 nothing_waits a l h = omega (arith, ints)
 
@@ -121,17 +118,10 @@ start_is_safe name homes plan given framed disjoint two =
     let cut = ok.cut 0 main begins.is_main in
     let labelled = (ok.entry 0 main f begins.is_main begins.is_entry).0 in
     let at = cut.1.labels 0 f labelled in
-    let b : BenchState = start (framed_setup plan homes) in
-    let st =
-    stands_at_frame (start_state homes) f [] b meets
-    (given.eight 0 main begins.is_main 0 f labelled) (start_stands homes plan) in
     let none : meets.forms ≡ [] = no_forms f.slots 8 meets.forms meets.known in
     let live = (((framed.each 0 main begins.is_main).frames 0 f labelled).0).live in
     let count : 0 ≡ main.parameters =
     no_parameters main.parameters f meets.forms meets.known live in
-    let cost : value (values [] meets.forms) f.cost ≤ℤ pos plan.budget =
-    subst (λ (forms : List Form). value (values [] forms) f.cost ≤ℤ pos plan.budget)
-    (sym none) begins.cost in
     record {
       mode = refl;
       here = main;
@@ -143,17 +133,20 @@ start_is_safe name homes plan given framed disjoint two =
       row_is = at.2;
       pc = sym at.3;
       point = values [] meets.forms;
-      stands = subst (λ (s : AbstractState). Stands s (values [] meets.forms) b) (sym at.4) st;
+      stands =
+          rw at.4 (stands_at_frame (start_state homes) f [] _ meets
+          (given.eight 0 main begins.is_main 0 f labelled) (start_stands homes plan));
       good = good_at_start (framed_setup plan homes) disjoint two;
       parameters = [];
-      parameters_are = record {
-        as_many = count;
-        each = λ v lt. absurd (none_below v main.parameters count lt);
-      };
+      parameters_are = record { as_many = count; each = λ v lt. absurd (omega arith) };
       waiting_cost = pos 0;
       callers = (refl, refl);
-      budgeted =
-          subst (λ (s : AbstractState).
-          ((value (values [] meets.forms) s.cost +ℤ pos 0) +ℤ pos 0) ≤ℤ pos plan.budget)
-          (sym at.4) (nothing_waits (value (values [] meets.forms) f.cost) (pos plan.budget) cost);
+      budgeted = rw (at.4, none) (nothing_waits (value [] f.cost) (pos plan.budget) begins.cost);
     }
+
+-- of the pieces of an assembly
+pub assembled_start : HomesAreDisjoint → (a : Assembly) → IsAssembly a → (plan : FramedPlan) → IsFromContainer plan
+    → IsWellFramed a.name (homes_of a) plan → IsSafeState (homes_of a) plan (start (framed_setup plan (homes_of a)))
+assembled_start disjoint a whole plan given framed =
+    start_is_safe a.name (homes_of a) plan given framed (disjoint a whole).0
+    (subst (λ (n : ℕ). 2 ≤ n) (sym (length-map a.pieces (home_of a.shapes))) whole.pieces.0)

@@ -10,7 +10,7 @@ use Rattle.burr_assembly.specs.Rules.Text.{Assembly, IsAssembly}
 use Rattle.burr_assembly.specs.Rules.Homes.{home_of, homes_of}
 use Rattle.burr_code.specs.declared.placement.Placement.{Placement}
 use Rattle.burr_code.specs.declared.placement.Placement.TheVariants.{On}
-use Rattle.burr_code.specs.Places.{IsPartOfTray, IsEmptyTray, aside_places}
+use Rattle.burr_code.specs.Places.{AllLieIn, IsPartOfTray, IsEmptyTray, aside_places}
 use Rattle.burr_state.specs.declared.effect.Motion.{Motion}
 use Rattle.burr_state.specs.declared.effect.Mode.{Mode}
 use Rattle.burr_state.specs.declared.effect.Mode.TheVariants.{Running}
@@ -70,49 +70,44 @@ goes_on_aside old new motion there sound out part empty places = record {
       omega (arith, most, same, few);
 }
 
--- a bench at work is sound where none of its pieces moved
-pub sound_staying : (old new : Benched) → IsSound old → new.assembly ≡ old.assembly → PiecesStay old.state new.state → IsSound new
-sound_staying old new sound assembly stays = record {
-  as_many = ap length stays.places ∙ sound.as_many ∙ ap (λ a. length a.pieces) (sym assembly);
-  few = let few = sound.few in let same = ap length stays.places in omega (arith, same, few);
-  here = stays.here;
+-- a bench at work is sound after each step that leaves the grip in the current tray and no two pieces of a tray overlapping
+sound_after : (old new : Benched) → IsSound old → new.assembly ≡ old.assembly → length new.state.places ≡ length old.state.places
+    → AllLieIn new.state.places new.state.tray new.state.grip → NoOverlap (homes_of old.assembly) new.state.places → IsSound new
+sound_after old new sound assembly same here apart = record {
+  as_many = same ∙ sound.as_many ∙ ap (λ a. length a.pieces) (sym assembly);
+  few = let few = sound.few in omega (arith, same, few);
+  here = here;
   whole = subst IsAssembly (sym assembly) sound.whole;
-  apart = subst (λ (a : Assembly). NoOverlap (homes_of a) new.state.places) (sym assembly) (subst (λ (ps : List (Placement Cell)). NoOverlap (homes_of old.assembly) ps) (sym stays.places) sound.apart);
+  apart = subst (λ (a : Assembly). NoOverlap (homes_of a) new.state.places) (sym assembly) apart;
 }
 
--- a bench at work whose mode changed is sound
+-- where none of its pieces moved
+pub sound_staying : (old new : Benched) → IsSound old → new.assembly ≡ old.assembly → PiecesStay old.state new.state → IsSound new
+sound_staying old new sound assembly stays =
+    sound_after old new sound assembly (ap length stays.places) stays.here
+    (subst (λ (ps : List (Placement Cell)). NoOverlap (homes_of old.assembly) ps) (sym stays.places) sound.apart)
+
+-- where its mode changed
 pub sound_still : (old new : Benched) (mode : Mode) → IsSound old → new.assembly ≡ old.assembly → new.state ≡ record old.state { mode = mode } → IsSound new
 sound_still old new mode sound assembly still =
     sound_staying old new sound assembly (record { places = ap (λ (s : BenchState). s.places) still; here = rw still sound.here })
 
--- a bench at work after a unit is sound
+-- after a unit
 pub sound_unit : (old new : Benched) (direction : Direction) → IsSound old → NoOverlapIn (homes_of old.assembly) (moved_places old.state.grip direction old.state.places) old.state.tray → new.assembly ≡ old.assembly
     → new.state.places ≡ moved_places old.state.grip direction old.state.places → new.state.tray ≡ old.state.tray → new.state.grip ≡ old.state.grip → IsSound new
 sound_unit old new direction sound none assembly places tray grip =
-    let same : length new.state.places ≡ length old.state.places = ap length places ∙ length-moved old.state.grip direction old.state.places in record {
-      as_many = same ∙ sound.as_many ∙ ap (λ a. length a.pieces) (sym assembly);
-      few = let few = sound.few in omega (arith, same, few);
-      here = rw (places, tray, grip) (λ p bit. lies_after_shift (λ (o : Cell). plus o (along direction (pos 1))) old.state.grip p old.state.tray old.state.places (sound.here p bit));
-      whole = subst IsAssembly (sym assembly) sound.whole;
-      apart =
-          subst (λ (a : Assembly). NoOverlap (homes_of a) new.state.places) (sym assembly)
-          (subst (λ (ps : List (Placement Cell)). NoOverlap (homes_of old.assembly) ps) (sym places)
-          (no_overlap_moved (homes_of old.assembly) old.state.places old.state.tray old.state.grip direction sound.apart sound.here none));
-    }
+    sound_after old new sound assembly (ap length places ∙ length-moved old.state.grip direction old.state.places)
+    (rw (places, tray, grip) (λ p bit. lies_after_shift (λ (o : Cell). plus o (along direction (pos 1))) old.state.grip p old.state.tray old.state.places (sound.here p bit)))
+    (subst (λ (ps : List (Placement Cell)). NoOverlap (homes_of old.assembly) ps) (sym places)
+    (no_overlap_moved (homes_of old.assembly) old.state.places old.state.tray old.state.grip direction sound.apart sound.here none))
 
--- a bench at work after an `aside` is sound
+-- after an `aside`
 pub sound_aside : (old new : Benched) (there : ℕ) → IsSound old → IsEmptyTray old.state.places there → new.assembly ≡ old.assembly → new.state.places ≡ aside_places old.state.grip old.state.tray there old.state.places → new.state.grip ≡ 0 → IsSound new
 sound_aside old new there sound empty assembly places grip =
-    let same : length new.state.places ≡ length old.state.places = ap length places ∙ length-aside_places old.state.grip old.state.tray there old.state.places in record {
-      as_many = same ∙ sound.as_many ∙ ap (λ a. length a.pieces) (sym assembly);
-      few = let few = sound.few in omega (arith, same, few);
-      here = rw grip (all_lie_in_nothing new.state.places new.state.tray);
-      whole = subst IsAssembly (sym assembly) sound.whole;
-      apart =
-          subst (λ (a : Assembly). NoOverlap (homes_of a) new.state.places) (sym assembly)
-          (subst (λ (ps : List (Placement Cell)). NoOverlap (homes_of old.assembly) ps) (sym places)
-          (no_overlap_aside (homes_of old.assembly) old.state.places old.state.tray there old.state.grip sound.apart sound.here empty));
-    }
+    sound_after old new sound assembly (ap length places ∙ length-aside_places old.state.grip old.state.tray there old.state.places)
+    (rw grip (all_lie_in_nothing new.state.places new.state.tray))
+    (subst (λ (ps : List (Placement Cell)). NoOverlap (homes_of old.assembly) ps) (sym places)
+    (no_overlap_aside (homes_of old.assembly) old.state.places old.state.tray there old.state.grip sound.apart sound.here empty))
 
 pub start_parts : {Position : Type 0} (n : ℕ) (position : Position) → 2 ≤ n → parts (replicate n (On 0 position)) ≡ 1
 start_parts zero position several = absurd (omega arith)

@@ -1,5 +1,5 @@
 -- What the tests of the grip's way come to.
-use Rattle.std.proofs.Common.{◌≡◌, ◌↔◌, ◌<◌, ◌≤◌, ℕ, List, [], length, sym, subst, inl, inr, arith, IsTrue, Bool}
+use Rattle.std.proofs.Common.{◌≡◌, ◌↔◌, ◌<◌, ◌≤◌, ℕ, List, [], length, subst, inl, inr, arith, IsTrue, Bool}
 use Rattle.std.specs.Prelude.{pos}
 use Rattle.std.proofs.lemmas.List.{length-map}
 use Rattle.std.proofs.lemmas.Option.{get_or_from_slice_get, slice_get-get_or}
@@ -14,7 +14,7 @@ use Rattle.burr_code.specs.Places.{LiesAt, LiesIn}
 use Rattle.burr_assembly.specs.Rules.Text.{Assembly}
 use Rattle.burr_assembly.specs.Rules.Homes.{HasHome, home_at, home_of, homes_of}
 use Rattle.burr_blocking.specs.declared.blocking.Query.{Query}
-use Rattle.burr_blocking.specs.Rules.Pairs.{IsBlocked, Clears}
+use Rattle.burr_blocking.specs.Rules.Pairs.{Clears}
 use Rattle.burr_blocking.proofs.Common.Displaced.{free_of_difference, difference_of_free, blocked_of_overlap, overlap_of_blocked, overlap_before}
 use Rattle.burr_bench.specs.declared.checked.Way.{Way}
 use Rattle.burr_bench.specs.declared.checked.Way.TheVariants as ways
@@ -89,38 +89,35 @@ passing_of_free homes places tray group direction as_many free p bit offset lies
 
 -- One unit
 
--- no two pieces of the tray overlap after the unit where the group passes: two pieces of the group, or two of the rest, lie to each other as before
-pub no_overlap_of_passing : (homes : List (List Cell)) (places : List (Placement Cell)) (tray group : ℕ) (direction : Direction) → NoOverlapIn homes places tray
-    → GroupPasses (ways.Unit direction) homes places tray group → NoOverlapIn homes (moved_places group direction places) tray
-no_overlap_of_passing homes places tray group direction apart passes p q p_home q_home p_offset q_offset other has has_q lies lies_q over =
+-- no piece of the group, one unit on, meets a piece of the tray that is not in the group
+abbrev pub AllKeepClear : List (List Cell) → List (Placement Cell) → ℕ → ℕ → Direction → Type 0
+AllKeepClear homes places tray group direction =
+    (p q : ℕ) (p_home q_home : List Cell) (p_offset q_offset : Cell) → IsInSet group p → (¬ IsInSet group q) → HasHome homes p p_home → HasHome homes q q_home
+    → LiesAt places p tray p_offset → LiesAt places q tray q_offset → ¬ Overlap (shifted (plus p_offset (along direction (pos 1))) p_home) (shifted q_offset q_home)
+
+-- then no two pieces of the tray overlap after the unit: two pieces of the group, or two of the rest, lie to each other as before
+pub no_overlap_past : (homes : List (List Cell)) (places : List (Placement Cell)) (tray group : ℕ) (direction : Direction) → NoOverlapIn homes places tray
+    → AllKeepClear homes places tray group direction → NoOverlapIn homes (moved_places group direction places) tray
+no_overlap_past homes places tray group direction apart clear p q p_home q_home p_offset q_offset other has has_q lies lies_q over =
     let p_lay = lay_before_shift move group p tray p_offset places lies in
     let q_lay = lay_before_shift move group q tray q_offset places lies_q in
-    by_cases p_lay.0 q_lay.0 p_lay.1 q_lay.1 p_lay.2 q_lay.2
+    by_cases p_lay.0 q_lay.0 p_lay.1 q_lay.1 p_lay.2 q_lay.2 over
   where
-    unit : Cell
-    unit = along direction (pos 1)
-
     move : Cell → Cell
-    move offset = plus offset unit
+    move offset = plus offset (along direction (pos 1))
 
-    -- a piece of the group and one of the rest
-    past : (i j : ℕ) (i_home j_home : List Cell) (x i_offset j_offset : Cell) → HasHome homes i i_home → HasHome homes j j_home → IsInSet group i → (¬ IsInSet group j) → LiesAt places i tray x → LiesAt places j tray j_offset
-        → i_offset ≡ plus x unit → ¬ Overlap (shifted i_offset i_home) (shifted j_offset j_home)
-    past i j i_home j_home x i_offset j_offset i_has j_has bit rest i_lay j_lay moved meets =
-        passes i bit x i_lay j rest j_offset j_lay
-        (subst (λ (d : Cell). IsBlocked (home_at homes i) (home_at homes j) (minus d j_offset)) moved
-        (subst (λ (cs : List Cell). IsBlocked cs (home_at homes j) (minus i_offset j_offset)) (sym (home_is homes i i_home i_has))
-        (subst (λ (cs : List Cell). IsBlocked i_home cs (minus i_offset j_offset)) (sym (home_is homes j j_home j_has)) (blocked_of_overlap i_offset j_offset i_home j_home meets))))
+    by_cases : (x y : Cell) → LiesAt places p tray x → LiesAt places q tray y → IsShifted move group p x p_offset → IsShifted move group q y q_offset → ¬ Overlap (shifted p_offset p_home) (shifted q_offset q_home)
+    by_cases x y p_lay q_lay (inl moved) (inl also) over = apart p q p_home q_home x y other has has_q p_lay q_lay (overlap_before x y (along direction (pos 1)) p_home q_home (rw (moved.1, also.1) at over))
+    by_cases x y p_lay q_lay (inl moved) (inr still) over = clear p q p_home q_home x y moved.0 still.0 has has_q p_lay q_lay (rw (moved.1, still.1) at over)
+    by_cases x y p_lay q_lay (inr still) (inl moved) over = let met = rw (still.1, moved.1) at over in clear q p q_home p_home y x moved.0 still.0 has_q has q_lay p_lay (met.0, met.2, met.1)
+    by_cases x y p_lay q_lay (inr still) (inr also) over = apart p q p_home q_home x y other has has_q p_lay q_lay (rw (still.1, also.1) at over)
 
-    by_cases : (x y : Cell) → LiesAt places p tray x → LiesAt places q tray y → IsShifted move group p x p_offset → IsShifted move group q y q_offset → ⊥
-    by_cases x y p_lay q_lay (inl moved) (inl also) =
-        apart p q p_home q_home x y other has has_q p_lay q_lay
-        (overlap_before x y unit p_home q_home (subst (λ c. Overlap (shifted c p_home) (shifted (plus y unit) q_home)) moved.1 (subst (λ c. Overlap (shifted p_offset p_home) (shifted c q_home)) also.1 over)))
-    by_cases x y p_lay q_lay (inl moved) (inr still) = past p q p_home q_home x p_offset q_offset has has_q moved.0 still.0 p_lay (subst (LiesAt places q tray) (sym still.1) q_lay) moved.1 over
-    by_cases x y p_lay q_lay (inr still) (inl moved) =
-        past q p q_home p_home y q_offset p_offset has_q has moved.0 still.0 q_lay (subst (LiesAt places p tray) (sym still.1) p_lay) moved.1 (over.0, over.2, over.1)
-    by_cases x y p_lay q_lay (inr still) (inr also) =
-        apart p q p_home q_home x y other has has_q p_lay q_lay (subst (λ c. Overlap (shifted c p_home) (shifted y q_home)) still.1 (subst (λ c. Overlap (shifted p_offset p_home) (shifted c q_home)) also.1 over))
+pub no_overlap_of_passing : (homes : List (List Cell)) (places : List (Placement Cell)) (tray group : ℕ) (direction : Direction) → NoOverlapIn homes places tray
+    → GroupPasses (ways.Unit direction) homes places tray group → NoOverlapIn homes (moved_places group direction places) tray
+no_overlap_of_passing homes places tray group direction apart passes =
+    no_overlap_past homes places tray group direction apart (λ p q p_home q_home x y bit rest has has_q lies lies_q meets.
+    passes p bit x lies q rest y lies_q
+    (rw (home_is homes p p_home has, home_is homes q q_home has_q) (blocked_of_overlap (plus x (along direction (pos 1))) y p_home q_home meets)))
 
 pub passing_of_no_overlap : (homes : List (List Cell)) (places : List (Placement Cell)) (tray group : ℕ) (direction : Direction) → length places ≤ length homes
     → NoOverlapIn homes (moved_places group direction places) tray → GroupPasses (ways.Unit direction) homes places tray group
