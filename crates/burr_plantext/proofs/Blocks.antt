@@ -1,45 +1,39 @@
 -- Labels with their frames and their code, and procedures, one after the other.
-use Rattle.std.proofs.Common.{◌≡◌, ℕ, zero, suc, ◌+◌, ◌-◌, ◌<◌, ◌≤◌, ◌==◌, Bool, true, false, IsTrue, Option, Some, None, List, [], ◌∷◌, ◌++◌, drop, take, length, refl, sym, ap, ◌∙◌, subst, arith, append_assoc, append-nil}
-use Rattle.std.specs.Prelude.{slice_get, codes, IfSome, if◌then◌else◌}
+use Rattle.std.proofs.Common.{◌≡◌, ℕ, suc, ◌+◌, ◌-◌, ◌<◌, ◌≤◌, ◌==◌, Bool, true, false, IsTrue, Option, Some, None, List, [], ◌∷◌, ◌++◌, drop, take, length, refl, sym, ap, ◌∙◌, subst, arith, append_assoc, append-nil, slice_get, codes, IfSome, if◌then◌else◌, length-take-le, length-drop}
 use Rattle.burr_code.specs.declared.limits.TheConstants.{MOST_CODE}
 use Rattle.burr_container.specs.Rules.Plans.{Frame, PlanProcedure, Plan}
-use Rattle.burr_container.specs.Rules.Fitting.{rise_from, is_frame}
 use Rattle.burr_plantext.specs.Views.Symbols.{IsOverLive}
-use Rattle.burr_plantext.proofs.FrameSteps.{all_at}
 use Rattle.burr_plantext.specs.Rules.Statements.{Statement}
 use Rattle.burr_plantext.specs.Rules.Lines.{PlanLine, ProcLine, LabelLine}
 use Rattle.burr_plantext.specs.Rules.Sources.{Block, ProcedureSource, PlanSource, frame_lines}
 use Rattle.burr_plantext.specs.Rules.Meaning.{code_size}
 use Rattle.burr_plantext.specs.Rules.Writing.{text_of, line_text}
 use Rattle.burr_plantext.specs.Rules.Listing.{IsCodeListed, AreBlocksListed, AreProceduresListed, IsListed, code_after, procedure_name, label_name, frame_listed, exit_listed, head_of, title_of}
+use Rattle.burr_plantext.specs.Views.Parts.{frame_text, exit_text, title_text, count_text}
+use Rattle.std.specs.Fmt.{decimal}
+use Rattle.std.proofs.lemmas.List.{drop_all}
+use Rattle.burr_container.specs.Rules.Fitting.{is_frame, rise_from}
+use Rattle.burr_plantext.proofs.FrameSteps.{all_at}
 use Rattle.burr_plantext.specs.Views.Listings.{begin_of, IsCodeAdded, IsBlockAdded, AreBlocksAdded, IsProcedureAdded}
 use Rattle.burr_plantext.specs.Rules.ListedPlaces.{code_text, blocks_text, procedure_text, procedures_text, plan_text, IsListedText}
-use Rattle.burr_plantext.specs.Views.Parts.{frame_text, exit_text, title_text, count_text}
 use Rattle.std.specs.Bool.{then_some}
-use Rattle.std.specs.Fmt.{decimal}
 use Rattle.burr_container.specs.declared.container.Header.{Header}
 use Rattle.burr_container.specs.declared.procedure_ref.StoredProcedure.{StoredProcedure}
 use Rattle.burr_container.specs.Views.InPlace.{IsLabel, IsProcedure}
 use Rattle.burr_container.specs.Views.Containers.{ContainerView, IsHeader, IsContainer, HasPlan, HasLabel, OfProcedure, OfLabel}
 use Rattle.burr_container.proofs.Common.OneContainer.{fits_where_kept}
 use Rattle.burr_plantext.proofs.Steps.{left_at, got_at, got_dropped}
-use Rattle.burr_plantext.proofs.CodeSteps.{rest_taken, listed_size, dropped_length}
-use Rattle.burr_plantext.proofs.LiveSlots.{all_dropped}
+use Rattle.burr_plantext.proofs.CodeSteps.{rest_taken, listed_size}
 use Rattle.burr_plantext.proofs.PlanSteps.{as_many, for_at, of_plan, procedure_fits, labels_fit, frame_over, FitsLabels, rises_at, rises_next}
-
-length_taken : (n : ℕ) (xs : List ℕ) → n ≤ length xs → length (take n xs) ≡ n
-length_taken zero xs h = refl
-length_taken (suc n) [] h = absurd (omega (arith, h))
-length_taken (suc n) (x ∷ xs) h = ap suc (length_taken n xs (omega (arith, h)))
 
 size_by : (code : List ℕ) (position : ℕ) (labels : List (ℕ × Frame))
     → position ≤ begin_of (length code) labels → begin_of (length code) labels ≤ length code
     → position + length (code_after code position labels) ≡ begin_of (length code) labels
 size_by code position [] low high =
-    let long = dropped_length position code in omega (arith, long, low)
+    let long = length-drop position code in omega (arith, long, low)
 size_by code position (next ∷ labels) low high =
-    let long = dropped_length position code in
-    let taken = length_taken (next.0 - position) (drop position code) (omega (arith, long, low, high)) in
+    let long = length-drop position code in
+    let taken = length-take-le (next.0 - position) (drop position code) (omega (arith, long, low, high)) in
     omega (arith, taken, low)
 
 begin_by : (end : ℕ) (labels : List (ℕ × Frame)) (n : ℕ) (l : ℕ × Frame)
@@ -72,7 +66,7 @@ begin_some end labels n l here = ap (begin_of end) (left_at labels n (suc n) l r
 
 pub begin_none : (end : ℕ) (labels : List (ℕ × Frame)) (n : ℕ) → length labels ≤ n
     → begin_of end (drop n labels) ≡ end
-begin_none end labels n past = ap (begin_of end) (all_dropped labels n past)
+begin_none end labels n past = ap (begin_of end) (drop_all n labels past)
 
 -- it is what is between two positions
 part_is : (code : List ℕ) (position : ℕ) (labels : List (ℕ × Frame))
@@ -121,7 +115,7 @@ pub block_is : (start end : ℕ) (code part : List ℕ) (q : PlanProcedure) (n :
     → end ≡ begin_of (length q.code) (drop (n + 1) q.labels) → code ≡ q.code
     → (part ≡ code_after q.code l.0 (drop (n + 1) q.labels)) × (l.0 + length part ≤ MOST_CODE)
 block_is start end code part q n l bounds short is begin stop same =
-    let size = length_taken (end - start) (drop start code) (omega (arith, bounds.0, bounds.1, dropped_length start code)) in
+    let size = length-take-le (end - start) (drop start code) (omega (arith, bounds.0, bounds.1, length-drop start code)) in
     let long = ap (λ (bytes : List ℕ). length bytes) is in (
       is ∙ (λ j. take (stop j - begin j) (drop (begin j) (same j)))
           ∙ part_is q.code l.0 (drop (n + 1) q.labels),
@@ -241,7 +235,7 @@ pub blocks_end : (p : Plan) (q : PlanProcedure) (placed : Option ℕ) (old : Lis
     (text : List ℕ) → length q.labels ≤ n → AreBlocksWritten p q placed old n text
     → AreBlocksAdded p q placed old text
 blocks_end p q placed old n text end written =
-    let none = all_dropped q.labels n end in
+    let none = drop_all n q.labels end in
     let (blocks, are, so) = written []
     (subst (λ (ls : List (ℕ × Frame)). AreBlocksListed (length q.labels) (length p.procedures) q.code n ls []) (sym none) tt) in
     (blocks, are, sym (append-nil text) ∙ so)
@@ -260,12 +254,7 @@ head_by : (two : Bool) (n : ℕ) (parameters results : ℕ)
       parameters = decimal parameters;
       results = if two then Some (decimal results) else None;
     }))
-head_by true n parameters results =
-    ap (λ (t : List ℕ). codes "proc " ++ t)
-    (append_assoc (procedure_name n) (32 ∷ decimal parameters) (32 ∷ (decimal results ++ 10 ∷ []))
-    ∙ ap (λ (t : List ℕ). procedure_name n ++ t)
-    (sym (append_assoc (32 ∷ decimal parameters) (32 ∷ decimal results) (10 ∷ [])))
-    ∙ sym (append_assoc (procedure_name n) (32 ∷ (decimal parameters ++ 32 ∷ decimal results)) (10 ∷ [])))
+head_by true n parameters results = simp append_assoc
 head_by false n parameters results = refl
 
 pub head_added : (version : ℕ) (n : ℕ) (q : PlanProcedure)
@@ -297,11 +286,8 @@ procedure_added places p n q old headed exited new head exit (blocks, are, says)
     let line = line_text (ProcLine (head_of p.version n q)) in (
       record { head = head_of p.version n q; exit = exit_listed q.exit; blocks = blocks },
       record { head = refl; exit = refl; blocks = are },
-      says
-          ∙ ap (λ (t : List ℕ). t ++ blocks_text placed 0 blocks)
-          (exit ∙ ap (λ (t : List ℕ). t ++ exit_text q.exit) head
-          ∙ append_assoc old line (exit_text q.exit))
-          ∙ append_assoc old (line ++ exit_text q.exit) (blocks_text placed 0 blocks),
+      rw (says, exit, head)
+          (ap (λ (t : List ℕ). t ++ blocks_text placed 0 blocks) (append_assoc old line (exit_text q.exit)) ∙ append_assoc old (line ++ exit_text q.exit) (blocks_text placed 0 blocks)),
     )
 
 pub title_is : (h : Header) (p : Plan) → IsHeader h p
@@ -347,7 +333,7 @@ pub procedures_end : (places : Bool) (p : Plan) (n : ℕ) (text : List ℕ)
     → length p.procedures ≤ n → AreProceduresWritten places p n text
     → IsListedText places p text
 procedures_end places p n text end written =
-    let none = all_dropped p.procedures n end in
+    let none = drop_all n p.procedures end in
     let (s, is, so) = written []
     (subst (λ (qs : List PlanProcedure). AreProceduresListed p.version (length p.procedures) n qs []) (sym none) tt) in
     (s, is, sym (append-nil text) ∙ so)

@@ -1,20 +1,19 @@
 -- Lines of code, one after the other.
-use Rattle.std.proofs.Common.{◌≡◌, ℕ, zero, suc, ◌+◌, ◌-◌, ◌==◌, ◌<◌, inl, inr, Bool, true, false, Option, List, [], ◌∷◌, ◌++◌, map, take, drop, get_or, length, refl, sym, ap, ◌∙◌, subst, arith, append_assoc, append-nil, length-append, eqb-true}
+use Rattle.std.proofs.Common.{◌≡◌, ℕ, suc, ◌+◌, ◌-◌, ◌==◌, ◌<◌, inl, inr, Bool, true, false, Option, List, [], ◌∷◌, ◌++◌, map, take, drop, get_or, length, refl, sym, ap, ◌∙◌, subst, arith, append_assoc, append-nil, length-append, eqb-true, None, if◌then◌else◌, take_all, length-drop}
 use Rattle.std.proofs.Math.Seq.{drop-append_seam}
 use Rattle.std.proofs.lemmas.Bool.{false≢true}
-use Rattle.std.specs.Bool.{then_some}
-use Rattle.std.specs.Prelude.{None, if◌then◌else◌}
-use Rattle.burr_code.specs.declared.instr.Instr.{Instr}
-use Rattle.burr_code.specs.Instruction as code
 use Rattle.burr_code.specs.Instruction.{Instruction, StandsAt, Begins, spelled, label_bytes}
-use Rattle.burr_code.specs.Meaning.{meaning}
-use Rattle.burr_code.proofs.Common.Reading.{one_begins}
 use Rattle.burr_plantext.specs.Rules.Operands.{by_word}
 use Rattle.burr_plantext.specs.Rules.Statements.{Statement, Byte, bares, bare_words, code_of}
 use Rattle.burr_plantext.specs.Rules.Lines.{CodeLine}
 use Rattle.burr_plantext.specs.Rules.Meaning.{statement_bytes, code_bytes, code_size}
 use Rattle.burr_plantext.specs.Rules.Listing.{MayBeListed, IsCodeListed, instruction_listed, has_names}
 use Rattle.burr_plantext.specs.Rules.Writing.{line_text}
+use Rattle.std.specs.Bool.{then_some}
+use Rattle.burr_code.specs.declared.instr.Instr.{Instr}
+use Rattle.burr_code.specs.Instruction as code
+use Rattle.burr_code.specs.Meaning.{meaning}
+use Rattle.burr_code.proofs.Common.Reading.{one_begins}
 use Rattle.burr_plantext.specs.Rules.ListedPlaces.{comment_at, code_text}
 use Rattle.burr_plantext.specs.Views.Listings.{IsFirst, IsLineAdded, IsCodeAdded}
 use Rattle.burr_plantext.proofs.Common.CodeSizes.{some_bytes}
@@ -138,19 +137,8 @@ IsCodeWritten labels procedures placed start bytes old at rest text =
     → (code : List Statement) × IsCodeListed labels procedures bytes code
     × (text ++ code_text placed at more ≡ old ++ code_text placed start code)
 
-whole_taken : (xs : List ℕ) (n : ℕ) → n ≡ length xs → take n xs ≡ xs
-whole_taken [] n e = ap (λ (k : ℕ). take k []) e
-whole_taken (x ∷ xs) n e =
-    ap (λ (k : ℕ). take k (x ∷ xs)) e
-    ∙ ap (λ (t : List ℕ). x ∷ t) (whole_taken xs (length xs) refl)
-
-pub dropped_length : (n : ℕ) (xs : List ℕ) → length (drop n xs) ≡ length xs - n
-dropped_length zero xs = omega arith
-dropped_length (suc n) [] = omega arith
-dropped_length (suc n) (x ∷ xs) = let more = dropped_length n xs in omega (arith, more)
-
 pub rest_taken : (n : ℕ) (xs : List ℕ) → take (length xs - n) (drop n xs) ≡ drop n xs
-rest_taken n xs = whole_taken (drop n xs) (length xs - n) (sym (dropped_length n xs))
+rest_taken n xs = take_all (length xs - n) (drop n xs) (omega (arith, length-drop n xs))
 
 pub line_turn : (labels procedures : ℕ) (placed : Option ℕ) (start : ℕ) (bytes old : List ℕ)
     (at : ℕ) (rest text marked new next : List ℕ) (size total : ℕ)
@@ -181,7 +169,7 @@ line_turn labels procedures placed start bytes old at rest text marked new next 
                 ∙ ap (λ (n : ℕ). text ++ ((comment_at placed at ++ line_text (CodeLine s))
                 ++ code_text placed (at + n) more)) line.whole ∙ so,
           ),
-      omega (arith, long, line.within, ap (λ (t : List ℕ). length t) e, dropped_length size rest),
+      omega (arith, long, line.within, ap (λ (t : List ℕ). length t) e, length-drop size rest),
     )
 
 no_bytes : (bytes : List ℕ) → true ≡ (length bytes == 0) → bytes ≡ []

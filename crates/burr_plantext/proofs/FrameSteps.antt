@@ -1,23 +1,23 @@
 -- The lines of frames, one after the other.
-use Rattle.std.proofs.Common.{◌≡◌, ℕ, zero, suc, ◌-◌, ◌≤◌, ◌&&◌, ℤ, pos, negsuc, neg_ℤ, Bool, true, false, IsTrue, Option, Some, None, List, [], ◌∷◌, ◌++◌, map, drop, replicate, codes, refl, sym, ap, ◌∙◌, subst, arith, append_assoc, leb-true, int_le}
-use Rattle.std.specs.Prelude.{slice_get}
+use Rattle.std.proofs.Common.{◌≡◌, ℕ, zero, suc, ◌-◌, ◌≤◌, ◌&&◌, ℤ, pos, negsuc, neg_ℤ, Bool, true, false, IsTrue, Option, Some, None, List, [], ◌∷◌, ◌++◌, map, drop, replicate, codes, refl, sym, ap, ◌∙◌, subst, arith, append_assoc, leb-true, int_le, slice_get}
 use Rattle.std.specs.List.{list_all}
 use Rattle.std.specs.Fmt.{decimal, signed_decimal}
 use Rattle.std.proofs.lemmas.Bool.{and_parts, false≢true}
-use Rattle.std.proofs.lemmas.Option.{same_Some, none-some}
-use Rattle.std.proofs.lemmas.Grind.{flat_map-append}
 use Rattle.burr_code.specs.declared.placement.Placement.{Placement}
-use Rattle.burr_code.specs.declared.placement.Placement.TheVariants.{Apart, On}
 use Rattle.burr_forms.specs.Rules.Forms.{Form}
 use Rattle.burr_container.specs.Rules.Plans.{FormCell, Range, Frame, of_live, padded, over_symbols, place_over_symbols, live_slots}
-use Rattle.burr_container.specs.Rules.Fitting.{is_between, is_coefficient, are_coefficients, is_form, is_place, is_tray}
-use Rattle.burr_plantext.specs.Rules.Lines.{Line, SlotLine, GuardLine, StackLine, AtLine, FrameLine, CostLine}
+use Rattle.burr_plantext.specs.Rules.Lines.{Line, AtLine}
 use Rattle.burr_plantext.specs.Rules.Written.{slot_numbers}
 use Rattle.burr_plantext.specs.Rules.Writing.{text_of, line_text}
-use Rattle.burr_plantext.specs.Rules.Listing.{term_word, terms_word, form_word, slots_of, spots_of, spot_of, grip_of, set_word}
+use Rattle.burr_plantext.specs.Rules.Listing.{term_word, terms_word, form_word, spot_of}
 use Rattle.burr_plantext.specs.Views.Parts.{grip_text, range_text, slot_text, slots_text, guards_text, stack_text, places_text, results_text, frame_text}
 use Rattle.burr_plantext.specs.Views.Symbols.{live_numbers, AreSymbols, AreOver, ArePlacesOver, IsOverLive, symbol_terms, symbol_word, symbol_line, symbol_piece}
+use Rattle.std.proofs.lemmas.Option.{same_Some, none-some}
+use Rattle.std.proofs.lemmas.Grind.{flat_map-append}
+use Rattle.burr_code.specs.declared.placement.Placement.TheVariants.{Apart, On}
+use Rattle.burr_container.specs.Rules.Fitting.{is_form, is_between, is_coefficient, are_coefficients, is_place, is_tray}
 use Rattle.burr_plantext.proofs.Steps.{left_at}
+use Rattle.burr_plantext.proofs.Texts.Tests.{and_three}
 
 -- Forms over symbols
 
@@ -92,27 +92,7 @@ form_left line word spelled live symbols forms n next f own over e here =
     ∙ ap (λ (t : List ℕ). t ++ text_of (map line (map form_word (drop next forms))))
     (spelled (form_word g) ∙ ap (λ (w : List ℕ). word ++ (w ++ 10 ∷ [])) same_word)
 
-pub guard_left : (live : List Bool) (symbols : List ℕ) (guards : List Form) (n next : ℕ)
-    (f : Form) → AreSymbols live symbols → AreOver live guards → next ≡ suc n
-    → slice_get (map (over_symbols live) guards) n ≡ Some f
-    → guards_text (drop n guards)
-    ≡ symbol_line (codes "guard ") symbols f ++ guards_text (drop next guards)
-guard_left = form_left GuardLine (codes "guard ") (λ w. refl)
-
-pub operand_left : (live : List Bool) (symbols : List ℕ) (stack : List Form) (n next : ℕ)
-    (f : Form) → AreSymbols live symbols → AreOver live stack → next ≡ suc n
-    → slice_get (map (over_symbols live) stack) n ≡ Some f
-    → stack_text (drop n stack)
-    ≡ symbol_line (codes "stack ") symbols f ++ stack_text (drop next stack)
-operand_left = form_left StackLine (codes "stack ") (λ w. refl)
-
 -- Lines of pieces
-
-grouped : (piece tray x y z : List ℕ)
-    → piece ++ ((32 ∷ (tray ++ (32 ∷ (x ++ (32 ∷ (y ++ (32 ∷ z))))))) ++ 10 ∷ [])
-    ≡ (piece ++ 32 ∷ (tray ++ 32 ∷ (x ++ 32 ∷ (y ++ 32 ∷ z)))) ++ 10 ∷ []
-grouped piece tray x y z =
-    sym (append_assoc piece (32 ∷ (tray ++ 32 ∷ (x ++ 32 ∷ (y ++ 32 ∷ z)))) (10 ∷ []))
 
 spot_over : (live : List Bool) (symbols : List ℕ) (piece : ℕ) (place : Placement FormCell)
     → AreSymbols live symbols → IsTrue (is_place live place)
@@ -124,14 +104,13 @@ spot_over live symbols piece Apart own h =
 spot_over live symbols piece (On tray at) own h =
     let a = and_parts (is_tray tray && is_form live at.x && is_form live at.y)
     (is_form live at.z) h in
-    let b = and_parts (is_tray tray && is_form live at.x) (is_form live at.y) a.0 in
-    let c = and_parts (is_tray tray) (is_form live at.x) b.0 in
-    let x = word_over live symbols at.x own c.1 in
-    let y = word_over live symbols at.y own b.1 in
+    let tests = and_three a.0 in
+    let x = word_over live symbols at.x own tests.1 in
+    let y = word_over live symbols at.y own tests.2 in
     let z = word_over live symbols at.z own a.1 in
     ap (λ (t : List ℕ). codes "at " ++ t)
     ((λ i. decimal piece ++ ((32 ∷ (decimal tray ++ (32 ∷ (x i ++ (32 ∷ (y i ++ (32 ∷ z i))))))) ++ 10 ∷ []))
-    ∙ grouped (decimal piece) (decimal tray) (form_word at.x) (form_word at.y) (form_word at.z))
+    ∙ sym (append_assoc (decimal piece) (32 ∷ (decimal tray ++ 32 ∷ (form_word at.x ++ 32 ∷ (form_word at.y ++ 32 ∷ form_word at.z)))) (10 ∷ [])))
 
 pub place_left : (live : List Bool) (symbols : List ℕ) (places : List (Placement FormCell))
     (n next : ℕ) (view : Placement FormCell) → AreSymbols live symbols
@@ -170,51 +149,16 @@ result_left results n next range e here =
 
 -- Frames
 
-pub two_texts : (a b : List Line) → text_of (a ++ b) ≡ text_of a ++ text_of b
-two_texts a b = flat_map-append line_text a b
-
-three_texts : (a b c : List Line)
-    → text_of (a ++ (b ++ c)) ≡ text_of a ++ (text_of b ++ text_of c)
-three_texts a b c =
-    two_texts a (b ++ c) ∙ ap (λ (t : List ℕ). text_of a ++ t) (two_texts b c)
-
-grip_grouped : (tray set : List ℕ)
-    → (tray ++ 32 ∷ set) ++ 10 ∷ [] ≡ tray ++ (32 ∷ (set ++ 10 ∷ []))
-grip_grouped tray set = append_assoc tray (32 ∷ set) (10 ∷ [])
-
-frame_grip : (f : Frame)
-    → line_text (FrameLine (grip_of f.tray f.grip)) ≡ grip_text (codes "frame") f.tray f.grip
-frame_grip f =
-    ap (λ (t : List ℕ). codes "frame" ++ 32 ∷ t) (grip_grouped (decimal f.tray) (set_word f.grip))
-
 frame_parts : (f : Frame)
     → frame_text f
     ≡ grip_text (codes "frame") f.tray f.grip ++ (slots_text 0 f.slots ++ (guards_text f.guards
     ++ (stack_text f.stack ++ ((codes "cost " ++ (form_word f.cost ++ 10 ∷ []))
     ++ places_text 0 f.places))))
-frame_parts f =
-    let slots = map SlotLine (slots_of 0 f.slots) in
-    let guards = map GuardLine (map form_word f.guards) in
-    let stack = map StackLine (map form_word f.stack) in
-    let rest = CostLine (form_word f.cost) ∷ map AtLine (spots_of 0 f.places) in
-    two_texts (FrameLine (grip_of f.tray f.grip) ∷ (slots ++ (guards ++ stack))) rest
-    ∙ append_assoc (line_text (FrameLine (grip_of f.tray f.grip)))
-    (text_of (slots ++ (guards ++ stack))) (text_of rest)
-    ∙ ap (λ (t : List ℕ). t ++ (text_of (slots ++ (guards ++ stack)) ++ text_of rest))
-    (frame_grip f)
-    ∙ ap (λ (t : List ℕ). grip_text (codes "frame") f.tray f.grip ++ t)
-    (ap (λ (t : List ℕ). t ++ text_of rest) (three_texts slots guards stack)
-    ∙ append_assoc (text_of slots) (text_of guards ++ text_of stack) (text_of rest)
-    ∙ ap (λ (t : List ℕ). text_of slots ++ t)
-    (append_assoc (text_of guards) (text_of stack) (text_of rest)))
+frame_parts f = simp (flat_map-append, append_assoc)
 
 six_parts : (old a b c d e f : List ℕ)
     → (((((old ++ a) ++ b) ++ c) ++ d) ++ e) ++ f ≡ old ++ (a ++ (b ++ (c ++ (d ++ (e ++ f)))))
-six_parts old a b c d e f =
-    append_assoc ((((old ++ a) ++ b) ++ c) ++ d) e f ∙ append_assoc (((old ++ a) ++ b) ++ c) d (e ++ f)
-    ∙ append_assoc ((old ++ a) ++ b) c (d ++ (e ++ f))
-    ∙ append_assoc (old ++ a) b (c ++ (d ++ (e ++ f)))
-    ∙ append_assoc old a (b ++ (c ++ (d ++ (e ++ f))))
+six_parts old a b c d e f = simp append_assoc
 
 pub frame_added : (f : Frame) (symbols : List ℕ) (cost : Form)
     (old gripped slotted guarded stacked costed new : List ℕ) → IsOverLive f
@@ -227,17 +171,10 @@ pub frame_added : (f : Frame) (symbols : List ℕ) (cost : Form)
 frame_added f symbols cost old gripped slotted guarded stacked costed new over own is grip slots guards stack line places =
     let word : symbol_word symbols cost ≡ form_word f.cost =
     ap (symbol_word symbols) is ∙ word_over (live_slots f.slots) symbols f.cost own over.cost in
-    let cost_text = codes "cost " ++ (form_word f.cost ++ 10 ∷ []) in
-    places
-    ∙ ap (λ (t : List ℕ). t ++ places_text 0 f.places)
-    (line ∙ ap (λ (w : List ℕ). stacked ++ (codes "cost " ++ (w ++ 10 ∷ []))) word
-    ∙ ap (λ (t : List ℕ). t ++ cost_text)
-    (stack ∙ ap (λ (t : List ℕ). t ++ stack_text f.stack)
-    (guards ∙ ap (λ (t : List ℕ). t ++ guards_text f.guards)
-    (slots ∙ ap (λ (t : List ℕ). t ++ slots_text 0 f.slots) grip))))
-    ∙ six_parts old (grip_text (codes "frame") f.tray f.grip) (slots_text 0 f.slots)
-    (guards_text f.guards) (stack_text f.stack) cost_text (places_text 0 f.places)
-    ∙ ap (λ (t : List ℕ). old ++ t) (sym (frame_parts f))
+    rw (places, line, stack, guards, slots, grip) (
+    ap (λ (w : List ℕ). (((((old ++ grip_text (codes "frame") f.tray f.grip) ++ slots_text 0 f.slots) ++ guards_text f.guards) ++ stack_text f.stack) ++ (codes "cost " ++ (w ++ 10 ∷ []))) ++ places_text 0 f.places) word
+    ∙ six_parts old (grip_text (codes "frame") f.tray f.grip) (slots_text 0 f.slots) (guards_text f.guards) (stack_text f.stack) (codes "cost " ++ (form_word f.cost ++ 10 ∷ [])) (places_text 0 f.places)
+    ∙ ap (λ (t : List ℕ). old ++ t) (sym (frame_parts f)))
 
 -- The first slots as symbols
 

@@ -1,31 +1,16 @@
 -- The live slots, found one after the other.
-use Rattle.std.proofs.Common.{◌≡◌, ℕ, zero, suc, ◌+◌, ◌<◌, ◌≤◌, Bool, true, false, Option, Some, List, [], ◌∷◌, ◌++◌, map, take, drop, set, length, refl, sym, ap, ◌∙◌, arith, append_assoc, append-nil}
-use Rattle.std.specs.Prelude.{slice_get, is_some}
+use Rattle.std.proofs.Common.{◌≡◌, ℕ, zero, suc, ◌+◌, ◌<◌, ◌≤◌, Bool, true, false, Option, Some, List, [], ◌∷◌, ◌++◌, map, take, drop, set, length, sym, ap, ◌∙◌, arith, append_assoc, append-nil, slice_get, is_some, take-append-drop}
 use Rattle.std.proofs.lemmas.Option.{same_Some, none-some}
-use Rattle.std.proofs.lemmas.List.{take-append-drop}
+use Rattle.std.proofs.lemmas.List.{take_more_set, drop_all, length-map}
 use Rattle.burr_container.specs.Rules.Plans.{Range, live_slots}
 use Rattle.burr_plantext.specs.Views.Symbols.{live_numbers, AreSymbols}
 use Rattle.burr_plantext.proofs.Steps.{left_at}
-
-put_next : (xs : List ℕ) (i next x : ℕ) → next ≡ suc i → i < length xs
-    → take next (set xs i x) ≡ take i xs ++ x ∷ []
-put_next [] i next x e h = absurd (omega (arith, h))
-put_next (y ∷ xs) zero next x e h = ap (λ (n : ℕ). take n (x ∷ xs)) e
-put_next (y ∷ xs) (suc i) next x e h =
-    ap (λ (n : ℕ). take n (y ∷ set xs i x)) e
-    ∙ ap (λ (t : List ℕ). y ∷ t) (put_next xs i (suc i) x refl (omega (arith, h)))
 
 pub got_map : {A B : Type 0} (f : A → B) (xs : List A) (n : ℕ) (x : A) → slice_get xs n ≡ Some x
     → slice_get (map f xs) n ≡ Some (f x)
 got_map f [] n x e = absurd (none-some x e)
 got_map f (y ∷ xs) zero x e = ap (λ z. Some (f z)) (same_Some y x e)
 got_map f (y ∷ xs) (suc n) x e = got_map f xs n x e
-
-pub all_dropped : {A : Type 0} (xs : List A) (n : ℕ) → length xs ≤ n → drop n xs ≡ []
-all_dropped [] zero h = refl
-all_dropped [] (suc n) h = refl
-all_dropped (x ∷ xs) zero h = absurd (omega (arith, h))
-all_dropped (x ∷ xs) (suc n) h = all_dropped xs n (omega (arith, h))
 
 live_by : (live : List Bool) (n next : ℕ) (is_live : Bool) → next ≡ suc n
     → slice_get live n ≡ Some is_live
@@ -43,7 +28,7 @@ live_turn slots symbols whole count n r below inside here live so =
     got_map is_some slots n r here ∙ ap (λ (t : Bool). Some t) (sym live) in
     let next : n + 1 ≡ suc n = omega arith in
     ap (λ (t : List ℕ). t ++ live_numbers (n + 1) (drop (n + 1) (live_slots slots)))
-    (put_next symbols count (count + 1) n (omega arith) (omega (arith, below, inside)))
+    (take_more_set symbols count n (omega (arith, below, inside)))
     ∙ append_assoc (take count symbols) (n ∷ [])
     (live_numbers (n + 1) (drop (n + 1) (live_slots slots)))
     ∙ ap (λ (k : ℕ). take count symbols ++ (n ∷ live_numbers k (drop (n + 1) (live_slots slots))))
@@ -63,10 +48,6 @@ dead_turn slots symbols whole count n r here dead so =
     ∙ ap (λ (t : List ℕ). take count symbols ++ t)
     (sym (live_by (live_slots slots) n (n + 1) false next there)) ∙ so
 
-length_live : (slots : List (Option Range)) → length (live_slots slots) ≡ length slots
-length_live [] = refl
-length_live (x ∷ slots) = ap suc (length_live slots)
-
 pub all_live : (slots : List (Option Range)) (symbols : List ℕ) (count n : ℕ)
     → length slots ≡ 8 → 8 ≤ n
     → take count symbols ++ live_numbers n (drop n (live_slots slots))
@@ -74,7 +55,7 @@ pub all_live : (slots : List (Option Range)) (symbols : List ℕ) (count n : ℕ
     → AreSymbols (live_slots slots) symbols
 all_live slots symbols count n eight end so =
     let none : drop n (live_slots slots) ≡ [] =
-    all_dropped (live_slots slots) n (omega (arith, length_live slots, eight, end)) in (
+    drop_all n (live_slots slots) (omega (arith, length-map slots is_some, eight, end)) in (
       drop count symbols,
       sym (take-append-drop count symbols)
           ∙ ap (λ (t : List ℕ). t ++ drop count symbols)

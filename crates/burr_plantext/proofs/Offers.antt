@@ -1,6 +1,5 @@
 -- The labels of an offer, one after the other.
-use Rattle.std.proofs.Common.{◌≡◌, ℕ, suc, Bool, false, ◌&&◌, Some, List, [], ◌∷◌, ◌++◌, map, drop, refl, sym, ap, ◌∙◌, append_assoc, append-nil}
-use Rattle.std.specs.Prelude.{slice_get, codes, nat_lt}
+use Rattle.std.proofs.Common.{◌≡◌, ℕ, suc, Bool, false, ◌&&◌, Some, List, [], ◌∷◌, ◌++◌, map, drop, refl, sym, ap, ◌∙◌, append_assoc, append-nil, slice_get, codes, nat_lt}
 use Rattle.std.specs.List.{join_with_byte, flat_map, list_all}
 use Rattle.burr_plantext.specs.Rules.Listing.{label_name}
 use Rattle.burr_plantext.proofs.Steps.{left_at}

@@ -1,37 +1,37 @@
 -- What a container has of its plan: procedures, labels and frames within the format.
-use Rattle.std.proofs.Common.{◌≡◌, ℕ, zero, suc, ◌+◌, ◌<◌, ◌≤◌, ◌&&◌, ◌==◌, nat_le, nat_lt, Bool, true, false, IsTrue, Option, Some, None, List, [], ◌∷◌, ◌++◌, length, refl, sym, ap, ◌∙◌, subst, arith, eqb-true, ltb-true, leb-true}
-use Rattle.std.specs.Prelude.{slice_get, if◌then◌else◌}
+use Rattle.std.proofs.Common.{◌≡◌, ℕ, zero, suc, ◌+◌, ◌<◌, ◌≤◌, ◌&&◌, ◌==◌, nat_le, nat_lt, Bool, true, false, IsTrue, Option, Some, None, List, [], ◌∷◌, ◌++◌, length, refl, sym, ap, ◌∙◌, subst, arith, eqb-true, ltb-true, leb-true, slice_get}
 use Rattle.std.specs.List.{list_all}
 use Rattle.std.proofs.lemmas.Bool.{and_parts, false≢true}
-use Rattle.std.proofs.lemmas.Option.{same_Some, none-some}
-use Rattle.burr_code.specs.declared.limits.TheConstants.{MOST_PROCEDURES, MOST_LABELS, SLOTS, MOST_GUARDS, MOST_OPERANDS}
+use Rattle.burr_code.specs.declared.limits.TheConstants.{MOST_LABELS, SLOTS, MOST_GUARDS, MOST_OPERANDS}
 use Rattle.burr_container.specs.Rules.Plans.{Frame, ExitFrame, PlanProcedure, Plan, live_slots, exit_symbols}
-use Rattle.burr_container.specs.Rules.Fitting.{is_fitting, are_procedures, is_procedure, are_parameters, are_results, is_exit, is_exit_frame, is_exit_rest, most_exit_guards, are_labels, is_code, rise_from, is_frame, is_frame_rest, is_tray, is_set_of, are_slots, is_range, are_forms, is_form, are_places, is_place, are_ranges}
-use Rattle.burr_container.specs.declared.frame_ref.ExitRef.{ExitRef}
 use Rattle.burr_container.specs.Views.Refs.{exit_frame_of}
+use Rattle.burr_plantext.specs.Views.Parts.{exit_text}
+use Rattle.burr_plantext.specs.Views.Symbols.{IsOverLive, IsOverFirst}
+use Rattle.std.proofs.lemmas.Option.{same_Some, none-some}
+use Rattle.burr_container.specs.Rules.Fitting.{is_procedure, is_exit, is_frame, is_form, is_fitting, are_procedures, are_parameters, are_results, is_exit_frame, is_exit_rest, most_exit_guards, are_labels, is_code, rise_from, is_tray, is_set_of, is_range, are_forms, are_places, is_place, are_ranges}
+use Rattle.burr_container.specs.declared.frame_ref.ExitRef.{ExitRef}
 use Rattle.burr_container.specs.Views.InPlace.{AreFor, IsProcedure, IsExit, IsExitFrame}
 use Rattle.burr_container.specs.Views.Containers.{ContainerView, IsContainer, HasPlan, OfProcedure}
 use Rattle.burr_container.proofs.Common.Containers.{plan_fits}
-use Rattle.burr_plantext.specs.Views.Parts.{exit_text}
-use Rattle.burr_plantext.specs.Views.Symbols.{IsOverLive, IsOverFirst}
 use Rattle.burr_plantext.proofs.FrameSteps.{all_at, first_symbols}
 use Rattle.burr_plantext.proofs.Steps.{got_at}
+use Rattle.burr_plantext.proofs.Texts.Tests.{and_five, and_three}
+use Rattle.burr_plantext.proofs.Texts.Exits.{most_by, results_most}
+use Rattle.burr_plantext.proofs.Texts.Frames.{fits_of}
 
 pub as_many : {A B : Type 0} (Is : A → B → Type 0) (xs : List A) (ys : List B) → AreFor Is xs ys
     → length xs ≡ length ys
 as_many Is [] [] are = refl
-as_many Is [] (y ∷ ys) are = absurd are
-as_many Is (x ∷ xs) [] are = absurd are
 as_many Is (x ∷ xs) (y ∷ ys) are = ap suc (as_many Is xs ys are.1)
+as_many Is _ _ are = absurd are
 
 pub for_at : {A B : Type 0} (Is : A → B → Type 0) (xs : List A) (ys : List B) (n : ℕ) (y : B)
     → AreFor Is xs ys → slice_get ys n ≡ Some y → (x : A) × (slice_get xs n ≡ Some x) × Is x y
 for_at Is [] [] n y are here = absurd (none-some y here)
-for_at Is [] (z ∷ ys) n y are here = absurd are
-for_at Is (x ∷ xs) [] n y are here = absurd are
 for_at Is (x ∷ xs) (z ∷ ys) zero y are here =
     (x, refl, subst (λ y. Is x y) (same_Some z y here) are.0)
 for_at Is (x ∷ xs) (z ∷ ys) (suc n) y are here = for_at Is xs ys n y are.1 here
+for_at Is _ _ n y are here = absurd are
 
 -- a procedure of the plan of a container
 pub record OfPlan (kept : ContainerView) (i : ℕ) : Type 0 where
@@ -60,22 +60,8 @@ pub record FitsProcedure (version pieces : ℕ) (q : PlanProcedure) : Type 0 whe
 parts_of : (version pieces : ℕ) (main : Bool) (q : PlanProcedure)
     → IsTrue (is_procedure version pieces main q) → FitsProcedure version pieces q
 parts_of version pieces main q h =
-    let parameters = are_parameters main q.parameters in
-    let results = are_results version main q.results in
-    let exit = is_exit version main pieces q.parameters q.results q.exit in
-    let labels = are_labels pieces (length q.code) q.labels in
-    let a = and_parts (parameters && results && exit && labels) (is_code q.code) h in
-    let b = and_parts (parameters && results && exit) labels a.0 in
-    let c = and_parts (parameters && results) exit b.0 in
-    let d = and_parts parameters results c.0 in
-    record {
-      main = main;
-      parameters = d.0;
-      results = d.1;
-      exit = c.1;
-      labels = b.1;
-      code = a.1;
-    }
+    let tests = and_five h in
+    record { main = main; parameters = tests.0; results = tests.1; exit = tests.2; labels = tests.3; code = tests.4 }
 
 by_place : (version pieces : ℕ) (main : PlanProcedure) (others : List PlanProcedure) (i : ℕ)
     (q : PlanProcedure) → IsTrue (is_procedure version pieces true main)
@@ -93,11 +79,8 @@ procedure_in : (version pieces : ℕ) (ps : List PlanProcedure) (i : ℕ) (q : P
     → FitsProcedure version pieces q
 procedure_in version pieces [] i q h here = absurd (none-some q here)
 procedure_in version pieces (main ∷ others) i q h here =
-    let first = is_procedure version pieces true main in
-    let rest = list_all (is_procedure version pieces false) others in
-    let a = and_parts (first && rest) (nat_le (length (main ∷ others)) MOST_PROCEDURES) h in
-    let b = and_parts first rest a.0 in
-    by_place version pieces main others i q b.0 b.1 here
+    let tests = and_three h in
+    by_place version pieces main others i q tests.0 tests.1 here
 
 pub procedure_fits : (p : Plan) (i : ℕ) (q : PlanProcedure) → IsTrue (is_fitting p)
     → slice_get p.procedures i ≡ Some q → FitsProcedure p.version p.pieces q
@@ -117,18 +100,22 @@ pub labels_fit : (pieces end : ℕ) (labels : List (ℕ × Frame))
     → IsTrue (are_labels pieces end labels) → FitsLabels pieces end labels
 labels_fit pieces end [] h = absurd (false≢true h)
 labels_fit pieces end (l ∷ labels) h =
-    let rise = rise_from 0 end (l ∷ labels) in
-    let few = nat_le (length (l ∷ labels)) MOST_LABELS in
     let frames = list_all (λ (label : ℕ × Frame). is_frame pieces label.1) (l ∷ labels) in
-    let a = and_parts ((l.0 == 0) && rise && few) frames h in
-    let b = and_parts ((l.0 == 0) && rise) few a.0 in
-    let c = and_parts (l.0 == 0) rise b.0 in
+    let a = and_parts ((l.0 == 0) && rise_from 0 end (l ∷ labels) && nat_le (length (l ∷ labels)) MOST_LABELS) frames h in
+    let tests = and_three a.0 in
     record {
-      rise = c.1;
+      rise = tests.1;
       frames = a.1;
-      first = λ k here. ap (λ (m : ℕ × Frame). m.0) (sym (same_Some l k here)) ∙ eqb-true l.0 0 c.0;
+      first = λ k here. ap (λ (m : ℕ × Frame). m.0) (sym (same_Some l k here)) ∙ eqb-true l.0 0 tests.0;
       some = omega arith;
     }
+
+-- where the first of labels that rise stands
+rises_first : (least end : ℕ) (m : ℕ × Frame) (labels : List (ℕ × Frame)) → IsTrue (rise_from least end (m ∷ labels)) → (least ≤ m.0) × (m.0 < end) × IsTrue (rise_from (suc m.0) end labels)
+rises_first least end m labels h =
+    let a = and_parts (nat_le least m.0 && nat_lt m.0 end) (rise_from (suc m.0) end labels) h in
+    let b = and_parts (nat_le least m.0) (nat_lt m.0 end) a.0 in
+    (leb-true least m.0 b.0, ltb-true m.0 end b.1, a.1)
 
 -- where a label stands among those that rise
 pub rises_at : (least end : ℕ) (labels : List (ℕ × Frame)) (n : ℕ) (l : ℕ × Frame)
@@ -136,53 +123,37 @@ pub rises_at : (least end : ℕ) (labels : List (ℕ × Frame)) (n : ℕ) (l : �
     → (least ≤ l.0) × (l.0 < end)
 rises_at least end [] n l h here = absurd (none-some l here)
 rises_at least end (m ∷ labels) zero l h here =
-    let a = and_parts (nat_le least m.0 && nat_lt m.0 end) (rise_from (suc m.0) end labels) h in
-    let b = and_parts (nat_le least m.0) (nat_lt m.0 end) a.0 in
-    let low = leb-true least m.0 b.0 in
-    let high = ltb-true m.0 end b.1 in
+    let a = rises_first least end m labels h in
     let same = ap (λ (k : ℕ × Frame). k.0) (same_Some m l here) in
-    (omega (arith, low, same), omega (arith, high, same))
+    (omega (arith, a.0, same), omega (arith, a.1, same))
 rises_at least end (m ∷ labels) (suc n) l h here =
-    let a = and_parts (nat_le least m.0 && nat_lt m.0 end) (rise_from (suc m.0) end labels) h in
-    let b = and_parts (nat_le least m.0) (nat_lt m.0 end) a.0 in
-    let low = leb-true least m.0 b.0 in
-    let both = rises_at (suc m.0) end labels n l a.1 here in
-    (omega (arith, low, both.0), both.1)
+    let a = rises_first least end m labels h in
+    let both = rises_at (suc m.0) end labels n l a.2 here in
+    (omega (arith, a.0, both.0), both.1)
 
 pub rises_next : (least end : ℕ) (labels : List (ℕ × Frame)) (n : ℕ) (l m : ℕ × Frame)
     → IsTrue (rise_from least end labels) → slice_get labels n ≡ Some l
     → slice_get labels (suc n) ≡ Some m → l.0 < m.0
 rises_next least end [] n l m h here there = absurd (none-some l here)
 rises_next least end (k ∷ labels) zero l m h here there =
-    let a = and_parts (nat_le least k.0 && nat_lt k.0 end) (rise_from (suc k.0) end labels) h in
-    let both = rises_at (suc k.0) end labels 0 m a.1 there in
+    let both = rises_at (suc k.0) end labels 0 m (rises_first least end k labels h).2 there in
     let same = ap (λ (k : ℕ × Frame). k.0) (same_Some k l here) in
     omega (arith, both.0, same)
 rises_next least end (k ∷ labels) (suc n) l m h here there =
-    let a = and_parts (nat_le least k.0 && nat_lt k.0 end) (rise_from (suc k.0) end labels) h in
-    rises_next (suc k.0) end labels n l m a.1 here there
+    rises_next (suc k.0) end labels n l m (rises_first least end k labels h).2 here there
 
 -- Frames
 
 pub frame_over : (pieces : ℕ) (f : Frame) → IsTrue (is_frame pieces f) → IsOverLive f
 frame_over pieces f h =
     let live = live_slots f.slots in
-    let front = is_tray f.tray && is_set_of pieces f.grip && are_slots f.slots in
-    let a = and_parts front (is_frame_rest pieces live f) h in
-    let b = and_parts (is_tray f.tray && is_set_of pieces f.grip) (are_slots f.slots) a.0 in
-    let c = and_parts (length f.slots == SLOTS) (list_all is_range f.slots) b.1 in
-    let guards = are_forms MOST_GUARDS live f.guards in
-    let stack = are_forms MOST_OPERANDS live f.stack in
-    let cost = is_form live f.cost in
-    let d = and_parts (guards && stack && cost) (are_places pieces live f.places) a.1 in
-    let e = and_parts (guards && stack) cost d.0 in
-    let g = and_parts guards stack e.0 in
+    let fit = fits_of pieces f h in
     record {
-      slots = eqb-true (length f.slots) SLOTS c.0;
-      guards = (and_parts (nat_le (length f.guards) MOST_GUARDS) (list_all (is_form live) f.guards) g.0).1;
-      stack = (and_parts (nat_le (length f.stack) MOST_OPERANDS) (list_all (is_form live) f.stack) g.1).1;
-      cost = e.1;
-      places = (and_parts (length f.places == pieces) (list_all (is_place live) f.places) d.1).1;
+      slots = eqb-true (length f.slots) SLOTS (and_parts (length f.slots == SLOTS) (list_all is_range f.slots) fit.slots).0;
+      guards = (and_parts (nat_le (length f.guards) MOST_GUARDS) (list_all (is_form live) f.guards) fit.guards).1;
+      stack = (and_parts (nat_le (length f.stack) MOST_OPERANDS) (list_all (is_form live) f.stack) fit.stack).1;
+      cost = fit.cost;
+      places = (and_parts (length f.places == pieces) (list_all (is_place live) f.places) fit.places).1;
     }
 
 pub exit_over : (version pieces parameters results : ℕ) (f : ExitFrame)
@@ -190,31 +161,16 @@ pub exit_over : (version pieces parameters results : ℕ) (f : ExitFrame)
     → IsOverFirst (exit_symbols parameters results) f
 exit_over version pieces parameters results f few h =
     let live = exit_symbols parameters results in
-    let a =
-    and_parts (is_tray f.tray && is_set_of pieces f.grip)
-    (is_exit_rest version pieces results live f) h in
-    let ranges = are_ranges results f.results in
+    let a = and_parts (is_tray f.tray && is_set_of pieces f.grip) (is_exit_rest version pieces results live f) h in
     let guards = are_forms (most_exit_guards version) live f.guards in
-    let b = and_parts (ranges && guards) (are_places pieces live f.places) a.1 in
-    let c = and_parts ranges guards b.0 in
+    let c = and_parts (are_ranges results f.results && guards) (are_places pieces live f.places) a.1 in
+    let b = and_parts (are_ranges results f.results) guards c.0 in
     record {
       first = first_symbols (parameters + results) few;
       guards =
-          (and_parts (nat_le (length f.guards) (most_exit_guards version)) (list_all (is_form live) f.guards) c.1).1;
-      places = (and_parts (length f.places == pieces) (list_all (is_place live) f.places) b.1).1;
+          (and_parts (nat_le (length f.guards) (most_exit_guards version)) (list_all (is_form live) f.guards) b.1).1;
+      places = (and_parts (length f.places == pieces) (list_all (is_place live) f.places) c.1).1;
     }
-
-few_parameters : (main : Bool) (n : ℕ) → IsTrue (are_parameters main n) → n ≤ 4
-few_parameters true n h = let few = leb-true n 0 h in omega (arith, few)
-few_parameters false n h = leb-true n 4 h
-
-by_version : (two : Bool) (n : ℕ) → IsTrue (nat_le n (if two then 2 else 0)) → n ≤ 2
-by_version true n h = leb-true n 2 h
-by_version false n h = let few = leb-true n 0 h in omega (arith, few)
-
-few_results : (version : ℕ) (main : Bool) (n : ℕ) → IsTrue (are_results version main n) → n ≤ 2
-few_results version true n h = let few = leb-true n 0 h in omega (arith, few)
-few_results version false n h = by_version (version == 2) n h
 
 exit_by : (version : ℕ) (main : Bool) (pieces parameters results : ℕ) (f : ExitFrame)
     → IsTrue (is_exit version main pieces parameters results (Some f))
@@ -249,8 +205,8 @@ exit_of_procedure kept i found exit has inside are e =
     let frame_fits =
     exit_by o.plan.version fits.main o.plan.pieces q.parameters q.results f
     (subst (λ (exit : Option ExitFrame). IsTrue (is_exit o.plan.version fits.main o.plan.pieces q.parameters q.results exit)) same fits.exit) in
-    let few = few_parameters fits.main q.parameters fits.parameters in
-    let least = few_results o.plan.version fits.main q.results fits.results in
+    let few = most_by fits.main q.parameters 4 fits.parameters in
+    let least = (results_most fits.main (o.plan.version == 2) q.results fits.results).0 in
     subst (λ (live : List Bool). IsOverFirst live (exit_frame_of exit)) (sym is.live)
     (subst (λ (f : ExitFrame). IsOverFirst (exit_symbols q.parameters q.results) f) (sym is.frame)
     (exit_over o.plan.version o.plan.pieces q.parameters q.results f (omega (arith, few, least)) frame_fits))

@@ -1,19 +1,19 @@
 -- The comments of places are skipped: the lines that are read are those of the listing.
-use Rattle.std.proofs.Common.{◌≡◌, ℕ, suc, ◌+◌, ◌==◌, Bool, true, false, Some, None, List, [], ◌∷◌, ◌++◌, map, refl, sym, ap, ◌∙◌, arith, codes, append_assoc, append-nil}
-use Rattle.std.specs.Prelude.{if◌then◌else◌}
+use Rattle.std.proofs.Common.{◌≡◌, ℕ, suc, ◌+◌, ◌==◌, Bool, true, false, Some, None, List, [], ◌∷◌, ◌++◌, map, refl, sym, ap, ◌∙◌, arith, codes, append_assoc, append-nil, if◌then◌else◌}
 use Rattle.std.specs.List.{flat_map, join_with_byte}
 use Rattle.std.specs.Fmt.{decimal}
-use Rattle.burr_text.proofs.Common.Cuts.{Lacks}
-use Rattle.burr_text.proofs.Common.Unended.{lacks_decimal}
 use Rattle.burr_plantext.specs.Rules.Written.{pieces, parted}
 use Rattle.burr_plantext.specs.Rules.Statements.{Statement}
 use Rattle.burr_plantext.specs.Rules.Lines.{Line, PlanLine, ProcLine, LabelLine, CodeLine}
 use Rattle.burr_plantext.specs.Rules.Sources.{Block, ProcedureSource, PlanSource, frame_lines, some_exit_lines}
 use Rattle.burr_plantext.specs.Rules.Meaning.{code_size}
 use Rattle.burr_plantext.specs.Rules.Texts.{LineRead, is_skipped, ended_line, last_line, numbered_from, lines_read}
+use Rattle.burr_text.proofs.Common.Cuts.{Lacks}
+use Rattle.burr_text.proofs.Common.Unended.{lacks_decimal}
 use Rattle.burr_plantext.specs.Rules.Writing.{line_words, text_of, line_text}
 use Rattle.burr_plantext.proofs.Common.Pieces.{one_piece, lacks_joined}
 use Rattle.burr_plantext.specs.Rules.ListedPlaces.{place_comment, code_text, blocks_text, procedures_text, plan_text}
+use Rattle.burr_plantext.proofs.Common.Cuts.{some_pieces}
 
 -- Lines without their numbers
 
@@ -21,7 +21,7 @@ abbrev reads : List (ℕ × LineRead) → List LineRead
 reads lines = map (λ (line : ℕ × LineRead). line.1) lines
 
 -- what an ended line is read as
-abbrev ended : List ℕ → List LineRead
+abbrev pub ended : List ℕ → List LineRead
 ended line = if is_skipped line then [] else ended_line line ∷ []
 
 first_read : (skipped : Bool) (n : ℕ) (line : LineRead) (rest : List (ℕ × LineRead))
@@ -66,19 +66,6 @@ front_read (first ∷ next ∷ front) line more =
 
 -- Texts with an end of a line within
 
-some_pieces : (text : List ℕ) → (first : List ℕ) × (more : List (List ℕ))
-    × (pieces 10 text ≡ first ∷ more)
-some_pieces [] = ([], [], refl)
-some_pieces (b ∷ text) =
-    let (first, more, e) = some_pieces text in
-    let (one, rest, same) = by_byte (b == 10) b first more in
-    (one, rest, ap (λ (ps : List (List ℕ)). parted (b == 10) b ps) e ∙ same)
-  where
-    by_byte : (t : Bool) (b : ℕ) (first : List ℕ) (more : List (List ℕ)) → (one : List ℕ)
-        × (rest : List (List ℕ)) × (parted t b (first ∷ more) ≡ one ∷ rest)
-    by_byte true b first more = ([], first ∷ more, refl)
-    by_byte false b first more = (b ∷ first, more, refl)
-
 parted_front : (t : Bool) (b : ℕ) (first : List ℕ) (more next : List (List ℕ))
     → parted t b ((first ∷ more) ++ next) ≡ parted t b (first ∷ more) ++ next
 parted_front true b first more next = refl
@@ -88,7 +75,7 @@ two_pieces : (front rest : List ℕ)
     → pieces 10 (front ++ (10 ∷ rest)) ≡ pieces 10 front ++ pieces 10 rest
 two_pieces [] rest = refl
 two_pieces (b ∷ front) rest =
-    let (first, more, e) = some_pieces front in
+    let (first, more, e) = some_pieces 10 front in
     ap (λ (ps : List (List ℕ)). parted (b == 10) b ps)
     (two_pieces front rest ∙ ap (λ (ps : List (List ℕ)). ps ++ pieces 10 rest) e)
     ∙ parted_front (b == 10) b first more (pieces 10 rest)
@@ -97,7 +84,7 @@ two_pieces (b ∷ front) rest =
 line_read : (line rest : List ℕ)
     → lines_read (line ++ (10 ∷ rest)) ≡ flat_map ended (pieces 10 line) ++ lines_read rest
 line_read line rest =
-    let (first, more, e) = some_pieces rest in
+    let (first, more, e) = some_pieces 10 rest in
     ap (λ (ps : List (List ℕ)). reads (numbered_from 1 ps))
     (two_pieces line rest ∙ ap (λ (ps : List (List ℕ)). pieces 10 line ++ ps) e)
     ∙ front_read (pieces 10 line) first more
@@ -108,7 +95,7 @@ line_read line rest =
 abbrev SameLines : List ℕ → List ℕ → Type 0
 SameLines a b = lines_read a ≡ lines_read b
 
-ended_read : (line rest : List ℕ)
+pub ended_read : (line rest : List ℕ)
     → lines_read ((line ++ 10 ∷ []) ++ rest)
     ≡ flat_map ended (pieces 10 line) ++ lines_read rest
 ended_read line rest = ap lines_read (append_assoc line (10 ∷ []) rest) ∙ line_read line rest

@@ -1,6 +1,5 @@
 -- The pieces of a set, one after the other.
-use Rattle.std.proofs.Common.{◌≡◌, ℕ, suc, ◌-◌, ◌/◌, ◌%◌, ◌<◌, ◌==◌, Bool, true, false, List, [], ◌∷◌, ◌++◌, map, refl, sym, ap, ◌∙◌, arith, append-nil, append_assoc, eq-eqb, eqb-true, ◌≢◌}
-use Rattle.std.specs.Prelude.{if◌then◌else◌}
+use Rattle.std.proofs.Common.{◌≡◌, ℕ, suc, ◌-◌, ◌/◌, ◌%◌, ◌<◌, ◌==◌, Bool, true, false, List, [], ◌∷◌, ◌++◌, map, refl, sym, ap, ◌∙◌, arith, append-nil, append_assoc, eq-eqb, eqb-true, ◌≢◌, if◌then◌else◌}
 use Rattle.std.specs.List.{join_with_byte}
 use Rattle.std.specs.Fmt.{decimal}
 use Rattle.burr_plantext.specs.Rules.Listing.{members, joined_numbers}
@@ -25,33 +24,13 @@ one_word (b ∷ separator) word (next ∷ words) =
 abbrev pub left_from : ℕ → ℕ → List (List ℕ)
 left_from piece set = map decimal (members piece (32 - piece) set)
 
-members_from : (piece n k set : ℕ) → n ≡ suc k
-    → members piece n set
-    ≡ (if set % 2 == 1 then piece ∷ [] else []) ++ members (suc piece) k (set / 2)
-members_from piece n k set e = ap (λ (n : ℕ). members piece n set) e
-
-pub left_step : (piece next set : ℕ) → piece < 32 → next ≡ suc piece
-    → left_from piece set
-    ≡ map decimal ((if set % 2 == 1 then piece ∷ [] else []) ++ members next (32 - next) (set / 2))
-left_step piece next set few e =
+-- the first of them is in the set, or is not
+left_step : (piece next set : ℕ) (odd : Bool) → piece < 32 → next ≡ suc piece → (set % 2 == 1) ≡ odd
+    → left_from piece set ≡ map decimal ((if odd then piece ∷ [] else []) ++ members next (32 - next) (set / 2))
+left_step piece next set odd few e is =
     let k : 32 - piece ≡ suc (32 - next) = omega (arith, few, e) in
-    ap (λ (ms : List ℕ). map decimal ms) (members_from piece (32 - piece) (32 - next) set k)
-    ∙ ap (λ (p : ℕ). map decimal ((if set % 2 == 1 then piece ∷ [] else [])
-    ++ members p (32 - next) (set / 2))) (sym e)
-
-pub odd_step : (piece next set : ℕ) → piece < 32 → next ≡ suc piece → (set % 2 == 1) ≡ true
-    → left_from piece set ≡ decimal piece ∷ left_from next (set / 2)
-odd_step piece next set few e odd =
-    left_step piece next set few e
-    ∙ ap (λ (t : Bool). map decimal ((if t then piece ∷ [] else [])
-    ++ members next (32 - next) (set / 2))) odd
-
-pub even_step : (piece next set : ℕ) → piece < 32 → next ≡ suc piece → (set % 2 == 1) ≡ false
-    → left_from piece set ≡ left_from next (set / 2)
-even_step piece next set few e even =
-    left_step piece next set few e
-    ∙ ap (λ (t : Bool). map decimal ((if t then piece ∷ [] else [])
-    ++ members next (32 - next) (set / 2))) even
+    ap (λ (n : ℕ). map decimal (members piece n set)) k
+    ∙ (λ i. map decimal ((if is i then piece ∷ [] else []) ++ members (sym e i) (32 - next) (set / 2)))
 
 not_equal : (a b : ℕ) (t : Bool) → (a == b) ≡ t → a ≢ b → t ≡ false
 not_equal a b true e h = absurd (h (eqb-true a b e))
@@ -64,7 +43,7 @@ pub odd_turn : (written separator whole : List ℕ) (piece next set : ℕ) → p
 odd_turn written separator whole piece next set few e odd so =
     one_more written (separator ++ decimal piece) (set_left (44 ∷ []) (left_from next (set / 2))) _ whole so
     (ap (λ (words : List (List ℕ)). set_left separator words)
-    (odd_step piece next set few e (eq-eqb (set % 2) 1 odd))
+    (left_step piece next set true few e (eq-eqb (set % 2) 1 odd))
     ∙ one_word separator (decimal piece) (left_from next (set / 2)))
 
 pub even_turn : (written separator whole : List ℕ) (piece next set : ℕ) → piece < 32
@@ -73,4 +52,4 @@ pub even_turn : (written separator whole : List ℕ) (piece next set : ℕ) → 
     → written ++ set_left separator (left_from next (set / 2)) ≡ whole
 even_turn written separator whole piece next set few e even so =
     ap (λ (words : List (List ℕ)). written ++ set_left separator words)
-    (sym (even_step piece next set few e (not_equal (set % 2) 1 (set % 2 == 1) refl even))) ∙ so
+    (sym (left_step piece next set false few e (not_equal (set % 2) 1 (set % 2 == 1) refl even))) ∙ so

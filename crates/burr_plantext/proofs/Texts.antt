@@ -17,6 +17,7 @@ pub mod Said
 pub mod Sets
 pub mod Sound
 pub mod SourceWritten
+pub mod Tests
 pub mod TextLaws
 pub mod WordsWritten
 mod WorkedRows

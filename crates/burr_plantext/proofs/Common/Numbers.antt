@@ -1,16 +1,14 @@
 -- Numbers as they are listed are read back.
-use Rattle.std.proofs.Common.{◌≡◌, ℕ, zero, suc, ◌^◌, ◌<◌, List, [], ◌∷◌, length, get_or, drop, cond, Bool, true, false, IsTrue, ℤ, pos, negsuc, neg_ℤ, refl, sym, ap, subst, ◌∙◌, arith, le-leb, lit<}
-use Rattle.std.specs.Prelude.{◌&&◌, ◌||◌, nat_le, codes}
+use Rattle.std.proofs.Common.{◌≡◌, ℕ, zero, suc, ◌^◌, ◌<◌, List, [], ◌∷◌, length, get_or, drop, cond, Bool, false, IsTrue, ℤ, pos, negsuc, neg_ℤ, refl, sym, ap, subst, ◌∙◌, arith, le-leb, lit<, ◌&&◌, nat_le, codes, ne_eqb}
 use Rattle.std.specs.List.{list_all}
 use Rattle.std.specs.Str.{bytes_eq}
 use Rattle.std.specs.Str.Parse.{AllDigits, digits_value, starts_with_minus, without_leading_plus}
 use Rattle.std.specs.Fmt.{decimal, signed_decimal}
-use Rattle.std.proofs.lemmas.Fmt.{decimal_is_IsNumeral, first_decimal, decimal_digit}
-use Rattle.std.proofs.lemmas.Str.Parse.{digit_from_value}
-use Rattle.std.proofs.lemmas.Bool.{and_from}
-use borrow.Author.Tests.{ne_eqb}
+use Rattle.std.proofs.lemmas.Bool.{and_from, or_left, or_right}
 use Rattle.burr_text.specs.Names.{is_digit}
 use Rattle.burr_plantext.specs.Rules.Written.{is_count, is_natural, is_number, natural_in, number_in}
+use Rattle.std.proofs.lemmas.Fmt.{decimal_is_IsNumeral, first_decimal, decimal_digit}
+use Rattle.std.proofs.lemmas.Str.Parse.{digit_from_value}
 
 -- digits, by a test
 pub digits_pass : (ds : List ℕ) → AllDigits 10 ds → IsTrue (list_all is_digit ds)
@@ -47,14 +45,6 @@ pub count_decimal : (n : ℕ) → 0 < n → n < 2 ^ 64 → IsTrue (is_count (dec
 count_decimal n some small =
     let h = (decimal_is_IsNumeral n small).0 in
     count_of (decimal n) h.1 h.0 (first_decimal n some small)
-
-or_right : (a b : Bool) → IsTrue b → IsTrue (a || b)
-or_right true b h = refl
-or_right false b h = h
-
-or_left : (a b : Bool) → IsTrue a → IsTrue (a || b)
-or_left true b h = refl
-or_left false b h = grind arith
 
 pub natural_decimal : (n : ℕ) → n < 2 ^ 64 → IsTrue (is_natural (decimal n))
 natural_decimal zero small = subst (λ (w : List ℕ). IsTrue (is_natural w)) (sym (decimal_digit 0 (lit< tt))) refl

@@ -1,32 +1,24 @@
 -- Blocks as they are listed are right, and are read back.
-use Rattle.std.proofs.Common.{◌≡◌, ℕ, suc, ◌+◌, ◌-◌, ◌<◌, ◌≤◌, List, [], ◌∷◌, ◌++◌, length, take, drop, Bool, true, false, not, IsTrue, refl, sym, ap, subst, ◌∙◌, arith, lt-ltb, ltb-true, leb-true, append-nil, length-append, length-drop}
-use Rattle.std.specs.Prelude.{◌&&◌, is_none, nat_le, nat_lt, None}
+use Rattle.std.proofs.Common.{◌≡◌, ℕ, suc, ◌+◌, ◌-◌, ◌<◌, ◌≤◌, List, [], ◌∷◌, ◌++◌, length, take, drop, Bool, true, false, not, IsTrue, refl, sym, ap, subst, ◌∙◌, arith, lt-ltb, ltb-true, leb-true, append-nil, length-append, length-drop, ◌&&◌, is_none, nat_le, nat_lt, None, take-append-drop, drop-drop, length-take-le}
 use Rattle.std.specs.List.{list_all}
 use Rattle.std.proofs.lemmas.Bool.{and_from, and_parts}
-use Rattle.std.proofs.lemmas.List.{take-append-drop, drop-drop, length-take-le}
-use Rattle.std.proofs.lemmas.Grind.{flat_map-append}
 use Rattle.burr_code.specs.declared.limits.TheConstants.{MOST_LABELS}
 use Rattle.burr_container.specs.Rules.Plans.{Frame}
 use Rattle.burr_plantext.specs.Rules.Statements.{Statement}
 use Rattle.burr_plantext.specs.Rules.Sources.{Block}
 use Rattle.burr_plantext.specs.Rules.Meaning.{code_bytes, statement_bytes, code_size, block_code, frame_in, labels_in, label_names}
 use Rattle.burr_plantext.specs.Rules.Checks.{P2, P4, unless, is_empty, is_known, names_unknown, label_check, has_code}
-use Rattle.burr_plantext.specs.Rules.Right.{each_after, is_block, is_frame}
-use Rattle.burr_container.specs.Rules.Fitting as fitting
 use Rattle.burr_container.specs.Rules.Fitting.{rise_from}
 use Rattle.burr_plantext.specs.Rules.Listing.{label_name, frame_listed, code_after, AreBlocksListed}
-use Rattle.burr_plantext.proofs.Texts.Frames.{passes, frame_right, frame_back}
+use Rattle.std.proofs.lemmas.List.{drop_all, map-append}
+use Rattle.std.proofs.lemmas.Grind.{flat_map-append}
+use Rattle.burr_plantext.specs.Rules.Right.{is_frame, each_after, is_block}
+use Rattle.burr_container.specs.Rules.Fitting as fitting
+use Rattle.burr_plantext.proofs.Texts.Frames.{frame_right, frame_back}
 use Rattle.burr_plantext.proofs.Texts.Names.{names_from, names_last, unknown_after}
 use Rattle.burr_plantext.proofs.Common.CodeSizes.{size_both}
 use Rattle.burr_plantext.proofs.Texts.CodeListed.{IsCodeOf, code_listed, statements_right, names, callees}
-
-list_all_both : {A : Type 0} (is_so : A → Bool) (xs ys : List A) → IsTrue (list_all is_so xs) → IsTrue (list_all is_so ys) → IsTrue (list_all is_so (xs ++ ys))
-list_all_both is_so [] ys p q = q
-list_all_both is_so (x ∷ xs) ys p q = let parts = and_parts (is_so x) (list_all is_so xs) p in and_from (is_so x) (list_all is_so (xs ++ ys)) parts.0 (list_all_both is_so xs ys parts.1 q)
-
-map_last : (xs : List Block) (b : Block) → label_names (xs ++ b ∷ []) ≡ label_names xs ++ b.label ∷ []
-map_last [] b = refl
-map_last (x ∷ xs) b = ap (λ (s : List (List ℕ)). x.label ∷ s) (map_last xs b)
+use Rattle.burr_plantext.proofs.Texts.Tests.{and_three, passes, all_both}
 
 some_code : (code : List Statement) → 0 < code_size code → IsTrue (not (is_empty code))
 some_code [] h = absurd (omega arith)
@@ -54,22 +46,17 @@ record Stretch (code : List ℕ) (start : ℕ) (labels : List (ℕ × Frame)) : 
   some : start < end_of code labels
   inside : end_of code labels ≤ length code
 
-drop_all : (code : List ℕ) → drop (length code) code ≡ []
-drop_all [] = refl
-drop_all (b ∷ code) = drop_all code
-
 stretch : (code : List ℕ) (start : ℕ) (labels : List (ℕ × Frame)) → start < length code → IsTrue (rise_from (suc start) (length code) labels) → Stretch code start labels
 stretch code start [] below rise = record {
-  whole = ap (λ (s : List ℕ). drop start code ++ s) (drop_all code) ∙ append-nil (drop start code);
+  whole = ap (λ (s : List ℕ). drop start code ++ s) (drop_all (length code) code (omega arith)) ∙ append-nil (drop start code);
   size = omega (arith, below, length-drop start code);
   some = below;
   inside = omega arith;
 }
 stretch code start (next ∷ labels) below rise =
-    let parts = and_parts (nat_le (suc start) next.0 && nat_lt next.0 (length code)) (rise_from (suc next.0) (length code) labels) rise in
-    let two = and_parts (nat_le (suc start) next.0) (nat_lt next.0 (length code)) parts.0 in
-    let low = leb-true (suc start) next.0 two.0 in
-    let high = ltb-true next.0 (length code) two.1 in
+    let parts = and_three rise in
+    let low = leb-true (suc start) next.0 parts.0 in
+    let high = ltb-true next.0 (length code) parts.1 in
     record {
       whole = rest_after code start next.0 (omega arith) (omega arith);
       size = omega (arith, low, after_size code start next.0 (omega arith) (omega arith));
@@ -117,9 +104,9 @@ module _ (all procedures pieces : ℕ) (few_labels : all ≤ 256) (few_procedure
   before_more : (n start : ℕ) (labels : List (ℕ × Frame)) (before : List Block) (b : Block) → Before n start before → Stretch code start labels → b.label ≡ label_name n
       → IsCodeOf all procedures few_labels few_procedures (code_after code start labels) b.code → Before (suc n) (end_of code labels) (before ++ b ∷ [])
   before_more n start labels before b h way label c = record {
-    called = map_last before b ∙ (λ i. h.called i ++ label i ∷ []) ∙ ap (λ (m : ℕ). names_from 76 0 n ++ label_name m ∷ []) (omega arith) ∙ names_last 76 n 0;
+    called = map-append (λ (b : Block). b.label) before (b ∷ []) ∙ (λ i. h.called i ++ label i ∷ []) ∙ ap (λ (m : ℕ). names_from 76 0 n ++ label_name m ∷ []) (omega arith) ∙ names_last 76 n 0;
     count = length-append before (b ∷ []) ∙ omega (arith, h.count);
-    coded = list_all_both has_code before (b ∷ []) h.coded (and_from (has_code b) true (some_code b.code (omega (arith, c.size, way.size, way.some))) refl);
+    coded = all_both has_code before (b ∷ []) h.coded (and_from (has_code b) true (some_code b.code (omega (arith, c.size, way.size, way.some))) refl);
     size =
         ap code_size (flat_map-append (λ (b : Block). b.code) before (b ∷ []) ∙ ap (λ (s : List Statement). block_code before ++ s) (append-nil b.code))
         ∙ size_both (block_code before) b.code ∙ omega (arith, h.size, c.size, way.size);
@@ -157,7 +144,7 @@ module _ (all procedures pieces : ℕ) (few_labels : all ≤ 256) (few_procedure
         spells = bytes_both b.code (block_code blocks) ∙ (λ i. c.spells i ++ more.spells i) ∙ way.whole;
         right = and_from (is_block pieces before b) (each_after (is_block pieces) (before ++ b ∷ []) blocks) (block_right n start f (next ∷ labels) before b h (omega arith) frame.0 way listed.0 listed.1 c) more.right;
         called = λ i. listed.0 i ∷ more.called i;
-        knows = list_all_both known b.code (block_code blocks) c.known more.knows;
+        knows = all_both known b.code (block_code blocks) c.known more.knows;
       }
 
   pub nothing_before : Before 0 0 []

@@ -1,10 +1,7 @@
 -- Code as it is listed is right, and is read back.
-use Rattle.std.proofs.Common.{◌≡◌, ◌≢◌, ℕ, suc, ◌+◌, ◌≤◌, ◌⊎◌, inl, inr, List, [], ◌∷◌, ◌++◌, length, map, false, not, IsTrue, ℤ, pos, negsuc, neg_ℤ, ◌≤ℤ◌, refl, sym, ap, subst, ◌∙◌, arith, ltb-true, le-leb, append_assoc, length-append}
-use Rattle.std.specs.Prelude.{◌&&◌, is_none, nat_le, nat_lt, int_le, None}
+use Rattle.std.proofs.Common.{◌≡◌, ◌≢◌, ℕ, suc, ◌+◌, ◌≤◌, ◌⊎◌, inl, inr, List, [], ◌∷◌, ◌++◌, length, map, false, not, IsTrue, ℤ, pos, negsuc, neg_ℤ, ◌≤ℤ◌, refl, sym, ap, subst, ◌∙◌, arith, ltb-true, le-leb, append_assoc, length-append, ◌&&◌, is_none, nat_le, nat_lt, int_le, None}
 use Rattle.std.specs.List.{list_all}
 use Rattle.std.proofs.lemmas.Bool.{and_from, and_parts}
-use Rattle.std.proofs.lemmas.Int.{ints}
-use Rattle.burr_code.specs.Instruction as code
 use Rattle.burr_code.specs.Instruction.{Instruction, IsInRange, IsInNumberRange, spelled, label_bytes}
 use Rattle.burr_code.specs.declared.limits.TheConstants.{MOST_CODE}
 use Rattle.burr_plantext.specs.Rules.Written.{set_numbers, set_of, are_members}
@@ -13,13 +10,16 @@ use Rattle.burr_plantext.specs.Rules.Sources.{Block}
 use Rattle.burr_plantext.specs.Rules.Meaning.{number_of, statement_bytes, code_bytes, code_size, block_code}
 use Rattle.burr_plantext.specs.Rules.Checks.{P3, P4, unless, is_empty, is_in_range, is_known, names_unknown, statement_check}
 use Rattle.burr_plantext.specs.Rules.Right.{each_after}
-use Rattle.burr_container.specs.Rules.Fitting as fitting
 use Rattle.burr_plantext.specs.Rules.Listing.{procedure_name, label_name, set_word, instruction_listed, has_names, IsListedAs, IsListedRaw, IsCodeListed}
+use Rattle.std.proofs.lemmas.Int.{ints}
+use Rattle.burr_code.specs.Instruction as code
+use Rattle.burr_container.specs.Rules.Fitting as fitting
 use Rattle.burr_plantext.proofs.Common.CodeSizes.{size_both}
 use Rattle.burr_plantext.proofs.Common.Numbers.{natural_back}
 use Rattle.burr_plantext.proofs.Texts.Sets.{below_decimal, set_back, set_rises}
-use Rattle.burr_plantext.proofs.Texts.Frames.{passes, end_back, end_right, ends_right}
+use Rattle.burr_plantext.proofs.Texts.Frames.{end_back, end_right, ends_right}
 use Rattle.burr_plantext.proofs.Texts.Names.{names_from, number_back, known_back}
+use Rattle.burr_plantext.proofs.Texts.Tests.{passes, all_back, all_mapped}
 
 test_of_le : (a b : ℤ) → a ≤ℤ b → IsTrue (int_le a b)
 test_of_le (pos a) (pos b) le = le-leb a b (omega (arith, ints, le))
@@ -51,14 +51,10 @@ module _ (labels procedures : ℕ) (few_labels : labels ≤ 256) (few_procedures
   label_known n h = known_back 76 labels 0 n (omega arith) (let k = ltb-true n labels h in omega arith)
 
   labels_back : (ns : List ℕ) → IsTrue (list_all (λ n. nat_lt n labels) ns) → map (number_of names) (map label_name ns) ≡ ns
-  labels_back [] h = refl
-  labels_back (n ∷ ns) h = let parts = and_parts (nat_lt n labels) (list_all (λ n. nat_lt n labels) ns) h in λ i. label_back n parts.0 i ∷ labels_back ns parts.1 i
+  labels_back = all_back (λ n. nat_lt n labels) label_name (number_of names) label_back
 
   labels_known : (ns : List ℕ) → IsTrue (list_all (λ n. nat_lt n labels) ns) → IsTrue (list_all (is_known names) (map label_name ns))
-  labels_known [] h = refl
-  labels_known (n ∷ ns) h =
-      let parts = and_parts (nat_lt n labels) (list_all (λ n. nat_lt n labels) ns) h in
-      and_from (is_known names (label_name n)) (list_all (is_known names) (map label_name ns)) (label_known n parts.0) (labels_known ns parts.1)
+  labels_known = all_mapped (λ n. nat_lt n labels) (is_known names) label_name label_known
 
   -- what holds of the line of an instruction
   pub record IsLineOf (s : Statement) (bytes : List ℕ) : Type 0 where

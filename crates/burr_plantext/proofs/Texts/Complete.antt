@@ -1,7 +1,5 @@
 -- The lines of a right source are read as this source.
-use Rattle.std.proofs.Common.{◌≡◌, ◌≢◌, ℕ, ◌==◌, List, [], ◌∷◌, ◌++◌, length, map, flat_map, Bool, true, false, not, IsTrue, refl, sym, ap, ◌∙◌, append_assoc, append-nil, eqb-true, leb-true, arith}
-use Rattle.std.specs.Prelude.{Option, Some, None, is_none, Result, Ok, ◌&&◌, nat_le}
-use Rattle.std.specs.Str.Parse.{starts_with_minus}
+use Rattle.std.proofs.Common.{◌≡◌, ◌≢◌, ℕ, List, [], ◌∷◌, ◌++◌, length, map, flat_map, Bool, true, false, not, IsTrue, refl, sym, ap, ◌∙◌, append_assoc, append-nil, eqb-true, leb-true, arith, Option, Some, None, is_none, Result, Ok, ◌&&◌}
 use Rattle.std.proofs.lemmas.Bool.{and_parts}
 use Rattle.burr_code.specs.declared.limits.TheConstants.{MOST_BUDGET}
 use Rattle.burr_plantext.specs.Rules.Written.{natural_in, is_within}
@@ -9,10 +7,11 @@ use Rattle.burr_plantext.specs.Rules.Statements.{Statement}
 use Rattle.burr_plantext.specs.Rules.Lines.{PlanWords, ProcedureWords, RangeWords, PieceWords, Line, PlanLine, ProcLine, ExitLine, ResultLine, LabelLine, FrameLine, SlotLine, GuardLine, StackLine, CostLine, AtLine, CodeLine}
 use Rattle.burr_plantext.specs.Rules.Sources.{ExitSource, Conditions, FrameSource, Block, ProcedureSource, PlanSource, exit_lines, some_exit_lines, condition_lines, frame_lines, block_lines, procedure_lines, source_lines}
 use Rattle.burr_plantext.specs.Rules.Texts.{LineRead, Reads}
-use Rattle.burr_plantext.specs.Rules.Checks.{FaultKind, P1, unless, is_empty, title_check, is_of_version, head_check, grip_check, piece_check, slot_check, live_in, guard_check, stack_check, cost_check, result_check, exit_guard_check, exit_piece_check, statement_check, has_code, label_check}
-use Rattle.burr_plantext.specs.Rules.Right.{unknown_names, first_true, is_right, each_after, all_right, conditions, are_conditions, is_frame, exit_source, is_exit, has_exit, is_block, is_procedure, is_right_so_far}
+use Rattle.burr_plantext.specs.Rules.Checks.{P1, is_empty, title_check, is_of_version, head_check, grip_check, piece_check, slot_check, live_in, guard_check, stack_check, cost_check, result_check, exit_guard_check, exit_piece_check, statement_check, has_code, label_check, P3}
 use Rattle.burr_plantext.specs.Rules.Faults.{OpenProcedure, Stage, AwaitsExit, InExit, AwaitsLabel, AwaitsFrame, InFrame, InPieces, InCode, Beginning, Blank, Titled, Within, LineResult, piece_count, PlacedFault, and_next, with_known_names, judgement, judged, needing, ended_with, at_label, with_line, with_lines}
+use Rattle.burr_plantext.specs.Rules.Right.{is_frame, is_exit, is_procedure, unknown_names, first_true, is_right, each_after, all_right, conditions, are_conditions, exit_source, has_exit, is_block, is_right_so_far}
 use Rattle.burr_plantext.proofs.Texts.Goes.{Goes, goes_nowhere, goes_on, goes_both, goes_each, goes_counted, none_of, step_of}
+use Rattle.burr_plantext.proofs.Texts.Tests.{and_five, and_four, and_three, unless_none, more_not_empty}
 
 -- Frames
 
@@ -23,21 +22,15 @@ module _ (u : OpenProcedure) (exit : Option ExitSource) (blocks : List Block) (l
   goes_conditions : (c : Conditions) → IsTrue (are_conditions (piece_count u) c)
       → Goes (Within u (AwaitsFrame exit blocks label)) (condition_lines c) (in_frame c)
   goes_conditions c right =
-      let grips = is_none (grip_check (piece_count u) c.grip) in
-      let slots = all_right (λ before s. slot_check (conditions c.grip before [] []) s) c.slots in
-      let guards = all_right (λ before g. guard_check (conditions c.grip c.slots before []) g) c.guards in
-      let stack = all_right (λ before s. stack_check (conditions c.grip c.slots c.guards before) s) c.stack in
-      let all = and_parts (grips && slots && guards) stack right in
-      let three = and_parts (grips && slots) guards all.0 in
-      let two = and_parts grips slots three.0 in
+      let all = and_four right in
       goes_on (Within u (AwaitsFrame exit blocks label)) (in_frame (conditions c.grip [] [] [])) (in_frame c) (FrameLine c.grip)
       (map SlotLine c.slots ++ (map GuardLine c.guards ++ map StackLine c.stack))
-      (step_of (Within u (AwaitsFrame exit blocks label)) (in_frame (conditions c.grip [] [] [])) (FrameLine c.grip) (grip_check (piece_count u) c.grip) (λ p. refl) two.0)
+      (step_of (Within u (AwaitsFrame exit blocks label)) (in_frame (conditions c.grip [] [] [])) (FrameLine c.grip) (grip_check (piece_count u) c.grip) (λ p. refl) all.0)
       (goes_both (in_frame (conditions c.grip [] [] [])) (in_frame (conditions c.grip c.slots [] [])) (in_frame c) (map SlotLine c.slots) (map GuardLine c.guards ++ map StackLine c.stack)
-      (goes_each SlotLine (λ before. in_frame (conditions c.grip before [] [])) (λ before s. slot_check (conditions c.grip before [] []) s) (λ before x p. refl) [] c.slots two.1)
+      (goes_each SlotLine (λ before. in_frame (conditions c.grip before [] [])) (λ before s. slot_check (conditions c.grip before [] []) s) (λ before x p. refl) [] c.slots all.1)
       (goes_both (in_frame (conditions c.grip c.slots [] [])) (in_frame (conditions c.grip c.slots c.guards [])) (in_frame c) (map GuardLine c.guards) (map StackLine c.stack)
-      (goes_each GuardLine (λ before. in_frame (conditions c.grip c.slots before [])) (λ before g. guard_check (conditions c.grip c.slots before []) g) (λ before x p. refl) [] c.guards three.1)
-      (goes_each StackLine (λ before. in_frame (conditions c.grip c.slots c.guards before)) (λ before s. stack_check (conditions c.grip c.slots c.guards before) s) (λ before x p. refl) [] c.stack all.1)))
+      (goes_each GuardLine (λ before. in_frame (conditions c.grip c.slots before [])) (λ before g. guard_check (conditions c.grip c.slots before []) g) (λ before x p. refl) [] c.guards all.2)
+      (goes_each StackLine (λ before. in_frame (conditions c.grip c.slots c.guards before)) (λ before s. stack_check (conditions c.grip c.slots c.guards before) s) (λ before x p. refl) [] c.stack all.3)))
 
   abbrev in_pieces : Conditions → List ℕ → List PieceWords → Beginning
   in_pieces c cost pieces = Within u (InPieces exit blocks label (record { conditions = c; cost = cost; pieces = pieces }))
@@ -50,19 +43,16 @@ module _ (u : OpenProcedure) (exit : Option ExitSource) (blocks : List Block) (l
   goes_frame f some right =
       let n = piece_count u in
       let c = f.conditions in
-      let are = are_conditions n c in
       let cost = is_none (cost_check c f.cost) in
       let pieces = all_right (piece_check (live_in c)) f.pieces in
-      let all = and_parts (are && cost && pieces) (length f.pieces == n) right in
-      let three = and_parts (are && cost) pieces all.0 in
-      let two = and_parts are cost three.0 in
+      let all = and_four right in
       goes_both (Within u (AwaitsFrame exit blocks label)) (in_frame c) (Within u (InCode exit blocks (open_procedure f []))) (condition_lines c) (CostLine f.cost ∷ map AtLine f.pieces)
-      (goes_conditions c two.0)
+      (goes_conditions c all.0)
       (goes_on (in_frame c) (in_pieces c f.cost []) (Within u (InCode exit blocks (open_procedure f []))) (CostLine f.cost) (map AtLine f.pieces)
-      (step_of (in_frame c) (in_pieces c f.cost []) (CostLine f.cost) (cost_check c f.cost) (λ p. refl) two.1)
+      (step_of (in_frame c) (in_pieces c f.cost []) (CostLine f.cost) (cost_check c f.cost) (λ p. refl) all.1)
       (goes_counted n AtLine (in_pieces c f.cost)
       (λ pieces. Within u (InCode exit blocks (open_procedure (record { conditions = c; cost = f.cost; pieces = pieces }) [])))
-      (piece_check (live_in c)) (λ before x p. refl) [] f.pieces three.1 (eqb-true (length f.pieces) n all.1) (λ e. some (sym e))))
+      (piece_check (live_in c)) (λ before x p. refl) [] f.pieces all.2 (eqb-true (length f.pieces) n all.3) (λ e. some (sym e))))
 
 -- Blocks
 
@@ -75,19 +65,13 @@ module _ (u : OpenProcedure) (exit : Option ExitSource) (some : piece_count u �
       → ((p : ℕ) → with_line p start (Reads (LabelLine b.label)) ≡ judged p (label_check blocks b.label) (Within u (AwaitsFrame exit blocks b.label)))
       → Goes start (block_lines b) (Within u (InCode exit blocks b))
   goes_block blocks start b right step =
-      let n = piece_count u in
-      let label = is_none (label_check blocks b.label) in
-      let frame = is_frame n b.frame in
-      let code = all_right (statement_check blocks) b.code in
-      let all = and_parts (label && frame && code) (has_code b) right in
-      let three = and_parts (label && frame) code all.0 in
-      let two = and_parts label frame three.0 in
+      let all = and_four right in
       let due = Within u (AwaitsFrame exit blocks b.label) in
       goes_on start due (Within u (InCode exit blocks b)) (LabelLine b.label) (frame_lines b.frame ++ map CodeLine b.code)
-      (step_of start due (LabelLine b.label) (label_check blocks b.label) step two.0)
+      (step_of start due (LabelLine b.label) (label_check blocks b.label) step all.0)
       (goes_both due (code_of blocks b []) (Within u (InCode exit blocks b)) (frame_lines b.frame) (map CodeLine b.code)
-      (goes_frame u exit blocks b.label b.frame some two.1)
-      (goes_each CodeLine (code_of blocks b) (statement_check blocks) (λ before x p. refl) [] b.code three.1))
+      (goes_frame u exit blocks b.label b.frame some all.1)
+      (goes_each CodeLine (code_of blocks b) (statement_check blocks) (λ before x p. refl) [] b.code all.2))
 
   -- where blocks end: in the code of the last
   pub record EndOf (all : List Block) (start : Beginning) (lines : List Line) : Type 0 where
@@ -96,6 +80,11 @@ module _ (u : OpenProcedure) (exit : Option ExitSource) (some : piece_count u �
     pub parts : blocks ++ last ∷ [] ≡ all
     pub code : IsTrue (has_code last)
     pub goes : Goes start lines (Within u (InCode exit blocks last))
+
+  -- with lines in front
+  ended_after : (start next : Beginning) (front lines : List Line) (all whole : List Block) → all ≡ whole → Goes start front next → EndOf all next lines → EndOf whole start (front ++ lines)
+  ended_after start next front lines all whole e first h =
+      record { blocks = h.blocks; last = h.last; parts = h.parts ∙ e; code = h.code; goes = goes_both start next (Within u (InCode exit h.blocks h.last)) front lines first h.goes }
 
   has_code_of : (blocks : List Block) (b : Block) → IsTrue (is_block (piece_count u) blocks b) → IsTrue (has_code b)
   has_code_of blocks b right =
@@ -108,15 +97,9 @@ module _ (u : OpenProcedure) (exit : Option ExitSource) (some : piece_count u �
   goes_blocks blocks b [] code right = record { blocks = blocks; last = b; parts = refl; code = code; goes = goes_nowhere (Within u (InCode exit blocks b)) }
   goes_blocks blocks b (c ∷ more) code right =
       let parts = and_parts (is_block (piece_count u) (blocks ++ b ∷ []) c) (each_after (is_block (piece_count u)) ((blocks ++ b ∷ []) ++ c ∷ []) more) right in
-      let h = goes_blocks (blocks ++ b ∷ []) c more (has_code_of (blocks ++ b ∷ []) c parts.0) parts.1 in
-      record {
-        blocks = h.blocks;
-        last = h.last;
-        parts = h.parts ∙ append_assoc blocks (b ∷ []) (c ∷ more);
-        code = h.code;
-        goes = goes_both (Within u (InCode exit blocks b)) (Within u (InCode exit (blocks ++ b ∷ []) c)) (Within u (InCode exit h.blocks h.last)) (block_lines c) (flat_map block_lines more)
-            (goes_block (blocks ++ b ∷ []) (Within u (InCode exit blocks b)) c parts.0 (λ p. refl)) h.goes;
-      }
+      ended_after (Within u (InCode exit blocks b)) (Within u (InCode exit (blocks ++ b ∷ []) c)) (block_lines c) (flat_map block_lines more) ((blocks ++ b ∷ []) ++ (c ∷ more)) (blocks ++ (b ∷ (c ∷ more)))
+      (append_assoc blocks (b ∷ []) (c ∷ more)) (goes_block (blocks ++ b ∷ []) (Within u (InCode exit blocks b)) c parts.0 (λ p. refl))
+      (goes_blocks (blocks ++ b ∷ []) c more (has_code_of (blocks ++ b ∷ []) c parts.0) parts.1)
 
   -- all blocks of a procedure
   goes_all_blocks : (blocks : List Block) → IsTrue (not (is_empty blocks)) → IsTrue (each_after (is_block (piece_count u)) [] blocks)
@@ -124,15 +107,8 @@ module _ (u : OpenProcedure) (exit : Option ExitSource) (some : piece_count u �
   goes_all_blocks [] full right = grind arith
   goes_all_blocks (b ∷ more) full right =
       let parts = and_parts (is_block (piece_count u) [] b) (each_after (is_block (piece_count u)) (b ∷ []) more) right in
-      let h = goes_blocks [] b more (has_code_of [] b parts.0) parts.1 in
-      record {
-        blocks = h.blocks;
-        last = h.last;
-        parts = h.parts;
-        code = h.code;
-        goes = goes_both (Within u (AwaitsLabel exit)) (Within u (InCode exit [] b)) (Within u (InCode exit h.blocks h.last)) (block_lines b) (flat_map block_lines more)
-            (goes_block [] (Within u (AwaitsLabel exit)) b parts.0 (λ p. refl)) h.goes;
-      }
+      ended_after (Within u (AwaitsLabel exit)) (Within u (InCode exit [] b)) (block_lines b) (flat_map block_lines more) (b ∷ more) (b ∷ more) refl
+      (goes_block [] (Within u (AwaitsLabel exit)) b parts.0 (λ p. refl)) (goes_blocks [] b more (has_code_of [] b parts.0) parts.1)
 
 -- Exit frames
 
@@ -143,22 +119,15 @@ goes_exit u e some right =
     let h = u.head in
     let at = λ (results : List RangeWords) (guards : List (List ℕ)) (pieces : List PieceWords). Within u (InExit (exit_source e.grip results guards pieces)) in
     let last = Within u (AwaitsLabel (Some e)) in
-    let grips = is_none (grip_check n e.grip) in
-    let results = all_right (λ before r. result_check h (exit_source e.grip before [] []) r) e.results in
-    let guards = all_right (λ before g. exit_guard_check u.title.version h (exit_source e.grip e.results before []) g) e.guards in
-    let pieces = all_right (λ before p. exit_piece_check h (exit_source e.grip e.results e.guards before) p) e.pieces in
-    let all = and_parts (grips && results && guards && pieces) (length e.pieces == n) right in
-    let four = and_parts (grips && results && guards) pieces all.0 in
-    let three = and_parts (grips && results) guards four.0 in
-    let two = and_parts grips results three.0 in
+    let all = and_five right in
     goes_on (Within u AwaitsExit) (at [] [] []) last (ExitLine e.grip) (map ResultLine e.results ++ (map GuardLine e.guards ++ map AtLine e.pieces))
-    (step_of (Within u AwaitsExit) (at [] [] []) (ExitLine e.grip) (grip_check n e.grip) (λ p. refl) two.0)
+    (step_of (Within u AwaitsExit) (at [] [] []) (ExitLine e.grip) (grip_check n e.grip) (λ p. refl) all.0)
     (goes_both (at [] [] []) (at e.results [] []) last (map ResultLine e.results) (map GuardLine e.guards ++ map AtLine e.pieces)
-    (goes_each ResultLine (λ before. at before [] []) (λ before r. result_check h (exit_source e.grip before [] []) r) (λ before x p. refl) [] e.results two.1)
+    (goes_each ResultLine (λ before. at before [] []) (λ before r. result_check h (exit_source e.grip before [] []) r) (λ before x p. refl) [] e.results all.1)
     (goes_both (at e.results [] []) (at e.results e.guards []) last (map GuardLine e.guards) (map AtLine e.pieces)
-    (goes_each GuardLine (λ before. at e.results before []) (λ before g. exit_guard_check u.title.version h (exit_source e.grip e.results before []) g) (λ before x p. refl) [] e.guards three.1)
+    (goes_each GuardLine (λ before. at e.results before []) (λ before g. exit_guard_check u.title.version h (exit_source e.grip e.results before []) g) (λ before x p. refl) [] e.guards all.2)
     (goes_counted n AtLine (λ before. at e.results e.guards before) (λ before. Within u (AwaitsLabel (Some (exit_source e.grip e.results e.guards before))))
-    (λ before p. exit_piece_check h (exit_source e.grip e.results e.guards before) p) (λ before x p. refl) [] e.pieces four.1 (eqb-true (length e.pieces) n all.1) (λ e. some (sym e)))))
+    (λ before p. exit_piece_check h (exit_source e.grip e.results e.guards before) p) (λ before x p. refl) [] e.pieces all.3 (eqb-true (length e.pieces) n all.4) (λ e. some (sym e)))))
 
 -- Procedures
 
@@ -197,17 +166,12 @@ module _ (title : PlanWords) (some : natural_in title.pieces ≢ 0) where
       let u = under before p.head in
       let n = natural_in title.pieces in
       let main = is_empty before in
-      let version = is_of_version title.version p.head.results in
       let head = is_none (head_check before p.head) in
       let exit = has_exit title.version n main p.head p.exit in
-      let full = not (is_empty p.blocks) in
-      let all = and_parts (version && head && exit && full) (each_after (is_block n) [] p.blocks) right in
-      let four = and_parts (version && head && exit) full all.0 in
-      let three = and_parts (version && head) exit four.0 in
-      let two = and_parts version head three.0 in
+      let all = and_five right in
       let opened = Within u (first_stage main) in
       let labels = Within u (AwaitsLabel p.exit) in
-      let h = goes_all_blocks u p.exit some p.blocks four.1 all.1 in
+      let h = goes_all_blocks u p.exit some p.blocks all.3 all.4 in
       let last = Within u (InCode p.exit h.blocks h.last) in
       record {
         ended = before;
@@ -218,13 +182,9 @@ module _ (title : PlanWords) (some : natural_in title.pieces ≢ 0) where
         parts = ap (λ (blocks : List Block). before ++ record { head = p.head; exit = p.exit; blocks = blocks } ∷ []) h.parts;
         code = h.code;
         goes = goes_on start opened last (ProcLine p.head) (some_exit_lines p.exit ++ flat_map block_lines p.blocks)
-            (step_of start opened (ProcLine p.head) (head_check before p.head) (step two.0) two.1)
-            (goes_both opened labels last (some_exit_lines p.exit) (flat_map block_lines p.blocks) (goes_some_exit main u p.exit some three.1) h.goes);
+            (step_of start opened (ProcLine p.head) (head_check before p.head) (step all.0) all.1)
+            (goes_both opened labels last (some_exit_lines p.exit) (flat_map block_lines p.blocks) (goes_some_exit main u p.exit some all.2) h.goes);
       }
-
-  not_empty : (xs : List ProcedureSource) (x : ProcedureSource) → is_empty (xs ++ x ∷ []) ≡ false
-  not_empty [] x = refl
-  not_empty (y ∷ ys) x = refl
 
   -- where a next procedure's line stands
   next_step : (before done : List ProcedureSource) (head : ProcedureWords) (exit : Option ExitSource) (blocks : List Block) (last : Block) (next : ProcedureWords)
@@ -235,11 +195,25 @@ module _ (title : PlanWords) (some : natural_in title.pieces ≢ 0) where
       let u = under before head in
       let ended = ended_with u exit blocks last in
       let reached : LineResult = judged q (head_check ended next) (Within (under ended next) AwaitsExit) in
-      let empty : is_empty done ≡ false = ap (λ (s : List ProcedureSource). is_empty s) (sym e) ∙ not_empty before (record { head = head; exit = exit; blocks = blocks ++ last ∷ [] }) in
+      let empty : is_empty done ≡ false = ap (λ (s : List ProcedureSource). is_empty s) (sym e) ∙ more_not_empty before (record { head = head; exit = exit; blocks = blocks ++ last ∷ [] }) in
       ap (λ (t : Bool). needing t (P1, q) (needing (has_code last) (at_label q last) reached)) version
       ∙ ap (λ (t : Bool). needing t (at_label q last) reached) code
       ∙ ap (λ (s : List ProcedureSource). judged q (head_check s next) (Within (under s next) AwaitsExit)) e
       ∙ ap (λ (t : Bool). judged q (head_check done next) (Within (under done next) (first_stage t))) (sym empty)
+
+  -- what goes on where others have ended
+  ended_on : (done : List ProcedureSource) (start : Beginning) (front lines : List Line) (all whole : List ProcedureSource) → all ≡ whole → (h : Ended title done start front)
+      → Ended title all (Within (under h.ended h.head) (InCode h.exit h.blocks h.last)) lines → Ended title whole start (front ++ lines)
+  ended_on done start front lines all whole e h k = record {
+    ended = k.ended;
+    head = k.head;
+    exit = k.exit;
+    blocks = k.blocks;
+    last = k.last;
+    parts = k.parts ∙ e;
+    code = k.code;
+    goes = goes_both start (Within (under h.ended h.head) (InCode h.exit h.blocks h.last)) (Within (under k.ended k.head) (InCode k.exit k.blocks k.last)) front lines h.goes k.goes;
+  }
 
   -- procedures after a procedure
   goes_procedures : (before done : List ProcedureSource) (head : ProcedureWords) (exit : Option ExitSource) (blocks : List Block) (last : Block) (more : List ProcedureSource)
@@ -259,17 +233,8 @@ module _ (title : PlanWords) (some : natural_in title.pieces ≢ 0) where
       let parts = and_parts (is_procedure title done p) (each_after (is_procedure title) (done ++ p ∷ []) more) right in
       let start = Within (under before head) (InCode exit blocks last) in
       let h = goes_procedure done start p parts.0 (next_step before done head exit blocks last p.head e code) in
-      let k = goes_procedures h.ended (done ++ p ∷ []) h.head h.exit h.blocks h.last more h.parts h.code parts.1 in
-      record {
-        ended = k.ended;
-        head = k.head;
-        exit = k.exit;
-        blocks = k.blocks;
-        last = k.last;
-        parts = k.parts ∙ append_assoc done (p ∷ []) more;
-        code = k.code;
-        goes = goes_both start (Within (under h.ended h.head) (InCode h.exit h.blocks h.last)) (Within (under k.ended k.head) (InCode k.exit k.blocks k.last)) (procedure_lines p) (flat_map procedure_lines more) h.goes k.goes;
-      }
+      ended_on (done ++ p ∷ []) start (procedure_lines p) (flat_map procedure_lines more) ((done ++ p ∷ []) ++ more) (done ++ (p ∷ more)) (append_assoc done (p ∷ []) more) h
+      (goes_procedures h.ended (done ++ p ∷ []) h.head h.exit h.blocks h.last more h.parts h.code parts.1)
 
   main_step : (head : ProcedureWords) → IsTrue (is_of_version title.version head.results)
       → (q : ℕ) → with_line q (Titled title) (Reads (ProcLine head)) ≡ judged q (head_check [] head) (Within (under [] head) (first_stage true))
@@ -282,44 +247,28 @@ module _ (title : PlanWords) (some : natural_in title.pieces ≢ 0) where
   goes_all_procedures (p ∷ more) full right =
       let parts = and_parts (is_procedure title [] p) (each_after (is_procedure title) (p ∷ []) more) right in
       let h = goes_procedure [] (Titled title) p parts.0 (main_step p.head) in
-      let k = goes_procedures h.ended (p ∷ []) h.head h.exit h.blocks h.last more h.parts h.code parts.1 in
-      record {
-        ended = k.ended;
-        head = k.head;
-        exit = k.exit;
-        blocks = k.blocks;
-        last = k.last;
-        parts = k.parts;
-        code = k.code;
-        goes = goes_both (Titled title) (Within (under h.ended h.head) (InCode h.exit h.blocks h.last)) (Within (under k.ended k.head) (InCode k.exit k.blocks k.last)) (procedure_lines p) (flat_map procedure_lines more) h.goes k.goes;
-      }
+      ended_on (p ∷ []) (Titled title) (procedure_lines p) (flat_map procedure_lines more) (p ∷ more) (p ∷ more) refl h
+      (goes_procedures h.ended (p ∷ []) h.head h.exit h.blocks h.last more h.parts h.code parts.1)
 
 -- Sources
 
 -- a number of 2 to 32 is not 0
 some_pieces : (word : List ℕ) → IsTrue (is_within 2 32 word) → natural_in word ≢ 0
 some_pieces word right e =
-    let a = and_parts (not (starts_with_minus word) && nat_le 2 (natural_in word)) (nat_le (natural_in word) 32) right in
-    let b = and_parts (not (starts_with_minus word)) (nat_le 2 (natural_in word)) a.0 in
-    let low = leb-true 2 (natural_in word) b.1 in
+    let tests = and_three right in
+    let low = leb-true 2 (natural_in word) tests.1 in
     omega (arith, low, e)
-
-unless_test : (t : Bool) (k : FaultKind) (more : Option FaultKind) → unless t k more ≡ None → IsTrue t
-unless_test true k more e = refl
-unless_test false k more e = grind arith
 
 pub source_read : (s : PlanSource) → IsTrue (is_right_so_far s) → with_lines 0 Blank (map Reads (source_lines s)) ≡ Ok s
 source_read s right =
     let title = is_none (title_check s.title) in
-    let full = not (is_empty s.procedures) in
-    let all = and_parts (title && full) (each_after (is_procedure s.title) [] s.procedures) right in
-    let two = and_parts title full all.0 in
-    let range = and_parts (is_within 2 32 s.title.pieces) (is_within 1 MOST_BUDGET s.title.budget) (unless_test _ _ _ (none_of (title_check s.title) two.0)) in
-    let h = goes_all_procedures s.title (some_pieces s.title.pieces range.0) s.procedures two.1 all.1 in
+    let all = and_three right in
+    let range = and_parts (is_within 2 32 s.title.pieces) (is_within 1 MOST_BUDGET s.title.budget) (unless_none (is_within 2 32 s.title.pieces && is_within 1 MOST_BUDGET s.title.budget) P3 None all.0).0 in
+    let h = goes_all_procedures s.title (some_pieces s.title.pieces range.0) s.procedures all.1 all.2 in
     let u : OpenProcedure = record { title = s.title; ended = h.ended; head = h.head } in
     let last = Within u (InCode h.exit h.blocks h.last) in
     let way = goes_on Blank (Titled s.title) last (PlanLine s.title) (flat_map procedure_lines s.procedures)
-    (step_of Blank (Titled s.title) (PlanLine s.title) (title_check s.title) (λ p. refl) two.0) h.goes in
+    (step_of Blank (Titled s.title) (PlanLine s.title) (title_check s.title) (λ p. refl) all.0) h.goes in
     let reached = way 0 [] in
     let source : List ProcedureSource → PlanSource = λ procedures. record { title = s.title; procedures = procedures } in
     ap (λ (lines : List LineRead). with_lines 0 Blank lines) (sym (append-nil (map Reads (source_lines s))))

@@ -1,10 +1,9 @@
 -- Exit frames and procedures' lines as they are listed are right, and are read back.
-use Rattle.std.proofs.Common.{◌≡◌, ℕ, suc, ◌+◌, ◌-◌, ◌≤◌, ◌==◌, ◌⊎◌, inl, inr, List, [], ◌∷◌, ◌++◌, length, map, replicate, Bool, true, false, IsTrue, refl, sym, ap, subst, ◌∙◌, arith, lt-ltb, eqb-true, eq-eqb, leb-true, length-append}
-use Rattle.std.specs.Prelude.{Option, Some, None, is_none, ◌&&◌, nat_le, nat_lt, if◌then◌else◌}
+use Rattle.std.proofs.Common.{◌≡◌, ℕ, ◌+◌, ◌-◌, ◌≤◌, ◌==◌, ◌⊎◌, inl, inr, List, [], ◌∷◌, ◌++◌, length, map, replicate, Bool, true, false, IsTrue, refl, sym, ap, subst, ◌∙◌, arith, lt-ltb, eqb-true, eq-eqb, leb-true, length-append, Option, Some, None, is_none, ◌&&◌, nat_le, nat_lt, if◌then◌else◌}
 use Rattle.std.specs.List.{list_all}
 use Rattle.std.specs.Fmt.{decimal}
 use Rattle.std.proofs.lemmas.Bool.{and_from, and_parts}
-use Rattle.std.proofs.lemmas.List.{length-replicate}
+use Rattle.std.proofs.lemmas.List.{length-replicate, length-map}
 use Rattle.burr_code.specs.declared.limits.TheConstants.{SLOTS, MOST_GUARDS, MOST_PARAMETERS}
 use Rattle.burr_container.specs.Rules.Plans.{Range, ExitFrame, PlanProcedure, exit_symbols}
 use Rattle.burr_plantext.specs.Rules.Written.{natural_in, are_ends, is_form_over}
@@ -12,26 +11,32 @@ use Rattle.burr_plantext.specs.Rules.Lines.{ProcedureWords, GripWords, RangeWord
 use Rattle.burr_plantext.specs.Rules.Sources.{ExitSource}
 use Rattle.burr_plantext.specs.Rules.Meaning.{range_in, exit_in, some_exit_in, result_count}
 use Rattle.burr_plantext.specs.Rules.Checks.{P1, P3, P4, unless, is_empty, piece_check, exit_live, result_check, exit_guard_check, exit_piece_check}
-use Rattle.burr_plantext.specs.Rules.Right.{each_after, all_right, exit_source, is_exit, has_exit}
-use Rattle.burr_container.specs.Rules.Fitting as fitting
 use Rattle.burr_container.specs.Rules.Fitting.{is_tray, is_set_of, is_place, are_places, are_forms, is_exit_frame, are_parameters, are_results, are_ranges}
 use Rattle.burr_plantext.specs.Rules.Listing.{form_word, ends_of, spots_of, grip_of, exit_listed, head_of}
+use Rattle.burr_plantext.specs.Rules.Right.{is_exit, each_after, all_right, exit_source, has_exit}
+use Rattle.burr_container.specs.Rules.Fitting as fitting
 use Rattle.burr_plantext.proofs.Common.Numbers.{natural_back}
 use Rattle.burr_plantext.proofs.Texts.Sets.{set_back}
-use Rattle.burr_plantext.proofs.Texts.Frames.{passes, grip_right, tray_back, set_few, ends_right, ends_back, forms_right, forms_back, spots_right, places_back, spots_length}
+use Rattle.burr_plantext.proofs.Texts.Frames.{grip_right, tray_back, set_few, ends_right, ends_back, forms_right, forms_back, spots_right, places_back, spots_length}
+use Rattle.burr_plantext.proofs.Texts.Tests.{and_four, passes, all_back}
 
 -- Counts
+
+pub eight_symbols : (parameters results : ℕ) → parameters + results ≤ 8 → length (exit_symbols parameters results) ≡ 8
+eight_symbols parameters results few =
+    let n = parameters + results in
+    length-append (replicate n true) (replicate (SLOTS - n) false) ∙ (λ i. length-replicate n true i + length-replicate (SLOTS - n) false i) ∙ omega (arith, few)
 
 pub record Counts (version : ℕ) (p : PlanProcedure) : Type 0 where
   pub parameters : p.parameters ≤ 4
   pub results : p.results ≤ 2
   pub old : version ≡ 1 → p.results ≡ 0
 
-most_by : (main : Bool) (n a : ℕ) → IsTrue (nat_le n (if main then 0 else a)) → n ≤ a
+pub most_by : (main : Bool) (n a : ℕ) → IsTrue (nat_le n (if main then 0 else a)) → n ≤ a
 most_by true n a h = let low = leb-true n 0 h in omega arith
 most_by false n a h = leb-true n a h
 
-results_most : (main two : Bool) (n : ℕ) → IsTrue (nat_le n (if main then 0 else (if two then 2 else 0))) → (n ≤ 2) × (two ≡ false → n ≡ 0)
+pub results_most : (main two : Bool) (n : ℕ) → IsTrue (nat_le n (if main then 0 else (if two then 2 else 0))) → (n ≤ 2) × (two ≡ false → n ≡ 0)
 results_most true two n h = let low = leb-true n 0 h in (omega arith, λ e. omega arith)
 results_most false true n h = let low = leb-true n 2 h in (low, λ e. absurd (cc))
 results_most false false n h = let low = leb-true n 0 h in (omega arith, λ e. omega arith)
@@ -64,10 +69,7 @@ module _ (version n : ℕ) (p : PlanProcedure) (versions : (version ≡ 1) ⊎ (
   same_live = λ i. exit_symbols (parameters_back i) (results_back i)
 
   eight_live : length live ≡ 8
-  eight_live =
-      let few : p.parameters + p.results ≤ 8 = (let k = c.parameters in let l = c.results in omega arith) in
-      length-append (replicate (p.parameters + p.results) true) (replicate (SLOTS - (p.parameters + p.results)) false)
-      ∙ (λ i. length-replicate (p.parameters + p.results) true i + length-replicate (SLOTS - (p.parameters + p.results)) false i) ∙ omega (arith, few)
+  eight_live = eight_symbols p.parameters p.results (let k = c.parameters in let l = c.results in omega arith)
 
   over_live : (x : List ℕ) → IsTrue (is_form_over live x) → IsTrue (is_form_over (exit_live head) x)
   over_live x k = subst (λ (l : List Bool). IsTrue (is_form_over l x)) (sym same_live) k
@@ -84,14 +86,6 @@ module _ (version n : ℕ) (p : PlanProcedure) (versions : (version ≡ 1) ⊎ (
       (passes (are_ends (ends_of r).low (ends_of r).high) P3 None (ends_right r parts.0) refl))
       (results_right grip all (before ++ ends_of r ∷ []) (omega (arith, length-append before (ends_of r ∷ []))) parts.1)
 
-  ranges_back : (all : List Range) → IsTrue (list_all (λ (r : Range). fitting.is_range (Some r)) all) → map range_in (map ends_of all) ≡ all
-  ranges_back [] h = refl
-  ranges_back (r ∷ all) h = let parts = and_parts (fitting.is_range (Some r)) (list_all (λ (r : Range). fitting.is_range (Some r)) all) h in λ i. ends_back r parts.0 i ∷ ranges_back all parts.1 i
-
-  length_ends : (all : List Range) → length (map ends_of all) ≡ length all
-  length_ends [] = refl
-  length_ends (r ∷ all) = ap suc (length_ends all)
-
   record Fitting (pieces : ℕ) (f : ExitFrame) : Type 0 where
     tray : IsTrue (is_tray f.tray)
     grip : IsTrue (is_set_of pieces f.grip)
@@ -106,11 +100,9 @@ module _ (version n : ℕ) (p : PlanProcedure) (versions : (version ≡ 1) ⊎ (
       let size = length f.results == p.results in
       let rest = are_ranges p.results f.results && guards && are_places pieces live f.places in
       let z = and_parts (is_tray f.tray && is_set_of pieces f.grip) rest h in
-      let e = and_parts (are_ranges p.results f.results && guards) (are_places pieces live f.places) z.1 in
-      let d = and_parts (are_ranges p.results f.results) guards e.0 in
-      let c = and_parts size (list_all (λ (r : Range). fitting.is_range (Some r)) f.results) d.0 in
+      let tests = and_four z.1 in
       let a = and_parts (is_tray f.tray) (is_set_of pieces f.grip) z.0 in
-      record { tray = a.0; grip = a.1; size = eqb-true (length f.results) p.results c.0; results = c.1; guards = d.1; places = e.1 }
+      record { tray = a.0; grip = a.1; size = eqb-true (length f.results) p.results tests.0; results = tests.1; guards = tests.2; places = tests.3 }
 
   module _ (pieces : ℕ) (few : pieces ≤ 32) (f : ExitFrame) (h : IsTrue (is_exit_frame version pieces p.parameters p.results f)) where
     fit : Fitting pieces f
@@ -120,7 +112,7 @@ module _ (version n : ℕ) (p : PlanProcedure) (versions : (version ≡ 1) ⊎ (
     listed = record { grip = grip_of f.tray f.grip; results = map ends_of f.results; guards = map form_word f.guards; pieces = spots_of 0 f.places }
 
     all_given : IsTrue (length (map ends_of f.results) == result_count head.results)
-    all_given = eq-eqb (length (map ends_of f.results)) (result_count head.results) (length_ends f.results ∙ fit.size ∙ sym results_back)
+    all_given = eq-eqb (length (map ends_of f.results)) (result_count head.results) (length-map f.results ends_of ∙ fit.size ∙ sym results_back)
 
     guards_right : (version ≡ 1) ⊎ (version ≡ 2) → IsTrue (all_right (λ before g. exit_guard_check version head (exit_source listed.grip listed.results before []) g) listed.guards)
     guards_right (inl one) =
@@ -162,7 +154,7 @@ module _ (version n : ℕ) (p : PlanProcedure) (versions : (version ≡ 1) ⊎ (
         let places = and_parts (length f.places == pieces) (list_all (is_place live) f.places) fit.places in
         let tray = tray_back f.tray fit.tray in
         let grip = set_back f.grip (set_few pieces f.grip few fit.grip) in
-        let results = ranges_back f.results fit.results in
+        let results = all_back (λ (r : Range). fitting.is_range (Some r)) ends_of range_in ends_back f.results fit.results in
         let guards = forms_back live eight_live f.guards forms_of_guards in
         let spots = places_back live eight_live 0 f.places places.1 in
         λ i. record { tray = tray i; grip = grip i; results = results i; guards = guards i; places = spots i }

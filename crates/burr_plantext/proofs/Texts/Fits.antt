@@ -1,28 +1,25 @@
 -- What is right as it is written fits the format: frames and exit frames.
-use Rattle.std.proofs.Common.{◌≡◌, ℕ, suc, ◌+◌, ◌-◌, ◌^◌, ◌<◌, ◌≤◌, ◌==◌, List, [], ◌∷◌, ◌++◌, length, map, replicate, Bool, true, false, not, IsTrue, ℤ, pos, neg_ℤ, refl, sym, ap, ◌∙◌, arith, lt-ltb, ltb-true, le-leb, leb-true, eqb-true, eq-eqb, length-append}
-use Rattle.std.specs.Prelude.{◌&&◌, is_none, nat_le, nat_lt, Option, Some, None, if◌then◌else◌, slice_index_or}
+use Rattle.std.proofs.Common.{◌≡◌, ℕ, suc, ◌+◌, ◌^◌, ◌<◌, ◌≤◌, ◌==◌, List, [], ◌∷◌, ◌++◌, length, map, Bool, true, false, not, IsTrue, ℤ, pos, neg_ℤ, refl, sym, ap, ◌∙◌, arith, lt-ltb, ltb-true, le-leb, leb-true, eqb-true, eq-eqb, length-append, ◌&&◌, is_none, nat_le, nat_lt, Option, Some, None, if◌then◌else◌, slice_index_or, pow_mono, subst}
 use Rattle.std.specs.List.{list_all}
 use Rattle.std.specs.Str.Parse.{starts_with_minus}
 use Rattle.std.proofs.lemmas.Bool.{and_from, and_parts}
-use Rattle.std.proofs.lemmas.List.{length-replicate}
-use Rattle.std.proofs.Math.Pow.{pow_mono}
-use Rattle.std.proofs.Math.Nat.{two-pow-succ}
-use Rattle.burr_code.specs.declared.limits.TheConstants.{TRAYS, SLOTS, MOST_OPERANDS, MOST_GUARDS}
+use Rattle.std.proofs.lemmas.List.{length-map}
+use Rattle.burr_code.specs.declared.limits.TheConstants.{TRAYS, SLOTS, MOST_GUARDS}
 use Rattle.burr_container.specs.Rules.Plans.{Range}
 use Rattle.burr_plantext.specs.Rules.Written.{natural_in, number_in, is_within, is_below, are_ends, set_numbers, set_in, set_of, are_members, term_words, constant_word, coefficient_word, slot_word, are_terms, is_form_over, coefficient_of, slot_numbers, form_in}
-use Rattle.burr_plantext.specs.Rules.Lines.{ProcedureWords, RangeWords, SlotWords, PlaceWords, Apart, On, PieceWords}
 use Rattle.burr_plantext.specs.Rules.Sources.{ExitSource, FrameSource}
 use Rattle.burr_plantext.specs.Rules.Meaning.{range_in, slot_in, place_in, places_in, frame_in, exit_in, some_exit_in, result_count}
-use Rattle.burr_plantext.specs.Rules.Checks.{FaultKind, P1, P3, P4, unless, grip_check, is_spot, piece_check, slot_check, live_in, guard_check, stack_check, cost_check, exit_live, result_check, exit_guard_check, exit_piece_check}
-use Rattle.burr_plantext.specs.Rules.Right.{each_after, all_right, conditions, are_conditions, is_frame, exit_source, is_exit, has_exit}
+use Rattle.burr_plantext.specs.Rules.Checks.{P1, P3, P4, unless, is_spot, piece_check, slot_check, live_in, guard_check, stack_check, exit_live, result_check, exit_guard_check, exit_piece_check, FaultKind}
+use Rattle.burr_container.specs.Rules.Fitting.{is_between, is_coefficient, are_coefficients, is_tray, is_set_of, is_place, are_forms, is_exit_frame}
+use Rattle.std.proofs.Math.Nat.{two-pow-succ}
+use Rattle.burr_plantext.specs.Rules.Lines.{Apart, On, ProcedureWords, RangeWords, SlotWords, PlaceWords, PieceWords}
+use Rattle.burr_plantext.specs.Rules.Right.{is_frame, is_exit, each_after, all_right, conditions, exit_source, has_exit}
 use Rattle.burr_container.specs.Rules.Fitting as fitting
-use Rattle.burr_container.specs.Rules.Fitting.{is_between, is_coefficient, are_coefficients, is_tray, is_set_of, is_place, are_forms, is_exit_frame, are_ranges}
+use Rattle.burr_plantext.proofs.Texts.Tests.{and_five, and_four, and_three, unless_none, all_mapped}
+use Rattle.burr_plantext.proofs.Common.Pieces.{not_both}
+use Rattle.burr_plantext.proofs.Texts.Exits.{eight_symbols}
 
 -- Tests
-
-pub unless_none : (t : Bool) (k : FaultKind) (more : Option FaultKind) → IsTrue (is_none (unless t k more)) → (IsTrue t) × (IsTrue (is_none more))
-unless_none true k more e = (refl, e)
-unless_none false k more e = grind arith
 
 -- what holds of each element after those before it holds of all
 pub each_all : {A : Type 0} (is_so : List A → A → Bool) (q : A → Bool) → ((before : List A) (x : A) → IsTrue (is_so before x) → IsTrue (q x)) → (before xs : List A)
@@ -57,11 +54,10 @@ set_bound : (least bound : ℕ) (ws : List (List ℕ)) → least ≤ bound → I
 set_bound least bound [] low h = omega (arith, pow_mono low)
 set_bound least bound (w ∷ ws) low h =
     let n = natural_in w in
-    let two = and_parts (is_below bound w && nat_le least n) (are_members (suc n) bound ws) h in
-    let one = and_parts (is_below bound w) (nat_le least n) two.0 in
-    let high = below bound w one.0 in
-    let from : least ≤ n = leb-true least n one.1 in
-    let more = set_bound (suc n) bound ws high two.1 in
+    let tests = and_three h in
+    let high = below bound w tests.0 in
+    let from : least ≤ n = leb-true least n tests.1 in
+    let more = set_bound (suc n) bound ws high tests.2 in
     let rise : 2 ^ least ≤ 2 ^ n = pow_mono from in
     omega (arith, more, rise, two-pow-succ n)
 
@@ -86,14 +82,10 @@ coefficient_fits : (live : List Bool) (least v : ℕ) (terms : List (List ℕ)) 
 coefficient_fits live least v [] h = zero_coefficient (slice_index_or live v false)
 coefficient_fits live least v (term ∷ terms) h =
     let slot = natural_in (slot_word term) in
-    let at = slice_index_or live slot false in
-    let between = is_between (neg_ℤ (pos 32768)) (pos 32767) (number_in (coefficient_word term)) in
-    let three = and_parts (nat_le least slot && at && between) (are_terms live (suc slot) terms) h in
-    let two = and_parts (nat_le least slot && at) between three.0 in
-    let one = and_parts (nat_le least slot) at two.0 in
+    let tests = and_four h in
     choose_coefficient (slot == v) (slice_index_or live v false) (number_in (coefficient_word term)) (coefficient_of v terms)
-    (λ same. live_coefficient (slice_index_or live v false) (number_in (coefficient_word term)) (ap (λ (n : ℕ). slice_index_or live n false) (sym (eqb-true slot v same)) ∙ one.1) two.1)
-    (coefficient_fits live (suc slot) v terms three.1)
+    (λ same. live_coefficient (slice_index_or live v false) (number_in (coefficient_word term)) (ap (λ (n : ℕ). slice_index_or live n false) (sym (eqb-true slot v same)) ∙ tests.1) tests.2)
+    (coefficient_fits live (suc slot) v terms tests.3)
 
 eight_coefficients : (live : List Bool) (c : ℕ → ℤ) → length live ≡ 8 → ((v : ℕ) → IsTrue (is_coefficient (slice_index_or live v false) (c v))) → IsTrue (are_coefficients live (map c slot_numbers))
 eight_coefficients (a ∷ b ∷ d ∷ e ∷ f ∷ g ∷ h ∷ i ∷ []) c few each =
@@ -108,36 +100,31 @@ form_fits live w eight h =
     and_from constant (are_coefficients live (map (λ slot. coefficient_of slot (term_words w)) slot_numbers)) parts.0
     (eight_coefficients live (λ slot. coefficient_of slot (term_words w)) eight (λ v. coefficient_fits live 0 v (term_words w) parts.1))
 
-forms_fit : (live : List Bool) → length live ≡ 8 → (ws : List (List ℕ)) → IsTrue (list_all (is_form_over live) ws) → IsTrue (list_all (fitting.is_form live) (map form_in ws))
-forms_fit live eight [] h = refl
-forms_fit live eight (w ∷ ws) h =
-    let parts = and_parts (is_form_over live w) (list_all (is_form_over live) ws) h in
-    and_from (fitting.is_form live (form_in w)) (list_all (fitting.is_form live) (map form_in ws)) (form_fits live w eight parts.0) (forms_fit live eight ws parts.1)
+-- a form after others
+abbrev form_check : ℕ → List Bool → List (List ℕ) → List ℕ → Option FaultKind
+form_check most live before g = unless (is_form_over live g) P3 (unless (nat_lt (length before) most) P4 None)
 
-length_map : {A B : Type 0} (f : A → B) (xs : List A) → length (map f xs) ≡ length xs
-length_map f [] = refl
-length_map f (x ∷ xs) = ap suc (length_map f xs)
-
--- this many forms at most
-pub are_forms_of : (most : ℕ) (live : List Bool) (ws : List (List ℕ)) → length live ≡ 8 → length ws ≤ most → IsTrue (list_all (is_form_over live) ws) → IsTrue (are_forms most live (map form_in ws))
-are_forms_of most live ws eight few h =
-    and_from (nat_le (length (map form_in ws)) most) (list_all (fitting.is_form live) (map form_in ws)) (le-leb (length (map form_in ws)) most (omega (arith, few, length_map form_in ws))) (forms_fit live eight ws h)
+-- forms that are checked, each after those before it
+checked_forms : (live : List Bool) (most : ℕ) (is_so : List (List ℕ) → List ℕ → Bool) → ((before : List (List ℕ)) (g : List ℕ) → IsTrue (is_so before g) → IsTrue (is_none (form_check most live before g)))
+    → length live ≡ 8 → (ws : List (List ℕ)) → IsTrue (each_after is_so [] ws) → IsTrue (are_forms most live (map form_in ws))
+checked_forms live most is_so gives eight ws h =
+    let tests : (before : List (List ℕ)) (g : List ℕ) → IsTrue (is_so before g) → IsTrue (is_form_over live g) × IsTrue (is_none (unless (nat_lt (length before) most) P4 None)) =
+    λ before g k. unless_none (is_form_over live g) P3 (unless (nat_lt (length before) most) P4 None) (gives before g k) in
+    let few = few_all is_so most (λ before g k. ltb-true (length before) most (unless_none (nat_lt (length before) most) P4 None (tests before g k).1).0) [] ws h (omega arith) in
+    let over = each_all is_so (is_form_over live) (λ before g k. (tests before g k).0) [] ws h in
+    and_from (nat_le (length (map form_in ws)) most) (list_all (fitting.is_form live) (map form_in ws)) (le-leb (length (map form_in ws)) most (omega (arith, few, length-map ws form_in)))
+    (all_mapped (is_form_over live) (fitting.is_form live) form_in (λ w. form_fits live w eight) ws over)
 
 -- Pieces
 
 spot_fits : (live : List Bool) (spot : PlaceWords) → length live ≡ 8 → IsTrue (is_spot live spot) → IsTrue (is_place live (place_in spot))
 spot_fits live Apart eight h = refl
 spot_fits live (On tray x y z) eight h =
-    let three = and_parts (is_below TRAYS tray && is_form_over live x && is_form_over live y) (is_form_over live z) h in
-    let two = and_parts (is_below TRAYS tray && is_form_over live x) (is_form_over live y) three.0 in
-    let one = and_parts (is_below TRAYS tray) (is_form_over live x) two.0 in
-    and_from _ _ (and_from _ _ (and_from (is_tray (natural_in tray)) _ (lt-ltb (natural_in tray) 32 (below 32 tray one.0)) (form_fits live x eight one.1)) (form_fits live y eight two.1)) (form_fits live z eight three.1)
+    let tests = and_four h in
+    and_from _ _ (and_from _ _ (and_from (is_tray (natural_in tray)) _ (lt-ltb (natural_in tray) 32 (below 32 tray tests.0)) (form_fits live x eight tests.1)) (form_fits live y eight tests.2)) (form_fits live z eight tests.3)
 
 places_fit : (live : List Bool) (pieces : List PieceWords) → length live ≡ 8 → IsTrue (list_all (λ (p : PieceWords). is_spot live p.spot) pieces) → IsTrue (list_all (is_place live) (places_in pieces))
-places_fit live [] eight h = refl
-places_fit live (p ∷ pieces) eight h =
-    let parts = and_parts (is_spot live p.spot) (list_all (λ (p : PieceWords). is_spot live p.spot) pieces) h in
-    and_from (is_place live (place_in p.spot)) (list_all (is_place live) (places_in pieces)) (spot_fits live p.spot eight parts.0) (places_fit live pieces eight parts.1)
+places_fit live pieces eight h = all_mapped (λ (p : PieceWords). is_spot live p.spot) (is_place live) (λ (p : PieceWords). place_in p.spot) (λ p. spot_fits live p.spot eight) pieces h
 
 spot_of_check : (live : List Bool) (before : List PieceWords) (p : PieceWords) → IsTrue (is_none (piece_check live before p)) → IsTrue (is_spot live p.spot)
 spot_of_check live before p h =
@@ -166,35 +153,19 @@ pub frame_fits : (pieces : ℕ) (f : FrameSource) → IsTrue (is_frame pieces f)
 frame_fits pieces f h =
     let c = f.conditions in
     let live = live_in c in
-    let grips = is_none (grip_check pieces c.grip) in
-    let slots = all_right (λ before s. slot_check (conditions c.grip before [] []) s) c.slots in
-    let guards = all_right (λ before g. guard_check (conditions c.grip c.slots before []) g) c.guards in
-    let stack = all_right (λ before s. stack_check (conditions c.grip c.slots c.guards before) s) c.stack in
-    let cost = is_none (cost_check c f.cost) in
-    let spots = all_right (piece_check live) f.pieces in
-    let z = and_parts (are_conditions pieces c && cost && spots) (length f.pieces == pieces) h in
-    let y = and_parts (are_conditions pieces c && cost) spots z.0 in
-    let x = and_parts (are_conditions pieces c) cost y.0 in
-    let t = and_parts (grips && slots && guards) stack x.0 in
-    let s = and_parts (grips && slots) guards t.0 in
-    let r = and_parts grips slots s.0 in
-    let grip = and_parts (is_below TRAYS c.grip.tray) (are_members 0 pieces (set_numbers c.grip.set)) (unless_none (is_below TRAYS c.grip.tray && are_members 0 pieces (set_numbers c.grip.set)) P3 None r.0).0 in
-    let ends = each_all (λ before s. is_none (slot_check (conditions c.grip before [] []) s)) (λ (s : SlotWords). are_ends s.ends.low s.ends.high) (ends_of_check c.grip) [] c.slots r.1 in
-    let guard_forms = each_all (λ before g. is_none (guard_check (conditions c.grip c.slots before []) g)) (is_form_over live)
-    (λ before g k. (unless_none (is_form_over live g) P3 (unless (nat_lt (length before) MOST_GUARDS) P4 None) k).0) [] c.guards s.1 in
-    let guard_count = few_all (λ before g. is_none (guard_check (conditions c.grip c.slots before []) g)) 4
-    (λ before g k. ltb-true (length before) 4 (unless_none (nat_lt (length before) MOST_GUARDS) P4 None (unless_none (is_form_over live g) P3 (unless (nat_lt (length before) MOST_GUARDS) P4 None) k).1).0) [] c.guards s.1 (omega arith) in
-    let stack_forms = each_all (λ before g. is_none (stack_check (conditions c.grip c.slots c.guards before) g)) (is_form_over live)
-    (λ before g k. (unless_none (is_form_over live g) P3 (unless (nat_lt (length before) MOST_OPERANDS) P4 None) k).0) [] c.stack t.1 in
-    let stack_count = few_all (λ before g. is_none (stack_check (conditions c.grip c.slots c.guards before) g)) 8
-    (λ before g k. ltb-true (length before) 8 (unless_none (nat_lt (length before) MOST_OPERANDS) P4 None (unless_none (is_form_over live g) P3 (unless (nat_lt (length before) MOST_OPERANDS) P4 None) k).1).0) [] c.stack t.1 (omega arith) in
-    let cost_form = (unless_none (is_form_over live f.cost) P3 None x.1).0 in
-    let spot_tests = each_all (λ before p. is_none (piece_check live before p)) (λ (p : PieceWords). is_spot live p.spot) (spot_of_check live) [] f.pieces y.1 in
-    let size : length f.pieces ≡ pieces = eqb-true (length f.pieces) pieces z.1 in
-    let places = and_from (length (places_in f.pieces) == pieces) (list_all (is_place live) (places_in f.pieces)) (eq-eqb (length (places_in f.pieces)) pieces (length_map (λ (p : PieceWords). place_in p.spot) f.pieces ∙ size)) (places_fit live f.pieces refl spot_tests) in
+    let tests = and_four h in
+    let front = and_four tests.0 in
+    let grip = and_parts (is_below TRAYS c.grip.tray) (are_members 0 pieces (set_numbers c.grip.set)) (unless_none (is_below TRAYS c.grip.tray && are_members 0 pieces (set_numbers c.grip.set)) P3 None front.0).0 in
+    let ends = each_all (λ before s. is_none (slot_check (conditions c.grip before [] []) s)) (λ (s : SlotWords). are_ends s.ends.low s.ends.high) (ends_of_check c.grip) [] c.slots front.1 in
+    let guards = checked_forms live 4 (λ before g. is_none (guard_check (conditions c.grip c.slots before []) g)) (λ before g k. k) refl c.guards front.2 in
+    let stack = checked_forms live 8 (λ before g. is_none (stack_check (conditions c.grip c.slots c.guards before) g)) (λ before g k. k) refl c.stack front.3 in
+    let cost_form = (unless_none (is_form_over live f.cost) P3 None tests.1).0 in
+    let spot_tests = each_all (λ before p. is_none (piece_check live before p)) (λ (p : PieceWords). is_spot live p.spot) (spot_of_check live) [] f.pieces tests.2 in
+    let size : length f.pieces ≡ pieces = eqb-true (length f.pieces) pieces tests.3 in
+    let places = and_from (length (places_in f.pieces) == pieces) (list_all (is_place live) (places_in f.pieces)) (eq-eqb (length (places_in f.pieces)) pieces (length-map f.pieces (λ (p : PieceWords). place_in p.spot) ∙ size)) (places_fit live f.pieces refl spot_tests) in
     and_from _ _ (and_from _ _ (and_from (is_tray (natural_in c.grip.tray)) (is_set_of pieces (set_in c.grip.set)) (lt-ltb (natural_in c.grip.tray) 32 (below 32 c.grip.tray grip.0)) (set_fits pieces c.grip.set grip.1))
     (all_slots c.slots ends slot_numbers))
-    (and_from _ _ (and_from _ _ (and_from _ _ (are_forms_of 4 live c.guards refl (omega (arith, guard_count)) guard_forms) (are_forms_of 8 live c.stack refl (omega (arith, stack_count)) stack_forms)) (form_fits live f.cost refl cost_form)) places)
+    (and_from _ _ (and_from _ _ (and_from _ _ guards stack) (form_fits live f.cost refl cost_form)) places)
   where
     ends_of_check : (g : _) (before : List SlotWords) (s : SlotWords) → IsTrue (is_none (slot_check (conditions g before [] []) s)) → IsTrue (are_ends s.ends.low s.ends.high)
     ends_of_check g before s h =
@@ -208,67 +179,38 @@ pub record FitCounts (h : ProcedureWords) : Type 0 where
   pub parameters : natural_in h.parameters ≤ 4
   pub results : result_count h.results ≤ 2
 
-length_live : (h : ProcedureWords) → FitCounts h → length (exit_live h) ≡ 8
-length_live h c = by (natural_in h.parameters + result_count h.results) (let p = c.parameters in let r = c.results in omega arith)
-  where
-    by : (n : ℕ) → n ≤ 8 → length (replicate n true ++ replicate (SLOTS - n) false) ≡ 8
-    by n low = length-append (replicate n true) (replicate (SLOTS - n) false) ∙ (λ i. length-replicate n true i + length-replicate (SLOTS - n) false i) ∙ omega (arith, low)
-
--- ranges that are right are ranges
-ranges_fit : (ends : List RangeWords) → IsTrue (list_all (λ (e : RangeWords). are_ends e.low e.high) ends) → IsTrue (list_all (λ (r : Range). fitting.is_range (Some r)) (map range_in ends))
-ranges_fit [] h = refl
-ranges_fit (e ∷ ends) h =
-    let parts = and_parts (are_ends e.low e.high) (list_all (λ (e : RangeWords). are_ends e.low e.high) ends) h in
-    and_from (fitting.is_range (Some (range_in e))) (list_all (λ (r : Range). fitting.is_range (Some r)) (map range_in ends)) parts.0 (ranges_fit ends parts.1)
-
 -- guards in version 2 alone
-guards_fit : (version : ℕ) (live : List Bool) (ws : List (List ℕ)) → length live ≡ 8 → length ws ≤ 4 → IsTrue (list_all (is_form_over live) ws) → (t : Bool) → (t ≡ false → ws ≡ [])
-    → IsTrue (are_forms (if t then MOST_GUARDS else 0) live (map form_in ws))
-guards_fit version live ws eight few h true none = are_forms_of 4 live ws eight few h
-guards_fit version live ws eight few h false none = are_forms_of 0 live ws eight (let e = ap (λ (s : List (List ℕ)). length s) (none refl) in omega (arith, e)) h
+guards_fit : (live : List Bool) (ws : List (List ℕ)) → IsTrue (are_forms 4 live (map form_in ws)) → (t : Bool) → (t ≡ false → ws ≡ []) → IsTrue (are_forms (if t then MOST_GUARDS else 0) live (map form_in ws))
+guards_fit live ws h true none = h
+guards_fit live ws h false none = subst (λ (ws : List (List ℕ)). IsTrue (are_forms 0 live (map form_in ws))) (sym (none refl)) refl
 
 no_guards : (is_so : List (List ℕ) → List ℕ → Bool) (t : Bool) → ((before : List (List ℕ)) (g : List ℕ) → IsTrue (is_so before g) → IsTrue t) → (ws : List (List ℕ)) → IsTrue (each_after is_so [] ws) → t ≡ false → ws ≡ []
 no_guards is_so t gives [] h e = refl
-no_guards is_so t gives (w ∷ ws) h e = absurd (clash t (gives [] w (and_parts (is_so [] w) (each_after is_so (w ∷ []) ws) h).0) e)
-  where
-    clash : (t : Bool) → IsTrue t → t ≡ false → ⊥
-    clash true h e = cc
-    clash false h e = cc
+no_guards is_so t gives (w ∷ ws) h e = absurd (not_both t (gives [] w (and_parts (is_so [] w) (each_after is_so (w ∷ []) ws) h).0) e)
 
 exit_fits : (version pieces : ℕ) (h : ProcedureWords) (e : ExitSource) → FitCounts h → 0 < pieces → IsTrue (is_exit version pieces h e) → IsTrue (is_exit_frame version pieces (natural_in h.parameters) (result_count h.results) (exit_in e))
 exit_fits version pieces h e c some right =
     let live = exit_live h in
-    let eight = length_live h c in
-    let grips = is_none (grip_check pieces e.grip) in
-    let results = all_right (λ before r. result_check h (exit_source e.grip before [] []) r) e.results in
-    let guards = all_right (λ before g. exit_guard_check version h (exit_source e.grip e.results before []) g) e.guards in
-    let spots = all_right (λ before p. exit_piece_check h (exit_source e.grip e.results e.guards before) p) e.pieces in
-    let z = and_parts (grips && results && guards && spots) (length e.pieces == pieces) right in
-    let y = and_parts (grips && results && guards) spots z.0 in
-    let x = and_parts (grips && results) guards y.0 in
-    let w = and_parts grips results x.0 in
-    let grip = and_parts (is_below TRAYS e.grip.tray) (are_members 0 pieces (set_numbers e.grip.set)) (unless_none (is_below TRAYS e.grip.tray && are_members 0 pieces (set_numbers e.grip.set)) P3 None w.0).0 in
+    let eight = eight_symbols (natural_in h.parameters) (result_count h.results) (let p = c.parameters in let r = c.results in omega arith) in
+    let tests = and_five right in
+    let grip = and_parts (is_below TRAYS e.grip.tray) (are_members 0 pieces (set_numbers e.grip.set)) (unless_none (is_below TRAYS e.grip.tray && are_members 0 pieces (set_numbers e.grip.set)) P3 None tests.0).0 in
     let all_given = length e.results == result_count h.results in
-    let guard_check_of = λ (before : List (List ℕ)) (g : List ℕ). is_none (exit_guard_check version h (exit_source e.grip e.results before []) g) in
     let ranges = each_all (λ before r. is_none (result_check h (exit_source e.grip before [] []) r)) (λ (r : RangeWords). are_ends r.low r.high)
-    (λ before r k. (unless_none (are_ends r.low r.high) P3 None (unless_none (nat_lt (length before) (result_count h.results)) P1 (unless (are_ends r.low r.high) P3 None) k).1).0) [] e.results w.1 in
-    let forms = each_all guard_check_of (is_form_over live)
-    (λ before g k. (unless_none (is_form_over live g) P3 (unless (nat_lt (length before) MOST_GUARDS) P4 None)
-    (unless_none ((version == 2) && true && all_given) P1 (unless (is_form_over live g) P3 (unless (nat_lt (length before) MOST_GUARDS) P4 None)) k).1).0) [] e.guards x.1 in
-    let count = few_all guard_check_of 4
-    (λ before g k. ltb-true (length before) 4 (unless_none (nat_lt (length before) MOST_GUARDS) P4 None (unless_none (is_form_over live g) P3 (unless (nat_lt (length before) MOST_GUARDS) P4 None)
-    (unless_none ((version == 2) && true && all_given) P1 (unless (is_form_over live g) P3 (unless (nat_lt (length before) MOST_GUARDS) P4 None)) k).1).1).0) [] e.guards x.1 (omega arith) in
-    let only_two = no_guards guard_check_of (version == 2)
-    (λ before g k. (and_parts (version == 2) true (and_parts ((version == 2) && true) all_given (unless_none ((version == 2) && true && all_given) P1 (unless (is_form_over live g) P3 (unless (nat_lt (length before) MOST_GUARDS) P4 None)) k).0).0).0) e.guards x.1 in
+    (λ before r k. (unless_none (are_ends r.low r.high) P3 None (unless_none (nat_lt (length before) (result_count h.results)) P1 (unless (are_ends r.low r.high) P3 None) k).1).0) [] e.results tests.1 in
+    let guard_check_of = λ (before : List (List ℕ)) (g : List ℕ). is_none (exit_guard_check version h (exit_source e.grip e.results before []) g) in
+    let tests_of : (before : List (List ℕ)) (g : List ℕ) → IsTrue (guard_check_of before g) → IsTrue ((version == 2) && true && all_given) × IsTrue (is_none (form_check 4 live before g)) =
+    λ before g k. unless_none ((version == 2) && true && all_given) P1 (form_check 4 live before g) k in
+    let forms = checked_forms live 4 guard_check_of (λ before g k. (tests_of before g k).1) eight e.guards tests.2 in
+    let only_two = no_guards guard_check_of (version == 2) (λ before g k. (and_parts (version == 2) true (and_parts ((version == 2) && true) all_given (tests_of before g k).0).0).0) e.guards tests.2 in
     let spot_tests = each_all (λ before p. is_none (exit_piece_check h (exit_source e.grip e.results e.guards before) p)) (λ (p : PieceWords). is_spot live p.spot)
-    (λ before p k. spot_of_check live before p (unless_none all_given P1 (piece_check live before p) k).1) [] e.pieces y.1 in
-    let size : length e.pieces ≡ pieces = eqb-true (length e.pieces) pieces z.1 in
-    let given : IsTrue all_given = first_given e.pieces (omega (arith, size, some)) y.1 in
-    let places = and_from (length (places_in e.pieces) == pieces) (list_all (is_place live) (places_in e.pieces)) (eq-eqb (length (places_in e.pieces)) pieces (length_map (λ (p : PieceWords). place_in p.spot) e.pieces ∙ size)) (places_fit live e.pieces eight spot_tests) in
+    (λ before p k. spot_of_check live before p (unless_none all_given P1 (piece_check live before p) k).1) [] e.pieces tests.3 in
+    let size : length e.pieces ≡ pieces = eqb-true (length e.pieces) pieces tests.4 in
+    let given : IsTrue all_given = first_given e.pieces (omega (arith, size, some)) tests.3 in
+    let places = and_from (length (places_in e.pieces) == pieces) (list_all (is_place live) (places_in e.pieces)) (eq-eqb (length (places_in e.pieces)) pieces (length-map e.pieces (λ (p : PieceWords). place_in p.spot) ∙ size)) (places_fit live e.pieces eight spot_tests) in
     and_from _ _ (and_from (is_tray (natural_in e.grip.tray)) (is_set_of pieces (set_in e.grip.set)) (lt-ltb (natural_in e.grip.tray) 32 (below 32 e.grip.tray grip.0)) (set_fits pieces e.grip.set grip.1))
-    (and_from _ _ (and_from _ _ (and_from _ _ (eq-eqb (length (map range_in e.results)) (result_count h.results) (length_map range_in e.results ∙ eqb-true (length e.results) (result_count h.results) given))
-    (ranges_fit e.results ranges))
-    (guards_fit version live e.guards eight (omega (arith, count)) forms (version == 2) only_two))
+    (and_from _ _ (and_from _ _ (and_from _ _ (eq-eqb (length (map range_in e.results)) (result_count h.results) (length-map e.results range_in ∙ eqb-true (length e.results) (result_count h.results) given))
+    (all_mapped (λ (e : RangeWords). are_ends e.low e.high) (λ (r : Range). fitting.is_range (Some r)) range_in (λ e k. k) e.results ranges))
+    (guards_fit live e.guards forms (version == 2) only_two))
     places)
   where
     first_given : (ps : List PieceWords) → 0 < length ps → IsTrue (all_right (λ before p. exit_piece_check h (exit_source e.grip e.results e.guards before) p) ps) → IsTrue (length e.results == result_count h.results)

@@ -1,30 +1,31 @@
 -- What is right as it is written fits the format: code and blocks.
-use Rattle.std.proofs.Common.{◌≡◌, ℕ, suc, ◌+◌, ◌/◌, ◌%◌, ◌^◌, ◌<◌, ◌≤◌, List, [], ◌∷◌, ◌++◌, length, map, Bool, true, false, not, IsTrue, ℤ, refl, sym, ap, subst, ◌∙◌, arith, lt-ltb, ltb-true, le-leb, leb-true, length-append, append_assoc, append-nil}
-use Rattle.std.specs.Prelude.{◌&&◌, is_none, nat_le, nat_lt, None, if◌then◌else◌}
+use Rattle.std.proofs.Common.{◌≡◌, ℕ, suc, ◌+◌, ◌/◌, ◌%◌, ◌^◌, ◌<◌, ◌≤◌, List, [], ◌∷◌, ◌++◌, length, map, Bool, true, false, not, IsTrue, ℤ, refl, sym, ap, subst, ◌∙◌, arith, lt-ltb, ltb-true, le-leb, leb-true, length-append, append_assoc, append-nil, ◌&&◌, is_none, nat_le, nat_lt, None, if◌then◌else◌}
 use Rattle.std.specs.List.{list_all}
 use Rattle.std.specs.Str.{bytes_eq}
-use Rattle.std.specs.Int.{w16, cast_unsigned}
 use Rattle.std.proofs.lemmas.Bool.{and_from, and_parts}
+use Rattle.burr_code.specs.Instruction.{signed_word, label_bytes, spelled}
+use Rattle.burr_code.specs.declared.limits.TheConstants.{MOST_CODE, MOST_LABELS}
+use Rattle.burr_container.specs.Rules.Plans.{Frame}
+use Rattle.burr_plantext.specs.Rules.Written.{natural_in, number_in, set_in}
+use Rattle.burr_plantext.specs.Rules.Statements.{Statement}
+use Rattle.burr_plantext.specs.Rules.Sources.{Block}
+use Rattle.burr_plantext.specs.Rules.Meaning.{number_of, statement_bytes, code_bytes, code_size, block_code, frame_in, labels_in, label_names}
+use Rattle.burr_plantext.specs.Rules.Checks.{P2, P3, P4, unless, is_empty, is_known, is_in_range, statement_check, label_check, has_code}
+use Rattle.burr_container.specs.Rules.Fitting.{rise_from}
+use Rattle.std.proofs.lemmas.List.{length-map}
+use Rattle.std.specs.Int.{w16, cast_unsigned}
 use Rattle.std.proofs.lemmas.Grind.{flat_map-append}
 use Rattle.burr_voxels.specs.declared.direction.Direction.{Direction}
 use Rattle.burr_voxels.specs.declared.direction.Direction.TheVariants.{PlusX}
 use Rattle.burr_voxels.specs.Grid as grid
 use Rattle.burr_code.specs.Instruction as code
-use Rattle.burr_code.specs.Instruction.{signed_word, label_bytes, spelled}
-use Rattle.burr_code.specs.declared.limits.TheConstants.{MOST_CODE, MOST_LABELS}
-use Rattle.burr_container.specs.Rules.Plans.{Frame}
-use Rattle.burr_plantext.specs.Rules.Written.{natural_in, number_in, set_in}
 use Rattle.burr_plantext.specs.Rules.Statements as said
-use Rattle.burr_plantext.specs.Rules.Statements.{Statement}
-use Rattle.burr_plantext.specs.Rules.Sources.{Block}
-use Rattle.burr_plantext.specs.Rules.Meaning.{number_of, statement_bytes, code_bytes, code_size, block_code, frame_in, labels_in, label_names}
-use Rattle.burr_plantext.specs.Rules.Checks.{P2, P3, P4, unless, is_empty, is_known, is_in_range, statement_check, label_check, has_code}
-use Rattle.burr_plantext.specs.Rules.Right.{each_after, all_right, is_frame, is_block}
+use Rattle.burr_plantext.specs.Rules.Right.{is_frame, each_after, all_right, is_block}
 use Rattle.burr_container.specs.Rules.Fitting as fitting
-use Rattle.burr_container.specs.Rules.Fitting.{rise_from}
 use Rattle.burr_plantext.proofs.Common.CodeSizes.{size_both, some_size}
 use Rattle.burr_plantext.proofs.Texts.Said.{is_said}
-use Rattle.burr_plantext.proofs.Texts.Fits.{unless_none, each_all, few_all, below, frame_fits}
+use Rattle.burr_plantext.proofs.Texts.Fits.{each_all, few_all, below, frame_fits}
+use Rattle.burr_plantext.proofs.Texts.Tests.{and_four, unless_none, all_both}
 
 -- Sizes
 
@@ -51,10 +52,6 @@ some_code (s ∷ code) h = omega (arith, some_size s, length-append (statement_b
 
 abbrev pub are_bytes : List ℕ → Bool
 are_bytes bytes = list_all (λ b. nat_lt b 256) bytes
-
-bytes_both : (a b : List ℕ) → IsTrue (are_bytes a) → IsTrue (are_bytes b) → IsTrue (are_bytes (a ++ b))
-bytes_both [] b p q = q
-bytes_both (x ∷ a) b p q = let parts = and_parts (nat_lt x 256) (are_bytes a) p in and_from (nat_lt x 256) (are_bytes (a ++ b)) parts.0 (bytes_both a b parts.1 q)
 
 one_byte : (b : ℕ) → b < 256 → IsTrue (nat_lt b 256 && true)
 one_byte b h = and_from (nat_lt b 256) true (lt-ltb b 256 h) refl
@@ -88,10 +85,6 @@ direction_byte : (d : Direction) → grid.number_of d < 256
 direction_byte PlusX = omega arith
 direction_byte _ = omega arith
 
-length_map : (f : List ℕ → ℕ) (names : List (List ℕ)) → length (map f names) ≡ length names
-length_map f [] = refl
-length_map f (n ∷ names) = ap suc (length_map f names)
-
 module _ (labels procedures : List (List ℕ)) (few : length procedures ≤ 16) where
   statement_fits : (s : Statement) → IsTrue (is_in_range s) → IsTrue (is_said s) → IsTrue (are_bytes (statement_bytes labels procedures s))
   statement_fits (said.Alone bare) h k = k
@@ -104,9 +97,9 @@ module _ (labels procedures : List (List ℕ)) (few : length procedures ≤ 16) 
   statement_fits (said.Tray t) h k = one_byte (natural_in t) (let b = below 32 t h in omega arith)
   statement_fits (said.Jump l) h k = jump_bytes (number_of labels l)
   statement_fits (said.Down v l) h k = and_from (nat_lt (natural_in v) 256) _ (lt-ltb (natural_in v) 256 (let b = below 8 v h in omega arith)) (jump_bytes (number_of labels l))
-  statement_fits (said.Ask a b) h k = bytes_both (signed_word (number_in a)) (signed_word (number_in b)) (word_bytes (number_in a)) (word_bytes (number_in b))
+  statement_fits (said.Ask a b) h k = all_both (λ b. nat_lt b 256) (signed_word (number_in a)) (signed_word (number_in b)) (word_bytes (number_in a)) (word_bytes (number_in b))
   statement_fits (said.Pick names) h k =
-      let size = length_map (number_of labels) names in
+      let size = length-map names (number_of labels) in
       and_from (nat_lt (length (map (number_of labels) names)) 256) _ (lt-ltb (length (map (number_of labels) names)) 256 (let b = leb-true (length names) 8 k in omega (arith, size, b))) (labels_bytes (number_of labels) names)
   statement_fits (said.Call q) h k = one_byte (number_of procedures q) (let n = number_few procedures q in omega arith)
   statement_fits (said.Byte b) h k = one_byte b (ltb-true b 256 k)
@@ -116,11 +109,7 @@ module _ (labels procedures : List (List ℕ)) (few : length procedures ≤ 16) 
   code_fits (s ∷ code) h k =
       let a = and_parts (is_in_range s) (list_all is_in_range code) h in
       let b = and_parts (is_said s) (list_all is_said code) k in
-      bytes_both (statement_bytes labels procedures s) (code_bytes labels procedures code) (statement_fits s a.0 b.0) (code_fits code a.1 b.1)
-
-list_both : (xs ys : List Statement) → IsTrue (list_all is_in_range xs) → IsTrue (list_all is_in_range ys) → IsTrue (list_all is_in_range (xs ++ ys))
-list_both [] ys p q = q
-list_both (x ∷ xs) ys p q = let parts = and_parts (is_in_range x) (list_all is_in_range xs) p in and_from (is_in_range x) (list_all is_in_range (xs ++ ys)) parts.0 (list_both xs ys parts.1 q)
+      all_both (λ b. nat_lt b 256) (statement_bytes labels procedures s) (code_bytes labels procedures code) (statement_fits s a.0 b.0) (code_fits code a.1 b.1)
 
 -- Blocks
 
@@ -136,10 +125,8 @@ parts_of pieces before b h =
     let name = is_none (label_check before b.label) in
     let frame = is_frame pieces b.frame in
     let code = all_right (statement_check before) b.code in
-    let three = and_parts (name && frame && code) (has_code b) h in
-    let two = and_parts (name && frame) code three.0 in
-    let one = and_parts name frame two.0 in
-    record { name = one.0; frame = one.1; code = two.1; some = three.1 }
+    let tests = and_four h in
+    record { name = tests.0; frame = tests.1; code = tests.2; some = tests.3 }
 
 -- the limit holds up to the last line of code
 limit_last : (blocks : List Block) (before code : List Statement) → IsTrue (not (is_empty code)) → IsTrue (each_after (λ b s. is_none (statement_check blocks b s)) before code)
@@ -158,7 +145,7 @@ block_code_last blocks b =
     ap code_size (flat_map-append (λ (b : Block). b.code) blocks (b ∷ []) ∙ ap (λ (s : List Statement). block_code blocks ++ s) (append-nil b.code)) ∙ size_both (block_code blocks) b.code
 
 -- and up to the last block
-limit_blocks : (pieces : ℕ) (before blocks : List Block) → IsTrue (not (is_empty blocks)) → IsTrue (each_after (is_block pieces) before blocks) → code_size (block_code (before ++ blocks)) ≤ 4096
+pub limit_blocks : (pieces : ℕ) (before blocks : List Block) → IsTrue (not (is_empty blocks)) → IsTrue (each_after (is_block pieces) before blocks) → code_size (block_code (before ++ blocks)) ≤ 4096
 limit_blocks pieces before [] some h = grind arith
 limit_blocks pieces before (b ∷ []) some h =
     let p = parts_of pieces before b (and_parts (is_block pieces before b) true h).0 in
@@ -167,9 +154,6 @@ limit_blocks pieces before (b ∷ []) some h =
 limit_blocks pieces before (b ∷ next ∷ blocks) some h =
     let more = limit_blocks pieces (before ++ b ∷ []) (next ∷ blocks) refl (and_parts (is_block pieces before b) (each_after (is_block pieces) (before ++ b ∷ []) (next ∷ blocks)) h).1 in
     subst (λ (all : List Block). code_size (block_code all) ≤ 4096) (append_assoc before (b ∷ []) (next ∷ blocks)) more
-
-pub code_limit : (pieces : ℕ) (blocks : List Block) → IsTrue (not (is_empty blocks)) → IsTrue (each_after (is_block pieces) [] blocks) → code_size (block_code blocks) ≤ 4096
-code_limit pieces blocks some h = limit_blocks pieces [] blocks some h
 
 total_more : (b : Block) (blocks : List Block) → code_size (block_code (b ∷ blocks)) ≡ code_size b.code + code_size (block_code blocks)
 total_more b blocks = size_both b.code (block_code blocks)
@@ -215,7 +199,7 @@ pub ranges_of : (pieces : ℕ) (before blocks : List Block) → IsTrue (each_aft
 ranges_of pieces before [] h = refl
 ranges_of pieces before (b ∷ blocks) h =
     let parts = and_parts (is_block pieces before b) (each_after (is_block pieces) (before ++ b ∷ []) blocks) h in
-    list_both b.code (block_code blocks)
+    all_both is_in_range b.code (block_code blocks)
     (each_all (λ c s. is_none (statement_check before c s)) is_in_range
     (λ c s k. (unless_none (is_in_range s) P3 (unless (nat_le (code_size (block_code before) + code_size (c ++ s ∷ [])) MOST_CODE) P4 None) k).0) [] b.code (parts_of pieces before b parts.0).code)
     (ranges_of pieces (before ++ b ∷ []) blocks parts.1)

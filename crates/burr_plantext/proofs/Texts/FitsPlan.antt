@@ -1,23 +1,25 @@
 -- What is right as it is written fits the format: procedures and plans.
-use Rattle.std.proofs.Common.{◌≡◌, ℕ, suc, ◌<◌, ◌≤◌, ◌==◌, List, [], ◌∷◌, ◌++◌, length, map, flat_map, Bool, true, false, not, IsTrue, refl, sym, ap, subst, arith, ltb-true, le-leb, leb-true}
-use Rattle.std.specs.Prelude.{◌&&◌, ◌||◌, is_none, nat_le, nat_lt, Option, Some, None, if◌then◌else◌}
+use Rattle.std.proofs.Common.{◌≡◌, ℕ, suc, ◌<◌, ◌≤◌, ◌==◌, List, [], ◌∷◌, ◌++◌, length, map, flat_map, Bool, true, false, not, IsTrue, refl, sym, subst, arith, ltb-true, le-leb, ◌∙◌, ◌&&◌, is_none, nat_le, nat_lt, Option, Some, None, if◌then◌else◌}
 use Rattle.std.specs.List.{list_all}
 use Rattle.std.proofs.lemmas.Bool.{and_from, and_parts}
 use Rattle.burr_code.specs.declared.limits.TheConstants.{MOST_PROCEDURES, MOST_PARAMETERS, MOST_LABELS, MOST_CODE, MOST_BUDGET}
 use Rattle.burr_container.specs.Rules.Plans.{Frame, Plan}
 use Rattle.burr_plantext.specs.Rules.Written.{natural_in, is_within}
-use Rattle.burr_plantext.specs.Rules.Statements.{Statement}
-use Rattle.burr_plantext.specs.Rules.Lines.{PlanWords, ProcedureWords, Line, CodeLine}
+use Rattle.burr_plantext.specs.Rules.Lines.{PlanWords, ProcedureWords, CodeLine}
 use Rattle.burr_plantext.specs.Rules.Sources.{Block, ProcedureSource, PlanSource, some_exit_lines, frame_lines, block_lines, procedure_lines, source_lines}
 use Rattle.burr_plantext.specs.Rules.Meaning.{code_bytes, block_code, labels_in, label_names, procedure_names, procedure_in, plan_of, result_count, code_size}
-use Rattle.burr_plantext.specs.Rules.Checks.{P2, P3, P4, unless, is_empty, is_known, title_check, is_of_version, is_result_count, head_check}
-use Rattle.burr_plantext.specs.Rules.Right.{each_after, has_exit, is_block, is_procedure, is_right_so_far, unknown_names, first_true, is_right}
+use Rattle.burr_plantext.specs.Rules.Checks.{P2, P3, P4, unless, is_empty, is_known, is_of_version, is_result_count, head_check}
 use Rattle.burr_plantext.specs.Rules.Texts.{StandsFor}
+use Rattle.burr_container.specs.Rules.Fitting.{are_labels, rise_from, are_procedures, is_fitting, are_parameters, are_results}
+use Rattle.std.proofs.lemmas.List.{length-map}
+use Rattle.burr_plantext.specs.Rules.Right.{is_procedure, each_after, has_exit, is_block, is_right_so_far, unknown_names, first_true, is_right}
 use Rattle.burr_container.specs.Rules.Fitting as fitting
-use Rattle.burr_container.specs.Rules.Fitting.{is_name_text, are_labels, rise_from, are_procedures, is_fitting, are_parameters, are_results}
-use Rattle.burr_plantext.proofs.Texts.Fits.{unless_none, few_all, within, FitCounts, some_exit_fits}
-use Rattle.burr_plantext.proofs.Texts.FitsCode.{are_bytes, code_length, code_fits, code_limit, labels_rise, frames_fit, few_labels, length_labels, ranges_of}
+use Rattle.burr_plantext.proofs.Texts.Fits.{few_all, within, FitCounts, some_exit_fits}
+use Rattle.burr_plantext.proofs.Texts.FitsCode.{are_bytes, code_length, code_fits, limit_blocks, labels_rise, frames_fit, few_labels, length_labels, ranges_of}
 use Rattle.burr_plantext.proofs.Texts.Said.{is_said, is_fine, text_fine}
+use Rattle.burr_plantext.proofs.Texts.Tests.{and_five, and_three, unless_none, all_both, all_parts, more_not_empty}
+use Rattle.std.proofs.lemmas.List.Folds.{list_all-map}
+use Rattle.burr_plantext.proofs.Texts.Exits.{most_by, results_most as most_results}
 
 -- Heads
 
@@ -32,15 +34,6 @@ results_most version true (Some w) v h = le-leb (natural_in w) 0 (within 0 0 w h
 results_most version false (Some w) v h =
     subst (λ (t : Bool). IsTrue (nat_le (natural_in w) (if t then 2 else 0))) (sym v) (le-leb (natural_in w) 2 (within 0 2 w h).1)
 
-low_counts : (main : Bool) (n a : ℕ) → IsTrue (nat_le n (if main then 0 else a)) → n ≤ a
-low_counts true n a h = let low = leb-true n 0 h in omega arith
-low_counts false n a h = leb-true n a h
-
-low_results : (main two : Bool) (n : ℕ) → IsTrue (nat_le n (if main then 0 else (if two then 2 else 0))) → n ≤ 2
-low_results true two n h = let low = leb-true n 0 h in omega arith
-low_results false true n h = leb-true n 2 h
-low_results false false n h = let low = leb-true n 0 h in omega arith
-
 counts_fit : (version : ℕ) (before : List ProcedureSource) (h : ProcedureWords) → IsTrue (is_of_version version h.results) → IsTrue (is_none (head_check before h))
     → IsTrue ((are_parameters (is_empty before) (natural_in h.parameters) && are_results version (is_empty before) (result_count h.results))) × FitCounts h
 counts_fit version before h v right =
@@ -53,7 +46,7 @@ counts_fit version before h v right =
     let parameters = within_most main MOST_PARAMETERS h.parameters parts.0 in
     let results = results_most version main h.results v parts.1 in (
       and_from (nat_le (natural_in h.parameters) (if main then 0 else MOST_PARAMETERS)) (nat_le (result_count h.results) (if main then 0 else (if version == 2 then 2 else 0))) parameters results,
-      record { parameters = low_counts main (natural_in h.parameters) 4 parameters; results = low_results main (version == 2) (result_count h.results) results },
+      record { parameters = most_by main (natural_in h.parameters) 4 parameters; results = (most_results main (version == 2) (result_count h.results) results).0 },
     )
 
 room_of : (before : List ProcedureSource) (h : ProcedureWords) → IsTrue (is_none (head_check before h)) → length before < 16
@@ -66,30 +59,15 @@ room_of before h right =
 
 -- What the lines of a procedure tell of its code
 
-fine_both : (xs ys : List Line) → IsTrue (list_all is_fine (xs ++ ys)) → IsTrue (list_all is_fine xs) × IsTrue (list_all is_fine ys)
-fine_both [] ys h = (refl, h)
-fine_both (x ∷ xs) ys h =
-    let parts = and_parts (is_fine x) (list_all is_fine (xs ++ ys)) h in
-    let more = fine_both xs ys parts.1 in
-    (and_from (is_fine x) (list_all is_fine xs) parts.0 more.0, more.1)
-
-code_said : (code : List Statement) → IsTrue (list_all is_fine (map CodeLine code)) → IsTrue (list_all is_said code)
-code_said [] h = refl
-code_said (s ∷ code) h = let parts = and_parts (is_said s) (list_all is_fine (map CodeLine code)) h in and_from (is_said s) (list_all is_said code) parts.0 (code_said code parts.1)
-
-said_both : (xs ys : List Statement) → IsTrue (list_all is_said xs) → IsTrue (list_all is_said ys) → IsTrue (list_all is_said (xs ++ ys))
-said_both [] ys p q = q
-said_both (x ∷ xs) ys p q = let parts = and_parts (is_said x) (list_all is_said xs) p in and_from (is_said x) (list_all is_said (xs ++ ys)) parts.0 (said_both xs ys parts.1 q)
-
 blocks_said : (blocks : List Block) → IsTrue (list_all is_fine (flat_map block_lines blocks)) → IsTrue (list_all is_said (block_code blocks))
 blocks_said [] h = refl
 blocks_said (b ∷ blocks) h =
-    let parts = fine_both (block_lines b) (flat_map block_lines blocks) h in
-    let inner = fine_both (frame_lines b.frame) (map CodeLine b.code) (and_parts true (list_all is_fine (frame_lines b.frame ++ map CodeLine b.code)) parts.0).1 in
-    said_both b.code (block_code blocks) (code_said b.code inner.1) (blocks_said blocks parts.1)
+    let parts = all_parts is_fine (block_lines b) (flat_map block_lines blocks) h in
+    let inner = all_parts is_fine (frame_lines b.frame) (map CodeLine b.code) (and_parts true (list_all is_fine (frame_lines b.frame ++ map CodeLine b.code)) parts.0).1 in
+    all_both is_said b.code (block_code blocks) (sym (list_all-map is_fine CodeLine b.code) ∙ inner.1) (blocks_said blocks parts.1)
 
 procedure_said : (p : ProcedureSource) → IsTrue (list_all is_fine (procedure_lines p)) → IsTrue (list_all is_said (block_code p.blocks))
-procedure_said p h = blocks_said p.blocks (fine_both (some_exit_lines p.exit) (flat_map block_lines p.blocks) (and_parts true (list_all is_fine (some_exit_lines p.exit ++ flat_map block_lines p.blocks)) h).1).1
+procedure_said p h = blocks_said p.blocks (all_parts is_fine (some_exit_lines p.exit) (flat_map block_lines p.blocks) (and_parts true (list_all is_fine (some_exit_lines p.exit ++ flat_map block_lines p.blocks)) h).1).1
 
 -- Procedures
 
@@ -109,35 +87,24 @@ module _ (title : PlanWords) (some : 0 < natural_in title.pieces) (names : List 
   procedure_fits before p right fine =
       let n = natural_in title.pieces in
       let main = is_empty before in
-      let version = is_of_version title.version p.head.results in
-      let head = is_none (head_check before p.head) in
-      let exit = has_exit title.version n main p.head p.exit in
-      let full = not (is_empty p.blocks) in
-      let all = and_parts (version && head && exit && full) (each_after (is_block n) [] p.blocks) right in
-      let four = and_parts (version && head && exit) full all.0 in
-      let three = and_parts (version && head) exit four.0 in
-      let two = and_parts version head three.0 in
-      let counts = counts_fit title.version before p.head two.0 two.1 in
-      let limit = code_limit n p.blocks four.1 all.1 in
+      let all = and_five right in
+      let counts = counts_fit title.version before p.head all.0 all.1 in
+      let limit = limit_blocks n [] p.blocks all.3 all.4 in
       let code = code_bytes (label_names p.blocks) names (block_code p.blocks) in
       let size : length code ≡ code_size (block_code p.blocks) = code_length (label_names p.blocks) names (block_code p.blocks) in
-      and_from _ _ (and_from _ _ (and_from _ _ counts.0 (some_exit_fits title.version n main p.head p.exit counts.1 some three.1))
-      (labels_fit n (length code) p.blocks four.1 all.1 (omega (arith, size))))
+      and_from _ _ (and_from _ _ (and_from _ _ counts.0 (some_exit_fits title.version n main p.head p.exit counts.1 some all.2))
+      (labels_fit n (length code) p.blocks all.3 all.4 (omega (arith, size))))
       (and_from (nat_le (length code) MOST_CODE) (are_bytes code) (le-leb (length code) 4096 (omega (arith, size, limit)))
-      (code_fits (label_names p.blocks) names few (block_code p.blocks) (ranges_of n [] p.blocks all.1) (procedure_said p fine)))
-
-  not_first : (before : List ProcedureSource) (s : ProcedureSource) → is_empty (before ++ s ∷ []) ≡ false
-  not_first [] s = refl
-  not_first (t ∷ before) s = refl
+      (code_fits (label_names p.blocks) names few (block_code p.blocks) (ranges_of n [] p.blocks all.4) (procedure_said p fine)))
 
   others_fit : (before ps : List ProcedureSource) → is_empty before ≡ false → IsTrue (each_after (is_procedure title) before ps) → IsTrue (list_all is_fine (flat_map procedure_lines ps))
       → IsTrue (list_all (fitting.is_procedure title.version (natural_in title.pieces) false) (map (procedure_in names) ps))
   others_fit before [] later right fine = refl
   others_fit before (p ∷ ps) later right fine =
       let parts = and_parts (is_procedure title before p) (each_after (is_procedure title) (before ++ p ∷ []) ps) right in
-      let lines = fine_both (procedure_lines p) (flat_map procedure_lines ps) fine in
+      let lines = all_parts is_fine (procedure_lines p) (flat_map procedure_lines ps) fine in
       and_from _ _ (subst (λ (main : Bool). IsTrue (fitting.is_procedure title.version (natural_in title.pieces) main (procedure_in names p))) later (procedure_fits before p parts.0 lines.0))
-      (others_fit (before ++ p ∷ []) ps (not_first before p) parts.1 lines.1)
+      (others_fit (before ++ p ∷ []) ps (more_not_empty before p) parts.1 lines.1)
 
 few_procedures : (title : PlanWords) (ps : List ProcedureSource) → IsTrue (each_after (is_procedure title) [] ps) → length ps ≤ 16
 few_procedures title ps right =
@@ -146,52 +113,42 @@ few_procedures title ps right =
   where
     room : (before : List ProcedureSource) (p : ProcedureSource) → IsTrue (is_procedure title before p) → length before < 16
     room before p k =
-        let n = natural_in title.pieces in
         let version = is_of_version title.version p.head.results in
         let head = is_none (head_check before p.head) in
-        let exit = has_exit title.version n (is_empty before) p.head p.exit in
+        let exit = has_exit title.version (natural_in title.pieces) (is_empty before) p.head p.exit in
         let full = not (is_empty p.blocks) in
-        let all = and_parts (version && head && exit && full) (each_after (is_block n) [] p.blocks) k in
-        let four = and_parts (version && head && exit) full all.0 in
-        let three = and_parts (version && head) exit four.0 in
+        let all = and_parts (version && head && exit && full) (each_after (is_block (natural_in title.pieces)) [] p.blocks) k in
+        let three = and_parts (version && head) exit (and_parts (version && head && exit) full all.0).0 in
         room_of before p.head (and_parts version head three.0).1
-
-length_map : {A B : Type 0} (f : A → B) (xs : List A) → length (map f xs) ≡ length xs
-length_map f [] = refl
-length_map f (x ∷ xs) = ap suc (length_map f xs)
 
 all_fit : (title : PlanWords) (ps : List ProcedureSource) (names : List (List ℕ)) → 0 < natural_in title.pieces → length names ≤ 16 → length ps ≤ 16 → IsTrue (not (is_empty ps)) → IsTrue (each_after (is_procedure title) [] ps)
     → IsTrue (list_all is_fine (flat_map procedure_lines ps)) → IsTrue (are_procedures title.version (natural_in title.pieces) (map (procedure_in names) ps))
 all_fit title [] names some few low full right fine = grind arith
 all_fit title (p ∷ ps) names some few low full right fine =
     let parts = and_parts (is_procedure title [] p) (each_after (is_procedure title) (p ∷ []) ps) right in
-    let lines = fine_both (procedure_lines p) (flat_map procedure_lines ps) fine in
+    let lines = all_parts is_fine (procedure_lines p) (flat_map procedure_lines ps) fine in
     and_from _ (nat_le (suc (length (map (procedure_in names) ps))) MOST_PROCEDURES)
     (and_from _ _ (procedure_fits title some names few [] p parts.0 lines.0) (others_fit title some names few (p ∷ []) ps refl parts.1 lines.1))
-    (le-leb (suc (length (map (procedure_in names) ps))) 16 (omega (arith, low, length_map (procedure_in names) ps)))
+    (le-leb (suc (length (map (procedure_in names) ps))) 16 (omega (arith, low, length-map ps (procedure_in names))))
 
 -- Plans
 
 source_fits : (s : PlanSource) → IsTrue (is_right s) → IsTrue (list_all is_fine (source_lines s)) → IsTrue (is_fitting (plan_of s))
 source_fits s right fine =
     let so_far = (and_parts (is_right_so_far s) (is_none (first_true (unknown_names s))) right).0 in
-    let title = is_none (title_check s.title) in
-    let full = not (is_empty s.procedures) in
-    let all = and_parts (title && full) (each_after (is_procedure s.title) [] s.procedures) so_far in
-    let two = and_parts title full all.0 in
-    let numbers = and_parts (is_within 2 32 s.title.pieces) (is_within 1 MOST_BUDGET s.title.budget) (unless_none (is_within 2 32 s.title.pieces && is_within 1 MOST_BUDGET s.title.budget) P3 None two.0).0 in
+    let all = and_three so_far in
+    let numbers = and_parts (is_within 2 32 s.title.pieces) (is_within 1 MOST_BUDGET s.title.budget) (unless_none (is_within 2 32 s.title.pieces && is_within 1 MOST_BUDGET s.title.budget) P3 None all.0).0 in
     let pieces = within 2 32 s.title.pieces numbers.0 in
     let budget = within 1 1000000 s.title.budget numbers.1 in
-    let lines = and_parts (is_name_text s.title.name && ((s.title.version == 1) || (s.title.version == 2))) (list_all is_fine (flat_map procedure_lines s.procedures)) fine in
-    let name = and_parts (is_name_text s.title.name) ((s.title.version == 1) || (s.title.version == 2)) lines.0 in
-    let low = few_procedures s.title s.procedures all.1 in
+    let lines = and_three fine in
+    let low = few_procedures s.title s.procedures all.2 in
     let names = procedure_names s.procedures in
-    let few : length names ≤ 16 = omega (arith, low, length_map (λ (p : ProcedureSource). p.head.name) s.procedures) in
-    and_from _ _ (and_from _ _ (and_from _ _ (and_from _ _ name.1
+    let few : length names ≤ 16 = omega (arith, low, length-map s.procedures (λ (p : ProcedureSource). p.head.name)) in
+    and_from _ _ (and_from _ _ (and_from _ _ (and_from _ _ lines.1
     (and_from (nat_le 1 (natural_in s.title.budget)) (nat_le (natural_in s.title.budget) MOST_BUDGET) (le-leb 1 (natural_in s.title.budget) budget.0) (le-leb (natural_in s.title.budget) 1000000 budget.1)))
     (and_from (nat_le 2 (natural_in s.title.pieces)) (nat_le (natural_in s.title.pieces) 32) (le-leb 2 (natural_in s.title.pieces) pieces.0) (le-leb (natural_in s.title.pieces) 32 pieces.1)))
-    name.0)
-    (all_fit s.title s.procedures names (let p = pieces.0 in omega arith) few low two.1 all.1 lines.1)
+    lines.0)
+    (all_fit s.title s.procedures names (let p = pieces.0 in omega arith) few low all.1 all.2 lines.2)
 
 -- The plan that a text stands for is within the format.
 pub plan_fits : (text : List ℕ) (plan : Plan) → StandsFor text plan → IsTrue (is_fitting plan)

@@ -1,14 +1,9 @@
 -- Frames as they are listed are right, and are read back.
-use Rattle.std.proofs.Common.{◌≡◌, ℕ, suc, ◌+◌, ◌^◌, ◌<◌, ◌≤◌, ◌==◌, List, [], ◌∷◌, ◌++◌, length, map, Bool, true, false, not, IsTrue, ℤ, pos, negsuc, neg_ℤ, refl, sym, ap, subst, ◌∙◌, arith, lt-ltb, ltb-true, le-leb, eqb-true, eq-eqb, leb-true, length-append}
-use Rattle.std.specs.Prelude.{Option, Some, None, is_none, ◌&&◌, nat_le, nat_lt, int_le, if◌then◌else◌}
+use Rattle.std.proofs.Common.{◌≡◌, ℕ, suc, ◌+◌, ◌^◌, ◌<◌, ◌≤◌, ◌==◌, List, [], ◌∷◌, ◌++◌, length, map, Bool, true, false, not, IsTrue, ℤ, pos, negsuc, neg_ℤ, refl, sym, ap, subst, ◌∙◌, arith, lt-ltb, ltb-true, le-leb, eqb-true, eq-eqb, leb-true, length-append, Option, Some, None, is_none, ◌&&◌, nat_le, nat_lt, int_le, if◌then◌else◌, is_some, ne_eqb, pow_mono}
 use Rattle.std.specs.List.{list_all}
 use Rattle.std.specs.Str.Parse.{starts_with_minus}
 use Rattle.std.specs.Fmt.{decimal, signed_decimal}
 use Rattle.std.proofs.lemmas.Bool.{and_from, and_parts}
-use Rattle.std.proofs.lemmas.Int.{ints}
-use borrow.Author.Tests.{ne_eqb}
-use Rattle.std.proofs.Math.Pow.{pow_mono}
-use Rattle.burr_code.specs.declared.placement.Placement.TheVariants as places
 use Rattle.burr_code.specs.declared.placement.Placement.{Placement}
 use Rattle.burr_code.specs.declared.limits.TheConstants.{TRAYS, SLOTS, MOST_OPERANDS, MOST_GUARDS}
 use Rattle.burr_forms.specs.Rules.Forms.{Form}
@@ -18,19 +13,26 @@ use Rattle.burr_plantext.specs.Rules.Lines.{GripWords, SlotWords, PieceWords}
 use Rattle.burr_plantext.specs.Rules.Sources.{Conditions}
 use Rattle.burr_plantext.specs.Rules.Meaning.{range_in, slot_in, slots_in, place_in, places_in, frame_in}
 use Rattle.burr_plantext.specs.Rules.Checks.{FaultKind, P1, P3, P4, unless, grip_check, is_spot, piece_check, slot_check, live_in, guard_check, stack_check}
-use Rattle.burr_plantext.specs.Rules.Right.{each_after, all_right, conditions, are_conditions, is_frame}
-use Rattle.burr_container.specs.Rules.Fitting as fitting
-use Rattle.burr_container.specs.Rules.Fitting.{are_slots, is_tray, is_set_of, is_place, are_places, are_forms, is_frame_rest}
+use Rattle.burr_container.specs.Rules.Fitting.{are_slots, is_tray, is_set_of, is_place, are_places, are_forms}
 use Rattle.burr_plantext.specs.Rules.Listing.{set_word, form_word, ends_of, slots_of, spot_of, spots_of, grip_of, frame_listed}
+use Rattle.std.proofs.lemmas.List.{length-map}
+use Rattle.std.proofs.lemmas.Int.{ints}
+use Rattle.burr_code.specs.declared.placement.Placement.TheVariants as places
+use Rattle.burr_plantext.specs.Rules.Right.{is_frame, each_after, all_right, conditions, are_conditions}
+use Rattle.burr_container.specs.Rules.Fitting as fitting
 use Rattle.burr_plantext.proofs.Common.Numbers.{IsSmall, natural_back, decimal_no_minus, number_back}
 use Rattle.burr_plantext.proofs.Texts.Sets.{below_decimal, set_back, set_rises}
 use Rattle.burr_plantext.proofs.Common.Forms.{spelled_form, form_fits, form_back, le_of_test}
+use Rattle.burr_plantext.proofs.Texts.Tests.{and_four, and_three, passes, all_back}
 
--- Tests
+-- Numbers
 
-pub passes : (t : Bool) (k : FaultKind) (more : Option FaultKind) → IsTrue t → IsTrue (is_none more) → IsTrue (is_none (unless t k more))
-passes true k more h g = g
-passes false k more h g = grind arith
+pub within_decimal : (low high n : ℕ) → low ≤ n → n ≤ high → n < 2 ^ 64 → IsTrue (is_within low high (decimal n))
+within_decimal low high n above below small =
+    let back = natural_back n small in
+    and_from _ (nat_le (natural_in (decimal n)) high)
+    (and_from (not (starts_with_minus (decimal n))) (nat_le low (natural_in (decimal n))) (ap not (decimal_no_minus n small)) (subst (λ (m : ℕ). IsTrue (nat_le low m)) (sym back) (le-leb low n above)))
+    (subst (λ (m : ℕ). IsTrue (nat_le m high)) (sym back) (le-leb n high below))
 
 -- Grips
 
@@ -60,12 +62,11 @@ end_right z h = subst (λ (y : ℤ). IsTrue (fitting.is_number y)) (sym (end_bac
 
 pub ends_right : (r : Range) → IsTrue (fitting.is_range (Some r)) → IsTrue (are_ends (ends_of r).low (ends_of r).high)
 ends_right r h =
-    let parts = and_parts (fitting.is_number r.0 && fitting.is_number r.1) (int_le r.0 r.1) h in
-    let two = and_parts (fitting.is_number r.0) (fitting.is_number r.1) parts.0 in
+    let parts = and_three h in
     and_from _ (int_le (number_in (signed_decimal r.0)) (number_in (signed_decimal r.1)))
-    (and_from (is_operand (signed_decimal r.0)) (is_operand (signed_decimal r.1)) (end_right r.0 two.0) (end_right r.1 two.1))
-    (subst (λ (y : ℤ). IsTrue (int_le y (number_in (signed_decimal r.1)))) (sym (end_back r.0 two.0))
-    (subst (λ (y : ℤ). IsTrue (int_le r.0 y)) (sym (end_back r.1 two.1)) parts.1))
+    (and_from (is_operand (signed_decimal r.0)) (is_operand (signed_decimal r.1)) (end_right r.0 parts.0) (end_right r.1 parts.1))
+    (subst (λ (y : ℤ). IsTrue (int_le y (number_in (signed_decimal r.1)))) (sym (end_back r.0 parts.0))
+    (subst (λ (y : ℤ). IsTrue (int_le r.0 y)) (sym (end_back r.1 parts.1)) parts.2))
 
 pub ends_back : (r : Range) → IsTrue (fitting.is_range (Some r)) → range_in (ends_of r) ≡ r
 ends_back r h =
@@ -168,35 +169,24 @@ module _ (live : List Bool) (eight_live : length live ≡ 8) where
       (forms_right most check passes_one forms (before ++ form_word f ∷ []) (omega (arith, length-append before (form_word f ∷ []))) parts.1)
 
   pub forms_back : (forms : List Form) → IsTrue (list_all (fitting.is_form live) forms) → map form_in (map form_word forms) ≡ forms
-  forms_back [] h = refl
-  forms_back (f ∷ forms) h =
-      let parts = and_parts (fitting.is_form live f) (list_all (fitting.is_form live) forms) h in
-      λ i. form_back f (spelled_form live f eight_live parts.0) i ∷ forms_back forms parts.1 i
+  forms_back = all_back (fitting.is_form live) form_word form_in (λ f k. form_back f (spelled_form live f eight_live k))
 
   spot_right : (place : Placement FormCell) → IsTrue (is_place live place) → IsTrue (is_spot live (spot_of place))
   spot_right places.Apart h = refl
   spot_right (places.On tray at) h =
-      let three = and_parts (is_tray tray && fitting.is_form live at.x && fitting.is_form live at.y) (fitting.is_form live at.z) h in
-      let two = and_parts (is_tray tray && fitting.is_form live at.x) (fitting.is_form live at.y) three.0 in
-      let one = and_parts (is_tray tray) (fitting.is_form live at.x) two.0 in
-      let below = ltb-true tray 32 one.0 in
+      let tests = and_four h in
+      let below = ltb-true tray 32 tests.0 in
       and_from _ (is_form_over live (form_word at.z)) (and_from _ (is_form_over live (form_word at.y)) (and_from (is_below TRAYS (decimal tray)) (is_form_over live (form_word at.x))
-      (below_decimal 32 tray below (omega arith)) (form_fits live at.x eight_live one.1)) (form_fits live at.y eight_live two.1)) (form_fits live at.z eight_live three.1)
+      (below_decimal 32 tray below (omega arith)) (form_fits live at.x eight_live tests.1)) (form_fits live at.y eight_live tests.2)) (form_fits live at.z eight_live tests.3)
 
   place_back : (place : Placement FormCell) → IsTrue (is_place live place) → place_in (spot_of place) ≡ place
   place_back places.Apart h = refl
   place_back (places.On tray at) h =
-      let three = and_parts (is_tray tray && fitting.is_form live at.x && fitting.is_form live at.y) (fitting.is_form live at.z) h in
-      let two = and_parts (is_tray tray && fitting.is_form live at.x) (fitting.is_form live at.y) three.0 in
-      let one = and_parts (is_tray tray) (fitting.is_form live at.x) two.0 in
-      let x = form_back at.x (spelled_form live at.x eight_live one.1) in
-      let y = form_back at.y (spelled_form live at.y eight_live two.1) in
-      let z = form_back at.z (spelled_form live at.z eight_live three.1) in
-      λ i. places.On (tray_back tray one.0 i) (record { x = x i; y = y i; z = z i })
-
-  numbered : (n : ℕ) (word : List ℕ) → natural_in word ≡ n → starts_with_minus word ≡ false → IsTrue (is_within n n word)
-  numbered n word e plus =
-      and_from _ (nat_le (natural_in word) n) (and_from (not (starts_with_minus word)) (nat_le n (natural_in word)) (ap not plus) (le-leb n (natural_in word) (omega (arith, e)))) (le-leb (natural_in word) n (omega (arith, e)))
+      let tests = and_four h in
+      let x = form_back at.x (spelled_form live at.x eight_live tests.1) in
+      let y = form_back at.y (spelled_form live at.y eight_live tests.2) in
+      let z = form_back at.z (spelled_form live at.z eight_live tests.3) in
+      λ i. places.On (tray_back tray tests.0 i) (record { x = x i; y = y i; z = z i })
 
   pub spots_right : (check : List PieceWords → PieceWords → Option FaultKind)
       → ((before : List PieceWords) (p : PieceWords) → IsTrue (is_none (piece_check live before p)) → IsTrue (is_none (check before p)))
@@ -208,7 +198,7 @@ module _ (live : List Bool) (eight_live : length live ≡ 8) where
       let p : PieceWords = record { piece = decimal k; spot = spot_of place } in
       and_from (is_none (check before p)) (each_after (λ b p. is_none (check b p)) (before ++ p ∷ []) (spots_of (suc k) all))
       (passes_one before p (passes (is_within (length before) (length before) (decimal k)) P1 (unless (is_spot live (spot_of place)) P3 None)
-      (numbered (length before) (decimal k) (natural_back k (omega arith) ∙ sym same) (decimal_no_minus k (omega arith)))
+      (within_decimal (length before) (length before) k (omega (arith, same)) (omega (arith, same)) (omega arith))
       (passes (is_spot live (spot_of place)) P3 None (spot_right place parts.0) refl)))
       (spots_right check passes_one (suc k) all (before ++ p ∷ []) (omega (arith, length-append before (p ∷ []), same)) (omega arith) parts.1)
 
@@ -224,32 +214,24 @@ spots_length k (place ∷ all) = ap suc (spots_length (suc k) all)
 
 -- Frames
 
-length_live : (slots : List (Option Range)) → length (live_slots slots) ≡ length slots
-length_live [] = refl
-length_live (s ∷ slots) = ap suc (length_live slots)
-
 -- the parts of a frame that fits
-record Fitting (pieces : ℕ) (f : Frame) : Type 0 where
-  tray : IsTrue (is_tray f.tray)
-  grip : IsTrue (is_set_of pieces f.grip)
-  slots : IsTrue (are_slots f.slots)
-  guards : IsTrue (are_forms MOST_GUARDS (live_slots f.slots) f.guards)
-  stack : IsTrue (are_forms MOST_OPERANDS (live_slots f.slots) f.stack)
-  cost : IsTrue (fitting.is_form (live_slots f.slots) f.cost)
-  places : IsTrue (are_places pieces (live_slots f.slots) f.places)
+pub record Fitting (pieces : ℕ) (f : Frame) : Type 0 where
+  pub tray : IsTrue (is_tray f.tray)
+  pub grip : IsTrue (is_set_of pieces f.grip)
+  pub slots : IsTrue (are_slots f.slots)
+  pub guards : IsTrue (are_forms MOST_GUARDS (live_slots f.slots) f.guards)
+  pub stack : IsTrue (are_forms MOST_OPERANDS (live_slots f.slots) f.stack)
+  pub cost : IsTrue (fitting.is_form (live_slots f.slots) f.cost)
+  pub places : IsTrue (are_places pieces (live_slots f.slots) f.places)
 
-fits_of : (pieces : ℕ) (f : Frame) → IsTrue (fitting.is_frame pieces f) → Fitting pieces f
+pub fits_of : (pieces : ℕ) (f : Frame) → IsTrue (fitting.is_frame pieces f) → Fitting pieces f
 fits_of pieces f h =
     let live = live_slots f.slots in
     let guards = are_forms MOST_GUARDS live f.guards in
     let stack = are_forms MOST_OPERANDS live f.stack in
-    let three = and_parts (is_tray f.tray && is_set_of pieces f.grip && are_slots f.slots) (is_frame_rest pieces live f) h in
-    let two = and_parts (is_tray f.tray && is_set_of pieces f.grip) (are_slots f.slots) three.0 in
-    let one = and_parts (is_tray f.tray) (is_set_of pieces f.grip) two.0 in
-    let c = and_parts (guards && stack && fitting.is_form live f.cost) (are_places pieces live f.places) three.1 in
-    let b = and_parts (guards && stack) (fitting.is_form live f.cost) c.0 in
-    let a = and_parts guards stack b.0 in
-    record { tray = one.0; grip = one.1; slots = two.1; guards = a.0; stack = a.1; cost = b.1; places = c.1 }
+    let tests = and_four h in
+    let rest = and_four tests.3 in
+    record { tray = tests.0; grip = tests.1; slots = tests.2; guards = rest.0; stack = rest.1; cost = rest.2; places = rest.3 }
 
 module _ (pieces : ℕ) (few : pieces ≤ 32) (f : Frame) (h : IsTrue (fitting.is_frame pieces f)) where
   fit : Fitting pieces f
@@ -259,7 +241,7 @@ module _ (pieces : ℕ) (few : pieces ≤ 32) (f : Frame) (h : IsTrue (fitting.i
   live = live_slots f.slots
 
   eight_live : length live ≡ 8
-  eight_live = length_live f.slots ∙ eqb-true (length f.slots) 8 (and_parts (length f.slots == SLOTS) (list_all fitting.is_range f.slots) fit.slots).0
+  eight_live = length-map f.slots is_some ∙ eqb-true (length f.slots) 8 (and_parts (length f.slots == SLOTS) (list_all fitting.is_range f.slots) fit.slots).0
 
   abbrev listed : Conditions
   listed = (frame_listed f).conditions

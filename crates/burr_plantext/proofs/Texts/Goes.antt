@@ -1,14 +1,13 @@
 -- What lines of a source lead to: from one beginning to another.
-use Rattle.std.proofs.Common.{◌≡◌, ◌≢◌, ℕ, suc, ◌==◌, List, [], ◌∷◌, ◌++◌, length, map, Bool, IsTrue, refl, sym, ap, subst, ◌∙◌, append_assoc, append-nil, length-append, eq-eqb, arith}
-use Rattle.std.specs.Prelude.{Option, Some, None, is_none, Ok, if◌then◌else◌}
+use Rattle.std.proofs.Common.{◌≡◌, ◌≢◌, ℕ, suc, ◌==◌, List, [], ◌∷◌, ◌++◌, length, map, Bool, IsTrue, refl, sym, ap, subst, ◌∙◌, append_assoc, append-nil, length-append, eq-eqb, arith, Option, Some, None, is_none, Ok, if◌then◌else◌, ne_eqb}
 use Rattle.std.proofs.lemmas.Bool.{and_parts}
-use borrow.Author.Tests.{ne_eqb}
-use native.Mathlib.Decide.{ℕ_discrete}
 use Rattle.burr_plantext.specs.Rules.Lines.{Line}
 use Rattle.burr_plantext.specs.Rules.Texts.{LineRead, Reads}
 use Rattle.burr_plantext.specs.Rules.Checks.{FaultKind}
 use Rattle.burr_plantext.specs.Rules.Right.{each_after}
 use Rattle.burr_plantext.specs.Rules.Faults.{Beginning, LineResult, judged, and_next, with_line, with_lines}
+use Rattle.std.proofs.lemmas.List.{map-append}
+use native.Mathlib.Decide.{ℕ_discrete}
 
 -- whatever follows them, these lines lead from one beginning to the other
 abbrev pub Goes : Beginning → List Line → Beginning → Type 0
@@ -25,17 +24,13 @@ goes_on b c d line lines step more p rest =
     let h = more (suc p) rest in
     (h.0, ap (λ (r : LineResult). and_next r (λ next. with_lines (suc p) next (map Reads lines ++ rest))) (step p) ∙ h.1)
 
-map_append : (xs ys : List Line) → map Reads (xs ++ ys) ≡ map Reads xs ++ map Reads ys
-map_append [] ys = refl
-map_append (x ∷ xs) ys = ap (λ (s : List LineRead). Reads x ∷ s) (map_append xs ys)
-
 -- one after the other
 pub goes_both : (b c d : Beginning) (xs ys : List Line) → Goes b xs c → Goes c ys d → Goes b (xs ++ ys) d
 goes_both b c d xs ys first second p rest =
     let h = first p (map Reads ys ++ rest) in
     let k = second h.0 rest in
     let e : map Reads (xs ++ ys) ++ rest ≡ map Reads xs ++ (map Reads ys ++ rest) =
-    ap (λ (s : List LineRead). s ++ rest) (map_append xs ys) ∙ append_assoc (map Reads xs) (map Reads ys) rest in
+    ap (λ (s : List LineRead). s ++ rest) (map-append Reads xs ys) ∙ append_assoc (map Reads xs) (map Reads ys) rest in
     (k.0, ap (λ (s : List LineRead). with_lines p b s) e ∙ h.1 ∙ k.1)
 
 pub none_of : {A : Type 0} (o : Option A) → IsTrue (is_none o) → o ≡ None

@@ -1,15 +1,16 @@
 -- Each plan has a listing, and no other.
 use Rattle.std.proofs.Common.{◌≡◌, ℕ, zero, suc, ◌≤◌, ◌⊎◌, inl, inr, List, [], ◌∷◌, ◌++◌, length, Bool, true, false, IsTrue, refl, sym, ap, subst, ◌∙◌, arith, length-append}
 use Rattle.std.proofs.lemmas.List.{append_cancel_left}
-use Rattle.burr_text.proofs.Common.Cuts.{same_head, same_tail}
 use Rattle.burr_code.specs.Instruction.{Instruction, IsInRange, Begins, StandsAt, spelled}
-use Rattle.burr_code.proofs.Common.Reading.{one_begins, stands_or_none}
 use Rattle.burr_container.specs.Rules.Plans.{Frame, PlanProcedure, Plan}
 use Rattle.burr_plantext.specs.Rules.Statements.{Statement, Byte}
 use Rattle.burr_plantext.specs.Rules.Sources.{Block, ProcedureSource, PlanSource, source_lines}
 use Rattle.burr_plantext.specs.Rules.Writing.{text_of}
-use Rattle.burr_plantext.proofs.Common.CodeSizes.{some_bytes}
 use Rattle.burr_plantext.specs.Rules.Listing.{label_name, frame_listed, exit_listed, instruction_listed, has_names, MayBeListed, IsListedAs, IsListedRaw, IsCodeListed, code_after, AreBlocksListed, head_of, title_of, AreProceduresListed, IsListed, IsListing}
+use Rattle.burr_text.proofs.Common.Cuts.{same_head, same_tail}
+use Rattle.burr_code.proofs.Common.Reading.{one_begins, stands_or_none}
+use Rattle.burr_plantext.proofs.Common.CodeSizes.{some_bytes}
+use Rattle.burr_plantext.proofs.Common.Pieces.{not_both}
 
 nil_cons : (b : ℕ) (r : List ℕ) → [] ≡ b ∷ r → ⊥
 nil_cons b r e = cc
@@ -96,11 +97,7 @@ module _ (labels procedures : ℕ) where
   by_names : (t : Bool) (b : ℕ) (bytes : List ℕ) (i : Instruction) (rest : List ℕ) → has_names labels procedures i ≡ t → IsInRange i → b ∷ bytes ≡ spelled i ++ rest → SomeCode rest → SomeCode bytes → SomeCode (b ∷ bytes)
   by_names true b bytes i rest named range e more other = (instruction_listed i ∷ more.0, (rest, inl (i, record { in_range = range; names = named }, e, refl), more.1))
   by_names false b bytes i rest named range e more other =
-      raw_first b bytes (λ j may begins. clash (has_names labels procedures i) (subst (λ (k : Instruction). IsTrue (has_names labels procedures k)) (one_begins (b ∷ bytes) j i may.in_range range begins (rest, e)) may.names) named) other
-    where
-      clash : (t : Bool) → IsTrue t → t ≡ false → ⊥
-      clash true h e = cc
-      clash false h e = cc
+      raw_first b bytes (λ j may begins. not_both (has_names labels procedures i) (subst (λ (k : Instruction). IsTrue (has_names labels procedures k)) (one_begins (b ∷ bytes) j i may.in_range range begins (rest, e)) may.names) named) other
 
   -- by the number of bytes that are left
   some_code : (fuel : ℕ) (bytes : List ℕ) → length bytes ≤ fuel → SomeCode bytes

@@ -1,13 +1,12 @@
 -- Names with a number: each is found at its number, and no other is it.
-use Rattle.std.proofs.Common.{◌≡◌, ◌≢◌, ℕ, zero, suc, ◌+◌, ◌^◌, ◌<◌, ◌≤◌, List, [], ◌∷◌, ◌++◌, Bool, true, false, IsTrue, Decides, refl, ap, ◌∙◌, arith}
-use Rattle.std.specs.Prelude.{◌||◌, if◌then◌else◌}
+use Rattle.std.proofs.Common.{◌≡◌, ◌≢◌, ℕ, zero, suc, ◌+◌, ◌^◌, ◌<◌, ◌≤◌, List, [], ◌∷◌, ◌++◌, Bool, true, false, IsTrue, Decides, refl, ap, ◌∙◌, arith, ◌||◌, if◌then◌else◌}
 use Rattle.std.specs.Str.{bytes_eq}
 use Rattle.std.specs.Fmt.{decimal}
+use Rattle.burr_plantext.specs.Rules.Meaning.{number_of}
+use Rattle.burr_plantext.specs.Rules.Checks.{is_known}
 use Rattle.std.proofs.lemmas.Slice.Eq.{bytes_eq-Decides}
 use Rattle.std.proofs.lemmas.Fmt.{decimal_injective}
 use Rattle.burr_text.proofs.Common.Cuts.{same_tail}
-use Rattle.burr_plantext.specs.Rules.Meaning.{number_of}
-use Rattle.burr_plantext.specs.Rules.Checks.{is_known}
 use Rattle.burr_plantext.proofs.Common.Pieces.{not_both}
 
 eq_other_by : (t : Bool) (s r : List ℕ) → Decides t (s ≡ r) → s ≢ r → t ≡ false

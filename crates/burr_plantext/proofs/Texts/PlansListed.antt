@@ -1,11 +1,9 @@
 -- A plan as it is listed is right, and is read back.
-use Rattle.std.proofs.Common.{◌≡◌, ℕ, suc, ◌+◌, ◌^◌, ◌<◌, ◌≤◌, ◌==◌, ◌⊎◌, inl, inr, List, [], ◌∷◌, ◌++◌, length, map, flat_map, Bool, true, false, not, IsTrue, refl, sym, ap, subst, ◌∙◌, arith, lt-ltb, ltb-true, le-leb, leb-true, eqb-true, length-append}
-use Rattle.std.specs.Prelude.{◌&&◌, ◌||◌, is_none, nat_le, nat_lt, Option, Some, None, if◌then◌else◌}
+use Rattle.std.proofs.Common.{◌≡◌, ℕ, suc, ◌+◌, ◌^◌, ◌<◌, ◌≤◌, ◌==◌, ◌⊎◌, inl, inr, List, [], ◌∷◌, ◌++◌, length, map, flat_map, Bool, true, false, not, IsTrue, refl, sym, ap, subst, ◌∙◌, arith, lt-ltb, ltb-true, le-leb, leb-true, eqb-true, length-append, ◌&&◌, ◌||◌, is_none, nat_le, nat_lt, Option, Some, None, if◌then◌else◌}
 use Rattle.std.specs.List.{list_all}
-use Rattle.std.specs.Str.Parse.{starts_with_minus}
 use Rattle.std.specs.Fmt.{decimal}
 use Rattle.std.proofs.lemmas.Bool.{and_from, and_parts}
-use Rattle.burr_code.specs.declared.limits.TheConstants.{MOST_PROCEDURES, MOST_LABELS, MOST_PARAMETERS, MOST_CODE, MOST_BUDGET}
+use Rattle.burr_code.specs.declared.limits.TheConstants.{MOST_PROCEDURES, MOST_PARAMETERS, MOST_CODE, MOST_BUDGET}
 use Rattle.burr_container.specs.Rules.Plans.{Frame, PlanProcedure, Plan}
 use Rattle.burr_plantext.specs.Rules.Written.{natural_in, is_within}
 use Rattle.burr_plantext.specs.Rules.Statements.{Statement}
@@ -13,98 +11,70 @@ use Rattle.burr_plantext.specs.Rules.Lines.{PlanWords, ProcedureWords, Line, Res
 use Rattle.burr_plantext.specs.Rules.Sources.{ExitSource, FrameSource, Block, ProcedureSource, PlanSource, some_exit_lines, condition_lines, frame_lines, block_lines, procedure_lines}
 use Rattle.burr_plantext.specs.Rules.Meaning.{result_count, code_bytes, block_code, some_exit_in, labels_in, label_names, procedure_names, procedure_in, plan_of}
 use Rattle.burr_plantext.specs.Rules.Checks.{P2, P3, P4, unless, is_empty, is_known, names_unknown, title_check, is_of_version, is_result_count, head_check}
-use Rattle.burr_plantext.specs.Rules.Right.{each_after, has_exit, is_block, is_procedure, is_right_so_far, has_unknown_name, unknown_in, unknown_names, one_later, first_true, is_right}
-use Rattle.burr_container.specs.Rules.Fitting as fitting
-use Rattle.burr_container.specs.Rules.Fitting.{is_name_text, are_labels, is_code, rise_from, are_procedures, is_piece_count, is_budget, is_fitting, are_parameters, are_results}
+use Rattle.burr_container.specs.Rules.Fitting.{are_labels, rise_from, are_procedures, is_fitting, are_parameters, are_results}
 use Rattle.burr_plantext.specs.Rules.Listing.{procedure_name, exit_listed, head_of, title_of, AreBlocksListed, IsProcedureListed, AreProceduresListed, IsListed}
-use Rattle.burr_plantext.proofs.Common.Numbers.{natural_back, decimal_no_minus}
-use Rattle.burr_plantext.proofs.Texts.Frames.{passes}
+use Rattle.std.proofs.lemmas.List.{map-append}
+use Rattle.burr_plantext.specs.Rules.Right.{is_procedure, each_after, has_exit, is_block, is_right_so_far, has_unknown_name, unknown_in, unknown_names, one_later, first_true, is_right}
+use Rattle.burr_container.specs.Rules.Fitting as fitting
+use Rattle.burr_plantext.proofs.Common.Numbers.{natural_back}
 use Rattle.burr_plantext.proofs.Texts.Exits.{counts, results_back, parameters_back, some_exit_right, some_exit_back}
 use Rattle.burr_plantext.proofs.Texts.Names.{names_from, names_last, unknown_after}
 use Rattle.burr_plantext.proofs.Texts.CodeListed.{names}
 use Rattle.burr_plantext.proofs.Texts.Blocks.{blocks_of, nothing_before}
+use Rattle.burr_plantext.proofs.Texts.Tests.{and_five, and_four, and_three, passes, all_parts, more_not_empty, either_version, all_both}
+use Rattle.std.proofs.lemmas.List.Folds.{list_all-map}
+use Rattle.burr_plantext.proofs.Texts.Frames.{within_decimal}
 
 -- No unknown names
 
 abbrev pub NoneTrue : List Bool → Type 0
-NoneTrue [] = Unit {0}
-NoneTrue (b ∷ bs) = (b ≡ false) × NoneTrue bs
-
-none_true_both : (xs ys : List Bool) → NoneTrue xs → NoneTrue ys → NoneTrue (xs ++ ys)
-none_true_both [] ys p q = q
-none_true_both (x ∷ xs) ys p q = (p.0, none_true_both xs ys p.1 q)
+NoneTrue bs = IsTrue (list_all not bs)
 
 first_none : (bs : List Bool) → NoneTrue bs → first_true bs ≡ None
 first_none [] h = refl
-first_none (true ∷ bs) h = absurd (let e : true ≡ false = h.0 in grind arith)
-first_none (false ∷ bs) h = ap one_later (first_none bs h.1)
+first_none (true ∷ bs) h = grind arith
+first_none (false ∷ bs) h = ap one_later (first_none bs h)
 
 module _ (labels procedures : List (List ℕ)) where
   abbrev marks : List Line → List Bool
   marks lines = map (has_unknown_name labels procedures) lines
 
   marks_both : (xs ys : List Line) → NoneTrue (marks xs) → NoneTrue (marks ys) → NoneTrue (marks (xs ++ ys))
-  marks_both [] ys p q = q
-  marks_both (x ∷ xs) ys p q = (p.0, marks_both xs ys p.1 q)
+  marks_both xs ys p q = ap (λ (bs : List Bool). list_all not bs) (map-append (has_unknown_name labels procedures) xs ys) ∙ all_both not (marks xs) (marks ys) p q
 
   -- lines that name nothing
   marks_map : {A : Type 0} (line : A → Line) → ((x : A) → has_unknown_name labels procedures (line x) ≡ false) → (xs : List A) → NoneTrue (marks (map line xs))
-  marks_map line h [] = tt
-  marks_map line h (x ∷ xs) = (h x, marks_map line h xs)
+  marks_map line h [] = refl
+  marks_map line h (x ∷ xs) = and_from (not (has_unknown_name labels procedures (line x))) (list_all not (marks (map line xs))) (ap not (h x)) (marks_map line h xs)
 
   exit_marks : (exit : Option ExitSource) → NoneTrue (marks (some_exit_lines exit))
-  exit_marks None = tt
-  exit_marks (Some e) = (
-    refl,
-    marks_both (map ResultLine e.results) (map GuardLine e.guards ++ map AtLine e.pieces) (marks_map ResultLine (λ x. refl) e.results)
-        (marks_both (map GuardLine e.guards) (map AtLine e.pieces) (marks_map GuardLine (λ x. refl) e.guards) (marks_map AtLine (λ x. refl) e.pieces)),
-  )
+  exit_marks None = refl
+  exit_marks (Some e) =
+      marks_both (map ResultLine e.results) (map GuardLine e.guards ++ map AtLine e.pieces) (marks_map ResultLine (λ x. refl) e.results)
+      (marks_both (map GuardLine e.guards) (map AtLine e.pieces) (marks_map GuardLine (λ x. refl) e.guards) (marks_map AtLine (λ x. refl) e.pieces))
 
   frame_marks : (f : FrameSource) → NoneTrue (marks (frame_lines f))
   frame_marks f =
       let c = f.conditions in
-      marks_both (condition_lines c) (CostLine f.cost ∷ map AtLine f.pieces) (
-        refl,
-        marks_both (map SlotLine c.slots) (map GuardLine c.guards ++ map StackLine c.stack) (marks_map SlotLine (λ x. refl) c.slots)
-            (marks_both (map GuardLine c.guards) (map StackLine c.stack) (marks_map GuardLine (λ x. refl) c.guards) (marks_map StackLine (λ x. refl) c.stack)),
-      )
-      (refl, marks_map AtLine (λ x. refl) f.pieces)
+      marks_both (condition_lines c) (CostLine f.cost ∷ map AtLine f.pieces)
+      (marks_both (map SlotLine c.slots) (map GuardLine c.guards ++ map StackLine c.stack) (marks_map SlotLine (λ x. refl) c.slots)
+      (marks_both (map GuardLine c.guards) (map StackLine c.stack) (marks_map GuardLine (λ x. refl) c.guards) (marks_map StackLine (λ x. refl) c.stack)))
+      (marks_map AtLine (λ x. refl) f.pieces)
 
   abbrev knows : Statement → Bool
   knows s = not (names_unknown labels procedures s)
 
-  not_false : (t : Bool) → IsTrue (not t) → t ≡ false
-  not_false true e = grind arith
-  not_false false e = refl
-
-  code_marks : (code : List Statement) → IsTrue (list_all knows code) → NoneTrue (marks (map CodeLine code))
-  code_marks [] h = tt
-  code_marks (s ∷ code) h = let parts = and_parts (knows s) (list_all knows code) h in (not_false (names_unknown labels procedures s) parts.0, code_marks code parts.1)
-
-  all_first : (xs ys : List Statement) → IsTrue (list_all knows (xs ++ ys)) → IsTrue (list_all knows xs) × IsTrue (list_all knows ys)
-  all_first [] ys h = (refl, h)
-  all_first (x ∷ xs) ys h =
-      let parts = and_parts (knows x) (list_all knows (xs ++ ys)) h in
-      let more = all_first xs ys parts.1 in
-      (and_from (knows x) (list_all knows xs) parts.0 more.0, more.1)
-
   block_marks : (blocks : List Block) → IsTrue (list_all knows (block_code blocks)) → NoneTrue (marks (flat_map block_lines blocks))
-  block_marks [] h = tt
+  block_marks [] h = refl
   block_marks (b ∷ blocks) h =
-      let parts = all_first b.code (block_code blocks) h in
-      marks_both (block_lines b) (flat_map block_lines blocks)
-      (refl, marks_both (frame_lines b.frame) (map CodeLine b.code) (frame_marks b.frame) (code_marks b.code parts.0)) (block_marks blocks parts.1)
+      let parts = all_parts knows b.code (block_code blocks) h in
+      let code : NoneTrue (marks (map CodeLine b.code)) = list_all-map not (has_unknown_name labels procedures) (map CodeLine b.code) ∙ list_all-map (λ l. not (has_unknown_name labels procedures l)) CodeLine b.code ∙ parts.0 in
+      marks_both (block_lines b) (flat_map block_lines blocks) (marks_both (frame_lines b.frame) (map CodeLine b.code) (frame_marks b.frame) code) (block_marks blocks parts.1)
 
   procedure_marks : (p : ProcedureSource) → IsTrue (list_all knows (block_code p.blocks)) → NoneTrue (marks (procedure_lines p))
-  procedure_marks p h = (refl, marks_both (some_exit_lines p.exit) (flat_map block_lines p.blocks) (exit_marks p.exit) (block_marks p.blocks h))
+  procedure_marks p h = marks_both (some_exit_lines p.exit) (flat_map block_lines p.blocks) (exit_marks p.exit) (block_marks p.blocks h)
 
 -- Heads
-
-within_decimal : (most n : ℕ) → n ≤ most → n < 2 ^ 64 → IsTrue (is_within 0 most (decimal n))
-within_decimal most n low small =
-    let back = natural_back n small in
-    and_from _ (nat_le (natural_in (decimal n)) most) (and_from (not (starts_with_minus (decimal n))) (nat_le 0 (natural_in (decimal n))) (ap not (decimal_no_minus n small)) (le-leb 0 (natural_in (decimal n)) (omega arith)))
-    (subst (λ (m : ℕ). IsTrue (nat_le m most)) (sym back) (le-leb n most low))
 
 of_version : (version : ℕ) (r : List ℕ) → (version ≡ 1) ⊎ (version ≡ 2) → IsTrue (is_of_version version (if version == 2 then Some r else None))
 of_version version r (inl one) = subst (λ (v : ℕ). IsTrue (is_of_version v (if v == 2 then Some r else None))) (sym one) refl
@@ -113,7 +83,7 @@ of_version version r (inr two) = subst (λ (v : ℕ). IsTrue (is_of_version v (i
 result_test : (version most r : ℕ) → (version ≡ 1) ⊎ (version ≡ 2) → IsTrue (nat_le r most) → r < 2 ^ 64 → IsTrue (is_result_count most (if version == 2 then Some (decimal r) else None))
 result_test version most r (inl one) h small = subst (λ (v : ℕ). IsTrue (is_result_count most (if v == 2 then Some (decimal r) else None))) (sym one) refl
 result_test version most r (inr two) h small =
-    subst (λ (v : ℕ). IsTrue (is_result_count most (if v == 2 then Some (decimal r) else None))) (sym two) (within_decimal most r (leb-true r most h) small)
+    subst (λ (v : ℕ). IsTrue (is_result_count most (if v == 2 then Some (decimal r) else None))) (sym two) (within_decimal 0 most r (omega arith) (leb-true r most h) small)
 
 -- results of version 1 are none, so the bound of version 2 serves both
 most_results : (main two : Bool) (r : ℕ) → IsTrue (nat_le r (if main then 0 else (if two then 2 else 0))) → IsTrue (nat_le r (if main then 0 else 2))
@@ -129,7 +99,7 @@ head_right version n p before versions count names size few =
     let c = counts version main p count in
     let parts = and_parts (nat_le p.parameters (if main then 0 else MOST_PARAMETERS)) (nat_le p.results (if main then 0 else (if version == 2 then 2 else 0))) count in
     let unknown : is_known (procedure_names before) (procedure_name n) ≡ false = (λ i. is_known (names i) (procedure_name n)) ∙ unknown_after 112 n 0 n (omega arith) (omega arith) in
-    let parameters = within_decimal (if main then 0 else MOST_PARAMETERS) p.parameters (leb-true p.parameters (if main then 0 else MOST_PARAMETERS) parts.0) (let k = c.parameters in omega arith) in
+    let parameters = within_decimal 0 (if main then 0 else MOST_PARAMETERS) p.parameters (omega arith) (leb-true p.parameters (if main then 0 else MOST_PARAMETERS) parts.0) (let k = c.parameters in omega arith) in
     let results = result_test version (if main then 0 else 2) p.results versions (most_results main (version == 2) p.results parts.1) (let k = c.results in omega arith) in
     let range = is_within 0 (if main then 0 else MOST_PARAMETERS) h.parameters && is_result_count (if main then 0 else 2) h.results in
     passes (not (is_known (procedure_names before) h.name)) P2 (unless range P3 (unless (nat_lt (length before) MOST_PROCEDURES) P4 None)) (ap not unknown)
@@ -152,11 +122,9 @@ has_labels : (pieces end : ℕ) (labels : List (ℕ × Frame)) → IsTrue (are_l
 has_labels pieces end [] h = grind arith
 has_labels pieces end (first ∷ more) h =
     let frames = list_all (λ (l : ℕ × Frame). fitting.is_frame pieces l.1) (first ∷ more) in
-    let c = and_parts ((first.0 == 0) && rise_from 0 end (first ∷ more) && nat_le (length (first ∷ more)) MOST_LABELS) frames h in
-    let b = and_parts ((first.0 == 0) && rise_from 0 end (first ∷ more)) (nat_le (length (first ∷ more)) MOST_LABELS) c.0 in
-    let a = and_parts (first.0 == 0) (rise_from 0 end (first ∷ more)) b.0 in
-    let zero_first : first.0 ≡ 0 = eqb-true first.0 0 a.0 in
-    let r = and_parts (nat_le 0 first.0 && nat_lt first.0 end) (rise_from (suc first.0) end more) a.1 in
+    let tests = and_four h in
+    let zero_first : first.0 ≡ 0 = eqb-true first.0 0 tests.0 in
+    let r = and_parts (nat_le 0 first.0 && nat_lt first.0 end) (rise_from (suc first.0) end more) tests.1 in
     let below = ltb-true first.0 end (and_parts (nat_le 0 first.0) (nat_lt first.0 end) r.0).1 in
     record {
       first = first;
@@ -164,8 +132,8 @@ has_labels pieces end (first ∷ more) h =
       are = λ i. (zero_first i, first.1) ∷ more;
       below = omega arith;
       rise = subst (λ (n : ℕ). IsTrue (rise_from (suc n) end more)) zero_first r.1;
-      few = leb-true (suc (length more)) 256 b.1;
-      frames = c.1;
+      few = leb-true (suc (length more)) 256 tests.2;
+      frames = tests.3;
     }
 
 full_blocks : (all procedures n : ℕ) (code : List ℕ) (label : ℕ × Frame) (labels : List (ℕ × Frame)) (blocks : List Block) → AreBlocksListed all procedures code n (label ∷ labels) blocks → IsTrue (not (is_empty blocks))
@@ -189,19 +157,17 @@ module _ (title : PlanWords) (all : ℕ) (few : all ≤ 16) (versions : (title.v
   procedure_of n p before s names_before size room fits listed =
       let version = title.version in
       let main = is_empty before in
-      let three = and_parts ((are_parameters main p.parameters && are_results version main p.results) && fitting.is_exit version main pieces p.parameters p.results p.exit && are_labels pieces (length p.code) p.labels) (is_code p.code) fits in
-      let two = and_parts ((are_parameters main p.parameters && are_results version main p.results) && fitting.is_exit version main pieces p.parameters p.results p.exit) (are_labels pieces (length p.code) p.labels) three.0 in
-      let one = and_parts ((are_parameters main p.parameters && are_results version main p.results)) (fitting.is_exit version main pieces p.parameters p.results p.exit) two.0 in
-      let short = leb-true (length p.code) 4096 (and_parts (nat_le (length p.code) MOST_CODE) (list_all (λ b. nat_lt b 256) p.code) three.1).0 in
-      let c = counts version main p one.0 in
-      let labels = has_labels pieces (length p.code) p.labels two.1 in
+      let tests = and_four fits in
+      let short = leb-true (length p.code) 4096 (and_parts (nat_le (length p.code) MOST_CODE) (list_all (λ b. nat_lt b 256) p.code) tests.3).0 in
+      let c = counts version main p tests.0 in
+      let labels = has_labels pieces (length p.code) p.labels tests.2 in
       let count : length p.labels ≡ suc (length labels.more) = ap (λ (ls : List (ℕ × Frame)). length ls) labels.are in
       let few_labels : length p.labels ≤ 256 = (let k = labels.few in omega (arith, count, k)) in
       let listed_blocks : AreBlocksListed (length p.labels) all p.code 0 ((0, labels.first.1) ∷ labels.more) s.blocks = subst (λ (ls : List (ℕ × Frame)). AreBlocksListed (length p.labels) all p.code 0 ls s.blocks) labels.are listed.blocks in
       let b = blocks_of (length p.labels) all pieces few_labels few few_pieces p.code short 0 0 labels.first.1 labels.more [] s.blocks
       (nothing_before (length p.labels) all pieces few_labels few few_pieces p.code short) (let k = labels.few in omega (arith, k)) labels.below labels.rise labels.frames listed_blocks in
       let called : label_names s.blocks ≡ names_from 76 0 (length p.labels) = b.called ∙ ap (names_from 76 0) (sym count) in
-      let exit : IsTrue (has_exit version pieces main (head_of version n p) (exit_listed p.exit)) = some_exit_right version n p versions c pieces main p.exit few_pieces one.1 in
+      let exit : IsTrue (has_exit version pieces main (head_of version n p) (exit_listed p.exit)) = some_exit_right version n p versions c pieces main p.exit few_pieces tests.1 in
       let exit_is : IsTrue (has_exit version (natural_in title.pieces) main s.head s.exit) =
       subst (λ (k : ℕ). IsTrue (has_exit version k main s.head s.exit)) (sym same_pieces)
       (subst (λ (h : ProcedureWords). IsTrue (has_exit version pieces main h s.exit)) (sym listed.head)
@@ -209,11 +175,11 @@ module _ (title : PlanWords) (all : ℕ) (few : all ≤ 16) (versions : (title.v
       let head : IsTrue (is_of_version version s.head.results && is_none (head_check before s.head)) =
       subst (λ (h : ProcedureWords). IsTrue (is_of_version version h.results && is_none (head_check before h))) (sym listed.head)
       (and_from (is_of_version version (head_of version n p).results) (is_none (head_check before (head_of version n p)))
-      (of_version version (decimal p.results) versions) (head_right version n p before versions one.0 names_before size room)) in
+      (of_version version (decimal p.results) versions) (head_right version n p before versions tests.0 names_before size room)) in
       let blocks : IsTrue (each_after (is_block (natural_in title.pieces)) [] s.blocks) = subst (λ (k : ℕ). IsTrue (each_after (is_block k) [] s.blocks)) (sym same_pieces) b.right in
       let parameters : natural_in s.head.parameters ≡ p.parameters = ap (λ (h : ProcedureWords). natural_in h.parameters) listed.head ∙ parameters_back version n p versions c in
       let results : result_count s.head.results ≡ p.results = ap (λ (h : ProcedureWords). result_count h.results) listed.head ∙ results_back version n p versions c in
-      let exits : some_exit_in s.exit ≡ p.exit = ap some_exit_in listed.exit ∙ some_exit_back version n p versions c pieces main p.exit few_pieces one.1 in
+      let exits : some_exit_in s.exit ≡ p.exit = ap some_exit_in listed.exit ∙ some_exit_back version n p versions c pieces main p.exit few_pieces tests.1 in
       let positions : labels_in 0 s.blocks ≡ p.labels = b.labelled ∙ sym labels.are in
       let bytes : code_bytes (label_names s.blocks) calls (block_code s.blocks) ≡ p.code = ap (λ (ns : List (List ℕ)). code_bytes ns calls (block_code s.blocks)) called ∙ b.spells in
       record {
@@ -229,68 +195,44 @@ module _ (title : PlanWords) (all : ℕ) (few : all ≤ 16) (versions : (title.v
     called : procedure_names sources ≡ names_from 112 n (length ps)
     knows : NoneTrue (flat_map (unknown_in calls) sources)
 
-  names_more : (before : List ProcedureSource) (s : ProcedureSource) → procedure_names (before ++ s ∷ []) ≡ procedure_names before ++ s.head.name ∷ []
-  names_more [] s = refl
-  names_more (t ∷ before) s = ap (λ (ns : List (List ℕ)). t.head.name ∷ ns) (names_more before s)
-
-  not_first : (before : List ProcedureSource) (s : ProcedureSource) → is_empty (before ++ s ∷ []) ≡ false
-  not_first [] s = refl
-  not_first (t ∷ before) s = refl
-
   names_now : (n : ℕ) (before : List ProcedureSource) (s : ProcedureSource) → procedure_names before ≡ names_from 112 0 n → s.head.name ≡ procedure_name n
       → procedure_names (before ++ s ∷ []) ≡ names_from 112 0 (suc n)
-  names_now n before s e called = names_more before s ∙ (λ i. e i ++ called i ∷ []) ∙ ap (λ (m : ℕ). names_from 112 0 n ++ procedure_name m ∷ []) (omega arith) ∙ names_last 112 n 0
+  names_now n before s e called = map-append (λ (p : ProcedureSource). p.head.name) before (s ∷ []) ∙ (λ i. e i ++ called i ∷ []) ∙ ap (λ (m : ℕ). names_from 112 0 n ++ procedure_name m ∷ []) (omega arith) ∙ names_last 112 n 0
 
   procedures_of : (n : ℕ) (ps : List PlanProcedure) (before sources : List ProcedureSource) → procedure_names before ≡ names_from 112 0 n → length before ≡ n → n + length ps ≤ 16
       → is_empty before ≡ false → IsTrue (list_all (fitting.is_procedure title.version pieces false) ps) → AreProceduresListed title.version all n ps sources → AreProceduresOf n ps before sources
-  procedures_of n [] before [] called size room later fits listed = record { right = refl; back = refl; called = refl; knows = tt }
-  procedures_of n [] before (s ∷ sources) called size room later fits listed = absurd listed
-  procedures_of n (p ∷ ps) before [] called size room later fits listed = absurd listed
+  procedures_of n [] before [] called size room later fits listed = record { right = refl; back = refl; called = refl; knows = refl }
   procedures_of n (p ∷ ps) before (s ∷ sources) called size room later fits listed =
       let parts = and_parts (fitting.is_procedure title.version pieces false p) (list_all (fitting.is_procedure title.version pieces false) ps) fits in
       let one = procedure_of n p before s called size (omega arith) (subst (λ (main : Bool). IsTrue (fitting.is_procedure title.version pieces main p)) (sym later) parts.0) listed.0 in
-      let more = procedures_of (suc n) ps (before ++ s ∷ []) sources (names_now n before s called one.called) (omega (arith, length-append before (s ∷ []), size)) (omega arith) (not_first before s) parts.1 listed.1 in
+      let more = procedures_of (suc n) ps (before ++ s ∷ []) sources (names_now n before s called one.called) (omega (arith, length-append before (s ∷ []), size)) (omega arith) (more_not_empty before s) parts.1 listed.1 in
       record {
         right = and_from (is_procedure title before s) (each_after (is_procedure title) (before ++ s ∷ []) sources) one.right more.right;
         back = λ i. one.back i ∷ more.back i;
         called = λ i. one.called i ∷ more.called i;
-        knows = none_true_both (unknown_in calls s) (flat_map (unknown_in calls) sources) one.knows more.knows;
+        knows = all_both not (unknown_in calls s) (flat_map (unknown_in calls) sources) one.knows more.knows;
       }
+  procedures_of n _ before _ called size room later fits listed = absurd listed
 
   all_procedures : (ps : List PlanProcedure) (sources : List ProcedureSource) → IsTrue (are_procedures title.version pieces ps) → AreProceduresListed title.version all 0 ps sources
       → AreProceduresOf 0 ps [] sources × IsTrue (not (is_empty sources))
   all_procedures [] sources fits listed = grind arith
   all_procedures (p ∷ ps) [] fits listed = absurd listed
   all_procedures (p ∷ ps) (s ∷ sources) fits listed =
-      let two = and_parts (fitting.is_procedure title.version pieces true p && list_all (fitting.is_procedure title.version pieces false) ps) (nat_le (length (p ∷ ps)) MOST_PROCEDURES) fits in
-      let parts = and_parts (fitting.is_procedure title.version pieces true p) (list_all (fitting.is_procedure title.version pieces false) ps) two.0 in
-      let count = leb-true (length (p ∷ ps)) 16 two.1 in
-      let one = procedure_of 0 p [] s refl refl (omega arith) parts.0 listed.0 in
-      let more = procedures_of 1 ps (s ∷ []) sources (ap (λ (name : List ℕ). name ∷ []) one.called) refl (omega arith) refl parts.1 listed.1 in (
+      let tests = and_three fits in
+      let count = leb-true (length (p ∷ ps)) 16 tests.2 in
+      let one = procedure_of 0 p [] s refl refl (omega arith) tests.0 listed.0 in
+      let more = procedures_of 1 ps (s ∷ []) sources (ap (λ (name : List ℕ). name ∷ []) one.called) refl (omega arith) refl tests.1 listed.1 in (
         record {
           right = and_from (is_procedure title [] s) (each_after (is_procedure title) (s ∷ []) sources) one.right more.right;
           back = λ i. one.back i ∷ more.back i;
           called = λ i. one.called i ∷ more.called i;
-          knows = none_true_both (unknown_in calls s) (flat_map (unknown_in calls) sources) one.knows more.knows;
+          knows = all_both not (unknown_in calls s) (flat_map (unknown_in calls) sources) one.knows more.knows;
         },
         refl,
       )
 
 -- Plans
-
-either_version : (version : ℕ) → IsTrue ((version == 1) || (version == 2)) → (version ≡ 1) ⊎ (version ≡ 2)
-either_version version h = by (version == 1) refl h
-  where
-    by : (t : Bool) → (version == 1) ≡ t → IsTrue (t || (version == 2)) → (version ≡ 1) ⊎ (version ≡ 2)
-    by true e h = inl (eqb-true version 1 e)
-    by false e h = inr (eqb-true version 2 h)
-
-within_both : (low high n : ℕ) → low ≤ n → n ≤ high → n < 2 ^ 64 → IsTrue (is_within low high (decimal n))
-within_both low high n above below small =
-    let back = natural_back n small in
-    and_from _ (nat_le (natural_in (decimal n)) high)
-    (and_from (not (starts_with_minus (decimal n))) (nat_le low (natural_in (decimal n))) (ap not (decimal_no_minus n small)) (subst (λ (m : ℕ). IsTrue (nat_le low m)) (sym back) (le-leb low n above)))
-    (subst (λ (m : ℕ). IsTrue (nat_le m high)) (sym back) (le-leb n high below))
 
 pub record IsReadBack (plan : Plan) (s : PlanSource) : Type 0 where
   pub right : IsTrue (is_right s)
@@ -303,28 +245,25 @@ read_back : (plan : Plan) (sources : List ProcedureSource) → IsTrue (is_fittin
     → IsReadBack plan (record { title = title_of plan; procedures = sources })
 read_back plan sources fits listed =
     let version = (plan.version == 1) || (plan.version == 2) in
-    let d = and_parts (version && is_budget plan.budget && is_piece_count plan.pieces && is_name_text plan.name) (are_procedures plan.version plan.pieces plan.procedures) fits in
-    let c = and_parts (version && is_budget plan.budget && is_piece_count plan.pieces) (is_name_text plan.name) d.0 in
-    let b = and_parts (version && is_budget plan.budget) (is_piece_count plan.pieces) c.0 in
-    let a = and_parts version (is_budget plan.budget) b.0 in
-    let budget = and_parts (nat_le 1 plan.budget) (nat_le plan.budget MOST_BUDGET) a.1 in
+    let tests = and_five fits in
+    let budget = and_parts (nat_le 1 plan.budget) (nat_le plan.budget MOST_BUDGET) tests.1 in
     let budget_low = leb-true 1 plan.budget budget.0 in
     let budget_high = leb-true plan.budget 1000000 budget.1 in
-    let count = and_parts (nat_le 2 plan.pieces) (nat_le plan.pieces 32) b.1 in
+    let count = and_parts (nat_le 2 plan.pieces) (nat_le plan.pieces 32) tests.2 in
     let low = leb-true 2 plan.pieces count.0 in
     let high = leb-true plan.pieces 32 count.1 in
     let title = title_of plan in
     let s : PlanSource = record { title = title; procedures = sources } in
     let all = length plan.procedures in
-    let few = few_of plan.procedures d.1 in
+    let few = few_of plan.procedures tests.4 in
     let pieces = natural_back plan.pieces (omega arith) in
-    let h = all_procedures title all few (either_version plan.version a.0) plan.pieces high pieces plan.procedures sources d.1 listed in
+    let h = all_procedures title all few (either_version plan.version tests.0) plan.pieces high pieces plan.procedures sources tests.4 listed in
     let titled : IsTrue (is_none (title_check title)) =
     passes (is_within 2 32 title.pieces && is_within 1 MOST_BUDGET title.budget) P3 None
-    (and_from (is_within 2 32 title.pieces) (is_within 1 MOST_BUDGET title.budget) (within_both 2 32 plan.pieces low high (omega arith)) (within_both 1 1000000 plan.budget budget_low budget_high (omega arith))) refl in
+    (and_from (is_within 2 32 title.pieces) (is_within 1 MOST_BUDGET title.budget) (within_decimal 2 32 plan.pieces low high (omega arith)) (within_decimal 1 1000000 plan.budget budget_low budget_high (omega arith))) refl in
     let so_far : IsTrue (is_right_so_far s) = and_from _ _ (and_from (is_none (title_check title)) (not (is_empty sources)) titled h.1) h.0.right in
     let called : procedure_names sources ≡ names_from 112 0 all = h.0.called in
-    let knows : NoneTrue (unknown_names s) = subst (λ (ns : List (List ℕ)). NoneTrue (false ∷ flat_map (unknown_in ns) sources)) (sym called) (refl, h.0.knows) in
+    let knows : NoneTrue (unknown_names s) = subst (λ (ns : List (List ℕ)). NoneTrue (false ∷ flat_map (unknown_in ns) sources)) (sym called) h.0.knows in
     let back : map (procedure_in (procedure_names sources)) sources ≡ plan.procedures = ap (λ (ns : List (List ℕ)). map (procedure_in ns) sources) called ∙ h.0.back in
     let steps = natural_back plan.budget (omega arith) in
     record {

@@ -1,20 +1,20 @@
 -- What the form of a line tells of it: the plan's line has a name, `pick` few labels, and a raw byte and an
 -- instruction without operands are bytes.
-use Rattle.std.proofs.Common.{◌≡◌, ℕ, suc, ◌+◌, ◌*◌, ◌-◌, ◌≤◌, ◌==◌, List, [], ◌∷◌, ◌++◌, length, map, Bool, true, false, IsTrue, refl, subst, arith, codes, lt-ltb, leb-true}
-use Rattle.std.specs.Prelude.{◌&&◌, ◌||◌, nat_le, nat_lt, Option, Some, None, if◌then◌else◌, slice_index_or}
+use Rattle.std.proofs.Common.{◌≡◌, ℕ, suc, ◌+◌, ◌*◌, ◌-◌, ◌≤◌, ◌==◌, List, [], ◌∷◌, ◌++◌, length, map, Bool, true, false, IsTrue, refl, subst, arith, codes, lt-ltb, leb-true, sym, ◌∙◌, ◌&&◌, ◌||◌, nat_le, nat_lt, Option, Some, None, if◌then◌else◌, slice_index_or}
 use Rattle.std.specs.List.{list_all}
 use Rattle.std.specs.Str.{bytes_eq}
 use Rattle.std.proofs.lemmas.Bool.{and_from, and_parts}
 use Rattle.burr_text.specs.Names.{is_digit}
-use Rattle.burr_voxels.specs.declared.direction.Direction.{Direction}
 use Rattle.burr_code.specs.Instruction.{spelled}
 use Rattle.burr_container.specs.Rules.Fitting.{is_name_text}
-use Rattle.burr_plantext.specs.Rules.Written.{pieces, is_number, is_set, is_form}
 use Rattle.burr_plantext.specs.Rules.Operands.{given, alone, one, two, three, by_word, along, directed, direction_of}
-use Rattle.burr_plantext.specs.Rules.Statements as said
-use Rattle.burr_plantext.specs.Rules.Statements.{Bare, Statement, bares, is_hex_digit, hex_value, raw_byte, bytes_line, offer, operand_words, bare_words, code_words, code_of}
-use Rattle.burr_plantext.specs.Rules.Lines.{Apart, On, Line, PlanLine, ExitLine, ResultLine, LabelLine, FrameLine, SlotLine, GuardLine, StackLine, CostLine, CodeLine, title_line, head_line, procedure_line, at_line, piece_line, line_words, code_line, or_else, line_of}
+use Rattle.burr_plantext.specs.Rules.Statements.{Bare, Statement, bares, is_hex_digit, hex_value, bytes_line, offer, operand_words, bare_words, code_words, code_of}
 use Rattle.burr_plantext.specs.Rules.Texts.{LineRead, Reads, Unread, Broken, is_skipped, read_if, ended_line, unended_line, numbered_from, lines_read}
+use Rattle.burr_voxels.specs.declared.direction.Direction.{Direction}
+use Rattle.burr_plantext.specs.Rules.Written.{is_form, pieces, is_number, is_set}
+use Rattle.burr_plantext.specs.Rules.Statements as said
+use Rattle.burr_plantext.specs.Rules.Lines.{Apart, On, line_words, Line, PlanLine, ExitLine, ResultLine, LabelLine, FrameLine, SlotLine, GuardLine, StackLine, CostLine, CodeLine, title_line, head_line, procedure_line, at_line, piece_line, code_line, or_else, line_of}
+use Rattle.std.proofs.lemmas.List.Folds.{list_all-map}
 
 -- what the form of a line of code tells
 abbrev pub is_said : Statement → Bool
@@ -68,13 +68,7 @@ module _ {A : Type 0} (P : A → Bool) where
     where
       by : (t : Bool) → ((w : List ℕ) → IsTrue t → IsTrue (P (f v w))) → one q (f v) (if t then words else []) ≡ Some x → IsTrue (P x)
       by true h e = one_gives q (f v) (λ w k. h w refl) words x e
-      by false h e = one_gives q (f v) (λ w k. none_else w) [] x e
-        where
-          none_else : (w : List ℕ) → IsTrue (P (f v w))
-          none_else w = absurd (nothing e)
-            where
-              nothing : ◌≡◌ {A = Option A} None (Some x) → ⊥
-              nothing e = cc
+      by false h e = cc
 
   three_gives : (p q r : List ℕ → Bool) (f : List ℕ → List ℕ → List ℕ → A) → ((u v w : List ℕ) → IsTrue (p u) → IsTrue (P (f u v w))) → Gives (three p q r f)
   three_gives p q r f h [] x e = cc
@@ -93,10 +87,6 @@ module _ {A : Type 0} (P : A → Bool) where
   directed_gives f h (w ∷ words) x e = along_gives (direction_of w) f h words x e
 
 -- Raw bytes and offers
-
-or_cases : (a b : Bool) (P : Type 0) → (IsTrue a → P) → (IsTrue b → P) → IsTrue (a || b) → P
-or_cases true b P f g h = f refl
-or_cases false b P f g h = g h
 
 hex_small : (b : ℕ) → IsTrue (is_hex_digit b) → hex_value b ≤ 15
 hex_small b h = by (is_digit b) refl h
@@ -162,31 +152,16 @@ title_gives version h =
     (λ u v w k. and_from (is_name_text u) ((version == 1) || (version == 2)) k h)
 
 lines_give : AllGive is_fine line_words
-lines_give = (
-  title_gives 1 refl,
-  (
-    title_gives 2 refl,
-    (
-      procedure_gives,
-      (
-        two_gives is_fine is_number is_set (λ t s. ExitLine (record { tray = t; set = s })) (λ v w h. refl),
-        (
-          two_gives is_fine is_number is_number (λ l h. ResultLine (record { low = l; high = h })) (λ v w h. refl),
-          (
-            one_gives is_fine is_name_text LabelLine (λ w h. refl),
-            (
-              two_gives is_fine is_number is_set (λ t s. FrameLine (record { tray = t; set = s })) (λ v w h. refl),
-              (
-                three_gives is_fine is_number is_number is_number (λ s l h. SlotLine (record { slot = s; ends = record { low = l; high = h } })) (λ u v w h. refl),
-                (one_gives is_fine is_form GuardLine (λ w h. refl), (one_gives is_fine is_form StackLine (λ w h. refl), (one_gives is_fine is_form CostLine (λ w h. refl), (piece_gives, tt)))),
-              ),
-            ),
-          ),
-        ),
-      ),
-    ),
-  ),
-)
+lines_give =
+    let exit = two_gives is_fine is_number is_set (λ t s. ExitLine (record { tray = t; set = s })) (λ v w h. refl) in
+    let result = two_gives is_fine is_number is_number (λ l h. ResultLine (record { low = l; high = h })) (λ v w h. refl) in
+    let label = one_gives is_fine is_name_text LabelLine (λ w h. refl) in
+    let frame = two_gives is_fine is_number is_set (λ t s. FrameLine (record { tray = t; set = s })) (λ v w h. refl) in
+    let slot = three_gives is_fine is_number is_number is_number (λ s l h. SlotLine (record { slot = s; ends = record { low = l; high = h } })) (λ u v w h. refl) in
+    let guard = one_gives is_fine is_form GuardLine (λ w h. refl) in
+    let stack = one_gives is_fine is_form StackLine (λ w h. refl) in
+    let cost = one_gives is_fine is_form CostLine (λ w h. refl) in
+    (title_gives 1 refl, (title_gives 2 refl, (procedure_gives, (exit, (result, (label, (frame, (slot, (guard, (stack, (cost, (piece_gives, tt))))))))))))
 
 code_line_gives : (o : Option Statement) (x : Line) → ((s : Statement) → o ≡ Some s → IsTrue (is_said s)) → code_line o ≡ Some x → IsTrue (is_fine x)
 code_line_gives None x h e = cc
@@ -235,10 +210,6 @@ numbered_fine n (line ∷ next ∷ more) = by (is_skipped line) (numbered_fine (
     by true h = h
     by false h = and_from (read_fine (ended_line line)) (all_fine (numbered_from (suc n) (next ∷ more))) (read_if_fine (slice_index_or (pieces 32 line) 0 []) (line_of (pieces 32 line)) (line_is_fine (pieces 32 line))) h
 
-fine_lines : (lines : List Line) → IsTrue (list_all read_fine (map Reads lines)) → IsTrue (list_all is_fine lines)
-fine_lines [] h = refl
-fine_lines (l ∷ lines) h = let parts = and_parts (is_fine l) (list_all read_fine (map Reads lines)) h in and_from (is_fine l) (list_all is_fine lines) parts.0 (fine_lines lines parts.1)
-
 -- The lines of a text are of their forms.
 pub text_fine : (text : List ℕ) (lines : List Line) → lines_read text ≡ map Reads lines → IsTrue (list_all is_fine lines)
-text_fine text lines e = fine_lines lines (subst (λ (l : List LineRead). IsTrue (list_all read_fine l)) e (numbered_fine 1 (pieces 10 text)))
+text_fine text lines e = sym (list_all-map read_fine Reads lines) ∙ (subst (λ (l : List LineRead). IsTrue (list_all read_fine l)) e (numbered_fine 1 (pieces 10 text)))

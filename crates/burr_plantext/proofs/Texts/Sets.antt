@@ -1,16 +1,15 @@
 -- Sets as they are listed are read back.
-use Rattle.std.proofs.Common.{◌≡◌, ◌≢◌, ℕ, zero, suc, ◌+◌, ◌*◌, ◌/◌, ◌%◌, ◌^◌, ◌<◌, ◌≤◌, ◌==◌, List, [], ◌∷◌, ◌++◌, length, map, Bool, true, false, not, IsTrue, refl, sym, ap, subst, ◌∙◌, arith, lt-ltb, le-leb, eqb-true, eq-eqb}
-use Rattle.std.specs.Prelude.{◌&&◌, nat_le, nat_lt, codes, if◌then◌else◌}
+use Rattle.std.proofs.Common.{◌≡◌, ◌≢◌, ℕ, zero, suc, ◌+◌, ◌*◌, ◌/◌, ◌%◌, ◌^◌, ◌<◌, ◌≤◌, ◌==◌, List, [], ◌∷◌, ◌++◌, length, map, Bool, true, false, not, IsTrue, refl, sym, ap, subst, ◌∙◌, arith, lt-ltb, le-leb, eqb-true, eq-eqb, ◌&&◌, nat_le, nat_lt, codes, if◌then◌else◌}
 use Rattle.std.specs.List.{list_all, join_with_byte}
 use Rattle.std.specs.Str.{bytes_eq}
 use Rattle.std.specs.Str.Parse.{starts_with_minus}
 use Rattle.std.specs.Fmt.{decimal}
 use Rattle.std.proofs.lemmas.Bool.{and_from}
-use Rattle.std.proofs.Math.Nat.{two-pow-succ, mul-add, add-mul, mul-zero}
-use Rattle.std.proofs.lemmas.Fmt.{decimal_nonempty}
 use Rattle.burr_text.specs.Names.{is_digit}
 use Rattle.burr_plantext.specs.Rules.Written.{pieces, is_number, natural_in, is_below, set_numbers, is_set, are_members, set_of, set_in}
 use Rattle.burr_plantext.specs.Rules.Listing.{members, joined_numbers, set_word}
+use Rattle.std.proofs.Math.Nat.{two-pow-succ, mul-add, add-mul, mul-zero}
+use Rattle.std.proofs.lemmas.Fmt.{decimal_nonempty}
 use Rattle.burr_plantext.proofs.Common.Numbers.{natural_back, decimal_no_minus, number_decimal}
 use Rattle.burr_plantext.proofs.Common.Pieces.{AllLack, not_both, joined_pieces, decimal_lacks}
 
@@ -121,9 +120,6 @@ set_of_members (suc n) p set few small =
     (higher_members p (set / 2) (members (suc p) n (set / 2)) (set_of_members n (suc p) (set / 2) (halved set n few) (omega arith)))
 
 -- Sets
-
-set_small : AreSmall (members 0 32 0)
-set_small = members_small 0 32 0 (omega arith)
 
 pub numbers_of_set : (set : ℕ) → set_numbers (set_word set) ≡ map decimal (members 0 32 set)
 numbers_of_set set = joined_back (members 0 32 set) (members_small 0 32 set (omega arith))

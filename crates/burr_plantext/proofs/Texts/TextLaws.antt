@@ -1,6 +1,5 @@
 -- The laws of plan texts.
-use Rattle.std.proofs.Common.{map, zero, suc, ◌+◌, ◌≤◌, ◌==◌, length, Bool, true, false, [], ◌∷◌, ◌++◌, subst, arith, ◌≡◌, ◌⊎◌, inl, inr, ℕ, List, refl, sym, ap, ◌∙◌}
-use Rattle.std.specs.Prelude.{if◌then◌else◌, slice_index_or, Result, Ok, Err}
+use Rattle.std.proofs.Common.{map, zero, suc, ◌+◌, ◌≤◌, ◌==◌, length, Bool, true, false, [], ◌∷◌, ◌++◌, subst, arith, ◌≡◌, ◌⊎◌, inl, inr, ℕ, List, refl, sym, ap, ◌∙◌, if◌then◌else◌, slice_index_or, Result, Ok, Err}
 use Rattle.burr_container.specs.Rules.Plans.{Plan}
 use Rattle.burr_plantext.specs.Rules.Written.{pieces, parted, in_first}
 use Rattle.burr_plantext.specs.Rules.Sources.{PlanSource}
@@ -16,17 +15,11 @@ use Rattle.burr_plantext.proofs.Texts.Sound.{judged_source}
 pub text_judged : (text : List ℕ) (s : PlanSource) → IsTextOf text s → judgement (lines_read text) ≡ Ok s
 text_judged text s h = ap (λ (lines : List LineRead). judgement lines) h.lines ∙ source_judged s h.right
 
-same_ok : {s t : PlanSource} → ◌≡◌ {A = Result PlanSource PlacedFault} (Ok s) (Ok t) → s ≡ t
-same_ok e = cc
-
 same_err : {f g : PlacedFault} → ◌≡◌ {A = Result PlanSource PlacedFault} (Err f) (Err g) → f ≡ g
 same_err e = cc
 
-not_both : {s : PlanSource} {f : PlacedFault} → ◌≡◌ {A = Result PlanSource PlacedFault} (Ok s) (Err f) → ⊥
-not_both e = cc
-
 pub one_source : (text : List ℕ) (s t : PlanSource) → IsTextOf text s → IsTextOf text t → s ≡ t
-one_source text s t h k = same_ok (sym (text_judged text s h) ∙ text_judged text t k)
+one_source text s t h k = let e = sym (text_judged text s h) ∙ text_judged text t k in cc
 
 pub one_plan : OnePlan
 one_plan text p q (s, h, e) (t, k, f) = e ∙ ap plan_of (one_source text s t h k) ∙ sym f
@@ -42,7 +35,7 @@ fault_or_plan text = by (judgement (lines_read text)) refl
     by (Err f) e = inr (f.0, line_number text f.1, record { place = f.1; found = e; number = refl })
 
 pub no_fault_of_plan : NoFaultOfPlan
-no_fault_of_plan text p kind line (s, h, e) fault = not_both (sym (text_judged text s h) ∙ fault.found)
+no_fault_of_plan text p kind line (s, h, e) fault = let e = sym (text_judged text s h) ∙ fault.found in cc
 
 pub one_fault : OneFault
 one_fault text kind other line next a b =

@@ -1,28 +1,25 @@
 -- Words as they are listed are visible and of their forms, and lines of such words are read again.
-use Rattle.std.proofs.Common.{◌≡◌, ℕ, zero, suc, ◌+◌, ◌^◌, ◌<◌, ◌≤◌, ◌==◌, List, [], ◌∷◌, ◌++◌, length, map, Bool, true, false, IsTrue, refl, ap, ◌∙◌, arith, le-leb, leb-true, eqb-true, ℤ, pos, negsuc}
-use Rattle.std.specs.Prelude.{◌&&◌, ◌||◌, nat_le, Some, if◌then◌else◌, slice_index}
+use Rattle.std.proofs.Common.{◌≡◌, ℕ, zero, suc, ◌+◌, ◌^◌, ◌<◌, ◌≤◌, ◌==◌, List, [], ◌∷◌, ◌++◌, length, map, Bool, true, IsTrue, refl, ap, ◌∙◌, arith, le-leb, leb-true, eqb-true, ℤ, pos, negsuc, ◌&&◌, ◌||◌, nat_le, Some, if◌then◌else◌, slice_index}
 use Rattle.std.specs.List.{list_all, join_with_byte}
 use Rattle.std.specs.Fmt.{decimal, signed_decimal}
-use Rattle.std.proofs.lemmas.Bool.{and_from, and_parts}
-use Rattle.std.proofs.lemmas.Fmt.{length-decimal-le}
+use Rattle.std.proofs.lemmas.Bool.{and_from, and_parts, or_left, or_right}
 use Rattle.burr_text.specs.Names.{is_letter, is_digit, is_name_byte}
 use Rattle.burr_forms.specs.Rules.Forms.{Form}
 use Rattle.burr_container.specs.Rules.Fitting.{is_name_text}
 use Rattle.burr_plantext.specs.Rules.Operands.{given, one, two, three}
 use Rattle.burr_plantext.specs.Rules.Listing.{procedure_name, label_name, members, joined_numbers, set_word, terms_word, form_word}
+use Rattle.std.proofs.lemmas.Fmt.{length-decimal-le}
 use Rattle.burr_plantext.proofs.Common.Numbers.{IsSmall, decimal_digits}
 use Rattle.burr_plantext.proofs.Texts.Sets.{AreSmall, members_small}
 use Rattle.burr_plantext.proofs.Common.Forms.{AllSmall, IsSpelled}
 use Rattle.burr_plantext.proofs.Texts.Formed.{is_visible}
+use Rattle.burr_plantext.proofs.Texts.Tests.{all_both, all_weaker}
+use Rattle.burr_plantext.proofs.Common.ParsedNumbers.{or_cases}
 
 -- Dark words
 
 digits_visible : (w : List ℕ) → IsTrue (list_all is_digit w) → IsTrue (is_visible w)
-digits_visible [] h = refl
-digits_visible (b ∷ w) h =
-    let parts = and_parts (is_digit b) (list_all is_digit w) h in
-    let low = leb-true 48 b (and_parts (nat_le 48 b) (nat_le b 57) parts.0).0 in
-    and_from (nat_le 33 b) (is_visible w) (le-leb 33 b (omega arith)) (digits_visible w parts.1)
+digits_visible = all_weaker is_digit (λ b. nat_le 33 b) (λ b k. le-leb 33 b (let low = leb-true 48 b (and_parts (nat_le 48 b) (nat_le b 57) k).0 in omega arith))
 
 pub visible_decimal : (n : ℕ) → n < 2 ^ 64 → IsTrue (is_visible (decimal n))
 visible_decimal n small = digits_visible (decimal n) (decimal_digits n small)
@@ -31,14 +28,10 @@ pub visible_signed : (z : ℤ) → IsSmall z → IsTrue (is_visible (signed_deci
 visible_signed (pos n) small = visible_decimal n (omega arith)
 visible_signed (negsuc n) small = visible_decimal (suc n) (omega arith)
 
-visible_both : (a b : List ℕ) → IsTrue (is_visible a) → IsTrue (is_visible b) → IsTrue (is_visible (a ++ b))
-visible_both [] b p q = q
-visible_both (x ∷ a) b p q = let parts = and_parts (nat_le 33 x) (is_visible a) p in and_from (nat_le 33 x) (is_visible (a ++ b)) parts.0 (visible_both a b parts.1 q)
-
 visible_join : (words : List (List ℕ)) → IsTrue (list_all is_visible words) → IsTrue (is_visible (join_with_byte 44 words))
 visible_join [] h = refl
 visible_join (w ∷ []) h = (and_parts (is_visible w) true h).0
-visible_join (w ∷ next ∷ words) h = let parts = and_parts (is_visible w) (list_all is_visible (next ∷ words)) h in visible_both w (44 ∷ join_with_byte 44 (next ∷ words)) parts.0 (visible_join (next ∷ words) parts.1)
+visible_join (w ∷ next ∷ words) h = let parts = and_parts (is_visible w) (list_all is_visible (next ∷ words)) h in all_both (λ b. nat_le 33 b) w (44 ∷ join_with_byte 44 (next ∷ words)) parts.0 (visible_join (next ∷ words) parts.1)
 
 visible_numbers : (ns : List ℕ) → AreSmall ns → IsTrue (list_all is_visible (map decimal ns))
 visible_numbers [] h = refl
@@ -52,34 +45,25 @@ pub visible_set : (set : ℕ) → IsTrue (is_visible (set_word set))
 visible_set set = visible_joined (members 0 32 set) (members_small 0 32 set (omega arith))
 
 visible_term : (n slot : ℕ) → n < 2 ^ 64 → slot < 2 ^ 64 → IsTrue (is_visible (decimal n ++ (118 ∷ decimal slot)))
-visible_term n slot small few = visible_both (decimal n) (118 ∷ decimal slot) (visible_decimal n small) (visible_decimal slot few)
+visible_term n slot small few = all_both (λ b. nat_le 33 b) (decimal n) (118 ∷ decimal slot) (visible_decimal n small) (visible_decimal slot few)
 
 visible_terms : (slot : ℕ) (coefs : List ℤ) → AllSmall coefs → slot + length coefs < 2 ^ 64 → IsTrue (is_visible (terms_word slot coefs))
 visible_terms slot [] small few = refl
 visible_terms slot (pos zero ∷ coefs) small few = visible_terms (suc slot) coefs small.1 (omega arith)
 visible_terms slot (pos (suc n) ∷ coefs) small few =
-    visible_both (decimal (suc n) ++ (118 ∷ decimal slot)) (terms_word (suc slot) coefs) (visible_term (suc n) slot (let h : suc n < 2 ^ 63 = small.0 in omega arith) (omega arith)) (visible_terms (suc slot) coefs small.1 (omega arith))
+    all_both (λ b. nat_le 33 b) (decimal (suc n) ++ (118 ∷ decimal slot)) (terms_word (suc slot) coefs) (visible_term (suc n) slot (let h : suc n < 2 ^ 63 = small.0 in omega arith) (omega arith)) (visible_terms (suc slot) coefs small.1 (omega arith))
 visible_terms slot (negsuc n ∷ coefs) small few =
-    visible_both (decimal (suc n) ++ (118 ∷ decimal slot)) (terms_word (suc slot) coefs) (visible_term (suc n) slot (let h : suc n < 2 ^ 63 = small.0 in omega arith) (omega arith)) (visible_terms (suc slot) coefs small.1 (omega arith))
+    all_both (λ b. nat_le 33 b) (decimal (suc n) ++ (118 ∷ decimal slot)) (terms_word (suc slot) coefs) (visible_term (suc n) slot (let h : suc n < 2 ^ 63 = small.0 in omega arith) (omega arith)) (visible_terms (suc slot) coefs small.1 (omega arith))
 
 pub visible_form : (f : Form) → IsSpelled f → IsTrue (is_visible (form_word f))
-visible_form f h = visible_both (signed_decimal f.constant) (terms_word 0 f.coefs) (visible_signed f.constant h.constant) (visible_terms 0 f.coefs h.coefs (let k = h.few in omega arith))
+visible_form f h = all_both (λ b. nat_le 33 b) (signed_decimal f.constant) (terms_word 0 f.coefs) (visible_signed f.constant h.constant) (visible_terms 0 f.coefs h.coefs (let k = h.few in omega arith))
 
 -- Names
 
-or_right : (a b : Bool) → IsTrue b → IsTrue (a || b)
-or_right true b h = refl
-or_right false b h = h
-
-or_left : (a b : Bool) → IsTrue a → IsTrue (a || b)
-or_left true b h = refl
-or_left false b h = grind arith
-
 digits_name : (w : List ℕ) → IsTrue (list_all is_digit w) → IsTrue (list_all is_name_byte w)
-digits_name [] h = refl
-digits_name (b ∷ w) h =
-    let parts = and_parts (is_digit b) (list_all is_digit w) h in
-    and_from (is_name_byte b) (list_all is_name_byte w) (or_left (is_letter b || is_digit b || (b == 95)) (b == 45) (or_left (is_letter b || is_digit b) (b == 95) (or_right (is_letter b) (is_digit b) parts.0))) (digits_name w parts.1)
+digits_name =
+    all_weaker is_digit is_name_byte
+    (λ b k. or_left (is_letter b || is_digit b || (b == 95)) (b == 45) (or_left (is_letter b || is_digit b) (b == 95) (or_right (is_letter b) (is_digit b) k)))
 
 numbered_name : (letter n : ℕ) → IsTrue (is_letter letter) → n < 10 ^ 8 → IsTrue (is_name_text (letter ∷ decimal n))
 numbered_name letter n is few =
@@ -99,11 +83,6 @@ procedure_name_is n few = numbered_name 112 n refl few
 pub visible_label : (n : ℕ) → n < 10 ^ 8 → IsTrue (is_visible (label_name n))
 visible_label n few = visible_decimal n (omega arith)
 
--- a byte of a name is visible
-or_cases : (a b : Bool) (P : Type 0) → (IsTrue a → P) → (IsTrue b → P) → IsTrue (a || b) → P
-or_cases true b P f g h = f refl
-or_cases false b P f g h = g h
-
 name_byte_visible : (b : ℕ) → IsTrue (is_name_byte b) → 33 ≤ b
 name_byte_visible b h =
     or_cases (is_letter b || is_digit b || (b == 95)) (b == 45) (33 ≤ b)
@@ -116,14 +95,8 @@ name_byte_visible b h =
     (λ e. let same = eqb-true b 95 e in omega (arith, same)))
     (λ e. let same = eqb-true b 45 e in omega (arith, same)) h
 
-name_bytes_visible : (w : List ℕ) → IsTrue (list_all is_name_byte w) → IsTrue (is_visible w)
-name_bytes_visible [] h = refl
-name_bytes_visible (b ∷ w) h =
-    let parts = and_parts (is_name_byte b) (list_all is_name_byte w) h in
-    and_from (nat_le 33 b) (is_visible w) (le-leb 33 b (name_byte_visible b parts.0)) (name_bytes_visible w parts.1)
-
 pub visible_name : (w : List ℕ) → IsTrue (is_name_text w) → IsTrue (is_visible w)
-visible_name w h = name_bytes_visible w (and_parts (is_letter (slice_index w 0)) (list_all is_name_byte w) (and_parts (is_letter (slice_index w 0) && list_all is_name_byte w) (nat_le (length w) 32) h).0).1
+visible_name w h = all_weaker is_name_byte (λ b. nat_le 33 b) (λ b k. le-leb 33 b (name_byte_visible b k)) w (and_parts (is_letter (slice_index w 0)) (list_all is_name_byte w) (and_parts (is_letter (slice_index w 0) && list_all is_name_byte w) (nat_le (length w) 32) h).0).1
 
 -- Operands that are given
 

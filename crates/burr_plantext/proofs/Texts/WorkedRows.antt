@@ -1,24 +1,24 @@
 -- Worked rows of the definitions: texts with their plans and their faults, and a listing.
-use Rattle.std.proofs.Common.{◌≡◌, ℕ, List, [], ◌∷◌, ◌++◌, codes, refl, pos, neg_ℤ, ℤ, inl, inr, replicate, map, flat_map, suc, ◌+◌, ◌^◌, IsTrue, arith}
-use Rattle.std.specs.Prelude.{Option, Some, None, Result, Ok, Err}
-use Rattle.std.specs.Fmt.{digits}
-use Rattle.burr_text.proofs.Common.Cuts.{same_head, same_tail}
-use Rattle.burr_code.specs.Instruction as code
+use Rattle.std.proofs.Common.{◌≡◌, ℕ, List, [], ◌∷◌, ◌++◌, codes, refl, pos, neg_ℤ, ℤ, inl, inr, replicate, map, flat_map, suc, ◌+◌, ◌^◌, IsTrue, arith, Option, Some, None, Result, Ok, Err, sym, ap, ◌∙◌}
 use Rattle.burr_code.specs.Instruction.{Instruction, Begins, spelled}
-use Rattle.burr_voxels.specs.declared.direction.Direction.TheVariants.{MinusX, PlusY}
 use Rattle.burr_code.specs.declared.placement.Placement.{Placement}
-use Rattle.burr_code.specs.declared.placement.Placement.TheVariants.{On}
 use Rattle.burr_forms.specs.Rules.Forms.{Form}
 use Rattle.burr_container.specs.Rules.Plans.{Range, FormCell, Frame, PlanProcedure, Plan}
 use Rattle.burr_plantext.specs.Rules.Statements.{Statement, Push, Byte}
 use Rattle.burr_plantext.specs.Rules.Lines.{ProcedureWords}
 use Rattle.burr_plantext.specs.Rules.Sources.{Block, ProcedureSource, PlanSource}
 use Rattle.burr_plantext.specs.Rules.Meaning.{plan_of}
-use Rattle.burr_plantext.specs.Rules.Texts.{StandsFor, lines_read}
-use Rattle.burr_plantext.specs.Rules.Checks.{P1, P2, P3, P4, P5}
-use Rattle.burr_plantext.specs.Rules.Faults.{PlacedFault, HasFault, judgement}
+use Rattle.burr_plantext.specs.Rules.Texts.{StandsFor, lines_read, line_number}
+use Rattle.burr_plantext.specs.Rules.Checks.{FaultKind, P1, P2, P3, P4, P5}
+use Rattle.burr_plantext.specs.Rules.Faults.{PlacedFault, judgement, HasFault}
 use Rattle.burr_container.specs.Rules.Fitting.{is_fitting}
 use Rattle.burr_plantext.specs.Rules.Listing.{IsListing, MayBeListed, IsCodeListed, frame_listed, exit_listed, instruction_listed, title_of, head_of, label_name}
+use Rattle.std.specs.Fmt.{digits}
+use Rattle.burr_text.proofs.Common.Cuts.{same_head, same_tail}
+use Rattle.burr_code.specs.Instruction as code
+use Rattle.burr_voxels.specs.declared.direction.Direction.TheVariants.{MinusX, PlusY}
+use Rattle.burr_code.specs.declared.placement.Placement.TheVariants.{On}
+use Rattle.std.proofs.lemmas.Option.{same_Some}
 
 -- Plans
 
@@ -147,143 +147,93 @@ lift_exit = refl
 
 -- Faults
 
-without_first_label : HasFault (codes "plan ring 2 11\nproc main 0\nframe 0 -\ncost 11\nat 0 0 0 0 0\nat 1 0 0 0 0\ngrip 0\npush 2\nstore 0\nlabel L\nframe 0 0\nslot 0 0 2\ncost 4+2v0\nat 0 0 0 0 2-1v0\nat 1 0 0 0 0\nstep +z\ndown 0 L\naside +z 1\nhalt\n") P5 3
-without_first_label = record { place = 2; found = refl; number = refl }
+abbrev fault_of : List ℕ → Result PlanSource PlacedFault → Option (FaultKind × ℕ)
+fault_of text (Ok s) = None
+fault_of text (Err found) = Some (found.0, line_number text found.1)
 
-cut_behind_label : HasFault (codes "plan ring 2 11\nproc main 0\nlabel start\nframe 0 -\ncost 11\nat 0 0 0 0 0\nat 1 0 0 0 0\ngrip 0\npush 2\nstore 0\nlabel L\n") P5 12
-cut_behind_label = record { place = 11; found = refl; number = refl }
+found : (text : List ℕ) (kind : FaultKind) (line : ℕ) → fault_of text (judgement (lines_read text)) ≡ Some (kind, line) → HasFault text kind line
+found text kind line e = by (judgement (lines_read text)) refl e
+  where
+    by : (r : Result PlanSource PlacedFault) → judgement (lines_read text) ≡ r → fault_of text r ≡ Some (kind, line) → HasFault text kind line
+    by (Ok s) is e = cc
+    by (Err fault) is e =
+        let same = same_Some (fault.0, line_number text fault.1) (kind, line) e in
+        record { place = fault.1; found = is ∙ ap (λ (f : FaultKind × ℕ). Err (f.0, fault.1)) same; number = sym (ap (λ (f : FaultKind × ℕ). f.1) same) }
 
-dead_slot : HasFault (codes "plan ring 2 11\nproc main 0\nlabel start\nframe 0 -\ncost 11\nat 0 0 0 0 0\nat 1 0 0 0 0\ngrip 0\npush 2\nstore 0\nlabel L\nframe 0 0\nslot 0 0 2\ncost 4+2v1\nat 0 0 0 0 2-1v0\nat 1 0 0 0 0\nstep +z\ndown 0 L\naside +z 1\nhalt\n") P3 14
-dead_slot = record { place = 13; found = refl; number = refl }
+-- each text has its fault, at the line of its number
+abbrev AreFaults : List (List ℕ × FaultKind × ℕ) → Type 0
+AreFaults [] = Unit {0}
+AreFaults (row ∷ rows) = HasFault row.0 row.1 row.2 × AreFaults rows
 
-unknown_label : HasFault (codes "plan ring 2 11\nproc main 0\nlabel start\nframe 0 -\ncost 11\nat 0 0 0 0 0\nat 1 0 0 0 0\ngrip 0\npush 2\nstore 0\nlabel L\nframe 0 0\nslot 0 0 2\ncost 4+2v0\nat 0 0 0 0 2-1v0\nat 1 0 0 0 0\nstep +z\ndown 0 M\naside +z 1\nhalt\n") P2 18
-unknown_label = record { place = 17; found = refl; number = refl }
+-- a part that is due, or that may not stand there
+part_faults : AreFaults (
+    (codes "plan ring 2 11\nproc main 0\nframe 0 -\ncost 11\nat 0 0 0 0 0\nat 1 0 0 0 0\ngrip 0\npush 2\nstore 0\nlabel L\nframe 0 0\nslot 0 0 2\ncost 4+2v0\nat 0 0 0 0 2-1v0\nat 1 0 0 0 0\nstep +z\ndown 0 L\naside +z 1\nhalt\n", P5, 3)  -- without first label
+    ∷ (codes "plan ring 2 11\nproc main 0\nlabel start\nframe 0 -\ncost 11\nat 0 0 0 0 0\nat 1 0 0 0 0\ngrip 0\npush 2\nstore 0\nlabel L\n", P5, 12)  -- cut behind label
+    ∷ (codes "plan ring 2 11\nproc main 0\nlabel start\nfram 0 -\ncost 11\nat 0 0 0 0 0\nat 1 0 0 0 0\ngrip 0\npush 2\nstore 0\nlabel L\nframe 0 0\nslot 0 0 2\ncost 4+2v0\nat 0 0 0 0 2-1v0\nat 1 0 0 0 0\nstep +z\ndown 0 L\naside +z 1\nhalt\n", P5, 4)  -- no frame
+    ∷ (codes "plan ring 2 11\nproc main 0\nlabel start\n frame 0 -\ncost 11\nat 0 0 0 0 0\nat 1 0 0 0 0\ngrip 0\npush 2\nstore 0\nlabel L\nframe 0 0\nslot 0 0 2\ncost 4+2v0\nat 0 0 0 0 2-1v0\nat 1 0 0 0 0\nstep +z\ndown 0 L\naside +z 1\nhalt\n", P5, 4)  -- blank before frame
+    ∷ (codes "plan ring 2 11\nproc main 0\nlabel start\nframe 0 -\ncost 11\nat 0 0 0 0 0\nat 1 0 0 0 0\ngrip 0\npush 2\nstore 0\nlabel L\nframe 0 0\nslot 0 0 2\ncost 4+2v0\nat 0 0 0 0 2-1v0\nat 1 0 0 0 0\nstep +z\ndown 0 L\naside +z 1\nhalt\nlabel M\nframe 0 -\ncost 1\nat 0 apart\nat 1 apart\n", P4, 21)  -- label at end
+    ∷ (codes "plan ring 2 11\nproc main 0\nlabel start\nframe 0 -\ncost 11\nat 0 0 0 0 0\nat 1 0 0 0 0\ngrip 0\npush 2\nstore 0\nlabel L\nframe 0 0\nslot 0 0 2\ncost 4+2v0\nat 0 0 0 0 2-1v0\nat 1 0 0 0 0\nstep +z\ndown 0 L\naside +z 1\nhalt\nlabel M\nframe 0 -\ncost 1\nat 0 apart\nat 1 apart\nproc main 9\n", P4, 21)  -- label at procedure
+    ∷ (codes "plan ring 2 11\nproc main 0\nlabel start\nframe 0 -\ncost 11\nat 0 0 0 0 0\nat 1 0 0 0 0\ngrip 0\npush 2\nstore 0\nlabel L\nframe 0 0\nslot 0 0 2\ncost 4+2v0\nat 0 0 0 0 2-1v0\nat 1 0 0 0 0\nstep +z\ndown 0 L\naside +z 1\nhalt\nlabel M\nframe 0 -\ncost 1\nat 0 apart\nat 1 apart\nproc main x\n", P1, 26)  -- no label seen
+    ∷ (codes "plan ring 2 11\nproc main 0\nexit 0 -\nframe 0 -\ncost 11\nat 0 0 0 0 0\nat 1 0 0 0 0\ngrip 0\npush 2\nstore 0\nlabel L\nframe 0 0\nslot 0 0 2\ncost 4+2v0\nat 0 0 0 0 2-1v0\nat 1 0 0 0 0\nstep +z\ndown 0 L\naside +z 1\nhalt\n", P5, 3)  -- exit of main
+    ∷ (codes "plan ring 2 11\nproc main 0\nlabel start\nframe 0 -\ncost 11\nat 0 0 0 0 0\nat 1 0 0 0 0\ngrip 0\npush 2\nstore 0\nlabel L\nframe 0 0\nslot 0 0 2\ncost 4+2v0\nat 0 0 0 0 2-1v0\nat 1 0 0 0 0\nstep +z\ndown 0 L\naside +z 1\nlabel M\nframe 0 -\ncost 1\nat 0 apart\nat 1 apart\nlabel N\n", P4, 25)  -- labels at one place
+    ∷ (codes "plan ring 2 11\nproc main 0\nlabel start\nframe 0 -\ncost 11\nat 0 0 0 0 0\nat 1 0 0 0 0\ngrip 0\npush 2\nstore 0\nlabel L\nframe 0 0\nslot 0 0 2\n", P1, 14)  -- ends in a frame
+    ∷ (codes "plan ring 2 11\nproc main 0\nlabel start\nfram 0 -", P5, 4)  -- unended wrong word
+    ∷ (codes "plan ring 2 11\nproc main 0\nlabel start\nframe 0 -", P1, 4)  -- unended frame
+    ∷ (codes "plan ring 2 11\nproc main 0\nlabel start\nframe 0 -\ncost 11\nat 0 0 0 0 0\nat 1 0 0 0 0\ngrip 0\npush 2\nstore 0\nlabel L\nframe 0 0\nslot 0 0 2\ncost 4+2v0\nat 0 0 0 0 2-1v0\nat 1 0 0 0 0\nstep +z\ndown 0 M\naside +z 1\nhalt\nlabel N\nframe 0 -\ncost 1\nat 0 apart\nat 1 apart\n", P4, 21)  -- unknown before label at end
+    ∷ (codes "", P1, 1)  -- empty text
+    ∷ []
+    )
+part_faults = (found _ _ _ refl, (found _ _ _ refl, (found _ _ _ refl, (found _ _ _ refl, (found _ _ _ refl, (found _ _ _ refl, (found _ _ _ refl, (found _ _ _ refl, (found _ _ _ refl, (found _ _ _ refl, (found _ _ _ refl, (found _ _ _ refl, (found _ _ _ refl, (found _ _ _ refl, tt))))))))))))))
 
-malformed_frame : HasFault (codes "plan ring 2 11\nproc main 0\nlabel start\nframe 0\ncost 11\nat 0 0 0 0 0\nat 1 0 0 0 0\ngrip 0\npush 2\nstore 0\nlabel L\nframe 0 0\nslot 0 0 2\ncost 4+2v0\nat 0 0 0 0 2-1v0\nat 1 0 0 0 0\nstep +z\ndown 0 L\naside +z 1\nhalt\n") P1 4
-malformed_frame = record { place = 3; found = refl; number = refl }
+-- names and numbers
+number_faults : AreFaults (
+    (codes "plan ring 2 11\nproc main 0\nlabel start\nframe 0 -\ncost 11\nat 0 0 0 0 0\nat 1 0 0 0 0\ngrip 0\npush 2\nstore 0\nlabel L\nframe 0 0\nslot 0 0 2\ncost 4+2v1\nat 0 0 0 0 2-1v0\nat 1 0 0 0 0\nstep +z\ndown 0 L\naside +z 1\nhalt\n", P3, 14)  -- dead slot
+    ∷ (codes "plan ring 2 11\nproc main 0\nlabel start\nframe 0 -\ncost 11\nat 0 0 0 0 0\nat 1 0 0 0 0\ngrip 0\npush 2\nstore 0\nlabel L\nframe 0 0\nslot 0 0 2\ncost 4+2v0\nat 0 0 0 0 2-1v0\nat 1 0 0 0 0\nstep +z\ndown 0 M\naside +z 1\nhalt\n", P2, 18)  -- unknown label
+    ∷ (codes "; a plan\n\nplan ring 2 11\nproc main 0\nlabel start\nframe 0 -\ncost 11\nat 0 0 0 0 0\nat 1 0 0 0 0\ngrip 0\npush 2\nstore 0\nlabel L\nframe 0 0\nslot 0 0 2\ncost 4+2v0\nat 0 0 0 0 2-1v0\nat 1 0 0 0 0\nstep +z\n\ndown 0 M\n; no M\naside +z 1\nhalt\n", P2, 21)  -- skipped lines
+    ∷ (codes "plan ring 2 11\nproc main 0\nlabel start\nframe 0 -\ncost 11\nat 0 0 0 0 0\nat 1 0 0 0 0\ngrip 0\npush 2\nstore 0\nlabel start\nframe 0 0\nslot 0 0 2\ncost 4+2v0\nat 0 0 0 0 2-1v0\nat 1 0 0 0 0\nstep +z\ndown 0 L\naside +z 1\nhalt\n", P2, 11)  -- repeated label
+    ∷ (codes "plan ring 2 11\nproc main 0\nlabel start\nframe 0 -\ncost 11\nat 0 0 0 0 0\nat 1 0 0 0 0\ngrip 1,0\npush 2\nstore 0\nlabel L\nframe 0 0\nslot 0 0 2\ncost 4+2v0\nat 0 0 0 0 2-1v0\nat 1 0 0 0 0\nstep +z\ndown 0 L\naside +z 1\nhalt\n", P3, 8)  -- falling set
+    ∷ (codes "plan ring 2 11\nproc main 0\nlabel start\nframe 0 -\ncost 11\nat 0 0 0 0 0\nat 1 0 0 0 0\ngrip 0\npush 99999999999999999999999999999999999999999999999999999999999999999999999999\nstore 0\nlabel L\nframe 0 0\nslot 0 0 2\ncost 4+2v0\nat 0 0 0 0 2-1v0\nat 1 0 0 0 0\nstep +z\ndown 0 L\naside +z 1\nhalt\n", P3, 9)  -- large number
+    ∷ (codes "plan ring 2 11\nproc main 0\nlabel start\nframe 0 -1\ncost 11\nat 0 0 0 0 0\nat 1 0 0 0 0\ngrip 0\npush 2\nstore 0\nlabel L\nframe 0 0\nslot 0 0 2\ncost 4+2v0\nat 0 0 0 0 2-1v0\nat 1 0 0 0 0\nstep +z\ndown 0 L\naside +z 1\nhalt\n", P3, 4)  -- negative in set
+    ∷ (codes "plan ring 2 11\nproc main 1\nlabel start\nframe 0 -\ncost 11\nat 0 0 0 0 0\nat 1 0 0 0 0\ngrip 0\npush 2\nstore 0\nlabel L\nframe 0 0\nslot 0 0 2\ncost 4+2v0\nat 0 0 0 0 2-1v0\nat 1 0 0 0 0\nstep +z\ndown 0 L\naside +z 1\nhalt\n", P3, 2)  -- parameters of main
+    ∷ (codes "plan ring 2 11\nproc main 0\nlabel start\nframe 0 -\ncost 11\nat 0 0 0 0 0\nat 1 0 0 0 0\ngrip 0\npush 2\nstore 0\nlabel L\nframe 0 0\nslot 0 2 0\ncost 4+2v0\nat 0 0 0 0 2-1v0\nat 1 0 0 0 0\nstep +z\ndown 0 L\naside +z 1\nhalt\n", P3, 13)  -- low above high
+    ∷ (codes "plan ring 2 1000001\nproc main 0\nlabel start\nframe 0 -\ncost 11\nat 0 0 0 0 0\nat 1 0 0 0 0\ngrip 0\npush 2\nstore 0\nlabel L\nframe 0 0\nslot 0 0 2\ncost 4+2v0\nat 0 0 0 0 2-1v0\nat 1 0 0 0 0\nstep +z\ndown 0 L\naside +z 1\nhalt\n", P3, 1)  -- large budget
+    ∷ []
+    )
+number_faults = (found _ _ _ refl, (found _ _ _ refl, (found _ _ _ refl, (found _ _ _ refl, (found _ _ _ refl, (found _ _ _ refl, (found _ _ _ refl, (found _ _ _ refl, (found _ _ _ refl, (found _ _ _ refl, tt))))))))))
 
-no_frame : HasFault (codes "plan ring 2 11\nproc main 0\nlabel start\nfram 0 -\ncost 11\nat 0 0 0 0 0\nat 1 0 0 0 0\ngrip 0\npush 2\nstore 0\nlabel L\nframe 0 0\nslot 0 0 2\ncost 4+2v0\nat 0 0 0 0 2-1v0\nat 1 0 0 0 0\nstep +z\ndown 0 L\naside +z 1\nhalt\n") P5 4
-no_frame = record { place = 3; found = refl; number = refl }
+-- the words of a line
+word_faults : AreFaults (
+    (codes "plan ring 2 11\nproc main 0\nlabel start\nframe 0\ncost 11\nat 0 0 0 0 0\nat 1 0 0 0 0\ngrip 0\npush 2\nstore 0\nlabel L\nframe 0 0\nslot 0 0 2\ncost 4+2v0\nat 0 0 0 0 2-1v0\nat 1 0 0 0 0\nstep +z\ndown 0 L\naside +z 1\nhalt\n", P1, 4)  -- malformed frame
+    ∷ (codes "plan ring 2 11\nproc main 0\nlabel start\nframe 0 -\ncost 11\nat 0 0 0 0 0\nat 1 0 0 0 0\ngrip 0\npush 2\nstore 0\nlabel L\nframe 0 0\nslot 0 0 2\ncost 4+2v0\nat 0 0 0 0 2-1v0\nat 1 0 0 0 0\nstep +z\ndown 0 L\naside +z 1\nhalt", P1, 20)  -- without last end
+    ∷ (codes "plan ring 2 11\nproc main 0\nlabel start\n; here", P1, 4)  -- comment without end
+    ∷ (codes "plan ring 2 11\nproc main 0\nlabel start\nframe 0 -\ncost 11\nat 1 0 0 0 0\nat 1 0 0 0 0\ngrip 0\npush 2\nstore 0\nlabel L\nframe 0 0\nslot 0 0 2\ncost 4+2v0\nat 0 0 0 0 2-1v0\nat 1 0 0 0 0\nstep +z\ndown 0 L\naside +z 1\nhalt\n", P1, 6)  -- wrong piece
+    ∷ (codes "plan ring 2 11\nproc main 0\nlabel start\nframe 0 -\ncost 11\nat 0 0 0 0 0\nat 1 0 0 0 0\ngrip 0\npush 2\nstore 0\nlabel L\nframe 0 0\nslot 0 0 2\ncost 4+0v0\nat 0 0 0 0 2-1v0\nat 1 0 0 0 0\nstep +z\ndown 0 L\naside +z 1\nhalt\n", P1, 14)  -- no count
+    ∷ (codes "plan ring 2 11\nproc main 0 0\nlabel start\nframe 0 -\ncost 11\nat 0 0 0 0 0\nat 1 0 0 0 0\ngrip 0\npush 2\nstore 0\nlabel L\nframe 0 0\nslot 0 0 2\ncost 4+2v0\nat 0 0 0 0 2-1v0\nat 1 0 0 0 0\nstep +z\ndown 0 L\naside +z 1\nhalt\n", P1, 2)  -- results in version 1
+    ∷ (codes "plan ring 2 11\nproc main 0\nlabel start\nframe 0 0,\ncost 11\nat 0 0 0 0 0\nat 1 0 0 0 0\ngrip 0\npush 2\nstore 0\nlabel L\nframe 0 0\nslot 0 0 2\ncost 4+2v0\nat 0 0 0 0 2-1v0\nat 1 0 0 0 0\nstep +z\ndown 0 L\naside +z 1\nhalt\n", P1, 4)  -- empty in set
+    ∷ (codes "plan ring 2 11\nproc main 0\nlabel start\nframe 0 -\ncost 11\nat 0 0 0 0 0\nat 1 0 0 0 0\ngrip 0\npush 2\nstore 0\nlabel L\nframe 0 0\nslot 0 0 2\ncost 1+1v-1\nat 0 0 0 0 2-1v0\nat 1 0 0 0 0\nstep +z\ndown 0 L\naside +z 1\nhalt\n", P1, 14)  -- slot without digits
+    ∷ (codes "plan ring 2 11\nproc main 0\nlabel start\nframe 0 -\ncost 11\nat 0 0 0 0 0\nat 1 0 0 0 0\ngrip 0\npush 2\nstore 0\nlabel L\nframe 0 0\nslot 0 0 2\ncost 1+1v01\nat 0 0 0 0 2-1v0\nat 1 0 0 0 0\nstep +z\ndown 0 L\naside +z 1\nhalt\n", P1, 14)  -- slot with zero
+    ∷ (codes "plan ring 2 11\nproc main 0\nlabel start\nframe 0 -\ncost 11\nat 0 0 0 0 0\nat 1 0 0 0 0\ngrip 0\npush 2\nstore 0\nlabel L\nframe 0 0\nslot 0 0 2\ncost 4+2v0\nat 0 0 0 0 2-1v0\nat 1 0 0 0 0\nstep +z\npick L\naside +z 1\nhalt\n", P1, 18)  -- one offered
+    ∷ (codes "plan ring 2 11\nproc main 0\nlabel start\nframe 0 -\ncost 11\nat 0 0 0 0 0\nat 1 0 0 0 0\ngrip 0\npush 2\nstore 0\nlabel L\nframe 0 0\nslot 0 0 2\ncost 4+2v0\nat 0 0 0 0 2-1v0\nat 1 0 0 0 0\nstep +z\ndown 0 L\naside +z 1\nhalt\nproc q 0\nexit 0 -\nguard 0\n", P1, 23)  -- exit guard in version 1
+    ∷ (codes "plan ring 2 11\nproc main 0\nlabel start\nframe 0 -\ncost 11\nat 0 0 0 0 0\nat 1 0 0 0 0\ngrip 0\npush 2\nstore 0\nlabel L\nframe 0 0\nslot 0 0 2\ncost 4+2v0\nat 0 0 0 0 2-1v0\nat 1 0 0 0 0\nstep +z\ndown 0 L\naside +z 1\nbyte 0A\n", P1, 20)  -- upper case byte
+    ∷ []
+    )
+word_faults = (found _ _ _ refl, (found _ _ _ refl, (found _ _ _ refl, (found _ _ _ refl, (found _ _ _ refl, (found _ _ _ refl, (found _ _ _ refl, (found _ _ _ refl, (found _ _ _ refl, (found _ _ _ refl, (found _ _ _ refl, (found _ _ _ refl, tt))))))))))))
 
-blank_before_frame : HasFault (codes "plan ring 2 11\nproc main 0\nlabel start\n frame 0 -\ncost 11\nat 0 0 0 0 0\nat 1 0 0 0 0\ngrip 0\npush 2\nstore 0\nlabel L\nframe 0 0\nslot 0 0 2\ncost 4+2v0\nat 0 0 0 0 2-1v0\nat 1 0 0 0 0\nstep +z\ndown 0 L\naside +z 1\nhalt\n") P5 4
-blank_before_frame = record { place = 3; found = refl; number = refl }
-
-label_at_end : HasFault (codes "plan ring 2 11\nproc main 0\nlabel start\nframe 0 -\ncost 11\nat 0 0 0 0 0\nat 1 0 0 0 0\ngrip 0\npush 2\nstore 0\nlabel L\nframe 0 0\nslot 0 0 2\ncost 4+2v0\nat 0 0 0 0 2-1v0\nat 1 0 0 0 0\nstep +z\ndown 0 L\naside +z 1\nhalt\nlabel M\nframe 0 -\ncost 1\nat 0 apart\nat 1 apart\n") P4 21
-label_at_end = record { place = 20; found = refl; number = refl }
-
-label_at_procedure : HasFault (codes "plan ring 2 11\nproc main 0\nlabel start\nframe 0 -\ncost 11\nat 0 0 0 0 0\nat 1 0 0 0 0\ngrip 0\npush 2\nstore 0\nlabel L\nframe 0 0\nslot 0 0 2\ncost 4+2v0\nat 0 0 0 0 2-1v0\nat 1 0 0 0 0\nstep +z\ndown 0 L\naside +z 1\nhalt\nlabel M\nframe 0 -\ncost 1\nat 0 apart\nat 1 apart\nproc main 9\n") P4 21
-label_at_procedure = record { place = 20; found = refl; number = refl }
-
-no_label_seen : HasFault (codes "plan ring 2 11\nproc main 0\nlabel start\nframe 0 -\ncost 11\nat 0 0 0 0 0\nat 1 0 0 0 0\ngrip 0\npush 2\nstore 0\nlabel L\nframe 0 0\nslot 0 0 2\ncost 4+2v0\nat 0 0 0 0 2-1v0\nat 1 0 0 0 0\nstep +z\ndown 0 L\naside +z 1\nhalt\nlabel M\nframe 0 -\ncost 1\nat 0 apart\nat 1 apart\nproc main x\n") P1 26
-no_label_seen = record { place = 25; found = refl; number = refl }
-
-without_last_end : HasFault (codes "plan ring 2 11\nproc main 0\nlabel start\nframe 0 -\ncost 11\nat 0 0 0 0 0\nat 1 0 0 0 0\ngrip 0\npush 2\nstore 0\nlabel L\nframe 0 0\nslot 0 0 2\ncost 4+2v0\nat 0 0 0 0 2-1v0\nat 1 0 0 0 0\nstep +z\ndown 0 L\naside +z 1\nhalt") P1 20
-without_last_end = record { place = 19; found = refl; number = refl }
-
-comment_without_end : HasFault (codes "plan ring 2 11\nproc main 0\nlabel start\n; here") P1 4
-comment_without_end = record { place = 3; found = refl; number = refl }
-
-skipped_lines : HasFault (codes "; a plan\n\nplan ring 2 11\nproc main 0\nlabel start\nframe 0 -\ncost 11\nat 0 0 0 0 0\nat 1 0 0 0 0\ngrip 0\npush 2\nstore 0\nlabel L\nframe 0 0\nslot 0 0 2\ncost 4+2v0\nat 0 0 0 0 2-1v0\nat 1 0 0 0 0\nstep +z\n\ndown 0 M\n; no M\naside +z 1\nhalt\n") P2 21
-skipped_lines = record { place = 17; found = refl; number = refl }
-
-repeated_label : HasFault (codes "plan ring 2 11\nproc main 0\nlabel start\nframe 0 -\ncost 11\nat 0 0 0 0 0\nat 1 0 0 0 0\ngrip 0\npush 2\nstore 0\nlabel start\nframe 0 0\nslot 0 0 2\ncost 4+2v0\nat 0 0 0 0 2-1v0\nat 1 0 0 0 0\nstep +z\ndown 0 L\naside +z 1\nhalt\n") P2 11
-repeated_label = record { place = 10; found = refl; number = refl }
-
-wrong_piece : HasFault (codes "plan ring 2 11\nproc main 0\nlabel start\nframe 0 -\ncost 11\nat 1 0 0 0 0\nat 1 0 0 0 0\ngrip 0\npush 2\nstore 0\nlabel L\nframe 0 0\nslot 0 0 2\ncost 4+2v0\nat 0 0 0 0 2-1v0\nat 1 0 0 0 0\nstep +z\ndown 0 L\naside +z 1\nhalt\n") P1 6
-wrong_piece = record { place = 5; found = refl; number = refl }
-
-falling_set : HasFault (codes "plan ring 2 11\nproc main 0\nlabel start\nframe 0 -\ncost 11\nat 0 0 0 0 0\nat 1 0 0 0 0\ngrip 1,0\npush 2\nstore 0\nlabel L\nframe 0 0\nslot 0 0 2\ncost 4+2v0\nat 0 0 0 0 2-1v0\nat 1 0 0 0 0\nstep +z\ndown 0 L\naside +z 1\nhalt\n") P3 8
-falling_set = record { place = 7; found = refl; number = refl }
-
-no_count : HasFault (codes "plan ring 2 11\nproc main 0\nlabel start\nframe 0 -\ncost 11\nat 0 0 0 0 0\nat 1 0 0 0 0\ngrip 0\npush 2\nstore 0\nlabel L\nframe 0 0\nslot 0 0 2\ncost 4+0v0\nat 0 0 0 0 2-1v0\nat 1 0 0 0 0\nstep +z\ndown 0 L\naside +z 1\nhalt\n") P1 14
-no_count = record { place = 13; found = refl; number = refl }
-
-large_number : HasFault (codes "plan ring 2 11\nproc main 0\nlabel start\nframe 0 -\ncost 11\nat 0 0 0 0 0\nat 1 0 0 0 0\ngrip 0\npush 99999999999999999999999999999999999999999999999999999999999999999999999999\nstore 0\nlabel L\nframe 0 0\nslot 0 0 2\ncost 4+2v0\nat 0 0 0 0 2-1v0\nat 1 0 0 0 0\nstep +z\ndown 0 L\naside +z 1\nhalt\n") P3 9
-large_number = record { place = 8; found = refl; number = refl }
-
-many_results : HasFault (codes "plan2 cup 2 18\nproc main 0 0\nlabel start\nframe 0 -\ncost 18\nat 0 0 0 0 0\nat 1 0 0 0 0\ngrip 0\ncall lift\ndrop\naside +z 1\nhalt\nproc lift 0 3\nexit 0 0\nresult 0 2\nat 0 0 0 0 0+1v0\nat 1 0 0 0 0\nlabel start\nframe 0 0\ncost 13\nat 0 0 0 0 0\nat 1 0 0 0 0\nask 0 2\nstore 0\nload 0\nstore 1\nlabel L\nframe 0 0\nslot 0 0 2\nslot 1 0 2\nguard 0+1v0-1v1\ncost 3+3v1\nat 0 0 0 0 0+1v0-1v1\nat 1 0 0 0 0\ndown 1 M\nload 0\nret\nlabel M\nframe 0 0\nslot 0 0 2\nslot 1 0 1\nguard -1+1v0-1v1\ncost 5+3v1\nat 0 0 0 0 -1+1v0-1v1\nat 1 0 0 0 0\nstep +z\njump L\n") P3 13
-many_results = record { place = 12; found = refl; number = refl }
-
-main_with_results : HasFault (codes "plan2 cup 2 18\nproc main 0 1\nlabel start\nframe 0 -\ncost 18\nat 0 0 0 0 0\nat 1 0 0 0 0\ngrip 0\ncall lift\ndrop\naside +z 1\nhalt\nproc lift 0 1\nexit 0 0\nresult 0 2\nat 0 0 0 0 0+1v0\nat 1 0 0 0 0\nlabel start\nframe 0 0\ncost 13\nat 0 0 0 0 0\nat 1 0 0 0 0\nask 0 2\nstore 0\nload 0\nstore 1\nlabel L\nframe 0 0\nslot 0 0 2\nslot 1 0 2\nguard 0+1v0-1v1\ncost 3+3v1\nat 0 0 0 0 0+1v0-1v1\nat 1 0 0 0 0\ndown 1 M\nload 0\nret\nlabel M\nframe 0 0\nslot 0 0 2\nslot 1 0 1\nguard -1+1v0-1v1\ncost 5+3v1\nat 0 0 0 0 -1+1v0-1v1\nat 1 0 0 0 0\nstep +z\njump L\n") P3 2
-main_with_results = record { place = 1; found = refl; number = refl }
-
-no_result_line : HasFault (codes "plan2 cup 2 18\nproc main 0 0\nlabel start\nframe 0 -\ncost 18\nat 0 0 0 0 0\nat 1 0 0 0 0\ngrip 0\ncall lift\ndrop\naside +z 1\nhalt\nproc lift 0 1\nexit 0 0\nat 0 0 0 0 0+1v0\nat 1 0 0 0 0\nlabel start\nframe 0 0\ncost 13\nat 0 0 0 0 0\nat 1 0 0 0 0\nask 0 2\nstore 0\nload 0\nstore 1\nlabel L\nframe 0 0\nslot 0 0 2\nslot 1 0 2\nguard 0+1v0-1v1\ncost 3+3v1\nat 0 0 0 0 0+1v0-1v1\nat 1 0 0 0 0\ndown 1 M\nload 0\nret\nlabel M\nframe 0 0\nslot 0 0 2\nslot 1 0 1\nguard -1+1v0-1v1\ncost 5+3v1\nat 0 0 0 0 -1+1v0-1v1\nat 1 0 0 0 0\nstep +z\njump L\n") P1 15
-no_result_line = record { place = 14; found = refl; number = refl }
-
-results_in_version_1 : HasFault (codes "plan ring 2 11\nproc main 0 0\nlabel start\nframe 0 -\ncost 11\nat 0 0 0 0 0\nat 1 0 0 0 0\ngrip 0\npush 2\nstore 0\nlabel L\nframe 0 0\nslot 0 0 2\ncost 4+2v0\nat 0 0 0 0 2-1v0\nat 1 0 0 0 0\nstep +z\ndown 0 L\naside +z 1\nhalt\n") P1 2
-results_in_version_1 = record { place = 1; found = refl; number = refl }
-
-no_results_in_version_2 : HasFault (codes "plan2 cup 2 18\nproc main 0\nlabel start\nframe 0 -\ncost 18\nat 0 0 0 0 0\nat 1 0 0 0 0\ngrip 0\ncall lift\ndrop\naside +z 1\nhalt\nproc lift 0 1\nexit 0 0\nresult 0 2\nat 0 0 0 0 0+1v0\nat 1 0 0 0 0\nlabel start\nframe 0 0\ncost 13\nat 0 0 0 0 0\nat 1 0 0 0 0\nask 0 2\nstore 0\nload 0\nstore 1\nlabel L\nframe 0 0\nslot 0 0 2\nslot 1 0 2\nguard 0+1v0-1v1\ncost 3+3v1\nat 0 0 0 0 0+1v0-1v1\nat 1 0 0 0 0\ndown 1 M\nload 0\nret\nlabel M\nframe 0 0\nslot 0 0 2\nslot 1 0 1\nguard -1+1v0-1v1\ncost 5+3v1\nat 0 0 0 0 -1+1v0-1v1\nat 1 0 0 0 0\nstep +z\njump L\n") P1 2
-no_results_in_version_2 = record { place = 1; found = refl; number = refl }
-
-exit_over_no_result : HasFault (codes "plan2 cup 2 18\nproc main 0 0\nlabel start\nframe 0 -\ncost 18\nat 0 0 0 0 0\nat 1 0 0 0 0\ngrip 0\ncall lift\ndrop\naside +z 1\nhalt\nproc lift 0 1\nexit 0 0\nresult 0 2\nat 0 0 0 0 0+1v1\nat 1 0 0 0 0\nlabel start\nframe 0 0\ncost 13\nat 0 0 0 0 0\nat 1 0 0 0 0\nask 0 2\nstore 0\nload 0\nstore 1\nlabel L\nframe 0 0\nslot 0 0 2\nslot 1 0 2\nguard 0+1v0-1v1\ncost 3+3v1\nat 0 0 0 0 0+1v0-1v1\nat 1 0 0 0 0\ndown 1 M\nload 0\nret\nlabel M\nframe 0 0\nslot 0 0 2\nslot 1 0 1\nguard -1+1v0-1v1\ncost 5+3v1\nat 0 0 0 0 -1+1v0-1v1\nat 1 0 0 0 0\nstep +z\njump L\n") P3 16
-exit_over_no_result = record { place = 15; found = refl; number = refl }
-
-fifth_guard : HasFault (codes "plan cup 2 14\nproc main 0\nlabel start\nframe 0 -\ncost 14\nat 0 0 0 0 0\nat 1 0 0 0 0\ngrip 0\nask 0 2\nstore 0\nload 0\nstore 1\nlabel L\nframe 0 0\nslot 0 0 2\nslot 1 0 2\nguard 0\nguard 0\nguard 0\nguard 0\nguard 0\ncost 3+3v1\nat 0 0 0 0 0+1v0-1v1\nat 1 0 0 0 0\ndown 1 M\naside +z 1\nhalt\nlabel M\nframe 0 0\nslot 0 0 2\nslot 1 0 1\nguard -1+1v0-1v1\ncost 5+3v1\nat 0 0 0 0 -1+1v0-1v1\nat 1 0 0 0 0\nstep +z\njump L\n") P4 21
-fifth_guard = record { place = 20; found = refl; number = refl }
-
-fifth_guard_out_of_range : HasFault (codes "plan cup 2 14\nproc main 0\nlabel start\nframe 0 -\ncost 14\nat 0 0 0 0 0\nat 1 0 0 0 0\ngrip 0\nask 0 2\nstore 0\nload 0\nstore 1\nlabel L\nframe 0 0\nslot 0 0 2\nslot 1 0 2\nguard 0\nguard 0\nguard 0\nguard 0\nguard 0+1v7\ncost 3+3v1\nat 0 0 0 0 0+1v0-1v1\nat 1 0 0 0 0\ndown 1 M\naside +z 1\nhalt\nlabel M\nframe 0 0\nslot 0 0 2\nslot 1 0 1\nguard -1+1v0-1v1\ncost 5+3v1\nat 0 0 0 0 -1+1v0-1v1\nat 1 0 0 0 0\nstep +z\njump L\n") P3 21
-fifth_guard_out_of_range = record { place = 20; found = refl; number = refl }
-
-negative_in_set : HasFault (codes "plan ring 2 11\nproc main 0\nlabel start\nframe 0 -1\ncost 11\nat 0 0 0 0 0\nat 1 0 0 0 0\ngrip 0\npush 2\nstore 0\nlabel L\nframe 0 0\nslot 0 0 2\ncost 4+2v0\nat 0 0 0 0 2-1v0\nat 1 0 0 0 0\nstep +z\ndown 0 L\naside +z 1\nhalt\n") P3 4
-negative_in_set = record { place = 3; found = refl; number = refl }
-
-empty_in_set : HasFault (codes "plan ring 2 11\nproc main 0\nlabel start\nframe 0 0,\ncost 11\nat 0 0 0 0 0\nat 1 0 0 0 0\ngrip 0\npush 2\nstore 0\nlabel L\nframe 0 0\nslot 0 0 2\ncost 4+2v0\nat 0 0 0 0 2-1v0\nat 1 0 0 0 0\nstep +z\ndown 0 L\naside +z 1\nhalt\n") P1 4
-empty_in_set = record { place = 3; found = refl; number = refl }
-
-slot_without_digits : HasFault (codes "plan ring 2 11\nproc main 0\nlabel start\nframe 0 -\ncost 11\nat 0 0 0 0 0\nat 1 0 0 0 0\ngrip 0\npush 2\nstore 0\nlabel L\nframe 0 0\nslot 0 0 2\ncost 1+1v-1\nat 0 0 0 0 2-1v0\nat 1 0 0 0 0\nstep +z\ndown 0 L\naside +z 1\nhalt\n") P1 14
-slot_without_digits = record { place = 13; found = refl; number = refl }
-
-slot_with_zero : HasFault (codes "plan ring 2 11\nproc main 0\nlabel start\nframe 0 -\ncost 11\nat 0 0 0 0 0\nat 1 0 0 0 0\ngrip 0\npush 2\nstore 0\nlabel L\nframe 0 0\nslot 0 0 2\ncost 1+1v01\nat 0 0 0 0 2-1v0\nat 1 0 0 0 0\nstep +z\ndown 0 L\naside +z 1\nhalt\n") P1 14
-slot_with_zero = record { place = 13; found = refl; number = refl }
-
-exit_of_main : HasFault (codes "plan ring 2 11\nproc main 0\nexit 0 -\nframe 0 -\ncost 11\nat 0 0 0 0 0\nat 1 0 0 0 0\ngrip 0\npush 2\nstore 0\nlabel L\nframe 0 0\nslot 0 0 2\ncost 4+2v0\nat 0 0 0 0 2-1v0\nat 1 0 0 0 0\nstep +z\ndown 0 L\naside +z 1\nhalt\n") P5 3
-exit_of_main = record { place = 2; found = refl; number = refl }
-
-no_exit : HasFault (codes "plan2 cup 2 18\nproc main 0 0\nlabel start\nframe 0 -\ncost 18\nat 0 0 0 0 0\nat 1 0 0 0 0\ngrip 0\ncall lift\ndrop\naside +z 1\nhalt\nproc lift 0 1\nresult 0 2\nat 0 0 0 0 0+1v0\nat 1 0 0 0 0\nlabel start\nframe 0 0\ncost 13\nat 0 0 0 0 0\nat 1 0 0 0 0\nask 0 2\nstore 0\nload 0\nstore 1\nlabel L\nframe 0 0\nslot 0 0 2\nslot 1 0 2\nguard 0+1v0-1v1\ncost 3+3v1\nat 0 0 0 0 0+1v0-1v1\nat 1 0 0 0 0\ndown 1 M\nload 0\nret\nlabel M\nframe 0 0\nslot 0 0 2\nslot 1 0 1\nguard -1+1v0-1v1\ncost 5+3v1\nat 0 0 0 0 -1+1v0-1v1\nat 1 0 0 0 0\nstep +z\njump L\n") P1 14
-no_exit = record { place = 13; found = refl; number = refl }
-
-parameters_of_main : HasFault (codes "plan ring 2 11\nproc main 1\nlabel start\nframe 0 -\ncost 11\nat 0 0 0 0 0\nat 1 0 0 0 0\ngrip 0\npush 2\nstore 0\nlabel L\nframe 0 0\nslot 0 0 2\ncost 4+2v0\nat 0 0 0 0 2-1v0\nat 1 0 0 0 0\nstep +z\ndown 0 L\naside +z 1\nhalt\n") P3 2
-parameters_of_main = record { place = 1; found = refl; number = refl }
-
-low_above_high : HasFault (codes "plan ring 2 11\nproc main 0\nlabel start\nframe 0 -\ncost 11\nat 0 0 0 0 0\nat 1 0 0 0 0\ngrip 0\npush 2\nstore 0\nlabel L\nframe 0 0\nslot 0 2 0\ncost 4+2v0\nat 0 0 0 0 2-1v0\nat 1 0 0 0 0\nstep +z\ndown 0 L\naside +z 1\nhalt\n") P3 13
-low_above_high = record { place = 12; found = refl; number = refl }
-
-one_offered : HasFault (codes "plan ring 2 11\nproc main 0\nlabel start\nframe 0 -\ncost 11\nat 0 0 0 0 0\nat 1 0 0 0 0\ngrip 0\npush 2\nstore 0\nlabel L\nframe 0 0\nslot 0 0 2\ncost 4+2v0\nat 0 0 0 0 2-1v0\nat 1 0 0 0 0\nstep +z\npick L\naside +z 1\nhalt\n") P1 18
-one_offered = record { place = 17; found = refl; number = refl }
-
-repeated_procedure : HasFault (codes "plan2 cup 2 18\nproc main 0 0\nlabel start\nframe 0 -\ncost 18\nat 0 0 0 0 0\nat 1 0 0 0 0\ngrip 0\ncall lift\ndrop\naside +z 1\nhalt\nproc main 9 9\nexit 0 0\nresult 0 2\nat 0 0 0 0 0+1v0\nat 1 0 0 0 0\nlabel start\nframe 0 0\ncost 13\nat 0 0 0 0 0\nat 1 0 0 0 0\nask 0 2\nstore 0\nload 0\nstore 1\nlabel L\nframe 0 0\nslot 0 0 2\nslot 1 0 2\nguard 0+1v0-1v1\ncost 3+3v1\nat 0 0 0 0 0+1v0-1v1\nat 1 0 0 0 0\ndown 1 M\nload 0\nret\nlabel M\nframe 0 0\nslot 0 0 2\nslot 1 0 1\nguard -1+1v0-1v1\ncost 5+3v1\nat 0 0 0 0 -1+1v0-1v1\nat 1 0 0 0 0\nstep +z\njump L\n") P2 13
-repeated_procedure = record { place = 12; found = refl; number = refl }
-
-labels_at_one_place : HasFault (codes "plan ring 2 11\nproc main 0\nlabel start\nframe 0 -\ncost 11\nat 0 0 0 0 0\nat 1 0 0 0 0\ngrip 0\npush 2\nstore 0\nlabel L\nframe 0 0\nslot 0 0 2\ncost 4+2v0\nat 0 0 0 0 2-1v0\nat 1 0 0 0 0\nstep +z\ndown 0 L\naside +z 1\nlabel M\nframe 0 -\ncost 1\nat 0 apart\nat 1 apart\nlabel N\n") P4 25
-labels_at_one_place = record { place = 24; found = refl; number = refl }
-
-ends_in_a_frame : HasFault (codes "plan ring 2 11\nproc main 0\nlabel start\nframe 0 -\ncost 11\nat 0 0 0 0 0\nat 1 0 0 0 0\ngrip 0\npush 2\nstore 0\nlabel L\nframe 0 0\nslot 0 0 2\n") P1 14
-ends_in_a_frame = record { place = 13; found = refl; number = refl }
-
-too_many_results : HasFault (codes "plan2 cup 2 18\nproc main 0 0\nlabel start\nframe 0 -\ncost 18\nat 0 0 0 0 0\nat 1 0 0 0 0\ngrip 0\ncall lift\ndrop\naside +z 1\nhalt\nproc lift 0 1\nexit 0 0\nresult 0 2\nresult 0 2\nat 0 0 0 0 0+1v0\nat 1 0 0 0 0\nlabel start\nframe 0 0\ncost 13\nat 0 0 0 0 0\nat 1 0 0 0 0\nask 0 2\nstore 0\nload 0\nstore 1\nlabel L\nframe 0 0\nslot 0 0 2\nslot 1 0 2\nguard 0+1v0-1v1\ncost 3+3v1\nat 0 0 0 0 0+1v0-1v1\nat 1 0 0 0 0\ndown 1 M\nload 0\nret\nlabel M\nframe 0 0\nslot 0 0 2\nslot 1 0 1\nguard -1+1v0-1v1\ncost 5+3v1\nat 0 0 0 0 -1+1v0-1v1\nat 1 0 0 0 0\nstep +z\njump L\n") P1 16
-too_many_results = record { place = 15; found = refl; number = refl }
-
-exit_guard_in_version_1 : HasFault (codes "plan ring 2 11\nproc main 0\nlabel start\nframe 0 -\ncost 11\nat 0 0 0 0 0\nat 1 0 0 0 0\ngrip 0\npush 2\nstore 0\nlabel L\nframe 0 0\nslot 0 0 2\ncost 4+2v0\nat 0 0 0 0 2-1v0\nat 1 0 0 0 0\nstep +z\ndown 0 L\naside +z 1\nhalt\nproc q 0\nexit 0 -\nguard 0\n") P1 23
-exit_guard_in_version_1 = record { place = 22; found = refl; number = refl }
-
-large_budget : HasFault (codes "plan ring 2 1000001\nproc main 0\nlabel start\nframe 0 -\ncost 11\nat 0 0 0 0 0\nat 1 0 0 0 0\ngrip 0\npush 2\nstore 0\nlabel L\nframe 0 0\nslot 0 0 2\ncost 4+2v0\nat 0 0 0 0 2-1v0\nat 1 0 0 0 0\nstep +z\ndown 0 L\naside +z 1\nhalt\n") P3 1
-large_budget = record { place = 0; found = refl; number = refl }
-
-unended_wrong_word : HasFault (codes "plan ring 2 11\nproc main 0\nlabel start\nfram 0 -") P5 4
-unended_wrong_word = record { place = 3; found = refl; number = refl }
-
-unended_frame : HasFault (codes "plan ring 2 11\nproc main 0\nlabel start\nframe 0 -") P1 4
-unended_frame = record { place = 3; found = refl; number = refl }
-
-upper_case_byte : HasFault (codes "plan ring 2 11\nproc main 0\nlabel start\nframe 0 -\ncost 11\nat 0 0 0 0 0\nat 1 0 0 0 0\ngrip 0\npush 2\nstore 0\nlabel L\nframe 0 0\nslot 0 0 2\ncost 4+2v0\nat 0 0 0 0 2-1v0\nat 1 0 0 0 0\nstep +z\ndown 0 L\naside +z 1\nbyte 0A\n") P1 20
-upper_case_byte = record { place = 19; found = refl; number = refl }
-
-unknown_before_label_at_end : HasFault (codes "plan ring 2 11\nproc main 0\nlabel start\nframe 0 -\ncost 11\nat 0 0 0 0 0\nat 1 0 0 0 0\ngrip 0\npush 2\nstore 0\nlabel L\nframe 0 0\nslot 0 0 2\ncost 4+2v0\nat 0 0 0 0 2-1v0\nat 1 0 0 0 0\nstep +z\ndown 0 M\naside +z 1\nhalt\nlabel N\nframe 0 -\ncost 1\nat 0 apart\nat 1 apart\n") P4 21
-unknown_before_label_at_end = record { place = 20; found = refl; number = refl }
-
-empty_text : HasFault (codes "") P1 1
-empty_text = record { place = 0; found = refl; number = refl }
+-- limits, and results of version 2
+limit_faults : AreFaults (
+    (codes "plan cup 2 14\nproc main 0\nlabel start\nframe 0 -\ncost 14\nat 0 0 0 0 0\nat 1 0 0 0 0\ngrip 0\nask 0 2\nstore 0\nload 0\nstore 1\nlabel L\nframe 0 0\nslot 0 0 2\nslot 1 0 2\nguard 0\nguard 0\nguard 0\nguard 0\nguard 0\ncost 3+3v1\nat 0 0 0 0 0+1v0-1v1\nat 1 0 0 0 0\ndown 1 M\naside +z 1\nhalt\nlabel M\nframe 0 0\nslot 0 0 2\nslot 1 0 1\nguard -1+1v0-1v1\ncost 5+3v1\nat 0 0 0 0 -1+1v0-1v1\nat 1 0 0 0 0\nstep +z\njump L\n", P4, 21)  -- fifth guard
+    ∷ (codes "plan cup 2 14\nproc main 0\nlabel start\nframe 0 -\ncost 14\nat 0 0 0 0 0\nat 1 0 0 0 0\ngrip 0\nask 0 2\nstore 0\nload 0\nstore 1\nlabel L\nframe 0 0\nslot 0 0 2\nslot 1 0 2\nguard 0\nguard 0\nguard 0\nguard 0\nguard 0+1v7\ncost 3+3v1\nat 0 0 0 0 0+1v0-1v1\nat 1 0 0 0 0\ndown 1 M\naside +z 1\nhalt\nlabel M\nframe 0 0\nslot 0 0 2\nslot 1 0 1\nguard -1+1v0-1v1\ncost 5+3v1\nat 0 0 0 0 -1+1v0-1v1\nat 1 0 0 0 0\nstep +z\njump L\n", P3, 21)  -- fifth guard out of range
+    ∷ (codes "plan2 cup 2 18\nproc main 0 0\nlabel start\nframe 0 -\ncost 18\nat 0 0 0 0 0\nat 1 0 0 0 0\ngrip 0\ncall lift\ndrop\naside +z 1\nhalt\nproc lift 0 3\nexit 0 0\nresult 0 2\nat 0 0 0 0 0+1v0\nat 1 0 0 0 0\nlabel start\nframe 0 0\ncost 13\nat 0 0 0 0 0\nat 1 0 0 0 0\nask 0 2\nstore 0\nload 0\nstore 1\nlabel L\nframe 0 0\nslot 0 0 2\nslot 1 0 2\nguard 0+1v0-1v1\ncost 3+3v1\nat 0 0 0 0 0+1v0-1v1\nat 1 0 0 0 0\ndown 1 M\nload 0\nret\nlabel M\nframe 0 0\nslot 0 0 2\nslot 1 0 1\nguard -1+1v0-1v1\ncost 5+3v1\nat 0 0 0 0 -1+1v0-1v1\nat 1 0 0 0 0\nstep +z\njump L\n", P3, 13)  -- many results
+    ∷ (codes "plan2 cup 2 18\nproc main 0 1\nlabel start\nframe 0 -\ncost 18\nat 0 0 0 0 0\nat 1 0 0 0 0\ngrip 0\ncall lift\ndrop\naside +z 1\nhalt\nproc lift 0 1\nexit 0 0\nresult 0 2\nat 0 0 0 0 0+1v0\nat 1 0 0 0 0\nlabel start\nframe 0 0\ncost 13\nat 0 0 0 0 0\nat 1 0 0 0 0\nask 0 2\nstore 0\nload 0\nstore 1\nlabel L\nframe 0 0\nslot 0 0 2\nslot 1 0 2\nguard 0+1v0-1v1\ncost 3+3v1\nat 0 0 0 0 0+1v0-1v1\nat 1 0 0 0 0\ndown 1 M\nload 0\nret\nlabel M\nframe 0 0\nslot 0 0 2\nslot 1 0 1\nguard -1+1v0-1v1\ncost 5+3v1\nat 0 0 0 0 -1+1v0-1v1\nat 1 0 0 0 0\nstep +z\njump L\n", P3, 2)  -- main with results
+    ∷ (codes "plan2 cup 2 18\nproc main 0 0\nlabel start\nframe 0 -\ncost 18\nat 0 0 0 0 0\nat 1 0 0 0 0\ngrip 0\ncall lift\ndrop\naside +z 1\nhalt\nproc lift 0 1\nexit 0 0\nat 0 0 0 0 0+1v0\nat 1 0 0 0 0\nlabel start\nframe 0 0\ncost 13\nat 0 0 0 0 0\nat 1 0 0 0 0\nask 0 2\nstore 0\nload 0\nstore 1\nlabel L\nframe 0 0\nslot 0 0 2\nslot 1 0 2\nguard 0+1v0-1v1\ncost 3+3v1\nat 0 0 0 0 0+1v0-1v1\nat 1 0 0 0 0\ndown 1 M\nload 0\nret\nlabel M\nframe 0 0\nslot 0 0 2\nslot 1 0 1\nguard -1+1v0-1v1\ncost 5+3v1\nat 0 0 0 0 -1+1v0-1v1\nat 1 0 0 0 0\nstep +z\njump L\n", P1, 15)  -- no result line
+    ∷ (codes "plan2 cup 2 18\nproc main 0\nlabel start\nframe 0 -\ncost 18\nat 0 0 0 0 0\nat 1 0 0 0 0\ngrip 0\ncall lift\ndrop\naside +z 1\nhalt\nproc lift 0 1\nexit 0 0\nresult 0 2\nat 0 0 0 0 0+1v0\nat 1 0 0 0 0\nlabel start\nframe 0 0\ncost 13\nat 0 0 0 0 0\nat 1 0 0 0 0\nask 0 2\nstore 0\nload 0\nstore 1\nlabel L\nframe 0 0\nslot 0 0 2\nslot 1 0 2\nguard 0+1v0-1v1\ncost 3+3v1\nat 0 0 0 0 0+1v0-1v1\nat 1 0 0 0 0\ndown 1 M\nload 0\nret\nlabel M\nframe 0 0\nslot 0 0 2\nslot 1 0 1\nguard -1+1v0-1v1\ncost 5+3v1\nat 0 0 0 0 -1+1v0-1v1\nat 1 0 0 0 0\nstep +z\njump L\n", P1, 2)  -- no results in version 2
+    ∷ (codes "plan2 cup 2 18\nproc main 0 0\nlabel start\nframe 0 -\ncost 18\nat 0 0 0 0 0\nat 1 0 0 0 0\ngrip 0\ncall lift\ndrop\naside +z 1\nhalt\nproc lift 0 1\nexit 0 0\nresult 0 2\nat 0 0 0 0 0+1v1\nat 1 0 0 0 0\nlabel start\nframe 0 0\ncost 13\nat 0 0 0 0 0\nat 1 0 0 0 0\nask 0 2\nstore 0\nload 0\nstore 1\nlabel L\nframe 0 0\nslot 0 0 2\nslot 1 0 2\nguard 0+1v0-1v1\ncost 3+3v1\nat 0 0 0 0 0+1v0-1v1\nat 1 0 0 0 0\ndown 1 M\nload 0\nret\nlabel M\nframe 0 0\nslot 0 0 2\nslot 1 0 1\nguard -1+1v0-1v1\ncost 5+3v1\nat 0 0 0 0 -1+1v0-1v1\nat 1 0 0 0 0\nstep +z\njump L\n", P3, 16)  -- exit over no result
+    ∷ (codes "plan2 cup 2 18\nproc main 0 0\nlabel start\nframe 0 -\ncost 18\nat 0 0 0 0 0\nat 1 0 0 0 0\ngrip 0\ncall lift\ndrop\naside +z 1\nhalt\nproc lift 0 1\nresult 0 2\nat 0 0 0 0 0+1v0\nat 1 0 0 0 0\nlabel start\nframe 0 0\ncost 13\nat 0 0 0 0 0\nat 1 0 0 0 0\nask 0 2\nstore 0\nload 0\nstore 1\nlabel L\nframe 0 0\nslot 0 0 2\nslot 1 0 2\nguard 0+1v0-1v1\ncost 3+3v1\nat 0 0 0 0 0+1v0-1v1\nat 1 0 0 0 0\ndown 1 M\nload 0\nret\nlabel M\nframe 0 0\nslot 0 0 2\nslot 1 0 1\nguard -1+1v0-1v1\ncost 5+3v1\nat 0 0 0 0 -1+1v0-1v1\nat 1 0 0 0 0\nstep +z\njump L\n", P1, 14)  -- no exit
+    ∷ (codes "plan2 cup 2 18\nproc main 0 0\nlabel start\nframe 0 -\ncost 18\nat 0 0 0 0 0\nat 1 0 0 0 0\ngrip 0\ncall lift\ndrop\naside +z 1\nhalt\nproc main 9 9\nexit 0 0\nresult 0 2\nat 0 0 0 0 0+1v0\nat 1 0 0 0 0\nlabel start\nframe 0 0\ncost 13\nat 0 0 0 0 0\nat 1 0 0 0 0\nask 0 2\nstore 0\nload 0\nstore 1\nlabel L\nframe 0 0\nslot 0 0 2\nslot 1 0 2\nguard 0+1v0-1v1\ncost 3+3v1\nat 0 0 0 0 0+1v0-1v1\nat 1 0 0 0 0\ndown 1 M\nload 0\nret\nlabel M\nframe 0 0\nslot 0 0 2\nslot 1 0 1\nguard -1+1v0-1v1\ncost 5+3v1\nat 0 0 0 0 -1+1v0-1v1\nat 1 0 0 0 0\nstep +z\njump L\n", P2, 13)  -- repeated procedure
+    ∷ (codes "plan2 cup 2 18\nproc main 0 0\nlabel start\nframe 0 -\ncost 18\nat 0 0 0 0 0\nat 1 0 0 0 0\ngrip 0\ncall lift\ndrop\naside +z 1\nhalt\nproc lift 0 1\nexit 0 0\nresult 0 2\nresult 0 2\nat 0 0 0 0 0+1v0\nat 1 0 0 0 0\nlabel start\nframe 0 0\ncost 13\nat 0 0 0 0 0\nat 1 0 0 0 0\nask 0 2\nstore 0\nload 0\nstore 1\nlabel L\nframe 0 0\nslot 0 0 2\nslot 1 0 2\nguard 0+1v0-1v1\ncost 3+3v1\nat 0 0 0 0 0+1v0-1v1\nat 1 0 0 0 0\ndown 1 M\nload 0\nret\nlabel M\nframe 0 0\nslot 0 0 2\nslot 1 0 1\nguard -1+1v0-1v1\ncost 5+3v1\nat 0 0 0 0 -1+1v0-1v1\nat 1 0 0 0 0\nstep +z\njump L\n", P1, 16)  -- too many results
+    ∷ []
+    )
+limit_faults = (found _ _ _ refl, (found _ _ _ refl, (found _ _ _ refl, (found _ _ _ refl, (found _ _ _ refl, (found _ _ _ refl, (found _ _ _ refl, (found _ _ _ refl, (found _ _ _ refl, (found _ _ _ refl, tt))))))))))
 
 -- A listing
 
@@ -335,27 +285,12 @@ first_code = ([], inr (short_grip, 16, refl, refl), refl)
 
 second_code : IsCodeListed 2 1 (0 ∷ 0 ∷ 0 ∷ 1 ∷ 18 ∷ 1 ∷ 1 ∷ 0 ∷ []) second_block.code
 unfolding digits
-second_code = (
-  0 ∷ 0 ∷ 1 ∷ 18 ∷ 1 ∷ 1 ∷ 0 ∷ [],
-  inl (code.Halt, halts, refl, refl),
-  (
-    0 ∷ 1 ∷ 18 ∷ 1 ∷ 1 ∷ 0 ∷ [],
-    inl (code.Halt, halts, refl, refl),
-    (
-      1 ∷ 18 ∷ 1 ∷ 1 ∷ 0 ∷ [],
-      inl (code.Halt, halts, refl, refl),
-      (
-        1 ∷ 0 ∷ [],
-        inl (code.Push (pos 4609), record { in_range = (omega arith, omega arith); names = refl }, refl, refl),
-        (
-          0 ∷ [],
-          inr (short_push, 1, refl, refl),
-          ([], inl (code.Halt, halts, refl, refl), refl),
-        ),
-      ),
-    ),
-  ),
-)
+second_code =
+    let last : IsCodeListed 2 1 (0 ∷ []) (halt ∷ []) = ([], inl (code.Halt, halts, refl, refl), refl) in
+    let byte : IsCodeListed 2 1 (1 ∷ 0 ∷ []) (Byte 1 ∷ halt ∷ []) = (0 ∷ [], inr (short_push, 1, refl, refl), last) in
+    let push : IsCodeListed 2 1 (1 ∷ 18 ∷ 1 ∷ 1 ∷ 0 ∷ []) (Push (codes "4609") ∷ Byte 1 ∷ halt ∷ []) =
+    (1 ∷ 0 ∷ [], inl (code.Push (pos 4609), record { in_range = (omega arith, omega arith); names = refl }, refl, refl), byte) in
+    (_, inl (code.Halt, halts, refl, refl), (_, inl (code.Halt, halts, refl, refl), (_, inl (code.Halt, halts, refl, refl), push)))
 
 duo_listed : IsListing duo duo_text
 unfolding digits

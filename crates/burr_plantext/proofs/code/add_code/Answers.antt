@@ -1,6 +1,5 @@
 -- The next label is written.
-use Rattle.std.proofs.Common.{◌≡◌, ◌+◌, arith, ◌∙◌, subst, ℕ, Option, Some, None}
-use Rattle.std.specs.Prelude.{if◌then◌else◌}
+use Rattle.std.proofs.Common.{◌≡◌, ◌+◌, arith, ◌∙◌, subst, ℕ, Option, Some, None, if◌then◌else◌}
 use Rattle.burr_plantext.specs.Views.Listings.{IsBlockAdded}
 use Rattle.burr_plantext.proofs.Blocks.{blocks_begun, block_turn, blocks_end, labels_of, placed_is}
 use Rattle.burr_plantext.proofs.code.add_code.Goals as goal

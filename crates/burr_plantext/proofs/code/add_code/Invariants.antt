@@ -1,6 +1,5 @@
 -- What is written, whatever labels are next, is the whole of the code.
-use Rattle.std.proofs.Common.{Some, None}
-use Rattle.std.specs.Prelude.{if◌then◌else◌}
+use Rattle.std.proofs.Common.{Some, None, if◌then◌else◌}
 use Rattle.burr_container.specs.Views.Containers.{OfProcedure}
 use Rattle.burr_plantext.proofs.Blocks.{AreBlocksWritten}
 use Rattle.burr_plantext.proofs.code.add_code.Given as goal

@@ -1,6 +1,5 @@
 -- The next label is written.
-use Rattle.std.proofs.Common.{◌≡◌, ◌++◌, ◌+◌, arith, rules}
-use Rattle.std.specs.Prelude.{codes}
+use Rattle.std.proofs.Common.{◌≡◌, ◌++◌, ◌+◌, arith, rules, codes}
 use Rattle.burr_plantext.proofs.Steps.{one_more, got_at}
 use Rattle.burr_plantext.proofs.Offers.{pick_begun, next_offered}
 use Rattle.burr_plantext.proofs.code.add_pick.Goals as goal

@@ -1,6 +1,5 @@
 -- What is written, and what is still to be written, are all of it.
-use Rattle.std.proofs.Common.{◌≡◌, ◌++◌, ◌∷◌, drop, map}
-use Rattle.std.specs.Prelude.{codes}
+use Rattle.std.proofs.Common.{◌≡◌, ◌++◌, ◌∷◌, drop, map, codes}
 use Rattle.std.specs.List.{join_with_byte}
 use Rattle.burr_plantext.specs.Rules.Listing.{label_name}
 use Rattle.burr_plantext.proofs.Offers.{offered}

@@ -1,6 +1,5 @@
 -- Any other word says nothing alone.
-use Rattle.std.proofs.Common.{◌≡◌, [], ◌∙◌, rules}
-use Rattle.std.specs.Prelude.{None}
+use Rattle.std.proofs.Common.{◌≡◌, [], ◌∙◌, rules, None}
 use Rattle.burr_plantext.specs.Rules.Operands.{by_word}
 use Rattle.burr_plantext.specs.Rules.Statements.{bares, bare_words}
 use Rattle.burr_plantext.proofs.CodeSteps.{code_alone}

@@ -1,6 +1,5 @@
 -- The next term is written.
-use Rattle.std.proofs.Common.{◌≡◌, ℤ, List, get_or, arith, length, rules, sym, ap, ◌∙◌}
-use Rattle.std.specs.Prelude.{pos, FitsSigned}
+use Rattle.std.proofs.Common.{◌≡◌, ℤ, List, get_or, arith, length, rules, sym, ap, ◌∙◌, pos, FitsSigned}
 use Rattle.std.specs.Int.{w64}
 use Rattle.std.proofs.lemmas.Int.{to_z-of_z}
 use Rattle.burr_forms.specs.Rules.Forms.{Form}

@@ -1,6 +1,5 @@
 -- The parts are those of the frame.
-use Rattle.std.proofs.Common.{◌++◌, ◌∙◌}
-use Rattle.std.specs.Prelude.{codes}
+use Rattle.std.proofs.Common.{◌++◌, ◌∙◌, codes}
 use Rattle.std.proofs.lemmas.Result.{on_ok_weaker}
 use Rattle.burr_container.specs.Views.Refs.{frame_of}
 use Rattle.burr_plantext.specs.Views.Parts.{grip_text}

@@ -1,9 +1,10 @@
 -- The next line is written.
-use Rattle.std.proofs.Common.{◌+◌, arith}
+use Rattle.std.proofs.Common.{◌+◌, arith, codes, refl}
 use Rattle.burr_plantext.proofs.Steps.{one_more}
-use Rattle.burr_plantext.proofs.FrameSteps.{guard_left}
+use Rattle.burr_plantext.proofs.FrameSteps.{form_left}
 use Rattle.burr_container.specs.Rules.Plans.{live_slots}
 use Rattle.burr_container.specs.Views.Refs.{frame_of}
+use Rattle.burr_plantext.specs.Rules.Lines.{GuardLine}
 use Rattle.burr_plantext.proofs.frames.add_guards.Goals as goal
 
 pub loop-n-preserved : goal.loop-n-preserved
@@ -11,4 +12,4 @@ loop-n-preserved c =
     let n = c.loop-n.n in
     rw c.in_ok-add_form_line.ensures
     (one_more c.loop-n.text.items _ _ _ _ c.loop-n.invariant
-    (guard_left (live_slots (frame_of c.args.frame.now).slots) c.args.symbols.now (frame_of c.args.frame.now).guards n (n + 1) _ c.requires.symbols c.requires.over (omega arith) c.guard.ensures.guard))
+    (form_left GuardLine (codes "guard ") (λ w. refl) (live_slots (frame_of c.args.frame.now).slots) c.args.symbols.now (frame_of c.args.frame.now).guards n (n + 1) _ c.requires.symbols c.requires.over (omega arith) c.guard.ensures.guard))

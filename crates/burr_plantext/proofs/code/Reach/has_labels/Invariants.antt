@@ -1,6 +1,5 @@
 -- All labels are there where all those still to come are.
-use Rattle.std.proofs.Common.{◌≡◌, drop}
-use Rattle.std.specs.Prelude.{nat_lt}
+use Rattle.std.proofs.Common.{◌≡◌, drop, nat_lt}
 use Rattle.std.specs.List.{list_all}
 use Rattle.burr_plantext.proofs.code.Reach.has_labels.Given as goal
 
